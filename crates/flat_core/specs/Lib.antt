@@ -1,0 +1,14 @@
+pub mod System
+pub mod Stream
+pub mod Case
+pub mod Line
+pub mod Solution
+pub mod Fault
+pub mod Instant
+pub mod Graph
+pub mod WellFormed
+pub mod Dependency
+pub mod Laws
+pub mod Typed
+pub mod TypedSystem
+pub mod Pending

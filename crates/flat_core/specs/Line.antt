@@ -1,0 +1,25 @@
+-- The lines of a trace that were read: each has a time, and perhaps an input's event.
+use Rattle.std.specs.Prelude.{◌==◌, ℕ, ◌&&◌, if◌then◌else◌, List, [], ◌∷◌, Option, Some, None}
+use Rattle.std.specs.Option.{option_or}
+use Rattle.tsl_value.specs.declared.scalar.Scalar.{Scalar}
+use Rattle.tsl_value.specs.View.{View, Plain}
+use Rattle.flat_core.specs.declared.line.TraceLine.{TraceLine}
+use Rattle.flat_core.specs.Case.{Inputs}
+
+abbrev pub Line : Type 0
+Line = TraceLine
+
+-- the event of input i at t
+abbrev pub event_in : ℕ → ℕ → ℕ → Option (ℕ × Scalar) → Option View
+event_in i t time None = None
+event_in i t time (Some e) = if (time == t) && (e.0 == i) then Some (Plain e.1) else None
+
+abbrev pub inputs_of : List Line → Inputs
+inputs_of [] i t = None
+inputs_of (l ∷ ls) i t = option_or (event_in i t l.time l.event) (inputs_of ls i t)
+
+-- the time of the last line, or 0 where there is none
+abbrev pub last_time : List Line → ℕ
+last_time [] = 0
+last_time (l ∷ []) = l.time
+last_time (l ∷ m ∷ ls) = last_time (m ∷ ls)

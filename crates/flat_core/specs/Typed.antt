@@ -1,0 +1,47 @@
+-- Arity and types of the equations.
+use Rattle.std.specs.Prelude.{◌≡◌, ◌≤◌, Bool, true, false, List, [], ◌∷◌, length, map}
+use Rattle.tsl_value.specs.declared.scalar.ScalarType.{ScalarType}
+use Rattle.tsl_value.specs.declared.scalar.ScalarType.TheVariants as scalar_type
+use Rattle.tsl_value.specs.declared.scalar.KeyType.{KeyType}
+use Rattle.tsl_value.specs.declared.scalar.ValueType.{ValueType}
+use Rattle.tsl_value.specs.declared.scalar.ValueType.TheVariants as value_type
+use Rattle.lift_func.specs.Tree.{Tree}
+use Rattle.lift_func.specs.Typing.{Kind, Value, Optional, HasKind, scalar_of}
+use Rattle.flat_core.specs.declared.equation.Op.{Op}
+use Rattle.flat_core.specs.declared.equation.Op.TheVariants as op
+
+abbrev pub is_aggregate : ValueType → Bool
+is_aggregate (value_type.Scalar of) = false
+is_aggregate _ = true
+
+abbrev pub unit_type : ValueType
+unit_type = value_type.Scalar scalar_type.Unit
+
+abbrev pub int_type : ValueType
+int_type = value_type.Scalar scalar_type.Int
+
+abbrev pub bool_type : ValueType
+bool_type = value_type.Scalar scalar_type.Bool
+
+abbrev pub kind_of : Bool → ValueType → Kind
+kind_of true of = Value of
+kind_of false of = Optional of
+
+-- an operation of a type on arguments of these types
+pub data IsTyped : Op → List ValueType → ValueType → Type 0 where
+  input : {t : ScalarType} → IsTyped op.Input [] (value_type.Scalar t)
+  nil : {t : ValueType} → IsTyped op.Nil [] t
+  unit : IsTyped op.Unit [] unit_type
+  empty : {t : ValueType} → is_aggregate t ≡ true → IsTyped op.Empty [] t
+  time : {t : ValueType} → IsTyped op.Time (t ∷ []) int_type
+  any : {ts : List ValueType} → 3 ≤ length ts → length ts ≤ 8 → IsTyped op.Any ts unit_type
+  last : {t u : ValueType} → IsTyped op.Last (t ∷ u ∷ []) t
+  delay : {u : ValueType} → IsTyped op.Delay (int_type ∷ u ∷ []) unit_type
+  merge : {t : ValueType} → IsTyped op.Merge (t ∷ t ∷ []) t
+  filter : {t : ValueType} → IsTyped op.Filter (t ∷ bool_type ∷ []) t
+  pick : {t : ValueType} → is_aggregate t ≡ true → IsTyped op.Pick (bool_type ∷ t ∷ t ∷ []) t
+  set_add : {k : KeyType} {t : ScalarType} → t ≡ scalar_of k → IsTyped op.SetAdd (value_type.Set k ∷ value_type.Scalar t ∷ []) (value_type.Set k)
+  set_remove : {k : KeyType} {t : ScalarType} → t ≡ scalar_of k → IsTyped op.SetRemove (value_type.Set k ∷ value_type.Scalar t ∷ []) (value_type.Set k)
+  map_add : {k : KeyType} {t x : ScalarType} → t ≡ scalar_of k → IsTyped op.MapAdd (value_type.Map k x ∷ value_type.Scalar t ∷ value_type.Scalar x ∷ []) (value_type.Map k x)
+  map_remove : {k : KeyType} {t x : ScalarType} → t ≡ scalar_of k → IsTyped op.MapRemove (value_type.Map k x ∷ value_type.Scalar t ∷ []) (value_type.Map k x)
+  lift : {body : Tree} {strict : Bool} {ts : List ValueType} {t : ScalarType} → 1 ≤ length ts → length ts ≤ 8 → HasKind (map (kind_of strict) ts) body (kind_of strict (value_type.Scalar t)) → IsTyped (op.Lift body strict) ts (value_type.Scalar t)

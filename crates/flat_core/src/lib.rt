@@ -1,0 +1,8 @@
+// The flat system: numbered equations, and what their streams are.
+#![tactic(auto)]
+
+pub mod equation;
+pub mod flat;
+pub mod laws;
+pub mod line;
+pub mod lists;

@@ -1,0 +1,75 @@
+// Whether a system can be solved.
+
+ghost use Rattle.std.specs.Prelude.{◌≡◌, ◌<◌, length, All, IsTrue};
+ghost use Rattle.flat_core.specs.Case.{used_of};
+ghost use Rattle.plain_solver.specs.Instant.{IsInOrder, IsInPlace};
+ghost use Rattle.plain_solver.specs.Shape.{HasShape};
+
+use flat_core::equation::{Equation, Op};
+use flat_core::flat::Flat;
+use flat_core::lists::Args;
+use tsl_value::ids::EqId;
+
+/// The operation is one of those that are solved, with its number of arguments.
+fn has_shape(op: &Op, args: &Args) -> bool
+    ensures { IsTrue result → HasShape op.now args.now }
+{
+    let n = args.ids().len();
+    match op {
+        Op::Input => n == 0,
+        Op::Nil => n == 0,
+        Op::Unit => n == 0,
+        Op::Lift { body, strict } => *strict && n > 0 && body.is_of_ints(n),
+        Op::Time => n == 1,
+        Op::Last => n == 2,
+        Op::Delay => n == 2,
+        Op::Merge => n == 2,
+        _ => false,
+    }
+}
+
+/// All of some equations are below a number.
+fn are_below(ids: &[EqId], n: u32) -> bool
+    ensures { IsTrue result → All (λ a. a < n) ids.now }
+{
+    ids.iter().all(|id| id.get() < n)
+}
+
+/// The arguments that are used at the same time are below a number.
+fn are_used_below(e: &Equation, n: u32) -> bool
+    ensures { IsTrue result → All (λ a. a < n) (used_of e.now.op e.now.args) }
+{
+    match &e.op {
+        Op::Last => {
+            let ids = e.args.ids();
+            if ids.len() == 0 {
+                true
+            } else {
+                are_below(&ids[1..], n)
+            }
+        }
+        Op::Delay => true,
+        _ => are_below(e.args.ids(), n),
+    }
+}
+
+/// An equation is one that is solved, its arguments are there, and those that are used at the same time come before it.
+fn is_in_place(flat: &Flat, i: EqId) -> bool
+    requires { i < length flat.now.equations }
+    ensures { IsTrue result → IsInPlace flat.now i }
+{
+    let e = flat.equation(i);
+    has_shape(&e.op, &e.args) && are_below(e.args.ids(), flat.count()) && are_used_below(e, i.get())
+}
+
+/// Each equation is so.
+pub fn is_in_order(flat: &Flat) -> bool
+    ensures { IsTrue result → IsInOrder flat.now }
+{
+    for n in 0..flat.count() {
+        if !is_in_place(flat, EqId::new(n)) {
+            return false;
+        }
+    }
+    true
+}

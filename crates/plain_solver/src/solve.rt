@@ -1,0 +1,97 @@
+// All that happens below a bound.
+
+ghost use Rattle.std.specs.Prelude.{◌^◌, ◌<◌, ◌≤◌, ◌≡◌, [], IfOk, length, map, replicate};
+ghost use Rattle.plain_solver.specs.Lines.{line_of};
+ghost use Rattle.plain_solver.specs.Instant.{IsInOrder};
+ghost use Rattle.plain_solver.specs.Solved.{IsEnded};
+
+use crate::events::Events;
+use crate::instant::{first_root, run_instant};
+use crate::line::TraceLine;
+use crate::next::next_below;
+use flat_core::flat::Flat;
+use lift_func::fault::FaultKind;
+use std::alloc::Global;
+use tsl_value::ids::EqId;
+use tsl_value::memory::NoMemory;
+use tsl_value::time::Time;
+
+/// Why no further instant was run.
+#[derive(Clone, Copy, PartialEq, Eq, Debug)]
+pub enum End {
+    /// No further one comes below the bound.
+    Bound,
+    /// The last one has a root fault.
+    Fault {
+        time: Time,
+        equation: EqId,
+        kind: FaultKind,
+    },
+    /// As many as are allowed were run, and one more comes.
+    Limit {
+        time: Time,
+    },
+}
+
+/// The streams of all equations, and why they end.
+#[derive(Drop)]
+pub struct Solved {
+    pub streams: Vec<Events>,
+    pub end: End,
+}
+
+fn no_events(alloc: Global, flat: &Flat) -> Result<Vec<Events>, NoMemory>
+    ensures { IfOk result (λ v. v.items ≡ replicate (length flat.now.equations) []) }
+{
+    let mut streams = Vec::new(alloc);
+    for _n in 0..flat.count() {
+        streams.push(Events::new(alloc))?;
+    }
+    Ok(streams)
+}
+
+/// The streams of all equations at the times below a bound, at most as many instants as a limit.
+pub fn solve(
+    alloc: Global,
+    flat: &Flat,
+    lines: &[TraceLine],
+    bound: u64,
+    limit: u64,
+) -> Result<Solved, NoMemory>
+    requires ordered { IsInOrder flat.now }
+    requires small { bound ≤ 2 ^ 63 }
+    ensures { IfOk result (λ v. IsEnded flat.now (map line_of lines.now) bound limit v.streams.items v.end) }
+{
+    let mut streams = no_events(alloc, flat)?;
+    let mut next = 0;
+    let mut count = 0;
+    while let Some(t) = next_below(flat, &streams, lines, next, bound) {
+        if count == limit {
+            return Ok(Solved {
+                streams,
+                end: End::Limit { time: t },
+            });
+        }
+        run_instant(alloc, flat, &mut streams, lines, t)?;
+        match first_root(alloc, flat, &streams, lines, t)? {
+            Some(root) => {
+                return Ok(Solved {
+                    streams,
+                    end: End::Fault {
+                        time: t,
+                        equation: root.0,
+                        kind: root.1,
+                    },
+                });
+            }
+            None => {
+                next = t.get() + 1;
+                count += 1;
+            }
+        }
+    }
+    Ok(Solved {
+        streams,
+        end: End::Bound,
+    })
+}

@@ -1,0 +1,51 @@
+// The numbers of equations and of cells.
+
+ghost use Rattle.std.specs.Prelude.{◌≡◌};
+
+use std::marker::Model;
+
+/// The number of an equation.
+#[derive(Clone, Copy, PartialEq, Eq, PartialOrd, Ord, Debug)]
+pub struct EqId {
+    number: u32,
+}
+
+impl Model for EqId {
+    ghost use Rattle.std.specs.Prelude.{ℕ};
+
+    ghost Value = { ℕ };
+
+    ghost view = { λ e. e.number };
+
+    ghost inverse = { λ n. record { number = n } };
+}
+
+impl EqId {
+    pub fn new(number: u32) -> EqId
+        ensures { result ≡ number }
+    {
+        EqId { number }
+    }
+
+    pub fn get(self) -> u32
+        ensures { result ≡ self }
+    {
+        self.number
+    }
+}
+
+/// Names a cell of a store.
+#[derive(Clone, Copy, PartialEq, Eq, PartialOrd, Ord, Debug)]
+pub struct Handle {
+    number: u64,
+}
+
+impl Model for Handle {
+    ghost use Rattle.std.specs.Prelude.{ℕ};
+
+    ghost Value = { ℕ };
+
+    ghost view = { λ h. h.number };
+
+    ghost inverse = { λ n. record { number = n } };
+}

@@ -1,0 +1,11 @@
+// Times, places, texts and values, and what a value is to a contract.
+#![tactic(auto)]
+
+pub mod bytes;
+pub mod ids;
+pub mod literal;
+pub mod memory;
+pub mod place;
+pub mod scalar;
+pub mod text;
+pub mod time;

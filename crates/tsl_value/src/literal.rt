@@ -1,0 +1,10 @@
+// Literals.
+
+/// Why bytes spell no literal.
+#[derive(Clone, Copy, PartialEq, Eq, Debug)]
+pub enum LiteralFault {
+    BadLiteral,
+    LiteralTooWide,
+    TextTooLong,
+    Memory,
+}

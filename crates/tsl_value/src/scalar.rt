@@ -1,0 +1,50 @@
+// Scalars and types.
+
+ghost use Rattle.std.specs.Prelude.{◌≡◌, IfOk};
+
+use crate::memory::NoMemory;
+use crate::text::Text;
+
+/// A value that is no aggregate.
+#[derive(Drop)]
+pub enum Scalar {
+    Unit,
+    Int(i64),
+    Bool(bool),
+    Text(Text),
+}
+
+impl Scalar {
+    pub fn copy(&self) -> Result<Scalar, NoMemory>
+        ensures { IfOk result (λ s. s ≡ self.now) }
+    {
+        match self {
+            Scalar::Unit => Ok(Scalar::Unit),
+            Scalar::Int(n) => Ok(Scalar::Int(*n)),
+            Scalar::Bool(b) => Ok(Scalar::Bool(*b)),
+            Scalar::Text(text) => Ok(Scalar::Text(text.copy()?)),
+        }
+    }
+}
+
+#[derive(Clone, Copy, PartialEq, Eq, Debug)]
+pub enum ScalarType {
+    Unit,
+    Int,
+    Bool,
+    Text,
+}
+
+#[derive(Clone, Copy, PartialEq, Eq, Debug)]
+pub enum KeyType {
+    Int,
+    Bool,
+    Text,
+}
+
+#[derive(Clone, Copy, PartialEq, Eq, Debug)]
+pub enum ValueType {
+    Scalar(ScalarType),
+    Set(KeyType),
+    Map(KeyType, ScalarType),
+}

@@ -1,0 +1,109 @@
+// The files of a world in memory, and the numbers of the calls that fail there.
+ghost use Rattle.std.specs.Prelude.{◌≡◌, ℕ, List, [], ◌∷◌, ◌++◌, length, IfSome, OnOk, OnErr, slice_get, option_map, IsTrue, ◌↔◌, ◌≤◌, nat_eq, Contains};
+ghost use Rattle.std.specs.List.{position};
+ghost use Rattle.std.specs.Cmp.Lexicographic.{pointwise};
+
+use std::alloc::Global;
+use std::marker::Model;
+use tsl_value::bytes::Bytes;
+use tsl_value::memory::NoMemory;
+use tsl_value::text::Text;
+
+/// A file: its name, and its bytes.
+#[derive(Drop)]
+pub struct NamedFile {
+    pub name: Text,
+    pub bytes: Bytes,
+}
+
+/// Files, in order.
+#[derive(Drop)]
+pub struct Files {
+    items: Vec<NamedFile>,
+}
+
+impl Model for Files {
+    ghost use Rattle.std.specs.Prelude.{List};
+    ghost use Rattle.tsl_world.specs.declared.files.NamedFile.{NamedFile};
+
+    ghost Value = { List NamedFile };
+
+    ghost view = { λ f. f.items.items };
+}
+
+impl Files {
+    pub fn new(alloc: Global) -> Self
+        ensures { result ≡ [] }
+    {
+        Files {
+            items: Vec::new(alloc),
+        }
+    }
+
+    pub fn push(&mut self, item: NamedFile) -> Result<(), NoMemory>
+        ensures ok { OnOk result (self.new ≡ self.old ++ item ∷ []) }
+        ensures err { OnErr result (self.new ≡ self.old) }
+    {
+        self.items.push(item)?;
+        Ok(())
+    }
+
+    pub fn len(&self) -> usize
+        ensures { result ≡ length self.now }
+    {
+        self.items.len()
+    }
+
+    pub fn get(&self, place: usize) -> Option<&NamedFile>
+        ensures { option_map (λ x. x.now) result ≡ slice_get self.now place }
+    {
+        self.items.get(place)
+    }
+
+    /// The place of the first file of a name.
+    pub fn place_of(&self, name: &str) -> Option<usize>
+        ensures { result ≡ position (λ f. pointwise nat_eq f.name name.now) self.now }
+    {
+        self.items
+            .iter()
+            .position(|file| file.name.as_str() == name)
+    }
+}
+
+/// Numbers of calls.
+#[derive(Drop)]
+pub struct Calls {
+    items: Vec<u64>,
+}
+
+impl Model for Calls {
+    ghost use Rattle.std.specs.Prelude.{ℕ, List};
+
+    ghost Value = { List ℕ };
+
+    ghost view = { λ c. c.items.items };
+}
+
+impl Calls {
+    pub fn new(alloc: Global) -> Self
+        ensures { result ≡ [] }
+    {
+        Calls {
+            items: Vec::new(alloc),
+        }
+    }
+
+    pub fn push(&mut self, item: u64) -> Result<(), NoMemory>
+        ensures ok { OnOk result (self.new ≡ self.old ++ item ∷ []) }
+        ensures err { OnErr result (self.new ≡ self.old) }
+    {
+        self.items.push(item)?;
+        Ok(())
+    }
+
+    pub fn contains(&self, number: u64) -> bool
+        ensures { IsTrue result ↔ Contains self.now number }
+    {
+        self.items.contains(&number)
+    }
+}
