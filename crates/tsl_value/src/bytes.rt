@@ -1,6 +1,6 @@
 // Byte strings, which contracts see as lists of bytes.
 
-ghost use Rattle.std.specs.Prelude.{◌≡◌, [], ◌∷◌, ◌++◌, length, IfOk, OnOk, OnErr, slice_get, option_map};
+ghost use Rattle.std.specs.Prelude.{◌≡◌, [], ◌∷◌, ◌++◌, length, take, IfOk, OnOk, OnErr, slice_get, option_map};
 
 use crate::memory::NoMemory;
 use std::alloc::Global;
@@ -56,6 +56,13 @@ impl Bytes {
         Ok(())
     }
 
+    /// Keeps the first bytes, up to this many.
+    pub fn truncate(&mut self, len: usize)
+        ensures { self.new ≡ take len self.old }
+    {
+        self.bytes.truncate(len);
+    }
+
     /// The number of bytes.
     pub fn len(&self) -> usize
         ensures { result ≡ length self.now }
@@ -63,16 +70,30 @@ impl Bytes {
         self.bytes.len()
     }
 
+    /// The byte at a place counted from 0. `None` exactly where the place is not below the length.
     pub fn get(&self, place: usize) -> Option<&u8>
         ensures { option_map (λ x. x.now) result ≡ slice_get self.now place }
     {
         self.bytes.get(place)
     }
 
+    /// All of the bytes.
     pub fn as_slice(&self) -> &[u8]
         ensures { result.now ≡ self.now }
     {
         self.bytes.as_slice()
+    }
+
+    /// The allocator that these bytes grow in.
+    pub fn allocator(&self) -> Global {
+        *self.bytes.allocator()
+    }
+
+    /// The same bytes as a vector.
+    pub fn into_vec(self) -> Vec<u8>
+        ensures { result.items ≡ self }
+    {
+        self.bytes
     }
 
     /// Equal bytes.

@@ -21,12 +21,14 @@ impl Model for EqId {
 }
 
 impl EqId {
+    /// The equation of this number.
     pub fn new(number: u32) -> EqId
         ensures { result ≡ number }
     {
         EqId { number }
     }
 
+    /// Its number.
     pub fn get(self) -> u32
         ensures { result ≡ self }
     {
@@ -48,4 +50,20 @@ impl Model for Handle {
     ghost view = { λ h. h.number };
 
     ghost inverse = { λ n. record { number = n } };
+}
+
+impl Handle {
+    /// The name of this number.
+    pub fn new(number: u64) -> Handle
+        ensures { result ≡ number }
+    {
+        Handle { number }
+    }
+
+    /// Its number.
+    pub fn get(self) -> u64
+        ensures { result ≡ self }
+    {
+        self.number
+    }
 }

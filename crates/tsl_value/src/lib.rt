@@ -6,6 +6,7 @@ pub mod ids;
 pub mod literal;
 pub mod memory;
 pub mod place;
+pub mod print;
 pub mod scalar;
 pub mod text;
 pub mod time;

@@ -15,6 +15,7 @@ pub enum Scalar {
 }
 
 impl Scalar {
+    /// An equal value.
     pub fn copy(&self) -> Result<Scalar, NoMemory>
         ensures { IfOk result (λ s. s ≡ self.now) }
     {
@@ -27,6 +28,7 @@ impl Scalar {
     }
 }
 
+/// The types of scalars.
 #[derive(Clone, Copy, PartialEq, Eq, Debug)]
 pub enum ScalarType {
     Unit,
@@ -35,6 +37,7 @@ pub enum ScalarType {
     Text,
 }
 
+/// The types of the keys of sets and maps.
 #[derive(Clone, Copy, PartialEq, Eq, Debug)]
 pub enum KeyType {
     Int,
@@ -42,6 +45,7 @@ pub enum KeyType {
     Text,
 }
 
+/// The types of values: a scalar, a set of keys, or a map from keys to scalars.
 #[derive(Clone, Copy, PartialEq, Eq, Debug)]
 pub enum ValueType {
     Scalar(ScalarType),

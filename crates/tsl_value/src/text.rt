@@ -1,7 +1,10 @@
 // Texts, which contracts see as lists of bytes.
 
-ghost use Rattle.std.specs.Prelude.{◌≡◌, [], length, IfOk};
+ghost use Rattle.std.specs.Prelude.{◌≡◌, [], ◌++◌, length, encode_utf8, IfOk, OnOk, OnErr, slice_get, option_map};
+ghost use Rattle.std.specs.Option.{SomeIff};
+ghost use Rattle.std.specs.Str.{IsUtf8};
 
+use crate::bytes::Bytes;
 use crate::memory::NoMemory;
 use std::alloc::Global;
 use std::marker::Model;
@@ -39,6 +42,25 @@ impl Text {
         Ok(Text { text })
     }
 
+    /// The text that bytes spell in UTF-8. `None` exactly where they spell none.
+    pub fn from_utf8(bytes: Bytes) -> Option<Text>
+        ensures { SomeIff result (IsUtf8 bytes) bytes }
+    {
+        match String::from_utf8(bytes.into_vec()) {
+            Ok(text) => Some(Text { text }),
+            Err(_) => None,
+        }
+    }
+
+    /// Appends a character's bytes.
+    pub fn push(&mut self, item: char) -> Result<(), NoMemory>
+        ensures ok { OnOk result (self.new ≡ self.old ++ encode_utf8 item) }
+        ensures err { OnErr result (self.new ≡ self.old) }
+    {
+        self.text.push(item)?;
+        Ok(())
+    }
+
     /// The number of bytes.
     pub fn len(&self) -> usize
         ensures { result ≡ length self.now }
@@ -46,6 +68,14 @@ impl Text {
         self.text.len()
     }
 
+    /// The byte at a place counted from 0. `None` exactly where the place is not below the length.
+    pub fn get(&self, place: usize) -> Option<&u8>
+        ensures { option_map (λ x. x.now) result ≡ slice_get self.now place }
+    {
+        self.text.as_bytes().get(place)
+    }
+
+    /// The whole text.
     pub fn as_str(&self) -> &str
         ensures { result.now ≡ self.now }
     {
