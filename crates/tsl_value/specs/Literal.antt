@@ -2,7 +2,7 @@
 use Rattle.std.specs.Prelude.{◌≡◌, ◌≢◌, ◌<◌, ◌==◌, ℕ, Bool, true, false, not, ◌&&◌, ◌||◌, if◌then◌else◌, nat_lt, ℤ, pos, negsuc, neg_ℤ, int_le, int_lt, List, [], ◌∷◌, length, drop, Option, Some, None, Result, Ok, Err, codes}
 use Rattle.std.specs.List.{list_all}
 use Rattle.std.specs.Char.{is_ascii_digit}
-use Rattle.std.specs.Str.{is_utf8}
+use Rattle.std.specs.Str.{bytes_eq, is_utf8}
 use Rattle.std.specs.Str.Parse.{digits_value}
 use Rattle.tsl_value.specs.declared.scalar.Scalar.{Scalar}
 use Rattle.tsl_value.specs.declared.scalar.Scalar.TheVariants as scalar
@@ -11,20 +11,9 @@ use Rattle.tsl_value.specs.declared.scalar.ScalarType.TheVariants as scalar_type
 use Rattle.tsl_value.specs.declared.literal.LiteralFault.{LiteralFault}
 use Rattle.tsl_value.specs.declared.literal.LiteralFault.TheVariants.{BadLiteral, LiteralTooWide, TextTooLong, Memory}
 
--- lists of bytes that are equal
-abbrev pub same_bytes : List ℕ → List ℕ → Bool
-same_bytes [] [] = true
-same_bytes [] (y ∷ ys) = false
-same_bytes (x ∷ xs) [] = false
-same_bytes (x ∷ xs) (y ∷ ys) = (x == y) && same_bytes xs ys
-
-abbrev pub is_empty : List ℕ → Bool
-is_empty [] = true
-is_empty (b ∷ bs) = false
-
 -- one digit or more, and nothing else
 abbrev pub are_digits : List ℕ → Bool
-are_digits bytes = not (is_empty bytes) && list_all is_ascii_digit bytes
+are_digits bytes = not (length bytes == 0) && list_all is_ascii_digit bytes
 
 -- numbers of 64 bits with a sign
 abbrev pub is_int : ℤ → Bool
@@ -49,11 +38,11 @@ int_literal bytes =
 
 abbrev pub bool_literal : List ℕ → Result Scalar LiteralFault
 bool_literal bytes =
-    if same_bytes bytes (codes "true") then Ok (scalar.Bool true)
-    else (if same_bytes bytes (codes "false") then Ok (scalar.Bool false) else Err BadLiteral)
+    if bytes_eq bytes (codes "true") then Ok (scalar.Bool true)
+    else (if bytes_eq bytes (codes "false") then Ok (scalar.Bool false) else Err BadLiteral)
 
 abbrev pub unit_literal : List ℕ → Result Scalar LiteralFault
-unit_literal bytes = if same_bytes bytes (codes "()") then Ok scalar.Unit else Err BadLiteral
+unit_literal bytes = if bytes_eq bytes (codes "()") then Ok scalar.Unit else Err BadLiteral
 
 -- the byte that an escape stands for, by the byte behind its backslash
 abbrev pub unescaped : ℕ → Option ℕ

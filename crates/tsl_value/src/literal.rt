@@ -1,7 +1,11 @@
 // Literals, read.
 
-ghost use Rattle.std.specs.Prelude.{◌≡◌, IfNone, IfSome};
-ghost use Rattle.tsl_value.specs.Literal.{BeginsWith, HasNoByte, IsAnswer, IsContent, are_digits, bool_literal, int_literal, literal, quoted, text_literal, unescaped, unit_literal, without_minus};
+ghost use Rattle.std.specs.Prelude.{◌≡◌, IfNone, IfSome, IsTrue};
+ghost use Rattle.std.specs.Char.{is_ascii_digit};
+ghost use Rattle.std.specs.List.{list_all};
+ghost use Rattle.std.specs.Option.{SomeIff};
+ghost use Rattle.std.specs.Str.{IsUtf8, is_utf8};
+ghost use Rattle.tsl_value.specs.Literal.{BeginsWith, HasNoByte, IsAnswer, IsContent, are_digits, bool_literal, int_literal, is_int, literal, quoted, short_text, signed_value, text_literal, unescaped, unit_literal, unquoted, without_minus};
 
 use crate::bytes::Bytes;
 use crate::memory::NoMemory;
@@ -35,6 +39,7 @@ impl From<NoMemory> for LiteralFault {
 
 /// The scalar of a type that bytes spell: `()`, a number with `-` or nothing before it, `true` or
 /// `false`, or a text between quotes with the escapes `\"`, `\\`, `\n`, `\t` and `\r`.
+#[tactic(auto, unfolding(crate::specs::Literal::literal))]
 pub fn read_literal(alloc: Global, bytes: &[u8], of: ScalarType) -> Result<Scalar, LiteralFault>
     ensures { IsAnswer (literal of bytes.now) result }
 {
@@ -49,19 +54,22 @@ pub fn read_literal(alloc: Global, bytes: &[u8], of: ScalarType) -> Result<Scala
 fn read_unit(bytes: &[u8]) -> Result<Scalar, LiteralFault>
     ensures { IsAnswer (unit_literal bytes.now) result }
 {
-    match bytes {
-        b"()" => Ok(Scalar::Unit),
-        _ => Err(LiteralFault::BadLiteral),
+    if bytes == b"()".as_slice() {
+        Ok(Scalar::Unit)
+    } else {
+        Err(LiteralFault::BadLiteral)
     }
 }
 
 fn read_bool(bytes: &[u8]) -> Result<Scalar, LiteralFault>
     ensures { IsAnswer (bool_literal bytes.now) result }
 {
-    match bytes {
-        b"true" => Ok(Scalar::Bool(true)),
-        b"false" => Ok(Scalar::Bool(false)),
-        _ => Err(LiteralFault::BadLiteral),
+    if bytes == b"true".as_slice() {
+        Ok(Scalar::Bool(true))
+    } else if bytes == b"false".as_slice() {
+        Ok(Scalar::Bool(false))
+    } else {
+        Err(LiteralFault::BadLiteral)
     }
 }
 
@@ -71,12 +79,9 @@ fn read_int(bytes: &[u8]) -> Result<Scalar, LiteralFault>
     if !is_number(bytes) {
         return Err(LiteralFault::BadLiteral);
     }
-    let Ok(digits) = str::from_utf8(bytes) else {
-        return Err(LiteralFault::BadLiteral);
-    };
-    match digits.parse::<i64>() {
-        Ok(number) => Ok(Scalar::Int(number)),
-        Err(_) => Err(LiteralFault::LiteralTooWide),
+    match int_of_digits(bytes) {
+        Some(number) => Ok(Scalar::Int(number)),
+        None => Err(LiteralFault::LiteralTooWide),
     }
 }
 
@@ -93,19 +98,46 @@ fn is_number(bytes: &[u8]) -> bool
 fn is_digits(bytes: &[u8]) -> bool
     ensures { result ≡ are_digits bytes.now }
 {
-    !bytes.is_empty() && bytes.iter().all(|byte| byte.is_ascii_digit())
+    !bytes.is_empty() && has_only_digits(bytes)
+}
+
+fn has_only_digits(bytes: &[u8]) -> bool
+    ensures { result ≡ list_all is_ascii_digit bytes.now }
+{
+    bytes.iter().all(|byte| byte.is_ascii_digit())
+}
+
+/// The number of a minus or nothing and digits, where 64 bits with a sign hold it.
+fn int_of_digits(bytes: &[u8]) -> Option<i64>
+    requires { IsTrue (are_digits (without_minus bytes.now)) }
+    ensures { SomeIff result (IsTrue (is_int (signed_value bytes.now))) (signed_value bytes.now) }
+{
+    match str::from_utf8(bytes) {
+        Ok(digits) => digits.parse().ok(),
+        Err(_) => None,
+    }
 }
 
 fn read_text(alloc: Global, bytes: &[u8]) -> Result<Scalar, LiteralFault>
     ensures { IsAnswer (text_literal bytes.now) result }
 {
-    if str::from_utf8(bytes).is_err() {
+    if !is_text(bytes) {
         return Err(LiteralFault::BadLiteral);
     }
-    let [b'"', rest @ ..] = bytes else {
-        return Err(LiteralFault::BadLiteral);
-    };
-    let content = unquote(alloc, rest)?;
+    let content = unquote(alloc, bytes)?;
+    short_text_of(content)
+}
+
+fn is_text(bytes: &[u8]) -> bool
+    ensures { result ≡ is_utf8 bytes.now }
+{
+    str::from_utf8(bytes).is_ok()
+}
+
+fn short_text_of(content: Bytes) -> Result<Scalar, LiteralFault>
+    requires { IsUtf8 content }
+    ensures { IsAnswer (short_text (Some content)) result }
+{
     if content.len() > 65_536 {
         return Err(LiteralFault::TextTooLong);
     }
@@ -115,8 +147,18 @@ fn read_text(alloc: Global, bytes: &[u8]) -> Result<Scalar, LiteralFault>
     }
 }
 
-/// The text of the bytes behind a first quote.
+/// The text between quotes, its escapes read.
 fn unquote(alloc: Global, bytes: &[u8]) -> Result<Bytes, LiteralFault>
+    ensures { IsContent (unquoted bytes.now) result }
+{
+    match bytes {
+        [b'"', rest @ ..] => read_content(alloc, rest),
+        _ => Err(LiteralFault::BadLiteral),
+    }
+}
+
+/// The text of the bytes behind a first quote.
+fn read_content(alloc: Global, bytes: &[u8]) -> Result<Bytes, LiteralFault>
     ensures { IsContent (quoted bytes.now) result }
 {
     let mut content = Bytes::new(alloc);
