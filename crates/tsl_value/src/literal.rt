@@ -113,7 +113,10 @@ fn int_of_digits(bytes: &[u8]) -> Option<i64>
     ensures { SomeIff result (IsTrue (is_int (signed_value bytes.now))) (signed_value bytes.now) }
 {
     match str::from_utf8(bytes) {
-        Ok(digits) => digits.parse().ok(),
+        Ok(digits) => match digits.parse::<i64>() {
+            Ok(number) => Some(number),
+            Err(_) => None,
+        },
         Err(_) => None,
     }
 }
@@ -131,7 +134,10 @@ fn read_text(alloc: Global, bytes: &[u8]) -> Result<Scalar, LiteralFault>
 fn is_text(bytes: &[u8]) -> bool
     ensures { result ≡ is_utf8 bytes.now }
 {
-    str::from_utf8(bytes).is_ok()
+    match str::from_utf8(bytes) {
+        Ok(_) => true,
+        Err(_) => false,
+    }
 }
 
 fn short_text_of(content: Bytes) -> Result<Scalar, LiteralFault>
