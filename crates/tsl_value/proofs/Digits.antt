@@ -14,7 +14,7 @@ use Rattle.std.proofs.lemmas.Str.Parse.{IsNumeralModel, numerals_by_value, parse
 use Rattle.tsl_value.specs.Literal.{are_digits, is_int, signed_value, without_minus}
 use Rattle.tsl_value.proofs.Utf8.{IsUtf8-one}
 
-own : IsNumeralModel (λ ds. list_all is_ascii_digit ds ≡ true) (digits_value 10)
+pub own : IsNumeralModel (λ ds. list_all is_ascii_digit ds ≡ true) (digits_value 10)
 own = numerals_by_value _ (search rules)
 
 -- digits are one or more, and all of them digits
@@ -22,10 +22,10 @@ pub are_digits-parts : (ds : List ℕ) → are_digits ds ≡ true → (0 < lengt
 are_digits-parts [] h = absurd (cc)
 are_digits-parts (d ∷ ds) h = (search rules, (and_parts (not (length (d ∷ ds) == 0)) (list_all is_ascii_digit (d ∷ ds)) h).1)
 
-is_int-pos : (n : ℕ) → is_int (pos n) ≡ nat_lt n (2 ^ 63)
+pub is_int-pos : (n : ℕ) → is_int (pos n) ≡ nat_lt n (2 ^ 63)
 is_int-pos n = grind (arith, ints)
 
-is_int-neg : (n : ℕ) → is_int (neg_ℤ (pos n)) ≡ nat_le n (2 ^ 63)
+pub is_int-neg : (n : ℕ) → is_int (neg_ℤ (pos n)) ≡ nat_le n (2 ^ 63)
 is_int-neg zero = refl
 is_int-neg (suc n) = grind (arith, ints, nat_tests)
 

@@ -3,6 +3,7 @@
 
 pub mod bytes;
 pub mod ids;
+pub mod laws;
 pub mod literal;
 pub mod memory;
 pub mod place;
