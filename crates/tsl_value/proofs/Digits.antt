@@ -1,5 +1,5 @@
 -- Digits are text, and `parse` reads them.
-use Rattle.std.proofs.Common.{◌≡◌, ◌==◌, ◌≢◌, ℕ, suc, zero, ◌<◌, ◌≤◌, ◌^◌, nat_le, nat_lt, Bool, true, false, not, ◌&&◌, List, [], ◌∷◌, length, drop, ℤ, pos, negsuc, neg_ℤ, IsTrue, Result, Ok, Err, refl, sym, subst, ◌∙◌, arith, rules, w64}
+use Rattle.std.proofs.Common.{◌≡◌, ◌==◌, ℕ, suc, zero, ◌<◌, ◌≤◌, ◌^◌, nat_le, nat_lt, Bool, true, false, not, List, [], ◌∷◌, length, ℤ, pos, neg_ℤ, IsTrue, Result, Ok, Err, refl, sym, subst, ◌∙◌, arith, rules, w64}
 use Rattle.std.specs.Char.{is_ascii_digit}
 use Rattle.std.specs.List.{list_all}
 use Rattle.std.specs.Result.{OkIff}

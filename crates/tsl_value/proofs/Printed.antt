@@ -1,18 +1,17 @@
 -- What is printed is read again.
-use Rattle.std.proofs.Common.{◌≡◌, ◌≢◌, ◌==◌, ℕ, ◌<◌, ◌≤◌, ◌^◌, Bool, true, false, not, ◌&&◌, List, [], ◌∷◌, ◌++◌, length, append_assoc, append-nil, ◌⊎◌, Option, Some, None, Ok, ℤ, pos, negsuc, suc, refl, sym, ap, ◌∙◌, arith, subst, inl, inr, w64, rules, FitsSigned, neg_ℤ}
+use Rattle.std.proofs.Common.{◌≡◌, ◌≢◌, ◌==◌, ℕ, ◌<◌, ◌≤◌, ◌^◌, true, false, not, List, [], ◌∷◌, ◌++◌, length, append_assoc, append-nil, ◌⊎◌, Some, Ok, ℤ, pos, negsuc, suc, refl, ap, ◌∙◌, arith, inl, inr, w64, FitsSigned}
 use Rattle.std.specs.Fmt.{decimal, signed_decimal}
 use Rattle.std.specs.List.{flat_map, list_all}
 use Rattle.std.specs.Char.{is_ascii_digit, IsScalar}
-use Rattle.std.specs.Str.{IsUtf8, is_utf8}
+use Rattle.std.specs.Str.{IsUtf8}
 use Rattle.std.specs.Str.Parse.{digits_value}
 use Rattle.std.proofs.Math.Utf8.{encode, encodes, scalar, scalars}
 use Rattle.std.proofs.lemmas.Bool.{and_from, and_parts, cases_eq, cases_lt, le-ltb, le-leb, lt-ltb, leb-true, ne_eqb}
 use Rattle.std.proofs.lemmas.Bool.Decides.{nat_tests}
-use Rattle.tsl_value.specs.declared.scalar.Scalar.{Scalar}
 use Rattle.tsl_value.specs.declared.scalar.Scalar.TheVariants as scalar
 use Rattle.tsl_value.specs.Laws.{ReadsPrinted}
-use Rattle.tsl_value.specs.Literal.{are_digits, begins_with_minus, int_literal, is_int, literal, put_before, quoted, signed_value, text_literal, unescaped, unquoted, without_minus}
-use Rattle.tsl_value.specs.Print.{escaped, quoted_text, scalar_text}
+use Rattle.tsl_value.specs.Literal.{are_digits, begins_with_minus, int_literal, is_int, literal, put_before, quoted, signed_value, text_literal, unescaped, without_minus}
+use Rattle.tsl_value.specs.Print.{escaped, quoted_text}
 use Rattle.std.proofs.lemmas.Fmt.{decimal_is_IsNumeral}
 use Rattle.std.proofs.lemmas.Grind.{flat_map-append}
 use Rattle.std.proofs.lemmas.Str.{IsUtf8-append, IsUtf8-encode, IsUtf8-nil, encode_ascii, is_utf8-from_IsUtf8}
@@ -40,20 +39,34 @@ escape b letter text ascii back low = inr (record { letter = letter; text = text
 
 printed_byte : (b : ℕ) → IsPlain b ⊎ HasEscape b
 printed_byte b =
-    elim (cases_eq b 34) [ inl e ↦ escape b 34 (rw e refl) (omega arith) (rw e refl) (omega arith) | inr quote ↦
-    elim (cases_eq b 92) [ inl e ↦ escape b 92 (rw e refl) (omega arith) (rw e refl) (omega arith) | inr backslash ↦
-    elim (cases_eq b 10) [ inl e ↦ escape b 110 (rw e refl) (omega arith) (rw e refl) (omega arith) | inr line_end ↦
-    elim (cases_eq b 9) [ inl e ↦ escape b 116 (rw e refl) (omega arith) (rw e refl) (omega arith) | inr tab ↦
-    elim (cases_eq b 13) [ inl e ↦ escape b 114 (rw e refl) (omega arith) (rw e refl) (omega arith) | inr return ↦
-    inl (record { text = rw (ne_eqb b 34 quote, ne_eqb b 92 backslash, ne_eqb b 10 line_end, ne_eqb b 9 tab, ne_eqb b 13 return) refl; quote = quote; line_end = line_end; backslash = backslash })
-    ] ] ] ] ]
+    elim (cases_eq b 34) [
+      | inl e ↦ escape b 34 (rw e refl) (omega arith) (rw e refl) (omega arith)
+      | inr quote ↦
+          elim (cases_eq b 92) [
+            | inl e ↦ escape b 92 (rw e refl) (omega arith) (rw e refl) (omega arith)
+            | inr backslash ↦
+                elim (cases_eq b 10) [
+                  | inl e ↦ escape b 110 (rw e refl) (omega arith) (rw e refl) (omega arith)
+                  | inr line_end ↦
+                      elim (cases_eq b 9) [
+                        | inl e ↦ escape b 116 (rw e refl) (omega arith) (rw e refl) (omega arith)
+                        | inr tab ↦
+                            elim (cases_eq b 13) [
+                              | inl e ↦ escape b 114 (rw e refl) (omega arith) (rw e refl) (omega arith)
+                              | inr return ↦
+                                  inl (record { text = rw (ne_eqb b 34 quote, ne_eqb b 92 backslash, ne_eqb b 10 line_end, ne_eqb b 9 tab, ne_eqb b 13 return) refl; quote = quote; line_end = line_end; backslash = backslash })
+                            ]
+                      ]
+                ]
+          ]
+    ]
 
 -- a byte that is printed within quotes is read as itself
 quoted-escaped : (b : ℕ) (rest : List ℕ) → quoted (escaped b ++ rest) ≡ put_before (Some b) (quoted rest)
 quoted-escaped b rest =
     elim (printed_byte b) [
-      inl plain ↦ rw plain.text (quoted-plain b rest plain.quote plain.line_end plain.backslash)
-    | inr escape ↦ rw escape.text (ap (λ o. put_before o (quoted rest)) escape.back)
+      | inl plain ↦ rw plain.text (quoted-plain b rest plain.quote plain.line_end plain.backslash)
+      | inr escape ↦ rw escape.text (ap (λ o. put_before o (quoted rest)) escape.back)
     ]
 
 quoted-printed : (bytes : List ℕ) → quoted (flat_map escaped bytes ++ 34 ∷ []) ≡ Some bytes
@@ -65,8 +78,8 @@ quoted-printed (b ∷ bytes) =
 IsUtf8-escaped : (b : ℕ) → b < 128 → IsUtf8 (escaped b)
 IsUtf8-escaped b low =
     elim (printed_byte b) [
-      inl plain ↦ rw plain.text (IsUtf8-one b low)
-    | inr escape ↦ rw escape.text (IsUtf8-append (92 ∷ []) (escape.letter ∷ []) (IsUtf8-one 92 (omega arith)) (IsUtf8-one escape.letter escape.ascii))
+      | inl plain ↦ rw plain.text (IsUtf8-one b low)
+      | inr escape ↦ rw escape.text (IsUtf8-append (92 ∷ []) (escape.letter ∷ []) (IsUtf8-one 92 (omega arith)) (IsUtf8-one escape.letter escape.ascii))
     ]
 
 flat_map-high : (xs : List ℕ) → are_high xs ≡ true → flat_map escaped xs ≡ xs
@@ -75,15 +88,15 @@ flat_map-high (x ∷ xs) h =
     let both = and_parts _ _ h in
     let high = leb-true 128 x both.0 in
     elim (printed_byte x) [
-      inl plain ↦ rw (plain.text, flat_map-high xs both.1) refl
-    | inr escape ↦ absurd (omega arith)
+      | inl plain ↦ rw (plain.text, flat_map-high xs both.1) refl
+      | inr escape ↦ absurd (omega arith)
     ]
 
 IsUtf8-printed_char : (c : ℕ) → IsScalar c → IsUtf8 (flat_map escaped (encode c))
 IsUtf8-printed_char c s =
     elim (cases_lt c 128) [
-      inl low ↦ rw (encode_ascii c low) (rw (append-nil (escaped c)) (IsUtf8-escaped c low))
-    | inr high ↦ rw (flat_map-high (encode c) (are_high-encode c high)) (IsUtf8-encode c s)
+      | inl low ↦ rw (encode_ascii c low) (rw (append-nil (escaped c)) (IsUtf8-escaped c low))
+      | inr high ↦ rw (flat_map-high (encode c) (are_high-encode c high)) (IsUtf8-encode c s)
     ]
 
 IsUtf8-printed : (cs : List ℕ) → scalars cs ≡ true → IsUtf8 (flat_map escaped (encodes cs))

@@ -1,5 +1,5 @@
 -- Texts between quotes.
-use Rattle.std.proofs.Common.{◌≡◌, ◌≢◌, ◌==◌, ℕ, ◌<◌, ◌≤◌, Bool, true, false, ◌&&◌, List, [], ◌∷◌, ◌++◌, length, append_assoc, Option, Some, None, option_map, refl, sym, ap, ◌∙◌, arith, subst, inl, inr}
+use Rattle.std.proofs.Common.{◌≡◌, ◌≢◌, ℕ, ◌<◌, ◌≤◌, true, List, [], ◌∷◌, ◌++◌, length, append_assoc, Option, Some, None, option_map, refl, sym, ap, ◌∙◌, arith, inl, inr}
 use Rattle.std.specs.Str.{IsUtf8}
 use Rattle.std.specs.Char.{IsScalar}
 use Rattle.std.proofs.lemmas.Str.{IsUtf8-append, IsUtf8-nil, IsUtf8-encode, IsUtf8-drop, IsCharBoundary-after_ascii, encode_ascii, length-encode, len_utf8_bounds}
@@ -73,12 +73,12 @@ said_low : (c : ℕ) (cs : List ℕ) → c < 128 → c ≢ 92 → Said cs → (o
 unfolding Said
 said_low c cs low plain said out h =
     elim (cases_eq c 34) [
-      inl q ↦ let end = quoted-quote (encodes cs) out (rw q at h) in rw end IsUtf8-nil
-    | inr q ↦ elim (cases_eq c 10) [
-        inl l ↦ absurd (quoted-line_end (encodes cs) out (rw l at h))
-      | inr l ↦
-        let s = splits (Some c) (quoted (encodes cs)) out (sym (quoted-plain c (encodes cs) q l plain) ∙ h) in
-        rw s.is (IsUtf8-append (s.byte ∷ []) s.more (IsUtf8-one s.byte (let same : c ≡ s.byte = cc in omega arith)) (said s.more s.goes_on))
+      | inl q ↦ let end = quoted-quote (encodes cs) out (rw q at h) in rw end IsUtf8-nil
+      | inr q ↦ elim (cases_eq c 10) [
+        | inl l ↦ absurd (quoted-line_end (encodes cs) out (rw l at h))
+        | inr l ↦
+            let s = splits (Some c) (quoted (encodes cs)) out (sym (quoted-plain c (encodes cs) q l plain) ∙ h) in
+            rw s.is (IsUtf8-append (s.byte ∷ []) s.more (IsUtf8-one s.byte (let same : c ≡ s.byte = cc in omega arith)) (said s.more s.goes_on))
       ]
     ]
 
@@ -115,15 +115,15 @@ said_escape_low d ds said out h =
 said_escape : (d : ℕ) (ds : List ℕ) → Said ds → (out : List ℕ) → quoted (92 ∷ (encode d ++ encodes ds)) ≡ Some out → IsUtf8 out
 said_escape d ds said out h =
     elim (cases_lt d 128) [
-      inl low ↦ said_escape_low d ds said out (rw (encode_ascii d low) at h)
-    | inr high ↦ absurd (escape_high (encode d) (encodes ds) out (are_high-encode d high) (omega (arith, length-encode d, (len_utf8_bounds d).0)) h)
+      | inl low ↦ said_escape_low d ds said out (rw (encode_ascii d low) at h)
+      | inr high ↦ absurd (escape_high (encode d) (encodes ds) out (are_high-encode d high) (omega (arith, length-encode d, (len_utf8_bounds d).0)) h)
     ]
 
 said_first : (c : ℕ) (cs : List ℕ) → c ≢ 92 → IsScalar c → Said cs → (out : List ℕ) → quoted (encode c ++ encodes cs) ≡ Some out → IsUtf8 out
 said_first c cs plain scalar said out h =
     elim (cases_lt c 128) [
-      inl low ↦ said_low c cs low plain said out (rw (encode_ascii c low) at h)
-    | inr high ↦ said_high c cs high scalar said out h
+      | inl low ↦ said_low c cs low plain said out (rw (encode_ascii c low) at h)
+      | inr high ↦ said_high c cs high scalar said out h
     ]
 
 backslash : (rest out : List ℕ) (c : ℕ) → c ≡ 92 → quoted (encode c ++ rest) ≡ Some out → quoted (92 ∷ rest) ≡ Some out
@@ -137,15 +137,15 @@ said [] s out h = absurd (cc)
 said (c ∷ []) s out h =
     let parts = and_parts (scalar c) (scalars []) s in
     elim (cases_eq c 92) [
-      inl e ↦ let none = backslash [] out c e h in absurd (cc)
-    | inr plain ↦ said_first c [] plain parts.0 (said [] parts.1) out h
+      | inl e ↦ let none = backslash [] out c e h in absurd (cc)
+      | inr plain ↦ said_first c [] plain parts.0 (said [] parts.1) out h
     ]
 said (c ∷ d ∷ ds) s out h =
     let first = and_parts (scalar c) (scalars (d ∷ ds)) s in
     let second = and_parts (scalar d) (scalars ds) first.1 in
     elim (cases_eq c 92) [
-      inl e ↦ said_escape d ds (said ds second.1) out (backslash (encodes (d ∷ ds)) out c e h)
-    | inr plain ↦ said_first c (d ∷ ds) plain first.0 (said (d ∷ ds) first.1) out h
+      | inl e ↦ said_escape d ds (said ds second.1) out (backslash (encodes (d ∷ ds)) out c e h)
+      | inr plain ↦ said_first c (d ∷ ds) plain first.0 (said (d ∷ ds) first.1) out h
     ]
 
 pub IsUtf8-quoted : (bytes out : List ℕ) → IsUtf8 bytes → quoted bytes ≡ Some out → IsUtf8 out
@@ -155,10 +155,10 @@ IsUtf8-quoted bytes out text h = said text.0 text.1.0 out (rw text.1.1 h)
 unquoted_tail : (b : ℕ) (bytes out : List ℕ) → IsUtf8 (b ∷ bytes) → unquoted (b ∷ bytes) ≡ Some out → IsUtf8 out
 unquoted_tail b bytes out text h =
     elim (cases_eq b 34) [
-      inl e ↦
-        let tail : IsUtf8 bytes = IsUtf8-drop (b ∷ bytes) 1 text (IsCharBoundary-after_ascii (b ∷ bytes) 0 text (omega arith) (omega arith)) in
-        IsUtf8-quoted bytes out tail (rw e at h)
-    | inr n ↦ let none = rw (ne_eqb b 34 n) at h in absurd (cc)
+      | inl e ↦
+          let tail : IsUtf8 bytes = IsUtf8-drop (b ∷ bytes) 1 text (IsCharBoundary-after_ascii (b ∷ bytes) 0 text (omega arith) (omega arith)) in
+          IsUtf8-quoted bytes out tail (rw e at h)
+      | inr n ↦ let none = rw (ne_eqb b 34 n) at h in absurd (cc)
     ]
 
 -- the text of a quoted text is a text

@@ -1,11 +1,9 @@
 -- Laws of values.
-use Rattle.std.specs.Prelude.{◌≡◌, ℕ, ◌≤◌, length, Ok, FitsSigned}
+use Rattle.std.specs.Prelude.{◌≡◌, ◌≤◌, length, Ok, FitsSigned}
 use Rattle.std.specs.Int.{w64}
-
 use Rattle.std.specs.Str.{IsUtf8}
 use Rattle.tsl_value.specs.declared.scalar.Scalar.{Scalar}
 use Rattle.tsl_value.specs.declared.scalar.Scalar.TheVariants as scalar
-use Rattle.tsl_value.specs.declared.scalar.ScalarType.{ScalarType}
 use Rattle.tsl_value.specs.Literal.{literal}
 use Rattle.tsl_value.specs.Print.{scalar_text}
 use Rattle.tsl_value.specs.View.{type_of}

@@ -5,5 +5,4 @@ ghost use Rattle.tsl_value.specs.Laws.{ReadsPrinted};
 /// What is printed of an Int, a Bool, or a text of at most 65,536 bytes, is read as the same value.
 pub fn printed_values_are_read()
     ensures { ReadsPrinted }
-{
-}
+{}

@@ -9,5 +9,7 @@ pub mod memory;
 pub mod place;
 pub mod print;
 pub mod scalar;
+#[cfg(test)]
+mod tests;
 pub mod text;
 pub mod time;

@@ -1,6 +1,6 @@
 use Rattle.std.proofs.Common.{◌≡◌, ap, ◌∙◌, subst}
 use Rattle.std.specs.Str.{IsUtf8}
-use Rattle.std.specs.String.{string_vec, string_bytes}
+use Rattle.std.specs.String.{string_bytes}
 use Rattle.std.proofs.lemmas.Str.{IsUtf8-string_bytes}
 use Rattle.tsl_value.proofs.text.Text.from_utf8.Goals as goal
 
