@@ -1,6 +1,6 @@
 // The body of a value function.
 
-ghost use Rattle.std.specs.Prelude.{◌≡◌, IfOk, IsTrue};
+ghost use Rattle.std.specs.Prelude.{◌≡◌, ◌↔◌, ◌+◌, ◌≤◌, IfOk, IsTrue};
 ghost use Rattle.lift_func.specs.Ints.{IsIntBody, is_int_binary};
 
 use std::alloc::Global;
@@ -8,7 +8,8 @@ use std::marker::Model;
 use tsl_value::memory::NoMemory;
 use tsl_value::scalar::{Scalar, ValueType};
 
-/// The operations of one operand.
+/// The operations of one operand: of an Int, a Bool, an aggregate, a text, a value, and three of an
+/// option.
 #[derive(Clone, Copy, PartialEq, Eq, Debug)]
 pub enum Unary {
     Neg,
@@ -42,16 +43,20 @@ pub enum Binary {
     Concat,
 }
 
-/// The tree of a value function.
+/// The most nodes that a body has.
+pub const MOST_NODES: u32 = 1024;
+
+/// The tree of a value function, of at most 1,024 nodes.
 #[cycle(body)]
 #[derive(Drop)]
 pub struct Body {
     pub(crate) node: Node,
+    nodes: u32,
 }
 
 #[cycle(body)]
 #[derive(Drop)]
-pub enum Node {
+pub(crate) enum Node {
     Literal(Scalar),
     Argument(u32),
     Absent(ValueType),
@@ -61,7 +66,7 @@ pub enum Node {
 }
 
 impl Model for Body {
-    ghost use Rattle.lift_func.specs.Tree.{Tree, tree_code, size_of};
+    ghost use Rattle.lift_func.specs.Tree.{Tree, tree_code, node_count, IsCounted};
 
     ghost Value = { Tree };
 
@@ -71,7 +76,9 @@ impl Model for Body {
 
     ghost view = { λ b. tree_of b.node };
 
-    ghost size = { size_of };
+    ghost invariant = { λ b. IsCounted b.nodes (tree_of b.node) };
+
+    ghost size = { node_count };
 
     ghost use Rattle.std.proofs.Common.{arith};
 
@@ -88,35 +95,91 @@ fn is_arithmetic(o: Binary) -> bool
 }
 
 impl Body {
-    ghost use Rattle.lift_func.specs.Tree.{Literal, Argument, Two};
+    ghost use Rattle.lift_func.specs.Tree.{Absent, Argument, Choice, Literal, One, Two, node_count};
 
+    /// A literal.
     pub fn literal(s: Scalar) -> Body
         ensures { result ≡ Literal s }
     {
         Body {
             node: Node::Literal(s),
+            nodes: 1,
         }
     }
 
+    /// The argument of this number, counted from 0.
     pub fn argument(n: u32) -> Body
         ensures { result ≡ Argument n }
     {
         Body {
             node: Node::Argument(n),
+            nodes: 1,
         }
     }
 
+    /// The absent value of a type's option.
+    pub fn none(of: ValueType) -> Body
+        ensures { result ≡ Absent of }
+    {
+        Body {
+            node: Node::Absent(of),
+            nodes: 1,
+        }
+    }
+
+    /// An operation at one operand. Where memory is wanting the operand is gone.
+    pub fn one(alloc: Global, o: Unary, a: Body) -> Result<Body, NoMemory>
+        requires { 1 + node_count a ≤ 1024 }
+        ensures { IfOk result (λ t. t ≡ One o a) }
+    {
+        let nodes = 1 + a.nodes();
+        let a = Box::new(alloc, a)?;
+        Ok(Body {
+            node: Node::One(o, a),
+            nodes,
+        })
+    }
+
+    /// An operation at two operands. Where memory is wanting the operands are gone.
     pub fn two(alloc: Global, o: Binary, a: Body, b: Body) -> Result<Body, NoMemory>
+        requires { 1 + node_count a + node_count b ≤ 1024 }
         ensures { IfOk result (λ t. t ≡ Two o a b) }
     {
+        let nodes = 1 + a.nodes() + b.nodes();
+        let a = Box::new(alloc, a)?;
+        let b = Box::new(alloc, b)?;
         Ok(Body {
-            node: Node::Two(o, Box::new(alloc, a)?, Box::new(alloc, b)?),
+            node: Node::Two(o, a, b),
+            nodes,
         })
+    }
+
+    /// `a` where the condition is true, and else `b`. Where memory is wanting all three are gone.
+    pub fn choice(alloc: Global, condition: Body, a: Body, b: Body) -> Result<Body, NoMemory>
+        requires { 1 + node_count condition + node_count a + node_count b ≤ 1024 }
+        ensures { IfOk result (λ t. t ≡ Choice condition a b) }
+    {
+        let nodes = 1 + condition.nodes() + a.nodes() + b.nodes();
+        let condition = Box::new(alloc, condition)?;
+        let a = Box::new(alloc, a)?;
+        let b = Box::new(alloc, b)?;
+        Ok(Body {
+            node: Node::Choice(condition, a, b),
+            nodes,
+        })
+    }
+
+    /// The number of nodes.
+    pub fn nodes(&self) -> u32
+        ensures exact { result ≡ node_count self.now }
+        ensures few { result ≤ 1024 }
+    {
+        self.nodes
     }
 
     /// It has literals, arguments below a number, and arithmetic.
     pub fn is_of_ints(&self, arguments: usize) -> bool
-        ensures { IsTrue result → IsIntBody arguments self.now }
+        ensures { IsTrue result ↔ IsIntBody arguments self.now }
     {
         match &self.node {
             Node::Literal(Scalar::Int(_)) => true,
@@ -131,26 +194,28 @@ impl Body {
 
     /// An equal tree.
     #[cycle(copy)]
-    pub fn copy(&self, alloc: Global) -> Result<Body, NoMemory>
+    pub fn copy(&self) -> Result<Body, NoMemory>
         ensures { IfOk result (λ b. b ≡ self.now) }
     {
         let node = match &self.node {
             Node::Literal(s) => Node::Literal(s.copy()?),
             Node::Argument(n) => Node::Argument(*n),
             Node::Absent(of) => Node::Absent(*of),
-            Node::One(o, a) => Node::One(*o, boxed(alloc, a)?),
-            Node::Two(o, a, b) => Node::Two(*o, boxed(alloc, a)?, boxed(alloc, b)?),
-            Node::Choice(c, a, b) => {
-                Node::Choice(boxed(alloc, c)?, boxed(alloc, a)?, boxed(alloc, b)?)
-            }
+            Node::One(o, a) => Node::One(*o, boxed(a)?),
+            Node::Two(o, a, b) => Node::Two(*o, boxed(a)?, boxed(b)?),
+            Node::Choice(c, a, b) => Node::Choice(boxed(c)?, boxed(a)?, boxed(b)?),
         };
-        Ok(Body { node })
+        Ok(Body {
+            node,
+            nodes: self.nodes,
+        })
     }
 }
 
 #[cycle(copy)]
-fn boxed(alloc: Global, body: &Box<Body>) -> Result<Box<Body>, NoMemory>
+fn boxed(body: &Box<Body>) -> Result<Box<Body>, NoMemory>
     ensures { IfOk result (λ b. b.value ≡ body.now.value) }
 {
-    Ok(Box::new(alloc, body.copy(alloc)?)?)
+    let copy = body.copy()?;
+    Ok(Box::new(*Box::allocator(body), copy)?)
 }

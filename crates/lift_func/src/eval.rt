@@ -16,7 +16,7 @@ use tsl_value::scalar::Scalar;
 #[derive(Clone, Copy, PartialEq, Eq, Debug)]
 pub enum EvalFault {
     Fault(FaultKind),
-    Memory(NoMemory),
+    Memory,
 }
 
 impl From<FaultKind> for EvalFault {
@@ -32,10 +32,10 @@ impl From<FaultKind> for EvalFault {
 impl From<NoMemory> for EvalFault {
     ghost use Rattle.lift_func.specs.declared.eval.EvalFault.TheVariants.{Memory};
 
-    ghost from_gives = { λ m e. e ≡ Memory m };
+    ghost from_gives = { λ _ e. e ≡ Memory };
 
-    fn from(none: NoMemory) -> EvalFault {
-        EvalFault::Memory(none)
+    fn from(_none: NoMemory) -> EvalFault {
+        EvalFault::Memory
     }
 }
 
@@ -147,37 +147,37 @@ fn copied(value: &Option<Scalar>) -> Result<Option<Scalar>, NoMemory>
 }
 
 /// The value of a body of Ints with arithmetic, or the first fault.
-pub fn eval(body: &Body, args: &[Option<Scalar>]) -> Result<Option<Scalar>, EvalFault>
+pub fn eval_scalars(body: &Body, args: &[Option<Scalar>]) -> Result<Option<Scalar>, EvalFault>
     requires { IsIntBody (length args.now) body.now }
     ensures { IsValue result (apply body.now (views args.now)) }
 {
     match &body.node {
         Node::Literal(Scalar::Int(n)) => Ok(Some(Scalar::Int(*n))),
         Node::Argument(k) => Ok(copied(&args[*k as usize])?),
-        Node::One(Unary::Neg, a) => Ok(negated(&eval(a, args)?)?),
+        Node::One(Unary::Neg, a) => Ok(negated(&eval_scalars(a, args)?)?),
         Node::Two(Binary::Add, a, b) => {
-            let x = eval(a, args)?;
-            let y = eval(b, args)?;
+            let x = eval_scalars(a, args)?;
+            let y = eval_scalars(b, args)?;
             Ok(added(&x, &y)?)
         }
         Node::Two(Binary::Sub, a, b) => {
-            let x = eval(a, args)?;
-            let y = eval(b, args)?;
+            let x = eval_scalars(a, args)?;
+            let y = eval_scalars(b, args)?;
             Ok(subtracted(&x, &y)?)
         }
         Node::Two(Binary::Mul, a, b) => {
-            let x = eval(a, args)?;
-            let y = eval(b, args)?;
+            let x = eval_scalars(a, args)?;
+            let y = eval_scalars(b, args)?;
             Ok(multiplied(&x, &y)?)
         }
         Node::Two(Binary::Div, a, b) => {
-            let x = eval(a, args)?;
-            let y = eval(b, args)?;
+            let x = eval_scalars(a, args)?;
+            let y = eval_scalars(b, args)?;
             Ok(divided_by(&x, &y)?)
         }
         Node::Two(Binary::Rem, a, b) => {
-            let x = eval(a, args)?;
-            let y = eval(b, args)?;
+            let x = eval_scalars(a, args)?;
+            let y = eval_scalars(b, args)?;
             Ok(rest_of(&x, &y)?)
         }
         _ => unreachable!(),
