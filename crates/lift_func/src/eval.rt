@@ -1,14 +1,19 @@
 // The value of a body of Ints.
 
-ghost use Rattle.std.specs.Prelude.{◌≡◌, IfOk, length, ◌+ℤ◌, ◌-ℤ◌, ◌*ℤ◌, int_div};
+ghost use Rattle.std.specs.Prelude.{◌≡◌, All, IfOk, length, ◌+ℤ◌, ◌-ℤ◌, ◌*ℤ◌, int_div};
 ghost use Rattle.std.specs.Option.{option_map};
 ghost use Rattle.tsl_value.specs.View.{Plain};
 ghost use Rattle.lift_func.specs.Apply.{int, apply, divided, remainder, on_ints, of_one};
 ghost use Rattle.lift_func.specs.declared.body.Unary.TheVariants as unary;
+ghost use Rattle.lift_func.specs.Cells.{Cells, HoldsNoAggregate, arguments, held};
+ghost use Rattle.lift_func.specs.Evaluable.{HoldsScalar, IsEvaluable};
 ghost use Rattle.lift_func.specs.Ints.{IsAnswer, IsInt, IsIntBody, IsValue, views};
 
 use crate::body::{Binary, Body, Node, Unary};
 use crate::fault::FaultKind;
+use crate::reader::Reader;
+use crate::register::Register;
+use std::alloc::Global;
 use tsl_value::memory::NoMemory;
 use tsl_value::scalar::Scalar;
 
@@ -182,4 +187,48 @@ pub fn eval_scalars(body: &Body, args: &[Option<Scalar>]) -> Result<Option<Scala
         }
         _ => unreachable!(),
     }
+}
+
+fn scalar_of(register: &Register) -> Result<Option<Scalar>, NoMemory>
+    requires { HoldsNoAggregate register.now }
+    ensures { IfOk result (λ v. (cells : Cells) → held cells register.now ≡ option_map Plain v) }
+{
+    match register {
+        Register::Empty => Ok(None),
+        Register::Scalar(value) => Ok(Some(value.copy()?)),
+        Register::Aggregate(_) => unreachable!(),
+    }
+}
+
+/// The scalars of the registers that the arguments name.
+fn gathered(
+    alloc: Global,
+    registers: &[Register],
+    args: &[u32],
+) -> Result<Vec<Option<Scalar>>, NoMemory>
+    requires { All (HoldsScalar registers.now) args.now }
+    ensures { IfOk result (λ v. (cells : Cells) → views v.items ≡ arguments cells registers.now args.now) }
+{
+    let mut values = Vec::new(alloc);
+    for a in args {
+        values.push(scalar_of(&registers[*a as usize])?)?;
+    }
+    Ok(values)
+}
+
+/// The value of a body at the registers that the arguments name. `Fault` comes exactly where the
+/// body's operations have that fault, and is the first of them, operands taken from left to right.
+pub fn eval<R: Reader>(
+    alloc: Global,
+    body: &Body,
+    registers: &[Register],
+    args: &[u32],
+    reader: &R,
+) -> Result<Option<Scalar>, EvalFault>
+    requires { IsEvaluable (R.cells reader.now) registers.now args.now body.now }
+    ensures { IsValue result (apply body.now (arguments (R.cells reader.now) registers.now args.now)) }
+{
+    let _cells = reader;
+    let values = gathered(alloc, registers, args)?;
+    eval_scalars(body, &values)
 }

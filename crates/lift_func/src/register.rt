@@ -1,0 +1,28 @@
+// Registers.
+
+ghost use Rattle.std.specs.Prelude.{◌≡◌, IfOk};
+
+use tsl_value::ids::Handle;
+use tsl_value::memory::NoMemory;
+use tsl_value::scalar::Scalar;
+
+/// What stands at an equation in an instant: nothing, a scalar, or an aggregate in its cell.
+#[derive(Drop)]
+pub enum Register {
+    Empty,
+    Scalar(Scalar),
+    Aggregate(Handle),
+}
+
+impl Register {
+    /// An equal register. The copy of an aggregate's names the same cell.
+    pub fn copy(&self) -> Result<Register, NoMemory>
+        ensures { IfOk result (λ r. r ≡ self.now) }
+    {
+        match self {
+            Register::Empty => Ok(Register::Empty),
+            Register::Scalar(value) => Ok(Register::Scalar(value.copy()?)),
+            Register::Aggregate(cell) => Ok(Register::Aggregate(*cell)),
+        }
+    }
+}
