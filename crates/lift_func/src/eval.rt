@@ -207,7 +207,8 @@ fn gathered(
     args: &[u32],
 ) -> Result<Vec<Option<Scalar>>, NoMemory>
     requires { All (HoldsScalar registers.now) args.now }
-    ensures { IfOk result (λ v. (cells : Cells) → views v.items ≡ arguments cells registers.now args.now) }
+    ensures each { IfOk result (λ v. length v.items ≡ length args.now) }
+    ensures all { IfOk result (λ v. (cells : Cells) → views v.items ≡ arguments cells registers.now args.now) }
 {
     let mut values = Vec::new(alloc);
     for a in args {
@@ -223,12 +224,11 @@ pub fn eval<R: Reader>(
     body: &Body,
     registers: &[Register],
     args: &[u32],
-    reader: &R,
+    _reader: &R,
 ) -> Result<Option<Scalar>, EvalFault>
-    requires { IsEvaluable (R.cells reader.now) registers.now args.now body.now }
-    ensures { IsValue result (apply body.now (arguments (R.cells reader.now) registers.now args.now)) }
+    requires { IsEvaluable (R.cells _reader.now) registers.now args.now body.now }
+    ensures { IsValue result (apply body.now (arguments (R.cells _reader.now) registers.now args.now)) }
 {
-    let _cells = reader;
     let values = gathered(alloc, registers, args)?;
     eval_scalars(body, &values)
 }

@@ -44,6 +44,7 @@ pub trait Reader {
 #[derive(Clone, Copy, PartialEq, Eq, Debug)]
 pub struct NoCells;
 
+#[tactic(auto, using(crate::proofs::NoCells::none_is_live))]
 impl Reader for NoCells {
     ghost use Rattle.std.specs.FinMap as finite_map;
 

@@ -85,7 +85,7 @@ impl Bytes {
     }
 
     /// The allocator that these bytes grow in.
-    pub fn allocator(&self) -> Global {
+    pub(crate) fn allocator(&self) -> Global {
         *self.bytes.allocator()
     }
 
