@@ -129,7 +129,7 @@ impl Body {
 
     /// An operation at one operand. Where memory is wanting the operand is gone.
     pub fn one(alloc: Global, o: Unary, a: Body) -> Result<Body, NoMemory>
-        requires { 1 + node_count a ≤ 1024 }
+        requires { 1 + node_count a ≤ MOST_NODES }
         ensures { IfOk result (λ t. t ≡ One o a) }
     {
         let nodes = 1 + a.nodes();
@@ -142,7 +142,7 @@ impl Body {
 
     /// An operation at two operands. Where memory is wanting the operands are gone.
     pub fn two(alloc: Global, o: Binary, a: Body, b: Body) -> Result<Body, NoMemory>
-        requires { 1 + node_count a + node_count b ≤ 1024 }
+        requires { 1 + node_count a + node_count b ≤ MOST_NODES }
         ensures { IfOk result (λ t. t ≡ Two o a b) }
     {
         let nodes = 1 + a.nodes() + b.nodes();
@@ -156,7 +156,7 @@ impl Body {
 
     /// `a` where the condition is true, and else `b`. Where memory is wanting all three are gone.
     pub fn choice(alloc: Global, condition: Body, a: Body, b: Body) -> Result<Body, NoMemory>
-        requires { 1 + node_count condition + node_count a + node_count b ≤ 1024 }
+        requires { 1 + node_count condition + node_count a + node_count b ≤ MOST_NODES }
         ensures { IfOk result (λ t. t ≡ Choice condition a b) }
     {
         let nodes = 1 + condition.nodes() + a.nodes() + b.nodes();
@@ -172,7 +172,7 @@ impl Body {
     /// The number of nodes.
     pub fn nodes(&self) -> u32
         ensures exact { result ≡ node_count self.now }
-        ensures few { result ≤ 1024 }
+        ensures few { result ≤ MOST_NODES }
     {
         self.nodes
     }
