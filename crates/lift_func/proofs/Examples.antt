@@ -1,13 +1,13 @@
 -- Worked rows of the definitions.
-use Rattle.std.proofs.Common.{◌≡◌, List, [], ◌∷◌, Ok, Err, Some, None, Option, ℤ, pos, negsuc, true, false, codes, refl}
-use Rattle.tsl_value.specs.View.{View, Plain}
+use Rattle.std.proofs.Common.{◌≡◌, [], ◌∷◌, Ok, Err, Some, None, ℤ, pos, negsuc, true, false, codes, refl}
+use Rattle.tsl_value.specs.View.{Plain}
 use Rattle.tsl_value.specs.declared.scalar.Scalar.{Scalar}
 use Rattle.tsl_value.specs.declared.scalar.Scalar.TheVariants as scalar
 use Rattle.lift_func.specs.declared.fault.FaultKind.TheVariants.{Overflow, DivideByZero, NoValue}
 use Rattle.lift_func.specs.declared.body.Unary.TheVariants as unary
 use Rattle.lift_func.specs.declared.body.Binary.TheVariants as binary
 use Rattle.lift_func.specs.Apply.{Answer, apply}
-use Rattle.lift_func.specs.Tree.{Tree, Literal, Argument, Absent, One, Two, Choice}
+use Rattle.lift_func.specs.Tree.{Tree, Literal, Argument, One, Two, Choice}
 
 abbrev int : ℤ → Tree
 int z = Literal (scalar.Int z)

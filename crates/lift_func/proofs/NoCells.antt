@@ -1,5 +1,5 @@
 -- Without cells no handle is live.
-use Rattle.std.proofs.Common.{◌≡◌, ℕ}
+use Rattle.std.proofs.Common.{ℕ}
 use Rattle.std.specs.Ordering.{nat_cmp}
 use Rattle.std.specs.FinMap as finite_map
 use Rattle.lift_func.specs.Cells.{IsLive}

@@ -1,5 +1,5 @@
 -- Cells of aggregates, and registers that name them.
-use Rattle.std.specs.Prelude.{ℕ, Bool, false, ◌&&◌, ◌<◌, IsTrue, List, map, length, Option, Some, None, slice_index_or, unwrap_or, All}
+use Rattle.std.specs.Prelude.{ℕ, Bool, false, IsTrue, List, map, Option, Some, None, slice_index_or, unwrap_or}
 use Rattle.std.specs.Ordering.{nat_cmp}
 use Rattle.std.specs.List.{list_all}
 use Rattle.std.specs.FinSet as set
