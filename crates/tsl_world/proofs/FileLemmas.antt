@@ -1,5 +1,5 @@
 -- Files by their names and by their places.
-use Rattle.std.proofs.Common.{◌≡◌, ◌≤◌, inl, inr, ℕ, true, false, Bool, List, length, Option, Some, None, cond, is_some, slice_get, unwrap_or, nat_eq, nat_lt, refl, sym, ◌∙◌, ap, arith}
+use Rattle.std.proofs.Common.{◌≡◌, ◌≤◌, inl, inr, ℕ, true, false, Bool, List, length, Some, None, cond, is_some, slice_get, unwrap_or, nat_eq, nat_lt, refl, sym, ◌∙◌, ap, arith}
 use Rattle.std.specs.Cmp.Lexicographic.{pointwise}
 use Rattle.std.specs.List.{find, position, position_or_len}
 use Rattle.std.proofs.lemmas.Bool.{ltb-false, lt-ltb, le-ltb}
