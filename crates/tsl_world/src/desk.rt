@@ -1,6 +1,6 @@
 // What a world in memory keeps: its files, what is open, its journal, and what was written.
 ghost use Rattle.std.specs.Prelude.{◌≡◌, ◌<◌, ◌≤◌, ◌↔◌, ◌+◌, ◌^◌, ℕ, Bool, true, false, IsTrue, List, [], ◌∷◌, ◌++◌, length, take, MatchResult, IfSome, IfOk};
-ghost use Rattle.tsl_world.specs.Sources.{left_of};
+ghost use Rattle.tsl_world.specs.Sources.{rest_of};
 ghost use Rattle.tsl_world.specs.World.{WhereTold, SameElsewhere};
 ghost use Rattle.tsl_world.specs.Journal.{given};
 
@@ -57,7 +57,7 @@ impl Sources {
 
 // What is left of an open file.
 fn rest_of<'a>(files: &'a Files, source: &Source) -> &'a [u8]
-    ensures rest { result.now ≡ left_of files.now source.now }
+    ensures rest { result.now ≡ rest_of files.now source.now }
     ensures fits { source.now.place + length result.now < 2 ^ 64 }
 {
     let bytes: &[u8] = match files.get(source.file) {
@@ -77,8 +77,8 @@ fn read_on(files: &Files, source: &mut Source, piece: usize, buf: &mut [u8]) -> 
     requires room { 0 < length buf.old }
     ensures count { result ≤ length buf.new }
     ensures piece { result ≤ piece }
-    ensures bytes { left_of files.now source.old ≡ take result buf.new ++ left_of files.now source.new }
-    ensures end { result ≡ 0 ↔ (left_of files.now source.old ≡ []) }
+    ensures bytes { rest_of files.now source.old ≡ take result buf.new ++ rest_of files.now source.new }
+    ensures end { result ≡ 0 ↔ (rest_of files.now source.old ≡ []) }
     ensures open { source.new.is_open ≡ source.old.is_open }
 {
     let rest = rest_of(files, source);
@@ -164,7 +164,7 @@ pub struct Desk {
 impl Model for Desk {
     ghost use Rattle.std.specs.Prelude.{◌≡◌, ◌<◌, IsTrue};
     ghost use Rattle.tsl_world.specs.Journal.{given};
-    ghost use Rattle.tsl_world.specs.Sources.{Kept};
+    ghost use Rattle.tsl_world.specs.Desk.{Kept};
     ghost use Rattle.tsl_world.specs.declared.outside.Channel.TheVariants.{Out, Err};
 
     ghost Value = { Kept };
@@ -175,14 +175,15 @@ impl Model for Desk {
 }
 
 impl Desk {
-    ghost use Rattle.tsl_world.specs.Sources.{Kept, standing_of, left_in, source_at, bytes_at, place_in};
+    ghost use Rattle.tsl_world.specs.Desk.{standing_in, left_in};
+    ghost use Rattle.tsl_world.specs.Files.{bytes_named, IsAbsent};
     ghost use Rattle.tsl_world.specs.Standing.{at_first, is_open, is_writable, with_slot, with_channel};
 
     pub fn new(alloc: Global, files: Files, piece: usize) -> Desk
         requires { 0 < piece }
         ensures told { result.told ≡ true }
         ensures journal { result.journal ≡ [] }
-        ensures standing { standing_of result ≡ at_first }
+        ensures standing { standing_in result ≡ at_first }
         ensures made { (result.files ≡ files) × (result.piece ≡ piece) }
     {
         let shut = Source {
@@ -231,12 +232,12 @@ impl Desk {
         self.err.as_slice()
     }
 
-    #[tactic(auto, using(crate::proofs::Sourced::at_with, crate::proofs::Sourced::at_with_other))]
+    #[tactic(auto, using(crate::proofs::SourceLemmas::at_with, crate::proofs::SourceLemmas::at_with_other))]
     pub fn read(&mut self, slot: Slot, buf: &mut [u8]) -> usize
         requires room { 0 < length buf.old }
         ensures count { result ≤ length buf.new }
         ensures piece { result ≤ self.old.piece }
-        ensures standing { standing_of self.new ≡ standing_of self.old }
+        ensures standing { standing_in self.new ≡ standing_in self.old }
         ensures told { IsTrue self.new.told → IsTrue self.old.told }
         ensures journal { WhereTold self.new.told (self.new.journal ≡ self.old.journal ++ Did.Took slot (take result buf.new) ∷ []) }
         ensures bytes { left_in self.old slot ≡ take result buf.new ++ left_in self.new slot }
@@ -257,7 +258,7 @@ impl Desk {
         ensures some { 0 < result }
         ensures count { result ≤ length bytes.now }
         ensures piece { result ≤ self.old.piece }
-        ensures standing { standing_of self.new ≡ standing_of self.old }
+        ensures standing { standing_in self.new ≡ standing_in self.old }
         ensures told { IsTrue self.new.told → IsTrue self.old.told }
         ensures journal { WhereTold self.new.told (self.new.journal ≡ self.old.journal ++ Did.Gave channel (take result bytes.now) ∷ []) }
         ensures sources { self.new.sources ≡ self.old.sources }
@@ -279,21 +280,29 @@ impl Desk {
         count
     }
 
-    /// Opens the file at this place; past the last it is an empty one.
-    #[tactic(auto, using(crate::proofs::Sourced::at_with, crate::proofs::Sourced::at_with_other))]
-    pub fn open(&mut self, slot: Slot, file: usize, name: &str)
-        requires { is_open (standing_of self.old) slot ≡ false }
-        ensures standing { standing_of self.new ≡ with_slot (standing_of self.old) slot }
+    /// Whether there is a file of this name.
+    #[tactic(auto, using(crate::proofs::FileLemmas::has_place))]
+    pub fn has(&self, name: &str) -> bool
+        ensures { (result ≡ false) ↔ IsAbsent self.now.files name.now }
+    {
+        self.files.place_of(name).is_some()
+    }
+
+    /// Opens the first file of this name; where there is none, an empty one.
+    #[tactic(auto, using(crate::proofs::SourceLemmas::at_with, crate::proofs::SourceLemmas::at_with_other, crate::proofs::FileLemmas::bytes_found))]
+    pub fn open(&mut self, slot: Slot, name: &str)
+        requires { is_open (standing_in self.old) slot ≡ false }
+        ensures standing { standing_in self.new ≡ with_slot (standing_in self.old) slot }
         ensures told { IsTrue self.new.told → IsTrue self.old.told }
         ensures journal { WhereTold self.new.told (self.new.journal ≡ self.old.journal ++ Did.Opened slot name.now ∷ []) }
-        ensures opened { left_in self.new slot ≡ bytes_at self.old.files file }
+        ensures opened { left_in self.new slot ≡ bytes_named self.old.files name.now }
         ensures left { SameElsewhere slot (left_in self.old) (left_in self.new) }
         ensures files { self.new.files ≡ self.old.files }
         ensures made { self.new.piece ≡ self.old.piece }
     {
         let source = Source {
             is_open: true,
-            file,
+            file: self.files.place_of(name).unwrap_or(self.files.len()),
             place: 0,
         };
         self.sources.set(slot, source);
@@ -303,7 +312,7 @@ impl Desk {
 
     /// Notes an opening that failed.
     pub fn fail_open(&mut self, slot: Slot, name: &str)
-        ensures standing { standing_of self.new ≡ standing_of self.old }
+        ensures standing { standing_in self.new ≡ standing_in self.old }
         ensures told { IsTrue self.new.told → IsTrue self.old.told }
         ensures journal { WhereTold self.new.told (self.new.journal ≡ self.old.journal ++ Did.NotOpened slot name.now ∷ []) }
         ensures sources { self.new.sources ≡ self.old.sources }
@@ -315,8 +324,8 @@ impl Desk {
     }
 
     pub fn create(&mut self, channel: Channel, name: &str)
-        requires { is_writable (standing_of self.old) channel ≡ false }
-        ensures standing { standing_of self.new ≡ with_channel (standing_of self.old) channel }
+        requires { is_writable (standing_in self.old) channel ≡ false }
+        ensures standing { standing_in self.new ≡ with_channel (standing_in self.old) channel }
         ensures told { IsTrue self.new.told → IsTrue self.old.told }
         ensures journal { WhereTold self.new.told (self.new.journal ≡ self.old.journal ++ Did.Created channel name.now ∷ []) }
         ensures sources { self.new.sources ≡ self.old.sources }
@@ -334,7 +343,7 @@ impl Desk {
 
     /// Notes a creation that failed.
     pub fn fail_create(&mut self, channel: Channel, name: &str)
-        ensures standing { standing_of self.new ≡ standing_of self.old }
+        ensures standing { standing_in self.new ≡ standing_in self.old }
         ensures told { IsTrue self.new.told → IsTrue self.old.told }
         ensures journal { WhereTold self.new.told (self.new.journal ≡ self.old.journal ++ Did.NotCreated channel name.now ∷ []) }
         ensures sources { self.new.sources ≡ self.old.sources }
@@ -343,18 +352,5 @@ impl Desk {
     {
         let did = not_created(self.alloc, channel, name);
         note(&mut self.journal, &mut self.is_told, did);
-    }
-
-    /// The place of the first file of a name.
-    pub fn place_of(&self, name: &str) -> Option<usize>
-        ensures { result ≡ place_in self.now.files name.now }
-    {
-        self.files.place_of(name)
-    }
-
-    pub fn files_len(&self) -> usize
-        ensures { result ≡ length self.now.files }
-    {
-        self.files.len()
     }
 }

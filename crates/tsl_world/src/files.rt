@@ -1,7 +1,6 @@
 // The files of a world in memory, and the numbers of the calls that fail there.
-ghost use Rattle.std.specs.Prelude.{◌≡◌, ℕ, List, [], ◌∷◌, ◌++◌, length, IfSome, OnOk, OnErr, slice_get, option_map, IsTrue, ◌↔◌, ◌≤◌, nat_eq, Contains};
-ghost use Rattle.std.specs.List.{position};
-ghost use Rattle.std.specs.Cmp.Lexicographic.{pointwise};
+ghost use Rattle.std.specs.Prelude.{◌≡◌, [], ◌∷◌, ◌++◌, length, OnOk, OnErr, slice_get, option_map, IsTrue, ◌↔◌, Contains};
+ghost use Rattle.tsl_world.specs.Files.{place_named};
 
 use std::alloc::Global;
 use std::marker::Model;
@@ -16,7 +15,7 @@ pub struct NamedFile {
     pub bytes: Bytes,
 }
 
-/// Files, in order.
+/// Files, in order. Of two with one name the first is meant.
 #[derive(Drop)]
 pub struct Files {
     items: Vec<NamedFile>,
@@ -32,6 +31,7 @@ impl Model for Files {
 }
 
 impl Files {
+    /// No files.
     pub fn new(alloc: Global) -> Self
         ensures { result ≡ [] }
     {
@@ -40,6 +40,7 @@ impl Files {
         }
     }
 
+    /// Appends a file.
     pub fn push(&mut self, item: NamedFile) -> Result<(), NoMemory>
         ensures ok { OnOk result (self.new ≡ self.old ++ item ∷ []) }
         ensures err { OnErr result (self.new ≡ self.old) }
@@ -48,21 +49,23 @@ impl Files {
         Ok(())
     }
 
+    /// The number of files.
     pub fn len(&self) -> usize
         ensures { result ≡ length self.now }
     {
         self.items.len()
     }
 
+    /// Lends the file at a place, counted from 0.
     pub fn get(&self, place: usize) -> Option<&NamedFile>
-        ensures { option_map (λ x. x.now) result ≡ slice_get self.now place }
+        ensures { option_map (λ file. file.now) result ≡ slice_get self.now place }
     {
         self.items.get(place)
     }
 
-    /// The place of the first file of a name.
-    pub fn place_of(&self, name: &str) -> Option<usize>
-        ensures { result ≡ position (λ f. pointwise nat_eq f.name name.now) self.now }
+    // The place of the first file of a name.
+    pub(crate) fn place_of(&self, name: &str) -> Option<usize>
+        ensures { result ≡ place_named self.now name.now }
     {
         self.items
             .iter()
@@ -70,7 +73,7 @@ impl Files {
     }
 }
 
-/// Numbers of calls.
+/// The numbers of calls, each counted from 0 over all calls of a world.
 #[derive(Drop)]
 pub struct Calls {
     items: Vec<u64>,
@@ -85,6 +88,7 @@ impl Model for Calls {
 }
 
 impl Calls {
+    /// No numbers.
     pub fn new(alloc: Global) -> Self
         ensures { result ≡ [] }
     {
@@ -93,6 +97,7 @@ impl Calls {
         }
     }
 
+    /// Appends a number.
     pub fn push(&mut self, item: u64) -> Result<(), NoMemory>
         ensures ok { OnOk result (self.new ≡ self.old ++ item ∷ []) }
         ensures err { OnErr result (self.new ≡ self.old) }
@@ -101,7 +106,22 @@ impl Calls {
         Ok(())
     }
 
-    pub fn contains(&self, number: u64) -> bool
+    /// How many numbers are listed.
+    pub fn len(&self) -> usize
+        ensures { result ≡ length self.now }
+    {
+        self.items.len()
+    }
+
+    /// Lends the number at a place, counted from 0.
+    pub fn get(&self, place: usize) -> Option<&u64>
+        ensures { option_map (λ number. number.now) result ≡ slice_get self.now place }
+    {
+        self.items.get(place)
+    }
+
+    // Whether a number is listed.
+    pub(crate) fn contains(&self, number: u64) -> bool
         ensures { IsTrue result ↔ Contains self.now number }
     {
         self.items.contains(&number)

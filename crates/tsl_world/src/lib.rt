@@ -1,13 +1,21 @@
 //! The outside of a program, as one trait: what it opens, makes, reads and writes, told as a journal.
+//!
+//! `outside` has the trait `World` and the values that it speaks of. `RealWorld` is the host: its files and
+//! its standard streams. `MemoryWorld` and `CalmWorld` are for tests and for proofs about what a program does:
+//! they keep files in memory, and tell everything in their journal.
 #![tactic(auto)]
 
+mod calm;
 mod desk;
 mod files;
 mod memory;
 mod outside;
 mod real;
+#[cfg(test)]
+mod tests;
 
+pub use calm::CalmWorld;
 pub use files::{Calls, Files, NamedFile};
-pub use memory::{CalmWorld, MemoryWorld};
+pub use memory::MemoryWorld;
 pub use outside::{Channel, Did, Failed, Slot, World};
 pub use real::RealWorld;

@@ -1,7 +1,5 @@
-// Worlds in memory: one whose calls fail where that was asked for, and one whose calls never fail.
-ghost use Rattle.std.specs.Prelude.{◌≡◌, ◌<◌, ◌≤◌, ◌+◌, ◌-◌, ◌^◌, min, ◌↔◌, ℕ, Bool, true, false, IsTrue, List, [], length, IfOk, OnOk, Contains};
-ghost use Rattle.tsl_world.specs.Journal.{given};
-ghost use Rattle.tsl_world.specs.Standing.{at_first};
+// A world in memory whose calls fail where that was asked for.
+ghost use Rattle.std.specs.Prelude.{◌≡◌, ◌<◌, ◌+◌, ◌-◌, ◌^◌, min, ◌↔◌, IsTrue, Contains};
 
 use crate::desk::Desk;
 use crate::files::{Calls, Files};
@@ -9,7 +7,8 @@ use crate::outside::{Channel, Failed, Slot, World};
 use std::alloc::Global;
 use tsl_value::memory::NoMemory;
 
-/// A world in memory. The calls whose numbers are listed fail, and each opening of an absent file.
+/// A world in memory, whose journal is told. The calls with listed numbers fail, and so does each opening of an
+/// absent file; no other call does. Where it finds no memory to note a call, it does the call and stops telling.
 #[derive(Drop)]
 pub struct MemoryWorld {
     desk: Desk,
@@ -29,6 +28,13 @@ fn is_next_listed(fails: &Calls, calls: &mut u64) -> bool
 }
 
 impl MemoryWorld {
+    ghost use Rattle.std.specs.Prelude.{◌≡◌, ◌<◌, true, [], IsTrue, IfOk};
+    ghost use Rattle.tsl_world.specs.Journal.{given};
+    ghost use Rattle.tsl_world.specs.Memory.{journal_of, told_of, standing_of, faults_of, files_of, piece_of, fails_of, next_of};
+    ghost use Rattle.tsl_world.specs.Standing.{at_first};
+
+    /// A world with these files, of which nothing is open. A read gives at most `piece` bytes, and a write takes at
+    /// most `piece`. The calls with the numbers in `fails` fail.
     pub fn new(
         alloc: Global,
         files: Files,
@@ -36,10 +42,12 @@ impl MemoryWorld {
         fails: Calls,
     ) -> Result<MemoryWorld, NoMemory>
         requires { 0 < piece }
-        ensures told { IfOk result (λ w. ⟦<MemoryWorld as World>⟧.told w ≡ true) }
-        ensures journal { IfOk result (λ w. ⟦<MemoryWorld as World>⟧.journal w ≡ []) }
-        ensures standing { IfOk result (λ w. ⟦<MemoryWorld as World>⟧.standing w ≡ at_first) }
-        ensures faults { IfOk result (λ w. ⟦<MemoryWorld as World>⟧.faults w ≡ 0) }
+        ensures told { IfOk result (λ w. told_of w ≡ true) }
+        ensures journal { IfOk result (λ w. journal_of w ≡ []) }
+        ensures standing { IfOk result (λ w. standing_of w ≡ at_first) }
+        ensures faults { IfOk result (λ w. faults_of w ≡ 0) }
+        ensures first { IfOk result (λ w. next_of w ≡ 0) }
+        ensures made { IfOk result (λ w. (files_of w ≡ files) × (piece_of w ≡ piece) × (fails_of w ≡ fails)) }
     {
         Ok(MemoryWorld {
             desk: Desk::new(alloc, files, piece),
@@ -49,83 +57,82 @@ impl MemoryWorld {
         })
     }
 
+    /// Whether the journal is told.
     pub fn is_told(&self) -> bool
-        ensures { result ≡ ⟦<MemoryWorld as World>⟧.told self.now }
+        ensures { result ≡ told_of self.now }
     {
         self.desk.is_told()
     }
 
-    /// What was written to Out, as far as it could be kept.
+    /// What was written to `Out`, as far as it could be kept; the whole where told.
     pub fn out(&self) -> &[u8]
-        ensures { IsTrue (⟦<MemoryWorld as World>⟧.told self.now) → result.now ≡ given Channel.Out (⟦<MemoryWorld as World>⟧.journal self.now) }
+        ensures { IsTrue (told_of self.now) → result.now ≡ given Channel.Out (journal_of self.now) }
     {
         self.desk.out()
     }
 
-    /// What was written to Err, as far as it could be kept.
+    /// What was written to `Err`, as far as it could be kept; the whole where told.
     pub fn err(&self) -> &[u8]
-        ensures { IsTrue (⟦<MemoryWorld as World>⟧.told self.now) → result.now ≡ given Channel.Err (⟦<MemoryWorld as World>⟧.journal self.now) }
+        ensures { IsTrue (told_of self.now) → result.now ≡ given Channel.Err (journal_of self.now) }
     {
         self.desk.err()
     }
 }
 
 impl World for MemoryWorld {
-    ghost use Rattle.tsl_world.specs.Sources.{standing_of, left_in, bytes_named, IsAbsent};
-    ghost use Rattle.tsl_world.specs.Memory.{files_of, piece_of, fails_of, next_of};
+    ghost use Rattle.tsl_world.specs.Files.{bytes_named, IsAbsent};
+    ghost use Rattle.tsl_world.specs.Memory.{journal_of, told_of, left_of, standing_of, faults_of, files_of, piece_of, fails_of, next_of};
     ghost use Rattle.tsl_world.specs.Standing.{is_open, is_writable, with_slot, with_channel};
     ghost use Rattle.tsl_world.specs.World.{HasCause, WhereTold, SameElsewhere};
     ghost use Rattle.tsl_world.specs.declared.outside.Did.{Did};
     ghost use Rattle.std.specs.Prelude.{◌≡◌, ◌⊎◌, ◌↔◌, ◌<◌, ◌≤◌, ◌++◌, ◌∷◌, [], true, false, IsTrue, if◌then◌else◌, is_ok, length, take, OnOk, OnErr, IfOk, IsErr, MatchResult, Contains};
 
-    ghost journal = { λ w. w.desk.journal };
+    ghost journal = { journal_of };
 
-    ghost told = { λ w. w.desk.told };
+    ghost told = { told_of };
 
-    ghost left = { λ w. left_in w.desk };
+    ghost left = { left_of };
 
-    ghost standing = { λ w. standing_of w.desk };
+    ghost standing = { standing_of };
 
-    ghost faults = { λ w. w.faults };
+    ghost faults = { faults_of };
+
+    // The clauses of the trait, and behind them which calls fail, and what an opening gives.
 
     fn open(&mut self, slot: Slot, name: &str) -> Result<(), Failed>
-        requires { is_open (standing_of self.old.desk) slot ≡ false }
-        ensures standing { standing_of self.new.desk ≡ (if is_ok result then with_slot (standing_of self.old.desk) slot else standing_of self.old.desk) }
-        ensures cause { HasCause self.old.faults self.new.faults result }
-        ensures told { IsTrue self.new.desk.told → IsTrue self.old.desk.told }
-        ensures journal { WhereTold self.new.desk.told (self.new.desk.journal ≡ self.old.desk.journal
+        requires { is_open (standing_of self.old) slot ≡ false }
+        ensures standing { standing_of self.new ≡ (if is_ok result then with_slot (standing_of self.old) slot else standing_of self.old) }
+        ensures cause { HasCause (faults_of self.old) (faults_of self.new) result }
+        ensures told { IsTrue (told_of self.new) → IsTrue (told_of self.old) }
+        ensures journal { WhereTold (told_of self.new) (journal_of self.new ≡ journal_of self.old
             ++ (if is_ok result then Did.Opened slot name.now else Did.NotOpened slot name.now) ∷ []) }
-        ensures left { WhereTold self.new.desk.told (SameElsewhere slot (left_in self.old.desk) (left_in self.new.desk)) }
-        ensures failed { WhereTold self.new.desk.told (OnErr result (left_in self.new.desk ≡ left_in self.old.desk)) }
+        ensures left { WhereTold (told_of self.new) (SameElsewhere slot (left_of self.old) (left_of self.new)) }
+        ensures failed { WhereTold (told_of self.new) (OnErr result (left_of self.new ≡ left_of self.old)) }
 
-        // Beyond the trait: which calls fail, and what an opening gives.
         ensures exactly { IsErr result ↔ (Contains (fails_of self.old) (next_of self.old) ⊎ IsAbsent (files_of self.old) name.now) }
-        ensures opened { OnOk result (left_in self.new.desk slot ≡ bytes_named (files_of self.old) name.now) }
+        ensures opened { OnOk result (left_of self.new slot ≡ bytes_named (files_of self.old) name.now) }
         ensures counts { next_of self.new ≡ min (next_of self.old + 1) (2 ^ 64 - 1) }
         ensures made { (files_of self.new ≡ files_of self.old) × (fails_of self.new ≡ fails_of self.old) × (piece_of self.new ≡ piece_of self.old) }
     {
         let is_listed = is_next_listed(&self.fails, &mut self.calls);
-        match self.desk.place_of(name) {
-            Some(place) if !is_listed => {
-                self.desk.open(slot, place, name);
-                Ok(())
-            }
-            _ => {
-                self.faults = self.faults.saturating_add(1);
-                self.desk.fail_open(slot, name);
-                Err(Failed)
-            }
+        if is_listed || !self.desk.has(name) {
+            self.faults = self.faults.saturating_add(1);
+            self.desk.fail_open(slot, name);
+            return Err(Failed);
         }
+        self.desk.open(slot, name);
+        Ok(())
     }
 
     fn create(&mut self, channel: Channel, name: &str) -> Result<(), Failed>
-        requires { is_writable (standing_of self.old.desk) channel ≡ false }
-        ensures standing { standing_of self.new.desk ≡ (if is_ok result then with_channel (standing_of self.old.desk) channel else standing_of self.old.desk) }
-        ensures cause { HasCause self.old.faults self.new.faults result }
-        ensures told { IsTrue self.new.desk.told → IsTrue self.old.desk.told }
-        ensures journal { WhereTold self.new.desk.told (self.new.desk.journal ≡ self.old.desk.journal
+        requires { is_writable (standing_of self.old) channel ≡ false }
+        ensures standing { standing_of self.new ≡ (if is_ok result then with_channel (standing_of self.old) channel else standing_of self.old) }
+        ensures cause { HasCause (faults_of self.old) (faults_of self.new) result }
+        ensures told { IsTrue (told_of self.new) → IsTrue (told_of self.old) }
+        ensures journal { WhereTold (told_of self.new) (journal_of self.new ≡ journal_of self.old
             ++ (if is_ok result then Did.Created channel name.now else Did.NotCreated channel name.now) ∷ []) }
-        ensures left { WhereTold self.new.desk.told (left_in self.new.desk ≡ left_in self.old.desk) }
+        ensures left { WhereTold (told_of self.new) (left_of self.new ≡ left_of self.old) }
+
         ensures exactly { IsErr result ↔ Contains (fails_of self.old) (next_of self.old) }
         ensures counts { next_of self.new ≡ min (next_of self.old + 1) (2 ^ 64 - 1) }
         ensures made { (files_of self.new ≡ files_of self.old) × (fails_of self.new ≡ fails_of self.old) × (piece_of self.new ≡ piece_of self.old) }
@@ -141,18 +148,19 @@ impl World for MemoryWorld {
 
     fn read(&mut self, slot: Slot, buf: &mut [u8]) -> Result<usize, Failed>
         requires room { 0 < length buf.old }
-        requires stands { is_open (standing_of self.old.desk) slot ≡ true }
+        requires stands { is_open (standing_of self.old) slot ≡ true }
         ensures count { IfOk result (λ n. n ≤ length buf.new) }
-        ensures standing { standing_of self.new.desk ≡ standing_of self.old.desk }
-        ensures cause { HasCause self.old.faults self.new.faults result }
-        ensures told { IsTrue self.new.desk.told → IsTrue self.old.desk.told }
-        ensures journal { WhereTold self.new.desk.told (MatchResult result
-            (λ n. self.new.desk.journal ≡ self.old.desk.journal ++ Did.Took slot (take n buf.new) ∷ [])
-            (λ _. self.new.desk.journal ≡ self.old.desk.journal)) }
-        ensures bytes { WhereTold self.new.desk.told (IfOk result (λ n. left_in self.old.desk slot ≡ take n buf.new ++ left_in self.new.desk slot)) }
-        ensures end { WhereTold self.new.desk.told (IfOk result (λ n. n ≡ 0 ↔ (left_in self.old.desk slot ≡ []))) }
-        ensures left { WhereTold self.new.desk.told (SameElsewhere slot (left_in self.old.desk) (left_in self.new.desk)) }
-        ensures failed { WhereTold self.new.desk.told (OnErr result (left_in self.new.desk ≡ left_in self.old.desk)) }
+        ensures standing { standing_of self.new ≡ standing_of self.old }
+        ensures cause { HasCause (faults_of self.old) (faults_of self.new) result }
+        ensures told { IsTrue (told_of self.new) → IsTrue (told_of self.old) }
+        ensures journal { WhereTold (told_of self.new) (MatchResult result
+            (λ n. journal_of self.new ≡ journal_of self.old ++ Did.Took slot (take n buf.new) ∷ [])
+            (λ _. journal_of self.new ≡ journal_of self.old)) }
+        ensures bytes { WhereTold (told_of self.new) (IfOk result (λ n. left_of self.old slot ≡ take n buf.new ++ left_of self.new slot)) }
+        ensures end { WhereTold (told_of self.new) (IfOk result (λ n. n ≡ 0 ↔ (left_of self.old slot ≡ []))) }
+        ensures left { WhereTold (told_of self.new) (SameElsewhere slot (left_of self.old) (left_of self.new)) }
+        ensures failed { WhereTold (told_of self.new) (OnErr result (left_of self.new ≡ left_of self.old)) }
+
         ensures exactly { IsErr result ↔ Contains (fails_of self.old) (next_of self.old) }
         ensures piece { IfOk result (λ n. n ≤ piece_of self.old) }
         ensures counts { next_of self.new ≡ min (next_of self.old + 1) (2 ^ 64 - 1) }
@@ -167,15 +175,16 @@ impl World for MemoryWorld {
 
     fn write(&mut self, channel: Channel, bytes: &[u8]) -> Result<usize, Failed>
         requires some { 0 < length bytes.now }
-        requires stands { is_writable (standing_of self.old.desk) channel ≡ true }
+        requires stands { is_writable (standing_of self.old) channel ≡ true }
         ensures count { IfOk result (λ n. (0 < n) × (n ≤ length bytes.now)) }
-        ensures standing { standing_of self.new.desk ≡ standing_of self.old.desk }
-        ensures cause { HasCause self.old.faults self.new.faults result }
-        ensures told { IsTrue self.new.desk.told → IsTrue self.old.desk.told }
-        ensures journal { WhereTold self.new.desk.told (MatchResult result
-            (λ n. self.new.desk.journal ≡ self.old.desk.journal ++ Did.Gave channel (take n bytes.now) ∷ [])
-            (λ _. self.new.desk.journal ≡ self.old.desk.journal)) }
-        ensures left { WhereTold self.new.desk.told (left_in self.new.desk ≡ left_in self.old.desk) }
+        ensures standing { standing_of self.new ≡ standing_of self.old }
+        ensures cause { HasCause (faults_of self.old) (faults_of self.new) result }
+        ensures told { IsTrue (told_of self.new) → IsTrue (told_of self.old) }
+        ensures journal { WhereTold (told_of self.new) (MatchResult result
+            (λ n. journal_of self.new ≡ journal_of self.old ++ Did.Gave channel (take n bytes.now) ∷ [])
+            (λ _. journal_of self.new ≡ journal_of self.old)) }
+        ensures left { WhereTold (told_of self.new) (left_of self.new ≡ left_of self.old) }
+
         ensures exactly { IsErr result ↔ Contains (fails_of self.old) (next_of self.old) }
         ensures piece { IfOk result (λ n. n ≤ piece_of self.old) }
         ensures counts { next_of self.new ≡ min (next_of self.old + 1) (2 ^ 64 - 1) }
@@ -185,70 +194,6 @@ impl World for MemoryWorld {
             self.faults = self.faults.saturating_add(1);
             return Err(Failed);
         }
-        Ok(self.desk.write(channel, bytes))
-    }
-}
-
-/// A world in memory whose calls never fail. An absent file is an empty one.
-#[derive(Drop)]
-pub struct CalmWorld {
-    desk: Desk,
-}
-
-impl CalmWorld {
-    pub fn new(alloc: Global, files: Files, piece: usize) -> Result<CalmWorld, NoMemory>
-        requires { 0 < piece }
-        ensures told { IfOk result (λ w. ⟦<CalmWorld as World>⟧.told w ≡ true) }
-        ensures journal { IfOk result (λ w. ⟦<CalmWorld as World>⟧.journal w ≡ []) }
-        ensures standing { IfOk result (λ w. ⟦<CalmWorld as World>⟧.standing w ≡ at_first) }
-    {
-        Ok(CalmWorld {
-            desk: Desk::new(alloc, files, piece),
-        })
-    }
-
-    pub fn is_told(&self) -> bool
-        ensures { result ≡ ⟦<CalmWorld as World>⟧.told self.now }
-    {
-        self.desk.is_told()
-    }
-
-    pub fn out(&self) -> &[u8]
-        ensures { IsTrue (⟦<CalmWorld as World>⟧.told self.now) → result.now ≡ given Channel.Out (⟦<CalmWorld as World>⟧.journal self.now) }
-    {
-        self.desk.out()
-    }
-}
-
-impl World for CalmWorld {
-    ghost use Rattle.tsl_world.specs.Sources.{standing_of, left_in};
-
-    ghost journal = { λ w. w.desk.journal };
-
-    ghost told = { λ w. w.desk.told };
-
-    ghost left = { λ w. left_in w.desk };
-
-    ghost standing = { λ w. standing_of w.desk };
-
-    ghost faults = { λ _. 0 };
-
-    fn open(&mut self, slot: Slot, name: &str) -> Result<(), Failed> {
-        let place = self.desk.place_of(name).unwrap_or(self.desk.files_len());
-        self.desk.open(slot, place, name);
-        Ok(())
-    }
-
-    fn create(&mut self, channel: Channel, name: &str) -> Result<(), Failed> {
-        self.desk.create(channel, name);
-        Ok(())
-    }
-
-    fn read(&mut self, slot: Slot, buf: &mut [u8]) -> Result<usize, Failed> {
-        Ok(self.desk.read(slot, buf))
-    }
-
-    fn write(&mut self, channel: Channel, bytes: &[u8]) -> Result<usize, Failed> {
         Ok(self.desk.write(channel, bytes))
     }
 }

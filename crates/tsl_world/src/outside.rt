@@ -8,7 +8,7 @@ ghost use Rattle.tsl_world.specs.declared.outside.Slot.{Slot};
 use tsl_value::bytes::Bytes;
 use tsl_value::text::Text;
 
-/// What is read.
+/// What is read. Each slot is opened by a name, once.
 #[derive(Clone, Copy, Debug, PartialEq, Eq)]
 pub enum Slot {
     Spec,
@@ -17,7 +17,7 @@ pub enum Slot {
     Code,
 }
 
-/// What is written.
+/// What is written. `Out` and `Err` always stand; a file for one of the others is made first.
 #[derive(Clone, Copy, Debug, PartialEq, Eq)]
 pub enum Channel {
     Out,
@@ -30,7 +30,7 @@ pub enum Channel {
 #[derive(Clone, Copy, Debug, PartialEq, Eq)]
 pub struct Failed;
 
-/// One entry of the journal.
+/// One entry of the journal: what a call did. A read or a write that failed makes none.
 #[derive(Drop)]
 pub enum Did {
     Opened { slot: Slot, name: Text },
@@ -42,23 +42,27 @@ pub enum Did {
 }
 
 /// All contact with the outside.
+///
+/// A call answers `Failed` only where the count of faults rose in it, or stands at 2^64 - 1, its last value.
+/// Misuse is excluded by the conditions, so it is no failure. What a call says of bytes and of the journal holds
+/// where the world is told when the call returns.
 pub trait World {
     /// What the calls did, in order.
     ghost journal: { Self → List Did };
 
-    /// Whether the journal is told.
+    /// Whether the journal is told. It never turns from false to true.
     ghost told: { Self → Bool };
 
     /// What a slot still has, where told.
     ghost left: { Self → Slot → List ℕ };
 
-    /// What may be read and written. It is known also where nothing is told.
+    /// Which slots are open, and which channels may be written. It is known also where nothing is told.
     ghost standing: { Self → Standing };
 
-    /// How often the outside has failed.
+    /// How often the outside has failed. It never falls.
     ghost faults: { Self → ℕ };
 
-    /// Opens what the name names for reading.
+    /// Opens what the name names for reading. The journal says so, and also where the opening failed.
     fn open(&mut self, slot: Slot, name: &str) -> Result<(), Failed>
         requires { is_open (standing self.old) slot ≡ false }
         ensures standing { standing self.new ≡ (if is_ok result then with_slot (standing self.old) slot else standing self.old) }
@@ -69,7 +73,7 @@ pub trait World {
         ensures left { WhereTold (told self.new) (SameElsewhere slot (left self.old) (left self.new)) }
         ensures failed { WhereTold (told self.new) (OnErr result (left self.new ≡ left self.old)) };
 
-    /// Makes a file.
+    /// Makes a file to write. The journal says so, and also where that failed.
     fn create(&mut self, channel: Channel, name: &str) -> Result<(), Failed>
         requires { is_writable (standing self.old) channel ≡ false }
         ensures standing { standing self.new ≡ (if is_ok result then with_channel (standing self.old) channel else standing self.old) }
@@ -79,7 +83,8 @@ pub trait World {
             ++ (if is_ok result then Did.Created channel name.now else Did.NotCreated channel name.now) ∷ []) }
         ensures left { WhereTold (told self.new) (left self.new ≡ left self.old) };
 
-    /// Gives the next bytes of a slot, and takes them off. At 0 the slot is at its end.
+    /// Puts the next bytes of a slot at the front of the buffer, takes them off, and answers how many they are.
+    /// The count is 0 exactly at the end of the slot.
     fn read(&mut self, slot: Slot, buf: &mut [u8]) -> Result<usize, Failed>
         requires room { 0 < length buf.old }
         requires stands { is_open (standing self.old) slot ≡ true }
@@ -95,7 +100,7 @@ pub trait World {
         ensures left { WhereTold (told self.new) (SameElsewhere slot (left self.old) (left self.new)) }
         ensures failed { WhereTold (told self.new) (OnErr result (left self.new ≡ left self.old)) };
 
-    /// Takes a prefix of the bytes, at least one.
+    /// Takes the first of the bytes, one at least and all at most, and answers how many it took.
     fn write(&mut self, channel: Channel, bytes: &[u8]) -> Result<usize, Failed>
         requires some { 0 < length bytes.now }
         requires stands { is_writable (standing self.old) channel ≡ true }

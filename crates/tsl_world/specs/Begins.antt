@@ -1,0 +1,7 @@
+-- Lists that begin others.
+use Rattle.std.specs.Prelude.{◌≡◌, List, ◌++◌}
+
+-- the first begins the second
+pub record Begins {A : Type 0} (short whole : List A) : Type 0 where
+  pub rest : List A
+  pub is : whole ≡ short ++ rest
