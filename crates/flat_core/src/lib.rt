@@ -1,8 +1,10 @@
 // The flat system: numbered equations, and what their streams are.
 #![tactic(auto)]
 
+pub mod builder;
 pub mod equation;
 pub mod flat;
 pub mod laws;
 pub mod line;
 pub mod lists;
+mod reach;
