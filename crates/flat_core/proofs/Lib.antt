@@ -7,6 +7,7 @@ pub mod StreamLists
 pub mod PendingLemmas
 pub mod Depth
 pub mod Members
+pub mod MarkLemmas
 pub mod WellFormedRank
 pub mod WellFormedOrder
 pub mod ListedSolution

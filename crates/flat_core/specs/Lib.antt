@@ -15,3 +15,4 @@ pub mod TypedSystem
 pub mod Pending
 pub mod Needed
 pub mod Complete
+pub mod Marks

@@ -1,9 +1,9 @@
 // Lists of equations, which contracts see as lists of numbers.
 
-ghost use Rattle.std.specs.Prelude.{◌≡◌, ◌∷◌, [], ◌++◌, ◌==◌, ◌||◌, length, slice_get, is_ok, if◌then◌else◌, IfOk, OnOk, OnErr, IsTrue};
+ghost use Rattle.std.specs.Prelude.{◌≡◌, ℕ, ◌∷◌, [], ◌++◌, ◌==◌, ◌||◌, length, slice_get, is_ok, if◌then◌else◌, IfOk, OnOk, OnErr, IsTrue};
 ghost use Rattle.std.specs.Option.{option_copied};
 ghost use Rattle.std.specs.List.Sorted.{IsStrictlyIncreasing};
-ghost use Rattle.flat_core.specs.Members.{is_in};
+ghost use Rattle.flat_core.specs.Members.{is_in, IsPlace};
 
 use smallvec::SmallVec;
 use std::alloc::Global;
@@ -103,6 +103,18 @@ impl EqSet {
         EqSet {
             ids: Vec::new(alloc),
         }
+    }
+
+    /// The place of an equation, if it is or were there.
+    fn place_of(&self, id: EqId) -> usize
+        ensures { IsPlace self.now id result }
+    {
+        for (place, j) in self.ids.iter().enumerate() {
+            if j.get() >= id.get() {
+                return place;
+            }
+        }
+        self.ids.len()
     }
 
     /// Puts an equation at its place. One that is there already changes nothing.
