@@ -7,7 +7,9 @@ pub mod StreamLists
 pub mod PendingLemmas
 pub mod Depth
 pub mod Members
+pub mod Walks
 pub mod MarkLemmas
+pub mod Finished
 pub mod WellFormedRank
 pub mod WellFormedOrder
 pub mod ListedSolution

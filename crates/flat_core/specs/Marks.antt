@@ -39,6 +39,7 @@ ArgumentsMarked equations m i = (e : Equation) → slice_get equations i ≡ Som
 
 -- n is m with all equations marked to which a walk leads from a marked one
 pub record Spread (equations : List Equation) (m n : Marks) : Type 0 where
+  pub one_each : length n.marked.items ≡ length m.marked.items
   pub kept : (i : ℕ) → IsTrue (is_marked m i) → IsTrue (is_marked n i)
   pub from : (i : ℕ) → IsTrue (is_marked n i) → (j : ℕ) × IsTrue (is_marked m j) × Walk (HasArgument equations) j i
   pub closed : (i : ℕ) → IsTrue (is_marked n i) → ArgumentsMarked equations n i

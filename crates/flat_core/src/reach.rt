@@ -1,7 +1,7 @@
 // Which equations the outputs need.
 
-ghost use Rattle.std.specs.Prelude.{◌≡◌, ◌↔◌, ◌<◌, ◌≤◌, [], ◌∷◌, ℕ, length, map, replicate, false, IfOk, OnOk, IsTrue};
-ghost use Rattle.std.specs.List.{AllByRecursion};
+ghost use Rattle.std.specs.Prelude.{◌≡◌, ◌↔◌, ◌<◌, ◌≤◌, [], ◌∷◌, ℕ, length, map, replicate, false, All, IfOk, OnOk, IsTrue};
+ghost use Rattle.std.specs.List.Sorted.{IsStrictlyIncreasing};
 ghost use Rattle.flat_core.specs.Members.{is_in};
 ghost use Rattle.flat_core.specs.Needed.{IsReached};
 ghost use Rattle.flat_core.specs.Marks.{is_marked, is_waiting, AreBelow, ArgumentsThere, Marked, Spread};
@@ -55,7 +55,7 @@ impl Marks {
     }
 
     fn mark_outputs(&mut self, outputs: &[Output]) -> Result<(), NoMemory>
-        requires { AreBelow (length self.old.marked.items) (map (λ o. o.equation) outputs.now) }
+        requires { All (λ o. o.equation < length self.old.marked.items) outputs.now }
         ensures { OnOk result (Marked (map (λ o. o.equation) outputs.now) self.old self.new) }
     {
         for output in outputs {
@@ -80,7 +80,8 @@ impl Marks {
     /// The marked equations.
     fn set(&self, alloc: Global) -> Result<EqSet, NoMemory>
         requires { length self.now.marked.items ≤ 4096 }
-        ensures { IfOk result (λ s. (i : ℕ) → is_in s i ≡ is_marked self.now i) }
+        ensures ascending { IfOk result (λ s. IsStrictlyIncreasing s) }
+        ensures members { IfOk result (λ s. (i : ℕ) → is_in s i ≡ is_marked self.now i) }
     {
         let mut set = EqSet::new(alloc);
         for index in 0..self.marked.len() {
@@ -100,8 +101,9 @@ pub(crate) fn needed(
 ) -> Result<EqSet, NoMemory>
     requires few { length equations.now ≤ 4096 }
     requires there { ArgumentsThere equations.now }
-    requires outputs_there { AreBelow (length equations.now) (map (λ o. o.equation) outputs.now) }
-    ensures { IfOk result (λ s. (i : ℕ) → IsTrue (is_in s i) ↔ IsReached equations.now outputs.now i) }
+    requires outputs_there { All (λ o. o.equation < length equations.now) outputs.now }
+    ensures ascending { IfOk result (λ s. IsStrictlyIncreasing s) }
+    ensures members { IfOk result (λ s. (i : ℕ) → IsTrue (is_in s i) ↔ IsReached equations.now outputs.now i) }
 {
     let mut marks = Marks::new(alloc, equations.len())?;
     marks.mark_outputs(outputs)?;
