@@ -13,4 +13,8 @@ pub mod Finished
 pub mod WellFormedRank
 pub mod WellFormedOrder
 pub mod ListedSolution
+pub mod Alike
+pub mod LaterLines
+pub mod SmallerBound
+pub mod SameMeaning
 mod Examples

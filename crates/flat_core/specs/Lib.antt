@@ -16,3 +16,4 @@ pub mod Pending
 pub mod Needed
 pub mod Complete
 pub mod Marks
+pub mod BoundLaws
