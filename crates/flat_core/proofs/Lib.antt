@@ -13,6 +13,8 @@ pub mod Finished
 pub mod WellFormedRank
 pub mod WellFormedOrder
 pub mod ListedSolution
+pub mod DueLemmas
+pub mod StillLemmas
 pub mod Alike
 pub mod LaterLines
 pub mod SmallerBound

@@ -13,6 +13,7 @@ pub mod Laws
 pub mod Typed
 pub mod TypedSystem
 pub mod Pending
+pub mod Kept
 pub mod Needed
 pub mod Complete
 pub mod Marks
