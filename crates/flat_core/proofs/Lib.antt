@@ -15,6 +15,7 @@ pub mod WellFormedOrder
 pub mod ListedSolution
 pub mod DueLemmas
 pub mod StillLemmas
+pub mod Silence
 pub mod Alike
 pub mod LaterLines
 pub mod SmallerBound

@@ -1,5 +1,5 @@
 -- Laws of what happens below a bound.
-use Rattle.std.specs.Prelude.{◌≡◌, ℕ, ◌<◌, ◌≤◌, ◌↔◌, List, ◌++◌, IsTrue}
+use Rattle.std.specs.Prelude.{◌≡◌, ℕ, ◌<◌, ◌≤◌, ◌↔◌, List, ◌++◌, None, IsTrue, IsFalse}
 use Rattle.std.specs.List.{AllByRecursion}
 use Rattle.lift_func.specs.declared.fault.FaultKind.{FaultKind}
 use Rattle.flat_core.specs.Stream.{event}
@@ -8,7 +8,9 @@ use Rattle.flat_core.specs.Line.{Line, inputs_of}
 use Rattle.flat_core.specs.System.{System, runs, IsProper}
 use Rattle.flat_core.specs.Solution.{Solves}
 use Rattle.flat_core.specs.Fault.{root_at, is_faulty, is_over, IsNamed}
-use Rattle.flat_core.specs.Instant.{instants}
+use Rattle.flat_core.specs.Instant.{is_instant, instants}
+use Rattle.flat_core.specs.TypedSystem.{IsTypedSystem}
+use Rattle.flat_core.specs.WellFormed.{IsWellFormed}
 
 -- Below the bound streams z with the lines ls have the instants, the root faults and the named fault that w has with ms.
 pub record HappensAlike (s : System) (bound : ℕ) (ls : List Line) (z : Streams) (ms : List Line) (w : Streams) : Type 0 where
@@ -53,3 +55,12 @@ AgreeingStreamsMeanTheSame =
 abbrev pub OneFaultIsNamed : Type 0
 OneFaultIsNamed =
     (s : System) (inputs : Inputs) (z : Streams) (t u i j : ℕ) (kind other : FaultKind) → IsNamed s inputs z t i kind → IsNamed s inputs z u j other → (t ≡ u) × (i ≡ j) × (kind ≡ other)
+
+-- In a solution of a well-formed system all that happens, root faults among it, happens at instants.
+pub record HappensAtInstants (s : System) (lines : List Line) (bound : ℕ) (z : Streams) : Type 0 where
+  pub silent : (t : ℕ) → t < bound → IsFalse (is_instant s lines z t) → (i : ℕ) → IsTrue (runs s i) → z i t ≡ None
+  pub sound : (t : ℕ) → t < bound → IsFalse (is_instant s lines z t) → IsFalse (is_faulty s (inputs_of lines) z t)
+
+abbrev pub AllHappensAtInstants : Type 0
+AllHappensAtInstants =
+    (s : System) (lines : List Line) (bound : ℕ) (z : Streams) → IsProper s → IsTypedSystem s → IsWellFormed s → Solves s (inputs_of lines) bound z → HappensAtInstants s lines bound z

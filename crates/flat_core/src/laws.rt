@@ -1,7 +1,7 @@
 // Laws of solutions, as the contracts of functions that do nothing.
 
 ghost use Rattle.flat_core.specs.Laws.{SolutionsAgree, SolutionsExist, WellFormedHasOneSolution};
-ghost use Rattle.flat_core.specs.BoundLaws.{LaterLinesLeaveEarlier, SmallerBoundIsSolved, EarlierInstantsComeFirst, AgreeingStreamsMeanTheSame, OneFaultIsNamed};
+ghost use Rattle.flat_core.specs.BoundLaws.{LaterLinesLeaveEarlier, SmallerBoundIsSolved, EarlierInstantsComeFirst, AgreeingStreamsMeanTheSame, OneFaultIsNamed, AllHappensAtInstants};
 
 /// A system in dependency order has one solution at most.
 pub fn solutions_agree()
@@ -41,4 +41,9 @@ pub fn agreeing_streams_mean_the_same()
 /// At most one fault is named.
 pub fn one_fault_is_named()
     ensures { OneFaultIsNamed }
+{}
+
+/// All that happens in a well-formed system, root faults among it, happens at instants.
+pub fn all_happens_at_instants()
+    ensures { AllHappensAtInstants }
 {}
