@@ -13,6 +13,7 @@ pub mod Finished
 pub mod WellFormedRank
 pub mod WellFormedOrder
 pub mod ListedSolution
+pub mod OneSolution
 pub mod DueLemmas
 pub mod StillLemmas
 pub mod Silence
