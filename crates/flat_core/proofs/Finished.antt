@@ -4,14 +4,16 @@ use Rattle.std.specs.Prelude.{IsTrue, slice_get}
 use Rattle.std.specs.List.{AllByRecursion, Contains}
 use Rattle.std.specs.List.Sorted.{IsStrictlyIncreasing}
 use Rattle.std.proofs.lemmas.List.Elements.{All-from_recursion}
-use Rattle.std.proofs.lemmas.Option.{slice_get-get_or, slice_get_within}
+use Rattle.std.proofs.lemmas.Option.{get_or_from_slice_get, slice_get-get_or, slice_get_within}
 use Rattle.tsl_value.specs.declared.scalar.ValueType.{ValueType}
+use Rattle.flat_core.specs.declared.equation.Op.{Op}
 use Rattle.flat_core.specs.declared.equation.Equation.{Equation}
 use Rattle.flat_core.specs.declared.equation.Output.{Output}
 use Rattle.flat_core.specs.Graph.{stay}
 use Rattle.flat_core.specs.Members.{is_in}
 use Rattle.flat_core.specs.System.{System, equation, runs, IsProper}
-use Rattle.flat_core.specs.TypedSystem.{AreOfTypes, IsTypedSystem}
+use Rattle.flat_core.specs.Typed.{IsTyped}
+use Rattle.flat_core.specs.TypedSystem.{AreOfTypes, IsTypedEquation, IsTypedSystem}
 use Rattle.flat_core.specs.Needed.{HasArgument, IsReached}
 use Rattle.flat_core.specs.Complete.{IsComplete, IsFlat}
 use Rattle.flat_core.specs.Marks.{ArgumentsThere, AreBelow}
@@ -81,3 +83,15 @@ module _ (b : System) (complete : IsComplete b) (running : List ℕ) (exact : (i
     outputs_run = all_from (λ o. IsTrue (is_in running o.equation)) b.outputs output_runs;
     proper = finished_proper;
   }
+
+-- a system of which each listed equation is typed
+pub typed_from_all : (s : System) → AllByRecursion (IsTypedEquation s.equations) s.equations → IsTypedSystem s
+typed_from_all s all = record { each = λ i e is. all_at (IsTypedEquation s.equations) s.equations all e (i, slice_get_within s.equations i e is, get_or_from_slice_get s.equations i e e is) }
+
+-- an equation that is known by its parts
+pub typed_as : (equations : List Equation) (e : Equation) (o : Op) (args : List ℕ) (of : ValueType) (types : List ValueType) → e.op ≡ o → e.args ≡ args → e.of ≡ of → AreOfTypes equations args types → IsTyped o types of → IsTypedEquation equations e
+typed_as equations e o args of types op_is args_are of_is arguments typed = record {
+  types = types;
+  arguments = subst (λ xs. AreOfTypes equations xs types) (sym args_are) arguments;
+  typed = subst (λ f. IsTyped e.op types f) (sym of_is) (subst (λ p. IsTyped p types of) (sym op_is) typed);
+}

@@ -22,3 +22,4 @@ pub mod LaterLines
 pub mod SmallerBound
 pub mod SameMeaning
 mod Examples
+pub mod BuildExample

@@ -35,7 +35,7 @@ impl Model for FlatBuilder {
 }
 
 impl FlatBuilder {
-    ghost use Rattle.flat_core.specs.System.{HasArgs};
+    ghost use Rattle.flat_core.specs.System.{with_args};
     ghost use Rattle.flat_core.specs.Complete.{IsComplete, IsFlat};
 
     /// No equation and no output.
@@ -65,7 +65,7 @@ impl FlatBuilder {
     /// Replaces the arguments of an equation.
     pub fn set_args(&mut self, id: EqId, args: Args)
         requires { id < length self.old.equations }
-        ensures { HasArgs self.old id args self.new }
+        ensures { self.new ≡ with_args self.old id args }
     {
         self.equations[id.get() as usize].args = args;
     }

@@ -8,3 +8,5 @@ pub mod laws;
 pub mod line;
 pub mod lists;
 mod reach;
+#[cfg(test)]
+mod tests;
