@@ -7,7 +7,19 @@ pub mod StreamLists
 pub mod PendingLemmas
 pub mod Depth
 pub mod Members
+pub mod Walks
+pub mod MarkLemmas
+pub mod Finished
 pub mod WellFormedRank
 pub mod WellFormedOrder
 pub mod ListedSolution
+pub mod OneSolution
+pub mod DueLemmas
+pub mod StillLemmas
+pub mod Silence
+pub mod Alike
+pub mod LaterLines
+pub mod SmallerBound
+pub mod SameMeaning
 mod Examples
+pub mod BuildExample

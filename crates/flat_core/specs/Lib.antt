@@ -1,3 +1,4 @@
+pub mod Members
 pub mod System
 pub mod Stream
 pub mod Case
@@ -12,3 +13,8 @@ pub mod Laws
 pub mod Typed
 pub mod TypedSystem
 pub mod Pending
+pub mod Kept
+pub mod Needed
+pub mod Complete
+pub mod Marks
+pub mod BoundLaws

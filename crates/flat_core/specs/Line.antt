@@ -1,5 +1,6 @@
 -- The lines of a trace that were read: each has a time, and perhaps an input's event.
-use Rattle.std.specs.Prelude.{◌==◌, ℕ, ◌&&◌, if◌then◌else◌, List, [], ◌∷◌, Option, Some, None}
+use Rattle.std.specs.Prelude.{◌==◌, ℕ, Bool, ◌&&◌, if◌then◌else◌, List, [], ◌∷◌, Option, Some, None, is_some}
+use Rattle.std.specs.List.{list_any}
 use Rattle.std.specs.Option.{option_or}
 use Rattle.tsl_value.specs.declared.scalar.Scalar.{Scalar}
 use Rattle.tsl_value.specs.View.{View, Plain}
@@ -17,6 +18,13 @@ event_in i t time (Some e) = if (time == t) && (e.0 == i) then Some (Plain e.1) 
 abbrev pub inputs_of : List Line → Inputs
 inputs_of [] i t = None
 inputs_of (l ∷ ls) i t = option_or (event_in i t l.time l.event) (inputs_of ls i t)
+
+-- the line has an event at a time, and one of the lines has
+abbrev pub is_line_at : ℕ → Line → Bool
+is_line_at t l = (l.time == t) && is_some l.event
+
+abbrev pub is_line_on : ℕ → List Line → Bool
+is_line_on t lines = list_any (is_line_at t) lines
 
 -- the time of the last line, or 0 where there is none
 abbrev pub last_time : List Line → ℕ

@@ -1,20 +1,20 @@
 // The flat system.
 
-ghost use Rattle.std.specs.Prelude.{◌≡◌, length, IfOk, IfSome};
+ghost use Rattle.std.specs.Prelude.{◌≡◌, length};
 
 use crate::equation::{Equation, Output};
 use crate::lists::EqSet;
-use std::alloc::Global;
 use std::marker::Model;
 use tsl_value::ids::EqId;
-use tsl_value::memory::NoMemory;
 
-/// Numbered equations, the outputs, and which equations run.
+/// Numbered equations, the outputs, and which equations run. `FlatBuilder::finish` makes it.
+///
+/// An equation runs where an output needs it, through any argument.
 #[derive(Drop)]
 pub struct Flat {
-    equations: Vec<Equation>,
-    outputs: Vec<Output>,
-    running: EqSet,
+    pub(crate) equations: Vec<Equation>,
+    pub(crate) outputs: Vec<Output>,
+    pub(crate) running: EqSet,
 }
 
 impl Model for Flat {
@@ -28,41 +28,27 @@ impl Model for Flat {
 
     ghost view = { λ f. record { equations = f.equations.items; outputs = f.outputs.items; running = f.running } };
 
-    ghost use Rattle.std.specs.Prelude.{length, ◌<◌, ◌^◌};
+    ghost use Rattle.flat_core.specs.Complete.{IsFlat};
 
-    ghost invariant = { λ f. length f.equations.items < 2 ^ 32 };
+    ghost invariant = { λ f. IsFlat (record { equations = f.equations.items; outputs = f.outputs.items; running = f.running }) };
 }
 
 impl Flat {
     ghost use Rattle.std.specs.Prelude.{◌<◌};
     ghost use Rattle.flat_core.specs.System.{equation, runs};
+    ghost use Rattle.flat_core.specs.Complete.{IsFlat};
 
-    /// A system whose equations all run, if they are few enough.
-    pub fn all_running(
-        alloc: Global,
-        equations: Vec<Equation>,
-        outputs: Vec<Output>,
-    ) -> Result<Option<Flat>, NoMemory>
-        ensures { IfOk result (λ f. IfSome f (λ s. s.equations ≡ equations.items)) }
-    {
-        let count = equations.len();
-        if count > 4096 {
-            return Ok(None);
-        }
-        let running = EqSet::below(alloc, count as u32)?;
-        Ok(Some(Flat {
-            equations,
-            outputs,
-            running,
-        }))
-    }
-
+    /// The number of equations, at most 4,096.
+    ///
+    /// Its second clause gives callers what every system has.
     pub fn count(&self) -> u32
-        ensures { result ≡ length self.now.equations }
+        ensures count { result ≡ length self.now.equations }
+        ensures is_flat { IsFlat self.now }
     {
         self.equations.len() as u32
     }
 
+    /// The equation of a number.
     pub fn equation(&self, id: EqId) -> &Equation
         requires { id < length self.now.equations }
         ensures { equation self.now id ≡ Some result.now }
@@ -70,12 +56,14 @@ impl Flat {
         &self.equations[id.get() as usize]
     }
 
+    /// Whether an output needs the equation.
     pub fn runs(&self, id: EqId) -> bool
         ensures { result ≡ runs self.now id }
     {
         self.running.contains(id)
     }
 
+    /// The outputs in the order in which they were added.
     pub fn outputs(&self) -> &[Output]
         ensures { result.now ≡ self.now.outputs }
     {

@@ -1,8 +1,12 @@
 // The flat system: numbered equations, and what their streams are.
 #![tactic(auto)]
 
+pub mod builder;
 pub mod equation;
 pub mod flat;
 pub mod laws;
 pub mod line;
 pub mod lists;
+mod reach;
+#[cfg(test)]
+mod tests;

@@ -1,17 +1,20 @@
-// Lists of equations and of steps, which contracts see as lists of numbers.
+// Lists of equations, which contracts see as lists of numbers.
 
-ghost use Rattle.std.specs.Prelude.{◌≡◌, ◌==◌, length, slice_get, IfOk};
-ghost use Rattle.std.specs.List.{list_any};
+ghost use Rattle.std.specs.Prelude.{◌≡◌, ℕ, ◌∷◌, [], ◌++◌, ◌==◌, ◌||◌, length, slice_get, is_ok, if◌then◌else◌, IfOk, OnOk, OnErr, IsTrue};
+ghost use Rattle.std.specs.Option.{option_copied};
+ghost use Rattle.std.specs.List.Sorted.{IsStrictlyIncreasing};
+ghost use Rattle.flat_core.specs.Members.{is_in, IsPlace};
 
+use smallvec::SmallVec;
 use std::alloc::Global;
 use std::marker::Model;
 use tsl_value::ids::EqId;
 use tsl_value::memory::NoMemory;
 
-/// The arguments of an equation.
+/// The arguments of an equation, in order. Up to four lie in line.
 #[derive(Drop)]
 pub struct Args {
-    ids: Vec<EqId>,
+    ids: SmallVec<EqId, 4>,
 }
 
 impl Model for Args {
@@ -23,27 +26,55 @@ impl Model for Args {
 }
 
 impl Args {
-    pub fn of(ids: Vec<EqId>) -> Args
-        ensures { result ≡ ids.items }
+    /// No argument.
+    pub fn new(alloc: Global) -> Args
+        ensures { result ≡ [] }
     {
-        Args { ids }
+        Args {
+            ids: SmallVec::new(alloc),
+        }
+    }
+
+    /// Appends an argument.
+    pub fn push(&mut self, id: EqId) -> Result<(), NoMemory>
+        ensures { self.new ≡ (if is_ok result then self.old ++ id ∷ [] else self.old) }
+    {
+        self.ids.push(id)?;
+        Ok(())
+    }
+
+    /// The number of arguments.
+    pub fn len(&self) -> usize
+        ensures { result ≡ length self.now }
+    {
+        self.ids.len()
+    }
+
+    /// The argument at a place counted from 0, if there is one.
+    pub fn get(&self, place: usize) -> Option<&EqId>
+        ensures { option_copied result ≡ slice_get self.now place }
+    {
+        self.ids.as_slice().get(place)
     }
 
     /// All arguments in order.
     pub fn ids(&self) -> &[EqId]
         ensures { result.now ≡ self.now }
     {
-        &self.ids
+        self.ids.as_slice()
     }
 
-    pub fn get(&self, place: usize) -> Option<EqId>
-        ensures { result ≡ slice_get self.now place }
+    /// The allocator of a list that is too long to lie in line.
+    pub(crate) fn allocator(&self) -> Global {
+        *self.ids.allocator()
+    }
+
+    /// Equal arguments.
+    pub fn copy(&self) -> Result<Args, NoMemory>
+        ensures { IfOk result (λ a. a ≡ self.now) }
     {
-        if place < self.ids.len() {
-            Some(self.ids[place])
-        } else {
-            None
-        }
+        let ids = SmallVec::from_slice(self.allocator(), self.ids.as_slice())?;
+        Ok(Args { ids })
     }
 }
 
@@ -65,35 +96,61 @@ impl Model for EqSet {
 }
 
 impl EqSet {
-    /// All numbers below one.
-    pub fn below(alloc: Global, count: u32) -> Result<EqSet, NoMemory>
-        ensures { IfOk result (λ s. length s ≡ count) }
+    /// No equation.
+    pub fn new(alloc: Global) -> EqSet
+        ensures { result ≡ [] }
     {
-        let mut ids = Vec::new(alloc);
-        for n in 0..count {
-            ids.push(EqId::new(n))?;
+        EqSet {
+            ids: Vec::new(alloc),
         }
-        Ok(EqSet { ids })
     }
 
+    /// The place of an equation, if it is or were there.
+    fn place_of(&self, id: EqId) -> usize
+        ensures { IsPlace self.now id result }
+    {
+        for (place, j) in self.ids.iter().enumerate() {
+            if j.get() >= id.get() {
+                return place;
+            }
+        }
+        self.ids.len()
+    }
+
+    /// Puts an equation at its place. One that is there already changes nothing.
+    pub fn push(&mut self, id: EqId) -> Result<(), NoMemory>
+        ensures ascending { IsStrictlyIncreasing self.new }
+        ensures members { OnOk result ((j : ℕ) → is_in self.new j ≡ (id == j) || is_in self.old j) }
+        ensures there { IsTrue (is_in self.old id) → self.new ≡ self.old }
+        ensures err { OnErr result (self.new ≡ self.old) }
+    {
+        let place = self.place_of(id);
+        if place < self.ids.len() && self.ids[place] == id {
+            return Ok(());
+        }
+        self.ids.insert(place, id)?;
+        Ok(())
+    }
+
+    /// The number of equations.
+    pub fn len(&self) -> usize
+        ensures { result ≡ length self.now }
+    {
+        self.ids.len()
+    }
+
+    /// The equation at a place counted from 0, if there is one.
+    pub fn get(&self, place: usize) -> Option<&EqId>
+        ensures { option_copied result ≡ slice_get self.now place }
+    {
+        self.ids.get(place)
+    }
+
+    /// Whether an equation is there.
     pub fn contains(&self, id: EqId) -> bool
-        ensures { result ≡ list_any (λ j. j == id) self.now }
+        ensures { result ≡ is_in self.now id }
     {
         let id = id.get();
         self.ids.iter().any(|j| j.get() == id)
     }
-}
-
-/// Step numbers: an equation's number, or the count of equations plus an output's number.
-#[derive(Drop)]
-pub struct Steps {
-    steps: Vec<u32>,
-}
-
-impl Model for Steps {
-    ghost use Rattle.std.specs.Prelude.{List, ℕ};
-
-    ghost Value = { List ℕ };
-
-    ghost view = { λ s. s.steps.items };
 }

@@ -1,0 +1,171 @@
+-- Marking step by step.
+use Rattle.std.proofs.Common.{◌≡◌, ◌==◌, ℕ, zero, suc, ◌+◌, ◌<◌, ◌||◌, ◌&&◌, not, Bool, true, false, List, [], ◌∷◌, ◌++◌, length, map, replicate, take, get_or, Some, refl, sym, ap, subst, ◌∙◌, add-one, inl, inr, arith}
+use Rattle.std.specs.Prelude.{IsTrue, slice_get}
+use Rattle.std.proofs.lemmas.Bool.{cases_lt, or_cases, or_left, or_right, or_parts, and_parts, cases_Bool, false≢true, eqb-true, eq-eqb}
+use Rattle.std.proofs.lemmas.Option.{same_Some}
+use Rattle.std.proofs.Math.Bool.{or-false}
+use Rattle.std.proofs.lemmas.List.{length-map, length-replicate, get_or-map, get_or-replicate, get_or_past}
+use Rattle.std.proofs.lemmas.List.Folds.{list_any-append}
+use Rattle.std.proofs.Math.Seq.{take-suc}
+use Rattle.flat_core.specs.declared.equation.Equation.{Equation}
+use Rattle.flat_core.specs.declared.equation.Output.{Output}
+use Rattle.flat_core.specs.declared.reach.Marks.{Marks}
+use Rattle.flat_core.specs.Graph.{Walk, stay}
+use Rattle.flat_core.specs.Members.{is_in}
+use Rattle.flat_core.specs.Needed.{HasArgument, IsReached}
+use Rattle.flat_core.specs.Marks.{has_mark, is_marked, is_waiting, AreBelow, ArgumentsThere, ArgumentsMarked, Marked, Spread, Spreading}
+use Rattle.flat_core.proofs.Members.{Contains-in, in-Contains, contains_map, map_contains}
+use Rattle.flat_core.proofs.Walks.{walk_on, walk_keeps}
+
+or_turn : (x y m : Bool) → (y || (x || m)) ≡ ((x || y) || m)
+or_turn true true m = refl
+or_turn true false m = refl
+or_turn false true m = refl
+or_turn false false m = refl
+
+waits_turn : (w x y m : Bool) → ((w || (x && not m)) || (y && not (x || m))) ≡ (w || ((x || y) && not m))
+waits_turn true x y m = refl
+waits_turn false true true true = refl
+waits_turn false true true false = refl
+waits_turn false true false true = refl
+waits_turn false true false false = refl
+waits_turn false false y m = refl
+
+pub marked_none : (m : Marks) → Marked [] m m
+marked_none m = record { one_each = refl; marks = λ i. refl; waits = λ i. sym (or-false (is_waiting m i)); same_left = refl }
+
+pub marked_then : (xs ys : List ℕ) (m n o : Marks) → Marked xs m n → Marked ys n o → Marked (xs ++ ys) m o
+marked_then xs ys m n o first second =
+    let both : (i : ℕ) → is_in (xs ++ ys) i ≡ (is_in xs i || is_in ys i) = λ i. list_any-append (λ j. j == i) xs ys in
+    record {
+      one_each = second.one_each ∙ first.one_each;
+      marks = λ i. second.marks i ∙ ap (λ b. is_in ys i || b) (first.marks i) ∙ or_turn (is_in xs i) (is_in ys i) (is_marked m i)
+          ∙ ap (λ b. b || is_marked m i) (sym (both i));
+      waits = λ i.
+          second.waits i ∙ (λ k. first.waits i k || (is_in ys i && not (first.marks i k))) ∙ waits_turn (is_waiting m i) (is_in xs i) (is_in ys i) (is_marked m i)
+          ∙ ap (λ b. is_waiting m i || (b && not (is_marked m i))) (sym (both i));
+      same_left = second.same_left ∙ first.same_left;
+    }
+
+-- one more of a list
+pub marked_more : (xs : List ℕ) (k : ℕ) (m n o : Marks) (x : ℕ) → k < length xs → x ≡ get_or xs k x → Marked (take k xs) m n → Marked (x ∷ []) n o → Marked (take (k + 1) xs) m o
+marked_more xs k m n o x lt is first second =
+    let more : take (k + 1) xs ≡ take k xs ++ (x ∷ []) = ap (λ j. take j xs) (add-one k) ∙ take-suc xs k x lt ∙ ap (λ y. take k xs ++ (y ∷ [])) (sym is) in
+    subst (λ ys. Marked ys m o) (sym more) (marked_then (take k xs) (x ∷ []) m n o first second)
+
+pub mark_within : (marked : List Bool) (i : ℕ) → has_mark marked i ≡ true → i < length marked
+mark_within [] i h = absurd (false≢true h)
+mark_within (b ∷ bs) zero h = omega arith
+mark_within (b ∷ bs) (suc i) h = let rest = mark_within bs i h in omega arith
+
+pub last_in : (xs : List ℕ) (i : ℕ) → is_in (xs ++ i ∷ []) i ≡ true
+last_in xs i = list_any-append (λ j. j == i) xs (i ∷ []) ∙ or_right (is_in xs i) ((i == i) || false) (or_left (i == i) false (eq-eqb i i refl))
+
+-- the arguments of an equation that was read are below n
+pub arguments_below : (equations : List Equation) (k : ℕ) (e : Equation) (ids : List ℕ) (n : ℕ) → ArgumentsThere equations → k < length equations → ids ≡ (get_or equations k e).args → n ≡ length equations → AreBelow n ids
+arguments_below equations k e ids n there lt args len =
+    let below : AreBelow n (get_or equations k e).args = subst (λ m. AreBelow m (get_or equations k e).args) (sym len) (there k e lt) in
+    subst (AreBelow n) (sym args) below
+
+-- an output's number is one more of the outputs' numbers
+pub outputs_more : (outputs : List Output) (k : ℕ) (m n o : Marks) (x : Output) → k < length outputs → x ≡ get_or outputs k x → Marked (take k (map (λ y. y.equation) outputs)) m n → Marked (x.equation ∷ []) n o → Marked (take (k + 1) (map (λ y. y.equation) outputs)) m o
+outputs_more outputs k m n o x lt is first second =
+    let number : Output → ℕ = λ y. y.equation in
+    let within : k < length (map number outputs) = subst (λ l. k < l) (sym (length-map outputs number)) lt in
+    let read : x.equation ≡ get_or (map number outputs) k x.equation = ap number is ∙ sym (get_or-map number outputs k x x.equation lt) in
+    marked_more (map number outputs) k m n o x.equation within read first second
+
+module _ (equations : List Equation) where
+  pub spreading_none : (m : Marks) → ((i : ℕ) → is_marked m i ≡ is_waiting m i) → Spreading equations m m
+  spreading_none m same = record {
+    one_each = refl;
+    kept = λ i h. h;
+    from = λ i h. (i, h, stay);
+    waiting = λ i h. same i ∙ h;
+    closed = λ i h idle. absurd (false≢true (sym idle ∙ sym (same i) ∙ h));
+  }
+
+  -- the arguments of an equation that waited are marked, and it waits no longer
+  module _ (m n p o : Marks) (id : ℕ) (e : Equation) (so_far : Spreading equations m n) (same : p.marked.items ≡ n.marked.items) (taken : n.waiting.items ≡ p.waiting.items ++ (id ∷ [])) (is : slice_get equations id ≡ Some e) (more : Marked e.args p o) where
+    waits_in : (i : ℕ) → is_waiting n i ≡ (is_waiting p i || ((id == i) || false))
+    waits_in i = ap (λ xs. is_in xs i) taken ∙ list_any-append (λ j. j == i) p.waiting.items (id ∷ [])
+
+    marks_in : (i : ℕ) → is_marked o i ≡ (is_in e.args i || is_marked n i)
+    marks_in i = more.marks i ∙ ap (λ bs. is_in e.args i || has_mark bs i) same
+
+    on : (i : ℕ) → is_marked n i ≡ true → is_marked o i ≡ true
+    on i h = marks_in i ∙ or_right (is_in e.args i) (is_marked n i) h
+
+    argument : (i : ℕ) → is_in e.args i ≡ true → is_marked o i ≡ true
+    argument i h = marks_in i ∙ or_left (is_in e.args i) (is_marked n i) h
+
+    id_marked : is_marked n id ≡ true
+    id_marked = so_far.waiting id (waits_in id ∙ or_right (is_waiting p id) ((id == id) || false) (or_left (id == id) false (eq-eqb id id refl)))
+
+    from_one : (i : ℕ) → is_marked o i ≡ true → (j : ℕ) × IsTrue (is_marked m j) × Walk (HasArgument equations) j i
+    from_one i h = elim (or_cases (is_in e.args i) (is_marked n i) (sym (marks_in i) ∙ h)) [
+      | inl here ↦ let found = so_far.from id id_marked in (found.0, found.1, walk_on found.2 (record { at = e; is = is; argument = Contains-in e.args i here }))
+      | inr before ↦ so_far.from i before
+    ]
+
+    waiting_one : (i : ℕ) → is_waiting o i ≡ true → is_marked o i ≡ true
+    waiting_one i h = elim (or_cases (is_waiting p i) (is_in e.args i && not (is_marked p i)) (sym (more.waits i) ∙ h)) [
+      | inl old ↦ on i (so_far.waiting i (waits_in i ∙ or_left (is_waiting p i) ((id == i) || false) old))
+      | inr new ↦ argument i (and_parts (is_in e.args i) (not (is_marked p i)) new).0
+    ]
+
+    closed_at : (i : ℕ) → is_marked n i ≡ true → is_waiting p i ≡ false → ArgumentsMarked equations o i
+    closed_at i h idle d found a there = elim (cases_Bool (id == i)) [
+      | inl itself ↦
+          let e_is : e ≡ d = same_Some e d (sym is ∙ ap (slice_get equations) (eqb-true id i itself) ∙ found) in
+          argument a (subst (λ x. is_in x.args a ≡ true) (sym e_is) there)
+      | inr other ↦
+          let idle_n : is_waiting n i ≡ false = waits_in i ∙ (λ k. idle k || (other k || false)) in
+          on a (so_far.closed i h idle_n d found a there)
+    ]
+
+    closed_one : (i : ℕ) → is_marked o i ≡ true → is_waiting o i ≡ false → ArgumentsMarked equations o i
+    closed_one i h idle =
+        let both : (is_waiting p i || (is_in e.args i && not (is_marked p i))) ≡ false = sym (more.waits i) ∙ idle in
+        let idle_p = (or_parts (is_waiting p i) (is_in e.args i && not (is_marked p i)) both).0 in
+        elim (cases_Bool (is_marked n i)) [
+          | inl before ↦ closed_at i before idle_p
+          | inr new ↦
+              let there : is_in e.args i ≡ true = sym (or-false (is_in e.args i)) ∙ ap (λ b. is_in e.args i || b) (sym new) ∙ sym (marks_in i) ∙ h in
+              let new_p : is_marked p i ≡ false = ap (λ bs. has_mark bs i) same ∙ new in
+              let waits : (is_waiting p i || (is_in e.args i && not (is_marked p i))) ≡ true = or_right (is_waiting p i) (is_in e.args i && not (is_marked p i)) (λ k. there k && not (new_p k)) in
+              absurd (false≢true (sym both ∙ waits))
+        ]
+
+    pub spreading_more : Spreading equations m o
+    spreading_more = record {
+      one_each = more.one_each ∙ ap length same ∙ so_far.one_each;
+      kept = λ i h. on i (so_far.kept i h);
+      from = from_one;
+      waiting = waiting_one;
+      closed = closed_one;
+    }
+
+  -- what is marked in the end is what the outputs need
+  module _ (outputs : List Output) (m n o : Marks) (fresh : (i : ℕ) → is_marked m i ≡ false) (printed : Marked (map (λ y. y.equation) outputs) m n) (spread : Spread equations n o) where
+    first : (i : ℕ) → is_marked n i ≡ is_in (map (λ y. y.equation) outputs) i
+    first i = printed.marks i ∙ ap (λ b. is_in (map (λ y. y.equation) outputs) i || b) (fresh i) ∙ or-false (is_in (map (λ y. y.equation) outputs) i)
+
+    pub marked_needed : (i : ℕ) → is_marked o i ≡ true → IsReached equations outputs i
+    marked_needed i h =
+        let found = spread.from i h in
+        let output = contains_map (λ y. y.equation) outputs found.0 (Contains-in (map (λ y. y.equation) outputs) found.0 (sym (first found.0) ∙ found.1)) in
+        record { output = output.0; printed = output.1; walk = subst (λ j. Walk (HasArgument equations) j i) (sym output.2) found.2 }
+
+    pub needed_marked : (i : ℕ) → IsReached equations outputs i → is_marked o i ≡ true
+    needed_marked i r =
+        let start = first r.output.equation ∙ in-Contains (map (λ y. y.equation) outputs) r.output.equation (map_contains (λ y. y.equation) outputs r.output r.printed) in
+        walk_keeps (λ j. is_marked o j ≡ true) (λ a b step h. spread.closed a h step.at step.is b (in-Contains step.at.args b step.argument)) r.walk (spread.kept r.output.equation start)
+
+pub unmarked : (marked : List Bool) (count i : ℕ) → marked ≡ replicate count false → has_mark marked i ≡ false
+unmarked marked count i is =
+    ap (λ bs. has_mark bs i) is
+    ∙ elim (cases_lt i count) [
+      | inl within ↦ get_or-replicate count i false false within
+      | inr past ↦ let size = length-replicate count false in get_or_past (replicate count false) i false (omega arith)
+    ]

@@ -1,0 +1,8 @@
+use Rattle.flat_core.specs.Marks.{left, Spreading}
+use Rattle.flat_core.proofs.reach.Marks.spread.Given as goal
+
+abbrev pub invariant-loop-id : goal.invariant-loop-id
+invariant-loop-id l = Spreading l.equations l.fn.self l.self
+
+abbrev pub decreases-loop-id : goal.decreases-loop-id
+decreases-loop-id l = left l.self

@@ -1,0 +1,112 @@
+// Which equations the outputs need.
+
+ghost use Rattle.std.specs.Prelude.{◌≡◌, ◌↔◌, ◌<◌, ◌≤◌, [], ◌∷◌, ℕ, length, map, replicate, false, All, IfOk, OnOk, IsTrue};
+ghost use Rattle.std.specs.List.Sorted.{IsStrictlyIncreasing};
+ghost use Rattle.flat_core.specs.Members.{is_in};
+ghost use Rattle.flat_core.specs.Needed.{IsReached};
+ghost use Rattle.flat_core.specs.Marks.{is_marked, is_waiting, AreBelow, ArgumentsThere, Marked, Spread};
+
+use crate::equation::{Equation, Output};
+use crate::lists::EqSet;
+use std::alloc::Global;
+use tsl_value::ids::EqId;
+use tsl_value::memory::NoMemory;
+
+/// A mark for each equation that was found, and those of them whose arguments are still to be marked.
+#[derive(Drop)]
+pub struct Marks {
+    marked: Vec<bool>,
+    waiting: Vec<EqId>,
+}
+
+impl Marks {
+    /// No mark, for so many equations.
+    fn new(alloc: Global, count: usize) -> Result<Marks, NoMemory>
+        ensures marked { IfOk result (λ m. m.marked.items ≡ replicate count false) }
+        ensures waiting { IfOk result (λ m. m.waiting.items ≡ []) }
+    {
+        let marked = vec![in alloc; false; count]?;
+        Ok(Marks {
+            marked,
+            waiting: Vec::new(alloc),
+        })
+    }
+
+    fn mark(&mut self, id: EqId) -> Result<(), NoMemory>
+        requires { id < length self.old.marked.items }
+        ensures { OnOk result (Marked (id ∷ []) self.old self.new) }
+    {
+        let index = id.get() as usize;
+        if !self.marked[index] {
+            self.waiting.push(id)?;
+            self.marked[index] = true;
+        }
+        Ok(())
+    }
+
+    fn mark_all(&mut self, ids: &[EqId]) -> Result<(), NoMemory>
+        requires { AreBelow (length self.old.marked.items) ids.now }
+        ensures { OnOk result (Marked ids.now self.old self.new) }
+    {
+        for id in ids {
+            self.mark(*id)?;
+        }
+        Ok(())
+    }
+
+    fn mark_outputs(&mut self, outputs: &[Output]) -> Result<(), NoMemory>
+        requires { All (λ o. o.equation < length self.old.marked.items) outputs.now }
+        ensures { OnOk result (Marked (map (λ o. o.equation) outputs.now) self.old self.new) }
+    {
+        for output in outputs {
+            self.mark(output.equation)?;
+        }
+        Ok(())
+    }
+
+    /// Marks the arguments of all that is marked, again until no argument is left.
+    fn spread(&mut self, equations: &[Equation]) -> Result<(), NoMemory>
+        requires one_each { length self.old.marked.items ≡ length equations.now }
+        requires there { ArgumentsThere equations.now }
+        requires all_wait { (i : ℕ) → is_marked self.old i ≡ is_waiting self.old i }
+        ensures { OnOk result (Spread equations.now self.old self.new) }
+    {
+        while let Some(id) = self.waiting.pop() {
+            self.mark_all(equations[id.get() as usize].args.ids())?;
+        }
+        Ok(())
+    }
+
+    /// The marked equations.
+    fn set(&self, alloc: Global) -> Result<EqSet, NoMemory>
+        requires { length self.now.marked.items ≤ 4096 }
+        ensures ascending { IfOk result (λ s. IsStrictlyIncreasing s) }
+        ensures members { IfOk result (λ s. (i : ℕ) → is_in s i ≡ is_marked self.now i) }
+    {
+        let mut set = EqSet::new(alloc);
+        for index in 0..self.marked.len() {
+            if self.marked[index] {
+                set.push(EqId::new(index as u32))?;
+            }
+        }
+        Ok(set)
+    }
+}
+
+/// The equations that the outputs need, through any argument.
+pub(crate) fn needed(
+    alloc: Global,
+    equations: &[Equation],
+    outputs: &[Output],
+) -> Result<EqSet, NoMemory>
+    requires few { length equations.now ≤ 4096 }
+    requires there { ArgumentsThere equations.now }
+    requires outputs_there { All (λ o. o.equation < length equations.now) outputs.now }
+    ensures ascending { IfOk result (λ s. IsStrictlyIncreasing s) }
+    ensures members { IfOk result (λ s. (i : ℕ) → IsTrue (is_in s i) ↔ IsReached equations.now outputs.now i) }
+{
+    let mut marks = Marks::new(alloc, equations.len())?;
+    marks.mark_outputs(outputs)?;
+    marks.spread(equations)?;
+    marks.set(alloc)
+}
