@@ -18,3 +18,5 @@ pub mod Needed
 pub mod Complete
 pub mod Marks
 pub mod BoundLaws
+pub mod Text
+pub mod Ending
