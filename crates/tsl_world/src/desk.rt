@@ -1,5 +1,5 @@
 // What a world in memory keeps: its files, what is open, its journal, and what was written.
-ghost use Rattle.std.specs.Prelude.{◌≡◌, ◌<◌, ◌≤◌, ◌↔◌, ◌+◌, ◌^◌, ℕ, Bool, true, false, IsTrue, List, [], ◌∷◌, ◌++◌, length, take, MatchResult, IfSome, IfOk};
+ghost use Rattle.std.specs.Prelude.{◌≡◌, ◌<◌, ◌≤◌, ◌↔◌, ◌+◌, ◌^◌, true, false, IsTrue, List, [], ◌∷◌, ◌++◌, length, take, MatchResult, IfOk};
 ghost use Rattle.tsl_world.specs.Sources.{rest_of};
 ghost use Rattle.tsl_world.specs.World.{WhereTold, SameElsewhere};
 ghost use Rattle.tsl_world.specs.Journal.{given};
@@ -146,7 +146,8 @@ fn not_created(alloc: Global, channel: Channel, name: &str) -> Result<Did, NoMem
     Ok(Did::NotCreated { channel, name })
 }
 
-/// A world in memory that answers each call.
+/// What both worlds in memory stand on: it does each call and notes it, and never fails. Where it finds no memory
+/// for the entry, it stops telling.
 #[derive(Drop)]
 pub struct Desk {
     alloc: Global,
@@ -179,6 +180,7 @@ impl Desk {
     ghost use Rattle.tsl_world.specs.Files.{bytes_named, IsAbsent};
     ghost use Rattle.tsl_world.specs.Standing.{at_first, is_open, is_writable, with_slot, with_channel};
 
+    /// These files, of which nothing is open.
     pub fn new(alloc: Global, files: Files, piece: usize) -> Desk
         requires { 0 < piece }
         ensures told { result.told ≡ true }
@@ -210,6 +212,7 @@ impl Desk {
         }
     }
 
+    /// Whether the journal is told.
     pub fn is_told(&self) -> bool
         ensures { result ≡ self.now.told }
     {
@@ -232,6 +235,7 @@ impl Desk {
         self.err.as_slice()
     }
 
+    /// Reads on in a slot.
     #[tactic(auto, using(crate::proofs::SourceLemmas::at_with, crate::proofs::SourceLemmas::at_with_other))]
     pub fn read(&mut self, slot: Slot, buf: &mut [u8]) -> usize
         requires room { 0 < length buf.old }
@@ -253,6 +257,7 @@ impl Desk {
         count
     }
 
+    /// Takes as many bytes as a piece has. What goes to `Out` and to `Err` is kept.
     pub fn write(&mut self, channel: Channel, bytes: &[u8]) -> usize
         requires { 0 < length bytes.now }
         ensures some { 0 < result }
@@ -323,6 +328,7 @@ impl Desk {
         note(&mut self.journal, &mut self.is_told, did);
     }
 
+    /// Makes a file, whose content is told by the journal alone.
     pub fn create(&mut self, channel: Channel, name: &str)
         requires { is_writable (standing_in self.old) channel ≡ false }
         ensures standing { standing_in self.new ≡ with_channel (standing_in self.old) channel }

@@ -1,5 +1,5 @@
 // A world in memory whose calls fail where that was asked for.
-ghost use Rattle.std.specs.Prelude.{◌≡◌, ◌<◌, ◌+◌, ◌-◌, ◌^◌, min, ◌↔◌, IsTrue, Contains};
+ghost use Rattle.std.specs.Prelude.{◌≡◌, ◌+◌, ◌-◌, ◌^◌, min, ◌↔◌, IsTrue, Contains};
 
 use crate::desk::Desk;
 use crate::files::{Calls, Files};
