@@ -4,7 +4,6 @@ ghost use Rattle.std.specs.Prelude.{◌≡◌, IfOk};
 
 use crate::lists::Args;
 use lift_func::body::Body;
-use std::alloc::Global;
 use tsl_value::ids::EqId;
 use tsl_value::memory::NoMemory;
 use tsl_value::place::Place;
@@ -52,12 +51,12 @@ pub struct Output {
 }
 
 impl Op {
-    fn copy(&self, alloc: Global) -> Result<Op, NoMemory>
+    fn copy(&self) -> Result<Op, NoMemory>
         ensures { IfOk result (λ o. o ≡ self.now) }
     {
         Ok(match self {
             Op::Lift { body, strict } => Op::Lift {
-                body: body.copy(alloc)?,
+                body: body.copy()?,
                 strict: *strict,
             },
             Op::Input => Op::Input,
@@ -94,7 +93,7 @@ impl Equation {
         ensures { IfOk result (λ e. e ≡ self.now) }
     {
         Ok(Equation {
-            op: self.op.copy(self.args.allocator())?,
+            op: self.op.copy()?,
             args: self.args.copy()?,
             of: self.of,
             place: self.place,
