@@ -42,7 +42,7 @@ abbrev pub EarlierInstantsComeFirst : Type 0
 EarlierInstantsComeFirst =
     (s : System) (lines : List Line) (z : Streams) (low high : ℕ) → low ≤ high → (rest : List ℕ) × (instants s lines z high ≡ instants s lines z low ++ rest) × AllByRecursion (λ t. (low ≤ t) × (t < high)) rest
 
--- two streams agree at a time where each has the same event there
+-- each output has the same events in both
 abbrev pub OutputsAgree : System → ℕ → Streams → Streams → Type 0
 OutputsAgree s bound z w = AllByRecursion (λ o. (t : ℕ) → t < bound → event (z o.equation t) ≡ event (w o.equation t)) s.outputs
 

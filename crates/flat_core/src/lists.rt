@@ -105,16 +105,11 @@ impl EqSet {
         }
     }
 
-    /// The place of an equation, if it is or were there.
-    fn place_of(&self, id: EqId) -> usize
+    /// The place of an equation, or else the one at which it would be put.
+    fn find(&self, id: EqId) -> Result<usize, usize>
         ensures { IsPlace self.now id result }
     {
-        for (place, j) in self.ids.iter().enumerate() {
-            if j.get() >= id.get() {
-                return place;
-            }
-        }
-        self.ids.len()
+        self.ids.binary_search(&id)
     }
 
     /// Puts an equation at its place. One that is there already changes nothing.
@@ -124,12 +119,13 @@ impl EqSet {
         ensures there { IsTrue (is_in self.old id) → self.new ≡ self.old }
         ensures err { OnErr result (self.new ≡ self.old) }
     {
-        let place = self.place_of(id);
-        if place < self.ids.len() && self.ids[place] == id {
-            return Ok(());
+        match self.find(id) {
+            Ok(_) => Ok(()),
+            Err(place) => {
+                self.ids.insert(place, id)?;
+                Ok(())
+            }
         }
-        self.ids.insert(place, id)?;
-        Ok(())
     }
 
     /// The number of equations.
@@ -150,7 +146,6 @@ impl EqSet {
     pub fn contains(&self, id: EqId) -> bool
         ensures { result ≡ is_in self.now id }
     {
-        let id = id.get();
-        self.ids.iter().any(|j| j.get() == id)
+        self.find(id).is_ok()
     }
 }
