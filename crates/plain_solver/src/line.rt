@@ -4,18 +4,12 @@ ghost use Rattle.std.specs.Prelude.{◌≡◌, map};
 ghost use Rattle.std.specs.Option.{option_map, option_copied};
 ghost use Rattle.tsl_value.specs.View.{Plain};
 ghost use Rattle.flat_core.specs.Line.{event_in, inputs_of};
-ghost use Rattle.plain_solver.specs.Lines.{line_of, is_line_at, is_line_on, IsLeast};
+ghost use Rattle.plain_solver.specs.Lines.{is_line_at, is_line_on, IsLeast};
 
+use flat_core::line::TraceLine;
 use tsl_value::ids::EqId;
 use tsl_value::scalar::Scalar;
 use tsl_value::time::Time;
-
-/// A line: its time, and perhaps an input's event.
-#[derive(Drop)]
-pub struct TraceLine {
-    pub time: Time,
-    pub event: Option<(EqId, Scalar)>,
-}
 
 /// The event of an input at a time that a line has.
 pub fn event_on(line: &TraceLine, i: EqId, t: Time) -> Option<&Scalar>
@@ -35,7 +29,7 @@ pub fn event_on(line: &TraceLine, i: EqId, t: Time) -> Option<&Scalar>
 
 /// The event of an input at a time.
 pub fn input_at(lines: &[TraceLine], i: EqId, t: Time) -> Option<&Scalar>
-    ensures { option_map Plain (option_copied result) ≡ inputs_of (map line_of lines.now) i t }
+    ensures { option_map Plain (option_copied result) ≡ inputs_of lines.now i t }
 {
     for line in lines {
         if let Some(v) = event_on(line, i, t) {
@@ -47,7 +41,7 @@ pub fn input_at(lines: &[TraceLine], i: EqId, t: Time) -> Option<&Scalar>
 
 /// The time of a line's event, if it is from one time on and before another, else that other time.
 fn least_of(line: &TraceLine, low: u64, high: u64) -> u64
-    ensures { IsLeast (λ u. is_line_at u (line_of line.now)) low high result }
+    ensures { IsLeast (λ u. is_line_at u line.now) low high result }
 {
     if line.event.is_some() && low <= line.time.get() && line.time.get() < high {
         line.time.get()

@@ -8,7 +8,8 @@ ghost use Rattle.plain_solver.specs.Shape.{HasShape, option_is, streams_of};
 
 use crate::delay::pending_before;
 use crate::events::Events;
-use crate::line::{TraceLine, least_line};
+use crate::line::least_line;
+use flat_core::line::TraceLine;
 use crate::outcome::{argument, stream_at};
 use flat_core::equation::{Equation, Op};
 use flat_core::flat::Flat;

@@ -9,13 +9,13 @@ ghost use Rattle.lift_func.specs.Ints.{IsIntBody, IsValue, views};
 ghost use Rattle.flat_core.specs.Stream.{event, is_fault, latest};
 ghost use Rattle.flat_core.specs.Case.{at_once, case_of, delayed, is_blocked, own, refused, root_fault};
 ghost use Rattle.flat_core.specs.Line.{inputs_of};
-ghost use Rattle.plain_solver.specs.Lines.{line_of};
 ghost use Rattle.plain_solver.specs.Moments.{seen};
 ghost use Rattle.plain_solver.specs.Shape.{HasShape, IsKept, streams_of};
 
 use crate::delay::{is_now, pending_before};
 use crate::events::{Events, Outcome};
-use crate::line::{TraceLine, input_at};
+use crate::line::input_at;
+use flat_core::line::TraceLine;
 use flat_core::equation::{Equation, Op};
 use flat_core::lists::Args;
 use lift_func::body::Body;
@@ -160,7 +160,7 @@ pub fn own_of(
     requires known { All (λ a. a < length streams.now) e.now.args }
     requires there { i < length streams.now }
     requires kept { IsKept (streams_of streams.now) i e.now.op e.now.args t }
-    ensures { IsValue result (own (inputs_of (map line_of lines.now)) (streams_of streams.now) i e.now t) }
+    ensures { IsValue result (own (inputs_of lines.now) (streams_of streams.now) i e.now t) }
 {
     match &e.op {
         Op::Input => Ok(copied(input_at(lines, i, t))?),
@@ -216,7 +216,7 @@ pub fn outcome_of(
     requires known { All (λ a. a < length streams.now) e.now.args }
     requires there { i < length streams.now }
     requires kept { IsKept (streams_of streams.now) i e.now.op e.now.args t }
-    ensures { IfOk result (λ o. case_of (inputs_of (map line_of lines.now)) (streams_of streams.now) i e.now t ≡ option_map seen o) }
+    ensures { IfOk result (λ o. case_of (inputs_of lines.now) (streams_of streams.now) i e.now t ≡ option_map seen o) }
 {
     if is_blocked_at(e, streams, t) {
         return Ok(Some(Outcome::Fault));
@@ -258,7 +258,7 @@ pub fn root_of(
     requires known { All (λ a. a < length streams.now) e.now.args }
     requires there { i < length streams.now }
     requires kept { IsKept (streams_of streams.now) i e.now.op e.now.args t }
-    ensures { IfOk result (λ k. root_fault (inputs_of (map line_of lines.now)) (streams_of streams.now) i e.now t ≡ k) }
+    ensures { IfOk result (λ k. root_fault (inputs_of lines.now) (streams_of streams.now) i e.now t ≡ k) }
 {
     if let Op::Delay = &e.op {
         return Ok(refusal(value_of(streams, &e.args, 0, t)));

@@ -1,13 +1,12 @@
 // All that happens below a bound.
 
 ghost use Rattle.std.specs.Prelude.{◌^◌, ◌<◌, ◌≤◌, ◌≡◌, [], IfOk, length, map, replicate};
-ghost use Rattle.plain_solver.specs.Lines.{line_of};
 ghost use Rattle.plain_solver.specs.Instant.{IsInOrder};
 ghost use Rattle.plain_solver.specs.Solved.{IsEnded};
 
 use crate::events::Events;
 use crate::instant::{first_root, run_instant};
-use crate::line::TraceLine;
+use flat_core::line::TraceLine;
 use crate::next::next_below;
 use flat_core::flat::Flat;
 use lift_func::fault::FaultKind;
@@ -60,7 +59,7 @@ pub fn solve(
 ) -> Result<Solved, NoMemory>
     requires ordered { IsInOrder flat.now }
     requires small { bound ≤ 2 ^ 63 }
-    ensures { IfOk result (λ v. IsEnded flat.now (map line_of lines.now) bound limit v.streams.items v.end) }
+    ensures { IfOk result (λ v. IsEnded flat.now lines.now bound limit v.streams.items v.end) }
 {
     let mut streams = no_events(alloc, flat)?;
     let mut next = 0;

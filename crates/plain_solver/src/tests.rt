@@ -3,7 +3,7 @@
 ghost use Rattle.std.specs.Prelude.{◌≤◌, ◌^◌};
 
 use crate::events::Events;
-use crate::line::TraceLine;
+use flat_core::line::TraceLine;
 use crate::order::is_in_order;
 use crate::solve::{End, Solved, solve};
 use flat_core::equation::{Equation, Op};
