@@ -1,10 +1,12 @@
 // When the next instant comes.
 
 ghost use Rattle.std.specs.Prelude.{◌≡◌, ◌≤◌, ◌<◌, ◌^◌, length, All};
+ghost use Rattle.std.specs.List.Sorted.{IsNonDecreasingBy};
 ghost use Rattle.plain_solver.specs.Instant.{IsInOrder};
 ghost use Rattle.plain_solver.specs.Lines.{IsLeast};
 ghost use Rattle.plain_solver.specs.Next.{due_of, is_expiry, is_next, IsFirst};
 ghost use Rattle.plain_solver.specs.Shape.{HasShape, option_is, streams_of};
+ghost use Rattle.flat_core.specs.declared.line.TraceLine.{TraceLine};
 
 use crate::delay::pending_before;
 use crate::events::Events;
@@ -72,6 +74,7 @@ pub fn next_below(
     requires ordered { IsInOrder flat.now }
     requires one_each { length streams.now ≡ length flat.now.equations }
     requires small { bound ≤ 2 ^ 63 }
+    requires sorted { IsNonDecreasingBy (λ (l : TraceLine). l.time) lines.now }
     ensures { IsFirst (λ u. is_next flat.now lines.now (streams_of streams.now) next u) next bound result }
 {
     if next >= bound {
@@ -82,8 +85,8 @@ pub fn next_below(
             if next == 0 {
                 return Some(from);
             }
-            let line = least_line(lines, next, bound);
-            let least = least_expiry(flat, streams, from, line);
+            let due = least_expiry(flat, streams, from, bound);
+            let least = least_line(lines, next, due);
             if least < bound {
                 Time::new(least)
             } else {

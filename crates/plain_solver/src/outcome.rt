@@ -1,6 +1,7 @@
 // What happens at an equation at a time.
 
 ghost use Rattle.std.specs.Prelude.{◌≡◌, ◌<◌, if◌then◌else◌, length, map, slice_index, slice_index_or, [], is_some, IfOk, Ok, All};
+ghost use Rattle.std.specs.List.Sorted.{IsNonDecreasingBy};
 ghost use Rattle.std.specs.List.{list_any, list_all};
 ghost use Rattle.std.specs.Option.{option_map, option_copied};
 ghost use Rattle.tsl_value.specs.View.{Plain};
@@ -11,6 +12,7 @@ ghost use Rattle.flat_core.specs.Case.{at_once, case_of, delayed, is_blocked, ow
 ghost use Rattle.flat_core.specs.Line.{inputs_of};
 ghost use Rattle.plain_solver.specs.Moments.{seen};
 ghost use Rattle.plain_solver.specs.Shape.{HasShape, IsKept, streams_of};
+ghost use Rattle.flat_core.specs.declared.line.TraceLine.{TraceLine};
 
 use crate::delay::{is_now, pending_before};
 use crate::events::{Events, Outcome};
@@ -160,6 +162,7 @@ pub fn own_of(
     requires known { All (λ a. a < length streams.now) e.now.args }
     requires there { i < length streams.now }
     requires kept { IsKept (streams_of streams.now) i e.now.op e.now.args t }
+    requires sorted { IsNonDecreasingBy (λ (l : TraceLine). l.time) lines.now }
     ensures { IsValue result (own (inputs_of lines.now) (streams_of streams.now) i e.now t) }
 {
     match &e.op {
@@ -216,6 +219,7 @@ pub fn outcome_of(
     requires known { All (λ a. a < length streams.now) e.now.args }
     requires there { i < length streams.now }
     requires kept { IsKept (streams_of streams.now) i e.now.op e.now.args t }
+    requires sorted { IsNonDecreasingBy (λ (l : TraceLine). l.time) lines.now }
     ensures { IfOk result (λ o. case_of (inputs_of lines.now) (streams_of streams.now) i e.now t ≡ option_map seen o) }
 {
     if is_blocked_at(e, streams, t) {
@@ -258,6 +262,7 @@ pub fn root_of(
     requires known { All (λ a. a < length streams.now) e.now.args }
     requires there { i < length streams.now }
     requires kept { IsKept (streams_of streams.now) i e.now.op e.now.args t }
+    requires sorted { IsNonDecreasingBy (λ (l : TraceLine). l.time) lines.now }
     ensures { IfOk result (λ k. root_fault (inputs_of lines.now) (streams_of streams.now) i e.now t ≡ k) }
 {
     if let Op::Delay = &e.op {

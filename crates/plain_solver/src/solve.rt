@@ -1,8 +1,10 @@
 // All that happens below a bound.
 
 ghost use Rattle.std.specs.Prelude.{◌^◌, ◌<◌, ◌≤◌, ◌≡◌, [], IfOk, length, map, replicate};
+ghost use Rattle.std.specs.List.Sorted.{IsNonDecreasingBy};
 ghost use Rattle.plain_solver.specs.Instant.{IsInOrder};
 ghost use Rattle.plain_solver.specs.Solved.{IsEnded};
+ghost use Rattle.flat_core.specs.declared.line.TraceLine.{TraceLine};
 
 use crate::events::Events;
 use crate::instant::{first_root, run_instant};
@@ -59,6 +61,7 @@ pub fn solve(
 ) -> Result<Solved, NoMemory>
     requires ordered { IsInOrder flat.now }
     requires small { bound ≤ 2 ^ 63 }
+    requires sorted { IsNonDecreasingBy (λ (l : TraceLine). l.time) lines.now }
     ensures { IfOk result (λ v. IsEnded flat.now lines.now bound limit v.streams.items v.end) }
 {
     let mut streams = no_events(alloc, flat)?;
