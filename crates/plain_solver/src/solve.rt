@@ -34,10 +34,17 @@ pub enum End {
     },
 }
 
-/// The streams of all equations, and why they end.
+/// What happens at all equations, up to where the run ends.
+///
+/// The streams end with the last instant that was run. Where that has a root fault, they have the
+/// faults of its time.
 #[derive(Drop)]
 pub struct Solved {
+    /// What happens at each equation.
     pub streams: Vec<Events>,
+    /// The instants that were run without a root fault, in order.
+    pub instants: Vec<Time>,
+    /// Why no further one was run.
     pub end: End,
 }
 
@@ -51,7 +58,7 @@ fn no_events(alloc: Global, flat: &Flat) -> Result<Vec<Events>, NoMemory>
     Ok(streams)
 }
 
-/// The streams of all equations at the times below a bound, at most as many instants as a limit.
+/// What happens at all equations at the times below a bound, in at most as many instants as a limit.
 pub fn solve(
     alloc: Global,
     flat: &Flat,
@@ -62,15 +69,16 @@ pub fn solve(
     requires ordered { IsInOrder flat.now }
     requires small { bound ≤ 2 ^ 63 }
     requires sorted { IsNonDecreasingBy (λ (l : TraceLine). l.time) lines.now }
-    ensures { IfOk result (λ v. IsEnded flat.now lines.now bound limit v.streams.items v.end) }
+    ensures { IfOk result (λ v. IsEnded flat.now lines.now bound limit v.streams.items v.instants.items v.end) }
 {
     let mut streams = no_events(alloc, flat)?;
+    let mut instants = Vec::new(alloc);
     let mut next = 0;
-    let mut count = 0;
     while let Some(t) = next_below(flat, &streams, lines, next, bound) {
-        if count == limit {
+        if instants.len() as u64 == limit {
             return Ok(Solved {
                 streams,
+                instants,
                 end: End::Limit { time: t },
             });
         }
@@ -79,6 +87,7 @@ pub fn solve(
             Some(root) => {
                 return Ok(Solved {
                     streams,
+                    instants,
                     end: End::Fault {
                         time: t,
                         equation: root.0,
@@ -87,13 +96,14 @@ pub fn solve(
                 });
             }
             None => {
+                instants.push(t)?;
                 next = t.get() + 1;
-                count += 1;
             }
         }
     }
     Ok(Solved {
         streams,
+        instants,
         end: End::Bound,
     })
 }
