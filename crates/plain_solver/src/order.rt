@@ -53,21 +53,22 @@ fn are_used_below(e: &Equation, n: u32) -> bool
     }
 }
 
-/// An equation is one that is solved, its arguments are there, and those that are used at the same time come before it.
-fn is_in_place(flat: &Flat, i: EqId) -> bool
-    requires { i < length flat.now.equations }
-    ensures { IsTrue result → IsInPlace flat.now i }
+/// An equation with its number is one that is solved, its arguments are among `count` equations,
+/// and those that are used at the same time come before it.
+fn is_in_place(e: &Equation, i: u32, count: u32) -> bool
+    ensures { IsTrue result → IsInPlace count i e.now }
 {
-    let e = flat.equation(i);
-    has_shape(&e.op, &e.args) && are_below(e.args.ids(), flat.count()) && are_used_below(e, i.get())
+    has_shape(&e.op, &e.args) && are_below(e.args.ids(), count) && are_used_below(e, i)
 }
 
-/// Each equation is so.
+/// Whether each equation is one that is solved, its arguments are there, and those that are used at
+/// the same time come before it.
 pub fn is_in_order(flat: &Flat) -> bool
     ensures { IsTrue result → IsInOrder flat.now }
 {
-    for n in 0..flat.count() {
-        if !is_in_place(flat, EqId::new(n)) {
+    let count = flat.count();
+    for n in 0..count {
+        if !is_in_place(flat.equation(EqId::new(n)), n, count) {
             return false;
         }
     }

@@ -1,4 +1,4 @@
-use Rattle.std.proofs.Common.{◌<◌, ◌≤◌, sym, ◌∙◌, subst, arith}
+use Rattle.std.proofs.Common.{sym, ◌∙◌, subst, arith}
 use Rattle.plain_solver.specs.Lines.{is_line_on, IsLeast}
 use Rattle.plain_solver.proofs.LinesLemmas.{line_past, line_late, line_found, line_end}
 use Rattle.plain_solver.proofs.line.first_event.Goals as goal

@@ -1,4 +1,4 @@
-use Rattle.std.proofs.Common.{◌<◌, sym, ◌∙◌, arith}
+use Rattle.std.proofs.Common.{◌<◌, sym, arith}
 use Rattle.plain_solver.proofs.LinesLemmas.{input_past, input_found, input_late, input_end}
 use Rattle.plain_solver.proofs.line.input_among.Goals as goal
 

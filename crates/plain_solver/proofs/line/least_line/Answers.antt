@@ -1,4 +1,4 @@
-use Rattle.std.proofs.Common.{◌≡◌, ◌-◌, List, length, take, drop, subst}
+use Rattle.std.proofs.Common.{List, subst}
 use Rattle.flat_core.specs.declared.line.TraceLine.{TraceLine}
 use Rattle.plain_solver.specs.Lines.{is_line_on, IsLeast}
 use Rattle.std.proofs.lemmas.List.{take_rest}

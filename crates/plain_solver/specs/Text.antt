@@ -1,0 +1,29 @@
+-- The text of the events of the outputs.
+use Rattle.std.specs.Prelude.{ℕ, not, List, [], ◌∷◌, ◌++◌, Option, Some, None, take, codes}
+use Rattle.std.specs.Fmt.{decimal}
+use Rattle.std.specs.List.{filter, flat_map}
+use Rattle.tsl_value.specs.View.{View}
+use Rattle.tsl_value.specs.Print.{view_text}
+use Rattle.flat_core.specs.Stream.{event}
+use Rattle.flat_core.specs.Case.{Streams}
+use Rattle.flat_core.specs.Fault.{is_over}
+use Rattle.flat_core.specs.Instant.{instants}
+use Rattle.flat_core.specs.Line.{Line, inputs_of}
+use Rattle.flat_core.specs.System.{System}
+
+-- the line of an output's event
+abbrev pub event_line : ℕ → List ℕ → Option View → List ℕ
+event_line t name None = []
+event_line t name (Some v) = decimal t ++ (codes ": " ++ (name ++ (codes " = " ++ (view_text v ++ (10 ∷ [])))))
+
+-- the lines of a time, by output
+abbrev pub text_at : System → Streams → ℕ → List ℕ
+text_at s z t = flat_map (λ o. event_line t o.name (event (z o.equation t))) s.outputs
+
+-- the first instants, as many as a limit, that are below the bound and before the first root fault
+abbrev pub due_instants : System → List Line → Streams → ℕ → ℕ → List ℕ
+due_instants s lines z bound limit = filter (λ t. not (is_over s (inputs_of lines) z t)) (take limit (instants s lines z bound))
+
+-- the lines of these instants
+abbrev pub due_text : System → List Line → Streams → ℕ → ℕ → List ℕ
+due_text s lines z bound limit = flat_map (text_at s z) (due_instants s lines z bound limit)
