@@ -1,0 +1,254 @@
+-- A run ends where its solution says so, and the instants that it ran are the due ones.
+use Rattle.std.proofs.Common.{◌≡◌, ◌≢◌, ℕ, zero, suc, ◌+◌, ◌-◌, ◌<◌, ◌≤◌, Bool, true, false, not, List, [], ◌∷◌, ◌++◌, length, take, Option, Some, None, refl, sym, ap, subst, ◌∙◌, inl, inr, arith, append_assoc, length-append}
+use Rattle.std.proofs.lemmas.Bool.{cases_lt}
+use Rattle.std.proofs.lemmas.List.{append-nil}
+use Rattle.std.proofs.lemmas.List.Elements.{filter-append, Contains-append_right}
+use Rattle.std.proofs.lemmas.Option.{slice_get_within}
+use Rattle.std.proofs.Math.Bool.{true≢false}
+use Rattle.std.proofs.Math.Seq.{take-append_seam, take-append-add}
+use Rattle.std.specs.Prelude.{if◌then◌else◌, cond, slice_get, ◌↔◌, ◌⊎◌, IsTrue, is_some}
+use Rattle.std.specs.List.{AllByRecursion, Contains, filter, list_any}
+use Rattle.lift_func.specs.declared.fault.FaultKind.{FaultKind}
+use Rattle.flat_core.specs.Case.{Streams, Inputs}
+use Rattle.flat_core.specs.Fault.{root_at, is_faulty, is_over, IsNamed}
+use Rattle.flat_core.specs.Instant.{is_instant, instants}
+use Rattle.flat_core.specs.Line.{Line, inputs_of}
+use Rattle.flat_core.specs.Solution.{Solves}
+use Rattle.flat_core.specs.System.{System, runs, IsProper}
+use Rattle.flat_core.proofs.Members.{all_at, contains_head}
+use Rattle.flat_core.proofs.PendingLemmas.{some_before_from, none_before_from}
+use Rattle.flat_core.proofs.Uniqueness.{all_by}
+use Rattle.plain_solver.specs.declared.events.Moment.{Moment}
+use Rattle.plain_solver.specs.declared.solve.End.{End}
+use Rattle.plain_solver.specs.declared.solve.End.TheVariants as end
+use Rattle.plain_solver.specs.Ending.{EndsInFault, EndsAtLimit, IsEnding}
+use Rattle.plain_solver.specs.Instant.{IsInOrder}
+use Rattle.plain_solver.specs.Shape.{streams_of}
+use Rattle.plain_solver.specs.Solved.{IsSolved, IsWhole, IsFaulted, IsLimited, IsEnded}
+use Rattle.plain_solver.specs.Text.{due_instants}
+use Rattle.plain_solver.proofs.Agreement.{running_args, agree, root_at-agree, faulty-agree, instant-agree, instants-agree}
+use Rattle.plain_solver.proofs.ArrivalLemmas.{comes}
+use Rattle.plain_solver.proofs.NextLemmas.{one_among}
+
+-- lists
+take_all : (xs : List ℕ) (n : ℕ) → length xs ≤ n → take n xs ≡ xs
+take_all [] zero le = refl
+take_all [] (suc n) le = refl
+take_all (x ∷ xs) zero le = absurd (omega arith)
+take_all (x ∷ xs) (suc n) le = ap (λ l. x ∷ l) (take_all xs n (omega arith))
+
+get_seam : (xs : List ℕ) (x : ℕ) (ys : List ℕ) → slice_get (xs ++ x ∷ ys) (length xs) ≡ Some x
+get_seam [] x ys = refl
+get_seam (y ∷ xs) x ys = get_seam xs x ys
+
+filter_all : (p : ℕ → Bool) (xs : List ℕ) → AllByRecursion (λ x. p x ≡ true) xs → filter p xs ≡ xs
+filter_all p [] all = refl
+filter_all p (x ∷ xs) all = (λ k. cond (all.0 k) (x ∷ filter p xs) (filter p xs)) ∙ ap (λ l. x ∷ l) (filter_all p xs all.1)
+
+filter_none : (p : ℕ → Bool) (xs : List ℕ) → AllByRecursion (λ x. p x ≡ false) xs → filter p xs ≡ []
+filter_none p [] none = refl
+filter_none p (x ∷ xs) none = (λ k. cond (none.0 k) (x ∷ filter p xs) (filter p xs)) ∙ filter_none p xs none.1
+
+all_append : (P : ℕ → Type 0) (xs ys : List ℕ) → AllByRecursion P xs → AllByRecursion P ys → AllByRecursion P (xs ++ ys)
+all_append P [] ys left right = right
+all_append P (x ∷ xs) ys left right = (left.0, all_append P xs ys left.1 right)
+
+all_take : (P : ℕ → Type 0) (n : ℕ) (xs : List ℕ) → AllByRecursion P xs → AllByRecursion P (take n xs)
+all_take P zero xs all = tt
+all_take P (suc n) [] all = tt
+all_take P (suc n) (x ∷ xs) all = (all.0, all_take P n xs all.1)
+
+-- the instants of one solution
+module _ (s : System) (lines : List Line) (w : Streams) where
+  abbrev one : ℕ → List ℕ
+  one n = if is_instant s lines w n then n ∷ [] else []
+
+  all_one : (P : ℕ → Type 0) (n : ℕ) → P n → AllByRecursion P (one n)
+  all_one P n p = elim (is_instant s lines w n) as (λ b. AllByRecursion P (if b then n ∷ [] else [])) [ true ↦ (p, tt) | false ↦ tt ]
+
+  pub instants_below : (n : ℕ) → AllByRecursion (λ u. u < n) (instants s lines w n)
+  instants_below zero = tt
+  instants_below (suc n) =
+      all_append (λ u. u < suc n) (instants s lines w n) (one n) (all_by (λ u. u < n) (λ u. u < suc n) (λ u lt. omega arith) (instants s lines w n) (instants_below n))
+      (all_one (λ u. u < suc n) n (omega arith))
+
+  -- those before a time, and the others
+  split : (m n : ℕ) → m ≤ n → (rest : List ℕ) × (instants s lines w n ≡ instants s lines w m ++ rest) × AllByRecursion (λ u. m ≤ u) rest
+  split m zero le = let none : m ≡ zero = omega arith in ([], sym (append-nil (instants s lines w m) ∙ ap (instants s lines w) none), tt)
+  split m (suc n) le = elim (cases_lt n m) [
+    | inl end ↦ let same : m ≡ suc n = omega arith in ([], sym (append-nil (instants s lines w m) ∙ ap (instants s lines w) same), tt)
+    | inr more ↦
+        let before = split m n more in (
+          before.0 ++ one n,
+          (λ k. before.1 k ++ one n) ∙ append_assoc (instants s lines w m) before.0 (one n),
+          all_append (λ u. m ≤ u) before.0 (one n) before.2 (all_one (λ u. m ≤ u) n more),
+        )
+  ]
+
+  -- where one comes at a time
+  split_at : (t n : ℕ) → t < n → is_instant s lines w t ≡ true → (rest : List ℕ) × (instants s lines w n ≡ instants s lines w t ++ t ∷ rest) × AllByRecursion (λ u. t ≤ u) (t ∷ rest)
+  split_at t n lt is =
+      let parts = split (suc t) n (omega arith) in (
+        parts.0,
+        parts.1 ∙ (λ k. (instants s lines w t ++ (if is k then t ∷ [] else [])) ++ parts.0) ∙ append_assoc (instants s lines w t) (t ∷ []) parts.0,
+        (omega arith, all_by (λ u. suc t ≤ u) (λ u. t ≤ u) (λ u low. omega arith) parts.0 parts.2),
+      )
+
+-- a fault is named once
+named_once : (s : System) (inputs : Inputs) (w : Streams) (t i t' i' : ℕ) (kind kind' : FaultKind) → IsNamed s inputs w t i kind → IsNamed s inputs w t' i' kind' → end.Fault t i kind ≡ end.Fault t' i' kind'
+named_once s inputs w t i t' i' kind kind' a b =
+    let times : t ≡ t' = same_time (cases_lt t t') (cases_lt t' t) in
+    let b' = subst (λ u. IsNamed s inputs w u i' kind') (sym times) b in
+    let equations : i ≡ i' = same_equation b' (cases_lt i i') (cases_lt i' i) in
+    let kinds : Some kind ≡ Some kind' = sym a.root ∙ ap (root_at s inputs w t) equations ∙ b'.root in
+    let same : kind ≡ kind' = cc in
+    λ k. end.Fault (times k) (equations k) (same k)
+  where
+    faulty : (u j : ℕ) (k : FaultKind) → IsNamed s inputs w u j k → is_faulty s inputs w u ≡ true
+    faulty u j k n = one_among (λ x. is_some (root_at s inputs w u x)) s.running j n.running (ap is_some n.root)
+
+    not_first : (u v j l : ℕ) (k m : FaultKind) → IsNamed s inputs w u j k → IsNamed s inputs w v l m → u < v → ⊥
+    not_first u v j l k m x y lt = true≢false (sym (y.first u lt) ∙ ap not (faulty u j k x))
+
+    same_time : (t < t') ⊎ (t' ≤ t) → (t' < t) ⊎ (t ≤ t') → t ≡ t'
+    same_time (inl early) other = absurd (not_first t t' i i' kind kind' a b early)
+    same_time (inr le) (inl late) = absurd (not_first t' t i' i kind' kind b a late)
+    same_time (inr le) (inr ge) = omega arith
+
+    differ : (j l : ℕ) (k m : FaultKind) → IsNamed s inputs w t j k → IsNamed s inputs w t l m → j < l → ⊥
+    differ j l k m x y lt = none_some (sym (y.least j x.running lt) ∙ x.root)
+      where
+        none_some : None ≡ Some k → ⊥
+        none_some e = cc
+
+    same_equation : IsNamed s inputs w t i' kind' → (i < i') ⊎ (i' ≤ i) → (i' < i) ⊎ (i ≤ i') → i ≡ i'
+    same_equation b' (inl low) other = absurd (differ i i' kind kind' a b' low)
+    same_equation b' (inr le) (inl high) = absurd (differ i' i kind' kind b' a high)
+    same_equation b' (inr le) (inr ge) = omega arith
+
+module _ (s : System) (lines : List Line) (order : IsInOrder s) (proper : IsProper s) (bound limit : ℕ) (all : List (List Moment)) (ran : List ℕ) (w : Streams) (ws : Solves s (inputs_of lines) bound w) where
+  abbrev z : Streams
+  z = streams_of all
+
+  abbrev inputs : Inputs
+  inputs = inputs_of lines
+
+  -- the instants before n ran, and none of them has a root fault
+  pub record RunsTo (n : ℕ) : Type 0 where
+    pub early : n ≤ bound
+    pub same : (i : ℕ) → IsTrue (runs s i) → (t : ℕ) → t < n → z i t ≡ w i t
+    pub ran_is : ran ≡ instants s lines w n
+    pub sound : (u : ℕ) → u < n → is_faulty s inputs w u ≡ false
+
+  -- the streams agree with the solution
+  agreed : (n : ℕ) → n ≤ bound → IsSolved s inputs n all → (i : ℕ) → IsTrue (runs s i) → (t : ℕ) → t < n → z i t ≡ w i t
+  agreed n le solved = agree s inputs order proper n z w solved.solves (record { each = λ i e run is t lt. ws.each i e run is t (omega arith) })
+
+  runs_to : (n : ℕ) → n ≤ bound → IsSolved s inputs n all → ran ≡ instants s lines z n → ((u : ℕ) → u < n → is_faulty s inputs z u ≡ false) → RunsTo n
+  runs_to n le solved is sound =
+      let same = agreed n le solved in
+      record {
+        early = le;
+        same = same;
+        ran_is = is ∙ instants-agree s proper z w n same lines n (omega arith);
+        sound = λ u lt. sym (faulty-agree s proper z w n same inputs u lt) ∙ sound u lt;
+      }
+
+  -- what the first instants are
+  pub record AreFirst (n : ℕ) (rest : List ℕ) : Type 0 where
+    pub runs_to : RunsTo n
+    pub first : take limit (instants s lines w bound) ≡ ran ++ rest
+    pub over : AllByRecursion (λ u. is_over s inputs w u ≡ true) rest
+
+  all_ran : (P : ℕ → Type 0) (n : ℕ) → RunsTo n → ((u : ℕ) → u < n → P u) → AllByRecursion P ran
+  all_ran P n r each = subst (AllByRecursion P) (sym r.ran_is) (all_by (λ u. u < n) P each (instants s lines w n) (instants_below s lines w n))
+
+  -- the due instants are those that ran
+  pub due_are : (n : ℕ) (rest : List ℕ) → AreFirst n rest → due_instants s lines w bound limit ≡ ran
+  due_are n rest a =
+      let due : ℕ → Bool = λ t. not (is_over s inputs w t) in
+      let early = all_ran (λ u. due u ≡ true) n a.runs_to (λ u lt. ap not (none_before_from (is_faulty s inputs w) (suc u) (λ v low. a.runs_to.sound v (omega arith)))) in
+      ap (filter due) a.first ∙ filter-append due ran rest
+      ∙ (λ k. filter_all due ran early k ++ filter_none due rest (all_by (λ u. is_over s inputs w u ≡ true) (λ u. due u ≡ false) (λ u is. ap not is) rest a.over) k)
+      ∙ append-nil ran
+
+  whole_first : IsWhole s lines bound limit all ran → AreFirst bound []
+  whole_first e =
+      let r = runs_to bound (omega arith) e.solved e.ran_is e.sound in
+      record {
+        runs_to = r;
+        first = take_all (instants s lines w bound) limit (subst (λ l. length l ≤ limit) r.ran_is e.within) ∙ sym r.ran_is ∙ sym (append-nil ran);
+        over = tt;
+      }
+
+  limited_to : (t : ℕ) → IsLimited s lines bound limit all ran t → RunsTo t
+  limited_to t e = let lt = e.early in runs_to t (omega arith) e.solved e.ran_is e.sound
+
+  limited_split : (t : ℕ) → IsLimited s lines bound limit all ran t → (rest : List ℕ) × (instants s lines w bound ≡ ran ++ t ∷ rest)
+  limited_split t e =
+      let r = limited_to t e in
+      let lt = e.early in
+      let come = comes s lines order z w t
+      (λ i f run is. (λ u low. r.same i run u low, all_by (λ a. IsTrue (runs s a)) (λ a. (u : ℕ) → u < t → z a u ≡ w a u) (λ a runs_a u low. r.same a runs_a u low) f.args (running_args s proper i f run is)))
+      (λ i f run is. ws.each i f run is t lt) e.due in
+      let parts = split_at s lines w t bound lt come in
+      (parts.0, parts.1 ∙ (λ k. sym r.ran_is k ++ t ∷ parts.0))
+
+  limited_first : (t : ℕ) → IsLimited s lines bound limit all ran t → AreFirst t []
+  limited_first t e =
+      let parts = limited_split t e in
+      record {
+        runs_to = limited_to t e;
+        first = (λ k. take (sym e.full k) (parts.1 k)) ∙ take-append_seam ran (t ∷ parts.0) ∙ sym (append-nil ran);
+        over = tt;
+      }
+
+  faulted_to : (t i : ℕ) (kind : FaultKind) → IsFaulted s lines bound limit all ran t i kind → RunsTo t
+  faulted_to t i kind e =
+      let lt = e.early in
+      let same = agreed (t + 1) (omega arith) e.solved in
+      record {
+        early = omega arith;
+        same = λ j run u low. same j run u (omega arith);
+        ran_is = e.ran_is ∙ instants-agree s proper z w (t + 1) same lines t (omega arith);
+        sound = λ u low. sym (faulty-agree s proper z w (t + 1) same inputs u (omega arith)) ∙ not_true (is_faulty s inputs z u) (e.named.first u low);
+      }
+    where
+      not_true : (b : Bool) → IsTrue (not b) → b ≡ false
+      not_true true h = absurd (true≢false (sym h))
+      not_true false h = refl
+
+  faulted_named : (t i : ℕ) (kind : FaultKind) → IsFaulted s lines bound limit all ran t i kind → IsNamed s inputs w t i kind
+  faulted_named t i kind e =
+      let lt = e.early in
+      let same = agreed (t + 1) (omega arith) e.solved in
+      let r = faulted_to t i kind e in
+      record {
+        running = e.named.running;
+        root = sym (root_at-agree s proper z w (t + 1) same inputs t (omega arith) i e.named.running) ∙ e.named.root;
+        least = λ j run low. sym (root_at-agree s proper z w (t + 1) same inputs t (omega arith) j run) ∙ e.named.least j run low;
+        first = λ u low. ap not (r.sound u low);
+      }
+
+  -- the fault's instant stands first among the others
+  faulted_first : (t i : ℕ) (kind : FaultKind) → IsFaulted s lines bound limit all ran t i kind → (rest : List ℕ) × AreFirst t (t ∷ rest)
+  faulted_first t i kind e =
+      let lt = e.early in
+      let same = agreed (t + 1) (omega arith) e.solved in
+      let r = faulted_to t i kind e in
+      let come = sym (instant-agree s proper z w (t + 1) same lines t (omega arith)) ∙ e.comes in
+      let parts = split_at s lines w t bound lt come in
+      let is : instants s lines w bound ≡ ran ++ t ∷ parts.0 = parts.1 ∙ (λ k. sym r.ran_is k ++ t ∷ parts.0) in
+      let room = e.within in
+      let more : limit ≡ length ran + suc (limit - length ran - 1) = omega arith in
+      let named = faulted_named t i kind e in
+      let faulty = one_among (λ x. is_some (root_at s inputs w t x)) s.running i named.running (ap is_some named.root) in (
+        take (limit - length ran - 1) parts.0,
+        record {
+          runs_to = r;
+          first = (λ k. take (more k) (is k)) ∙ take-append-add ran (t ∷ parts.0) (suc (limit - length ran - 1));
+          over =
+              all_by (λ u. t ≤ u) (λ u. is_over s inputs w u ≡ true) (λ u low. some_before_from (is_faulty s inputs w) (suc u) t (omega arith) faulty)
+              (t ∷ take (limit - length ran - 1) parts.0) (omega arith, all_take (λ u. t ≤ u) (limit - length ran - 1) parts.0 parts.2.1);
+        },
+      )
