@@ -252,3 +252,84 @@ module _ (s : System) (lines : List Line) (order : IsInOrder s) (proper : IsProp
               (t ∷ take (limit - length ran - 1) parts.0) (omega arith, all_take (λ u. t ≤ u) (limit - length ran - 1) parts.0 parts.2.1);
         },
       )
+
+  -- there is no fault among the first instants
+  none_faults : (n : ℕ) → AreFirst n [] → (t i : ℕ) (kind : FaultKind) → EndsInFault s lines w bound limit t i kind → ⊥
+  none_faults n a t i kind f =
+      let sound = all_ran (λ u. is_faulty s inputs w u ≡ false) n a.runs_to a.runs_to.sound in
+      let among : Contains ran t = subst (λ l. Contains l t) (a.first ∙ append-nil ran) f.within in
+      true≢false (sym (one_among (λ x. is_some (root_at s inputs w t x)) s.running i f.named.running (ap is_some f.named.root)) ∙ all_at (λ u. is_faulty s inputs w u ≡ false) ran sound t among)
+
+  fault_given : (ends : End) → IsEnded s lines bound limit all ran ends → (t i : ℕ) (kind : FaultKind) → ends ≡ end.Fault t i kind → EndsInFault s lines w bound limit t i kind
+  fault_given ends ended t i kind is =
+      let e : IsFaulted s lines bound limit all ran t i kind = subst (IsEnded s lines bound limit all ran) is ended in
+      let found = faulted_first t i kind e in
+      record {
+        named = faulted_named t i kind e;
+        within = subst (λ l. Contains l t) (sym found.1.first) (Contains-append_right ran (t ∷ found.0) t (contains_head t found.0));
+      }
+
+  fault_found : (ends : End) → IsEnded s lines bound limit all ran ends → (t i : ℕ) (kind : FaultKind) → EndsInFault s lines w bound limit t i kind → ends ≡ end.Fault t i kind
+  fault_found end.Bound e t i kind f = absurd (none_faults bound (whole_first e) t i kind f)
+  fault_found (end.Fault t' i' kind') e t i kind f = named_once s inputs w t' i' t i kind' kind (faulted_named t' i' kind' e) f.named
+  fault_found (end.Limit t') e t i kind f = absurd (none_faults t' (limited_first t' e) t i kind f)
+
+  limit_next : (t : ℕ) → IsLimited s lines bound limit all ran t → slice_get (instants s lines w bound) limit ≡ Some t
+  limit_next t e = let parts = limited_split t e in (λ k. slice_get (parts.1 k) (sym e.full k)) ∙ get_seam ran t parts.0
+
+  limit_given : (ends : End) → IsEnded s lines bound limit all ran ends → (t : ℕ) → ends ≡ end.Limit t → EndsAtLimit s lines w bound limit t
+  limit_given ends ended t is =
+      let e : IsLimited s lines bound limit all ran t = subst (IsEnded s lines bound limit all ran) is ended in
+      let a = limited_first t e in
+      record {
+        next = limit_next t e;
+        sound = subst (AllByRecursion (λ u. is_faulty s inputs w u ≡ false)) (sym (a.first ∙ append-nil ran)) (all_ran (λ u. is_faulty s inputs w u ≡ false) t a.runs_to a.runs_to.sound);
+      }
+
+  limit_found : (ends : End) → IsEnded s lines bound limit all ran ends → (t : ℕ) → EndsAtLimit s lines w bound limit t → ends ≡ end.Limit t
+  limit_found end.Bound e t l =
+      let a = whole_first e in
+      let there = slice_get_within (instants s lines w bound) limit t l.next in
+      let few : length (instants s lines w bound) ≤ limit = subst (λ xs. length xs ≤ limit) a.runs_to.ran_is e.within in
+      absurd (omega arith)
+  limit_found (end.Fault t' i' kind') e t l =
+      let found = faulted_first t' i' kind' e in
+      let named = faulted_named t' i' kind' e in
+      let among = subst (λ xs. Contains xs t') (sym found.1.first) (Contains-append_right ran (t' ∷ found.0) t' (contains_head t' found.0)) in
+      absurd (true≢false (sym (one_among (λ x. is_some (root_at s inputs w t' x)) s.running i' named.running (ap is_some named.root)) ∙ all_at (λ u. is_faulty s inputs w u ≡ false) (take limit (instants s lines w bound)) l.sound t' among))
+  limit_found (end.Limit t') e t l =
+      let same : Some t' ≡ Some t = sym (limit_next t' e) ∙ l.next in
+      let times : t' ≡ t = cc in
+      ap end.Limit times
+
+  -- the run ends where its solution says so
+  pub is_ending : (ends : End) → IsEnded s lines bound limit all ran ends → IsEnding s lines w bound limit ends
+  is_ending ends ended = record {
+    in_fault = λ t i kind. (fault_given ends ended t i kind, fault_found ends ended t i kind);
+    at_limit = λ t. (limit_given ends ended t, limit_found ends ended t);
+    at_bound = (
+      λ is. (λ t i kind f. not_both (sym is ∙ fault_found ends ended t i kind f), λ t l. not_limit (sym is ∙ limit_found ends ended t l)),
+      λ none. neither ends ended none.0 none.1,
+    );
+  }
+    where
+      not_both : {t i : ℕ} {kind : FaultKind} → end.Bound ≡ end.Fault t i kind → ⊥
+      not_both e = cc
+
+      not_limit : {t : ℕ} → end.Bound ≡ end.Limit t → ⊥
+      not_limit e = cc
+
+      neither : (e : End) → IsEnded s lines bound limit all ran e → ((t i : ℕ) (kind : FaultKind) → EndsInFault s lines w bound limit t i kind → ⊥) → ((t : ℕ) → EndsAtLimit s lines w bound limit t → ⊥) → e ≡ end.Bound
+      neither end.Bound was no_fault no_limit = refl
+      neither (end.Fault t i kind) was no_fault no_limit = absurd (no_fault t i kind (fault_given (end.Fault t i kind) was t i kind refl))
+      neither (end.Limit t) was no_fault no_limit = absurd (no_limit t (limit_given (end.Limit t) was t refl))
+
+  pub due_ran : (ends : End) → IsEnded s lines bound limit all ran ends → due_instants s lines w bound limit ≡ ran
+  due_ran end.Bound e = due_are bound [] (whole_first e)
+  due_ran (end.Fault t i kind) e = let found = faulted_first t i kind e in due_are t (t ∷ found.0) found.1
+  due_ran (end.Limit t) e = due_are t [] (limited_first t e)
+
+  pub ran_to : (ends : End) → IsEnded s lines bound limit all ran ends → (n : ℕ) × RunsTo n
+  ran_to end.Bound e = (bound, (whole_first e).runs_to)
+  ran_to (end.Fault t i kind) e = (t, faulted_to t i kind e)
+  ran_to (end.Limit t) e = (t, limited_to t e)
