@@ -4,6 +4,7 @@ use Rattle.std.specs.Fmt.{decimal}
 use Rattle.std.specs.List.{filter, flat_map}
 use Rattle.tsl_value.specs.View.{View}
 use Rattle.tsl_value.specs.Print.{view_text}
+use Rattle.flat_core.specs.declared.equation.Output.{Output}
 use Rattle.flat_core.specs.Stream.{event}
 use Rattle.flat_core.specs.Case.{Streams}
 use Rattle.flat_core.specs.Fault.{is_over}
@@ -11,14 +12,21 @@ use Rattle.flat_core.specs.Instant.{instants}
 use Rattle.flat_core.specs.Line.{Line, inputs_of}
 use Rattle.flat_core.specs.System.{System}
 
+-- what stands before the value of an event
+abbrev pub event_name : ℕ → List ℕ → List ℕ
+event_name t name = decimal t ++ (codes ": " ++ (name ++ codes " = "))
+
 -- the line of an output's event
 abbrev pub event_line : ℕ → List ℕ → Option View → List ℕ
 event_line t name None = []
-event_line t name (Some v) = decimal t ++ (codes ": " ++ (name ++ (codes " = " ++ (view_text v ++ (10 ∷ [])))))
+event_line t name (Some v) = event_name t name ++ (view_text v ++ (10 ∷ []))
 
--- the lines of a time, by output
+-- the line of an output at a time, and the lines of all outputs
+abbrev pub output_text : Streams → ℕ → Output → List ℕ
+output_text z t o = event_line t o.name (event (z o.equation t))
+
 abbrev pub text_at : System → Streams → ℕ → List ℕ
-text_at s z t = flat_map (λ o. event_line t o.name (event (z o.equation t))) s.outputs
+text_at s z t = flat_map (output_text z t) s.outputs
 
 -- the first instants, as many as a limit, that are below the bound and before the first root fault
 abbrev pub due_instants : System → List Line → Streams → ℕ → ℕ → List ℕ

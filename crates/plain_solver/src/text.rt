@@ -1,0 +1,101 @@
+// The text of a run.
+
+ghost use Rattle.std.specs.Prelude.{◌≡◌, ◌++◌, ℕ, List, Some, OnOk, IfOk};
+ghost use Rattle.std.specs.List.{flat_map};
+ghost use Rattle.tsl_value.specs.View.{Plain};
+ghost use Rattle.flat_core.specs.Case.{Streams};
+ghost use Rattle.flat_core.specs.Line.{Line, inputs_of};
+ghost use Rattle.flat_core.specs.Solution.{Solves};
+ghost use Rattle.plain_solver.specs.Instant.{IsInOrder};
+ghost use Rattle.plain_solver.specs.Shape.{streams_of};
+ghost use Rattle.plain_solver.specs.Solved.{IsEnded};
+ghost use Rattle.plain_solver.specs.Text.{event_line, event_name, output_text, text_at};
+
+use crate::events::Events;
+use crate::solve::Solved;
+use flat_core::equation::Output;
+use flat_core::flat::Flat;
+use std::alloc::Global;
+use tsl_value::bytes::Bytes;
+use tsl_value::memory::NoMemory;
+use tsl_value::print::{print_number, print_scalar};
+use tsl_value::scalar::Scalar;
+use tsl_value::text::Text;
+use tsl_value::time::Time;
+
+/// Appends what stands before the value of an event.
+fn append_name(time: Time, name: &Text, out: &mut Bytes) -> Result<(), NoMemory>
+    ensures { OnOk result (out.new ≡ out.old ++ event_name time name.now) }
+{
+    print_number(time.get(), out)?;
+    out.append(b": ")?;
+    out.append(name.as_str().as_bytes())?;
+    out.append(b" = ")
+}
+
+/// Appends the line of an event.
+fn append_line(time: Time, name: &Text, value: &Scalar, out: &mut Bytes) -> Result<(), NoMemory>
+    ensures { OnOk result (out.new ≡ out.old ++ event_line time name.now (Some (Plain value.now))) }
+{
+    append_name(time, name, out)?;
+    print_scalar(value, out)?;
+    out.push(b'\n')
+}
+
+/// Appends the line of an output at a time, where it has an event.
+fn append_output(
+    output: &Output,
+    streams: &[Events],
+    time: Time,
+    out: &mut Bytes,
+) -> Result<(), NoMemory>
+    ensures { OnOk result (out.new ≡ out.old ++ output_text (streams_of streams.now) time output.now) }
+{
+    match streams.get(output.equation.get() as usize) {
+        Some(events) => match events.value_at(time) {
+            Some(value) => append_line(time, &output.name, value, out),
+            None => Ok(()),
+        },
+        None => Ok(()),
+    }
+}
+
+/// Appends the lines of a time, by output.
+fn append_instant(
+    flat: &Flat,
+    streams: &[Events],
+    time: Time,
+    out: &mut Bytes,
+) -> Result<(), NoMemory>
+    ensures { OnOk result (out.new ≡ out.old ++ text_at flat.now (streams_of streams.now) time) }
+{
+    for output in flat.outputs() {
+        append_output(output, streams, time, out)?;
+    }
+    Ok(())
+}
+
+/// The lines of some instants.
+fn ran_text(
+    alloc: Global,
+    flat: &Flat,
+    streams: &[Events],
+    instants: &[Time],
+) -> Result<Bytes, NoMemory>
+    ensures { IfOk result (λ text. text ≡ flat_map (text_at flat.now (streams_of streams.now)) instants.now) }
+{
+    let mut out = Bytes::new(alloc);
+    for time in instants {
+        append_instant(flat, streams, *time, &mut out)?;
+    }
+    Ok(out)
+}
+
+/// The text of all output events of a run, by time and then by output: those of the instants that
+/// ran, and so nothing of a fault's own time.
+pub fn print_due(alloc: Global, flat: &Flat, solved: &Solved) -> Result<Bytes, NoMemory>
+    requires { IsInOrder flat.now }
+    ensures { IfOk result (λ text. text ≡ flat_map (text_at flat.now (streams_of solved.now.streams.items)) solved.now.instants.items) }
+{
+    ran_text(alloc, flat, &solved.streams, &solved.instants)
+}
