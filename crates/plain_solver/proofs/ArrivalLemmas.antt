@@ -1,6 +1,6 @@
 -- Where an instant is due by what happened before, it comes.
 use Rattle.std.proofs.Common.{◌≡◌, ◌==◌, ℕ, Bool, true, false, ◌&&◌, ◌||◌, List, [], ◌∷◌, Option, Some, None, refl, sym, ap, subst, ◌∙◌, inl, inr}
-use Rattle.std.proofs.Math.Bool.{true≢false}
+use Rattle.std.proofs.Math.Bool.{true≢false, or-true}
 use Rattle.std.specs.Prelude.{if◌then◌else◌, is_some, IsTrue}
 use Rattle.std.specs.List.{AllByRecursion, list_any}
 use Rattle.flat_core.specs.declared.equation.Op.{Op}
@@ -8,16 +8,15 @@ use Rattle.flat_core.specs.declared.equation.Op.TheVariants as op
 use Rattle.flat_core.specs.declared.equation.Equation.{Equation}
 use Rattle.flat_core.specs.Stream.{Event, has_event}
 use Rattle.flat_core.specs.Case.{Streams, unit, expires, case_of, delayed}
-use Rattle.flat_core.specs.Instant.{is_delay_op, is_delay, is_instant}
+use Rattle.flat_core.specs.Instant.{is_delay_op, is_delay, is_instant, is_due, expires_at}
 use Rattle.flat_core.specs.Line.{Line, inputs_of}
 use Rattle.flat_core.specs.System.{System, runs, equation}
 use Rattle.flat_core.proofs.Locality.{AgreeBefore, expires-same}
 use Rattle.plain_solver.specs.Instant.{IsInOrder}
 use Rattle.plain_solver.specs.Shape.{HasShape}
-use Rattle.plain_solver.specs.Solved.{is_due, expires_at}
-use Rattle.plain_solver.proofs.KeptLemmas.{delay_event}
-use Rattle.plain_solver.proofs.NextLemmas.{or_true, one_among, found_among}
-use Rattle.plain_solver.proofs.GapLemmas.{or_cases}
+use Rattle.flat_core.proofs.DueLemmas.{delay_event}
+use Rattle.flat_core.proofs.Members.{some_from, some_in}
+use Rattle.std.proofs.lemmas.Bool.{or_cases}
 
 module _ (s : System) (lines : List Line) (order : IsInOrder s) (z w : Streams) (t : ℕ)
     (past : (i : ℕ) (e : Equation) → IsTrue (runs s i) → equation s i ≡ Some e → AgreeBefore (z i) (w i) t × AllByRecursion (λ a. AgreeBefore (z a) (w a) t) e.args)
@@ -47,7 +46,7 @@ module _ (s : System) (lines : List Line) (order : IsInOrder s) (z w : Streams) 
       elim (or_cases first (list_any (λ i. expires_at (equation s i) z i t) s.running) due) [
         | inl early ↦ λ k. early k || list_any (λ i. is_delay (equation s i) && has_event (w i t)) s.running
         | inr expiry ↦
-            let found = found_among (λ i. expires_at (equation s i) z i t) s.running expiry in
-            let one = one_among (λ i. is_delay (equation s i) && has_event (w i t)) s.running found.0 found.1 (expiry_found found.0 found.1 (equation s found.0) refl found.2) in
-            (λ k. first || one k) ∙ or_true first
+            let found = some_in (λ i. expires_at (equation s i) z i t) s.running expiry in
+            let one = some_from (λ i. is_delay (equation s i) && has_event (w i t)) s.running found.0 found.1 (expiry_found found.0 found.1 (equation s found.0) refl found.2) in
+            (λ k. first || one k) ∙ or-true first
       ]

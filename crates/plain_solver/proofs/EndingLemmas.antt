@@ -15,20 +15,22 @@ use Rattle.flat_core.specs.Instant.{is_instant, instants}
 use Rattle.flat_core.specs.Line.{Line, inputs_of}
 use Rattle.flat_core.specs.Solution.{Solves}
 use Rattle.flat_core.specs.System.{System, runs, IsProper}
-use Rattle.flat_core.proofs.Members.{all_at, contains_head}
+use Rattle.flat_core.proofs.Members.{all_append, all_at, contains_head, some_from}
 use Rattle.flat_core.proofs.PendingLemmas.{some_before_from, none_before_from}
 use Rattle.flat_core.proofs.Uniqueness.{all_by}
 use Rattle.plain_solver.specs.declared.events.Moment.{Moment}
 use Rattle.plain_solver.specs.declared.solve.End.{End}
 use Rattle.plain_solver.specs.declared.solve.End.TheVariants as end
-use Rattle.plain_solver.specs.Ending.{EndsInFault, EndsAtLimit, IsEnding}
+use Rattle.plain_solver.specs.Ending.{EndsInFault, EndsAtLimit, EndsSo, IsEnding}
 use Rattle.plain_solver.specs.Instant.{IsInOrder}
 use Rattle.plain_solver.specs.Shape.{streams_of}
 use Rattle.plain_solver.specs.Solved.{IsSolved, IsWhole, IsFaulted, IsLimited, IsEnded}
 use Rattle.plain_solver.specs.Text.{due_instants}
-use Rattle.plain_solver.proofs.Agreement.{running_args, agree, root_at-agree, faulty-agree, instant-agree, instants-agree}
+use Rattle.plain_solver.proofs.Agreement.{running_args, agree}
+use Rattle.flat_core.proofs.Alike.{named_faulty, one_named}
+use Rattle.flat_core.proofs.SameMeaning.{happens_alike}
+use Rattle.flat_core.proofs.SmallerBound.{solves_less, instants_first}
 use Rattle.plain_solver.proofs.ArrivalLemmas.{comes}
-use Rattle.plain_solver.proofs.NextLemmas.{one_among}
 
 -- lists
 take_all : (xs : List ℕ) (n : ℕ) → length xs ≤ n → take n xs ≡ xs
@@ -49,10 +51,6 @@ filter_none : (p : ℕ → Bool) (xs : List ℕ) → AllByRecursion (λ x. p x �
 filter_none p [] none = refl
 filter_none p (x ∷ xs) none = (λ k. cond (none.0 k) (x ∷ filter p xs) (filter p xs)) ∙ filter_none p xs none.1
 
-all_append : (P : ℕ → Type 0) (xs ys : List ℕ) → AllByRecursion P xs → AllByRecursion P ys → AllByRecursion P (xs ++ ys)
-all_append P [] ys left right = right
-all_append P (x ∷ xs) ys left right = (left.0, all_append P xs ys left.1 right)
-
 all_take : (P : ℕ → Type 0) (n : ℕ) (xs : List ℕ) → AllByRecursion P xs → AllByRecursion P (take n xs)
 all_take P zero xs all = tt
 all_take P (suc n) [] all = tt
@@ -72,59 +70,14 @@ module _ (s : System) (lines : List Line) (w : Streams) where
       all_append (λ u. u < suc n) (instants s lines w n) (one n) (all_by (λ u. u < n) (λ u. u < suc n) (λ u lt. omega arith) (instants s lines w n) (instants_below n))
       (all_one (λ u. u < suc n) n (omega arith))
 
-  -- those before a time, and the others
-  split : (m n : ℕ) → m ≤ n → (rest : List ℕ) × (instants s lines w n ≡ instants s lines w m ++ rest) × AllByRecursion (λ u. m ≤ u) rest
-  split m zero le = let none : m ≡ zero = omega arith in ([], sym (append-nil (instants s lines w m) ∙ ap (instants s lines w) none), tt)
-  split m (suc n) le = elim (cases_lt n m) [
-    | inl end ↦ let same : m ≡ suc n = omega arith in ([], sym (append-nil (instants s lines w m) ∙ ap (instants s lines w) same), tt)
-    | inr more ↦
-        let before = split m n more in (
-          before.0 ++ one n,
-          (λ k. before.1 k ++ one n) ∙ append_assoc (instants s lines w m) before.0 (one n),
-          all_append (λ u. m ≤ u) before.0 (one n) before.2 (all_one (λ u. m ≤ u) n more),
-        )
-  ]
-
   -- where one comes at a time
   split_at : (t n : ℕ) → t < n → is_instant s lines w t ≡ true → (rest : List ℕ) × (instants s lines w n ≡ instants s lines w t ++ t ∷ rest) × AllByRecursion (λ u. t ≤ u) (t ∷ rest)
   split_at t n lt is =
-      let parts = split (suc t) n (omega arith) in (
+      let parts = instants_first s lines w (suc t) n (omega arith) in (
         parts.0,
         parts.1 ∙ (λ k. (instants s lines w t ++ (if is k then t ∷ [] else [])) ++ parts.0) ∙ append_assoc (instants s lines w t) (t ∷ []) parts.0,
-        (omega arith, all_by (λ u. suc t ≤ u) (λ u. t ≤ u) (λ u low. omega arith) parts.0 parts.2),
+        (omega arith, all_by (λ u. (suc t ≤ u) × (u < n)) (λ u. t ≤ u) (λ u both. let low = both.0 in omega arith) parts.0 parts.2),
       )
-
--- a fault is named once
-named_once : (s : System) (inputs : Inputs) (w : Streams) (t i t' i' : ℕ) (kind kind' : FaultKind) → IsNamed s inputs w t i kind → IsNamed s inputs w t' i' kind' → end.Fault t i kind ≡ end.Fault t' i' kind'
-named_once s inputs w t i t' i' kind kind' a b =
-    let times : t ≡ t' = same_time (cases_lt t t') (cases_lt t' t) in
-    let b' = subst (λ u. IsNamed s inputs w u i' kind') (sym times) b in
-    let equations : i ≡ i' = same_equation b' (cases_lt i i') (cases_lt i' i) in
-    let kinds : Some kind ≡ Some kind' = sym a.root ∙ ap (root_at s inputs w t) equations ∙ b'.root in
-    let same : kind ≡ kind' = cc in
-    λ k. end.Fault (times k) (equations k) (same k)
-  where
-    faulty : (u j : ℕ) (k : FaultKind) → IsNamed s inputs w u j k → is_faulty s inputs w u ≡ true
-    faulty u j k n = one_among (λ x. is_some (root_at s inputs w u x)) s.running j n.running (ap is_some n.root)
-
-    not_first : (u v j l : ℕ) (k m : FaultKind) → IsNamed s inputs w u j k → IsNamed s inputs w v l m → u < v → ⊥
-    not_first u v j l k m x y lt = true≢false (sym (y.first u lt) ∙ ap not (faulty u j k x))
-
-    same_time : (t < t') ⊎ (t' ≤ t) → (t' < t) ⊎ (t ≤ t') → t ≡ t'
-    same_time (inl early) other = absurd (not_first t t' i i' kind kind' a b early)
-    same_time (inr le) (inl late) = absurd (not_first t' t i' i kind' kind b a late)
-    same_time (inr le) (inr ge) = omega arith
-
-    differ : (j l : ℕ) (k m : FaultKind) → IsNamed s inputs w t j k → IsNamed s inputs w t l m → j < l → ⊥
-    differ j l k m x y lt = none_some (sym (y.least j x.running lt) ∙ x.root)
-      where
-        none_some : None ≡ Some k → ⊥
-        none_some e = cc
-
-    same_equation : IsNamed s inputs w t i' kind' → (i < i') ⊎ (i' ≤ i) → (i' < i) ⊎ (i ≤ i') → i ≡ i'
-    same_equation b' (inl low) other = absurd (differ i i' kind kind' a b' low)
-    same_equation b' (inr le) (inl high) = absurd (differ i' i kind' kind b' a high)
-    same_equation b' (inr le) (inr ge) = omega arith
 
 module _ (s : System) (lines : List Line) (order : IsInOrder s) (proper : IsProper s) (bound limit : ℕ) (all : List (List Moment)) (ran : List ℕ) (w : Streams) (ws : Solves s (inputs_of lines) bound w) where
   abbrev z : Streams
@@ -142,7 +95,7 @@ module _ (s : System) (lines : List Line) (order : IsInOrder s) (proper : IsProp
 
   -- the streams agree with the solution
   agreed : (n : ℕ) → n ≤ bound → IsSolved s inputs n all → (i : ℕ) → IsTrue (runs s i) → (t : ℕ) → t < n → z i t ≡ w i t
-  agreed n le solved = agree s inputs order proper n z w solved.solves (record { each = λ i e run is t lt. ws.each i e run is t (omega arith) })
+  agreed n le solved = agree s inputs order proper n z w solved.solves (solves_less s inputs n bound w le ws)
 
   runs_to : (n : ℕ) → n ≤ bound → IsSolved s inputs n all → ran ≡ instants s lines z n → ((u : ℕ) → u < n → is_faulty s inputs z u ≡ false) → RunsTo n
   runs_to n le solved is sound =
@@ -150,8 +103,8 @@ module _ (s : System) (lines : List Line) (order : IsInOrder s) (proper : IsProp
       record {
         early = le;
         same = same;
-        ran_is = is ∙ instants-agree s proper z w n same lines n (omega arith);
-        sound = λ u lt. sym (faulty-agree s proper z w n same inputs u lt) ∙ sound u lt;
+        ran_is = is ∙ (happens_alike s n z w proper same lines).instants_same n (omega arith);
+        sound = λ u lt. sym ((happens_alike s n z w proper same lines).faulty_same u lt) ∙ sound u lt;
       }
 
   -- what the first instants are
@@ -160,7 +113,7 @@ module _ (s : System) (lines : List Line) (order : IsInOrder s) (proper : IsProp
     pub first : take limit (instants s lines w bound) ≡ ran ++ rest
     pub over : AllByRecursion (λ u. is_over s inputs w u ≡ true) rest
 
-  all_ran : (P : ℕ → Type 0) (n : ℕ) → RunsTo n → ((u : ℕ) → u < n → P u) → AllByRecursion P ran
+  pub all_ran : (P : ℕ → Type 0) (n : ℕ) → RunsTo n → ((u : ℕ) → u < n → P u) → AllByRecursion P ran
   all_ran P n r each = subst (AllByRecursion P) (sym r.ran_is) (all_by (λ u. u < n) P each (instants s lines w n) (instants_below s lines w n))
 
   -- the due instants are those that ran
@@ -210,8 +163,8 @@ module _ (s : System) (lines : List Line) (order : IsInOrder s) (proper : IsProp
       record {
         early = omega arith;
         same = λ j run u low. same j run u (omega arith);
-        ran_is = e.ran_is ∙ instants-agree s proper z w (t + 1) same lines t (omega arith);
-        sound = λ u low. sym (faulty-agree s proper z w (t + 1) same inputs u (omega arith)) ∙ not_true (is_faulty s inputs z u) (e.named.first u low);
+        ran_is = e.ran_is ∙ (happens_alike s (t + 1) z w proper same lines).instants_same t (omega arith);
+        sound = λ u low. sym ((happens_alike s (t + 1) z w proper same lines).faulty_same u (omega arith)) ∙ not_true (is_faulty s inputs z u) (e.named.first u low);
       }
     where
       not_true : (b : Bool) → IsTrue (not b) → b ≡ false
@@ -222,34 +175,27 @@ module _ (s : System) (lines : List Line) (order : IsInOrder s) (proper : IsProp
   faulted_named t i kind e =
       let lt = e.early in
       let same = agreed (t + 1) (omega arith) e.solved in
-      let r = faulted_to t i kind e in
-      record {
-        running = e.named.running;
-        root = sym (root_at-agree s proper z w (t + 1) same inputs t (omega arith) i e.named.running) ∙ e.named.root;
-        least = λ j run low. sym (root_at-agree s proper z w (t + 1) same inputs t (omega arith) j run) ∙ e.named.least j run low;
-        first = λ u low. ap not (r.sound u low);
-      }
+      ((happens_alike s (t + 1) z w proper same lines).named_same t i kind (omega arith)).0 e.named
 
   -- the fault's instant stands first among the others
   faulted_first : (t i : ℕ) (kind : FaultKind) → IsFaulted s lines bound limit all ran t i kind → (rest : List ℕ) × AreFirst t (t ∷ rest)
   faulted_first t i kind e =
       let lt = e.early in
       let same = agreed (t + 1) (omega arith) e.solved in
-      let r = faulted_to t i kind e in
-      let come = sym (instant-agree s proper z w (t + 1) same lines t (omega arith)) ∙ e.comes in
-      let parts = split_at s lines w t bound lt come in
-      let is : instants s lines w bound ≡ ran ++ t ∷ parts.0 = parts.1 ∙ (λ k. sym r.ran_is k ++ t ∷ parts.0) in
+      let parts = instants_first s lines w (suc t) bound (omega arith) in
+      let alike = (happens_alike s (t + 1) z w proper same lines).instants_same (suc t) (omega arith) in
+      let is : instants s lines w bound ≡ ran ++ t ∷ parts.0 = parts.1 ∙ (λ k. sym alike k ++ parts.0) ∙ (λ k. (sym e.ran_is k ++ (if e.comes k then t ∷ [] else [])) ++ parts.0) ∙ append_assoc ran (t ∷ []) parts.0 in
       let room = e.within in
       let more : limit ≡ length ran + suc (limit - length ran - 1) = omega arith in
-      let named = faulted_named t i kind e in
-      let faulty = one_among (λ x. is_some (root_at s inputs w t x)) s.running i named.running (ap is_some named.root) in (
+      let faulty = named_faulty s inputs w t i kind (faulted_named t i kind e) in
+      let late = all_by (λ u. (suc t ≤ u) × (u < bound)) (λ u. t ≤ u) (λ u both. let low = both.0 in omega arith) parts.0 parts.2 in (
         take (limit - length ran - 1) parts.0,
         record {
-          runs_to = r;
+          runs_to = faulted_to t i kind e;
           first = (λ k. take (more k) (is k)) ∙ take-append-add ran (t ∷ parts.0) (suc (limit - length ran - 1));
           over =
               all_by (λ u. t ≤ u) (λ u. is_over s inputs w u ≡ true) (λ u low. some_before_from (is_faulty s inputs w) (suc u) t (omega arith) faulty)
-              (t ∷ take (limit - length ran - 1) parts.0) (omega arith, all_take (λ u. t ≤ u) (limit - length ran - 1) parts.0 parts.2.1);
+              (t ∷ take (limit - length ran - 1) parts.0) (omega arith, all_take (λ u. t ≤ u) (limit - length ran - 1) parts.0 late);
         },
       )
 
@@ -258,7 +204,7 @@ module _ (s : System) (lines : List Line) (order : IsInOrder s) (proper : IsProp
   none_faults n a t i kind f =
       let sound = all_ran (λ u. is_faulty s inputs w u ≡ false) n a.runs_to a.runs_to.sound in
       let among : Contains ran t = subst (λ l. Contains l t) (a.first ∙ append-nil ran) f.within in
-      true≢false (sym (one_among (λ x. is_some (root_at s inputs w t x)) s.running i f.named.running (ap is_some f.named.root)) ∙ all_at (λ u. is_faulty s inputs w u ≡ false) ran sound t among)
+      true≢false (sym (named_faulty s inputs w t i kind f.named) ∙ all_at (λ u. is_faulty s inputs w u ≡ false) ran sound t among)
 
   fault_given : (ends : End) → IsEnded s lines bound limit all ran ends → (t i : ℕ) (kind : FaultKind) → ends ≡ end.Fault t i kind → EndsInFault s lines w bound limit t i kind
   fault_given ends ended t i kind is =
@@ -271,7 +217,7 @@ module _ (s : System) (lines : List Line) (order : IsInOrder s) (proper : IsProp
 
   fault_found : (ends : End) → IsEnded s lines bound limit all ran ends → (t i : ℕ) (kind : FaultKind) → EndsInFault s lines w bound limit t i kind → ends ≡ end.Fault t i kind
   fault_found end.Bound e t i kind f = absurd (none_faults bound (whole_first e) t i kind f)
-  fault_found (end.Fault t' i' kind') e t i kind f = named_once s inputs w t' i' t i kind' kind (faulted_named t' i' kind' e) f.named
+  fault_found (end.Fault t' i' kind') e t i kind f = let once = one_named s inputs w t' t i' i kind' kind (faulted_named t' i' kind' e) f.named in λ k. end.Fault (once.0 k) (once.1 k) (once.2 k)
   fault_found (end.Limit t') e t i kind f = absurd (none_faults t' (limited_first t' e) t i kind f)
 
   limit_next : (t : ℕ) → IsLimited s lines bound limit all ran t → slice_get (instants s lines w bound) limit ≡ Some t
@@ -296,7 +242,7 @@ module _ (s : System) (lines : List Line) (order : IsInOrder s) (proper : IsProp
       let found = faulted_first t' i' kind' e in
       let named = faulted_named t' i' kind' e in
       let among = subst (λ xs. Contains xs t') (sym found.1.first) (Contains-append_right ran (t' ∷ found.0) t' (contains_head t' found.0)) in
-      absurd (true≢false (sym (one_among (λ x. is_some (root_at s inputs w t' x)) s.running i' named.running (ap is_some named.root)) ∙ all_at (λ u. is_faulty s inputs w u ≡ false) (take limit (instants s lines w bound)) l.sound t' among))
+      absurd (true≢false (sym (named_faulty s inputs w t' i' kind' named) ∙ all_at (λ u. is_faulty s inputs w u ≡ false) (take limit (instants s lines w bound)) l.sound t' among))
   limit_found (end.Limit t') e t l =
       let same : Some t' ≡ Some t = sym (limit_next t' e) ∙ l.next in
       let times : t' ≡ t = cc in
@@ -333,3 +279,14 @@ module _ (s : System) (lines : List Line) (order : IsInOrder s) (proper : IsProp
   ran_to end.Bound e = (bound, (whole_first e).runs_to)
   ran_to (end.Fault t i kind) e = (t, faulted_to t i kind e)
   ran_to (end.Limit t) e = (t, limited_to t e)
+
+-- a run that ended is solved up to some time
+pub solved_to : (s : System) (lines : List Line) (bound limit : ℕ) (all : List (List Moment)) (ran : List ℕ) (ends : End) → IsEnded s lines bound limit all ran ends → (n : ℕ) × IsSolved s (inputs_of lines) n all
+solved_to s lines bound limit all ran end.Bound e = (bound, e.solved)
+solved_to s lines bound limit all ran (end.Fault t i kind) e = (t + 1, e.solved)
+solved_to s lines bound limit all ran (end.Limit t) e = (t, e.solved)
+
+pub ends_so : (s : System) (lines : List Line) (bound limit : ℕ) (all : List (List Moment)) (ran : List ℕ) (ends : End) → IsEnded s lines bound limit all ran ends → EndsSo s lines bound limit ends
+ends_so s lines bound limit all ran ends ended w ws =
+    let solved = (solved_to s lines bound limit all ran ends ended).1 in
+    is_ending s lines solved.ordered solved.whole.proper bound limit all ran w ws ends ended

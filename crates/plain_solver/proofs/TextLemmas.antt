@@ -14,8 +14,8 @@ use Rattle.plain_solver.specs.declared.solve.End.{End}
 use Rattle.plain_solver.specs.Instant.{IsInOrder}
 use Rattle.plain_solver.specs.Shape.{streams_of}
 use Rattle.plain_solver.specs.Solved.{IsEnded}
-use Rattle.plain_solver.specs.Text.{event_line, output_text, text_at, due_instants, due_text}
-use Rattle.plain_solver.proofs.EndingLemmas.{RunsTo, all_ran, due_ran, ran_to}
+use Rattle.plain_solver.specs.Text.{event_line, output_text, text_at, IsDueText}
+use Rattle.plain_solver.proofs.EndingLemmas.{all_ran, due_ran, ran_to, solved_to}
 
 flat_map_same : {A : Type 0} (f g : A → List ℕ) (xs : List A) → AllByRecursion (λ x. f x ≡ g x) xs → flat_map f xs ≡ flat_map g xs
 flat_map_same f g [] same = refl
@@ -27,9 +27,12 @@ text_same s z w t run same =
     flat_map_same (output_text z t) (output_text w t) s.outputs
     (all_by (λ (o : Output). IsTrue (runs s o.equation)) (λ o. output_text z t o ≡ output_text w t o) (λ o r k. event_line t o.name (event (same o.equation r k))) s.outputs run)
 
-pub ran_due : (s : System) (lines : List Line) (order : IsInOrder s) (proper : IsProper s) → AllByRecursion (λ o. IsTrue (runs s o.equation)) s.outputs → (bound limit : ℕ) (all : List (List Moment)) (ran : List ℕ) (ends : End) → IsEnded s lines bound limit all ran ends → (w : Streams) → Solves s (inputs_of lines) bound w → flat_map (text_at s (streams_of all)) ran ≡ due_text s lines w bound limit
-ran_due s lines order proper outputs bound limit all ran ends ended w ws =
+pub ran_due : (s : System) (all : List (List Moment)) (ran : List ℕ) (ends : End) → IsDueText s all ran ends (flat_map (text_at s (streams_of all)) ran)
+ran_due s all ran ends lines bound limit ended w ws =
+    let solved = (solved_to s lines bound limit all ran ends ended).1 in
+    let order = solved.ordered in
+    let proper = solved.whole.proper in
     let to = ran_to s lines order proper bound limit all ran w ws ends ended in
     let z = streams_of all in
-    let texts = all_ran s lines order proper bound limit all ran w ws (λ t. text_at s z t ≡ text_at s w t) to.0 to.1 (λ t lt. text_same s z w t outputs (λ i run. to.1.same i run t lt)) in
+    let texts = all_ran s lines order proper bound limit all ran w ws (λ t. text_at s z t ≡ text_at s w t) to.0 to.1 (λ t lt. text_same s z w t solved.whole.outputs_run (λ i run. to.1.same i run t lt)) in
     flat_map_same (text_at s z) (text_at s w) ran texts ∙ ap (flat_map (text_at s w)) (sym (due_ran s lines order proper bound limit all ran w ws ends ended))

@@ -6,6 +6,7 @@ use Rattle.flat_core.specs.Case.{Streams}
 use Rattle.flat_core.specs.Fault.{is_faulty, IsNamed}
 use Rattle.flat_core.specs.Instant.{instants}
 use Rattle.flat_core.specs.Line.{Line, inputs_of}
+use Rattle.flat_core.specs.Solution.{Solves}
 use Rattle.flat_core.specs.System.{System}
 use Rattle.plain_solver.specs.declared.solve.End.{End}
 use Rattle.plain_solver.specs.declared.solve.End.TheVariants as end
@@ -25,3 +26,7 @@ pub record IsEnding (s : System) (lines : List Line) (z : Streams) (bound limit 
   pub in_fault : (t i : ℕ) (kind : FaultKind) → (ends ≡ end.Fault t i kind) ↔ EndsInFault s lines z bound limit t i kind
   pub at_limit : (t : ℕ) → (ends ≡ end.Limit t) ↔ EndsAtLimit s lines z bound limit t
   pub at_bound : (ends ≡ end.Bound) ↔ (((t i : ℕ) (kind : FaultKind) → EndsInFault s lines z bound limit t i kind → ⊥) × ((t : ℕ) → EndsAtLimit s lines z bound limit t → ⊥))
+
+-- the run ends so for each solution
+abbrev pub EndsSo : System → List Line → ℕ → ℕ → End → Type 0
+EndsSo s lines bound limit ends = (w : Streams) → Solves s (inputs_of lines) bound w → IsEnding s lines w bound limit ends

@@ -1,5 +1,5 @@
 -- The text of the events of the outputs.
-use Rattle.std.specs.Prelude.{ℕ, not, List, [], ◌∷◌, ◌++◌, Option, Some, None, take, codes}
+use Rattle.std.specs.Prelude.{◌≡◌, ℕ, not, List, [], ◌∷◌, ◌++◌, Option, Some, None, take, codes}
 use Rattle.std.specs.Fmt.{decimal}
 use Rattle.std.specs.List.{filter, flat_map}
 use Rattle.tsl_value.specs.View.{View}
@@ -11,6 +11,10 @@ use Rattle.flat_core.specs.Fault.{is_over}
 use Rattle.flat_core.specs.Instant.{instants}
 use Rattle.flat_core.specs.Line.{Line, inputs_of}
 use Rattle.flat_core.specs.System.{System}
+use Rattle.flat_core.specs.Solution.{Solves}
+use Rattle.plain_solver.specs.declared.events.Moment.{Moment}
+use Rattle.plain_solver.specs.declared.solve.End.{End}
+use Rattle.plain_solver.specs.Solved.{IsEnded}
 
 -- what stands before the value of an event
 abbrev pub event_name : ℕ → List ℕ → List ℕ
@@ -35,3 +39,8 @@ due_instants s lines z bound limit = filter (λ t. not (is_over s (inputs_of lin
 -- the lines of these instants
 abbrev pub due_text : System → List Line → Streams → ℕ → ℕ → List ℕ
 due_text s lines z bound limit = flat_map (text_at s z) (due_instants s lines z bound limit)
+
+-- The text is the due text of each solution, for lines, a bound and a limit with which the run ended so.
+abbrev pub IsDueText : System → List (List Moment) → List ℕ → End → List ℕ → Type 0
+IsDueText s all ran ends text =
+    (lines : List Line) (bound limit : ℕ) → IsEnded s lines bound limit all ran ends → (w : Streams) → Solves s (inputs_of lines) bound w → text ≡ due_text s lines w bound limit

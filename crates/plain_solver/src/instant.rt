@@ -2,12 +2,14 @@
 
 ghost use Rattle.std.specs.Prelude.{◌≡◌, ◌<◌, length, slice_index_or, map, [], OnOk, IfOk, IsTrue};
 ghost use Rattle.std.specs.List.Sorted.{IsNonDecreasingBy};
+ghost use Rattle.flat_core.specs.Complete.{IsFlat};
 ghost use Rattle.flat_core.specs.Line.{inputs_of};
 ghost use Rattle.flat_core.specs.System.{runs};
 ghost use Rattle.plain_solver.specs.Moments.{AllBefore};
-ghost use Rattle.plain_solver.specs.Instant.{AreBefore, AreKept, IsFirstRoot, IsInOrder, IsOneMore, IsRun};
+ghost use Rattle.plain_solver.specs.Instant.{AreBefore, IsFirstRoot, IsInOrder, IsOneMore, IsRun};
 ghost use Rattle.plain_solver.specs.Shape.{streams_of};
 ghost use Rattle.flat_core.specs.declared.line.TraceLine.{TraceLine};
+ghost use Rattle.flat_core.specs.Kept.{AreKept};
 
 use crate::events::Events;
 use flat_core::line::TraceLine;
@@ -29,6 +31,7 @@ pub fn run_one(
     t: Time,
 ) -> Result<(), NoMemory>
     requires ordered { IsInOrder flat.now }
+    requires whole { IsFlat flat.now }
     requires known { i < length flat.now.equations }
     requires running { IsTrue (runs flat.now i) }
     requires one_each { length streams.old ≡ length flat.now.equations }

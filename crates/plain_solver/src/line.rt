@@ -4,9 +4,9 @@ ghost use Rattle.std.specs.Prelude.{◌≡◌, ◌<◌, ◌≤◌, length};
 ghost use Rattle.std.specs.List.Sorted.{IsNonDecreasingBy, IsPartitionPoint};
 ghost use Rattle.std.specs.Option.{option_map, option_copied};
 ghost use Rattle.tsl_value.specs.View.{Plain};
-ghost use Rattle.flat_core.specs.Line.{event_in, inputs_of};
+ghost use Rattle.flat_core.specs.Line.{event_in, inputs_of, is_line_on};
 ghost use Rattle.flat_core.specs.declared.line.TraceLine.{TraceLine};
-ghost use Rattle.plain_solver.specs.Lines.{is_line_on, IsLeast};
+ghost use Rattle.plain_solver.specs.Lines.{IsLeast};
 
 use flat_core::line::TraceLine;
 use tsl_value::ids::EqId;

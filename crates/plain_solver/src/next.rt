@@ -5,8 +5,9 @@ ghost use Rattle.std.specs.List.Sorted.{IsNonDecreasingBy};
 ghost use Rattle.plain_solver.specs.Instant.{IsInOrder};
 ghost use Rattle.plain_solver.specs.Lines.{IsLeast};
 ghost use Rattle.plain_solver.specs.Next.{due_of, is_expiry, is_next, IsFirst};
-ghost use Rattle.plain_solver.specs.Shape.{HasShape, option_is, streams_of};
+ghost use Rattle.plain_solver.specs.Shape.{HasShape, streams_of};
 ghost use Rattle.flat_core.specs.declared.line.TraceLine.{TraceLine};
+ghost use Rattle.flat_core.specs.Pending.{option_is};
 
 use crate::delay::pending_before;
 use crate::events::Events;

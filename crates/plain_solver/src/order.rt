@@ -1,6 +1,6 @@
 // Whether a system can be solved.
 
-ghost use Rattle.std.specs.Prelude.{◌≡◌, ◌<◌, length, All, IsTrue};
+ghost use Rattle.std.specs.Prelude.{◌≡◌, ◌<◌, All, IsTrue};
 ghost use Rattle.flat_core.specs.Case.{used_of};
 ghost use Rattle.plain_solver.specs.Instant.{IsInOrder, IsInPlace};
 ghost use Rattle.plain_solver.specs.Shape.{HasShape};
@@ -53,22 +53,20 @@ fn are_used_below(e: &Equation, n: u32) -> bool
     }
 }
 
-/// An equation with its number is one that is solved, its arguments are among `count` equations,
-/// and those that are used at the same time come before it.
-fn is_in_place(e: &Equation, i: u32, count: u32) -> bool
-    ensures { IsTrue result → IsInPlace count i e.now }
+/// An equation of a number is one that is solved, and those that it uses at the same time come
+/// before it.
+fn is_in_place(e: &Equation, i: u32) -> bool
+    ensures { IsTrue result → IsInPlace i e.now }
 {
-    has_shape(&e.op, &e.args) && are_below(e.args.ids(), count) && are_used_below(e, i)
+    has_shape(&e.op, &e.args) && are_used_below(e, i)
 }
 
-/// Whether each equation is one that is solved, its arguments are there, and those that are used at
-/// the same time come before it.
+/// Whether each equation is one that is solved, and comes behind those that it uses at the same time.
 pub fn is_in_order(flat: &Flat) -> bool
     ensures { IsTrue result → IsInOrder flat.now }
 {
-    let count = flat.count();
-    for n in 0..count {
-        if !is_in_place(flat.equation(EqId::new(n)), n, count) {
+    for n in 0..flat.count() {
+        if !is_in_place(flat.equation(EqId::new(n)), n) {
             return false;
         }
     }

@@ -11,8 +11,9 @@ ghost use Rattle.flat_core.specs.Stream.{event, is_fault, latest};
 ghost use Rattle.flat_core.specs.Case.{at_once, case_of, delayed, is_blocked, own, refused, root_fault};
 ghost use Rattle.flat_core.specs.Line.{inputs_of};
 ghost use Rattle.plain_solver.specs.Moments.{seen};
-ghost use Rattle.plain_solver.specs.Shape.{HasShape, IsKept, streams_of};
+ghost use Rattle.plain_solver.specs.Shape.{HasShape, streams_of};
 ghost use Rattle.flat_core.specs.declared.line.TraceLine.{TraceLine};
+ghost use Rattle.flat_core.specs.Kept.{IsKept};
 
 use crate::delay::{is_now, pending_before};
 use crate::events::{Events, Outcome};
@@ -34,10 +35,7 @@ pub fn argument(args: &Args, k: usize) -> EqId
     requires { k < length args.now }
     ensures { result ≡ slice_index args.now k }
 {
-    match args.get(k) {
-        Some(id) => id,
-        None => unreachable!(),
-    }
+    args.ids()[k]
 }
 
 /// The stream of an equation.

@@ -1,7 +1,8 @@
 // All that happens below a bound.
 
-ghost use Rattle.std.specs.Prelude.{◌^◌, ◌<◌, ◌≤◌, ◌≡◌, [], IfOk, length, map, replicate};
+ghost use Rattle.std.specs.Prelude.{◌^◌, ◌<◌, ◌≤◌, ◌≡◌, [], IfOk, replicate};
 ghost use Rattle.std.specs.List.Sorted.{IsNonDecreasingBy};
+ghost use Rattle.plain_solver.specs.Ending.{EndsSo};
 ghost use Rattle.plain_solver.specs.Instant.{IsInOrder};
 ghost use Rattle.plain_solver.specs.Solved.{IsEnded};
 ghost use Rattle.flat_core.specs.declared.line.TraceLine.{TraceLine};
@@ -48,11 +49,12 @@ pub struct Solved {
     pub end: End,
 }
 
-fn no_events(alloc: Global, flat: &Flat) -> Result<Vec<Events>, NoMemory>
-    ensures { IfOk result (λ v. v.items ≡ replicate (length flat.now.equations) []) }
+/// As many streams as there are equations, all without an outcome.
+fn no_events(alloc: Global, count: u32) -> Result<Vec<Events>, NoMemory>
+    ensures { IfOk result (λ v. v.items ≡ replicate count []) }
 {
     let mut streams = Vec::new(alloc);
-    for _n in 0..flat.count() {
+    for _n in 0..count {
         streams.push(Events::new(alloc))?;
     }
     Ok(streams)
@@ -69,9 +71,10 @@ pub fn solve(
     requires ordered { IsInOrder flat.now }
     requires small { bound ≤ 2 ^ 63 }
     requires sorted { IsNonDecreasingBy (λ (l : TraceLine). l.time) lines.now }
-    ensures { IfOk result (λ v. IsEnded flat.now lines.now bound limit v.streams.items v.instants.items v.end) }
+    ensures ended { IfOk result (λ v. IsEnded flat.now lines.now bound limit v.streams.items v.instants.items v.end) }
+    ensures ending { IfOk result (λ v. EndsSo flat.now lines.now bound limit v.end) }
 {
-    let mut streams = no_events(alloc, flat)?;
+    let mut streams = no_events(alloc, flat.count())?;
     let mut instants = Vec::new(alloc);
     let mut next = 0;
     while let Some(t) = next_below(flat, &streams, lines, next, bound) {

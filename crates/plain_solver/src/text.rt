@@ -1,16 +1,10 @@
 // The text of a run.
 
-ghost use Rattle.std.specs.Prelude.{◌≡◌, ◌++◌, ℕ, List, Some, IsTrue, OnOk, IfOk};
-ghost use Rattle.std.specs.List.{AllByRecursion, flat_map};
+ghost use Rattle.std.specs.Prelude.{◌≡◌, ◌++◌, Some, OnOk, IfOk};
+ghost use Rattle.std.specs.List.{flat_map};
 ghost use Rattle.tsl_value.specs.View.{Plain};
-ghost use Rattle.flat_core.specs.Case.{Streams};
-ghost use Rattle.flat_core.specs.Line.{Line, inputs_of};
-ghost use Rattle.flat_core.specs.Solution.{Solves};
-ghost use Rattle.flat_core.specs.System.{runs, IsProper};
-ghost use Rattle.plain_solver.specs.Instant.{IsInOrder};
 ghost use Rattle.plain_solver.specs.Shape.{streams_of};
-ghost use Rattle.plain_solver.specs.Solved.{IsEnded};
-ghost use Rattle.plain_solver.specs.Text.{due_text, event_line, event_name, output_text, text_at};
+ghost use Rattle.plain_solver.specs.Text.{IsDueText, event_line, event_name, output_text, text_at};
 
 use crate::events::Events;
 use crate::solve::Solved;
@@ -93,12 +87,12 @@ fn ran_text(
 }
 
 /// The text of all output events of a run, by time and then by output: those of the instants that
-/// ran, and so nothing of a fault's own time.
+/// were run, and so nothing of a fault's own time.
 ///
 /// It is the due text of every solution of the system for the lines that were solved.
 pub fn print_due(alloc: Global, flat: &Flat, solved: &Solved) -> Result<Bytes, NoMemory>
-    requires { IsInOrder flat.now }
-    ensures { IfOk result (λ text. (lines : List Line) (bound limit : ℕ) (w : Streams) → IsProper flat.now → AllByRecursion (λ o. IsTrue (runs flat.now o.equation)) flat.now.outputs → IsEnded flat.now lines bound limit solved.now.streams.items solved.now.instants.items solved.now.end → Solves flat.now (inputs_of lines) bound w → text ≡ due_text flat.now lines w bound limit) }
+    ensures { IfOk result (IsDueText flat.now solved.now.streams.items solved.now.instants.items solved.now.end) }
 {
-    ran_text(alloc, flat, &solved.streams, &solved.instants)
+    let text = ran_text(alloc, flat, &solved.streams, &solved.instants)?;
+    Ok(text)
 }

@@ -1,7 +1,8 @@
 use Rattle.std.proofs.Common.{sym, ◌∙◌, subst, arith}
-use Rattle.plain_solver.specs.Lines.{is_line_on, IsLeast}
+use Rattle.plain_solver.specs.Lines.{IsLeast}
 use Rattle.plain_solver.proofs.LinesLemmas.{line_past, line_late, line_found, line_end}
 use Rattle.plain_solver.proofs.line.first_event.Goals as goal
+use Rattle.flat_core.specs.Line.{is_line_on}
 
 pub loop-line-preserved : goal.loop-line-preserved
 loop-line-preserved c =

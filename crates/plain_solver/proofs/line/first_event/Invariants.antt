@@ -1,5 +1,5 @@
 use Rattle.std.proofs.Common.{◌≡◌, ℕ, drop}
-use Rattle.plain_solver.specs.Lines.{is_line_on}
+use Rattle.flat_core.specs.Line.{is_line_on}
 use Rattle.plain_solver.proofs.line.first_event.Given as goal
 
 abbrev pub invariant-loop-line : goal.invariant-loop-line

@@ -1,9 +1,10 @@
 use Rattle.std.proofs.Common.{List, subst}
 use Rattle.flat_core.specs.declared.line.TraceLine.{TraceLine}
-use Rattle.plain_solver.specs.Lines.{is_line_on, IsLeast}
+use Rattle.plain_solver.specs.Lines.{IsLeast}
 use Rattle.std.proofs.lemmas.List.{take_rest}
 use Rattle.plain_solver.proofs.LinesLemmas.{least_placed}
 use Rattle.plain_solver.proofs.line.least_line.Goals as goal
+use Rattle.flat_core.specs.Line.{is_line_on}
 
 pub returns : goal.returns
 returns c =
