@@ -21,11 +21,12 @@ use Rattle.flat_core.proofs.Uniqueness.{all_by}
 use Rattle.plain_solver.specs.declared.events.Moment.{Moment}
 use Rattle.plain_solver.specs.declared.solve.End.{End}
 use Rattle.plain_solver.specs.declared.solve.End.TheVariants as end
-use Rattle.plain_solver.specs.Ending.{EndsInFault, EndsAtLimit, EndsSo, IsEnding}
+use Rattle.flat_core.specs.Ending.{EndsInFault, EndsAtLimit, EndsAtBound}
+use Rattle.plain_solver.specs.Ending.{EndsSo, IsEnding}
 use Rattle.plain_solver.specs.Instant.{IsInOrder}
 use Rattle.plain_solver.specs.Shape.{streams_of}
 use Rattle.plain_solver.specs.Solved.{IsSolved, IsWhole, IsFaulted, IsLimited, IsEnded}
-use Rattle.plain_solver.specs.Text.{due_instants}
+use Rattle.flat_core.specs.Text.{due_instants}
 use Rattle.plain_solver.proofs.Agreement.{running_args, agree}
 use Rattle.flat_core.proofs.Alike.{named_faulty, one_named}
 use Rattle.flat_core.proofs.SameMeaning.{happens_alike}
@@ -254,8 +255,8 @@ module _ (s : System) (lines : List Line) (order : IsInOrder s) (proper : IsProp
     in_fault = λ t i kind. (fault_given ends ended t i kind, fault_found ends ended t i kind);
     at_limit = λ t. (limit_given ends ended t, limit_found ends ended t);
     at_bound = (
-      λ is. (λ t i kind f. not_both (sym is ∙ fault_found ends ended t i kind f), λ t l. not_limit (sym is ∙ limit_found ends ended t l)),
-      λ none. neither ends ended none.0 none.1,
+      (λ is. record { no_fault = λ t i kind f. not_both (sym is ∙ fault_found ends ended t i kind f); no_limit = λ t l. not_limit (sym is ∙ limit_found ends ended t l) }),
+      (λ none. neither ends ended none),
     );
   }
     where
@@ -265,10 +266,10 @@ module _ (s : System) (lines : List Line) (order : IsInOrder s) (proper : IsProp
       not_limit : {t : ℕ} → end.Bound ≡ end.Limit t → ⊥
       not_limit e = cc
 
-      neither : (e : End) → IsEnded s lines bound limit all ran e → ((t i : ℕ) (kind : FaultKind) → EndsInFault s lines w bound limit t i kind → ⊥) → ((t : ℕ) → EndsAtLimit s lines w bound limit t → ⊥) → e ≡ end.Bound
-      neither end.Bound was no_fault no_limit = refl
-      neither (end.Fault t i kind) was no_fault no_limit = absurd (no_fault t i kind (fault_given (end.Fault t i kind) was t i kind refl))
-      neither (end.Limit t) was no_fault no_limit = absurd (no_limit t (limit_given (end.Limit t) was t refl))
+      neither : (e : End) → IsEnded s lines bound limit all ran e → EndsAtBound s lines w bound limit → e ≡ end.Bound
+      neither end.Bound was none = refl
+      neither (end.Fault t i kind) was none = absurd (none.no_fault t i kind (fault_given (end.Fault t i kind) was t i kind refl))
+      neither (end.Limit t) was none = absurd (none.no_limit t (limit_given (end.Limit t) was t refl))
 
   pub due_ran : (ends : End) → IsEnded s lines bound limit all ran ends → due_instants s lines w bound limit ≡ ran
   due_ran end.Bound e = due_are bound [] (whole_first e)

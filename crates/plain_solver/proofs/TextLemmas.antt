@@ -14,7 +14,8 @@ use Rattle.plain_solver.specs.declared.solve.End.{End}
 use Rattle.plain_solver.specs.Instant.{IsInOrder}
 use Rattle.plain_solver.specs.Shape.{streams_of}
 use Rattle.plain_solver.specs.Solved.{IsEnded}
-use Rattle.plain_solver.specs.Text.{event_line, output_text, text_at, IsDueText}
+use Rattle.flat_core.specs.Text.{event_line, text_at}
+use Rattle.plain_solver.specs.Ending.{IsDueText}
 use Rattle.plain_solver.proofs.EndingLemmas.{all_ran, due_ran, ran_to, solved_to}
 
 flat_map_same : {A : Type 0} (f g : A → List ℕ) (xs : List A) → AllByRecursion (λ x. f x ≡ g x) xs → flat_map f xs ≡ flat_map g xs
@@ -24,8 +25,9 @@ flat_map_same f g (x ∷ xs) same = let rest = flat_map_same f g xs same.1 in λ
 -- streams that agree at a time, where equations run, have the same text there
 text_same : (s : System) (z w : Streams) (t : ℕ) → AllByRecursion (λ o. IsTrue (runs s o.equation)) s.outputs → ((i : ℕ) → IsTrue (runs s i) → z i t ≡ w i t) → text_at s z t ≡ text_at s w t
 text_same s z w t run same =
-    flat_map_same (output_text z t) (output_text w t) s.outputs
-    (all_by (λ (o : Output). IsTrue (runs s o.equation)) (λ o. output_text z t o ≡ output_text w t o) (λ o r k. event_line t o.name (event (same o.equation r k))) s.outputs run)
+    let line : Streams → Output → List ℕ = λ v o. event_line t o.name (event (v o.equation t)) in
+    flat_map_same (line z) (line w) s.outputs
+    (all_by (λ (o : Output). IsTrue (runs s o.equation)) (λ o. line z o ≡ line w o) (λ o r k. event_line t o.name (event (same o.equation r k))) s.outputs run)
 
 pub ran_due : (s : System) (all : List (List Moment)) (ran : List ℕ) (ends : End) → IsDueText s all ran ends (flat_map (text_at s (streams_of all)) ran)
 ran_due s all ran ends lines bound limit ended w ws =

@@ -1,14 +1,12 @@
 // One instant.
 
 ghost use Rattle.std.specs.Prelude.{◌≡◌, ◌<◌, length, slice_index_or, map, [], OnOk, IfOk, IsTrue};
-ghost use Rattle.std.specs.List.Sorted.{IsNonDecreasingBy};
 ghost use Rattle.flat_core.specs.Complete.{IsFlat};
-ghost use Rattle.flat_core.specs.Line.{inputs_of};
+ghost use Rattle.flat_core.specs.Line.{IsSorted, inputs_of};
 ghost use Rattle.flat_core.specs.System.{runs};
 ghost use Rattle.plain_solver.specs.Moments.{AllBefore};
 ghost use Rattle.plain_solver.specs.Instant.{AreBefore, IsFirstRoot, IsInOrder, IsOneMore, IsRun};
 ghost use Rattle.plain_solver.specs.Shape.{streams_of};
-ghost use Rattle.flat_core.specs.declared.line.TraceLine.{TraceLine};
 ghost use Rattle.flat_core.specs.Kept.{AreKept};
 
 use crate::events::Events;
@@ -37,7 +35,7 @@ pub fn run_one(
     requires one_each { length streams.old ≡ length flat.now.equations }
     requires before { AllBefore t (slice_index_or streams.old i []) }
     requires kept { AreKept flat.now (streams_of streams.old) t }
-    requires sorted { IsNonDecreasingBy (λ (l : TraceLine). l.time) lines.now }
+    requires sorted { IsSorted lines.now }
     ensures { OnOk result (IsOneMore flat.now (inputs_of lines.now) i t streams.old streams.new) }
 {
     match outcome_of(alloc, flat.equation(i), i, streams, lines, t)? {
@@ -61,7 +59,7 @@ pub fn run_instant(
     requires one_each { length streams.old ≡ length flat.now.equations }
     requires before { AreBefore t streams.old }
     requires kept { AreKept flat.now (streams_of streams.old) t }
-    requires sorted { IsNonDecreasingBy (λ (l : TraceLine). l.time) lines.now }
+    requires sorted { IsSorted lines.now }
     ensures { OnOk result (IsRun flat.now (inputs_of lines.now) t streams.old streams.new) }
 {
     for n in 0..flat.count() {
@@ -84,7 +82,7 @@ pub fn first_root(
     requires ordered { IsInOrder flat.now }
     requires one_each { length streams.now ≡ length flat.now.equations }
     requires kept { AreKept flat.now (streams_of streams.now) t }
-    requires sorted { IsNonDecreasingBy (λ (l : TraceLine). l.time) lines.now }
+    requires sorted { IsSorted lines.now }
     ensures { IfOk result (λ r. IsFirstRoot flat.now (inputs_of lines.now) (streams_of streams.now) t r) }
 {
     for n in 0..flat.count() {

@@ -1,10 +1,10 @@
 // The lines of a trace.
 
 ghost use Rattle.std.specs.Prelude.{◌≡◌, ◌<◌, ◌≤◌, length};
-ghost use Rattle.std.specs.List.Sorted.{IsNonDecreasingBy, IsPartitionPoint};
+ghost use Rattle.std.specs.List.Sorted.{IsPartitionPoint};
 ghost use Rattle.std.specs.Option.{option_map, option_copied};
 ghost use Rattle.tsl_value.specs.View.{Plain};
-ghost use Rattle.flat_core.specs.Line.{event_in, inputs_of, is_line_on};
+ghost use Rattle.flat_core.specs.Line.{IsSorted, event_in, inputs_of, is_line_on};
 ghost use Rattle.flat_core.specs.declared.line.TraceLine.{TraceLine};
 ghost use Rattle.plain_solver.specs.Lines.{IsLeast};
 
@@ -31,7 +31,7 @@ pub fn event_on(line: &TraceLine, i: EqId, t: Time) -> Option<&Scalar>
 
 /// The number of lines before a time.
 fn count_before(lines: &[TraceLine], t: u64) -> usize
-    requires { IsNonDecreasingBy (λ (l : TraceLine). l.time) lines.now }
+    requires { IsSorted lines.now }
     ensures within { result ≤ length lines.now }
     ensures place { IsPartitionPoint (λ (l : TraceLine). l.time < t) (λ (l : TraceLine). t ≤ l.time) lines.now result }
 {
@@ -40,7 +40,7 @@ fn count_before(lines: &[TraceLine], t: u64) -> usize
 
 /// The event of an input at a time, if the lines before that time are left out.
 fn input_among(lines: &[TraceLine], i: EqId, t: Time) -> Option<&Scalar>
-    requires { IsNonDecreasingBy (λ (l : TraceLine). l.time) lines.now }
+    requires { IsSorted lines.now }
     ensures { option_map Plain (option_copied result) ≡ inputs_of lines.now i t }
 {
     for line in lines {
@@ -56,7 +56,7 @@ fn input_among(lines: &[TraceLine], i: EqId, t: Time) -> Option<&Scalar>
 
 /// The event of an input at a time.
 pub fn input_at(lines: &[TraceLine], i: EqId, t: Time) -> Option<&Scalar>
-    requires { IsNonDecreasingBy (λ (l : TraceLine). l.time) lines.now }
+    requires { IsSorted lines.now }
     ensures { option_map Plain (option_copied result) ≡ inputs_of lines.now i t }
 {
     let rest = &lines[count_before(lines, t.get())..];
@@ -65,7 +65,7 @@ pub fn input_at(lines: &[TraceLine], i: EqId, t: Time) -> Option<&Scalar>
 
 /// The first time before another at which a line has an event, else that other time.
 fn first_event(lines: &[TraceLine], high: u64) -> u64
-    requires { IsNonDecreasingBy (λ (l : TraceLine). l.time) lines.now }
+    requires { IsSorted lines.now }
     ensures { IsLeast (λ u. is_line_on u lines.now) 0 high result }
 {
     for line in lines {
@@ -82,7 +82,7 @@ fn first_event(lines: &[TraceLine], high: u64) -> u64
 
 /// The least time from one on and before another at which a line has an event, else that other time.
 pub fn least_line(lines: &[TraceLine], low: u64, high: u64) -> u64
-    requires { IsNonDecreasingBy (λ (l : TraceLine). l.time) lines.now }
+    requires { IsSorted lines.now }
     ensures { IsLeast (λ u. is_line_on u lines.now) low high result }
 {
     let rest = &lines[count_before(lines, low)..];

@@ -1,12 +1,11 @@
 // When the next instant comes.
 
 ghost use Rattle.std.specs.Prelude.{◌≡◌, ◌≤◌, ◌<◌, ◌^◌, length, All};
-ghost use Rattle.std.specs.List.Sorted.{IsNonDecreasingBy};
+ghost use Rattle.flat_core.specs.Line.{IsSorted};
 ghost use Rattle.plain_solver.specs.Instant.{IsInOrder};
 ghost use Rattle.plain_solver.specs.Lines.{IsLeast};
 ghost use Rattle.plain_solver.specs.Next.{due_of, is_expiry, is_next, IsFirst};
 ghost use Rattle.plain_solver.specs.Shape.{HasShape, streams_of};
-ghost use Rattle.flat_core.specs.declared.line.TraceLine.{TraceLine};
 ghost use Rattle.flat_core.specs.Pending.{option_is};
 
 use crate::delay::pending_before;
@@ -75,7 +74,7 @@ pub fn next_below(
     requires ordered { IsInOrder flat.now }
     requires one_each { length streams.now ≡ length flat.now.equations }
     requires small { bound ≤ 2 ^ 63 }
-    requires sorted { IsNonDecreasingBy (λ (l : TraceLine). l.time) lines.now }
+    requires sorted { IsSorted lines.now }
     ensures { IsFirst (λ u. is_next flat.now lines.now (streams_of streams.now) next u) next bound result }
 {
     if next >= bound {

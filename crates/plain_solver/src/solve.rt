@@ -1,11 +1,10 @@
 // All that happens below a bound.
 
 ghost use Rattle.std.specs.Prelude.{◌^◌, ◌<◌, ◌≤◌, ◌≡◌, [], IfOk, replicate};
-ghost use Rattle.std.specs.List.Sorted.{IsNonDecreasingBy};
+ghost use Rattle.flat_core.specs.Line.{IsSorted};
 ghost use Rattle.plain_solver.specs.Ending.{EndsSo};
 ghost use Rattle.plain_solver.specs.Instant.{IsInOrder};
 ghost use Rattle.plain_solver.specs.Solved.{IsEnded};
-ghost use Rattle.flat_core.specs.declared.line.TraceLine.{TraceLine};
 
 use crate::events::Events;
 use crate::instant::{first_root, run_instant};
@@ -70,7 +69,7 @@ pub fn solve(
 ) -> Result<Solved, NoMemory>
     requires ordered { IsInOrder flat.now }
     requires small { bound ≤ 2 ^ 63 }
-    requires sorted { IsNonDecreasingBy (λ (l : TraceLine). l.time) lines.now }
+    requires sorted { IsSorted lines.now }
     ensures ended { IfOk result (λ v. IsEnded flat.now lines.now bound limit v.streams.items v.instants.items v.end) }
     ensures ending { IfOk result (λ v. EndsSo flat.now lines.now bound limit v.end) }
 {

@@ -3,8 +3,10 @@
 ghost use Rattle.std.specs.Prelude.{◌≡◌, ◌++◌, Some, OnOk, IfOk};
 ghost use Rattle.std.specs.List.{flat_map};
 ghost use Rattle.tsl_value.specs.View.{Plain};
+ghost use Rattle.flat_core.specs.Stream.{event};
+ghost use Rattle.flat_core.specs.Text.{event_line, text_at};
 ghost use Rattle.plain_solver.specs.Shape.{streams_of};
-ghost use Rattle.plain_solver.specs.Text.{IsDueText, event_line, event_name, output_text, text_at};
+ghost use Rattle.plain_solver.specs.Ending.{IsDueText};
 
 use crate::events::Events;
 use crate::solve::Solved;
@@ -18,21 +20,14 @@ use tsl_value::scalar::Scalar;
 use tsl_value::text::Text;
 use tsl_value::time::Time;
 
-/// Appends what stands before the value of an event.
-fn append_name(time: Time, name: &Text, out: &mut Bytes) -> Result<(), NoMemory>
-    ensures { OnOk result (out.new ≡ out.old ++ event_name time name.now) }
-{
-    print_number(time.get(), out)?;
-    out.append(b": ")?;
-    out.append(name.as_str().as_bytes())?;
-    out.append(b" = ")
-}
-
 /// Appends the line of an event.
 fn append_line(time: Time, name: &Text, value: &Scalar, out: &mut Bytes) -> Result<(), NoMemory>
     ensures { OnOk result (out.new ≡ out.old ++ event_line time name.now (Some (Plain value.now))) }
 {
-    append_name(time, name, out)?;
+    print_number(time.get(), out)?;
+    out.append(b": ")?;
+    out.append(name.as_str().as_bytes())?;
+    out.append(b" = ")?;
     print_scalar(value, out)?;
     out.push(b'\n')
 }
@@ -44,7 +39,7 @@ fn append_output(
     time: Time,
     out: &mut Bytes,
 ) -> Result<(), NoMemory>
-    ensures { OnOk result (out.new ≡ out.old ++ output_text (streams_of streams.now) time output.now) }
+    ensures { OnOk result (out.new ≡ out.old ++ event_line time output.now.name (event (streams_of streams.now output.now.equation time))) }
 {
     match streams.get(output.equation.get() as usize) {
         Some(events) => match events.value_at(time) {

@@ -1,7 +1,7 @@
 use Rattle.std.proofs.Common.{sym, ◌∙◌}
 use Rattle.std.specs.List.{flat_map}
 use Rattle.plain_solver.specs.Shape.{streams_of}
-use Rattle.plain_solver.specs.Text.{text_at}
+use Rattle.flat_core.specs.Text.{text_at}
 use Rattle.plain_solver.proofs.TextLemmas.{ran_due}
 use Rattle.plain_solver.proofs.text.print_due.Goals as goal
 

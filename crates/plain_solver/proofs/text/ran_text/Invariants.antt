@@ -1,7 +1,7 @@
 use Rattle.std.proofs.Common.{◌≡◌, ◌++◌, drop, take}
 use Rattle.std.specs.List.{flat_map}
 use Rattle.plain_solver.specs.Shape.{streams_of}
-use Rattle.plain_solver.specs.Text.{text_at}
+use Rattle.flat_core.specs.Text.{text_at}
 use Rattle.plain_solver.proofs.text.ran_text.Given as goal
 
 abbrev pub invariant-loop-time : goal.invariant-loop-time
