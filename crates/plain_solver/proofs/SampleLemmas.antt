@@ -111,7 +111,7 @@ placed = (
             (tt, tt),
             (
               (tt, (lit< tt, (lit< tt, tt))),
-              ((tt, (lit< tt, tt)), ((tt, (lit< tt, tt)), ((tt, tt), (((refl, (tt, lit< tt)), (lit< tt, tt)), tt)))),
+              ((tt, (lit< tt, tt)), ((tt, (lit< tt, tt)), ((tt, tt), (((refl, tt, lit< tt), (lit< tt, tt)), tt)))),
             ),
           ),
         ),

@@ -40,10 +40,14 @@ fn are_used_below(e: &Equation, n: u32) -> bool
     ensures { IsTrue result ↔ All (λ a. a < n) (used_of e.now.op e.now.args) }
 {
     match &e.op {
-        Op::Last => match e.args.ids() {
-            [] => true,
-            [_, rest @ ..] => are_below(rest, n),
-        },
+        Op::Last => {
+            let ids = e.args.ids();
+            if ids.is_empty() {
+                true
+            } else {
+                are_below(&ids[1..], n)
+            }
+        }
         Op::Delay => true,
         _ => are_below(e.args.ids(), n),
     }

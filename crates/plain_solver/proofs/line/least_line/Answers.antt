@@ -1,4 +1,4 @@
-use Rattle.std.proofs.Common.{List, subst}
+use Rattle.std.proofs.Common.{List, subst, sym}
 use Rattle.flat_core.specs.declared.line.TraceLine.{TraceLine}
 use Rattle.plain_solver.specs.Lines.{IsLeast}
 use Rattle.std.proofs.lemmas.List.{take_rest}
