@@ -1,15 +1,16 @@
 // One instant.
 
 ghost use Rattle.std.specs.Prelude.{◌≡◌, ◌<◌, length, slice_index_or, map, [], OnOk, IfOk, IsTrue};
-ghost use Rattle.flat_core.specs.Line.{inputs_of};
+ghost use Rattle.flat_core.specs.Complete.{IsFlat};
+ghost use Rattle.flat_core.specs.Line.{IsSorted, inputs_of};
 ghost use Rattle.flat_core.specs.System.{runs};
-ghost use Rattle.plain_solver.specs.Lines.{line_of};
 ghost use Rattle.plain_solver.specs.Moments.{AllBefore};
-ghost use Rattle.plain_solver.specs.Instant.{AreBefore, AreKept, IsFirstRoot, IsInOrder, IsOneMore, IsRun};
+ghost use Rattle.plain_solver.specs.Instant.{AreBefore, IsFirstRoot, IsInOrder, IsOneMore, IsRun};
 ghost use Rattle.plain_solver.specs.Shape.{streams_of};
+ghost use Rattle.flat_core.specs.Kept.{AreKept};
 
 use crate::events::Events;
-use crate::line::TraceLine;
+use flat_core::line::TraceLine;
 use crate::outcome::{outcome_of, root_of};
 use flat_core::flat::Flat;
 use lift_func::fault::FaultKind;
@@ -28,12 +29,14 @@ pub fn run_one(
     t: Time,
 ) -> Result<(), NoMemory>
     requires ordered { IsInOrder flat.now }
+    requires whole { IsFlat flat.now }
     requires known { i < length flat.now.equations }
     requires running { IsTrue (runs flat.now i) }
     requires one_each { length streams.old ≡ length flat.now.equations }
     requires before { AllBefore t (slice_index_or streams.old i []) }
     requires kept { AreKept flat.now (streams_of streams.old) t }
-    ensures { OnOk result (IsOneMore flat.now (inputs_of (map line_of lines.now)) i t streams.old streams.new) }
+    requires sorted { IsSorted lines.now }
+    ensures { OnOk result (IsOneMore flat.now (inputs_of lines.now) i t streams.old streams.new) }
 {
     match outcome_of(alloc, flat.equation(i), i, streams, lines, t)? {
         Some(o) => {
@@ -56,7 +59,8 @@ pub fn run_instant(
     requires one_each { length streams.old ≡ length flat.now.equations }
     requires before { AreBefore t streams.old }
     requires kept { AreKept flat.now (streams_of streams.old) t }
-    ensures { OnOk result (IsRun flat.now (inputs_of (map line_of lines.now)) t streams.old streams.new) }
+    requires sorted { IsSorted lines.now }
+    ensures { OnOk result (IsRun flat.now (inputs_of lines.now) t streams.old streams.new) }
 {
     for n in 0..flat.count() {
         let i = EqId::new(n);
@@ -78,7 +82,8 @@ pub fn first_root(
     requires ordered { IsInOrder flat.now }
     requires one_each { length streams.now ≡ length flat.now.equations }
     requires kept { AreKept flat.now (streams_of streams.now) t }
-    ensures { IfOk result (λ r. IsFirstRoot flat.now (inputs_of (map line_of lines.now)) (streams_of streams.now) t r) }
+    requires sorted { IsSorted lines.now }
+    ensures { IfOk result (λ r. IsFirstRoot flat.now (inputs_of lines.now) (streams_of streams.now) t r) }
 {
     for n in 0..flat.count() {
         let i = EqId::new(n);

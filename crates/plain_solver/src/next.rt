@@ -1,14 +1,17 @@
 // When the next instant comes.
 
 ghost use Rattle.std.specs.Prelude.{◌≡◌, ◌≤◌, ◌<◌, ◌^◌, length, All};
+ghost use Rattle.flat_core.specs.Line.{IsSorted};
 ghost use Rattle.plain_solver.specs.Instant.{IsInOrder};
 ghost use Rattle.plain_solver.specs.Lines.{IsLeast};
 ghost use Rattle.plain_solver.specs.Next.{due_of, is_expiry, is_next, IsFirst};
-ghost use Rattle.plain_solver.specs.Shape.{HasShape, option_is, streams_of};
+ghost use Rattle.plain_solver.specs.Shape.{HasShape, streams_of};
+ghost use Rattle.flat_core.specs.Pending.{option_is};
 
 use crate::delay::pending_before;
 use crate::events::Events;
-use crate::line::{TraceLine, least_line};
+use crate::line::least_line;
+use flat_core::line::TraceLine;
 use crate::outcome::{argument, stream_at};
 use flat_core::equation::{Equation, Op};
 use flat_core::flat::Flat;
@@ -71,6 +74,7 @@ pub fn next_below(
     requires ordered { IsInOrder flat.now }
     requires one_each { length streams.now ≡ length flat.now.equations }
     requires small { bound ≤ 2 ^ 63 }
+    requires sorted { IsSorted lines.now }
     ensures { IsFirst (λ u. is_next flat.now lines.now (streams_of streams.now) next u) next bound result }
 {
     if next >= bound {
@@ -81,8 +85,8 @@ pub fn next_below(
             if next == 0 {
                 return Some(from);
             }
-            let line = least_line(lines, next, bound);
-            let least = least_expiry(flat, streams, from, line);
+            let due = least_expiry(flat, streams, from, bound);
+            let least = least_line(lines, next, due);
             if least < bound {
                 Time::new(least)
             } else {

@@ -8,18 +8,19 @@ ghost use Rattle.lift_func.specs.Apply.{apply};
 ghost use Rattle.lift_func.specs.Ints.{IsIntBody, IsValue, views};
 ghost use Rattle.flat_core.specs.Stream.{event, is_fault, latest};
 ghost use Rattle.flat_core.specs.Case.{at_once, case_of, delayed, is_blocked, own, refused, root_fault};
-ghost use Rattle.flat_core.specs.Line.{inputs_of};
-ghost use Rattle.plain_solver.specs.Lines.{line_of};
+ghost use Rattle.flat_core.specs.Line.{IsSorted, inputs_of};
 ghost use Rattle.plain_solver.specs.Moments.{seen};
-ghost use Rattle.plain_solver.specs.Shape.{HasShape, IsKept, streams_of};
+ghost use Rattle.plain_solver.specs.Shape.{HasShape, streams_of};
+ghost use Rattle.flat_core.specs.Kept.{IsKept};
 
 use crate::delay::{is_now, pending_before};
 use crate::events::{Events, Outcome};
-use crate::line::{TraceLine, input_at};
+use crate::line::input_at;
+use flat_core::line::TraceLine;
 use flat_core::equation::{Equation, Op};
 use flat_core::lists::Args;
 use lift_func::body::Body;
-use lift_func::eval::{EvalFault, eval};
+use lift_func::eval::{EvalFault, eval_scalars};
 use lift_func::fault::FaultKind;
 use std::alloc::Global;
 use tsl_value::ids::EqId;
@@ -32,10 +33,7 @@ pub fn argument(args: &Args, k: usize) -> EqId
     requires { k < length args.now }
     ensures { result ≡ slice_index args.now k }
 {
-    match args.get(k) {
-        Some(id) => id,
-        None => unreachable!(),
-    }
+    args.ids()[k]
 }
 
 /// The stream of an equation.
@@ -121,7 +119,7 @@ fn lifted(body: &Body, values: &[Option<Scalar>]) -> Result<Option<Scalar>, Eval
     ensures { IsValue result (if list_all is_some (views values.now) then apply body.now (views values.now) else Ok None) }
 {
     if are_all_there(values) {
-        eval(body, values)
+        eval_scalars(body, values)
     } else {
         Ok(None)
     }
@@ -160,7 +158,8 @@ pub fn own_of(
     requires known { All (λ a. a < length streams.now) e.now.args }
     requires there { i < length streams.now }
     requires kept { IsKept (streams_of streams.now) i e.now.op e.now.args t }
-    ensures { IsValue result (own (inputs_of (map line_of lines.now)) (streams_of streams.now) i e.now t) }
+    requires sorted { IsSorted lines.now }
+    ensures { IsValue result (own (inputs_of lines.now) (streams_of streams.now) i e.now t) }
 {
     match &e.op {
         Op::Input => Ok(copied(input_at(lines, i, t))?),
@@ -216,7 +215,8 @@ pub fn outcome_of(
     requires known { All (λ a. a < length streams.now) e.now.args }
     requires there { i < length streams.now }
     requires kept { IsKept (streams_of streams.now) i e.now.op e.now.args t }
-    ensures { IfOk result (λ o. case_of (inputs_of (map line_of lines.now)) (streams_of streams.now) i e.now t ≡ option_map seen o) }
+    requires sorted { IsSorted lines.now }
+    ensures { IfOk result (λ o. case_of (inputs_of lines.now) (streams_of streams.now) i e.now t ≡ option_map seen o) }
 {
     if is_blocked_at(e, streams, t) {
         return Ok(Some(Outcome::Fault));
@@ -225,7 +225,7 @@ pub fn outcome_of(
         Ok(Some(v)) => Ok(Some(Outcome::Event(v))),
         Ok(None) => Ok(None),
         Err(EvalFault::Fault(_)) => Ok(Some(Outcome::Fault)),
-        Err(EvalFault::Memory(none)) => Err(none),
+        Err(EvalFault::Memory) => Err(NoMemory),
     }
 }
 
@@ -258,7 +258,8 @@ pub fn root_of(
     requires known { All (λ a. a < length streams.now) e.now.args }
     requires there { i < length streams.now }
     requires kept { IsKept (streams_of streams.now) i e.now.op e.now.args t }
-    ensures { IfOk result (λ k. root_fault (inputs_of (map line_of lines.now)) (streams_of streams.now) i e.now t ≡ k) }
+    requires sorted { IsSorted lines.now }
+    ensures { IfOk result (λ k. root_fault (inputs_of lines.now) (streams_of streams.now) i e.now t ≡ k) }
 {
     if let Op::Delay = &e.op {
         return Ok(refusal(value_of(streams, &e.args, 0, t)));
@@ -269,6 +270,6 @@ pub fn root_of(
     match own_of(alloc, e, i, streams, lines, t) {
         Ok(_) => Ok(None),
         Err(EvalFault::Fault(kind)) => Ok(Some(kind)),
-        Err(EvalFault::Memory(none)) => Err(none),
+        Err(EvalFault::Memory) => Err(NoMemory),
     }
 }

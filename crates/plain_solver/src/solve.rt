@@ -1,13 +1,14 @@
 // All that happens below a bound.
 
-ghost use Rattle.std.specs.Prelude.{◌^◌, ◌<◌, ◌≤◌, ◌≡◌, [], IfOk, length, map, replicate};
-ghost use Rattle.plain_solver.specs.Lines.{line_of};
+ghost use Rattle.std.specs.Prelude.{◌^◌, ◌<◌, ◌≤◌, ◌≡◌, [], IfOk, replicate};
+ghost use Rattle.flat_core.specs.Line.{IsSorted};
+ghost use Rattle.plain_solver.specs.Ending.{EndsSo};
 ghost use Rattle.plain_solver.specs.Instant.{IsInOrder};
 ghost use Rattle.plain_solver.specs.Solved.{IsEnded};
 
 use crate::events::Events;
 use crate::instant::{first_root, run_instant};
-use crate::line::TraceLine;
+use flat_core::line::TraceLine;
 use crate::next::next_below;
 use flat_core::flat::Flat;
 use lift_func::fault::FaultKind;
@@ -33,24 +34,32 @@ pub enum End {
     },
 }
 
-/// The streams of all equations, and why they end.
+/// What happens at all equations, up to where the run ends.
+///
+/// The streams end with the last instant that was run. Where that has a root fault, they have the
+/// faults of its time.
 #[derive(Drop)]
 pub struct Solved {
+    /// What happens at each equation.
     pub streams: Vec<Events>,
+    /// The instants that were run without a root fault, in order.
+    pub instants: Vec<Time>,
+    /// Why no further one was run.
     pub end: End,
 }
 
-fn no_events(alloc: Global, flat: &Flat) -> Result<Vec<Events>, NoMemory>
-    ensures { IfOk result (λ v. v.items ≡ replicate (length flat.now.equations) []) }
+/// As many streams as there are equations, all without an outcome.
+fn no_events(alloc: Global, count: u32) -> Result<Vec<Events>, NoMemory>
+    ensures { IfOk result (λ v. v.items ≡ replicate count []) }
 {
     let mut streams = Vec::new(alloc);
-    for _n in 0..flat.count() {
+    for _n in 0..count {
         streams.push(Events::new(alloc))?;
     }
     Ok(streams)
 }
 
-/// The streams of all equations at the times below a bound, at most as many instants as a limit.
+/// What happens at all equations at the times below a bound, in at most as many instants as a limit.
 pub fn solve(
     alloc: Global,
     flat: &Flat,
@@ -60,15 +69,18 @@ pub fn solve(
 ) -> Result<Solved, NoMemory>
     requires ordered { IsInOrder flat.now }
     requires small { bound ≤ 2 ^ 63 }
-    ensures { IfOk result (λ v. IsEnded flat.now (map line_of lines.now) bound limit v.streams.items v.end) }
+    requires sorted { IsSorted lines.now }
+    ensures ended { IfOk result (λ v. IsEnded flat.now lines.now bound limit v.streams.items v.instants.items v.end) }
+    ensures ending { IfOk result (λ v. EndsSo flat.now lines.now bound limit v.end) }
 {
-    let mut streams = no_events(alloc, flat)?;
+    let mut streams = no_events(alloc, flat.count())?;
+    let mut instants = Vec::new(alloc);
     let mut next = 0;
-    let mut count = 0;
     while let Some(t) = next_below(flat, &streams, lines, next, bound) {
-        if count == limit {
+        if instants.len() as u64 == limit {
             return Ok(Solved {
                 streams,
+                instants,
                 end: End::Limit { time: t },
             });
         }
@@ -77,6 +89,7 @@ pub fn solve(
             Some(root) => {
                 return Ok(Solved {
                     streams,
+                    instants,
                     end: End::Fault {
                         time: t,
                         equation: root.0,
@@ -85,13 +98,14 @@ pub fn solve(
                 });
             }
             None => {
+                instants.push(t)?;
                 next = t.get() + 1;
-                count += 1;
             }
         }
     }
     Ok(Solved {
         streams,
+        instants,
         end: End::Bound,
     })
 }

@@ -1,238 +1,232 @@
-// Rows of small systems.
+// Runs of a small system.
 
-ghost use Rattle.std.specs.Prelude.{◌≤◌, ◌^◌};
+ghost use Rattle.std.specs.Prelude.{◌≡◌, ◌≤◌, ◌<◌, ◌^◌, true, slice_get, IfOk, IsTrue};
+ghost use Rattle.flat_core.specs.Line.{IsSorted};
+ghost use Rattle.lift_func.specs.Tree.{Argument, Literal, Two};
+ghost use Rattle.plain_solver.specs.Instant.{IsInOrder};
+ghost use Rattle.plain_solver.specs.Sample.{equation_of, sample_equations, sample_outputs};
 
-use crate::events::Events;
-use crate::line::TraceLine;
-use crate::order::is_in_order;
-use crate::solve::{End, Solved, solve};
-use flat_core::equation::{Equation, Op};
+use crate::solve::{End, solve};
+use crate::text::print_due;
+use flat_core::builder::FlatBuilder;
+use flat_core::equation::{Equation, Op, Output};
 use flat_core::flat::Flat;
+use flat_core::line::TraceLine;
 use flat_core::lists::Args;
 use lift_func::body::{Binary, Body};
 use lift_func::fault::FaultKind;
 use std::alloc::Global;
+use std::test::Fail;
+use tsl_value::bytes::Bytes;
 use tsl_value::ids::EqId;
 use tsl_value::memory::NoMemory;
 use tsl_value::place::Place;
 use tsl_value::scalar::{Scalar, ScalarType, ValueType};
+use tsl_value::text::Text;
 use tsl_value::time::Time;
 
-fn equation(alloc: Global, op: Op, args: &[u32]) -> Result<Equation, NoMemory> {
-    let mut ids = Vec::new(alloc);
-    for a in args {
-        ids.push(EqId::new(*a))?;
+fn args(alloc: Global, ids: &[u32]) -> Result<Args, NoMemory>
+    ensures { IfOk result (λ a. a ≡ ids.now) }
+{
+    let mut args = Args::new(alloc);
+    for id in ids {
+        args.push(EqId::new(*id))?;
     }
-    Ok(Equation {
+    Ok(args)
+}
+
+fn equation(op: Op, args: Args, of: ScalarType) -> Equation
+    ensures { result ≡ equation_of op args (ValueType.Scalar of) }
+{
+    Equation {
         op,
-        args: Args::of(ids),
-        of: ValueType::Scalar(ScalarType::Int),
+        args,
+        of: ValueType::Scalar(of),
         place: Place { line: 1, column: 1 },
         name: None,
+    }
+}
+
+fn constant(n: i64) -> Op
+    ensures { result ≡ Op.Lift (Literal (Scalar.Int n)) true }
+{
+    Op::Lift {
+        body: Body::literal(Scalar::Int(n)),
+        strict: true,
+    }
+}
+
+/// `n / x`
+fn divided(alloc: Global, n: i64) -> Result<Op, NoMemory>
+    ensures { IfOk result (λ o. o ≡ Op.Lift (Two Binary.Div (Literal (Scalar.Int n)) (Argument 0)) true) }
+{
+    let body = Body::two(
+        alloc,
+        Binary::Div,
+        Body::literal(Scalar::Int(n)),
+        Body::argument(0),
+    )?;
+    Ok(Op::Lift { body, strict: true })
+}
+
+fn sample_equation(alloc: Global, n: u32) -> Result<Equation, NoMemory>
+    requires { n < 11 }
+    ensures { IfOk result (λ e. slice_get sample_equations n ≡ Some e) }
+{
+    let int = ScalarType::Int;
+    let unit = ScalarType::Unit;
+    Ok(match n {
+        0 => equation(Op::Unit, args(alloc, &[])?, unit),
+        1 => equation(Op::Delay, args(alloc, &[3, 0])?, unit),
+        2 => equation(Op::Merge, args(alloc, &[0, 1])?, unit),
+        3 => equation(constant(10), args(alloc, &[2])?, int),
+        4 | 5 => equation(Op::Input, args(alloc, &[])?, int),
+        6 => equation(Op::Merge, args(alloc, &[4, 5])?, int),
+        7 => equation(Op::Time, args(alloc, &[6])?, int),
+        8 => equation(Op::Last, args(alloc, &[4, 4])?, int),
+        9 => equation(Op::Delay, args(alloc, &[4, 5])?, unit),
+        _ => equation(divided(alloc, 10)?, args(alloc, &[5])?, int),
     })
 }
 
-fn solved(
+fn sample_output(alloc: Global, n: usize) -> Result<Output, NoMemory>
+    requires { n < 6 }
+    ensures { IfOk result (λ o. slice_get sample_outputs n ≡ Some o) }
+{
+    let names = ["p", "t", "b", "l", "d", "q"];
+    let equations = [1, 7, 6, 8, 9, 10];
+    Ok(Output {
+        name: Text::from_str(alloc, names[n])?,
+        equation: EqId::new(equations[n]),
+    })
+}
+
+fn sample(alloc: Global) -> Result<Flat, NoMemory>
+    ensures { IfOk result (λ f. IsInOrder f) }
+{
+    let mut builder = FlatBuilder::new(alloc);
+    for n in 0..11 {
+        builder.add(sample_equation(alloc, n)?)?;
+    }
+    for k in 0..6 {
+        builder.add_output(sample_output(alloc, k)?)?;
+    }
+    builder.finish()
+}
+
+fn are_sorted(lines: &[TraceLine]) -> bool
+    ensures { IsTrue result → IsSorted lines.now }
+{
+    for n in 1..lines.len() {
+        if lines[n].time.get() < lines[n - 1].time.get() {
+            return false;
+        }
+    }
+    true
+}
+
+/// Lines of a time, an input and its event.
+fn trace(alloc: Global, events: &[(u64, u32, i64)]) -> Result<Vec<TraceLine>, NoMemory> {
+    let mut lines = Vec::new(alloc);
+    for (time, input, value) in events {
+        if let Some(time) = Time::new(*time) {
+            lines.push(TraceLine {
+                time,
+                event: Some((EqId::new(*input), Scalar::Int(*value))),
+            })?;
+        }
+    }
+    Ok(lines)
+}
+
+/// How the sample ends with such lines, and its text.
+fn run(
     alloc: Global,
-    equations: Vec<Equation>,
-    lines: &[TraceLine],
+    events: &[(u64, u32, i64)],
     bound: u64,
     limit: u64,
-) -> Result<Option<Solved>, NoMemory>
+) -> Result<(End, Bytes), Fail>
     requires { bound ≤ 2 ^ 63 }
 {
-    match Flat::all_running(alloc, equations, Vec::new(alloc))? {
-        Some(flat) => {
-            if is_in_order(&flat) {
-                Ok(Some(solve(alloc, &flat, lines, bound, limit)?))
-            } else {
-                Ok(None)
-            }
-        }
-        None => Ok(None),
+    let flat = sample(alloc)?;
+    let lines = trace(alloc, events)?;
+    if are_sorted(&lines) {
+        let solved = solve(alloc, &flat, &lines, bound, limit)?;
+        let text = print_due(alloc, &flat, &solved)?;
+        Ok((solved.end, text))
+    } else {
+        Err(Fail::new("the lines are not sorted"))
     }
 }
 
-fn add_line(
-    lines: &mut Vec<TraceLine>,
-    time: u64,
-    input: u32,
-    value: Scalar,
-) -> Result<(), NoMemory> {
-    if let Some(time) = Time::new(time) {
-        lines.push(TraceLine {
+fn is_fault(end: End, t: u64, i: u32, named: FaultKind) -> bool {
+    match end {
+        End::Fault {
             time,
-            event: Some((EqId::new(input), value)),
-        })?;
-    }
-    Ok(())
-}
-
-/// The stream has an event at a time.
-fn has_event(streams: &[Events], i: usize, t: u64) -> bool {
-    match (streams.get(i), Time::new(t)) {
-        (Some(events), Some(t)) => events.value_at(t).is_some(),
+            equation,
+            kind,
+        } => time.get() == t && equation.get() == i && kind == named,
         _ => false,
     }
 }
 
-fn constant(alloc: Global, n: i64, of: u32) -> Result<Equation, NoMemory> {
-    let args = [of];
-    equation(
-        alloc,
-        Op::Lift {
-            body: Body::literal(Scalar::Int(n)),
-            strict: true,
-        },
-        &args,
-    )
-}
-
-/// u := unit, p := delay(c, u), m := merge(u, p), c := const(N, m)
-fn ticking(alloc: Global, n: i64) -> Result<Vec<Equation>, NoMemory> {
-    let mut equations = Vec::new(alloc);
-    equations.push(equation(alloc, Op::Unit, &[])?)?;
-    equations.push(equation(alloc, Op::Delay, &[3, 0])?)?;
-    equations.push(equation(alloc, Op::Merge, &[0, 1])?)?;
-    equations.push(constant(alloc, n, 2)?)?;
-    Ok(equations)
-}
-
-fn ticks(alloc: Global) -> Result<bool, NoMemory> {
-    let lines = Vec::new(alloc);
-    match solved(alloc, ticking(alloc, 10)?, &lines, 36, 100)? {
-        Some(s) => {
-            let at = &s.streams;
-            Ok(
-                s.end == End::Bound
-                    && has_event(at, 1, 10)
-                    && has_event(at, 1, 20)
-                    && has_event(at, 1, 30)
-                    && !has_event(at, 1, 0)
-                    && !has_event(at, 1, 15)
-                    && !has_event(at, 1, 35),
-            )
-        }
-        None => Ok(false),
-    }
-}
-
-fn is_limited_at(s: &Solved, t: u64) -> bool {
-    match s.end {
+fn is_limit(end: End, t: u64) -> bool {
+    match end {
         End::Limit { time } => time.get() == t,
         _ => false,
     }
 }
 
-fn ends_at_limit(alloc: Global) -> Result<bool, NoMemory> {
-    let lines = Vec::new(alloc);
-    match solved(alloc, ticking(alloc, 1)?, &lines, 1001, 100)? {
-        Some(s) => {
-            let at = &s.streams;
-            Ok(is_limited_at(&s, 100) && has_event(at, 1, 99) && !has_event(at, 1, 100))
-        }
-        None => Ok(false),
-    }
-}
-
-/// c := const(10, u), p := delay(c, i)
-fn waiting(alloc: Global) -> Result<Vec<Equation>, NoMemory> {
-    let mut equations = Vec::new(alloc);
-    equations.push(equation(alloc, Op::Input, &[])?)?;
-    equations.push(equation(alloc, Op::Input, &[])?)?;
-    equations.push(equation(alloc, Op::Delay, &[0, 1])?)?;
-    Ok(equations)
-}
-
-/// The amount comes at 0, the reset at 0 and at another time.
-fn reset_at(alloc: Global, t: u64, amount: i64) -> Result<Option<Solved>, NoMemory> {
-    let mut lines = Vec::new(alloc);
-    add_line(&mut lines, 0, 0, Scalar::Int(amount))?;
-    add_line(&mut lines, 0, 1, Scalar::Unit)?;
-    add_line(&mut lines, t, 1, Scalar::Unit)?;
-    solved(alloc, waiting(alloc)?, &lines, 50, 100)
-}
-
-fn is_cancelled_at_seven(alloc: Global) -> Result<bool, NoMemory> {
-    match reset_at(alloc, 7, 10)? {
-        Some(s) => Ok(s.end == End::Bound && !has_event(&s.streams, 2, 10)),
-        None => Ok(false),
-    }
-}
-
-fn stays_at_expiry(alloc: Global) -> Result<bool, NoMemory> {
-    match reset_at(alloc, 10, 10)? {
-        Some(s) => Ok(s.end == End::Bound && has_event(&s.streams, 2, 10)),
-        None => Ok(false),
-    }
-}
-
-fn faults_at(s: &Solved, t: u64, i: u32, kind: FaultKind) -> bool {
-    match s.end {
-        End::Fault {
-            time,
-            equation,
-            kind: named,
-        } => time.get() == t && equation.get() == i && named == kind,
-        _ => false,
-    }
-}
-
-fn refuses_no_wait(alloc: Global) -> Result<bool, NoMemory> {
-    match reset_at(alloc, 7, 0)? {
-        Some(s) => Ok(faults_at(&s, 0, 2, FaultKind::DelayNotPositive)),
-        None => Ok(false),
-    }
-}
-
-/// a := 5 / i, b := 1 / i, with i = 0 at 3
-fn divides(alloc: Global) -> Result<bool, NoMemory> {
-    let mut equations = Vec::new(alloc);
-    equations.push(equation(alloc, Op::Input, &[])?)?;
-    for n in 0..2 {
-        let body = Body::two(
-            alloc,
-            Binary::Div,
-            Body::literal(Scalar::Int(n)),
-            Body::argument(0),
-        )?;
-        equations.push(equation(alloc, Op::Lift { body, strict: true }, &[0])?)?;
-    }
-    let mut lines = Vec::new(alloc);
-    add_line(&mut lines, 1, 0, Scalar::Int(2))?;
-    add_line(&mut lines, 3, 0, Scalar::Int(0))?;
-    match solved(alloc, equations, &lines, 50, 100)? {
-        Some(s) => Ok(faults_at(&s, 3, 1, FaultKind::DivideByZero) && has_event(&s.streams, 1, 1)),
-        None => Ok(false),
-    }
+#[test]
+fn events_are_printed_by_time_and_output(rt: HostRuntime) -> Result<(), Fail> {
+    let events = [(2, 5, 7), (2, 4, 5), (4, 5, 8), (8, 4, 3)];
+    let (end, text) = run(rt.alloc(), &events, 11, 100)?;
+    assert!(rt; end == End::Bound);
+    let wanted = b"2: t = 2\n2: b = 5\n2: q = 1\n4: t = 4\n4: b = 8\n4: q = 1\n8: t = 8\n8: b = 3\n8: l = 5\n10: p = ()\n";
+    assert!(rt; text.as_slice() == wanted.as_slice());
+    Ok(())
 }
 
 #[test]
-fn a_delay_sets_itself_again(rt: HostRuntime) {
-    assert!(rt; matches!(ticks(rt.alloc()), Ok(true)));
+fn a_delay_sets_itself_again(rt: HostRuntime) -> Result<(), Fail> {
+    let (end, text) = run(rt.alloc(), &[], 36, 100)?;
+    assert!(rt; end == End::Bound);
+    assert!(rt; text.as_slice() == b"10: p = ()\n20: p = ()\n30: p = ()\n".as_slice());
+    Ok(())
 }
 
 #[test]
-fn the_limit_of_instants_ends_the_run(rt: HostRuntime) {
-    assert!(rt; matches!(ends_at_limit(rt.alloc()), Ok(true)));
+fn the_limit_of_instants_ends_the_run(rt: HostRuntime) -> Result<(), Fail> {
+    let (end, text) = run(rt.alloc(), &[], 1001, 3)?;
+    assert!(rt; is_limit(end, 30));
+    assert!(rt; text.as_slice() == b"10: p = ()\n20: p = ()\n".as_slice());
+    Ok(())
 }
 
 #[test]
-fn a_reset_cancels(rt: HostRuntime) {
-    assert!(rt; matches!(is_cancelled_at_seven(rt.alloc()), Ok(true)));
+fn a_reset_cancels(rt: HostRuntime) -> Result<(), Fail> {
+    let (end, text) = run(rt.alloc(), &[(1, 4, 6), (1, 5, 1), (5, 5, 1)], 10, 100)?;
+    assert!(rt; end == End::Bound);
+    let wanted = b"1: t = 1\n1: b = 6\n1: q = 10\n5: t = 5\n5: b = 1\n5: q = 10\n";
+    assert!(rt; text.as_slice() == wanted.as_slice());
+    Ok(())
 }
 
 #[test]
-fn a_reset_at_the_expiry_does_not_cancel(rt: HostRuntime) {
-    assert!(rt; matches!(stays_at_expiry(rt.alloc()), Ok(true)));
+fn a_reset_at_the_expiry_does_not_cancel(rt: HostRuntime) -> Result<(), Fail> {
+    let (end, text) = run(rt.alloc(), &[(1, 4, 4), (1, 5, 1), (5, 5, 1)], 10, 100)?;
+    assert!(rt; end == End::Bound);
+    let wanted = b"1: t = 1\n1: b = 4\n1: q = 10\n5: t = 5\n5: b = 1\n5: d = ()\n5: q = 10\n";
+    assert!(rt; text.as_slice() == wanted.as_slice());
+    Ok(())
 }
 
 #[test]
-fn an_amount_of_zero_faults(rt: HostRuntime) {
-    assert!(rt; matches!(refuses_no_wait(rt.alloc()), Ok(true)));
-}
-
-#[test]
-fn a_division_by_zero_faults(rt: HostRuntime) {
-    assert!(rt; matches!(divides(rt.alloc()), Ok(true)));
+fn the_least_equation_with_a_root_fault_is_named(rt: HostRuntime) -> Result<(), Fail> {
+    let (end, text) = run(rt.alloc(), &[(1, 5, 5), (3, 5, 0)], 10, 100)?;
+    assert!(rt; is_fault(end, 3, 10, FaultKind::DivideByZero));
+    assert!(rt; text.as_slice() == b"1: t = 1\n1: b = 5\n1: q = 2\n".as_slice());
+    let (end, _text) = run(rt.alloc(), &[(3, 5, 0), (3, 4, 0)], 10, 100)?;
+    assert!(rt; is_fault(end, 3, 9, FaultKind::DelayNotPositive));
+    Ok(())
 }
