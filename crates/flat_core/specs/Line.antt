@@ -1,5 +1,5 @@
 -- The lines of a trace that were read: each has a time, and perhaps an input's event.
-use Rattle.std.specs.Prelude.{◌==◌, ℕ, ◌&&◌, if◌then◌else◌, List, [], ◌∷◌, Option, Some, None}
+use Rattle.std.specs.Prelude.{◌==◌, ◌≤◌, ℕ, ◌&&◌, if◌then◌else◌, List, [], ◌∷◌, Option, Some, None}
 use Rattle.std.specs.Option.{option_or}
 use Rattle.tsl_value.specs.declared.scalar.Scalar.{Scalar}
 use Rattle.tsl_value.specs.View.{View, Plain}
@@ -23,3 +23,9 @@ abbrev pub last_time : List Line → ℕ
 last_time [] = 0
 last_time (l ∷ []) = l.time
 last_time (l ∷ m ∷ ls) = last_time (m ∷ ls)
+
+-- the times of the lines never fall
+abbrev pub IsSorted : List Line → Type 0
+IsSorted [] = Unit {0}
+IsSorted (l ∷ []) = Unit {0}
+IsSorted (l ∷ m ∷ ls) = (l.time ≤ m.time) × IsSorted (m ∷ ls)

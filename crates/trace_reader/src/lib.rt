@@ -1,0 +1,14 @@
+// The lines of a trace, however its bytes are cut into pieces.
+#![tactic(auto)]
+
+pub mod fault;
+mod form;
+mod history;
+pub mod laws;
+mod line;
+mod literal;
+pub mod next;
+pub mod reader;
+mod unread;
+
+pub use flat_core::line::TraceLine;
