@@ -14,7 +14,7 @@ pub record Parts : Type 0 where
 
 -- what stands before the first such byte, and what stands behind it
 abbrev pub put_first : ℕ → List ℕ × List ℕ → List ℕ × List ℕ
-put_first b (front, rest) = (b ∷ front, rest)
+put_first b p = (b ∷ p.0, p.1)
 
 abbrev pub split_once : ℕ → List ℕ → Option (List ℕ × List ℕ)
 split_once mark [] = None

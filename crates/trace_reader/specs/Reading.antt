@@ -24,13 +24,13 @@ pub record Reading : Type 0 where
   pub refused : Option TraceFault
 
 -- The whole lines of some bytes, without their ends, and what stands behind the last line's end.
-abbrev pub put_before : ℕ → List (List ℕ) × List ℕ → List (List ℕ) × List ℕ
-put_before b ([], rest) = ([], b ∷ rest)
-put_before b (line ∷ lines, rest) = ((b ∷ line) ∷ lines, rest)
+abbrev pub put_before : ℕ → List (List ℕ) → List ℕ → List (List ℕ) × List ℕ
+put_before b [] rest = ([], b ∷ rest)
+put_before b (line ∷ lines) rest = ((b ∷ line) ∷ lines, rest)
 
 abbrev pub cut : List ℕ → List (List ℕ) × List ℕ
 cut [] = ([], [])
-cut (b ∷ bytes) = if b == 10 then ([] ∷ (cut bytes).0, (cut bytes).1) else put_before b (cut bytes)
+cut (b ∷ bytes) = if b == 10 then ([] ∷ (cut bytes).0, (cut bytes).1) else put_before b (cut bytes).0 (cut bytes).1
 
 -- a last line without its end counts where it is not empty
 abbrev pub last_line : List ℕ → List (List ℕ)

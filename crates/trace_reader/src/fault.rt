@@ -6,7 +6,7 @@ use tsl_value::memory::NoMemory;
 use tsl_value::time::Time;
 
 /// Why a line is refused. Lines are counted from 1.
-#[derive(Clone, Copy, Debug, Drop)]
+#[derive(Debug, Drop)]
 pub enum TraceFault {
     /// The line is not `TIME: NAME = VALUE`, its time is above 2^63 - 1, its name is no input's, its
     /// value is not of the input's type, or the input has an event at this time already.
@@ -17,6 +17,24 @@ pub enum TraceFault {
     TraceTooLong { line: u64 },
     /// Memory was wanting. This alone says nothing of the trace.
     Memory,
+}
+
+impl TraceFault {
+    /// An equal fault.
+    pub fn copy(&self) -> TraceFault
+        ensures { result ≡ self.now }
+    {
+        match self {
+            TraceFault::BadLine { line } => TraceFault::BadLine { line: *line },
+            TraceFault::TimeBack { line, before, now } => TraceFault::TimeBack {
+                line: *line,
+                before: *before,
+                now: *now,
+            },
+            TraceFault::TraceTooLong { line } => TraceFault::TraceTooLong { line: *line },
+            TraceFault::Memory => TraceFault::Memory,
+        }
+    }
 }
 
 impl From<NoMemory> for TraceFault {

@@ -9,6 +9,8 @@ mod line;
 mod literal;
 pub mod next;
 pub mod reader;
+#[cfg(test)]
+mod tests;
 mod unread;
 
 pub use flat_core::line::TraceLine;

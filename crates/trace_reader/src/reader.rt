@@ -3,6 +3,7 @@
 ghost use Rattle.std.specs.Prelude.{◌≡◌, ◌≤◌, ◌^◌, ◌⊎◌, [], ◌++◌, ◌&&◌, not, ℕ, Bool, List, false, true, length, IfOk, OnOk, OnErr};
 
 use crate::fault::TraceFault;
+use crate::history::note_event;
 use crate::line::judge;
 use crate::next::{Next, Rest};
 use crate::unread::Unread;
@@ -94,14 +95,11 @@ impl<'f> TraceReader<'f> {
         ensures reads { OnOk result ((s : System) (limit : ℕ) (fed : List ℕ) (given : List Line) → Reads self.old s limit fed given false → Reads self.new s limit (fed ++ piece.now) given false) }
         ensures err { OnErr result (self.new ≡ self.old) }
     {
-        if piece.len() as u64 > self.left {
-            self.unread.append(&piece[..self.left as usize])?;
-            self.left = 0;
-            self.over = true;
-        } else {
-            self.unread.append(piece)?;
-            self.left -= piece.len() as u64;
-        }
+        let len = piece.len() as u64;
+        let fits = len.min(self.left);
+        self.unread.append(&piece[..fits as usize])?;
+        self.over = self.left < len;
+        self.left -= fits;
         Ok(())
     }
 
@@ -121,8 +119,8 @@ impl<'f> TraceReader<'f> {
         ensures more { IfMore result (AwaitsMore self.new) }
         ensures again { AnswersAgain self.old self.new result }
     {
-        if let Some(fault) = self.refused {
-            return Err(fault);
+        if let Some(fault) = &self.refused {
+            return Err(fault.copy());
         }
         match self.unread.line_len(self.ended && !self.over) {
             Some(len) => self.take_line(len),
@@ -139,16 +137,14 @@ impl<'f> TraceReader<'f> {
         let line = &self.unread.as_slice()[..len];
         match judge(self.flat, &self.past, self.last, self.count + 1, line) {
             Ok(line) => {
-                if let Some((input, _)) = &line.event {
-                    self.past.push((line.time, *input)).map_err(|_| TraceFault::Memory)?;
-                }
+                note_event(&mut self.past, &line)?;
                 self.unread.skip_line(len);
                 self.count += 1;
                 self.last = line.time;
                 Ok(Next::Line(line))
             }
             Err(fault) => {
-                self.refused = Some(fault);
+                self.refused = Some(fault.copy());
                 Err(fault)
             }
         }
@@ -161,11 +157,9 @@ impl<'f> TraceReader<'f> {
         ensures { Rests self.old self.new result }
     {
         if self.over {
-            let fault = TraceFault::TraceTooLong {
-                line: self.count + 1,
-            };
-            self.refused = Some(fault);
-            return Err(fault);
+            let line = self.count + 1;
+            self.refused = Some(TraceFault::TraceTooLong { line });
+            return Err(TraceFault::TraceTooLong { line });
         }
         if self.ended {
             Ok(Next::End)
