@@ -1,5 +1,5 @@
 -- The first line of some bytes, and their reading from it on.
-use Rattle.std.proofs.Common.{◌≡◌, ◌==◌, ℕ, ◌+◌, Bool, true, false, ◌&&◌, not, List, [], ◌∷◌, ◌++◌, length, Option, Some, None, Result, Ok, Err, refl, sym, ap, ◌∙◌, arith, add-zero, append_assoc}
+use Rattle.std.proofs.Common.{◌≡◌, ◌==◌, ℕ, zero, suc, ◌+◌, ◌-◌, Bool, true, false, ◌&&◌, not, List, [], ◌∷◌, ◌++◌, length, take, Option, Some, None, Result, Ok, Err, refl, sym, ap, ◌∙◌, arith, add-zero, append_assoc}
 use Rattle.std.specs.Prelude.{if◌then◌else◌}
 use Rattle.std.specs.Option.{option_map, option_or}
 use Rattle.flat_core.specs.System.{System}
@@ -91,3 +91,11 @@ module _ (s : System) (before : List Line) (n : ℕ) where
   pub read_on-first : (bytes : List ℕ) (over ended : Bool) → read_on s before n bytes over ended ≡ read_by over ended (first_line bytes (ended && not over))
   read_on-first bytes over ended =
       ap (λ c. read_cut s before n c over ended) (cut-first bytes) ∙ by_first (split_once 10 bytes) bytes over ended
+
+-- as much of two lists as a number says
+pub take-append : (n : ℕ) (front back : List ℕ) → take n (front ++ back) ≡ take n front ++ take (n - length front) back
+take-append zero front back = let none : 0 - length front ≡ 0 = omega arith in ap (λ m. take m back) (sym none)
+take-append (suc n) [] back = let same : suc n ≡ suc n - 0 = omega arith in ap (λ m. take m back) same
+take-append (suc n) (b ∷ front) back =
+    let same : n - length front ≡ suc n - length (b ∷ front) = omega arith in
+    ap (λ bytes. b ∷ bytes) (take-append n front back ∙ ap (λ m. take n front ++ take m back) same)

@@ -1,3 +1,5 @@
 pub mod CutLemmas
 pub mod StandLemmas
 pub mod StepLemmas
+pub mod LawLemmas
+pub mod LineLemmas

@@ -1,14 +1,15 @@
 -- What the calls of a reader keep.
-use Rattle.std.proofs.Common.{◌≡◌, ◌<◌, ◌≤◌, ℕ, zero, suc, ◌+◌, ◌-◌, min, Bool, true, false, ◌&&◌, ◌||◌, not, List, [], ◌∷◌, ◌++◌, length, take, drop, nat_lt, Option, Some, None, Result, Ok, Err, refl, sym, ap, subst, ◌∙◌, arith, append_assoc, length-append, inl, inr}
+use Rattle.std.proofs.Common.{◌≡◌, ◌<◌, ◌≤◌, ℕ, ◌+◌, ◌-◌, min, Bool, true, false, ◌&&◌, ◌||◌, not, List, [], ◌∷◌, ◌++◌, length, take, drop, nat_lt, Option, Some, None, Result, Ok, Err, refl, sym, ap, subst, ◌∙◌, arith, append_assoc, length-append, inl, inr}
 use Rattle.std.proofs.lemmas.List.{append-nil, take_all}
 use Rattle.std.proofs.lemmas.Bool.{cases_lt}
 use Rattle.std.proofs.Math.Seq.{take-length}
 use Rattle.flat_core.specs.System.{System}
 use Rattle.flat_core.specs.Line.{Line, last_time}
-use Rattle.trace_reader.specs.Reading.{reading, read_on}
+use Rattle.trace_reader.specs.Reading.{Reading, reading, read_on}
 use Rattle.trace_reader.specs.Reader.{Reader, AwaitsMore}
 use Rattle.trace_reader.specs.Reads.{Reads, MayCome, after}
-use Rattle.trace_reader.proofs.CutLemmas.{read_on-first}
+use Rattle.trace_reader.proofs.CutLemmas.{take-append}
+use Rattle.trace_reader.proofs.LawLemmas.{reading_refused}
 
 -- a reader that was fed nothing
 abbrev pub fresh : System → ℕ → Reader
@@ -25,13 +26,6 @@ reads_fresh s limit = record {
   goes_on = λ more e may. refl;
   refused = λ f is. absurd (cc);
 }
-
-take-append : (n : ℕ) (front back : List ℕ) → take n (front ++ back) ≡ take n front ++ take (n - length front) back
-take-append zero front back = let none : 0 - length front ≡ 0 = omega arith in ap (λ m. take m back) (sym none)
-take-append (suc n) [] back = let same : suc n ≡ suc n - 0 = omega arith in ap (λ m. take m back) same
-take-append (suc n) (b ∷ front) back =
-    let same : n - length front ≡ suc n - length (b ∷ front) = omega arith in
-    ap (λ bytes. b ∷ bytes) (take-append n front back ∙ ap (λ m. take n front ++ take m back) same)
 
 -- a piece that is within what the limit leaves, or goes beyond it
 abbrev pub fed_more : Reader → List ℕ → Reader
@@ -70,15 +64,18 @@ reads_piece r s limit fed given piece accepted reads = record {
   refused = λ f is. absurd (cc);
 }
 
-pub reads_end : (r : Reader) (s : System) (limit : ℕ) (fed : List ℕ) (given : List Line) → r.refused ≡ None → Reads r s limit fed given false → Reads (record r { ended = true }) s limit fed given true
-reads_end r s limit fed given accepted reads = record {
+-- The end of the trace: where a fault was answered before, it stays.
+pub reads_end : (r : Reader) (s : System) (limit : ℕ) (fed : List ℕ) (given : List Line) → Reads r s limit fed given false → Reads (record r { ended = true }) s limit fed given true
+reads_end r s limit fed given reads = record {
   system = reads.system;
   ended_is = refl;
   count = reads.count;
   last = reads.last;
   past = reads.past;
   goes_on = λ more e may. reads.goes_on more e tt;
-  refused = λ f is. absurd (cc);
+  refused = λ f is.
+    let stood = reads.refused f is in
+    ap (λ bytes. reading s limit bytes true) (sym (append-nil fed)) ∙ reading_refused s limit fed [] true f (ap (λ (r : Reading). r.refused) stood) ∙ stood;
 }
 
 -- a piece of which as much is taken as is within the limit
