@@ -3,3 +3,4 @@ pub mod StandLemmas
 pub mod StepLemmas
 pub mod LawLemmas
 pub mod LineLemmas
+pub mod SplitLemmas

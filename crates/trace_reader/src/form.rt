@@ -1,6 +1,8 @@
 // The form of a trace line.
 
-ghost use Rattle.std.specs.Prelude.{◌≡◌, IsTrue, option_map};
+ghost use Rattle.std.specs.Prelude.{◌≡◌, ◌==◌, IsTrue, option_map, position};
+ghost use Rattle.std.specs.Char.{is_ascii_digit};
+ghost use Rattle.std.specs.List.{list_all};
 ghost use Rattle.tsl_value.specs.Literal.{are_digits};
 ghost use Rattle.trace_reader.specs.Borrowed.{bytes_of};
 ghost use Rattle.trace_reader.specs.Form.{behind, is_name, is_name_byte, named, parts_of, split_once, time_of};
@@ -16,11 +18,18 @@ pub(crate) struct Parts<'a> {
     pub(crate) value: &'a [u8],
 }
 
+/// The place of the first such byte.
+pub(crate) fn place_of(bytes: &[u8], mark: u8) -> Option<usize>
+    ensures { result ≡ position (λ b. b == mark) bytes.now }
+{
+    bytes.iter().position(|byte| *byte == mark)
+}
+
 /// What stands before the first such byte, and what stands behind it.
 fn split_once(bytes: &[u8], mark: u8) -> Option<(&[u8], &[u8])>
     ensures { option_map (λ p. (p.0.now, p.1.now)) result ≡ split_once mark bytes.now }
 {
-    match bytes.iter().position(|byte| *byte == mark) {
+    match place_of(bytes, mark) {
         Some(at) => Some((&bytes[..at], &bytes[at + 1..])),
         None => None,
     }
@@ -39,16 +48,28 @@ fn behind(bytes: &[u8], first: u8) -> Option<&[u8]>
 pub(crate) fn are_digits(bytes: &[u8]) -> bool
     ensures { result ≡ are_digits bytes.now }
 {
-    !bytes.is_empty() && bytes.iter().all(|byte| byte.is_ascii_digit())
+    !bytes.is_empty() && all_are_digits(bytes)
+}
+
+fn all_are_digits(bytes: &[u8]) -> bool
+    ensures { result ≡ list_all is_ascii_digit bytes.now }
+{
+    bytes.iter().all(|byte| byte.is_ascii_digit())
 }
 
 fn is_name(bytes: &[u8]) -> bool
     ensures { result ≡ is_name bytes.now }
 {
     match bytes {
-        [first, ..] => !first.is_ascii_digit() && bytes.iter().all(|byte| is_name_byte(*byte)),
+        [first, ..] => !first.is_ascii_digit() && all_are_name_bytes(bytes),
         [] => false,
     }
+}
+
+fn all_are_name_bytes(bytes: &[u8]) -> bool
+    ensures { result ≡ list_all is_name_byte bytes.now }
+{
+    bytes.iter().all(|byte| is_name_byte(*byte))
 }
 
 fn is_name_byte(byte: u8) -> bool

@@ -4,6 +4,7 @@ ghost use Rattle.std.specs.Prelude.{◌≡◌, ◌≤◌, ◌<◌, ◌+◌, ◌+
 ghost use Rattle.trace_reader.specs.Form.{split_once};
 ghost use Rattle.trace_reader.specs.Reading.{first_line};
 
+use crate::form::place_of;
 use std::alloc::Global;
 use std::marker::Model;
 use tsl_value::memory::NoMemory;
@@ -80,7 +81,7 @@ impl Unread {
         ensures line { IfSome result (λ n. (n < length self.old) × (split_once 10 self.old ≡ Some (take n self.old, drop (n + 1) self.old))) }
         ensures none { IfNone result (split_once 10 self.old ≡ None) }
     {
-        match self.bytes[self.searched..].iter().position(|byte| *byte == b'\n') {
+        match place_of(&self.bytes[self.searched..], b'\n') {
             Some(more) => Some(self.searched + more - self.start),
             None => {
                 self.searched = self.bytes.len();
