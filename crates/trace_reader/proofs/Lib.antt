@@ -4,3 +4,6 @@ pub mod StepLemmas
 pub mod LawLemmas
 pub mod LineLemmas
 pub mod SplitLemmas
+pub mod TimeLemmas
+pub mod PlaceLemmas
+pub mod HistoryLemmas

@@ -1,8 +1,10 @@
 // The form of a trace line.
 
-ghost use Rattle.std.specs.Prelude.{◌≡◌, ◌==◌, IsTrue, option_map, position};
+ghost use Rattle.std.specs.Prelude.{◌≡◌, ◌==◌, ◌<◌, ◌^◌, IsTrue, option_map, position};
 ghost use Rattle.std.specs.Char.{is_ascii_digit};
 ghost use Rattle.std.specs.List.{list_all};
+ghost use Rattle.std.specs.Option.{SomeIff};
+ghost use Rattle.std.specs.Str.Parse.{digits_value};
 ghost use Rattle.tsl_value.specs.Literal.{are_digits};
 ghost use Rattle.trace_reader.specs.Borrowed.{bytes_of};
 ghost use Rattle.trace_reader.specs.Form.{behind, is_name, is_name_byte, named, parts_of, split_once, time_of};
@@ -105,7 +107,22 @@ pub(crate) fn time_of(digits: &[u8]) -> Option<Time>
     requires { IsTrue (are_digits digits.now) }
     ensures { result ≡ time_of digits.now }
 {
-    let text = str::from_utf8(digits).ok()?;
-    let value = text.parse::<u64>().ok()?;
-    Time::new(value)
+    match number_of(digits) {
+        Some(number) => Time::new(number),
+        None => None,
+    }
+}
+
+/// The number that digits spell, where 64 bits hold it.
+fn number_of(digits: &[u8]) -> Option<u64>
+    requires { IsTrue (are_digits digits.now) }
+    ensures { SomeIff result (digits_value 10 digits.now < 2 ^ 64) (digits_value 10 digits.now) }
+{
+    match str::from_utf8(digits) {
+        Ok(text) => match text.parse::<u64>() {
+            Ok(number) => Some(number),
+            Err(_) => None,
+        },
+        Err(_) => None,
+    }
 }

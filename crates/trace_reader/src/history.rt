@@ -1,6 +1,6 @@
 // The times and inputs of the events that were read.
 
-ghost use Rattle.std.specs.Prelude.{◌≡◌, [], ◌++◌, OnErr, OnOk};
+ghost use Rattle.std.specs.Prelude.{◌≡◌, ℕ, [], ◌++◌, OnErr, OnOk};
 ghost use Rattle.trace_reader.specs.Reading.{had_event_at, with_event};
 ghost use Rattle.trace_reader.specs.History.{AreUpTo};
 
@@ -9,17 +9,20 @@ use tsl_value::ids::EqId;
 use tsl_value::memory::NoMemory;
 use tsl_value::time::Time;
 
-/// Whether the input had an event at this time. Events at later times are passed over, so this
-/// looks at the last ones alone where the time is the last.
-pub(crate) fn had_event_at(past: &[(Time, EqId)], last: Time, time: Time, input: EqId) -> bool
-    requires { AreUpTo last past.now }
+/// Whether the input had an event at this time. It looks from the last event back to the first one
+/// below the time, so at the last events alone where the time is not below theirs.
+pub(crate) fn had_event_at(past: &[(Time, EqId)], time: Time, input: EqId) -> bool
+    requires { (last : ℕ) × AreUpTo last past.now }
     ensures { result ≡ had_event_at past.now time input }
 {
-    for (before, other) in past.iter().rev() {
-        if *before < time {
+    let mut place = past.len();
+    while place > 0 {
+        place -= 1;
+        let event = &past[place];
+        if event.0 < time {
             return false;
         }
-        if *before == time && *other == input {
+        if event.0 == time && event.1 == input {
             return true;
         }
     }

@@ -6,7 +6,6 @@ mod form;
 mod history;
 pub mod laws;
 mod line;
-mod literal;
 pub mod next;
 pub mod reader;
 #[cfg(test)]

@@ -1,18 +1,24 @@
 // What a line says, and whether it may stand where it does.
 
-ghost use Rattle.std.specs.Prelude.{◌≡◌, option_map};
-ghost use Rattle.tsl_value.specs.declared.scalar.Scalar.TheVariants as scalar;
+ghost use Rattle.std.specs.Prelude.{◌≡◌, ℕ, IfOk, option_and_then};
+ghost use Rattle.std.specs.Result.{result_ok};
+ghost use Rattle.tsl_value.specs.declared.scalar.ScalarType.TheVariants as scalar_type;
+ghost use Rattle.tsl_value.specs.Literal.{literal};
+ghost use Rattle.trace_reader.specs.Borrowed.{bytes_of};
 ghost use Rattle.trace_reader.specs.History.{AreUpTo};
-ghost use Rattle.trace_reader.specs.Reading.{had_event, input_called, is_input_called, judged, placed, spelled, value_of};
+ghost use Rattle.trace_reader.specs.Judged.{IsJudged};
+ghost use Rattle.trace_reader.specs.Reading.{event_of, had_event, input_called, is_input_called, judged, placed, spelled, value_of};
 
 use crate::fault::TraceFault;
-use crate::form::{parts_of, time_of};
+use crate::form::{Parts, parts_of, time_of};
 use crate::history::had_event_at;
-use crate::literal::read_int;
 use flat_core::equation::{Equation, Op};
 use flat_core::flat::Flat;
 use flat_core::line::TraceLine;
+use std::alloc::Global;
 use tsl_value::ids::EqId;
+use tsl_value::literal::{LiteralFault, read_literal};
+use tsl_value::memory::NoMemory;
 use tsl_value::scalar::{Scalar, ScalarType, ValueType};
 use tsl_value::time::Time;
 
@@ -39,33 +45,67 @@ fn input_called(flat: &Flat, name: &[u8]) -> Option<EqId>
 }
 
 /// The value of a type that bytes spell. Numbers alone are read.
-fn value_of(of: ValueType, bytes: &[u8]) -> Option<Scalar>
-    ensures { result ≡ value_of of bytes.now }
+fn value_of(alloc: Global, of: ValueType, bytes: &[u8]) -> Result<Option<Scalar>, NoMemory>
+    ensures { IfOk result (λ v. v ≡ value_of of bytes.now) }
 {
     match of {
-        ValueType::Scalar(ScalarType::Int) => Some(Scalar::Int(read_int(bytes)?)),
-        _ => None,
+        ValueType::Scalar(ScalarType::Int) => read_number(alloc, bytes),
+        _ => Ok(None),
+    }
+}
+
+fn read_number(alloc: Global, bytes: &[u8]) -> Result<Option<Scalar>, NoMemory>
+    ensures { IfOk result (λ v. v ≡ result_ok (literal scalar_type.Int bytes.now)) }
+{
+    match read_literal(alloc, bytes, ScalarType::Int) {
+        Ok(value) => Ok(Some(value)),
+        Err(LiteralFault::Memory) => Err(NoMemory),
+        Err(_) => Ok(None),
+    }
+}
+
+/// The event that a name and a value spell, where the name is that of an input and the value is of
+/// its type.
+fn event_of(
+    alloc: Global,
+    flat: &Flat,
+    parts: &Parts<'_>,
+) -> Result<Option<(EqId, Scalar)>, NoMemory>
+    ensures { IfOk result (λ e. e ≡ option_and_then (event_of flat.now (bytes_of parts.now)) (input_called flat.now parts.now.name.now)) }
+{
+    let Some(input) = input_called(flat, parts.name) else {
+        return Ok(None);
+    };
+    match value_of(alloc, flat.equation(input).of, parts.value)? {
+        Some(value) => Ok(Some((input, value))),
+        None => Ok(None),
     }
 }
 
 /// The line that bytes spell, where they are of the form, name an input and have a value of its
 /// type.
-fn spelled(flat: &Flat, line: &[u8]) -> Option<TraceLine>
-    ensures { result ≡ spelled flat.now line.now }
+fn spelled(alloc: Global, flat: &Flat, line: &[u8]) -> Result<Option<TraceLine>, NoMemory>
+    ensures { IfOk result (λ l. l ≡ spelled flat.now line.now) }
 {
-    let parts = parts_of(line)?;
-    let time = time_of(parts.time)?;
-    let input = input_called(flat, parts.name)?;
-    let value = value_of(flat.equation(input).of, parts.value)?;
-    Some(TraceLine {
-        time,
-        event: Some((input, value)),
-    })
+    let Some(parts) = parts_of(line) else {
+        return Ok(None);
+    };
+    let Some(time) = time_of(parts.time) else {
+        return Ok(None);
+    };
+    match event_of(alloc, flat, &parts)? {
+        Some(event) => Ok(Some(TraceLine {
+            time,
+            event: Some(event),
+        })),
+        None => Ok(None),
+    }
 }
 
 /// Line number `number` behind earlier lines, of which the last has the time `last`: what it says,
 /// or why it is refused.
 pub(crate) fn judge(
+    alloc: Global,
     flat: &Flat,
     past: &[(Time, EqId)],
     last: Time,
@@ -73,9 +113,9 @@ pub(crate) fn judge(
     line: &[u8],
 ) -> Result<TraceLine, TraceFault>
     requires { AreUpTo last past.now }
-    ensures { result ≡ judged past.now last number (spelled flat.now line.now) }
+    ensures { IsJudged (judged past.now last number (spelled flat.now line.now)) result }
 {
-    match spelled(flat, line) {
+    match spelled(alloc, flat, line)? {
         Some(line) => place(past, last, number, line),
         None => Err(TraceFault::BadLine { line: number }),
     }
@@ -90,7 +130,7 @@ fn place(
     requires { AreUpTo last past.now }
     ensures { result ≡ placed past.now last number line }
 {
-    if had_event(past, last, &line) {
+    if had_event(past, &line) {
         return Err(TraceFault::BadLine { line: number });
     }
     if line.time < last {
@@ -103,12 +143,12 @@ fn place(
     Ok(line)
 }
 
-fn had_event(past: &[(Time, EqId)], last: Time, line: &TraceLine) -> bool
-    requires { AreUpTo last past.now }
+fn had_event(past: &[(Time, EqId)], line: &TraceLine) -> bool
+    requires { (last : ℕ) × AreUpTo last past.now }
     ensures { result ≡ had_event past.now line.now.time line.now.event }
 {
     match &line.event {
-        Some((input, _)) => had_event_at(past, last, line.time, *input),
+        Some((input, _)) => had_event_at(past, line.time, *input),
         None => false,
     }
 }

@@ -21,6 +21,7 @@ use tsl_value::time::Time;
 /// that were read.
 #[derive(Drop)]
 pub struct TraceReader<'f> {
+    alloc: Global,
     flat: &'f Flat,
     // How many bytes more are within the limit.
     left: u64,
@@ -75,6 +76,7 @@ impl<'f> TraceReader<'f> {
     {
         let _ = strict;
         Ok(TraceReader {
+            alloc,
             flat,
             left: limit,
             unread: Unread::new(alloc),
@@ -135,7 +137,7 @@ impl<'f> TraceReader<'f> {
         ensures { TakesLine self.old self.new len result }
     {
         let line = &self.unread.as_slice()[..len];
-        match judge(self.flat, &self.past, self.last, self.count + 1, line) {
+        match judge(self.alloc, self.flat, &self.past, self.last, self.count + 1, line) {
             Ok(line) => {
                 note_event(&mut self.past, &line)?;
                 self.unread.skip_line(len);
