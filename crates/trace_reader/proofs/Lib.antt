@@ -1,3 +1,4 @@
+pub mod JudgedLemmas
 pub mod CutLemmas
 pub mod StandLemmas
 pub mod StepLemmas
@@ -7,3 +8,4 @@ pub mod SplitLemmas
 pub mod TimeLemmas
 pub mod PlaceLemmas
 pub mod HistoryLemmas
+pub mod UnreadLemmas

@@ -2,6 +2,7 @@
 use Rattle.std.proofs.Common.{◌≡◌, ◌==◌, ◌≤◌, ◌<◌, ◌^◌, ℕ, suc, ◌+◌, ℤ, Bool, not, length, take, true, false, ◌&&◌, ◌||◌, List, [], ◌∷◌, ◌++◌, nat_lt, Option, Some, None, Result, Ok, Err, refl, sym, ap, subst, ◌∙◌, arith, append-nil}
 use Rattle.std.proofs.lemmas.Bool.{cases_Bool, ltb-true, ltb-false, lt-ltb, true≢false, eq-eqb}
 use Rattle.std.proofs.lemmas.List.Folds.{list_any-append}
+use Rattle.std.proofs.lemmas.Option.{slice_get_within}
 use Rattle.std.specs.Prelude.{if◌then◌else◌, IsTrue, is_none, slice_get}
 use Rattle.std.specs.Option.{option_and_then, option_map}
 use Rattle.std.specs.Result.{result_ok}
@@ -22,32 +23,14 @@ use Rattle.flat_core.specs.System.{System, equation}
 use Rattle.flat_core.specs.Line.{Line, IsSorted, last_time}
 use Rattle.trace_reader.specs.declared.fault.TraceFault.{TraceFault}
 use Rattle.trace_reader.specs.declared.fault.TraceFault.TheVariants as fault
+use Rattle.trace_reader.specs.History.{AreUpTo}
 use Rattle.trace_reader.specs.Form.{Parts, parts_of, time_of}
 use Rattle.trace_reader.specs.Reading.{Reading, is_input, is_input_called, input_called, value_of, event_of, spelled_at, spelled, events_of, with_event, had_event, had_event_at, placed, judged, go_on, read, lines_of, reading}
 use Rattle.trace_reader.specs.Closed.{closed_below}
 use Rattle.trace_reader.specs.Laws.{NoneAt, AreDistinct, IsInputEvent, IsProperLine}
+use Rattle.trace_reader.proofs.JudgedLemmas.{Stands, IfStands, judged_stands}
 use Rattle.trace_reader.proofs.LawLemmas.{reading_begins}
 use Rattle.trace_reader.proofs.StepLemmas.{last_time-push, events_of-push}
-
--- A line that is judged to stand is spelled, has no lower time than the last one, and no event that was there.
-pub record Stands (past : List (ℕ × ℕ)) (last : ℕ) (o : Option Line) (l : Line) : Type 0 where
-  pub is : o ≡ Some l
-  pub new : had_event past l.time l.event ≡ false
-  pub later : last ≤ l.time
-
-abbrev IfStands : List (ℕ × ℕ) → ℕ → Option Line → Result Line TraceFault → Type 0
-IfStands past last o (Ok l) = Stands past last o l
-IfStands past last o (Err f) = Unit {0}
-
-stands_if : (past : List (ℕ × ℕ)) (last n : ℕ) (l : Line) (had below : Bool) → had_event past l.time l.event ≡ had → nat_lt l.time last ≡ below →
-  IfStands past last (Some l) (if had then Err (fault.BadLine n) else (if below then Err (fault.TimeBack n last l.time) else Ok l))
-stands_if past last n l true below had_is below_is = tt
-stands_if past last n l false true had_is below_is = tt
-stands_if past last n l false false had_is below_is = record { is = refl; new = had_is; later = ltb-false l.time last below_is }
-
-judged_stands : (past : List (ℕ × ℕ)) (last n : ℕ) (o : Option Line) → IfStands past last o (judged past last n o)
-judged_stands past last n None = tt
-judged_stands past last n (Some l) = stands_if past last n l (had_event past l.time l.event) (nat_lt l.time last) refl refl
 
 -- Lines that each stand behind those before them.
 pub data StandBehind (s : System) : List (ℕ × ℕ) → ℕ → List Line → Type 0 where
@@ -272,3 +255,9 @@ pub reading_closed : (s : System) (limit : ℕ) (bytes beyond : List ℕ) (ended
 reading_closed s limit bytes beyond ended =
     let whole = reading s limit (bytes ++ beyond) ended in
     at_least (last_time (reading s limit bytes false).lines) (last_time whole.lines) (ended && is_none whole.refused) (closed_rises s limit bytes beyond ended)
+
+pub called_within : (s : System) (name : List ℕ) (i : ℕ) → Some i ≡ input_called s name → i < length s.equations
+called_within s name i is =
+    let at = found (is_input_called name) s.equations 0 i (sym is) in
+    let place : at.after ≡ i = let it = at.place_is in omega arith in
+    subst (λ (k : ℕ). k < length s.equations) place (slice_get_within s.equations at.after at.at at.is)

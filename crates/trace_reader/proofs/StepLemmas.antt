@@ -14,6 +14,7 @@ use Rattle.trace_reader.specs.Form.{split_once}
 use Rattle.trace_reader.specs.Reading.{Reading, alone, first_line, spelled, events_of, with_event, judged, go_on, overflow, reading, read_on}
 use Rattle.trace_reader.specs.Reader.{Reader, HasLine, judged_at, past_line, at_fault}
 use Rattle.trace_reader.specs.Reads.{Reads, MayCome, after, IsAllOf, SaysNext, lines_in, TakesLine, Rests}
+use Rattle.trace_reader.proofs.JudgedLemmas.{never_memory}
 use Rattle.trace_reader.proofs.CutLemmas.{split_by, split_once-append, read_by, read_on-first}
 
 -- a list of bytes that takes nothing
@@ -202,3 +203,10 @@ module _ (old : Reader) (s : System) (limit : ℕ) (fed : List ℕ) (given : Lis
   rests new (Err f) none rest =
       let long : now ≡ record { lines = given; refused = Some f } = at_rest none ∙ (λ k. record { lines = given; refused = overflow (rest.0 k) (old.count + 1) }) ∙ ap (λ g. record { lines = given; refused = Some g }) (sym rest.1) in
       answered_fault f new long rest.2
+
+-- a line that is judged not to stand is refused, and the fault is kept
+pub refuses_line : (old new : Reader) (len : ℕ) (f : TraceFault) → judged_at old len ≡ Err f → new ≡ at_fault old f → TakesLine old new len (Err f)
+refuses_line old new len (fault.BadLine n) judged kept = (judged, kept)
+refuses_line old new len (fault.TimeBack n before at) judged kept = (judged, kept)
+refuses_line old new len (fault.TraceTooLong n) judged kept = (judged, kept)
+refuses_line old new len fault.Memory judged kept = absurd (never_memory old.past old.last (old.count + 1) (spelled old.system (take len old.unread)) judged)

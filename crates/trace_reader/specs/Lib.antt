@@ -3,7 +3,6 @@ pub mod Borrowed
 pub mod History
 pub mod Reading
 pub mod Closed
-pub mod Judged
 pub mod Laws
 pub mod Reader
 pub mod Reads

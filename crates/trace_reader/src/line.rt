@@ -6,7 +6,6 @@ ghost use Rattle.tsl_value.specs.declared.scalar.ScalarType.TheVariants as scala
 ghost use Rattle.tsl_value.specs.Literal.{literal};
 ghost use Rattle.trace_reader.specs.Borrowed.{bytes_of};
 ghost use Rattle.trace_reader.specs.History.{AreUpTo};
-ghost use Rattle.trace_reader.specs.Judged.{IsJudged};
 ghost use Rattle.trace_reader.specs.Reading.{event_of, had_event, input_called, is_input_called, judged, placed, spelled, value_of};
 
 use crate::fault::TraceFault;
@@ -111,13 +110,13 @@ pub(crate) fn judge(
     last: Time,
     number: u64,
     line: &[u8],
-) -> Result<TraceLine, TraceFault>
+) -> Result<Result<TraceLine, TraceFault>, NoMemory>
     requires { AreUpTo last past.now }
-    ensures { IsJudged (judged past.now last number (spelled flat.now line.now)) result }
+    ensures { IfOk result (λ j. j ≡ judged past.now last number (spelled flat.now line.now)) }
 {
     match spelled(alloc, flat, line)? {
-        Some(line) => place(past, last, number, line),
-        None => Err(TraceFault::BadLine { line: number }),
+        Some(line) => Ok(place(past, last, number, line)),
+        None => Ok(Err(TraceFault::BadLine { line: number })),
     }
 }
 

@@ -1,6 +1,6 @@
 // The reader of a trace.
 
-ghost use Rattle.std.specs.Prelude.{◌≡◌, ◌≤◌, ◌^◌, ◌⊎◌, [], ◌++◌, ◌&&◌, not, ℕ, Bool, List, false, true, length, IfOk, OnOk, OnErr};
+ghost use Rattle.std.specs.Prelude.{◌≡◌, ◌≤◌, ◌<◌, ◌^◌, ◌⊎◌, [], ◌++◌, ◌&&◌, not, ℕ, Bool, List, false, true, length, IfOk, OnOk, OnErr};
 
 use crate::fault::TraceFault;
 use crate::history::note_event;
@@ -133,11 +133,13 @@ impl<'f> TraceReader<'f> {
     /// Gives the first line that stands.
     fn take_line(&mut self, len: usize) -> Result<Next, TraceFault>
         requires line { HasLine self.old len }
+        requires within { len ≤ length self.old.unread }
+        requires some { 0 < length self.old.unread }
         requires accepted { self.old.refused ≡ None }
         ensures { TakesLine self.old self.new len result }
     {
         let line = &self.unread.as_slice()[..len];
-        match judge(self.alloc, self.flat, &self.past, self.last, self.count + 1, line) {
+        match judge(self.alloc, self.flat, &self.past, self.last, self.count + 1, line)? {
             Ok(line) => {
                 note_event(&mut self.past, &line)?;
                 self.unread.skip_line(len);

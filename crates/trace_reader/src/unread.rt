@@ -65,7 +65,8 @@ impl Unread {
     pub(crate) fn line_len(&mut self, ended: bool) -> Option<usize>
         ensures same { self.new ≡ self.old }
         ensures line { IfSome result (λ n. first_line self.old ended ≡ Some (take n self.old, drop (n + 1) self.old)) }
-        ensures within { IfSome result (λ n. (n ≤ length self.old) × (0 < length self.old)) }
+        ensures within { IfSome result (λ n. n ≤ length self.old) }
+        ensures some { IfSome result (λ n. 0 < length self.old) }
         ensures none { IfNone result (first_line self.old ended ≡ None) }
     {
         match self.end_of_line() {
