@@ -210,3 +210,7 @@ refuses_line old new len (fault.BadLine n) judged kept = (judged, kept)
 refuses_line old new len (fault.TimeBack n before at) judged kept = (judged, kept)
 refuses_line old new len (fault.TraceTooLong n) judged kept = (judged, kept)
 refuses_line old new len fault.Memory judged kept = absurd (never_memory old.past old.last (old.count + 1) (spelled old.system (take len old.unread)) judged)
+
+pub none_from : {A : Type 0} (o : Option A) → ((x : A) → o ≡ Some x → ⊥) → o ≡ None
+none_from None not = refl
+none_from (Some x) not = absurd (not x refl)

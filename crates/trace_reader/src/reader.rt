@@ -124,10 +124,18 @@ impl<'f> TraceReader<'f> {
         if let Some(fault) = &self.refused {
             return Err(fault.copy());
         }
-        match self.unread.line_len(self.ended && !self.over) {
+        let last_counts = self.last_counts();
+        match self.unread.line_len(last_counts) {
             Some(len) => self.take_line(len),
             None => self.next_at_rest(),
         }
+    }
+
+    /// Whether bytes behind the last line's end are a line.
+    fn last_counts(&self) -> bool
+        ensures { result ≡ (self.now.ended && not self.now.over) }
+    {
+        self.ended && !self.over
     }
 
     /// Gives the first line that stands.
