@@ -9,3 +9,4 @@ pub mod TimeLemmas
 pub mod PlaceLemmas
 pub mod HistoryLemmas
 pub mod UnreadLemmas
+pub mod GatherLemmas

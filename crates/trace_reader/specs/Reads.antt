@@ -73,6 +73,10 @@ pub record AnswersAgain (old new : Reader) (result : Result Next TraceFault) : T
   pub kept : Keeps old new result
   pub again : (f : TraceFault) → old.refused ≡ Some f → (result ≡ Err f) × (new ≡ old)
 
+abbrev pub IfLine : Result Next TraceFault → Type 0 → Type 0
+IfLine (Ok (next.Line l)) P = P
+IfLine _ P = ⊤
+
 abbrev pub IfMore : Result Next TraceFault → Type 0 → Type 0
 IfMore (Ok next.More) P = P
 IfMore _ P = ⊤

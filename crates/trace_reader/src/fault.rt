@@ -2,6 +2,7 @@
 
 ghost use Rattle.std.specs.Prelude.{◌≡◌};
 
+use std::alloc::AllocError;
 use tsl_value::memory::NoMemory;
 use tsl_value::time::Time;
 
@@ -43,6 +44,16 @@ impl From<NoMemory> for TraceFault {
     ghost from_gives = { λ _ fault. fault ≡ Memory };
 
     fn from(_none: NoMemory) -> TraceFault {
+        TraceFault::Memory
+    }
+}
+
+impl From<AllocError> for TraceFault {
+    ghost use Rattle.trace_reader.specs.declared.fault.TraceFault.TheVariants.{Memory};
+
+    ghost from_gives = { λ _ fault. fault ≡ Memory };
+
+    fn from(_none: AllocError) -> TraceFault {
         TraceFault::Memory
     }
 }

@@ -1,6 +1,6 @@
 // The reader of a trace.
 
-ghost use Rattle.std.specs.Prelude.{◌≡◌, ◌≤◌, ◌<◌, ◌^◌, ◌⊎◌, [], ◌++◌, ◌&&◌, not, ℕ, Bool, List, false, true, length, IfOk, OnOk, OnErr};
+ghost use Rattle.std.specs.Prelude.{◌≡◌, ◌≤◌, ◌<◌, ◌^◌, ◌⊎◌, [], ◌∷◌, ◌++◌, ◌&&◌, not, ℕ, Bool, List, false, true, length, IfOk, OnOk, OnErr, vec_capacity, vec_len};
 
 use crate::fault::TraceFault;
 use crate::history::note_event;
@@ -58,7 +58,7 @@ impl<'f> TraceReader<'f> {
     ghost use Rattle.trace_reader.specs.declared.fault.TraceFault.TheVariants.{Memory};
     ghost use Rattle.trace_reader.specs.Reader.{AwaitsMore, HasLine};
     ghost use Rattle.trace_reader.specs.Reading.{first_line, reading};
-    ghost use Rattle.trace_reader.specs.Reads.{AnswersAgain, Gathers, IfMore, IfRestMore, Reads, Rests, SaysNext, TakesLine, lines_in};
+    ghost use Rattle.trace_reader.specs.Reads.{AnswersAgain, Gathers, IfLine, IfMore, IfRestMore, Reads, Rests, SaysNext, TakesLine, lines_in};
 
     /// A reader of the trace of a system's inputs, which was fed nothing. At most `limit` bytes of a
     /// trace are read. Lines of other names are refused, and `strict` does not change this yet.
@@ -120,6 +120,7 @@ impl<'f> TraceReader<'f> {
         ensures reads { (s : System) (limit : ℕ) (fed : List ℕ) (given : List Line) (ended : Bool) → Reads self.old s limit fed given ended → Reads self.new s limit fed (given ++ lines_in result) ended }
         ensures more { IfMore result (AwaitsMore self.new) }
         ensures again { AnswersAgain self.old self.new result }
+        ensures fewer { IfLine result (length self.new.unread < length self.old.unread) }
     {
         if let Some(fault) = &self.refused {
             return Err(fault.copy());
@@ -187,12 +188,20 @@ impl<'f> TraceReader<'f> {
         ensures more { IfRestMore result (AwaitsMore self.new) }
     {
         loop {
-            lines.reserve(1).map_err(|_| TraceFault::Memory)?;
+            lines.reserve(1)?;
             match self.next_line()? {
-                Next::Line(line) => lines.push(line).map_err(|_| TraceFault::Memory)?,
+                Next::Line(line) => put(lines, line),
                 Next::More => return Ok(Rest::More),
                 Next::End => return Ok(Rest::End),
             }
         }
     }
+}
+
+/// Appends a line, for which there is room.
+fn put(lines: &mut Vec<TraceLine>, line: TraceLine)
+    requires { vec_len lines.old < vec_capacity lines.old }
+    ensures { lines.new.items ≡ lines.old.items ++ line ∷ [] }
+{
+    let _ = lines.push(line);
 }
