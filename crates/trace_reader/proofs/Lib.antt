@@ -1,3 +1,4 @@
+mod Examples
 pub mod JudgedLemmas
 pub mod CutLemmas
 pub mod StandLemmas
