@@ -1,0 +1,13 @@
+mod Examples
+pub mod JudgedLemmas
+pub mod CutLemmas
+pub mod StandLemmas
+pub mod StepLemmas
+pub mod LawLemmas
+pub mod LineLemmas
+pub mod SplitLemmas
+pub mod TimeLemmas
+pub mod PlaceLemmas
+pub mod HistoryLemmas
+pub mod UnreadLemmas
+pub mod GatherLemmas

@@ -1,0 +1,15 @@
+use Rattle.std.proofs.Common.{ℕ, Bool, List, length}
+use Rattle.flat_core.specs.System.{System}
+use Rattle.flat_core.specs.Line.{Line}
+use Rattle.trace_reader.specs.Reads.{Reads}
+use Rattle.trace_reader.proofs.GatherLemmas.{HasGathered}
+use Rattle.trace_reader.proofs.reader.TraceReader.read_all.Given as goal
+
+-- for every trace and lines for which the reader stood
+abbrev pub invariant-loop-self : goal.invariant-loop-self
+invariant-loop-self l =
+    (s : System) (limit : ℕ) (fed : List ℕ) (given : List Line) (ended : Bool) → Reads l.fn.self s limit fed given ended →
+      HasGathered l.self s limit fed given ended l.fn.lines.items l.lines.items
+
+abbrev pub decreases-loop-self : goal.decreases-loop-self
+decreases-loop-self l = length l.self.unread

@@ -1,0 +1,6 @@
+-- The parts of a line that the code borrows.
+use Rattle.trace_reader.specs.declared.form.Parts.{Parts as BorrowedParts}
+use Rattle.trace_reader.specs.Form.{Parts}
+
+abbrev pub bytes_of : BorrowedParts → Parts
+bytes_of parts = record { time = parts.time.now; name = parts.name.now; value = parts.value.now }

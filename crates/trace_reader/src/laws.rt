@@ -1,0 +1,38 @@
+// What holds of every reading of a trace, as the contracts of functions that do nothing.
+
+ghost use Rattle.trace_reader.specs.Laws.{ClosedStays, EventsAreDistinct, LaterLinesAreLater, LinesAreProper, LinesAreSorted, LinesStay, RefusalStays};
+
+/// The lines of a beginning of a trace are the first lines of the whole.
+pub fn lines_stay()
+    ensures { LinesStay }
+{}
+
+/// What a beginning is refused for, the whole is refused for.
+pub fn refusal_stays()
+    ensures { RefusalStays }
+{}
+
+/// The times of lines never fall.
+pub fn lines_are_sorted()
+    ensures { LinesAreSorted }
+{}
+
+/// Each time is below 2^63, and each event is one of an input and of its type.
+pub fn lines_are_proper()
+    ensures { LinesAreProper }
+{}
+
+/// An input has one event at a time at most.
+pub fn events_are_distinct()
+    ensures { EventsAreDistinct }
+{}
+
+/// Lines that follow a beginning's last line have no lower times.
+pub fn later_lines_are_later()
+    ensures { LaterLinesAreLater }
+{}
+
+/// What a beginning closes, the whole closes.
+pub fn closed_stays()
+    ensures { ClosedStays }
+{}
