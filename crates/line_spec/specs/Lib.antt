@@ -1,0 +1,6 @@
+pub mod Name
+pub mod Item
+pub mod Table
+pub mod Meaning
+pub mod Reading
+pub mod Laws

@@ -1,0 +1,26 @@
+-- Names.
+use Rattle.std.specs.Prelude.{ℕ, ◌==◌, Bool, not, ◌&&◌, ◌||◌, nat_le, List, [], ◌∷◌, length, codes, slice_index}
+use Rattle.std.specs.Char.{is_ascii_digit, is_ascii_alphabetic}
+use Rattle.std.specs.List.{list_all, list_any}
+use Rattle.std.specs.Str.{bytes_eq}
+
+-- the words of the language, and the names that it has itself
+abbrev pub words : List (List ℕ)
+words =
+    codes "in" ∷ codes "def" ∷ codes "out" ∷ codes "as" ∷ codes "if" ∷ codes "then" ∷ codes "else" ∷ codes "true" ∷ codes "false" ∷ []
+
+abbrev pub built_in : List (List ℕ)
+built_in =
+    codes "unit" ∷ codes "nil" ∷ codes "time" ∷ codes "last" ∷ codes "delay" ∷ codes "merge" ∷ codes "default" ∷ codes "lift" ∷ codes "const" ∷ codes "filter" ∷ codes "isSome" ∷ codes "isNone" ∷ codes "getSome" ∷ codes "Some" ∷ codes "None" ∷ codes "Set" ∷ codes "Map" ∷ codes "String" ∷ []
+
+abbrev pub is_taken : List ℕ → Bool
+is_taken text = list_any (bytes_eq text) words || list_any (bytes_eq text) built_in
+
+-- a letter, a digit or `_`
+abbrev pub is_name_byte : ℕ → Bool
+is_name_byte b = is_ascii_alphabetic b || is_ascii_digit b || b == 95
+
+-- 1 to 255 of these, the first no digit, and no name that is taken
+abbrev pub is_name : List ℕ → Bool
+is_name text =
+    nat_le 1 (length text) && nat_le (length text) 255 && list_all is_name_byte text && not (is_ascii_digit (slice_index text 0)) && not (is_taken text)

@@ -1,0 +1,8 @@
+// A specification with one item on each line, read into its flat system.
+#![tactic(auto)]
+
+pub mod item;
+pub mod laws;
+pub mod name;
+pub mod read;
+pub mod table;
