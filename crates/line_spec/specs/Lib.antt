@@ -1,5 +1,6 @@
 pub mod Name
 pub mod Item
+pub mod Parts
 pub mod Table
 pub mod Meaning
 pub mod Reading

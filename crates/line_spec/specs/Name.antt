@@ -20,7 +20,10 @@ is_taken text = list_any (bytes_eq text) words || list_any (bytes_eq text) built
 abbrev pub is_name_byte : ℕ → Bool
 is_name_byte b = is_ascii_alphabetic b || is_ascii_digit b || b == 95
 
--- 1 to 255 of these, the first no digit, and no name that is taken
+-- 1 to 255 bytes that begin with no digit
+abbrev pub begins_no_number : List ℕ → Bool
+begins_no_number text = nat_le 1 (length text) && nat_le (length text) 255 && not (is_ascii_digit (slice_index text 0))
+
+-- of this form, and not taken
 abbrev pub is_name : List ℕ → Bool
-is_name text =
-    nat_le 1 (length text) && nat_le (length text) 255 && list_all is_name_byte text && not (is_ascii_digit (slice_index text 0)) && not (is_taken text)
+is_name text = begins_no_number text && list_all is_name_byte text && not (is_taken text)

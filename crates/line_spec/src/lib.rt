@@ -3,6 +3,7 @@
 
 pub mod item;
 pub mod laws;
+pub mod line;
 pub mod name;
 pub mod read;
 pub mod table;

@@ -14,8 +14,9 @@ pub enum SpecLineFault {
 
 impl From<NoMemory> for SpecLineFault {
     ghost use Rattle.std.specs.Prelude.{◌≡◌};
+    ghost use Rattle.line_spec.specs.declared.read.SpecLineFault.TheVariants.{Memory};
 
-    ghost from_gives = { λ _ e. e ≡ SpecLineFault.Memory };
+    ghost from_gives = { λ _ e. e ≡ Memory };
 
     fn from(_error: NoMemory) -> SpecLineFault {
         SpecLineFault::Memory
