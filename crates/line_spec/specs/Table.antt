@@ -26,8 +26,11 @@ abbrev pub numbered : Declared → List Declaration
 numbered t = t.inputs ++ t.definitions
 
 -- the type of a name that is declared
+abbrev pub type_among : List Declaration → List ℕ → Option ScalarType
+type_among ds n = option_map (λ d. d.of) (find (λ d. bytes_eq d.name n) ds)
+
 abbrev pub type_in : Declared → List ℕ → Option ScalarType
-type_in t n = option_map (λ d. d.of) (find (λ d. bytes_eq d.name n) (numbered t))
+type_in t n = type_among (numbered t) n
 
 abbrev pub same_type : ScalarType → ScalarType → Bool
 same_type scalar_type.Unit scalar_type.Unit = true
@@ -62,14 +65,22 @@ is_free t n = is_none (type_in t n) && nat_lt (length (numbered t)) 4096
 abbrev pub is_allowed : Declared → Item → Bool
 is_allowed t (item.Input n) = is_free t n
 is_allowed t (item.Definition n e) = is_free t n && is_some (expression_type t e)
-is_allowed t (item.Output n) = is_some (type_in t n) && not (list_any (bytes_eq n) t.outputs)
+is_allowed t (item.Output n) = not (list_any (λ m. bytes_eq m n) t.outputs) && is_some (type_in t n)
 
 -- what is declared with one more line
+abbrev pub with_input : Declared → List ℕ → Declared
+with_input t n = record t { inputs = t.inputs ++ record { name = n; expression = None; of = scalar_type.Int; line = t.lines + 1 } ∷ []; lines = t.lines + 1 }
+
+abbrev pub with_definition : Declared → List ℕ → Expression → ScalarType → Declared
+with_definition t n e of = record t { definitions = t.definitions ++ record { name = n; expression = Some e; of = of; line = t.lines + 1 } ∷ []; lines = t.lines + 1 }
+
+abbrev pub with_output : Declared → List ℕ → Declared
+with_output t n = record t { outputs = t.outputs ++ n ∷ []; lines = t.lines + 1 }
+
 abbrev pub with_item : Declared → Item → Declared
-with_item t (item.Input n) = record t { inputs = t.inputs ++ record { name = n; expression = None; of = scalar_type.Int; line = t.lines + 1 } ∷ []; lines = t.lines + 1 }
-with_item t (item.Definition n e) =
-    record t { definitions = t.definitions ++ record { name = n; expression = Some e; of = unwrap_or (expression_type t e) scalar_type.Int; line = t.lines + 1 } ∷ []; lines = t.lines + 1 }
-with_item t (item.Output n) = record t { outputs = t.outputs ++ n ∷ []; lines = t.lines + 1 }
+with_item t (item.Input n) = with_input t n
+with_item t (item.Definition n e) = with_definition t n e (unwrap_or (expression_type t e) scalar_type.Int)
+with_item t (item.Output n) = with_output t n
 
 -- with all of them
 abbrev pub with_items : Declared → List Item → Declared
