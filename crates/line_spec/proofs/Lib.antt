@@ -1,3 +1,5 @@
 pub mod NameLemmas
 pub mod PartsLemmas
 pub mod TableLemmas
+pub mod Sound
+pub mod Systems

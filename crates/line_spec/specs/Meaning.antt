@@ -1,22 +1,23 @@
 -- The flat system of what is declared.
-use Rattle.std.specs.Prelude.{◌≡◌, ℕ, ◌+◌, List, [], ◌∷◌, length, map, Option, Some, None}
+use Rattle.std.specs.Prelude.{◌≡◌, ℕ, ◌+◌, List, [], ◌∷◌, length, map, IsTrue, ◌↔◌, Option, Some, None}
+use Rattle.std.specs.List.Sorted.{IsStrictlyIncreasing}
 use Rattle.std.specs.List.{position_or_len}
-use Rattle.std.specs.Str.{bytes_eq}
 use Rattle.tsl_value.specs.declared.place.Place.{Place}
 use Rattle.tsl_value.specs.declared.scalar.ValueType.TheVariants as value_type
 use Rattle.flat_core.specs.declared.equation.Op.{Op}
 use Rattle.flat_core.specs.declared.equation.Op.TheVariants as op
 use Rattle.flat_core.specs.declared.equation.Equation.{Equation}
 use Rattle.flat_core.specs.declared.equation.Output.{Output}
-use Rattle.flat_core.specs.System.{System}
+use Rattle.flat_core.specs.System.{System, runs}
+use Rattle.flat_core.specs.Needed.{IsNeeded}
 use Rattle.line_spec.specs.declared.item.Expression.{Expression}
 use Rattle.line_spec.specs.declared.item.Expression.TheVariants as expression
 use Rattle.line_spec.specs.declared.table.Declaration.{Declaration}
-use Rattle.line_spec.specs.Table.{Declared, numbered}
+use Rattle.line_spec.specs.Table.{Declared, numbered, is_named}
 
 -- the number of a name: where it stands among the inputs and then the definitions
 abbrev pub number_of : List Declaration → List ℕ → ℕ
-number_of ds n = position_or_len (λ d. bytes_eq d.name n) ds
+number_of ds n = position_or_len (is_named n) ds
 
 abbrev pub op_of : Option Expression → Op
 op_of None = op.Input
@@ -48,7 +49,9 @@ equation_of ds d = record { op = op_of d.expression; args = arguments_of ds d.ex
 abbrev pub output_of : List Declaration → List ℕ → Output
 output_of ds n = record { name = n; equation = number_of ds n }
 
--- the system of what is declared
+-- the system of what is declared, in which those equations run that the outputs need
 pub record IsSystem (t : Declared) (s : System) : Type 0 where
   pub equations : s.equations ≡ map (equation_of (numbered t)) (numbered t)
   pub outputs : s.outputs ≡ map (output_of (numbered t)) t.outputs
+  pub ascending : IsStrictlyIncreasing s.running
+  pub needed : (i : ℕ) → IsTrue (runs s i) ↔ IsNeeded s i

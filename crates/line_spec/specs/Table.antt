@@ -25,12 +25,13 @@ nothing = record { inputs = []; definitions = []; outputs = []; lines = 0 }
 abbrev pub numbered : Declared → List Declaration
 numbered t = t.inputs ++ t.definitions
 
--- the type of a name that is declared
-abbrev pub type_among : List Declaration → List ℕ → Option ScalarType
-type_among ds n = option_map (λ d. d.of) (find (λ d. bytes_eq d.name n) ds)
+-- the declaration has this name
+abbrev pub is_named : List ℕ → Declaration → Bool
+is_named n d = bytes_eq d.name n
 
-abbrev pub type_in : Declared → List ℕ → Option ScalarType
-type_in t n = type_among (numbered t) n
+-- the type of a name, if it is declared among these
+abbrev pub type_among : List Declaration → List ℕ → Option ScalarType
+type_among ds n = option_map (λ d. d.of) (find (is_named n) ds)
 
 abbrev pub same_type : ScalarType → ScalarType → Bool
 same_type scalar_type.Unit scalar_type.Unit = true
@@ -49,23 +50,23 @@ abbrev pub first_type : Option ScalarType → Option ScalarType → Option Scala
 first_type (Some a) (Some b) = Some a
 first_type _ _ = None
 
--- the type of an expression, if its names are declared and their types go together
-abbrev pub expression_type : Declared → Expression → Option ScalarType
-expression_type t expression.Nil = Some scalar_type.Int
-expression_type t expression.Unit = Some scalar_type.Unit
-expression_type t (expression.Time a) = option_map (λ _. scalar_type.Int) (type_in t a)
-expression_type t (expression.Last v r) = first_type (type_in t v) (type_in t r)
-expression_type t (expression.Merge a b) = common_type (type_in t a) (type_in t b)
+-- the type of an expression, if its names are declared among these and their types go together
+abbrev pub expression_type : List Declaration → Expression → Option ScalarType
+expression_type ds expression.Nil = Some scalar_type.Int
+expression_type ds expression.Unit = Some scalar_type.Unit
+expression_type ds (expression.Time a) = option_map (λ _. scalar_type.Int) (type_among ds a)
+expression_type ds (expression.Last v r) = first_type (type_among ds v) (type_among ds r)
+expression_type ds (expression.Merge a b) = common_type (type_among ds a) (type_among ds b)
 
 -- the name is free, and there is a number for it
 abbrev pub is_free : Declared → List ℕ → Bool
-is_free t n = is_none (type_in t n) && nat_lt (length (numbered t)) 4096
+is_free t n = is_none (type_among (numbered t) n) && nat_lt (length (numbered t)) 4096
 
 -- the item may stand behind the lines
 abbrev pub is_allowed : Declared → Item → Bool
 is_allowed t (item.Input n) = is_free t n
-is_allowed t (item.Definition n e) = is_free t n && is_some (expression_type t e)
-is_allowed t (item.Output n) = not (list_any (λ m. bytes_eq m n) t.outputs) && is_some (type_in t n)
+is_allowed t (item.Definition n e) = is_free t n && is_some (expression_type (numbered t) e)
+is_allowed t (item.Output n) = not (list_any (λ m. bytes_eq m n) t.outputs) && is_some (type_among (numbered t) n)
 
 -- what is declared with one more line
 abbrev pub with_input : Declared → List ℕ → Declared
@@ -79,7 +80,7 @@ with_output t n = record t { outputs = t.outputs ++ n ∷ []; lines = t.lines + 
 
 abbrev pub with_item : Declared → Item → Declared
 with_item t (item.Input n) = with_input t n
-with_item t (item.Definition n e) = with_definition t n e (unwrap_or (expression_type t e) scalar_type.Int)
+with_item t (item.Definition n e) = with_definition t n e (unwrap_or (expression_type (numbered t) e) scalar_type.Int)
 with_item t (item.Output n) = with_output t n
 
 -- with all of them

@@ -1,6 +1,7 @@
 // A specification with one item on each line, read into its flat system.
 #![tactic(auto)]
 
+pub mod build;
 pub mod item;
 pub mod laws;
 pub mod line;

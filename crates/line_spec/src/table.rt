@@ -4,7 +4,7 @@ ghost use Rattle.std.specs.Prelude.{◌≡◌, ◌+◌, ◌<◌, ◌^◌, ◌++�
 ghost use Rattle.std.specs.Option.{option_map};
 ghost use Rattle.std.specs.List.{find, list_any};
 ghost use Rattle.std.specs.Str.{bytes_eq};
-ghost use Rattle.line_spec.specs.Table.{type_among, type_in, same_type, common_type, expression_type, is_free, is_allowed, with_item, with_input, with_definition, with_output};
+ghost use Rattle.line_spec.specs.Table.{type_among, numbered, same_type, common_type, expression_type, is_free, is_allowed, with_item, with_input, with_definition, with_output};
 
 use crate::item::{Expression, Item};
 use std::alloc::Global;
@@ -20,6 +20,17 @@ pub struct Declaration {
     pub expression: Option<Expression>,
     pub of: ScalarType,
     pub line: u32,
+}
+
+impl Declaration {
+    ghost use Rattle.line_spec.specs.Table.{is_named};
+
+    /// It declares this name.
+    pub fn is_named(&self, name: &str) -> bool
+        ensures { result ≡ is_named name.now self.now }
+    {
+        self.name.as_str() == name
+    }
 }
 
 /// The inputs, the definitions and the outputs, each in the order of their lines, and the number of the lines.
@@ -57,7 +68,7 @@ fn type_among(declarations: &[Declaration], name: &str) -> Option<ScalarType>
 {
     declarations
         .iter()
-        .find(|declaration| declaration.name.as_str() == name)
+        .find(|declaration| declaration.is_named(name))
         .map(|declaration| declaration.of)
 }
 
@@ -92,9 +103,9 @@ impl Table {
     }
 
     /// The type of a name, if it is declared.
-    #[tactic(auto, using(crate::proofs::TableLemmas::type_in_parts))]
+    #[tactic(auto, using(crate::proofs::TableLemmas::type_among_append))]
     fn type_of(&self, name: &str) -> Option<ScalarType>
-        ensures { result ≡ type_in self.now name.now }
+        ensures { result ≡ type_among (numbered self.now) name.now }
     {
         match type_among(&self.inputs, name) {
             Some(of) => Some(of),
@@ -104,7 +115,7 @@ impl Table {
 
     /// The type of an expression, if its names are declared and their types go together.
     fn expression_type(&self, expression: &Expression) -> Option<ScalarType>
-        ensures { result ≡ expression_type self.now expression.now }
+        ensures { result ≡ expression_type (numbered self.now) expression.now }
     {
         match expression {
             Expression::Nil => Some(ScalarType::Int),
