@@ -3,3 +3,5 @@ pub mod PartsLemmas
 pub mod TableLemmas
 pub mod Sound
 pub mod Systems
+pub mod ReadLemmas
+pub mod LawLemmas

@@ -20,7 +20,7 @@ use Rattle.line_spec.specs.Parts.{behind, name_len, take_name, with_rest, name_t
 use Rattle.line_spec.proofs.NameLemmas.{both_true, is_name-bytes, begins_other, name_len-append}
 
 -- options
-and_then-some : {A B : Type 0} (f : A → Option B) (o : Option A) (y : B) → option_and_then f o ≡ Some y → (x : A) × (o ≡ Some x) × (f x ≡ Some y)
+pub and_then-some : {A B : Type 0} (f : A → Option B) (o : Option A) (y : B) → option_and_then f o ≡ Some y → (x : A) × (o ≡ Some x) × (f x ≡ Some y)
 and_then-some f None y h = (cc)
 and_then-some f (Some x) y h = (x, refl, h)
 

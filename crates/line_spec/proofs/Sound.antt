@@ -2,7 +2,8 @@
 use Rattle.std.proofs.Common.{◌≡◌, ◌≢◌, ℕ, ◌+◌, ◌<◌, ◌≤◌, Bool, true, false, ◌||◌, ◌&&◌, not, cond, List, [], ◌∷◌, ◌++◌, length, refl, ap, ◌∙◌, sym, subst, arith, Option, Some, None, append_assoc, append-nil, if◌then◌else◌}
 use Rattle.std.specs.Prelude.{is_some, is_none, nat_lt, nat_le, unwrap_or, IsTrue}
 use Rattle.std.specs.Option.{option_map}
-use Rattle.std.specs.List.{list_any, list_all, AllByRecursion}
+use Rattle.std.specs.List.{list_any, list_all, AllByRecursion, All}
+use Rattle.std.proofs.lemmas.List.Elements.{All-from_recursion}
 use Rattle.std.specs.Str.{bytes_eq}
 use Rattle.std.proofs.lemmas.List.{length-append}
 use Rattle.std.proofs.lemmas.List.Folds.{list_any-append}
@@ -17,7 +18,7 @@ use Rattle.line_spec.specs.declared.item.Expression.TheVariants as expression
 use Rattle.line_spec.specs.declared.table.Declaration.{Declaration}
 use Rattle.line_spec.specs.Name.{is_name, is_name_byte, begins_no_number, is_taken}
 use Rattle.line_spec.specs.Item.{used_names, item_names}
-use Rattle.line_spec.specs.Table.{Declared, nothing, numbered, is_named, type_among, same_type, common_type, first_type, expression_type, is_free, is_allowed, with_input, with_definition, with_output, with_item, with_items, AreAllowed}
+use Rattle.line_spec.specs.Table.{Declared, nothing, numbered, is_named, type_among, same_type, common_type, first_type, expression_type, is_free, is_allowed, with_input, with_definition, with_output, with_item, with_items, AreAllowed, IsDeclared}
 use Rattle.line_spec.proofs.NameLemmas.{both_true}
 use Rattle.line_spec.proofs.TableLemmas.{is_some-find, find-insert, list_any-insert}
 
@@ -48,14 +49,14 @@ AreDifferent [] = Unit {0}
 AreDifferent (d ∷ ds) = (list_any (is_named d.name) ds ≡ false) × AreDifferent ds
 
 pub record AreSound (ds : List Declaration) : Type 0 where
-  pub short : AllByRecursion (λ d. length d.name ≤ 255) ds
+  pub named : AllByRecursion (λ d. is_name d.name ≡ true) ds
   pub typed : AllByRecursion (λ d. HasType ds d.expression d.of) ds
   pub earlier : AreEarlier [] ds
   pub different : AreDifferent ds
 
 -- a declaration that may stand between xs and ys
 record MayStand (xs : List Declaration) (d : Declaration) (ys : List Declaration) : Type 0 where
-  short : length d.name ≤ 255
+  named : is_name d.name ≡ true
   typed : HasType (xs ++ ys) d.expression d.of
   known : HaveAll xs (names_of d.expression)
   new : list_any (is_named d.name) (xs ++ ys) ≡ false
@@ -188,7 +189,7 @@ sound-insert : (xs : List Declaration) (d : Declaration) (ys : List Declaration)
 sound-insert xs d ys may h =
     let stays = λ (n : List ℕ) (of : ScalarType) (e : type_among (xs ++ ys) n ≡ Some of). type_among-insert xs d ys n of may.new e in
     record {
-      short = all-insert (λ (d : Declaration). length d.name ≤ 255) xs d ys may.short h.short;
+      named = all-insert (λ (d : Declaration). is_name d.name ≡ true) xs d ys may.named h.named;
       typed =
         all-insert (λ (c : Declaration). HasType (xs ++ d ∷ ys) c.expression c.of) xs d ys (HasType-stays (xs ++ ys) (xs ++ d ∷ ys) stays d.expression d.of may.typed)
         (all-map (λ (c : Declaration). HasType (xs ++ ys) c.expression c.of) (λ (c : Declaration). HasType (xs ++ d ∷ ys) c.expression c.of) (λ c k. HasType-stays (xs ++ ys) (xs ++ d ∷ ys) stays c.expression c.of k) (xs ++ ys) h.typed);
@@ -213,14 +214,14 @@ pub record IsSound (t : Declared) : Type 0 where
 abbrev pub AreNames : List (List ℕ) → Type 0
 AreNames names = IsTrue (list_all is_name names)
 
-name-short : (n : List ℕ) → is_name n ≡ true → length n ≤ 255
+pub name-short : (n : List ℕ) → is_name n ≡ true → length n ≤ 255
 name-short n h =
     let form = both_true (begins_no_number n) (list_all is_name_byte n) (both_true (begins_no_number n && list_all is_name_byte n) (not (is_taken n)) h).0 in
     let long = both_true (nat_le 1 (length n)) (nat_le (length n) 255) (both_true (nat_le 1 (length n) && nat_le (length n) 255) _ form.0).0 in
     grind (arith, nat_tests, long.1)
 
-first-name : (n : List ℕ) (names : List (List ℕ)) → AreNames (n ∷ names) → length n ≤ 255
-first-name n names h = name-short n (both_true (is_name n) (list_all is_name names) h).0
+first-name : (n : List ℕ) (names : List (List ℕ)) → AreNames (n ∷ names) → is_name n ≡ true
+first-name n names h = (both_true (is_name n) (list_all is_name names) h).0
 
 -- a free name is new, and there is room for it
 free-new : (t : Declared) (n : List ℕ) → is_free t n ≡ true → (list_any (is_named n) (numbered t) ≡ false) × (length (numbered t) < 4096)
@@ -261,7 +262,7 @@ sound-input : (t : Declared) (n : List ℕ) → AreNames (n ∷ []) → is_free 
 sound-input t n names free h =
     let new = free-new t n free in
     table-insert t (with_input t n) t.inputs (new_input t n) t.definitions refl (append_assoc t.inputs (new_input t n ∷ []) t.definitions) refl refl
-      (record { short = first-name n [] names; typed = tt; known = tt; new = new.0 }) new.1 h
+      (record { named = first-name n [] names; typed = tt; known = tt; new = new.0 }) new.1 h
 
 sound-definition : (t : Declared) (n : List ℕ) (e : Expression) (of : ScalarType) → AreNames (n ∷ used_names e) → is_free t n ≡ true → expression_type (numbered t) e ≡ Some of → IsSound t → IsSound (with_definition t n e of)
 sound-definition t n e of names free typed h =
@@ -269,7 +270,7 @@ sound-definition t n e of names free typed h =
     let was : numbered t ≡ numbered t ++ [] = sym (append-nil (numbered t)) in
     table-insert t (with_definition t n e of) (numbered t) (new_definition t n e of) [] was (sym (append_assoc t.inputs t.definitions (new_definition t n e of ∷ []))) refl refl
       (record {
-        short = first-name n (used_names e) names;
+        named = first-name n (used_names e) names;
         typed = subst (λ ds. expression_type ds e ≡ Some of) was typed;
         known = have-used (numbered t) e of typed;
         new = subst (λ ds. list_any (is_named n) ds ≡ false) was new.0
@@ -319,8 +320,14 @@ sound-item t (item.Output n) names allowed h =
     sound-output t n (not_false _ parts.0) parts.1 h
 
 pub sound-nothing : IsSound nothing
-sound-nothing = record { declarations = record { short = tt; typed = tt; earlier = tt; different = tt }; few = omega arith; few_outputs = omega arith; outputs_there = tt; outputs_differ = tt }
+sound-nothing = record { declarations = record { named = tt; typed = tt; earlier = tt; different = tt }; few = omega arith; few_outputs = omega arith; outputs_there = tt; outputs_differ = tt }
 
 pub sound-items : (t : Declared) (items : List Item) → AllByRecursion (λ i. AreNames (item_names i)) items → AreAllowed t items → IsSound t → IsSound (with_items t items)
 sound-items t [] names allowed h = h
 sound-items t (i ∷ items) names allowed h = sound-items (with_item t i) items names.1 allowed.1 (sound-item t i names.0 allowed.0 h)
+
+pub sound-declared : (t : Declared) → IsDeclared t → IsSound t
+sound-declared t d = subst IsSound d.is (sound-items nothing d.items d.names d.allowed sound-nothing)
+
+pub short-names : (ds : List Declaration) → AllByRecursion (λ (d : Declaration). is_name d.name ≡ true) ds → All (λ (d : Declaration). length d.name ≤ 255) ds
+short-names ds h = All-from_recursion (λ (d : Declaration). length d.name ≤ 255) ds (all-map (λ (d : Declaration). is_name d.name ≡ true) (λ (d : Declaration). length d.name ≤ 255) (λ d k. name-short d.name k) ds h)

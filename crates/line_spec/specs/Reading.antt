@@ -1,20 +1,21 @@
 -- Which sources are specifications, what system one spells, and where another source is refused.
-use Rattle.std.specs.Prelude.{◌≡◌, ◌==◌, ℕ, ◌+◌, ◌<◌, ◌≤◌, List, [], ◌∷◌, ◌++◌, length, slice_index, if◌then◌else◌, take, ◌-◌}
+use Rattle.std.specs.Prelude.{◌≡◌, ◌==◌, ℕ, ◌+◌, ◌-◌, ◌<◌, ◌≤◌, List, [], ◌∷◌, ◌++◌, length, take, drop, if◌then◌else◌, Option, Some, None, Result, Ok, Err}
 use Rattle.std.specs.List.{slice_split}
+use Rattle.std.specs.Option.{option_and_then}
+use Rattle.std.specs.Str.{bytes_eq}
 use Rattle.tsl_value.specs.declared.place.Place.{Place}
 use Rattle.flat_core.specs.System.{System}
 use Rattle.line_spec.specs.declared.item.Item.{Item}
 use Rattle.line_spec.specs.declared.read.SpecLineFault.{SpecLineFault}
 use Rattle.line_spec.specs.declared.read.SpecLineFault.TheVariants as fault
 use Rattle.line_spec.specs.Item.{AllSpell}
-use Rattle.line_spec.specs.Table.{Declared, nothing, with_items, AreAllowed}
+use Rattle.line_spec.specs.Parts.{item_of}
+use Rattle.line_spec.specs.Table.{Declared, nothing, with_item, with_items, is_allowed, AreAllowed}
 use Rattle.line_spec.specs.Meaning.{IsSystem}
 
 -- a line end at the end of the source ends the last line and begins no other
 abbrev pub without_last_end : List ℕ → List ℕ
-without_last_end [] = []
-without_last_end (b ∷ []) = if b == 10 then [] else b ∷ []
-without_last_end (b ∷ c ∷ bytes) = b ∷ without_last_end (c ∷ bytes)
+without_last_end source = if bytes_eq (drop (length source - 1) source) (10 ∷ []) then take (length source - 1) source else source
 
 -- the lines of a source; an empty source has one, which is empty
 abbrev pub lines_of : List ℕ → List (List ℕ)
@@ -53,3 +54,23 @@ pub data IsRefused (source : List ℕ) (place : Place) : Type 0 where
 abbrev pub IsFaultOf : List ℕ → SpecLineFault → Type 0
 IsFaultOf source (fault.NotBuilt place) = IsRefused source place
 IsFaultOf source fault.Memory = Unit {0}
+
+-- ---- on the way
+-- these lines are read, and this is what they declare
+pub record IsRead (lines : List (List ℕ)) (t : Declared) : Type 0 where
+  pub items : List Item
+  pub spelled : AllSpell lines items
+  pub allowed : AreAllowed nothing items
+  pub is : with_items nothing items ≡ t
+
+-- what is declared with one more line, if its item may stand there
+abbrev pub if_allowed : Declared → Item → Option Declared
+if_allowed t i = if is_allowed t i then Some (with_item t i) else None
+
+abbrev pub with_line : Declared → List ℕ → Option Declared
+with_line t line = option_and_then (if_allowed t) (item_of line)
+
+-- all lines of the source are read, or it is refused
+abbrev pub AreRead : List ℕ → Result Declared SpecLineFault → Type 0
+AreRead source (Ok t) = IsRead (lines_of source) t
+AreRead source (Err e) = IsFaultOf source e

@@ -1,7 +1,7 @@
 -- What items declare, and which item may stand behind others.
 use Rattle.std.specs.Prelude.{◌≡◌, ℕ, ◌+◌, Bool, true, false, not, ◌&&◌, if◌then◌else◌, nat_lt, List, [], ◌∷◌, ◌++◌, length, Option, Some, None, is_some, is_none, unwrap_or, IsTrue}
 use Rattle.std.specs.Option.{option_map}
-use Rattle.std.specs.List.{find, list_any}
+use Rattle.std.specs.List.{find, list_any, list_all, AllByRecursion}
 use Rattle.std.specs.Str.{bytes_eq}
 use Rattle.tsl_value.specs.declared.scalar.ScalarType.{ScalarType}
 use Rattle.tsl_value.specs.declared.scalar.ScalarType.TheVariants as scalar_type
@@ -10,6 +10,8 @@ use Rattle.line_spec.specs.declared.item.Item.TheVariants as item
 use Rattle.line_spec.specs.declared.item.Expression.{Expression}
 use Rattle.line_spec.specs.declared.item.Expression.TheVariants as expression
 use Rattle.line_spec.specs.declared.table.Declaration.{Declaration}
+use Rattle.line_spec.specs.Name.{is_name}
+use Rattle.line_spec.specs.Item.{item_names}
 
 -- the declarations of some lines, each kind in the order of the lines, and the number of the lines
 pub record Declared : Type 0 where
@@ -92,3 +94,10 @@ with_items t (i ∷ items) = with_items (with_item t i) items
 abbrev pub AreAllowed : Declared → List Item → Type 0
 AreAllowed t [] = Unit {0}
 AreAllowed t (i ∷ items) = IsTrue (is_allowed t i) × AreAllowed (with_item t i) items
+
+-- what is declared by items whose names are names, each of which may stand behind those before it
+pub record IsDeclared (t : Declared) : Type 0 where
+  pub items : List Item
+  pub names : AllByRecursion (λ i. IsTrue (list_all is_name (item_names i))) items
+  pub allowed : AreAllowed nothing items
+  pub is : with_items nothing items ≡ t

@@ -1,12 +1,15 @@
 // What is declared by the lines so far.
 
-ghost use Rattle.std.specs.Prelude.{◌≡◌, ◌+◌, ◌<◌, ◌^◌, ◌++◌, ◌∷◌, [], Some, None, is_some, length, IfOk, OnOk, if◌then◌else◌};
+ghost use Rattle.std.specs.Prelude.{◌≡◌, ◌+◌, ◌<◌, ◌≤◌, ◌^◌, ◌++◌, ◌∷◌, [], Some, None, is_some, length, IfOk, OnOk, if◌then◌else◌};
 ghost use Rattle.std.specs.Option.{option_map};
 ghost use Rattle.std.specs.List.{find, list_any};
 ghost use Rattle.std.specs.Str.{bytes_eq};
-ghost use Rattle.line_spec.specs.Table.{type_among, numbered, same_type, common_type, expression_type, is_free, is_allowed, with_item, with_input, with_definition, with_output};
+ghost use Rattle.line_spec.specs.Meaning.{IsSystem};
+ghost use Rattle.line_spec.specs.Table.{type_among, numbered, same_type, common_type, expression_type, is_free, is_allowed, with_item, with_input, with_definition, with_output, IsDeclared};
 
+use crate::build::build;
 use crate::item::{Expression, Item};
+use flat_core::flat::Flat;
 use std::alloc::Global;
 use std::marker::Model;
 use tsl_value::memory::NoMemory;
@@ -223,5 +226,29 @@ impl Table {
                 Ok(true)
             }
         }
+    }
+
+    /// The number of outputs.
+    pub fn count_outputs(&self) -> usize
+        ensures { result ≡ length self.now.outputs }
+    {
+        self.outputs.len()
+    }
+
+    /// The system of what is declared. The inputs are numbered first.
+    pub fn into_flat(self, alloc: Global) -> Result<Flat, NoMemory>
+        requires declared { IsDeclared self }
+        requires some_output { 0 < length self.outputs }
+        requires few_lines { self.lines ≤ 2 ^ 31 }
+        ensures system { IfOk result (λ f. IsSystem self f) }
+    {
+        let Table {
+            mut inputs,
+            mut definitions,
+            outputs,
+            lines: _,
+        } = self;
+        inputs.append(&mut definitions)?;
+        build(alloc, &inputs, &outputs)
     }
 }
