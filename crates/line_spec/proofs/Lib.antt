@@ -3,5 +3,6 @@ pub mod PartsLemmas
 pub mod TableLemmas
 pub mod Sound
 pub mod Systems
+pub mod Order
 pub mod ReadLemmas
 pub mod LawLemmas

@@ -1,5 +1,5 @@
 -- The flat system of what is declared.
-use Rattle.std.specs.Prelude.{◌≡◌, ℕ, ◌+◌, List, [], ◌∷◌, length, map, IsTrue, ◌↔◌, Option, Some, None}
+use Rattle.std.specs.Prelude.{◌≡◌, ℕ, ◌+◌, List, [], ◌∷◌, length, map, IsSome, IsTrue, ◌↔◌, Option, Some, None}
 use Rattle.std.specs.List.Sorted.{IsStrictlyIncreasing}
 use Rattle.std.specs.List.{position_or_len}
 use Rattle.tsl_value.specs.declared.place.Place.{Place}
@@ -8,7 +8,7 @@ use Rattle.flat_core.specs.declared.equation.Op.{Op}
 use Rattle.flat_core.specs.declared.equation.Op.TheVariants as op
 use Rattle.flat_core.specs.declared.equation.Equation.{Equation}
 use Rattle.flat_core.specs.declared.equation.Output.{Output}
-use Rattle.flat_core.specs.System.{System, runs}
+use Rattle.flat_core.specs.System.{System, equation, runs}
 use Rattle.flat_core.specs.Needed.{IsNeeded}
 use Rattle.line_spec.specs.declared.item.Expression.{Expression}
 use Rattle.line_spec.specs.declared.item.Expression.TheVariants as expression
@@ -55,3 +55,8 @@ pub record IsSystem (t : Declared) (s : System) : Type 0 where
   pub outputs : s.outputs ≡ map (output_of (numbered t)) t.outputs
   pub ascending : IsStrictlyIncreasing s.running
   pub needed : (i : ℕ) → IsTrue (runs s i) ↔ IsNeeded s i
+
+-- each equation has a name, and no two have one
+pub record HaveNames (s : System) : Type 0 where
+  pub named : (i : ℕ) (e : Equation) → equation s i ≡ Some e → IsSome e.name
+  pub differ : (i j : ℕ) (d e : Equation) → equation s i ≡ Some d → equation s j ≡ Some e → d.name ≡ e.name → i ≡ j

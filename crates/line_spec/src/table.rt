@@ -4,7 +4,8 @@ ghost use Rattle.std.specs.Prelude.{◌≡◌, ◌+◌, ◌<◌, ◌≤◌, ◌^
 ghost use Rattle.std.specs.Option.{option_map};
 ghost use Rattle.std.specs.List.{find, list_any};
 ghost use Rattle.std.specs.Str.{bytes_eq};
-ghost use Rattle.line_spec.specs.Meaning.{IsSystem};
+ghost use Rattle.plain_solver.specs.Instant.{IsInOrder};
+ghost use Rattle.line_spec.specs.Meaning.{IsSystem, HaveNames};
 ghost use Rattle.line_spec.specs.Table.{type_among, numbered, same_type, common_type, expression_type, is_free, is_allowed, with_item, with_input, with_definition, with_output, IsDeclared};
 
 use crate::build::build;
@@ -241,6 +242,8 @@ impl Table {
         requires some_output { 0 < length self.outputs }
         requires few_lines { self.lines ≤ 2 ^ 31 }
         ensures system { IfOk result (λ f. IsSystem self f) }
+        ensures in_order { IfOk result (λ f. IsInOrder f) }
+        ensures names { IfOk result (λ f. HaveNames f) }
     {
         let Table {
             mut inputs,
