@@ -62,10 +62,13 @@ one_list from (x ∷ xs) (y ∷ ys) g h same =
   where
     not_less : x < y → ⊥
     not_less less = let there = itself x xs in let e = same x in let none = not_in-later x y ys h.1 less in (cc)
+
     not_more : y < x → ⊥
     not_more less = let there = itself y ys in let e = same y in let none = not_in-later y x xs g.1 less in (cc)
+
     first : x ≡ y
     first = omega (arith, not_less, not_more)
+
     rest : x ≡ y → (i : ℕ) → is_in xs i ≡ is_in ys i
     rest head i = by_test (x == i) refl
       where
@@ -88,7 +91,7 @@ needed-same s t i equations outputs n =
     record {
       output = n.output;
       printed = subst (λ os. Contains os n.output) outputs n.printed;
-      walk = walk-same (λ a b e. record { at = e.at; is = subst (λ es. slice_get es a ≡ Some e.at) equations e.is; argument = e.argument }) n.walk
+      walk = walk-same (λ a b e. record { at = e.at; is = subst (λ es. slice_get es a ≡ Some e.at) equations e.is; argument = e.argument }) n.walk;
     }
 
 same_bool : (a b : Bool) → (a ≡ true → b ≡ true) → (b ≡ true → a ≡ true) → a ≡ b
@@ -104,10 +107,10 @@ one_system-of t s u g h =
     let equations : s.equations ≡ u.equations = g.equations ∙ sym h.equations in
     let outputs : s.outputs ≡ u.outputs = g.outputs ∙ sym h.outputs in
     let running : s.running ≡ u.running =
-        one_list 0 s.running u.running (increasing-ascends s.running g.ascending) (increasing-ascends u.running h.ascending)
-        (λ i. same_bool (is_in s.running i) (is_in u.running i)
-            (λ k. (h.needed i).1 (needed-same s u i equations outputs ((g.needed i).0 k)))
-            (λ k. (g.needed i).1 (needed-same u s i (sym equations) (sym outputs) ((h.needed i).0 k)))) in
+    one_list 0 s.running u.running (increasing-ascends s.running g.ascending) (increasing-ascends u.running h.ascending)
+    (λ i. same_bool (is_in s.running i) (is_in u.running i)
+    (λ k. (h.needed i).1 (needed-same s u i equations outputs ((g.needed i).0 k)))
+    (λ k. (g.needed i).1 (needed-same u s i (sym equations) (sym outputs) ((h.needed i).0 k)))) in
     ap (λ es. system_of es s.outputs s.running) equations ∙ (ap (λ os. system_of u.equations os s.running) outputs ∙ ap (λ r. system_of u.equations u.outputs r) running)
 
 pub one_system : OneSystem
@@ -154,7 +157,8 @@ not_shorter : (f r g s : List (List ℕ)) → f ++ r ≡ g ++ s → CannotGoOn f
 not_shorter f r g s e none begins less =
     let l = longer f r g s e less in
     let none' : ¬ (BeginsSpecification (f ++ l.line ∷ [])) = subst (CannotGoOn f) l.rest_is none in
-    let begins' : BeginsSpecification ((f ++ l.line ∷ []) ++ l.more) = subst BeginsSpecification (l.longer_is ∙ sym (append_assoc f (l.line ∷ []) l.more)) begins in
+    let apart : g ≡ (f ++ l.line ∷ []) ++ l.more = l.longer_is ∙ sym (append_assoc f (l.line ∷ []) l.more) in
+    let begins' : BeginsSpecification ((f ++ l.line ∷ []) ++ l.more) = subst BeginsSpecification apart begins in
     none' (shorter-begins (f ++ l.line ∷ []) l.more begins')
 
 pub one_place : OnePlace

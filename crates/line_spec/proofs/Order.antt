@@ -64,17 +64,17 @@ in_order t s equations h =
     record {
       shape = λ i e at. let f = found t s i e equations h at in subst (λ (e : Equation). HasShape e.op e.args) f.is (shaped (numbered t) f.d.expression);
       known = λ i e at.
-        let f = found t s i e equations h at in
-        let within : i < length s.equations = slice_get_within s.equations i e at in
-        let below : AreBelow i (arguments_of (numbered t) f.d.expression) = arguments_below (numbered t) i f.d.expression f.below in
-        subst (λ (e : Equation). All (λ a. a < length s.equations) e.args) f.is
-        (All-from_recursion (λ a. a < length s.equations) (arguments_of (numbered t) f.d.expression)
-            (all-map (λ a. a < i) (λ a. a < length s.equations) (λ a less. omega (arith, less, within)) (arguments_of (numbered t) f.d.expression) below));
+          let f = found t s i e equations h at in
+          let within : i < length s.equations = slice_get_within s.equations i e at in
+          let below : AreBelow i (arguments_of (numbered t) f.d.expression) = arguments_below (numbered t) i f.d.expression f.below in
+          subst (λ (e : Equation). All (λ a. a < length s.equations) e.args) f.is
+          (All-from_recursion (λ a. a < length s.equations) (arguments_of (numbered t) f.d.expression)
+          (all-map (λ a. a < i) (λ a. a < length s.equations) (λ a less. omega (arith, less, within)) (arguments_of (numbered t) f.d.expression) below));
       below = λ i e at.
-        let f = found t s i e equations h at in
-        let args = used_of (op_of f.d.expression) (arguments_of (numbered t) f.d.expression) in
-        subst (λ (e : Equation). All (λ a. a < i) (used_of e.op e.args)) f.is
-        (All-from_recursion (λ a. a < i) args (used_below (numbered t) i f.d.expression f.below))
+          let f = found t s i e equations h at in
+          let args = used_of (op_of f.d.expression) (arguments_of (numbered t) f.d.expression) in
+          subst (λ (e : Equation). All (λ a. a < i) (used_of e.op e.args)) f.is
+          (All-from_recursion (λ a. a < i) args (used_below (numbered t) i f.d.expression f.below));
     }
 
 -- ---- names
@@ -110,9 +110,9 @@ have_names t s equations h =
     record {
       named = λ i e at. let f = found t s i e equations h at in subst (λ (e : Equation). IsSome e.name) f.is refl;
       differ = λ i j d e at_d at_e same.
-        let f = found t s i d equations h at_d in
-        let g = found t s j e equations h at_e in
-        let names : Some f.d.name ≡ Some g.d.name = ap (λ (e : Equation). e.name) f.is ∙ (same ∙ sym (ap (λ (e : Equation). e.name) g.is)) in
-        let name : f.d.name ≡ g.d.name = cc in
-        one_number (numbered t) i j f.d g.d h.declarations.different f.at g.at name
+          let f = found t s i d equations h at_d in
+          let g = found t s j e equations h at_e in
+          let names : Some f.d.name ≡ Some g.d.name = ap (λ (e : Equation). e.name) f.is ∙ (same ∙ sym (ap (λ (e : Equation). e.name) g.is)) in
+          let name : f.d.name ≡ g.d.name = cc in
+          one_number (numbered t) i j f.d g.d h.declarations.different f.at g.at name;
     }

@@ -113,9 +113,11 @@ two_names-some front bytes x h =
     let inner = and_then-some second_name (name_then (codes ", ") found.0) x found.2 in
     let first = name_then-some (codes ", ") found.0 inner.0 inner.1 in
     let second = pair_with-some inner.0.0 (last_name (codes ")") inner.0.1) x inner.2 in
-    let last = last_name-some (codes ")") inner.0.1 x.1 second.1 in
-    (behind-some front bytes found.0 found.1 ∙ ap (λ r. front ++ r) (first.0 ∙ (ap (λ n. n ++ (codes ", " ++ inner.0.1)) (sym second.0) ∙ ap (λ r. x.0 ++ (codes ", " ++ r)) last.0)),
-        subst (λ n. is_name n ≡ true) (sym second.0) first.1, last.1)
+    let last = last_name-some (codes ")") inner.0.1 x.1 second.1 in (
+      behind-some front bytes found.0 found.1 ∙ ap (λ r. front ++ r) (first.0 ∙ (ap (λ n. n ++ (codes ", " ++ inner.0.1)) (sym second.0) ∙ ap (λ r. x.0 ++ (codes ", " ++ r)) last.0)),
+      subst (λ n. is_name n ≡ true) (sym second.0) first.1,
+      last.1,
+    )
 
 pub two_names-append : (front a b : List ℕ) → is_name a ≡ true → is_name b ≡ true → two_names front (call_text front a b) ≡ Some (a, b)
 two_names-append front a b first second =
@@ -160,7 +162,7 @@ call_of bytes =
 call-some : (bytes : List ℕ) (e : Expression) → call_of bytes ≡ Some e → IsTextOf bytes e
 call-some bytes e h =
     elim (or-some _ _ e h) [
-        inl time ↦ time-some bytes e time
+      | inl time ↦ time-some bytes e time
       | inr other ↦ elim (or-some _ _ e other) [ inl last ↦ last-some bytes e last | inr merge ↦ merge-some bytes e merge ]
     ]
 
@@ -210,17 +212,17 @@ definition-some rest i h =
 pub item_of-some : (line : List ℕ) (i : Item) → item_of line ≡ Some i → Spells line i
 item_of-some line i h =
     elim (or-some _ _ i h) [
-        inl input ↦
+      | inl input ↦
           let found = and_then-some input_of (behind (codes "in ") line) i input in
           subst (λ l. Spells l i) (sym (behind-some (codes "in ") line found.0 found.1)) (input-some found.0 i found.2)
       | inr other ↦ elim (or-some _ _ i other) [
-            inl definition ↦
-              let found = and_then-some definition_of (behind (codes "def ") line) i definition in
-              subst (λ l. Spells l i) (sym (behind-some (codes "def ") line found.0 found.1)) (definition-some found.0 i found.2)
-          | inr output ↦
-              let found = and_then-some output_of (behind (codes "out ") line) i output in
-              subst (λ l. Spells l i) (sym (behind-some (codes "out ") line found.0 found.1)) (output-some found.0 i found.2)
-        ]
+        | inl definition ↦
+            let found = and_then-some definition_of (behind (codes "def ") line) i definition in
+            subst (λ l. Spells l i) (sym (behind-some (codes "def ") line found.0 found.1)) (definition-some found.0 i found.2)
+        | inr output ↦
+            let found = and_then-some output_of (behind (codes "out ") line) i output in
+            subst (λ l. Spells l i) (sym (behind-some (codes "out ") line found.0 found.1)) (output-some found.0 i found.2)
+      ]
     ]
 
 pub item_of-text : (i : Item) → AreNames (item_names i) → item_of (item_text i) ≡ Some i

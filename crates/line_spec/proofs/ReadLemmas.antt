@@ -100,7 +100,7 @@ declared_by inputs definitions outputs lines = record { inputs = inputs; definit
 pub read-nothing : (t : Declared) → t.inputs ≡ [] → t.definitions ≡ [] → t.outputs ≡ [] → t.lines ≡ 0 → IsRead [] t
 read-nothing t inputs definitions outputs lines =
     let is : t ≡ nothing =
-        ap (λ a. declared_by a t.definitions t.outputs t.lines) inputs ∙ (ap (λ b. declared_by [] b t.outputs t.lines) definitions ∙ (ap (λ c. declared_by [] [] c t.lines) outputs ∙ ap (λ n. declared_by [] [] [] n) lines)) in
+    ap (λ a. declared_by a t.definitions t.outputs t.lines) inputs ∙ (ap (λ b. declared_by [] b t.outputs t.lines) definitions ∙ (ap (λ c. declared_by [] [] c t.lines) outputs ∙ ap (λ n. declared_by [] [] [] n) lines)) in
     record { items = []; spelled = tt; allowed = tt; is = sym is }
 
 pub read-lines : (lines : List (List ℕ)) (t : Declared) → IsRead lines t → t.lines ≡ length lines
@@ -122,7 +122,7 @@ read-push lines t u line r h =
       items = r.items ++ found.0 ∷ [];
       spelled = spelled-append lines (line ∷ []) r.items (found.0 ∷ []) r.spelled (item_of-some line found.0 found.1, tt);
       allowed = allowed-append nothing r.items (found.0 ∷ []) r.allowed (allowed, tt);
-      is = with_items-append nothing r.items (found.0 ∷ []) ∙ (ap (λ v. with_item v found.0) r.is ∙ taken.1)
+      is = with_items-append nothing r.items (found.0 ∷ []) ∙ (ap (λ v. with_item v found.0) r.is ∙ taken.1);
     }
 
 -- ---- a line that is not taken
@@ -178,10 +178,10 @@ begins-by_output front t n r none name known =
       more = item_text i ∷ [];
       items = r.items ++ i ∷ [];
       whole = record {
-          spelled = spelled-append front (item_text i ∷ []) r.items (i ∷ []) r.spelled (record { text = refl; names = rw name refl }, tt);
-          allowed = allowed-append nothing r.items (i ∷ []) r.allowed (allowed, tt);
-          some_output = subst (λ u. 0 < length u.outputs) (sym (with_items-append nothing r.items (i ∷ []))) (some_pushed (with_items nothing r.items).outputs n)
-        }
+        spelled = spelled-append front (item_text i ∷ []) r.items (i ∷ []) r.spelled (record { text = refl; names = rw name refl }, tt);
+        allowed = allowed-append nothing r.items (i ∷ []) r.allowed (allowed, tt);
+        some_output = subst (λ u. 0 < length u.outputs) (sym (with_items-append nothing r.items (i ∷ []))) (some_pushed (with_items nothing r.items).outputs n);
+      };
     }
 
 abbrev new_name : List ℕ
@@ -203,7 +203,7 @@ begins-by_input front t r none no_name =
     let i : Item = item.Input new_name in
     let d : Declaration = record { name = new_name; expression = None; of = scalar_type.Int; line = t.lines + 1 } in
     let known : list_any (is_named new_name) (numbered (with_item t i)) ≡ true =
-        subst (λ ds. list_any (is_named new_name) ds ≡ true) (sym (append_assoc t.inputs (d ∷ []) t.definitions)) (any-here (is_named new_name) t.inputs d t.definitions refl) in
+    subst (λ ds. list_any (is_named new_name) ds ≡ true) (sym (append_assoc t.inputs (d ∷ []) t.definitions)) (any-here (is_named new_name) t.inputs d t.definitions refl) in
     begins-shorter front (item_text i)
     (begins-by_output (front ++ item_text i ∷ []) (with_item t i) new_name (read-input front t r no_name) none refl known)
 
@@ -216,7 +216,7 @@ read-begins front t r = by_outputs t.outputs refl (numbered t) refl
           more = [];
           items = r.items;
           whole = subst (λ lines. IsSpecification lines r.items) (sym (append-nil front))
-              (record { spelled = r.spelled; allowed = r.allowed; some_output = subst (λ (u : Declared). 0 < length u.outputs) (sym r.is) (subst (λ os. 0 < length os) (sym some) (omega arith)) })
+              (record { spelled = r.spelled; allowed = r.allowed; some_output = subst (λ (u : Declared). 0 < length u.outputs) (sym r.is) (subst (λ os. 0 < length os) (sym some) (omega arith)) });
         }
     by_outputs [] none (d ∷ ds) names =
         let sound = sound-declared t (read-declared front t r) in

@@ -151,12 +151,14 @@ different-insert (x ∷ xs) d ys new h =
     either_false : (a b : Bool) → (a || b) ≡ false → (a ≡ false) × (b ≡ false)
     either_false true b h = (cc)
     either_false false b h = (refl, h)
+
     flipped : bytes_eq x.name d.name ≡ false → bytes_eq d.name x.name ≡ false
     flipped h = by_test (bytes_eq d.name x.name) refl
       where
         by_test : (b : Bool) → bytes_eq d.name x.name ≡ b → b ≡ false
         by_test false e = refl
         by_test true e = let same : bytes_eq x.name d.name ≡ true = (bytes_eq-Decides x.name d.name).1 (sym ((bytes_eq-Decides d.name x.name).0 e)) in (cc)
+
     not_among : bytes_eq x.name d.name ≡ false → (zs : List Declaration) → list_any (is_named x.name) (zs ++ ys) ≡ false → list_any (is_named x.name) (zs ++ d ∷ ys) ≡ false
     not_among other [] g = rw (flipped other) g
     not_among other (z ∷ zs) g =
@@ -172,6 +174,7 @@ earlier-more f g more (d ∷ ds) h = (all-map (Have f) (Have g) more (names_of d
     or_some true b c k h = rw (k refl) refl
     or_some false true c k h = refl
     or_some false false c k h = h
+
     one_more : (n : List ℕ) → Have (f ++ d ∷ []) n → Have (g ++ d ∷ []) n
     one_more n known = list_any-append (is_named n) g (d ∷ []) ∙ or_some _ _ _ (more n) (sym (list_any-append (is_named n) f (d ∷ [])) ∙ known)
 
@@ -191,10 +194,10 @@ sound-insert xs d ys may h =
     record {
       named = all-insert (λ (d : Declaration). is_name d.name ≡ true) xs d ys may.named h.named;
       typed =
-        all-insert (λ (c : Declaration). HasType (xs ++ d ∷ ys) c.expression c.of) xs d ys (HasType-stays (xs ++ ys) (xs ++ d ∷ ys) stays d.expression d.of may.typed)
-        (all-map (λ (c : Declaration). HasType (xs ++ ys) c.expression c.of) (λ (c : Declaration). HasType (xs ++ d ∷ ys) c.expression c.of) (λ c k. HasType-stays (xs ++ ys) (xs ++ d ∷ ys) stays c.expression c.of k) (xs ++ ys) h.typed);
+          all-insert (λ (c : Declaration). HasType (xs ++ d ∷ ys) c.expression c.of) xs d ys (HasType-stays (xs ++ ys) (xs ++ d ∷ ys) stays d.expression d.of may.typed)
+          (all-map (λ (c : Declaration). HasType (xs ++ ys) c.expression c.of) (λ (c : Declaration). HasType (xs ++ d ∷ ys) c.expression c.of) (λ c k. HasType-stays (xs ++ ys) (xs ++ d ∷ ys) stays c.expression c.of k) (xs ++ ys) h.typed);
       earlier = earlier-insert [] xs d ys may.known h.earlier;
-      different = different-insert xs d ys may.new h.different
+      different = different-insert xs d ys may.new h.different;
     }
 
 -- ---- tables
@@ -254,27 +257,27 @@ table-insert t u xs d ys was is same more may room h =
       few_outputs = let e = ap length same in let k = h.few_outputs in omega (arith, e, more, k);
       few = let n = ap length is ∙ length-insert xs d ys in let m = ap length was in omega (arith, n, m, room);
       outputs_there =
-        subst (λ ds. HaveAll ds u.outputs) (sym is) (have-insert xs d ys u.outputs (subst (λ ns. HaveAll (xs ++ ys) ns) (sym same) (subst (λ ds. HaveAll ds t.outputs) was h.outputs_there)));
-      outputs_differ = subst AreDistinct (sym same) h.outputs_differ
+          subst (λ ds. HaveAll ds u.outputs) (sym is) (have-insert xs d ys u.outputs (subst (λ ns. HaveAll (xs ++ ys) ns) (sym same) (subst (λ ds. HaveAll ds t.outputs) was h.outputs_there)));
+      outputs_differ = subst AreDistinct (sym same) h.outputs_differ;
     }
 
 sound-input : (t : Declared) (n : List ℕ) → AreNames (n ∷ []) → is_free t n ≡ true → IsSound t → IsSound (with_input t n)
 sound-input t n names free h =
     let new = free-new t n free in
     table-insert t (with_input t n) t.inputs (new_input t n) t.definitions refl (append_assoc t.inputs (new_input t n ∷ []) t.definitions) refl refl
-      (record { named = first-name n [] names; typed = tt; known = tt; new = new.0 }) new.1 h
+    (record { named = first-name n [] names; typed = tt; known = tt; new = new.0 }) new.1 h
 
 sound-definition : (t : Declared) (n : List ℕ) (e : Expression) (of : ScalarType) → AreNames (n ∷ used_names e) → is_free t n ≡ true → expression_type (numbered t) e ≡ Some of → IsSound t → IsSound (with_definition t n e of)
 sound-definition t n e of names free typed h =
     let new = free-new t n free in
     let was : numbered t ≡ numbered t ++ [] = sym (append-nil (numbered t)) in
     table-insert t (with_definition t n e of) (numbered t) (new_definition t n e of) [] was (sym (append_assoc t.inputs t.definitions (new_definition t n e of ∷ []))) refl refl
-      (record {
-        named = first-name n (used_names e) names;
-        typed = subst (λ ds. expression_type ds e ≡ Some of) was typed;
-        known = have-used (numbered t) e of typed;
-        new = subst (λ ds. list_any (is_named n) ds ≡ false) was new.0
-      }) new.1 h
+    (record {
+      named = first-name n (used_names e) names;
+      typed = subst (λ ds. expression_type ds e ≡ Some of) was typed;
+      known = have-used (numbered t) e of typed;
+      new = subst (λ ds. list_any (is_named n) ds ≡ false) was new.0;
+    }) new.1 h
 
 all-push : {X : Type 0} (P : X → Type 0) (xs : List X) (x : X) → AllByRecursion P xs → P x → AllByRecursion P (xs ++ x ∷ [])
 all-push P [] x all h = (h, tt)
@@ -289,6 +292,7 @@ distinct-push (m ∷ ns) n new h =
     either_false : (a b : Bool) → (a || b) ≡ false → (a ≡ false) × (b ≡ false)
     either_false true b h = (cc)
     either_false false b h = (refl, h)
+
     differ : bytes_eq m n ≡ false → m ≡ n → ⊥
     differ other same = let yes : bytes_eq m n ≡ true = (bytes_eq-Decides m n).1 same in (cc)
 
@@ -299,7 +303,7 @@ sound-output t n new known h =
       few = h.few;
       few_outputs = let k = h.few_outputs in omega (arith, length-append t.outputs (n ∷ []), k);
       outputs_there = all-push (Have (numbered t)) t.outputs n h.outputs_there (have-type (numbered t) n known);
-      outputs_differ = distinct-push t.outputs n new h.outputs_differ
+      outputs_differ = distinct-push t.outputs n new h.outputs_differ;
     }
 
 not_false : (b : Bool) → not b ≡ true → b ≡ false

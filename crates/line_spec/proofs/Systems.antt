@@ -53,7 +53,7 @@ type_at ds n of h =
     record {
       at = equation_of ds found.0;
       is = slice_get-map (equation_of ds) ds (number_of ds n) ∙ ap (option_map (equation_of ds)) (found_at (is_named n) ds found.0 found.1);
-      of_is = ap (λ o. value_type.Scalar o) found.2
+      of_is = ap (λ o. value_type.Scalar o) found.2;
     }
 
 -- what an equation is typed by: its operation, its arguments and its type
@@ -162,15 +162,15 @@ complete t s equations outputs h some =
     let ds = numbered t in
     record {
       typed = record {
-          each = λ i e at.
+        each = λ i e at.
             let found = declared_at ds i e (subst (λ es. slice_get es i ≡ Some e) equations at) in
             let typed = typed_equation ds found.0 (all_at (λ (d : Declaration). HasType ds d.expression d.of) ds i found.0 h.declarations.typed found.1) in
-            subst (λ es. IsTypedEquation es e) (sym equations) (subst (IsTypedEquation (equations_of ds)) found.2 typed)
-        };
+            subst (λ es. IsTypedEquation es e) (sym equations) (subst (IsTypedEquation (equations_of ds)) found.2 typed);
+      };
       some_output = let n = ap length outputs in omega (arith, n, length-map t.outputs (output_of ds), some);
       outputs_there =
-        subst (λ es. AllByRecursion (λ (o : Output). o.equation < length es) s.outputs) (sym equations)
-        (subst (λ os. AllByRecursion (λ (o : Output). o.equation < length (equations_of ds)) os) (sym outputs) (outputs_there ds t.outputs h.outputs_there));
+          subst (λ es. AllByRecursion (λ (o : Output). o.equation < length es) s.outputs) (sym equations)
+          (subst (λ os. AllByRecursion (λ (o : Output). o.equation < length (equations_of ds)) os) (sym outputs) (outputs_there ds t.outputs h.outputs_there));
       names_differ = subst HaveDifferentNames (sym outputs) (names_differ ds t.outputs h.outputs_differ);
-      short_texts = subst (λ es. AllByRecursion (λ (e : Equation). HasShortBody e.op) es) (sym equations) (short_bodies ds ds)
+      short_texts = subst (λ es. AllByRecursion (λ (e : Equation). HasShortBody e.op) es) (sym equations) (short_bodies ds ds);
     }

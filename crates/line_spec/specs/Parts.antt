@@ -51,8 +51,8 @@ expression_of bytes =
     if bytes_eq bytes (codes "nil[Int]") then Some expression.Nil
     else (if bytes_eq bytes (codes "unit") then Some expression.Unit
     else option_or (option_map (λ a. expression.Time a) (one_name (codes "time(") bytes))
-        (option_or (option_map (λ x. expression.Last x.0 x.1) (two_names (codes "last(") bytes))
-        (option_map (λ x. expression.Merge x.0 x.1) (two_names (codes "merge(") bytes))))
+    (option_or (option_map (λ x. expression.Last x.0 x.1) (two_names (codes "last(") bytes))
+    (option_map (λ x. expression.Merge x.0 x.1) (two_names (codes "merge(") bytes))))
 
 -- behind the word of a line
 abbrev pub input_of : List ℕ → Option Item

@@ -8,3 +8,5 @@ pub mod line;
 pub mod name;
 pub mod read;
 pub mod table;
+#[cfg(test)]
+mod tests;

@@ -17,10 +17,7 @@ fn name_len(bytes: &[u8]) -> usize
     ensures value { result ≡ name_len bytes.now }
     ensures bound { result ≤ length bytes.now }
 {
-    bytes
-        .iter()
-        .take_while(|byte| is_name_byte(**byte))
-        .count()
+    bytes.iter().take_while(|byte| is_name_byte(**byte)).count()
 }
 
 /// The bytes as text, if they are a name.
@@ -29,13 +26,7 @@ fn as_name(bytes: &[u8]) -> Option<&str>
     ensures { MatchOption result (is_name bytes.now ≡ false) (λ x. (x.now ≡ bytes.now) × (is_name bytes.now ≡ true)) }
 {
     match str::from_utf8(bytes) {
-        Ok(text) => {
-            if is_name(text) {
-                Some(text)
-            } else {
-                None
-            }
-        }
+        Ok(text) => { if is_name(text) { Some(text) } else { None } }
         Err(_) => None,
     }
 }

@@ -10,9 +10,32 @@ fn is_taken(text: &str) -> bool
 {
     matches!(
         text,
-        "in" | "def" | "out" | "as" | "if" | "then" | "else" | "true" | "false" | "unit" | "nil"
-            | "time" | "last" | "delay" | "merge" | "default" | "lift" | "const" | "filter"
-            | "isSome" | "isNone" | "getSome" | "Some" | "None" | "Set" | "Map" | "String"
+        "in" | "def"
+            | "out"
+            | "as"
+            | "if"
+            | "then"
+            | "else"
+            | "true"
+            | "false"
+            | "unit"
+            | "nil"
+            | "time"
+            | "last"
+            | "delay"
+            | "merge"
+            | "default"
+            | "lift"
+            | "const"
+            | "filter"
+            | "isSome"
+            | "isNone"
+            | "getSome"
+            | "Some"
+            | "None"
+            | "Set"
+            | "Map"
+            | "String"
     )
 }
 

@@ -44,7 +44,7 @@ returns-then-not-branch c =
     let lines : c.lines.result ≡ c.loop-line.table.lines = c.lines.ensures ∙ ap (λ (t : Declared). t.lines) not_taken.1 in
     subst (IsFaultOf c.args.source.now) (sym c.not_built.ensures)
     (refused-at c.args.source.now (map (λ x. x.now) c.loop-line.yielded) c.in-Some.line.now (drop (suc (length c.loop-line.yielded)) (lines_of c.args.source.now)) c.loop-line.table _ c.requires whole c.loop-line.invariant.read not_taken.0
-        (ap (λ n. record { line = n + 1; column = 1 }) lines))
+    (ap (λ n. record { line = n + 1; column = 1 }) lines))
 
 pub loop-line-preserved : goal.loop-line-preserved
 loop-line-preserved c =
@@ -53,7 +53,7 @@ loop-line-preserved c =
     record {
       can_next = search rules;
       is_finite = search rules;
-      read = subst (λ lines. IsRead lines c.read_line.new.table) (sym (map-append (λ x. x.now) c.loop-line.yielded (c.in-Some.line ∷ []))) read
+      read = subst (λ lines. IsRead lines c.read_line.new.table) (sym (map-append (λ x. x.now) c.loop-line.yielded (c.in-Some.line ∷ []))) read;
     }
 
 pub returns : goal.returns

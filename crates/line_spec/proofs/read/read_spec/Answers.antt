@@ -15,7 +15,7 @@ pub returns-then-count_outputs-eq0-clause-err : goal.returns-then-count_outputs-
 returns-then-count_outputs-eq0-clause-err c =
     subst (IsFaultOf c.args.source.now) (sym c.not_built-then-count_outputs-eq0.ensures)
     (refused-behind c.args.source.now c.in_ok-table.table _ c.if-source-gt1048576.false c.in_ok-table.ensures (sym c.count_outputs.ensures ∙ c.if-count_outputs-eq0.true)
-        (ap (λ n. record { line = n + 1; column = 1 }) c.lines.ensures))
+    (ap (λ n. record { line = n + 1; column = 1 }) c.lines.ensures))
 
 pub into_flat-requires-clause-declared : goal.into_flat-requires-clause-declared
 into_flat-requires-clause-declared c = read-declared (lines_of c.args.source.now) c.in_ok-table.table c.in_ok-table.ensures
