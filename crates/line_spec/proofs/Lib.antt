@@ -1,0 +1,9 @@
+pub mod NameLemmas
+pub mod PartsLemmas
+pub mod TableLemmas
+pub mod Sound
+pub mod Systems
+pub mod Order
+pub mod ReadLemmas
+pub mod LawLemmas
+mod Examples

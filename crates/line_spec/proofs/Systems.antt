@@ -1,0 +1,176 @@
+-- The system of sound declarations is complete and in order.
+use Rattle.std.proofs.Common.{◌≡◌, ◌≢◌, ℕ, zero, suc, ◌+◌, ◌<◌, ◌≤◌, Bool, true, false, cond, List, [], ◌∷◌, ◌++◌, length, take, refl, ap, ◌∙◌, sym, subst, arith, Option, Some, None, append_assoc, append-nil, map}
+use Rattle.std.specs.Prelude.{is_some, slice_get}
+use Rattle.std.specs.Option.{option_map}
+use Rattle.std.specs.List.{list_any, find, AllByRecursion, position_or_len, All}
+use Rattle.std.specs.Str.{bytes_eq}
+use Rattle.std.proofs.lemmas.Option.{slice_get-map, slice_get_within}
+use Rattle.std.proofs.lemmas.List.{length-map}
+use Rattle.std.proofs.lemmas.Slice.Eq.{bytes_eq-Decides}
+use Rattle.tsl_value.specs.declared.place.Place.{Place}
+use Rattle.tsl_value.specs.declared.scalar.ScalarType.{ScalarType}
+use Rattle.tsl_value.specs.declared.scalar.ScalarType.TheVariants as scalar_type
+use Rattle.tsl_value.specs.declared.scalar.ValueType.{ValueType}
+use Rattle.tsl_value.specs.declared.scalar.ValueType.TheVariants as value_type
+use Rattle.flat_core.specs.declared.equation.Op.{Op}
+use Rattle.flat_core.specs.declared.equation.Op.TheVariants as op
+use Rattle.flat_core.specs.declared.equation.Equation.{Equation}
+use Rattle.flat_core.specs.declared.equation.Output.{Output}
+use Rattle.flat_core.specs.System.{System, equation}
+use Rattle.flat_core.specs.Typed.{IsTyped, input, nil, unit, time, last, merge}
+use Rattle.flat_core.specs.TypedSystem.{IsOfType, AreOfTypes, IsTypedEquation, IsTypedSystem}
+use Rattle.flat_core.specs.Complete.{IsComplete, HasShortBody, HaveDifferentNames}
+use Rattle.line_spec.specs.declared.item.Expression.{Expression}
+use Rattle.line_spec.specs.declared.item.Expression.TheVariants as expression
+use Rattle.line_spec.specs.declared.table.Declaration.{Declaration}
+use Rattle.line_spec.specs.Item.{used_names}
+use Rattle.line_spec.specs.Table.{Declared, numbered, is_named, type_among, same_type, common_type, first_type, expression_type}
+use Rattle.line_spec.specs.Meaning.{number_of, op_of, arguments_of, equation_of, output_of}
+use Rattle.line_spec.proofs.TableLemmas.{found_at, position-below, position-within}
+use Rattle.line_spec.proofs.Sound.{Have, HaveAll, HasType, AreEarlier, AreDifferent, AreSound, AreDistinct, IsSound, names_of, all-map}
+
+-- ---- the declarations of the equations
+abbrev pub equations_of : List Declaration → List Equation
+equations_of ds = map (equation_of ds) ds
+
+mapped : {A B : Type 0} (f : A → B) (o : Option A) (y : B) → option_map f o ≡ Some y → (x : A) × (o ≡ Some x) × (f x ≡ y)
+mapped f None y h = (cc)
+mapped f (Some x) y h = (x, refl, (cc))
+
+-- the declaration of an equation
+pub declared_at : (ds : List Declaration) (i : ℕ) (e : Equation) → slice_get (equations_of ds) i ≡ Some e → (d : Declaration) × (slice_get ds i ≡ Some d) × (equation_of ds d ≡ e)
+declared_at ds i e h = mapped (equation_of ds) (slice_get ds i) e (sym (slice_get-map (equation_of ds) ds i) ∙ h)
+
+pub all_at : {X : Type 0} (P : X → Type 0) (xs : List X) (i : ℕ) (x : X) → AllByRecursion P xs → slice_get xs i ≡ Some x → P x
+all_at P [] i x all h = (cc)
+all_at P (y ∷ xs) zero x all h = let same : y ≡ x = cc in subst P same all.0
+all_at P (y ∷ xs) (suc i) x all h = all_at P xs i x all.1 h
+
+-- ---- types
+type_at : (ds : List Declaration) (n : List ℕ) (of : ScalarType) → type_among ds n ≡ Some of → IsOfType (equations_of ds) (number_of ds n) (value_type.Scalar of)
+type_at ds n of h =
+    let found = mapped (λ (d : Declaration). d.of) (find (is_named n) ds) of h in
+    record {
+      at = equation_of ds found.0;
+      is = slice_get-map (equation_of ds) ds (number_of ds n) ∙ ap (option_map (equation_of ds)) (found_at (is_named n) ds found.0 found.1);
+      of_is = ap (λ o. value_type.Scalar o) found.2;
+    }
+
+-- what an equation is typed by: its operation, its arguments and its type
+abbrev IsTypedBy : List Declaration → Option Expression → ScalarType → Type 0
+IsTypedBy ds o of = (types : List ValueType) × AreOfTypes (equations_of ds) (arguments_of ds o) types × IsTyped (op_of o) types (value_type.Scalar of)
+
+typed_time : (ds : List Declaration) (a : List ℕ) (of : ScalarType) (o : Option ScalarType) → type_among ds a ≡ o → option_map (λ _. scalar_type.Int) o ≡ Some of → IsTypedBy ds (Some (expression.Time a)) of
+typed_time ds a of None is h = (cc)
+typed_time ds a of (Some t) is h =
+    let same : scalar_type.Int ≡ of = cc in
+    subst (IsTypedBy ds (Some (expression.Time a))) same (value_type.Scalar t ∷ [], (type_at ds a t is, tt), time)
+
+typed_last : (ds : List Declaration) (v r : List ℕ) (of : ScalarType) (o p : Option ScalarType) → type_among ds v ≡ o → type_among ds r ≡ p → first_type o p ≡ Some of → IsTypedBy ds (Some (expression.Last v r)) of
+typed_last ds v r of None p is also h = (cc)
+typed_last ds v r of (Some t) None is also h = (cc)
+typed_last ds v r of (Some t) (Some u) is also h =
+    let same : t ≡ of = cc in
+    subst (IsTypedBy ds (Some (expression.Last v r))) same (value_type.Scalar t ∷ value_type.Scalar u ∷ [], (type_at ds v t is, (type_at ds r u also, tt)), last)
+
+same_types : (a b : ScalarType) → same_type a b ≡ true → a ≡ b
+same_types scalar_type.Unit scalar_type.Unit h = refl
+same_types scalar_type.Unit scalar_type.Int h = (cc)
+same_types scalar_type.Unit scalar_type.Bool h = (cc)
+same_types scalar_type.Unit scalar_type.Text h = (cc)
+same_types scalar_type.Int scalar_type.Unit h = (cc)
+same_types scalar_type.Int scalar_type.Int h = refl
+same_types scalar_type.Int scalar_type.Bool h = (cc)
+same_types scalar_type.Int scalar_type.Text h = (cc)
+same_types scalar_type.Bool scalar_type.Unit h = (cc)
+same_types scalar_type.Bool scalar_type.Int h = (cc)
+same_types scalar_type.Bool scalar_type.Bool h = refl
+same_types scalar_type.Bool scalar_type.Text h = (cc)
+same_types scalar_type.Text scalar_type.Unit h = (cc)
+same_types scalar_type.Text scalar_type.Int h = (cc)
+same_types scalar_type.Text scalar_type.Bool h = (cc)
+same_types scalar_type.Text scalar_type.Text h = refl
+
+typed_merge : (ds : List Declaration) (a b : List ℕ) (of : ScalarType) (o p : Option ScalarType) → type_among ds a ≡ o → type_among ds b ≡ p → common_type o p ≡ Some of → IsTypedBy ds (Some (expression.Merge a b)) of
+typed_merge ds a b of None p is also h = (cc)
+typed_merge ds a b of (Some t) None is also h = (cc)
+typed_merge ds a b of (Some t) (Some u) is also h = by_test (same_type t u) refl h
+  where
+    by_test : (c : Bool) → same_type t u ≡ c → cond c (Some t) None ≡ Some of → IsTypedBy ds (Some (expression.Merge a b)) of
+    by_test false e k = (cc)
+    by_test true e k =
+        let same : t ≡ of = cc in
+        let also' : type_among ds b ≡ Some t = also ∙ ap (λ o. Some o) (sym (same_types t u e)) in
+        subst (IsTypedBy ds (Some (expression.Merge a b))) same (value_type.Scalar t ∷ value_type.Scalar t ∷ [], (type_at ds a t is, (type_at ds b t also', tt)), merge)
+
+typed_by : (ds : List Declaration) (o : Option Expression) (of : ScalarType) → HasType ds o of → IsTypedBy ds o of
+typed_by ds None of h = ([], tt, input)
+typed_by ds (Some expression.Nil) of h = ([], tt, nil)
+typed_by ds (Some expression.Unit) of h = let same : scalar_type.Unit ≡ of = cc in subst (IsTypedBy ds (Some expression.Unit)) same ([], tt, unit)
+typed_by ds (Some (expression.Time a)) of h = typed_time ds a of (type_among ds a) refl h
+typed_by ds (Some (expression.Last v r)) of h = typed_last ds v r of (type_among ds v) (type_among ds r) refl refl h
+typed_by ds (Some (expression.Merge a b)) of h = typed_merge ds a b of (type_among ds a) (type_among ds b) refl refl h
+
+typed_equation : (ds : List Declaration) (d : Declaration) → HasType ds d.expression d.of → IsTypedEquation (equations_of ds) (equation_of ds d)
+typed_equation ds d h = let p = typed_by ds d.expression d.of h in record { types = p.0; arguments = p.1; typed = p.2 }
+
+-- ---- order
+-- the names of the declaration at i are declared before it
+earlier_at : (front ds : List Declaration) (i : ℕ) (d : Declaration) → AreEarlier front ds → slice_get ds i ≡ Some d → HaveAll (front ++ take i ds) (names_of d.expression)
+earlier_at front [] i d h at = (cc)
+earlier_at front (c ∷ ds) zero d h at =
+    let same : c ≡ d = cc in
+    let here : HaveAll front (names_of d.expression) = subst (λ (e : Declaration). HaveAll front (names_of e.expression)) same h.0 in
+    subst (λ f. HaveAll f (names_of d.expression)) (sym (append-nil front)) here
+earlier_at front (c ∷ ds) (suc i) d h at =
+    subst (λ f. HaveAll f (names_of d.expression)) (append_assoc front (c ∷ []) (take i ds)) (earlier_at (front ++ c ∷ []) ds i d h.1 at)
+
+pub below_at : (ds : List Declaration) (i : ℕ) (d : Declaration) → AreSound ds → slice_get ds i ≡ Some d → AllByRecursion (λ n. number_of ds n < i) (names_of d.expression)
+below_at ds i d h at =
+    all-map (Have (take i ds)) (λ n. number_of ds n < i) (λ n known. position-below (is_named n) ds i known) (names_of d.expression) (earlier_at [] ds i d h.earlier at)
+
+-- ---- outputs
+outputs_there : (ds : List Declaration) (names : List (List ℕ)) → HaveAll ds names → AllByRecursion (λ (o : Output). o.equation < length (equations_of ds)) (map (output_of ds) names)
+outputs_there ds [] h = tt
+outputs_there ds (n ∷ names) h =
+    let below : number_of ds n < length ds = position-within (is_named n) ds h.0 in
+    (omega (arith, below, length-map ds (equation_of ds)), outputs_there ds names h.1)
+
+names_differ : (ds : List Declaration) (names : List (List ℕ)) → AreDistinct names → HaveDifferentNames (map (output_of ds) names)
+names_differ ds [] h = tt
+names_differ ds (n ∷ names) h = (others names h.0, names_differ ds names h.1)
+  where
+    others : (ms : List (List ℕ)) → AllByRecursion (λ m. m ≢ n) ms → AllByRecursion (λ (p : Output). ¬ (p.name ≡ n)) (map (output_of ds) ms)
+    others [] all = tt
+    others (m ∷ ms) all = (all.0, others ms all.1)
+
+short_body : (o : Option Expression) → HasShortBody (op_of o)
+short_body None = tt
+short_body (Some expression.Nil) = tt
+short_body (Some expression.Unit) = tt
+short_body (Some (expression.Time a)) = tt
+short_body (Some (expression.Last v r)) = tt
+short_body (Some (expression.Merge a b)) = tt
+
+short_bodies : (ds es : List Declaration) → AllByRecursion (λ (e : Equation). HasShortBody e.op) (map (equation_of ds) es)
+short_bodies ds [] = tt
+short_bodies ds (d ∷ es) = (short_body d.expression, short_bodies ds es)
+
+-- ---- the system
+pub complete : (t : Declared) (s : System) → s.equations ≡ equations_of (numbered t) → s.outputs ≡ map (output_of (numbered t)) t.outputs → IsSound t → 0 < length t.outputs → IsComplete s
+complete t s equations outputs h some =
+    let ds = numbered t in
+    record {
+      typed = record {
+        each = λ i e at.
+            let found = declared_at ds i e (subst (λ es. slice_get es i ≡ Some e) equations at) in
+            let typed = typed_equation ds found.0 (all_at (λ (d : Declaration). HasType ds d.expression d.of) ds i found.0 h.declarations.typed found.1) in
+            subst (λ es. IsTypedEquation es e) (sym equations) (subst (IsTypedEquation (equations_of ds)) found.2 typed);
+      };
+      some_output = let n = ap length outputs in omega (arith, n, length-map t.outputs (output_of ds), some);
+      outputs_there =
+          subst (λ es. AllByRecursion (λ (o : Output). o.equation < length es) s.outputs) (sym equations)
+          (subst (λ os. AllByRecursion (λ (o : Output). o.equation < length (equations_of ds)) os) (sym outputs) (outputs_there ds t.outputs h.outputs_there));
+      names_differ = subst HaveDifferentNames (sym outputs) (names_differ ds t.outputs h.outputs_differ);
+      short_texts = subst (λ es. AllByRecursion (λ (e : Equation). HasShortBody e.op) es) (sym equations) (short_bodies ds ds);
+    }

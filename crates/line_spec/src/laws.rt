@@ -1,0 +1,18 @@
+// Laws of specifications, as the contracts of functions that do nothing.
+
+ghost use Rattle.line_spec.specs.Laws.{OneSystem, RefusedSpellsNone, OnePlace};
+
+/// A source spells one system at most.
+pub fn one_system()
+    ensures { OneSystem }
+{}
+
+/// A source that is refused spells none.
+pub fn refused_spells_none()
+    ensures { RefusedSpellsNone }
+{}
+
+/// A source is refused at one place at most.
+pub fn one_place()
+    ensures { OnePlace }
+{}

@@ -1,0 +1,106 @@
+// The reader.
+
+ghost use Rattle.std.specs.Prelude.{◌≡◌, ◌<◌, ◌≤◌, ◌^◌, length, Some, None, IfOk, IfErr, MatchBool};
+ghost use Rattle.plain_solver.specs.Instant.{IsInOrder};
+ghost use Rattle.line_spec.specs.Meaning.{HaveNames};
+ghost use Rattle.line_spec.specs.Reading.{without_last_end, lines_of, with_line, AreRead, IsFaultOf, SpellsSystem};
+
+use crate::line::read_item;
+use crate::table::Table;
+use flat_core::flat::Flat;
+use std::alloc::Global;
+use tsl_value::memory::NoMemory;
+use tsl_value::place::Place;
+
+/// Why a source gives no system.
+#[derive(Clone, Copy, PartialEq, Eq, Debug)]
+pub enum SpecLineFault {
+    /// The source is no specification. The place is column 1 of the first line with which none begins.
+    NotBuilt { place: Place },
+    Memory,
+}
+
+impl From<NoMemory> for SpecLineFault {
+    ghost use Rattle.std.specs.Prelude.{◌≡◌};
+    ghost use Rattle.line_spec.specs.declared.read.SpecLineFault.TheVariants.{Memory};
+
+    ghost from_gives = { λ _ e. e ≡ Memory };
+
+    fn from(_error: NoMemory) -> SpecLineFault {
+        SpecLineFault::Memory
+    }
+}
+
+/// Column 1 of a line.
+fn not_built(line: u32) -> SpecLineFault
+    ensures { result ≡ SpecLineFault.NotBuilt (record { line = line; column = 1 }) }
+{
+    SpecLineFault::NotBuilt {
+        place: Place { line, column: 1 },
+    }
+}
+
+/// The source without the line end of its last line.
+fn without_last_end(source: &[u8]) -> &[u8]
+    ensures { result.now ≡ without_last_end source.now }
+{
+    match source.strip_suffix(b"\n") {
+        Some(body) => body,
+        None => source,
+    }
+}
+
+/// Takes the next line, if it spells an item that may stand there.
+fn read_line(alloc: Global, table: &mut Table, line: &[u8]) -> Result<bool, NoMemory>
+    requires { table.old.lines < 2 ^ 31 }
+    ensures { IfOk result (λ b. MatchBool b (with_line table.old line.now ≡ Some table.new) ((with_line table.old line.now ≡ None) × (table.new ≡ table.old))) }
+{
+    match read_item(alloc, line)? {
+        Some(item) => table.add(item),
+        None => Ok(false),
+    }
+}
+
+/// What all lines declare.
+fn read_lines(alloc: Global, source: &[u8]) -> Result<Table, SpecLineFault>
+    requires { length source.now ≤ 1048576 }
+    ensures { AreRead source.now result }
+{
+    let mut table = Table::new(alloc);
+    for line in without_last_end(source).split(|byte| *byte == b'\n') {
+        if !read_line(alloc, &mut table, line)? {
+            return Err(not_built(table.lines() + 1));
+        }
+    }
+    Ok(table)
+}
+
+/// Reads a specification that has one item on each line.
+///
+/// Lines end with a line feed, which the last one may lack. The forms of a line are
+/// `in NAME: Events[Int]`, `def NAME := EXPRESSION` and `out NAME`, where an expression is `nil[Int]`, `unit`,
+/// `time(NAME)`, `last(NAME, NAME)` or `merge(NAME, NAME)`, with exactly these blanks.
+///
+/// A name has 1 to 255 ASCII letters, digits and `_`, begins with no digit, and is no word and no built-in name. It is
+/// declared once, by an input or a definition, and a name that is used is declared on an earlier line. The names of a
+/// `merge` have one type. There are at most 4,096 names, one output at least, and no two outputs of one name.
+///
+/// Inputs are numbered first, then definitions, each in the order of their lines. Another source is refused at column 1
+/// of the first line with which no specification begins; behind the last line where only an output is wanting; and at
+/// 1:1 where the source has more than 1,048,576 bytes.
+pub fn read_spec(alloc: Global, source: &[u8]) -> Result<Flat, SpecLineFault>
+    ensures ok { IfOk result (λ f. SpellsSystem source.now f) }
+    ensures in_order { IfOk result (λ f. IsInOrder f) }
+    ensures names { IfOk result (λ f. HaveNames f) }
+    ensures err { IfErr result (λ e. IsFaultOf source.now e) }
+{
+    if source.len() > 1_048_576 {
+        return Err(not_built(1));
+    }
+    let table = read_lines(alloc, source)?;
+    if table.count_outputs() == 0 {
+        return Err(not_built(table.lines() + 1));
+    }
+    let flat = table.into_flat(alloc)?;
+    Ok(flat)
+}
