@@ -10,6 +10,7 @@ use Rattle.std.proofs.lemmas.Slice.Eq.{bytes_eq-Decides}
 use Rattle.flat_core.specs.declared.equation.Equation.{Equation}
 use Rattle.flat_core.specs.Case.{used_of}
 use Rattle.flat_core.specs.System.{System}
+use Rattle.flat_core.specs.WellFormed.{IsRanked, unguarded_of}
 use Rattle.plain_solver.specs.Shape.{HasShape}
 use Rattle.plain_solver.specs.Instant.{IsInOrder}
 use Rattle.line_spec.specs.declared.item.Expression.{Expression}
@@ -31,14 +32,6 @@ shaped ds (Some (expression.Merge a b)) = tt
 abbrev AreBelow : ℕ → List ℕ → Type 0
 AreBelow n args = AllByRecursion (λ a. a < n) args
 
-arguments_below : (ds : List Declaration) (i : ℕ) (o : Option Expression) → AllByRecursion (λ n. number_of ds n < i) (names_of o) → AreBelow i (arguments_of ds o)
-arguments_below ds i None h = tt
-arguments_below ds i (Some expression.Nil) h = tt
-arguments_below ds i (Some expression.Unit) h = tt
-arguments_below ds i (Some (expression.Time a)) h = (h.0, tt)
-arguments_below ds i (Some (expression.Last v r)) h = (h.0, (h.1.0, tt))
-arguments_below ds i (Some (expression.Merge a b)) h = (h.0, (h.1.0, tt))
-
 used_below : (ds : List Declaration) (i : ℕ) (o : Option Expression) → AllByRecursion (λ n. number_of ds n < i) (names_of o) → AreBelow i (used_of (op_of o) (arguments_of ds o))
 used_below ds i None h = tt
 used_below ds i (Some expression.Nil) h = tt
@@ -46,6 +39,14 @@ used_below ds i (Some expression.Unit) h = tt
 used_below ds i (Some (expression.Time a)) h = (h.0, tt)
 used_below ds i (Some (expression.Last v r)) h = (h.1.0, tt)
 used_below ds i (Some (expression.Merge a b)) h = (h.0, (h.1.0, tt))
+
+unguarded_below : (ds : List Declaration) (i : ℕ) (o : Option Expression) → AllByRecursion (λ n. number_of ds n < i) (names_of o) → AreBelow i (unguarded_of (op_of o) (arguments_of ds o))
+unguarded_below ds i None h = tt
+unguarded_below ds i (Some expression.Nil) h = tt
+unguarded_below ds i (Some expression.Unit) h = tt
+unguarded_below ds i (Some (expression.Time a)) h = (h.0, tt)
+unguarded_below ds i (Some (expression.Last v r)) h = (h.1.0, tt)
+unguarded_below ds i (Some (expression.Merge a b)) h = (h.0, (h.1.0, tt))
 
 -- the declaration of equation i, with the numbers of its names below i
 record Found (ds : List Declaration) (i : ℕ) (e : Equation) : Type 0 where
@@ -62,19 +63,21 @@ found t s i e equations h at =
 pub in_order : (t : Declared) (s : System) → s.equations ≡ equations_of (numbered t) → IsSound t → IsInOrder s
 in_order t s equations h =
     record {
-      shape = λ i e at. let f = found t s i e equations h at in subst (λ (e : Equation). HasShape e.op e.args) f.is (shaped (numbered t) f.d.expression);
-      known = λ i e at.
-          let f = found t s i e equations h at in
-          let within : i < length s.equations = slice_get_within s.equations i e at in
-          let below : AreBelow i (arguments_of (numbered t) f.d.expression) = arguments_below (numbered t) i f.d.expression f.below in
-          subst (λ (e : Equation). All (λ a. a < length s.equations) e.args) f.is
-          (All-from_recursion (λ a. a < length s.equations) (arguments_of (numbered t) f.d.expression)
-          (all-map (λ a. a < i) (λ a. a < length s.equations) (λ a less. omega (arith, less, within)) (arguments_of (numbered t) f.d.expression) below));
-      below = λ i e at.
+      each = λ i e at.
           let f = found t s i e equations h at in
           let args = used_of (op_of f.d.expression) (arguments_of (numbered t) f.d.expression) in
-          subst (λ (e : Equation). All (λ a. a < i) (used_of e.op e.args)) f.is
-          (All-from_recursion (λ a. a < i) args (used_below (numbered t) i f.d.expression f.below));
+          record {
+            shape = subst (λ (e : Equation). HasShape e.op e.args) f.is (shaped (numbered t) f.d.expression);
+            below = subst (λ (e : Equation). All (λ a. a < i) (used_of e.op e.args)) f.is (All-from_recursion (λ a. a < i) args (used_below (numbered t) i f.d.expression f.below));
+          };
+    }
+
+pub ranked : (t : Declared) (s : System) → s.equations ≡ equations_of (numbered t) → IsSound t → IsRanked s (λ i. i)
+ranked t s equations h =
+    record {
+      falls = λ i e run at.
+          let f = found t s i e equations h at in
+          subst (λ (e : Equation). AllByRecursion (λ a. a < i) (unguarded_of e.op e.args)) f.is (unguarded_below (numbered t) i f.d.expression f.below);
     }
 
 -- ---- names

@@ -1,6 +1,8 @@
 // The reader.
 
 ghost use Rattle.std.specs.Prelude.{◌≡◌, ◌<◌, ◌≤◌, ◌^◌, length, Some, None, IfOk, IfErr, MatchBool};
+ghost use Rattle.flat_core.specs.Complete.{IsFlat};
+ghost use Rattle.flat_core.specs.WellFormed.{IsRanked};
 ghost use Rattle.plain_solver.specs.Instant.{IsInOrder};
 ghost use Rattle.line_spec.specs.Meaning.{HaveNames};
 ghost use Rattle.line_spec.specs.Reading.{without_last_end, lines_of, with_line, AreRead, IsFaultOf, SpellsSystem};
@@ -91,6 +93,8 @@ fn read_lines(alloc: Global, source: &[u8]) -> Result<Table, SpecLineFault>
 pub fn read_spec(alloc: Global, source: &[u8]) -> Result<Flat, SpecLineFault>
     ensures ok { IfOk result (λ f. SpellsSystem source.now f) }
     ensures in_order { IfOk result (λ f. IsInOrder f) }
+    ensures ranked { IfOk result (λ f. IsRanked f (λ i. i)) }
+    ensures is_flat { IfOk result (λ f. IsFlat f) }
     ensures names { IfOk result (λ f. HaveNames f) }
     ensures err { IfErr result (λ e. IsFaultOf source.now e) }
 {

@@ -4,6 +4,8 @@ ghost use Rattle.std.specs.Prelude.{◌≡◌, ◌+◌, ◌<◌, ◌≤◌, ◌^
 ghost use Rattle.std.specs.Option.{option_map};
 ghost use Rattle.std.specs.List.{find, list_any};
 ghost use Rattle.std.specs.Str.{bytes_eq};
+ghost use Rattle.flat_core.specs.Complete.{IsFlat};
+ghost use Rattle.flat_core.specs.WellFormed.{IsRanked};
 ghost use Rattle.plain_solver.specs.Instant.{IsInOrder};
 ghost use Rattle.line_spec.specs.Meaning.{IsSystem, HaveNames};
 ghost use Rattle.line_spec.specs.Table.{type_among, numbered, same_type, common_type, expression_type, is_free, is_allowed, with_item, with_input, with_definition, with_output, IsDeclared};
@@ -243,6 +245,8 @@ impl Table {
         requires few_lines { self.lines ≤ 2 ^ 31 }
         ensures system { IfOk result (λ f. IsSystem self f) }
         ensures in_order { IfOk result (λ f. IsInOrder f) }
+        ensures ranked { IfOk result (λ f. IsRanked f (λ i. i)) }
+        ensures is_flat { IfOk result (λ f. IsFlat f) }
         ensures names { IfOk result (λ f. HaveNames f) }
     {
         let Table {

@@ -6,11 +6,12 @@ use Rattle.flat_core.specs.Complete.{IsComplete}
 use Rattle.line_spec.specs.declared.table.Declaration.{Declaration}
 use Rattle.line_spec.specs.Table.{Declared, numbered}
 use Rattle.plain_solver.specs.Instant.{IsInOrder}
+use Rattle.flat_core.specs.WellFormed.{IsRanked}
 use Rattle.std.proofs.lemmas.Result.{IfOk-weaker}
 use Rattle.line_spec.specs.Meaning.{equation_of, output_of, HaveNames}
 use Rattle.line_spec.proofs.Sound.{sound-declared, short-names}
 use Rattle.line_spec.proofs.Systems.{complete}
-use Rattle.line_spec.proofs.Order.{in_order, have_names}
+use Rattle.line_spec.proofs.Order.{in_order, ranked, have_names}
 use Rattle.line_spec.proofs.table.Table.into_flat.Goals as goal
 
 pub build-requires-clause-few : goal.build-requires-clause-few
@@ -43,6 +44,12 @@ returns-clause-in_order c =
     let same : c.deref.result.now ≡ numbered c.args.self = c.deref.ensures.value ∙ (c.in_ok-append.ensures.items ∙ ap numbered c.self.view_is) in
     IfOk-weaker c.build.result (λ (f : System). f.equations ≡ map (equation_of c.deref.result.now) c.deref.result.now) (λ f. IsInOrder f)
     (λ f e. in_order c.args.self f (e ∙ ap (λ (ds : List Declaration). map (equation_of ds) ds) same) (sound-declared c.args.self c.requires.declared)) c.build.ensures.equations
+
+pub returns-clause-ranked : goal.returns-clause-ranked
+returns-clause-ranked c =
+    let same : c.deref.result.now ≡ numbered c.args.self = c.deref.ensures.value ∙ (c.in_ok-append.ensures.items ∙ ap numbered c.self.view_is) in
+    IfOk-weaker c.build.result (λ (f : System). f.equations ≡ map (equation_of c.deref.result.now) c.deref.result.now) (λ f. IsRanked f (λ i. i))
+    (λ f e. ranked c.args.self f (e ∙ ap (λ (ds : List Declaration). map (equation_of ds) ds) same) (sound-declared c.args.self c.requires.declared)) c.build.ensures.equations
 
 pub returns-clause-names : goal.returns-clause-names
 returns-clause-names c =
