@@ -11,3 +11,4 @@ pub mod PlaceLemmas
 pub mod HistoryLemmas
 pub mod UnreadLemmas
 pub mod GatherLemmas
+pub mod GatherAll

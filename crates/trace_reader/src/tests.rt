@@ -1,5 +1,11 @@
 // The reader, on small traces.
 
+ghost use Rattle.std.specs.Prelude.{◌≡◌, ◌≤◌, ◌^◌, ℕ, List, [], ◌++◌, false, true, length, OnOk};
+ghost use Rattle.flat_core.specs.System.{System};
+ghost use Rattle.trace_reader.specs.Reader.{AwaitsMore};
+ghost use Rattle.trace_reader.specs.Reading.{reading};
+ghost use Rattle.trace_reader.specs.Reads.{IfRestMore, Reads, SaysRest};
+
 use crate::fault::TraceFault;
 use crate::next::{Next, Rest};
 use crate::reader::TraceReader;
@@ -34,24 +40,55 @@ fn two_inputs(alloc: Global) -> Result<Flat, NoMemory> {
     }
 }
 
-/// Feeds a whole trace in two pieces, and gathers its lines.
-fn read_in_two(
-    alloc: Global,
-    limit: u64,
-    first: &[u8],
-    second: &[u8],
+/// Feeds a piece, and gathers the lines that it ends.
+fn read_piece(
+    reader: &mut TraceReader<'_>,
+    piece: &[u8],
     lines: &mut Vec<TraceLine>,
-) -> Result<Rest, TraceFault> {
-    let flat = two_inputs(alloc)?;
-    let mut reader = TraceReader::new(alloc, &flat, false, limit)?;
-    reader.feed(first)?;
-    if reader.read_all(lines)? == Rest::More {
-        reader.feed(second)?;
-        if reader.read_all(lines)? == Rest::More {
-            reader.finish();
+) -> Result<Rest, TraceFault>
+    requires some { 1 ≤ length piece.now }
+    requires short { length piece.now ≤ 65536 }
+    requires awaits { AwaitsMore reader.old }
+    ensures says { (s : System) (limit : ℕ) (fed : List ℕ) → Reads reader.old s limit fed lines.old.items false → SaysRest (reading s limit (fed ++ piece.now) false) lines.new.items false result }
+    ensures reads { (s : System) (limit : ℕ) (fed : List ℕ) → Reads reader.old s limit fed lines.old.items false → OnOk result (Reads reader.new s limit (fed ++ piece.now) lines.new.items false) }
+    ensures more { IfRestMore result (AwaitsMore reader.new) }
+{
+    match reader.feed(piece) {
+        Ok(()) => reader.read_all(lines),
+        Err(NoMemory) => Err(TraceFault::Memory),
+    }
+}
+
+/// Says that the trace has ended, and gathers its last line.
+fn read_end(reader: &mut TraceReader<'_>, lines: &mut Vec<TraceLine>) -> Result<Rest, TraceFault>
+    ensures { (s : System) (limit : ℕ) (fed : List ℕ) → Reads reader.old s limit fed lines.old.items false → SaysRest (reading s limit fed true) lines.new.items true result }
+{
+    reader.finish();
+    reader.read_all(lines)
+}
+
+/// Reads a whole trace in pieces of this size, and gathers its lines.
+fn read_in_pieces(
+    reader: &mut TraceReader<'_>,
+    trace: &[u8],
+    size: usize,
+    lines: &mut Vec<TraceLine>,
+) -> Result<Rest, TraceFault>
+    requires some { 1 ≤ size }
+    requires short { size ≤ 65536 }
+    requires awaits { AwaitsMore reader.old }
+    ensures { (s : System) (limit : ℕ) → Reads reader.old s limit [] lines.old.items false → SaysRest (reading s limit trace.now true) lines.new.items true result }
+{
+    let mut rest = trace;
+    while !rest.is_empty() {
+        let (piece, behind) = rest.split_at(size.min(rest.len()));
+        match read_piece(reader, piece, lines) {
+            Ok(Rest::More) => rest = behind,
+            Ok(Rest::End) => return Ok(Rest::End),
+            Err(fault) => return Err(fault),
         }
     }
-    reader.read_all(lines)
+    read_end(reader, lines)
 }
 
 fn is_event(line: &TraceLine, time: u64, number: u32, value: i64) -> bool {
@@ -63,29 +100,46 @@ fn is_event(line: &TraceLine, time: u64, number: u32, value: i64) -> bool {
     }
 }
 
+/// What a trace of two inputs gives, in pieces of this size.
+fn lines_of(
+    alloc: Global,
+    limit: u64,
+    trace: &[u8],
+    size: usize,
+    lines: &mut Vec<TraceLine>,
+) -> Result<Rest, TraceFault>
+    requires some { 1 ≤ size }
+    requires short { size ≤ 65536 }
+    requires low { 1 ≤ limit }
+    requires high { limit ≤ 2 ^ 40 }
+{
+    let flat = two_inputs(alloc)?;
+    let mut reader = TraceReader::new(alloc, &flat, false, limit)?;
+    read_in_pieces(&mut reader, trace, size, lines)
+}
+
 #[test]
 fn a_line_that_is_cut_is_one_line(rt: HostRuntime) -> Result<(), Fail> {
-    let mut lines = Vec::new(rt.alloc());
-    let rest = read_in_two(rt.alloc(), 100, b"1: i = 5\n2: j = ", b"-7\n2: i = 0", &mut lines);
-    assert!(rt; matches!(rest, Ok(Rest::End)));
-    assert_eq!(rt; lines.len(), 3);
-    assert!(rt; is_event(&lines[0], 1, 0, 5));
-    assert!(rt; is_event(&lines[1], 2, 1, -7));
-    assert!(rt; is_event(&lines[2], 2, 0, 0));
+    for size in [1usize, 3, 100] {
+        let mut lines = Vec::new(rt.alloc());
+        let rest = lines_of(rt.alloc(), 100, b"1: i = 5\n2: j = -7\n2: i = 0", size, &mut lines);
+        assert!(rt; matches!(rest, Ok(Rest::End)));
+        assert_eq!(rt; lines.len(), 3);
+        assert!(rt; is_event(&lines[0], 1, 0, 5));
+        assert!(rt; is_event(&lines[1], 2, 1, -7));
+        assert!(rt; is_event(&lines[2], 2, 0, 0));
+    }
     Ok(())
 }
 
 #[test]
 fn the_first_refused_line_is_named(rt: HostRuntime) -> Result<(), Fail> {
     let mut lines = Vec::new(rt.alloc());
-    let back = read_in_two(rt.alloc(), 100, b"5: i = 1\n", b"4: i = 1\n", &mut lines);
-    let Err(TraceFault::TimeBack { line, before, now }) = back else {
-        return Err(Fail::from("no line back"));
-    };
-    assert_eq!(rt; (line, before.get(), now.get()), (2, 5, 4));
-    let twice = read_in_two(rt.alloc(), 100, b"1: i = 5\n1: j = 5", b"\n1: i = 6\n", &mut lines);
+    let back = lines_of(rt.alloc(), 100, b"5: i = 1\n4: i = 1\n", 9, &mut lines);
+    assert!(rt; matches!(back, Err(TraceFault::TimeBack { line: 2, .. })));
+    let twice = lines_of(rt.alloc(), 100, b"1: i = 5\n1: j = 5\n1: i = 6\n", 2, &mut lines);
     assert!(rt; matches!(twice, Err(TraceFault::BadLine { line: 3 })));
-    let long = read_in_two(rt.alloc(), 12, b"1: i = 5\n", b"2: i = 7\n", &mut lines);
+    let long = lines_of(rt.alloc(), 12, b"1: i = 5\n2: i = 7\n", 4, &mut lines);
     assert!(rt; matches!(long, Err(TraceFault::TraceTooLong { line: 2 })));
     assert_eq!(rt; lines.len(), 4);
     Ok(())
