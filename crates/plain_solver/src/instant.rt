@@ -10,9 +10,9 @@ ghost use Rattle.plain_solver.specs.Shape.{streams_of};
 ghost use Rattle.flat_core.specs.Kept.{AreKept};
 
 use crate::events::Events;
-use flat_core::line::TraceLine;
 use crate::outcome::{outcome_of, root_of};
 use flat_core::flat::Flat;
+use flat_core::line::TraceLine;
 use lift_func::fault::FaultKind;
 use std::alloc::Global;
 use tsl_value::ids::EqId;

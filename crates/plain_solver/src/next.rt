@@ -11,10 +11,10 @@ ghost use Rattle.flat_core.specs.Pending.{option_is};
 use crate::delay::pending_before;
 use crate::events::Events;
 use crate::line::least_line;
-use flat_core::line::TraceLine;
 use crate::outcome::{argument, stream_at};
 use flat_core::equation::{Equation, Op};
 use flat_core::flat::Flat;
+use flat_core::line::TraceLine;
 use tsl_value::ids::EqId;
 use tsl_value::time::Time;
 

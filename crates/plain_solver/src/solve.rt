@@ -8,9 +8,9 @@ ghost use Rattle.plain_solver.specs.Solved.{IsEnded};
 
 use crate::events::Events;
 use crate::instant::{first_root, run_instant};
-use flat_core::line::TraceLine;
 use crate::next::next_below;
 use flat_core::flat::Flat;
+use flat_core::line::TraceLine;
 use lift_func::fault::FaultKind;
 use std::alloc::Global;
 use tsl_value::ids::EqId;

@@ -182,7 +182,8 @@ fn events_are_printed_by_time_and_output(rt: HostRuntime) -> Result<(), Fail> {
     let events = [(2, 5, 7), (2, 4, 5), (4, 5, 8), (8, 4, 3)];
     let (end, text) = run(rt.alloc(), &events, 11, 100)?;
     assert!(rt; end == End::Bound);
-    let wanted = b"2: t = 2\n2: b = 5\n2: q = 1\n4: t = 4\n4: b = 8\n4: q = 1\n8: t = 8\n8: b = 3\n8: l = 5\n10: p = ()\n";
+    let wanted =
+        b"2: t = 2\n2: b = 5\n2: q = 1\n4: t = 4\n4: b = 8\n4: q = 1\n8: t = 8\n8: b = 3\n8: l = 5\n10: p = ()\n";
     assert!(rt; text.as_slice() == wanted.as_slice());
     Ok(())
 }

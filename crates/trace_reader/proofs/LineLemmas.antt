@@ -36,10 +36,10 @@ use Rattle.trace_reader.proofs.StepLemmas.{last_time-push, events_of-push}
 pub data StandBehind (s : System) : List (ℕ × ℕ) → ℕ → List Line → Type 0 where
   none : {past : List (ℕ × ℕ)} {last : ℕ} → StandBehind s past last []
   more : {past : List (ℕ × ℕ)} {last : ℕ} {l : Line} {ls : List Line} (bytes : List ℕ) → Stands past last (spelled s bytes) l →
-    StandBehind s (past ++ with_event l.time l.event []) l.time ls → StandBehind s past last (l ∷ ls)
+      StandBehind s (past ++ with_event l.time l.event []) l.time ls → StandBehind s past last (l ∷ ls)
 
 go_on_stands : (s : System) (past : List (ℕ × ℕ)) (last : ℕ) (bytes : List ℕ) (j : Result Line TraceFault) (rest : Line → Reading) → IfStands past last (spelled s bytes) j →
-  ((l : Line) → StandBehind s (past ++ with_event l.time l.event []) l.time (rest l).lines) → StandBehind s past last (go_on j rest).lines
+    ((l : Line) → StandBehind s (past ++ with_event l.time l.event []) l.time (rest l).lines) → StandBehind s past last (go_on j rest).lines
 go_on_stands s past last bytes (Err f) rest stands behind = none
 go_on_stands s past last bytes (Ok l) rest stands behind = more bytes stands (behind l)
 
@@ -48,8 +48,8 @@ read_stands s before n [] = none
 read_stands s before n (bytes ∷ lines) =
     go_on_stands s (events_of before) (last_time before) bytes (judged (events_of before) (last_time before) n (spelled s bytes)) _ (judged_stands (events_of before) (last_time before) n (spelled s bytes))
     (λ l. let it = read_stands s (before ++ l ∷ []) (n + 1) lines in
-      subst (λ (past : List (ℕ × ℕ)). StandBehind s past l.time (read s (before ++ l ∷ []) (n + 1) lines).lines) (events_of-push before l)
-      (subst (λ (t : ℕ). StandBehind s (events_of (before ++ l ∷ [])) t (read s (before ++ l ∷ []) (n + 1) lines).lines) (last_time-push before l) it))
+    subst (λ (past : List (ℕ × ℕ)). StandBehind s past l.time (read s (before ++ l ∷ []) (n + 1) lines).lines) (events_of-push before l)
+    (subst (λ (t : ℕ). StandBehind s (events_of (before ++ l ∷ [])) t (read s (before ++ l ∷ []) (n + 1) lines).lines) (last_time-push before l) it))
 
 -- the times
 abbrev IsLaterThan : ℕ → Line → Type 0
@@ -107,11 +107,10 @@ had_now past t i o v is =
 
 none_at : {s : System} {past : List (ℕ × ℕ)} {last : ℕ} (t i : ℕ) (ls : List Line) → had_event_at past t i ≡ true → StandBehind s past last ls → NoneAt t i ls
 none_at t i [] had it = tt
-none_at {past} t i (l ∷ ls) had (more bytes stands behind) =
-    (
-      λ v time event. absurd (true≢false (sym had ∙ (λ k. had_event past (sym time k) (sym event k)) ∙ stands.new)),
-      none_at t i ls (had_still past (with_event l.time l.event []) t i had) behind,
-    )
+none_at {past} t i (l ∷ ls) had (more bytes stands behind) = (
+  λ v time event. absurd (true≢false (sym had ∙ (λ k. had_event past (sym time k) (sym event k)) ∙ stands.new)),
+  none_at t i ls (had_still past (with_event l.time l.event []) t i had) behind,
+)
 
 distinct : {s : System} {past : List (ℕ × ℕ)} {last : ℕ} (ls : List Line) → StandBehind s past last ls → AreDistinct ls
 distinct [] it = tt
@@ -159,7 +158,7 @@ record IsFound (p : Equation → Bool) (es : List Equation) (from place : ℕ) :
   passes : p at ≡ true
 
 found_step : (p : Equation → Bool) (e : Equation) (es : List Equation) (from place : ℕ) (here : Bool) → p e ≡ here → (if here then Some from else position_from p (from + 1) es) ≡ Some place →
-  (position_from p (from + 1) es ≡ Some place → IsFound p es (from + 1) place) → IsFound p (e ∷ es) from place
+    (position_from p (from + 1) es ≡ Some place → IsFound p es (from + 1) place) → IsFound p (e ∷ es) from place
 found_step p e es from place true passes is later =
     record { after = 0; place_is = let same = some_same from place is in omega arith; at = e; is = refl; passes = passes }
 found_step p e es from place false passes is later =
@@ -213,8 +212,8 @@ spelled_proper s bytes l is =
     record {
       time = subst (λ (t : ℕ). t < 2 ^ 63) (ap (λ (m : Line). m.time) whole.gives) (time_small parts.at.time time.at time.is);
       event = λ i v has.
-        let same : whole.at ≡ (i, v) = some_same whole.at (i, v) (ap (λ (m : Line). m.event) whole.gives ∙ has) in
-        event_fits s parts.at i event.at v event.is (event.gives ∙ ap (λ (e : ℕ × Scalar). Some e) same);
+          let same : whole.at ≡ (i, v) = some_same whole.at (i, v) (ap (λ (m : Line). m.event) whole.gives ∙ has) in
+          event_fits s parts.at i event.at v event.is (event.gives ∙ ap (λ (e : ℕ × Scalar). Some e) same);
     }
 
 proper : {s : System} {past : List (ℕ × ℕ)} {last : ℕ} (ls : List Line) → StandBehind s past last ls → AllByRecursion (IsProperLine s) ls
@@ -236,7 +235,7 @@ pub reading_distinct : (s : System) (limit : ℕ) (bytes : List ℕ) (ended : Bo
 reading_distinct s limit bytes ended = distinct (reading s limit bytes ended).lines (reading_stands s limit bytes ended)
 
 pub reading_later : (s : System) (limit : ℕ) (bytes beyond : List ℕ) (ended : Bool) (rest : List Line) →
-  (reading s limit (bytes ++ beyond) ended).lines ≡ (reading s limit bytes false).lines ++ rest → AllByRecursion (λ (l : Line). last_time (reading s limit bytes false).lines ≤ l.time) rest
+    (reading s limit (bytes ++ beyond) ended).lines ≡ (reading s limit bytes false).lines ++ rest → AllByRecursion (λ (l : Line). last_time (reading s limit bytes false).lines ≤ l.time) rest
 reading_later s limit bytes beyond ended rest is =
     all_behind_later (reading s limit bytes false).lines rest (subst (λ (ls : List Line). StandBehind s [] 0 ls) is (reading_stands s limit (bytes ++ beyond) ended))
 

@@ -20,7 +20,7 @@ suc_within : (n m : ℕ) → nat_lt n m ≡ nat_lt (suc n) (suc m)
 suc_within n m = grind arith
 
 split_step : (mark b : ℕ) (bytes : List ℕ) (is_mark : Bool) → split_once mark bytes ≡ at_place (nat_lt (prefix_len (λ x. not (x == mark)) bytes) (length bytes)) (prefix_len (λ x. not (x == mark)) bytes) bytes →
-  (if is_mark then Some ([], bytes) else option_map (put_first b) (split_once mark bytes))
+    (if is_mark then Some ([], bytes) else option_map (put_first b) (split_once mark bytes))
     ≡ at_place (nat_lt (if not is_mark then 1 + prefix_len (λ x. not (x == mark)) bytes else 0) (length (b ∷ bytes))) (if not is_mark then 1 + prefix_len (λ x. not (x == mark)) bytes else 0) (b ∷ bytes)
 split_step mark b bytes true ih = let within : 0 < length (b ∷ bytes) = omega arith in ap (λ w. at_place w 0 (b ∷ bytes)) (sym (lt-ltb 0 (length (b ∷ bytes)) within))
 split_step mark b bytes false ih =

@@ -54,12 +54,12 @@ reads_piece r s limit fed given piece accepted reads = record {
   last = reads.last;
   past = reads.past;
   goes_on = λ more e may.
-    ap (λ bytes. reading s limit bytes e) (append_assoc fed piece more)
-    ∙ reads.goes_on (piece ++ more) e tt
-    ∙ (let bytes : r.unread ++ take r.left (piece ++ more) ≡ r.unread ++ take r.left piece ++ take (r.left - length piece) more =
-          ap (λ bs. r.unread ++ bs) (take-append r.left piece more) ∙ sym (append_assoc r.unread (take r.left piece) (take (r.left - length piece) more)) in
+      ap (λ bytes. reading s limit bytes e) (append_assoc fed piece more)
+      ∙ reads.goes_on (piece ++ more) e tt
+      ∙ (let bytes : r.unread ++ take r.left (piece ++ more) ≡ r.unread ++ take r.left piece ++ take (r.left - length piece) more =
+      ap (λ bs. r.unread ++ bs) (take-append r.left piece more) ∙ sym (append_assoc r.unread (take r.left piece) (take (r.left - length piece) more)) in
       let over : (r.over || nat_lt r.left (length (piece ++ more))) ≡ ((r.over || nat_lt r.left (length piece)) || nat_lt (r.left - length piece) (length more)) =
-          ap (λ n. r.over || nat_lt r.left n) (length-append piece more) ∙ over_both r.over r.left (length piece) (length more) in
+      ap (λ n. r.over || nat_lt r.left n) (length-append piece more) ∙ over_both r.over r.left (length piece) (length more) in
       λ k. after given (read_on s given (r.count + 1) (bytes k) (over k) e));
   refused = λ f is. absurd (cc);
 }
@@ -74,8 +74,8 @@ reads_end r s limit fed given reads = record {
   past = reads.past;
   goes_on = λ more e may. reads.goes_on more e tt;
   refused = λ f is.
-    let stood = reads.refused f is in
-    ap (λ bytes. reading s limit bytes true) (sym (append-nil fed)) ∙ reading_refused s limit fed [] true f (ap (λ (r : Reading). r.refused) stood) ∙ stood;
+      let stood = reads.refused f is in
+      ap (λ bytes. reading s limit bytes true) (sym (append-nil fed)) ∙ reading_refused s limit fed [] true f (ap (λ (r : Reading). r.refused) stood) ∙ stood;
 }
 
 -- a piece of which as much is taken as is within the limit

@@ -74,8 +74,7 @@ module _ (bytes : List ℕ) (start searched : ℕ) (low : start ≤ searched) (h
       let fronts = length-take (searched - start) whole in
       let wholes = length-drop start bytes in
       let both = length-append front (take more back) in
-      let len : length line.0 ≡ searched + more - start = omega arith in
-      (
+      let len : length line.0 ≡ searched + more - start = omega arith in (
         subst (λ (n : ℕ). n < length whole) len it.within,
         here ∙ λ k. Some ((it.front ∙ ap (λ n. take n whole) len) k, (it.behind ∙ ap (λ n. drop (n + 1) whole) len) k),
       )

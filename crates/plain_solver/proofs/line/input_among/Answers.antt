@@ -14,9 +14,9 @@ returns-in-Some c =
 
 pub returns : goal.returns
 returns c = input_end c.args.lines.now c.loop-line.line-index c.args.i c.args.t _ c.loop-line-test.false c.loop-line.invariant
+
 pub returns-then-get : goal.returns-then-get
 returns-then-get c =
     let late : c.args.t < c.line-item.result.time = omega arith in
     input_late c.args.lines.now c.loop-line.line-index c.line-item.result c.loop-line-test.true c.line-item.is c.args.i c.args.t _ c.loop-line.invariant
     c.requires late
-

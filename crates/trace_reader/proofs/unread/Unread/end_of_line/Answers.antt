@@ -18,7 +18,7 @@ invariant_of-self c =
       omega arith,
       omega arith,
       ap (split_once 10) (rest_is c.self.inside.start bytes)
-        ∙ none_behind bytes c.self.inside.start searched it.0 it.1 it.2 (none ∙ ap (position (λ b. b == 10)) (rest_is searched bytes)),
+          ∙ none_behind bytes c.self.inside.start searched it.0 it.1 it.2 (none ∙ ap (position (λ b. b == 10)) (rest_is searched bytes)),
     )
 
 pub returns-in-Some-clause-line : goal.returns-in-Some-clause-line
