@@ -1,5 +1,5 @@
 -- The first line of some bytes, and their reading from it on.
-use Rattle.std.proofs.Common.{◌≡◌, ◌==◌, ℕ, zero, suc, ◌+◌, ◌-◌, Bool, true, false, ◌&&◌, not, List, [], ◌∷◌, ◌++◌, length, take, Option, Some, None, Result, Ok, Err, refl, sym, ap, ◌∙◌, arith, add-zero, append_assoc}
+use Rattle.std.proofs.Common.{◌≡◌, ◌==◌, ℕ, zero, suc, ◌+◌, ◌-◌, Bool, true, false, ◌&&◌, not, List, [], ◌∷◌, ◌++◌, length, take, Option, Some, None, Result, Ok, Err, refl, sym, ap, ◌∙◌, arith, add-zero}
 use Rattle.std.specs.Prelude.{if◌then◌else◌}
 use Rattle.std.specs.Option.{option_map, option_or}
 use Rattle.flat_core.specs.System.{System}
@@ -18,7 +18,7 @@ cut_put b bytes None = refl
 cut_put b bytes (Some p) = refl
 
 cut_step : (is_end : Bool) (b : ℕ) (bytes : List ℕ) → cut bytes ≡ cut_by (split_once 10 bytes) bytes →
-  (if is_end then ([] ∷ (cut bytes).0, (cut bytes).1) else put_before b (cut bytes).0 (cut bytes).1) ≡ cut_by (if is_end then Some ([], bytes) else option_map (put_first b) (split_once 10 bytes)) (b ∷ bytes)
+    (if is_end then ([] ∷ (cut bytes).0, (cut bytes).1) else put_before b (cut bytes).0 (cut bytes).1) ≡ cut_by (if is_end then Some ([], bytes) else option_map (put_first b) (split_once 10 bytes)) (b ∷ bytes)
 cut_step true b bytes ih = refl
 cut_step false b bytes ih = ap (λ (c : List (List ℕ) × List ℕ). put_before b c.0 c.1) ih ∙ cut_put b bytes (split_once 10 bytes)
 
@@ -44,7 +44,7 @@ split_put mark b None front back = split_twice b front (split_once mark back)
 split_put mark b (Some p) front back = refl
 
 split_step : (is_mark : Bool) (mark b : ℕ) (front back : List ℕ) → split_once mark (front ++ back) ≡ split_by mark (split_once mark front) front back →
-  (if is_mark then Some ([], front ++ back) else option_map (put_first b) (split_once mark (front ++ back))) ≡ split_by mark (if is_mark then Some ([], front) else option_map (put_first b) (split_once mark front)) (b ∷ front) back
+    (if is_mark then Some ([], front ++ back) else option_map (put_first b) (split_once mark (front ++ back))) ≡ split_by mark (if is_mark then Some ([], front) else option_map (put_first b) (split_once mark front)) (b ∷ front) back
 split_step true mark b front back ih = refl
 split_step false mark b front back ih = ap (option_map (put_first b)) ih ∙ split_put mark b (split_once mark front) front back
 
@@ -76,7 +76,7 @@ module _ (s : System) (before : List Line) (n : ℕ) where
   one_more line rest over ended =
       limited_go_on _ _ (overflow over (n + length (line ∷ (cut rest).0)))
       ∙ go_on_same _ _ _ (λ l. let same : n + length (line ∷ (cut rest).0) ≡ n + 1 + length (cut rest).0 = omega arith in
-        ap (λ k. limited (read s (before ++ l ∷ []) (n + 1) (lines_of rest (ended && not over))) (overflow over k)) same)
+      ap (λ k. limited (read s (before ++ l ∷ []) (n + 1) (lines_of rest (ended && not over))) (overflow over k)) same)
 
   at_rest : (bytes : List ℕ) (over ended : Bool) → read_cut s before n ([], bytes) over ended ≡ read_by over ended (if ended && not over then alone bytes else None)
   at_rest bytes over false = ap (λ k. record { lines = []; refused = overflow over k }) (add-zero n)

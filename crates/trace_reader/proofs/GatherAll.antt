@@ -1,6 +1,5 @@
 -- A whole trace in pieces, for the tests.
 use Rattle.std.proofs.Common.{◌≡◌, ℕ, Bool, true, false, List, [], ◌∷◌, ◌++◌, refl, sym, ap, subst, ◌∙◌, append_assoc, length, arith, Result, Ok, Err, Some}
-use Rattle.std.proofs.lemmas.Bool.{false≢true}
 use Rattle.std.proofs.lemmas.List.{append-nil}
 use Rattle.std.specs.Prelude.{OnOk}
 use Rattle.flat_core.specs.System.{System}
@@ -8,7 +7,6 @@ use Rattle.flat_core.specs.Line.{Line}
 use Rattle.trace_reader.specs.declared.fault.TraceFault.{TraceFault}
 use Rattle.trace_reader.specs.declared.fault.TraceFault.TheVariants as fault
 use Rattle.trace_reader.specs.declared.next.Rest.{Rest}
-use Rattle.trace_reader.specs.declared.next.Rest.TheVariants as rest
 use Rattle.trace_reader.specs.Reading.{Reading, reading}
 use Rattle.trace_reader.specs.Reader.{Reader}
 use Rattle.trace_reader.specs.Reads.{Reads, Gathers, SaysRest}
@@ -29,7 +27,7 @@ pub record IsBetween (now : Reader) (s : System) (limit : ℕ) (trace rest : Lis
 
 -- a refusal in a part of the trace is one of the whole
 refused_same : (s : System) (limit : ℕ) (trace fed rest : List ℕ) (lines : List Line) (f : TraceFault) → trace ≡ fed ++ rest → reading s limit fed false ≡ record { lines = lines; refused = Some f } →
-  reading s limit trace true ≡ record { lines = lines; refused = Some f }
+    reading s limit trace true ≡ record { lines = lines; refused = Some f }
 refused_same s limit trace fed rest lines f is refused =
     ap (λ bytes. reading s limit bytes true) is ∙ reading_refused s limit fed rest true f (ap (λ (r : Reading). r.refused) refused) ∙ refused
 
@@ -51,7 +49,7 @@ pub between_none : (now : Reader) (s : System) (limit : ℕ) (trace : List ℕ) 
 between_none now s limit trace lines reads = record { fed = []; is = refl; reads = reads }
 
 pub between_more : (now new : Reader) (s : System) (limit : ℕ) (trace rest piece behind : List ℕ) (before lines : List Line) (it : IsBetween now s limit trace rest before) → rest ≡ piece ++ behind →
-  Reads new s limit (it.fed ++ piece) lines false → IsBetween new s limit trace behind lines
+    Reads new s limit (it.fed ++ piece) lines false → IsBetween new s limit trace behind lines
 between_more now new s limit trace rest piece behind before lines it is reads =
     record { fed = it.fed ++ piece; is = split_is trace it.fed rest piece behind it.is is; reads = reads }
 

@@ -26,7 +26,7 @@ IfStands past last o (Ok l) = Stands past last o l
 IfStands past last o (Err f) = Unit {0}
 
 stands_if : (past : List (ℕ × ℕ)) (last n : ℕ) (l : Line) (had below : Bool) → had_event past l.time l.event ≡ had → nat_lt l.time last ≡ below →
-  IfStands past last (Some l) (if had then Err (fault.BadLine n) else (if below then Err (fault.TimeBack n last l.time) else Ok l))
+    IfStands past last (Some l) (if had then Err (fault.BadLine n) else (if below then Err (fault.TimeBack n last l.time) else Ok l))
 stands_if past last n l true below had_is below_is = tt
 stands_if past last n l false true had_is below_is = tt
 stands_if past last n l false false had_is below_is = record { is = refl; new = had_is; later = ltb-false l.time last below_is }
@@ -40,7 +40,7 @@ judged_later past last n o l is = let it = subst (IfStands past last o) is (judg
 
 -- No line is refused for want of memory.
 placed_known : (past : List (ℕ × ℕ)) (last n : ℕ) (l : Line) (had below : Bool) →
-  (if had then Err (fault.BadLine n) else (if below then Err (fault.TimeBack n last l.time) else Ok l)) ≡ Err fault.Memory → ⊥
+    (if had then Err (fault.BadLine n) else (if below then Err (fault.TimeBack n last l.time) else Ok l)) ≡ Err fault.Memory → ⊥
 placed_known past last n l true below is = let same : fault.BadLine n ≡ fault.Memory = err_same (fault.BadLine n) fault.Memory is in cc
 placed_known past last n l false true is = let same : fault.TimeBack n last l.time ≡ fault.Memory = err_same (fault.TimeBack n last l.time) fault.Memory is in cc
 placed_known past last n l false false is = ok_not_err l fault.Memory is

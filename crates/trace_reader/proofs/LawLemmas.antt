@@ -1,18 +1,15 @@
 -- What holds of every reading.
-use Rattle.std.proofs.Common.{◌≡◌, ◌==◌, ◌≤◌, ◌<◌, ◌^◌, ℕ, ◌+◌, ◌-◌, Bool, true, false, ◌&&◌, ◌||◌, not, List, [], ◌∷◌, ◌++◌, length, take, nat_lt, Option, Some, None, Result, Ok, Err, refl, sym, ap, subst, ◌∙◌, arith, append_assoc, length-append, add-zero, inl, inr}
+use Rattle.std.proofs.Common.{◌≡◌, ◌==◌, ◌<◌, ℕ, ◌+◌, ◌-◌, Bool, true, false, ◌&&◌, not, List, [], ◌∷◌, ◌++◌, length, take, nat_lt, Option, Some, None, Result, Ok, Err, refl, sym, ap, ◌∙◌, arith, append_assoc, length-append, add-zero, inl, inr}
 use Rattle.std.proofs.lemmas.Bool.{cases_Bool, ltb-true, lt-ltb}
 use Rattle.std.proofs.lemmas.List.{append-nil}
 use Rattle.std.specs.Prelude.{if◌then◌else◌}
 use Rattle.std.specs.Option.{option_or}
-use Rattle.std.specs.List.{AllByRecursion, list_any}
-use Rattle.tsl_value.specs.declared.scalar.Scalar.{Scalar}
 use Rattle.flat_core.specs.System.{System}
-use Rattle.flat_core.specs.Line.{Line, IsSorted, last_time}
+use Rattle.flat_core.specs.Line.{Line, last_time}
 use Rattle.trace_reader.specs.declared.fault.TraceFault.{TraceFault}
-use Rattle.trace_reader.specs.declared.fault.TraceFault.TheVariants as fault
-use Rattle.trace_reader.specs.Reading.{Reading, put_before, cut, last_line, lines_of, spelled, events_of, with_event, had_event, had_event_at, placed, judged, go_on, read, overflow, limited, read_on, reading}
+use Rattle.trace_reader.specs.Reading.{Reading, put_before, cut, last_line, lines_of, spelled, events_of, judged, go_on, read, overflow, limited, read_on, reading}
 use Rattle.trace_reader.specs.Reads.{after}
-use Rattle.trace_reader.specs.Laws.{Begins, NoneAt, AreDistinct}
+use Rattle.trace_reader.specs.Laws.{Begins}
 use Rattle.trace_reader.proofs.CutLemmas.{take-append}
 
 -- the lines of bytes before others, by those of the bytes and of what stands behind their last end
@@ -25,7 +22,7 @@ join_put b [] rest back no_end =
 join_put b (l ∷ ls) rest back no_end = refl
 
 cut_step : (is_end : Bool) (b : ℕ) (front back : List ℕ) → b == 10 ≡ is_end → cut (front ++ back) ≡ cut_join (cut front) back →
-  (if is_end then ([] ∷ (cut (front ++ back)).0, (cut (front ++ back)).1) else put_before b (cut (front ++ back)).0 (cut (front ++ back)).1)
+    (if is_end then ([] ∷ (cut (front ++ back)).0, (cut (front ++ back)).1) else put_before b (cut (front ++ back)).0 (cut (front ++ back)).1)
     ≡ cut_join (if is_end then ([] ∷ (cut front).0, (cut front).1) else put_before b (cut front).0 (cut front).1) back
 cut_step true b front back is ih = ap (λ (c : List (List ℕ) × List ℕ). ([] ∷ c.0, c.1)) ih
 cut_step false b front back is ih = ap (λ (c : List (List ℕ) × List ℕ). put_before b c.0 c.1) ih ∙ join_put b (cut front).0 (cut front).1 back is
@@ -40,7 +37,7 @@ joined (Some f) lines rest = record { lines = lines; refused = Some f }
 joined None lines rest = after lines (rest lines)
 
 joined_one : (o : Option TraceFault) (l : Line) (lines : List Line) (rest : List Line → Reading) →
-  record { lines = l ∷ (joined o lines (λ ls. rest (l ∷ ls))).lines; refused = (joined o lines (λ ls. rest (l ∷ ls))).refused } ≡ joined o (l ∷ lines) rest
+    record { lines = l ∷ (joined o lines (λ ls. rest (l ∷ ls))).lines; refused = (joined o lines (λ ls. rest (l ∷ ls))).refused } ≡ joined o (l ∷ lines) rest
 joined_one (Some f) l lines rest = refl
 joined_one None l lines rest = refl
 
@@ -49,20 +46,20 @@ joined_same (Some f) lines rest more same = refl
 joined_same None lines rest more same = ap (after lines) (same lines)
 
 go_on_joined : (j : Result Line TraceFault) (whole first : Line → Reading) (rest : List Line → Reading) → ((l : Line) → whole l ≡ joined (first l).refused (first l).lines (λ ls. rest (l ∷ ls))) →
-  go_on j whole ≡ joined (go_on j first).refused (go_on j first).lines rest
+    go_on j whole ≡ joined (go_on j first).refused (go_on j first).lines rest
 go_on_joined (Err f) whole first rest each = refl
 go_on_joined (Ok l) whole first rest each =
     (let one = each l in λ k. record { lines = l ∷ (one k).lines; refused = (one k).refused }) ∙ joined_one (first l).refused l (first l).lines rest
 
 pub read-append : (s : System) (before : List Line) (n : ℕ) (front back : List (List ℕ)) →
-  read s before n (front ++ back) ≡ joined (read s before n front).refused (read s before n front).lines (λ ls. read s (before ++ ls) (n + length front) back)
+    read s before n (front ++ back) ≡ joined (read s before n front).refused (read s before n front).lines (λ ls. read s (before ++ ls) (n + length front) back)
 read-append s before n [] back = λ k. read s (sym (append-nil before) k) (sym (add-zero n) k) back
 read-append s before n (bytes ∷ front) back =
     go_on_joined (judged (events_of before) (last_time before) n (spelled s bytes)) _ _ (λ ls. read s (before ++ ls) (n + length (bytes ∷ front)) back)
     (λ l. read-append s (before ++ l ∷ []) (n + 1) front back
-      ∙ joined_same (read s (before ++ l ∷ []) (n + 1) front).refused (read s (before ++ l ∷ []) (n + 1) front).lines _ _
-        (λ ls. let number : n + 1 + length front ≡ n + length (bytes ∷ front) = omega arith in
-          λ k. read s (append_assoc before (l ∷ []) ls k) (number k) back))
+    ∙ joined_same (read s (before ++ l ∷ []) (n + 1) front).refused (read s (before ++ l ∷ []) (n + 1) front).lines _ _
+    (λ ls. let number : n + 1 + length front ≡ n + length (bytes ∷ front) = omega arith in
+    λ k. read s (append_assoc before (l ∷ []) ls k) (number k) back))
 
 -- Where there are bytes beyond the limit, none within it follow.
 pub record GoesOn (over : Bool) (more : List ℕ) (over_then : Bool) : Type 0 where
@@ -88,7 +85,7 @@ module _ (s : System) (before : List Line) (n : ℕ) where
       read s before n (lines_of (bytes ++ more) ended) ≡ joined (first_lines bytes).refused (first_lines bytes).lines (λ ls. read s (before ++ ls) (n + length (cut bytes).0) (last_lines bytes more ended))
   read_whole bytes more ended =
       ap (read s before n) (ap (λ (c : List (List ℕ) × List ℕ). c.0 ++ (if ended then last_line c.1 else [])) (cut-append bytes more)
-        ∙ append_assoc (cut bytes).0 (cut ((cut bytes).1 ++ more)).0 (if ended then last_line (cut ((cut bytes).1 ++ more)).1 else []))
+      ∙ append_assoc (cut bytes).0 (cut ((cut bytes).1 ++ more)).0 (if ended then last_line (cut ((cut bytes).1 ++ more)).1 else []))
       ∙ read-append s before n (cut bytes).0 (last_lines bytes more ended)
 
   pub lines_stay : (bytes more : List ℕ) (over over_then ended : Bool) → Begins (read_on s before n bytes over false).lines (read_on s before n (bytes ++ more) over_then ended).lines
@@ -116,9 +113,9 @@ module _ (s : System) (before : List Line) (n : ℕ) where
   refused_within bytes more over over_then ended f is refused =
       let first = first_lines bytes in
       let here : first.refused ≡ Some f =
-          sym (or_none first.refused) ∙ (λ k. option_or first.refused (overflow (sym is k) (n + length (cut bytes).0))) ∙ sym (ap (λ (r : Reading). r.refused) (read_open bytes over)) ∙ refused in
+      sym (or_none first.refused) ∙ (λ k. option_or first.refused (overflow (sym is k) (n + length (cut bytes).0))) ∙ sym (ap (λ (r : Reading). r.refused) (read_open bytes over)) ∙ refused in
       ap (λ r. limited r (overflow over_then (n + length (cut (bytes ++ more)).0))) (read_whole bytes more (ended && not over_then)
-        ∙ ap (λ o. joined o first.lines (λ ls. read s (before ++ ls) (n + length (cut bytes).0) (last_lines bytes more (ended && not over_then)))) here)
+      ∙ ap (λ o. joined o first.lines (λ ls. read s (before ++ ls) (n + length (cut bytes).0) (last_lines bytes more (ended && not over_then)))) here)
       ∙ sym (read_open bytes over ∙ λ k. record { lines = first.lines; refused = option_or (here k) (overflow over (n + length (cut bytes).0)) })
 
   pub refusal_stays : (bytes more : List ℕ) (over over_then ended : Bool) (f : TraceFault) → GoesOn over more over_then → (read_on s before n bytes over false).refused ≡ Some f →
@@ -136,7 +133,7 @@ goes_on_within limit bytes more = record {
 }
 
 pub whole_is : (s : System) (limit : ℕ) (bytes more : List ℕ) (ended : Bool) →
-  reading s limit (bytes ++ more) ended ≡ read_on s [] 1 (take limit bytes ++ take (limit - length bytes) more) (nat_lt limit (length (bytes ++ more))) ended
+    reading s limit (bytes ++ more) ended ≡ read_on s [] 1 (take limit bytes ++ take (limit - length bytes) more) (nat_lt limit (length (bytes ++ more))) ended
 unfolding reading
 whole_is s limit bytes more ended = ap (λ bs. read_on s [] 1 bs (nat_lt limit (length (bytes ++ more))) ended) (take-append limit bytes more)
 
@@ -150,9 +147,9 @@ reading_begins s limit bytes more ended =
     record { rest = it.rest; is = ap (λ (r : Reading). r.lines) (whole_is s limit bytes more ended) ∙ it.is ∙ ap (λ (r : Reading). r.lines ++ it.rest) (sym (open_is s limit bytes)) }
 
 pub reading_refused : (s : System) (limit : ℕ) (bytes more : List ℕ) (ended : Bool) (f : TraceFault) → (reading s limit bytes false).refused ≡ Some f →
-  reading s limit (bytes ++ more) ended ≡ reading s limit bytes false
+    reading s limit (bytes ++ more) ended ≡ reading s limit bytes false
 reading_refused s limit bytes more ended f refused =
     whole_is s limit bytes more ended
     ∙ refusal_stays s [] 1 (take limit bytes) (take (limit - length bytes) more) (nat_lt limit (length bytes)) (nat_lt limit (length (bytes ++ more))) ended f (goes_on_within limit bytes more)
-        (ap (λ (r : Reading). r.refused) (sym (open_is s limit bytes)) ∙ refused)
+    (ap (λ (r : Reading). r.refused) (sym (open_is s limit bytes)) ∙ refused)
     ∙ sym (open_is s limit bytes)

@@ -1,9 +1,9 @@
 -- What holds of the lines of every reading.
 use Rattle.std.proofs.Common.{◌≡◌, ◌==◌, ◌≤◌, ◌<◌, ◌^◌, ℕ, suc, ◌+◌, ℤ, Bool, not, length, take, true, false, ◌&&◌, ◌||◌, List, [], ◌∷◌, ◌++◌, nat_lt, Option, Some, None, Result, Ok, Err, refl, sym, ap, subst, ◌∙◌, arith, append-nil}
-use Rattle.std.proofs.lemmas.Bool.{cases_Bool, ltb-true, ltb-false, lt-ltb, true≢false, eq-eqb}
+use Rattle.std.proofs.lemmas.Bool.{ltb-true, true≢false, eq-eqb}
 use Rattle.std.proofs.lemmas.List.Folds.{list_any-append}
 use Rattle.std.proofs.lemmas.Option.{slice_get_within}
-use Rattle.std.specs.Prelude.{if◌then◌else◌, IsTrue, is_none, slice_get}
+use Rattle.std.specs.Prelude.{if◌then◌else◌, is_none, slice_get}
 use Rattle.std.specs.Option.{option_and_then, option_map}
 use Rattle.std.specs.Result.{result_ok}
 use Rattle.std.specs.List.{AllByRecursion, list_any, position_from}
@@ -22,10 +22,8 @@ use Rattle.flat_core.specs.declared.equation.Op.TheVariants as op
 use Rattle.flat_core.specs.System.{System, equation}
 use Rattle.flat_core.specs.Line.{Line, IsSorted, last_time}
 use Rattle.trace_reader.specs.declared.fault.TraceFault.{TraceFault}
-use Rattle.trace_reader.specs.declared.fault.TraceFault.TheVariants as fault
-use Rattle.trace_reader.specs.History.{AreUpTo}
 use Rattle.trace_reader.specs.Form.{Parts, parts_of, time_of}
-use Rattle.trace_reader.specs.Reading.{Reading, is_input, is_input_called, input_called, value_of, event_of, spelled_at, spelled, events_of, with_event, had_event, had_event_at, placed, judged, go_on, read, lines_of, reading}
+use Rattle.trace_reader.specs.Reading.{Reading, is_input, is_input_called, input_called, value_of, event_of, spelled_at, spelled, events_of, with_event, had_event, had_event_at, judged, go_on, read, lines_of, reading}
 use Rattle.trace_reader.specs.Closed.{closed_below}
 use Rattle.trace_reader.specs.Laws.{NoneAt, AreDistinct, IsInputEvent, IsProperLine}
 use Rattle.trace_reader.proofs.JudgedLemmas.{Stands, IfStands, judged_stands}
@@ -36,10 +34,10 @@ use Rattle.trace_reader.proofs.StepLemmas.{last_time-push, events_of-push}
 pub data StandBehind (s : System) : List (ℕ × ℕ) → ℕ → List Line → Type 0 where
   none : {past : List (ℕ × ℕ)} {last : ℕ} → StandBehind s past last []
   more : {past : List (ℕ × ℕ)} {last : ℕ} {l : Line} {ls : List Line} (bytes : List ℕ) → Stands past last (spelled s bytes) l →
-    StandBehind s (past ++ with_event l.time l.event []) l.time ls → StandBehind s past last (l ∷ ls)
+      StandBehind s (past ++ with_event l.time l.event []) l.time ls → StandBehind s past last (l ∷ ls)
 
 go_on_stands : (s : System) (past : List (ℕ × ℕ)) (last : ℕ) (bytes : List ℕ) (j : Result Line TraceFault) (rest : Line → Reading) → IfStands past last (spelled s bytes) j →
-  ((l : Line) → StandBehind s (past ++ with_event l.time l.event []) l.time (rest l).lines) → StandBehind s past last (go_on j rest).lines
+    ((l : Line) → StandBehind s (past ++ with_event l.time l.event []) l.time (rest l).lines) → StandBehind s past last (go_on j rest).lines
 go_on_stands s past last bytes (Err f) rest stands behind = none
 go_on_stands s past last bytes (Ok l) rest stands behind = more bytes stands (behind l)
 
@@ -48,8 +46,8 @@ read_stands s before n [] = none
 read_stands s before n (bytes ∷ lines) =
     go_on_stands s (events_of before) (last_time before) bytes (judged (events_of before) (last_time before) n (spelled s bytes)) _ (judged_stands (events_of before) (last_time before) n (spelled s bytes))
     (λ l. let it = read_stands s (before ++ l ∷ []) (n + 1) lines in
-      subst (λ (past : List (ℕ × ℕ)). StandBehind s past l.time (read s (before ++ l ∷ []) (n + 1) lines).lines) (events_of-push before l)
-      (subst (λ (t : ℕ). StandBehind s (events_of (before ++ l ∷ [])) t (read s (before ++ l ∷ []) (n + 1) lines).lines) (last_time-push before l) it))
+    subst (λ (past : List (ℕ × ℕ)). StandBehind s past l.time (read s (before ++ l ∷ []) (n + 1) lines).lines) (events_of-push before l)
+    (subst (λ (t : ℕ). StandBehind s (events_of (before ++ l ∷ [])) t (read s (before ++ l ∷ []) (n + 1) lines).lines) (last_time-push before l) it))
 
 -- the times
 abbrev IsLaterThan : ℕ → Line → Type 0
@@ -107,11 +105,10 @@ had_now past t i o v is =
 
 none_at : {s : System} {past : List (ℕ × ℕ)} {last : ℕ} (t i : ℕ) (ls : List Line) → had_event_at past t i ≡ true → StandBehind s past last ls → NoneAt t i ls
 none_at t i [] had it = tt
-none_at {past} t i (l ∷ ls) had (more bytes stands behind) =
-    (
-      λ v time event. absurd (true≢false (sym had ∙ (λ k. had_event past (sym time k) (sym event k)) ∙ stands.new)),
-      none_at t i ls (had_still past (with_event l.time l.event []) t i had) behind,
-    )
+none_at {past} t i (l ∷ ls) had (more bytes stands behind) = (
+  λ v time event. absurd (true≢false (sym had ∙ (λ k. had_event past (sym time k) (sym event k)) ∙ stands.new)),
+  none_at t i ls (had_still past (with_event l.time l.event []) t i had) behind,
+)
 
 distinct : {s : System} {past : List (ℕ × ℕ)} {last : ℕ} (ls : List Line) → StandBehind s past last ls → AreDistinct ls
 distinct [] it = tt
@@ -159,7 +156,7 @@ record IsFound (p : Equation → Bool) (es : List Equation) (from place : ℕ) :
   passes : p at ≡ true
 
 found_step : (p : Equation → Bool) (e : Equation) (es : List Equation) (from place : ℕ) (here : Bool) → p e ≡ here → (if here then Some from else position_from p (from + 1) es) ≡ Some place →
-  (position_from p (from + 1) es ≡ Some place → IsFound p es (from + 1) place) → IsFound p (e ∷ es) from place
+    (position_from p (from + 1) es ≡ Some place → IsFound p es (from + 1) place) → IsFound p (e ∷ es) from place
 found_step p e es from place true passes is later =
     record { after = 0; place_is = let same = some_same from place is in omega arith; at = e; is = refl; passes = passes }
 found_step p e es from place false passes is later =
@@ -213,8 +210,8 @@ spelled_proper s bytes l is =
     record {
       time = subst (λ (t : ℕ). t < 2 ^ 63) (ap (λ (m : Line). m.time) whole.gives) (time_small parts.at.time time.at time.is);
       event = λ i v has.
-        let same : whole.at ≡ (i, v) = some_same whole.at (i, v) (ap (λ (m : Line). m.event) whole.gives ∙ has) in
-        event_fits s parts.at i event.at v event.is (event.gives ∙ ap (λ (e : ℕ × Scalar). Some e) same);
+          let same : whole.at ≡ (i, v) = some_same whole.at (i, v) (ap (λ (m : Line). m.event) whole.gives ∙ has) in
+          event_fits s parts.at i event.at v event.is (event.gives ∙ ap (λ (e : ℕ × Scalar). Some e) same);
     }
 
 proper : {s : System} {past : List (ℕ × ℕ)} {last : ℕ} (ls : List Line) → StandBehind s past last ls → AllByRecursion (IsProperLine s) ls
@@ -236,7 +233,7 @@ pub reading_distinct : (s : System) (limit : ℕ) (bytes : List ℕ) (ended : Bo
 reading_distinct s limit bytes ended = distinct (reading s limit bytes ended).lines (reading_stands s limit bytes ended)
 
 pub reading_later : (s : System) (limit : ℕ) (bytes beyond : List ℕ) (ended : Bool) (rest : List Line) →
-  (reading s limit (bytes ++ beyond) ended).lines ≡ (reading s limit bytes false).lines ++ rest → AllByRecursion (λ (l : Line). last_time (reading s limit bytes false).lines ≤ l.time) rest
+    (reading s limit (bytes ++ beyond) ended).lines ≡ (reading s limit bytes false).lines ++ rest → AllByRecursion (λ (l : Line). last_time (reading s limit bytes false).lines ≤ l.time) rest
 reading_later s limit bytes beyond ended rest is =
     all_behind_later (reading s limit bytes false).lines rest (subst (λ (ls : List Line). StandBehind s [] 0 ls) is (reading_stands s limit (bytes ++ beyond) ended))
 

@@ -1,6 +1,6 @@
 -- Where a byte stands first.
-use Rattle.std.proofs.Common.{◌≡◌, ◌==◌, ◌≤◌, ◌<◌, ℕ, suc, ◌+◌, ◌-◌, Bool, true, false, not, List, [], ◌∷◌, ◌++◌, length, take, drop, nat_lt, Option, Some, None, refl, sym, ap, ◌∙◌, arith, length-drop}
-use Rattle.std.proofs.lemmas.Bool.{lt-ltb, ltb-true, ltb-false}
+use Rattle.std.proofs.Common.{◌≡◌, ◌==◌, ◌≤◌, ◌<◌, ℕ, suc, ◌+◌, ◌-◌, Bool, true, false, not, List, [], ◌∷◌, length, take, drop, nat_lt, Option, Some, None, refl, sym, ap, ◌∙◌, arith, length-drop}
+use Rattle.std.proofs.lemmas.Bool.{lt-ltb}
 use Rattle.std.proofs.lemmas.List.{take_all}
 use Rattle.std.specs.Prelude.{if◌then◌else◌, position}
 use Rattle.std.specs.List.{prefix_len}
@@ -20,7 +20,7 @@ suc_within : (n m : ℕ) → nat_lt n m ≡ nat_lt (suc n) (suc m)
 suc_within n m = grind arith
 
 split_step : (mark b : ℕ) (bytes : List ℕ) (is_mark : Bool) → split_once mark bytes ≡ at_place (nat_lt (prefix_len (λ x. not (x == mark)) bytes) (length bytes)) (prefix_len (λ x. not (x == mark)) bytes) bytes →
-  (if is_mark then Some ([], bytes) else option_map (put_first b) (split_once mark bytes))
+    (if is_mark then Some ([], bytes) else option_map (put_first b) (split_once mark bytes))
     ≡ at_place (nat_lt (if not is_mark then 1 + prefix_len (λ x. not (x == mark)) bytes else 0) (length (b ∷ bytes))) (if not is_mark then 1 + prefix_len (λ x. not (x == mark)) bytes else 0) (b ∷ bytes)
 split_step mark b bytes true ih = let within : 0 < length (b ∷ bytes) = omega arith in ap (λ w. at_place w 0 (b ∷ bytes)) (sym (lt-ltb 0 (length (b ∷ bytes)) within))
 split_step mark b bytes false ih =

@@ -1,13 +1,13 @@
 -- What the calls of a reader keep.
-use Rattle.std.proofs.Common.{◌≡◌, ◌<◌, ◌≤◌, ℕ, ◌+◌, ◌-◌, min, Bool, true, false, ◌&&◌, ◌||◌, not, List, [], ◌∷◌, ◌++◌, length, take, drop, nat_lt, Option, Some, None, Result, Ok, Err, refl, sym, ap, subst, ◌∙◌, arith, append_assoc, length-append, inl, inr}
+use Rattle.std.proofs.Common.{◌≡◌, ◌≤◌, ℕ, ◌+◌, ◌-◌, min, Bool, true, false, ◌||◌, List, [], ◌++◌, length, take, nat_lt, None, refl, sym, ap, subst, ◌∙◌, arith, append_assoc, length-append, inl, inr}
 use Rattle.std.proofs.lemmas.List.{append-nil, take_all}
 use Rattle.std.proofs.lemmas.Bool.{cases_lt}
 use Rattle.std.proofs.Math.Seq.{take-length}
 use Rattle.flat_core.specs.System.{System}
-use Rattle.flat_core.specs.Line.{Line, last_time}
+use Rattle.flat_core.specs.Line.{Line}
 use Rattle.trace_reader.specs.Reading.{Reading, reading, read_on}
-use Rattle.trace_reader.specs.Reader.{Reader, AwaitsMore}
-use Rattle.trace_reader.specs.Reads.{Reads, MayCome, after}
+use Rattle.trace_reader.specs.Reader.{Reader}
+use Rattle.trace_reader.specs.Reads.{Reads, after}
 use Rattle.trace_reader.proofs.CutLemmas.{take-append}
 use Rattle.trace_reader.proofs.LawLemmas.{reading_refused}
 
@@ -54,12 +54,12 @@ reads_piece r s limit fed given piece accepted reads = record {
   last = reads.last;
   past = reads.past;
   goes_on = λ more e may.
-    ap (λ bytes. reading s limit bytes e) (append_assoc fed piece more)
-    ∙ reads.goes_on (piece ++ more) e tt
-    ∙ (let bytes : r.unread ++ take r.left (piece ++ more) ≡ r.unread ++ take r.left piece ++ take (r.left - length piece) more =
-          ap (λ bs. r.unread ++ bs) (take-append r.left piece more) ∙ sym (append_assoc r.unread (take r.left piece) (take (r.left - length piece) more)) in
+      ap (λ bytes. reading s limit bytes e) (append_assoc fed piece more)
+      ∙ reads.goes_on (piece ++ more) e tt
+      ∙ (let bytes : r.unread ++ take r.left (piece ++ more) ≡ r.unread ++ take r.left piece ++ take (r.left - length piece) more =
+      ap (λ bs. r.unread ++ bs) (take-append r.left piece more) ∙ sym (append_assoc r.unread (take r.left piece) (take (r.left - length piece) more)) in
       let over : (r.over || nat_lt r.left (length (piece ++ more))) ≡ ((r.over || nat_lt r.left (length piece)) || nat_lt (r.left - length piece) (length more)) =
-          ap (λ n. r.over || nat_lt r.left n) (length-append piece more) ∙ over_both r.over r.left (length piece) (length more) in
+      ap (λ n. r.over || nat_lt r.left n) (length-append piece more) ∙ over_both r.over r.left (length piece) (length more) in
       λ k. after given (read_on s given (r.count + 1) (bytes k) (over k) e));
   refused = λ f is. absurd (cc);
 }
@@ -74,8 +74,8 @@ reads_end r s limit fed given reads = record {
   past = reads.past;
   goes_on = λ more e may. reads.goes_on more e tt;
   refused = λ f is.
-    let stood = reads.refused f is in
-    ap (λ bytes. reading s limit bytes true) (sym (append-nil fed)) ∙ reading_refused s limit fed [] true f (ap (λ (r : Reading). r.refused) stood) ∙ stood;
+      let stood = reads.refused f is in
+      ap (λ bytes. reading s limit bytes true) (sym (append-nil fed)) ∙ reading_refused s limit fed [] true f (ap (λ (r : Reading). r.refused) stood) ∙ stood;
 }
 
 -- a piece of which as much is taken as is within the limit

@@ -1,7 +1,7 @@
 -- What an answer says of the trace, and what the reader stands for behind it.
-use Rattle.std.proofs.Common.{◌≡◌, ℕ, zero, suc, ◌+◌, Bool, true, false, ◌&&◌, ◌||◌, not, List, [], ◌∷◌, ◌++◌, length, take, drop, nat_lt, Option, Some, None, Result, Ok, Err, refl, sym, ap, subst, ◌∙◌, arith, append_assoc, length-append, inl, inr}
+use Rattle.std.proofs.Common.{◌≡◌, ℕ, zero, suc, ◌+◌, Bool, true, false, ◌&&◌, ◌||◌, not, List, [], ◌∷◌, ◌++◌, length, take, drop, nat_lt, Option, Some, None, Result, Ok, Err, refl, sym, ap, subst, ◌∙◌, arith, append_assoc, length-append}
 use Rattle.std.proofs.lemmas.List.{append-nil}
-use Rattle.std.specs.Prelude.{if◌then◌else◌, ◌⊎◌}
+use Rattle.std.specs.Prelude.{if◌then◌else◌}
 use Rattle.std.specs.Option.{option_or}
 use Rattle.tsl_value.specs.declared.scalar.Scalar.{Scalar}
 use Rattle.flat_core.specs.System.{System}
@@ -52,7 +52,7 @@ module _ (r : Reader) where
       let line : List ℕ × List ℕ = (take len r.unread, drop (len + 1) r.unread) in
       let here : split_once 10 r.unread ≡ Some line = ended_line (split_once 10 r.unread) line ((λ k. option_or (split_once 10 r.unread) (if sym unended k && not r.over then alone r.unread else None)) ∙ has) in
       ap (λ o. option_or o (if x then alone (more_bytes more) else None))
-          (split_once-append 10 r.unread (take r.left more) ∙ ap (λ o. split_by 10 o r.unread (take r.left more)) here)
+      (split_once-append 10 r.unread (take r.left more) ∙ ap (λ o. split_by 10 o r.unread (take r.left more)) here)
 
   first_closed : (len : ℕ) → r.ended ≡ true → HasLine r len →
       first_line (more_bytes []) (true && not (more_over [])) ≡ Some (take len r.unread, drop (len + 1) r.unread ++ take r.left [])
@@ -104,8 +104,8 @@ module _ (old : Reader) (s : System) (limit : ℕ) (fed : List ℕ) (given : Lis
   at_line len has more e may =
       reads.goes_on more e may
       ∙ ap (after given) (read_on-first s given (old.count + 1) (more_bytes old more) (more_over old more) e
-          ∙ ap (read_by s given (old.count + 1) (more_over old more) e) (first_stands old len ended reads.ended_is has more e may)
-          ∙ ap (λ j. go_on j (behind_line len more e)) (judged_same len))
+      ∙ ap (read_by s given (old.count + 1) (more_over old more) e) (first_stands old len ended reads.ended_is has more e may)
+      ∙ ap (λ j. go_on j (behind_line len more e)) (judged_same len))
 
   after_line : (l : Line) (r : Reading) → after given (record { lines = l ∷ r.lines; refused = r.refused }) ≡ after (given ++ l ∷ []) r
   after_line l r = λ k. record { lines = sym (append_assoc given (l ∷ []) r.lines) k; refused = r.refused }
@@ -146,10 +146,10 @@ module _ (old : Reader) (s : System) (limit : ℕ) (fed : List ℕ) (given : Lis
   pub at_rest : first_line old.unread (old.ended && not old.over) ≡ None → now ≡ record { lines = given; refused = overflow old.over (old.count + 1) }
   at_rest none =
       now_is _ (reads.goes_on [] ended (may_none ended)
-        ∙ ap (after given) ((λ k. read_on s given (old.count + 1) (no_bytes old k) (no_over old k) ended)
-          ∙ read_on-first s given (old.count + 1) old.unread old.over ended
-          ∙ ap (read_by s given (old.count + 1) old.over ended) ((λ k. first_line old.unread (sym reads.ended_is k && not old.over)) ∙ none))
-        ∙ λ k. record { lines = append-nil given k; refused = overflow old.over (old.count + 1) })
+      ∙ ap (after given) ((λ k. read_on s given (old.count + 1) (no_bytes old k) (no_over old k) ended)
+      ∙ read_on-first s given (old.count + 1) old.unread old.over ended
+      ∙ ap (read_by s given (old.count + 1) old.over ended) ((λ k. first_line old.unread (sym reads.ended_is k && not old.over)) ∙ none))
+      ∙ λ k. record { lines = append-nil given k; refused = overflow old.over (old.count + 1) })
 
   -- the same lines, and the fault that was answered
   pub reads_fault : (f : TraceFault) → now ≡ record { lines = given; refused = Some f } → Reads (at_fault old f) s limit fed given ended

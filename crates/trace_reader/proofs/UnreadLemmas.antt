@@ -1,11 +1,11 @@
 -- A line's end behind bytes that were searched.
-use Rattle.std.proofs.Common.{drop-drop, ◌≡◌, ◌==◌, ◌≤◌, ◌<◌, ℕ, zero, suc, ◌+◌, ◌-◌, min, Bool, true, false, List, [], ◌∷◌, ◌++◌, length, take, drop, Option, Some, None, refl, sym, ap, subst, ◌∙◌, arith, length-append, length-take, length-drop}
+use Rattle.std.proofs.Common.{drop-drop, ◌≡◌, ◌==◌, ◌≤◌, ◌<◌, ℕ, suc, ◌+◌, ◌-◌, Bool, true, false, List, [], ◌∷◌, ◌++◌, length, take, drop, Option, Some, None, refl, sym, ap, subst, ◌∙◌, arith, length-append, length-take, length-drop}
 use Rattle.std.proofs.lemmas.List.{take-append-drop}
 use Rattle.std.specs.Prelude.{if◌then◌else◌, position}
 use Rattle.std.specs.Option.{option_map}
 use Rattle.trace_reader.specs.Form.{put_first, split_once}
 use Rattle.trace_reader.proofs.CutLemmas.{split_by, split_once-append}
-use Rattle.trace_reader.proofs.SplitLemmas.{rest_is, split_once-none, split_once-some}
+use Rattle.trace_reader.proofs.SplitLemmas.{split_once-none, split_once-some}
 
 -- the front is that of the list, and so is what stands behind the mark
 pub record IsSplit (bytes : List ℕ) (p : List ℕ × List ℕ) : Type 0 where
@@ -74,8 +74,7 @@ module _ (bytes : List ℕ) (start searched : ℕ) (low : start ≤ searched) (h
       let fronts = length-take (searched - start) whole in
       let wholes = length-drop start bytes in
       let both = length-append front (take more back) in
-      let len : length line.0 ≡ searched + more - start = omega arith in
-      (
+      let len : length line.0 ≡ searched + more - start = omega arith in (
         subst (λ (n : ℕ). n < length whole) len it.within,
         here ∙ λ k. Some ((it.front ∙ ap (λ n. take n whole) len) k, (it.behind ∙ ap (λ n. drop (n + 1) whole) len) k),
       )

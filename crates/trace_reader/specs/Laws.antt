@@ -1,5 +1,5 @@
 -- What holds of every reading.
-use Rattle.std.specs.Prelude.{◌≡◌, ◌≤◌, ◌<◌, ◌^◌, ◌++◌, ℕ, Bool, true, false, List, [], ◌∷◌, Option, Some, IsTrue}
+use Rattle.std.specs.Prelude.{◌≡◌, ◌≤◌, ◌<◌, ◌^◌, ◌++◌, ℕ, Bool, false, List, [], ◌∷◌, Some, IsTrue}
 use Rattle.std.specs.List.{AllByRecursion}
 use Rattle.tsl_value.specs.declared.scalar.Scalar.{Scalar}
 use Rattle.tsl_value.specs.View.{Plain, is_of}
@@ -20,13 +20,13 @@ pub record Begins (lines others : List Line) : Type 0 where
 abbrev pub LinesStay : Type 0
 LinesStay =
     (s : System) (limit : ℕ) (bytes more : List ℕ) (ended : Bool) →
-      Begins (reading s limit bytes false).lines (reading s limit (bytes ++ more) ended).lines
+    Begins (reading s limit bytes false).lines (reading s limit (bytes ++ more) ended).lines
 
 -- A refusal in a beginning stays, and no line follows it.
 abbrev pub RefusalStays : Type 0
 RefusalStays =
     (s : System) (limit : ℕ) (bytes more : List ℕ) (ended : Bool) (f : TraceFault) → (reading s limit bytes false).refused ≡ Some f →
-      reading s limit (bytes ++ more) ended ≡ reading s limit bytes false
+    reading s limit (bytes ++ more) ended ≡ reading s limit bytes false
 
 -- The times never fall.
 abbrev pub LinesAreSorted : Type 0
@@ -64,11 +64,11 @@ EventsAreDistinct = (s : System) (limit : ℕ) (bytes : List ℕ) (ended : Bool)
 abbrev pub LaterLinesAreLater : Type 0
 LaterLinesAreLater =
     (s : System) (limit : ℕ) (bytes more : List ℕ) (ended : Bool) (rest : List Line) →
-      (reading s limit (bytes ++ more) ended).lines ≡ (reading s limit bytes false).lines ++ rest →
-      AllByRecursion (λ (l : Line). last_time (reading s limit bytes false).lines ≤ l.time) rest
+    (reading s limit (bytes ++ more) ended).lines ≡ (reading s limit bytes false).lines ++ rest →
+    AllByRecursion (λ (l : Line). last_time (reading s limit bytes false).lines ≤ l.time) rest
 
 -- The closed times stay closed.
 abbrev pub ClosedStays : Type 0
 ClosedStays =
     (s : System) (limit : ℕ) (bytes more : List ℕ) (ended : Bool) →
-      closed_below (reading s limit bytes false) false ≤ closed_below (reading s limit (bytes ++ more) ended) ended
+    closed_below (reading s limit bytes false) false ≤ closed_below (reading s limit (bytes ++ more) ended) ended

@@ -86,7 +86,11 @@ pub(crate) fn parts_of(line: &[u8]) -> Option<Parts<'_>>
 {
     let (time, rest) = split_once(line, b':')?;
     let rest = behind(rest, b' ')?;
-    if are_digits(time) { named(time, rest) } else { None }
+    if are_digits(time) {
+        named(time, rest)
+    } else {
+        None
+    }
 }
 
 /// `NAME = VALUE`, behind a time.

@@ -148,7 +148,14 @@ impl<'f> TraceReader<'f> {
         ensures { TakesLine self.old self.new len result }
     {
         let line = &self.unread.as_slice()[..len];
-        match judge(self.alloc, self.flat, &self.past, self.last, self.count + 1, line)? {
+        match judge(
+            self.alloc,
+            self.flat,
+            &self.past,
+            self.last,
+            self.count + 1,
+            line,
+        )? {
             Ok(line) => {
                 note_event(&mut self.past, &line)?;
                 self.unread.skip_line(len);

@@ -122,7 +122,13 @@ fn lines_of(
 fn a_line_that_is_cut_is_one_line(rt: HostRuntime) -> Result<(), Fail> {
     for size in [1usize, 3, 100] {
         let mut lines = Vec::new(rt.alloc());
-        let rest = lines_of(rt.alloc(), 100, b"1: i = 5\n2: j = -7\n2: i = 0", size, &mut lines);
+        let rest = lines_of(
+            rt.alloc(),
+            100,
+            b"1: i = 5\n2: j = -7\n2: i = 0",
+            size,
+            &mut lines,
+        );
         assert!(rt; matches!(rest, Ok(Rest::End)));
         assert_eq!(rt; lines.len(), 3);
         assert!(rt; is_event(&lines[0], 1, 0, 5));
@@ -137,7 +143,13 @@ fn the_first_refused_line_is_named(rt: HostRuntime) -> Result<(), Fail> {
     let mut lines = Vec::new(rt.alloc());
     let back = lines_of(rt.alloc(), 100, b"5: i = 1\n4: i = 1\n", 9, &mut lines);
     assert!(rt; matches!(back, Err(TraceFault::TimeBack { line: 2, .. })));
-    let twice = lines_of(rt.alloc(), 100, b"1: i = 5\n1: j = 5\n1: i = 6\n", 2, &mut lines);
+    let twice = lines_of(
+        rt.alloc(),
+        100,
+        b"1: i = 5\n1: j = 5\n1: i = 6\n",
+        2,
+        &mut lines,
+    );
     assert!(rt; matches!(twice, Err(TraceFault::BadLine { line: 3 })));
     let long = lines_of(rt.alloc(), 12, b"1: i = 5\n2: i = 7\n", 4, &mut lines);
     assert!(rt; matches!(long, Err(TraceFault::TraceTooLong { line: 2 })));

@@ -13,7 +13,7 @@ invariant_of-self-in-Ok c =
     rw (c.skip_line.ensures, c.in_ok-note_event-in-Ok.ensures.ok) (
       omega arith,
       AreUpTo-push c.self.inside.last c.in-Ok.line.time c.self.inside.past.items c.in-Ok.line.event c.self.invariant.1
-        (judged_later c.self.inside.past.items c.self.inside.last (c.self.inside.count + 1) _ c.in-Ok.line judged),
+          (judged_later c.self.inside.past.items c.self.inside.last (c.self.inside.count + 1) _ c.in-Ok.line judged),
     )
 
 pub returns-in_ok-note_event-in-Ok : goal.returns-in_ok-note_event-in-Ok

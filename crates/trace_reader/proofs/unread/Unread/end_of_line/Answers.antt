@@ -1,4 +1,4 @@
-use Rattle.std.proofs.Common.{◌+◌, ◌-◌, ◌==◌, ◌∙◌, ap, sym, arith, length, take, drop, Some, None}
+use Rattle.std.proofs.Common.{◌==◌, ◌∙◌, ap, arith}
 use Rattle.std.specs.Prelude.{position}
 use Rattle.trace_reader.specs.Form.{split_once}
 use Rattle.trace_reader.proofs.SplitLemmas.{rest_is}
@@ -18,7 +18,7 @@ invariant_of-self c =
       omega arith,
       omega arith,
       ap (split_once 10) (rest_is c.self.inside.start bytes)
-        ∙ none_behind bytes c.self.inside.start searched it.0 it.1 it.2 (none ∙ ap (position (λ b. b == 10)) (rest_is searched bytes)),
+          ∙ none_behind bytes c.self.inside.start searched it.0 it.1 it.2 (none ∙ ap (position (λ b. b == 10)) (rest_is searched bytes)),
     )
 
 pub returns-in-Some-clause-line : goal.returns-in-Some-clause-line
