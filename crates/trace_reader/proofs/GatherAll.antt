@@ -1,6 +1,5 @@
 -- A whole trace in pieces, for the tests.
 use Rattle.std.proofs.Common.{◌≡◌, ℕ, Bool, true, false, List, [], ◌∷◌, ◌++◌, refl, sym, ap, subst, ◌∙◌, append_assoc, length, arith, Result, Ok, Err, Some}
-use Rattle.std.proofs.lemmas.Bool.{false≢true}
 use Rattle.std.proofs.lemmas.List.{append-nil}
 use Rattle.std.specs.Prelude.{OnOk}
 use Rattle.flat_core.specs.System.{System}
@@ -8,7 +7,6 @@ use Rattle.flat_core.specs.Line.{Line}
 use Rattle.trace_reader.specs.declared.fault.TraceFault.{TraceFault}
 use Rattle.trace_reader.specs.declared.fault.TraceFault.TheVariants as fault
 use Rattle.trace_reader.specs.declared.next.Rest.{Rest}
-use Rattle.trace_reader.specs.declared.next.Rest.TheVariants as rest
 use Rattle.trace_reader.specs.Reading.{Reading, reading}
 use Rattle.trace_reader.specs.Reader.{Reader}
 use Rattle.trace_reader.specs.Reads.{Reads, Gathers, SaysRest}

@@ -1,18 +1,15 @@
 -- What holds of every reading.
-use Rattle.std.proofs.Common.{◌≡◌, ◌==◌, ◌≤◌, ◌<◌, ◌^◌, ℕ, ◌+◌, ◌-◌, Bool, true, false, ◌&&◌, ◌||◌, not, List, [], ◌∷◌, ◌++◌, length, take, nat_lt, Option, Some, None, Result, Ok, Err, refl, sym, ap, subst, ◌∙◌, arith, append_assoc, length-append, add-zero, inl, inr}
+use Rattle.std.proofs.Common.{◌≡◌, ◌==◌, ◌<◌, ℕ, ◌+◌, ◌-◌, Bool, true, false, ◌&&◌, not, List, [], ◌∷◌, ◌++◌, length, take, nat_lt, Option, Some, None, Result, Ok, Err, refl, sym, ap, ◌∙◌, arith, append_assoc, length-append, add-zero, inl, inr}
 use Rattle.std.proofs.lemmas.Bool.{cases_Bool, ltb-true, lt-ltb}
 use Rattle.std.proofs.lemmas.List.{append-nil}
 use Rattle.std.specs.Prelude.{if◌then◌else◌}
 use Rattle.std.specs.Option.{option_or}
-use Rattle.std.specs.List.{AllByRecursion, list_any}
-use Rattle.tsl_value.specs.declared.scalar.Scalar.{Scalar}
 use Rattle.flat_core.specs.System.{System}
-use Rattle.flat_core.specs.Line.{Line, IsSorted, last_time}
+use Rattle.flat_core.specs.Line.{Line, last_time}
 use Rattle.trace_reader.specs.declared.fault.TraceFault.{TraceFault}
-use Rattle.trace_reader.specs.declared.fault.TraceFault.TheVariants as fault
-use Rattle.trace_reader.specs.Reading.{Reading, put_before, cut, last_line, lines_of, spelled, events_of, with_event, had_event, had_event_at, placed, judged, go_on, read, overflow, limited, read_on, reading}
+use Rattle.trace_reader.specs.Reading.{Reading, put_before, cut, last_line, lines_of, spelled, events_of, judged, go_on, read, overflow, limited, read_on, reading}
 use Rattle.trace_reader.specs.Reads.{after}
-use Rattle.trace_reader.specs.Laws.{Begins, NoneAt, AreDistinct}
+use Rattle.trace_reader.specs.Laws.{Begins}
 use Rattle.trace_reader.proofs.CutLemmas.{take-append}
 
 -- the lines of bytes before others, by those of the bytes and of what stands behind their last end

@@ -1,9 +1,9 @@
 -- What holds of the lines of every reading.
 use Rattle.std.proofs.Common.{◌≡◌, ◌==◌, ◌≤◌, ◌<◌, ◌^◌, ℕ, suc, ◌+◌, ℤ, Bool, not, length, take, true, false, ◌&&◌, ◌||◌, List, [], ◌∷◌, ◌++◌, nat_lt, Option, Some, None, Result, Ok, Err, refl, sym, ap, subst, ◌∙◌, arith, append-nil}
-use Rattle.std.proofs.lemmas.Bool.{cases_Bool, ltb-true, ltb-false, lt-ltb, true≢false, eq-eqb}
+use Rattle.std.proofs.lemmas.Bool.{ltb-true, true≢false, eq-eqb}
 use Rattle.std.proofs.lemmas.List.Folds.{list_any-append}
 use Rattle.std.proofs.lemmas.Option.{slice_get_within}
-use Rattle.std.specs.Prelude.{if◌then◌else◌, IsTrue, is_none, slice_get}
+use Rattle.std.specs.Prelude.{if◌then◌else◌, is_none, slice_get}
 use Rattle.std.specs.Option.{option_and_then, option_map}
 use Rattle.std.specs.Result.{result_ok}
 use Rattle.std.specs.List.{AllByRecursion, list_any, position_from}
@@ -22,10 +22,8 @@ use Rattle.flat_core.specs.declared.equation.Op.TheVariants as op
 use Rattle.flat_core.specs.System.{System, equation}
 use Rattle.flat_core.specs.Line.{Line, IsSorted, last_time}
 use Rattle.trace_reader.specs.declared.fault.TraceFault.{TraceFault}
-use Rattle.trace_reader.specs.declared.fault.TraceFault.TheVariants as fault
-use Rattle.trace_reader.specs.History.{AreUpTo}
 use Rattle.trace_reader.specs.Form.{Parts, parts_of, time_of}
-use Rattle.trace_reader.specs.Reading.{Reading, is_input, is_input_called, input_called, value_of, event_of, spelled_at, spelled, events_of, with_event, had_event, had_event_at, placed, judged, go_on, read, lines_of, reading}
+use Rattle.trace_reader.specs.Reading.{Reading, is_input, is_input_called, input_called, value_of, event_of, spelled_at, spelled, events_of, with_event, had_event, had_event_at, judged, go_on, read, lines_of, reading}
 use Rattle.trace_reader.specs.Closed.{closed_below}
 use Rattle.trace_reader.specs.Laws.{NoneAt, AreDistinct, IsInputEvent, IsProperLine}
 use Rattle.trace_reader.proofs.JudgedLemmas.{Stands, IfStands, judged_stands}

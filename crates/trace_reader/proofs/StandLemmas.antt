@@ -1,13 +1,13 @@
 -- What the calls of a reader keep.
-use Rattle.std.proofs.Common.{◌≡◌, ◌<◌, ◌≤◌, ℕ, ◌+◌, ◌-◌, min, Bool, true, false, ◌&&◌, ◌||◌, not, List, [], ◌∷◌, ◌++◌, length, take, drop, nat_lt, Option, Some, None, Result, Ok, Err, refl, sym, ap, subst, ◌∙◌, arith, append_assoc, length-append, inl, inr}
+use Rattle.std.proofs.Common.{◌≡◌, ◌≤◌, ℕ, ◌+◌, ◌-◌, min, Bool, true, false, ◌||◌, List, [], ◌++◌, length, take, nat_lt, None, refl, sym, ap, subst, ◌∙◌, arith, append_assoc, length-append, inl, inr}
 use Rattle.std.proofs.lemmas.List.{append-nil, take_all}
 use Rattle.std.proofs.lemmas.Bool.{cases_lt}
 use Rattle.std.proofs.Math.Seq.{take-length}
 use Rattle.flat_core.specs.System.{System}
-use Rattle.flat_core.specs.Line.{Line, last_time}
+use Rattle.flat_core.specs.Line.{Line}
 use Rattle.trace_reader.specs.Reading.{Reading, reading, read_on}
-use Rattle.trace_reader.specs.Reader.{Reader, AwaitsMore}
-use Rattle.trace_reader.specs.Reads.{Reads, MayCome, after}
+use Rattle.trace_reader.specs.Reader.{Reader}
+use Rattle.trace_reader.specs.Reads.{Reads, after}
 use Rattle.trace_reader.proofs.CutLemmas.{take-append}
 use Rattle.trace_reader.proofs.LawLemmas.{reading_refused}
 

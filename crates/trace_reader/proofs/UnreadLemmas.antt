@@ -1,11 +1,11 @@
 -- A line's end behind bytes that were searched.
-use Rattle.std.proofs.Common.{drop-drop, ◌≡◌, ◌==◌, ◌≤◌, ◌<◌, ℕ, zero, suc, ◌+◌, ◌-◌, min, Bool, true, false, List, [], ◌∷◌, ◌++◌, length, take, drop, Option, Some, None, refl, sym, ap, subst, ◌∙◌, arith, length-append, length-take, length-drop}
+use Rattle.std.proofs.Common.{drop-drop, ◌≡◌, ◌==◌, ◌≤◌, ◌<◌, ℕ, suc, ◌+◌, ◌-◌, Bool, true, false, List, [], ◌∷◌, ◌++◌, length, take, drop, Option, Some, None, refl, sym, ap, subst, ◌∙◌, arith, length-append, length-take, length-drop}
 use Rattle.std.proofs.lemmas.List.{take-append-drop}
 use Rattle.std.specs.Prelude.{if◌then◌else◌, position}
 use Rattle.std.specs.Option.{option_map}
 use Rattle.trace_reader.specs.Form.{put_first, split_once}
 use Rattle.trace_reader.proofs.CutLemmas.{split_by, split_once-append}
-use Rattle.trace_reader.proofs.SplitLemmas.{rest_is, split_once-none, split_once-some}
+use Rattle.trace_reader.proofs.SplitLemmas.{split_once-none, split_once-some}
 
 -- the front is that of the list, and so is what stands behind the mark
 pub record IsSplit (bytes : List ℕ) (p : List ℕ × List ℕ) : Type 0 where

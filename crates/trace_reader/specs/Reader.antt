@@ -1,5 +1,5 @@
 -- What a reader keeps.
-use Rattle.std.specs.Prelude.{◌≡◌, ◌++◌, [], ◌&&◌, ℕ, ◌+◌, Bool, true, false, not, List, Option, Some, None, Result, Ok, Err, take, drop}
+use Rattle.std.specs.Prelude.{◌≡◌, ◌++◌, [], ◌&&◌, ℕ, ◌+◌, Bool, false, not, List, Option, Some, None, Result, take, drop}
 use Rattle.flat_core.specs.System.{System}
 use Rattle.flat_core.specs.Line.{Line}
 use Rattle.trace_reader.specs.declared.fault.TraceFault.{TraceFault}

@@ -89,12 +89,14 @@ impl<'f> TraceReader<'f> {
         })
     }
 
-    /// Appends a piece to the trace.
+    /// Appends a piece to the trace. It is asked for where `next_line` answered `More`, or nothing was
+    /// fed yet. Want of memory leaves the reader as it was.
     pub fn feed(&mut self, piece: &[u8]) -> Result<(), NoMemory>
         requires awaits { AwaitsMore self.old }
         requires some { 1 ≤ length piece.now }
         requires short { length piece.now ≤ 65536 }
-        ensures reads { OnOk result ((s : System) (limit : ℕ) (fed : List ℕ) (given : List Line) → Reads self.old s limit fed given false → Reads self.new s limit (fed ++ piece.now) given false) }
+        ensures reads { OnOk result ((s : System) (limit : ℕ) (fed : List ℕ) (given : List Line) →
+            Reads self.old s limit fed given false → Reads self.new s limit (fed ++ piece.now) given false) }
         ensures err { OnErr result (self.new ≡ self.old) }
     {
         let len = piece.len() as u64;
@@ -105,9 +107,10 @@ impl<'f> TraceReader<'f> {
         Ok(())
     }
 
-    /// Says that the trace has ended.
+    /// Says that the trace has ended. Bytes behind the last line's end are a line from then on.
     pub fn finish(&mut self)
-        ensures { (s : System) (limit : ℕ) (fed : List ℕ) (given : List Line) → Reads self.old s limit fed given false → Reads self.new s limit fed given true }
+        ensures { (s : System) (limit : ℕ) (fed : List ℕ) (given : List Line) →
+            Reads self.old s limit fed given false → Reads self.new s limit fed given true }
     {
         self.ended = true;
     }
@@ -116,8 +119,10 @@ impl<'f> TraceReader<'f> {
     /// refused and the trace has not ended, and `End` where it has. A fault is answered again by
     /// every further call. Want of memory leaves the reader as it was.
     pub fn next_line(&mut self) -> Result<Next, TraceFault>
-        ensures says { (s : System) (limit : ℕ) (fed : List ℕ) (given : List Line) (ended : Bool) → Reads self.old s limit fed given ended → SaysNext (reading s limit fed ended) given ended result }
-        ensures reads { (s : System) (limit : ℕ) (fed : List ℕ) (given : List Line) (ended : Bool) → Reads self.old s limit fed given ended → Reads self.new s limit fed (given ++ lines_in result) ended }
+        ensures says { (s : System) (limit : ℕ) (fed : List ℕ) (given : List Line) (ended : Bool) →
+            Reads self.old s limit fed given ended → SaysNext (reading s limit fed ended) given ended result }
+        ensures reads { (s : System) (limit : ℕ) (fed : List ℕ) (given : List Line) (ended : Bool) →
+            Reads self.old s limit fed given ended → Reads self.new s limit fed (given ++ lines_in result) ended }
         ensures more { IfMore result (AwaitsMore self.new) }
         ensures again { AnswersAgain self.old self.new result }
         ensures fewer { IfLine result (length self.new.unread < length self.old.unread) }
@@ -191,7 +196,9 @@ impl<'f> TraceReader<'f> {
     /// Gives all lines that stand, by `next_line`. What was gathered before want of memory stays
     /// gathered.
     pub fn read_all(&mut self, lines: &mut Vec<TraceLine>) -> Result<Rest, TraceFault>
-        ensures gathers { (s : System) (limit : ℕ) (fed : List ℕ) (given : List Line) (ended : Bool) → Reads self.old s limit fed given ended → Gathers self.new s limit fed given ended lines.old.items lines.new.items result }
+        ensures gathers { (s : System) (limit : ℕ) (fed : List ℕ) (given : List Line) (ended : Bool) →
+            Reads self.old s limit fed given ended →
+            Gathers self.new s limit fed given ended lines.old.items lines.new.items result }
         ensures more { IfRestMore result (AwaitsMore self.new) }
     {
         loop {

@@ -49,8 +49,10 @@ fn read_piece(
     requires some { 1 ≤ length piece.now }
     requires short { length piece.now ≤ 65536 }
     requires awaits { AwaitsMore reader.old }
-    ensures says { (s : System) (limit : ℕ) (fed : List ℕ) → Reads reader.old s limit fed lines.old.items false → SaysRest (reading s limit (fed ++ piece.now) false) lines.new.items false result }
-    ensures reads { (s : System) (limit : ℕ) (fed : List ℕ) → Reads reader.old s limit fed lines.old.items false → OnOk result (Reads reader.new s limit (fed ++ piece.now) lines.new.items false) }
+    ensures says { (s : System) (limit : ℕ) (fed : List ℕ) →
+        Reads reader.old s limit fed lines.old.items false → SaysRest (reading s limit (fed ++ piece.now) false) lines.new.items false result }
+    ensures reads { (s : System) (limit : ℕ) (fed : List ℕ) →
+        Reads reader.old s limit fed lines.old.items false → OnOk result (Reads reader.new s limit (fed ++ piece.now) lines.new.items false) }
     ensures more { IfRestMore result (AwaitsMore reader.new) }
 {
     match reader.feed(piece) {
@@ -61,7 +63,8 @@ fn read_piece(
 
 /// Says that the trace has ended, and gathers its last line.
 fn read_end(reader: &mut TraceReader<'_>, lines: &mut Vec<TraceLine>) -> Result<Rest, TraceFault>
-    ensures { (s : System) (limit : ℕ) (fed : List ℕ) → Reads reader.old s limit fed lines.old.items false → SaysRest (reading s limit fed true) lines.new.items true result }
+    ensures { (s : System) (limit : ℕ) (fed : List ℕ) →
+        Reads reader.old s limit fed lines.old.items false → SaysRest (reading s limit fed true) lines.new.items true result }
 {
     reader.finish();
     reader.read_all(lines)
@@ -77,7 +80,8 @@ fn read_in_pieces(
     requires some { 1 ≤ size }
     requires short { size ≤ 65536 }
     requires awaits { AwaitsMore reader.old }
-    ensures { (s : System) (limit : ℕ) → Reads reader.old s limit [] lines.old.items false → SaysRest (reading s limit trace.now true) lines.new.items true result }
+    ensures { (s : System) (limit : ℕ) →
+        Reads reader.old s limit [] lines.old.items false → SaysRest (reading s limit trace.now true) lines.new.items true result }
 {
     let mut rest = trace;
     while !rest.is_empty() {

@@ -1,4 +1,4 @@
-use Rattle.std.proofs.Common.{◌+◌, ◌-◌, ◌<◌, ◌≡◌, ◌&&◌, ◌==◌, Bool, false, true, length, drop, sym, subst, ap, ◌∙◌, arith}
+use Rattle.std.proofs.Common.{◌+◌, ◌-◌, ◌<◌, ◌≡◌, ◌&&◌, length, drop, sym, ap, ◌∙◌, arith}
 use Rattle.trace_reader.specs.Reading.{had_event_at}
 use Rattle.trace_reader.proofs.HistoryLemmas.{none_before, had_at}
 use Rattle.trace_reader.proofs.history.had_event_at.Goals as goal

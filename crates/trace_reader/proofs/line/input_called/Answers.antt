@@ -1,6 +1,6 @@
 use Rattle.std.proofs.Common.{Some, ap, sym, ◌∙◌}
 use Rattle.trace_reader.specs.Reading.{is_input_called}
-use Rattle.trace_reader.proofs.PlaceLemmas.{position_from-next, position_from-here, position_from-end}
+use Rattle.trace_reader.proofs.PlaceLemmas.{position_from-next, position_from-here}
 use Rattle.trace_reader.proofs.line.input_called.Goals as goal
 
 pub returns-then-is_input_called : goal.returns-then-is_input_called

@@ -1,4 +1,4 @@
-use Rattle.std.proofs.Common.{◌≡◌, ◌++◌, ◌∙◌, length, arith}
+use Rattle.std.proofs.Common.{◌≡◌, ◌++◌, length, arith}
 use Rattle.std.proofs.lemmas.Bool.{false≢true}
 use Rattle.trace_reader.proofs.GatherAll.{all_fed, between_more, empty_is, refused_whole, split_is}
 use Rattle.trace_reader.proofs.tests.read_in_pieces.Goals as goal

@@ -1,4 +1,3 @@
-use Rattle.trace_reader.proofs.StepLemmas.{takes_line}
 use Rattle.trace_reader.proofs.StandLemmas.{reads_fresh}
 use Rattle.trace_reader.proofs.reader.TraceReader.new.Goals as goal
 

@@ -1,4 +1,4 @@
-use Rattle.std.proofs.Common.{◌+◌, ◌-◌, ◌==◌, ◌∙◌, ap, sym, arith, length, take, drop, Some, None}
+use Rattle.std.proofs.Common.{◌==◌, ◌∙◌, ap, arith}
 use Rattle.std.specs.Prelude.{position}
 use Rattle.trace_reader.specs.Form.{split_once}
 use Rattle.trace_reader.proofs.SplitLemmas.{rest_is}
