@@ -1,17 +1,18 @@
 -- The sample is a complete system in order.
-use Rattle.std.proofs.Common.{◌≡◌, ◌==◌, ℕ, zero, suc, ◌+◌, ◌<◌, true, false, List, [], ◌∷◌, ◌++◌, length, take, Some, refl, sym, ap, subst, ◌∙◌, arith, lit<, zero-add}
+use Rattle.std.proofs.Common.{◌≡◌, ◌==◌, ℕ, zero, suc, ◌+◌, ◌<◌, ◌≤◌, true, false, List, [], ◌∷◌, ◌++◌, length, get_or, take, Some, refl, sym, ap, subst, ◌∙◌, arith, lit<, zero-add}
 use Rattle.std.proofs.lemmas.Bool.{eq-eqb, true≢false}
 use Rattle.std.proofs.lemmas.List.Elements.{All-from_recursion}
 use Rattle.std.proofs.lemmas.Option.{get_or_from_slice_get, slice_get_within}
 use Rattle.std.proofs.Math.Seq.{take-suc}
 use Rattle.std.specs.Prelude.{slice_get}
-use Rattle.std.specs.List.{AllByRecursion}
+use Rattle.std.specs.List.{AllAdjacentBelow, AllByRecursion}
 use Rattle.flat_core.specs.declared.equation.Equation.{Equation}
-use Rattle.flat_core.specs.declared.equation.Output.{Output}
+use Rattle.flat_core.specs.declared.line.TraceLine.{TraceLine}
+use Rattle.flat_core.specs.Line.{Line, IsSorted}
 use Rattle.lift_func.specs.Typing.{literal, argument, two, arithmetic}
 use Rattle.flat_core.specs.Case.{used_of}
 use Rattle.flat_core.specs.Complete.{HasShortBody, HaveDifferentNames, IsComplete}
-use Rattle.flat_core.specs.System.{System, equation}
+use Rattle.flat_core.specs.System.{System}
 use Rattle.flat_core.specs.Typed.{IsTyped, input, unit, time, last, delay, merge, lift, int_type, unit_type}
 use Rattle.flat_core.specs.TypedSystem.{IsOfType, IsTypedEquation}
 use Rattle.flat_core.proofs.Finished.{typed_from_all}
@@ -132,3 +133,10 @@ pub one_more : {A : Type 0} (xs : List A) (n : ℕ) (x : A) (ys zs : List A) →
 one_more xs n x ys zs is so_far more =
     let one : suc n ≡ n + 1 = omega arith in
     more ∙ (λ k. so_far k ++ sym (get_or_from_slice_get xs n x x is) k ∷ []) ∙ sym (take-suc xs n x (slice_get_within xs n x is)) ∙ ap (λ m. take m xs) one
+
+pub sorted_from_adjacent : (ls : List Line) → AllAdjacentBelow (λ (a b : TraceLine). a.time ≤ b.time) ls (length ls) → IsSorted ls
+sorted_from_adjacent [] rises = tt
+sorted_from_adjacent (l ∷ []) rises = tt
+sorted_from_adjacent (l ∷ m ∷ ls) rises = (rises 0 l (omega arith), sorted_from_adjacent (m ∷ ls) (λ k d lt.
+    let next : suc k + 1 ≡ suc (k + 1) = omega arith in
+    subst (λ n. (get_or (m ∷ ls) k d).time ≤ (get_or (l ∷ m ∷ ls) n d).time) next (rises (suc k) d (omega arith))))
