@@ -1,0 +1,9 @@
+pub mod DueTexts
+pub mod Dues
+pub mod Watching
+pub mod Reading
+pub mod Grown
+pub mod Facts
+pub mod Told
+pub mod Readiness
+pub mod Monitoring

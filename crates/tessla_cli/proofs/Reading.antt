@@ -1,0 +1,86 @@
+-- The specification as it is read, a piece at a time.
+use Rattle.std.proofs.Common.{◌≡◌, inl, inr, ℕ, ◌≤◌, ◌<◌, Bool, true, false, ◌||◌, List, [], ◌∷◌, ◌++◌, length, refl, sym, ◌∙◌, ap, subst, IsTrue, take, zero, suc, nat_eq, arith}
+use Rattle.std.proofs.lemmas.Grind.{common_steps}
+use Rattle.std.proofs.lemmas.List.{append-nil}
+use Rattle.tsl_world.specs.declared.outside.Did.{Did}
+use Rattle.tsl_world.specs.declared.outside.Did.TheVariants.{Took}
+use Rattle.tsl_world.specs.declared.outside.Slot.TheVariants.{Spec}
+use Rattle.tsl_world.specs.Journal.{taken, ended, Each}
+use Rattle.tsl_world.specs.Runs.{Runs}
+use Rattle.tsl_world.specs.Standing.{Standing}
+use Rattle.tsl_world.proofs.Runs.{go_on, called}
+use Rattle.tsl_world.proofs.Journals.{taken-append, ended-append, Each-append}
+use Rattle.tessla_cli.specs.Conduct.{source_limit}
+use Rattle.tessla_cli.specs.Parts.{IsTake, most_taken, is_nothing}
+use Rattle.tessla_cli.specs.Shape.{MayReadSpec, ReadsSpec, GivesSource}
+use Rattle.tessla_cli.proofs.Watching.{not_zero}
+use Rattle.tsl_world.proofs.Places.{at_none, at_read}
+
+-- these bytes of the specification were read, and not its end
+pub record HasRead (source : List ℕ) (part : List Did) : Type 0 where
+  pub bytes_are : taken Spec part ≡ source
+  pub unended : ended Spec part ≡ false
+  pub reads : ReadsSpec part
+
+pub has_read_none : HasRead [] []
+has_read_none = record { bytes_are = refl; unended = refl; reads = record { only = tt; reads = at_none Spec MayReadSpec } }
+
+-- one read more
+pub reads_more : (source piece : List ℕ) (part : List Did) → HasRead source part → length source ≤ source_limit → length piece ≤ most_taken → ReadsSpec (part ++ Took Spec piece ∷ [])
+reads_more source piece part h within short = record {
+  only = Each-append (IsTake Spec) part (Took Spec piece ∷ []) h.reads.only ((refl, short), tt);
+  reads = at_read Spec MayReadSpec part piece h.reads.reads record { unended = h.unended; within = subst (λ (l : List ℕ). length l ≤ source_limit) (sym h.bytes_are) within };
+}
+
+took_bytes : (source piece : List ℕ) (part : List Did) → HasRead source part → taken Spec (part ++ Took Spec piece ∷ []) ≡ source ++ piece
+took_bytes source piece part h =
+    taken-append Spec part (Took Spec piece ∷ []) ∙ ap (λ (l : List ℕ). taken Spec part ++ l) (append-nil piece) ∙ ap (λ (l : List ℕ). l ++ piece) h.bytes_are
+
+took_end : (piece : List ℕ) (part : List Did) → ended Spec part ≡ false → ended Spec (part ++ Took Spec piece ∷ []) ≡ is_nothing piece
+took_end [] part is = ended-append Spec part (Took Spec [] ∷ []) ∙ ap (λ (b : Bool). b || true) is
+took_end (x ∷ piece) part is = ended-append Spec part (Took Spec (x ∷ piece) ∷ []) ∙ ap (λ (b : Bool). b || false) is ∙ not_zero (length piece)
+
+-- a piece that is not the end
+pub has_read_more : (source piece : List ℕ) (part : List Did) → HasRead source part → length source ≤ source_limit → length piece ≤ most_taken → is_nothing piece ≡ false
+    → HasRead (source ++ piece) (part ++ Took Spec piece ∷ [])
+has_read_more source piece part h within short some = record {
+  bytes_are = took_bytes source piece part h;
+  unended = took_end piece part h.unended ∙ some;
+  reads = reads_more source piece part h within short;
+}
+
+-- the end
+pub has_read_all : (source piece : List ℕ) (part : List Did) → HasRead source part → length source ≤ source_limit → length piece ≤ most_taken → is_nothing piece ≡ true
+    → ReadsSpec (part ++ Took Spec piece ∷ []) × GivesSource source (part ++ Took Spec piece ∷ [])
+has_read_all source [] part h within short none = (
+  reads_more source [] part h within short,
+  record { bytes_are = took_bytes source [] part h ∙ append-nil source; whole = inl (took_end [] part h.unended ∙ none) },
+)
+has_read_all source (b ∷ piece) part h within short none = absurd (let e : false ≡ true = not_zero (length piece) ∙ none in cc)
+
+-- past the limit
+pub has_read_enough : (source : List ℕ) (part : List Did) → HasRead source part → source_limit < length source → GivesSource source part
+has_read_enough source part h over = record { bytes_are = h.bytes_are; whole = inr (subst (λ (l : List ℕ). source_limit < length l) (sym h.bytes_are) over) }
+
+-- one read of the specification more, told or not
+module _ {W : Type 0} (told : W → Bool) (journal : W → List Did) (standing : W → Standing) where
+  pub spec_read_on : (old mid new : W) (source piece : List ℕ) (P : List Did → Type 0) → Runs told journal standing old mid (HasRead source)
+      → ((part : List Did) → HasRead source part → P (part ++ Took Spec piece ∷ [])) → (IsTrue (told new) → IsTrue (told mid)) → standing new ≡ standing mid
+      → (IsTrue (told new) → journal new ≡ journal mid ++ Took Spec piece ∷ []) → Runs told journal standing old new P
+  spec_read_on old mid new source piece P calls says kept stands adds =
+      go_on told journal standing old mid new _ (λ q. q ≡ Took Spec piece ∷ []) P calls
+      (called told journal standing mid new (Took Spec piece) (λ q. q ≡ Took Spec piece ∷ []) kept stands adds refl)
+      (λ p q at is. subst (λ (l : List Did). P (p ++ l)) (sym is) (says p at))
+
+above_zero : (n : ℕ) → (n ≡ 0 → ⊥) → nat_eq n 0 ≡ false
+above_zero zero is = absurd (is refl)
+above_zero (suc n) is = sym (not_zero n)
+
+-- what one read gives is nothing exactly where its count is 0
+pub none_taken : (n : ℕ) (buf : List ℕ) → n ≡ 0 → is_nothing (take n buf) ≡ true
+none_taken n buf is = ap (λ (k : ℕ). is_nothing (take k buf)) is
+
+pub some_taken : (n : ℕ) (buf : List ℕ) → n ≤ length buf → (n ≡ 0 → ⊥) → is_nothing (take n buf) ≡ false
+some_taken n buf fits some =
+    let same : length (take n buf) ≡ n = grind (arith, common_steps) in
+    ap (λ (k : ℕ). nat_eq k 0) same ∙ above_zero n some

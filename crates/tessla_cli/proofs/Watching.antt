@@ -1,0 +1,151 @@
+-- How what a run does to the outside goes on, a read or a write at a time.
+use Rattle.std.proofs.Common.{◌≡◌, ℕ, suc, ◌≤◌, Bool, true, false, ◌||◌, List, [], ◌∷◌, ◌++◌, length, refl, sym, ◌∙◌, ap, subst, append_assoc, arith, nat_eq, Ok, Result, IsTrue}
+use Rattle.std.proofs.lemmas.Bool.Decides.{nat_tests}
+use Rattle.std.proofs.lemmas.List.{append-nil}
+use Rattle.flat_core.specs.System.{System}
+use Rattle.tsl_world.specs.declared.outside.Slot.TheVariants.{Trace}
+use Rattle.tsl_world.specs.declared.outside.Channel.TheVariants.{Out}
+use Rattle.tsl_world.specs.declared.outside.Did.{Did}
+use Rattle.tsl_world.specs.declared.outside.Did.TheVariants.{Opened, Created, NotOpened, NotCreated, Took, Gave}
+use Rattle.tsl_world.specs.declared.outside.Channel.{Channel}
+use Rattle.tsl_world.specs.declared.outside.Channel.TheVariants as channel
+use Rattle.tsl_world.specs.Journal.{given, taken, ended, same_channel, AtReads, IsGift, Each}
+use Rattle.tsl_world.specs.Runs.{Runs}
+use Rattle.tsl_world.specs.Standing.{Standing}
+use Rattle.tsl_world.proofs.Runs.{go_on, called}
+use Rattle.tsl_world.proofs.Parts.{gifts_read_none, taken_before, ended_before}
+use Rattle.tsl_world.proofs.Places.{at_none, at_more, at_read}
+use Rattle.tsl_world.proofs.Journals.{given-append, taken-append, ended-append, Each-append}
+use Rattle.tessla_cli.specs.declared.ending.Ending.{Ending}
+use Rattle.tessla_cli.specs.declared.options.Options.{Options}
+use Rattle.tessla_cli.specs.Due.{IsDue}
+use Rattle.tsl_world.specs.Begins.{Begins}
+use Rattle.tessla_cli.specs.Ending.{GoesOn}
+use Rattle.tessla_cli.specs.Parts.{Gives, most_taken, IsTraceWork, EndsBy, MayRead, Watched, WatchEnds, is_nothing}
+use Rattle.tessla_cli.specs.Ready.{IsReady}
+use Rattle.tessla_cli.proofs.Dues.{Adds, due_more}
+
+is_out : (at : Channel) → same_channel at Out ≡ true → at ≡ Out
+is_out channel.Out same = refl
+is_out channel.Err same = absurd (cc)
+is_out channel.State same = absurd (cc)
+is_out channel.Code same = absurd (cc)
+
+gifts_work : (more : List Did) → Each (IsGift Out) more → Each IsTraceWork more
+gifts_work [] gifts = tt
+gifts_work (Gave at bytes ∷ more) gifts = (is_out at gifts.0, gifts_work more gifts.1)
+gifts_work (Took from bytes ∷ more) gifts = absurd gifts.0
+gifts_work (Opened a b ∷ more) gifts = absurd gifts.0
+gifts_work (Created a b ∷ more) gifts = absurd gifts.0
+gifts_work (NotOpened a b ∷ more) gifts = absurd gifts.0
+gifts_work (NotCreated a b ∷ more) gifts = absurd gifts.0
+
+pub not_zero : (n : ℕ) → false ≡ nat_eq (suc n) 0
+not_zero n = grind (arith, nat_tests)
+
+took_end : (part : List Did) (piece : List ℕ) → ended Trace part ≡ false → ended Trace (part ++ Took Trace piece ∷ []) ≡ is_nothing piece
+took_end part [] is = ended-append Trace part (Took Trace [] ∷ []) ∙ ap (λ (b : Bool). b || true) is
+took_end part (x ∷ piece) is = ended-append Trace part (Took Trace (x ∷ piece) ∷ []) ∙ ap (λ (b : Bool). b || false) is ∙ not_zero (length piece)
+
+module _ (s : System) (o : Options) where
+  -- the calls so far, by what was taken, what was given, and whether the end was read
+  pub record Stands (part : List Did) (bytes text : List ℕ) (is_end : Bool) : Type 0 where
+    pub bytes_are : taken Trace part ≡ bytes
+    pub text_is : given Out part ≡ text
+    pub end_is : ended Trace part ≡ is_end
+    pub work : Each IsTraceWork part
+    pub reads : AtReads Trace (MayRead s o) part
+
+  -- before any call
+  pub at_start : Stands [] [] [] false
+  at_start = record {
+    bytes_are = refl;
+    text_is = refl;
+    end_is = refl;
+    work = tt;
+    reads = at_none Trace (MayRead s o);
+  }
+
+  -- writes to Out more
+  pub wrote : (part more : List Did) (bytes text : List ℕ) (e : Bool) → Stands part bytes text e → Each (IsGift Out) more
+      → Stands (part ++ more) bytes (text ++ given Out more) e
+  wrote part more bytes text e stands gifts = let none = gifts_read_none Out Trace more gifts in record {
+    bytes_are = taken_before Trace part more none ∙ stands.bytes_are;
+    text_is = given-append Out part more ∙ ap (λ (l : List ℕ). l ++ given Out more) stands.text_is;
+    end_is = ended_before Trace part more none ∙ stands.end_is;
+    work = Each-append IsTraceWork part more stands.work (gifts_work more gifts);
+    reads = at_more Trace (MayRead s o) part more stands.reads none;
+  }
+
+  -- the trace may be read where all that is due was written, and nothing ends the run
+  may_read : (part : List Did) (bytes text : List ℕ) → Stands part bytes text false → IsDue s o bytes false text → GoesOn s o bytes → MayRead s o part
+  may_read part bytes text stands due goes_on = record {
+    unended = stands.end_is;
+    due = subst (λ (l : List ℕ). IsDue s o l false (given Out part)) (sym stands.bytes_are) (subst (λ (l : List ℕ). IsDue s o bytes false l) (sym stands.text_is) due);
+    goes_on = subst (λ (l : List ℕ). GoesOn s o l) (sym stands.bytes_are) goes_on;
+  }
+
+  -- one read more
+  pub read_more : (part : List Did) (bytes text piece : List ℕ) → Stands part bytes text false → IsDue s o bytes false text → GoesOn s o bytes → length piece ≤ most_taken
+      → Stands (part ++ Took Trace piece ∷ []) (bytes ++ piece) text (is_nothing piece)
+  read_more part bytes text piece stands due goes_on short = record {
+    bytes_are = taken-append Trace part (Took Trace piece ∷ []) ∙ ap (λ (l : List ℕ). taken Trace part ++ l) (append-nil piece) ∙ ap (λ (l : List ℕ). l ++ piece) stands.bytes_are;
+    text_is = given-append Out part (Took Trace piece ∷ []) ∙ append-nil (given Out part) ∙ stands.text_is;
+    end_is = took_end part piece stands.end_is;
+    work = Each-append IsTraceWork part (Took Trace piece ∷ []) stands.work ((refl, short), tt);
+    reads = at_read Trace (MayRead s o) part piece stands.reads (may_read part bytes text stands due goes_on);
+  }
+
+  -- however it stops: what was written begins what is due
+  pub stopped : (part : List Did) (bytes text whole : List ℕ) (e : Bool) → Stands part bytes text e → IsDue s o bytes e whole → Begins text whole → Watched s o part
+  stopped part bytes text whole e stands due begins = record {
+    work = stands.work;
+    reads = stands.reads;
+    partly = record {
+      text = whole;
+      due = subst (λ (l : List ℕ). IsDue s o l (ended Trace part) whole) (sym stands.bytes_are) (subst (λ (b : Bool). IsDue s o bytes b whole) (sym stands.end_is) due);
+      begins = record { rest = begins.rest; is = begins.is ∙ ap (λ (l : List ℕ). l ++ begins.rest) (sym stands.text_is) };
+    };
+  }
+
+  -- where all that is due was written
+  pub stopped_between : (part : List Did) (bytes text : List ℕ) (e : Bool) → Stands part bytes text e → IsDue s o bytes e text → Watched s o part
+  stopped_between part bytes text e stands due = stopped part bytes text text e stands due record { rest = []; is = sym (append-nil text) }
+
+  -- behind a read that was not kept
+  pub stopped_at_piece : IsReady s → (part : List Did) (bytes text piece : List ℕ) → Stands part (bytes ++ piece) text (is_nothing piece) → IsDue s o bytes false text → Watched s o part
+  stopped_at_piece ready part bytes text piece stands due =
+      let adds = due_more s o ready bytes piece text (is_nothing piece) due in
+      stopped part (bytes ++ piece) text (text ++ adds.more) (is_nothing piece) stands adds.due record { rest = adds.more; is = refl }
+
+  -- at a write that failed
+  pub stopped_at_gift : {E : Type 0} (part q : List Did) (bytes text more : List ℕ) (e : Bool) (result : Result (Unit {0}) E) → Stands part bytes text e → IsDue s o bytes e (text ++ more)
+      → Gives Out more result q → Watched s o (part ++ q)
+  stopped_at_gift part q bytes text more e result stands due gives =
+      stopped (part ++ q) bytes (text ++ given Out q) (text ++ more) e (wrote part q bytes text e stands gives.gifts) due record {
+        rest = gives.some.rest;
+        is = ap (λ (l : List ℕ). text ++ l) gives.some.is ∙ sym (append_assoc text (given Out q) gives.some.rest);
+      }
+
+  -- behind a write
+  pub gave_all : {E : Type 0} (part q : List Did) (bytes text more : List ℕ) (e : Bool) → Stands part bytes text e → Gives {E = E} Out more (Ok tt) q → Stands (part ++ q) bytes (text ++ more) e
+  gave_all part q bytes text more e stands gives =
+      subst (λ (l : List ℕ). Stands (part ++ q) bytes l e) (ap (λ (l : List ℕ). text ++ l) gives.whole) (wrote part q bytes text e stands gives.gifts)
+
+  -- at an ending
+  pub ends : (by : Ending) (part : List Did) (bytes text : List ℕ) (e : Bool) → Stands part bytes text e → IsDue s o bytes e text → EndsBy s o bytes e by → WatchEnds s o by part
+  ends by part bytes text e stands due cause = record {
+    due = subst (λ (l : List ℕ). IsDue s o l (ended Trace part) (given Out part)) (sym stands.bytes_are)
+        (subst (λ (b : Bool). IsDue s o bytes b (given Out part)) (sym stands.end_is) (subst (λ (l : List ℕ). IsDue s o bytes e l) (sym stands.text_is) due));
+    cause = subst (λ (l : List ℕ). EndsBy s o l (ended Trace part) by) (sym stands.bytes_are) (subst (λ (b : Bool). EndsBy s o bytes b by) (sym stands.end_is) cause);
+  }
+
+-- one read of the trace more, told or not
+module _ {W : Type 0} (told : W → Bool) (journal : W → List Did) (standing : W → Standing) (s : System) (o : Options) where
+  pub read_on : (old mid new : W) (bytes text piece : List ℕ) → Runs told journal standing old mid (λ part. Stands s o part bytes text false) → IsDue s o bytes false text
+      → GoesOn s o bytes → length piece ≤ most_taken → (IsTrue (told new) → IsTrue (told mid)) → standing new ≡ standing mid
+      → (IsTrue (told new) → journal new ≡ journal mid ++ Took Trace piece ∷ []) → Runs told journal standing old new (λ part. Stands s o part (bytes ++ piece) text (is_nothing piece))
+  read_on old mid new bytes text piece calls due goes_on short kept stands adds =
+      go_on told journal standing old mid new _ (λ q. q ≡ Took Trace piece ∷ []) _ calls
+      (called told journal standing mid new (Took Trace piece) (λ q. q ≡ Took Trace piece ∷ []) kept stands adds refl)
+      (λ p q at is. subst (λ (l : List Did). Stands s o (p ++ l) (bytes ++ piece) text (is_nothing piece)) (sym is) (read_more s o p bytes text piece at due goes_on short))

@@ -1,0 +1,17 @@
+use Rattle.std.proofs.Common.{◌≡◌, ◌<◌, ◌≤◌, ◌-◌, ◌+◌, length}
+use Rattle.tsl_world.specs.Runs.{Runs}
+use Rattle.tessla_cli.specs.Conduct.{source_limit}
+use Rattle.tessla_cli.specs.Parts.{most_taken}
+use Rattle.tessla_cli.proofs.Reading.{HasRead}
+use Rattle.tessla_cli.proofs.source.read_source.Given as goal
+
+abbrev pub invariant-loop-world : goal.invariant-loop-world
+invariant-loop-world g l = record {
+  room : 0 < length l.buf;
+  short : length l.buf ≤ most_taken;
+  faults : g.W.World.faults l.world ≡ g.W.World.faults l.fn.world;
+  calls : Runs g.W.World.told g.W.World.journal g.W.World.standing l.fn.world l.world (HasRead l.source);
+}
+
+abbrev pub decreases-loop-world : goal.decreases-loop-world
+decreases-loop-world g l = source_limit + 1 - length l.source

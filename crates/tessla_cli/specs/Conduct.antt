@@ -1,0 +1,112 @@
+-- What the program does to the outside, as the journal of its calls has it.
+use Rattle.std.specs.Prelude.{◌≡◌, ◌⊎◌, ℕ, ◌<◌, ◌≤◌, Bool, true, false, List, [], ◌∷◌, ◌++◌, length, Option, Some, None, codes}
+use Rattle.flat_core.specs.System.{System}
+use Rattle.tsl_value.specs.declared.place.Place.{Place}
+use Rattle.tsl_world.specs.declared.outside.Did.{Did}
+use Rattle.tsl_world.specs.declared.outside.Slot.{Slot}
+use Rattle.tsl_world.specs.declared.outside.Slot.TheVariants.{Spec, Trace}
+use Rattle.tsl_world.specs.declared.outside.Channel.TheVariants.{Out}
+use Rattle.tsl_world.specs.Journal.{given, taken, ended, opening, openings, creations, AtReads, IsWithin, Each}
+use Rattle.line_spec.specs.Reading.{SpellsSystem, IsRefused}
+use Rattle.tessla_cli.specs.declared.ending.Ending.{Ending}
+use Rattle.tessla_cli.specs.declared.ending.Ending.TheVariants as ending
+use Rattle.tessla_cli.specs.declared.options.Options.{Options}
+use Rattle.tessla_cli.specs.Words.{Run, command_of}
+use Rattle.tessla_cli.specs.Due.{IsDue}
+use Rattle.tsl_world.specs.Begins.{Begins}
+use Rattle.tessla_cli.specs.Ending.{GoesOn}
+use Rattle.tessla_cli.specs.Parts.{most_taken, BeginsDue, WatchEnds}
+
+-- a specification is refused where it has more bytes than this
+abbrev pub source_limit : ℕ
+source_limit = 1_048_576
+
+-- as many bytes of the trace as a run takes
+abbrev pub trace_limit : ℕ
+trace_limit = 1_099_511_627_776
+
+-- the name of the trace, which is the standard input
+abbrev pub trace_name : List ℕ
+trace_name = codes "-"
+
+abbrev pub options_of : Run → Options
+options_of run = record { instants = run.instants; bytes = trace_limit }
+
+-- the specification was read to its end, or past its limit
+abbrev pub HasWhole : List Did → Type 0
+HasWhole journal = (ended Spec journal ≡ true) ⊎ (source_limit < length (taken Spec journal))
+
+-- an opening of the slot, which may have failed, stands behind this much of the journal
+pub record IsBeforeOpening (slot : Slot) (before journal : List Did) : Type 0 where
+  pub did : Did
+  pub name : List ℕ
+  pub after : List Did
+  pub is : opening did ≡ (slot, name) ∷ []
+  pub split : journal ≡ before ++ did ∷ after
+
+-- Nothing is made.
+abbrev pub MakesNothing : List Did → Type 0
+MakesNothing part = creations part ≡ []
+
+-- The trace is opened only behind the whole of the specification, or so much of it that it is too long.
+abbrev pub ReadsSpecFirst : List Did → Type 0
+ReadsSpecFirst part = (before : List Did) → IsBeforeOpening Trace before part → HasWhole before
+
+-- No read of the specification follows once more of it was taken than it may have.
+abbrev pub StopsAtLimit : List Did → Type 0
+StopsAtLimit part = AtReads Spec (λ before. length (taken Spec before) ≤ source_limit) part
+
+-- No read takes more bytes than one may.
+abbrev pub ReadsPieces : List Did → Type 0
+ReadsPieces part = Each (IsWithin most_taken) part
+
+module _ (words : List (List ℕ)) where
+  -- A fact about the system that the specification spells, as far as it was taken, and about how far the run goes that the words ask for.
+  pub record OfRun (journal : List Did) (P : System → Options → Type 0) : Type 0 where
+    pub run : Run
+    pub asked : command_of words ≡ Some run
+    pub system : System
+    pub spelled : SpellsSystem (taken Spec journal) system
+    pub holds : P system (options_of run)
+
+  -- Nothing is opened but the specification that the words name, and then the trace, each once and each whether it could be opened or not.
+  abbrev pub OpensAsAsked : List Did → Type 0
+  OpensAsAsked part =
+      (openings part ≡ []) ⊎ ((run : Run) × (command_of words ≡ Some run) × Begins (openings part) ((Spec, run.spec) ∷ (Trace, trace_name) ∷ []))
+
+  -- THE HEADLINE. Before each read of the trace, the bytes given to Out are the text that is due of the trace bytes taken before.
+  abbrev pub IsDueAtReads : List Did → Type 0
+  IsDueAtReads part = AtReads Trace (λ before. OfRun before (λ s o. IsDue s o (taken Trace before) false (given Out before))) part
+
+  -- No read of the trace follows once the bytes taken hold a refused line, close a fault or pass the limit of instants.
+  abbrev pub GoesOnAtReads : List Did → Type 0
+  GoesOnAtReads part = AtReads Trace (λ before. OfRun before (λ s o. GoesOn s o (taken Trace before))) part
+
+  -- Whatever ends the program, what Out was given is nothing, or begins the text that is due of all that was taken of the trace.
+  abbrev pub IsPartlyDue : List Did → Type 0
+  IsPartlyDue part = (given Out part ≡ []) ⊎ OfRun part (λ s o. BeginsDue s o part)
+
+  -- All the text that is due of what was taken was given to Out, and this is the cause of the ending.
+  abbrev pub EndsRun : Ending → List Did → Type 0
+  EndsRun by part = OfRun part (λ s o. WatchEnds s o by part)
+
+  -- The specification that the words name was read to its end or past its limit, and it is refused at a place. The trace is not opened.
+  pub record SpecRefused (place : Place) (part : List Did) : Type 0 where
+    pub run : Run
+    pub asked : command_of words ≡ Some run
+    pub opens : openings part ≡ (Spec, run.spec) ∷ []
+    pub whole : HasWhole part
+    pub refused : IsRefused (taken Spec part) place
+    pub nothing : given Out part ≡ []
+
+  -- The words are not accepted, and nothing was opened.
+  pub record WordsRefused (part : List Did) : Type 0 where
+    pub refused : command_of words ≡ None
+    pub opens : openings part ≡ []
+    pub nothing : given Out part ≡ []
+
+  -- what stands where the program ends so
+  abbrev pub RunEnds : Ending → List Did → Type 0
+  RunEnds ending.Words part = WordsRefused part
+  RunEnds (ending.Spec place) part = SpecRefused place part
+  RunEnds by part = EndsRun by part

@@ -1,0 +1,11 @@
+pub mod Words
+pub mod Due
+pub mod Ending
+pub mod Messages
+pub mod Parts
+pub mod Monitor
+pub mod Ready
+pub mod Conduct
+pub mod Outcome
+pub mod Compiled
+pub mod Shape

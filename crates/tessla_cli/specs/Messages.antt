@@ -1,0 +1,82 @@
+-- The lines on standard error.
+use Rattle.std.specs.Prelude.{ℕ, List, [], ◌∷◌, ◌++◌, codes}
+use Rattle.std.specs.Fmt.{decimal}
+use Rattle.tsl_value.specs.declared.place.Place.{Place}
+use Rattle.lift_func.specs.declared.fault.FaultKind.{FaultKind}
+use Rattle.lift_func.specs.declared.fault.FaultKind.TheVariants as kind
+use Rattle.trace_reader.specs.declared.fault.TraceFault.{TraceFault}
+use Rattle.trace_reader.specs.declared.fault.TraceFault.TheVariants as trace
+use Rattle.tessla_cli.specs.declared.ending.Ending.{Ending}
+use Rattle.tessla_cli.specs.declared.ending.Ending.TheVariants as ending
+use Rattle.tessla_cli.specs.declared.ending.Broken.{Broken}
+use Rattle.tessla_cli.specs.declared.ending.Broken.TheVariants as broken
+
+-- a place as LINE:COLUMN
+abbrev pub place_text : Place → List ℕ
+place_text p = decimal p.line ++ (codes ":" ++ decimal p.column)
+
+abbrev pub kind_text : FaultKind → List ℕ
+kind_text kind.Overflow = codes "Overflow"
+kind_text kind.DivideByZero = codes "DivideByZero"
+kind_text kind.MissingKey = codes "MissingKey"
+kind_text kind.NoValue = codes "NoValue"
+kind_text kind.TextTooLong = codes "TextTooLong"
+kind_text kind.DelayNotPositive = codes "DelayNotPositive"
+
+-- the two times of a line that goes back in time
+abbrev pub back_text : ℕ → ℕ → List ℕ
+back_text before now = codes ": time " ++ (decimal now ++ (codes " after " ++ decimal before))
+
+-- the number of the refused line, and why
+abbrev pub trace_text : TraceFault → List ℕ
+trace_text (trace.BadLine line) = decimal line ++ codes ": not a trace line"
+trace_text (trace.TimeBack line before now) = decimal line ++ back_text before now
+trace_text (trace.TraceTooLong line) = decimal line ++ codes ": trace too long"
+trace_text trace.Memory = []
+
+-- where a specification is refused
+abbrev pub spec_text : Place → List ℕ
+spec_text place = codes "spec " ++ (place_text place ++ codes ": NotBuilt")
+
+-- when, how and where an equation faults
+abbrev pub fault_text : ℕ → FaultKind → Place → List ℕ
+fault_text time kind place = decimal time ++ (codes ": fault " ++ (kind_text kind ++ (codes " at " ++ place_text place)))
+
+-- how many instants ran, and when the next one comes
+abbrev pub next_text : ℕ → List ℕ
+next_text time = codes " instants before time " ++ decimal time
+
+abbrev pub limit_text : ℕ → ℕ → List ℕ
+limit_text count time = codes "limit: " ++ (decimal count ++ next_text time)
+
+-- with the end of a line
+abbrev pub as_line : List ℕ → List ℕ
+as_line text = text ++ 10 ∷ []
+
+-- the line that tells an ending; where all was done nothing is told
+abbrev pub ending_line : Ending → List ℕ
+ending_line ending.Done = []
+ending_line ending.Words = as_line (codes "words not accepted")
+ending_line (ending.Spec place) = as_line (spec_text place)
+ending_line (ending.Trace fault) = as_line (codes "trace " ++ trace_text fault)
+ending_line (ending.Fault time kind place) = as_line (fault_text time kind place)
+ending_line (ending.Limit count time) = as_line (limit_text count time)
+
+-- what tells that a run was cut short
+abbrev pub broken_line : Broken → List ℕ
+broken_line broken.Outside = as_line (codes "outside: a call failed")
+broken_line broken.Memory = as_line (codes "out of memory")
+
+-- the status with which the program ends where a run is cut short
+abbrev pub broken_status : Broken → ℕ
+broken_status broken.Outside = 5
+broken_status broken.Memory = 6
+
+-- the status with which an ending ends the program
+abbrev pub status_of : Ending → ℕ
+status_of ending.Done = 0
+status_of (ending.Fault time kind place) = 1
+status_of ending.Words = 2
+status_of (ending.Spec place) = 3
+status_of (ending.Trace fault) = 4
+status_of (ending.Limit count time) = 7

@@ -1,0 +1,88 @@
+-- What stands for each status of the program.
+use Rattle.std.specs.Prelude.{◌≡◌, ◌⊎◌, ℕ, List, []}
+use Rattle.lift_func.specs.declared.fault.FaultKind.{FaultKind}
+use Rattle.trace_reader.specs.declared.fault.TraceFault.{TraceFault}
+use Rattle.tsl_value.specs.declared.place.Place.{Place}
+use Rattle.tsl_world.specs.Begins.{Begins}
+use Rattle.tsl_world.specs.declared.outside.Did.{Did}
+use Rattle.tsl_world.specs.declared.outside.Slot.TheVariants.{Spec, Trace}
+use Rattle.tsl_world.specs.declared.outside.Channel.TheVariants.{Err}
+use Rattle.tsl_world.specs.Journal.{given, IsGift, Each, StopsAtEnd}
+use Rattle.tessla_cli.specs.declared.ending.Ending.{Ending}
+use Rattle.tessla_cli.specs.declared.ending.Ending.TheVariants as ending
+use Rattle.tessla_cli.specs.declared.ending.Broken.{Broken}
+use Rattle.tessla_cli.specs.declared.ending.Broken.TheVariants as broken
+use Rattle.tessla_cli.specs.Conduct.{OpensAsAsked, MakesNothing, ReadsSpecFirst, StopsAtLimit, ReadsPieces, IsDueAtReads, GoesOnAtReads, IsPartlyDue, RunEnds}
+use Rattle.tessla_cli.specs.Messages.{ending_line, broken_line, broken_status, status_of}
+
+-- this is what was given to Err
+abbrev pub Tells : List ℕ → List Did → Type 0
+Tells line part = given Err part ≡ line
+
+-- A run that was cut short is told by its line, or by its beginning where the writing failed.
+pub data TellsBroken (by : Broken) (status : ℕ) (part : List Did) : Type 0 where
+  all_of_broken : status ≡ broken_status by → Each (IsGift Err) part → Tells (broken_line by) part → TellsBroken by status part
+  some_of_broken : status ≡ 5 → Each (IsGift Err) part → Begins (given Err part) (broken_line by) → TellsBroken by status part
+
+-- An ending is told by its line, or by its beginning where the writing failed, or the want of memory for the line is told.
+pub data TellsEnding (by : Ending) (status : ℕ) (part : List Did) : Type 0 where
+  all_of_ending : status ≡ status_of by → Each (IsGift Err) part → Tells (ending_line by) part → TellsEnding by status part
+  some_of_ending : status ≡ 5 → Each (IsGift Err) part → Begins (given Err part) (ending_line by) → TellsEnding by status part
+  no_line : TellsBroken broken.Memory status part → TellsEnding by status part
+
+module _ (words : List (List ℕ)) where
+  -- The program ends so, and its line, if it has one, was given to Err.
+  pub record Ends (by : Ending) (part : List Did) : Type 0 where
+    pub ends : RunEnds words by part
+    pub told : Tells (ending_line by) part
+
+  -- Status 1: a fault is closed within the limit of instants.
+  pub record Faulted (part : List Did) : Type 0 where
+    pub time : ℕ
+    pub kind : FaultKind
+    pub place : Place
+    pub ends : Ends (ending.Fault time kind place) part
+
+  -- Status 3: the specification is refused.
+  pub record Refused (part : List Did) : Type 0 where
+    pub place : Place
+    pub ends : Ends (ending.Spec place) part
+
+  -- Status 4: a line of the trace is refused, and no fault and no limit came at a time closed before it.
+  pub record LineRefused (part : List Did) : Type 0 where
+    pub fault : TraceFault
+    pub ends : Ends (ending.Trace fault) part
+
+  -- Status 7: one more instant than may be is closed, and none before it has a fault.
+  pub record Limited (part : List Did) : Type 0 where
+    pub count : ℕ
+    pub time : ℕ
+    pub ends : Ends (ending.Limit count time) part
+
+  -- Status 5: what was given to Err begins the line of a failure of the outside, or another line, whose own writing failed.
+  pub data TellsSome (part : List Did) : Type 0 where
+    cut_short : (by : Broken) → Begins (given Err part) (broken_line by) → TellsSome part
+    unfinished : (by : Ending) → RunEnds words by part → Begins (given Err part) (ending_line by) → TellsSome part
+
+  -- one of these, by the status
+  pub data Outcome (status : ℕ) (part : List Did) : Type 0 where
+    told : (by : Ending) → status ≡ status_of by → Ends by part → Outcome status part
+    outside : status ≡ 5 → TellsSome part → Outcome status part
+    memory : status ≡ 6 → Tells (broken_line broken.Memory) part → Outcome status part
+
+  -- what every run shows, whatever its status
+  pub record ShowsAlways (part : List Did) : Type 0 where
+    pub opens : OpensAsAsked words part
+    pub makes : MakesNothing part
+    pub spec_first : ReadsSpecFirst part
+    pub spec_ends : StopsAtEnd Spec part
+    pub trace_ends : StopsAtEnd Trace part
+    pub limit : StopsAtLimit part
+    pub pieces : ReadsPieces part
+    pub due : IsDueAtReads words part
+    pub goes_on : GoesOnAtReads words part
+    pub partly : IsPartlyDue words part
+
+  pub record Concludes (status : ℕ) (part : List Did) : Type 0 where
+    pub shows : ShowsAlways part
+    pub outcome : Outcome status part

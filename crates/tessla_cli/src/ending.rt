@@ -1,0 +1,72 @@
+// How a run ends.
+
+use lift_func::fault::FaultKind;
+use std::alloc::AllocError;
+use trace_reader::fault::TraceFault;
+use tsl_value::memory::NoMemory;
+use tsl_value::place::Place;
+use tsl_value::time::Time;
+use tsl_world::Failed;
+
+/// How a run ends where the outside and the memory served it.
+#[derive(Drop)]
+pub enum Ending {
+    /// All was done.
+    Done,
+    /// The words are not accepted.
+    Words,
+    /// The specification is refused, at this place.
+    Spec(Place),
+    /// A line of the trace is refused.
+    Trace(TraceFault),
+    /// An equation faults: the fault that is named, and the place of its equation.
+    Fault {
+        time: Time,
+        kind: FaultKind,
+        place: Place,
+    },
+    /// As many instants ran as may, and the next one comes at this time.
+    Limit { count: u64, time: Time },
+}
+
+/// What cut a run short.
+#[derive(Clone, Copy, PartialEq, Eq, Debug)]
+pub enum Broken {
+    /// A call of the outside failed.
+    Outside,
+    /// Memory was wanting.
+    Memory,
+}
+
+impl From<Failed> for Broken {
+    ghost use Rattle.std.specs.Prelude.{◌≡◌};
+    ghost use Rattle.tessla_cli.specs.declared.ending.Broken.TheVariants.{Outside};
+
+    ghost from_gives = { λ _ broken. broken ≡ Outside };
+
+    fn from(_failed: Failed) -> Broken {
+        Broken::Outside
+    }
+}
+
+impl From<NoMemory> for Broken {
+    ghost use Rattle.std.specs.Prelude.{◌≡◌};
+    ghost use Rattle.tessla_cli.specs.declared.ending.Broken.TheVariants.{Memory};
+
+    ghost from_gives = { λ _ broken. broken ≡ Memory };
+
+    fn from(_none: NoMemory) -> Broken {
+        Broken::Memory
+    }
+}
+
+impl From<AllocError> for Broken {
+    ghost use Rattle.std.specs.Prelude.{◌≡◌};
+    ghost use Rattle.tessla_cli.specs.declared.ending.Broken.TheVariants.{Memory};
+
+    ghost from_gives = { λ _ broken. broken ≡ Memory };
+
+    fn from(_none: AllocError) -> Broken {
+        Broken::Memory
+    }
+}

@@ -1,0 +1,179 @@
+// What is told on the standard error.
+
+ghost use Rattle.std.specs.Prelude.{◌≡◌, ◌++◌, IfOk, OnOk};
+ghost use Rattle.tessla_cli.specs.Messages.{back_text, broken_line, broken_status, ending_line, fault_text, kind_text, limit_text, next_text, place_text, spec_text, status_of, trace_text};
+
+use crate::ending::{Broken, Ending};
+use lift_func::fault::FaultKind;
+use std::alloc::Global;
+use trace_reader::fault::TraceFault;
+use tsl_value::bytes::Bytes;
+use tsl_value::memory::NoMemory;
+use tsl_value::place::Place;
+use tsl_value::print::print_number;
+use tsl_value::time::Time;
+
+/// Appends a place as `LINE:COLUMN`.
+fn print_place(place: Place, out: &mut Bytes) -> Result<(), NoMemory>
+    ensures { OnOk result (out.new ≡ out.old ++ place_text place) }
+{
+    print_number(place.line as u64, out)?;
+    out.append(b":")?;
+    print_number(place.column as u64, out)
+}
+
+/// The name of a kind of fault.
+fn kind_name(kind: FaultKind) -> &'static [u8]
+    ensures { result.now ≡ kind_text kind }
+{
+    match kind {
+        FaultKind::Overflow => b"Overflow",
+        FaultKind::DivideByZero => b"DivideByZero",
+        FaultKind::MissingKey => b"MissingKey",
+        FaultKind::NoValue => b"NoValue",
+        FaultKind::TextTooLong => b"TextTooLong",
+        FaultKind::DelayNotPositive => b"DelayNotPositive",
+    }
+}
+
+/// Appends the two times of a line that goes back in time.
+fn print_back(before: Time, now: Time, out: &mut Bytes) -> Result<(), NoMemory>
+    ensures { OnOk result (out.new ≡ out.old ++ back_text before now) }
+{
+    out.append(b": time ")?;
+    print_number(now.get(), out)?;
+    out.append(b" after ")?;
+    print_number(before.get(), out)
+}
+
+/// Appends the number of a refused line, and why it is refused.
+fn print_trace(fault: &TraceFault, out: &mut Bytes) -> Result<(), NoMemory>
+    ensures { OnOk result (out.new ≡ out.old ++ trace_text fault.now) }
+{
+    match fault {
+        TraceFault::BadLine { line } => {
+            print_number(*line, out)?;
+            out.append(b": not a trace line")
+        }
+        TraceFault::TimeBack { line, before, now } => {
+            print_number(*line, out)?;
+            print_back(*before, *now, out)
+        }
+        TraceFault::TraceTooLong { line } => {
+            print_number(*line, out)?;
+            out.append(b": trace too long")
+        }
+        TraceFault::Memory => Ok(()),
+    }
+}
+
+/// Appends where a specification is refused.
+fn print_spec(place: Place, out: &mut Bytes) -> Result<(), NoMemory>
+    ensures { OnOk result (out.new ≡ out.old ++ spec_text place) }
+{
+    out.append(b"spec ")?;
+    print_place(place, out)?;
+    out.append(b": NotBuilt")
+}
+
+/// Appends when, how and where an equation faults.
+fn print_fault(time: Time, kind: FaultKind, place: Place, out: &mut Bytes) -> Result<(), NoMemory>
+    ensures { OnOk result (out.new ≡ out.old ++ fault_text time kind place) }
+{
+    print_number(time.get(), out)?;
+    out.append(b": fault ")?;
+    out.append(kind_name(kind))?;
+    out.append(b" at ")?;
+    print_place(place, out)
+}
+
+/// Appends when the next instant comes.
+fn print_next(time: Time, out: &mut Bytes) -> Result<(), NoMemory>
+    ensures { OnOk result (out.new ≡ out.old ++ next_text time) }
+{
+    out.append(b" instants before time ")?;
+    print_number(time.get(), out)
+}
+
+/// Appends how many instants ran, and when the next one comes.
+fn print_limit(count: u64, time: Time, out: &mut Bytes) -> Result<(), NoMemory>
+    ensures { OnOk result (out.new ≡ out.old ++ limit_text count time) }
+{
+    out.append(b"limit: ")?;
+    print_number(count, out)?;
+    print_next(time, out)
+}
+
+/// Appends the line that tells an ending.
+fn print_ending(ending: &Ending, out: &mut Bytes) -> Result<(), NoMemory>
+    ensures { OnOk result (out.new ≡ out.old ++ ending_line ending.now) }
+{
+    match ending {
+        Ending::Done => Ok(()),
+        Ending::Words => out.append(b"words not accepted\n"),
+        Ending::Spec(place) => {
+            print_spec(*place, out)?;
+            out.push(b'\n')
+        }
+        Ending::Trace(fault) => {
+            out.append(b"trace ")?;
+            print_trace(fault, out)?;
+            out.push(b'\n')
+        }
+        Ending::Fault { time, kind, place } => {
+            print_fault(*time, *kind, *place, out)?;
+            out.push(b'\n')
+        }
+        Ending::Limit { count, time } => {
+            print_limit(*count, *time, out)?;
+            out.push(b'\n')
+        }
+    }
+}
+
+impl Ending {
+    /// The line that tells the ending; no bytes where all was done.
+    pub fn line(&self, alloc: Global) -> Result<Bytes, NoMemory>
+        ensures { IfOk result (λ line. line ≡ ending_line self.now) }
+    {
+        let mut line = Bytes::new(alloc);
+        print_ending(self, &mut line)?;
+        Ok(line)
+    }
+
+    /// The status with which the program ends so.
+    pub fn status(&self) -> u8
+        ensures { result ≡ status_of self.now }
+    {
+        match self {
+            Ending::Done => 0,
+            Ending::Fault { .. } => 1,
+            Ending::Words => 2,
+            Ending::Spec(_) => 3,
+            Ending::Trace(_) => 4,
+            Ending::Limit { .. } => 7,
+        }
+    }
+}
+
+impl Broken {
+    /// The line that tells what cut a run short.
+    pub fn line(self) -> &'static [u8]
+        ensures { result.now ≡ broken_line self }
+    {
+        match self {
+            Broken::Outside => b"outside: a call failed\n",
+            Broken::Memory => b"out of memory\n",
+        }
+    }
+
+    /// The status with which the program ends then.
+    pub fn status(self) -> u8
+        ensures { result ≡ broken_status self }
+    {
+        match self {
+            Broken::Outside => 5,
+            Broken::Memory => 6,
+        }
+    }
+}

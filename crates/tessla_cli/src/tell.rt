@@ -1,0 +1,42 @@
+// Telling how a run ended.
+
+ghost use Rattle.std.specs.Prelude.{◌≡◌, ◌⊎◌, ◌≤◌};
+ghost use Rattle.tsl_world.specs.Runs.{Runs};
+ghost use Rattle.tsl_world.specs.World.{Rose};
+ghost use Rattle.tessla_cli.specs.Outcome.{TellsBroken, TellsEnding};
+
+use crate::ending::{Broken, Ending};
+use crate::write::write_all;
+use std::alloc::Global;
+use tsl_world::{Channel, World};
+
+/// Tells on the standard error what cut a run short. The answer is the status.
+pub fn tell_broken<W: World>(world: &mut W, broken: Broken) -> u8
+    ensures later { W.faults world.old ≤ W.faults world.new }
+    ensures calm { (result ≡ 5 → ⊥) → W.faults world.new ≡ W.faults world.old }
+    ensures outside { result ≡ 5 → (broken ≡ Broken.Outside) ⊎ Rose (W.faults world.old) (W.faults world.new) }
+    ensures failed { broken ≡ Broken.Outside → result ≡ 5 }
+    ensures answers { result ≤ 7 }
+    ensures calls { Runs W.told W.journal W.standing world.old world.new (TellsBroken broken result) }
+{
+    match write_all(world, Channel::Err, broken.line()) {
+        Ok(()) => broken.status(),
+        Err(_) => 5,
+    }
+}
+
+/// Tells an ending on the standard error. The answer is the status.
+pub fn tell_ending<W: World>(alloc: Global, world: &mut W, ending: &Ending) -> u8
+    ensures calm { (result ≡ 5 → ⊥) → W.faults world.new ≡ W.faults world.old }
+    ensures outside { result ≡ 5 → Rose (W.faults world.old) (W.faults world.new) }
+    ensures answers { result ≤ 7 }
+    ensures calls { Runs W.told W.journal W.standing world.old world.new (TellsEnding ending.now result) }
+{
+    let Ok(line) = ending.line(alloc) else {
+        return tell_broken(world, Broken::Memory);
+    };
+    match write_all(world, Channel::Err, line.as_slice()) {
+        Ok(()) => ending.status(),
+        Err(_) => 5,
+    }
+}

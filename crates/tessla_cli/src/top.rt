@@ -1,0 +1,76 @@
+// The top call.
+
+ghost use Rattle.std.specs.Prelude.{◌≡◌, ◌⊎◌, ◌≤◌, List, [], None};
+ghost use Rattle.tsl_world.specs.Journal.{StopsAtEnd, given};
+ghost use Rattle.tsl_world.specs.Runs.{Grows};
+ghost use Rattle.tsl_world.specs.Standing.{at_first};
+ghost use Rattle.tsl_world.specs.World.{Rose};
+ghost use Rattle.tsl_world.specs.declared.outside.Did.{Did};
+ghost use Rattle.tessla_cli.specs.Conduct.{OpensAsAsked, MakesNothing, ReadsSpecFirst, StopsAtLimit, ReadsPieces, IsDueAtReads, GoesOnAtReads, IsPartlyDue};
+ghost use Rattle.tessla_cli.specs.Messages.{broken_line};
+ghost use Rattle.tessla_cli.specs.Outcome.{Concludes, Ends, Faulted, Limited, LineRefused, Refused, Tells, TellsSome};
+ghost use Rattle.tessla_cli.specs.Words.{command_of};
+
+use crate::ending::{Broken, Ending};
+use crate::run::run;
+use crate::tell::{tell_broken, tell_ending};
+use crate::words::Words;
+use std::alloc::Global;
+use tsl_world::{Slot, World};
+
+/// Does what the words ask for and tells how it ended. The answer is the status.
+fn conclude<W: World>(alloc: Global, words: &Words, world: &mut W) -> u8
+    requires { W.standing world.old ≡ at_first }
+    ensures calm { (result ≡ 5 → ⊥) → W.faults world.new ≡ W.faults world.old }
+    ensures outside { result ≡ 5 → Rose (W.faults world.old) (W.faults world.new) }
+    ensures answers { result ≤ 7 }
+    ensures calls { Grows W.told W.journal world.old world.new (Concludes words.now result) }
+{
+    match run(alloc, words, world) {
+        Ok(ending) => tell_ending(alloc, world, &ending),
+        Err(broken) => tell_broken(world, broken),
+    }
+}
+
+/// The program, behind its words: `run SPEC` compiles the specification of that name, monitors the trace on the standard input
+/// under it, and writes the output events up to the first fault.
+///
+/// The answer is the status: 0 where all was done, 1 where a fault is closed, 2 where the words are not accepted, 3 where the
+/// specification is refused, 4 where a line of the trace is, 5 where a call of the outside failed, 6 where memory was wanting, and
+/// 7 where the limit of instants was passed. Each status but 0 is told by one line on the standard error.
+///
+/// The clauses speak of the part of the journal that this call adds, where the world is told at its exit.
+pub fn tessla<W: World>(alloc: Global, words: &Words, world: &mut W) -> u8
+    requires { W.standing world.old ≡ at_first }
+
+    // What is opened and read, and in which order.
+    ensures opens { Grows W.told W.journal world.old world.new (OpensAsAsked words.now) }
+    ensures makes { Grows W.told W.journal world.old world.new MakesNothing }
+    ensures spec_first { Grows W.told W.journal world.old world.new ReadsSpecFirst }
+    ensures spec_ends { Grows W.told W.journal world.old world.new (StopsAtEnd Slot.Spec) }
+    ensures spec_limit { Grows W.told W.journal world.old world.new StopsAtLimit }
+    ensures trace_ends { Grows W.told W.journal world.old world.new (StopsAtEnd Slot.Trace) }
+    ensures pieces { Grows W.told W.journal world.old world.new ReadsPieces }
+
+    // Before each read of the trace, what was given to Out is the text that is due of the bytes taken so far, and nothing ends the run.
+    ensures due { Grows W.told W.journal world.old world.new (IsDueAtReads words.now) }
+    ensures goes_on { Grows W.told W.journal world.old world.new (GoesOnAtReads words.now) }
+
+    // Whatever the status, what was given to Out begins the text that is due of all that was taken.
+    ensures partly { Grows W.told W.journal world.old world.new (IsPartlyDue words.now) }
+
+    // The cause of each status, and what it leaves on Out and Err.
+    ensures done { result ≡ 0 → Grows W.told W.journal world.old world.new (Ends words.now Ending.Done) }
+    ensures faulted { result ≡ 1 → Grows W.told W.journal world.old world.new (Faulted words.now) }
+    ensures words_refused { result ≡ 2 → Grows W.told W.journal world.old world.new (Ends words.now Ending.Words) }
+    ensures refused { result ≡ 3 → Grows W.told W.journal world.old world.new (Refused words.now) }
+    ensures line_refused { result ≡ 4 → Grows W.told W.journal world.old world.new (LineRefused words.now) }
+    ensures failed { result ≡ 5 → Rose (W.faults world.old) (W.faults world.new) }
+    ensures failed_told { result ≡ 5 → Grows W.told W.journal world.old world.new (TellsSome words.now) }
+    ensures memory { result ≡ 6 → Grows W.told W.journal world.old world.new (Tells (broken_line Broken.Memory)) }
+    ensures limited { result ≡ 7 → Grows W.told W.journal world.old world.new (Limited words.now) }
+    ensures calm { (result ≡ 5 → ⊥) → W.faults world.new ≡ W.faults world.old }
+    ensures answers { result ≤ 7 }
+{
+    conclude(alloc, words, world)
+}
