@@ -1,5 +1,5 @@
 -- A complete system of which the needed equations run.
-use Rattle.std.proofs.Common.{◌≡◌, ◌↔◌, ℕ, ◌<◌, ◌≤◌, ◌^◌, true, List, [], ◌∷◌, length, Some, get_or, refl, sym, ap, subst, ◌∙◌, arith}
+use Rattle.std.proofs.Common.{◌≡◌, ◌↔◌, ℕ, ◌<◌, ◌≤◌, ◌^◌, List, [], ◌∷◌, length, Some, get_or, sym, subst, arith}
 use Rattle.std.specs.Prelude.{IsTrue, slice_get}
 use Rattle.std.specs.List.{AllByRecursion, Contains}
 use Rattle.std.specs.List.Sorted.{IsStrictlyIncreasing}
@@ -11,12 +11,12 @@ use Rattle.flat_core.specs.declared.equation.Equation.{Equation}
 use Rattle.flat_core.specs.declared.equation.Output.{Output}
 use Rattle.flat_core.specs.Graph.{stay}
 use Rattle.flat_core.specs.Members.{is_in}
-use Rattle.flat_core.specs.System.{System, equation, runs, IsProper}
+use Rattle.flat_core.specs.System.{System, equation, IsProper}
 use Rattle.flat_core.specs.Typed.{IsTyped}
 use Rattle.flat_core.specs.TypedSystem.{AreOfTypes, IsTypedEquation, IsTypedSystem}
 use Rattle.flat_core.specs.Needed.{HasArgument, IsReached}
 use Rattle.flat_core.specs.Complete.{IsComplete, IsFlat}
-use Rattle.flat_core.specs.Marks.{ArgumentsThere, AreBelow}
+use Rattle.flat_core.specs.Marks.{ArgumentsThere}
 use Rattle.flat_core.proofs.Members.{all_from, all_at}
 use Rattle.flat_core.proofs.Walks.{walk_on, walk_keeps}
 

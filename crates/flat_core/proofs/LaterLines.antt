@@ -1,12 +1,12 @@
 -- Lines from a bound on leave what happens below it.
-use Rattle.std.proofs.Common.{◌≡◌, ◌==◌, ℕ, ◌<◌, ◌≤◌, false, ◌&&◌, ◌||◌, ◌↔◌, List, [], ◌∷◌, ◌++◌, Option, Some, None, Ok, refl, sym, ap, ◌∙◌, arith}
-use Rattle.std.specs.Prelude.{IsTrue, if◌then◌else◌, is_some}
+use Rattle.std.proofs.Common.{◌≡◌, ◌==◌, ℕ, ◌<◌, ◌≤◌, false, ◌&&◌, ◌||◌, List, [], ◌∷◌, ◌++◌, Option, Some, None, Ok, refl, sym, ap, ◌∙◌, arith}
+use Rattle.std.specs.Prelude.{if◌then◌else◌, is_some}
 use Rattle.std.specs.Option.{option_or, option_and_then}
 use Rattle.std.specs.List.{list_any}
 use Rattle.std.proofs.lemmas.Bool.{ne_eqb}
 use Rattle.std.proofs.lemmas.List.Folds.{list_any-append}
 use Rattle.std.proofs.Math.Bool.{or-false}
-use Rattle.tsl_value.specs.View.{View, Plain}
+use Rattle.tsl_value.specs.View.{Plain}
 use Rattle.tsl_value.specs.declared.scalar.Scalar.{Scalar}
 use Rattle.tsl_value.specs.declared.scalar.ValueType.{ValueType}
 use Rattle.flat_core.specs.declared.equation.Op.{Op}
@@ -15,8 +15,7 @@ use Rattle.flat_core.specs.declared.equation.Equation.{Equation}
 use Rattle.flat_core.specs.Stream.{Fault, has_event}
 use Rattle.flat_core.specs.Case.{Streams, Inputs, own_of, is_blocked, outcome_of, case_of, fault_of, root_of, root_fault}
 use Rattle.flat_core.specs.Line.{Line, event_in, inputs_of}
-use Rattle.flat_core.specs.System.{System, runs, equation}
-use Rattle.flat_core.specs.Solution.{Solves}
+use Rattle.flat_core.specs.System.{System, equation}
 use Rattle.flat_core.specs.Fault.{root_at}
 use Rattle.flat_core.specs.Instant.{is_delay, is_instant}
 use Rattle.flat_core.specs.BoundLaws.{AreFrom, LeavesEarlier}

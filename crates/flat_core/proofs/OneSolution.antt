@@ -1,10 +1,10 @@
 -- Two solutions of a system in dependency order are one list of streams.
-use Rattle.std.proofs.Common.{◌≡◌, ℕ, zero, suc, ◌<◌, ◌≤◌, true, false, List, [], ◌∷◌, length, refl, sym, ap, ◌∙◌, inl, inr, arith}
+use Rattle.std.proofs.Common.{◌≡◌, ℕ, zero, suc, ◌<◌, List, [], ◌∷◌, length, sym, ◌∙◌, inl, inr, arith}
 use Rattle.std.specs.Prelude.{IsTrue, slice_index_or}
 use Rattle.std.specs.List.{AllByRecursion}
 use Rattle.std.proofs.lemmas.Bool.{cases_Bool, cases_lt}
 use Rattle.std.proofs.lemmas.List.{same_lists, get_or_default}
-use Rattle.flat_core.specs.Stream.{Stream, IsBetween, at}
+use Rattle.flat_core.specs.Stream.{Stream, IsBetween}
 use Rattle.flat_core.specs.Case.{Inputs}
 use Rattle.flat_core.specs.System.{System, runs}
 use Rattle.flat_core.specs.Solution.{histories, IsSolution}

@@ -1,8 +1,8 @@
 -- At a time that is no instant nothing happens.
-use Rattle.std.proofs.Common.{◌≡◌, ◌==◌, ℕ, zero, suc, ◌<◌, ◌≤◌, Bool, true, false, ◌&&◌, ◌||◌, List, [], ◌∷◌, length, Option, Some, None, Ok, Err, refl, sym, ap, subst, ◌∙◌, inl, inr, arith}
-use Rattle.std.specs.Prelude.{if◌then◌else◌, is_some, IsTrue, IsFalse}
+use Rattle.std.proofs.Common.{◌≡◌, ℕ, zero, suc, ◌<◌, Bool, true, false, ◌&&◌, List, [], ◌∷◌, Some, None, Ok, Err, refl, sym, ap, subst, ◌∙◌, arith}
+use Rattle.std.specs.Prelude.{if◌then◌else◌, is_some, IsTrue}
 use Rattle.std.specs.Option.{option_and_then}
-use Rattle.std.specs.List.{AllByRecursion, list_any}
+use Rattle.std.specs.List.{AllByRecursion}
 use Rattle.std.proofs.lemmas.Bool.{or_parts, true≢false, false≢true}
 use Rattle.tsl_value.specs.declared.scalar.ValueType.{ValueType}
 use Rattle.lift_func.specs.Apply.{Answer}
@@ -13,11 +13,11 @@ use Rattle.flat_core.specs.Stream.{Fault, event, has_event}
 use Rattle.flat_core.specs.Case.{Streams, Inputs, unit, expires, delayed, own, used_of, fault_of, outcome_of, refused, is_blocked, amount_fault, root_of, root_fault}
 use Rattle.flat_core.specs.Fault.{root_at, is_faulty}
 use Rattle.flat_core.specs.Instant.{is_delay_op, is_delay, is_instant}
-use Rattle.flat_core.specs.Line.{Line, inputs_of, is_line_on}
+use Rattle.flat_core.specs.Line.{Line, inputs_of}
 use Rattle.flat_core.specs.System.{System, runs, equation, IsProper}
 use Rattle.flat_core.specs.Solution.{Solves}
 use Rattle.flat_core.specs.Typed.{IsTyped, delay, lift}
-use Rattle.flat_core.specs.TypedSystem.{AreOfTypes, IsTypedEquation, IsTypedSystem}
+use Rattle.flat_core.specs.TypedSystem.{AreOfTypes, IsTypedSystem}
 use Rattle.flat_core.specs.WellFormed.{IsRanked}
 use Rattle.flat_core.specs.BoundLaws.{HappensAtInstants}
 use Rattle.flat_core.proofs.DueLemmas.{delay_kept}

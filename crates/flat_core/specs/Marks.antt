@@ -1,5 +1,5 @@
 -- Marks of equations, as the search for those that the outputs need keeps them.
-use Rattle.std.specs.Prelude.{◌≡◌, ◌==◌, ℕ, ◌+◌, ◌<◌, Bool, false, not, ◌||◌, ◌&&◌, List, [], length, count_by, All, IsTrue, IsFalse, slice_index_or, Some, slice_get}
+use Rattle.std.specs.Prelude.{◌≡◌, ℕ, ◌+◌, ◌<◌, Bool, false, not, ◌||◌, ◌&&◌, List, length, count_by, All, IsTrue, IsFalse, slice_index_or, Some, slice_get}
 use Rattle.flat_core.specs.declared.equation.Equation.{Equation}
 use Rattle.flat_core.specs.declared.reach.Marks.{Marks}
 use Rattle.flat_core.specs.Graph.{Walk}

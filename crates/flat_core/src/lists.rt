@@ -64,16 +64,11 @@ impl Args {
         self.ids.as_slice()
     }
 
-    /// The allocator of a list that is too long to lie in line.
-    pub(crate) fn allocator(&self) -> Global {
-        *self.ids.allocator()
-    }
-
     /// Equal arguments.
     pub fn copy(&self) -> Result<Args, NoMemory>
         ensures { IfOk result (λ a. a ≡ self.now) }
     {
-        let ids = SmallVec::from_slice(self.allocator(), self.ids.as_slice())?;
+        let ids = SmallVec::from_slice(*self.ids.allocator(), self.ids.as_slice())?;
         Ok(Args { ids })
     }
 }
