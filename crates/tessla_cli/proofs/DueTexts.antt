@@ -1,5 +1,5 @@
 -- The text that is due, by other streams, other lines and another bound.
-use Rattle.std.proofs.Common.{◌≡◌, ℕ, zero, suc, ◌+◌, ◌-◌, ◌<◌, ◌≤◌, Bool, true, false, not, if◌then◌else◌, List, [], ◌∷◌, ◌++◌, length, take, refl, sym, ◌∙◌, ap, subst, arith, append_assoc, IsTrue}
+use Rattle.std.proofs.Common.{◌≡◌, ℕ, zero, suc, ◌<◌, ◌≤◌, Bool, true, false, not, if◌then◌else◌, List, [], ◌∷◌, ◌++◌, take, refl, sym, ◌∙◌, ap, subst, arith}
 use Rattle.std.specs.List.{AllByRecursion, filter, flat_map}
 use Rattle.std.proofs.lemmas.List.Concat.{flat_map-append}
 use Rattle.flat_core.specs.Case.{Streams}
@@ -10,7 +10,7 @@ use Rattle.flat_core.specs.Line.{Line, inputs_of}
 use Rattle.flat_core.specs.Stream.{event}
 use Rattle.flat_core.specs.System.{System}
 use Rattle.flat_core.specs.declared.equation.Output.{Output}
-use Rattle.flat_core.specs.Text.{event_line, text_at, due_instants, due_text}
+use Rattle.flat_core.specs.Text.{event_line, text_at, due_text}
 use Rattle.flat_core.proofs.SmallerBound.{instants_first}
 
 filter_append : (p : ℕ → Bool) (xs ys : List ℕ) → filter p (xs ++ ys) ≡ filter p xs ++ filter p ys

@@ -1,5 +1,5 @@
 -- The text that is due as more of the trace comes.
-use Rattle.std.proofs.Common.{◌≡◌, ◌++◌, ◌<◌, ◌≤◌, Bool, false, List, [], ℕ, refl, sym, ◌∙◌, ap, subst, arith, IsTrue, zero, suc, take, length, not, nat_lt, Option, Some, None, slice_get}
+use Rattle.std.proofs.Common.{◌≡◌, ◌++◌, ◌<◌, ◌≤◌, Bool, false, List, [], ℕ, refl, sym, ◌∙◌, ap, subst, arith, zero, suc, take, length, not, nat_lt, Some, None, slice_get}
 use Rattle.std.specs.List.{Contains, filter, flat_map}
 use Rattle.std.proofs.Math.Seq.{take-nil}
 use Rattle.std.proofs.lemmas.Bool.Decides.{nat_tests}
@@ -7,11 +7,11 @@ use Rattle.std.proofs.lemmas.Option.{slice_get_within}
 use Rattle.flat_core.specs.Ending.{EndsAtBound}
 use Rattle.flat_core.specs.Fault.{is_over}
 use Rattle.flat_core.specs.Instant.{instants}
-use Rattle.flat_core.specs.BoundLaws.{AreFrom, HappensAlike, OutputsAgree}
+use Rattle.flat_core.specs.BoundLaws.{AreFrom}
 use Rattle.flat_core.specs.Case.{Streams}
-use Rattle.flat_core.specs.Line.{Line, inputs_of, last_time}
+use Rattle.flat_core.specs.Line.{Line, inputs_of}
 use Rattle.flat_core.specs.Solution.{Solves}
-use Rattle.flat_core.specs.System.{System, runs}
+use Rattle.flat_core.specs.System.{System}
 use Rattle.flat_core.specs.Text.{text_at, due_text}
 use Rattle.flat_core.proofs.LaterLines.{leaves_earlier}
 use Rattle.flat_core.proofs.SameMeaning.{happens_alike, outputs_agree}
@@ -51,6 +51,7 @@ module _ (s : System) (lines : List Line) (z : Streams) (bound limit : ℕ) (zer
     where
       none_in : (t : ℕ) → Contains {X = ℕ} [] t → ⊥
       none_in t (k, lt, is) = absurd (omega arith)
+
       none_at : (n t : ℕ) → slice_get {X = ℕ} [] n ≡ Some t → ⊥
       none_at n t h = let lt : n < length {A = ℕ} [] = slice_get_within [] n t h in absurd (omega arith)
 
@@ -90,7 +91,7 @@ module _ (s : System) (o : Options) (ready : IsReady s) where
       let grows = due_grows s ms z low high o.instants le in
       let agrees = outputs_agree s low z z ready.proper (λ i run t lt. refl) ready.outputs_run in
       let same : due_text s ls z low o.instants ≡ due_text s ms z low o.instants =
-          due_alike s low o.instants ls (ls ++ stay.rest) z z (earlier.happens z) agrees ∙ ap (λ (l : List Line). due_text s l z low o.instants) (sym stay.is) in
+      due_alike s low o.instants ls (ls ++ stay.rest) z z (earlier.happens z) agrees ∙ ap (λ (l : List Line). due_text s l z low o.instants) (sym stay.is) in
       record {
         more = grows.0;
         due = subst (λ (l : List ℕ). IsDue s o (bytes ++ more) ended l) (grows.1 ∙ ap (λ (l : List ℕ). l ++ grows.0) (sym (due.is z first ∙ same))) (due_of (bytes ++ more) ended z zs);

@@ -1,5 +1,5 @@
 -- What the journal of a run shows, from its parts.
-use Rattle.std.proofs.Common.{◌≡◌, ◌⊎◌, inl, inr, ℕ, ◌≤◌, Bool, true, false, ◌||◌, List, [], ◌∷◌, ◌++◌, length, refl, sym, ◌∙◌, ap, subst, Some, None}
+use Rattle.std.proofs.Common.{◌≡◌, ◌⊎◌, inl, inr, ℕ, ◌≤◌, Bool, false, List, [], ◌∷◌, ◌++◌, length, refl, sym, ◌∙◌, ap, subst, Some}
 use Rattle.std.proofs.lemmas.List.{append-nil}
 use Rattle.flat_core.specs.System.{System}
 use Rattle.tsl_world.specs.Begins.{Begins}
@@ -9,18 +9,18 @@ use Rattle.tsl_world.specs.declared.outside.Slot.{Slot}
 use Rattle.tsl_world.specs.declared.outside.Slot.TheVariants.{Spec, Trace}
 use Rattle.tsl_world.specs.declared.outside.Channel.{Channel}
 use Rattle.tsl_world.specs.declared.outside.Channel.TheVariants.{Out, Err}
-use Rattle.tsl_world.specs.Journal.{given, taken, ended, opening, openings, creations, IsBeforeRead, AtReads, StopsAtEnd, IsNoRead, IsNoGift, IsTransfer, IsWithin, Each}
+use Rattle.tsl_world.specs.Journal.{given, taken, ended, opening, openings, creations, AtReads, StopsAtEnd, IsNoRead, IsNoGift, IsTransfer, IsWithin, Each}
 use Rattle.tsl_world.proofs.Journals.{openings-append, creations-append, Each-append, no_place, place}
-use Rattle.tsl_world.proofs.Parts.{taken_before, taken_behind, ended_before, ended_behind, given_behind, given_none, openings_none, creations_none}
+use Rattle.tsl_world.proofs.Parts.{taken_before, taken_behind, ended_behind, given_behind, given_none, openings_none, creations_none}
 use Rattle.tsl_world.proofs.Places.{at_none, at_no_read, at_join, at_more, at_behind, at_weaker}
 use Rattle.line_spec.specs.Reading.{SpellsSystem}
 use Rattle.tessla_cli.specs.declared.ending.Ending.{Ending}
 use Rattle.tessla_cli.specs.declared.options.Options.{Options}
-use Rattle.tessla_cli.specs.Conduct.{trace_name, HasWhole, source_limit, IsBeforeOpening, MakesNothing, ReadsSpecFirst, StopsAtLimit, ReadsPieces, OfRun, OpensAsAsked, IsDueAtReads, GoesOnAtReads, IsPartlyDue, options_of}
+use Rattle.tessla_cli.specs.Conduct.{trace_name, HasWhole, IsBeforeOpening, MakesNothing, ReadsSpecFirst, StopsAtLimit, ReadsPieces, OfRun, OpensAsAsked, IsDueAtReads, GoesOnAtReads, IsPartlyDue, options_of}
 use Rattle.tessla_cli.specs.Due.{IsDue}
 use Rattle.tessla_cli.specs.Ending.{GoesOn}
 use Rattle.tessla_cli.specs.Parts.{IsTake, IsTraceWork, EndsBy, MayRead, BeginsDue, Watched, WatchEnds, most_taken}
-use Rattle.tessla_cli.specs.Shape.{MayReadSpec, ReadsSpec, GivesSource, RunsSystem, idle, no_trace, watched, RunsSource, uncompiled, compiled, RunsSpec, unopened, no_spec, reading, whole, RunsWords, unasked, asked}
+use Rattle.tessla_cli.specs.Shape.{MayReadSpec, ReadsSpec, GivesSource, idle, no_trace, watched, uncompiled, compiled, RunsSpec, unopened, no_spec, reading, whole, RunsWords, unasked, asked}
 use Rattle.tessla_cli.specs.Words.{Run, command_of}
 
 -- What holds of each read of a slot holds of a part of such reads, and so for a part that reads the trace and writes output.

@@ -1,13 +1,11 @@
 -- What a monitor keeps, a piece of the trace at a time.
-use Rattle.std.proofs.Common.{◌≡◌, ◌⊎◌, inl, inr, ℕ, suc, ◌+◌, ◌<◌, ◌≤◌, Bool, true, false, not, ◌&&◌, if◌then◌else◌, List, [], ◌∷◌, ◌++◌, length, drop, refl, sym, ◌∙◌, ap, subst, arith, nat_eq, Option, Some, None, is_none, slice_get, ◌-◌, Result, Ok, Err, IsTrue, length-append}
-use Rattle.std.proofs.lemmas.List.{append-nil, drop_at}
-use Rattle.std.proofs.lemmas.Bool.Decides.{nat_tests}
+use Rattle.std.proofs.Common.{◌≡◌, ℕ, suc, ◌+◌, ◌≤◌, Bool, true, false, ◌&&◌, if◌then◌else◌, List, [], ◌∷◌, ◌++◌, length, drop, refl, sym, ◌∙◌, ap, subst, arith, Option, Some, None, is_none, slice_get, ◌-◌, Ok, Err, length-append}
+use Rattle.std.proofs.lemmas.List.{drop_at}
 use Rattle.lift_func.specs.declared.fault.FaultKind.{FaultKind}
-use Rattle.flat_core.specs.declared.equation.Equation.{Equation}
 use Rattle.flat_core.specs.Case.{Streams}
 use Rattle.flat_core.specs.Line.{Line, IsSorted, inputs_of, last_time}
 use Rattle.flat_core.specs.Solution.{Solves}
-use Rattle.flat_core.specs.System.{System, equation}
+use Rattle.flat_core.specs.System.{System}
 use Rattle.flat_core.specs.Text.{due_text}
 use Rattle.plain_solver.specs.declared.solve.End.{End}
 use Rattle.plain_solver.specs.declared.solve.End.TheVariants as end
@@ -16,20 +14,17 @@ use Rattle.trace_reader.specs.declared.fault.TraceFault.{TraceFault}
 use Rattle.trace_reader.specs.declared.fault.TraceFault.TheVariants as fault
 use Rattle.trace_reader.specs.declared.next.Rest.{Rest}
 use Rattle.trace_reader.specs.declared.next.Rest.TheVariants as rest
-use Rattle.trace_reader.specs.Closed.{closed_below}
 use Rattle.trace_reader.specs.Reader.{Reader, AwaitsMore}
 use Rattle.trace_reader.specs.Reading.{Reading, reading}
 use Rattle.trace_reader.specs.Reads.{Reads, Gathers, SaysRest, IfRestMore}
 use Rattle.trace_reader.proofs.LineLemmas.{reading_sorted}
-use Rattle.tessla_cli.specs.declared.ending.Ending.{Ending}
-use Rattle.tessla_cli.specs.declared.ending.Ending.TheVariants as ending
 use Rattle.tessla_cli.specs.declared.monitor.Monitor.{Monitor}
 use Rattle.tessla_cli.specs.declared.options.Options.{Options}
 use Rattle.tessla_cli.specs.Due.{IsDue, SolvesClosed, lines_in, refused_in, bound_in}
 use Rattle.flat_core.specs.Ending.{EndsInFault, EndsAtLimit, EndsAtBound}
-use Rattle.tessla_cli.specs.Ending.{IsQuiet, IsFaulted, IsLimited, GoesOn}
-use Rattle.tessla_cli.specs.Monitor.{Kept, Takes, Fed, IsTextOf, IsRefusal, bound_of, place_in, ending_by}
-use Rattle.tessla_cli.specs.Parts.{IsNext, EndsBy, is_nothing}
+use Rattle.tessla_cli.specs.Ending.{IsQuiet, IsFaulted}
+use Rattle.tessla_cli.specs.Monitor.{Kept, Takes, IsTextOf, IsRefusal, bound_of, place_in, ending_by}
+use Rattle.tessla_cli.specs.Parts.{IsNext, is_nothing}
 use Rattle.tessla_cli.specs.Ready.{IsReady}
 use Rattle.tessla_cli.proofs.Dues.{due_of, due_more, none_read, none_due, none_closed}
 use Rattle.tessla_cli.proofs.Watching.{not_zero}
@@ -142,10 +137,13 @@ module _ (s : System) (o : Options) where
       next_by (end.Limit t) is why whys e es = (refl, λ z zs. on_closed (λ ls n. EndsAtLimit s ls z n o.instants t) (((ends z (closed_solves z zs)).at_limit t).0 is))
       next_by end.Bound is (Some f) whys e es = (sym t.refused_is ∙ whys, quiet is)
       next_by end.Bound is None whys true es = (es, sym t.refused_is ∙ whys, quiet is)
-      next_by end.Bound is None whys false es = (es, record {
-        accepted = ap (λ (b : Bool). refused_in s o bytes b) (sym es) ∙ sym t.refused_is ∙ whys;
-        quiet = subst (λ (b : Bool). IsQuiet s o bytes b) es (quiet is);
-      })
+      next_by end.Bound is None whys false es = (
+        es,
+        record {
+          accepted = ap (λ (b : Bool). refused_in s o bytes b) (sym es) ∙ sym t.refused_is ∙ whys;
+          quiet = subst (λ (b : Bool). IsQuiet s o bytes b) es (quiet is);
+        },
+      )
 
       pub next_of : IsNext s o bytes ended (ending_by s by ended refused o.instants)
       next_of = next_by by refl refused refl ended refl
@@ -153,7 +151,7 @@ module _ (s : System) (o : Options) where
     pub next_of_so : (e : Bool) → e ≡ ended → IsReady s → (by : End) → EndsSo s m.lines.items (bound_of m.lines.items (e && is_none refused)) o.instants by → IsNext s o bytes ended (ending_by s by e refused o.instants)
     next_of_so e is ready by ends =
         subst (λ (b : Bool). IsNext s o bytes ended (ending_by s by b refused o.instants)) (sym is)
-            (next_of ready by (subst (λ (b : Bool). EndsSo s m.lines.items (bound_of m.lines.items (b && is_none refused)) o.instants by) is ends))
+        (next_of ready by (subst (λ (b : Bool). EndsSo s m.lines.items (bound_of m.lines.items (b && is_none refused)) o.instants by) is ends))
 
   -- the text that is due so far begins that of more, so what was given out is no longer than it
   pub written_fits : IsReady s → (old : Monitor) (fed piece : List ℕ) (ended : Bool) (text : List ℕ) → Kept s o old fed → IsDue s o (fed ++ piece) ended text → old.written ≤ length text

@@ -1,9 +1,7 @@
 -- Systems in the order of their lines can be run.
-use Rattle.std.proofs.Common.{◌≡◌, ℕ, ◌<◌, arith, IsTrue}
-use Rattle.flat_core.specs.Case.{Streams, Inputs}
+use Rattle.std.proofs.Common.{arith}
 use Rattle.flat_core.specs.Complete.{IsFlat}
-use Rattle.flat_core.specs.Solution.{Solves}
-use Rattle.flat_core.specs.System.{System, runs}
+use Rattle.flat_core.specs.System.{System}
 use Rattle.flat_core.specs.WellFormed.{IsRanked}
 use Rattle.flat_core.proofs.Uniqueness.{agree_before}
 use Rattle.flat_core.proofs.WellFormedOrder.{ranked_solution}

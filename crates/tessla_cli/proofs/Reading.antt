@@ -5,7 +5,7 @@ use Rattle.std.proofs.lemmas.List.{append-nil}
 use Rattle.tsl_world.specs.declared.outside.Did.{Did}
 use Rattle.tsl_world.specs.declared.outside.Did.TheVariants.{Took}
 use Rattle.tsl_world.specs.declared.outside.Slot.TheVariants.{Spec}
-use Rattle.tsl_world.specs.Journal.{taken, ended, Each}
+use Rattle.tsl_world.specs.Journal.{taken, ended}
 use Rattle.tsl_world.specs.Runs.{Runs}
 use Rattle.tsl_world.specs.Standing.{Standing}
 use Rattle.tsl_world.proofs.Runs.{go_on, called}

@@ -1,29 +1,29 @@
 -- What a run shows and how it ends, behind the line that tells it.
-use Rattle.std.proofs.Common.{◌≡◌, ◌⊎◌, inl, inr, ℕ, ◌<◌, ◌≤◌, Bool, true, false, List, [], ◌∷◌, ◌++◌, length, refl, sym, ◌∙◌, ap, subst, arith, Some, None}
+use Rattle.std.proofs.Common.{◌≡◌, ◌⊎◌, inl, inr, ℕ, ◌<◌, ◌≤◌, Bool, List, [], ◌∷◌, ◌++◌, length, refl, sym, ◌∙◌, ap, subst, arith, Some}
 use Rattle.flat_core.specs.System.{System}
 use Rattle.line_spec.specs.Reading.{SpellsSystem, IsRefused}
 use Rattle.tsl_world.specs.Begins.{Begins}
 use Rattle.tsl_world.specs.World.{Rose}
 use Rattle.tsl_world.specs.declared.outside.Did.{Did}
-use Rattle.tsl_world.specs.declared.outside.Did.TheVariants.{Opened, NotOpened}
+use Rattle.tsl_world.specs.declared.outside.Did.TheVariants.{Opened}
 use Rattle.tsl_world.specs.declared.outside.Slot.{Slot}
 use Rattle.tsl_world.specs.declared.outside.Slot.TheVariants.{Spec, Trace}
 use Rattle.tsl_world.specs.declared.outside.Channel.TheVariants.{Out, Err}
-use Rattle.tsl_world.specs.Journal.{given, taken, ended, openings, IsBeforeRead, IsNoRead, IsNoGift, IsTransfer, IsGift, Each}
+use Rattle.tsl_world.specs.Journal.{given, taken, ended, openings, IsNoRead, IsNoGift, IsTransfer, IsGift, Each}
 use Rattle.tsl_world.proofs.Journals.{given-append, place, Each-append}
-use Rattle.tsl_world.proofs.Parts.{gifts_read_none, gifts_transfer, gifts_within, gifts_elsewhere, taken_before, ended_before, given_before, given_behind, given_none, openings_before, creations_before, openings_none}
+use Rattle.tsl_world.proofs.Parts.{gifts_read_none, gifts_transfer, gifts_within, gifts_elsewhere, taken_before, ended_before, given_before, given_none, openings_before, creations_before, openings_none}
 use Rattle.tsl_world.proofs.Places.{at_more}
 use Rattle.tessla_cli.specs.declared.ending.Ending.{Ending}
 use Rattle.tessla_cli.specs.declared.ending.Ending.TheVariants as ending
 use Rattle.tessla_cli.specs.declared.ending.Broken.{Broken}
 use Rattle.tessla_cli.specs.declared.ending.Broken.TheVariants as broken
 use Rattle.tessla_cli.specs.declared.options.Options.{Options}
-use Rattle.tessla_cli.specs.Conduct.{HasWhole, IsBeforeOpening, OfRun, EndsRun, SpecRefused, WordsRefused, IsPartlyDue, RunEnds, options_of, trace_name, source_limit}
+use Rattle.tessla_cli.specs.Conduct.{HasWhole, IsBeforeOpening, OfRun, EndsRun, SpecRefused, IsPartlyDue, RunEnds, options_of, trace_name, source_limit}
 use Rattle.tessla_cli.specs.Due.{IsDue}
 use Rattle.tessla_cli.specs.Messages.{ending_line, broken_line, broken_status, status_of}
-use Rattle.tessla_cli.specs.Outcome.{Ends, TellsSome, cut_short, unfinished, Outcome, told, outside, memory, ShowsAlways, Concludes, Tells, TellsBroken, all_of_broken, some_of_broken, TellsEnding, all_of_ending, some_of_ending, no_line}
-use Rattle.tessla_cli.specs.Parts.{BeginsDue, WatchEnds, EndsBy, Gives}
-use Rattle.tessla_cli.specs.Shape.{ReadsSpec, GivesSource, SystemEnds, ends, SourceEnds, spec_refused, compiled_ends, SpecEnds, whole_ends, WordsEnd, words_refused, asked_ends}
+use Rattle.tessla_cli.specs.Outcome.{TellsSome, cut_short, unfinished, Outcome, told, outside, memory, ShowsAlways, Concludes, Tells, TellsBroken, all_of_broken, some_of_broken, TellsEnding, all_of_ending, some_of_ending, no_line}
+use Rattle.tessla_cli.specs.Parts.{BeginsDue, WatchEnds, EndsBy}
+use Rattle.tessla_cli.specs.Shape.{ReadsSpec, GivesSource, ends, SourceEnds, spec_refused, compiled_ends, whole_ends, WordsEnd, words_refused, asked_ends}
 use Rattle.tessla_cli.specs.Words.{Run, command_of}
 use Rattle.tessla_cli.proofs.Facts.{Shows, no_opening_in, spelled_behind, ends_behind, each_take, each_work}
 use Rattle.tsl_value.specs.declared.place.Place.{Place}

@@ -23,7 +23,7 @@ use Rattle.tsl_world.specs.Begins.{Begins}
 use Rattle.tessla_cli.specs.Ending.{GoesOn}
 use Rattle.tessla_cli.specs.Parts.{Gives, most_taken, IsTraceWork, EndsBy, MayRead, Watched, WatchEnds, is_nothing}
 use Rattle.tessla_cli.specs.Ready.{IsReady}
-use Rattle.tessla_cli.proofs.Dues.{Adds, due_more}
+use Rattle.tessla_cli.proofs.Dues.{due_more}
 
 is_out : (at : Channel) → same_channel at Out ≡ true → at ≡ Out
 is_out channel.Out same = refl

@@ -1,5 +1,5 @@
 -- What the program does to the outside, as the journal of its calls has it.
-use Rattle.std.specs.Prelude.{◌≡◌, ◌⊎◌, ℕ, ◌<◌, ◌≤◌, Bool, true, false, List, [], ◌∷◌, ◌++◌, length, Option, Some, None, codes}
+use Rattle.std.specs.Prelude.{◌≡◌, ◌⊎◌, ℕ, ◌<◌, ◌≤◌, true, false, List, [], ◌∷◌, ◌++◌, length, Some, None, codes}
 use Rattle.flat_core.specs.System.{System}
 use Rattle.tsl_value.specs.declared.place.Place.{Place}
 use Rattle.tsl_world.specs.declared.outside.Did.{Did}

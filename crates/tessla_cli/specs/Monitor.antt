@@ -1,5 +1,5 @@
 -- What a monitor keeps of the trace.
-use Rattle.std.specs.Prelude.{◌≡◌, ◌++◌, ℕ, ◌+◌, ◌<◌, Bool, true, false, if◌then◌else◌, List, length, Option, Some, None, slice_get}
+use Rattle.std.specs.Prelude.{◌≡◌, ℕ, ◌+◌, ◌<◌, Bool, true, false, if◌then◌else◌, List, length, Option, Some, None}
 use Rattle.flat_core.specs.declared.equation.Equation.{Equation}
 use Rattle.flat_core.specs.Case.{Streams}
 use Rattle.flat_core.specs.Line.{Line, inputs_of, last_time}
@@ -19,7 +19,6 @@ use Rattle.tessla_cli.specs.declared.ending.Ending.TheVariants as ending
 use Rattle.tessla_cli.specs.declared.monitor.Monitor.{Monitor}
 use Rattle.tessla_cli.specs.declared.options.Options.{Options}
 use Rattle.tessla_cli.specs.Due.{IsDue, lines_in, refused_in}
-use Rattle.tessla_cli.specs.Parts.{is_nothing}
 
 -- The monitor stands for these bytes of the trace: its lines are those of the bytes, none is refused, and what is due of them was given out.
 pub record Kept (s : System) (o : Options) (m : Monitor) (fed : List ℕ) : Type 0 where

@@ -1,5 +1,5 @@
 -- What single functions do to the outside.
-use Rattle.std.specs.Prelude.{◌≡◌, ◌⊎◌, ℕ, ◌<◌, ◌≤◌, Bool, true, false, List, [], ◌∷◌, ◌++◌, length, Result, Option, None, Some, OnOk, nat_eq}
+use Rattle.std.specs.Prelude.{◌≡◌, ℕ, ◌≤◌, Bool, true, false, List, length, Result, Option, None, Some, OnOk, nat_eq}
 use Rattle.flat_core.specs.System.{System, equation}
 use Rattle.flat_core.specs.declared.equation.Equation.{Equation}
 use Rattle.tsl_value.specs.declared.place.Place.{Place}
@@ -7,7 +7,7 @@ use Rattle.tsl_world.specs.declared.outside.Channel.{Channel}
 use Rattle.tsl_world.specs.declared.outside.Did.{Did}
 use Rattle.tsl_world.specs.declared.outside.Did.TheVariants.{Took, Gave}
 use Rattle.tsl_world.specs.declared.outside.Slot.{Slot}
-use Rattle.tsl_world.specs.declared.outside.Slot.TheVariants.{Spec, Trace}
+use Rattle.tsl_world.specs.declared.outside.Slot.TheVariants.{Trace}
 use Rattle.tsl_world.specs.declared.outside.Channel.TheVariants.{Out}
 use Rattle.tsl_world.specs.Journal.{given, taken, ended, AtReads, IsGift, Each}
 use Rattle.tessla_cli.specs.declared.options.Options.{Options}

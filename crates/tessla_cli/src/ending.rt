@@ -26,7 +26,10 @@ pub enum Ending {
         place: Place,
     },
     /// As many instants ran as may, and the next one comes at this time.
-    Limit { count: u64, time: Time },
+    Limit {
+        count: u64,
+        time: Time,
+    },
 }
 
 /// What cut a run short.

@@ -87,7 +87,11 @@ fn refusal(fault: TraceFault) -> Result<TraceFault, NoMemory>
 {
     match fault {
         TraceFault::BadLine { line } => Ok(TraceFault::BadLine { line }),
-        TraceFault::TimeBack { line, before, now } => Ok(TraceFault::TimeBack { line, before, now }),
+        TraceFault::TimeBack { line, before, now } => Ok(TraceFault::TimeBack {
+            line,
+            before,
+            now,
+        }),
         TraceFault::TraceTooLong { line } => Ok(TraceFault::TraceTooLong { line }),
         TraceFault::Memory => Err(NoMemory),
     }
@@ -133,7 +137,12 @@ impl<'f> Monitor<'f> {
     }
 
     /// Takes a piece of the trace, or its end: all lines that stand then, and perhaps the one that is refused.
-    fn take(&mut self, flat: &Flat, options: Options, piece: &[u8]) -> Result<Option<TraceFault>, NoMemory>
+    fn take(
+        &mut self,
+        flat: &Flat,
+        options: Options,
+        piece: &[u8],
+    ) -> Result<Option<TraceFault>, NoMemory>
         requires kept { (fed : List ℕ) × Kept flat.now options self.old fed }
         requires short { length piece.now ≤ most_taken }
         ensures takes { IfOk result (λ refused. (fed : List ℕ) → Kept flat.now options self.old fed → Takes flat.now options self.new (fed ++ piece.now) (is_nothing piece.now) refused) }
@@ -190,7 +199,13 @@ impl<'f> Monitor<'f> {
             → IsNext flat.now options (fed ++ piece.now) (is_nothing piece.now) turn.ending) }
     {
         let refused = self.take(flat, options, piece)?;
-        let Turn { text, ending } = self.solve_all(alloc, flat, options, piece.is_empty(), refused)?;
+        let Turn { text, ending } = self.solve_all(
+            alloc,
+            flat,
+            options,
+            piece.is_empty(),
+            refused,
+        )?;
         let more = behind(alloc, &text, self.written)?;
         self.written = text.len();
         Ok(Turn { text: more, ending })

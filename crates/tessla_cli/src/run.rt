@@ -11,9 +11,9 @@ ghost use Rattle.tessla_cli.specs.Shape.{RunsSystem, SystemEnds, RunsSource, Sou
 
 use crate::compile::{SpecFault, compile};
 use crate::ending::{Broken, Ending};
+use crate::monitor::Monitor;
 use crate::options::Options;
 use crate::source::read_source;
-use crate::monitor::Monitor;
 use crate::watch::watch;
 use crate::words::Words;
 use flat_core::flat::Flat;

@@ -16,11 +16,7 @@ use tsl_world::{Slot, World};
 const SOURCE_LIMIT: usize = 1_048_576;
 
 /// Reads the specification to its end, or until it has more bytes than it may.
-pub fn read_source<W: World>(
-    alloc: Global,
-    world: &mut W,
-    buf: &mut [u8],
-) -> Result<Bytes, Broken>
+pub fn read_source<W: World>(alloc: Global, world: &mut W, buf: &mut [u8]) -> Result<Bytes, Broken>
     requires room { 0 < length buf.old }
     requires short { length buf.old ≤ most_taken }
     requires stands { is_open (W.standing world.old) Slot.Spec ≡ true }

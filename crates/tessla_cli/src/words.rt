@@ -79,10 +79,12 @@ impl Words {
         ensures { option_map run_asked result ≡ command_of self.now }
     {
         match self.words.as_slice() {
-            [command, name] if command.as_str() == "run" && is_plain(name.as_str()) => Some(Asked {
-                spec: name.as_str(),
-                instants: MOST_INSTANTS,
-            }),
+            [command, name] if command.as_str() == "run" && is_plain(name.as_str()) => Some(
+                Asked {
+                    spec: name.as_str(),
+                    instants: MOST_INSTANTS,
+                },
+            ),
             _ => None,
         }
     }

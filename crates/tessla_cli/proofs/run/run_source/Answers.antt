@@ -1,6 +1,6 @@
 use Rattle.std.proofs.Common.{refl}
 use Rattle.tessla_cli.specs.declared.ending.Ending.TheVariants.{Spec}
-use Rattle.tessla_cli.specs.Shape.{RunsSystem, SystemEnds, RunsSource, SourceEnds, uncompiled, compiled, spec_refused, compiled_ends}
+use Rattle.tessla_cli.specs.Shape.{RunsSystem, SystemEnds, RunsSource, SourceEnds, compiled, spec_refused, compiled_ends}
 use Rattle.tsl_world.proofs.Runs.{grows_none, grows_weaker}
 use Rattle.tessla_cli.proofs.run.run_source.Goals as goal
 

@@ -1,5 +1,4 @@
-use Rattle.std.proofs.Common.{List, ◌++◌, ◌∷◌}
-use Rattle.tsl_world.specs.declared.outside.Did.{Did}
+use Rattle.std.proofs.Common.{◌∷◌}
 use Rattle.tsl_world.specs.declared.outside.Did.TheVariants.{Opened, NotOpened}
 use Rattle.tsl_world.specs.declared.outside.Slot.TheVariants.{Spec}
 use Rattle.tessla_cli.specs.Shape.{ReadsSpec, GivesSource, RunsSource, SourceEnds, RunsSpec, SpecEnds, no_spec, reading, whole, whole_ends}

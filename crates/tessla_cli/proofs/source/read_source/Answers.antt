@@ -1,5 +1,4 @@
-use Rattle.std.proofs.Common.{◌≡◌, ◌≤◌, take, length, true, false, refl, sym, subst, rules, List, ℕ, ◌++◌, [], ◌∷◌}
-use Rattle.tsl_world.specs.declared.outside.Did.{Did}
+use Rattle.std.proofs.Common.{◌≡◌, ◌≤◌, take, length, true, false, refl, sym, subst, rules, List, ℕ, ◌++◌, []}
 use Rattle.tsl_world.specs.Runs.{Runs}
 use Rattle.tsl_world.proofs.Parts.{read_within}
 use Rattle.tsl_world.proofs.Runs.{none}

@@ -1,8 +1,6 @@
-use Rattle.std.proofs.Common.{inl, inr, ⊎_elim, sym, ◌∙◌, ap, arith, ◌++◌, List, Err}
-use Rattle.tsl_world.specs.declared.outside.Did.{Did}
+use Rattle.std.proofs.Common.{ap, Err}
 use Rattle.tessla_cli.specs.declared.ending.Broken.{Broken}
 use Rattle.tsl_world.proofs.Runs.{grows_on, grows_run}
-use Rattle.tessla_cli.specs.Conduct.{RunEnds}
 use Rattle.tessla_cli.specs.Outcome.{Concludes, TellsBroken, TellsEnding}
 use Rattle.tessla_cli.specs.Shape.{RunsWords, WordsEnd}
 use Rattle.tessla_cli.proofs.Facts.{shows_run}

@@ -1,9 +1,6 @@
-use Rattle.std.proofs.Common.{◌≡◌, ◌≤◌, ◌++◌, List, [], ◌∷◌, take, length, false, true, refl, sym, ◌∙◌, subst, rules, Bool, Option, ℕ}
-use Rattle.tsl_world.specs.declared.outside.Did.{Did}
-use Rattle.tsl_world.specs.declared.outside.Did.TheVariants.{Took}
-use Rattle.tsl_world.specs.declared.outside.Slot.TheVariants.{Trace}
+use Rattle.std.proofs.Common.{◌≤◌, ◌++◌, [], take, length, false, refl, ◌∙◌, subst, rules, Bool, Option}
 use Rattle.tsl_world.proofs.Parts.{read_within}
-use Rattle.tsl_world.proofs.Runs.{none, go_on, weaker, called}
+use Rattle.tsl_world.proofs.Runs.{none, go_on, weaker}
 use Rattle.tessla_cli.specs.Due.{IsDue}
 use Rattle.tessla_cli.specs.Parts.{Watched, WatchEnds, EndsBy, IsNext, most_taken, is_nothing}
 use Rattle.tessla_cli.specs.declared.ending.Ending.{Ending}

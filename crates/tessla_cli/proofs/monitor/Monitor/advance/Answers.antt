@@ -1,4 +1,4 @@
-use Rattle.std.proofs.Common.{◌≡◌, ◌≤◌, ◌++◌, drop, length, refl, sym, ◌∙◌, ap, subst, rules, List, ℕ, Option, None}
+use Rattle.std.proofs.Common.{◌≤◌, ◌++◌, drop, length, sym, ◌∙◌, ap, subst, List, ℕ, Option}
 use Rattle.tessla_cli.specs.declared.ending.Ending.{Ending}
 use Rattle.tessla_cli.specs.declared.monitor.Monitor.{Monitor}
 use Rattle.tessla_cli.specs.Due.{IsDue}

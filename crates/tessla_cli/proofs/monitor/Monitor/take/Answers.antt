@@ -1,4 +1,3 @@
-use Rattle.tessla_cli.specs.declared.monitor.Monitor.{Monitor}
 use Rattle.tessla_cli.specs.Parts.{is_nothing}
 use Rattle.std.proofs.Common.{◌++◌}
 use Rattle.tessla_cli.proofs.Monitoring.{takes_all, takes_refused}
@@ -23,4 +22,4 @@ returns-in_ok-refusal-in-Err-clause-takes c = λ fed kept.
     let f = c.in_ok-feed.ensures.fed fed kept in
     let given = c.args.self.now.lines.items in
     takes_refused s o _ bytes ended given _ f.lines_are c.in_ok-refusal-in-Err.field-0 c.in-Err.fault c.in_ok-refusal-in-Err.ensures.same c.in_ok-refusal-in-Err.ensures.refused
-        (c.in-Err.ensures.gathers s o.bytes bytes given ended f.reads)
+    (c.in-Err.ensures.gathers s o.bytes bytes given ended f.reads)
