@@ -7,3 +7,4 @@ pub mod Facts
 pub mod Told
 pub mod Readiness
 pub mod Monitoring
+pub mod Exact

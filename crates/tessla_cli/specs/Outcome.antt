@@ -1,5 +1,5 @@
 -- What stands for each status of the program.
-use Rattle.std.specs.Prelude.{◌≡◌, ℕ, List}
+use Rattle.std.specs.Prelude.{◌≡◌, ◌⊎◌, ℕ, List}
 use Rattle.lift_func.specs.declared.fault.FaultKind.{FaultKind}
 use Rattle.trace_reader.specs.declared.fault.TraceFault.{TraceFault}
 use Rattle.tsl_value.specs.declared.place.Place.{Place}
@@ -69,6 +69,10 @@ module _ (words : List (List ℕ)) where
     told : (by : Ending) → status ≡ status_of by → Ends by part → Outcome status part
     outside : status ≡ 5 → TellsSome part → Outcome status part
     memory : status ≡ 6 → Tells (broken_line broken.Memory) part → Outcome status part
+
+  -- Exactly where: where an ending has its cause, the status is its own, unless the outside failed or memory was wanting.
+  abbrev pub IsExact : ℕ → List Did → Type 0
+  IsExact status part = (by : Ending) → RunEnds words by part → (status ≡ status_of by) ⊎ (status ≡ 5) ⊎ (status ≡ 6)
 
   -- what every run shows, whatever its status
   pub record ShowsAlways (part : List Did) : Type 0 where

@@ -8,7 +8,7 @@ ghost use Rattle.tsl_world.specs.World.{Rose};
 ghost use Rattle.tsl_world.specs.declared.outside.Did.{Did};
 ghost use Rattle.tessla_cli.specs.Conduct.{OpensAsAsked, MakesNothing, ReadsSpecFirst, StopsAtLimit, ReadsPieces, IsDueAtReads, GoesOnAtReads, IsPartlyDue};
 ghost use Rattle.tessla_cli.specs.Messages.{broken_line};
-ghost use Rattle.tessla_cli.specs.Outcome.{Concludes, Ends, Faulted, Limited, LineRefused, Refused, Tells, TellsSome};
+ghost use Rattle.tessla_cli.specs.Outcome.{Concludes, Ends, Faulted, Limited, IsExact, LineRefused, Refused, Tells, TellsSome};
 ghost use Rattle.tessla_cli.specs.Words.{command_of};
 
 use crate::ending::{Broken, Ending};
@@ -70,6 +70,7 @@ pub fn tessla<W: World>(alloc: Global, words: &Words, world: &mut W) -> u8
     ensures memory { result ≡ 6 → Grows W.told W.journal world.old world.new (Tells (broken_line Broken.Memory)) }
     ensures limited { result ≡ 7 → Grows W.told W.journal world.old world.new (Limited words.now) }
     ensures calm { (result ≡ 5 → ⊥) → W.faults world.new ≡ W.faults world.old }
+    ensures exact { Grows W.told W.journal world.old world.new (IsExact words.now result) }
     ensures answers { result ≤ 7 }
 {
     conclude(alloc, words, world)

@@ -1,8 +1,13 @@
 use Rattle.tsl_world.proofs.Runs.{grows_weaker}
-use Rattle.tessla_cli.specs.Outcome.{Concludes, TellsSome}
+use Rattle.tessla_cli.specs.Outcome.{Concludes, IsExact, TellsSome}
+use Rattle.tessla_cli.proofs.Exact.{exact}
 use Rattle.tessla_cli.proofs.Told.{tells_some}
 use Rattle.tessla_cli.proofs.top.tessla.Goals as goal
 
 pub returns-clause-failed_told : goal.returns-clause-failed_told
 returns-clause-failed_told g c = λ five.
     grows_weaker g.W.World.told g.W.World.journal c.args.world.now c.conclude.new.world (Concludes c.args.words.now c.conclude.result) (TellsSome c.args.words.now) c.conclude.ensures.calls (λ p. tells_some c.args.words.now c.conclude.result p five)
+
+pub returns-clause-exact : goal.returns-clause-exact
+returns-clause-exact g c =
+    grows_weaker g.W.World.told g.W.World.journal c.args.world.now c.conclude.new.world (Concludes c.args.words.now c.conclude.result) (IsExact c.args.words.now c.conclude.result) c.conclude.ensures.calls (λ p. exact c.args.words.now p c.conclude.result)
