@@ -12,3 +12,4 @@ pub mod HistoryLemmas
 pub mod UnreadLemmas
 pub mod GatherLemmas
 pub mod GatherAll
+pub mod TestSystem

@@ -1,6 +1,6 @@
 // The reader, on small traces.
 
-ghost use Rattle.std.specs.Prelude.{◌≡◌, ◌≤◌, ◌^◌, ℕ, List, [], ◌++◌, false, true, length, OnOk};
+ghost use Rattle.std.specs.Prelude.{◌≡◌, ◌≤◌, ◌^◌, ℕ, List, [], ◌++◌, false, true, length, IfOk, OnOk};
 ghost use Rattle.flat_core.specs.System.{System};
 ghost use Rattle.trace_reader.specs.Reader.{AwaitsMore};
 ghost use Rattle.trace_reader.specs.Reading.{reading};
@@ -9,35 +9,47 @@ ghost use Rattle.trace_reader.specs.Reads.{IfRestMore, Reads, SaysRest};
 use crate::fault::TraceFault;
 use crate::next::{Next, Rest};
 use crate::reader::TraceReader;
-use flat_core::equation::{Equation, Op};
+use flat_core::builder::FlatBuilder;
+use flat_core::equation::{Equation, Op, Output};
 use flat_core::flat::Flat;
 use flat_core::line::TraceLine;
 use flat_core::lists::Args;
 use std::alloc::Global;
 use std::test::Fail;
+use tsl_value::ids::EqId;
 use tsl_value::memory::NoMemory;
 use tsl_value::place::Place;
 use tsl_value::scalar::{Scalar, ScalarType, ValueType};
 use tsl_value::text::Text;
 
-fn input(alloc: Global, name: &str) -> Result<Equation, NoMemory> {
+fn input(alloc: Global, name: &str, of: ScalarType) -> Result<Equation, NoMemory>
+    ensures op { IfOk result (λ e. e.op ≡ Op.Input) }
+    ensures args { IfOk result (λ e. e.args ≡ []) }
+    ensures of { IfOk result (λ e. e.of ≡ ValueType.Scalar of) }
+{
+    let name = Text::from_str(alloc, name)?;
     Ok(Equation {
         op: Op::Input,
-        args: Args::of(Vec::new(alloc)),
-        of: ValueType::Scalar(ScalarType::Int),
+        args: Args::new(alloc),
+        of: ValueType::Scalar(of),
         place: Place { line: 1, column: 1 },
-        name: Some(Text::from_str(alloc, name)?),
+        name: Some(name),
     })
 }
 
+/// The inputs `i` and `j`, of which the first is printed.
 fn two_inputs(alloc: Global) -> Result<Flat, NoMemory> {
-    let mut equations = Vec::new(alloc);
-    equations.push(input(alloc, "i")?)?;
-    equations.push(input(alloc, "j")?)?;
-    match Flat::all_running(alloc, equations, Vec::new(alloc))? {
-        Some(flat) => Ok(flat),
-        None => Err(NoMemory),
-    }
+    let mut builder = FlatBuilder::new(alloc);
+    let i = input(alloc, "i", ScalarType::Int)?;
+    let j = input(alloc, "j", ScalarType::Int)?;
+    builder.add(i)?;
+    builder.add(j)?;
+    let name = Text::from_str(alloc, "i")?;
+    builder.add_output(Output {
+        name,
+        equation: EqId::new(0),
+    })?;
+    builder.finish()
 }
 
 /// Feeds a piece, and gathers the lines that it ends.
