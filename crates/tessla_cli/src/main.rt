@@ -5,6 +5,8 @@
 
 mod compile;
 mod ending;
+#[cfg(test)]
+mod further_tests;
 mod monitor;
 mod options;
 mod report;

@@ -13,9 +13,9 @@ use tsl_world::{Calls, Files, MemoryWorld, NamedFile};
 
 /// What a run left.
 #[derive(Drop)]
-struct Left {
-    status: u8,
-    world: MemoryWorld,
+pub(crate) struct Left {
+    pub(crate) status: u8,
+    pub(crate) world: MemoryWorld,
 }
 
 const PREVIOUS: &str = "in i: Events[Int]\ndef p := last(i, i)\nout p\n";
@@ -44,8 +44,8 @@ fn files(alloc: Global, spec: &str, trace: &str) -> Result<Files, NoMemory> {
     Ok(files)
 }
 
-/// The first of `fails`, if any, fails.
-fn run(
+/// The calls with the numbers in `fails` fail.
+pub(crate) fn run(
     alloc: Global,
     list: &[&str],
     spec: &str,
@@ -141,7 +141,7 @@ fn a_line_that_is_not_built(rt: HostRuntime) -> Result<(), Fail> {
     let left = run(
         rt.alloc(),
         &["run", "s.tsl"],
-        "in i: Events[Int]\ndef p := i + 1\nout p\n",
+        "in i: Events[Int]\ndef p := i + i\nout p\n",
         "1: i = 4\n",
         64,
         &[],

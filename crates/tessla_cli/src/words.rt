@@ -1,7 +1,10 @@
 // The words behind the program's name.
 
 ghost use Rattle.std.specs.Prelude.{◌≡◌, [], ◌∷◌, ◌++◌, length, OnOk, OnErr, slice_get, option_map};
-ghost use Rattle.tessla_cli.specs.Words.{command_of, is_plain, run_asked};
+ghost use Rattle.std.specs.List.{list_all};
+ghost use Rattle.std.specs.Char.{is_ascii_digit};
+ghost use Rattle.tsl_value.specs.Literal.{are_digits};
+ghost use Rattle.tessla_cli.specs.Words.{apart, command_of, count_of, is_plain, joined, named_run, run_asked, run_of};
 
 use std::alloc::Global;
 use std::marker::Model;
@@ -73,18 +76,91 @@ fn is_plain(word: &str) -> bool
     word == "-" || (!word.is_empty() && !word.starts_with('-'))
 }
 
+fn are_digits(word: &str) -> bool
+    ensures { result ≡ are_digits word.now }
+{
+    !word.is_empty() && all_are_digits(word.as_bytes())
+}
+
+fn all_are_digits(bytes: &[u8]) -> bool
+    ensures { result ≡ list_all is_ascii_digit bytes.now }
+{
+    bytes.iter().all(|byte| byte.is_ascii_digit())
+}
+
+/// A number of instants: one digit or more, and from 1 to 10^12.
+fn count_of(word: &str) -> Option<u64>
+    ensures { result ≡ count_of word.now }
+{
+    if !are_digits(word) {
+        return None;
+    }
+    match word.parse::<u64>() {
+        Ok(count) if (1..=MOST_INSTANTS).contains(&count) => Some(count),
+        _ => None,
+    }
+}
+
+/// A run of a specification with this many instants, if the word names one.
+fn named_run(name: &str, instants: u64) -> Option<Asked<'_>>
+    ensures { option_map run_asked result ≡ named_run name.now instants }
+{
+    if is_plain(name) {
+        Some(Asked {
+            spec: name,
+            instants,
+        })
+    } else {
+        None
+    }
+}
+
+/// `SPEC` and `--instants N`.
+fn apart<'a>(name: &'a str, option: &str, value: &str) -> Option<Asked<'a>>
+    ensures { option_map run_asked result ≡ apart name.now option.now value.now }
+{
+    if option == "--instants" {
+        named_run(name, count_of(value)?)
+    } else {
+        None
+    }
+}
+
+/// `SPEC` and `--instants=N`.
+fn joined<'a>(name: &'a str, option: &str) -> Option<Asked<'a>>
+    ensures { option_map run_asked result ≡ joined name.now option.now }
+{
+    let value = option.strip_prefix("--instants=")?;
+    named_run(name, count_of(value)?)
+}
+
+/// The run that the words behind `run` ask for.
+fn run_of(words: &[Text]) -> Option<Asked<'_>>
+    ensures { option_map run_asked result ≡ run_of words.now }
+{
+    match words {
+        [name] => named_run(name.as_str(), MOST_INSTANTS),
+        [first, second] => {
+            let (first, second) = (first.as_str(), second.as_str());
+            joined(first, second).or(joined(second, first))
+        }
+        [first, second, third] => {
+            let (first, second, third) = (first.as_str(), second.as_str(), third.as_str());
+            apart(first, second, third).or(apart(third, first, second))
+        }
+        _ => None,
+    }
+}
+
 impl Words {
     /// The run that the words ask for; `None` exactly where they are not accepted.
+    ///
+    /// The words are `run` and then `SPEC`, and before or behind it at most once `--instants N` or `--instants=N`.
     pub fn command(&self) -> Option<Asked<'_>>
         ensures { option_map run_asked result ≡ command_of self.now }
     {
         match self.words.as_slice() {
-            [command, name] if command.as_str() == "run" && is_plain(name.as_str()) => Some(
-                Asked {
-                    spec: name.as_str(),
-                    instants: MOST_INSTANTS,
-                },
-            ),
+            [command, rest @ ..] if command.as_str() == "run" => run_of(rest),
             _ => None,
         }
     }
