@@ -1,6 +1,8 @@
 // The words behind the program's name.
 
-ghost use Rattle.std.specs.Prelude.{◌≡◌, [], ◌∷◌, ◌++◌, length, OnOk, OnErr, slice_get, option_map};
+ghost use Rattle.std.specs.Prelude.{◌≡◌, ◌<◌, ◌^◌, [], ◌∷◌, ◌++◌, length, OnOk, OnErr, IsTrue, slice_get, option_map};
+ghost use Rattle.std.specs.Option.{SomeIff};
+ghost use Rattle.std.specs.Str.Parse.{digits_value};
 ghost use Rattle.std.specs.List.{list_all};
 ghost use Rattle.std.specs.Char.{is_ascii_digit};
 ghost use Rattle.tsl_value.specs.Literal.{are_digits};
@@ -88,6 +90,17 @@ fn all_are_digits(bytes: &[u8]) -> bool
     bytes.iter().all(|byte| byte.is_ascii_digit())
 }
 
+/// The number that digits spell, where 64 bits hold it.
+fn number_of(digits: &str) -> Option<u64>
+    requires { IsTrue (are_digits digits.now) }
+    ensures { SomeIff result (digits_value 10 digits.now < 2 ^ 64) (digits_value 10 digits.now) }
+{
+    match digits.parse::<u64>() {
+        Ok(number) => Some(number),
+        Err(_) => None,
+    }
+}
+
 /// A number of instants: one digit or more, and from 1 to 10^12.
 fn count_of(word: &str) -> Option<u64>
     ensures { result ≡ count_of word.now }
@@ -95,8 +108,8 @@ fn count_of(word: &str) -> Option<u64>
     if !are_digits(word) {
         return None;
     }
-    match word.parse::<u64>() {
-        Ok(count) if (1..=MOST_INSTANTS).contains(&count) => Some(count),
+    match number_of(word) {
+        Some(count) if 1 <= count && count <= MOST_INSTANTS => Some(count),
         _ => None,
     }
 }
