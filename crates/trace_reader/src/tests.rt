@@ -37,11 +37,11 @@ fn input(alloc: Global, name: &str, of: ScalarType) -> Result<Equation, NoMemory
     })
 }
 
-/// The inputs `i` and `j`, of which the first is printed.
+/// The inputs `i`, of numbers, and `j`, of units. The first is printed.
 fn two_inputs(alloc: Global) -> Result<Flat, NoMemory> {
     let mut builder = FlatBuilder::new(alloc);
     let i = input(alloc, "i", ScalarType::Int)?;
-    let j = input(alloc, "j", ScalarType::Int)?;
+    let j = input(alloc, "j", ScalarType::Unit)?;
     builder.add(i)?;
     builder.add(j)?;
     let name = Text::from_str(alloc, "i")?;
@@ -107,11 +107,18 @@ fn read_in_pieces(
     read_end(reader, lines)
 }
 
-fn is_event(line: &TraceLine, time: u64, number: u32, value: i64) -> bool {
+fn is_number(line: &TraceLine, time: u64, value: i64) -> bool {
     match &line.event {
         Some((input, Scalar::Int(given))) => {
-            line.time.get() == time && input.get() == number && *given == value
+            line.time.get() == time && input.get() == 0 && *given == value
         }
+        _ => false,
+    }
+}
+
+fn is_unit(line: &TraceLine, time: u64) -> bool {
+    match &line.event {
+        Some((input, Scalar::Unit)) => line.time.get() == time && input.get() == 1,
         _ => false,
     }
 }
@@ -141,15 +148,16 @@ fn a_line_that_is_cut_is_one_line(rt: HostRuntime) -> Result<(), Fail> {
         let rest = lines_of(
             rt.alloc(),
             100,
-            b"1: i = 5\n2: j = -7\n2: i = 0",
+            b"1: i = 5\n2: j\n2: i = -7\n9:",
             size,
             &mut lines,
         );
         assert!(rt; matches!(rest, Ok(Rest::End)));
-        assert_eq!(rt; lines.len(), 3);
-        assert!(rt; is_event(&lines[0], 1, 0, 5));
-        assert!(rt; is_event(&lines[1], 2, 1, -7));
-        assert!(rt; is_event(&lines[2], 2, 0, 0));
+        assert_eq!(rt; lines.len(), 4);
+        assert!(rt; is_number(&lines[0], 1, 5));
+        assert!(rt; is_unit(&lines[1], 2));
+        assert!(rt; is_number(&lines[2], 2, -7));
+        assert!(rt; lines[3].event.is_none());
     }
     Ok(())
 }
@@ -162,7 +170,7 @@ fn the_first_refused_line_is_named(rt: HostRuntime) -> Result<(), Fail> {
     let twice = lines_of(
         rt.alloc(),
         100,
-        b"1: i = 5\n1: j = 5\n1: i = 6\n",
+        b"1: i = 5\n1: j\n1: i = 6\n",
         2,
         &mut lines,
     );
