@@ -123,6 +123,19 @@ fn is_unit(line: &TraceLine, time: u64) -> bool {
     }
 }
 
+fn is_bare_time(line: &TraceLine, time: u64) -> bool {
+    line.time.get() == time && line.event.is_none()
+}
+
+fn is_back(rest: &Result<Rest, TraceFault>, number: u64, last: u64, given: u64) -> bool {
+    match rest {
+        Err(TraceFault::TimeBack { line, before, now }) => {
+            *line == number && before.get() == last && now.get() == given
+        }
+        _ => false,
+    }
+}
+
 /// What a trace of two inputs gives, in pieces of this size.
 fn lines_of(
     alloc: Global,
@@ -157,7 +170,7 @@ fn a_line_that_is_cut_is_one_line(rt: HostRuntime) -> Result<(), Fail> {
         assert!(rt; is_number(&lines[0], 1, 5));
         assert!(rt; is_unit(&lines[1], 2));
         assert!(rt; is_number(&lines[2], 2, -7));
-        assert!(rt; lines[3].event.is_none());
+        assert!(rt; is_bare_time(&lines[3], 9));
     }
     Ok(())
 }
@@ -178,5 +191,28 @@ fn the_first_refused_line_is_named(rt: HostRuntime) -> Result<(), Fail> {
     let long = lines_of(rt.alloc(), 12, b"1: i = 5\n2: i = 7\n", 4, &mut lines);
     assert!(rt; matches!(long, Err(TraceFault::TraceTooLong { line: 2 })));
     assert_eq!(rt; lines.len(), 4);
+    Ok(())
+}
+
+#[test]
+fn a_bare_time_closes_the_times_before(rt: HostRuntime) -> Result<(), Fail> {
+    let mut lines = Vec::new(rt.alloc());
+    let back = lines_of(rt.alloc(), 100, b"9:\n9:\n8: j\n", 9, &mut lines);
+    assert!(rt; is_back(&back, 3, 9, 8));
+    assert_eq!(rt; lines.len(), 2);
+    Ok(())
+}
+
+#[test]
+fn a_form_of_another_type_is_refused(rt: HostRuntime) -> Result<(), Fail> {
+    let bad: [&[u8]; 5] = [b"1: j = 3", b"1: j = ()", b"1: i", b"1: ", b"1: i = "];
+    for trace in bad {
+        let mut lines = Vec::new(rt.alloc());
+        let refused = lines_of(rt.alloc(), 100, trace, 100, &mut lines);
+        assert!(rt; matches!(refused, Err(TraceFault::BadLine { line: 1 })));
+    }
+    let mut lines = Vec::new(rt.alloc());
+    let twice = lines_of(rt.alloc(), 100, b"1: j\n1: j", 100, &mut lines);
+    assert!(rt; matches!(twice, Err(TraceFault::BadLine { line: 2 })));
     Ok(())
 }
