@@ -3,6 +3,7 @@ use Rattle.std.proofs.Common.{◌≡◌, ℕ, List, [], ◌∷◌, ◌++◌, Som
 use Rattle.std.specs.Prelude.{pos, negsuc, codes}
 use Rattle.tsl_value.specs.declared.scalar.Scalar.{Scalar}
 use Rattle.tsl_value.specs.declared.scalar.Scalar.TheVariants as scalar
+use Rattle.tsl_value.specs.declared.scalar.ScalarType.{ScalarType}
 use Rattle.tsl_value.specs.declared.scalar.ScalarType.TheVariants as scalar_type
 use Rattle.tsl_value.specs.declared.scalar.ValueType.TheVariants as value_type
 use Rattle.tsl_value.specs.Literal.{literal}
@@ -15,12 +16,16 @@ use Rattle.trace_reader.specs.declared.fault.TraceFault.TheVariants as fault
 use Rattle.trace_reader.specs.Closed.{closed_below}
 use Rattle.trace_reader.specs.Reading.{Reading, reading}
 
-abbrev input : List ℕ → Equation
-input name = record { op = op.Input; args = []; of = value_type.Scalar scalar_type.Int; place = record { line = 1; column = 1 }; name = Some name }
+abbrev input : List ℕ → ScalarType → Equation
+input name of = record { op = op.Input; args = []; of = value_type.Scalar of; place = record { line = 1; column = 1 }; name = Some name }
 
--- two inputs, i and j
+-- inputs of numbers, i and j, and one of units, u
 abbrev system : System
-system = record { equations = input (codes "i") ∷ input (codes "j") ∷ []; outputs = []; running = [] }
+system = record {
+  equations = input (codes "i") scalar_type.Int ∷ input (codes "j") scalar_type.Int ∷ input (codes "u") scalar_type.Unit ∷ [];
+  outputs = [];
+  running = [];
+}
 
 -- texts, each with a line end
 abbrev lines : List (List ℕ) → List ℕ
@@ -39,6 +44,33 @@ refused ls f = record { lines = ls; refused = Some f }
 two_lines : reading system 1000 (lines (codes "1: i = 5" ∷ codes "02: j = -7" ∷ [])) false ≡ all (event 1 0 (scalar.Int (pos 5)) ∷ event 2 1 (scalar.Int (negsuc 6)) ∷ [])
 unfolding reading literal
 two_lines = refl
+
+-- a line that only says its time, and a unit, which has no value
+bare_time : reading system 1000 (lines (codes "1: u" ∷ codes "1: i = 2" ∷ codes "7:" ∷ [])) false
+    ≡ all (event 1 2 scalar.Unit ∷ event 1 0 (scalar.Int (pos 2)) ∷ record { time = 7; event = None } ∷ [])
+unfolding reading literal
+bare_time = refl
+
+blank_behind_time : reading system 1000 (lines (codes "1: " ∷ [])) true ≡ refused [] (fault.BadLine 1)
+unfolding reading literal
+blank_behind_time = refl
+
+number_without_value : reading system 1000 (lines (codes "1: i" ∷ [])) true ≡ refused [] (fault.BadLine 1)
+unfolding reading literal
+number_without_value = refl
+
+unit_with_value : reading system 1000 (lines (codes "1: u = ()" ∷ [])) true ≡ refused [] (fault.BadLine 1)
+unfolding reading literal
+unit_with_value = refl
+
+unit_twice : reading system 1000 (lines (codes "1: u" ∷ codes "1: u" ∷ [])) true ≡ refused (event 1 2 scalar.Unit ∷ []) (fault.BadLine 2)
+unfolding reading literal
+unit_twice = refl
+
+bare_time_back : reading system 1000 (lines (codes "3:" ∷ codes "3:" ∷ codes "2:" ∷ [])) true
+    ≡ refused (record { time = 3; event = None } ∷ record { time = 3; event = None } ∷ []) (fault.TimeBack 3 3 2)
+unfolding reading literal
+bare_time_back = refl
 
 back_in_time : reading system 1000 (lines (codes "5: i = 1" ∷ codes "4: i = 1" ∷ codes "6: i = 1" ∷ [])) true ≡ refused (event 5 0 (scalar.Int (pos 1)) ∷ []) (fault.TimeBack 2 5 4)
 unfolding reading literal

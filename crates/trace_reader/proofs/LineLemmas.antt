@@ -13,7 +13,7 @@ use Rattle.tsl_value.specs.declared.scalar.Scalar.TheVariants as scalar
 use Rattle.tsl_value.specs.declared.scalar.ScalarType.TheVariants as scalar_type
 use Rattle.tsl_value.specs.declared.scalar.ValueType.{ValueType}
 use Rattle.tsl_value.specs.declared.scalar.ValueType.TheVariants as value_type
-use Rattle.tsl_value.specs.Literal.{literal}
+use Rattle.tsl_value.specs.Literal.{are_digits, literal}
 use Rattle.tsl_value.specs.declared.literal.LiteralFault.{LiteralFault}
 use Rattle.tsl_value.specs.View.{Plain, is_of, is_of_scalar}
 use Rattle.flat_core.specs.declared.equation.Equation.{Equation}
@@ -22,8 +22,8 @@ use Rattle.flat_core.specs.declared.equation.Op.TheVariants as op
 use Rattle.flat_core.specs.System.{System, equation}
 use Rattle.flat_core.specs.Line.{Line, IsSorted, last_time}
 use Rattle.trace_reader.specs.declared.fault.TraceFault.{TraceFault}
-use Rattle.trace_reader.specs.Form.{Parts, parts_of, time_of}
-use Rattle.trace_reader.specs.Reading.{Reading, is_input, is_input_called, input_called, value_of, event_of, spelled_at, spelled, events_of, with_event, had_event, had_event_at, judged, go_on, read, lines_of, reading}
+use Rattle.trace_reader.specs.Form.{Parts, parts_of, small_time, time_of}
+use Rattle.trace_reader.specs.Reading.{Reading, is_input, is_input_called, input_called, value_of, event_of, called_event, said, spelled, events_of, with_event, had_event, had_event_at, judged, go_on, read, lines_of, reading}
 use Rattle.trace_reader.specs.Closed.{closed_below}
 use Rattle.trace_reader.specs.Laws.{NoneAt, AreDistinct, IsInputEvent, IsProperLine}
 use Rattle.trace_reader.proofs.JudgedLemmas.{Stands, IfStands, judged_stands}
@@ -136,12 +136,16 @@ mapped : {A B : Type 0} (f : A → B) (o : Option A) (y : B) → option_map f o 
 mapped f None y is = absurd (cc)
 mapped f (Some x) y is = record { at = x; is = refl; gives = some_same (f x) y is }
 
-small_time : (t u : ℕ) (small : Bool) → nat_lt t 0x8000_0000_0000_0000 ≡ small → (if small then Some t else None) ≡ Some u → u < 2 ^ 63
-small_time t u true small is = subst (λ (n : ℕ). n < 2 ^ 63) (some_same t u is) (ltb-true t 0x8000_0000_0000_0000 small)
-small_time t u false small is = absurd (cc)
+below_2_63 : (t u : ℕ) (small : Bool) → nat_lt t 0x8000_0000_0000_0000 ≡ small → (if small then Some t else None) ≡ Some u → u < 2 ^ 63
+below_2_63 t u true small is = subst (λ (n : ℕ). n < 2 ^ 63) (some_same t u is) (ltb-true t 0x8000_0000_0000_0000 small)
+below_2_63 t u false small is = absurd (cc)
 
-time_small : (digits : List ℕ) (t : ℕ) → time_of digits ≡ Some t → t < 2 ^ 63
-time_small digits t is = small_time (digits_value 10 digits) t (nat_lt (digits_value 10 digits) 0x8000_0000_0000_0000) refl is
+digits_small : (t u : ℕ) (digits : Bool) → (if digits then small_time t else None) ≡ Some u → u < 2 ^ 63
+digits_small t u true is = below_2_63 t u (nat_lt t 0x8000_0000_0000_0000) refl is
+digits_small t u false is = absurd (cc)
+
+time_small : (bytes : List ℕ) (t : ℕ) → time_of bytes ≡ Some t → t < 2 ^ 63
+time_small bytes t is = digits_small (digits_value 10 bytes) t (are_digits bytes) is
 
 only_input : (o : Op) → is_input o ≡ true → o ≡ op.Input
 only_input op.Input is = refl
@@ -181,38 +185,50 @@ literal_fits : (bytes : List ℕ) (v : Scalar) → result_ok (literal scalar_typ
 unfolding literal
 literal_fits bytes v is = int_fits _ _ _ _ _ v is
 
-value_fits : (of : ValueType) (bytes : List ℕ) (v : Scalar) → value_of of bytes ≡ Some v → is_of of (Plain v) ≡ true
-value_fits (value_type.Scalar scalar_type.Int) bytes v is = literal_fits bytes v is
-value_fits _ bytes v is = absurd (cc)
+value_fits : (of : ValueType) (value : Option (List ℕ)) (v : Scalar) → value_of of value ≡ Some v → is_of of (Plain v) ≡ true
+value_fits (value_type.Scalar scalar_type.Int) (Some bytes) v is = literal_fits bytes v is
+value_fits (value_type.Scalar scalar_type.Unit) None v is = subst (λ (x : Scalar). is_of_scalar scalar_type.Unit x ≡ true) (some_same scalar.Unit v is) refl
+value_fits _ _ v is = absurd (cc)
 
-event_fits : (s : System) (parts : Parts) (i j : ℕ) (v : Scalar) → input_called s parts.name ≡ Some j → event_of s parts j ≡ Some (i, v) → IsInputEvent s i v
-event_fits s parts i j v called is =
-    let at = found (is_input_called parts.name) s.equations 0 j called in
+event_fits : (s : System) (name : List ℕ) (text : Option (List ℕ)) (i : ℕ) (v : Scalar) → called_event s name text ≡ Some (i, v) → IsInputEvent s i v
+event_fits s name text i v is =
+    let event = came (event_of s text) (input_called s name) (i, v) is in
+    let j = event.at in
+    let at = found (is_input_called name) s.equations 0 j event.is in
     let place : at.after ≡ j = let it = at.place_is in omega arith in
     let here : equation s j ≡ Some at.at = ap (slice_get s.equations) (sym place) ∙ at.is in
-    let one = came (λ (e : Equation). option_map (λ (x : Scalar). (j, x)) (value_of e.of parts.value)) (equation s j) (i, v) is in
-    let value = mapped (λ (x : Scalar). (j, x)) (value_of one.at.of parts.value) (i, v) one.gives in
+    let one = came (λ (e : Equation). option_map (λ (x : Scalar). (j, x)) (value_of e.of text)) (equation s j) (i, v) event.gives in
+    let value = mapped (λ (x : Scalar). (j, x)) (value_of one.at.of text) (i, v) one.gives in
     let same : at.at ≡ one.at = some_same at.at one.at (sym here ∙ one.is) in
     let input : j ≡ i = ap (λ (p : ℕ × Scalar). p.0) value.gives in
     record {
       at = one.at;
       is = subst (λ (k : ℕ). equation s k ≡ Some one.at) input one.is;
       input = ap (λ (e : Equation). e.op) (sym same) ∙ only_input at.at.op (and_first (is_input at.at.op) _ at.passes);
-      fits = value_fits one.at.of parts.value v (value.is ∙ ap (λ (p : ℕ × Scalar). Some p.1) value.gives);
+      fits = value_fits one.at.of text v (value.is ∙ ap (λ (p : ℕ × Scalar). Some p.1) value.gives);
+    }
+
+said_proper : (s : System) (t : ℕ) (name value : Option (List ℕ)) (l : Line) → t < 2 ^ 63 → said s t name value ≡ Some l → IsProperLine s l
+said_proper s t None value l small is =
+    let same = some_same (record { time = t; event = None }) l is in
+    record {
+      time = subst (λ (u : ℕ). u < 2 ^ 63) (ap (λ (m : Line). m.time) same) small;
+      event = λ i v has. let none = ap (λ (m : Line). m.event) same ∙ has in absurd (cc);
+    }
+said_proper s t (Some name) value l small is =
+    let whole = mapped (λ (e : ℕ × Scalar). record { time = t; event = Some e }) (called_event s name value) l is in
+    record {
+      time = subst (λ (u : ℕ). u < 2 ^ 63) (ap (λ (m : Line). m.time) whole.gives) small;
+      event = λ i v has.
+          let same : whole.at ≡ (i, v) = some_same whole.at (i, v) (ap (λ (m : Line). m.event) whole.gives ∙ has) in
+          event_fits s name value i v (whole.is ∙ ap (λ (e : ℕ × Scalar). Some e) same);
     }
 
 spelled_proper : (s : System) (bytes : List ℕ) (l : Line) → spelled s bytes ≡ Some l → IsProperLine s l
 spelled_proper s bytes l is =
-    let parts = came (λ (p : Parts). option_and_then (spelled_at s p) (time_of p.time)) (parts_of bytes) l is in
-    let time = came (spelled_at s parts.at) (time_of parts.at.time) l parts.gives in
-    let whole = mapped (λ (e : ℕ × Scalar). record { time = time.at; event = Some e }) (option_and_then (event_of s parts.at) (input_called s parts.at.name)) l time.gives in
-    let event = came (event_of s parts.at) (input_called s parts.at.name) whole.at whole.is in
-    record {
-      time = subst (λ (t : ℕ). t < 2 ^ 63) (ap (λ (m : Line). m.time) whole.gives) (time_small parts.at.time time.at time.is);
-      event = λ i v has.
-          let same : whole.at ≡ (i, v) = some_same whole.at (i, v) (ap (λ (m : Line). m.event) whole.gives ∙ has) in
-          event_fits s parts.at i event.at v event.is (event.gives ∙ ap (λ (e : ℕ × Scalar). Some e) same);
-    }
+    let parts = came (λ (p : Parts). option_and_then (λ t. said s t p.name p.value) (time_of p.time)) (parts_of bytes) l is in
+    let time = came (λ t. said s t parts.at.name parts.at.value) (time_of parts.at.time) l parts.gives in
+    said_proper s time.at parts.at.name parts.at.value l (time_small parts.at.time time.at time.is) time.gives
 
 proper : {s : System} {past : List (ℕ × ℕ)} {last : ℕ} (ls : List Line) → StandBehind s past last ls → AllByRecursion (IsProperLine s) ls
 proper [] it = tt

@@ -1,6 +1,7 @@
 -- The parts of a line that the code borrows.
+use Rattle.std.specs.Option.{option_map}
 use Rattle.trace_reader.specs.declared.form.Parts.{Parts as BorrowedParts}
 use Rattle.trace_reader.specs.Form.{Parts}
 
 abbrev pub bytes_of : BorrowedParts → Parts
-bytes_of parts = record { time = parts.time.now; name = parts.name.now; value = parts.value.now }
+bytes_of parts = record { time = parts.time.now; name = option_map (λ b. b.now) parts.name; value = option_map (λ b. b.now) parts.value }

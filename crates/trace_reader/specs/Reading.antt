@@ -5,6 +5,7 @@ use Rattle.std.specs.Option.{option_and_then, option_map, option_or}
 use Rattle.std.specs.Result.{result_ok}
 use Rattle.std.specs.Str.{bytes_eq}
 use Rattle.tsl_value.specs.declared.scalar.Scalar.{Scalar}
+use Rattle.tsl_value.specs.declared.scalar.Scalar.TheVariants as scalar
 use Rattle.tsl_value.specs.declared.scalar.ScalarType.TheVariants as scalar_type
 use Rattle.tsl_value.specs.declared.scalar.ValueType.{ValueType}
 use Rattle.tsl_value.specs.declared.scalar.ValueType.TheVariants as value_type
@@ -16,7 +17,7 @@ use Rattle.flat_core.specs.System.{System, equation}
 use Rattle.flat_core.specs.Line.{Line, last_time}
 use Rattle.trace_reader.specs.declared.fault.TraceFault.{TraceFault}
 use Rattle.trace_reader.specs.declared.fault.TraceFault.TheVariants as fault
-use Rattle.trace_reader.specs.Form.{Parts, parts_of, split_once, time_of}
+use Rattle.trace_reader.specs.Form.{parts_of, split_once, time_of}
 
 -- the lines that were read, and why the next one is refused, where it is
 pub record Reading : Type 0 where
@@ -63,23 +64,26 @@ is_input_called name e = is_input e.op && is_called name e.name
 abbrev pub input_called : System → List ℕ → Option ℕ
 input_called s name = position_from (is_input_called name) 0 s.equations
 
--- the value of a type that bytes spell; today numbers alone
-abbrev pub value_of : ValueType → List ℕ → Option Scalar
-value_of (value_type.Scalar scalar_type.Int) bytes = result_ok (literal scalar_type.Int bytes)
-value_of _ bytes = None
+-- the value of a type that a line has: digits for a number, and none for a unit
+abbrev pub value_of : ValueType → Option (List ℕ) → Option Scalar
+value_of (value_type.Scalar scalar_type.Int) (Some bytes) = result_ok (literal scalar_type.Int bytes)
+value_of (value_type.Scalar scalar_type.Unit) None = Some scalar.Unit
+value_of _ _ = None
 
--- The line that bytes spell: they are of the form, the time is one, the name is that of an input, and the value is of its type.
+-- The line that bytes spell: they are of a form, the time is one, and the name is that of an input of the value's type.
 module _ (s : System) where
-  abbrev pub event_of : Parts → ℕ → Option (ℕ × Scalar)
-  event_of parts i =
-      option_and_then (λ e. option_map (λ v. (i, v)) (value_of e.of parts.value)) (equation s i)
+  abbrev pub event_of : Option (List ℕ) → ℕ → Option (ℕ × Scalar)
+  event_of value i = option_and_then (λ e. option_map (λ v. (i, v)) (value_of e.of value)) (equation s i)
 
-  abbrev pub spelled_at : Parts → ℕ → Option Line
-  spelled_at parts t =
-      option_map (λ e. record { time = t; event = Some e }) (option_and_then (event_of parts) (input_called s parts.name))
+  abbrev pub called_event : List ℕ → Option (List ℕ) → Option (ℕ × Scalar)
+  called_event name value = option_and_then (event_of value) (input_called s name)
+
+  abbrev pub said : ℕ → Option (List ℕ) → Option (List ℕ) → Option Line
+  said t None value = Some (record { time = t; event = None })
+  said t (Some name) value = option_map (λ e. record { time = t; event = Some e }) (called_event name value)
 
   abbrev pub spelled : List ℕ → Option Line
-  spelled bytes = option_and_then (λ parts. option_and_then (spelled_at parts) (time_of parts.time)) (parts_of bytes)
+  spelled bytes = option_and_then (λ parts. option_and_then (λ t. said t parts.name parts.value) (time_of parts.time)) (parts_of bytes)
 
 -- the times and inputs of the events of lines
 abbrev pub with_event : ℕ → Option (ℕ × Scalar) → List (ℕ × ℕ) → List (ℕ × ℕ)

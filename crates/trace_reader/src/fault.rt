@@ -9,8 +9,9 @@ use tsl_value::time::Time;
 /// Why a line is refused. Lines are counted from 1.
 #[derive(Debug, Drop)]
 pub enum TraceFault {
-    /// The line is not `TIME: NAME = VALUE`, its time is above 2^63 - 1, its name is no input's, its
-    /// value is not of the input's type, or the input has an event at this time already.
+    /// The line is not `TIME:`, `TIME: NAME` or `TIME: NAME = VALUE`, its time is above 2^63 - 1, its
+    /// name is no input's, its value is not of the input's type, or the input has an event at this
+    /// time already. A unit has no value, and a number has digits.
     BadLine { line: u64 },
     /// The line's time is below that of an earlier line, the last of which has the time `before`.
     TimeBack { line: u64, before: Time, now: Time },

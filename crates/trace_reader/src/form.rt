@@ -7,17 +7,17 @@ ghost use Rattle.std.specs.Option.{SomeIff};
 ghost use Rattle.std.specs.Str.Parse.{digits_value};
 ghost use Rattle.tsl_value.specs.Literal.{are_digits};
 ghost use Rattle.trace_reader.specs.Borrowed.{bytes_of};
-ghost use Rattle.trace_reader.specs.Form.{behind, is_name, is_name_byte, named, parts_of, split_once, time_of};
+ghost use Rattle.trace_reader.specs.Form.{behind, behind_time, called, is_name, is_name_byte, named, parts_of, split_once, time_of, valued};
 
 use std::str;
 use tsl_value::time::Time;
 
-/// The bytes of a line's time, its name and its value.
+/// The bytes of a line's time, its name and its value, where it has them.
 #[derive(Clone, Copy, Drop)]
 pub(crate) struct Parts<'a> {
     pub(crate) time: &'a [u8],
-    pub(crate) name: &'a [u8],
-    pub(crate) value: &'a [u8],
+    pub(crate) name: Option<&'a [u8]>,
+    pub(crate) value: Option<&'a [u8]>,
 }
 
 /// The place of the first such byte.
@@ -80,38 +80,70 @@ fn is_name_byte(byte: u8) -> bool
     byte.is_ascii_alphanumeric() || byte == b'_'
 }
 
-/// The parts of a line, where it is `TIME: NAME = VALUE` with digits for the time and a name.
+/// The parts of a line, where it is `TIME:`, `TIME: NAME` or `TIME: NAME = VALUE` with a name. Its
+/// time may be any bytes without a colon.
 pub(crate) fn parts_of(line: &[u8]) -> Option<Parts<'_>>
     ensures { option_map bytes_of result ≡ parts_of line.now }
 {
     let (time, rest) = split_once(line, b':')?;
-    let rest = behind(rest, b' ')?;
-    if are_digits(time) {
-        named(time, rest)
+    behind_time(time, rest)
+}
+
+/// The parts, by what stands behind the colon.
+fn behind_time<'a>(time: &'a [u8], rest: &'a [u8]) -> Option<Parts<'a>>
+    ensures { option_map bytes_of result ≡ behind_time time.now rest.now }
+{
+    if rest.is_empty() {
+        return Some(Parts {
+            time,
+            name: None,
+            value: None,
+        });
+    }
+    named(time, behind(rest, b' ')?)
+}
+
+/// `NAME` or `NAME = VALUE`, behind a time.
+fn named<'a>(time: &'a [u8], bytes: &'a [u8]) -> Option<Parts<'a>>
+    ensures { option_map bytes_of result ≡ named time.now bytes.now }
+{
+    match split_once(bytes, b' ') {
+        Some((name, rest)) => valued(time, name, rest),
+        None => called(time, bytes, None),
+    }
+}
+
+/// A name and `= VALUE`, behind a time.
+fn valued<'a>(time: &'a [u8], name: &'a [u8], rest: &'a [u8]) -> Option<Parts<'a>>
+    ensures { option_map bytes_of result ≡ valued time.now name.now rest.now }
+{
+    let sign = behind(rest, b'=')?;
+    let value = behind(sign, b' ')?;
+    called(time, name, Some(value))
+}
+
+fn called<'a>(time: &'a [u8], name: &'a [u8], value: Option<&'a [u8]>) -> Option<Parts<'a>>
+    ensures { option_map bytes_of result ≡ called time.now name.now (option_map (λ b. b.now) value.entry) }
+{
+    if is_name(name) {
+        Some(Parts {
+            time,
+            name: Some(name),
+            value,
+        })
     } else {
         None
     }
 }
 
-/// `NAME = VALUE`, behind a time.
-fn named<'a>(time: &'a [u8], bytes: &'a [u8]) -> Option<Parts<'a>>
-    ensures { option_map bytes_of result ≡ named time.now bytes.now }
+/// The time that bytes spell, where they are digits of a time.
+pub(crate) fn time_of(bytes: &[u8]) -> Option<Time>
+    ensures { result ≡ time_of bytes.now }
 {
-    let (name, rest) = split_once(bytes, b' ')?;
-    if !is_name(name) {
+    if !are_digits(bytes) {
         return None;
     }
-    let rest = behind(rest, b'=')?;
-    let value = behind(rest, b' ')?;
-    Some(Parts { time, name, value })
-}
-
-/// The time that digits spell, where it is one.
-pub(crate) fn time_of(digits: &[u8]) -> Option<Time>
-    requires { IsTrue (are_digits digits.now) }
-    ensures { result ≡ time_of digits.now }
-{
-    match number_of(digits) {
+    match number_of(bytes) {
         Some(number) => Time::new(number),
         None => None,
     }

@@ -1,12 +1,12 @@
 // What a line says, and whether it may stand where it does.
 
-ghost use Rattle.std.specs.Prelude.{◌≡◌, ℕ, IfOk, option_and_then};
+ghost use Rattle.std.specs.Prelude.{◌≡◌, ℕ, IfOk, option_map};
 ghost use Rattle.std.specs.Result.{result_ok};
 ghost use Rattle.tsl_value.specs.declared.scalar.ScalarType.TheVariants as scalar_type;
 ghost use Rattle.tsl_value.specs.Literal.{literal};
 ghost use Rattle.trace_reader.specs.Borrowed.{bytes_of};
 ghost use Rattle.trace_reader.specs.History.{AreUpTo};
-ghost use Rattle.trace_reader.specs.Reading.{event_of, had_event, input_called, is_input_called, judged, placed, spelled, value_of};
+ghost use Rattle.trace_reader.specs.Reading.{called_event, had_event, input_called, is_input_called, judged, placed, said, spelled, value_of};
 
 use crate::fault::TraceFault;
 use crate::form::{Parts, parts_of, time_of};
@@ -43,12 +43,20 @@ fn input_called(flat: &Flat, name: &[u8]) -> Option<EqId>
     None
 }
 
-/// The value of a type that bytes spell. Numbers alone are read.
-fn value_of(alloc: Global, of: ValueType, bytes: &[u8]) -> Result<Option<Scalar>, NoMemory>
-    ensures { IfOk result (λ v. v ≡ value_of of bytes.now) }
+/// The value of a type that a line has: digits for a number, and none for a unit. Other types have
+/// none yet.
+fn value_of(alloc: Global, of: ValueType, value: Option<&[u8]>) -> Result<Option<Scalar>, NoMemory>
+    ensures { IfOk result (λ v. v ≡ value_of of (option_map (λ b. b.now) value.entry)) }
 {
     match of {
-        ValueType::Scalar(ScalarType::Int) => read_number(alloc, bytes),
+        ValueType::Scalar(ScalarType::Int) => match value {
+            Some(bytes) => read_number(alloc, bytes),
+            None => Ok(None),
+        },
+        ValueType::Scalar(ScalarType::Unit) => match value {
+            Some(_) => Ok(None),
+            None => Ok(Some(Scalar::Unit)),
+        },
         _ => Ok(None),
     }
 }
@@ -68,20 +76,42 @@ fn read_number(alloc: Global, bytes: &[u8]) -> Result<Option<Scalar>, NoMemory>
 fn event_of(
     alloc: Global,
     flat: &Flat,
-    parts: &Parts<'_>,
+    name: &[u8],
+    value: Option<&[u8]>,
 ) -> Result<Option<(EqId, Scalar)>, NoMemory>
-    ensures { IfOk result (λ e. e ≡ option_and_then (event_of flat.now (bytes_of parts.now)) (input_called flat.now parts.now.name.now)) }
+    ensures { IfOk result (λ e. e ≡ called_event flat.now name.now (option_map (λ b. b.now) value.entry)) }
 {
-    let Some(input) = input_called(flat, parts.name) else {
+    let Some(input) = input_called(flat, name) else {
         return Ok(None);
     };
-    match value_of(alloc, flat.equation(input).of, parts.value)? {
+    match value_of(alloc, flat.equation(input).of, value)? {
         Some(value) => Ok(Some((input, value))),
         None => Ok(None),
     }
 }
 
-/// The line that bytes spell, where they are of the form, name an input and have a value of its
+/// The line of a time, and perhaps of an event.
+fn said(
+    alloc: Global,
+    flat: &Flat,
+    time: Time,
+    parts: &Parts<'_>,
+) -> Result<Option<TraceLine>, NoMemory>
+    ensures { IfOk result (λ l. l ≡ said flat.now time (bytes_of parts.now).name (bytes_of parts.now).value) }
+{
+    let Some(name) = parts.name else {
+        return Ok(Some(TraceLine { time, event: None }));
+    };
+    match event_of(alloc, flat, name, parts.value)? {
+        Some(event) => Ok(Some(TraceLine {
+            time,
+            event: Some(event),
+        })),
+        None => Ok(None),
+    }
+}
+
+/// The line that bytes spell, where they are of a form, and name no input or one of the value's
 /// type.
 fn spelled(alloc: Global, flat: &Flat, line: &[u8]) -> Result<Option<TraceLine>, NoMemory>
     ensures { IfOk result (λ l. l ≡ spelled flat.now line.now) }
@@ -89,14 +119,8 @@ fn spelled(alloc: Global, flat: &Flat, line: &[u8]) -> Result<Option<TraceLine>,
     let Some(parts) = parts_of(line) else {
         return Ok(None);
     };
-    let Some(time) = time_of(parts.time) else {
-        return Ok(None);
-    };
-    match event_of(alloc, flat, &parts)? {
-        Some(event) => Ok(Some(TraceLine {
-            time,
-            event: Some(event),
-        })),
+    match time_of(parts.time) {
+        Some(time) => said(alloc, flat, time, &parts),
         None => Ok(None),
     }
 }

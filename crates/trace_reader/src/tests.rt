@@ -37,11 +37,11 @@ fn input(alloc: Global, name: &str, of: ScalarType) -> Result<Equation, NoMemory
     })
 }
 
-/// The inputs `i` and `j`, of which the first is printed.
+/// The inputs `i`, of numbers, and `j`, of units. The first is printed.
 fn two_inputs(alloc: Global) -> Result<Flat, NoMemory> {
     let mut builder = FlatBuilder::new(alloc);
     let i = input(alloc, "i", ScalarType::Int)?;
-    let j = input(alloc, "j", ScalarType::Int)?;
+    let j = input(alloc, "j", ScalarType::Unit)?;
     builder.add(i)?;
     builder.add(j)?;
     let name = Text::from_str(alloc, "i")?;
@@ -107,10 +107,30 @@ fn read_in_pieces(
     read_end(reader, lines)
 }
 
-fn is_event(line: &TraceLine, time: u64, number: u32, value: i64) -> bool {
+fn is_number(line: &TraceLine, time: u64, value: i64) -> bool {
     match &line.event {
         Some((input, Scalar::Int(given))) => {
-            line.time.get() == time && input.get() == number && *given == value
+            line.time.get() == time && input.get() == 0 && *given == value
+        }
+        _ => false,
+    }
+}
+
+fn is_unit(line: &TraceLine, time: u64) -> bool {
+    match &line.event {
+        Some((input, Scalar::Unit)) => line.time.get() == time && input.get() == 1,
+        _ => false,
+    }
+}
+
+fn is_bare_time(line: &TraceLine, time: u64) -> bool {
+    line.time.get() == time && line.event.is_none()
+}
+
+fn is_back(rest: &Result<Rest, TraceFault>, number: u64, last: u64, given: u64) -> bool {
+    match rest {
+        Err(TraceFault::TimeBack { line, before, now }) => {
+            *line == number && before.get() == last && now.get() == given
         }
         _ => false,
     }
@@ -141,15 +161,16 @@ fn a_line_that_is_cut_is_one_line(rt: HostRuntime) -> Result<(), Fail> {
         let rest = lines_of(
             rt.alloc(),
             100,
-            b"1: i = 5\n2: j = -7\n2: i = 0",
+            b"1: i = 5\n2: j\n2: i = -7\n9:",
             size,
             &mut lines,
         );
         assert!(rt; matches!(rest, Ok(Rest::End)));
-        assert_eq!(rt; lines.len(), 3);
-        assert!(rt; is_event(&lines[0], 1, 0, 5));
-        assert!(rt; is_event(&lines[1], 2, 1, -7));
-        assert!(rt; is_event(&lines[2], 2, 0, 0));
+        assert_eq!(rt; lines.len(), 4);
+        assert!(rt; is_number(&lines[0], 1, 5));
+        assert!(rt; is_unit(&lines[1], 2));
+        assert!(rt; is_number(&lines[2], 2, -7));
+        assert!(rt; is_bare_time(&lines[3], 9));
     }
     Ok(())
 }
@@ -162,7 +183,7 @@ fn the_first_refused_line_is_named(rt: HostRuntime) -> Result<(), Fail> {
     let twice = lines_of(
         rt.alloc(),
         100,
-        b"1: i = 5\n1: j = 5\n1: i = 6\n",
+        b"1: i = 5\n1: j\n1: i = 6\n",
         2,
         &mut lines,
     );
@@ -170,5 +191,28 @@ fn the_first_refused_line_is_named(rt: HostRuntime) -> Result<(), Fail> {
     let long = lines_of(rt.alloc(), 12, b"1: i = 5\n2: i = 7\n", 4, &mut lines);
     assert!(rt; matches!(long, Err(TraceFault::TraceTooLong { line: 2 })));
     assert_eq!(rt; lines.len(), 4);
+    Ok(())
+}
+
+#[test]
+fn a_bare_time_closes_the_times_before(rt: HostRuntime) -> Result<(), Fail> {
+    let mut lines = Vec::new(rt.alloc());
+    let back = lines_of(rt.alloc(), 100, b"9:\n9:\n8: j\n", 9, &mut lines);
+    assert!(rt; is_back(&back, 3, 9, 8));
+    assert_eq!(rt; lines.len(), 2);
+    Ok(())
+}
+
+#[test]
+fn a_form_of_another_type_is_refused(rt: HostRuntime) -> Result<(), Fail> {
+    let bad: [&[u8]; 5] = [b"1: j = 3", b"1: j = ()", b"1: i", b"1: ", b"1: i = "];
+    for trace in bad {
+        let mut lines = Vec::new(rt.alloc());
+        let refused = lines_of(rt.alloc(), 100, trace, 100, &mut lines);
+        assert!(rt; matches!(refused, Err(TraceFault::BadLine { line: 1 })));
+    }
+    let mut lines = Vec::new(rt.alloc());
+    let twice = lines_of(rt.alloc(), 100, b"1: j\n1: j", 100, &mut lines);
+    assert!(rt; matches!(twice, Err(TraceFault::BadLine { line: 2 })));
     Ok(())
 }

@@ -55,9 +55,11 @@ impl Unread {
     fn close_up(&mut self)
         ensures { self.new ≡ self.old }
     {
-        self.bytes.drain(..self.start);
-        self.searched -= self.start;
-        self.start = 0;
+        if self.start > 0 {
+            self.bytes.drain(..self.start);
+            self.searched -= self.start;
+            self.start = 0;
+        }
     }
 
     /// The length of the first line without its end, if one stands. Behind the last line's end one
