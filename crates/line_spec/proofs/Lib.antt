@@ -1,9 +1,10 @@
 pub mod NameLemmas
+pub mod NumberLemmas
 pub mod PartsLemmas
 pub mod TableLemmas
+pub mod AwaitedLemmas
 pub mod Sound
 pub mod Systems
 pub mod Order
 pub mod ReadLemmas
 pub mod LawLemmas
-mod Examples

@@ -130,6 +130,13 @@ fn count_without(awaited: &[Awaited], name: &str) -> usize
     awaited.iter().filter(|a| !a.is_for(name)).count()
 }
 
+/// The names other than this one stay.
+fn take_out(awaited: &mut Vec<Awaited>, name: &str)
+    ensures { awaited.new.items ≡ without name.now awaited.old.items }
+{
+    awaited.retain(|a| !a.is_for(name));
+}
+
 /// The type of an operation on a number and a name of this type.
 fn type_with_number(of: ScalarType) -> Option<ScalarType>
     ensures { result ≡ common_type (Some ScalarType.Int) (Some of) }
@@ -314,6 +321,16 @@ impl Table {
         }
     }
 
+    /// The line of the first delay that awaits a name.
+    fn awaited_line(&self, name: &str) -> Option<u32>
+        ensures { result ≡ option_map (λ a. a.line) (find (is_for name.now) self.now.awaited) }
+    {
+        self.awaited
+            .iter()
+            .find(|a| a.is_for(name))
+            .map(|a| a.line)
+    }
+
     /// The line of the first delay that awaits a name, where it is declared with another type than Int, and else the
     /// next line.
     fn line_against(&self, name: &str, of: ScalarType) -> u32
@@ -324,11 +341,7 @@ impl Table {
         if same_type(of, ScalarType::Int) {
             next
         } else {
-            self.awaited
-                .iter()
-                .find(|a| a.is_for(name))
-                .map(|a| a.line)
-                .unwrap_or(next)
+            self.awaited_line(name).unwrap_or(next)
         }
     }
 
@@ -367,7 +380,7 @@ impl Table {
     fn stop_awaiting(&mut self, name: &str)
         ensures { self.new ≡ record self.old { awaited = without name.now self.old.awaited } }
     {
-        self.awaited.retain(|a| !a.is_for(name));
+        take_out(&mut self.awaited, name);
     }
 
     /// What is awaited once a name is defined.
