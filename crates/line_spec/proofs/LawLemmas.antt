@@ -1,23 +1,22 @@
 -- A source spells one system at most, and is refused at one place at most.
 use Rattle.std.proofs.Common.{◌≡◌, ℕ, zero, suc, ◌+◌, ◌<◌, ◌≤◌, Bool, true, false, ◌||◌, List, [], ◌∷◌, ◌++◌, length, get_or, refl, ap, ◌∙◌, sym, subst, arith, Option, Some, None, append_assoc, append-nil}
-use Rattle.std.specs.Prelude.{◌==◌, IsTrue, slice_get}
-use Rattle.std.specs.List.{list_any, AllPairs, Contains}
+use Rattle.std.specs.Prelude.{◌==◌, slice_get}
+use Rattle.std.specs.List.{AllPairs, Contains}
 use Rattle.std.specs.List.Sorted.{IsStrictlyIncreasing}
 use Rattle.std.proofs.lemmas.List.Kept.{AllPairs-from_increasing}
 use Rattle.std.proofs.lemmas.Bool.Decides.{nat_tests}
-use Rattle.tsl_value.specs.declared.place.Place.{Place}
 use Rattle.flat_core.specs.declared.equation.Equation.{Equation}
 use Rattle.flat_core.specs.declared.equation.Output.{Output}
 use Rattle.flat_core.specs.Graph.{Walk, stay, onward}
 use Rattle.flat_core.specs.Members.{is_in}
-use Rattle.flat_core.specs.Needed.{IsNeeded, HasArgument}
-use Rattle.flat_core.specs.System.{System, runs}
+use Rattle.flat_core.specs.Needed.{IsNeeded}
+use Rattle.flat_core.specs.System.{System}
 use Rattle.line_spec.specs.declared.item.Item.{Item}
-use Rattle.line_spec.specs.Table.{Declared, nothing, numbered, with_items}
+use Rattle.line_spec.specs.Table.{Declared, nothing, with_items}
 use Rattle.line_spec.specs.Meaning.{IsSystem}
-use Rattle.line_spec.specs.Item.{Spells, AllSpell}
+use Rattle.line_spec.specs.Item.{AllSpell}
 use Rattle.line_spec.specs.Parts.{item_of}
-use Rattle.line_spec.specs.Reading.{lines_of, IsSpecification, BeginsSpecification, SpellsSystem, CannotGoOn, IsLineNamed, IsNamed, Stops, IsRefused, too_long, stops}
+use Rattle.line_spec.specs.Reading.{lines_of, IsSpecification, BeginsSpecification, CannotGoOn, IsLineNamed, IsNamed, Stops, too_long, stops}
 use Rattle.line_spec.specs.Laws.{OneSystem, RefusedSpellsNone, OnePlace}
 use Rattle.line_spec.proofs.PartsLemmas.{item_of-some, item_of-none}
 use Rattle.line_spec.proofs.ReadLemmas.{items_once}

@@ -8,3 +8,4 @@ pub mod Systems
 pub mod Order
 pub mod ReadLemmas
 pub mod LawLemmas
+mod Examples

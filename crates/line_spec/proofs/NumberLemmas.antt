@@ -1,12 +1,12 @@
 -- Digits end where another byte stands, and are no name.
-use Rattle.std.proofs.Common.{◌≡◌, ℕ, zero, suc, ◌+◌, ◌<◌, ◌==◌, Bool, true, false, not, cond, ◌&&◌, ◌||◌, List, [], ◌∷◌, ◌++◌, length, take, drop, refl, ap, ◌∙◌, sym, subst, arith}
-use Rattle.std.specs.Prelude.{nat_le, slice_index}
+use Rattle.std.proofs.Common.{◌≡◌, ℕ, suc, ◌+◌, ◌<◌, ◌==◌, Bool, true, false, not, cond, ◌&&◌, ◌||◌, List, [], ◌∷◌, ◌++◌, length, take, refl, subst, arith}
+use Rattle.std.specs.Prelude.{nat_le}
 use Rattle.std.specs.List.{list_all, prefix_len}
 use Rattle.std.specs.Char.{is_ascii_digit, is_ascii_alphabetic}
 use Rattle.std.proofs.lemmas.Bool.Decides.{nat_tests}
 use Rattle.tsl_value.specs.Literal.{are_digits}
 use Rattle.tsl_value.proofs.Digits.{are_digits-parts}
-use Rattle.line_spec.specs.Name.{is_name, is_name_byte, begins_no_number, is_taken}
+use Rattle.line_spec.specs.Name.{is_name, is_name_byte, is_taken}
 use Rattle.line_spec.specs.Parts.{digits_len}
 use Rattle.line_spec.proofs.NameLemmas.{both_true}
 

@@ -1,10 +1,8 @@
 -- The system of sound declarations is in order, and its equations have names.
-use Rattle.std.proofs.Common.{◌≡◌, ℕ, zero, suc, ◌+◌, ◌<◌, Bool, true, false, ◌||◌, List, [], ◌∷◌, length, refl, ap, ◌∙◌, sym, subst, arith, Option, Some, None}
+use Rattle.std.proofs.Common.{◌≡◌, ℕ, zero, suc, ◌<◌, Bool, true, false, ◌||◌, List, [], ◌∷◌, refl, ap, ◌∙◌, sym, subst, arith, Option, Some, None}
 use Rattle.std.specs.Prelude.{slice_get, IsSome, IsTrue}
 use Rattle.std.specs.List.{list_any, AllByRecursion, All}
 use Rattle.std.specs.Str.{bytes_eq}
-use Rattle.std.proofs.lemmas.Option.{slice_get_within}
-use Rattle.std.proofs.lemmas.List.{length-map}
 use Rattle.std.proofs.lemmas.List.Elements.{All-from_recursion}
 use Rattle.std.proofs.lemmas.Slice.Eq.{bytes_eq-Decides}
 use Rattle.flat_core.specs.declared.equation.Equation.{Equation}
@@ -21,7 +19,7 @@ use Rattle.line_spec.specs.declared.item.Expression.TheVariants as expression
 use Rattle.line_spec.specs.declared.table.Declaration.{Declaration}
 use Rattle.line_spec.specs.Table.{Declared, numbered, is_named}
 use Rattle.line_spec.specs.Meaning.{number_of, binary_of, op_of, arguments_of, equation_of, HaveNames}
-use Rattle.line_spec.proofs.Sound.{AreDifferent, AreSound, IsSound, names_of, all-map}
+use Rattle.line_spec.proofs.Sound.{AreDifferent, IsSound, names_of}
 use Rattle.line_spec.proofs.Systems.{equations_of, declared_at, below_at}
 
 operator-int : (o : Operator) → IsTrue (is_int_binary (binary_of o))

@@ -1,16 +1,15 @@
 -- What a line is taken apart into is what it spells.
-use Rattle.std.proofs.Common.{◌≡◌, ℕ, zero, suc, ℤ, ◌+◌, ◌<◌, ◌==◌, Bool, true, false, not, cond, ◌&&◌, List, [], ◌∷◌, ◌++◌, length, take, drop, refl, ap, ◌∙◌, sym, subst, arith, if◌then◌else◌, codes, Option, Some, None, Result, Ok, Err, append_assoc, append-nil, inl, inr}
-use Rattle.std.specs.Prelude.{◌⊎◌, IsTrue}
+use Rattle.std.proofs.Common.{◌≡◌, ℕ, ℤ, ◌==◌, Bool, true, false, cond, List, [], ◌∷◌, ◌++◌, length, take, drop, refl, ap, ◌∙◌, sym, subst, arith, if◌then◌else◌, codes, Option, Some, None, Result, Ok, Err, append-nil, inl, inr}
+use Rattle.std.specs.Prelude.{◌⊎◌}
 use Rattle.std.specs.Option.{option_and_then, option_map, option_or}
-use Rattle.std.specs.List.{list_all, prefix_len}
-use Rattle.std.specs.Char.{is_ascii_digit}
+use Rattle.std.specs.List.{list_all}
 use Rattle.std.specs.Str.{bytes_eq}
 use Rattle.std.proofs.Math.Seq.{take-append_seam, drop-append_seam}
 use Rattle.std.proofs.lemmas.List.{take-append-drop}
 use Rattle.std.proofs.lemmas.Slice.Eq.{bytes_eq-Decides}
 use Rattle.std.proofs.lemmas.Bool.Decides.{nat_tests}
 use Rattle.std.proofs.lemmas.Option.{cond_some}
-use Rattle.tsl_value.specs.Literal.{are_digits, literal}
+use Rattle.tsl_value.specs.Literal.{literal}
 use Rattle.tsl_value.specs.declared.literal.LiteralFault.{LiteralFault}
 use Rattle.tsl_value.specs.declared.scalar.Scalar.{Scalar}
 use Rattle.tsl_value.specs.declared.scalar.Scalar.TheVariants as scalar
@@ -23,7 +22,7 @@ use Rattle.line_spec.specs.declared.item.Operator.{Operator}
 use Rattle.line_spec.specs.declared.item.Operator.TheVariants as operator
 use Rattle.line_spec.specs.declared.item.Expression.{Expression}
 use Rattle.line_spec.specs.declared.item.Expression.TheVariants as expression
-use Rattle.line_spec.specs.Name.{is_name, is_name_byte}
+use Rattle.line_spec.specs.Name.{is_name}
 use Rattle.line_spec.specs.Item.{input_text, operator_text, call_text, expression_text, type_text, item_text, used_names, item_names, IsNumber, HasNumber, ItemHasNumber, Spells}
 use Rattle.line_spec.specs.Parts.{behind, name_len, take_name, number_and, digits_len, take_number, with_rest, one_operator, take_operator, alone, name_then, number_then, last_name, one_name, pair_with, two_names, number_and_name, name_first, number_first, negative, delay_of, arithmetic_of, call_of, expression_of, one_input, input_of, plain_definition, typed_definition, definition_of, output_of, item_of}
 use Rattle.line_spec.proofs.NameLemmas.{both_true, is_name-bytes, begins_other, name_len-append}

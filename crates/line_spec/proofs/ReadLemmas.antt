@@ -1,34 +1,32 @@
 -- What lines spell, with which lines a specification begins, and where a source is refused.
-use Rattle.std.proofs.Common.{◌≡◌, ℕ, ◌==◌, ◌+◌, ◌-◌, ◌<◌, ◌≤◌, Bool, true, false, ◌||◌, ◌&&◌, not, cond, List, [], ◌∷◌, ◌++◌, length, take, drop, codes, refl, ap, ◌∙◌, sym, subst, arith, Option, Some, None, append_assoc, append-nil, if◌then◌else◌}
-use Rattle.std.specs.Prelude.{is_some, is_none, nat_lt, IsTrue}
-use Rattle.std.specs.Option.{option_map, option_and_then}
-use Rattle.std.specs.List.{list_any, list_all, find, slice_split, count_by, AllByRecursion}
+use Rattle.std.proofs.Common.{◌≡◌, ℕ, ◌==◌, ◌+◌, ◌-◌, ◌<◌, ◌≤◌, Bool, true, false, ◌||◌, not, List, [], ◌∷◌, ◌++◌, length, take, drop, codes, refl, ap, ◌∙◌, sym, subst, arith, Option, Some, None, append_assoc, append-nil, if◌then◌else◌}
+use Rattle.std.specs.Prelude.{is_some, IsTrue}
+use Rattle.std.specs.Option.{option_map}
+use Rattle.std.specs.List.{list_any, list_all, find, AllByRecursion}
 use Rattle.std.specs.Str.{bytes_eq}
-use Rattle.std.proofs.lemmas.List.{length-append, length-take}
+use Rattle.std.proofs.lemmas.List.{length-take}
 use Rattle.std.proofs.lemmas.List.Sums.{count_by-le-length}
 use Rattle.std.proofs.lemmas.List.Splits.{length-slice_split}
-use Rattle.std.proofs.lemmas.Slice.Eq.{bytes_eq-Decides}
 use Rattle.std.proofs.lemmas.Bool.Decides.{nat_tests}
 use Rattle.std.proofs.lemmas.Option.{cond_some}
 use Rattle.tsl_value.specs.declared.place.Place.{Place}
 use Rattle.tsl_value.specs.declared.scalar.ScalarType.TheVariants as scalar_type
 use Rattle.line_spec.specs.declared.item.Item.{Item}
 use Rattle.line_spec.specs.declared.item.Item.TheVariants as item
-use Rattle.line_spec.specs.declared.item.InputType.{InputType}
 use Rattle.line_spec.specs.declared.item.InputType.TheVariants as input_type
 use Rattle.line_spec.specs.declared.table.Awaited.{Awaited}
 use Rattle.line_spec.specs.declared.table.Declaration.{Declaration}
 use Rattle.line_spec.specs.declared.read.SpecLineFault.{SpecLineFault}
 use Rattle.line_spec.specs.declared.read.SpecLineFault.TheVariants as fault
 use Rattle.line_spec.specs.Name.{is_name}
-use Rattle.line_spec.specs.Item.{item_text, item_names, type_of_input, Spells, AllSpell}
+use Rattle.line_spec.specs.Item.{item_text, item_names, Spells, AllSpell}
 use Rattle.line_spec.specs.Parts.{item_of}
-use Rattle.line_spec.specs.Table.{Declared, nothing, numbered, is_named, type_among, is_for, is_awaited, without, is_new, is_expected, has_room, is_allowed, with_item, with_items, AreAllowed, IsDeclared, refused_line, missing_line}
-use Rattle.line_spec.specs.Reading.{without_last_end, lines_of, IsSpecification, BeginsSpecification, CannotGoOn, IsLineNamed, IsNamed, Stops, IsRefused, too_long, stops, IsRead, if_allowed, with_line, named_line, IsLineFaultOf, IsFaultOf}
+use Rattle.line_spec.specs.Table.{Declared, nothing, numbered, is_named, type_among, is_awaited, without, has_room, is_allowed, with_item, with_items, AreAllowed, IsDeclared, refused_line, missing_line}
+use Rattle.line_spec.specs.Reading.{without_last_end, lines_of, IsSpecification, BeginsSpecification, IsLineNamed, IsRefused, stops, IsRead, if_allowed, with_line, named_line, IsLineFaultOf, IsFaultOf}
 use Rattle.line_spec.proofs.PartsLemmas.{and_then-some, item_of-some, item_of-spelled, item_of-none}
 use Rattle.line_spec.proofs.TableLemmas.{is_some-find, any-here}
 use Rattle.line_spec.proofs.AwaitedLemmas.{same_bytes, IsWaiting, AreOnce, without-first, length-without}
-use Rattle.line_spec.proofs.Sound.{IsSound, sound-declared}
+use Rattle.line_spec.proofs.Sound.{sound-declared}
 
 -- ---- lines spell items in one way
 pub one_item : (line : List ℕ) (i j : Item) → Spells line i → Spells line j → i ≡ j

@@ -1,6 +1,6 @@
 -- What holds of the declarations of allowed items.
 use Rattle.std.proofs.Common.{◌≡◌, ◌≢◌, ℕ, ◌+◌, ◌<◌, ◌≤◌, Bool, true, false, ◌||◌, ◌&&◌, not, cond, List, [], ◌∷◌, ◌++◌, length, refl, ap, ◌∙◌, sym, subst, arith, Option, Some, None, append_assoc, append-nil, if◌then◌else◌, inl, inr}
-use Rattle.std.specs.Prelude.{◌⊎◌, is_some, is_none, nat_lt, nat_le, unwrap_or, filter, IsTrue}
+use Rattle.std.specs.Prelude.{◌⊎◌, is_some, is_none, nat_le, unwrap_or, IsTrue}
 use Rattle.std.specs.Option.{option_map}
 use Rattle.std.specs.List.{list_any, list_all, find, AllByRecursion, All}
 use Rattle.std.proofs.lemmas.List.Elements.{All-from_recursion}
@@ -15,15 +15,14 @@ use Rattle.line_spec.specs.declared.item.Item.{Item}
 use Rattle.line_spec.specs.declared.item.Item.TheVariants as item
 use Rattle.line_spec.specs.declared.item.Expression.{Expression}
 use Rattle.line_spec.specs.declared.item.Expression.TheVariants as expression
-use Rattle.line_spec.specs.declared.item.InputType.{InputType}
 use Rattle.line_spec.specs.declared.table.Awaited.{Awaited}
 use Rattle.line_spec.specs.declared.table.Declaration.{Declaration}
 use Rattle.line_spec.specs.Name.{is_name, is_name_byte, begins_no_number, is_taken}
 use Rattle.line_spec.specs.Item.{used_names, amount_of, item_names, type_of_input}
-use Rattle.line_spec.specs.Table.{Declared, nothing, numbered, is_named, type_among, same_type, common_type, first_type, expression_type, is_for, is_awaited, without, newly_awaited, awaited_with, is_new, is_expected, has_room, may_be_int, has_amount, is_allowed_input, is_allowed_definition, is_allowed_output, is_allowed, with_input, with_definition, with_output, with_item, with_items, AreAllowed, IsDeclared}
+use Rattle.line_spec.specs.Table.{Declared, nothing, numbered, is_named, type_among, same_type, common_type, first_type, expression_type, is_for, is_awaited, without, newly_awaited, awaited_with, is_new, is_expected, has_room, may_be_int, has_amount, is_allowed_input, is_allowed_definition, is_allowed, with_input, with_definition, with_output, with_item, with_items, AreAllowed, IsDeclared}
 use Rattle.line_spec.proofs.NameLemmas.{both_true}
 use Rattle.line_spec.proofs.TableLemmas.{is_some-find, find-insert, list_any-insert, list_any-insert_none, same_types}
-use Rattle.line_spec.proofs.AwaitedLemmas.{flipped, same_bytes, differ, IsWaiting, AreOnce, still_awaited, without-all, once-without, once-push, none-without, any-left, any-right, length-without}
+use Rattle.line_spec.proofs.AwaitedLemmas.{flipped, same_bytes, IsWaiting, AreOnce, still_awaited, without-all, once-without, once-push, none-without, any-left, any-right}
 
 -- the declarations have the name
 abbrev pub Have : List Declaration → List ℕ → Type 0

@@ -1,41 +1,33 @@
 -- The system of sound declarations is complete and in order.
-use Rattle.std.proofs.Common.{◌≡◌, ◌≢◌, ℕ, zero, suc, ◌+◌, ◌<◌, ◌≤◌, Bool, true, false, cond, List, [], ◌∷◌, ◌++◌, length, take, refl, ap, ◌∙◌, sym, subst, arith, Option, Some, None, append_assoc, append-nil, map, inl, inr, lit≤}
-use Rattle.std.specs.Prelude.{◌⊎◌, ℤ, is_some, slice_get}
+use Rattle.std.proofs.Common.{◌≡◌, ◌≢◌, ℕ, zero, suc, ◌<◌, Bool, true, false, cond, List, [], ◌∷◌, ◌++◌, length, take, refl, ap, ◌∙◌, sym, subst, arith, Option, Some, None, append_assoc, append-nil, map, inl, inr}
+use Rattle.std.specs.Prelude.{ℤ, slice_get}
 use Rattle.std.specs.Option.{option_map}
-use Rattle.std.specs.List.{list_any, find, AllByRecursion, position_or_len, All}
-use Rattle.std.specs.Str.{bytes_eq}
-use Rattle.std.proofs.lemmas.Option.{slice_get-map, slice_get_within}
+use Rattle.std.specs.List.{find, AllByRecursion}
+use Rattle.std.proofs.lemmas.Option.{slice_get-map}
 use Rattle.std.proofs.lemmas.List.{length-map}
-use Rattle.std.proofs.lemmas.Slice.Eq.{bytes_eq-Decides}
-use Rattle.tsl_value.specs.declared.place.Place.{Place}
 use Rattle.tsl_value.specs.declared.scalar.ScalarType.{ScalarType}
 use Rattle.tsl_value.specs.declared.scalar.ScalarType.TheVariants as scalar_type
 use Rattle.tsl_value.specs.declared.scalar.ValueType.{ValueType}
 use Rattle.tsl_value.specs.declared.scalar.ValueType.TheVariants as value_type
-use Rattle.flat_core.specs.declared.equation.Op.{Op}
-use Rattle.flat_core.specs.declared.equation.Op.TheVariants as op
 use Rattle.flat_core.specs.declared.equation.Equation.{Equation}
 use Rattle.flat_core.specs.declared.equation.Output.{Output}
-use Rattle.flat_core.specs.System.{System, equation}
-use Rattle.flat_core.specs.Typed.{IsTyped, kind_of, input, nil, unit, time, last, merge, delay, lift}
-use Rattle.flat_core.specs.TypedSystem.{IsOfType, AreOfTypes, IsTypedEquation, IsTypedSystem}
+use Rattle.flat_core.specs.System.{System}
+use Rattle.flat_core.specs.Typed.{IsTyped, input, nil, unit, time, last, merge, delay, lift}
+use Rattle.flat_core.specs.TypedSystem.{IsOfType, AreOfTypes, IsTypedEquation}
 use Rattle.flat_core.specs.Complete.{IsComplete, HasShortBody, HaveDifferentNames}
-use Rattle.tsl_value.specs.declared.scalar.Scalar.TheVariants as scalar
 use Rattle.lift_func.specs.declared.body.Unary.TheVariants as unary
-use Rattle.lift_func.specs.declared.body.Binary.{Binary}
-use Rattle.lift_func.specs.Tree.{Tree, Literal, Argument, One, Two}
-use Rattle.lift_func.specs.Typing.{Kind, Value, HasKind, TypesOne, TypesTwo, plain, is_arithmetic, neg, arithmetic, literal, argument, one, two}
+use Rattle.lift_func.specs.Tree.{Tree, Argument, One, Two}
+use Rattle.lift_func.specs.Typing.{Kind, HasKind, plain, is_arithmetic, neg, arithmetic, literal, argument, one, two}
 use Rattle.line_spec.specs.declared.item.Operator.{Operator}
 use Rattle.line_spec.specs.declared.item.Operator.TheVariants as operator
 use Rattle.line_spec.specs.declared.item.Expression.{Expression}
 use Rattle.line_spec.specs.declared.item.Expression.TheVariants as expression
-use Rattle.line_spec.specs.declared.table.Awaited.{Awaited}
 use Rattle.line_spec.specs.declared.table.Declaration.{Declaration}
 use Rattle.line_spec.specs.Item.{used_names}
-use Rattle.line_spec.specs.Table.{Declared, numbered, is_named, type_among, same_type, common_type, first_type, expression_type}
+use Rattle.line_spec.specs.Table.{Declared, numbered, is_named, type_among, same_type, common_type, first_type}
 use Rattle.line_spec.specs.Meaning.{number_of, binary_of, literal_of, strict_lift, op_of, arguments_of, equation_of, output_of}
 use Rattle.line_spec.proofs.TableLemmas.{found_at, position-below, position-within, same_types}
-use Rattle.line_spec.proofs.Sound.{Have, HaveAll, HasType, AreEarlier, AreDifferent, AreSound, AreDistinct, IsAmount, AreAmounts, IsSound, names_of, amount_in, all-map}
+use Rattle.line_spec.proofs.Sound.{Have, HaveAll, HasType, AreEarlier, AreSound, AreDistinct, IsAmount, AreAmounts, IsSound, names_of, amount_in, all-map}
 
 -- ---- the declarations of the equations
 abbrev pub equations_of : List Declaration → List Equation

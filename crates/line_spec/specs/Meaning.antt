@@ -1,5 +1,5 @@
 -- The flat system of what is declared.
-use Rattle.std.specs.Prelude.{◌≡◌, ℕ, ℤ, true, ◌+◌, List, [], ◌∷◌, length, map, IsSome, IsTrue, ◌↔◌, Option, Some, None}
+use Rattle.std.specs.Prelude.{◌≡◌, ℕ, ℤ, true, ◌+◌, List, [], length, map, IsSome, IsTrue, ◌↔◌, Option, Some, None}
 use Rattle.std.specs.List.Sorted.{IsStrictlyIncreasing}
 use Rattle.std.specs.List.{position_or_len}
 use Rattle.tsl_value.specs.declared.place.Place.{Place}

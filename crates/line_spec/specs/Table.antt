@@ -7,7 +7,6 @@ use Rattle.tsl_value.specs.declared.scalar.ScalarType.{ScalarType}
 use Rattle.tsl_value.specs.declared.scalar.ScalarType.TheVariants as scalar_type
 use Rattle.line_spec.specs.declared.item.Item.{Item}
 use Rattle.line_spec.specs.declared.item.Item.TheVariants as item
-use Rattle.line_spec.specs.declared.item.InputType.{InputType}
 use Rattle.line_spec.specs.declared.item.Expression.{Expression}
 use Rattle.line_spec.specs.declared.item.Expression.TheVariants as expression
 use Rattle.line_spec.specs.declared.table.Awaited.{Awaited}

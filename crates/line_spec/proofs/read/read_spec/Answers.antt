@@ -1,5 +1,5 @@
 -- All lines are read.
-use Rattle.std.proofs.Common.{◌≡◌, ℕ, ◌+◌, ◌∙◌, ap, sym, subst, length, arith}
+use Rattle.std.proofs.Common.{ap, sym, subst, arith}
 use Rattle.line_spec.specs.Reading.{lines_of, IsFaultOf}
 use Rattle.line_spec.proofs.ReadLemmas.{read-lines, read-declared, refused-behind, few_lines}
 use Rattle.line_spec.proofs.read.read_spec.Goals as goal

@@ -1,8 +1,7 @@
 -- What is declared makes a complete system.
-use Rattle.std.proofs.Common.{◌≡◌, ◌<◌, ◌≤◌, ◌^◌, List, ℕ, length, ap, ◌∙◌, sym, subst, arith, map}
+use Rattle.std.proofs.Common.{◌≡◌, ◌≤◌, List, length, ap, ◌∙◌, sym, subst, arith, map}
 use Rattle.std.specs.List.{All}
 use Rattle.flat_core.specs.System.{System}
-use Rattle.flat_core.specs.Complete.{IsComplete}
 use Rattle.line_spec.specs.declared.table.Declaration.{Declaration}
 use Rattle.line_spec.specs.Table.{Declared, numbered}
 use Rattle.plain_solver.specs.Instant.{IsInOrder}
