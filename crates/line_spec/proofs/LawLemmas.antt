@@ -1,22 +1,24 @@
 -- A source spells one system at most, and is refused at one place at most.
-use Rattle.std.proofs.Common.{◌≡◌, ℕ, zero, suc, ◌+◌, ◌<◌, ◌≤◌, Bool, true, false, ◌||◌, List, [], ◌∷◌, ◌++◌, length, get_or, refl, ap, ◌∙◌, sym, subst, arith, Some, append_assoc, append-nil}
-use Rattle.std.specs.Prelude.{◌==◌, IsTrue, slice_get}
-use Rattle.std.specs.List.{list_any, AllPairs, Contains}
+use Rattle.std.proofs.Common.{◌≡◌, ℕ, zero, suc, ◌+◌, ◌<◌, ◌≤◌, Bool, true, false, ◌||◌, List, [], ◌∷◌, ◌++◌, length, get_or, refl, ap, ◌∙◌, sym, subst, arith, Option, Some, None, append_assoc, append-nil}
+use Rattle.std.specs.Prelude.{◌==◌, slice_get}
+use Rattle.std.specs.List.{AllPairs, Contains}
 use Rattle.std.specs.List.Sorted.{IsStrictlyIncreasing}
 use Rattle.std.proofs.lemmas.List.Kept.{AllPairs-from_increasing}
 use Rattle.std.proofs.lemmas.Bool.Decides.{nat_tests}
-use Rattle.tsl_value.specs.declared.place.Place.{Place}
 use Rattle.flat_core.specs.declared.equation.Equation.{Equation}
 use Rattle.flat_core.specs.declared.equation.Output.{Output}
 use Rattle.flat_core.specs.Graph.{Walk, stay, onward}
 use Rattle.flat_core.specs.Members.{is_in}
-use Rattle.flat_core.specs.Needed.{IsNeeded, HasArgument}
-use Rattle.flat_core.specs.System.{System, runs}
+use Rattle.flat_core.specs.Needed.{IsNeeded}
+use Rattle.flat_core.specs.System.{System}
 use Rattle.line_spec.specs.declared.item.Item.{Item}
-use Rattle.line_spec.specs.Table.{Declared, nothing, numbered, with_items}
+use Rattle.line_spec.specs.Table.{Declared, nothing, with_items}
 use Rattle.line_spec.specs.Meaning.{IsSystem}
-use Rattle.line_spec.specs.Reading.{lines_of, IsSpecification, BeginsSpecification, SpellsSystem, CannotGoOn, IsRefused, too_long, stops}
+use Rattle.line_spec.specs.Item.{AllSpell}
+use Rattle.line_spec.specs.Parts.{item_of}
+use Rattle.line_spec.specs.Reading.{lines_of, IsSpecification, BeginsSpecification, CannotGoOn, IsLineNamed, IsNamed, Stops, too_long, stops}
 use Rattle.line_spec.specs.Laws.{OneSystem, RefusedSpellsNone, OnePlace}
+use Rattle.line_spec.proofs.PartsLemmas.{item_of-some, item_of-none}
 use Rattle.line_spec.proofs.ReadLemmas.{items_once}
 
 -- ---- two ascending lists of the same numbers are one
@@ -127,8 +129,8 @@ no_longer front (line ∷ rest) items none whole =
 
 pub refused_spells_none : RefusedSpellsNone
 refused_spells_none source place s (too_long long at) spells = let short = spells.short in omega arith
-refused_spells_none source place s (stops front rest short is begins none at) spells =
-    no_longer front rest spells.items none (subst (λ lines. IsSpecification lines spells.items) (sym is) spells.whole)
+refused_spells_none source place s (stops n short h at) spells =
+    no_longer h.front h.rest spells.items h.ends (subst (λ lines. IsSpecification lines spells.items) (sym h.is) spells.whole)
 
 -- a shorter front with which a specification cannot go on
 shorter-begins : (front more : List (List ℕ)) → BeginsSpecification (front ++ more) → BeginsSpecification front
@@ -161,12 +163,43 @@ not_shorter f r g s e none begins less =
     let begins' : BeginsSpecification ((f ++ l.line ∷ []) ++ l.more) = subst BeginsSpecification apart begins in
     none' (shorter-begins (f ++ l.line ∷ []) l.more begins')
 
+-- one line is named
+one_line : (t : Declared) (line : List ℕ) (m n : ℕ) → IsLineNamed t line m → IsLineNamed t line n → m ≡ n
+one_line t line m n g h = by_item (item_of line) refl
+  where
+    by_item : (o : Option Item) → item_of line ≡ o → m ≡ n
+    by_item None e = g.other (λ i. item_of-none line i e) ∙ sym (h.other (λ i. item_of-none line i e))
+    by_item (Some i) e = let spells = item_of-some line i e in g.item i spells ∙ sym (h.item i spells)
+
+one_named : (t : Declared) (rest : List (List ℕ)) (m n : ℕ) → IsNamed t rest m → IsNamed t rest n → m ≡ n
+one_named t [] m n g h = g ∙ sym h
+one_named t (line ∷ rest) m n g h = one_line t line m n g h
+
+-- two fronts of one length are one
+same_front : (f r g s : List (List ℕ)) → f ++ r ≡ g ++ s → length f ≡ length g → (f ≡ g) × (r ≡ s)
+same_front [] r [] s e n = (refl, e)
+same_front [] r (y ∷ g) s e n = absurd (omega arith)
+same_front (x ∷ f) r [] s e n = absurd (omega arith)
+same_front (x ∷ f) r (y ∷ g) s e n =
+    let tail : f ++ r ≡ g ++ s = cc in
+    let head : x ≡ y = cc in
+    let more = same_front f r g s tail (omega arith) in
+    (ap (λ z. z ∷ f) head ∙ ap (λ zs. y ∷ zs) more.0, more.1)
+
+one_stop : (source : List ℕ) (m n : ℕ) → Stops source m → Stops source n → m ≡ n
+one_stop source m n g h =
+    let is : g.front ++ g.rest ≡ h.front ++ h.rest = g.is ∙ sym h.is in
+    let not_less : length g.front < length h.front → ⊥ = not_shorter g.front g.rest h.front h.rest is g.ends h.begins in
+    let not_more : length h.front < length g.front → ⊥ = not_shorter h.front h.rest g.front g.rest (sym is) h.ends g.begins in
+    let parts = same_front g.front g.rest h.front h.rest is (omega (arith, not_less, not_more)) in
+    let items : g.items ≡ h.items = items_once h.front g.items h.items (subst (λ lines. AllSpell lines g.items) parts.0 g.spelled) h.spelled in
+    let named : IsNamed (with_items nothing h.items) h.rest m =
+    subst (λ items. IsNamed (with_items nothing items) h.rest m) items (subst (λ rest. IsNamed (with_items nothing g.items) rest m) parts.1 g.named) in
+    one_named (with_items nothing h.items) h.rest m n named h.named
+
 pub one_place : OnePlace
 one_place source p q (too_long long at) (too_long long' at') = at ∙ sym at'
-one_place source p q (too_long long at) (stops g s short is begins none at') = absurd (omega arith)
-one_place source p q (stops f r short is begins none at) (too_long long at') = absurd (omega arith)
-one_place source p q (stops f r short is begins none at) (stops g s short' is' begins' none' at') =
-    let not_less : length f < length g → ⊥ = not_shorter f r g s (is ∙ sym is') none begins' in
-    let not_more : length g < length f → ⊥ = not_shorter g s f r (is' ∙ sym is) none' begins in
-    let same : length f ≡ length g = omega (arith, not_less, not_more) in
-    at ∙ (ap (λ n. record { line = n + 1; column = 1 }) same ∙ sym at')
+one_place source p q (too_long long at) (stops n short h at') = absurd (omega arith)
+one_place source p q (stops n short h at) (too_long long' at') = absurd (omega arith)
+one_place source p q (stops m short g at) (stops n short' h at') =
+    at ∙ (ap (λ n. record { line = n; column = 1 }) (one_stop source m n g h) ∙ sym at')

@@ -1,6 +1,8 @@
 pub mod NameLemmas
+pub mod NumberLemmas
 pub mod PartsLemmas
 pub mod TableLemmas
+pub mod AwaitedLemmas
 pub mod Sound
 pub mod Systems
 pub mod Order

@@ -1,10 +1,8 @@
 -- The system of sound declarations is in order, and its equations have names.
-use Rattle.std.proofs.Common.{◌≡◌, ℕ, zero, suc, ◌+◌, ◌<◌, Bool, true, false, ◌||◌, List, [], ◌∷◌, length, refl, ap, ◌∙◌, sym, subst, arith, Option, Some, None}
-use Rattle.std.specs.Prelude.{slice_get, IsSome}
+use Rattle.std.proofs.Common.{◌≡◌, ℕ, zero, suc, ◌<◌, Bool, true, false, ◌||◌, List, [], ◌∷◌, refl, ap, ◌∙◌, sym, subst, arith, Option, Some, None}
+use Rattle.std.specs.Prelude.{slice_get, IsSome, IsTrue}
 use Rattle.std.specs.List.{list_any, AllByRecursion, All}
 use Rattle.std.specs.Str.{bytes_eq}
-use Rattle.std.proofs.lemmas.Option.{slice_get_within}
-use Rattle.std.proofs.lemmas.List.{length-map}
 use Rattle.std.proofs.lemmas.List.Elements.{All-from_recursion}
 use Rattle.std.proofs.lemmas.Slice.Eq.{bytes_eq-Decides}
 use Rattle.flat_core.specs.declared.equation.Equation.{Equation}
@@ -13,13 +11,23 @@ use Rattle.flat_core.specs.System.{System}
 use Rattle.flat_core.specs.WellFormed.{IsRanked, unguarded_of}
 use Rattle.plain_solver.specs.Shape.{HasShape}
 use Rattle.plain_solver.specs.Instant.{IsInOrder}
+use Rattle.lift_func.specs.Ints.{is_int_binary}
+use Rattle.line_spec.specs.declared.item.Operator.{Operator}
+use Rattle.line_spec.specs.declared.item.Operator.TheVariants as operator
 use Rattle.line_spec.specs.declared.item.Expression.{Expression}
 use Rattle.line_spec.specs.declared.item.Expression.TheVariants as expression
 use Rattle.line_spec.specs.declared.table.Declaration.{Declaration}
 use Rattle.line_spec.specs.Table.{Declared, numbered, is_named}
-use Rattle.line_spec.specs.Meaning.{number_of, op_of, arguments_of, equation_of, HaveNames}
-use Rattle.line_spec.proofs.Sound.{AreDifferent, AreSound, IsSound, names_of, all-map}
+use Rattle.line_spec.specs.Meaning.{number_of, binary_of, op_of, arguments_of, equation_of, HaveNames}
+use Rattle.line_spec.proofs.Sound.{AreDifferent, IsSound, names_of}
 use Rattle.line_spec.proofs.Systems.{equations_of, declared_at, below_at}
+
+operator-int : (o : Operator) → IsTrue (is_int_binary (binary_of o))
+operator-int operator.Add = refl
+operator-int operator.Sub = refl
+operator-int operator.Mul = refl
+operator-int operator.Div = refl
+operator-int operator.Rem = refl
 
 shaped : (ds : List Declaration) (o : Option Expression) → HasShape (op_of o) (arguments_of ds o)
 shaped ds None = tt
@@ -28,6 +36,11 @@ shaped ds (Some expression.Unit) = tt
 shaped ds (Some (expression.Time a)) = tt
 shaped ds (Some (expression.Last v r)) = tt
 shaped ds (Some (expression.Merge a b)) = tt
+shaped ds (Some (expression.Const z a)) = tt
+shaped ds (Some (expression.NameFirst a o z)) = (operator-int o, omega arith, tt)
+shaped ds (Some (expression.NumberFirst z o a)) = (operator-int o, tt, omega arith)
+shaped ds (Some (expression.Neg a)) = omega arith
+shaped ds (Some (expression.Delay typed d r)) = tt
 
 abbrev AreBelow : ℕ → List ℕ → Type 0
 AreBelow n args = AllByRecursion (λ a. a < n) args
@@ -39,6 +52,11 @@ used_below ds i (Some expression.Unit) h = tt
 used_below ds i (Some (expression.Time a)) h = (h.0, tt)
 used_below ds i (Some (expression.Last v r)) h = (h.1.0, tt)
 used_below ds i (Some (expression.Merge a b)) h = (h.0, (h.1.0, tt))
+used_below ds i (Some (expression.Const z a)) h = (h.0, tt)
+used_below ds i (Some (expression.NameFirst a o z)) h = (h.0, tt)
+used_below ds i (Some (expression.NumberFirst z o a)) h = (h.0, tt)
+used_below ds i (Some (expression.Neg a)) h = (h.0, tt)
+used_below ds i (Some (expression.Delay typed d r)) h = tt
 
 unguarded_below : (ds : List Declaration) (i : ℕ) (o : Option Expression) → AllByRecursion (λ n. number_of ds n < i) (names_of o) → AreBelow i (unguarded_of (op_of o) (arguments_of ds o))
 unguarded_below ds i None h = tt
@@ -47,6 +65,11 @@ unguarded_below ds i (Some expression.Unit) h = tt
 unguarded_below ds i (Some (expression.Time a)) h = (h.0, tt)
 unguarded_below ds i (Some (expression.Last v r)) h = (h.1.0, tt)
 unguarded_below ds i (Some (expression.Merge a b)) h = (h.0, (h.1.0, tt))
+unguarded_below ds i (Some (expression.Const z a)) h = (h.0, tt)
+unguarded_below ds i (Some (expression.NameFirst a o z)) h = (h.0, tt)
+unguarded_below ds i (Some (expression.NumberFirst z o a)) h = (h.0, tt)
+unguarded_below ds i (Some (expression.Neg a)) h = (h.0, tt)
+unguarded_below ds i (Some (expression.Delay typed d r)) h = (h.0, tt)
 
 -- the declaration of equation i, with the numbers of its names below i
 record Found (ds : List Declaration) (i : ℕ) (e : Equation) : Type 0 where

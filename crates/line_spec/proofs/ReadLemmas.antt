@@ -1,27 +1,32 @@
 -- What lines spell, with which lines a specification begins, and where a source is refused.
-use Rattle.std.proofs.Common.{◌≡◌, ℕ, ◌==◌, ◌+◌, ◌-◌, ◌<◌, ◌≤◌, Bool, true, false, ◌||◌, ◌&&◌, not, cond, List, [], ◌∷◌, ◌++◌, length, take, drop, codes, refl, ap, ◌∙◌, sym, subst, arith, Option, Some, None, append_assoc, append-nil, if◌then◌else◌}
-use Rattle.std.specs.Prelude.{is_some, is_none, nat_lt, IsTrue}
-use Rattle.std.specs.Option.{option_map, option_and_then}
-use Rattle.std.specs.List.{list_any, list_all, find, slice_split, count_by, AllByRecursion}
+use Rattle.std.proofs.Common.{◌≡◌, ℕ, ◌==◌, ◌+◌, ◌-◌, ◌<◌, ◌≤◌, Bool, true, false, ◌||◌, not, List, [], ◌∷◌, ◌++◌, length, take, drop, codes, refl, ap, ◌∙◌, sym, subst, arith, Option, Some, None, append_assoc, append-nil, if◌then◌else◌}
+use Rattle.std.specs.Prelude.{is_some, IsTrue}
+use Rattle.std.specs.Option.{option_map}
+use Rattle.std.specs.List.{list_any, list_all, find, AllByRecursion}
 use Rattle.std.specs.Str.{bytes_eq}
-use Rattle.std.proofs.lemmas.List.{length-append, length-take}
+use Rattle.std.proofs.lemmas.List.{length-take}
 use Rattle.std.proofs.lemmas.List.Sums.{count_by-le-length}
 use Rattle.std.proofs.lemmas.List.Splits.{length-slice_split}
-use Rattle.std.proofs.lemmas.Slice.Eq.{bytes_eq-Decides}
+use Rattle.std.proofs.lemmas.Bool.Decides.{nat_tests}
 use Rattle.std.proofs.lemmas.Option.{cond_some}
 use Rattle.tsl_value.specs.declared.place.Place.{Place}
 use Rattle.tsl_value.specs.declared.scalar.ScalarType.TheVariants as scalar_type
 use Rattle.line_spec.specs.declared.item.Item.{Item}
 use Rattle.line_spec.specs.declared.item.Item.TheVariants as item
+use Rattle.line_spec.specs.declared.item.InputType.TheVariants as input_type
+use Rattle.line_spec.specs.declared.table.Awaited.{Awaited}
 use Rattle.line_spec.specs.declared.table.Declaration.{Declaration}
+use Rattle.line_spec.specs.declared.read.SpecLineFault.{SpecLineFault}
+use Rattle.line_spec.specs.declared.read.SpecLineFault.TheVariants as fault
 use Rattle.line_spec.specs.Name.{is_name}
 use Rattle.line_spec.specs.Item.{item_text, item_names, Spells, AllSpell}
 use Rattle.line_spec.specs.Parts.{item_of}
-use Rattle.line_spec.specs.Table.{Declared, nothing, numbered, is_named, type_among, is_free, is_allowed, with_item, with_items, AreAllowed, IsDeclared}
-use Rattle.line_spec.specs.Reading.{without_last_end, lines_of, IsSpecification, BeginsSpecification, CannotGoOn, IsRefused, too_long, stops, IsRead, if_allowed, with_line}
-use Rattle.line_spec.proofs.PartsLemmas.{and_then-some, item_of-some, item_of-spelled}
-use Rattle.line_spec.proofs.TableLemmas.{is_some-find}
-use Rattle.line_spec.proofs.Sound.{IsSound, sound-declared}
+use Rattle.line_spec.specs.Table.{Declared, nothing, numbered, is_named, type_among, is_awaited, without, has_room, is_allowed, with_item, with_items, AreAllowed, IsDeclared, refused_line, missing_line}
+use Rattle.line_spec.specs.Reading.{without_last_end, lines_of, IsSpecification, BeginsSpecification, IsLineNamed, IsRefused, stops, IsRead, if_allowed, with_line, named_line, IsLineFaultOf, IsFaultOf}
+use Rattle.line_spec.proofs.PartsLemmas.{and_then-some, item_of-some, item_of-spelled, item_of-none}
+use Rattle.line_spec.proofs.TableLemmas.{is_some-find, any-here}
+use Rattle.line_spec.proofs.AwaitedLemmas.{same_bytes, IsWaiting, AreOnce, without-first, length-without}
+use Rattle.line_spec.proofs.Sound.{sound-declared}
 
 -- ---- lines spell items in one way
 pub one_item : (line : List ℕ) (i j : Item) → Spells line i → Spells line j → i ≡ j
@@ -85,7 +90,7 @@ allowed-second t [] js h = h
 allowed-second t (i ∷ is) js h = allowed-second (with_item t i) is js h.1
 
 one_line : (t : Declared) (i : Item) → (with_item t i).lines ≡ t.lines + 1
-one_line t (item.Input n) = refl
+one_line t (item.Input n of) = refl
 one_line t (item.Definition n e) = refl
 one_line t (item.Output n) = refl
 
@@ -94,13 +99,16 @@ lines-with_items t [] = omega arith
 lines-with_items t (i ∷ items) = let more = lines-with_items (with_item t i) items in let one = one_line t i in omega (arith, more, one)
 
 -- ---- lines that are read
-abbrev declared_by : List Declaration → List Declaration → List (List ℕ) → ℕ → Declared
-declared_by inputs definitions outputs lines = record { inputs = inputs; definitions = definitions; outputs = outputs; lines = lines }
+abbrev declared_by : List Declaration → List Declaration → List Awaited → List (List ℕ) → ℕ → Declared
+declared_by inputs definitions awaited outputs lines = record { inputs = inputs; definitions = definitions; awaited = awaited; outputs = outputs; lines = lines }
 
-pub read-nothing : (t : Declared) → t.inputs ≡ [] → t.definitions ≡ [] → t.outputs ≡ [] → t.lines ≡ 0 → IsRead [] t
-read-nothing t inputs definitions outputs lines =
+pub read-nothing : (t : Declared) → t.inputs ≡ [] → t.definitions ≡ [] → t.awaited ≡ [] → t.outputs ≡ [] → t.lines ≡ 0 → IsRead [] t
+read-nothing t inputs definitions awaited outputs lines =
     let is : t ≡ nothing =
-    ap (λ a. declared_by a t.definitions t.outputs t.lines) inputs ∙ (ap (λ b. declared_by [] b t.outputs t.lines) definitions ∙ (ap (λ c. declared_by [] [] c t.lines) outputs ∙ ap (λ n. declared_by [] [] [] n) lines)) in
+    ap (λ a. declared_by a t.definitions t.awaited t.outputs t.lines) inputs
+    ∙ (ap (λ b. declared_by [] b t.awaited t.outputs t.lines) definitions
+    ∙ (ap (λ w. declared_by [] [] w t.outputs t.lines) awaited
+    ∙ (ap (λ c. declared_by [] [] [] c t.lines) outputs ∙ ap (λ n. declared_by [] [] [] [] n) lines))) in
     record { items = []; spelled = tt; allowed = tt; is = sym is }
 
 pub read-lines : (lines : List (List ℕ)) (t : Declared) → IsRead lines t → t.lines ≡ length lines
@@ -143,23 +151,12 @@ read-stops front t line r h b =
     one_more t line b.more parts.after parts.second (subst (λ u. AreAllowed u parts.after) here allowed) h
 
 -- ---- how lines can go on
-any-here : {X : Type 0} (p : X → Bool) (xs : List X) (d : X) (ys : List X) → p d ≡ true → list_any p (xs ++ d ∷ ys) ≡ true
-any-here p [] d ys h = rw h refl
-any-here p (x ∷ xs) d ys h = or_true (p x) _ (any-here p xs d ys h)
-  where
-    or_true : (a b : Bool) → b ≡ true → (a || b) ≡ true
-    or_true true b h = refl
-    or_true false b h = h
-
 is_some-type : (ds : List Declaration) (n : List ℕ) → is_some (type_among ds n) ≡ list_any (is_named n) ds
 is_some-type ds n = is_some-mapped (λ (d : Declaration). d.of) (find (is_named n) ds) ∙ is_some-find (is_named n) ds
   where
     is_some-mapped : {A B : Type 0} (f : A → B) (o : Option A) → is_some (option_map f o) ≡ is_some o
     is_some-mapped f None = refl
     is_some-mapped f (Some x) = refl
-
-same_bytes : (n : List ℕ) → bytes_eq n n ≡ true
-same_bytes n = (bytes_eq-Decides n n).1 refl
 
 -- an output of a name that is declared, where there is no output yet
 output_allowed : (t : Declared) (n : List ℕ) → t.outputs ≡ [] → list_any (is_named n) (numbered t) ≡ true → IsTrue (is_allowed t (item.Output n))
@@ -170,45 +167,67 @@ some_pushed [] x = omega arith
 some_pushed (y ∷ xs) x = omega arith
 
 -- by an output of a name that is declared
-begins-by_output : (front : List (List ℕ)) (t : Declared) (n : List ℕ) → IsRead front t → t.outputs ≡ [] → is_name n ≡ true → list_any (is_named n) (numbered t) ≡ true → BeginsSpecification front
-begins-by_output front t n r none name known =
+begins-by_output : (front : List (List ℕ)) (t : Declared) (n : List ℕ) → IsRead front t → t.awaited ≡ [] → t.outputs ≡ [] → is_name n ≡ true → list_any (is_named n) (numbered t) ≡ true → BeginsSpecification front
+begins-by_output front t n r none_awaited none name known =
     let i : Item = item.Output n in
     let allowed : IsTrue (is_allowed (with_items nothing r.items) i) = subst (λ u. IsTrue (is_allowed u i)) (sym r.is) (output_allowed t n none known) in
     record {
-      more = item_text i ∷ [];
+      more = item_text i [] ∷ [];
       items = r.items ++ i ∷ [];
       whole = record {
-        spelled = spelled-append front (item_text i ∷ []) r.items (i ∷ []) r.spelled (record { text = refl; names = rw name refl }, tt);
+        spelled = spelled-append front (item_text i [] ∷ []) r.items (i ∷ []) r.spelled (record { digits = []; text = refl; names = rw name refl; number = tt }, tt);
         allowed = allowed-append nothing r.items (i ∷ []) r.allowed (allowed, tt);
+        none_awaited = subst (λ (u : Declared). u.awaited ≡ []) (sym (with_items-append nothing r.items (i ∷ []))) (subst (λ (u : Declared). u.awaited ≡ []) (sym r.is) none_awaited);
         some_output = subst (λ u. 0 < length u.outputs) (sym (with_items-append nothing r.items (i ∷ []))) (some_pushed (with_items nothing r.items).outputs n);
       };
     }
-
-abbrev new_name : List ℕ
-new_name = codes "x"
-
--- by a new input, where no name is declared
-read-input : (front : List (List ℕ)) (t : Declared) → IsRead front t → numbered t ≡ [] → IsRead (front ++ item_text (item.Input new_name) ∷ []) (with_item t (item.Input new_name))
-read-input front t r none =
-    let i : Item = item.Input new_name in
-    let allowed : IsTrue (is_allowed t i) = rw none refl in
-    read-push front t (with_item t i) (item_text i) r (rw allowed refl)
 
 begins-shorter : (front : List (List ℕ)) (line : List ℕ) → BeginsSpecification (front ++ line ∷ []) → BeginsSpecification front
 begins-shorter front line b =
     record { more = line ∷ b.more; items = b.items; whole = subst (λ lines. IsSpecification lines b.items) (append_assoc front (line ∷ []) b.more) b.whole }
 
-begins-by_input : (front : List (List ℕ)) (t : Declared) → IsRead front t → t.outputs ≡ [] → numbered t ≡ [] → BeginsSpecification front
-begins-by_input front t r none no_name =
-    let i : Item = item.Input new_name in
+-- an input of Int
+abbrev int_input : List ℕ → Item
+int_input n = item.Input n input_type.Int
+
+input_allowed : (t : Declared) (n : List ℕ) → type_among (numbered t) n ≡ None → length (numbered t) + length (without n t.awaited) < 4096 → is_allowed t (int_input n) ≡ true
+input_allowed t n new room =
+    let fits : has_room t (length (without n t.awaited)) ≡ true = grind (arith, nat_tests, room) in
+    rw new (rw (or_true (not (is_awaited t n)) true refl) fits)
+  where
+    or_true : (a b : Bool) → b ≡ true → (a || b) ≡ true
+    or_true true b h = refl
+    or_true false b h = h
+
+read-input : (front : List (List ℕ)) (t : Declared) (n : List ℕ) → IsRead front t → is_name n ≡ true → is_allowed t (int_input n) ≡ true → IsRead (front ++ item_text (int_input n) [] ∷ []) (with_item t (int_input n))
+read-input front t n r name allowed =
+    let i : Item = int_input n in
+    let spells : Spells (item_text i []) i = record { digits = []; text = refl; names = rw name refl; number = tt } in
+    let taken : with_line t (item_text i []) ≡ Some (with_item t i) = rw (item_of-spelled (item_text i []) i spells) (rw allowed refl) in
+    read-push front t (with_item t i) (item_text i []) r taken
+
+abbrev new_name : List ℕ
+new_name = codes "x"
+
+-- by a new input, where no name is declared
+begins-by_input : (front : List (List ℕ)) (t : Declared) → IsRead front t → t.awaited ≡ [] → t.outputs ≡ [] → numbered t ≡ [] → BeginsSpecification front
+begins-by_input front t r none_awaited none no_name =
+    let i : Item = int_input new_name in
     let d : Declaration = record { name = new_name; expression = None; of = scalar_type.Int; line = t.lines + 1 } in
     let known : list_any (is_named new_name) (numbered (with_item t i)) ≡ true =
     subst (λ ds. list_any (is_named new_name) ds ≡ true) (sym (append_assoc t.inputs (d ∷ []) t.definitions)) (any-here (is_named new_name) t.inputs d t.definitions refl) in
-    begins-shorter front (item_text i)
-    (begins-by_output (front ++ item_text i ∷ []) (with_item t i) new_name (read-input front t r no_name) none refl known)
+    let new : type_among (numbered t) new_name ≡ None = rw no_name refl in
+    let few = ap length no_name in
+    let none_left = length-without new_name t.awaited in
+    let empty = ap length none_awaited in
+    let allowed = input_allowed t new_name new (omega (arith, few, none_left, empty)) in
+    let left : without new_name t.awaited ≡ [] = rw none_awaited refl in
+    begins-shorter front (item_text i [])
+    (begins-by_output (front ++ item_text i [] ∷ []) (with_item t i) new_name (read-input front t new_name r refl allowed) left none refl known)
 
-pub read-begins : (front : List (List ℕ)) (t : Declared) → IsRead front t → BeginsSpecification front
-read-begins front t r = by_outputs t.outputs refl (numbered t) refl
+-- where no name is awaited
+begins-whole : (front : List (List ℕ)) (t : Declared) → IsRead front t → t.awaited ≡ [] → BeginsSpecification front
+begins-whole front t r none_awaited = by_outputs t.outputs refl (numbered t) refl
   where
     by_outputs : (outputs : List (List ℕ)) → t.outputs ≡ outputs → (ds : List Declaration) → numbered t ≡ ds → BeginsSpecification front
     by_outputs (o ∷ outputs) some ds names =
@@ -216,29 +235,97 @@ read-begins front t r = by_outputs t.outputs refl (numbered t) refl
           more = [];
           items = r.items;
           whole = subst (λ lines. IsSpecification lines r.items) (sym (append-nil front))
-              (record { spelled = r.spelled; allowed = r.allowed; some_output = subst (λ (u : Declared). 0 < length u.outputs) (sym r.is) (subst (λ os. 0 < length os) (sym some) (omega arith)) });
+              (record {
+                spelled = r.spelled;
+                allowed = r.allowed;
+                none_awaited = subst (λ (u : Declared). u.awaited ≡ []) (sym r.is) none_awaited;
+                some_output = subst (λ (u : Declared). 0 < length u.outputs) (sym r.is) (subst (λ os. 0 < length os) (sym some) (omega arith));
+              });
         }
     by_outputs [] none (d ∷ ds) names =
         let sound = sound-declared t (read-declared front t r) in
         let named = subst (AllByRecursion (λ (d : Declaration). is_name d.name ≡ true)) names sound.declarations.named in
-        begins-by_output front t d.name r none named.0 (subst (λ ds. list_any (is_named d.name) ds ≡ true) (sym names) (any-here (is_named d.name) [] d ds (same_bytes d.name)))
-    by_outputs [] none [] no_name = begins-by_input front t r none no_name
+        begins-by_output front t d.name r none_awaited none named.0 (subst (λ ds. list_any (is_named d.name) ds ≡ true) (sym names) (any-here (is_named d.name) [] d ds (same_bytes d.name)))
+    by_outputs [] none [] no_name = begins-by_input front t r none_awaited none no_name
+
+-- a name that is not declared has no type
+no_type : (ds : List Declaration) (n : List ℕ) → list_any (is_named n) ds ≡ false → type_among ds n ≡ None
+no_type ds n h = none (type_among ds n) (is_some-type ds n ∙ h)
+  where
+    none : {A : Type 0} (o : Option A) → is_some o ≡ false → o ≡ None
+    none None h = refl
+    none (Some x) h = (cc)
+
+-- inputs declare the awaited names one by one
+begins-by_names : (awaited : List Awaited) (front : List (List ℕ)) (t : Declared) → IsRead front t → t.awaited ≡ awaited → BeginsSpecification front
+begins-by_names [] front t r is = begins-whole front t r is
+begins-by_names (a ∷ awaited) front t r is =
+    let sound = sound-declared t (read-declared front t r) in
+    let waiting = (subst (AllByRecursion (IsWaiting (numbered t))) is sound.waiting).0 in
+    let once = subst AreOnce is sound.once in
+    let left : without a.name t.awaited ≡ awaited = ap (without a.name) is ∙ without-first a awaited once in
+    let fewer = ap length left in
+    let count = ap length is in
+    let room = sound.room in
+    let allowed = input_allowed t a.name (no_type (numbered t) a.name waiting.new) (omega (arith, fewer, count, room)) in
+    begins-shorter front (item_text (int_input a.name) [])
+    (begins-by_names awaited (front ++ item_text (int_input a.name) [] ∷ []) (with_item t (int_input a.name)) (read-input front t a.name r waiting.named allowed) left)
+
+pub read-begins : (front : List (List ℕ)) (t : Declared) → IsRead front t → BeginsSpecification front
+read-begins front t r = begins-by_names t.awaited front t r refl
 
 -- ---- refusals
-pub refused-at : (source : List ℕ) (front : List (List ℕ)) (line : List ℕ) (rest : List (List ℕ)) (t : Declared) (place : Place) → length source ≤ 1048576 → front ++ line ∷ rest ≡ lines_of source → IsRead front t → with_line t line ≡ None → place ≡ record { line = t.lines + 1; column = 1 } → IsRefused source place
-refused-at source front line rest t place short is r h e =
-    stops front (line ∷ rest) short is (read-begins front t r) (read-stops front t line r h) (e ∙ ap (λ n. record { line = n + 1; column = 1 }) (read-lines front t r))
-
-pub refused-behind : (source : List ℕ) (t : Declared) (place : Place) → length source ≤ 1048576 → IsRead (lines_of source) t → length t.outputs ≡ 0 → place ≡ record { line = t.lines + 1; column = 1 } → IsRefused source place
-refused-behind source t place short r none e =
-    stops (lines_of source) [] short (append-nil (lines_of source)) (read-begins (lines_of source) t r) (λ items whole. no_output items whole)
-    (e ∙ ap (λ n. record { line = n + 1; column = 1 }) (read-lines (lines_of source) t r))
+-- the line that is named by the item of the next line
+line-named : (t : Declared) (line : List ℕ) → IsLineNamed t line (named_line t (item_of line))
+line-named t line = by_item (item_of line) refl
   where
-    no_output : (items : List Item) → IsSpecification (lines_of source) items → ⊥
-    no_output items whole =
+    by_item : (o : Option Item) → item_of line ≡ o → IsLineNamed t line (named_line t o)
+    by_item None e = record { item = λ i spells. absurd (item_of-none line i e spells); other = λ none. refl }
+    by_item (Some i) e =
+        record {
+          item = λ j spells. ap (refused_line t) (one_item line i j (item_of-some line i e) spells);
+          other = λ none. absurd (none i (item_of-some line i e));
+        }
+
+pub refused-at : (source : List ℕ) (front : List (List ℕ)) (line : List ℕ) (rest : List (List ℕ)) (t : Declared) (place : Place) → length source ≤ 1048576 → front ++ line ∷ rest ≡ lines_of source → IsRead front t → with_line t line ≡ None → place ≡ record { line = named_line t (item_of line); column = 1 } → IsRefused source place
+refused-at source front line rest t place short is r h e =
+    stops (named_line t (item_of line)) short (record {
+      front = front;
+      rest = line ∷ rest;
+      items = r.items;
+      is = is;
+      spelled = r.spelled;
+      begins = read-begins front t r;
+      ends = read-stops front t line r h;
+      named = subst (λ u. IsLineNamed u line (named_line t (item_of line))) (sym r.is) (line-named t line);
+    }) e
+
+-- what a fault at the next line says
+pub refused-fault : (source : List ℕ) (front : List (List ℕ)) (line : List ℕ) (rest : List (List ℕ)) (t : Declared) (e : SpecLineFault) → length source ≤ 1048576 → front ++ line ∷ rest ≡ lines_of source → IsRead front t → IsLineFaultOf t line e → IsFaultOf source e
+refused-fault source front line rest t (fault.NotBuilt place) short is r h = refused-at source front line rest t place short is r h.0 h.1
+refused-fault source front line rest t fault.Memory short is r h = tt
+
+-- behind the last line, where a name or an output is missing
+pub refused-behind : (source : List ℕ) (t : Declared) (place : Place) → length source ≤ 1048576 → IsRead (lines_of source) t → (t.awaited ≡ [] → t.outputs ≡ []) → place ≡ record { line = missing_line t; column = 1 } → IsRefused source place
+refused-behind source t place short r missing e =
+    stops (missing_line t) short (record {
+      front = lines_of source;
+      rest = [];
+      items = r.items;
+      is = append-nil (lines_of source);
+      spelled = r.spelled;
+      begins = read-begins (lines_of source) t r;
+      ends = λ items whole. none_whole items whole;
+      named = ap missing_line (sym r.is);
+    }) e
+  where
+    none_whole : (items : List Item) → IsSpecification (lines_of source) items → ⊥
+    none_whole items whole =
         let same : items ≡ r.items = items_once (lines_of source) items r.items whole.spelled r.spelled in
         let here : with_items nothing items ≡ t = ap (with_items nothing) same ∙ r.is in
         let some : 0 < length t.outputs = subst (λ (u : Declared). 0 < length u.outputs) here whole.some_output in
+        let awaited : t.awaited ≡ [] = subst (λ (u : Declared). u.awaited ≡ []) here whole.none_awaited in
+        let none = ap length (missing awaited) in
         omega (arith, some, none)
 
 -- ---- the number of lines

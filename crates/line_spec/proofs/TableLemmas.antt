@@ -1,14 +1,13 @@
 -- Names in tables.
-use Rattle.std.proofs.Common.{◌≡◌, ℕ, ◌+◌, ◌<◌, ◌≤◌, Bool, true, false, ◌||◌, not, cond, List, [], ◌∷◌, ◌++◌, length, take, refl, ap, ◌∙◌, sym, subst, arith, Option, Some, None, zero, suc, append_assoc}
-use Rattle.std.specs.Prelude.{slice_get, is_some, is_none}
+use Rattle.std.proofs.Common.{◌≡◌, ℕ, ◌+◌, ◌<◌, Bool, true, false, ◌||◌, not, cond, List, [], ◌∷◌, ◌++◌, length, take, refl, ap, ◌∙◌, arith, Option, Some, None, zero, suc}
+use Rattle.std.specs.Prelude.{slice_get, is_some}
 use Rattle.std.specs.Option.{option_map, option_or}
-use Rattle.std.specs.List.{find, list_any, position_or_len, prefix_len, AllByRecursion}
-use Rattle.std.specs.Str.{bytes_eq}
-use Rattle.std.proofs.lemmas.List.Folds.{find-append, list_any-append}
-use Rattle.std.proofs.lemmas.Slice.Eq.{bytes_eq-Decides}
+use Rattle.std.specs.List.{find, list_any, position_or_len}
+use Rattle.std.proofs.lemmas.List.Folds.{find-append}
 use Rattle.tsl_value.specs.declared.scalar.ScalarType.{ScalarType}
+use Rattle.tsl_value.specs.declared.scalar.ScalarType.TheVariants as scalar_type
 use Rattle.line_spec.specs.declared.table.Declaration.{Declaration}
-use Rattle.line_spec.specs.Table.{Declared, type_among, is_named}
+use Rattle.line_spec.specs.Table.{type_among, is_named, same_type}
 
 option_map-or : {A B : Type 0} (f : A → B) (a b : Option A) → option_map f (option_or a b) ≡ option_or (option_map f a) (option_map f b)
 option_map-or f None b = refl
@@ -69,3 +68,36 @@ module _ {X : Type 0} (p : X → Bool) where
       by_test : (b : Bool) → (b || list_any p xs) ≡ true → (list_any p xs ≡ true → position_or_len p xs < length xs) → cond (not b) (1 + position_or_len p xs) 0 < length (x ∷ xs)
       by_test true h more = omega arith
       by_test false h more = let below : position_or_len p xs < length xs = more h in omega arith
+
+  -- none passes with one more that does not
+  pub list_any-insert_none : (xs : List X) (d : X) (ys : List X) → p d ≡ false → list_any p (xs ++ ys) ≡ false → list_any p (xs ++ d ∷ ys) ≡ false
+  list_any-insert_none [] d ys other h = rw other h
+  list_any-insert_none (x ∷ xs) d ys other h = by_test (p x) h (list_any-insert_none xs d ys other)
+    where
+      by_test : (b : Bool) → (b || list_any p (xs ++ ys)) ≡ false → (list_any p (xs ++ ys) ≡ false → list_any p (xs ++ d ∷ ys) ≡ false) → (b || list_any p (xs ++ d ∷ ys)) ≡ false
+      by_test true h more = (cc)
+      by_test false h more = more h
+
+  -- one that passes is found
+  pub any-here : (xs : List X) (d : X) (ys : List X) → p d ≡ true → list_any p (xs ++ d ∷ ys) ≡ true
+  any-here [] d ys h = rw h refl
+  any-here (x ∷ xs) d ys h = or_true (p x) _ (any-here xs d ys h)
+
+-- ---- types
+pub same_types : (a b : ScalarType) → same_type a b ≡ true → a ≡ b
+same_types scalar_type.Unit scalar_type.Unit h = refl
+same_types scalar_type.Unit scalar_type.Int h = (cc)
+same_types scalar_type.Unit scalar_type.Bool h = (cc)
+same_types scalar_type.Unit scalar_type.Text h = (cc)
+same_types scalar_type.Int scalar_type.Unit h = (cc)
+same_types scalar_type.Int scalar_type.Int h = refl
+same_types scalar_type.Int scalar_type.Bool h = (cc)
+same_types scalar_type.Int scalar_type.Text h = (cc)
+same_types scalar_type.Bool scalar_type.Unit h = (cc)
+same_types scalar_type.Bool scalar_type.Int h = (cc)
+same_types scalar_type.Bool scalar_type.Bool h = refl
+same_types scalar_type.Bool scalar_type.Text h = (cc)
+same_types scalar_type.Text scalar_type.Unit h = (cc)
+same_types scalar_type.Text scalar_type.Int h = (cc)
+same_types scalar_type.Text scalar_type.Bool h = (cc)
+same_types scalar_type.Text scalar_type.Text h = refl

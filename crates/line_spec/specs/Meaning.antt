@@ -1,23 +1,45 @@
 -- The flat system of what is declared.
-use Rattle.std.specs.Prelude.{◌≡◌, ℕ, ◌+◌, List, [], ◌∷◌, length, map, IsSome, IsTrue, ◌↔◌, Option, Some, None}
+use Rattle.std.specs.Prelude.{◌≡◌, ℕ, ℤ, true, ◌+◌, List, [], length, map, IsSome, IsTrue, ◌↔◌, Option, Some, None}
 use Rattle.std.specs.List.Sorted.{IsStrictlyIncreasing}
 use Rattle.std.specs.List.{position_or_len}
 use Rattle.tsl_value.specs.declared.place.Place.{Place}
+use Rattle.tsl_value.specs.declared.scalar.Scalar.TheVariants as scalar
 use Rattle.tsl_value.specs.declared.scalar.ValueType.TheVariants as value_type
+use Rattle.lift_func.specs.declared.body.Unary.TheVariants as unary
+use Rattle.lift_func.specs.declared.body.Binary.{Binary}
+use Rattle.lift_func.specs.declared.body.Binary.TheVariants as binary
+use Rattle.lift_func.specs.Tree.{Tree, Literal, Argument, One, Two}
 use Rattle.flat_core.specs.declared.equation.Op.{Op}
 use Rattle.flat_core.specs.declared.equation.Op.TheVariants as op
 use Rattle.flat_core.specs.declared.equation.Equation.{Equation}
 use Rattle.flat_core.specs.declared.equation.Output.{Output}
 use Rattle.flat_core.specs.System.{System, equation, runs}
 use Rattle.flat_core.specs.Needed.{IsNeeded}
+use Rattle.line_spec.specs.declared.item.Operator.{Operator}
+use Rattle.line_spec.specs.declared.item.Operator.TheVariants as operator
 use Rattle.line_spec.specs.declared.item.Expression.{Expression}
 use Rattle.line_spec.specs.declared.item.Expression.TheVariants as expression
 use Rattle.line_spec.specs.declared.table.Declaration.{Declaration}
+use Rattle.line_spec.specs.Item.{used_names, type_text}
 use Rattle.line_spec.specs.Table.{Declared, numbered, is_named}
 
 -- the number of a name: where it stands among the inputs and then the definitions
 abbrev pub number_of : List Declaration → List ℕ → ℕ
 number_of ds n = position_or_len (is_named n) ds
+
+-- the body of a function of one Int
+abbrev pub binary_of : Operator → Binary
+binary_of operator.Add = binary.Add
+binary_of operator.Sub = binary.Sub
+binary_of operator.Mul = binary.Mul
+binary_of operator.Div = binary.Div
+binary_of operator.Rem = binary.Rem
+
+abbrev pub literal_of : ℤ → Tree
+literal_of z = Literal (scalar.Int z)
+
+abbrev pub strict_lift : Tree → Op
+strict_lift body = op.Lift body true
 
 abbrev pub op_of : Option Expression → Op
 op_of None = op.Input
@@ -26,19 +48,20 @@ op_of (Some expression.Unit) = op.Unit
 op_of (Some (expression.Time a)) = op.Time
 op_of (Some (expression.Last v r)) = op.Last
 op_of (Some (expression.Merge a b)) = op.Merge
+op_of (Some (expression.Const z a)) = strict_lift (literal_of z)
+op_of (Some (expression.NameFirst a o z)) = strict_lift (Two (binary_of o) (Argument 0) (literal_of z))
+op_of (Some (expression.NumberFirst z o a)) = strict_lift (Two (binary_of o) (literal_of z) (Argument 0))
+op_of (Some (expression.Neg a)) = strict_lift (One unary.Neg (Argument 0))
+op_of (Some (expression.Delay typed d r)) = op.Delay
 
 abbrev pub arguments_of : List Declaration → Option Expression → List ℕ
 arguments_of ds None = []
-arguments_of ds (Some expression.Nil) = []
-arguments_of ds (Some expression.Unit) = []
-arguments_of ds (Some (expression.Time a)) = number_of ds a ∷ []
-arguments_of ds (Some (expression.Last v r)) = number_of ds v ∷ number_of ds r ∷ []
-arguments_of ds (Some (expression.Merge a b)) = number_of ds a ∷ number_of ds b ∷ []
+arguments_of ds (Some e) = map (number_of ds) (used_names e)
 
--- an input's name stands behind `in `, and an expression behind `def `, the name and ` := `
+-- an input's name stands behind `in `, and an expression behind `def `, the name, the type if it is written, and ` := `
 abbrev pub column_of : Declaration → Option Expression → ℕ
 column_of d None = 4
-column_of d (Some e) = length d.name + 9
+column_of d (Some e) = length d.name + length (type_text e) + 9
 
 abbrev pub place_of : Declaration → Place
 place_of d = record { line = d.line; column = column_of d d.expression }

@@ -8,9 +8,9 @@ use Rattle.flat_core.specs.System.{System}
 use Rattle.line_spec.specs.declared.item.Item.{Item}
 use Rattle.line_spec.specs.declared.read.SpecLineFault.{SpecLineFault}
 use Rattle.line_spec.specs.declared.read.SpecLineFault.TheVariants as fault
-use Rattle.line_spec.specs.Item.{AllSpell}
+use Rattle.line_spec.specs.Item.{Spells, AllSpell}
 use Rattle.line_spec.specs.Parts.{item_of}
-use Rattle.line_spec.specs.Table.{Declared, nothing, with_item, with_items, is_allowed, AreAllowed}
+use Rattle.line_spec.specs.Table.{Declared, nothing, with_item, with_items, is_allowed, AreAllowed, refused_line, missing_line}
 use Rattle.line_spec.specs.Meaning.{IsSystem}
 
 -- a line end at the end of the source ends the last line and begins no other
@@ -25,6 +25,7 @@ lines_of source = slice_split (λ b. b == 10) (without_last_end source)
 pub record IsSpecification (lines : List (List ℕ)) (items : List Item) : Type 0 where
   pub spelled : AllSpell lines items
   pub allowed : AreAllowed nothing items
+  pub none_awaited : (with_items nothing items).awaited ≡ []
   pub some_output : 0 < length (with_items nothing items).outputs
 
 -- some specification begins with these lines
@@ -45,10 +46,31 @@ abbrev pub CannotGoOn : List (List ℕ) → List (List ℕ) → Type 0
 CannotGoOn front [] = (items : List Item) → ¬ (IsSpecification front items)
 CannotGoOn front (line ∷ rest) = ¬ (BeginsSpecification (front ++ line ∷ []))
 
--- The source is no specification: it is too long, or the place is column 1 of the first line with which none begins.
+-- The line that is named there, behind what the first lines declare: mostly the one that cannot stand. Where it declares with
+-- another type than Int a name that is awaited, and where names are missing at the end, it is the line of a delay.
+pub record IsLineNamed (t : Declared) (line : List ℕ) (n : ℕ) : Type 0 where
+  pub item : (i : Item) → Spells line i → n ≡ refused_line t i
+  pub other : ((i : Item) → ¬ (Spells line i)) → n ≡ t.lines + 1
+
+abbrev pub IsNamed : Declared → List (List ℕ) → ℕ → Type 0
+IsNamed t [] n = n ≡ missing_line t
+IsNamed t (line ∷ rest) n = IsLineNamed t line n
+
+-- The first lines are the longest with which a specification begins, and the source goes on otherwise.
+pub record Stops (source : List ℕ) (n : ℕ) : Type 0 where
+  pub front : List (List ℕ)
+  pub rest : List (List ℕ)
+  pub items : List Item
+  pub is : front ++ rest ≡ lines_of source
+  pub spelled : AllSpell front items
+  pub begins : BeginsSpecification front
+  pub ends : CannotGoOn front rest
+  pub named : IsNamed (with_items nothing items) rest n
+
+-- the source is no specification: it is too long, or the place is column 1 of the line that is named
 pub data IsRefused (source : List ℕ) (place : Place) : Type 0 where
   too_long : 1048576 < length source → place ≡ record { line = 1; column = 1 } → IsRefused source place
-  stops : (front rest : List (List ℕ)) → length source ≤ 1048576 → front ++ rest ≡ lines_of source → BeginsSpecification front → CannotGoOn front rest → place ≡ record { line = length front + 1; column = 1 } → IsRefused source place
+  stops : (n : ℕ) → length source ≤ 1048576 → Stops source n → place ≡ record { line = n; column = 1 } → IsRefused source place
 
 -- what a fault says
 abbrev pub IsFaultOf : List ℕ → SpecLineFault → Type 0
@@ -69,6 +91,16 @@ if_allowed t i = if is_allowed t i then Some (with_item t i) else None
 
 abbrev pub with_line : Declared → List ℕ → Option Declared
 with_line t line = option_and_then (if_allowed t) (item_of line)
+
+-- the line that a refusal names, by the item of the line that is refused
+abbrev pub named_line : Declared → Option Item → ℕ
+named_line t None = t.lines + 1
+named_line t (Some i) = refused_line t i
+
+-- a line cannot stand behind what is declared, and the place is column 1 of the line that is named
+abbrev pub IsLineFaultOf : Declared → List ℕ → SpecLineFault → Type 0
+IsLineFaultOf t line (fault.NotBuilt place) = (with_line t line ≡ None) × (place ≡ record { line = named_line t (item_of line); column = 1 })
+IsLineFaultOf t line fault.Memory = Unit {0}
 
 -- all lines of the source are read, or it is refused
 abbrev pub AreRead : List ℕ → Result Declared SpecLineFault → Type 0

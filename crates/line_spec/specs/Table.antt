@@ -1,5 +1,5 @@
 -- What items declare, and which item may stand behind others.
-use Rattle.std.specs.Prelude.{◌≡◌, ℕ, ◌+◌, Bool, true, false, not, ◌&&◌, if◌then◌else◌, nat_lt, List, [], ◌∷◌, ◌++◌, length, Option, Some, None, is_some, is_none, unwrap_or, IsTrue}
+use Rattle.std.specs.Prelude.{◌≡◌, ℕ, ◌+◌, Bool, true, false, not, ◌&&◌, ◌||◌, if◌then◌else◌, nat_lt, List, [], ◌∷◌, ◌++◌, length, filter, Option, Some, None, is_some, is_none, unwrap_or, IsTrue}
 use Rattle.std.specs.Option.{option_map}
 use Rattle.std.specs.List.{find, list_any, list_all, AllByRecursion}
 use Rattle.std.specs.Str.{bytes_eq}
@@ -9,19 +9,22 @@ use Rattle.line_spec.specs.declared.item.Item.{Item}
 use Rattle.line_spec.specs.declared.item.Item.TheVariants as item
 use Rattle.line_spec.specs.declared.item.Expression.{Expression}
 use Rattle.line_spec.specs.declared.item.Expression.TheVariants as expression
+use Rattle.line_spec.specs.declared.table.Awaited.{Awaited}
 use Rattle.line_spec.specs.declared.table.Declaration.{Declaration}
 use Rattle.line_spec.specs.Name.{is_name}
-use Rattle.line_spec.specs.Item.{item_names}
+use Rattle.line_spec.specs.Item.{item_names, amount_of, type_of_input}
 
--- the declarations of some lines, each kind in the order of the lines, and the number of the lines
+-- The declarations of some lines, each kind in the order of the lines, and the number of the lines. Awaited are the first
+-- names of delays that are not declared yet, each once, with the first line on which a delay has it.
 pub record Declared : Type 0 where
   pub inputs : List Declaration
   pub definitions : List Declaration
+  pub awaited : List Awaited
   pub outputs : List (List ℕ)
   pub lines : ℕ
 
 abbrev pub nothing : Declared
-nothing = record { inputs = []; definitions = []; outputs = []; lines = 0 }
+nothing = record { inputs = []; definitions = []; awaited = []; outputs = []; lines = 0 }
 
 -- in the order of their numbers: the inputs come first
 abbrev pub numbered : Declared → List Declaration
@@ -31,6 +34,7 @@ numbered t = t.inputs ++ t.definitions
 abbrev pub is_named : List ℕ → Declaration → Bool
 is_named n d = bytes_eq d.name n
 
+-- ---- types
 -- the type of a name, if it is declared among these
 abbrev pub type_among : List Declaration → List ℕ → Option ScalarType
 type_among ds n = option_map (λ d. d.of) (find (is_named n) ds)
@@ -52,36 +56,91 @@ abbrev pub first_type : Option ScalarType → Option ScalarType → Option Scala
 first_type (Some a) (Some b) = Some a
 first_type _ _ = None
 
--- the type of an expression, if its names are declared among these and their types go together
+-- The type of an expression, if its names are declared among these and their types go together. That of a delay does not hang
+-- on its first name.
 abbrev pub expression_type : List Declaration → Expression → Option ScalarType
 expression_type ds expression.Nil = Some scalar_type.Int
 expression_type ds expression.Unit = Some scalar_type.Unit
 expression_type ds (expression.Time a) = option_map (λ _. scalar_type.Int) (type_among ds a)
 expression_type ds (expression.Last v r) = first_type (type_among ds v) (type_among ds r)
 expression_type ds (expression.Merge a b) = common_type (type_among ds a) (type_among ds b)
+expression_type ds (expression.Const z a) = option_map (λ _. scalar_type.Int) (type_among ds a)
+expression_type ds (expression.NameFirst a o z) = common_type (Some scalar_type.Int) (type_among ds a)
+expression_type ds (expression.NumberFirst z o a) = common_type (Some scalar_type.Int) (type_among ds a)
+expression_type ds (expression.Neg a) = common_type (Some scalar_type.Int) (type_among ds a)
+expression_type ds (expression.Delay typed d r) = option_map (λ _. scalar_type.Unit) (type_among ds r)
 
--- the name is free, and there is a number for it
-abbrev pub is_free : Declared → List ℕ → Bool
-is_free t n = is_none (type_among (numbered t) n) && nat_lt (length (numbered t)) 4096
+-- ---- names that are declared later
+abbrev pub is_for : List ℕ → Awaited → Bool
+is_for n a = bytes_eq a.name n
 
--- the item may stand behind the lines
+abbrev pub is_awaited : Declared → List ℕ → Bool
+is_awaited t n = list_any (is_for n) t.awaited
+
+abbrev pub without : List ℕ → List Awaited → List Awaited
+without n awaited = filter (λ a. not (is_for n a)) awaited
+
+-- a first name of a delay is awaited from now on if it is neither declared nor awaited
+abbrev pub newly_awaited : Declared → Option (List ℕ) → List Awaited
+newly_awaited t None = []
+newly_awaited t (Some d) =
+    if is_some (type_among (numbered t) d) || is_awaited t d then [] else record { name = d; line = t.lines + 1 } ∷ []
+
+-- what is awaited once a name is defined
+abbrev pub awaited_with : Declared → List ℕ → Expression → List Awaited
+awaited_with t n e = without n t.awaited ++ newly_awaited t (amount_of e)
+
+-- ---- which item may stand behind the lines
+-- a new name, which is Int if it is awaited, and for which and for all awaited names there are numbers
+abbrev pub is_new : Declared → List ℕ → Bool
+is_new t n = is_none (type_among (numbered t) n)
+
+abbrev pub is_expected : Declared → List ℕ → Option ScalarType → Bool
+is_expected t n None = false
+is_expected t n (Some of) = not (is_awaited t n) || same_type of scalar_type.Int
+
+abbrev pub has_room : Declared → ℕ → Bool
+has_room t awaited = nat_lt (length (numbered t) + awaited) 4096
+
+-- Int, or not declared yet
+abbrev pub may_be_int : Option ScalarType → Bool
+may_be_int None = true
+may_be_int (Some of) = same_type of scalar_type.Int
+
+-- the first name of a delay is so, and it is not the name that the delay defines
+abbrev pub has_amount : Declared → List ℕ → Option (List ℕ) → Bool
+has_amount t n None = true
+has_amount t n (Some d) = may_be_int (type_among (numbered t) d) && not (bytes_eq d n)
+
+abbrev pub is_allowed_input : Declared → List ℕ → ScalarType → Bool
+is_allowed_input t n of = is_new t n && is_expected t n (Some of) && has_room t (length (without n t.awaited))
+
+abbrev pub is_allowed_definition : Declared → List ℕ → Expression → Bool
+is_allowed_definition t n e =
+    is_new t n && is_expected t n (expression_type (numbered t) e) && has_amount t n (amount_of e) && has_room t (length (awaited_with t n e))
+
+abbrev pub is_allowed_output : Declared → List ℕ → Bool
+is_allowed_output t n = not (list_any (λ m. bytes_eq m n) t.outputs) && is_some (type_among (numbered t) n)
+
 abbrev pub is_allowed : Declared → Item → Bool
-is_allowed t (item.Input n) = is_free t n
-is_allowed t (item.Definition n e) = is_free t n && is_some (expression_type (numbered t) e)
-is_allowed t (item.Output n) = not (list_any (λ m. bytes_eq m n) t.outputs) && is_some (type_among (numbered t) n)
+is_allowed t (item.Input n of) = is_allowed_input t n (type_of_input of)
+is_allowed t (item.Definition n e) = is_allowed_definition t n e
+is_allowed t (item.Output n) = is_allowed_output t n
 
--- what is declared with one more line
-abbrev pub with_input : Declared → List ℕ → Declared
-with_input t n = record t { inputs = t.inputs ++ record { name = n; expression = None; of = scalar_type.Int; line = t.lines + 1 } ∷ []; lines = t.lines + 1 }
+-- ---- what is declared with one more line
+abbrev pub with_input : Declared → List ℕ → ScalarType → Declared
+with_input t n of =
+    record t { inputs = t.inputs ++ record { name = n; expression = None; of = of; line = t.lines + 1 } ∷ []; awaited = without n t.awaited; lines = t.lines + 1 }
 
 abbrev pub with_definition : Declared → List ℕ → Expression → ScalarType → Declared
-with_definition t n e of = record t { definitions = t.definitions ++ record { name = n; expression = Some e; of = of; line = t.lines + 1 } ∷ []; lines = t.lines + 1 }
+with_definition t n e of =
+    record t { definitions = t.definitions ++ record { name = n; expression = Some e; of = of; line = t.lines + 1 } ∷ []; awaited = awaited_with t n e; lines = t.lines + 1 }
 
 abbrev pub with_output : Declared → List ℕ → Declared
 with_output t n = record t { outputs = t.outputs ++ n ∷ []; lines = t.lines + 1 }
 
 abbrev pub with_item : Declared → Item → Declared
-with_item t (item.Input n) = with_input t n
+with_item t (item.Input n of) = with_input t n (type_of_input of)
 with_item t (item.Definition n e) = with_definition t n e (unwrap_or (expression_type (numbered t) e) scalar_type.Int)
 with_item t (item.Output n) = with_output t n
 
@@ -101,3 +160,24 @@ pub record IsDeclared (t : Declared) : Type 0 where
   pub names : AllByRecursion (λ i. IsTrue (list_all is_name (item_names i))) items
   pub allowed : AreAllowed nothing items
   pub is : with_items nothing items ≡ t
+
+-- ---- the line that a refusal names
+-- the line of the first delay that awaits a name, where it is declared with another type than Int, and else the next line
+abbrev pub line_against : Declared → List ℕ → Option ScalarType → ℕ
+line_against t n None = t.lines + 1
+line_against t n (Some of) =
+    if same_type of scalar_type.Int then t.lines + 1 else unwrap_or (option_map (λ a. a.line) (find (is_for n) t.awaited)) (t.lines + 1)
+
+-- where an item may not stand
+abbrev pub refused_line : Declared → Item → ℕ
+refused_line t (item.Input n of) = line_against t n (Some (type_of_input of))
+refused_line t (item.Definition n e) = line_against t n (expression_type (numbered t) e)
+refused_line t (item.Output n) = t.lines + 1
+
+-- where the lines end: the line of the first delay whose first name is missing, or else the next line
+abbrev pub first_line : List Awaited → ℕ → ℕ
+first_line [] next = next
+first_line (a ∷ awaited) next = a.line
+
+abbrev pub missing_line : Declared → ℕ
+missing_line t = first_line t.awaited (t.lines + 1)

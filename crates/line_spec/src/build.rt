@@ -3,19 +3,21 @@
 ghost use Rattle.std.specs.Prelude.{◌≡◌, ◌≤◌, ◌^◌, ◌∷◌, [], length, map, All, IfOk, OnOk};
 ghost use Rattle.flat_core.specs.System.{System};
 ghost use Rattle.flat_core.specs.Complete.{IsComplete, IsFlat};
-ghost use Rattle.line_spec.specs.Meaning.{number_of, op_of, arguments_of, place_of, equation_of, output_of};
+ghost use Rattle.line_spec.specs.Item.{type_text};
+ghost use Rattle.line_spec.specs.Meaning.{number_of, binary_of, literal_of, op_of, arguments_of, place_of, equation_of, output_of};
 
-use crate::item::Expression;
+use crate::item::{Expression, Operator};
 use crate::table::Declaration;
 use flat_core::builder::FlatBuilder;
 use flat_core::equation::{Equation, Op, Output};
 use flat_core::flat::Flat;
 use flat_core::lists::Args;
+use lift_func::body::{Binary, Body, Unary};
 use std::alloc::Global;
 use tsl_value::ids::EqId;
 use tsl_value::memory::NoMemory;
 use tsl_value::place::Place;
-use tsl_value::scalar::ValueType;
+use tsl_value::scalar::{Scalar, ValueType};
 use tsl_value::text::Text;
 
 /// How many declarations stand before that of a name.
@@ -36,17 +38,55 @@ fn number(declarations: &[Declaration], name: &str) -> EqId
     EqId::new(position(declarations, name) as u32)
 }
 
-fn op(expression: &Option<Expression>) -> Op
-    ensures { result ≡ op_of expression.now }
+fn binary(operator: Operator) -> Binary
+    ensures { result ≡ binary_of operator }
 {
-    match expression {
-        None => Op::Input,
-        Some(Expression::Nil) => Op::Nil,
-        Some(Expression::Unit) => Op::Unit,
-        Some(Expression::Time(_)) => Op::Time,
-        Some(Expression::Last(_, _)) => Op::Last,
-        Some(Expression::Merge(_, _)) => Op::Merge,
+    match operator {
+        Operator::Add => Binary::Add,
+        Operator::Sub => Binary::Sub,
+        Operator::Mul => Binary::Mul,
+        Operator::Div => Binary::Div,
+        Operator::Rem => Binary::Rem,
     }
+}
+
+fn literal(number: i64) -> Body
+    ensures { result ≡ literal_of number }
+{
+    Body::literal(Scalar::Int(number))
+}
+
+/// The operation of an expression.
+fn op(alloc: Global, expression: &Option<Expression>) -> Result<Op, NoMemory>
+    ensures { IfOk result (λ o. o ≡ op_of expression.now) }
+{
+    let body = match expression {
+        None => return Ok(Op::Input),
+        Some(Expression::Nil) => return Ok(Op::Nil),
+        Some(Expression::Unit) => return Ok(Op::Unit),
+        Some(Expression::Time(_)) => return Ok(Op::Time),
+        Some(Expression::Last(_, _)) => return Ok(Op::Last),
+        Some(Expression::Merge(_, _)) => return Ok(Op::Merge),
+        Some(Expression::Delay { .. }) => return Ok(Op::Delay),
+        Some(Expression::Const(z, _)) => literal(*z),
+        Some(Expression::NameFirst(_, o, z)) => {
+            Body::two(alloc, binary(*o), Body::argument(0), literal(*z))?
+        }
+        Some(Expression::NumberFirst(z, o, _)) => {
+            Body::two(alloc, binary(*o), literal(*z), Body::argument(0))?
+        }
+        Some(Expression::Neg(_)) => Body::one(alloc, Unary::Neg, Body::argument(0))?,
+    };
+    Ok(Op::Lift { body, strict: true })
+}
+
+/// The number of a name.
+fn one(alloc: Global, first: EqId) -> Result<Args, NoMemory>
+    ensures { IfOk result (λ args. args ≡ first ∷ []) }
+{
+    let mut args = Args::new(alloc);
+    args.push(first)?;
+    Ok(args)
 }
 
 /// The numbers of two names.
@@ -69,21 +109,34 @@ fn arguments(
 {
     match expression {
         None | Some(Expression::Nil) | Some(Expression::Unit) => Ok(Args::new(alloc)),
-        Some(Expression::Time(a)) => {
-            let mut args = Args::new(alloc);
-            args.push(number(declarations, a.as_str()))?;
-            Ok(args)
-        }
-        Some(Expression::Last(v, r)) => {
-            let first = number(declarations, v.as_str());
-            let second = number(declarations, r.as_str());
-            pair(alloc, first, second)
-        }
-        Some(Expression::Merge(a, b)) => {
+        Some(Expression::Time(a))
+        | Some(Expression::Const(_, a))
+        | Some(Expression::NameFirst(a, _, _))
+        | Some(Expression::NumberFirst(_, _, a))
+        | Some(Expression::Neg(a)) => one(alloc, number(declarations, a.as_str())),
+        Some(Expression::Last(a, b))
+        | Some(Expression::Merge(a, b))
+        | Some(
+            Expression::Delay {
+                amount: a,
+                reset: b,
+                ..
+            },
+        ) => {
             let first = number(declarations, a.as_str());
             let second = number(declarations, b.as_str());
             pair(alloc, first, second)
         }
+    }
+}
+
+/// How many characters of a definition a type takes, which is written behind its name.
+fn type_len(expression: &Expression) -> u32
+    ensures { result ≡ length (type_text expression.now) }
+{
+    match expression {
+        Expression::Delay { is_typed: true, .. } => 14,
+        _ => 0,
     }
 }
 
@@ -94,7 +147,7 @@ fn place(declaration: &Declaration) -> Place
 {
     let column = match &declaration.expression {
         None => 4,
-        Some(_) => declaration.name.len() as u32 + 9,
+        Some(expression) => declaration.name.len() as u32 + type_len(expression) + 9,
     };
     Place {
         line: declaration.line,
@@ -113,8 +166,9 @@ fn equation(
 {
     let args = arguments(alloc, declarations, &declaration.expression)?;
     let name = declaration.name.copy()?;
+    let op = op(alloc, &declaration.expression)?;
     Ok(Equation {
-        op: op(&declaration.expression),
+        op,
         args,
         of: ValueType::Scalar(declaration.of),
         place: place(declaration),

@@ -1,17 +1,18 @@
 // What is declared by the lines so far.
 
-ghost use Rattle.std.specs.Prelude.{◌≡◌, ◌+◌, ◌<◌, ◌≤◌, ◌^◌, ◌++◌, ◌∷◌, [], Some, None, is_some, length, IfOk, OnOk, if◌then◌else◌};
+ghost use Rattle.std.specs.Prelude.{◌≡◌, ◌+◌, ◌<◌, ◌≤◌, ◌^◌, ◌++◌, ◌∷◌, [], Some, None, is_some, length, filter, unwrap_or, IfOk, OnOk, MatchOption};
 ghost use Rattle.std.specs.Option.{option_map};
 ghost use Rattle.std.specs.List.{find, list_any};
 ghost use Rattle.std.specs.Str.{bytes_eq};
 ghost use Rattle.flat_core.specs.Complete.{IsFlat};
 ghost use Rattle.flat_core.specs.WellFormed.{IsRanked};
 ghost use Rattle.plain_solver.specs.Instant.{IsInOrder};
+ghost use Rattle.line_spec.specs.Item.{amount_of, type_of_input};
 ghost use Rattle.line_spec.specs.Meaning.{IsSystem, HaveNames};
-ghost use Rattle.line_spec.specs.Table.{type_among, numbered, same_type, common_type, expression_type, is_free, is_allowed, with_item, with_input, with_definition, with_output, IsDeclared};
+ghost use Rattle.line_spec.specs.Table.{type_among, numbered, same_type, common_type, expression_type, is_for, is_awaited, without, newly_awaited, awaited_with, is_new, is_expected, has_room, may_be_int, has_amount, is_allowed, is_allowed_input, is_allowed_definition, is_allowed_output, with_item, with_input, with_definition, with_output, IsDeclared, line_against, refused_line, missing_line};
 
 use crate::build::build;
-use crate::item::{Expression, Item};
+use crate::item::{Expression, InputType, Item};
 use flat_core::flat::Flat;
 use std::alloc::Global;
 use std::marker::Model;
@@ -39,11 +40,27 @@ impl Declaration {
     }
 }
 
+/// The first name of a delay, which is not declared yet, and the first line on which a delay has it.
+#[derive(Drop)]
+pub struct Awaited {
+    pub name: Text,
+    pub line: u32,
+}
+
+impl Awaited {
+    fn is_for(&self, name: &str) -> bool
+        ensures { result ≡ is_for name.now self.now }
+    {
+        self.name.as_str() == name
+    }
+}
+
 /// The inputs, the definitions and the outputs, each in the order of their lines, and the number of the lines.
 #[derive(Drop)]
 pub struct Table {
     inputs: Vec<Declaration>,
     definitions: Vec<Declaration>,
+    awaited: Vec<Awaited>,
     outputs: Vec<Text>,
     lines: u32,
 }
@@ -53,7 +70,27 @@ impl Model for Table {
 
     ghost Value = { Declared };
 
-    ghost view = { λ t. record { inputs = t.inputs.items; definitions = t.definitions.items; outputs = t.outputs.items; lines = t.lines } };
+    ghost view = { λ t. record { inputs = t.inputs.items; definitions = t.definitions.items; awaited = t.awaited.items; outputs = t.outputs.items; lines = t.lines } };
+}
+
+/// The type of an input's events.
+fn type_of_input(of: InputType) -> ScalarType
+    ensures { result ≡ type_of_input of }
+{
+    match of {
+        InputType::Int => ScalarType::Int,
+        InputType::Unit => ScalarType::Unit,
+    }
+}
+
+/// The first name of a delay.
+fn amount_of(expression: &Expression) -> Option<&Text>
+    ensures { MatchOption result (amount_of expression.now ≡ None) (λ d. amount_of expression.now ≡ Some d.now) }
+{
+    match expression {
+        Expression::Delay { amount, .. } => Some(amount),
+        _ => None,
+    }
 }
 
 fn same_type(a: ScalarType, b: ScalarType) -> bool
@@ -85,17 +122,45 @@ fn is_among(texts: &[Text], name: &str) -> bool
     texts.iter().any(|text| text.as_str() == name)
 }
 
+/// The names other than this one.
+fn count_without(awaited: &[Awaited], name: &str) -> usize
+    ensures value { result ≡ length (without name.now awaited.now) }
+    ensures bound { result ≤ length awaited.now }
+{
+    awaited.iter().filter(|a| !a.is_for(name)).count()
+}
+
+/// The names other than this one stay.
+fn take_out(awaited: &mut Vec<Awaited>, name: &str)
+    ensures { awaited.new.items ≡ without name.now awaited.old.items }
+{
+    awaited.retain(|a| !a.is_for(name));
+}
+
+/// The type of an operation on a number and a name of this type.
+fn type_with_number(of: ScalarType) -> Option<ScalarType>
+    ensures { result ≡ common_type (Some ScalarType.Int) (Some of) }
+{
+    if same_type(ScalarType::Int, of) {
+        Some(ScalarType::Int)
+    } else {
+        None
+    }
+}
+
 impl Table {
     /// Nothing is declared.
     pub fn new(alloc: Global) -> Table
         ensures inputs { result.inputs ≡ [] }
         ensures definitions { result.definitions ≡ [] }
+        ensures awaited { result.awaited ≡ [] }
         ensures outputs { result.outputs ≡ [] }
         ensures lines { result.lines ≡ 0 }
     {
         Table {
             inputs: Vec::new(alloc),
             definitions: Vec::new(alloc),
+            awaited: Vec::new(alloc),
             outputs: Vec::new(alloc),
             lines: 0,
         }
@@ -119,6 +184,12 @@ impl Table {
         }
     }
 
+    fn is_awaited(&self, name: &str) -> bool
+        ensures { result ≡ is_awaited self.now name.now }
+    {
+        self.awaited.iter().any(|a| a.is_for(name))
+    }
+
     /// The type of an expression, if its names are declared and their types go together.
     fn expression_type(&self, expression: &Expression) -> Option<ScalarType>
         ensures { result ≡ expression_type (numbered self.now) expression.now }
@@ -126,7 +197,7 @@ impl Table {
         match expression {
             Expression::Nil => Some(ScalarType::Int),
             Expression::Unit => Some(ScalarType::Unit),
-            Expression::Time(a) => {
+            Expression::Time(a) | Expression::Const(_, a) => {
                 let _of = self.type_of(a.as_str())?;
                 Some(ScalarType::Int)
             }
@@ -140,32 +211,212 @@ impl Table {
                 let other = self.type_of(b.as_str())?;
                 if same_type(of, other) { Some(of) } else { None }
             }
+            Expression::NameFirst(a, _, _)
+            | Expression::NumberFirst(_, _, a)
+            | Expression::Neg(a) => { type_with_number(self.type_of(a.as_str())?) }
+            Expression::Delay { reset, .. } => {
+                let _trigger = self.type_of(reset.as_str())?;
+                Some(ScalarType::Unit)
+            }
         }
     }
 
-    /// The name is not declared, and there is a number for it.
-    fn is_free(&self, name: &str) -> bool
-        ensures { result ≡ is_free self.now name.now }
+    /// The name is not declared.
+    fn is_new(&self, name: &str) -> bool
+        ensures { result ≡ is_new self.now name.now }
     {
-        self.type_of(name).is_none() && self.inputs.len() + self.definitions.len() < 4096
+        self.type_of(name).is_none()
     }
 
-    fn push_input(&mut self, name: Text) -> Result<(), NoMemory>
+    /// The type is Int if the name is awaited.
+    fn is_expected(&self, name: &str, of: ScalarType) -> bool
+        ensures { result ≡ is_expected self.now name.now (Some of) }
+    {
+        !self.is_awaited(name) || same_type(of, ScalarType::Int)
+    }
+
+    /// There are numbers for one more name and for so many that are awaited then.
+    fn has_room(&self, awaited: usize) -> bool
+        requires { awaited ≤ length self.now.awaited + 1 }
+        ensures { result ≡ has_room self.now awaited }
+    {
+        let declared = self.inputs.len() + self.definitions.len();
+        declared < 4096 && awaited < 4096 && declared + awaited < 4096
+    }
+
+    /// The first name of a delay that defines this name is Int or not declared yet, and another name.
+    fn has_amount(&self, name: &str, expression: &Expression) -> bool
+        ensures { result ≡ has_amount self.now name.now (amount_of expression.now) }
+    {
+        match amount_of(expression) {
+            Some(amount) => match self.type_of(amount.as_str()) {
+                Some(of) => same_type(of, ScalarType::Int) && amount.as_str() != name,
+                None => amount.as_str() != name,
+            },
+            None => true,
+        }
+    }
+
+    /// The first name of a delay, if it is neither declared nor awaited.
+    fn newly_awaited<'a>(&self, expression: &'a Expression) -> Option<&'a Text>
+        ensures { MatchOption result (newly_awaited self.now (amount_of expression.now) ≡ []) (λ d. newly_awaited self.now (amount_of expression.now) ≡ record { name = d.now; line = self.now.lines + 1 } ∷ []) }
+    {
+        let amount = amount_of(expression)?;
+        if self.type_of(amount.as_str()).is_some() || self.is_awaited(amount.as_str()) {
+            None
+        } else {
+            Some(amount)
+        }
+    }
+
+    /// How many names are awaited once this one is defined.
+    fn count_awaited_with(&self, name: &str, expression: &Expression) -> usize
+        ensures value { result ≡ length (awaited_with self.now name.now expression.now) }
+        ensures bound { result ≤ length self.now.awaited + 1 }
+    {
+        let others = count_without(&self.awaited, name);
+        match self.newly_awaited(expression) {
+            Some(_) => others + 1,
+            None => others,
+        }
+    }
+
+    fn is_allowed_input(&self, name: &str, of: ScalarType) -> bool
+        ensures { result ≡ is_allowed_input self.now name.now of }
+    {
+        self.is_new(name)
+            && self.is_expected(name, of)
+            && self.has_room(count_without(&self.awaited, name))
+    }
+
+    fn is_allowed_definition(&self, name: &str, expression: &Expression) -> bool
+        ensures { result ≡ is_allowed_definition self.now name.now expression.now }
+    {
+        let is_typed = match self.expression_type(expression) {
+            Some(of) => self.is_expected(name, of),
+            None => false,
+        };
+        self.is_new(name)
+            && is_typed
+            && self.has_amount(name, expression)
+            && self.has_room(self.count_awaited_with(name, expression))
+    }
+
+    fn is_allowed_output(&self, name: &str) -> bool
+        ensures { result ≡ is_allowed_output self.now name.now }
+    {
+        !is_among(&self.outputs, name) && self.type_of(name).is_some()
+    }
+
+    /// The item of the next line may stand there.
+    pub fn is_allowed(&self, item: &Item) -> bool
+        ensures { result ≡ is_allowed self.now item.now }
+    {
+        match item {
+            Item::Input(name, of) => self.is_allowed_input(name.as_str(), type_of_input(*of)),
+            Item::Definition(name, expression) => {
+                self.is_allowed_definition(name.as_str(), expression)
+            }
+            Item::Output(name) => self.is_allowed_output(name.as_str()),
+        }
+    }
+
+    /// The line of the first delay that awaits a name.
+    fn awaited_line(&self, name: &str) -> Option<u32>
+        ensures { result ≡ option_map (λ a. a.line) (find (is_for name.now) self.now.awaited) }
+    {
+        self.awaited
+            .iter()
+            .find(|a| a.is_for(name))
+            .map(|a| a.line)
+    }
+
+    /// The line of the first delay that awaits a name, where it is declared with another type than Int, and else the
+    /// next line.
+    fn line_against(&self, name: &str, of: ScalarType) -> u32
+        requires { self.now.lines < 2 ^ 31 }
+        ensures { result ≡ line_against self.now name.now (Some of) }
+    {
+        let next = self.lines + 1;
+        if same_type(of, ScalarType::Int) {
+            next
+        } else {
+            self.awaited_line(name).unwrap_or(next)
+        }
+    }
+
+    /// The line that is named where the item of the next line may not stand there.
+    pub fn refused_line(&self, item: &Item) -> u32
+        requires { self.now.lines < 2 ^ 31 }
+        ensures { result ≡ refused_line self.now item.now }
+    {
+        match item {
+            Item::Input(name, of) => self.line_against(name.as_str(), type_of_input(*of)),
+            Item::Definition(name, expression) => match self.expression_type(expression) {
+                Some(of) => self.line_against(name.as_str(), of),
+                None => self.lines + 1,
+            },
+            Item::Output(_) => self.lines + 1,
+        }
+    }
+
+    /// The line that is named where the lines may not end: that of the first delay whose first name is missing, or the
+    /// next line where there is no output.
+    pub fn missing_line(&self) -> Option<u32>
+        requires { self.now.lines < 2 ^ 31 }
+        ensures { MatchOption result ((self.now.awaited ≡ []) × (0 < length self.now.outputs)) (λ line. (line ≡ missing_line self.now) × (self.now.awaited ≡ [] → self.now.outputs ≡ [])) }
+    {
+        if let Some(awaited) = self.awaited.first() {
+            return Some(awaited.line);
+        }
+        if self.outputs.is_empty() {
+            Some(self.lines + 1)
+        } else {
+            None
+        }
+    }
+
+    /// The name is not awaited any more.
+    fn stop_awaiting(&mut self, name: &str)
+        ensures { self.new ≡ record self.old { awaited = without name.now self.old.awaited } }
+    {
+        take_out(&mut self.awaited, name);
+    }
+
+    /// What is awaited once a name is defined.
+    fn await_amount(&mut self, name: &str, expression: &Expression) -> Result<(), NoMemory>
         requires { self.old.lines < 2 ^ 31 }
-        ensures { OnOk result (self.new ≡ with_input self.old name) }
+        ensures { OnOk result (self.new ≡ record self.old { awaited = awaited_with self.old name.now expression.now }) }
     {
         let line = self.lines + 1;
+        let amount = match self.newly_awaited(expression) {
+            Some(amount) => Some(amount.copy()?),
+            None => None,
+        };
+        self.stop_awaiting(name);
+        if let Some(name) = amount {
+            self.awaited.push(Awaited { name, line })?;
+        }
+        Ok(())
+    }
+
+    fn add_input(&mut self, name: Text, of: ScalarType) -> Result<(), NoMemory>
+        requires { self.old.lines < 2 ^ 31 }
+        ensures { OnOk result (self.new ≡ with_input self.old name of) }
+    {
+        let line = self.lines + 1;
+        self.stop_awaiting(name.as_str());
         self.inputs.push(Declaration {
             name,
             expression: None,
-            of: ScalarType::Int,
+            of,
             line,
         })?;
         self.lines = line;
         Ok(())
     }
 
-    fn push_definition(
+    fn add_definition(
         &mut self,
         name: Text,
         expression: Expression,
@@ -175,6 +426,7 @@ impl Table {
         ensures { OnOk result (self.new ≡ with_definition self.old name expression of) }
     {
         let line = self.lines + 1;
+        self.await_amount(name.as_str(), &expression)?;
         self.definitions.push(Declaration {
             name,
             expression: Some(expression),
@@ -185,7 +437,7 @@ impl Table {
         Ok(())
     }
 
-    fn push_output(&mut self, name: Text) -> Result<(), NoMemory>
+    fn add_output(&mut self, name: Text) -> Result<(), NoMemory>
         requires { self.old.lines < 2 ^ 31 }
         ensures { OnOk result (self.new ≡ with_output self.old name) }
     {
@@ -194,53 +446,25 @@ impl Table {
         Ok(())
     }
 
-    /// Takes the item of the next line, if it may stand there.
-    pub fn add(&mut self, item: Item) -> Result<bool, NoMemory>
+    /// Takes the item of the next line.
+    pub fn add(&mut self, item: Item) -> Result<(), NoMemory>
         requires { self.old.lines < 2 ^ 31 }
-        ensures allowed { IfOk result (λ b. b ≡ is_allowed self.old item) }
-        ensures after { IfOk result (λ b. self.new ≡ (if b then with_item self.old item else self.old)) }
+        ensures { OnOk result (self.new ≡ with_item self.old item) }
     {
         match item {
-            Item::Input(name) => {
-                if !self.is_free(name.as_str()) {
-                    return Ok(false);
-                }
-                self.push_input(name)?;
-                Ok(true)
-            }
+            Item::Input(name, of) => self.add_input(name, type_of_input(of)),
             Item::Definition(name, expression) => {
-                if !self.is_free(name.as_str()) {
-                    return Ok(false);
-                }
-                match self.expression_type(&expression) {
-                    Some(of) => {
-                        self.push_definition(name, expression, of)?;
-                        Ok(true)
-                    }
-                    None => Ok(false),
-                }
+                let of = self.expression_type(&expression).unwrap_or(ScalarType::Int);
+                self.add_definition(name, expression, of)
             }
-            Item::Output(name) => {
-                let is_new = !is_among(&self.outputs, name.as_str());
-                if !is_new || self.type_of(name.as_str()).is_none() {
-                    return Ok(false);
-                }
-                self.push_output(name)?;
-                Ok(true)
-            }
+            Item::Output(name) => self.add_output(name),
         }
-    }
-
-    /// The number of outputs.
-    pub fn count_outputs(&self) -> usize
-        ensures { result ≡ length self.now.outputs }
-    {
-        self.outputs.len()
     }
 
     /// The system of what is declared. The inputs are numbered first.
     pub fn into_flat(self, alloc: Global) -> Result<Flat, NoMemory>
         requires declared { IsDeclared self }
+        requires none_awaited { self.awaited ≡ [] }
         requires some_output { 0 < length self.outputs }
         requires few_lines { self.lines ≤ 2 ^ 31 }
         ensures system { IfOk result (λ f. IsSystem self f) }
@@ -252,6 +476,7 @@ impl Table {
         let Table {
             mut inputs,
             mut definitions,
+            awaited: _,
             outputs,
             lines: _,
         } = self;

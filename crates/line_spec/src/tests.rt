@@ -1,6 +1,6 @@
 // Specifications that are read, and sources that are refused.
 
-use crate::item::Item;
+use crate::item::{Expression, InputType, Item, Operator};
 use crate::line::read_item;
 use crate::name::is_name;
 use crate::read::{SpecLineFault, read_spec};
@@ -46,7 +46,7 @@ fn sources_are_refused_at_their_lines(rt: HostRuntime) {
     assert_eq!(rt; refused_line(alloc, b"in i: Events[Int]\n\nout i\n"), 2);
     assert_eq!(rt; refused_line(alloc, b"in i: Events[Int]\nout i\r\n"), 2);
     assert_eq!(rt;
-        refused_line(alloc, b"in i: Events[Int]\ndef p := i + 1\nout p\n"),
+        refused_line(alloc, b"in i: Events[Int]\ndef p := i ? 1\nout p\n"),
         2
     );
     assert_eq!(rt;
@@ -58,10 +58,124 @@ fn sources_are_refused_at_their_lines(rt: HostRuntime) {
 }
 
 #[test]
+fn arithmetic_and_delays_are_read(rt: HostRuntime) -> Result<(), Fail> {
+    let source =
+        b"in r: Events[Unit]\nin i: Events[Int]\ndef e: Events[Unit] := delay(c, r)\ndef c := const(010, e)\ndef a := 5 / i\ndef b := a % 2\ndef n := -b\nout e\nout n\n";
+    let flat = match read_spec(rt.alloc(), source) {
+        Ok(flat) => flat,
+        Err(_) => return Err("refused")?,
+    };
+    assert_eq!(rt; flat.count(), 7);
+    let delay = flat.equation(EqId::new(2));
+    assert!(rt; matches!(delay.op, Op::Delay));
+    assert_eq!(rt; delay.args.ids()[0].get(), 3);
+    assert_eq!(rt; delay.place.column, 24);
+    let quotient = flat.equation(EqId::new(4));
+    assert!(rt; matches!(&quotient.op, Op::Lift { body, strict: true } if body.nodes() == 3));
+    assert_eq!(rt; quotient.args.ids()[0].get(), 1);
+    assert_eq!(rt; quotient.place.column, 10);
+    Ok(())
+}
+
+#[test]
+fn names_and_numbers_are_refused(rt: HostRuntime) {
+    let alloc = rt.alloc();
+    assert_eq!(rt;
+        refused_line(alloc, b"def u := unit\ndef a := u + 1\nout a"),
+        2
+    );
+    assert_eq!(rt;
+        refused_line(alloc, b"def u := unit\ndef a := -u\nout a"),
+        2
+    );
+    assert_eq!(rt;
+        refused_line(alloc, b"def u := unit\ndef a := const(1, v)\nout a"),
+        2
+    );
+    assert_eq!(rt;
+        refused_line(
+            alloc,
+            b"def u := unit\ndef a := const(9223372036854775808, u)\nout a"
+        ),
+        2
+    );
+    assert_eq!(rt;
+        refused_line(
+            alloc,
+            b"def u := unit\ndef a := const(9223372036854775807, u)\nout a"
+        ),
+        0
+    );
+    assert_eq!(rt;
+        refused_line(alloc, b"def u: Events[Unit] := unit\nout u"),
+        1
+    );
+    assert_eq!(rt; refused_line(alloc, b"in i: Events[Bool]\nout i"), 1);
+}
+
+#[test]
+fn awaited_names_are_refused(rt: HostRuntime) {
+    let alloc = rt.alloc();
+    assert_eq!(rt;
+        refused_line(alloc, b"def u := unit\ndef p := delay(c, u)\nout p\n"),
+        2
+    );
+    assert_eq!(rt;
+        refused_line(
+            alloc,
+            b"def u := unit\ndef p := delay(c, u)\ndef q := delay(c, u)\ndef c := unit\nout p"
+        ),
+        2
+    );
+    assert_eq!(rt;
+        refused_line(
+            alloc,
+            b"def u := unit\ndef p := delay(c, u)\nout p\nin c: Events[Unit]"
+        ),
+        2
+    );
+    assert_eq!(rt;
+        refused_line(
+            alloc,
+            b"def u := unit\ndef p := delay(c, u)\nout p\nin c: Events[Int]"
+        ),
+        0
+    );
+    assert_eq!(rt;
+        refused_line(alloc, b"def u := unit\n\ndef p := delay(c, u)"),
+        2
+    );
+    assert_eq!(rt;
+        refused_line(alloc, b"def u := unit\ndef c := delay(c, u)\nout c"),
+        2
+    );
+    assert_eq!(rt;
+        refused_line(alloc, b"def u := unit\ndef p := delay(u, u)\nout p"),
+        2
+    );
+    assert_eq!(rt;
+        refused_line(
+            alloc,
+            b"in i: Events[Int]\ndef p := delay(i, u)\nin u: Events[Unit]\nout p"
+        ),
+        2
+    );
+}
+
+#[test]
 fn lines_and_names_are_read(rt: HostRuntime) -> Result<(), Fail> {
     let item = read_item(rt.alloc(), b"def t := time(x_1)")?;
-    assert!(rt; matches!(item, Some(Item::Definition(_, _))));
+    assert!(rt; matches!(item, Some(Item::Definition(_, Expression::Time(_)))));
     assert!(rt; read_item(rt.alloc(), b"out last")?.is_none());
+    let input = read_item(rt.alloc(), b"in r: Events[Unit]")?;
+    assert!(rt; matches!(input, Some(Item::Input(_, InputType::Unit))));
+    let sum = read_item(rt.alloc(), b"def t := 7 - x")?;
+    assert!(rt;
+        matches!(
+            sum,
+            Some(Item::Definition(_, Expression::NumberFirst(7, Operator::Sub, _)))
+        )
+    );
     assert!(rt; is_name("x_1"));
     assert!(rt; !is_name("lift"));
     Ok(())

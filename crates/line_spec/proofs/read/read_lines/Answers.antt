@@ -1,14 +1,13 @@
 -- The lines are those between the line ends.
-use Rattle.std.proofs.Common.{◌≡◌, ◌==◌, ℕ, suc, ◌+◌, ◌<◌, List, [], ◌∷◌, ◌++◌, length, take, drop, map, get_or, ap, ◌∙◌, sym, subst, arith, rules}
+use Rattle.std.proofs.Common.{◌≡◌, ◌==◌, ℕ, suc, ◌<◌, List, [], ◌∷◌, ◌++◌, length, take, drop, map, get_or, ap, ◌∙◌, sym, subst, arith, rules}
 use borrow.Author.Tests.{tests}
 use Rattle.std.proofs.lemmas.Iterator.Splits.{YieldsList-from_slice_split}
 use Rattle.std.proofs.lemmas.Iterator.Consumers.{YieldsList-so_far, YieldsList-turn, YieldsList-end}
 use Rattle.std.proofs.lemmas.List.{take-append-drop, length-map, map-append}
 use Rattle.std.proofs.Math.Seq.{drop-cons}
-use Rattle.std.proofs.lemmas.Bool.Decides.{when_true, when_false}
-use Rattle.line_spec.specs.Table.{Declared}
-use Rattle.line_spec.specs.Reading.{without_last_end, lines_of, IsRead, IsFaultOf}
-use Rattle.line_spec.proofs.ReadLemmas.{read-lines, read-push, refused-at, few_lines}
+use Rattle.std.proofs.lemmas.Result.{err_from_is_err_and}
+use Rattle.line_spec.specs.Reading.{without_last_end, lines_of, IsRead, AreRead, IsFaultOf}
+use Rattle.line_spec.proofs.ReadLemmas.{read-lines, read-push, refused-fault, few_lines}
 use Rattle.line_spec.proofs.read.read_lines.Goals as goal
 
 -- what was yielded, the next one and the others
@@ -24,32 +23,19 @@ read_line-requires c =
     let few = few_lines c.args.source.now c.requires in
     omega (arith, turn.0, lines, few, length-map c.loop-line.yielded (λ x. x.now))
 
-pub overflow_add-lines : goal.overflow_add-lines
-overflow_add-lines c =
-    let chain = YieldsList-from_slice_split _ (λ b. b == 10) (without_last_end c.args.source.now) (cc) (cc) (cc) (λ x b q k. search (rules, tests)) in
-    let turn = YieldsList-turn chain c.loop-line.yielded _ c.loop-line.yielded_by _ _ c.in-Some.line c.in-Some.is c.next.ensures.steps in
-    let lines = read-lines (map (λ x. x.now) c.loop-line.yielded) c.loop-line.table c.loop-line.invariant.read in
-    let few = few_lines c.args.source.now c.requires in
-    let same : c.read_line.new.table.lines ≡ c.loop-line.table.lines = ap (λ (t : Declared). t.lines) (when_false _ _ c.if-not-branch.true c.in_ok-read_line.ensures).1 in
-    let result = c.lines.ensures in
-    omega (arith, turn.0, lines, few, same, result, length-map c.loop-line.yielded (λ x. x.now))
-
-pub returns-then-not-branch : goal.returns-then-not-branch
-returns-then-not-branch c =
+pub returns-in_err-read_line : goal.returns-in_err-read_line
+returns-in_err-read_line c =
     let chain = YieldsList-from_slice_split _ (λ b. b == 10) (without_last_end c.args.source.now) (cc) (cc) (cc) (λ x b q k. search (rules, tests)) in
     let so_far = YieldsList-so_far chain c.loop-line.yielded _ c.loop-line.yielded_by in
     let turn = YieldsList-turn chain c.loop-line.yielded _ c.loop-line.yielded_by _ _ c.in-Some.line c.in-Some.is c.next.ensures.steps in
     let whole = at_turn (map (λ x. x.now) c.loop-line.yielded) (lines_of c.args.source.now) c.in-Some.line.now (length c.loop-line.yielded) so_far turn in
-    let not_taken = when_false _ _ c.if-not-branch.true c.in_ok-read_line.ensures in
-    let lines : c.lines.result ≡ c.loop-line.table.lines = c.lines.ensures ∙ ap (λ (t : Declared). t.lines) not_taken.1 in
-    subst (IsFaultOf c.args.source.now) (sym c.not_built.ensures)
-    (refused-at c.args.source.now (map (λ x. x.now) c.loop-line.yielded) c.in-Some.line.now (drop (suc (length c.loop-line.yielded)) (lines_of c.args.source.now)) c.loop-line.table _ c.requires whole c.loop-line.invariant.read not_taken.0
-    (ap (λ n. record { line = n + 1; column = 1 }) lines))
+    let fault = refused-fault c.args.source.now (map (λ x. x.now) c.loop-line.yielded) c.in-Some.line.now (drop (suc (length c.loop-line.yielded)) (lines_of c.args.source.now)) c.loop-line.table c.in_err-read_line.field-0.0 c.requires whole c.loop-line.invariant.read c.in_err-read_line.ensures.err in
+    let gave = err_from_is_err_and c.from_residual.result c.from_residual.ensures.1 in
+    subst (AreRead c.args.source.now) (sym gave.1) (subst (IsFaultOf c.args.source.now) (sym gave.2) fault)
 
 pub loop-line-preserved : goal.loop-line-preserved
 loop-line-preserved c =
-    let taken = when_true _ _ c.if-not-branch.false c.in_ok-read_line.ensures in
-    let read = read-push (map (λ x. x.now) c.loop-line.yielded) c.loop-line.table c.read_line.new.table c.in-Some.line.now c.loop-line.invariant.read taken in
+    let read = read-push (map (λ x. x.now) c.loop-line.yielded) c.loop-line.table c.read_line.new.table c.in-Some.line.now c.loop-line.invariant.read c.in_ok-read_line.ensures.ok in
     record {
       can_next = search rules;
       is_finite = search rules;

@@ -1,8 +1,7 @@
 -- What is declared makes a complete system.
-use Rattle.std.proofs.Common.{◌≡◌, ◌<◌, ◌≤◌, ◌^◌, List, ℕ, length, ap, ◌∙◌, sym, subst, arith, map}
+use Rattle.std.proofs.Common.{◌≡◌, ◌≤◌, List, length, ap, ◌∙◌, sym, subst, arith, map}
 use Rattle.std.specs.List.{All}
 use Rattle.flat_core.specs.System.{System}
-use Rattle.flat_core.specs.Complete.{IsComplete}
 use Rattle.line_spec.specs.declared.table.Declaration.{Declaration}
 use Rattle.line_spec.specs.Table.{Declared, numbered}
 use Rattle.plain_solver.specs.Instant.{IsInOrder}
@@ -17,7 +16,8 @@ use Rattle.line_spec.proofs.table.Table.into_flat.Goals as goal
 pub build-requires-clause-few : goal.build-requires-clause-few
 build-requires-clause-few c =
     let same : c.deref.result.now ≡ numbered c.args.self = c.deref.ensures.value ∙ (c.in_ok-append.ensures.items ∙ ap numbered c.self.view_is) in
-    subst (λ (ds : List Declaration). length ds ≤ 4096) (sym same) ((sound-declared c.args.self c.requires.declared).few)
+    let room = (sound-declared c.args.self c.requires.declared).room in
+    subst (λ (ds : List Declaration). length ds ≤ 4096) (sym same) (omega (arith, room))
 
 pub build-requires-clause-short : goal.build-requires-clause-short
 build-requires-clause-short c =
@@ -37,7 +37,7 @@ build-requires-clause-complete c = λ s equations outputs.
     let names : c.deref-2.result.now ≡ c.args.self.outputs = c.deref-2.ensures.value ∙ ap (λ (t : Declared). t.outputs) c.self.view_is in
     complete c.args.self s (equations ∙ ap (λ (ds : List Declaration). map (equation_of ds) ds) same)
     (outputs ∙ (ap (λ (ds : List Declaration). map (output_of ds) c.deref-2.result.now) same ∙ ap (map (output_of (numbered c.args.self))) names))
-    (sound-declared c.args.self c.requires.declared) c.requires.some_output
+    (sound-declared c.args.self c.requires.declared) c.requires.none_awaited c.requires.some_output
 
 pub returns-clause-in_order : goal.returns-clause-in_order
 returns-clause-in_order c =
