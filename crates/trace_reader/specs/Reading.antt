@@ -70,7 +70,7 @@ value_of (value_type.Scalar scalar_type.Int) (Some bytes) = result_ok (literal s
 value_of (value_type.Scalar scalar_type.Unit) None = Some scalar.Unit
 value_of _ _ = None
 
--- The line that bytes spell: they are of a form, the time is one, and the name is that of an input of the value's type.
+-- The line that bytes spell: they are of a form, the time is one, and the name, if there is one, is that of an input of the value's type.
 module _ (s : System) where
   abbrev pub event_of : Option (List ℕ) → ℕ → Option (ℕ × Scalar)
   event_of value i = option_and_then (λ e. option_map (λ v. (i, v)) (value_of e.of value)) (equation s i)

@@ -111,8 +111,8 @@ fn said(
     }
 }
 
-/// The line that bytes spell, where they are of a form, and name no input or one of the value's
-/// type.
+/// The line that bytes spell, where they are of a form, their time is one, and their name, if they
+/// have one, is that of an input of the value's type.
 fn spelled(alloc: Global, flat: &Flat, line: &[u8]) -> Result<Option<TraceLine>, NoMemory>
     ensures { IfOk result (λ l. l ≡ spelled flat.now line.now) }
 {
