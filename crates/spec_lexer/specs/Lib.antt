@@ -1,0 +1,5 @@
+pub mod Spelling
+pub mod Pieces
+pub mod Source
+pub mod Found
+pub mod Tokens
