@@ -1,15 +1,20 @@
--- Characters have tokens or a fault.
-use Rattle.std.proofs.Common.{◌≡◌, ◌⊎◌, ℕ, zero, suc, ◌≤◌, List, [], ◌∷◌, ◌++◌, length, ap, arith, inl, inr, length-append, Result, Ok, Err}
+-- A source has tokens or a fault.
+use Rattle.std.proofs.Common.{◌≡◌, ◌⊎◌, ℕ, zero, suc, ◌≤◌, List, [], ◌∷◌, ◌++◌, length, refl, ap, arith, inl, inr, length-append, Result, Ok, Err}
 use Rattle.tsl_value.specs.declared.place.Place.{Place}
 use Rattle.spec_lexer.specs.declared.fault.LexFault.{LexFault}
+use Rattle.spec_lexer.specs.declared.fault.LexFault.TheVariants.{SpecTooLong, BadUtf8}
 use Rattle.spec_lexer.specs.declared.piece.Piece.{Piece}
 use Rattle.spec_lexer.specs.declared.piece.Piece.TheVariants.{Blank, LineEnd, Made}
 use Rattle.spec_lexer.specs.declared.token.Kind.{Kind}
 use Rattle.spec_lexer.specs.declared.token.Token.{Token}
 use Rattle.spec_lexer.specs.Found.{found}
 use Rattle.spec_lexer.specs.Pieces.{place_after, IsSkipped, line_end, Makes}
-use Rattle.spec_lexer.specs.Source.{Lexes, end, skip, token, Fails, here, past_skip, past_token, start}
+use Rattle.spec_lexer.specs.Source.{Lexes, end, skip, token, Fails, here, past_skip, past_token, start, most_bytes, IsText, HasTokens, lexed, HasFault, too_long, fails}
+use Rattle.spec_lexer.specs.Laws.{SomeAnswer}
+use Rattle.spec_lexer.specs.Tokens.{Spelled}
+use Rattle.std.proofs.lemmas.Bool.{cases_lt}
 use Rattle.spec_lexer.proofs.Sound.{Stands, sound}
+use Rattle.spec_lexer.proofs.Utf8.{text_or_front, no_text}
 
 abbrev Answer : Place → ℕ → List ℕ → Type 0
 Answer at last cs = ((tokens : List Token) × Lexes at last cs tokens) ⊎ ((fault : LexFault) × Fails at cs fault)
@@ -36,5 +41,18 @@ answers n at last [] h = inl ([], end)
 answers zero at last (c ∷ cs) h = absurd (omega arith)
 answers (suc n) at last (c ∷ cs) h = step n at last c cs (omega arith) (answers n) (found at c cs) (sound at c cs)
 
-pub some_answer : (characters : List ℕ) → ((tokens : List Token) × Lexes start 0 characters tokens) ⊎ ((fault : LexFault) × Fails start characters fault)
-some_answer characters = answers (length characters) start 0 characters (omega arith)
+-- a text of at most so many bytes
+text_answers : (bytes characters : List ℕ) → length bytes ≤ most_bytes → IsText characters bytes → Answer start 0 characters → ((spelled : Spelled) × HasTokens bytes spelled) ⊎ ((fault : LexFault) × HasFault bytes fault)
+text_answers bytes characters short text (inl l) = inl (record { tokens = l.0; end = place_after start characters }, lexed short text l.1 refl)
+text_answers bytes characters short text (inr f) = inr (f.0, fails short text f.1)
+
+pub some_answer : SomeAnswer
+some_answer bytes = elim (cases_lt most_bytes (length bytes)) [
+  | inl long ↦ inr (SpecTooLong start, too_long long)
+  | inr short ↦ elim (text_or_front bytes) [
+    | inl text ↦ text_answers bytes text.0 short (record { scalars = text.1.0; encoded = text.1.1 }) (answers (length text.0) start 0 text.0 (omega arith))
+    | inr valid ↦
+        let front = valid.1.front in
+        inr (BadUtf8 (place_after start front.0), no_text bytes front.0 valid.0 short (record { scalars = front.1.0; encoded = front.1.1 }) valid.1)
+  ]
+]

@@ -14,6 +14,7 @@ use Rattle.spec_lexer.specs.declared.fault.LexFault.TheVariants.{BadUtf8}
 use Rattle.spec_lexer.specs.Tokens.{Spelled}
 use Rattle.spec_lexer.specs.Pieces.{place_after, Makes, word as a_word, name as a_name, number as a_number, text as a_text, symbol as a_symbol}
 use Rattle.spec_lexer.specs.Source.{Lexes, end, skip, token, Fails, IsFaultAnd, IfFault, IsUnlessMemory, start, IsText, HasTokens, lexed, HasFault, too_long, bad_utf8, fails}
+use Rattle.spec_lexer.specs.Laws.{OneList, OneFault, FaultExcludesTokens}
 use Rattle.spec_lexer.proofs.OneAnswer.{one_lexing, one_fault, never_both}
 use Rattle.spec_lexer.proofs.Runs.{both_pass}
 use Rattle.spec_lexer.proofs.Symbols.{shape, double, single}
@@ -46,14 +47,14 @@ no_text_whole bytes cs ds front rest is text some none whole =
 same_text : (bytes cs ds : List ℕ) → IsText cs bytes → IsText ds bytes → cs ≡ ds
 same_text bytes cs ds a b = encodes_same cs ds (a.encoded ∙ sym b.encoded)
 
-pub one_list : (bytes : List ℕ) (a b : Spelled) → HasTokens bytes a → HasTokens bytes b → a ≡ b
+pub one_list : OneList
 one_list bytes a b (lexed {characters = cs} short text l ends) (lexed {characters = ds} short' other k ends') =
     let same = same_text bytes cs ds text other in
     let tokens = one_lexing l (subst (λ cs. Lexes start 0 cs b.tokens) (sym same) k) in
     let places = ends ∙ ap (place_after start) same ∙ sym ends' in
     λ i. record { tokens = tokens i; end = places i }
 
-pub one_refusal : (bytes : List ℕ) (a b : LexFault) → HasFault bytes a → HasFault bytes b → a ≡ b
+pub one_refusal : OneFault
 one_refusal bytes a b (too_long long) (too_long long') = refl
 one_refusal bytes a b (too_long long) (bad_utf8 short is text some none) = absurd (omega arith)
 one_refusal bytes a b (too_long long) (fails short text f) = absurd (omega arith)
@@ -67,7 +68,7 @@ one_refusal bytes a b (fails {characters = ds} short' other k) (bad_utf8 {charac
 one_refusal bytes a b (fails {characters = cs} short text f) (fails {characters = ds} short' other k) =
     one_fault f (subst (λ cs. Fails start cs b) (sym (same_text bytes cs ds text other)) k)
 
-pub tokens_or_fault : (bytes : List ℕ) (a : Spelled) (e : LexFault) → HasTokens bytes a → HasFault bytes e → ⊥
+pub tokens_or_fault : FaultExcludesTokens
 tokens_or_fault bytes a e (lexed short text l ends) (too_long long) = omega arith
 tokens_or_fault bytes a e (lexed {characters = ds} short other l ends) (bad_utf8 {characters = cs} {front = f} {rest = r} short' is text some none) = no_text_whole bytes cs ds f r is text some none other
 tokens_or_fault bytes a e (lexed {characters = cs} short text l ends) (fails {characters = ds} short' other f) = never_both l (subst (λ cs. Fails start cs e) (sym (same_text bytes cs ds text other)) f)

@@ -1,4 +1,5 @@
--- What the search for the piece in front finds, by computation. The relations of `Pieces` say what it means.
+-- What the search for the piece in front finds, by computation. Contracts of private functions alone cite it. That it
+-- finds what the relations of `Pieces` allow, and all of it, is proved in proofs/Sound.antt and proofs/Complete.antt.
 use Rattle.std.specs.Prelude.{◌+◌, ◌^◌, ◌==◌, ◌||◌, ◌&&◌, ℕ, Bool, true, false, nat_lt, if◌then◌else◌, List, [], ◌∷◌, ◌++◌, length, take, codes, encode_utf8, encode_utf8_all, Option, Some, None, Result, Ok, Err}
 use Rattle.std.specs.Option.{option_map_or}
 use Rattle.std.specs.List.{prefix_len}

@@ -14,7 +14,7 @@
 
 mod characters;
 pub mod fault;
-pub mod law;
+pub mod laws;
 pub mod lex;
 mod name;
 mod number;

@@ -54,8 +54,8 @@ fn single(c: char) -> Option<Symbol>
     }
 }
 
+/// The longest symbol that begins with one character, or with two.
 #[tactic(auto, unfolding(crate::specs::Found::symbol_found))]
-/// The longest symbol in front of two characters.
 pub(crate) fn symbol_at(at: Place, c: char, next: char) -> Result<Piece, LexFault>
     ensures ok { IfOk result (λ p. Ok p ≡ symbol_found at c next) }
     ensures fault { IfFault result (λ e. Err e ≡ symbol_found at c next) }

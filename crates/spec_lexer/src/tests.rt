@@ -1,9 +1,11 @@
-// A source and its tokens, and each fault.
+// Sources and their tokens, and each fault.
 
 use crate::fault::LexFault;
 use crate::lex::lex;
-use crate::token::{Kind, Symbol, Word};
-use std::alloc::AllocError;
+use crate::token::{Kind, Symbol, Token, Word};
+use crate::tokens::Tokens;
+use std::alloc::{AllocError, Global};
+use tsl_value::memory::NoMemory;
 use tsl_value::place::Place;
 
 #[test]
@@ -26,6 +28,70 @@ fn a_source_has_its_tokens(rt: HostRuntime) {
             Kind::Number(number) => *number == 12,
         };
         assert!(rt; as_expected);
+    }
+    assert_eq!(rt; tokens.end(), Place { line: 2, column: 4 });
+}
+
+#[test]
+fn words_and_symbols_are_spelled(rt: HostRuntime) {
+    let Ok(words) = lex(rt.alloc(), b"in def out as if then else true false") else {
+        panic!(rt; "no words");
+    };
+    let expected = [
+        Word::In,
+        Word::Def,
+        Word::Out,
+        Word::As,
+        Word::If,
+        Word::Then,
+        Word::Else,
+        Word::True,
+        Word::False,
+    ];
+    assert_eq!(rt; words.len(), expected.len());
+    for (token, word) in words.as_slice().iter().zip(expected.iter()) {
+        assert!(rt;
+            matches!(&token.kind, Kind::Word(found) if *found == *word),
+            "{word:?}"
+        );
+    }
+    let source = b"== = := : , . ( ) [ ] { } || && != <= >= < > + - * / % !";
+    let Ok(symbols) = lex(rt.alloc(), source) else {
+        panic!(rt; "no symbols");
+    };
+    let expected = [
+        Symbol::Same,
+        Symbol::Equals,
+        Symbol::Define,
+        Symbol::Colon,
+        Symbol::Comma,
+        Symbol::Dot,
+        Symbol::Open,
+        Symbol::Close,
+        Symbol::OpenBracket,
+        Symbol::CloseBracket,
+        Symbol::OpenBrace,
+        Symbol::CloseBrace,
+        Symbol::Or,
+        Symbol::And,
+        Symbol::Differs,
+        Symbol::AtMost,
+        Symbol::AtLeast,
+        Symbol::Below,
+        Symbol::Above,
+        Symbol::Plus,
+        Symbol::Minus,
+        Symbol::Times,
+        Symbol::Divide,
+        Symbol::Remainder,
+        Symbol::Not,
+    ];
+    assert_eq!(rt; symbols.len(), expected.len());
+    for (token, symbol) in symbols.as_slice().iter().zip(expected.iter()) {
+        assert!(rt;
+            matches!(&token.kind, Kind::Symbol(found) if *found == *symbol),
+            "{symbol:?}"
+        );
     }
 }
 
@@ -55,24 +121,63 @@ fn each_fault_comes(rt: HostRuntime) {
     }
 }
 
+/// So many of a byte, perhaps between quotes.
+fn repeated(alloc: Global, byte: u8, count: usize, quotes: bool) -> Result<Vec<u8>, AllocError> {
+    let mut source = Vec::new(alloc);
+    if quotes {
+        source.push(b'"')?;
+    }
+    for _ in 0..count {
+        source.push(byte)?;
+    }
+    if quotes {
+        source.push(b'"')?;
+    }
+    Ok(source)
+}
+
 #[test]
-fn what_is_too_long_is_refused(rt: HostRuntime) -> Result<(), AllocError> {
+fn limits_are_exact(rt: HostRuntime) -> Result<(), AllocError> {
     let place = Place { line: 1, column: 1 };
-    let name = vec![in rt.alloc(); b'a'; 256]?;
-    assert_eq!(rt;
-        lex(rt.alloc(), name.as_slice()).err(),
-        Some(LexFault::NameTooLong { place })
+    let limits = [
+        (b'a', 255, false, LexFault::NameTooLong { place }),
+        (b'a', 65_536, true, LexFault::TextTooLong { place }),
+        (b' ', 1_048_576, false, LexFault::SpecTooLong { place }),
+    ];
+    for (byte, count, quotes, fault) in limits {
+        let longest = repeated(rt.alloc(), byte, count, quotes)?;
+        assert_eq!(rt; lex(rt.alloc(), longest.as_slice()).err(), None);
+        let longer = repeated(rt.alloc(), byte, count + 1, quotes)?;
+        assert_eq!(rt; lex(rt.alloc(), longer.as_slice()).err(), Some(fault));
+    }
+    assert!(rt; lex(rt.alloc(), b"9223372036854775807").is_ok());
+    Ok(())
+}
+
+#[test]
+fn tokens_are_a_list(rt: HostRuntime) -> Result<(), NoMemory> {
+    let mut tokens = Tokens::new(rt.alloc());
+    assert!(rt; tokens.get(0).is_none());
+    let place = Place { line: 3, column: 5 };
+    for number in [7, 8] {
+        tokens.push(Token {
+            kind: Kind::Number(number),
+            place,
+            first: true,
+        })?;
+    }
+    tokens.set_end(place);
+    assert!(rt;
+        matches!(
+            tokens.get(1),
+            Some(Token {
+                kind: Kind::Number(8),
+                ..
+            })
+        )
     );
-    let mut text = vec![in rt.alloc(); b'"'; 65_539]?;
-    text.as_mut_slice()[1..65_538].fill(b'a');
-    assert_eq!(rt;
-        lex(rt.alloc(), text.as_slice()).err(),
-        Some(LexFault::TextTooLong { place })
-    );
-    let source = vec![in rt.alloc(); b' '; 1_048_577]?;
-    assert_eq!(rt;
-        lex(rt.alloc(), source.as_slice()).err(),
-        Some(LexFault::SpecTooLong { place })
-    );
+    assert!(rt; tokens.get(2).is_none());
+    assert_eq!(rt; tokens.len(), 2);
+    assert_eq!(rt; tokens.end(), place);
     Ok(())
 }

@@ -38,7 +38,7 @@ impl Tokens {
         }
     }
 
-    /// Appends a token.
+    /// Appends a token. Where memory is wanting, nothing changes.
     pub fn push(&mut self, item: Token) -> Result<(), NoMemory>
         ensures ok { OnOk result (self.new.tokens ≡ self.old.tokens ++ item ∷ []) }
         ensures err { OnErr result (self.new.tokens ≡ self.old.tokens) }
@@ -63,12 +63,14 @@ impl Tokens {
         self.items.len()
     }
 
+    /// The token at a place counted from 0. `None` exactly where the place is not below the number.
     pub fn get(&self, place: usize) -> Option<&Token>
         ensures { option_map (λ x. x.now) result ≡ slice_get self.now.tokens place }
     {
         self.items.get(place)
     }
 
+    /// All tokens.
     pub fn as_slice(&self) -> &[Token]
         ensures { result.now ≡ self.now.tokens }
     {

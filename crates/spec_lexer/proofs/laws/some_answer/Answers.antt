@@ -1,5 +1,5 @@
 use Rattle.spec_lexer.proofs.SomeAnswer as lemmas
-use Rattle.spec_lexer.proofs.law.some_answer.Goals as goal
+use Rattle.spec_lexer.proofs.laws.some_answer.Goals as goal
 
 pub returns : goal.returns
 returns c = lemmas.some_answer
