@@ -10,7 +10,7 @@ use tsl_value::place::Place;
 
 #[test]
 fn a_source_has_its_tokens(rt: HostRuntime) {
-    let source = b"out \xc3\xa9<=\"a\\n\" -- 1\n 12";
+    let source = b"out \xc3\xa9<=\"a\\n\" -- 1\n 12 # 3";
     let Ok(tokens) = lex(rt.alloc(), source) else {
         panic!(rt; "no tokens");
     };
@@ -29,7 +29,7 @@ fn a_source_has_its_tokens(rt: HostRuntime) {
         };
         assert!(rt; as_expected);
     }
-    assert_eq!(rt; tokens.end(), Place { line: 2, column: 4 });
+    assert_eq!(rt; tokens.end(), Place { line: 2, column: 8 });
 }
 
 #[test]
