@@ -1,12 +1,11 @@
 -- The line that bytes spell by cuts is the one that they spell by the relation.
-use Rattle.std.proofs.Common.{◌≡◌, ◌==◌, ◌<◌, ◌^◌, ◌↔◌, ℕ, zero, suc, ◌+◌, ℤ, Bool, true, false, ◌&&◌, not, List, [], ◌∷◌, ◌++◌, nat_lt, Option, Some, None, Result, Ok, Err, refl, sym, ap, subst, ◌∙◌, arith, append-nil, inl, inr}
+use Rattle.std.proofs.Common.{◌≡◌, ◌==◌, ◌<◌, ◌^◌, ℕ, zero, suc, ◌+◌, Bool, true, false, ◌&&◌, not, List, [], ◌∷◌, ◌++◌, nat_lt, Option, Some, None, refl, sym, ap, subst, ◌∙◌, arith, append-nil, inl, inr}
 use Rattle.std.proofs.lemmas.Bool.{and_parts, cases_Bool, eq-eqb, eqb-true, false≢true, ltb-true, lt-ltb}
 use Rattle.std.proofs.lemmas.Slice.Eq.{bytes_eq-Decides}
 use Rattle.std.specs.Prelude.{if◌then◌else◌, codes, slice_get}
 use Rattle.std.specs.Option.{option_and_then, option_map}
 use Rattle.std.specs.Result.{result_ok}
 use Rattle.std.specs.List.{list_all, position_from}
-use Rattle.std.specs.Str.{bytes_eq}
 use Rattle.std.specs.Str.Parse.{digits_value}
 use Rattle.std.specs.Char.{is_ascii_digit}
 use Rattle.tsl_value.specs.declared.scalar.Scalar.{Scalar}
@@ -15,19 +14,18 @@ use Rattle.tsl_value.specs.declared.scalar.ScalarType.{ScalarType}
 use Rattle.tsl_value.specs.declared.scalar.ScalarType.TheVariants as scalar_type
 use Rattle.tsl_value.specs.declared.scalar.ValueType.{ValueType}
 use Rattle.tsl_value.specs.declared.scalar.ValueType.TheVariants as value_type
-use Rattle.tsl_value.specs.declared.literal.LiteralFault.{LiteralFault}
-use Rattle.tsl_value.specs.Literal.{are_digits, literal, signed_value}
+use Rattle.tsl_value.specs.Literal.{are_digits}
 use Rattle.tsl_value.proofs.Digits.{are_digits-parts}
 use Rattle.flat_core.specs.declared.equation.Equation.{Equation}
-use Rattle.flat_core.specs.declared.equation.Op.{Op}
-use Rattle.flat_core.specs.declared.equation.Op.TheVariants as op
 use Rattle.flat_core.specs.System.{System, equation}
 use Rattle.flat_core.specs.Line.{Line}
 use Rattle.trace_reader.specs.Form.{Parts, put_first, split_once, behind, is_name_byte, is_name, called, valued, named_by, named, behind_time, parts_of, small_time, time_of}
 use Rattle.trace_reader.specs.Reading.{is_input, is_called, is_input_called, input_called, value_of, event_of, called_event, said, spelled}
-use Rattle.trace_reader.specs.Spelling.{SpellsTime, SpellsNumber, IsInputNamed, NamesInput, SpellsLine, SpelledAgrees}
+use Rattle.trace_reader.specs.Laws.{SpelledAgrees}
+use Rattle.trace_reader.specs.Spelling.{SpellsTime, IsInputNamed, NamesInput, SpellsLine}
 use Rattle.trace_reader.specs.Spelling.SpellsLine.{time_alone, unit_at, number_at}
 use Rattle.trace_reader.proofs.CutLemmas.{split_by, split_once-append}
+use Rattle.trace_reader.proofs.NumberLemmas.{IsNumber, number_spelled, number_read}
 use Rattle.trace_reader.proofs.LineLemmas.{came, mapped, only_input, some_same}
 
 -- Bytes that pass a test which the mark doesn't pass have no mark, and split off at one behind them.
@@ -214,33 +212,9 @@ unit_value : (of : ValueType) (v : Scalar) → value_of of None ≡ Some v → (
 unit_value (value_type.Scalar scalar_type.Unit) v is = (refl, some_same scalar.Unit v is)
 unit_value _ v is = absurd (cc)
 
-record IsNumber (of : ValueType) (bytes : List ℕ) (v : Scalar) : Type 0 where
-  typed : of ≡ value_type.Scalar scalar_type.Int
-  number : ℤ
-  spells : SpellsNumber bytes number
-  is : v ≡ scalar.Int number
-
-ok_is : (r : Result Scalar LiteralFault) (v : Scalar) → result_ok r ≡ Some v → r ≡ Ok v
-ok_is (Ok w) v is = ap (λ x. Ok x) (some_same w v is)
-ok_is (Err f) v is = absurd (cc)
-
-int_is : (bad wide : Bool) (z : ℤ) (f g : LiteralFault) (v : Scalar) → result_ok (if bad then Err f else (if wide then Ok (scalar.Int z) else Err g)) ≡ Some v → v ≡ scalar.Int z
-int_is true wide z f g v is = absurd (cc)
-int_is false true z f g v is = sym (some_same (scalar.Int z) v is)
-int_is false false z f g v is = absurd (cc)
-
-literal_number : (bytes : List ℕ) (v : Scalar) → result_ok (literal scalar_type.Int bytes) ≡ Some v → v ≡ scalar.Int (signed_value bytes)
-unfolding literal
-literal_number bytes v is = int_is _ _ _ _ _ v is
-
-number_value : (of : ValueType) (bytes : List ℕ) (v : Scalar) → value_of of (Some bytes) ≡ Some v → IsNumber of bytes v
-number_value (value_type.Scalar scalar_type.Int) bytes v is =
-    let number = literal_number bytes v is in
-    record { typed = refl; number = signed_value bytes; spells = ok_is (literal scalar_type.Int bytes) v is ∙ ap (λ x. Ok x) number; is = number }
+number_value : (of : ValueType) (bytes : List ℕ) (v : Scalar) → value_of of (Some bytes) ≡ Some v → (of ≡ value_type.Scalar scalar_type.Int) × IsNumber bytes v
+number_value (value_type.Scalar scalar_type.Int) bytes v is = (refl, number_spelled bytes v is)
 number_value _ bytes v is = absurd (cc)
-
-number_is : (bytes : List ℕ) (z : ℤ) → SpellsNumber bytes z → value_of (value_type.Scalar scalar_type.Int) (Some bytes) ≡ Some (scalar.Int z)
-number_is bytes z is = ap (λ r. result_ok r) is
 
 -- The event that a name and a value spell.
 module _ (s : System) where
@@ -309,8 +283,8 @@ module _ (s : System) where
       let e = whole.at in
       let it = event_is name (Some value) e whole.is in
       let number = number_value it.at.of value e.1 it.gives in
-      number_at time name value t e.0 number.number spells (names name (Some value) e scalar_type.Int ok it number.typed) number.spells (is ∙ ap (λ bs. time ++ 58 ∷ bs) rest_is)
-      (sym whole.gives ∙ ap (λ (v : Scalar). record { time = t; event = Some (e.0, v) }) number.is)
+      number_at time name value t e.0 number.1.number spells (names name (Some value) e scalar_type.Int ok it number.0) number.1.spells (is ∙ ap (λ bs. time ++ 58 ∷ bs) rest_is)
+      (sym whole.gives ∙ ap (λ (v : Scalar). record { time = t; event = Some (e.0, v) }) number.1.is)
 
   spells_line : (bytes : List ℕ) (line : Line) → spelled s bytes ≡ Some line → SpellsLine s bytes line
   spells_line bytes line is =
@@ -353,7 +327,7 @@ line_spelled s bytes line (unit_at time name t i spells input is says) =
     (ap (option_map (λ (e : ℕ × Scalar). record { time = t; event = Some e })) (called_is s name scalar_type.Unit i None scalar.Unit input refl) ∙ ap (λ l. Some l) (sym says))
 line_spelled s bytes line (number_at time name value t i z spells input number is says) =
     line_is s time (32 ∷ name ++ (codes " = " ++ value)) bytes t (record { time = time; name = Some name; value = Some value }) line spells is (name_valued time name value input.name_is) refl
-    (ap (option_map (λ (e : ℕ × Scalar). record { time = t; event = Some e })) (called_is s name scalar_type.Int i (Some value) (scalar.Int z) input (number_is value z number)) ∙ ap (λ l. Some l) (sym says))
+    (ap (option_map (λ (e : ℕ × Scalar). record { time = t; event = Some e })) (called_is s name scalar_type.Int i (Some value) (scalar.Int z) input (ap result_ok (number_read value z number))) ∙ ap (λ l. Some l) (sym says))
 
 pub spelled_agrees : SpelledAgrees
 spelled_agrees s bytes line = (spells_line s bytes line, line_spelled s bytes line)

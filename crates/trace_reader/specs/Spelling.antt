@@ -1,17 +1,16 @@
 -- Which line bytes spell, as a relation: `TIME:`, `TIME: NAME` with a unit's input or `TIME: NAME = VALUE` with a number's.
-use Rattle.std.specs.Prelude.{◌≡◌, ◌<◌, ◌^◌, ◌↔◌, ◌++◌, ℕ, ℤ, List, Some, None, Ok, IsTrue, codes}
+use Rattle.std.specs.Prelude.{◌≡◌, ◌≤◌, ◌<◌, ◌^◌, ◌++◌, ℕ, ℤ, pos, neg_ℤ, List, Some, None, IsTrue, codes}
 use Rattle.std.specs.Str.Parse.{digits_value}
 use Rattle.tsl_value.specs.declared.scalar.Scalar.TheVariants as scalar
 use Rattle.tsl_value.specs.declared.scalar.ScalarType.{ScalarType}
 use Rattle.tsl_value.specs.declared.scalar.ScalarType.TheVariants as scalar_type
 use Rattle.tsl_value.specs.declared.scalar.ValueType.TheVariants as value_type
-use Rattle.tsl_value.specs.Literal.{are_digits, literal}
+use Rattle.tsl_value.specs.Literal.{are_digits}
 use Rattle.flat_core.specs.declared.equation.Equation.{Equation}
 use Rattle.flat_core.specs.declared.equation.Op.TheVariants as op
 use Rattle.flat_core.specs.System.{System, equation}
 use Rattle.flat_core.specs.Line.{Line}
 use Rattle.trace_reader.specs.Form.{is_name}
-use Rattle.trace_reader.specs.Reading.{spelled}
 
 -- one digit or more, of a number below 2^63
 pub record SpellsTime (bytes : List ℕ) (t : ℕ) : Type 0 where
@@ -19,9 +18,11 @@ pub record SpellsTime (bytes : List ℕ) (t : ℕ) : Type 0 where
   pub value : digits_value 10 bytes ≡ t
   pub small : t < 2 ^ 63
 
--- digits, perhaps behind a minus, of a number of 64 bits with a sign
-abbrev pub SpellsNumber : List ℕ → ℤ → Type 0
-SpellsNumber bytes z = literal scalar_type.Int bytes ≡ Ok (scalar.Int z)
+-- one digit or more, perhaps behind a minus, of a number from -2^63 on and below 2^63
+pub data SpellsNumber (bytes : List ℕ) (z : ℤ) : Type 0 where
+  plain : IsTrue (are_digits bytes) → digits_value 10 bytes < 2 ^ 63 → z ≡ pos (digits_value 10 bytes) → SpellsNumber bytes z
+  negative : (digits : List ℕ) → IsTrue (are_digits digits) → digits_value 10 digits ≤ 2 ^ 63 →
+      bytes ≡ codes "-" ++ digits → z ≡ neg_ℤ (pos (digits_value 10 digits)) → SpellsNumber bytes z
 
 pub record IsInputNamed (name : List ℕ) (e : Equation) : Type 0 where
   pub input : e.op ≡ op.Input
@@ -36,6 +37,7 @@ pub record NamesInput (s : System) (name : List ℕ) (of : ScalarType) (i : ℕ)
   pub typed : at.of ≡ value_type.Scalar of
   pub first : (j : ℕ) (e : Equation) → j < i → equation s j ≡ Some e → IsInputNamed name e → ⊥
 
+-- a time alone, a unit at an input, or a number at an input
 pub data SpellsLine (s : System) (bytes : List ℕ) (line : Line) : Type 0 where
   time_alone : (time : List ℕ) (t : ℕ) → SpellsTime time t →
       bytes ≡ time ++ codes ":" → line ≡ record { time = t; event = None } → SpellsLine s bytes line
@@ -43,7 +45,3 @@ pub data SpellsLine (s : System) (bytes : List ℕ) (line : Line) : Type 0 where
       bytes ≡ time ++ (codes ": " ++ name) → line ≡ record { time = t; event = Some (i, scalar.Unit) } → SpellsLine s bytes line
   number_at : (time name value : List ℕ) (t i : ℕ) (z : ℤ) → SpellsTime time t → NamesInput s name scalar_type.Int i → SpellsNumber value z →
       bytes ≡ time ++ (codes ": " ++ (name ++ (codes " = " ++ value))) → line ≡ record { time = t; event = Some (i, scalar.Int z) } → SpellsLine s bytes line
-
--- The reading by cuts says the same.
-abbrev pub SpelledAgrees : Type 0
-SpelledAgrees = (s : System) (bytes : List ℕ) (line : Line) → (spelled s bytes ≡ Some line) ↔ SpellsLine s bytes line
