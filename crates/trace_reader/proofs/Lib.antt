@@ -5,6 +5,8 @@ pub mod StandLemmas
 pub mod StepLemmas
 pub mod LawLemmas
 pub mod LineLemmas
+pub mod NumberLemmas
+pub mod SpellingLemmas
 pub mod SplitLemmas
 pub mod TimeLemmas
 pub mod PlaceLemmas

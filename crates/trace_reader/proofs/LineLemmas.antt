@@ -115,24 +115,24 @@ distinct [] it = tt
 distinct {past} (l ∷ ls) (more bytes stands behind) = (λ i v is. none_at l.time i ls (had_now past l.time i l.event v is) behind, distinct ls behind)
 
 -- what a line spells
-record Came {A B : Type 0} (f : A → Option B) (o : Option A) (y : B) : Type 0 where
-  at : A
-  is : o ≡ Some at
-  gives : f at ≡ Some y
+pub record Came {A B : Type 0} (f : A → Option B) (o : Option A) (y : B) : Type 0 where
+  pub at : A
+  pub is : o ≡ Some at
+  pub gives : f at ≡ Some y
 
-came : {A B : Type 0} (f : A → Option B) (o : Option A) (y : B) → option_and_then f o ≡ Some y → Came f o y
+pub came : {A B : Type 0} (f : A → Option B) (o : Option A) (y : B) → option_and_then f o ≡ Some y → Came f o y
 came f None y is = absurd (cc)
 came f (Some x) y is = record { at = x; is = refl; gives = is }
 
-record Mapped {A B : Type 0} (f : A → B) (o : Option A) (y : B) : Type 0 where
-  at : A
-  is : o ≡ Some at
-  gives : f at ≡ y
+pub record Mapped {A B : Type 0} (f : A → B) (o : Option A) (y : B) : Type 0 where
+  pub at : A
+  pub is : o ≡ Some at
+  pub gives : f at ≡ y
 
-some_same : {A : Type 0} (x y : A) → Some x ≡ Some y → x ≡ y
+pub some_same : {A : Type 0} (x y : A) → Some x ≡ Some y → x ≡ y
 some_same x y is = cc
 
-mapped : {A B : Type 0} (f : A → B) (o : Option A) (y : B) → option_map f o ≡ Some y → Mapped f o y
+pub mapped : {A B : Type 0} (f : A → B) (o : Option A) (y : B) → option_map f o ≡ Some y → Mapped f o y
 mapped f None y is = absurd (cc)
 mapped f (Some x) y is = record { at = x; is = refl; gives = some_same (f x) y is }
 
@@ -147,7 +147,7 @@ digits_small t u false is = absurd (cc)
 time_small : (bytes : List ℕ) (t : ℕ) → time_of bytes ≡ Some t → t < 2 ^ 63
 time_small bytes t is = digits_small (digits_value 10 bytes) t (are_digits bytes) is
 
-only_input : (o : Op) → is_input o ≡ true → o ≡ op.Input
+pub only_input : (o : Op) → is_input o ≡ true → o ≡ op.Input
 only_input op.Input is = refl
 only_input _ is = absurd (cc)
 

@@ -1,4 +1,5 @@
--- The forms of a trace line: `TIME:`, `TIME: NAME` and `TIME: NAME = VALUE`, with these single blanks and no others.
+-- The forms of a trace line: `TIME:`, `TIME: NAME` and `TIME: NAME = VALUE`, with these single blanks and no others. They are cut
+-- as the code cuts them; `Spelling` has the relation that `SpelledAgrees` proves the same.
 use Rattle.std.specs.Prelude.{◌==◌, ℕ, Bool, false, not, ◌&&◌, ◌||◌, if◌then◌else◌, nat_lt, List, [], ◌∷◌, Option, Some, None}
 use Rattle.std.specs.Char.{is_ascii_digit, is_ascii_alphanumeric}
 use Rattle.std.specs.List.{list_all}

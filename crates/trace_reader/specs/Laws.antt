@@ -1,5 +1,5 @@
 -- What holds of every reading.
-use Rattle.std.specs.Prelude.{◌≡◌, ◌≤◌, ◌<◌, ◌^◌, ◌++◌, ℕ, Bool, false, List, [], ◌∷◌, Some, IsTrue}
+use Rattle.std.specs.Prelude.{◌≡◌, ◌≤◌, ◌<◌, ◌^◌, ◌↔◌, ◌++◌, ℕ, Bool, false, List, [], ◌∷◌, Some, IsTrue}
 use Rattle.std.specs.List.{AllByRecursion}
 use Rattle.tsl_value.specs.declared.scalar.Scalar.{Scalar}
 use Rattle.tsl_value.specs.View.{Plain, is_of}
@@ -8,7 +8,8 @@ use Rattle.flat_core.specs.declared.equation.Op.TheVariants as op
 use Rattle.flat_core.specs.System.{System, equation}
 use Rattle.flat_core.specs.Line.{Line, IsSorted, last_time}
 use Rattle.trace_reader.specs.declared.fault.TraceFault.{TraceFault}
-use Rattle.trace_reader.specs.Reading.{reading}
+use Rattle.trace_reader.specs.Reading.{reading, spelled}
+use Rattle.trace_reader.specs.Spelling.{SpellsLine}
 use Rattle.trace_reader.specs.Closed.{closed_below}
 
 -- the first lines begin the others
@@ -72,3 +73,7 @@ abbrev pub ClosedStays : Type 0
 ClosedStays =
     (s : System) (limit : ℕ) (bytes more : List ℕ) (ended : Bool) →
     closed_below (reading s limit bytes false) false ≤ closed_below (reading s limit (bytes ++ more) ended) ended
+
+-- The line that bytes spell by cuts is the one that they spell by the relation.
+abbrev pub SpelledAgrees : Type 0
+SpelledAgrees = (s : System) (bytes : List ℕ) (line : Line) → (spelled s bytes ≡ Some line) ↔ SpellsLine s bytes line

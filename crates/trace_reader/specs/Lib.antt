@@ -2,6 +2,7 @@ pub mod Form
 pub mod Borrowed
 pub mod History
 pub mod Reading
+pub mod Spelling
 pub mod Closed
 pub mod Laws
 pub mod Reader

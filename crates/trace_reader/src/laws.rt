@@ -1,6 +1,6 @@
 // What holds of every reading of a trace, as the contracts of functions that do nothing.
 
-ghost use Rattle.trace_reader.specs.Laws.{ClosedStays, EventsAreDistinct, LaterLinesAreLater, LinesAreProper, LinesAreSorted, LinesStay, RefusalStays};
+ghost use Rattle.trace_reader.specs.Laws.{ClosedStays, EventsAreDistinct, LaterLinesAreLater, LinesAreProper, LinesAreSorted, LinesStay, RefusalStays, SpelledAgrees};
 
 /// The lines of a beginning of a trace are the first lines of the whole.
 pub fn lines_stay()
@@ -35,4 +35,10 @@ pub fn later_lines_are_later()
 /// What a beginning closes, the whole closes.
 pub fn closed_stays()
     ensures { ClosedStays }
+{}
+
+/// Bytes spell a line exactly where they are `TIME:`, `TIME: NAME` with a unit's input or
+/// `TIME: NAME = VALUE` with a number's, and the line says what stands there.
+pub fn spelled_agrees()
+    ensures { SpelledAgrees }
 {}

@@ -107,10 +107,12 @@ impl<'f> TraceReader<'f> {
         Ok(())
     }
 
-    /// Says that the trace has ended. Bytes behind the last line's end are a line from then on.
+    /// Says that the trace has ended. Bytes behind the last line's end are a line from then on. Said
+    /// again, it leaves the reader as it is, so that the last line is not given twice.
     pub fn finish(&mut self)
-        ensures { (s : System) (limit : ℕ) (fed : List ℕ) (given : List Line) →
+        ensures reads { (s : System) (limit : ℕ) (fed : List ℕ) (given : List Line) →
             Reads self.old s limit fed given false → Reads self.new s limit fed given true }
+        ensures again { self.old.ended ≡ true → self.new ≡ self.old }
     {
         self.ended = true;
     }

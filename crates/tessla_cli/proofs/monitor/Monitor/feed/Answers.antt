@@ -15,7 +15,7 @@ returns-then-is_empty-clause-fed c = λ fed kept.
     record {
       reads = subst (λ (e : Bool). Reads c.finish.new.self s o.bytes (fed ++ piece) lines e) (sym end)
           (subst (λ (l : List ℕ). Reads c.finish.new.self s o.bytes (fed ++ l) lines true) (sym (nothing_is piece end))
-          (subst (λ (l : List ℕ). Reads c.finish.new.self s o.bytes l lines true) (sym (append-nil fed)) (c.finish.ensures s o.bytes fed lines kept.reads)));
+          (subst (λ (l : List ℕ). Reads c.finish.new.self s o.bytes l lines true) (sym (append-nil fed)) (c.finish.ensures.reads s o.bytes fed lines kept.reads)));
       lines_are = refl;
     }
 
