@@ -105,10 +105,10 @@ number-kind args z = literal refl
 -- a lift over a name
 typed_lift : (ds : List Declaration) (a : List ℕ) (e : Expression) (body : Tree) (t : ScalarType) → type_among ds a ≡ Some t → used_names e ≡ a ∷ [] → op_of (Some e) ≡ strict_lift body → HasKind (plain t ∷ []) body int_kind → IsTypedBy ds (Some e) scalar_type.Int
 typed_lift ds a e body t is names lifts kind = (
-      value_type.Scalar t ∷ [],
-      subst (λ ns. AreOfTypes (equations_of ds) (map (number_of ds) ns) (value_type.Scalar t ∷ [])) (sym names) (type_at ds a t is, tt),
-      subst (λ o. IsTyped o (value_type.Scalar t ∷ []) (value_type.Scalar scalar_type.Int)) (sym lifts) (lift (omega arith) (omega arith) kind),
-    )
+  value_type.Scalar t ∷ [],
+  subst (λ ns. AreOfTypes (equations_of ds) (map (number_of ds) ns) (value_type.Scalar t ∷ [])) (sym names) (type_at ds a t is, tt),
+  subst (λ o. IsTyped o (value_type.Scalar t ∷ []) (value_type.Scalar scalar_type.Int)) (sym lifts) (lift (omega arith) (omega arith) kind),
+)
 
 typed_const : (ds : List Declaration) (z : ℤ) (a : List ℕ) (of : ScalarType) (o : Option ScalarType) → type_among ds a ≡ o → option_map (λ _. scalar_type.Int) o ≡ Some of → IsTypedBy ds (Some (expression.Const z a)) of
 typed_const ds z a of None is h = (cc)
