@@ -26,8 +26,9 @@ use Rattle.line_spec.specs.declared.table.Declaration.{Declaration}
 use Rattle.line_spec.specs.Item.{used_names}
 use Rattle.line_spec.specs.Table.{Declared, numbered, is_named, type_among, same_type, common_type, first_type}
 use Rattle.line_spec.specs.Meaning.{number_of, binary_of, literal_of, strict_lift, op_of, arguments_of, equation_of, output_of}
+use Rattle.line_spec.specs.Whole.{amount_in}
 use Rattle.line_spec.proofs.TableLemmas.{found_at, position-below, position-within, same_types}
-use Rattle.line_spec.proofs.Sound.{Have, HaveAll, HasType, AreEarlier, AreSound, AreDistinct, IsAmount, AreAmounts, IsSound, names_of, amount_in, all-map}
+use Rattle.line_spec.proofs.Sound.{Have, HaveAll, HasType, AreEarlier, AreSound, AreDistinct, IsAmount, AreAmounts, IsSound, names_of, all-map}
 
 -- ---- the declarations of the equations
 abbrev pub equations_of : List Declaration → List Equation
