@@ -89,7 +89,15 @@ fn the_first_equation_is_named(rt: HostRuntime) -> Result<(), Fail> {
 
 #[test]
 fn an_event_cancels_a_delay(rt: HostRuntime) -> Result<(), Fail> {
-    assert!(rt; ends(rt.alloc(), RUN, DELAY, "0: d = 10\n0: r\n7: r\n20:\n", prints(""))?);
+    assert!(rt;
+        ends(
+            rt.alloc(),
+            RUN,
+            DELAY,
+            "0: d = 10\n0: r\n7: r\n20:\n",
+            prints("")
+        )?
+    );
     Ok(())
 }
 
@@ -133,7 +141,15 @@ fn nothing_is_printed_from_the_fault_on(rt: HostRuntime) -> Result<(), Fail> {
         out: "1: q = 1\n",
         err: "3: fault DivideByZero at 2:10\n",
     };
-    assert!(rt; ends(rt.alloc(), RUN, QUOTIENT, "1: i = 1\n3: i = 0\n4: i = 1\n", end)?);
+    assert!(rt;
+        ends(
+            rt.alloc(),
+            RUN,
+            QUOTIENT,
+            "1: i = 1\n3: i = 0\n4: i = 1\n",
+            end
+        )?
+    );
     Ok(())
 }
 
