@@ -10,7 +10,11 @@ use Rattle.tsl_value.specs.declared.place.Place.{Place}
 use Rattle.tsl_world.specs.declared.outside.Did.{Did}
 use Rattle.tsl_world.specs.declared.outside.Slot.TheVariants.{Spec, Trace}
 use Rattle.tsl_world.specs.Journal.{taken, ended}
-use Rattle.line_spec.proofs.LawLemmas.{one_system, refused_spells_none}
+use Rattle.tree_spec.proofs.LawLemmas.{one_system, refused_spells_none}
+use Rattle.tree_spec.specs.declared.fault.SpecFault.{SpecFault}
+use Rattle.tree_spec.specs.declared.fault.SpecFault.TheVariants as spec
+use Rattle.tree_spec.specs.Source.{SpellsSystem}
+use Rattle.tessla_cli.specs.Compiled.{IsRefusedBy}
 use Rattle.tessla_cli.specs.declared.ending.Ending.{Ending}
 use Rattle.tessla_cli.specs.declared.ending.Ending.TheVariants as ending
 use Rattle.tessla_cli.specs.declared.options.Options.{Options}
@@ -68,6 +72,13 @@ module _ (s : System) (o : Options) (bytes : List ℕ) (end : Bool) (z : Streams
   same_status (ending.Limit n t) ending.Words a b = absurd b
   same_status (ending.Limit n t) (ending.Spec place) a b = absurd b
 
+-- a source that is refused spells no system
+refused_by_spells_none : (source : List ℕ) (e : SpecFault) (s : System) → IsRefusedBy source e → ¬ (SpellsSystem source s)
+refused_by_spells_none source (spec.Lex e) s h = refused_spells_none source (spec.Lex e) s (λ same. absurd (cc)) h
+refused_by_spells_none source (spec.Parse e) s h = refused_spells_none source (spec.Parse e) s (λ same. absurd (cc)) h
+refused_by_spells_none source (spec.NotBuilt place) s h = refused_spells_none source (spec.NotBuilt place) s (λ same. absurd (cc)) h
+refused_by_spells_none source spec.Memory s h = absurd h
+
 abbrev run_or : Run → Option Run → Run
 run_or run None = run
 run_or run (Some other) = other
@@ -82,8 +93,8 @@ module _ (words : List (List ℕ)) (part : List Did) where
       let (z, zs) = a.holds.due.solved in
       same_status a.system (options_of a.run) (taken Trace part) (ended Trace part) z zs by other a.holds.cause ends.cause
 
-  spec_or_run : (place : Place) (by : Ending) → SpecRefused words place part → EndsRun words by part → ⊥
-  spec_or_run place by refused ends = refused_spells_none (taken Spec part) place ends.system refused.refused ends.spelled
+  spec_or_run : (fault : SpecFault) (by : Ending) → SpecRefused words fault part → EndsRun words by part → ⊥
+  spec_or_run fault by refused ends = refused_by_spells_none (taken Spec part) fault ends.system refused.refused ends.spelled
 
   from_run : (by other : Ending) → EndsRun words by part → RunEnds words other part → status_of by ≡ status_of other
   from_run by ending.Words a b = absurd (nothing_some _ a.run b.refused a.asked)

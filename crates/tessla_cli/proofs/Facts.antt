@@ -13,7 +13,7 @@ use Rattle.tsl_world.specs.Journal.{given, taken, ended, opening, openings, crea
 use Rattle.tsl_world.proofs.Journals.{openings-append, creations-append, Each-append, no_place, place}
 use Rattle.tsl_world.proofs.Parts.{taken_before, taken_behind, ended_behind, given_behind, given_none, openings_none, creations_none}
 use Rattle.tsl_world.proofs.Places.{at_none, at_no_read, at_join, at_more, at_behind, at_weaker}
-use Rattle.line_spec.specs.Reading.{SpellsSystem}
+use Rattle.tree_spec.specs.Source.{SpellsSystem}
 use Rattle.tessla_cli.specs.declared.ending.Ending.{Ending}
 use Rattle.tessla_cli.specs.declared.options.Options.{Options}
 use Rattle.tessla_cli.specs.Conduct.{trace_name, HasWhole, IsBeforeOpening, MakesNothing, ReadsSpecFirst, StopsAtLimit, ReadsPieces, OfRun, OpensAsAsked, IsDueAtReads, GoesOnAtReads, IsPartlyDue, options_of}

@@ -1,7 +1,9 @@
 -- What a run shows and how it ends, behind the line that tells it.
 use Rattle.std.proofs.Common.{◌≡◌, ◌⊎◌, inl, inr, ℕ, ◌<◌, ◌≤◌, Bool, List, [], ◌∷◌, ◌++◌, length, refl, sym, ◌∙◌, ap, subst, arith, Some}
 use Rattle.flat_core.specs.System.{System}
-use Rattle.line_spec.specs.Reading.{SpellsSystem, IsRefused}
+use Rattle.tree_spec.specs.declared.fault.SpecFault.{SpecFault}
+use Rattle.tree_spec.specs.Source.{SpellsSystem}
+use Rattle.tessla_cli.specs.Compiled.{IsRefusedBy}
 use Rattle.tsl_world.specs.Begins.{Begins}
 use Rattle.tsl_world.specs.World.{Rose}
 use Rattle.tsl_world.specs.declared.outside.Did.{Did}
@@ -34,26 +36,26 @@ module _ (words : List (List ℕ)) where
   of_watch : (by : Ending) (part : List Did) → EndsRun words by part → RunEnds words by part
   of_watch ending.Done part f = f
   of_watch ending.Words part f = absurd f.holds.cause
-  of_watch (ending.Spec place) part f = absurd f.holds.cause
+  of_watch (ending.Spec fault) part f = absurd f.holds.cause
   of_watch (ending.Trace fault) part f = f
   of_watch (ending.Fault t k p) part f = f
   of_watch (ending.Limit n t) part f = f
 
   module _ (run : Run) (is : command_of words ≡ Some run) (reads : List Did) (source : List ℕ) (r : ReadsSpec reads) (g : GivesSource source reads) where
-    refused_front : (place : Place) → IsRefused source place → SpecRefused words place (Opened Spec run.spec ∷ reads)
-    refused_front place refused = record {
+    refused_front : (fault : SpecFault) → IsRefusedBy source fault → SpecRefused words fault (Opened Spec run.spec ∷ reads)
+    refused_front fault refused = record {
       run = run;
       asked = is;
       opens = ap (λ (l : List (Slot × List ℕ)). (Spec, run.spec) ∷ l) (openings_none reads (each_take IsTransfer Spec (λ bytes short. tt) reads r.only));
       whole = g.whole;
-      refused = subst (λ (l : List ℕ). IsRefused l place) (sym g.bytes_are) refused;
+      refused = subst (λ (l : List ℕ). IsRefusedBy l fault) (sym g.bytes_are) refused;
       nothing = given_none Out reads (each_take (IsNoGift Out) Spec (λ bytes short. tt) reads r.only);
     }
 
     source_ends : (by : Ending) (rest : List Did) → SourceEnds source (options_of run) by rest → RunEnds words by (Opened Spec run.spec ∷ (reads ++ rest))
-    source_ends by rest (spec_refused {place} same refused none) =
+    source_ends by rest (spec_refused {fault} same refused none) =
         subst (λ (b : Ending). RunEnds words b (Opened Spec run.spec ∷ (reads ++ rest))) (sym same)
-        (subst (λ (l : List Did). SpecRefused words place (Opened Spec run.spec ∷ l)) (sym (ap (λ (l : List Did). reads ++ l) none ∙ append-nil reads)) (refused_front place refused))
+        (subst (λ (l : List Did). SpecRefused words fault (Opened Spec run.spec ∷ l)) (sym (ap (λ (l : List Did). reads ++ l) none ∙ append-nil reads)) (refused_front fault refused))
     source_ends by _ (compiled_ends s spelled (ends part w e)) =
         of_watch by (Opened Spec run.spec ∷ (reads ++ Opened Trace trace_name ∷ part)) record {
           run = run;
@@ -141,12 +143,12 @@ module _ (words : List (List ℕ)) where
     pub run_ends_told : (by : Ending) → RunEnds words by part → RunEnds words by (part ++ more)
     run_ends_told ending.Done f = ends_told ending.Done f
     run_ends_told ending.Words f = record { refused = f.refused; opens = openings_before part more moves ∙ f.opens; nothing = given_before Out part more no_out ∙ f.nothing }
-    run_ends_told (ending.Spec place) f = record {
+    run_ends_told (ending.Spec fault) f = record {
       run = f.run;
       asked = f.asked;
       opens = openings_before part more moves ∙ f.opens;
       whole = whole_told f.whole;
-      refused = subst (λ (l : List ℕ). IsRefused l place) (sym (taken_before Spec part more (no_reads Spec))) f.refused;
+      refused = subst (λ (l : List ℕ). IsRefusedBy l fault) (sym (taken_before Spec part more (no_reads Spec))) f.refused;
       nothing = given_before Out part more no_out ∙ f.nothing;
     }
       where

@@ -1,10 +1,10 @@
--- What `compile` refuses.
+-- How a source is refused.
 use Rattle.std.specs.Prelude.{ℕ, List}
-use Rattle.line_spec.specs.Reading.{IsRefused}
-use Rattle.tessla_cli.specs.declared.compile.SpecFault.{SpecFault}
-use Rattle.tessla_cli.specs.declared.compile.SpecFault.TheVariants as fault
+use Rattle.tree_spec.specs.declared.fault.SpecFault.{SpecFault}
+use Rattle.tree_spec.specs.declared.fault.SpecFault.TheVariants as fault
+use Rattle.tree_spec.specs.Source.{IsRefused}
 
--- the source is refused at the place; want of memory says nothing
-abbrev pub IsSpecFaultOf : List ℕ → SpecFault → Type 0
-IsSpecFaultOf source (fault.NotBuilt place) = IsRefused source place
-IsSpecFaultOf source fault.Memory = Unit {0}
+-- the source is refused in this way; want of memory refuses none
+abbrev pub IsRefusedBy : List ℕ → SpecFault → Type 0
+IsRefusedBy source fault.Memory = ⊥
+IsRefusedBy source e = IsRefused source e

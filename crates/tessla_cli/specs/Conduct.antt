@@ -1,13 +1,14 @@
 -- What the program does to the outside, as the journal of its calls has it.
 use Rattle.std.specs.Prelude.{◌≡◌, ◌⊎◌, ℕ, ◌<◌, ◌≤◌, true, false, List, [], ◌∷◌, ◌++◌, length, Some, None, codes}
 use Rattle.flat_core.specs.System.{System}
-use Rattle.tsl_value.specs.declared.place.Place.{Place}
 use Rattle.tsl_world.specs.declared.outside.Did.{Did}
 use Rattle.tsl_world.specs.declared.outside.Slot.{Slot}
 use Rattle.tsl_world.specs.declared.outside.Slot.TheVariants.{Spec, Trace}
 use Rattle.tsl_world.specs.declared.outside.Channel.TheVariants.{Out}
 use Rattle.tsl_world.specs.Journal.{given, taken, ended, opening, openings, creations, AtReads, IsWithin, Each}
-use Rattle.line_spec.specs.Reading.{SpellsSystem, IsRefused}
+use Rattle.tree_spec.specs.declared.fault.SpecFault.{SpecFault}
+use Rattle.tree_spec.specs.Source.{SpellsSystem}
+use Rattle.tessla_cli.specs.Compiled.{IsRefusedBy}
 use Rattle.tessla_cli.specs.declared.ending.Ending.{Ending}
 use Rattle.tessla_cli.specs.declared.ending.Ending.TheVariants as ending
 use Rattle.tessla_cli.specs.declared.options.Options.{Options}
@@ -90,13 +91,13 @@ module _ (words : List (List ℕ)) where
   abbrev pub EndsRun : Ending → List Did → Type 0
   EndsRun by part = OfRun part (λ s o. WatchEnds s o by part)
 
-  -- The specification that the words name was read to its end or past its limit, and it is refused at a place. The trace is not opened.
-  pub record SpecRefused (place : Place) (part : List Did) : Type 0 where
+  -- The specification that the words name was read to its end or past its limit, and it is refused. The trace is not opened.
+  pub record SpecRefused (fault : SpecFault) (part : List Did) : Type 0 where
     pub run : Run
     pub asked : command_of words ≡ Some run
     pub opens : openings part ≡ (Spec, run.spec) ∷ []
     pub whole : HasWhole part
-    pub refused : IsRefused (taken Spec part) place
+    pub refused : IsRefusedBy (taken Spec part) fault
     pub nothing : given Out part ≡ []
 
   -- The words are not accepted, and nothing was opened.
@@ -108,5 +109,5 @@ module _ (words : List (List ℕ)) where
   -- what stands where the program ends so
   abbrev pub RunEnds : Ending → List Did → Type 0
   RunEnds ending.Words part = WordsRefused part
-  RunEnds (ending.Spec place) part = SpecRefused place part
+  RunEnds (ending.Spec fault) part = SpecRefused fault part
   RunEnds by part = EndsRun by part

@@ -4,6 +4,12 @@ use Rattle.std.specs.Fmt.{decimal}
 use Rattle.tsl_value.specs.declared.place.Place.{Place}
 use Rattle.lift_func.specs.declared.fault.FaultKind.{FaultKind}
 use Rattle.lift_func.specs.declared.fault.FaultKind.TheVariants as kind
+use Rattle.spec_lexer.specs.declared.fault.LexFault.{LexFault}
+use Rattle.spec_lexer.specs.declared.fault.LexFault.TheVariants as lex
+use Rattle.spec_parser.specs.declared.parse.ParseFault.{ParseFault}
+use Rattle.spec_parser.specs.declared.parse.ParseFault.TheVariants as parse
+use Rattle.tree_spec.specs.declared.fault.SpecFault.{SpecFault}
+use Rattle.tree_spec.specs.declared.fault.SpecFault.TheVariants as spec
 use Rattle.trace_reader.specs.declared.fault.TraceFault.{TraceFault}
 use Rattle.trace_reader.specs.declared.fault.TraceFault.TheVariants as trace
 use Rattle.tessla_cli.specs.declared.ending.Ending.{Ending}
@@ -34,9 +40,31 @@ trace_text (trace.TimeBack line before now) = decimal line ++ back_text before n
 trace_text (trace.TraceTooLong line) = decimal line ++ codes ": trace too long"
 trace_text trace.Memory = []
 
--- where a specification is refused
-abbrev pub spec_text : Place → List ℕ
-spec_text place = codes "spec " ++ (place_text place ++ codes ": NotBuilt")
+-- where and how a specification is refused; a want of memory is told otherwise
+abbrev pub at_text : Place → List ℕ → List ℕ
+at_text place kind = place_text place ++ (codes ": " ++ kind)
+
+abbrev pub lex_text : LexFault → List ℕ
+lex_text (lex.SpecTooLong place) = at_text place (codes "SpecTooLong")
+lex_text (lex.BadUtf8 place) = at_text place (codes "BadUtf8")
+lex_text (lex.BadCharacter place) = at_text place (codes "BadCharacter")
+lex_text (lex.OpenText place) = at_text place (codes "OpenText")
+lex_text (lex.BadEscape place) = at_text place (codes "BadEscape")
+lex_text (lex.LiteralTooWide place) = at_text place (codes "LiteralTooWide")
+lex_text (lex.TextTooLong place) = at_text place (codes "TextTooLong")
+lex_text (lex.NameTooLong place) = at_text place (codes "NameTooLong")
+lex_text lex.Memory = []
+
+abbrev pub parse_text : ParseFault → List ℕ
+parse_text (parse.Unexpected place) = at_text place (codes "Unexpected")
+parse_text (parse.TooDeep place) = at_text place (codes "TooDeep")
+parse_text parse.Memory = []
+
+abbrev pub spec_text : SpecFault → List ℕ
+spec_text (spec.Lex fault) = lex_text fault
+spec_text (spec.Parse fault) = parse_text fault
+spec_text (spec.NotBuilt place) = at_text place (codes "NotBuilt")
+spec_text spec.Memory = []
 
 -- when, how and where an equation faults
 abbrev pub fault_text : ℕ → FaultKind → Place → List ℕ
@@ -57,7 +85,7 @@ as_line text = text ++ 10 ∷ []
 abbrev pub ending_line : Ending → List ℕ
 ending_line ending.Done = []
 ending_line ending.Words = as_line (codes "words not accepted")
-ending_line (ending.Spec place) = as_line (spec_text place)
+ending_line (ending.Spec fault) = as_line (codes "spec " ++ spec_text fault)
 ending_line (ending.Trace fault) = as_line (codes "trace " ++ trace_text fault)
 ending_line (ending.Fault time kind place) = as_line (fault_text time kind place)
 ending_line (ending.Limit count time) = as_line (limit_text count time)
@@ -77,6 +105,6 @@ abbrev pub status_of : Ending → ℕ
 status_of ending.Done = 0
 status_of (ending.Fault time kind place) = 1
 status_of ending.Words = 2
-status_of (ending.Spec place) = 3
+status_of (ending.Spec fault) = 3
 status_of (ending.Trace fault) = 4
 status_of (ending.Limit count time) = 7

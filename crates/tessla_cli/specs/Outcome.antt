@@ -2,6 +2,7 @@
 use Rattle.std.specs.Prelude.{◌≡◌, ◌⊎◌, ℕ, List}
 use Rattle.lift_func.specs.declared.fault.FaultKind.{FaultKind}
 use Rattle.trace_reader.specs.declared.fault.TraceFault.{TraceFault}
+use Rattle.tree_spec.specs.declared.fault.SpecFault.{SpecFault}
 use Rattle.tsl_value.specs.declared.place.Place.{Place}
 use Rattle.tsl_world.specs.Begins.{Begins}
 use Rattle.tsl_world.specs.declared.outside.Did.{Did}
@@ -45,8 +46,8 @@ module _ (words : List (List ℕ)) where
 
   -- Status 3: the specification is refused.
   pub record Refused (part : List Did) : Type 0 where
-    pub place : Place
-    pub ends : Ends (ending.Spec place) part
+    pub fault : SpecFault
+    pub ends : Ends (ending.Spec fault) part
 
   -- Status 4: a line of the trace is refused, and no fault and no limit came at a time closed before it.
   pub record LineRefused (part : List Did) : Type 0 where

@@ -5,8 +5,9 @@ use Rattle.tsl_world.specs.declared.outside.Did.{Did}
 use Rattle.tsl_world.specs.declared.outside.Did.TheVariants.{Opened, NotOpened}
 use Rattle.tsl_world.specs.declared.outside.Slot.TheVariants.{Spec, Trace}
 use Rattle.tsl_world.specs.Journal.{taken, ended, AtReads, Each}
-use Rattle.line_spec.specs.Reading.{SpellsSystem, IsRefused}
-use Rattle.tsl_value.specs.declared.place.Place.{Place}
+use Rattle.tree_spec.specs.declared.fault.SpecFault.{SpecFault}
+use Rattle.tree_spec.specs.Source.{SpellsSystem}
+use Rattle.tessla_cli.specs.Compiled.{IsRefusedBy}
 use Rattle.tessla_cli.specs.declared.ending.Ending.{Ending}
 use Rattle.tessla_cli.specs.declared.ending.Ending.TheVariants as ending
 use Rattle.tessla_cli.specs.declared.options.Options.{Options}
@@ -45,7 +46,7 @@ pub data RunsSource (source : List ℕ) (o : Options) (part : List Did) : Type 0
   compiled : (s : System) → SpellsSystem source s → RunsSystem s o part → RunsSource source o part
 
 pub data SourceEnds (source : List ℕ) (o : Options) (by : Ending) (part : List Did) : Type 0 where
-  spec_refused : {place : Place} → by ≡ ending.Spec place → IsRefused source place → part ≡ [] → SourceEnds source o by part
+  spec_refused : {fault : SpecFault} → by ≡ ending.Spec fault → IsRefusedBy source fault → part ≡ [] → SourceEnds source o by part
   compiled_ends : (s : System) → SpellsSystem source s → SystemEnds s o by part → SourceEnds source o by part
 
 -- a run of a specification by its name

@@ -3,6 +3,7 @@
 use lift_func::fault::FaultKind;
 use std::alloc::AllocError;
 use trace_reader::fault::TraceFault;
+use tree_spec::fault::SpecFault;
 use tsl_value::memory::NoMemory;
 use tsl_value::place::Place;
 use tsl_value::time::Time;
@@ -15,8 +16,8 @@ pub enum Ending {
     Done,
     /// The words are not accepted.
     Words,
-    /// The specification is refused, at this place.
-    Spec(Place),
+    /// The specification is refused, in this way and at this place.
+    Spec(SpecFault),
     /// A line of the trace is refused.
     Trace(TraceFault),
     /// An equation faults: the fault that is named, and the place of its equation.

@@ -1,12 +1,15 @@
 // What is told on the standard error.
 
 ghost use Rattle.std.specs.Prelude.{◌≡◌, ◌++◌, IfOk, OnOk};
-ghost use Rattle.tessla_cli.specs.Messages.{back_text, broken_line, broken_status, ending_line, fault_text, kind_text, limit_text, next_text, place_text, spec_text, status_of, trace_text};
+ghost use Rattle.tessla_cli.specs.Messages.{at_text, back_text, broken_line, broken_status, ending_line, fault_text, kind_text, lex_text, limit_text, next_text, parse_text, place_text, spec_text, status_of, trace_text};
 
 use crate::ending::{Broken, Ending};
 use lift_func::fault::FaultKind;
 use std::alloc::Global;
+use spec_lexer::fault::LexFault;
+use spec_parser::parse::ParseFault;
 use trace_reader::fault::TraceFault;
+use tree_spec::fault::SpecFault;
 use tsl_value::bytes::Bytes;
 use tsl_value::memory::NoMemory;
 use tsl_value::place::Place;
@@ -67,13 +70,51 @@ fn print_trace(fault: &TraceFault, out: &mut Bytes) -> Result<(), NoMemory>
     }
 }
 
-/// Appends where a specification is refused.
-fn print_spec(place: Place, out: &mut Bytes) -> Result<(), NoMemory>
-    ensures { OnOk result (out.new ≡ out.old ++ spec_text place) }
+/// Appends where a specification is refused, and how.
+fn print_at(place: Place, kind: &[u8], out: &mut Bytes) -> Result<(), NoMemory>
+    ensures { OnOk result (out.new ≡ out.old ++ at_text place kind.now) }
 {
-    out.append(b"spec ")?;
     print_place(place, out)?;
-    out.append(b": NotBuilt")
+    out.append(b": ")?;
+    out.append(kind)
+}
+
+fn print_lex(fault: LexFault, out: &mut Bytes) -> Result<(), NoMemory>
+    ensures { OnOk result (out.new ≡ out.old ++ lex_text fault) }
+{
+    match fault {
+        LexFault::SpecTooLong { place } => print_at(place, b"SpecTooLong", out),
+        LexFault::BadUtf8 { place } => print_at(place, b"BadUtf8", out),
+        LexFault::BadCharacter { place } => print_at(place, b"BadCharacter", out),
+        LexFault::OpenText { place } => print_at(place, b"OpenText", out),
+        LexFault::BadEscape { place } => print_at(place, b"BadEscape", out),
+        LexFault::LiteralTooWide { place } => print_at(place, b"LiteralTooWide", out),
+        LexFault::TextTooLong { place } => print_at(place, b"TextTooLong", out),
+        LexFault::NameTooLong { place } => print_at(place, b"NameTooLong", out),
+        LexFault::Memory => Ok(()),
+    }
+}
+
+fn print_parse(fault: ParseFault, out: &mut Bytes) -> Result<(), NoMemory>
+    ensures { OnOk result (out.new ≡ out.old ++ parse_text fault) }
+{
+    match fault {
+        ParseFault::Unexpected { place } => print_at(place, b"Unexpected", out),
+        ParseFault::TooDeep { place } => print_at(place, b"TooDeep", out),
+        ParseFault::Memory => Ok(()),
+    }
+}
+
+/// Appends why a specification is refused.
+fn print_spec(fault: SpecFault, out: &mut Bytes) -> Result<(), NoMemory>
+    ensures { OnOk result (out.new ≡ out.old ++ spec_text fault) }
+{
+    match fault {
+        SpecFault::Lex(fault) => print_lex(fault, out),
+        SpecFault::Parse(fault) => print_parse(fault, out),
+        SpecFault::NotBuilt { place } => print_at(place, b"NotBuilt", out),
+        SpecFault::Memory => Ok(()),
+    }
 }
 
 /// Appends when, how and where an equation faults.
@@ -111,8 +152,9 @@ fn print_ending(ending: &Ending, out: &mut Bytes) -> Result<(), NoMemory>
     match ending {
         Ending::Done => Ok(()),
         Ending::Words => out.append(b"words not accepted\n"),
-        Ending::Spec(place) => {
-            print_spec(*place, out)?;
+        Ending::Spec(fault) => {
+            out.append(b"spec ")?;
+            print_spec(*fault, out)?;
             out.push(b'\n')
         }
         Ending::Trace(fault) => {

@@ -76,8 +76,8 @@ fn run_source<W: World>(
 {
     match compile(alloc, source) {
         Ok(compiled) => Ok(run_system(alloc, world, &compiled.flat, options, buf)?),
-        Err(SpecFault::NotBuilt { place }) => Ok(Ending::Spec(place)),
         Err(SpecFault::Memory) => Err(Broken::Memory),
+        Err(fault) => Ok(Ending::Spec(fault)),
     }
 }
 
