@@ -456,9 +456,6 @@ output-some rest i h =
     let name = last_name-some [] rest found.0 found.1 in
     subst (Spells (codes "out " ++ rest)) found.2 (record { digits = []; text = ap (λ r. codes "out " ++ r) (name.0 ∙ append-nil found.0); names = one_is_name found.0 name.1; number = tt })
 
-with_number : (n : List ℕ) (e : Expression) (digits : List ℕ) → HasNumber e digits → ItemHasNumber (item.Definition n e) digits
-with_number n e digits h = h
-
 plain-some : (rest : List ℕ) (i : Item) → plain_definition rest ≡ Some i → Spells (codes "def " ++ rest) i
 plain-some rest i h =
     let found = and_then-some (λ (x : List ℕ × List ℕ). option_map (λ e. item.Definition x.0 e) (expression_of x.1)) (name_then (codes " := ") rest) i h in

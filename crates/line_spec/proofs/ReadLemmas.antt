@@ -99,18 +99,6 @@ lines-with_items t [] = omega arith
 lines-with_items t (i ∷ items) = let more = lines-with_items (with_item t i) items in let one = one_line t i in omega (arith, more, one)
 
 -- ---- lines that are read
-abbrev declared_by : List Declaration → List Declaration → List Awaited → List (List ℕ) → ℕ → Declared
-declared_by inputs definitions awaited outputs lines = record { inputs = inputs; definitions = definitions; awaited = awaited; outputs = outputs; lines = lines }
-
-pub read-nothing : (t : Declared) → t.inputs ≡ [] → t.definitions ≡ [] → t.awaited ≡ [] → t.outputs ≡ [] → t.lines ≡ 0 → IsRead [] t
-read-nothing t inputs definitions awaited outputs lines =
-    let is : t ≡ nothing =
-    ap (λ a. declared_by a t.definitions t.awaited t.outputs t.lines) inputs
-    ∙ (ap (λ b. declared_by [] b t.awaited t.outputs t.lines) definitions
-    ∙ (ap (λ w. declared_by [] [] w t.outputs t.lines) awaited
-    ∙ (ap (λ c. declared_by [] [] [] c t.lines) outputs ∙ ap (λ n. declared_by [] [] [] [] n) lines))) in
-    record { items = []; spelled = tt; allowed = tt; is = sym is }
-
 pub read-lines : (lines : List (List ℕ)) (t : Declared) → IsRead lines t → t.lines ≡ length lines
 read-lines lines t r =
     let count = lines-with_items nothing r.items in

@@ -1,5 +1,5 @@
 -- What holds of the declarations of allowed items.
-use Rattle.std.proofs.Common.{◌≡◌, ◌≢◌, ℕ, ◌+◌, ◌<◌, ◌≤◌, Bool, true, false, ◌||◌, ◌&&◌, not, cond, List, [], ◌∷◌, ◌++◌, length, refl, ap, ◌∙◌, sym, subst, arith, Option, Some, None, append_assoc, append-nil, if◌then◌else◌, inl, inr}
+use Rattle.std.proofs.Common.{◌≡◌, ◌≢◌, ℕ, ◌+◌, ◌<◌, ◌≤◌, Bool, true, false, ◌||◌, ◌&&◌, not, cond, List, [], ◌∷◌, ◌++◌, length, refl, ap, ◌∙◌, sym, subst, arith, Option, Some, None, append_assoc, append-nil, inl, inr}
 use Rattle.std.specs.Prelude.{◌⊎◌, is_some, is_none, nat_le, unwrap_or, IsTrue}
 use Rattle.std.specs.Option.{option_map}
 use Rattle.std.specs.List.{list_any, list_all, find, AllByRecursion, All}
@@ -406,9 +406,6 @@ record Waits (t : Declared) (n : List ℕ) (ds : List Declaration) (o : Option (
   own : IsAmount ds (without n t.awaited ++ newly_awaited t o) o
   waiting : AllByRecursion (IsWaiting ds) (newly_awaited t o)
   once : AreOnce (without n t.awaited ++ newly_awaited t o)
-
-abbrev more_awaited : Declared → List ℕ → Bool → List Awaited
-more_awaited t m known = if known then [] else record { name = m; line = t.lines + 1 } ∷ []
 
 waits-declared : (t : Declared) (n m : List ℕ) (ds : List Declaration) → type_among ds m ≡ Some scalar_type.Int → is_some (type_among (numbered t) m) ≡ true → IsSound t → Waits t n ds (Some m)
 waits-declared t n m ds int some h =
