@@ -1,0 +1,16 @@
+pub mod Ends
+pub mod TypeLaws
+pub mod ExprLaws
+pub mod LevelLaws
+pub mod ItemLaws
+pub mod Names
+pub mod Levels
+pub mod Sound
+pub mod Complete
+pub mod Items
+pub mod RoomLaws
+pub mod RefusalLaws
+pub mod LoopLaws
+pub mod ItemLoops
+pub mod ParseLaws
+pub mod AnswerLaws

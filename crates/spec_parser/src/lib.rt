@@ -1,0 +1,10 @@
+//! The parser of specifications.
+#![tactic(auto)]
+
+pub mod law;
+mod mark;
+pub mod parse;
+mod stop;
+pub mod tree;
+mod type_name;
+mod words;
