@@ -10,6 +10,7 @@ pub mod Complete
 pub mod Items
 pub mod RoomLaws
 pub mod RefusalLaws
+pub mod TurnLaws
 pub mod LoopLaws
 pub mod ItemLoops
 pub mod ParseLaws

@@ -5,6 +5,7 @@ pub mod Falls
 pub mod Words
 pub mod Grammar
 pub mod Reading
+pub mod Parts
 pub mod Refusals
 pub mod Answers
 pub mod Gives

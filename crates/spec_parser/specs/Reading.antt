@@ -182,9 +182,17 @@ at_number place _ = None
 abbrev pub negated : ℕ → Reader Expr → Place → Reader Expr
 negated room operand place = or_else (λ t. at_number place t.kind) (opened room (operand >>= λ e. give (tree.Negate place e)))
 
+-- what stands behind a minus that opens a level
+abbrev pub opposed : ℕ → Reader Expr → Place → Reader Expr
+opposed room operand place = opened room (operand >>= λ e. give (tree.Negate place e))
+
 -- what stands behind the operator `!`
 abbrev pub denied : ℕ → Reader Expr → Place → Reader Expr
 denied room operand place = opened room (operand >>= λ e. give (tree.Not place e))
+
+-- an expression and the closing parenthesis
+abbrev pub closed : Reader Expr → Reader Expr
+closed inner = inner >>= λ e. must is_close (give e)
 
 -- what stands behind a parenthesis that begins an expression
 abbrev pub in_parens : Reader Expr → Place → Reader Expr

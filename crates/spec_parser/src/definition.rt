@@ -4,6 +4,8 @@ ghost use Rattle.std.specs.Prelude.{◌≡◌, ◌<◌, ◌^◌, suc};
 ghost use Rattle.token_reader.specs.Reader.{opened, many, with_list};
 ghost use Rattle.spec_parser.specs.Shape.{param_of, params_in, body_of, definitions_of as definitions_in};
 ghost use Rattle.spec_parser.specs.Reading.{type_in, within, a_param, behind_param, other_params_of, params as reading_params, may_have_params, may_have_type, behind_params, inner_definition as reading_definition, definitions_of, a_body, a_block, block as reading_block, whole_definition};
+ghost use Rattle.spec_parser.specs.Parts.{plain_body};
+ghost use Rattle.spec_parser.specs.Words.{is_def};
 ghost use Rattle.spec_parser.specs.Gives.{Gives, join_definitions, join_params};
 
 use crate::expression::within_room;
@@ -95,10 +97,11 @@ fn may_be_params(
     ensures { Gives (λ x. (params_in x.0.items, x.1.now)) result (may_have_params room (type_in room) tokens.now) }
 {
     match tokens {
-        [token, rest @ ..] if matches!(&token.kind, Kind::Symbol(Symbol::Open)) => {
-            opened_params(alloc, room, rest)
-        }
-        _ => Ok((Vec::new(alloc), tokens)),
+        [] => Ok((Vec::new(alloc), tokens)),
+        [token, rest @ ..] => match &token.kind {
+            Kind::Symbol(Symbol::Open) => opened_params(alloc, room, rest),
+            _ => Ok((Vec::new(alloc), tokens)),
+        },
     }
 }
 
@@ -111,12 +114,30 @@ fn may_be_type(
     ensures { Gives (λ x. (x.0, x.1.now)) result (may_have_type (type_in room) tokens.now) }
 {
     match tokens {
-        [token, rest @ ..] if fits(Mark::Colon, token) => {
-            let (of, rest) = type_in_room(alloc, room, rest)?;
-            Ok((Some(of), rest))
-        }
-        _ => Ok((None, tokens)),
+        [] => Ok((None, tokens)),
+        [token, rest @ ..] => match &token.kind {
+            Kind::Symbol(Symbol::Colon) => {
+                let (of, rest) = type_in_room(alloc, room, rest)?;
+                Ok((Some(of), rest))
+            }
+            _ => Ok((None, tokens)),
+        },
     }
+}
+
+/// A body without braces.
+fn plain(alloc: Global, room: u32, tokens: &[Token]) -> Result<(Body, &[Token]), Stop<'_>>
+    requires { room < 2 ^ 31 }
+    ensures { Gives (λ x. (body_of x.0, x.1.now)) result (plain_body (within (suc room)) tokens.now) }
+{
+    let (result, rest) = within_room(alloc, room + 1, tokens)?;
+    Ok((Body::Plain(result), rest))
+}
+
+fn begins_definition(token: &Token) -> bool
+    ensures { result ≡ is_def token.now.kind }
+{
+    matches!(&token.kind, Kind::Word(Word::Def))
 }
 
 /// A body, or a block in braces.
@@ -126,13 +147,11 @@ fn body(alloc: Global, room: u32, tokens: &[Token]) -> Result<(Body, &[Token]), 
     ensures { Gives (λ x. (body_of x.0, x.1.now)) result (a_body (reading_block room) (within (suc room)) tokens.now) }
 {
     match tokens {
-        [token, rest @ ..] if matches!(&token.kind, Kind::Symbol(Symbol::OpenBrace)) => {
-            block(alloc, room, rest)
-        }
-        _ => {
-            let (result, rest) = within_room(alloc, room + 1, tokens)?;
-            Ok((Body::Plain(result), rest))
-        }
+        [] => plain(alloc, room, tokens),
+        [token, rest @ ..] => match &token.kind {
+            Kind::Symbol(Symbol::OpenBrace) => block(alloc, room, rest),
+            _ => plain(alloc, room, tokens),
+        },
     }
 }
 
@@ -173,7 +192,7 @@ fn definitions(
     let mut definitions = Vec::new(alloc);
     let mut rest = tokens;
     'definitions: while let Some((token, after)) = rest.split_first() {
-        if !matches!(&token.kind, Kind::Word(Word::Def)) {
+        if !begins_definition(token) {
             break;
         }
         let (definition, left) = inner_definition(alloc, room, after)?;

@@ -7,12 +7,12 @@ ghost use Rattle.spec_parser.specs.Tree.{place_of};
 ghost use Rattle.spec_parser.specs.Shape.{exprs_of, links_in};
 ghost use Rattle.spec_parser.specs.Words.{operator_at, comparison_at, opens_call, is_if, is_open_bracket};
 ghost use Rattle.spec_parser.specs.Grammar.{chained};
-ghost use Rattle.spec_parser.specs.Reading.{must, in_brackets, two_in_brackets, type_in, typed_as, called_as, links_of, chain as reading_chain, others_of, arguments, a_member, must_call, called, negated, denied, in_parens, unary_at, operand_at, behind_sum, behind_argument, if_false, if_true, choice as reading_choice, expression, within, prefixed};
+ghost use Rattle.spec_parser.specs.Reading.{must, in_brackets, two_in_brackets, type_in, typed_as, called_as, links_of, chain as reading_chain, others_of, arguments, a_member, must_call, called, negated, opposed, denied, in_parens, closed, unary_at, operand_at, behind_sum, behind_argument, if_false, if_true, choice as reading_choice, expression, within, prefixed};
 ghost use Rattle.spec_parser.specs.Gives.{Gives, IfOkOrMemory, join_exprs};
 
 use crate::mark::{Mark, fits, pass};
 use crate::stop::Stop;
-use crate::tree::{Comparison, Dotted, Expr, Level, Link, Node, Operator};
+use crate::tree::{Comparison, Dotted, Expr, Level, Link, Node, Operator, TypeName};
 use crate::type_name::type_in_room;
 use crate::words::{Callee, Family, Member, TypedWord, family_named, member_named, typed_word};
 use spec_lexer::token::{Kind, Symbol, Token, Word};
@@ -172,7 +172,19 @@ fn empty_map(
     }
     let (key, rest) = type_in_room(alloc, room, rest)?;
     let rest = pass(Mark::Comma, rest)?;
-    let (value, rest) = type_in_room(alloc, room, rest)?;
+    map_behind_key(alloc, room, place, key, rest)
+}
+
+fn map_behind_key(
+    alloc: Global,
+    room: u32,
+    place: Place,
+    key: TypeName,
+    tokens: &[Token],
+) -> Result<(Expr, &[Token]), Stop<'_>>
+    ensures { Gives (λ x. (x.0, x.1.now)) result (in_brackets (type_in room) (tree.EmptyMap place key) tokens.now) }
+{
+    let (value, rest) = type_in_room(alloc, room, tokens)?;
     let rest = pass(Mark::CloseBracket, rest)?;
     let node = Node::EmptyMap(key, value);
     Ok((Expr { place, node }, rest))
@@ -212,9 +224,15 @@ fn any_expression(
 ) -> Result<(Expr, &[Token]), Stop<'_>>
     ensures { Gives (λ x. (x.0, x.1.now)) result (expression room (type_in room) (within room) (prefixed room) tokens.now) }
 {
-    match tokens {
-        [token, rest @ ..] if begins_choice(token) => choice(alloc, room, token.place, rest),
-        _ => chain(alloc, Level::Disjunction, room, tokens),
+    match tokens.split_first() {
+        None => Err(Stop::Unexpected(tokens)),
+        Some((token, rest)) => {
+            if begins_choice(token) {
+                choice(alloc, room, token.place, rest)
+            } else {
+                chain(alloc, Level::Disjunction, room, tokens)
+            }
+        }
     }
 }
 
@@ -418,19 +436,27 @@ fn parens(
     if room == 0 {
         return Err(Stop::TooDeep(tokens));
     }
-    match tokens {
-        [token, rest @ ..] if fits(Mark::Close, token) => Ok((
-            Expr {
-                place,
-                node: Node::Unit,
-            },
-            rest,
-        )),
-        _ => {
-            let (inner, rest) = within_room(alloc, room, tokens)?;
-            Ok((inner, pass(Mark::Close, rest)?))
+    match tokens.split_first() {
+        None => inside(alloc, room, tokens),
+        Some((token, rest)) => {
+            if fits(Mark::Close, token) {
+                let node = Node::Unit;
+                Ok((Expr { place, node }, rest))
+            } else {
+                inside(alloc, room, tokens)
+            }
         }
     }
+}
+
+/// An expression and the closing parenthesis.
+#[cycle(parser)]
+fn inside(alloc: Global, room: u32, tokens: &[Token]) -> Result<(Expr, &[Token]), Stop<'_>>
+    ensures { Gives (λ x. (x.0, x.1.now)) result (closed (within room) tokens.now) }
+{
+    let (inner, rest) = within_room(alloc, room, tokens)?;
+    let rest = pass(Mark::Close, rest)?;
+    Ok((inner, rest))
 }
 
 /// What stands behind a prefix minus.
@@ -443,23 +469,40 @@ fn minus(
 ) -> Result<(Expr, &[Token]), Stop<'_>>
     ensures { Gives (λ x. (x.0, x.1.now)) result (negated room (prefixed room) place tokens.now) }
 {
-    if let [token, rest @ ..] = tokens {
-        if let Kind::Number(n) = &token.kind {
-            return Ok((
-                Expr {
-                    place,
-                    node: Node::Negative(*n),
-                },
-                rest,
-            ));
-        }
+    match tokens {
+        [] => opposite(alloc, room, place, tokens),
+        [token, rest @ ..] => match &token.kind {
+            Kind::Number(n) => {
+                let node = Node::Negative(*n);
+                Ok((Expr { place, node }, rest))
+            }
+            _ => opposite(alloc, room, place, tokens),
+        },
     }
-    let (operand, rest) = prefixed_operand(alloc, room, tokens)?;
+}
+
+/// What stands behind a minus that opens a level.
+#[cycle(parser)]
+#[tactic(auto, unfolding(crate::specs::Reading::prefixed))]
+fn opposite(
+    alloc: Global,
+    room: u32,
+    place: Place,
+    tokens: &[Token],
+) -> Result<(Expr, &[Token]), Stop<'_>>
+    ensures { Gives (λ x. (x.0, x.1.now)) result (opposed room (prefixed room) place tokens.now) }
+{
+    if room == 0 {
+        return Err(Stop::TooDeep(tokens));
+    }
+    let (operand, rest) = unary(alloc, room - 1, tokens)?;
     let node = Node::Negate(Box::new(alloc, operand)?);
     Ok((Expr { place, node }, rest))
 }
 
+/// What stands behind the operator `!`.
 #[cycle(parser)]
+#[tactic(auto, unfolding(crate::specs::Reading::prefixed))]
 fn negation(
     alloc: Global,
     room: u32,
@@ -468,25 +511,12 @@ fn negation(
 ) -> Result<(Expr, &[Token]), Stop<'_>>
     ensures { Gives (λ x. (x.0, x.1.now)) result (denied room (prefixed room) place tokens.now) }
 {
-    let (operand, rest) = prefixed_operand(alloc, room, tokens)?;
-    let node = Node::Not(Box::new(alloc, operand)?);
-    Ok((Expr { place, node }, rest))
-}
-
-/// What a prefix operator stands before.
-#[cycle(parser)]
-#[tactic(auto, unfolding(crate::specs::Reading::prefixed))]
-fn prefixed_operand(
-    alloc: Global,
-    room: u32,
-    tokens: &[Token],
-) -> Result<(Expr, &[Token]), Stop<'_>>
-    ensures { Gives (λ x. (x.0, x.1.now)) result (prefixed room tokens.now) }
-{
     if room == 0 {
         return Err(Stop::TooDeep(tokens));
     }
-    unary(alloc, room - 1, tokens)
+    let (operand, rest) = unary(alloc, room - 1, tokens)?;
+    let node = Node::Not(Box::new(alloc, operand)?);
+    Ok((Expr { place, node }, rest))
 }
 
 /// An expression that begins with a name.

@@ -3,6 +3,8 @@
 ghost use Rattle.std.specs.Prelude.{◌≡◌, ◌<◌, ◌^◌, [], map, option_map};
 ghost use Rattle.spec_parser.specs.Shape.{item_of};
 ghost use Rattle.spec_parser.specs.Reading.{input_behind, plain_output, printed_as as reading_printed, behind_output, output_behind, at_item, specification};
+ghost use Rattle.spec_parser.specs.Parts.{given};
+ghost use Rattle.spec_parser.specs.Words.{is_as};
 ghost use Rattle.spec_parser.specs.Gives.{Gives, TurnGives};
 
 use crate::definition::definition;
@@ -62,6 +64,27 @@ fn printed(place: Place, expression: Expr, tokens: &[Token]) -> Result<(Item, &[
     }
 }
 
+fn begins_printed_name(token: &Token) -> bool
+    ensures { result ≡ is_as token.now.kind }
+{
+    matches!(&token.kind, Kind::Word(Word::As))
+}
+
+/// An output without `as`.
+fn unprinted(
+    place: Place,
+    expression: Expr,
+    alone: bool,
+    tokens: &[Token],
+) -> Result<(Item, &[Token]), Stop<'_>>
+    ensures { Gives (λ x. (item_of x.0, x.1.now)) result (given (plain_output place (expression, alone)) tokens.now) }
+{
+    match plain(place, expression, alone) {
+        Some(item) => Ok((item, tokens)),
+        None => Err(Stop::Unexpected(tokens)),
+    }
+}
+
 /// What stands behind the expression of an output.
 fn behind_expression(
     place: Place,
@@ -71,14 +94,15 @@ fn behind_expression(
 ) -> Result<(Item, &[Token]), Stop<'_>>
     ensures { Gives (λ x. (item_of x.0, x.1.now)) result (behind_output place (expression, alone) tokens.now) }
 {
-    match tokens {
-        [token, rest @ ..] if matches!(&token.kind, Kind::Word(Word::As)) => {
-            printed(place, expression, rest)
+    match tokens.split_first() {
+        None => unprinted(place, expression, alone, tokens),
+        Some((token, rest)) => {
+            if begins_printed_name(token) {
+                printed(place, expression, rest)
+            } else {
+                unprinted(place, expression, alone, tokens)
+            }
         }
-        _ => match plain(place, expression, alone) {
-            Some(item) => Ok((item, tokens)),
-            None => Err(Stop::Unexpected(tokens)),
-        },
     }
 }
 

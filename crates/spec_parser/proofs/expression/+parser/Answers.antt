@@ -1,5 +1,6 @@
-use Rattle.std.proofs.Common.{arith}
+use Rattle.std.proofs.Common.{◌-◌, arith}
 use Rattle.std.proofs.lemmas.Result.{err_from_is_err_and}
+use Rattle.spec_parser.proofs.TurnLaws.{within_is, no_choice, nothing_left, unit_read, inside_read}
 use Rattle.spec_parser.proofs.LoopLaws.{operand_shorter, link_passes, link_fails, link_ends, links_empty, within_shorter, comma_passes, comma_fails, comma_ends, comma_empty}
 use Rattle.spec_parser.proofs.expression.+parser.Goals as goal
 use Rattle.spec_parser.proofs.expression.+parser.Goals.{more_links-in-Some+in-None, more_links-in_default, more_arguments-in-Some+then-not-fits, more_arguments-in_default}
@@ -44,3 +45,18 @@ more_arguments-returns t c = elim c.match-split_first.branch [
   | more_arguments-in-Some+then-not-fits w ↦ comma_ends c.args.room c.others.all.items c.others.rest.now w.in-Some.token.now w.in-Some.after.now _ w.in-Some.ensures.cases.0 c.others.invariant w.if-not-fits.ensures
   | more_arguments-in_default w ↦ comma_empty c.args.room c.others.all.items c.others.rest.now _ w.in_default.ensures.cases c.others.invariant
 ]
+
+pub within_room-returns : goal.within_room-returns
+within_room-returns t c = rw (within_is c.args.room (c.args.room - 1) c.args.tokens.now (omega arith)) c.any_expression.ensures
+
+pub any_expression-returns-else-begins_choice : goal.any_expression-returns-else-begins_choice
+any_expression-returns-else-begins_choice t c = rw (no_choice c.args.room c.args.tokens.now c.in-Some.token.now c.in-Some.rest.now c.in-Some.ensures.cases.0 c.if-begins_choice.ensures) c.chain.ensures
+
+pub parens-returns-in-None : goal.parens-returns-in-None
+parens-returns-in-None t c = rw (nothing_left c.args.room c.args.place c.args.tokens.now (omega arith) c.in-None.ensures.cases) c.inside.ensures
+
+pub parens-returns-then-fits : goal.parens-returns-then-fits
+parens-returns-then-fits t c = unit_read c.args.room c.args.place c.args.tokens.now (omega arith) c.in-Some.token.now c.in-Some.rest.now c.in-Some.ensures.cases.0 c.if-fits.ensures
+
+pub parens-returns-else-fits : goal.parens-returns-else-fits
+parens-returns-else-fits t c = rw (inside_read c.args.room c.args.place c.args.tokens.now (omega arith) c.in-Some.token.now c.in-Some.rest.now c.in-Some.ensures.cases.0 c.if-fits.ensures) c.inside-else-fits.ensures

@@ -48,7 +48,7 @@ abbrev pub decreases-unary : goal.decreases-unary
 decreases-unary l = 32 * l.room + 7
 
 abbrev pub decreases-parens : goal.decreases-parens
-decreases-parens l = 32 * l.room + 1
+decreases-parens l = 32 * l.room + 2
 
 abbrev pub decreases-minus : goal.decreases-minus
 decreases-minus l = 32 * l.room + 1
@@ -56,8 +56,11 @@ decreases-minus l = 32 * l.room + 1
 abbrev pub decreases-negation : goal.decreases-negation
 decreases-negation l = 32 * l.room + 1
 
-abbrev pub decreases-prefixed_operand : goal.decreases-prefixed_operand
-decreases-prefixed_operand l = 32 * l.room
+abbrev pub decreases-inside : goal.decreases-inside
+decreases-inside l = 32 * l.room + 1
+
+abbrev pub decreases-opposite : goal.decreases-opposite
+decreases-opposite l = 32 * l.room
 
 abbrev pub decreases-name_behind : goal.decreases-name_behind
 decreases-name_behind l = 32 * l.room + 6
