@@ -1,13 +1,13 @@
 -- What is read, by the first token.
-use Rattle.std.proofs.Common.{◌≡◌, ℕ, zero, suc, ◌<◌, Bool, true, false, List, [], ◌∷◌, length, Option, Some, None, refl, sym, ap, ◌∙◌, arith}
+use Rattle.std.proofs.Common.{◌≡◌, ℕ, zero, suc, ◌+◌, ◌==◌, ◌<◌, Bool, true, false, List, [], ◌∷◌, length, Option, Some, None, refl, sym, ap, ◌∙◌, arith}
 use Rattle.tsl_value.specs.declared.place.Place.{Place}
 use Rattle.spec_lexer.specs.declared.token.Token.{Token}
-use Rattle.token_reader.specs.Reader.{Outcome, Read, chosen, give, or_given, opened, taken, tried, when}
+use Rattle.token_reader.specs.Reader.{Outcome, Read, and_then, chosen, give, noted, or_given, opened, taken, tried, when}
 use Rattle.spec_parser.specs.declared.tree.Level.TheVariants as level
 use Rattle.spec_parser.specs.Tree as tree
 use Rattle.spec_parser.specs.Tree.{Expr, Item}
 use Rattle.spec_parser.specs.Words.{is_as, is_close, is_if}
-use Rattle.spec_parser.specs.Reading.{Reader, type_in, chain, operand_at, unary_at, all_levels, choice, expression, closed, in_parens, within, prefixed, plain_output, printed_as, behind_output}
+use Rattle.spec_parser.specs.Reading.{Reader, type_in, chain, operand_at, unary_at, all_levels, choice, expression, closed, in_parens, within, prefixed, plain_output, printed_as, behind_output, output_behind}
 use Rattle.spec_parser.specs.Parts.{given}
 
 pub within_is : (room below : ℕ) (ts : List Token) → room ≡ suc below → within room ts ≡ expression below (type_in below) (within below) (prefixed below) ts
@@ -76,3 +76,6 @@ module _ (place : Place) (x : Expr × Bool) where
 
     pub printed_read : (ts : List Token) → ts ≡ t ∷ after → true ≡ is_as t.kind → behind_output place x ts ≡ printed_as place x.0 after
     printed_read ts e is = ap (behind_output place x) e ∙ an_as (plain_output place x) is
+
+pub output_is : (room above : ℕ) (place : Place) (ts : List Token) (e : Expr) (rest : List Token) → above ≡ suc room → within above ts ≡ Read e rest → output_behind room place ts ≡ behind_output place (e, length ts == 1 + length rest) rest
+output_is room above place ts e rest same reads = ap (λ o. and_then (noted (length ts) o) (behind_output place)) (ap (λ n. within n ts) (sym same) ∙ reads)

@@ -1,6 +1,7 @@
 pub mod Tree
 pub mod Code
 pub mod Shape
+pub mod Places
 pub mod Falls
 pub mod Words
 pub mod Grammar

@@ -2,8 +2,9 @@
 
 ghost use Rattle.std.specs.Prelude.{◌≡◌, ◌<◌, ◌^◌, suc};
 ghost use Rattle.token_reader.specs.Reader.{opened, many, with_list};
+ghost use Rattle.spec_parser.specs.Tree as tree;
 ghost use Rattle.spec_parser.specs.Shape.{param_of, params_in, body_of, definitions_of as definitions_in};
-ghost use Rattle.spec_parser.specs.Reading.{type_in, within, a_param, behind_param, other_params_of, params as reading_params, may_have_params, may_have_type, behind_params, inner_definition as reading_definition, definitions_of, a_body, a_block, block as reading_block, whole_definition};
+ghost use Rattle.spec_parser.specs.Reading.{type_in, within, a_param, behind_param, other_params_of, params as reading_params, may_have_params, may_have_type, behind_params, defined_as, inner_definition as reading_definition, definitions_of, a_body, a_block, block as reading_block, whole_definition};
 ghost use Rattle.spec_parser.specs.Parts.{plain_body};
 ghost use Rattle.spec_parser.specs.Words.{is_def};
 ghost use Rattle.spec_parser.specs.Gives.{Gives, join_definitions, join_params};
@@ -17,6 +18,16 @@ use spec_lexer::token::{Kind, Symbol, Token, Word};
 use std::alloc::Global;
 use tsl_value::place::Place;
 use tsl_value::text::Text;
+
+/// What stands before the body of a definition.
+#[derive(Drop)]
+struct Head<'a> {
+    place: Place,
+    name: &'a Text,
+    /// None where no parentheses stand.
+    params: Vec<Param>,
+    written: Option<TypeName>,
+}
 
 fn param(alloc: Global, room: u32, tokens: &[Token]) -> Result<(Param, &[Token]), Stop<'_>>
     ensures { Gives (λ x. (param_of x.0, x.1.now)) result (a_param (type_in room) tokens.now) }
@@ -238,14 +249,34 @@ fn behind_head<'a>(
     ensures { Gives (λ x. (x.0, x.1.now)) result (behind_params (type_in (suc room)) (a_body (reading_block room) (within (suc room))) place name.now (params_in params.items) tokens.now) }
 {
     let (written, rest) = may_be_type(alloc, room + 1, tokens)?;
-    let rest = pass(Mark::Defines, rest)?;
-    let (body, rest) = body(alloc, room, rest)?;
-    let name = name.copy()?;
-    let parts = DefinitionParts {
+    let head = Head {
         place,
         name,
         params,
         written,
+    };
+    defined(alloc, room, head, rest)
+}
+
+/// A definition from `:=` on.
+#[cycle(body)]
+fn defined<'a>(
+    alloc: Global,
+    room: u32,
+    head: Head<'_>,
+    tokens: &'a [Token],
+) -> Result<(Definition, &'a [Token]), Stop<'a>>
+    requires { room < 2 ^ 31 }
+    ensures { Gives (λ x. (x.0, x.1.now)) result (defined_as (a_body (reading_block room) (within (suc room))) (tree.Define head.place head.name.now (params_in head.params.items) head.written) tokens.now) }
+{
+    let rest = pass(Mark::Defines, tokens)?;
+    let (body, rest) = body(alloc, room, rest)?;
+    let name = head.name.copy()?;
+    let parts = DefinitionParts {
+        place: head.place,
+        name,
+        params: head.params,
+        written: head.written,
         body,
     };
     Ok((Definition { parts }, rest))

@@ -1,8 +1,9 @@
 // The tree of a specification.
 
-ghost use Rattle.std.specs.Prelude.{◌≡◌};
+ghost use Rattle.std.specs.Prelude.{◌≡◌, map};
 ghost use Rattle.spec_parser.specs.Tree.{place_of};
-ghost use Rattle.spec_parser.specs.Shape.{expr_of};
+ghost use Rattle.spec_parser.specs.Places.{type_place};
+ghost use Rattle.spec_parser.specs.Shape.{type_of, expr_of, definition_of, item_of, items_of};
 
 use std::marker::Model;
 use tsl_value::place::Place;
@@ -95,6 +96,22 @@ impl Model for TypeName {
     ghost size_decreases = { λ a h. Prim.grind (arith, type_falls a.place a.shape) };
 }
 
+#[tactic(auto, using(crate::specs::Places::type_place_again))]
+impl TypeName {
+    /// The place of the first token.
+    pub fn place(&self) -> Place
+        ensures { result ≡ type_place self.now }
+    {
+        self.place
+    }
+
+    pub fn shape(&self) -> &TypeShape
+        ensures { type_of (type_place self.now) result.now ≡ self.now }
+    {
+        &self.shape
+    }
+}
+
 /// An expression, and the place of its first token; parentheses leave no trace. A chain has the place of its first operand.
 #[cycle(tree)]
 #[derive(Drop)]
@@ -158,6 +175,7 @@ impl Model for Expr {
 
 #[tactic(auto, using(crate::specs::Shape::place_again))]
 impl Expr {
+    /// The place of the first token.
     pub fn place(&self) -> Place
         ensures { result ≡ place_of self.now }
     {
@@ -225,6 +243,14 @@ impl Model for Definition {
     ghost size_decreases = { λ a h. Prim.grind (arith, definition_falls a.parts) };
 }
 
+impl Definition {
+    pub fn parts(&self) -> &DefinitionParts
+        ensures { definition_of result.now ≡ self.now }
+    {
+        &self.parts
+    }
+}
+
 #[derive(Drop)]
 pub enum Item {
     /// The place of its name, its name and its type.
@@ -240,4 +266,13 @@ pub enum Item {
 #[derive(Drop)]
 pub struct Tree {
     pub(crate) items: Vec<Item>,
+}
+
+impl Tree {
+    /// All of them, in the order of the source.
+    pub fn items(&self) -> &[Item]
+        ensures { map item_of result.now ≡ items_of self.now }
+    {
+        self.items.as_slice()
+    }
 }

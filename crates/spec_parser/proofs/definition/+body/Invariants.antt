@@ -11,16 +11,19 @@ abbrev pub decreases-block : goal.decreases-block
 decreases-block l = 8 * l.room
 
 abbrev pub decreases-in_block : goal.decreases-in_block
-decreases-in_block l = 8 * l.room + 5
+decreases-in_block l = 8 * l.room + 6
 
 abbrev pub decreases-definitions : goal.decreases-definitions
-decreases-definitions l = 8 * l.room + 4
+decreases-definitions l = 8 * l.room + 5
 
 abbrev pub decreases-inner_definition : goal.decreases-inner_definition
-decreases-inner_definition l = 8 * l.room + 3
+decreases-inner_definition l = 8 * l.room + 4
 
 abbrev pub decreases-behind_head : goal.decreases-behind_head
-decreases-behind_head l = 8 * l.room + 2
+decreases-behind_head l = 8 * l.room + 3
+
+abbrev pub decreases-defined : goal.decreases-defined
+decreases-defined l = 8 * l.room + 2
 
 abbrev pub invariant-definitions-definitions : goal.invariant-definitions-definitions
 invariant-definitions-definitions l = with_list (join_definitions l.definitions.items) (many (definitions_of (type_in (suc l.room)) (a_body (block l.room) (within (suc l.room)))) l.rest) ≡ many (definitions_of (type_in (suc l.room)) (a_body (block l.room) (within (suc l.room)))) l.tokens
