@@ -166,8 +166,8 @@ module _ (room : ℕ) where
         let Q : Definition → List Token → Type 0 = λ e us. (es : Definitions) (rest : List Token) → AreDefinitions room us es rest → AreDefinitions room (d ∷ ts) (more_definitions e es) rest in
         subst (λ (q : Reader Definition). Meets Q (q ts)) (some_reader a_definition p h)
         (meets_named (λ place n. behind_params (type_in (suc room)) body_in place n []) (λ us. ts ≡ us) Q ts refl (λ t n us e named_so.
-            params_behind_sound room body_in (body_sound sound) t.place n Q [] us (λ w b a vs rest dw h db es left others.
-            subst (λ ws. AreDefinitions room (d ∷ ws) (more_definitions (tree.Define t.place n [] w b) es) left) (sym e) (one_definition (def_is d.kind is) named_so dw h db others))))
+        params_behind_sound room body_in (body_sound sound) t.place n Q [] us (λ w b a vs rest dw h db es left others.
+        subst (λ ws. AreDefinitions room (d ∷ ws) (more_definitions (tree.Define t.place n [] w b) es) left) (sym e) (one_definition (def_is d.kind is) named_so dw h db others))))
 
     definitions_sound : (ts : List Token) → Meets (AreDefinitions room ts) (many defs ts)
     definitions_sound = meets-many signs defs (defs_local room) (AreDefinitions room) (no_definition tt) (λ t ts h. no_definition (when_none (is_def t.kind) a_definition h)) (λ t p is ts. definition_go t (is_def t.kind) refl p is ts)
@@ -318,10 +318,13 @@ module _ (room : ℕ) where
   item_is : (t : Token) (ts rest : List Token) (i : Item) → IsItem room (t ∷ ts) i rest → (p : Reader Item) × (at_item room t.place t.kind ≡ Some p) × (p ts ≡ Read i rest)
   item_is t ts rest i (input {u = u} {v = v} {ts = vs} {n = n} {y = y} is named_so colon d) =
       (_, ap (at_item room t.place) is, named_is (λ place n. must is_colon (type_in (suc room) >>= λ y. give (tree.Input place n y))) u n (v ∷ vs) named_so ∙ typed_is room (tree.Input u.place n) v vs rest y colon d)
-  item_is t ts rest i (definition {t = u} {a = a} {ts = us} {us = vs} {vs = ws} {n = n} {ps = ps} {w = w} {b = b} is named_so dp dw h db) =
-      (_, ap (at_item room t.place) is, ap (λ q. and_then q (λ d. give (tree.Defined d))) (named_is (λ place n. may_have_params room (type_in room) >>= behind_params (type_in (suc room)) (body_in room) place n) u n us named_so
-          ∙ passes_by (may_have_params room (type_in room)) (behind_params (type_in (suc room)) (body_in room) u.place n) us vs ps (may_params_complete dp)
-          ∙ params_behind_is room (body_in room) u.place n ps vs ws rest w b a dw h (body_complete db)))
+  item_is t ts rest i (definition {t = u} {a = a} {ts = us} {us = vs} {vs = ws} {n = n} {ps = ps} {w = w} {b = b} is named_so dp dw h db) = (
+    _,
+    ap (at_item room t.place) is,
+    ap (λ q. and_then q (λ d. give (tree.Defined d))) (named_is (λ place n. may_have_params room (type_in room) >>= behind_params (type_in (suc room)) (body_in room) place n) u n us named_so
+        ∙ passes_by (may_have_params room (type_in room)) (behind_params (type_in (suc room)) (body_in room) u.place n) us vs ps (may_params_complete dp)
+        ∙ params_behind_is room (body_in room) u.place n ps vs ws rest w b a dw h (body_complete db)),
+  )
   item_is t ts rest i (output {u = u} {p = p} {n = n} is d h) = (_, ap (at_item room t.place) is, output_is t.place u rest p n d h)
   item_is t ts rest i (output_as {a = a} {u = u} {n = n} {e = e} is d as_so named_so) = (_, ap (at_item room t.place) is, output_as_is t.place ts rest e a u n d as_so named_so)
 

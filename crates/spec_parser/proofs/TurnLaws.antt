@@ -5,9 +5,9 @@ use Rattle.spec_lexer.specs.declared.token.Token.{Token}
 use Rattle.token_reader.specs.Reader.{Outcome, Read, and_then, chosen, give, noted, or_given, opened, taken, tried, when}
 use Rattle.spec_parser.specs.declared.tree.Level.TheVariants as level
 use Rattle.spec_parser.specs.Tree as tree
-use Rattle.spec_parser.specs.Tree.{Expr, Item}
+use Rattle.spec_parser.specs.Tree.{Expr, Item, Param, TypeName}
 use Rattle.spec_parser.specs.Words.{is_as, is_close, is_if}
-use Rattle.spec_parser.specs.Reading.{Reader, type_in, chain, operand_at, unary_at, all_levels, choice, expression, closed, in_parens, within, prefixed, plain_output, printed_as, behind_output, output_behind}
+use Rattle.spec_parser.specs.Reading.{Reader, type_in, chain, operand_at, unary_at, all_levels, choice, expression, closed, in_parens, within, prefixed, may_have_type, behind_params, defined_as, a_body, block, plain_output, printed_as, behind_output, output_behind}
 use Rattle.spec_parser.specs.Parts.{given}
 
 pub within_is : (room below : ℕ) (ts : List Token) → room ≡ suc below → within room ts ≡ expression below (type_in below) (within below) (prefixed below) ts
@@ -79,3 +79,6 @@ module _ (place : Place) (x : Expr × Bool) where
 
 pub output_is : (room above : ℕ) (place : Place) (ts : List Token) (e : Expr) (rest : List Token) → above ≡ suc room → within above ts ≡ Read e rest → output_behind room place ts ≡ behind_output place (e, length ts == 1 + length rest) rest
 output_is room above place ts e rest same reads = ap (λ o. and_then (noted (length ts) o) (behind_output place)) (ap (λ n. within n ts) (sym same) ∙ reads)
+
+pub behind_is : (room above : ℕ) (place : Place) (n : List ℕ) (ps : List Param) (ts : List Token) (w : Option TypeName) (rest : List Token) → above ≡ suc room → may_have_type (type_in above) ts ≡ Read w rest → behind_params (type_in (suc room)) (a_body (block room) (within (suc room))) place n ps ts ≡ defined_as (a_body (block room) (within (suc room))) (tree.Define place n ps w) rest
+behind_is room above place n ps ts w rest same reads = ap (λ o. and_then o (λ w. defined_as (a_body (block room) (within (suc room))) (tree.Define place n ps w))) (ap (λ k. may_have_type (type_in k) ts) (sym same) ∙ reads)

@@ -19,11 +19,10 @@ use std::alloc::Global;
 use tsl_value::place::Place;
 use tsl_value::text::Text;
 
-/// What stands before the body of a definition.
+/// What stands before the body of a definition, beside its name.
 #[derive(Drop)]
-struct Head<'a> {
+struct Head {
     place: Place,
-    name: &'a Text,
     /// None where no parentheses stand.
     params: Vec<Param>,
     written: Option<TypeName>,
@@ -251,11 +250,10 @@ fn behind_head<'a>(
     let (written, rest) = may_be_type(alloc, room + 1, tokens)?;
     let head = Head {
         place,
-        name,
         params,
         written,
     };
-    defined(alloc, room, head, rest)
+    defined(alloc, room, name, head, rest)
 }
 
 /// A definition from `:=` on.
@@ -263,18 +261,18 @@ fn behind_head<'a>(
 fn defined<'a>(
     alloc: Global,
     room: u32,
-    head: Head<'_>,
+    name: &Text,
+    head: Head,
     tokens: &'a [Token],
 ) -> Result<(Definition, &'a [Token]), Stop<'a>>
     requires { room < 2 ^ 31 }
-    ensures { Gives (λ x. (x.0, x.1.now)) result (defined_as (a_body (reading_block room) (within (suc room))) (tree.Define head.place head.name.now (params_in head.params.items) head.written) tokens.now) }
+    ensures { Gives (λ x. (x.0, x.1.now)) result (defined_as (a_body (reading_block room) (within (suc room))) (tree.Define head.place name.now (params_in head.params.items) head.written) tokens.now) }
 {
     let rest = pass(Mark::Defines, tokens)?;
     let (body, rest) = body(alloc, room, rest)?;
-    let name = head.name.copy()?;
     let parts = DefinitionParts {
         place: head.place,
-        name,
+        name: name.copy()?,
         params: head.params,
         written: head.written,
         body,

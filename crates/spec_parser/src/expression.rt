@@ -217,11 +217,7 @@ pub(crate) fn within_room(
 }
 
 #[cycle(parser)]
-fn any_expression(
-    alloc: Global,
-    room: u32,
-    tokens: &[Token],
-) -> Result<(Expr, &[Token]), Stop<'_>>
+fn any_expression(alloc: Global, room: u32, tokens: &[Token]) -> Result<(Expr, &[Token]), Stop<'_>>
     ensures { Gives (λ x. (x.0, x.1.now)) result (expression room (type_in room) (within room) (prefixed room) tokens.now) }
 {
     match tokens.split_first() {
@@ -345,11 +341,7 @@ fn operand(
 
 /// A sum, or two with a comparison between them.
 #[cycle(parser)]
-fn one_comparison(
-    alloc: Global,
-    room: u32,
-    tokens: &[Token],
-) -> Result<(Expr, &[Token]), Stop<'_>>
+fn one_comparison(alloc: Global, room: u32, tokens: &[Token]) -> Result<(Expr, &[Token]), Stop<'_>>
     ensures { Gives (λ x. (x.0, x.1.now)) result (operand_at Level.Conjunction room tokens.now) }
 {
     let (left, rest) = chain(alloc, Level::Sum, room, tokens)?;

@@ -37,7 +37,10 @@ fn each_refusal_has_its_place(rt: HostRuntime) {
         (b"def a := Set.foo(x)", unexpected(1, 14)),
         (b"def a := Set.add", unexpected(1, 17)),
         (b"def a := Set.empty(x)", unexpected(1, 19)),
-        (b"def a(x: Int) := { def b(y: Int) := y b }", unexpected(1, 25)),
+        (
+            b"def a(x: Int) := { def b(y: Int) := y b }",
+            unexpected(1, 25),
+        ),
         (b"def a() := 1", unexpected(1, 7)),
         (b"def a := { }", unexpected(1, 12)),
         (b"out 1 as in", unexpected(1, 10)),
@@ -76,10 +79,22 @@ fn sources_have_their_items(rt: HostRuntime) {
         (b"def a := f\n-- (x)\ndef b := (x)", 2),
         (b"def a\n(x: Int, y: Set[Int]): Int = x + y * 2 % 3 / 4", 1),
         (b"def a := if b && c || !d then () else \"e\" == f", 1),
-        (b"def a := nil[Int] def b := None[Option[Int]] def c := nil def d := nil(1)", 4),
-        (b"def a := Set.empty[Int] def b := Map.empty[Int, Bool] def c := Set", 3),
-        (b"def a := Map.add(m, f(x, 1), true) out String.size(a) as b", 2),
-        (b"def a(x: Events[Int]): Int := { def y := { x } def z := y z + y } out false as a", 2),
+        (
+            b"def a := nil[Int] def b := None[Option[Int]] def c := nil def d := nil(1)",
+            4,
+        ),
+        (
+            b"def a := Set.empty[Int] def b := Map.empty[Int, Bool] def c := Set",
+            3,
+        ),
+        (
+            b"def a := Map.add(m, f(x, 1), true) out String.size(a) as b",
+            2,
+        ),
+        (
+            b"def a(x: Events[Int]): Int := { def y := { x } def z := y z + y } out false as a",
+            2,
+        ),
     ];
     for (source, count) in sources.iter() {
         match read(rt.alloc(), *source) {
@@ -133,8 +148,20 @@ fn a_large_specification_has_its_tree(rt: HostRuntime) {
     }
     match &items[14] {
         Item::OutputAs(place, expression, at, name) => {
-            assert_eq!(rt; *place, Place { line: 17, column: 1 });
-            assert_eq!(rt; *at, Place { line: 17, column: 23 });
+            assert_eq!(rt;
+                *place,
+                Place {
+                    line: 17,
+                    column: 1
+                }
+            );
+            assert_eq!(rt;
+                *at,
+                Place {
+                    line: 17,
+                    column: 23
+                }
+            );
             assert_eq!(rt; name.as_str(), "devices");
             assert!(rt; matches!(expression.node(), Node::CallDotted(Dotted::MapSize, _)));
         }

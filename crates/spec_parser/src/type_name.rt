@@ -31,11 +31,7 @@ pub(crate) fn type_in_room(
 }
 
 #[cycle(type_name)]
-fn any_type(
-    alloc: Global,
-    room: u32,
-    tokens: &[Token],
-) -> Result<(TypeName, &[Token]), Stop<'_>>
+fn any_type(alloc: Global, room: u32, tokens: &[Token]) -> Result<(TypeName, &[Token]), Stop<'_>>
     ensures { Gives (λ x. (x.0, x.1.now)) result (a_type room (type_in room) tokens.now) }
 {
     match tokens {

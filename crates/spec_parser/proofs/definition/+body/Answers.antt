@@ -1,5 +1,7 @@
-use Rattle.std.proofs.Common.{arith}
+use Rattle.std.proofs.Common.{◌+◌, arith}
 use Rattle.std.proofs.lemmas.Result.{err_from_is_err_and}
+use Rattle.spec_parser.specs.Shape.{params_in}
+use Rattle.spec_parser.proofs.TurnLaws.{behind_is}
 use Rattle.spec_parser.proofs.ItemLoops.{definition_shorter, definition_passes, definition_fails, definitions_end, definitions_empty}
 use Rattle.spec_parser.proofs.definition.+body.Goals as goal
 use Rattle.spec_parser.proofs.definition.+body.Goals.{definitions-in-Some+then-not-begins_definition, definitions-in_default}
@@ -23,3 +25,6 @@ definitions-returns t c = elim c.match-split_first.branch [
   | definitions-in-Some+then-not-begins_definition w ↦ definitions_end c.args.room c.definitions.definitions.items c.definitions.rest.now w.in-Some.token.now w.in-Some.after.now _ w.in-Some.ensures.cases.0 c.definitions.invariant w.if-not-begins_definition.ensures
   | definitions-in_default w ↦ definitions_empty c.args.room c.definitions.definitions.items c.definitions.rest.now _ w.in_default.ensures.cases c.definitions.invariant
 ]
+
+pub behind_head-returns : goal.behind_head-returns
+behind_head-returns t c = rw (behind_is c.args.room (c.args.room + 1) c.args.place c.args.name.now (params_in c.args.params.items) c.args.tokens.now c.in_ok-written.written c.in_ok-written.rest.now (omega arith) c.in_ok-written.ensures) c.defined.ensures
