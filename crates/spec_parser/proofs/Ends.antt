@@ -51,14 +51,29 @@ ends_fewer (kind.Name n) h = h
 ends_fewer (kind.Number n) h = h
 ends_fewer (kind.Text n) h = h
 
-abbrev pub signs_by : (Kind → Bool) → Signs Token
-signs_by test = record { ends = λ t. test t.kind; opens = λ t. may_open t.kind; calms = λ t. is_number t.kind; bars = opens_level }
+-- no number ends anything
+pub ends_quiet : (k : Kind) → ends k ≡ true → is_number k ≡ false
+ends_quiet (kind.Number n) h = cc
+ends_quiet (kind.Symbol s) h = refl
+ends_quiet (kind.Word w) h = refl
+ends_quiet (kind.Name n) h = refl
+ends_quiet (kind.Text n) h = refl
+
+pub type_quiet : (k : Kind) → ends_type k ≡ true → is_number k ≡ false
+type_quiet (kind.Number n) h = cc
+type_quiet (kind.Symbol s) h = refl
+type_quiet (kind.Word w) h = refl
+type_quiet (kind.Name n) h = refl
+type_quiet (kind.Text n) h = refl
+
+abbrev pub signs_by : (test : Kind → Bool) → ((k : Kind) → test k ≡ true → is_number k ≡ false) → Signs Token
+signs_by test quiet = record { ends = λ t. test t.kind; opens = λ t. may_open t.kind; calms = λ t. is_number t.kind; bars = opens_level; quiet = λ t. quiet t.kind }
 
 abbrev pub signs : Signs Token
-signs = signs_by ends
+signs = signs_by ends ends_quiet
 
 abbrev pub type_signs : Signs Token
-type_signs = signs_by ends_type
+type_signs = signs_by ends_type type_quiet
 
 -- a token to complete with
 abbrev pub start : Place

@@ -1,5 +1,5 @@
 -- The laws of the readers of expressions.
-use Rattle.std.proofs.Common.{◌≡◌, ℕ, zero, suc, Bool, true, false, not, ◌&&◌, List, [], ◌∷◌, Option, Some, None, refl, sym, ap, subst, ◌∙◌}
+use Rattle.std.proofs.Common.{◌≡◌, ℕ, zero, suc, Bool, true, false, not, ◌&&◌, List, [], ◌∷◌, Option, Some, None, refl, sym, ap, subst, ◌∙◌, inr}
 use Rattle.std.specs.Prelude.{codes}
 use Rattle.std.specs.Option.{option_map}
 use Rattle.tsl_value.specs.declared.place.Place.{Place}
@@ -12,8 +12,8 @@ use Rattle.token_reader.specs.Reader.{TooDeep, Lister, give, refuse, and_then, �
 use Rattle.token_reader.proofs.LocalLaws.{CarefulAt, IsCareful, IsLocal, IsLocalTurn, IsEager, Declines, Stays, eagerly, declining, calmly, local-give, local-take_by, local-bind, local-expect, local-or_else, local_when, declines_when, eager-take_by, eager-bind, eager-or_else, eager-refuse}
 use Rattle.token_reader.proofs.ManyLaws.{many_end, careful-many, local-many}
 use Rattle.token_reader.proofs.CarefulLaws.{careful-give, careful-test, careful-take_by, careful-bind, careful-if_next, careful-or_else, local-closed, local-mapped}
-use Rattle.token_reader.proofs.ViableLaws.{Passes, plainly, opening, unless, Completes, CompletesAll, CompletesEach, Begins, Skips, completes-give, completes-bind, completes-begins, begins-bind, begins-or_else, each-give, each-bind, all-expect, all-skips, skips-if_next}
-use Rattle.token_reader.proofs.Fine.{IsFine, IsFineTurn, GoesOn, fine-give, fine-too_deep, fine-bind, fine-take_by, fine-if_next, fine-or_else, fine-many, fine-expect, fine_when, fine_opened, mapped, careful-turns, careful-deeper, careful-may, careful-may_deeper, careful-all, careful-all_deeper, skips-many, skips-deeper, on-give, on-expect, on-close, on-skips, on-if_next, closed, passes_opened, passes_both, turn_local, turn_deeper}
+use Rattle.token_reader.proofs.ViableLaws.{Passes, plainly, opening, unless, Completes, CompletesAt, CompletesAll, CompletesEach, Begins, Skips, completes-give, completes-bind, completes-begins, begins-bind, begins-or_else, each-give, each-bind, all-expect, all-skips, skips-if_next}
+use Rattle.token_reader.proofs.Fine.{IsFine, IsFineTurn, GoesOn, fine-give, fine-too_deep, fine-bind, fine-take_by, fine-if_next, fine-or_else, fine-many, fine-expect, fine_when, fine_opened, mapped, careful-turns, careful-deeper, careful-may, careful-may_deeper, careful-all, careful-all_deeper, skips-many, skips-deeper, on-give, on-expect, on-close, on-skips, on-if_next, closed, passes_opened, turn_local, turn_deeper}
 use Rattle.spec_parser.specs.declared.tree.Level.{Level}
 use Rattle.spec_parser.specs.declared.tree.Level.TheVariants as level
 use Rattle.spec_parser.specs.declared.tree.Operator.{Operator}
@@ -31,7 +31,7 @@ use Rattle.spec_parser.specs.Tree.{TypeName, Expr, Exprs, no_exprs, more_exprs, 
 use Rattle.spec_parser.specs.Words.{operator_at, comparison_at, opens_call, is_number, is_close, is_open_bracket, is_comma, is_if, is_then, is_else, may_open, is_minus, is_number_next, opens_level, typed_word_of, family_of}
 use Rattle.spec_parser.specs.Grammar.{chained}
 use Rattle.spec_parser.specs.Reading.{Reader, must, in_brackets, two_in_brackets, type_in, link, links_of, behind_operand, chain, others_of, behind_argument, arguments, typed, member_of, must_call, member_behind, at_member, a_member, behind_name, called, at_number, negated, in_parens, at_unary, unary, second_sum, compared, if_false, if_true, choice, all_levels, expression, within, prefixed}
-use Rattle.spec_parser.proofs.Ends.{ends, signs, start, sample, a_name, a_truth, comma_goes_on, if_goes_on, operator_goes_on, comparison_goes_on, close_is, comma_is, if_is, open_bracket_is, call_is}
+use Rattle.spec_parser.proofs.Ends.{ends, signs, start, sample, a_name, a_truth, comma_goes_on, if_goes_on, operator_goes_on, comparison_goes_on, close_is, comma_is, else_is, if_is, then_is, open_bracket_is, call_is}
 use Rattle.spec_parser.proofs.TypeLaws.{Opens, opens_as, any_token, type_brackets, type_brackets_pass, must_type, must_types, must_type_careful, must_types_careful, type_completes, no_room}
 
 abbrev a_close : Token
@@ -39,6 +39,9 @@ a_close = sample (kind.Symbol symbol.Close)
 
 abbrev closes : Token → Bool
 closes t = is_close t.kind
+
+close_plain : (t : Token) → is_close t.kind ≡ true → may_open t.kind ≡ false
+close_plain t h = ap may_open (close_is t.kind h)
 
 -- of a reader alone: the arguments of a call, and the three parts of a choice
 module _ (j : Reader Expr) (lj : IsLocal signs j) where
@@ -103,30 +106,30 @@ module _ (j : Reader Expr) (lj : IsLocal signs j) where
 -- of the readers of two rooms
 module _ (i j : Reader Expr) (ij : IsFine signs i j) (ci : Completes signs i) (cj : Completes signs j) (di : IsCareful signs i) (dj : IsCareful signs j) where
   comma_turn : (t : Token) → IsFineTurn signs t ((others_of i).turn t) ((others_of j).turn t)
-  comma_turn t = fine_when signs t i j ij (is_comma t.kind) (λ h. passes_both signs t i di ci)
+  comma_turn t = fine_when signs t i j ij (is_comma t.kind) (λ h. plainly (ap may_open (comma_is t.kind h)) di)
 
   arguments_fine : {A : Type 0} (f : Exprs → A) → IsFine signs (arguments i f) (arguments j f)
   arguments_fine f = fine-bind signs i j (behind_argument i f) (behind_argument j f) ij
       (on-skips signs (many (others_of i)) (many (others_of j)) (fine-many signs no_exprs more_exprs (others_of i).turn (others_of j).turn comma_turn (declines_others i ij.local) (declines_others j ij.deeper)) (careful_others i ij.local) (careful_others j ij.deeper)
-      (λ e es. must is_close (give (f (more_exprs e es)))) (λ e es. must is_close (give (f (more_exprs e es)))) (on-close signs closes a_close refl refl (λ (x : Expr × Exprs). f (more_exprs x.0 x.1))) no_exprs (skips_others i ij.local) (skips_others j ij.deeper))
+      (λ e es. must is_close (give (f (more_exprs e es)))) (λ e es. must is_close (give (f (more_exprs e es)))) (on-close signs closes a_close refl refl close_plain (λ (x : Expr × Exprs). f (more_exprs x.0 x.1))) no_exprs (skips_others i ij.local) (skips_others j ij.deeper))
 
   module _ (place : Place) where
     ends_careful : (c a : Expr) → IsCareful signs (i >>= λ b. give (tree.If place c a b))
     ends_careful c a = careful-bind signs i (λ b. give (tree.If place c a b)) ij.local di (λ b. careful-give signs (tree.If place c a b))
 
     on_false : (c : Expr) → GoesOn signs (if_false i place c) (if_false j place c)
-    on_false c = on-expect signs (λ t. is_else t.kind) (sample (kind.Word word.Else)) refl refl (λ a. i >>= λ b. give (tree.If place c a b)) (λ a. j >>= λ b. give (tree.If place c a b)) (λ a. mapped signs i j (tree.If place c a) ij) (λ a t h. passes_both signs t (i >>= λ b. give (tree.If place c a b)) (ends_careful c a) (completes-bind signs i (λ b. give (tree.If place c a b)) (completes-give signs (tree.If place c a)) ci)) (false_each i ij.local place c ci) (false_each j ij.deeper place c cj)
+    on_false c = on-expect signs (λ t. is_else t.kind) (sample (kind.Word word.Else)) refl refl (λ a. i >>= λ b. give (tree.If place c a b)) (λ a. j >>= λ b. give (tree.If place c a b)) (λ a. mapped signs i j (tree.If place c a) ij) (λ a t h. plainly (ap may_open (else_is t.kind h)) (ends_careful c a)) (false_each i ij.local place c ci) (false_each j ij.deeper place c cj)
 
     on_true : GoesOn signs (if_true i place) (if_true j place)
-    on_true = on-expect signs (λ t. is_then t.kind) (sample (kind.Word word.Then)) refl refl (λ c. i >>= if_false i place c) (λ c. j >>= if_false j place c) (λ c. fine-bind signs i j (if_false i place c) (if_false j place c) ij (on_false c)) (λ c t h. passes_both signs t (i >>= if_false i place c) (careful-bind signs i (if_false i place c) ij.local di (on_false c).careful) (completes-bind signs i (if_false i place c) (on_false c).completes ci)) (true_each i ij.local place ci) (true_each j ij.deeper place cj)
+    on_true = on-expect signs (λ t. is_then t.kind) (sample (kind.Word word.Then)) refl refl (λ c. i >>= if_false i place c) (λ c. j >>= if_false j place c) (λ c. fine-bind signs i j (if_false i place c) (if_false j place c) ij (on_false c)) (λ c t h. plainly (ap may_open (then_is t.kind h)) (careful-bind signs i (if_false i place c) ij.local di (on_false c).careful)) (true_each i ij.local place ci) (true_each j ij.deeper place cj)
 
     choice_fine : IsFine signs (choice i place) (choice j place)
     choice_fine = fine-bind signs i j (if_true i place) (if_true j place) ij on_true
 
     parens_fine : IsEager signs i → IsEager signs j → IsFine signs (in_parens i place) (in_parens j place)
     parens_fine ei ej = fine-or_else signs (λ t. when (is_close t.kind) (give (tree.Unit place))) (λ t. when (is_close t.kind) (give (tree.Unit place)))
-        (λ t. fine_when signs t (give (tree.Unit place)) (give (tree.Unit place)) (fine-give signs (tree.Unit place)) (is_close t.kind) (λ h. passes_both signs t (give (tree.Unit place)) (careful-give signs (tree.Unit place)) (λ r k. ([], tree.Unit place, refl))))
-        (i >>= λ e. must is_close (give e)) (j >>= λ e. must is_close (give e)) (closed signs closes a_close refl refl i j (λ e. e) ij)
+        (λ t. fine_when signs t (give (tree.Unit place)) (give (tree.Unit place)) (fine-give signs (tree.Unit place)) (is_close t.kind) (λ h. plainly (close_plain t h) (careful-give signs (tree.Unit place))))
+        (i >>= λ e. must is_close (give e)) (j >>= λ e. must is_close (give e)) (closed signs closes a_close refl refl close_plain i j (λ e. e) ij)
         (parens_complete i ij.local place) (parens_complete j ij.deeper place) (parens_stays i ij.local place ei di) (parens_stays j ij.deeper place ej dj)
 
 -- what is known of a reader inside an opened level
@@ -136,6 +139,7 @@ pub record Known (room : ℕ) (i j : Reader Expr) : Type 0 where
   pub deeper : Completes signs j
   pub careful : (r : ℕ) → room ≡ suc r → IsCareful signs i
   pub deeper_careful : IsCareful signs j
+  pub begins : (r : ℕ) → room ≡ suc r → Begins signs a_truth i
   pub eager : (r : ℕ) → room ≡ suc r → IsEager signs i
   pub deeper_eager : IsEager signs j
 
@@ -310,9 +314,13 @@ module _ (room : ℕ) (p q : Reader Expr) (operand : Known room p q) where
     not_false true h = refl
     not_false false h = cc
 
+    -- a word may stand behind a minus that opens a level
+    negated_begun : (r : ℕ) → Begins signs a_truth p → CompletesAt signs t (negated (suc r) p t.place)
+    negated_begun r b k h = let x = b k h in (a_truth ∷ [], tree.Negate t.place x.0, ap (λ q. and_then q (λ e. give (tree.Negate t.place e))) x.1, inr refl)
+
     pass_at : (n : ℕ) → room ≡ n → Passes signs t (negated n p t.place)
     pass_at zero e = unless (ap may_open is) (negated_complete 0 p t.place) (λ ts h. not_at_number ts (not_not (is_number_next ts) (sym (bars_is ts) ∙ h))) (λ ts h. at_number_careful ts (not_false (is_number_next ts) (sym (bars_is ts) ∙ h)))
-    pass_at (suc r) e = opening (ap may_open is) (subst (λ n. IsCareful signs (negated n p t.place)) e (negated_careful r e (opened_careful room r e (careful-bind signs p (λ e. give (tree.Negate t.place e)) operand.fine.local (operand.careful r e) (λ e. careful-give signs (tree.Negate t.place e)))))) (negated_complete (suc r) p t.place)
+    pass_at (suc r) e = opening (ap may_open is) (subst (λ n. IsCareful signs (negated n p t.place)) e (negated_careful r e (opened_careful room r e (careful-bind signs p (λ e. give (tree.Negate t.place e)) operand.fine.local (operand.careful r e) (λ e. careful-give signs (tree.Negate t.place e)))))) (negated_begun r (operand.begins r e))
 
     negated_pass : Passes signs t (negated room p t.place)
     negated_pass = pass_at room refl

@@ -1,5 +1,5 @@
 -- The laws of the readers of definitions and items.
-use Rattle.std.proofs.Common.{◌≡◌, ℕ, zero, suc, Bool, true, false, List, [], ◌∷◌, ◌++◌, Option, Some, None, refl, sym, ap, ◌∙◌}
+use Rattle.std.proofs.Common.{◌≡◌, ℕ, zero, suc, Bool, true, false, List, [], ◌∷◌, ◌++◌, Option, Some, None, refl, sym, ap, ◌∙◌, inl}
 use Rattle.std.specs.Prelude.{codes}
 use Rattle.tsl_value.specs.declared.place.Place.{Place}
 use Rattle.spec_lexer.specs.declared.token.Token.{Token}
@@ -12,13 +12,13 @@ use Rattle.token_reader.proofs.LocalLaws.{IsEnd, IsCareful, IsLocal, IsLocalTurn
 use Rattle.token_reader.proofs.ManyLaws.{many_end, careful-many, local-many}
 use Rattle.token_reader.proofs.CarefulLaws.{careful-give, careful-test, careful-take_by, careful-bind, careful-or_else, careful-alone, local-closed, local-mapped}
 use Rattle.token_reader.proofs.ViableLaws.{Passes, plainly, opening, at_once, Completes, CompletesAll, CompletesEach, Begins, Skips, completes-give, completes-bind, completes-begins, begins-bind, begins-or_else, each-give, each-one, each-bind, all-expect, all-skips, skips-if_next}
-use Rattle.token_reader.proofs.Fine.{IsFine, IsFineTurn, GoesOn, fine-give, fine-too_deep, fine-bind, fine-take_by, fine-if_next, fine-or_else, fine-many, fine-expect, fine_when, fine-alone, fine_opened, mapped, careful-turns, careful-deeper, careful-may, careful-may_deeper, careful-all, careful-all_deeper, skips-many, skips-deeper, on-give, on-expect, on-close, on-skips, on-begins, closed, passes_opened, passes_both, turn_local}
+use Rattle.token_reader.proofs.Fine.{IsFine, IsFineTurn, GoesOn, fine-give, fine-too_deep, fine-bind, fine-take_by, fine-if_next, fine-or_else, fine-many, fine-expect, fine_when, fine-alone, fine_opened, mapped, careful-turns, careful-deeper, careful-may, careful-may_deeper, careful-all, careful-all_deeper, skips-many, skips-deeper, on-give, on-expect, on-close, on-skips, on-begins, closed, passes_opened, turn_local}
 use Rattle.token_reader.proofs.Fewer.{fine_fewer, fine_behind}
 use Rattle.spec_parser.specs.Tree as tree
 use Rattle.spec_parser.specs.Tree.{TypeName, Expr, Param, Body, Definition, Definitions, no_definitions, more_definitions, Item}
 use Rattle.spec_parser.specs.Words.{is_open, is_close, is_comma, is_colon, defines, is_as, is_def, is_open_brace, is_close_brace, is_number, may_open, opens_level}
 use Rattle.spec_parser.specs.Reading.{Reader, must, at_name, named, type_in, within, param_by, a_param, other_params_of, behind_param, params, may_have_params, may_have_type, defined_as, behind_params, inner_definition, definitions_of, behind_definitions, a_body, block, input_behind, whole_definition, definition_behind, plain_output, printed_as, behind_output, output_behind, at_item, items_at}
-use Rattle.spec_parser.proofs.Ends.{ends, signs, signs_by, start, sample, a_name, a_truth, comma_goes_on, open_goes_on, colon_goes_on, open_brace_goes_on, def_goes_on, open_is, colon_is, open_brace_is, def_is}
+use Rattle.spec_parser.proofs.Ends.{ends, ends_quiet, signs, signs_by, as_is, close_is, close_brace_is, comma_is, start, sample, a_name, a_truth, comma_goes_on, open_goes_on, colon_goes_on, open_brace_goes_on, def_goes_on, open_is, colon_is, open_brace_is, def_is}
 use Rattle.spec_parser.proofs.TypeLaws.{Opens, opens_as, any_token, no_room, type_fine, type_completes, type_careful}
 use Rattle.spec_parser.proofs.LevelLaws.{Operand, within_operand}
 
@@ -27,6 +27,11 @@ open_opens t h = opens_as t (kind.Symbol symbol.Open) (open_is t.kind h) refl re
 
 brace_opens : (t : Token) → is_open_brace t.kind ≡ true → Opens t
 brace_opens t h = opens_as t (kind.Symbol symbol.OpenBrace) (open_brace_is t.kind h) refl refl
+
+defines_plain : (k : Kind) → defines k ≡ true → may_open k ≡ false
+defines_plain (kind.Symbol symbol.Define) h = refl
+defines_plain (kind.Symbol symbol.Equals) h = refl
+defines_plain _ h = cc
 
 -- a name that has to come
 module _ {A : Type 0} (s : Signs Token) (f g : Place → List ℕ → Reader A) (fine : (place : Place) (n : List ℕ) → IsFine s (f place n) (g place n)) where
@@ -54,8 +59,8 @@ module _ {A : Type 0} (f : Place → List ℕ → Reader A) where
   named_complete : (s : Signs Token) → Completes s (f start (codes "Int")) → Completes s (named f)
   named_complete s c r h = let d = c r h in (a_name ∷ d.0, d.1, d.2)
 
-named_fine : {A : Type 0} (test : Kind → Bool) (f g : Place → List ℕ → Reader A) → ((place : Place) (n : List ℕ) → IsFine (signs_by test) (f place n) (g place n)) → ((place : Place) (n : List ℕ) → IsCareful (signs_by test) (f place n)) → Completes (signs_by test) (g start (codes "Int")) → IsFine (signs_by test) (named f) (named g)
-named_fine test f g fine careful c = fine-take_by (signs_by test) (λ t. at_name (f t.place) t.kind) (λ t. at_name (g t.place) t.kind) (λ t. name_turn (signs_by test) f g fine careful (λ t n e. ap may_open e) t t.kind refl) (named_complete g (signs_by test) c)
+named_fine : {A : Type 0} (test : Kind → Bool) (quiet : (k : Kind) → test k ≡ true → is_number k ≡ false) (f g : Place → List ℕ → Reader A) → ((place : Place) (n : List ℕ) → IsFine (signs_by test quiet) (f place n) (g place n)) → ((place : Place) (n : List ℕ) → IsCareful (signs_by test quiet) (f place n)) → Completes (signs_by test quiet) (g start (codes "Int")) → IsFine (signs_by test quiet) (named f) (named g)
+named_fine test quiet f g fine careful c = fine-take_by (signs_by test quiet) (λ t. at_name (f t.place) t.kind) (λ t. at_name (g t.place) t.kind) (λ t. name_turn (signs_by test quiet) f g fine careful (λ t n e. ap may_open e) t t.kind refl) (named_complete g (signs_by test quiet) c)
 
 abbrev a_colon : Token
 a_colon = sample (kind.Symbol symbol.Colon)
@@ -75,7 +80,7 @@ module _ {A : Type 0} (h : TypeName → A) where
   typed_complete j cj r e = let c = completes-bind signs j (λ y. give (h y)) (completes-give signs h) cj r e in (a_colon ∷ c.0, c.1, c.2)
 
   typed_fine : (i j : Reader TypeName) → IsFine signs i j → Completes signs i → Completes signs j → IsCareful signs i → IsFine signs (must is_colon (i >>= λ y. give (h y))) (must is_colon (j >>= λ y. give (h y)))
-  typed_fine i j ij ci cj di = fine-expect signs (λ t. is_colon t.kind) a_colon refl (i >>= λ y. give (h y)) (j >>= λ y. give (h y)) (mapped signs i j h ij) (λ t e. passes_both signs t (i >>= λ y. give (h y)) (careful-bind signs i (λ y. give (h y)) ij.local di (λ y. careful-give signs (h y))) (completes-bind signs i (λ y. give (h y)) (completes-give signs h) ci)) (completes-bind signs j (λ y. give (h y)) (completes-give signs h) cj)
+  typed_fine i j ij ci cj di = fine-expect signs (λ t. is_colon t.kind) a_colon refl (i >>= λ y. give (h y)) (j >>= λ y. give (h y)) (mapped signs i j h ij) (λ t e. plainly (ap may_open (colon_is t.kind e)) (careful-bind signs i (λ y. give (h y)) ij.local di (λ y. careful-give signs (h y)))) (completes-bind signs j (λ y. give (h y)) (completes-give signs h) cj)
 
 -- parameters
 module _ (j : Reader TypeName) (lj : IsLocal signs j) where
@@ -116,15 +121,15 @@ module _ (j : Reader TypeName) (lj : IsLocal signs j) where
 
 module _ (i j : Reader TypeName) (ij : IsFine signs i j) (ci : Completes signs i) (cj : Completes signs j) (di : IsCareful signs i) where
   param_fine : IsFine signs (a_param i) (a_param j)
-  param_fine = named_fine ends (λ place n. must is_colon (i >>= λ y. give (param_by place n y))) (λ place n. must is_colon (j >>= λ y. give (param_by place n y))) (λ place n. typed_fine (param_by place n) i j ij ci cj di) (λ place n. typed_careful (param_by place n) i ij.local) (typed_complete (param_by start (codes "Int")) j cj)
+  param_fine = named_fine ends ends_quiet (λ place n. must is_colon (i >>= λ y. give (param_by place n y))) (λ place n. must is_colon (j >>= λ y. give (param_by place n y))) (λ place n. typed_fine (param_by place n) i j ij ci cj di) (λ place n. typed_careful (param_by place n) i ij.local) (typed_complete (param_by start (codes "Int")) j cj)
 
   params_turn : (t : Token) → IsFineTurn signs t ((other_params_of i).turn t) ((other_params_of j).turn t)
-  params_turn t = fine_when signs t (a_param i) (a_param j) param_fine (is_comma t.kind) (λ h. passes_both signs t (a_param i) (param_careful i ij.local) (param_complete i ij.local ci))
+  params_turn t = fine_when signs t (a_param i) (a_param j) param_fine (is_comma t.kind) (λ h. plainly (ap may_open (comma_is t.kind h)) (param_careful i ij.local))
 
   params_fine : IsFine signs (params i) (params j)
   params_fine = fine-bind signs (a_param i) (a_param j) (behind_param i) (behind_param j) param_fine
       (on-skips signs (many (other_params_of i)) (many (other_params_of j)) (fine-many signs [] (λ p ps. p ∷ ps) (other_params_of i).turn (other_params_of j).turn params_turn (declines_params i ij.local) (declines_params j ij.deeper)) (careful_params i ij.local) (careful_params j ij.deeper)
-      (λ p ps. must is_close (give (p ∷ ps))) (λ p ps. must is_close (give (p ∷ ps))) (on-close signs (λ t. is_close t.kind) a_close refl refl (λ (x : Param × List Param). x.0 ∷ x.1)) [] (skips_params i ij.local) (skips_params j ij.deeper))
+      (λ p ps. must is_close (give (p ∷ ps))) (λ p ps. must is_close (give (p ∷ ps))) (on-close signs (λ t. is_close t.kind) a_close refl refl (λ t h. ap may_open (close_is t.kind h)) (λ (x : Param × List Param). x.0 ∷ x.1)) [] (skips_params i ij.local) (skips_params j ij.deeper))
 
 complete_at : (room r : ℕ) → room ≡ suc r → Completes signs (type_in room)
 complete_at zero r e = absurd (no_room r e)
@@ -170,7 +175,7 @@ module _ (room : ℕ) where
   some_type y = Some y
 
   colon_type_turn : (t : Token) → IsFineTurn signs t (colon_turn types t) (colon_turn types_deep t)
-  colon_type_turn t = fine_when signs t (types >>= λ y. give (some_type y)) (types_deep >>= λ y. give (some_type y)) (mapped signs types types_deep some_type (type_fine (suc room))) (is_colon t.kind) (λ h. passes_both signs t (types >>= λ y. give (some_type y)) (careful-bind signs types (λ y. give (some_type y)) (type_fine (suc room)).local (type_careful room) (λ y. careful-give signs (some_type y))) (completes-bind signs types (λ y. give (some_type y)) (completes-give signs some_type) (type_completes room)))
+  colon_type_turn t = fine_when signs t (types >>= λ y. give (some_type y)) (types_deep >>= λ y. give (some_type y)) (mapped signs types types_deep some_type (type_fine (suc room))) (is_colon t.kind) (λ h. plainly (ap may_open (colon_is t.kind h)) (careful-bind signs types (λ y. give (some_type y)) (type_fine (suc room)).local (type_careful room) (λ y. careful-give signs (some_type y))))
 
   type_decline : (y : Reader TypeName) → Declines signs (colon_turn y)
   type_decline y t h = λ k. when (colon_goes_on t.kind h k) (y >>= λ y. give (some_type y))
@@ -189,7 +194,7 @@ module _ (room : ℕ) where
     defined_each z cz = each-bind signs z (λ (v : List Param × Option TypeName) b. give (with_body v.0 v.1 b)) (completes-give signs (λ (u : (List Param × Option TypeName) × Body). with_body u.0.0 u.0.1 u.1)) cz
 
     on_defined : GoesOn signs (λ (v : List Param × Option TypeName). defined_as x (with_body v.0 v.1)) (λ (v : List Param × Option TypeName). defined_as y (with_body v.0 v.1))
-    on_defined = on-expect signs (λ t. defines t.kind) (sample (kind.Symbol symbol.Define)) refl refl (λ (v : List Param × Option TypeName). x >>= λ b. give (with_body v.0 v.1 b)) (λ (v : List Param × Option TypeName). y >>= λ b. give (with_body v.0 v.1 b)) (λ v. mapped signs x y (with_body v.0 v.1) xy) (λ v t h. passes_both signs t (x >>= λ b. give (with_body v.0 v.1 b)) (careful-bind signs x (λ b. give (with_body v.0 v.1 b)) xy.local dx (λ b. careful-give signs (with_body v.0 v.1 b))) (completes-bind signs x (λ b. give (with_body v.0 v.1 b)) (completes-give signs (with_body v.0 v.1)) cx)) (defined_each x cx) (defined_each y cy)
+    on_defined = on-expect signs (λ t. defines t.kind) (sample (kind.Symbol symbol.Define)) refl refl (λ (v : List Param × Option TypeName). x >>= λ b. give (with_body v.0 v.1 b)) (λ (v : List Param × Option TypeName). y >>= λ b. give (with_body v.0 v.1 b)) (λ v. mapped signs x y (with_body v.0 v.1) xy) (λ v t h. plainly (defines_plain t.kind h) (careful-bind signs x (λ b. give (with_body v.0 v.1 b)) xy.local dx (λ b. careful-give signs (with_body v.0 v.1 b)))) (defined_each x cx) (defined_each y cy)
 
     pub on_params : GoesOn signs (behind_params types x place n) (behind_params types_deep y place n)
     on_params = on-skips signs (may_have_type types) (may_have_type types_deep) may_type_fine
@@ -221,7 +226,7 @@ module _ (room : ℕ) (x y : Reader Body) (known : KnownBlock room x y) where
     where
       by : (n : ℕ) → room ≡ n → Passes signs t x
       by zero e = at_once (brace_opens t h).0 (brace_opens t h).1 (known.at_zero e)
-      by (suc r) e = opening (brace_opens t h).0 (known.careful r e) (known.completes r e)
+      by (suc r) e = opening (brace_opens t h).0 (known.careful r e) (λ k f. let c = known.completes r e k f in (c.0, c.1, c.2, inl ((brace_opens t h).1 (c.0 ++ k))))
 
   brace_body_turn : (t : Token) → IsFineTurn signs t (brace_turn x t) (brace_turn y t)
   brace_body_turn t = fine_when signs t x y known.fine (is_open_brace t.kind) (block_pass t)
@@ -276,7 +281,7 @@ module _ (room : ℕ) (x y : Reader Body) (known : KnownBlock room x y) where
   def_deeper place n r h = let c = (on_def place n).deeper r h in let d = c.2 [] in (c.0, d.0, d.1)
 
   definition_fine : IsFine signs (inner_definition (type_in (suc room)) (a_body x inner)) (inner_definition (type_in (suc (suc room))) (a_body y inner_deep))
-  definition_fine = named_fine ends def_at def_at_deep (λ place n. (on_def place n).each []) (λ place n. (on_def place n).careful []) (def_deeper start (codes "Int"))
+  definition_fine = named_fine ends ends_quiet def_at def_at_deep (λ place n. (on_def place n).each []) (λ place n. (on_def place n).careful []) (def_deeper start (codes "Int"))
 
   definition_careful : IsCareful signs (inner_definition (type_in (suc room)) (a_body x inner))
   definition_careful = named_careful def_at signs (λ place n. ((on_def place n).each []).local)
@@ -291,7 +296,7 @@ module _ (room : ℕ) (x y : Reader Body) (known : KnownBlock room x y) where
   def_turn_deep = (definitions_of (type_in (suc (suc room))) (a_body y inner_deep)).turn
 
   pub defs_turn : (t : Token) → IsFineTurn signs t (def_turn t) (def_turn_deep t)
-  defs_turn t = fine_when signs t (inner_definition (type_in (suc room)) (a_body x inner)) (inner_definition (type_in (suc (suc room))) (a_body y inner_deep)) definition_fine (is_def t.kind) (λ h. passes_both signs t (inner_definition (type_in (suc room)) (a_body x inner)) definition_careful definition_complete)
+  defs_turn t = fine_when signs t (inner_definition (type_in (suc room)) (a_body x inner)) (inner_definition (type_in (suc (suc room))) (a_body y inner_deep)) definition_fine (is_def t.kind) (λ h. plainly (ap may_open (def_is t.kind h)) definition_careful)
 
   pub defs_decline : Declines signs def_turn
   defs_decline t h = λ k. when (def_goes_on t.kind h k) (inner_definition (type_in (suc room)) (a_body x inner))
@@ -300,7 +305,7 @@ module _ (room : ℕ) (x y : Reader Body) (known : KnownBlock room x y) where
   defs_decline_deep t h = λ k. when (def_goes_on t.kind h k) (inner_definition (type_in (suc (suc room))) (a_body y inner_deep))
 
   on_definitions : GoesOn signs (behind_definitions inner) (behind_definitions inner_deep)
-  on_definitions = on-begins signs inner inner_deep o.fine o.careful o.deeper_careful (λ ds e. must is_close_brace (give (tree.Block ds e))) (λ ds e. must is_close_brace (give (tree.Block ds e))) (on-close signs (λ t. is_close_brace t.kind) (sample (kind.Symbol symbol.CloseBrace)) refl refl (λ (v : Definitions × Expr). tree.Block v.0 v.1)) a_truth refl o.begins o.deeper
+  on_definitions = on-begins signs inner inner_deep o.fine o.careful o.deeper_careful (λ ds e. must is_close_brace (give (tree.Block ds e))) (λ ds e. must is_close_brace (give (tree.Block ds e))) (on-close signs (λ t. is_close_brace t.kind) (sample (kind.Symbol symbol.CloseBrace)) refl refl (λ t h. ap may_open (close_brace_is t.kind h)) (λ (v : Definitions × Expr). tree.Block v.0 v.1)) a_truth refl o.begins o.deeper
 
   abbrev defs : Reader Definitions
   defs = many (definitions_of (type_in (suc room)) (a_body x inner))
@@ -356,14 +361,17 @@ block_known (suc room) = record {
 abbrev pub none_end : Kind → Bool
 none_end k = false
 
+pub none_quiet : (k : Kind) → none_end k ≡ true → is_number k ≡ false
+none_quiet k h = cc
+
 abbrev pub item_signs : Signs Token
-item_signs = signs_by none_end
+item_signs = signs_by none_end none_quiet
 
 no_end : (t : Token) → false ≡ true → ends t.kind ≡ true
 no_end t h = cc
 
 pub fine_item : {A : Type 0} (p q : Reader A) → IsFine signs p q → IsFine item_signs p q
-fine_item p q h = fine_fewer (λ t. false) (λ t. ends t.kind) (λ t. may_open t.kind) (λ t. is_number t.kind) opens_level no_end p q h
+fine_item p q h = fine_fewer (λ t. false) (λ t. ends t.kind) (λ t. may_open t.kind) (λ t. is_number t.kind) opens_level no_end (λ t. none_quiet t.kind) (λ t. ends_quiet t.kind) p q h
 
 module _ (room : ℕ) where
   abbrev body : Reader Body
@@ -373,7 +381,7 @@ module _ (room : ℕ) where
   body_at_deep = a_body (block (suc room)) (within (suc (suc room)))
 
   input_item : IsFine signs (input_behind room) (input_behind (suc room))
-  input_item = named_fine ends (λ place n. must is_colon (type_in (suc room) >>= λ y. give (tree.Input place n y))) (λ place n. must is_colon (type_in (suc (suc room)) >>= λ y. give (tree.Input place n y))) (λ place n. typed_fine (tree.Input place n) (type_in (suc room)) (type_in (suc (suc room))) (type_fine (suc room)) (type_completes room) (type_completes (suc room)) (type_careful room)) (λ place n. typed_careful (tree.Input place n) (type_in (suc room)) (type_fine (suc room)).local) (typed_complete (tree.Input start (codes "Int")) (type_in (suc (suc room))) (type_completes (suc room)))
+  input_item = named_fine ends ends_quiet (λ place n. must is_colon (type_in (suc room) >>= λ y. give (tree.Input place n y))) (λ place n. must is_colon (type_in (suc (suc room)) >>= λ y. give (tree.Input place n y))) (λ place n. typed_fine (tree.Input place n) (type_in (suc room)) (type_in (suc (suc room))) (type_fine (suc room)) (type_completes room) (type_completes (suc room)) (type_careful room)) (λ place n. typed_careful (tree.Input place n) (type_in (suc room)) (type_fine (suc room)).local) (typed_complete (tree.Input start (codes "Int")) (type_in (suc (suc room))) (type_completes (suc room)))
 
   input_careful : IsCareful signs (input_behind room)
   input_careful = named_careful (λ place n. must is_colon (type_in (suc room) >>= λ y. give (tree.Input place n y))) signs (λ place n. typed_local (tree.Input place n) (type_in (suc room)) (type_fine (suc room)).local)
@@ -397,7 +405,7 @@ module _ (room : ℕ) where
   whole_deeper place n = completes-bind signs (may_have_params (suc room) (type_in (suc room))) (behind_params (type_in (suc (suc room))) body_at_deep place n) (on_whole place n).deeper (λ r h. ([], [], skips-if_next signs (open_turn_deep room) (params_decline_deep room) [] r h))
 
   whole_item : IsFine signs (whole_definition room) (whole_definition (suc room))
-  whole_item = named_fine ends whole whole_deep whole_fine whole_careful (whole_deeper start (codes "Int"))
+  whole_item = named_fine ends ends_quiet whole whole_deep whole_fine whole_careful (whole_deeper start (codes "Int"))
 
   definition_item : IsFine signs (definition_behind room) (definition_behind (suc room))
   definition_item = mapped signs (whole_definition room) (whole_definition (suc room)) tree.Defined whole_item
@@ -420,10 +428,10 @@ module _ (room : ℕ) where
     printed_complete e = named_complete (λ p n. give (tree.OutputAs place e p n)) item_signs (λ r h. ([], tree.OutputAs place e start (codes "Int"), refl))
 
     printed_fine : (e : Expr) → IsFine item_signs (printed_as place e) (printed_as place e)
-    printed_fine e = named_fine none_end (λ p n. give (tree.OutputAs place e p n)) (λ p n. give (tree.OutputAs place e p n)) (λ p n. fine-give item_signs (tree.OutputAs place e p n)) (λ p n. careful-give item_signs (tree.OutputAs place e p n)) (λ r h. ([], tree.OutputAs place e start (codes "Int"), refl))
+    printed_fine e = named_fine none_end none_quiet (λ p n. give (tree.OutputAs place e p n)) (λ p n. give (tree.OutputAs place e p n)) (λ p n. fine-give item_signs (tree.OutputAs place e p n)) (λ p n. careful-give item_signs (tree.OutputAs place e p n)) (λ r h. ([], tree.OutputAs place e start (codes "Int"), refl))
 
     as_item_turn : (e : Expr) (t : Token) → IsFineTurn item_signs t (as_turn e t) (as_turn e t)
-    as_item_turn e t = fine_when item_signs t (printed_as place e) (printed_as place e) (printed_fine e) (is_as t.kind) (λ h. passes_both item_signs t (printed_as place e) (printed_careful e) (printed_complete e))
+    as_item_turn e t = fine_when item_signs t (printed_as place e) (printed_as place e) (printed_fine e) (is_as t.kind) (λ h. plainly (ap may_open (as_is t.kind h)) (printed_careful e))
 
     as_declines : (e : Expr) → Declines item_signs (as_turn e)
     as_declines e t h = cc
@@ -447,7 +455,7 @@ module _ (room : ℕ) where
     expr_alone = alone (within (suc room))
 
     output_item : IsFine item_signs (output_behind room place) (output_behind (suc room) place)
-    output_item = fine_behind (λ t. false) (λ t. ends t.kind) (λ t. may_open t.kind) (λ t. is_number t.kind) opens_level no_end (alone (within (suc room))) (alone (within (suc (suc room)))) (behind_output place) (behind_output place)
+    output_item = fine_behind (λ t. false) (λ t. ends t.kind) (λ t. may_open t.kind) (λ t. is_number t.kind) opens_level no_end (λ t. none_quiet t.kind) (λ t. ends_quiet t.kind) (alone (within (suc room))) (alone (within (suc (suc room)))) (behind_output place) (behind_output place)
         (λ r h. (an_as ∷ a_name ∷ [], refl, λ x. (tree.OutputAs place x.0 start (codes "Int"), given_reads x.0 (plain_output place x) r)))
         (λ r h. (an_as ∷ a_name ∷ [], refl, λ x. (tree.OutputAs place x.0 start (codes "Int"), given_reads x.0 (plain_output place x) r)))
         (fine-alone signs (within (suc room)) (within (suc (suc room))) (within_operand room).fine)

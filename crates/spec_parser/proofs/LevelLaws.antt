@@ -11,7 +11,7 @@ use Rattle.token_reader.proofs.LocalLaws.{IsEnd, IsCareful, IsLocal, IsLocalTurn
 use Rattle.token_reader.proofs.ManyLaws.{many_end, careful-many, local-many}
 use Rattle.token_reader.proofs.CarefulLaws.{careful-give, careful-take_by, careful-bind, careful-or_else, local-mapped}
 use Rattle.token_reader.proofs.ViableLaws.{Completes, Begins, completes-give, completes-bind, completes-begins, begins-bind, begins-or_else, skips-if_next}
-use Rattle.token_reader.proofs.Fine.{IsFine, IsFineTurn, GoesOn, fine-too_deep, fine-bind, fine-or_else, fine-many, fine_when, mapped, careful-all, careful-all_deeper, skips-many, skips-deeper, on-give, on-skips, on-if_next, passes_both, turn_local, turn_deeper}
+use Rattle.token_reader.proofs.Fine.{IsFine, IsFineTurn, GoesOn, fine-too_deep, fine-bind, fine-or_else, fine-many, fine_when, mapped, careful-all, careful-all_deeper, skips-many, skips-deeper, on-give, on-skips, on-if_next, passes_begun, turn_local, turn_deeper}
 use Rattle.spec_parser.specs.declared.tree.Level.{Level}
 use Rattle.spec_parser.specs.declared.tree.Level.TheVariants as level
 use Rattle.spec_parser.specs.declared.tree.Operator.{Operator}
@@ -52,7 +52,7 @@ module _ (l : Level) (p q : Reader Expr) (o : Operand p q) where
   link_turn t None = tt
   link_turn t (Some x) = (
     mapped signs p q (λ e. (x, e)) o.fine,
-    passes_both signs t (link p x) (careful-bind signs p (λ e. give (x, e)) o.fine.local o.careful (λ e. careful-give signs {A = Operator × Expr} (x, e))) (completes-bind signs p (λ e. give (x, e)) (completes-give signs (λ e. (x, e))) (completes-begins signs a_truth p o.begins)),
+    passes_begun signs t a_truth (link p x) refl (careful-bind signs p (λ e. give (x, e)) o.fine.local o.careful (λ e. careful-give signs {A = Operator × Expr} (x, e))) (λ r h. let b = o.begins r h in ([], (x, b.0), ap (λ q. and_then q (λ e. give (x, e))) b.1)),
   )
 
   links_turn : (t : Token) → IsFineTurn signs t ((links_of l p).turn t) ((links_of l q).turn t)
@@ -96,7 +96,7 @@ module _ (p q : Reader Expr) (o : Operand p q) where
   comparison_turn t a None = tt
   comparison_turn t a (Some x) = (
     mapped signs p q (λ b. tree.Compare (place_of a) x a b) o.fine,
-    passes_both signs t (second_sum p a x) (careful-bind signs p (λ b. give (tree.Compare (place_of a) x a b)) o.fine.local o.careful (λ b. careful-give signs (tree.Compare (place_of a) x a b))) (completes-bind signs p (λ b. give (tree.Compare (place_of a) x a b)) (completes-give signs (λ b. tree.Compare (place_of a) x a b)) (completes-begins signs a_truth p o.begins)),
+    passes_begun signs t a_truth (second_sum p a x) refl (careful-bind signs p (λ b. give (tree.Compare (place_of a) x a b)) o.fine.local o.careful (λ b. careful-give signs (tree.Compare (place_of a) x a b))) (λ r h. let b = o.begins r h in ([], tree.Compare (place_of a) x a b.0, ap (λ q. and_then q (λ b. give (tree.Compare (place_of a) x a b))) b.1)),
   )
 
   abbrev compare_by : Reader Expr → Expr → Token → Option (Reader Expr)
@@ -189,6 +189,7 @@ known_of room p q o = record {
   deeper = completes-begins signs a_truth q o.deeper;
   careful = λ r e. o.careful;
   deeper_careful = o.deeper_careful;
+  begins = λ r e. o.begins;
   eager = λ r e. o.eager;
   deeper_eager = o.deeper_eager;
 }
@@ -201,6 +202,7 @@ none_left q lq cq dq eq = record {
   deeper = cq;
   careful = λ r e. absurd (no_room r e);
   deeper_careful = dq;
+  begins = λ r e. absurd (no_room r e);
   eager = λ r e. absurd (no_room r e);
   deeper_eager = eq;
 }

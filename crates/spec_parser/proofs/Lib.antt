@@ -15,3 +15,4 @@ pub mod LoopLaws
 pub mod ItemLoops
 pub mod ParseLaws
 pub mod AnswerLaws
+pub mod OneRefusal

@@ -1,18 +1,19 @@
 -- Where reading stops, the tokens are refused, and nowhere else.
-use Rattle.std.proofs.Common.{◌≡◌, ℕ, suc, ◌≤◌, true, List, [], ◌∷◌, ◌++◌, length, Some, refl, sym, ap, subst, ◌∙◌, inl, inr, arith, append_assoc}
+use Rattle.std.proofs.Common.{◌≡◌, ℕ, suc, ◌≤◌, Bool, true, false, not, ◌&&◌, List, [], ◌∷◌, ◌++◌, length, Some, refl, sym, ap, subst, ◌∙◌, inl, inr, arith, append_assoc}
+use Rattle.std.specs.Prelude.{◌⊎◌}
 use Rattle.std.proofs.lemmas.Bool.{cases_lt}
 use Rattle.std.proofs.lemmas.List.{append_cancel_right, append-nil}
 use Rattle.spec_lexer.specs.declared.token.Token.{Token}
 use Rattle.token_reader.specs.Reader.{Refusal, Unexpected, TooDeep, Outcome, Read, Stopped, and_then, many, head}
-use Rattle.token_reader.proofs.LocalLaws.{CarefulAt, Leads}
-use Rattle.token_reader.proofs.ViableLaws.{ArePlain as reader_plain, ViableAt, Goes, Reaches, near, far, Barred}
+use Rattle.token_reader.proofs.LocalLaws.{CarefulAt, Leads, is_calm}
+use Rattle.token_reader.proofs.ViableLaws.{ArePlain as reader_plain, Alike, alike_end, ViableAt, Goes, Reaches, near, far, Barred}
 use Rattle.token_reader.proofs.RoomLaws.{RisesTo, DeepAt}
 use Rattle.token_reader.proofs.Meets.{Meets}
 use Rattle.spec_parser.specs.Tree.{Item}
-use Rattle.spec_parser.specs.Words.{opens_level}
+use Rattle.spec_parser.specs.Words.{is_minus, is_number_next, may_open, opens_level}
 use Rattle.spec_parser.specs.Reading.{Reader, items_at, ended, specification}
 use Rattle.spec_parser.specs.Grammar.{Spells, empty}
-use Rattle.spec_parser.specs.Refusals.{Begins, ArePlain, IsWithin, IsUnexpected, IsTooDeep}
+use Rattle.spec_parser.specs.Refusals.{Begins, ArePlain, OpensAlike, IsWithin, IsUnexpected, IsTooDeep}
 use Rattle.spec_parser.proofs.RoomLaws.{rises_above}
 use Rattle.spec_parser.proofs.ItemLaws.{item_signs, items_fine, items_careful}
 use Rattle.spec_parser.proofs.Items.{sound, complete}
@@ -30,6 +31,36 @@ spelled room ts is h = subst (Meets (λ is rest. Spells room ts is)) h (sound ro
 
 begins : (room : ℕ) (front : List Token) → (more : List Token) × (is : List Item) × (items room (front ++ (more ++ [])) ≡ Read is []) → Begins room front
 begins room front g = (g.0 ++ [], g.1, spelled room (front ++ (g.0 ++ [])) g.1 (ap (λ q. and_then q ended) g.2))
+
+-- a token that opens a level may open one, and opens one where no number follows
+module _ (t : Token) where
+  and_left : (a b : Bool) → a && b ≡ true → a ≡ true
+  and_left true b h = refl
+  and_left false b h = cc
+
+  pub may : (left : List Token) → opens_level t left ≡ true → may_open t.kind ≡ true
+  may left h = and_left (may_open t.kind) (not (is_minus t.kind && is_number_next left)) h
+
+  no_number : (a b : Bool) → a ≡ true → a && not (b && false) ≡ true
+  no_number true true h = refl
+  no_number true false h = refl
+  no_number false b h = cc
+
+  calm_next : (more : List Token) → is_calm item_signs more ≡ false → is_number_next more ≡ false
+  calm_next [] h = refl
+  calm_next (u ∷ us) h = h
+
+  opens_calmly : (more : List Token) → may_open t.kind ≡ true → is_number_next more ≡ false → opens_level t more ≡ true
+  opens_calmly more h calm = (λ k. may_open t.kind && not (is_minus t.kind && calm k)) ∙ no_number (may_open t.kind) (is_minus t.kind) h
+
+  opens_either : (more : List Token) → may_open t.kind ≡ true → (opens_level t more ≡ true) ⊎ (is_calm item_signs more ≡ false) → opens_level t more ≡ true
+  opens_either more h (inl e) = e
+  opens_either more h (inr calm) = opens_calmly more h (calm_next more calm)
+
+opens_alike : (front left more : List Token) → Alike item_signs front left more → OpensAlike front left more
+opens_alike [] left more h = tt
+opens_alike (t ∷ []) left more h = λ o. opens_either t more (may t left o) (h (may t left o) o)
+opens_alike (t ∷ u ∷ front) left more h = opens_alike (u ∷ front) left more h
 
 abbrev read_whole : List Item → Outcome Token (List Item)
 read_whole is = Read is []
@@ -75,11 +106,14 @@ module _ (room : ℕ) (ts : List Token) where
   plain_of (t ∷ ts) h = (h.0, plain_of ts h.1)
 
   -- the tokens before the last ones are within the room
-  within : (front left : List Token) → ts ≡ front ++ left → Reaches item_signs (items room) ts left → IsWithin room front
-  within front left whole (near b e plain) = ([], b, same_front front b left whole e, ([], [], empty), plain_of b plain)
-  within front left whole (far b plain g) = (g.front, b, same_front front (g.front ++ b) left whole (g.whole ∙ sym (append_assoc g.front b left)), begins room g.front (g.goes [] tt), plain_of b plain)
+  within : (front left : List Token) → ts ≡ front ++ left → Reaches item_signs (items room) ts left → IsWithin room front left
+  within front left whole (near b e plain) = ([], b, same_front front b left whole e, ([], [], empty, tt), plain_of b plain)
+  within front left whole (far b plain g) =
+      let c = g.goes [] tt in
+      let s = spelled room (g.front ++ (c.0 ++ [])) c.1 (ap (λ q. and_then q ended) c.2) in
+      (g.front, b, same_front front (g.front ++ b) left whole (g.whole ∙ sym (append_assoc g.front b left)), (c.0 ++ [], c.1, s, opens_alike g.front (b ++ left) (c.0 ++ []) c.3), plain_of b plain)
 
-  unexpected_of : (rest : List Token) (f : Refused rest) → IsWithin room f.front → (deeper : ℕ) × Begins deeper f.front → IsUnexpected room ts f.front rest
+  unexpected_of : (rest : List Token) (f : Refused rest) → IsWithin room f.front rest → (deeper : ℕ) × Begins deeper f.front → IsUnexpected room ts f.front rest
   unexpected_of rest f w b = record {
     whole = f.whole;
     within = w;
@@ -107,8 +141,9 @@ module _ (room : ℕ) (ts : List Token) where
   refuses (Read is []) l c v d = tt
   refuses (Read is (t ∷ us)) l c v d =
       let f = end_refused is t us l in
-      let b : Begins room l.front = ([], is, spelled room (l.front ++ []) is (ap (λ q. and_then q ended) (l.again [] (inr tt)))) in
-      (f.front, unexpected_of (t ∷ us) f (l.front, [], sym (append-nil l.front), b, tt) (room, b))
+      let s = spelled room (l.front ++ []) is (ap (λ q. and_then q ended) (l.again [] (inr tt))) in
+      let alike = opens_alike l.front (t ∷ us) [] (alike_end item_signs l.front (t ∷ us) [] tt) in
+      (f.front, unexpected_of (t ∷ us) f (l.front, [], sym (append-nil l.front), ([], is, s, alike), tt) (room, ([], is, s)))
   refuses (Stopped Unexpected rest) l c v d =
       let f = first_refused rest l in
       (f.front, unexpected_of rest f (within l.front rest l.whole v) (suc room, subst (Begins (suc room)) (same_front d.front l.front rest d.whole l.whole) (begins (suc room) d.front (d.goes [] tt))))

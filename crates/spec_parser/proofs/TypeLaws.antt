@@ -11,15 +11,15 @@ use Rattle.token_reader.specs.Reader.{TooDeep, give, refuse, and_then, ◌>>=◌
 use Rattle.token_reader.proofs.LocalLaws.{IsCareful, IsLocal, IsEager, local-give, local-take_by, local-bind, local-expect, eager-take_by}
 use Rattle.token_reader.proofs.CarefulLaws.{careful-give, careful-test, careful-take_by, careful-bind, local-closed}
 use Rattle.token_reader.proofs.ViableLaws.{Passes, plainly, opening, at_once, unless, Completes, CompletesAll, completes-bind, completes-each, each-give, each-one, each-bind, each-expect, all-expect, each-all}
-use Rattle.token_reader.proofs.Fine.{IsFine, IsFineTurn, GoesOn, fine-give, fine-too_deep, fine-bind, fine-take_by, fine-expect, fine_opened, passes_opened, passes_both, on-expect, on-close, closed, turn_local}
-use Rattle.token_reader.proofs.Fewer.{fine_fewer, local_fewer, completes_fewer}
+use Rattle.token_reader.proofs.Fine.{IsFine, IsFineTurn, GoesOn, fine-give, fine-too_deep, fine-bind, fine-take_by, fine-expect, fine_opened, passes_opened, on-expect, on-close, closed, turn_local}
+use Rattle.token_reader.proofs.Fewer.{fine_fewer, local_fewer, completes_fewer, at_fewer}
 use Rattle.spec_parser.specs.declared.words.TypeWord.{TypeWord}
 use Rattle.spec_parser.specs.declared.words.TypeWord.TheVariants as type_word
 use Rattle.spec_parser.specs.Tree as tree
 use Rattle.spec_parser.specs.Tree.{TypeName}
 use Rattle.spec_parser.specs.Words.{is_open_bracket, is_close_bracket, is_comma, is_number, may_open, opens_level, is_minus, type_word_of}
 use Rattle.spec_parser.specs.Reading.{Reader, must, in_brackets, two_in_brackets, type_behind, at_type, a_type, type_in}
-use Rattle.spec_parser.proofs.Ends.{ends, ends_type, ends_fewer, signs, type_signs, start, sample, a_name, open_bracket_is, opens_by}
+use Rattle.spec_parser.proofs.Ends.{ends, ends_type, ends_fewer, ends_quiet, type_quiet, close_bracket_is, comma_is, signs, type_signs, start, sample, a_name, open_bracket_is, opens_by}
 
 -- a token that opens a level before whatever stands there
 abbrev pub Opens : Token → Type 0
@@ -47,7 +47,7 @@ module _ {A : Type 0} (i j : Reader TypeName) where
   brackets_complete f cj = completes-bind type_signs j (λ y. must is_close_bracket (give (f y))) (close_all f) cj
 
   pub brackets_fine : (f : TypeName → A) → IsFine type_signs i j → IsFine type_signs (in_brackets i f) (in_brackets j f)
-  brackets_fine f ij = closed type_signs (λ t. is_close_bracket t.kind) (sample (kind.Symbol symbol.CloseBracket)) refl refl i j f ij
+  brackets_fine f ij = closed type_signs (λ t. is_close_bracket t.kind) (sample (kind.Symbol symbol.CloseBracket)) refl refl (λ t h. ap may_open (close_bracket_is t.kind h)) i j f ij
 
 module _ {A : Type 0} (i j : Reader TypeName) (f : TypeName → TypeName → A) where
   abbrev second : Reader TypeName → TypeName → Reader A
@@ -68,7 +68,7 @@ module _ {A : Type 0} (i j : Reader TypeName) (f : TypeName → TypeName → A) 
 
   pub two_fine : IsCareful type_signs i → Completes type_signs i → Completes type_signs j → IsFine type_signs i j → IsFine type_signs (two_in_brackets i f) (two_in_brackets j f)
   two_fine careful ci cj ij = fine-bind type_signs i j (second i) (second j) ij (record {
-    each = λ x. fine-expect type_signs (λ t. is_comma t.kind) (sample (kind.Symbol symbol.Comma)) refl (in_brackets i (f x)) (in_brackets j (f x)) (brackets_fine i j (f x) ij) (λ t h. passes_both type_signs t (in_brackets i (f x)) (careful-bind type_signs i (λ y. must is_close_bracket (give (f x y))) ij.local careful (λ y. careful-test type_signs (λ t. is_close_bracket t.kind) (give (f x y)) (local-give type_signs (f x y)))) (two_each i ci x)) (two_each j cj x);
+    each = λ x. fine-expect type_signs (λ t. is_comma t.kind) (sample (kind.Symbol symbol.Comma)) refl (in_brackets i (f x)) (in_brackets j (f x)) (brackets_fine i j (f x) ij) (λ t h. plainly (ap may_open (comma_is t.kind h)) (careful-bind type_signs i (λ y. must is_close_bracket (give (f x y))) ij.local careful (λ y. careful-test type_signs (λ t. is_close_bracket t.kind) (give (f x y)) (local-give type_signs (f x y))))) (two_each j cj x);
     careful = λ x. careful-test type_signs (λ t. is_comma t.kind) (in_brackets i (f x)) (brackets_local i i (f x) ij.local);
     deeper_careful = λ x. careful-test type_signs (λ t. is_comma t.kind) (in_brackets j (f x)) (brackets_local j j (f x) ij.deeper);
     completes = second_all i ci;
@@ -166,14 +166,14 @@ mutual
 
 -- the same at fewer ending tokens, as they stand in expressions
 pub fine_in : {A : Type 0} (p q : Reader A) → IsFine type_signs p q → IsFine signs p q
-fine_in p q h = fine_fewer (λ t. ends t.kind) (λ t. ends_type t.kind) (λ t. may_open t.kind) (λ t. is_number t.kind) opens_level (λ t. ends_fewer t.kind) p q h
+fine_in p q h = fine_fewer (λ t. ends t.kind) (λ t. ends_type t.kind) (λ t. may_open t.kind) (λ t. is_number t.kind) opens_level (λ t. ends_fewer t.kind) (λ t. ends_quiet t.kind) (λ t. type_quiet t.kind) p q h
 
 pub complete_in : {A : Type 0} (p : Reader A) → Completes type_signs p → Completes signs p
-complete_in p h = completes_fewer (λ t. ends t.kind) (λ t. ends_type t.kind) (λ t. may_open t.kind) (λ t. is_number t.kind) opens_level (λ t. ends_fewer t.kind) p h
+complete_in p h = completes_fewer (λ t. ends t.kind) (λ t. ends_type t.kind) (λ t. may_open t.kind) (λ t. is_number t.kind) opens_level (λ t. ends_fewer t.kind) (λ t. ends_quiet t.kind) (λ t. type_quiet t.kind) p h
 
 pub pass_in : {A : Type 0} (t : Token) (p : Reader A) → Passes type_signs t p → Passes signs t p
 pass_in t p (plainly o c) = plainly o c
-pass_in t p (opening o d c) = opening o d (complete_in p c)
+pass_in t p (opening o d c) = opening o d (at_fewer (λ t. ends t.kind) (λ t. ends_type t.kind) (λ t. may_open t.kind) (λ t. is_number t.kind) opens_level (λ t. ends_fewer t.kind) (λ t. ends_quiet t.kind) (λ t. type_quiet t.kind) t p c)
 pass_in t p (at_once o b h) = at_once o b h
 pass_in t p (unless o c h d) = unless o (complete_in p c) h d
 

@@ -1,18 +1,18 @@
 -- The laws hold at fewer ending tokens, and a reader may be followed by one that goes on at some of them.
-use Rattle.std.proofs.Common.{◌≡◌, Bool, true, List, [], ◌∷◌, ◌++◌, length, refl, sym, ap, subst, ◌∙◌, inl, inr, arith, append_assoc}
+use Rattle.std.proofs.Common.{◌≡◌, Bool, true, false, List, [], ◌∷◌, ◌++◌, length, refl, sym, ap, subst, ◌∙◌, inl, inr, arith, append_assoc}
 use Rattle.std.specs.Prelude.{◌⊎◌}
 use Rattle.token_reader.specs.Reader.{Signs, Unexpected, TooDeep, Outcome, Read, Stopped, Reader, and_then, ◌>>=◌, head}
 use Rattle.token_reader.proofs.LocalLaws.{IsEnd, CarefulAt, IsCareful, Leads, IsLocal, Follows, local-bind}
-use Rattle.token_reader.proofs.ViableLaws.{Completion, Completes, Goes, Reaches, near, far, Barred, ViableAt, IsViable}
+use Rattle.token_reader.proofs.ViableLaws.{Completion, Completes, CompletesAt, Goes, Reached, CompletionAlike, Alike, alike_end, alike_behind, Reaches, near, far, Barred, ViableAt, IsViable}
 use Rattle.token_reader.proofs.RoomLaws.{RisesTo, below-bind, DeepAt, Deepens}
 use Rattle.token_reader.proofs.Fine.{IsFine}
 
-module _ {T : Type 0} (few many opens calms : T → Bool) (bars : T → List T → Bool) (fewer : (t : T) → few t ≡ true → many t ≡ true) where
+module _ {T : Type 0} (few many opens calms : T → Bool) (bars : T → List T → Bool) (fewer : (t : T) → few t ≡ true → many t ≡ true) (few_quiet : (t : T) → few t ≡ true → calms t ≡ false) (many_quiet : (t : T) → many t ≡ true → calms t ≡ false) where
   abbrev pub small : Signs T
-  small = record { ends = few; opens = opens; calms = calms; bars = bars }
+  small = record { ends = few; opens = opens; calms = calms; bars = bars; quiet = few_quiet }
 
   abbrev pub large : Signs T
-  large = record { ends = many; opens = opens; calms = calms; bars = bars }
+  large = record { ends = many; opens = opens; calms = calms; bars = bars; quiet = many_quiet }
 
   end_fewer : (ts : List T) → IsEnd small ts → IsEnd large ts
   end_fewer [] h = h
@@ -30,9 +30,17 @@ module _ {T : Type 0} (few many opens calms : T → Bool) (bars : T → List T �
   goes_fewer : {A : Type 0} (p : Reader T A) (ts rest : List T) → Goes large p ts rest → Goes small p ts rest
   goes_fewer p ts rest g = record { front = g.front; whole = g.whole; goes = λ r h. g.goes r (end_fewer r h) }
 
+  alike_fewer : (front left more : List T) → Alike large front left more → Alike small front left more
+  alike_fewer [] left more h = tt
+  alike_fewer (t ∷ []) left more h = h
+  alike_fewer (t ∷ u ∷ front) left more h = alike_fewer (u ∷ front) left more h
+
+  reached_fewer : {A : Type 0} (p : Reader T A) (ts rest : List T) → Reached large p ts rest → Reached small p ts rest
+  reached_fewer p ts rest g = record { front = g.front; whole = g.whole; goes = λ r h. let c = g.goes r (end_fewer r h) in (c.0, c.1, c.2, alike_fewer g.front rest (c.0 ++ r) c.3) }
+
   reaches_fewer : {A : Type 0} (p : Reader T A) (ts left : List T) → Reaches large p ts left → Reaches small p ts left
   reaches_fewer p ts left (near b e plain) = near b e plain
-  reaches_fewer p ts left (far b plain g) = far b plain (goes_fewer p ts (b ++ left) g)
+  reaches_fewer p ts left (far b plain g) = far b plain (reached_fewer p ts (b ++ left) g)
 
   barred_fewer : {A : Type 0} (p : Reader T A) (ts rest : List T) (t : T) → Barred large p ts t rest → Barred small p ts t rest
   barred_fewer p ts rest t b = record { front = b.front; whole = b.whole; opened = b.opened; again = b.again }
@@ -49,6 +57,9 @@ module _ {T : Type 0} (few many opens calms : T → Bool) (bars : T → List T �
 
   pub completes_fewer : {A : Type 0} (p : Reader T A) → Completes large p → Completes small p
   completes_fewer p c r h = c r (end_fewer r h)
+
+  pub at_fewer : {A : Type 0} (t : T) (p : Reader T A) → CompletesAt large t p → CompletesAt small t p
+  at_fewer t p c r h = c r (end_fewer r h)
 
   pub fine_fewer : {A : Type 0} (p q : Reader T A) → IsFine large p q → IsFine small p q
   fine_fewer p q pq = record {
@@ -95,13 +106,44 @@ module _ {T : Type 0} (few many opens calms : T → Bool) (bars : T → List T �
           (c.0, c.1, ap (p >>= f) (append_assoc first.front (x ∷ xs) (c.0 ++ r)) ∙ ap (λ q. and_then q f) (first.again ((x ∷ xs) ++ (c.0 ++ r)) (inl (sym (ap head whole)))) ∙ c.2);
     }
 
+    first_reached : (ts rest : List T) → Reached large p ts rest → Reached small (p >>= f) ts rest
+    first_reached ts rest v = record {
+      front = v.front;
+      whole = v.whole;
+      goes = λ r h.
+          let c = completes r h in
+          let d = v.goes (c.0 ++ r) c.1 in
+          let b = c.2 d.1 in
+          (d.0 ++ c.0, b.0, ap (λ l. (p >>= f) (v.front ++ l)) (append_assoc d.0 c.0 r) ∙ ap (λ q. and_then q f) d.2 ∙ b.1, subst (Alike small v.front rest) (sym (append_assoc d.0 c.0 r)) (alike_fewer v.front rest (d.0 ++ (c.0 ++ r)) d.3));
+    }
+
+    ends_reached : (ts : List T) (a : A) (rest left : List T) → Leads large p ts (Read a rest) → rest ≡ left → Reached small (p >>= f) ts left
+    ends_reached ts a rest left first same = record {
+      front = first.front;
+      whole = first.whole ∙ ap (λ l. first.front ++ l) same;
+      goes = λ r h.
+          let c = completes r h in
+          let b = c.2 a in
+          (c.0, b.0, ap (λ q. and_then q f) (first.again (c.0 ++ r) (inr c.1)) ∙ b.1, alike_fewer first.front left (c.0 ++ r) (alike_end large first.front left (c.0 ++ r) c.1));
+    }
+
+    second_reached : (ts : List T) (a : A) (rest left : List T) → Leads large p ts (Read a rest) → (front : List T) → rest ≡ front ++ left → ((r : List T) → IsEnd small r → CompletionAlike small (f a) front left r) → Reached small (p >>= f) ts left
+    second_reached ts a rest left first [] whole goes = ends_reached ts a rest left first whole
+    second_reached ts a rest left first (x ∷ xs) whole goes = record {
+      front = first.front ++ (x ∷ xs);
+      whole = first.whole ∙ ap (λ l. first.front ++ l) whole ∙ sym (append_assoc first.front (x ∷ xs) left);
+      goes = λ r h.
+          let c = goes r h in
+          (c.0, c.1, ap (p >>= f) (append_assoc first.front (x ∷ xs) (c.0 ++ r)) ∙ ap (λ q. and_then q f) (first.again ((x ∷ xs) ++ (c.0 ++ r)) (inl (sym (ap head whole)))) ∙ c.2, alike_behind small first.front x xs left (c.0 ++ r) c.3);
+    }
+
     reaches_behind : (ts : List T) (a : A) (rest left : List T) → Leads large p ts (Read a rest) → Reaches small (f a) rest left → Reaches small (p >>= f) ts left
-    reaches_behind ts a rest left first (near b e plain) = far b plain (ends_behind ts a rest (b ++ left) first e)
-    reaches_behind ts a rest left first (far b plain g) = far b plain (second_behind ts a rest (b ++ left) first g.front g.whole g.goes)
+    reaches_behind ts a rest left first (near b e plain) = far b plain (ends_reached ts a rest (b ++ left) first e)
+    reaches_behind ts a rest left first (far b plain g) = far b plain (second_reached ts a rest (b ++ left) first g.front g.whole g.goes)
 
     reaches_first : (ts left : List T) → Reaches large p ts left → Reaches small (p >>= f) ts left
     reaches_first ts left (near b e plain) = near b e plain
-    reaches_first ts left (far b plain g) = far b plain (first_behind ts (b ++ left) g)
+    reaches_first ts left (far b plain g) = far b plain (first_reached ts (b ++ left) g)
 
     same_head : (front more left : List T) (t : T) → head (front ++ t ∷ more) ≡ head (front ++ t ∷ left)
     same_head [] more left t = refl

@@ -1,6 +1,6 @@
 -- All laws of a reader at once, combinator by combinator: of a reader where so many levels may be open, and of the same
 -- reader with one level more.
-use Rattle.std.proofs.Common.{◌≡◌, ℕ, zero, suc, Bool, true, false, List, [], ◌∷◌, ◌++◌, Option, Some, None, refl, sym, subst, ap, ◌∙◌}
+use Rattle.std.proofs.Common.{◌≡◌, ℕ, zero, suc, Bool, true, false, List, [], ◌∷◌, ◌++◌, Option, Some, None, refl, sym, subst, ap, ◌∙◌, inl, inr}
 use Rattle.std.specs.Prelude.{IsTrue}
 use Rattle.token_reader.specs.Reader.{Signs, Stopped, Refusal, TooDeep, Read, Reader, Turn, Lister, give, refuse, and_then, ◌>>=◌, when, taken, take_by, expect, tried, if_next, or_else, or_given, alone, opened, many}
 use Rattle.token_reader.proofs.LocalLaws.{IsEnd, IsCareful, IsLocal, IsLocalTurn, Declines, IsEager, Stays, local-give, local-refuse, local-bind, local-take_by, local-if_next, local-or_else, local-alone}
@@ -156,12 +156,20 @@ module _ {T : Type 0} (s : Signs T) where
   fine_when t p q pq true c = (pq, c refl)
   fine_when t p q pq false c = tt
 
-  -- what is read behind a token, whether it may open a level or not
-  pub passes_both : {A : Type 0} (t : T) (p : Reader T A) → IsCareful s p → Completes s p → Passes s t p
-  passes_both t p careful c = by (s.opens t) refl
+  -- what is read behind a token that opens a level, if it may open one, whatever stands there
+  pub passes_both : {A : Type 0} (t : T) (p : Reader T A) → (s.opens t ≡ true → (more : List T) → s.bars t more ≡ true) → IsCareful s p → Completes s p → Passes s t p
+  passes_both t p always careful c = by (s.opens t) refl
     where
       by : (b : Bool) → s.opens t ≡ b → Passes s t p
-      by true h = opening h careful c
+      by true h = opening h careful (λ r e. let d = c r e in (d.0, d.1, d.2, inl (always h (d.0 ++ r))))
+      by false h = plainly h careful
+
+  -- and where what is read may begin with a token that is none of those that tell that none is opened
+  pub passes_begun : {A : Type 0} (t u : T) (p : Reader T A) → s.calms u ≡ false → IsCareful s p → ((r : List T) → IsEnd s r → (more : List T) × (a : A) × (p (u ∷ (more ++ r)) ≡ Read a r)) → Passes s t p
+  passes_begun t u p calm careful c = by (s.opens t) refl
+    where
+      by : (b : Bool) → s.opens t ≡ b → Passes s t p
+      by true h = opening h careful (λ r e. let d = c r e in (u ∷ d.0, d.1, d.2, inr calm))
       by false h = plainly h careful
 
   module _ {A : Type 0} (test : T → Bool) (t : T) (fits : test t ≡ true) (p q : Reader T A) (pq : IsFine p q) (passes : (t : T) → test t ≡ true → Passes s t p) where
@@ -190,11 +198,11 @@ module _ {T : Type 0} (s : Signs T) where
       deeper = all-expect s test t fits g cg e;
     }
 
-    pub on-close : (h : A → B) → GoesOn (λ a. expect test (give (h a))) (λ a. expect test (give (h a)))
-    on-close h = on-expect (λ a. give (h a)) (λ a. give (h a)) (λ a. fine-give (h a)) (λ a t i. passes_both t (give (h a)) (careful-give s (h a)) (λ r k. ([], h a, refl))) (each-give s h) (each-give s h)
+    pub on-close : ((t : T) → test t ≡ true → s.opens t ≡ false) → (h : A → B) → GoesOn (λ a. expect test (give (h a))) (λ a. expect test (give (h a)))
+    on-close plain h = on-expect (λ a. give (h a)) (λ a. give (h a)) (λ a. fine-give (h a)) (λ a t i. plainly (plain t i) (careful-give s (h a))) (each-give s h) (each-give s h)
 
-    pub closed : (p q : Reader T A) (h : A → B) → IsFine p q → IsFine (p >>= λ a. expect test (give (h a))) (q >>= λ a. expect test (give (h a)))
-    closed p q h pq = fine-bind p q (λ a. expect test (give (h a))) (λ a. expect test (give (h a))) pq (on-close h)
+    pub closed : ((t : T) → test t ≡ true → s.opens t ≡ false) → (p q : Reader T A) (h : A → B) → IsFine p q → IsFine (p >>= λ a. expect test (give (h a))) (q >>= λ a. expect test (give (h a)))
+    closed plain p q h pq = fine-bind p q (λ a. expect test (give (h a))) (λ a. expect test (give (h a))) pq (on-close plain h)
 
   module _ {A B C : Type 0} (p q : Reader T B) (pq : IsFine p q) (careful : IsCareful s p) (deeper_careful : IsCareful s q) (f g : A → B → Reader T C) (fg : GoesOn {A = A × B} (λ x. f x.0 x.1) (λ x. g x.0 x.1)) where
     inner : (a : A) → GoesOn (f a) (g a)
@@ -248,7 +256,7 @@ module _ {T : Type 0} (s : Signs T) where
   -- what opens a level
   pub passes_opened : {A : Type 0} (t : T) (room : ℕ) (p : Reader T A) → IsTrue (s.opens t) → ((more : List T) → s.bars t more ≡ true) → ((r : ℕ) → room ≡ suc r → IsCareful s p) → ((r : ℕ) → room ≡ suc r → Completes s p) → Passes s t (opened room p)
   passes_opened t zero p o b d c = at_once o b (λ ts. refl)
-  passes_opened t (suc room) p o b d c = opening o (d room refl) (c room refl)
+  passes_opened t (suc room) p o b d c = opening o (d room refl) (λ r h. let x = c room refl r h in (x.0, x.1, x.2, inl (b (x.0 ++ r))))
 
   pub fine_opened : {A : Type 0} (room : ℕ) (p q : Reader T A) → ((r : ℕ) → room ≡ suc r → IsFine p q) → IsLocal s q → Completes s q → IsFine (opened room p) q
   fine_opened zero p q pq lq cq = fine-too_deep q lq cq

@@ -1,8 +1,8 @@
 -- Where a reader stops for want of a fitting token, what it passed can be completed.
-use Rattle.std.proofs.Common.{◌≡◌, ℕ, zero, suc, ◌≤◌, Bool, true, false, List, [], ◌∷◌, ◌++◌, length, Option, Some, None, refl, sym, ap, subst, ◌∙◌, inl, inr, arith, append_assoc}
+use Rattle.std.proofs.Common.{◌≡◌, ℕ, zero, suc, ◌≤◌, Bool, true, false, List, [], ◌∷◌, ◌++◌, length, Option, Some, None, refl, sym, ap, subst, ◌∙◌, inl, inr, arith, append_assoc, length-append}
 use Rattle.std.specs.Prelude.{◌⊎◌, IsTrue}
 use Rattle.token_reader.specs.Reader.{Signs, Unexpected, TooDeep, Outcome, Read, Stopped, Reader, Turn, Lister, give, refuse, and_then, ◌>>=◌, when, taken, take_by, expect, tried, if_next, chosen, or_else, noted, alone, looped, many, head, rest_of}
-use Rattle.token_reader.proofs.LocalLaws.{IsEnd, CarefulAt, IsCareful, Leads, IsLocal, IsLocalTurn, Declines, some_is, shorter}
+use Rattle.token_reader.proofs.LocalLaws.{IsEnd, is_calm, CarefulAt, IsCareful, Leads, IsLocal, IsLocalTurn, Declines, some_is, shorter}
 use Rattle.token_reader.proofs.CarefulLaws.{bind_careful, careful-bind, careful-give}
 use Rattle.token_reader.proofs.ManyLaws.{many_again, many_none, many_end, careful-many, local-many}
 
@@ -15,6 +15,35 @@ module _ {T : Type 0} (s : Signs T) where
     pub whole : ts ≡ front ++ rest
     pub goes : (r : List T) → IsEnd s r → Completion p front r
 
+  -- what is put behind the last token of a front, so that it opens a level where it does before what is left
+  abbrev pub Alike : List T → List T → List T → Type 0
+  Alike [] left more = Unit {0}
+  Alike (t ∷ []) left more = s.opens t ≡ true → s.bars t left ≡ true → (s.bars t more ≡ true) ⊎ (is_calm s more ≡ false)
+  Alike (t ∷ u ∷ front) left more = Alike (u ∷ front) left more
+
+  end_calm : (r : List T) → IsEnd s r → is_calm s r ≡ false
+  end_calm [] h = refl
+  end_calm (t ∷ ts) h = s.quiet t h
+
+  -- what ends constructs may always be put there
+  pub alike_end : (front left more : List T) → IsEnd s more → Alike front left more
+  alike_end [] left more h = tt
+  alike_end (t ∷ []) left more h = λ o b. inr (end_calm more h)
+  alike_end (t ∷ u ∷ front) left more h = alike_end (u ∷ front) left more h
+
+  pub alike_behind : (before : List T) (x : T) (xs left more : List T) → Alike (x ∷ xs) left more → Alike (before ++ (x ∷ xs)) left more
+  alike_behind [] x xs left more h = h
+  alike_behind (t ∷ []) x xs left more h = h
+  alike_behind (t ∷ u ∷ before) x xs left more h = alike_behind (u ∷ before) x xs left more h
+
+  abbrev pub CompletionAlike : {A : Type 0} → Reader T A → List T → List T → List T → Type 0
+  CompletionAlike {A} p front left r = (more : List T) × (a : A) × (p (front ++ (more ++ r)) ≡ Read a r) × Alike front left (more ++ r)
+
+  pub record Reached {A : Type 0} (p : Reader T A) (ts rest : List T) : Type 0 where
+    pub front : List T
+    pub whole : ts ≡ front ++ rest
+    pub goes : (r : List T) → IsEnd s r → CompletionAlike p front rest r
+
   abbrev pub ArePlain : List T → Type 0
   ArePlain [] = Unit {0}
   ArePlain (t ∷ ts) = (s.opens t ≡ false) × ArePlain ts
@@ -23,7 +52,7 @@ module _ {T : Type 0} (s : Signs T) where
   -- them open no level, or the reader can be completed behind a front of them
   pub data Reaches {A : Type 0} (p : Reader T A) (ts left : List T) : Type 0 where
     near : (b : List T) → ts ≡ b ++ left → ArePlain b → Reaches p ts left
-    far : (b : List T) → ArePlain b → Goes p ts (b ++ left) → Reaches p ts left
+    far : (b : List T) → ArePlain b → Reached p ts (b ++ left) → Reaches p ts left
 
   -- it stops behind a token that opens a level too deep, whatever stands there, as long as the token opens one
   pub record Barred {A : Type 0} (p : Reader T A) (ts : List T) (t : T) (rest : List T) : Type 0 where
@@ -44,11 +73,15 @@ module _ {T : Type 0} (s : Signs T) where
   abbrev pub Completes : {A : Type 0} → Reader T A → Type 0
   Completes p = (r : List T) → IsEnd s r → Completion p [] r
 
+  -- it reads something that lets a token before it open a level
+  abbrev pub CompletesAt : {A : Type 0} → T → Reader T A → Type 0
+  CompletesAt {A} t p = (r : List T) → IsEnd s r → (more : List T) × (a : A) × (p (more ++ r) ≡ Read a r) × ((s.bars t (more ++ r) ≡ true) ⊎ (is_calm s (more ++ r) ≡ false))
+
   -- what is read behind a token may stand there: the token opens no level; or it may, and then something can be read, or it
   -- is too deep, where it opens one
   pub data Passes {A : Type 0} (t : T) (p : Reader T A) : Type 0 where
     plainly : s.opens t ≡ false → IsCareful s p → Passes t p
-    opening : IsTrue (s.opens t) → IsCareful s p → Completes p → Passes t p
+    opening : IsTrue (s.opens t) → IsCareful s p → CompletesAt t p → Passes t p
     at_once : IsTrue (s.opens t) → ((more : List T) → s.bars t more ≡ true) → ((ts : List T) → p ts ≡ Stopped TooDeep ts) → Passes t p
     unless : IsTrue (s.opens t) → Completes p → ((ts : List T) → s.bars t ts ≡ true → p ts ≡ Stopped TooDeep ts) → ((ts : List T) → s.bars t ts ≡ false → CarefulAt s ts (p ts)) → Passes t p
 
@@ -92,19 +125,41 @@ module _ {T : Type 0} (s : Signs T) where
         let s = second_goes ts a rest left first second.front second.whole second.goes [] tt in
         record { front = s.0; whole = s.1; goes = s.2 }
 
-    ends_first : (ts : List T) (a : A) (rest left : List T) → Leads s p ts (Read a rest) → rest ≡ left → Goes (p >>= f) ts left
+    ends_first : (ts : List T) (a : A) (rest left : List T) → Leads s p ts (Read a rest) → rest ≡ left → Reached (p >>= f) ts left
     ends_first ts a rest left first same = record {
       front = first.front;
       whole = first.whole ∙ ap (λ l. first.front ++ l) same;
       goes = λ r h.
           let c = completes r h in
           let b = c.2 a in
-          (c.0, b.0, ap (λ q. and_then q f) (first.again (c.0 ++ r) (inr c.1)) ∙ b.1);
+          (c.0, b.0, ap (λ q. and_then q f) (first.again (c.0 ++ r) (inr c.1)) ∙ b.1, alike_end first.front left (c.0 ++ r) c.1);
     }
+
+    second_goes_alike : (ts : List T) (a : A) (rest left : List T) → Leads s p ts (Read a rest) → (front : List T) → rest ≡ front ++ left → ((r : List T) → IsEnd s r → CompletionAlike (f a) front left r) → (whole : List T) × (ts ≡ whole ++ left) × ((r : List T) → IsEnd s r → CompletionAlike (p >>= f) whole left r)
+    second_goes_alike ts a rest left first [] whole goes = (
+      first.front,
+      first.whole ∙ ap (λ l. first.front ++ l) whole,
+      λ r h.
+          let c = completes r h in
+          let b = c.2 a in
+          (c.0, b.0, ap (λ q. and_then q f) (first.again (c.0 ++ r) (inr c.1)) ∙ b.1, alike_end first.front left (c.0 ++ r) c.1),
+    )
+    second_goes_alike ts a rest left first (x ∷ xs) whole goes = (
+      first.front ++ (x ∷ xs),
+      first.whole ∙ ap (λ l. first.front ++ l) whole ∙ sym (append_assoc first.front (x ∷ xs) left),
+      λ r h.
+          let c = goes r h in
+          (c.0, c.1, ap (p >>= f) (append_assoc first.front (x ∷ xs) (c.0 ++ r)) ∙ ap (λ q. and_then q f) (first.again ((x ∷ xs) ++ (c.0 ++ r)) (inl (sym (ap head whole)))) ∙ c.2, alike_behind first.front x xs left (c.0 ++ r) c.3),
+    )
+
+    second_reached : (ts : List T) (a : A) (rest left : List T) → Leads s p ts (Read a rest) → Reached (f a) rest left → Reached (p >>= f) ts left
+    second_reached ts a rest left first second =
+        let s = second_goes_alike ts a rest left first second.front second.whole second.goes in
+        record { front = s.0; whole = s.1; goes = s.2 }
 
     second_reaches : (ts : List T) (a : A) (rest left : List T) → Leads s p ts (Read a rest) → Reaches (f a) rest left → Reaches (p >>= f) ts left
     second_reaches ts a rest left first (near b e plain) = far b plain (ends_first ts a rest (b ++ left) first e)
-    second_reaches ts a rest left first (far b plain g) = far b plain (second_goes_on ts a rest (b ++ left) first g)
+    second_reaches ts a rest left first (far b plain g) = far b plain (second_reached ts a rest (b ++ left) first g)
 
     same_head : (front more left : List T) (t : T) → head (front ++ t ∷ more) ≡ head (front ++ t ∷ left)
     same_head [] more left t = refl
@@ -138,9 +193,20 @@ module _ {T : Type 0} (s : Signs T) where
           (d.0 ++ c.0, b.0, ap (λ l. (p >>= f) (v.front ++ l)) (append_assoc d.0 c.0 r) ∙ ap (λ q. and_then q f) d.2 ∙ b.1);
     }
 
+    first_reached : (ts rest : List T) → Reached p ts rest → Reached (p >>= f) ts rest
+    first_reached ts rest v = record {
+      front = v.front;
+      whole = v.whole;
+      goes = λ r h.
+          let c = completes r h in
+          let d = v.goes (c.0 ++ r) c.1 in
+          let b = c.2 d.1 in
+          (d.0 ++ c.0, b.0, ap (λ l. (p >>= f) (v.front ++ l)) (append_assoc d.0 c.0 r) ∙ ap (λ q. and_then q f) d.2 ∙ b.1, subst (Alike v.front rest) (sym (append_assoc d.0 c.0 r)) d.3);
+    }
+
     pub first_reaches : (ts left : List T) → Reaches p ts left → Reaches (p >>= f) ts left
     first_reaches ts left (near b e plain) = near b e plain
-    first_reaches ts left (far b plain g) = far b plain (first_viable ts (b ++ left) g)
+    first_reaches ts left (far b plain g) = far b plain (first_reached ts (b ++ left) g)
 
     pub bind_viable : ((a : A) → IsCareful s (f a)) → ((a : A) → IsViable (f a)) → (ts : List T) (o : Outcome T A) → Leads s p ts o → ViableAt p ts o → ViableAt (p >>= f) ts (and_then o f)
     bind_viable cf vf ts (Read a rest) first v = second_viable ts a rest (f a rest) first (cf a rest) (vf a rest)
@@ -157,6 +223,13 @@ module _ {T : Type 0} (s : Signs T) where
         let d = cp (c.0 ++ r) c.1 in
         let b = c.2 d.1 in
         (d.0 ++ c.0, b.0, ap (p >>= f) (append_assoc d.0 c.0 r) ∙ ap (λ q. and_then q f) d.2 ∙ b.1)
+
+    pub behind-bind : (t : T) → CompletesAt t p → CompletesAt t (p >>= f)
+    behind-bind t cp r h =
+        let c = completes r h in
+        let d = cp (c.0 ++ r) c.1 in
+        let b = c.2 d.1 in
+        (d.0 ++ c.0, b.0, ap (p >>= f) (append_assoc d.0 c.0 r) ∙ ap (λ q. and_then q f) d.2 ∙ b.1, subst (λ l. (s.bars t l ≡ true) ⊎ (is_calm s l ≡ false)) (sym (append_assoc d.0 c.0 r)) d.3)
 
   -- behind a token
   pub goes_on : {A : Type 0} (p q : Reader T A) (t : T) → ((ts : List T) → q (t ∷ ts) ≡ p ts) → (ts rest : List T) → Goes p ts rest → Goes q (t ∷ ts) rest
@@ -179,14 +252,52 @@ module _ {T : Type 0} (s : Signs T) where
     differs : (ts rest : List T) → too_deep ts ≡ unexpected rest → ⊥
     differs ts rest e = cc
 
-    reaches_behind : s.opens t ≡ false ⊎ (IsTrue (s.opens t) × Completes p) → (ts left : List T) → Reaches p ts left → Reaches q (t ∷ ts) left
-    reaches_behind (inl plain) ts left (near b e others) = near (t ∷ b) (ap (λ r. t ∷ r) e) (plain, others)
-    reaches_behind (inr (o, c)) ts left (near b e others) = far b others (record {
+    -- what may be put behind the token and lets it open a level where it does before what stands there
+    abbrev Behind : List T → Type 0
+    Behind ts = (r : List T) → IsEnd s r → (more : List T) × (a : A) × (p (more ++ r) ≡ Read a r) × (s.bars t ts ≡ true → (s.bars t (more ++ r) ≡ true) ⊎ (is_calm s (more ++ r) ≡ false))
+
+    abbrev May : List T → Type 0
+    May ts = (s.opens t ≡ false) ⊎ Behind ts
+
+    no_opener : {B : Type 0} → s.opens t ≡ false → s.opens t ≡ true → B
+    no_opener plain o = absurd (different (sym plain ∙ o))
+      where
+        different : false ≡ true → ⊥
+        different e = cc
+
+    at_token : (ts left : List T) → ts ≡ left → Behind ts → Reached q (t ∷ ts) left
+    at_token ts left e c = record {
       front = t ∷ [];
       whole = ap (λ r. t ∷ r) e;
-      goes = λ r h. let d = c r h in (d.0, d.1, is (d.0 ++ r) ∙ d.2);
-    })
-    reaches_behind o ts left (far b plain g) = far b plain (goes_on p q t is ts (b ++ left) g)
+      goes = λ r h. let d = c r h in (d.0, d.1, is (d.0 ++ r) ∙ d.2, λ o b. d.3 (ap (s.bars t) e ∙ b));
+    }
+
+    reached_behind : (ts left : List T) → May ts → (front : List T) → ts ≡ front ++ left → ((r : List T) → IsEnd s r → CompletionAlike p front left r) → Reached q (t ∷ ts) left
+    reached_behind ts left (inl plain) [] whole goes = record {
+      front = t ∷ [];
+      whole = ap (λ r. t ∷ r) whole;
+      goes = λ r h. let c = goes r h in (c.0, c.1, is (c.0 ++ r) ∙ c.2, λ o b. no_opener plain o);
+    }
+    reached_behind ts left (inr c) [] whole goes = at_token ts left whole c
+    reached_behind ts left o (x ∷ xs) whole goes = record {
+      front = t ∷ x ∷ xs;
+      whole = ap (λ r. t ∷ r) whole;
+      goes = λ r h. let c = goes r h in (c.0, c.1, is ((x ∷ xs) ++ (c.0 ++ r)) ∙ c.2, c.3);
+    }
+
+    reaches_behind : (ts left : List T) → May ts → Reaches p ts left → Reaches q (t ∷ ts) left
+    reaches_behind ts left (inl plain) (near b e others) = near (t ∷ b) (ap (λ r. t ∷ r) e) (plain, others)
+    reaches_behind ts left (inr c) (near b e others) = far b others (at_token ts (b ++ left) e c)
+    reaches_behind ts left o (far b plain g) = far b plain (reached_behind ts (b ++ left) o g.front g.whole g.goes)
+
+    behind_opening : CompletesAt t p → (ts : List T) → Behind ts
+    behind_opening c ts r h = let d = c r h in (d.0, d.1, d.2, λ b. d.3)
+
+    behind_unless : Completes p → (ts : List T) → s.bars t ts ≡ false → Behind ts
+    behind_unless c ts no_bar r h = let d = c r h in (d.0, d.1, d.2, λ b. absurd (different (sym no_bar ∙ b)))
+      where
+        different : false ≡ true → ⊥
+        different e = cc
 
     -- at once behind the token
     here : (ts rest : List T) → rest ≡ ts → s.bars t ts ≡ true → ((more : List T) → s.bars t more ≡ true → p more ≡ Stopped TooDeep more) → (u : T) × Barred q (t ∷ ts) u rest × Reaches q (t ∷ ts) (u ∷ rest)
@@ -203,19 +314,27 @@ module _ {T : Type 0} (s : Signs T) where
     unless_here k c ts rest e same true o = here ts rest same o k
     unless_here k c ts rest e same false o = let short : CarefulAt s ts (too_deep rest) = subst (CarefulAt s ts) e (c ts o) in absurd (omega (arith, ap length same))
 
+    -- where it doesn't stop at once, the token opens no level
+    no_bar : ((ts : List T) → s.bars t ts ≡ true → p ts ≡ Stopped TooDeep ts) → (ts : List T) (o : Outcome T A) → p ts ≡ o → (too_deep ts ≡ o → ⊥) → (b : Bool) → s.bars t ts ≡ b → s.bars t ts ≡ false
+    no_bar k ts o e other true is = absurd (other (sym (k ts is) ∙ e))
+    no_bar k ts o e other false is = is
+
+    further : (ts rest : List T) (u : T) → Barred p ts u rest → too_deep ts ≡ too_deep rest → ⊥
+    further ts rest u b e = let same = ap rest_of e in omega (arith, ap length same, ap length b.whole, length-append b.front (u ∷ rest))
+
     pub viable_behind : Passes t p → (ts : List T) (o : Outcome T A) → p ts ≡ o → ViableAt p ts o → ViableAt q (t ∷ ts) o
     viable_behind c ts (Read a rest) e v = tt
     viable_behind (plainly plain careful) ts (Stopped TooDeep rest) e (inl same) = let short : CarefulAt s ts (too_deep rest) = subst (CarefulAt s ts) e (careful ts) in absurd (omega (arith, ap length same))
-    viable_behind (plainly plain careful) ts (Stopped TooDeep rest) e (inr (u, o, v)) = inr (u, later ts rest u o, reaches_behind (inl plain) ts (u ∷ rest) v)
-    viable_behind (plainly plain careful) ts (Stopped Unexpected rest) e v = reaches_behind (inl plain) ts rest v
+    viable_behind (plainly plain careful) ts (Stopped TooDeep rest) e (inr (u, o, v)) = inr (u, later ts rest u o, reaches_behind ts (u ∷ rest) (inl plain) v)
+    viable_behind (plainly plain careful) ts (Stopped Unexpected rest) e v = reaches_behind ts rest (inl plain) v
     viable_behind (opening o careful c) ts (Stopped TooDeep rest) e (inl same) = let short : CarefulAt s ts (too_deep rest) = subst (CarefulAt s ts) e (careful ts) in absurd (omega (arith, ap length same))
-    viable_behind (opening o careful c) ts (Stopped TooDeep rest) e (inr (u, k, v)) = inr (u, later ts rest u k, reaches_behind (inr (o, c)) ts (u ∷ rest) v)
-    viable_behind (opening o careful c) ts (Stopped Unexpected rest) e v = reaches_behind (inr (o, c)) ts rest v
+    viable_behind (opening o careful c) ts (Stopped TooDeep rest) e (inr (u, k, v)) = inr (u, later ts rest u k, reaches_behind ts (u ∷ rest) (inr (behind_opening c ts)) v)
+    viable_behind (opening o careful c) ts (Stopped Unexpected rest) e v = reaches_behind ts rest (inr (behind_opening c ts)) v
     viable_behind (at_once o b h) ts (Stopped TooDeep rest) e v = inr (here ts rest (once_is ts rest (sym (h ts) ∙ e)) (b ts) (λ more k. h more))
     viable_behind (at_once o b h) ts (Stopped Unexpected rest) e v = absurd (differs ts rest (sym (h ts) ∙ e))
     viable_behind (unless o c k careful) ts (Stopped TooDeep rest) e (inl same) = inr (unless_here k careful ts rest e same (s.bars t ts) refl)
-    viable_behind (unless o c k careful) ts (Stopped TooDeep rest) e (inr (u, b, v)) = inr (u, later ts rest u b, reaches_behind (inr (o, c)) ts (u ∷ rest) v)
-    viable_behind (unless o c k careful) ts (Stopped Unexpected rest) e v = reaches_behind (inr (o, c)) ts rest v
+    viable_behind (unless o c k careful) ts (Stopped TooDeep rest) e (inr (u, b, v)) = inr (u, later ts rest u b, reaches_behind ts (u ∷ rest) (inr (behind_unless c ts (no_bar k ts (too_deep rest) e (further ts rest u b) (s.bars t ts) refl))) v)
+    viable_behind (unless o c k careful) ts (Stopped Unexpected rest) e v = reaches_behind ts rest (inr (behind_unless c ts (no_bar k ts (unexpected rest) e (λ f. differs ts rest f) (s.bars t ts) refl))) v
 
   module _ {A : Type 0} (f : Turn T A) where
     taken_viable : (t : T) (o : Option (Reader T A)) → f t ≡ o → IsViableTurn t o → (ts : List T) → ViableAt (take_by f) (t ∷ ts) (taken o t ts)
@@ -235,12 +354,12 @@ module _ {T : Type 0} (s : Signs T) where
     viable-if_next a v (t ∷ ts) = tried_viable a t (f t) refl (v t) ts
 
     module _ (q : Reader T A) (vq : IsViable q) (completes : Completes (or_else f q)) where
-      other_goes : (us rest : List T) → ((vs : List T) → head vs ≡ head us → or_else f q vs ≡ q vs) → Goes q us rest → Goes (or_else f q) us rest
+      other_goes : (us rest : List T) → ((vs : List T) → head vs ≡ head us → or_else f q vs ≡ q vs) → Reached q us rest → Reached (or_else f q) us rest
       other_goes us rest passes v = record { front = v.front; whole = v.whole; goes = go v.front v.whole v.goes }
         where
-          go : (front : List T) → us ≡ front ++ rest → ((r : List T) → IsEnd s r → Completion q front r) → (r : List T) → IsEnd s r → Completion (or_else f q) front r
-          go [] whole goes r h = completes r h
-          go (x ∷ front) whole goes r h = let c = goes r h in (c.0, c.1, passes ((x ∷ front) ++ (c.0 ++ r)) (sym (ap head whole)) ∙ c.2)
+          go : (front : List T) → us ≡ front ++ rest → ((r : List T) → IsEnd s r → CompletionAlike q front rest r) → (r : List T) → IsEnd s r → CompletionAlike (or_else f q) front rest r
+          go [] whole goes r h = let c = completes r h in (c.0, c.1, c.2, tt)
+          go (x ∷ front) whole goes r h = let c = goes r h in (c.0, c.1, passes ((x ∷ front) ++ (c.0 ++ r)) (sym (ap head whole)) ∙ c.2, c.3)
 
       other_reaches : (us left : List T) → ((vs : List T) → head vs ≡ head us → or_else f q vs ≡ q vs) → Reaches q us left → Reaches (or_else f q) us left
       other_reaches us left passes (near b e plain) = near b e plain
@@ -297,7 +416,7 @@ module _ {T : Type 0} (s : Signs T) where
 
     item_passes : (t : T) (p : Reader T A) → IsLocal s p → Passes t p → Passes t (p >>= behind)
     item_passes t p lp (plainly plain careful) = plainly plain (careful-bind s p behind lp careful behind_careful)
-    item_passes t p lp (opening o careful c) = opening o (careful-bind s p behind lp careful behind_careful) (completes-bind p behind behind_completes c)
+    item_passes t p lp (opening o careful c) = opening o (careful-bind s p behind lp careful behind_careful) (behind-bind p behind behind_completes t c)
     item_passes t p lp (at_once o b h) = at_once o b (λ ts. ap (λ q. and_then q behind) (h ts))
     item_passes t p lp (unless o c k careful) = unless o (completes-bind p behind behind_completes c) (λ ts h. ap (λ q. and_then q behind) (k ts h)) (λ ts h. bind_careful s p behind behind_careful ts (p ts) (shorter s p ts (p ts) (lp ts)) (careful ts h))
 
@@ -324,9 +443,16 @@ module _ {T : Type 0} (s : Signs T) where
   pub goes_alone : {A : Type 0} (p : Reader T A) (ts rest : List T) → Goes p ts rest → Goes (alone p) ts rest
   goes_alone p ts rest v = record { front = v.front; whole = v.whole; goes = λ r h. alone_completion p v.front r (v.goes r h) }
 
+  reached_alone : {A : Type 0} (p : Reader T A) (ts rest : List T) → Reached p ts rest → Reached (alone p) ts rest
+  reached_alone p ts rest v = record {
+    front = v.front;
+    whole = v.whole;
+    goes = λ r h. let c = v.goes r h in (c.0, (c.1, _), ap (λ o. noted (length (v.front ++ (c.0 ++ r))) o) c.2, c.3);
+  }
+
   alone_reaches : {A : Type 0} (p : Reader T A) (ts left : List T) → Reaches p ts left → Reaches (alone p) ts left
   alone_reaches p ts left (near b e plain) = near b e plain
-  alone_reaches p ts left (far b plain g) = far b plain (goes_alone p ts (b ++ left) g)
+  alone_reaches p ts left (far b plain g) = far b plain (reached_alone p ts (b ++ left) g)
 
   alone_barred : {A : Type 0} (p : Reader T A) (ts rest : List T) (t : T) → Barred p ts t rest → Barred (alone p) ts t rest
   alone_barred p ts rest t b = record { front = b.front; whole = b.whole; opened = b.opened; again = λ more h. ap (noted (length (b.front ++ t ∷ more))) (b.again more h) }

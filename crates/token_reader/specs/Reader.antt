@@ -1,5 +1,5 @@
 -- Readers of tokens.
-use Rattle.std.specs.Prelude.{ℕ, zero, suc, ◌+◌, ◌==◌, Bool, true, false, List, [], ◌∷◌, length, Option, Some, None}
+use Rattle.std.specs.Prelude.{◌≡◌, ℕ, zero, suc, ◌+◌, ◌==◌, Bool, true, false, List, [], ◌∷◌, length, Option, Some, None}
 
 -- why a reader stops: at the first token that is left, or at the token before it, which opens a level too deep
 pub data Refusal : Type 0 where
@@ -116,12 +116,13 @@ with_rest more (Read a rest) = Read a more
 with_rest more (Stopped r rest) = Stopped r more
 
 -- tokens at which each construct ends; those that may open a level; those that tell, behind one that may, that it opens none;
--- and whether a token opens a level before others
+-- whether a token opens a level before others; and that none tells so of those at which constructs end
 pub record Signs (T : Type 0) : Type 0 where
   pub ends : T → Bool
   pub opens : T → Bool
   pub calms : T → Bool
   pub bars : T → List T → Bool
+  pub quiet : (t : T) → ends t ≡ true → calms t ≡ false
 
 -- with the list that was read changed
 abbrev pub with_list : {T L : Type 0} → (L → L) → Outcome T L → Outcome T L
