@@ -16,3 +16,4 @@ pub mod ItemLoops
 pub mod ParseLaws
 pub mod AnswerLaws
 pub mod OneRefusal
+pub mod ExactLaws

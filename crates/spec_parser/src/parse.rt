@@ -1,10 +1,12 @@
 // The tree of some tokens, or where they are refused.
 
-ghost use Rattle.std.specs.Prelude.{◌≡◌, ◌-◌, ◌<◌, ◌≤◌, length, IfOk, IfErr, slice_index_or};
+ghost use Rattle.std.specs.Prelude.{◌≡◌, List, ◌-◌, ◌<◌, ◌≤◌, length, IfOk, IfErr, slice_index_or};
 ghost use Rattle.spec_lexer.specs.declared.token.Token.{Token as Spot};
+ghost use Rattle.spec_parser.specs.Tree.{Item};
 ghost use Rattle.spec_parser.specs.Grammar.{Spells};
 ghost use Rattle.spec_parser.specs.Shape.{items_of};
-ghost use Rattle.spec_parser.specs.Answers.{place_at, IsFaultOf};
+ghost use Rattle.spec_parser.specs.Refusals.{IsUnexpected, IsTooDeep};
+ghost use Rattle.spec_parser.specs.Answers.{place_at, IsFaultOf, IsTreeUnlessMemory, IsUnexpectedUnlessMemory, IsTooDeepUnlessMemory};
 
 use crate::item::items;
 use crate::stop::Stop;
@@ -17,8 +19,12 @@ use tsl_value::place::Place;
 /// Why tokens have no tree.
 #[derive(Clone, Copy, PartialEq, Eq, Debug)]
 pub enum ParseFault {
+    /// No tree begins with the tokens up to the one at the place, or no tree has all of them, where
+    /// the place is the end of the source.
     Unexpected { place: Place },
+    /// The token at the place opens the 65th level.
     TooDeep { place: Place },
+    /// Memory was wanting.
     Memory,
 }
 
@@ -43,6 +49,12 @@ pub fn parse(alloc: Global, tokens: &Tokens) -> Result<Tree, ParseFault>
     ensures tree { IfOk result (λ t. Spells 64 tokens.now.tokens (items_of t)) }
     ensures size { IfOk result (λ t. length (items_of t) ≤ length tokens.now.tokens) }
     ensures fault { IfErr result (λ e. IsFaultOf e tokens.now.tokens tokens.now.end) }
+
+    // Where memory is not wanting, the tree comes wherever the tokens spell one, and so does each
+    // fault.
+    ensures tree_exactly { (items : List Item) → Spells 64 tokens.now.tokens items → IsTreeUnlessMemory result items }
+    ensures unexpected_exactly { (front rest : List Spot) → IsUnexpected 64 tokens.now.tokens front rest → IsUnexpectedUnlessMemory result (place_at rest tokens.now.end) }
+    ensures too_deep_exactly { (front : List Spot) (t : Spot) (rest : List Spot) → IsTooDeep 64 tokens.now.tokens front t rest → IsTooDeepUnlessMemory result t.place }
 {
     let all = tokens.as_slice();
     match items(alloc, 64, all) {

@@ -204,8 +204,8 @@ fn operands_of_one_level_stand_in_one_list(rt: HostRuntime) {
     let Ok(tree) = read(rt.alloc(), b"out a < b + c - d * e as f") else {
         panic!(rt; "no tree");
     };
-    match &tree.items()[0] {
-        Item::OutputAs(_, expression, _, _) => assert!(rt; is_below_a_sum(expression)),
+    match tree.items() {
+        [Item::OutputAs(_, expression, _, _)] => assert!(rt; is_below_a_sum(expression)),
         _ => assert!(rt; false),
     }
 }

@@ -1,6 +1,6 @@
 -- A reader that stops at a level too deep has passed a token.
-use Rattle.std.proofs.Common.{ℕ, ◌<◌, ◌≤◌, Bool, List, [], ◌∷◌, length, Option, Some, None, sym, subst, arith}
-use Rattle.token_reader.specs.Reader.{Signs, Unexpected, TooDeep, Outcome, Read, Stopped, Reader, Turn, Lister, give, and_then, ◌>>=◌, when, taken, take_by, expect, tried, if_next, chosen, or_else, noted, alone, looped, many, rest_of}
+use Rattle.std.proofs.Common.{ℕ, ◌≤◌, Bool, List, [], ◌∷◌, length, Option, Some, None, arith}
+use Rattle.token_reader.specs.Reader.{Signs, Unexpected, TooDeep, Outcome, Read, Stopped, Reader, Turn, give, and_then, ◌>>=◌, when, taken, take_by, expect, tried, if_next, chosen, or_else, noted, alone, rest_of}
 use Rattle.token_reader.proofs.LocalLaws.{CarefulAt, IsCareful, IsLocal, IsLocalTurn, shorter, local_when, local-give, local-bind, local-expect}
 
 module _ {T : Type 0} (s : Signs T) where

@@ -1,6 +1,5 @@
 -- The laws hold at fewer ending tokens, and a reader may be followed by one that goes on at some of them.
 use Rattle.std.proofs.Common.{◌≡◌, Bool, true, false, List, [], ◌∷◌, ◌++◌, length, refl, sym, ap, subst, ◌∙◌, inl, inr, arith, append_assoc}
-use Rattle.std.specs.Prelude.{◌⊎◌}
 use Rattle.token_reader.specs.Reader.{Signs, Unexpected, TooDeep, Outcome, Read, Stopped, Reader, and_then, ◌>>=◌, head}
 use Rattle.token_reader.proofs.LocalLaws.{IsEnd, CarefulAt, IsCareful, Leads, IsLocal, Follows, local-bind}
 use Rattle.token_reader.proofs.ViableLaws.{Completion, Completes, CompletesAt, Goes, Reached, CompletionAlike, Alike, alike_end, alike_behind, Reaches, near, far, Barred, ViableAt, IsViable}

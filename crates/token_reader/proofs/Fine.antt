@@ -1,13 +1,13 @@
 -- All laws of a reader at once, combinator by combinator: of a reader where so many levels may be open, and of the same
 -- reader with one level more.
-use Rattle.std.proofs.Common.{◌≡◌, ℕ, zero, suc, Bool, true, false, List, [], ◌∷◌, ◌++◌, Option, Some, None, refl, sym, subst, ap, ◌∙◌, inl, inr}
+use Rattle.std.proofs.Common.{◌≡◌, ℕ, zero, suc, Bool, true, false, List, [], ◌∷◌, ◌++◌, Option, Some, None, refl, inl, inr}
 use Rattle.std.specs.Prelude.{IsTrue}
-use Rattle.token_reader.specs.Reader.{Signs, Stopped, Refusal, TooDeep, Read, Reader, Turn, Lister, give, refuse, and_then, ◌>>=◌, when, taken, take_by, expect, tried, if_next, or_else, or_given, alone, opened, many}
-use Rattle.token_reader.proofs.LocalLaws.{IsEnd, IsCareful, IsLocal, IsLocalTurn, Declines, IsEager, Stays, local-give, local-refuse, local-bind, local-take_by, local-if_next, local-or_else, local-alone}
+use Rattle.token_reader.specs.Reader.{Signs, TooDeep, Read, Reader, Turn, Lister, give, refuse, ◌>>=◌, when, take_by, expect, if_next, or_else, alone, opened, many}
+use Rattle.token_reader.proofs.LocalLaws.{IsEnd, IsCareful, IsLocal, IsLocalTurn, Declines, Stays, local-give, local-refuse, local-bind, local-take_by, local-if_next, local-or_else, local-alone}
 use Rattle.token_reader.proofs.ManyLaws.{many_end, careful-many, local-many}
-use Rattle.token_reader.proofs.CarefulLaws.{careful-give, careful-bind, careful-take_by, careful-if_next, careful-or_else, careful-alone}
-use Rattle.token_reader.proofs.ViableLaws.{IsViable, Passes, plainly, opening, at_once, unless, IsViableTurn, Completes, CompletesAll, CompletesEach, Begins, Skips, viable-give, viable-too_deep, viable-bind, viable-take_by, viable-if_next, viable-or_else, viable-many, viable-alone, completes-give, completes-each, completes-bind, completes-begins, each-give, each-one, each-expect, all-expect, all-skips, all-begins, skips-if_next}
-use Rattle.token_reader.proofs.RoomLaws.{IsBelow, IsTurnBelow, rises_same, below_same, below-bind, below-take_by, below-if_next, below-or_else, below-many, below-alone, Deepens, TurnDeepens, deepens-give, deepens-refuse, deepens-bind, deepens-take_by, deepens-if_next, deepens-or_else, deepens-many, deepens-alone}
+use Rattle.token_reader.proofs.CarefulLaws.{careful-give, careful-bind, careful-take_by, careful-if_next, careful-or_else}
+use Rattle.token_reader.proofs.ViableLaws.{IsViable, Passes, plainly, opening, at_once, IsViableTurn, Completes, CompletesAll, CompletesEach, Begins, Skips, viable-give, viable-too_deep, viable-bind, viable-take_by, viable-if_next, viable-or_else, viable-many, viable-alone, completes-give, completes-each, each-give, each-one, each-expect, all-expect, all-skips, all-begins, skips-if_next}
+use Rattle.token_reader.proofs.RoomLaws.{IsBelow, IsTurnBelow, below_same, below-bind, below-take_by, below-if_next, below-or_else, below-many, below-alone, Deepens, TurnDeepens, deepens-give, deepens-refuse, deepens-bind, deepens-take_by, deepens-if_next, deepens-or_else, deepens-many, deepens-alone}
 
 module _ {T : Type 0} (s : Signs T) where
   pub record IsFine {A : Type 0} (p q : Reader T A) : Type 0 where

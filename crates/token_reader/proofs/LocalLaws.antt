@@ -1,6 +1,6 @@
 -- A reader looks at one token beyond what it passes. Behind what it read the next token may also be changed to one that
 -- ends each construct: no reader goes on at such a token.
-use Rattle.std.proofs.Common.{◌≡◌, ℕ, ◌+◌, ◌==◌, ◌<◌, ◌≤◌, Bool, true, false, List, [], ◌∷◌, ◌++◌, length, Option, Some, None, refl, sym, ap, ◌∙◌, inl, inr, arith, append_assoc, length-append}
+use Rattle.std.proofs.Common.{◌≡◌, ◌+◌, ◌==◌, ◌<◌, ◌≤◌, Bool, true, false, List, [], ◌∷◌, ◌++◌, length, Option, Some, None, refl, sym, ap, ◌∙◌, inl, inr, arith, append_assoc, length-append}
 use Rattle.std.specs.Prelude.{◌⊎◌, IsTrue}
 use Rattle.token_reader.specs.Reader.{Signs, Refusal, Unexpected, TooDeep, Outcome, Read, Stopped, Reader, Turn, give, refuse, and_then, ◌>>=◌, when, taken, take_by, expect, tried, if_next, chosen, or_else, noted, alone, head, rest_of, with_rest}
 

@@ -1,9 +1,8 @@
 -- More room changes no outcome but that of a level too deep, which one level more completes.
-use Rattle.std.proofs.Common.{◌≡◌, ℕ, zero, suc, ◌≤◌, Bool, true, false, List, [], ◌∷◌, ◌++◌, length, Option, Some, None, refl, sym, ap, subst, ◌∙◌, inl, inr, arith, append_assoc}
-use Rattle.std.specs.Prelude.{◌⊎◌}
+use Rattle.std.proofs.Common.{◌≡◌, ℕ, zero, suc, ◌≤◌, Bool, true, false, List, [], ◌∷◌, ◌++◌, length, Option, Some, None, refl, sym, ap, subst, ◌∙◌, arith}
 use Rattle.token_reader.specs.Reader.{Signs, Unexpected, TooDeep, Outcome, Read, Stopped, Reader, Turn, Lister, give, refuse, and_then, ◌>>=◌, when, taken, take_by, tried, if_next, chosen, or_else, noted, alone, looped, loop, many, head, rest_of}
 use Rattle.token_reader.proofs.LocalLaws.{IsEnd, Leads, IsLocal, IsLocalTurn, Declines, some_is, shorter}
-use Rattle.token_reader.proofs.ManyLaws.{many_again, many_none, many_end, local-many}
+use Rattle.token_reader.proofs.ManyLaws.{many_again, many_none, many_end}
 use Rattle.token_reader.proofs.ViableLaws.{Completion, Goes, Completes, CompletesAll, goes_alone, second_goes_on, first_viable, goes_on}
 
 module _ {T : Type 0} where
