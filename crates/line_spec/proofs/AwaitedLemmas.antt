@@ -94,15 +94,15 @@ once-push (b ∷ awaited) a new h =
     list_any-append (is_for b.name) awaited (a ∷ []) ∙ rw h.0 (rw (flipped b.name a.name parts.0) refl) in
     (none, once-push awaited a parts.1 h.1)
 
+pub without-none : (n : List ℕ) (awaited : List Awaited) → list_any (is_for n) awaited ≡ false → without n awaited ≡ awaited
+without-none n [] none = refl
+without-none n (a ∷ awaited) none =
+    let parts = either_false (bytes_eq a.name n) (list_any (is_for n) awaited) none in
+    rw parts.0 (ap (λ others. a ∷ others) (without-none n awaited parts.1))
+
 -- the first one is taken out, and the others stay
 pub without-first : (a : Awaited) (awaited : List Awaited) → AreOnce (a ∷ awaited) → without a.name (a ∷ awaited) ≡ awaited
-without-first a awaited h = rw (same_bytes a.name) (others awaited h.0)
-  where
-    others : (ws : List Awaited) → list_any (is_for a.name) ws ≡ false → without a.name ws ≡ ws
-    others [] none = refl
-    others (b ∷ ws) none =
-        let parts = either_false (bytes_eq b.name a.name) (list_any (is_for a.name) ws) none in
-        rw parts.0 (ap (λ bs. b ∷ bs) (others ws parts.1))
+without-first a awaited h = rw (same_bytes a.name) (without-none a.name awaited h.0)
 
 pub length-without : (n : List ℕ) (awaited : List Awaited) → length (without n awaited) ≤ length awaited
 length-without n [] = omega arith

@@ -116,9 +116,13 @@ later_whole =
     record {
       spelled = (
         record { digits = []; text = refl; names = refl; number = tt },
-        (record { digits = []; text = refl; names = refl; number = tt },
-        (record { digits = []; text = refl; names = refl; number = tt },
-        (record { digits = codes "010"; text = refl; names = refl; number = ten }, (record { digits = []; text = refl; names = refl; number = tt }, tt)))),
+        (
+          record { digits = []; text = refl; names = refl; number = tt },
+          (
+            record { digits = []; text = refl; names = refl; number = tt },
+            (record { digits = codes "010"; text = refl; names = refl; number = ten }, (record { digits = []; text = refl; names = refl; number = tt }, tt)),
+          ),
+        ),
       );
       allowed = (refl, (refl, (refl, (refl, (refl, tt)))));
       none_awaited = refl;

@@ -8,4 +8,5 @@ pub mod Systems
 pub mod Order
 pub mod ReadLemmas
 pub mod LawLemmas
+pub mod WholeLemmas
 mod Examples

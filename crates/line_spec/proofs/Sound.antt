@@ -19,6 +19,7 @@ use Rattle.line_spec.specs.declared.table.Awaited.{Awaited}
 use Rattle.line_spec.specs.declared.table.Declaration.{Declaration}
 use Rattle.line_spec.specs.Name.{is_name, is_name_byte, begins_no_number, is_taken}
 use Rattle.line_spec.specs.Item.{used_names, amount_of, item_names, type_of_input}
+use Rattle.line_spec.specs.Whole.{amount_in}
 use Rattle.line_spec.specs.Table.{Declared, nothing, numbered, is_named, type_among, same_type, common_type, first_type, expression_type, is_for, is_awaited, without, newly_awaited, awaited_with, is_new, is_expected, has_room, may_be_int, has_amount, is_allowed_input, is_allowed_definition, is_allowed, with_input, with_definition, with_output, with_item, with_items, AreAllowed, IsDeclared}
 use Rattle.line_spec.proofs.NameLemmas.{both_true}
 use Rattle.line_spec.proofs.TableLemmas.{is_some-find, find-insert, list_any-insert, list_any-insert_none, same_types}
@@ -76,7 +77,7 @@ have-typed ds n of h = sym (is_some-find (is_named n) ds) ∙ some_mapped _ h
     some_mapped None h = (cc)
     some_mapped (Some d) h = refl
 
-type_among-insert : (xs : List Declaration) (d : Declaration) (ys : List Declaration) (n : List ℕ) (of : ScalarType) → list_any (is_named d.name) (xs ++ ys) ≡ false → type_among (xs ++ ys) n ≡ Some of → type_among (xs ++ d ∷ ys) n ≡ Some of
+pub type_among-insert : (xs : List Declaration) (d : Declaration) (ys : List Declaration) (n : List ℕ) (of : ScalarType) → list_any (is_named d.name) (xs ++ ys) ≡ false → type_among (xs ++ ys) n ≡ Some of → type_among (xs ++ d ∷ ys) n ≡ Some of
 type_among-insert xs d ys n of new h = by_test (bytes_eq d.name n) refl
   where
     by_test : (b : Bool) → bytes_eq d.name n ≡ b → type_among (xs ++ d ∷ ys) n ≡ Some of
@@ -232,11 +233,6 @@ abbrev pub AreDistinct : List (List ℕ) → Type 0
 AreDistinct [] = Unit {0}
 AreDistinct (n ∷ ns) = AllByRecursion (λ m. m ≢ n) ns × AreDistinct ns
 
--- the first name of a delay
-abbrev pub amount_in : Option Expression → Option (List ℕ)
-amount_in None = None
-amount_in (Some e) = amount_of e
-
 -- it is Int, or awaited
 abbrev pub IsAmount : List Declaration → List Awaited → Option (List ℕ) → Type 0
 IsAmount ds awaited None = Unit {0}
@@ -279,7 +275,7 @@ not_declared ds n h = sym (is_some-find (is_named n) ds) ∙ none _ h
 room-less : (t : Declared) (awaited : ℕ) → has_room t awaited ≡ true → length (numbered t) + awaited < 4096
 room-less t awaited h = grind (arith, nat_tests, h)
 
-length-insert : {X : Type 0} (xs : List X) (d : X) (ys : List X) → length (xs ++ d ∷ ys) ≡ length (xs ++ ys) + 1
+pub length-insert : {X : Type 0} (xs : List X) (d : X) (ys : List X) → length (xs ++ d ∷ ys) ≡ length (xs ++ ys) + 1
 length-insert [] d ys = omega arith
 length-insert (x ∷ xs) d ys = let more = length-insert xs d ys in omega arith
 
@@ -292,13 +288,13 @@ new_input t n of = record { name = n; expression = None; of = of; line = t.lines
 abbrev new_definition : Declared → List ℕ → Expression → ScalarType → Declaration
 new_definition t n e of = record { name = n; expression = Some e; of = of; line = t.lines + 1 }
 
-not_false : (b : Bool) → not b ≡ true → b ≡ false
+pub not_false : (b : Bool) → not b ≡ true → b ≡ false
 not_false true h = (cc)
 not_false false h = refl
 
 -- ---- first names of delays
 -- a name has the type of its declaration
-type-inserted : (xs : List Declaration) (d : Declaration) (ys : List Declaration) → list_any (is_named d.name) (xs ++ ys) ≡ false → type_among (xs ++ d ∷ ys) d.name ≡ Some d.of
+pub type-inserted : (xs : List Declaration) (d : Declaration) (ys : List Declaration) → list_any (is_named d.name) (xs ++ ys) ≡ false → type_among (xs ++ d ∷ ys) d.name ≡ Some d.of
 type-inserted [] d ys new = rw (same_bytes d.name) refl
 type-inserted (x ∷ xs) d ys new = by_test (bytes_eq x.name d.name) new (type-inserted xs d ys)
   where
@@ -335,7 +331,7 @@ waiting-insert xs d ys awaited h =
     (λ a k. record { named = k.0.named; new = list_any-insert_none (is_named a.name) xs d ys (flipped a.name d.name k.1) k.0.new })
     (without d.name awaited) (without-all (IsWaiting (xs ++ ys)) d.name awaited h)
 
-all-append : {X : Type 0} (P : X → Type 0) (xs ys : List X) → AllByRecursion P xs → AllByRecursion P ys → AllByRecursion P (xs ++ ys)
+pub all-append : {X : Type 0} (P : X → Type 0) (xs ys : List X) → AllByRecursion P xs → AllByRecursion P ys → AllByRecursion P (xs ++ ys)
 all-append P [] ys g h = h
 all-append P (x ∷ xs) ys g h = (g.0, all-append P xs ys g.1 h)
 
@@ -535,11 +531,11 @@ sound-output t n new known h =
       outputs_differ = distinct-push t.outputs n new h.outputs_differ;
     }
 
-there : (o : Option ScalarType) → is_some o ≡ true → o ≡ Some (unwrap_or o scalar_type.Int)
+pub there : (o : Option ScalarType) → is_some o ≡ true → o ≡ Some (unwrap_or o scalar_type.Int)
 there None h = (cc)
 there (Some of) h = refl
 
-typed-there : (t : Declared) (n : List ℕ) (o : Option ScalarType) → is_expected t n o ≡ true → is_some o ≡ true
+pub typed-there : (t : Declared) (n : List ℕ) (o : Option ScalarType) → is_expected t n o ≡ true → is_some o ≡ true
 typed-there t n None h = (cc)
 typed-there t n (Some of) h = refl
 

@@ -26,8 +26,9 @@ use Rattle.line_spec.specs.declared.table.Declaration.{Declaration}
 use Rattle.line_spec.specs.Item.{used_names}
 use Rattle.line_spec.specs.Table.{Declared, numbered, is_named, type_among, same_type, common_type, first_type}
 use Rattle.line_spec.specs.Meaning.{number_of, binary_of, literal_of, strict_lift, op_of, arguments_of, equation_of, output_of}
+use Rattle.line_spec.specs.Whole.{amount_in}
 use Rattle.line_spec.proofs.TableLemmas.{found_at, position-below, position-within, same_types}
-use Rattle.line_spec.proofs.Sound.{Have, HaveAll, HasType, AreEarlier, AreSound, AreDistinct, IsAmount, AreAmounts, IsSound, names_of, amount_in, all-map}
+use Rattle.line_spec.proofs.Sound.{Have, HaveAll, HasType, AreEarlier, AreSound, AreDistinct, IsAmount, AreAmounts, IsSound, names_of, all-map}
 
 -- ---- the declarations of the equations
 abbrev pub equations_of : List Declaration → List Equation
@@ -105,10 +106,10 @@ number-kind args z = literal refl
 -- a lift over a name
 typed_lift : (ds : List Declaration) (a : List ℕ) (e : Expression) (body : Tree) (t : ScalarType) → type_among ds a ≡ Some t → used_names e ≡ a ∷ [] → op_of (Some e) ≡ strict_lift body → HasKind (plain t ∷ []) body int_kind → IsTypedBy ds (Some e) scalar_type.Int
 typed_lift ds a e body t is names lifts kind = (
-      value_type.Scalar t ∷ [],
-      subst (λ ns. AreOfTypes (equations_of ds) (map (number_of ds) ns) (value_type.Scalar t ∷ [])) (sym names) (type_at ds a t is, tt),
-      subst (λ o. IsTyped o (value_type.Scalar t ∷ []) (value_type.Scalar scalar_type.Int)) (sym lifts) (lift (omega arith) (omega arith) kind),
-    )
+  value_type.Scalar t ∷ [],
+  subst (λ ns. AreOfTypes (equations_of ds) (map (number_of ds) ns) (value_type.Scalar t ∷ [])) (sym names) (type_at ds a t is, tt),
+  subst (λ o. IsTyped o (value_type.Scalar t ∷ []) (value_type.Scalar scalar_type.Int)) (sym lifts) (lift (omega arith) (omega arith) kind),
+)
 
 typed_const : (ds : List Declaration) (z : ℤ) (a : List ℕ) (of : ScalarType) (o : Option ScalarType) → type_among ds a ≡ o → option_map (λ _. scalar_type.Int) o ≡ Some of → IsTypedBy ds (Some (expression.Const z a)) of
 typed_const ds z a of None is h = (cc)

@@ -4,4 +4,5 @@ pub mod Parts
 pub mod Table
 pub mod Meaning
 pub mod Reading
+pub mod Whole
 pub mod Laws

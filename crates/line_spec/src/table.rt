@@ -325,10 +325,7 @@ impl Table {
     fn awaited_line(&self, name: &str) -> Option<u32>
         ensures { result ≡ option_map (λ a. a.line) (find (is_for name.now) self.now.awaited) }
     {
-        self.awaited
-            .iter()
-            .find(|a| a.is_for(name))
-            .map(|a| a.line)
+        self.awaited.iter().find(|a| a.is_for(name)).map(|a| a.line)
     }
 
     /// The line of the first delay that awaits a name, where it is declared with another type than Int, and else the
