@@ -380,11 +380,11 @@ module _ (room : ℕ) where
   abbrev body_at_deep : Reader Body
   body_at_deep = a_body (block (suc room)) (within (suc (suc room)))
 
-  input_item : IsFine signs (input_behind room) (input_behind (suc room))
-  input_item = named_fine ends ends_quiet (λ place n. must is_colon (type_in (suc room) >>= λ y. give (tree.Input place n y))) (λ place n. must is_colon (type_in (suc (suc room)) >>= λ y. give (tree.Input place n y))) (λ place n. typed_fine (tree.Input place n) (type_in (suc room)) (type_in (suc (suc room))) (type_fine (suc room)) (type_completes room) (type_completes (suc room)) (type_careful room)) (λ place n. typed_careful (tree.Input place n) (type_in (suc room)) (type_fine (suc room)).local) (typed_complete (tree.Input start (codes "Int")) (type_in (suc (suc room))) (type_completes (suc room)))
+  input_item : (at : Place) → IsFine signs (input_behind room at) (input_behind (suc room) at)
+  input_item at = named_fine ends ends_quiet (λ place n. must is_colon (type_in (suc room) >>= λ y. give (tree.Input at place n y))) (λ place n. must is_colon (type_in (suc (suc room)) >>= λ y. give (tree.Input at place n y))) (λ place n. typed_fine (tree.Input at place n) (type_in (suc room)) (type_in (suc (suc room))) (type_fine (suc room)) (type_completes room) (type_completes (suc room)) (type_careful room)) (λ place n. typed_careful (tree.Input at place n) (type_in (suc room)) (type_fine (suc room)).local) (typed_complete (tree.Input at start (codes "Int")) (type_in (suc (suc room))) (type_completes (suc room)))
 
-  input_careful : IsCareful signs (input_behind room)
-  input_careful = named_careful (λ place n. must is_colon (type_in (suc room) >>= λ y. give (tree.Input place n y))) signs (λ place n. typed_local (tree.Input place n) (type_in (suc room)) (type_fine (suc room)).local)
+  input_careful : (at : Place) → IsCareful signs (input_behind room at)
+  input_careful at = named_careful (λ place n. must is_colon (type_in (suc room) >>= λ y. give (tree.Input at place n y))) signs (λ place n. typed_local (tree.Input at place n) (type_in (suc room)) (type_fine (suc room)).local)
 
   abbrev whole : Place → List ℕ → Reader Definition
   whole place n = may_have_params room (type_in room) >>= behind_params (type_in (suc room)) body place n
@@ -407,11 +407,11 @@ module _ (room : ℕ) where
   whole_item : IsFine signs (whole_definition room) (whole_definition (suc room))
   whole_item = named_fine ends ends_quiet whole whole_deep whole_fine whole_careful (whole_deeper start (codes "Int"))
 
-  definition_item : IsFine signs (definition_behind room) (definition_behind (suc room))
-  definition_item = mapped signs (whole_definition room) (whole_definition (suc room)) tree.Defined whole_item
+  definition_item : (at : Place) → IsFine signs (definition_behind room at) (definition_behind (suc room) at)
+  definition_item at = mapped signs (whole_definition room) (whole_definition (suc room)) (tree.Defined at) whole_item
 
-  definition_item_careful : IsCareful signs (definition_behind room)
-  definition_item_careful = careful-bind signs (whole_definition room) (λ d. give (tree.Defined d)) whole_item.local (named_careful whole signs (λ place n. (whole_fine place n).local)) (λ d. careful-give signs (tree.Defined d))
+  definition_item_careful : (at : Place) → IsCareful signs (definition_behind room at)
+  definition_item_careful at = careful-bind signs (whole_definition room) (λ d. give (tree.Defined at d)) whole_item.local (named_careful whole signs (λ place n. (whole_fine place n).local)) (λ d. careful-give signs (tree.Defined at d))
 
   -- outputs
   module _ (place : Place) where
@@ -465,8 +465,8 @@ module _ (room : ℕ) where
     output_careful = careful-bind item_signs (alone (within (suc room))) (behind_output place) (fine_item (alone (within (suc room))) (alone (within (suc (suc room)))) (fine-alone signs (within (suc room)) (within (suc (suc room))) (within_operand room).fine)).local (careful-alone signs (within (suc room)) (within_operand room).careful) (λ x. given_careful x.0 (plain_output place x))
 
   item_turn : (t : Token) (k : Kind) → t.kind ≡ k → IsFineTurn item_signs t (at_item room t.place k) (at_item (suc room) t.place k)
-  item_turn t (kind.Word word.In) e = (fine_item (input_behind room) (input_behind (suc room)) input_item, plainly (ap may_open e) input_careful)
-  item_turn t (kind.Word word.Def) e = (fine_item (definition_behind room) (definition_behind (suc room)) definition_item, plainly (ap may_open e) definition_item_careful)
+  item_turn t (kind.Word word.In) e = (fine_item (input_behind room t.place) (input_behind (suc room) t.place) (input_item t.place), plainly (ap may_open e) (input_careful t.place))
+  item_turn t (kind.Word word.Def) e = (fine_item (definition_behind room t.place) (definition_behind (suc room) t.place) (definition_item t.place), plainly (ap may_open e) (definition_item_careful t.place))
   item_turn t (kind.Word word.Out) e = (output_item t.place, plainly (ap may_open e) (output_careful t.place))
   item_turn t _ e = tt
 

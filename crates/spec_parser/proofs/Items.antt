@@ -298,30 +298,30 @@ module _ (room : ℕ) where
       passes_by (alone expr) (behind_output place) ts (a ∷ u ∷ rest) (e, length ts == 1 + length (a ∷ u ∷ rest)) (alone_is ts (a ∷ u ∷ rest) e (expr_complete d))
       ∙ as_is_read place e (plain_output place (e, length ts == 1 + length (a ∷ u ∷ rest))) a u n rest is named_so
 
-  whole_sound : (t : Token) → t.kind ≡ kind.Word word.Def → (ts : List Token) → Meets (λ d rest. IsItem room (t ∷ ts) (tree.Defined d) rest) (whole_definition room ts)
-  whole_sound t is ts = meets_named (λ place n. may_have_params room (type_in room) >>= behind_params (type_in (suc room)) (body_in room) place n) (λ us. ts ≡ us) (λ d rest. IsItem room (t ∷ ts) (tree.Defined d) rest) ts refl (λ u n us e named_so.
-      subst (λ ws. Meets (λ d rest. IsItem room (t ∷ ws) (tree.Defined d) rest) (and_then (may_have_params room (type_in room) us) (behind_params (type_in (suc room)) (body_in room) u.place n))) (sym e)
-      (meets_bind (MayHaveParams room us) (λ d rest. IsItem room (t ∷ u ∷ us) (tree.Defined d) rest) (may_have_params room (type_in room) us) (behind_params (type_in (suc room)) (body_in room) u.place n) (may_params_sound room us) (λ ps vs dp.
-      params_behind_sound room (body_in room) (body_sound room (block_sound room)) u.place n (λ d rest. IsItem room (t ∷ u ∷ us) (tree.Defined d) rest) ps vs (λ w b a ws rest dw h db. definition is named_so dp dw h db))))
+  whole_sound : (t : Token) → t.kind ≡ kind.Word word.Def → (ts : List Token) → Meets (λ d rest. IsItem room (t ∷ ts) (tree.Defined t.place d) rest) (whole_definition room ts)
+  whole_sound t is ts = meets_named (λ place n. may_have_params room (type_in room) >>= behind_params (type_in (suc room)) (body_in room) place n) (λ us. ts ≡ us) (λ d rest. IsItem room (t ∷ ts) (tree.Defined t.place d) rest) ts refl (λ u n us e named_so.
+      subst (λ ws. Meets (λ d rest. IsItem room (t ∷ ws) (tree.Defined t.place d) rest) (and_then (may_have_params room (type_in room) us) (behind_params (type_in (suc room)) (body_in room) u.place n))) (sym e)
+      (meets_bind (MayHaveParams room us) (λ d rest. IsItem room (t ∷ u ∷ us) (tree.Defined t.place d) rest) (may_have_params room (type_in room) us) (behind_params (type_in (suc room)) (body_in room) u.place n) (may_params_sound room us) (λ ps vs dp.
+      params_behind_sound room (body_in room) (body_sound room (block_sound room)) u.place n (λ d rest. IsItem room (t ∷ u ∷ us) (tree.Defined t.place d) rest) ps vs (λ w b a ws rest dw h db. definition is named_so dp dw h db))))
 
   -- items
   item_sound : (t : Token) (k : Kind) → t.kind ≡ k → (ts : List Token) → Meets (IsItem room (t ∷ ts)) (taken (at_item room t.place k) t ts)
-  item_sound t (kind.Word word.In) is ts = meets_named (λ place n. must is_colon (type_in (suc room) >>= λ y. give (tree.Input place n y))) (λ us. ts ≡ us) (IsItem room (t ∷ ts)) ts refl (λ u n us e named_so.
-      subst (λ ws. Meets (IsItem room (t ∷ ws)) (must is_colon (type_in (suc room) >>= λ y. give (tree.Input u.place n y)) us)) (sym e)
-      (typed_sound room (tree.Input u.place n) (IsItem room (t ∷ u ∷ us)) (λ vs. us ≡ vs) us refl (λ c vs rest y e colon d. subst (λ ws. IsItem room (t ∷ u ∷ ws) (tree.Input u.place n y) rest) (sym e) (input is named_so colon d))))
+  item_sound t (kind.Word word.In) is ts = meets_named (λ place n. must is_colon (type_in (suc room) >>= λ y. give (tree.Input t.place place n y))) (λ us. ts ≡ us) (IsItem room (t ∷ ts)) ts refl (λ u n us e named_so.
+      subst (λ ws. Meets (IsItem room (t ∷ ws)) (must is_colon (type_in (suc room) >>= λ y. give (tree.Input t.place u.place n y)) us)) (sym e)
+      (typed_sound room (tree.Input t.place u.place n) (IsItem room (t ∷ u ∷ us)) (λ vs. us ≡ vs) us refl (λ c vs rest y e colon d. subst (λ ws. IsItem room (t ∷ u ∷ ws) (tree.Input t.place u.place n y) rest) (sym e) (input is named_so colon d))))
   item_sound t (kind.Word word.Def) is ts =
-      let P : Definition → List Token → Type 0 = λ d rest. IsItem room (t ∷ ts) (tree.Defined d) rest in
-      meets_bind P (IsItem room (t ∷ ts)) (whole_definition room ts) (λ d. give (tree.Defined d)) (whole_sound t is ts) (λ d rest k. k)
+      let P : Definition → List Token → Type 0 = λ d rest. IsItem room (t ∷ ts) (tree.Defined t.place d) rest in
+      meets_bind P (IsItem room (t ∷ ts)) (whole_definition room ts) (λ d. give (tree.Defined t.place d)) (whole_sound t is ts) (λ d rest k. k)
   item_sound t (kind.Word word.Out) is ts = output_sound t is ts
   item_sound t _ is ts = tt
 
   item_is : (t : Token) (ts rest : List Token) (i : Item) → IsItem room (t ∷ ts) i rest → (p : Reader Item) × (at_item room t.place t.kind ≡ Some p) × (p ts ≡ Read i rest)
   item_is t ts rest i (input {u = u} {v = v} {ts = vs} {n = n} {y = y} is named_so colon d) =
-      (_, ap (at_item room t.place) is, named_is (λ place n. must is_colon (type_in (suc room) >>= λ y. give (tree.Input place n y))) u n (v ∷ vs) named_so ∙ typed_is room (tree.Input u.place n) v vs rest y colon d)
+      (_, ap (at_item room t.place) is, named_is (λ place n. must is_colon (type_in (suc room) >>= λ y. give (tree.Input t.place place n y))) u n (v ∷ vs) named_so ∙ typed_is room (tree.Input t.place u.place n) v vs rest y colon d)
   item_is t ts rest i (definition {t = u} {a = a} {ts = us} {us = vs} {vs = ws} {n = n} {ps = ps} {w = w} {b = b} is named_so dp dw h db) = (
     _,
     ap (at_item room t.place) is,
-    ap (λ q. and_then q (λ d. give (tree.Defined d))) (named_is (λ place n. may_have_params room (type_in room) >>= behind_params (type_in (suc room)) (body_in room) place n) u n us named_so
+    ap (λ q. and_then q (λ d. give (tree.Defined t.place d))) (named_is (λ place n. may_have_params room (type_in room) >>= behind_params (type_in (suc room)) (body_in room) place n) u n us named_so
         ∙ passes_by (may_have_params room (type_in room)) (behind_params (type_in (suc room)) (body_in room) u.place n) us vs ps (may_params_complete dp)
         ∙ params_behind_is room (body_in room) u.place n ps vs ws rest w b a dw h (body_complete db)),
   )

@@ -136,8 +136,8 @@ mutual
     one_definition : {room : ℕ} {d t a : Token} {ts us vs rest : List Token} {n : List ℕ} {w : Option TypeName} {b : Body} {ds : Definitions} → d.kind ≡ kind.Word word.Def → IsNamed t n → MayHaveType room ts w (a ∷ us) → defines a.kind ≡ true → IsBody room us b vs → AreDefinitions room vs ds rest → AreDefinitions room (d ∷ t ∷ ts) (more_definitions (tree.Define t.place n [] w b) ds) rest
 
 pub data IsItem : ℕ → List Token → Item → List Token → Type 0 where
-  input : {room : ℕ} {t u v : Token} {ts rest : List Token} {n : List ℕ} {y : TypeName} → t.kind ≡ kind.Word word.In → IsNamed u n → Is v symbol.Colon → IsType room ts y rest → IsItem room (t ∷ u ∷ v ∷ ts) (tree.Input u.place n y) rest
-  definition : {room : ℕ} {d t a : Token} {ts us vs rest : List Token} {n : List ℕ} {ps : List Param} {w : Option TypeName} {b : Body} → d.kind ≡ kind.Word word.Def → IsNamed t n → MayHaveParams room ts ps us → MayHaveType room us w (a ∷ vs) → defines a.kind ≡ true → IsBody room vs b rest → IsItem room (d ∷ t ∷ ts) (tree.Defined (tree.Define t.place n ps w b)) rest
+  input : {room : ℕ} {t u v : Token} {ts rest : List Token} {n : List ℕ} {y : TypeName} → t.kind ≡ kind.Word word.In → IsNamed u n → Is v symbol.Colon → IsType room ts y rest → IsItem room (t ∷ u ∷ v ∷ ts) (tree.Input t.place u.place n y) rest
+  definition : {room : ℕ} {d t a : Token} {ts us vs rest : List Token} {n : List ℕ} {ps : List Param} {w : Option TypeName} {b : Body} → d.kind ≡ kind.Word word.Def → IsNamed t n → MayHaveParams room ts ps us → MayHaveType room us w (a ∷ vs) → defines a.kind ≡ true → IsBody room vs b rest → IsItem room (d ∷ t ∷ ts) (tree.Defined d.place (tree.Define t.place n ps w b)) rest
   -- without `as`, an expression of one token that is a name
   output : {room : ℕ} {t u : Token} {ts : List Token} {p : Place} {n : List ℕ} → t.kind ≡ kind.Word word.Out → IsExpr room (u ∷ ts) (tree.Name p n) ts → IsPast is_as ts → IsItem room (t ∷ u ∷ ts) (tree.Output t.place p n) ts
   output_as : {room : ℕ} {t a u : Token} {ts rest : List Token} {n : List ℕ} {e : Expr} → t.kind ≡ kind.Word word.Out → IsExpr room ts e (a ∷ u ∷ rest) → a.kind ≡ kind.Word word.As → IsNamed u n → IsItem room (t ∷ ts) (tree.OutputAs t.place e u.place n) rest

@@ -17,6 +17,13 @@ type_place (tree.MapType p x y) = p
 type_place (tree.OptionType p y) = p
 type_place (tree.EventsType p y) = p
 
+-- the first token of an item
+abbrev pub first_place : tree.Item → Place
+first_place (tree.Input p q n y) = p
+first_place (tree.Defined p d) = p
+first_place (tree.Output p q n) = p
+first_place (tree.OutputAs p e q n) = p
+
 pub type_place_again : (p : Place) (s : TypeShape) → type_place (type_of p s) ≡ p
 type_place_again p shape.Unit = refl
 type_place_again p shape.Int = refl

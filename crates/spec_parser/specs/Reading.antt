@@ -312,14 +312,14 @@ block zero = refuse TooDeep
 block (suc room) = a_block room (block room)
 
 -- items, where so many levels may be open
-abbrev pub input_behind : ℕ → Reader Item
-input_behind room = named (λ place n. typed_by (type_in (suc room)) (tree.Input place n))
+abbrev pub input_behind : ℕ → Place → Reader Item
+input_behind room at = named (λ place n. typed_by (type_in (suc room)) (tree.Input at place n))
 
 abbrev pub whole_definition : ℕ → Reader Definition
 whole_definition room = named (λ place n. may_have_params room (type_in room) >>= behind_params (type_in (suc room)) (a_body (block room) (within (suc room))) place n)
 
-abbrev pub definition_behind : ℕ → Reader Item
-definition_behind room = whole_definition room >>= λ d. give (tree.Defined d)
+abbrev pub definition_behind : ℕ → Place → Reader Item
+definition_behind room at = whole_definition room >>= λ d. give (tree.Defined at d)
 
 abbrev pub plain_output : Place → Expr × Bool → Option Item
 plain_output place (tree.Name p n, true) = Some (tree.Output place p n)
@@ -335,8 +335,8 @@ abbrev pub output_behind : ℕ → Place → Reader Item
 output_behind room place = alone (within (suc room)) >>= behind_output place
 
 abbrev pub at_item : ℕ → Place → Kind → Option (Reader Item)
-at_item room place (kind.Word word.In) = Some (input_behind room)
-at_item room place (kind.Word word.Def) = Some (definition_behind room)
+at_item room place (kind.Word word.In) = Some (input_behind room place)
+at_item room place (kind.Word word.Def) = Some (definition_behind room place)
 at_item room place (kind.Word word.Out) = Some (output_behind room place)
 at_item room place _ = None
 

@@ -140,8 +140,8 @@ abbrev mutual
   size_of_definitions (tree.more_definitions d ds) = 1 + size_of_definition d + size_of_definitions ds
 
 abbrev pub item_of : Item → tree.Item
-item_of (item.Input p n y) = tree.Input p n y
-item_of (item.Defined d) = tree.Defined d
+item_of (item.Input p q n y) = tree.Input p q n y
+item_of (item.Defined p d) = tree.Defined p d
 item_of (item.Output p q n) = tree.Output p q n
 item_of (item.OutputAs p e q n) = tree.OutputAs p e q n
 

@@ -82,9 +82,10 @@ mutual
     more_definitions : Definition → Definitions → Definitions
 
 pub data Item : Type 0 where
-  -- the place of the name
-  Input : Place → List ℕ → TypeName → Item
-  Defined : Definition → Item
+  -- the place of the word `in`, and of the name
+  Input : Place → Place → List ℕ → TypeName → Item
+  -- the place of the word `def`
+  Defined : Place → Definition → Item
   -- the place of the word `out`, and of the name
   Output : Place → Place → List ℕ → Item
   OutputAs : Place → Expr → Place → List ℕ → Item

@@ -17,9 +17,14 @@ use spec_lexer::token::{Kind, Token, Word};
 use std::alloc::Global;
 use tsl_value::place::Place;
 
-fn input(alloc: Global, room: u32, tokens: &[Token]) -> Result<(Item, &[Token]), Stop<'_>>
+fn input(
+    alloc: Global,
+    room: u32,
+    place: Place,
+    tokens: &[Token],
+) -> Result<(Item, &[Token]), Stop<'_>>
     requires { room < 2 ^ 31 }
-    ensures { Gives (λ x. (item_of x.0, x.1.now)) result (input_behind room tokens.now) }
+    ensures { Gives (λ x. (item_of x.0, x.1.now)) result (input_behind room place tokens.now) }
 {
     match tokens {
         [] => Err(Stop::Unexpected(tokens)),
@@ -27,7 +32,7 @@ fn input(alloc: Global, room: u32, tokens: &[Token]) -> Result<(Item, &[Token]),
             Kind::Name(name) => {
                 let rest = pass(Mark::Colon, rest)?;
                 let (of, rest) = type_in_room(alloc, room + 1, rest)?;
-                Ok((Item::Input(token.place, name.copy()?, of), rest))
+                Ok((Item::Input(place, token.place, name.copy()?, of), rest))
             }
             _ => Err(Stop::Unexpected(tokens)),
         },
@@ -131,10 +136,10 @@ fn item_at<'a>(
     ensures { TurnGives (λ x. (item_of x.0, x.1.now)) result (at_item room token.now.place token.now.kind) after.now }
 {
     match &token.kind {
-        Kind::Word(Word::In) => Ok(Some(input(alloc, room, after)?)),
+        Kind::Word(Word::In) => Ok(Some(input(alloc, room, token.place, after)?)),
         Kind::Word(Word::Def) => {
             let (definition, rest) = definition(alloc, room, after)?;
-            Ok(Some((Item::Defined(definition), rest)))
+            Ok(Some((Item::Defined(token.place, definition), rest)))
         }
         Kind::Word(Word::Out) => Ok(Some(output(alloc, room, token.place, after)?)),
         _ => Ok(None),

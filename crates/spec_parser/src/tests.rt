@@ -131,7 +131,7 @@ fn a_large_specification_has_its_tree(rt: HostRuntime) {
     let items = tree.items();
     assert_eq!(rt; items.len(), 15);
     match &items[1] {
-        Item::Defined(definition) => {
+        Item::Defined(_, definition) => {
             let parts = definition.parts();
             assert_eq!(rt; parts.name.as_str(), "since");
             assert_eq!(rt; parts.params.len(), 3);

@@ -253,13 +253,30 @@ impl Definition {
 
 #[derive(Drop)]
 pub enum Item {
-    /// The place of its name, its name and its type.
-    Input(Place, Text, TypeName),
-    Defined(Definition),
+    /// The place of the word `in`, and the place of the name, the name and its type.
+    Input(Place, Place, Text, TypeName),
+    /// The place of the word `def`, and the definition.
+    Defined(Place, Definition),
     /// The place of the word `out`, and the place of the name and the name.
     Output(Place, Place, Text),
     /// The place of the word `out`, the expression, and the place of the printed name and that name.
     OutputAs(Place, Expr, Place, Text),
+}
+
+impl Item {
+    ghost use Rattle.spec_parser.specs.Places.{first_place};
+
+    /// The place of the item's first token.
+    pub fn place(&self) -> Place
+        ensures { result ≡ first_place (item_of self.now) }
+    {
+        match self {
+            Item::Input(place, _, _, _)
+            | Item::Defined(place, _)
+            | Item::Output(place, _, _)
+            | Item::OutputAs(place, _, _, _) => *place,
+        }
+    }
 }
 
 /// The items of a specification.
