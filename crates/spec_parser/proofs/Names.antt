@@ -1,0 +1,125 @@
+-- Names that the grammar knows: from the reader's tests to their spelling.
+use Rattle.std.proofs.Common.{◌≡◌, ℕ, Bool, true, false, not, if◌then◌else◌, List, Option, Some, None, is_some, refl, sym, ap, subst, ◌∙◌, arith}
+use Rattle.std.specs.Prelude.{codes}
+use Rattle.std.specs.Option.{option_map}
+use Rattle.std.specs.Str.{bytes_eq}
+use Rattle.std.proofs.lemmas.Slice.Eq.{bytes_eq-Decides}
+use Rattle.spec_parser.specs.declared.tree.Dotted.{Dotted}
+use Rattle.spec_parser.specs.declared.tree.Dotted.TheVariants as dotted
+use Rattle.spec_parser.specs.declared.words.TypeWord.{TypeWord}
+use Rattle.spec_parser.specs.declared.words.TypeWord.TheVariants as type_word
+use Rattle.spec_parser.specs.declared.words.TypedWord.{TypedWord}
+use Rattle.spec_parser.specs.declared.words.TypedWord.TheVariants as typed_word
+use Rattle.spec_parser.specs.declared.words.Family.{Family}
+use Rattle.spec_parser.specs.declared.words.Family.TheVariants as family
+use Rattle.spec_parser.specs.declared.words.Member.{Member}
+use Rattle.spec_parser.specs.declared.words.Member.TheVariants as member
+use Rattle.spec_parser.specs.Words.{type_word_of, typed_word_of, family_of, family_name, family_in, member_name}
+use Rattle.spec_parser.specs.Reading.{set_member, map_member, text_member, member_of}
+
+bytes_are : (n a : List ℕ) → bytes_eq n a ≡ true → n ≡ a
+bytes_are n a h = grind (arith, h, bytes_eq-Decides n a)
+
+module _ {W : Type 0} where
+  some_same : (x w : W) → Some x ≡ Some w → x ≡ w
+  some_same x w h = cc
+
+  none_some : (w : W) → None ≡ Some w → ⊥
+  none_some w h = cc
+
+  -- one step of a search
+  step : (n : List ℕ) (w : W) (Q : W → Type 0) (a : List ℕ) (x : W) (rest : Option W) → (n ≡ a → Q x) → (rest ≡ Some w → Q w) → (if bytes_eq n a then Some x else rest) ≡ Some w → Q w
+  step n w Q a x rest here others = by (bytes_eq n a) refl
+    where
+      by : (b : Bool) → bytes_eq n a ≡ b → (if b then Some x else rest) ≡ Some w → Q w
+      by true e h = subst Q (some_same x w h) (here (bytes_are n a e))
+      by false e h = others h
+
+abbrev pub type_name : TypeWord → List ℕ
+type_name type_word.Unit = codes "Unit"
+type_name type_word.Int = codes "Int"
+type_name type_word.Bool = codes "Bool"
+type_name type_word.Text = codes "String"
+type_name type_word.Set = codes "Set"
+type_name type_word.Map = codes "Map"
+type_name type_word.Option = codes "Option"
+type_name type_word.Events = codes "Events"
+
+pub type_word_is : (n : List ℕ) (w : TypeWord) → type_word_of n ≡ Some w → n ≡ type_name w
+type_word_is n w =
+    let Q : TypeWord → Type 0 = λ w. n ≡ type_name w in
+    step n w Q (codes "Unit") type_word.Unit _ (λ e. e)
+    (step n w Q (codes "Int") type_word.Int _ (λ e. e)
+    (step n w Q (codes "Bool") type_word.Bool _ (λ e. e)
+    (step n w Q (codes "String") type_word.Text _ (λ e. e)
+    (step n w Q (codes "Set") type_word.Set _ (λ e. e)
+    (step n w Q (codes "Map") type_word.Map _ (λ e. e)
+    (step n w Q (codes "Option") type_word.Option _ (λ e. e)
+    (step n w Q (codes "Events") type_word.Events _ (λ e. e) (λ h. absurd (none_some w h)))))))))
+
+abbrev pub typed_name : TypedWord → List ℕ
+typed_name typed_word.Nil = codes "nil"
+typed_name typed_word.None = codes "None"
+
+pub typed_word_is : (n : List ℕ) (w : TypedWord) → typed_word_of n ≡ Some w → n ≡ typed_name w
+typed_word_is n w =
+    let Q : TypedWord → Type 0 = λ w. n ≡ typed_name w in
+    step n w Q (codes "nil") typed_word.Nil _ (λ e. e)
+    (step n w Q (codes "None") typed_word.None _ (λ e. e) (λ h. absurd (none_some w h)))
+
+pub family_is : (n : List ℕ) (w : Family) → family_of n ≡ Some w → n ≡ family_name w
+family_is n w =
+    let Q : Family → Type 0 = λ w. n ≡ family_name w in
+    step n w Q (codes "Set") family.Set _ (λ e. e)
+    (step n w Q (codes "Map") family.Map _ (λ e. e)
+    (step n w Q (codes "String") family.Text _ (λ e. e) (λ h. absurd (none_some w h))))
+
+abbrev pub member_spelling : Member → List ℕ
+member_spelling (member.Called o) = member_name o
+member_spelling member.EmptySet = codes "empty"
+member_spelling member.EmptyMap = codes "empty"
+
+abbrev pub member_family : Member → Family
+member_family (member.Called o) = family_in o
+member_family member.EmptySet = family.Set
+member_family member.EmptyMap = family.Map
+
+pub member_is : (f : Family) (n : List ℕ) (w : Member) → member_of f n ≡ Some w → (f ≡ member_family w) × (n ≡ member_spelling w)
+member_is family.Set n w =
+    let Q : Member → Type 0 = λ w. (family.Set ≡ member_family w) × (n ≡ member_spelling w) in
+    step n w Q (codes "add") (member.Called dotted.SetAdd) _ (λ e. (refl, e))
+    (step n w Q (codes "remove") (member.Called dotted.SetRemove) _ (λ e. (refl, e))
+    (step n w Q (codes "contains") (member.Called dotted.SetContains) _ (λ e. (refl, e))
+    (step n w Q (codes "size") (member.Called dotted.SetSize) _ (λ e. (refl, e))
+    (step n w Q (codes "empty") member.EmptySet _ (λ e. (refl, e)) (λ h. absurd (none_some w h))))))
+member_is family.Map n w =
+    let Q : Member → Type 0 = λ w. (family.Map ≡ member_family w) × (n ≡ member_spelling w) in
+    step n w Q (codes "add") (member.Called dotted.MapAdd) _ (λ e. (refl, e))
+    (step n w Q (codes "remove") (member.Called dotted.MapRemove) _ (λ e. (refl, e))
+    (step n w Q (codes "contains") (member.Called dotted.MapContains) _ (λ e. (refl, e))
+    (step n w Q (codes "get") (member.Called dotted.MapGet) _ (λ e. (refl, e))
+    (step n w Q (codes "size") (member.Called dotted.MapSize) _ (λ e. (refl, e))
+    (step n w Q (codes "empty") member.EmptyMap _ (λ e. (refl, e)) (λ h. absurd (none_some w h)))))))
+member_is family.Text n w =
+    let Q : Member → Type 0 = λ w. (family.Text ≡ member_family w) × (n ≡ member_spelling w) in
+    step n w Q (codes "concat") (member.Called dotted.StringConcat) _ (λ e. (refl, e))
+    (step n w Q (codes "size") (member.Called dotted.StringSize) _ (λ e. (refl, e)) (λ h. absurd (none_some w h)))
+
+-- and back
+pub family_again : (f : Family) → family_of (family_name f) ≡ Some f
+family_again family.Set = refl
+family_again family.Map = refl
+family_again family.Text = refl
+
+pub member_again : (o : Dotted) → member_of (family_in o) (member_name o) ≡ Some (member.Called o)
+member_again dotted.SetAdd = refl
+member_again dotted.SetRemove = refl
+member_again dotted.SetContains = refl
+member_again dotted.SetSize = refl
+member_again dotted.MapAdd = refl
+member_again dotted.MapRemove = refl
+member_again dotted.MapContains = refl
+member_again dotted.MapGet = refl
+member_again dotted.MapSize = refl
+member_again dotted.StringConcat = refl
+member_again dotted.StringSize = refl

@@ -1,0 +1,206 @@
+-- Which tokens are which.
+use Rattle.std.specs.Prelude.{ℕ, Bool, true, false, not, ◌&&◌, if◌then◌else◌, List, [], ◌∷◌, Option, Some, None, is_some, codes}
+use Rattle.std.specs.Str.{bytes_eq}
+use Rattle.spec_lexer.specs.declared.token.Token.{Token}
+use Rattle.spec_lexer.specs.declared.token.Kind.{Kind}
+use Rattle.spec_lexer.specs.declared.token.Kind.TheVariants as kind
+use Rattle.spec_lexer.specs.declared.token.Word.TheVariants as word
+use Rattle.spec_lexer.specs.declared.token.Symbol.{Symbol}
+use Rattle.spec_lexer.specs.declared.token.Symbol.TheVariants as symbol
+use Rattle.spec_parser.specs.declared.tree.Level.{Level}
+use Rattle.spec_parser.specs.declared.tree.Level.TheVariants as level
+use Rattle.spec_parser.specs.declared.tree.Operator.{Operator}
+use Rattle.spec_parser.specs.declared.tree.Operator.TheVariants as operator
+use Rattle.spec_parser.specs.declared.tree.Comparison.{Comparison}
+use Rattle.spec_parser.specs.declared.tree.Comparison.TheVariants as comparison
+use Rattle.spec_parser.specs.declared.tree.Dotted.{Dotted}
+use Rattle.spec_parser.specs.declared.tree.Dotted.TheVariants as dotted
+use Rattle.spec_parser.specs.declared.words.TypeWord.{TypeWord}
+use Rattle.spec_parser.specs.declared.words.TypeWord.TheVariants as type_word
+use Rattle.spec_parser.specs.declared.words.TypedWord.{TypedWord}
+use Rattle.spec_parser.specs.declared.words.TypedWord.TheVariants as typed_word
+use Rattle.spec_parser.specs.declared.words.Family.{Family}
+use Rattle.spec_parser.specs.declared.words.Family.TheVariants as family
+
+-- the binary operators of each level; a minus that is the first of its line is none
+abbrev pub symbol_at : Level → Symbol → Bool → Option Operator
+symbol_at level.Disjunction symbol.Or first = Some operator.Or
+symbol_at level.Conjunction symbol.And first = Some operator.And
+symbol_at level.Sum symbol.Plus first = Some operator.Add
+symbol_at level.Sum symbol.Minus false = Some operator.Subtract
+symbol_at level.Product symbol.Times first = Some operator.Multiply
+symbol_at level.Product symbol.Divide first = Some operator.Divide
+symbol_at level.Product symbol.Remainder first = Some operator.Remainder
+symbol_at _ _ first = None
+
+abbrev pub operator_at : Level → Kind → Bool → Option Operator
+operator_at l (kind.Symbol s) first = symbol_at l s first
+operator_at l _ first = None
+
+abbrev pub compares : Symbol → Option Comparison
+compares symbol.Same = Some comparison.Same
+compares symbol.Differs = Some comparison.Differs
+compares symbol.AtMost = Some comparison.AtMost
+compares symbol.AtLeast = Some comparison.AtLeast
+compares symbol.Below = Some comparison.Below
+compares symbol.Above = Some comparison.Above
+compares _ = None
+
+abbrev pub comparison_at : Kind → Option Comparison
+comparison_at (kind.Symbol s) = compares s
+comparison_at _ = None
+
+-- an opening parenthesis that is not the first of its line
+abbrev pub opens_call : Kind → Bool → Bool
+opens_call (kind.Symbol symbol.Open) first = not first
+opens_call _ first = false
+
+abbrev pub is_number : Kind → Bool
+is_number (kind.Number n) = true
+is_number _ = false
+
+abbrev pub is_open : Kind → Bool
+is_open (kind.Symbol symbol.Open) = true
+is_open _ = false
+
+abbrev pub is_close : Kind → Bool
+is_close (kind.Symbol symbol.Close) = true
+is_close _ = false
+
+abbrev pub is_open_bracket : Kind → Bool
+is_open_bracket (kind.Symbol symbol.OpenBracket) = true
+is_open_bracket _ = false
+
+abbrev pub is_close_bracket : Kind → Bool
+is_close_bracket (kind.Symbol symbol.CloseBracket) = true
+is_close_bracket _ = false
+
+abbrev pub is_open_brace : Kind → Bool
+is_open_brace (kind.Symbol symbol.OpenBrace) = true
+is_open_brace _ = false
+
+abbrev pub is_close_brace : Kind → Bool
+is_close_brace (kind.Symbol symbol.CloseBrace) = true
+is_close_brace _ = false
+
+abbrev pub is_comma : Kind → Bool
+is_comma (kind.Symbol symbol.Comma) = true
+is_comma _ = false
+
+abbrev pub is_colon : Kind → Bool
+is_colon (kind.Symbol symbol.Colon) = true
+is_colon _ = false
+
+-- what stands between the head of a definition and its body
+abbrev pub defines : Kind → Bool
+defines (kind.Symbol symbol.Define) = true
+defines (kind.Symbol symbol.Equals) = true
+defines _ = false
+
+abbrev pub is_if : Kind → Bool
+is_if (kind.Word word.If) = true
+is_if _ = false
+
+abbrev pub is_then : Kind → Bool
+is_then (kind.Word word.Then) = true
+is_then _ = false
+
+abbrev pub is_else : Kind → Bool
+is_else (kind.Word word.Else) = true
+is_else _ = false
+
+abbrev pub is_as : Kind → Bool
+is_as (kind.Word word.As) = true
+is_as _ = false
+
+abbrev pub is_def : Kind → Bool
+is_def (kind.Word word.Def) = true
+is_def _ = false
+
+abbrev pub type_word_of : List ℕ → Option TypeWord
+type_word_of n =
+    if bytes_eq n (codes "Unit") then Some type_word.Unit
+    else if bytes_eq n (codes "Int") then Some type_word.Int
+    else if bytes_eq n (codes "Bool") then Some type_word.Bool
+    else if bytes_eq n (codes "String") then Some type_word.Text
+    else if bytes_eq n (codes "Set") then Some type_word.Set
+    else if bytes_eq n (codes "Map") then Some type_word.Map
+    else if bytes_eq n (codes "Option") then Some type_word.Option
+    else if bytes_eq n (codes "Events") then Some type_word.Events
+    else None
+
+-- the names behind which a type may stand in brackets
+abbrev pub typed_word_of : List ℕ → Option TypedWord
+typed_word_of n =
+    if bytes_eq n (codes "nil") then Some typed_word.Nil
+    else if bytes_eq n (codes "None") then Some typed_word.None
+    else None
+
+-- the names behind which a dot may stand
+abbrev pub family_of : List ℕ → Option Family
+family_of n =
+    if bytes_eq n (codes "Set") then Some family.Set
+    else if bytes_eq n (codes "Map") then Some family.Map
+    else if bytes_eq n (codes "String") then Some family.Text
+    else None
+
+abbrev pub family_name : Family → List ℕ
+family_name family.Set = codes "Set"
+family_name family.Map = codes "Map"
+family_name family.Text = codes "String"
+
+-- the two names of a built-in function with a dot
+abbrev pub family_in : Dotted → Family
+family_in dotted.SetAdd = family.Set
+family_in dotted.SetRemove = family.Set
+family_in dotted.SetContains = family.Set
+family_in dotted.SetSize = family.Set
+family_in dotted.MapAdd = family.Map
+family_in dotted.MapRemove = family.Map
+family_in dotted.MapContains = family.Map
+family_in dotted.MapGet = family.Map
+family_in dotted.MapSize = family.Map
+family_in dotted.StringConcat = family.Text
+family_in dotted.StringSize = family.Text
+
+abbrev pub member_name : Dotted → List ℕ
+member_name dotted.SetAdd = codes "add"
+member_name dotted.SetRemove = codes "remove"
+member_name dotted.SetContains = codes "contains"
+member_name dotted.SetSize = codes "size"
+member_name dotted.MapAdd = codes "add"
+member_name dotted.MapRemove = codes "remove"
+member_name dotted.MapContains = codes "contains"
+member_name dotted.MapGet = codes "get"
+member_name dotted.MapSize = codes "size"
+member_name dotted.StringConcat = codes "concat"
+member_name dotted.StringSize = codes "size"
+
+-- the token goes on with a name before it
+abbrev pub goes_on : List ℕ → Kind → Bool → Bool
+goes_on n (kind.Symbol symbol.Open) first = not first
+goes_on n (kind.Symbol symbol.OpenBracket) first = is_some (typed_word_of n)
+goes_on n (kind.Symbol symbol.Dot) first = is_some (family_of n)
+goes_on n _ first = false
+
+-- what may open a level: a minus opens none before a number, and where it stands between operands
+abbrev pub may_open : Kind → Bool
+may_open (kind.Symbol symbol.Open) = true
+may_open (kind.Symbol symbol.OpenBracket) = true
+may_open (kind.Symbol symbol.OpenBrace) = true
+may_open (kind.Symbol symbol.Minus) = true
+may_open (kind.Symbol symbol.Not) = true
+may_open (kind.Word word.If) = true
+may_open _ = false
+
+abbrev pub is_minus : Kind → Bool
+is_minus (kind.Symbol symbol.Minus) = true
+is_minus _ = false
+
+abbrev pub is_number_next : List Token → Bool
+is_number_next [] = false
+is_number_next (t ∷ ts) = is_number t.kind
+
+-- the token opens a level, before these tokens, where it opens one at all: a minus before a number opens none
+abbrev pub opens_level : Token → List Token → Bool
+opens_level t more = may_open t.kind && not (is_minus t.kind && is_number_next more)

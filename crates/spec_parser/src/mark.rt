@@ -1,0 +1,52 @@
+// Tokens that have to come inside a construct.
+
+ghost use Rattle.std.specs.Prelude.{◌≡◌, true};
+ghost use Rattle.token_reader.specs.Reader.{Read};
+ghost use Rattle.spec_parser.specs.Reading.{must};
+ghost use Rattle.spec_parser.specs.Gives.{Gives};
+ghost use Rattle.spec_parser.specs.Marks.{test_of};
+
+use crate::stop::Stop;
+use spec_lexer::token::{Kind, Symbol, Token, Word};
+
+#[derive(Clone, Copy, PartialEq, Eq, Debug)]
+pub(crate) enum Mark {
+    Close,
+    OpenBracket,
+    CloseBracket,
+    CloseBrace,
+    Comma,
+    Colon,
+    /// What stands between the head of a definition and its body.
+    Defines,
+    Then,
+    Else,
+}
+
+pub(crate) fn fits(mark: Mark, token: &Token) -> bool
+    ensures { result ≡ test_of mark token.now.kind }
+{
+    match (mark, &token.kind) {
+        (Mark::Close, Kind::Symbol(Symbol::Close)) => true,
+        (Mark::OpenBracket, Kind::Symbol(Symbol::OpenBracket)) => true,
+        (Mark::CloseBracket, Kind::Symbol(Symbol::CloseBracket)) => true,
+        (Mark::CloseBrace, Kind::Symbol(Symbol::CloseBrace)) => true,
+        (Mark::Comma, Kind::Symbol(Symbol::Comma)) => true,
+        (Mark::Colon, Kind::Symbol(Symbol::Colon)) => true,
+        (Mark::Defines, Kind::Symbol(Symbol::Define)) => true,
+        (Mark::Defines, Kind::Symbol(Symbol::Equals)) => true,
+        (Mark::Then, Kind::Word(Word::Then)) => true,
+        (Mark::Else, Kind::Word(Word::Else)) => true,
+        _ => false,
+    }
+}
+
+/// The tokens behind the mark.
+pub(crate) fn pass(mark: Mark, tokens: &[Token]) -> Result<&[Token], Stop<'_>>
+    ensures { Gives (λ x. (true, x.now)) result (must (test_of mark) (Read true) tokens.now) }
+{
+    match tokens {
+        [token, rest @ ..] if fits(mark, token) => Ok(rest),
+        _ => Err(Stop::Unexpected(tokens)),
+    }
+}

@@ -1,0 +1,295 @@
+// The tree of a specification.
+
+ghost use Rattle.std.specs.Prelude.{◌≡◌, map};
+ghost use Rattle.spec_parser.specs.Tree.{place_of};
+ghost use Rattle.spec_parser.specs.Places.{type_place};
+ghost use Rattle.spec_parser.specs.Shape.{type_of, expr_of, definition_of, item_of, items_of};
+
+use std::marker::Model;
+use tsl_value::place::Place;
+use tsl_value::text::Text;
+
+/// The levels of a chain whose operands stand in one list.
+#[derive(Clone, Copy, PartialEq, Eq, Debug)]
+pub enum Level {
+    Disjunction,
+    Conjunction,
+    Sum,
+    Product,
+}
+
+#[derive(Clone, Copy, PartialEq, Eq, Debug)]
+pub enum Operator {
+    Or,
+    And,
+    Add,
+    Subtract,
+    Multiply,
+    Divide,
+    Remainder,
+}
+
+#[derive(Clone, Copy, PartialEq, Eq, Debug)]
+pub enum Comparison {
+    Same,
+    Differs,
+    AtMost,
+    AtLeast,
+    Below,
+    Above,
+}
+
+/// The built-in functions whose names have a dot.
+#[derive(Clone, Copy, PartialEq, Eq, Debug)]
+pub enum Dotted {
+    SetAdd,
+    SetRemove,
+    SetContains,
+    SetSize,
+    MapAdd,
+    MapRemove,
+    MapContains,
+    MapGet,
+    MapSize,
+    StringConcat,
+    StringSize,
+}
+
+/// A written type, and the place of its first token.
+#[cycle(types)]
+#[derive(Drop)]
+pub struct TypeName {
+    pub(crate) place: Place,
+    pub(crate) shape: TypeShape,
+}
+
+#[cycle(types)]
+#[derive(Drop)]
+pub enum TypeShape {
+    Unit,
+    Int,
+    Bool,
+    Text,
+    Set(Box<TypeName>),
+    Map(Box<TypeName>, Box<TypeName>),
+    Option(Box<TypeName>),
+    Events(Box<TypeName>),
+}
+
+impl Model for TypeName {
+    ghost use Rattle.spec_parser.specs.Tree.{TypeName as Tree};
+    ghost use Rattle.spec_parser.specs.Code.{type_code};
+
+    ghost Value = { Tree };
+
+    ghost coded = { type_code };
+
+    ghost use Rattle.spec_parser.specs.Shape.{type_of, size_of_type};
+
+    ghost view = { λ t. type_of t.place t.shape };
+
+    ghost size = { size_of_type };
+
+    ghost use Rattle.std.proofs.Common.{arith};
+    ghost use Rattle.spec_parser.specs.Falls.{type_falls};
+
+    ghost size_decreases = { λ a h. Prim.grind (arith, type_falls a.place a.shape) };
+}
+
+#[tactic(auto, using(crate::specs::Places::type_place_again))]
+impl TypeName {
+    /// The place of the first token.
+    pub fn place(&self) -> Place
+        ensures { result ≡ type_place self.now }
+    {
+        self.place
+    }
+
+    pub fn shape(&self) -> &TypeShape
+        ensures { type_of (type_place self.now) result.now ≡ self.now }
+    {
+        &self.shape
+    }
+}
+
+/// An expression, and the place of its first token; parentheses leave no trace. A chain has the place of its first operand.
+#[cycle(tree)]
+#[derive(Drop)]
+pub struct Expr {
+    pub(crate) place: Place,
+    pub(crate) node: Node,
+}
+
+#[cycle(tree)]
+#[derive(Drop)]
+pub enum Node {
+    /// The condition, the expression where it is true, and the one where it is false.
+    If(Box<Expr>, Box<Expr>, Box<Expr>),
+    /// The operands of one level, in one list.
+    Chain(Level, Box<Expr>, Vec<Link>),
+    Compare(Comparison, Box<Expr>, Box<Expr>),
+    Negate(Box<Expr>),
+    Not(Box<Expr>),
+    Number(u64),
+    /// A number with a minus before it.
+    Negative(u64),
+    Text(Text),
+    Boolean(bool),
+    Unit,
+    Name(Text),
+    Call(Text, Vec<Expr>),
+    CallDotted(Dotted, Vec<Expr>),
+    Nil(TypeName),
+    None(TypeName),
+    EmptySet(TypeName),
+    EmptyMap(TypeName, TypeName),
+}
+
+/// An operator and the operand behind it.
+#[cycle(tree)]
+#[derive(Drop)]
+pub struct Link {
+    pub operator: Operator,
+    pub operand: Expr,
+}
+
+impl Model for Expr {
+    ghost use Rattle.spec_parser.specs.Tree.{Expr as Tree};
+    ghost use Rattle.spec_parser.specs.Code.{expr_code};
+
+    ghost Value = { Tree };
+
+    ghost coded = { expr_code };
+
+    ghost use Rattle.spec_parser.specs.Shape.{expr_of, size_of};
+
+    ghost view = { λ e. expr_of e.place e.node };
+
+    ghost size = { size_of };
+
+    ghost use Rattle.std.proofs.Common.{arith};
+    ghost use Rattle.spec_parser.specs.Falls.{node_falls};
+
+    ghost size_decreases = { λ a h. Prim.grind (arith, node_falls a.place a.node) };
+}
+
+#[tactic(auto, using(crate::specs::Shape::place_again))]
+impl Expr {
+    /// The place of the first token.
+    pub fn place(&self) -> Place
+        ensures { result ≡ place_of self.now }
+    {
+        self.place
+    }
+
+    pub fn node(&self) -> &Node
+        ensures { expr_of (place_of self.now) result.now ≡ self.now }
+    {
+        &self.node
+    }
+}
+
+/// A parameter of a definition: the place of its name, its name and its type.
+#[derive(Drop)]
+pub struct Param {
+    pub place: Place,
+    pub name: Text,
+    pub of: TypeName,
+}
+
+/// A definition. It begins at its name.
+#[cycle(definitions)]
+#[derive(Drop)]
+pub struct Definition {
+    pub(crate) parts: DefinitionParts,
+}
+
+#[cycle(definitions)]
+#[derive(Drop)]
+pub struct DefinitionParts {
+    pub place: Place,
+    pub name: Text,
+    /// None where no parentheses stand.
+    pub params: Vec<Param>,
+    pub written: Option<TypeName>,
+    pub body: Body,
+}
+
+#[cycle(definitions)]
+#[derive(Drop)]
+pub enum Body {
+    Plain(Expr),
+    /// Definitions and an expression between braces.
+    Block(Vec<Definition>, Expr),
+}
+
+impl Model for Definition {
+    ghost use Rattle.spec_parser.specs.Tree.{Definition as Tree};
+    ghost use Rattle.spec_parser.specs.Code.{definition_code};
+
+    ghost Value = { Tree };
+
+    ghost coded = { definition_code };
+
+    ghost use Rattle.spec_parser.specs.Shape.{definition_of, size_of_definition};
+
+    ghost view = { λ d. definition_of d.parts };
+
+    ghost size = { size_of_definition };
+
+    ghost use Rattle.std.proofs.Common.{arith};
+    ghost use Rattle.spec_parser.specs.Falls.{definition_falls};
+
+    ghost size_decreases = { λ a h. Prim.grind (arith, definition_falls a.parts) };
+}
+
+impl Definition {
+    pub fn parts(&self) -> &DefinitionParts
+        ensures { definition_of result.now ≡ self.now }
+    {
+        &self.parts
+    }
+}
+
+#[derive(Drop)]
+pub enum Item {
+    /// The place of the word `in`, and the place of the name, the name and its type.
+    Input(Place, Place, Text, TypeName),
+    /// The place of the word `def`, and the definition.
+    Defined(Place, Definition),
+    /// The place of the word `out`, and the place of the name and the name.
+    Output(Place, Place, Text),
+    /// The place of the word `out`, the expression, and the place of the printed name and that name.
+    OutputAs(Place, Expr, Place, Text),
+}
+
+impl Item {
+    ghost use Rattle.spec_parser.specs.Places.{first_place};
+
+    /// The place of the item's first token.
+    pub fn place(&self) -> Place
+        ensures { result ≡ first_place (item_of self.now) }
+    {
+        match self {
+            Item::Input(place, _, _, _)
+            | Item::Defined(place, _)
+            | Item::Output(place, _, _)
+            | Item::OutputAs(place, _, _, _) => *place,
+        }
+    }
+}
+
+/// The items of a specification.
+#[derive(Drop)]
+pub struct Tree {
+    pub(crate) items: Vec<Item>,
+}
+
+impl Tree {
+    /// All of them, in the order of the source.
+    pub fn items(&self) -> &[Item]
+        ensures { map item_of result.now ≡ items_of self.now }
+    {
+        self.items.as_slice()
+    }
+}

@@ -1,0 +1,204 @@
+// Types.
+
+ghost use Rattle.std.specs.Prelude.{◌≡◌};
+ghost use Rattle.token_reader.specs.Reader.{opened};
+ghost use Rattle.spec_parser.specs.Tree as tree;
+ghost use Rattle.spec_parser.specs.Words.{is_open_bracket};
+ghost use Rattle.spec_parser.specs.Reading.{must, in_brackets, two_in_brackets, a_type, type_behind, type_in, wrapped};
+ghost use Rattle.spec_parser.specs.Gives.{Gives, IfOkOrMemory};
+
+use crate::mark::{Mark, pass};
+use crate::stop::Stop;
+use crate::tree::{TypeName, TypeShape};
+use crate::words::{TypeWord, Wrapper, type_word};
+use spec_lexer::token::{Kind, Token};
+use std::alloc::Global;
+use tsl_value::place::Place;
+
+#[cycle(type_name)]
+#[tactic(auto, unfolding(crate::specs::Reading::type_in))]
+pub(crate) fn type_in_room(
+    alloc: Global,
+    room: u32,
+    tokens: &[Token],
+) -> Result<(TypeName, &[Token]), Stop<'_>>
+    ensures { Gives (λ x. (x.0, x.1.now)) result (type_in room tokens.now) }
+{
+    if room == 0 {
+        return Err(Stop::TooDeep(tokens));
+    }
+    any_type(alloc, room - 1, tokens)
+}
+
+#[cycle(type_name)]
+fn any_type(alloc: Global, room: u32, tokens: &[Token]) -> Result<(TypeName, &[Token]), Stop<'_>>
+    ensures { Gives (λ x. (x.0, x.1.now)) result (a_type room (type_in room) tokens.now) }
+{
+    match tokens {
+        [] => Err(Stop::Unexpected(tokens)),
+        [token, rest @ ..] => match &token.kind {
+            Kind::Name(name) => match type_word(name.as_str()) {
+                Some(word) => behind_word(alloc, room, token.place, word, rest),
+                None => Err(Stop::Unexpected(tokens)),
+            },
+            _ => Err(Stop::Unexpected(tokens)),
+        },
+    }
+}
+
+/// What stands behind the word that a type begins with.
+#[cycle(type_name)]
+fn behind_word(
+    alloc: Global,
+    room: u32,
+    place: Place,
+    word: TypeWord,
+    tokens: &[Token],
+) -> Result<(TypeName, &[Token]), Stop<'_>>
+    ensures { Gives (λ x. (x.0, x.1.now)) result (type_behind room (type_in room) place word tokens.now) }
+{
+    match word {
+        TypeWord::Unit => Ok((
+            TypeName {
+                place,
+                shape: TypeShape::Unit,
+            },
+            tokens,
+        )),
+        TypeWord::Int => Ok((
+            TypeName {
+                place,
+                shape: TypeShape::Int,
+            },
+            tokens,
+        )),
+        TypeWord::Bool => Ok((
+            TypeName {
+                place,
+                shape: TypeShape::Bool,
+            },
+            tokens,
+        )),
+        TypeWord::Text => Ok((
+            TypeName {
+                place,
+                shape: TypeShape::Text,
+            },
+            tokens,
+        )),
+        TypeWord::Set => with_one(alloc, room, place, Wrapper::Set, tokens),
+        TypeWord::Map => map_of(alloc, room, place, tokens),
+        TypeWord::Option => with_one(alloc, room, place, Wrapper::Option, tokens),
+        TypeWord::Events => with_one(alloc, room, place, Wrapper::Events, tokens),
+    }
+}
+
+fn wrap(
+    alloc: Global,
+    place: Place,
+    wrapper: Wrapper,
+    inner: TypeName,
+) -> Result<TypeName, Stop<'static>>
+    ensures { IfOkOrMemory result (λ t. t ≡ wrapped place wrapper inner) }
+{
+    let inner = Box::new(alloc, inner)?;
+    let shape = match wrapper {
+        Wrapper::Set => TypeShape::Set(inner),
+        Wrapper::Option => TypeShape::Option(inner),
+        Wrapper::Events => TypeShape::Events(inner),
+    };
+    Ok(TypeName { place, shape })
+}
+
+fn map(
+    alloc: Global,
+    place: Place,
+    key: TypeName,
+    value: TypeName,
+) -> Result<TypeName, Stop<'static>>
+    ensures { IfOkOrMemory result (λ t. t ≡ tree.MapType place key value) }
+{
+    let shape = TypeShape::Map(Box::new(alloc, key)?, Box::new(alloc, value)?);
+    Ok(TypeName { place, shape })
+}
+
+/// A type with one type in brackets, behind its word.
+#[cycle(type_name)]
+fn with_one(
+    alloc: Global,
+    room: u32,
+    place: Place,
+    wrapper: Wrapper,
+    tokens: &[Token],
+) -> Result<(TypeName, &[Token]), Stop<'_>>
+    ensures { Gives (λ x. (x.0, x.1.now)) result (must is_open_bracket (opened room (in_brackets (type_in room) (wrapped place wrapper))) tokens.now) }
+{
+    let rest = pass(Mark::OpenBracket, tokens)?;
+    one_inside(alloc, room, place, wrapper, rest)
+}
+
+#[cycle(type_name)]
+fn one_inside(
+    alloc: Global,
+    room: u32,
+    place: Place,
+    wrapper: Wrapper,
+    tokens: &[Token],
+) -> Result<(TypeName, &[Token]), Stop<'_>>
+    ensures { Gives (λ x. (x.0, x.1.now)) result (opened room (in_brackets (type_in room) (wrapped place wrapper)) tokens.now) }
+{
+    if room == 0 {
+        return Err(Stop::TooDeep(tokens));
+    }
+    let (inner, rest) = type_in_room(alloc, room, tokens)?;
+    let rest = pass(Mark::CloseBracket, rest)?;
+    let whole = wrap(alloc, place, wrapper, inner)?;
+    Ok((whole, rest))
+}
+
+/// A map's type behind its word.
+#[cycle(type_name)]
+fn map_of(
+    alloc: Global,
+    room: u32,
+    place: Place,
+    tokens: &[Token],
+) -> Result<(TypeName, &[Token]), Stop<'_>>
+    ensures { Gives (λ x. (x.0, x.1.now)) result (must is_open_bracket (opened room (two_in_brackets (type_in room) (tree.MapType place))) tokens.now) }
+{
+    let rest = pass(Mark::OpenBracket, tokens)?;
+    key_inside(alloc, room, place, rest)
+}
+
+#[cycle(type_name)]
+fn key_inside(
+    alloc: Global,
+    room: u32,
+    place: Place,
+    tokens: &[Token],
+) -> Result<(TypeName, &[Token]), Stop<'_>>
+    ensures { Gives (λ x. (x.0, x.1.now)) result (opened room (two_in_brackets (type_in room) (tree.MapType place)) tokens.now) }
+{
+    if room == 0 {
+        return Err(Stop::TooDeep(tokens));
+    }
+    let (key, rest) = type_in_room(alloc, room, tokens)?;
+    let rest = pass(Mark::Comma, rest)?;
+    value_inside(alloc, room, place, key, rest)
+}
+
+#[cycle(type_name)]
+fn value_inside(
+    alloc: Global,
+    room: u32,
+    place: Place,
+    key: TypeName,
+    tokens: &[Token],
+) -> Result<(TypeName, &[Token]), Stop<'_>>
+    ensures { Gives (λ x. (x.0, x.1.now)) result (in_brackets (type_in room) (tree.MapType place key) tokens.now) }
+{
+    let (value, rest) = type_in_room(alloc, room, tokens)?;
+    let rest = pass(Mark::CloseBracket, rest)?;
+    let whole = map(alloc, place, key, value)?;
+    Ok((whole, rest))
+}

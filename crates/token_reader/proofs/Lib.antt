@@ -1,0 +1,9 @@
+pub mod LocalLaws
+pub mod ManyLaws
+pub mod CarefulLaws
+pub mod ViableLaws
+pub mod RoomLaws
+pub mod Fine
+pub mod Fewer
+pub mod Meets
+pub mod Loop

@@ -1,0 +1,11 @@
+pub mod NameLemmas
+pub mod TableLemmas
+pub mod AwaitedLemmas
+pub mod PartsLemmas
+pub mod Sound
+pub mod Systems
+pub mod Order
+pub mod ReadLemmas
+pub mod SourceLemmas
+pub mod LawLemmas
+pub mod WholeLemmas
