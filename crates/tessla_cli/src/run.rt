@@ -9,7 +9,7 @@ ghost use Rattle.tessla_cli.specs.Parts.{most_taken};
 ghost use Rattle.tessla_cli.specs.Ready.{IsReady};
 ghost use Rattle.tessla_cli.specs.Shape.{RunsSystem, SystemEnds, RunsSource, SourceEnds, RunsSpec, SpecEnds, RunsWords, WordsEnd};
 
-use crate::compile::{SpecFault, compile};
+use crate::compile::compile;
 use crate::ending::{Broken, Ending};
 use crate::monitor::Monitor;
 use crate::options::Options;
@@ -18,6 +18,7 @@ use crate::watch::watch;
 use crate::words::Words;
 use flat_core::flat::Flat;
 use std::alloc::Global;
+use tree_spec::fault::SpecFault;
 use tsl_world::{Slot, World};
 
 /// As many bytes as one read takes at most.
