@@ -1,5 +1,5 @@
 -- The map of the leaves.
-use Rattle.std.proofs.Common.{◌≡◌, ◌≢◌, ℕ, zero, suc, ◌+◌, ◌-◌, ◌*◌, ◌<◌, ◌≤◌, Bool, true, false, List, [], ◌∷◌, Option, Some, None, length, drop, refl, sym, ap, subst, ◌∙◌, inl, inr, arith, get_or, cond, replicate}
+use Rattle.std.proofs.Common.{◌≡◌, ◌≢◌, ℕ, zero, suc, ◌+◌, ◌*◌, ◌<◌, ◌≤◌, true, false, List, [], ◌∷◌, Option, Some, None, length, drop, refl, sym, ap, subst, ◌∙◌, inl, inr, arith, cond, replicate}
 use Rattle.std.proofs.lemmas.Bool.{cases_lt, cases_order}
 use Rattle.std.proofs.lemmas.List.{get_or-drop, get_or_past, get_or-replicate, length-replicate}
 use Rattle.std.specs.Option.{option_map}
@@ -10,7 +10,7 @@ use Rattle.std.specs.Cmp.{nat_cmp_is, nat_cmp_total}
 use Rattle.std.specs.FinMap as map
 use Rattle.delay_timers.specs.declared.tree.Due.{Due}
 use Rattle.delay_timers.specs.Pending.{Times, NoneIsDueAt, IsLeastDueAt}
-use Rattle.delay_timers.specs.Tree.{slot, time_at, IsOf, ComesFirst, IsUpTo, IsTree, IsFirstDue, ChangesLeaf, NoLeafAt, IsFirstLeafAt, entries_from, times_of}
+use Rattle.delay_timers.specs.Tree.{slot, time_at, IsOf, IsUpTo, IsTree, IsFirstDue, ChangesLeaf, NoLeafAt, IsFirstLeafAt, entries_from, times_of}
 use Rattle.delay_timers.proofs.TreeLemmas.{root_comes_first, root_is_a_leaf}
 
 pub tied : (a b : ℕ) → a ≡ b → eq_by_cmp nat_cmp a b ≡ true
@@ -96,9 +96,9 @@ root_is_first nodes delays tree some =
             below = omega (arith, own, leaf.1);
             is_due = get-times_of nodes delays due.delay ∙ ap (time_at nodes delays) own ∙ ap (option_map (λ e. e.time)) is;
             first = λ delay time pending.
-              let other = pending_leaf nodes delays delay time tree (sym (get-times_of nodes delays delay) ∙ pending) in
-              let up : IsUpTo (Some due) (Some other.0) = subst (IsUpTo (Some due)) other.1 (subst (λ r. IsUpTo r (slot nodes (delays + delay))) root (root_comes_first nodes delays tree delay other.3)) in
-              record { no_later = omega (arith, up.no_later, other.2); tied = λ same. omega (arith, up.tied, other.2, other.4, same) }
+                let other = pending_leaf nodes delays delay time tree (sym (get-times_of nodes delays delay) ∙ pending) in
+                let up : IsUpTo (Some due) (Some other.0) = subst (IsUpTo (Some due)) other.1 (subst (λ r. IsUpTo r (slot nodes (delays + delay))) root (root_comes_first nodes delays tree delay other.3)) in
+                record { no_later = omega (arith, up.no_later, other.2); tied = λ same. omega (arith, up.tied, other.2, other.4, same) };
           }
     ] refl
 
@@ -106,12 +106,12 @@ changed : (old new : List (Option Due)) (delays d : ℕ) (x : Option Due) → Ch
 changed old new delays d x changes q =
     elim (cases_order q d) [
       | inl same ↦
-        ap (time_at new delays) same ∙ ap (option_map (λ due. due.time)) changes.leaf
-        ∙ sym (ap (λ b. cond b (option_map (λ due. due.time) x) (time_at old delays q)) (tied q d same))
+          ap (time_at new delays) same ∙ ap (option_map (λ due. due.time)) changes.leaf
+          ∙ sym (ap (λ b. cond b (option_map (λ due. due.time) x) (time_at old delays q)) (tied q d same))
       | inr other ↦
-        let else : q ≢ d = omega (arith, other) in
-        ap (option_map (λ due. due.time)) (changes.others q else)
-        ∙ sym (ap (λ b. cond b (option_map (λ due. due.time) x) (time_at old delays q)) (apart q d else))
+          let else : q ≢ d = omega (arith, other) in
+          ap (option_map (λ due. due.time)) (changes.others q else)
+          ∙ sym (ap (λ b. cond b (option_map (λ due. due.time) x) (time_at old delays q)) (apart q d else))
     ]
 
 pub is_set : (old new : List (Option Due)) (delays d : ℕ) (due : Due) → ChangesLeaf old new delays d (Some due) → times_of (drop delays new) ≡ map.insert (times_of (drop delays old)) d due.time
@@ -136,7 +136,7 @@ pub leaf_is_due : (nodes : List (Option Due)) (delays time : ℕ) (r : Option �
 leaf_is_due nodes delays time None none = λ d is. none d (sym (get-times_of nodes delays d) ∙ is)
 leaf_is_due nodes delays time (Some d) first = record {
   is_due = get-times_of nodes delays d ∙ first.has;
-  least = λ other below is. first.none_before other below (sym (get-times_of nodes delays other) ∙ is)
+  least = λ other below is. first.none_before other below (sym (get-times_of nodes delays other) ∙ is);
 }
 
 -- no delay is pending in a tree of empty slots
@@ -157,8 +157,8 @@ module _ (nodes : List (Option Due)) (delays : ℕ) (is : nodes ≡ replicate (2
     heads = λ k low high. record {
       one = inl (slot_is_empty k ∙ sym (slot_is_empty (2 * k)));
       left = subst (IsUpTo (slot nodes k)) (sym (slot_is_empty (2 * k))) tt;
-      right = subst (IsUpTo (slot nodes k)) (sym (slot_is_empty (2 * k + 1))) tt
-    }
+      right = subst (IsUpTo (slot nodes k)) (sym (slot_is_empty (2 * k + 1))) tt;
+    };
   }
 
   pub empty_times : times_of (drop delays nodes) ≡ map.empty

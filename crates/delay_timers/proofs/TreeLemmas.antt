@@ -1,10 +1,10 @@
 -- The root of the tree comes first, and how the tree is mended.
-use Rattle.std.proofs.Common.{◌≡◌, ◌≢◌, ℕ, zero, suc, ◌+◌, ◌-◌, ◌*◌, ◌/◌, ◌%◌, ◌<◌, ◌≤◌, List, length, Option, Some, None, refl, sym, ap, subst, ◌∙◌, inl, inr, ◌⊎◌, arith, get_or, set, take, drop, get_or-set_same, get_or-set_other, length-set}
+use Rattle.std.proofs.Common.{◌≡◌, ◌≢◌, ℕ, zero, suc, ◌+◌, ◌-◌, ◌*◌, ◌/◌, ◌%◌, ◌<◌, ◌≤◌, List, length, Option, Some, None, sym, ap, subst, ◌∙◌, inl, inr, ◌⊎◌, arith, get_or, set, take, drop, get_or-set_same, get_or-set_other, length-set}
 use Rattle.std.proofs.lemmas.Bool.{cases_lt, cases_order}
 use Rattle.std.proofs.lemmas.List.{get_or_read, get_or-take, get_or-drop, length-take, length-drop}
 use Rattle.std.specs.Option.{option_map}
 use Rattle.delay_timers.specs.declared.tree.Due.{Due}
-use Rattle.delay_timers.specs.Tree.{slot, IsOf, ComesFirst, IsUpTo, IsFirstOf, IsHead, IsTree, IsTreeBut, SameFrom, ChangesLeaf, time_at, IsFirstLeafAt}
+use Rattle.delay_timers.specs.Tree.{slot, IsOf, IsUpTo, IsFirstOf, IsHead, IsTree, IsTreeBut, SameFrom, ChangesLeaf, time_at, IsFirstLeafAt}
 
 pub up_to_itself : (a : Option Due) → IsUpTo a a
 up_to_itself None = tt
@@ -16,7 +16,7 @@ up_to_joins a None (Some c) p q = absurd q
 up_to_joins None (Some b) (Some c) p q = absurd p
 up_to_joins (Some a) (Some b) (Some c) p q = record {
   no_later = omega (arith, p.no_later, q.no_later);
-  tied = λ same. omega (arith, p.no_later, q.no_later, p.tied, q.tied, same)
+  tied = λ same. omega (arith, p.no_later, q.no_later, p.tied, q.tied, same);
 }
 
 -- a number is twice its half, or one more
@@ -50,9 +50,9 @@ module _ (nodes : List (Option Due)) (delays : ℕ) (tree : IsTree nodes delays)
   from_a_leaf (suc steps) k few low high =
       elim (cases_lt k delays) [
         | inl inner ↦ elim ((tree.heads k low inner).one) [
-            | inl left ↦ let found = from_a_leaf steps (2 * k) (omega arith) (omega arith) (omega arith) in (found.0, found.1, left ∙ found.2)
-            | inr right ↦ let found = from_a_leaf steps (2 * k + 1) (omega arith) (omega arith) (omega arith) in (found.0, found.1, right ∙ found.2)
-          ]
+          | inl left ↦ let found = from_a_leaf steps (2 * k) (omega arith) (omega arith) (omega arith) in (found.0, found.1, left ∙ found.2)
+          | inr right ↦ let found = from_a_leaf steps (2 * k + 1) (omega arith) (omega arith) (omega arith) in (found.0, found.1, right ∙ found.2)
+        ]
         | inr leaf ↦ let same : k ≡ delays + (k - delays) = omega arith in (k - delays, omega arith, ap (slot nodes) same)
       ]
 
@@ -69,15 +69,15 @@ slot_else nodes k j x apart = get_or-set_other nodes k j x None apart
 same_head : (a b : List (Option Due)) (k : ℕ) → slot b k ≡ slot a k → slot b (2 * k) ≡ slot a (2 * k) → slot b (2 * k + 1) ≡ slot a (2 * k + 1) → IsHead a k → IsHead b k
 same_head a b k here left right head =
     subst (λ x. IsFirstOf x (slot b (2 * k)) (slot b (2 * k + 1))) (sym here)
-      (subst (λ x. IsFirstOf (slot a k) x (slot b (2 * k + 1))) (sym left)
-        (subst (λ x. IsFirstOf (slot a k) (slot a (2 * k)) x) (sym right) head))
+    (subst (λ x. IsFirstOf (slot a k) x (slot b (2 * k + 1))) (sym left)
+    (subst (λ x. IsFirstOf (slot a k) (slot a (2 * k)) x) (sym right) head))
 
 -- the root is mended last
 pub all_mended : (nodes : List (Option Due)) (delays : ℕ) → IsTreeBut nodes delays 0 → IsTree nodes delays
 all_mended nodes delays tree = record {
   room = tree.room;
   own = tree.own;
-  heads = λ k low high. tree.heads k low high (omega arith)
+  heads = λ k low high. tree.heads k low high (omega arith);
 }
 
 -- a slot that is mended leaves the one above it
@@ -90,12 +90,12 @@ mended nodes delays k x tree low high first =
       heads = λ j some inner apart. elim (cases_order j k) [
         | inl same ↦ subst (λ i. IsHead (set nodes k x) i) (sym same)
             (subst (λ y. IsFirstOf y (slot (set nodes k x) (2 * k)) (slot (set nodes k x) (2 * k + 1))) (sym (slot_here nodes k x inside))
-              (subst (λ y. IsFirstOf x y (slot (set nodes k x) (2 * k + 1))) (sym (slot_else nodes k (2 * k) x (omega arith)))
-                (subst (λ y. IsFirstOf x (slot nodes (2 * k)) y) (sym (slot_else nodes k (2 * k + 1) x (omega arith))) first)))
+            (subst (λ y. IsFirstOf x y (slot (set nodes k x) (2 * k + 1))) (sym (slot_else nodes k (2 * k) x (omega arith)))
+            (subst (λ y. IsFirstOf x (slot nodes (2 * k)) y) (sym (slot_else nodes k (2 * k + 1) x (omega arith))) first)))
         | inr other ↦
-          let else : j ≢ k = omega (arith, other) in
-          same_head nodes (set nodes k x) j (slot_else nodes k j x else) (slot_else nodes k (2 * j) x (omega arith)) (slot_else nodes k (2 * j + 1) x (omega arith)) (tree.heads j some inner else)
-      ]
+            let else : j ≢ k = omega (arith, other) in
+            same_head nodes (set nodes k x) j (slot_else nodes k j x else) (slot_else nodes k (2 * j) x (omega arith)) (slot_else nodes k (2 * j + 1) x (omega arith)) (tree.heads j some inner else)
+      ];
     }
 
 -- a leaf that is changed leaves the slot above it
@@ -109,18 +109,18 @@ leaf_changed nodes delays d x tree there own =
         | inr other ↦ subst (IsOf e) (sym (slot_else nodes (delays + d) (delays + e) x (omega (arith, other)))) (tree.own e inside)
       ];
       heads = λ j some inner apart. same_head nodes (set nodes (delays + d) x) j
-        (slot_else nodes (delays + d) j x (omega arith))
-        (slot_else nodes (delays + d) (2 * j) x (omega arith))
-        (slot_else nodes (delays + d) (2 * j + 1) x (omega arith))
-        (tree.heads j some inner)
+          (slot_else nodes (delays + d) j x (omega arith))
+          (slot_else nodes (delays + d) (2 * j) x (omega arith))
+          (slot_else nodes (delays + d) (2 * j + 1) x (omega arith))
+          (tree.heads j some inner);
     }
 
 -- one turn of mending, from what was read of the two children
 pub mend_step : (nodes : List (Option Due)) (delays k : ℕ) (x a b : Option Due) → IsTreeBut nodes delays k → 0 < k → k < delays → a ≡ get_or nodes (2 * k) a → b ≡ get_or nodes (2 * k + 1) b → IsFirstOf x a b → IsTreeBut (set nodes k x) delays (k / 2)
 mend_step nodes delays k x a b tree low high left right first =
     mended nodes delays k x tree low high
-      (subst (λ y. IsFirstOf x y (slot nodes (2 * k + 1))) (get_or_read nodes (2 * k) a (omega (arith, tree.room)) left None)
-        (subst (λ y. IsFirstOf x a y) (get_or_read nodes (2 * k + 1) b (omega (arith, tree.room)) right None) first))
+    (subst (λ y. IsFirstOf x y (slot nodes (2 * k + 1))) (get_or_read nodes (2 * k) a (omega (arith, tree.room)) left None)
+    (subst (λ y. IsFirstOf x a y) (get_or_read nodes (2 * k + 1) b (omega (arith, tree.room)) right None) first))
 
 pub leaves_stay : (nodes initial : List (Option Due)) (delays k : ℕ) (x : Option Due) → k < delays → SameFrom delays nodes initial → SameFrom delays (set nodes k x) initial
 leaves_stay nodes initial delays k x inner same j from = slot_else nodes k j x (omega arith) ∙ same j from
@@ -128,7 +128,7 @@ leaves_stay nodes initial delays k x inner same j from = slot_else nodes k j x (
 pub ends_changed : (nodes new : List (Option Due)) (delays d : ℕ) (x : Option Due) → length nodes ≡ 2 * delays → d < delays → SameFrom delays new (set nodes (delays + d) x) → ChangesLeaf nodes new delays d x
 ends_changed nodes new delays d x room there same = record {
   leaf = same (delays + d) (omega arith) ∙ slot_here nodes (delays + d) x (omega arith);
-  others = λ e other. same (delays + e) (omega arith) ∙ slot_else nodes (delays + d) (delays + e) x (omega (arith, other))
+  others = λ e other. same (delays + e) (omega arith) ∙ slot_else nodes (delays + d) (delays + e) x (omega (arith, other));
 }
 
 -- what is read of the leaves
@@ -146,5 +146,5 @@ leaf_found nodes delays i time due tree there is same before =
     subst (IsFirstLeafAt nodes delays time) (sym own) (record {
       there = there;
       has = time_of_leaf nodes delays i due is ∙ ap Some same;
-      none_before = before
+      none_before = before;
     })

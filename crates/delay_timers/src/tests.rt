@@ -46,7 +46,10 @@ fn many_delays_are_taken_in_order(rt: HostRuntime) -> Result<(), Fail> {
     }
     for now in 0..1_000 {
         assert_eq!(rt; timers.next(), Some(time(u64::from(now))?));
-        assert_eq!(rt; timers.take_due(time(u64::from(now))?), Some(143 * now % 1_000));
+        assert_eq!(rt;
+            timers.take_due(time(u64::from(now))?),
+            Some(143 * now % 1_000)
+        );
     }
     assert_eq!(rt; timers.next(), None);
     Ok(())

@@ -50,7 +50,12 @@ impl Timers {
         ensures { self.new ≡ record self.old { times = map.insert self.old.times delay at } }
     {
         let due = Due { time: at, delay };
-        change_leaf(self.nodes.as_mut_slice(), self.delays, delay as usize, Some(due));
+        change_leaf(
+            self.nodes.as_mut_slice(),
+            self.delays,
+            delay as usize,
+            Some(due),
+        );
     }
 
     /// Lets a delay not be pending.

@@ -1,4 +1,3 @@
-use Rattle.std.proofs.Common.{arith}
 use Rattle.delay_timers.proofs.TreeLemmas.{leaf_changed, ends_changed}
 use Rattle.delay_timers.proofs.tree.change_leaf.Goals as goal
 

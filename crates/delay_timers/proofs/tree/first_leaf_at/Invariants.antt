@@ -1,4 +1,4 @@
-use Rattle.std.proofs.Common.{◌≡◌, ℕ, ◌<◌, Some}
+use Rattle.std.proofs.Common.{ℕ, ◌<◌, Some}
 use Rattle.std.specs.Prelude.{◌≢◌}
 use Rattle.delay_timers.specs.Tree.{time_at}
 use Rattle.delay_timers.proofs.tree.first_leaf_at.Given as goal

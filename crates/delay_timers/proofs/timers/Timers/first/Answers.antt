@@ -1,10 +1,10 @@
-use Rattle.std.proofs.Common.{◌≡◌, ◌<◌, List, Option, None, drop, length, sym, subst, arith}
+use Rattle.std.proofs.Common.{◌≡◌, ◌<◌, None, drop, length, sym, subst, arith}
 use Rattle.std.proofs.lemmas.List.{get_or_read}
 use Rattle.std.specs.Prelude.{MatchOption}
 use Rattle.std.specs.FinMap as map
 use Rattle.delay_timers.specs.Pending.{Pending}
-use Rattle.delay_timers.specs.Tree.{slot, times_of, IsFirstDue}
-use Rattle.delay_timers.proofs.TimesLemmas.{root_is_first, none_pending}
+use Rattle.delay_timers.specs.Tree.{times_of, IsFirstDue}
+use Rattle.delay_timers.proofs.TimesLemmas.{root_is_first}
 use Rattle.delay_timers.proofs.timers.Timers.first.Goals as goal
 
 pub returns-else-self-eq0 : goal.returns-else-self-eq0
@@ -15,4 +15,4 @@ returns-else-self-eq0 c =
     let inside : 1 < length nodes = omega (arith, c.self.invariant.room) in
     let P : Pending → Type 0 = λ p. MatchOption c.index.result.now (p.times ≡ map.empty) (IsFirstDue p.times p.capacity) in
     subst P c.self.view_is
-      (subst (λ r. MatchOption r (times_of (drop delays nodes) ≡ map.empty) (IsFirstDue (times_of (drop delays nodes)) delays)) (sym (get_or_read nodes 1 c.index.result.now inside c.index.ensures None)) (root_is_first nodes delays c.self.invariant some))
+    (subst (λ r. MatchOption r (times_of (drop delays nodes) ≡ map.empty) (IsFirstDue (times_of (drop delays nodes)) delays)) (sym (get_or_read nodes 1 c.index.result.now inside c.index.ensures None)) (root_is_first nodes delays c.self.invariant some))

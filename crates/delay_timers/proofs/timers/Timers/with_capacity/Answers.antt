@@ -1,4 +1,4 @@
-use Rattle.std.proofs.Common.{◌≡◌, ℕ, ◌*◌, Option, None, Some, length, replicate, refl, ap, arith, rules}
+use Rattle.std.proofs.Common.{ap, rules}
 use Rattle.delay_timers.specs.Pending.{Pending}
 use Rattle.delay_timers.proofs.TimesLemmas.{empty_tree, empty_times}
 use Rattle.delay_timers.proofs.timers.Timers.with_capacity.Goals as goal
