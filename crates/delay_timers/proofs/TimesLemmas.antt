@@ -84,16 +84,20 @@ pending_leaf nodes delays d time tree is =
       | inr past ↦ let nothing : time_at nodes delays d ≡ None = past_the_leaves nodes delays d tree.room past in absurd (cc)
     ]
 
-pub root_is_first : (nodes : List (Option Due)) (delays : ℕ) → IsTree nodes delays → 0 < delays → MatchOption (slot nodes 1) (times_of (drop delays nodes) ≡ map.empty) (IsFirstDue (times_of (drop delays nodes)) delays)
+pub all_below : (nodes : List (Option Due)) (delays : ℕ) → IsTree nodes delays → (d time : ℕ) → map.get (times_of (drop delays nodes)) d ≡ Some time → d < delays
+all_below nodes delays tree d time is =
+    let leaf = pending_leaf nodes delays d time tree (sym (get-times_of nodes delays d) ∙ is) in
+    leaf.3
+
+pub root_is_first : (nodes : List (Option Due)) (delays : ℕ) → IsTree nodes delays → 0 < delays → MatchOption (slot nodes 1) (times_of (drop delays nodes) ≡ map.empty) (IsFirstDue (times_of (drop delays nodes)))
 root_is_first nodes delays tree some =
-    elim (slot nodes 1) as (λ r. slot nodes 1 ≡ r → MatchOption r (times_of (drop delays nodes) ≡ map.empty) (IsFirstDue (times_of (drop delays nodes)) delays)) [
+    elim (slot nodes 1) as (λ r. slot nodes 1 ≡ r → MatchOption r (times_of (drop delays nodes) ≡ map.empty) (IsFirstDue (times_of (drop delays nodes)))) [
       | None ↦ λ root. none_pending nodes delays tree.room (λ d there. none_up_to _ (subst (λ r. IsUpTo r (slot nodes (delays + d))) root (root_comes_first nodes delays tree d there)))
       | Some due ↦ λ root.
           let leaf = root_is_a_leaf nodes delays tree some in
           let is : slot nodes (delays + leaf.0) ≡ Some due = sym leaf.2 ∙ root in
           let own : due.delay ≡ leaf.0 = subst (IsOf leaf.0) is (tree.own leaf.0 leaf.1) in
           record {
-            below = omega (arith, own, leaf.1);
             is_due = get-times_of nodes delays due.delay ∙ ap (time_at nodes delays) own ∙ ap (option_map (λ e. e.time)) is;
             first = λ delay time pending.
                 let other = pending_leaf nodes delays delay time tree (sym (get-times_of nodes delays delay) ∙ pending) in

@@ -17,6 +17,10 @@ abbrev pub pending_code : Coded Pending
 pending_code =
     code_by (ℕ × Times) (coded× coded_ℕ (map.code coded_ℕ coded_ℕ)) (λ p. (p.capacity, p.times)) (λ p. record { capacity = p.0; times = p.1 }) (λ _. refl)
 
+-- each delay that is due is below the capacity
+abbrev pub AreBelowCapacity : Pending → Type 0
+AreBelowCapacity pending = (delay time : ℕ) → map.get pending.times delay ≡ Some time → delay < pending.capacity
+
 -- some delay is due at this time, and none is due earlier
 pub record IsLeastTime (times : Times) (time : ℕ) : Type 0 where
   pub is_due : (delay : ℕ) × (map.get times delay ≡ Some time)

@@ -55,8 +55,7 @@ abbrev pub SameFrom : ℕ → List (Option Due) → List (Option Due) → Type 0
 SameFrom from nodes others = (k : ℕ) → from ≤ k → slot nodes k ≡ slot others k
 
 -- this is due, and all that is due comes no earlier
-pub record IsFirstDue (times : Times) (capacity : ℕ) (due : Due) : Type 0 where
-  pub below : due.delay < capacity
+pub record IsFirstDue (times : Times) (due : Due) : Type 0 where
   pub is_due : map.get times due.delay ≡ Some due.time
   pub first : (delay time : ℕ) → map.get times delay ≡ Some time → ComesFirst due (record { time = time; delay = delay })
 

@@ -2,7 +2,7 @@
 
 ghost use Rattle.std.specs.Prelude.{◌≡◌, ◌+◌, ◌<◌, IfOk, IfNone, IfSome, MatchOption};
 ghost use Rattle.std.specs.FinMap as map;
-ghost use Rattle.delay_timers.specs.Pending.{IsLeastTime, NoneIsDueAt, IsLeastDueAt};
+ghost use Rattle.delay_timers.specs.Pending.{AreBelowCapacity, IsLeastTime, NoneIsDueAt, IsLeastDueAt};
 ghost use Rattle.delay_timers.specs.Tree.{IsFirstDue};
 
 use crate::tree::{Due, change_leaf, first_leaf_at};
@@ -68,7 +68,8 @@ impl Timers {
 
     /// The least time at which a delay is due. `None` exactly where none is pending.
     pub fn next(&self) -> Option<Time>
-        ensures { MatchOption result (self.now.times ≡ map.empty) (IsLeastTime self.now.times) }
+        ensures least { MatchOption result (self.now.times ≡ map.empty) (IsLeastTime self.now.times) }
+        ensures bounded { AreBelowCapacity self.now }
     {
         let first = self.first()?;
         Some(first.time)
@@ -89,7 +90,8 @@ impl Timers {
 
     /// The delay that is due first of all.
     fn first(&self) -> Option<Due>
-        ensures { MatchOption result (self.now.times ≡ map.empty) (IsFirstDue self.now.times self.now.capacity) }
+        ensures first { MatchOption result (self.now.times ≡ map.empty) (IsFirstDue self.now.times) }
+        ensures bounded { AreBelowCapacity self.now }
     {
         if self.delays == 0 {
             None

@@ -9,7 +9,7 @@ use Rattle.delay_timers.proofs.timers.Timers.first_at.Goals as goal
 pub returns-in_err-first-clause-due : goal.returns-in_err-first-clause-due
 returns-in_err-first-clause-due c =
     subst (λ r. MatchOption r (NoneIsDueAt c.args.self.now.times c.args.at) (IsLeastDueAt c.args.self.now.times c.args.at)) (sym c.from_residual.ensures)
-    (none_due_of_none c.args.self.now.times c.args.at c.in_err-first.ensures)
+    (none_due_of_none c.args.self.now.times c.args.at c.in_err-first.ensures.first)
 
 pub returns-in-Less-clause-due : goal.returns-in-Less-clause-due
 returns-in-Less-clause-due c =
