@@ -1,0 +1,115 @@
+// The pending delays, which contracts see as a map from delays to times.
+
+ghost use Rattle.std.specs.Prelude.{◌≡◌, ◌+◌, ◌<◌, IfOk, IfNone, IfSome, MatchOption};
+ghost use Rattle.std.specs.FinMap as map;
+ghost use Rattle.delay_timers.specs.Pending.{AreBelowCapacity, IsLeastTime, NoneIsDueAt, IsLeastDueAt};
+ghost use Rattle.delay_timers.specs.Tree.{IsFirstDue};
+
+use crate::tree::{Due, change_leaf, first_leaf_at};
+use std::alloc::Global;
+use std::cmp::Ordering;
+use std::marker::Model;
+use tsl_value::memory::NoMemory;
+use tsl_value::time::Time;
+
+/// The delays that are pending, each with the time at which it is due. Delays are numbers below a capacity.
+#[derive(Drop)]
+pub struct Timers {
+    delays: usize,
+    nodes: Vec<Option<Due>>,
+}
+
+impl Model for Timers {
+    ghost use Rattle.std.specs.Prelude.{drop};
+    ghost use Rattle.delay_timers.specs.Pending.{Pending, pending_code};
+
+    ghost Value = { Pending };
+
+    ghost coded = { pending_code };
+
+    ghost use Rattle.delay_timers.specs.Tree.{IsTree, times_of};
+
+    ghost view = { λ t. record { capacity = t.delays; times = times_of (drop t.delays t.nodes.items) } };
+
+    ghost invariant = { λ t. IsTree t.nodes.items t.delays };
+}
+
+impl Timers {
+    /// Room for so many delays, of which none is pending. No other call takes memory.
+    pub fn with_capacity(alloc: Global, delays: u32) -> Result<Timers, NoMemory>
+        ensures { IfOk result (λ t. t ≡ record { capacity = delays; times = map.empty }) }
+    {
+        let delays = delays as usize;
+        let nodes = vec![in alloc; None; 2 * delays]?;
+        Ok(Timers { delays, nodes })
+    }
+
+    /// Lets a delay be due at this time and at no other.
+    pub fn set(&mut self, delay: u32, at: Time)
+        requires { delay < self.old.capacity }
+        ensures { self.new ≡ record self.old { times = map.insert self.old.times delay at } }
+    {
+        let due = Due { time: at, delay };
+        change_leaf(
+            self.nodes.as_mut_slice(),
+            self.delays,
+            delay as usize,
+            Some(due),
+        );
+    }
+
+    /// Lets a delay not be pending.
+    pub fn cancel(&mut self, delay: u32)
+        requires { delay < self.old.capacity }
+        ensures { self.new ≡ record self.old { times = map.remove self.old.times delay } }
+    {
+        change_leaf(self.nodes.as_mut_slice(), self.delays, delay as usize, None);
+    }
+
+    /// The least time at which a delay is due. `None` exactly where none is pending.
+    pub fn next(&self) -> Option<Time>
+        ensures least { MatchOption result (self.now.times ≡ map.empty) (IsLeastTime self.now.times) }
+        ensures bounded { AreBelowCapacity self.now }
+    {
+        let first = self.first()?;
+        Some(first.time)
+    }
+
+    /// Takes out the least delay that is due at just this time. `None` exactly where there is none. It is fast where no
+    /// earlier time is pending.
+    pub fn take_due(&mut self, at: Time) -> Option<u32>
+        ensures due { MatchOption result (NoneIsDueAt self.old.times at) (IsLeastDueAt self.old.times at) }
+        ensures taken { IfSome result (λ delay. self.new ≡ record self.old { times = map.remove self.old.times delay }) }
+        ensures none { IfNone result (self.new ≡ self.old) }
+        ensures bounded { IfSome result (λ delay. delay < self.old.capacity) }
+    {
+        let delay = self.first_at(at)?;
+        self.cancel(delay);
+        Some(delay)
+    }
+
+    /// The delay that is due first of all.
+    fn first(&self) -> Option<Due>
+        ensures first { MatchOption result (self.now.times ≡ map.empty) (IsFirstDue self.now.times) }
+        ensures bounded { AreBelowCapacity self.now }
+    {
+        if self.delays == 0 {
+            None
+        } else {
+            self.nodes[1]
+        }
+    }
+
+    /// The least delay that is due at just this time.
+    fn first_at(&self, at: Time) -> Option<u32>
+        ensures due { MatchOption result (NoneIsDueAt self.now.times at) (IsLeastDueAt self.now.times at) }
+        ensures bounded { IfSome result (λ delay. delay < self.now.capacity) }
+    {
+        let first = self.first()?;
+        match first.time.cmp(&at) {
+            Ordering::Equal => Some(first.delay),
+            Ordering::Greater => None,
+            Ordering::Less => first_leaf_at(self.nodes.as_slice(), self.delays, at),
+        }
+    }
+}
