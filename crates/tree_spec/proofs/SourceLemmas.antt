@@ -7,7 +7,7 @@ use Rattle.flat_core.specs.System.{System}
 use Rattle.spec_lexer.specs.declared.fault.LexFault.{LexFault}
 use Rattle.spec_lexer.specs.declared.fault.LexFault.TheVariants as lex_fault
 use Rattle.spec_lexer.specs.Tokens.{Spelled}
-use Rattle.spec_lexer.specs.Source.{HasTokens, HasFault, IsFaultAnd}
+use Rattle.spec_lexer.specs.Source.{HasTokens, lexed, HasFault, IsFaultAnd}
 use Rattle.spec_parser.specs.Tree as tree
 use Rattle.spec_parser.specs.declared.parse.ParseFault.{ParseFault}
 use Rattle.spec_parser.specs.declared.parse.ParseFault.TheVariants as parse_fault
@@ -100,3 +100,6 @@ spells-system source a trees read t s has spells is r none some system =
       };
     }
 
+-- a source that has tokens is short
+pub short : (source : List ℕ) (a : Spelled) → HasTokens source a → length source ≤ 1048576
+short source a (lexed few text lexes end) = few

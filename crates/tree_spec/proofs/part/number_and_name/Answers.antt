@@ -5,6 +5,6 @@ use Rattle.tree_spec.proofs.part.number_and_name.Goals.{in_default-via-then-argu
 
 pub returns-in_default : goal.returns-in_default
 returns-in_default c = elim c.in_default.branch [
-  | in_default-via-then-arguments-lt2 w ↦ no_number_and_name c.args.arguments.now (λ h. omega arith)
-  | in_default-via-else-arguments-lt2+else-arguments-lt3 w ↦ no_number_and_name c.args.arguments.now (λ h. omega arith)
+  | in_default-via-then-arguments-lt2 w ↦ no_number_and_name c.args.arguments.now (λ h. let k = w.if-arguments-lt2.true in omega (arith, h, k))
+  | in_default-via-else-arguments-lt2+else-arguments-lt3 w ↦ no_number_and_name c.args.arguments.now (λ h. let k = w.if-arguments-lt3.false in omega (arith, h, k))
 ]
