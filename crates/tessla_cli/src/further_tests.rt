@@ -3,13 +3,19 @@
 use crate::tests::run;
 use std::alloc::Global;
 use std::test::Fail;
+use tsl_value::bytes::Bytes;
 use tsl_value::memory::NoMemory;
+use tsl_value::print::print_number;
 
 const RUN: &[&str] = &["run", "s.tsl"];
 
 /// A delay that sets itself again each 10 units of time.
 const CLOCK: &str =
     "def u := unit\ndef p: Events[Unit] := delay(c, u)\ndef m := merge(u, p)\ndef c := const(10, m)\nout p\n";
+
+/// A delay that sets itself again at each time.
+const TICKS: &str =
+    "def u := unit\ndef p: Events[Unit] := delay(c, u)\ndef m := merge(u, p)\ndef c := const(1, m)\nout p\n";
 
 /// A delay whose amounts and resets are inputs.
 const DELAY: &str = "in d: Events[Int]\nin r: Events[Unit]\ndef e := delay(d, r)\nout e\n";
@@ -48,6 +54,16 @@ fn prints(out: &str) -> End<'_> {
     }
 }
 
+/// An event at each time from 1 to 99.
+fn ticks(alloc: Global) -> Result<Bytes, NoMemory> {
+    let mut out = Bytes::new(alloc);
+    for time in 1..100 {
+        print_number(time, &mut out)?;
+        out.append(b": p = ()\n")?;
+    }
+    Ok(out)
+}
+
 #[test]
 fn a_delay_sets_itself_again(rt: HostRuntime) -> Result<(), Fail> {
     let end = prints("10: p = ()\n20: p = ()\n30: p = ()\n");
@@ -57,13 +73,15 @@ fn a_delay_sets_itself_again(rt: HostRuntime) -> Result<(), Fail> {
 
 #[test]
 fn a_limit_of_instants(rt: HostRuntime) -> Result<(), Fail> {
-    let end = End {
-        status: 7,
-        out: "10: p = ()\n20: p = ()\n",
-        err: "limit: 3 instants before time 30\n",
-    };
-    let words = &["run", "s.tsl", "--instants", "3"];
-    assert!(rt; ends(rt.alloc(), words, CLOCK, "1000:\n", end)?);
+    let words = &["run", "s.tsl", "--instants", "100"];
+    let left = run(rt.alloc(), words, TICKS, "1000:\n", 64, &[])?;
+    let out = ticks(rt.alloc())?;
+    assert_eq!(rt;
+        (left.status, left.world.err()),
+        (7, b"limit: 100 instants before time 100\n".as_slice())
+    );
+    assert!(rt; left.world.out() == out.as_slice());
+    assert!(rt; left.world.is_told());
     Ok(())
 }
 
@@ -173,5 +191,47 @@ fn a_fault_at_time_zero(rt: HostRuntime) -> Result<(), Fail> {
     };
     let spec = "def u := unit\ndef z := const(0, u)\ndef q := 1 / z\nout u\nout q\n";
     assert!(rt; ends(rt.alloc(), RUN, spec, "5:\n", end)?);
+    Ok(())
+}
+
+#[test]
+fn any_layout_is_read(rt: HostRuntime) -> Result<(), Fail> {
+    let spec =
+        "-- the value before\nin\n  i :Events[ Int ]def p:=last ( i\n , i)out\n\n p # printed";
+    assert!(rt;
+        ends(
+            rt.alloc(),
+            RUN,
+            spec,
+            "1: i = 4\n3: i = 9\n",
+            prints("3: p = 4\n")
+        )?
+    );
+    Ok(())
+}
+
+/// The specification is refused with this message.
+fn refuses(alloc: Global, spec: &str, err: &str) -> Result<bool, NoMemory> {
+    let end = End {
+        status: 3,
+        out: "",
+        err,
+    };
+    ends(alloc, RUN, spec, "1: i = 4\n", end)
+}
+
+#[test]
+fn sources_are_refused(rt: HostRuntime) -> Result<(), Fail> {
+    let alloc = rt.alloc();
+    assert!(rt; refuses(alloc, "out x +", "spec 1:8: Unexpected\n")?);
+    assert!(rt; refuses(alloc, "def a := 1 ? 2", "spec 1:12: BadCharacter\n")?);
+    assert!(rt; refuses(alloc, "def t := \"ab", "spec 1:10: OpenText\n")?);
+    assert!(rt;
+        refuses(
+            alloc,
+            "def n := 9223372036854775808",
+            "spec 1:10: LiteralTooWide\n"
+        )?
+    );
     Ok(())
 }

@@ -5,9 +5,9 @@ ghost use Rattle.tessla_cli.specs.Messages.{at_text, back_text, broken_line, bro
 
 use crate::ending::{Broken, Ending};
 use lift_func::fault::FaultKind;
-use std::alloc::Global;
 use spec_lexer::fault::LexFault;
 use spec_parser::parse::ParseFault;
+use std::alloc::Global;
 use trace_reader::fault::TraceFault;
 use tree_spec::fault::SpecFault;
 use tsl_value::bytes::Bytes;
