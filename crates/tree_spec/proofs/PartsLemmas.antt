@@ -1,5 +1,5 @@
 -- What is found in a part of a tree is what the part is read as, and all of it.
-use Rattle.std.proofs.Common.{◌≡◌, ℕ, ℤ, ◌<◌, ◌^◌, Bool, true, false, List, [], ◌∷◌, length, refl, ap, ◌∙◌, sym, subst, arith, if◌then◌else◌, codes, Option, Some, None, inl, inr}
+use Rattle.std.proofs.Common.{◌≡◌, ℕ, ℤ, ◌<◌, ◌^◌, Bool, true, false, List, [], ◌∷◌, refl, ap, ◌∙◌, sym, subst, arith, if◌then◌else◌, codes, Option, Some, None, inl, inr}
 use Rattle.std.specs.Prelude.{◌⊎◌, pos, nat_lt, IsTrue}
 use Rattle.std.specs.Option.{option_and_then, option_map, option_or}
 use Rattle.std.specs.List.{list_all}
@@ -11,8 +11,6 @@ use Rattle.tsl_value.specs.declared.place.Place.{Place}
 use Rattle.spec_parser.specs.declared.tree.Level.{Level}
 use Rattle.spec_parser.specs.declared.tree.Operator.{Operator as Sign}
 use Rattle.spec_parser.specs.declared.tree.Operator.TheVariants as sign
-use Rattle.spec_parser.specs.declared.tree.Link.{Link}
-use Rattle.spec_parser.specs.Shape.{exprs_of, links_in}
 use Rattle.spec_parser.specs.Tree as tree
 use Rattle.spec_parser.specs.Tree.{TypeName, Expr, Exprs, Links, no_exprs, more_exprs, no_links, more_links}
 use Rattle.tree_spec.specs.declared.item.Item.{Item}
@@ -288,26 +286,3 @@ reads-names t i (unit_input h) = rw h refl
 reads-names t i (definition {e = e} {x = x} h is) = rw h (expression-names e x is)
 reads-names t i (typed_delay {d = d} {x = x} {e = e} h is) = rw h (expression-names e (expression.Delay d x) is)
 reads-names t i (output h) = rw h refl
-
--- ---- other numbers of arguments and of links
-pub not_one : (es : List Expr) → (length es ≡ 1 → ⊥) → None ≡ one_name (exprs_of es)
-not_one [] other = refl
-not_one (a ∷ []) other = absurd (other refl)
-not_one (a ∷ b ∷ es) other = refl
-
-pub no_two_names : (es : List Expr) → (length es ≡ 2 → ⊥) → None ≡ two_names (exprs_of es)
-no_two_names [] other = refl
-no_two_names (a ∷ []) other = refl
-no_two_names (a ∷ b ∷ []) other = absurd (other refl)
-no_two_names (a ∷ b ∷ c ∷ es) other = refl
-
-pub no_number_and_name : (es : List Expr) → (length es ≡ 2 → ⊥) → None ≡ number_and_name (exprs_of es)
-no_number_and_name [] other = refl
-no_number_and_name (a ∷ []) other = refl
-no_number_and_name (a ∷ b ∷ []) other = absurd (other refl)
-no_number_and_name (a ∷ b ∷ c ∷ es) other = refl
-
-pub no_chain : (a : Expr) (ls : List Link) → (length ls ≡ 1 → ⊥) → None ≡ links_of a (links_in ls)
-no_chain a [] other = refl
-no_chain a (l ∷ []) other = absurd (other refl)
-no_chain a (l ∷ m ∷ ls) other = refl

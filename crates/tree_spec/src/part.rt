@@ -67,9 +67,12 @@ fn operator_of(sign: tree::Operator) -> Option<Operator>
 fn one_name(arguments: &[Expr]) -> Result<Option<Text>, NoMemory>
     ensures { IfOk result (λ n. n ≡ one_name (exprs_of arguments.now)) }
 {
-    match arguments {
-        [a] => read_name(a),
-        _ => Ok(None),
+    let Some((first, rest)) = arguments.split_first() else {
+        return Ok(None);
+    };
+    match rest.split_first() {
+        None => read_name(first),
+        Some(_) => Ok(None),
     }
 }
 
@@ -103,9 +106,15 @@ fn number_then_name(first: &Expr, second: &Expr) -> Result<Option<(i64, Text)>, 
 fn two_names(arguments: &[Expr]) -> Result<Option<(Text, Text)>, NoMemory>
     ensures { IfOk result (λ n. n ≡ two_names (exprs_of arguments.now)) }
 {
-    match arguments {
-        [a, b] => names(a, b),
-        _ => Ok(None),
+    let Some((first, rest)) = arguments.split_first() else {
+        return Ok(None);
+    };
+    let Some((second, rest)) = rest.split_first() else {
+        return Ok(None);
+    };
+    match rest.split_first() {
+        None => names(first, second),
+        Some(_) => Ok(None),
     }
 }
 
@@ -113,9 +122,15 @@ fn two_names(arguments: &[Expr]) -> Result<Option<(Text, Text)>, NoMemory>
 fn number_and_name(arguments: &[Expr]) -> Result<Option<(i64, Text)>, NoMemory>
     ensures { IfOk result (λ n. n ≡ number_and_name (exprs_of arguments.now)) }
 {
-    match arguments {
-        [a, b] => number_then_name(a, b),
-        _ => Ok(None),
+    let Some((first, rest)) = arguments.split_first() else {
+        return Ok(None);
+    };
+    let Some((second, rest)) = rest.split_first() else {
+        return Ok(None);
+    };
+    match rest.split_first() {
+        None => number_then_name(first, second),
+        Some(_) => Ok(None),
     }
 }
 
@@ -187,9 +202,12 @@ fn read_operation(
 fn read_chain(first: &Expr, links: &[Link]) -> Result<Option<Expression>, NoMemory>
     ensures { IfOk result (λ e. e ≡ links_of first.now (links_in links.now)) }
 {
-    match links {
-        [link] => read_operation(first, link.operator, &link.operand),
-        _ => Ok(None),
+    let Some((link, rest)) = links.split_first() else {
+        return Ok(None);
+    };
+    match rest.split_first() {
+        None => read_operation(first, link.operator, &link.operand),
+        Some(_) => Ok(None),
     }
 }
 
