@@ -77,8 +77,10 @@ fn run_source<W: World>(
 {
     match compile(alloc, source) {
         Ok(compiled) => Ok(run_system(alloc, world, &compiled.flat, options, buf)?),
+        Err(SpecFault::Lex(fault)) => Ok(Ending::Spec(SpecFault::Lex(fault))),
+        Err(SpecFault::Parse(fault)) => Ok(Ending::Spec(SpecFault::Parse(fault))),
+        Err(SpecFault::NotBuilt { place }) => Ok(Ending::Spec(SpecFault::NotBuilt { place })),
         Err(SpecFault::Memory) => Err(Broken::Memory),
-        Err(fault) => Ok(Ending::Spec(fault)),
     }
 }
 
