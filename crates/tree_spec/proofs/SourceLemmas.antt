@@ -54,22 +54,6 @@ pub refused-turn : (parts : List Part) (k : ℕ) (t : Declared) (x : Part) (e : 
 refused-turn parts k t x e less is r h = refused-fault (map tree_of parts) (map tree_of (take k parts)) (tree_of x) (map tree_of (drop (suc k) parts)) t e (all_parts parts k x less is) r h
 
 -- ---- the source
-pub lex-refused : (source : List ℕ) (e : LexFault) → IsFaultAnd e (HasFault source) → IsRefused source (of_lex e)
-lex-refused source lex_fault.Memory h = tt
-lex-refused source (lex_fault.SpecTooLong p) h = h
-lex-refused source (lex_fault.BadUtf8 p) h = h
-lex-refused source (lex_fault.BadCharacter p) h = h
-lex-refused source (lex_fault.OpenText p) h = h
-lex-refused source (lex_fault.BadEscape p) h = h
-lex-refused source (lex_fault.LiteralTooWide p) h = h
-lex-refused source (lex_fault.TextTooLong p) h = h
-lex-refused source (lex_fault.NameTooLong p) h = h
-
-pub parse-refused : (source : List ℕ) (a : Spelled) (e : ParseFault) → HasTokens source a → IsFaultOf e a.tokens a.end → IsRefused source (of_parse e)
-parse-refused source a parse_fault.Memory has h = tt
-parse-refused source a (parse_fault.Unexpected p) has h = record { spelled = a; tokens = has; refused = h }
-parse-refused source a (parse_fault.TooDeep p) has h = record { spelled = a; tokens = has; refused = h }
-
 pub items-refused : (source : List ℕ) (a : Spelled) (trees read : List tree.Item) (e : SpecFault) → HasTokens source a → Spells 64 a.tokens trees → read ≡ trees → AreRead read (Err e) → IsRefused source e
 items-refused source a trees read (fault.NotBuilt p) has spells is h =
     record { spelled = a; tokens = has; trees = read; spells = subst (Spells 64 a.tokens) (sym is) spells; not_built = h a.end }
@@ -80,25 +64,6 @@ items-refused source a trees read (fault.Parse d) has spells is h = absurd h
 pub end-refused : (source : List ℕ) (a : Spelled) (trees read : List tree.Item) (t : Declared) (place : Place) → HasTokens source a → Spells 64 a.tokens trees → read ≡ trees → IsRead read t → (t.awaited ≡ [] → t.outputs ≡ []) → place ≡ a.end → IsMistaken source place
 end-refused source a trees read t place has spells is r missing at =
     record { spelled = a; tokens = has; trees = read; spells = subst (Spells 64 a.tokens) (sym is) spells; not_built = refused-behind read t a.end place r missing at }
-
-pub spells-system : (source : List ℕ) (a : Spelled) (trees read : List tree.Item) (t : Declared) (s : System) → HasTokens source a → Spells 64 a.tokens trees → read ≡ trees → IsRead read t → t.awaited ≡ [] → 0 < length t.outputs → IsSystem t s → SpellsSystem source s
-spells-system source a trees read t s has spells is r none some system =
-    record {
-      spelled = a;
-      tokens = has;
-      trees = read;
-      spells = subst (Spells 64 a.tokens) (sym is) spells;
-      means = record {
-        items = r.items;
-        whole = record {
-          read = r.read;
-          allowed = r.allowed;
-          none_awaited = subst (λ (u : Declared). u.awaited ≡ []) (sym r.is) none;
-          some_output = subst (λ (u : Declared). 0 < length u.outputs) (sym r.is) some;
-        };
-        system = subst (λ u. IsSystem u s) (sym r.is) system;
-      };
-    }
 
 -- a source that has tokens is short
 pub short : (source : List ℕ) (a : Spelled) → HasTokens source a → length source ≤ 1048576

@@ -21,7 +21,9 @@ pub enum Item {
         place: Place,
     },
     /// `out NAME`
-    Output { name: Text },
+    Output {
+        name: Text,
+    },
 }
 
 /// The type of an input's events.

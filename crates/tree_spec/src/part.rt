@@ -319,9 +319,7 @@ pub fn read_item(part: &tree::Item) -> Result<Option<Item>, NoMemory>
     match part {
         tree::Item::Input(_, place, name, of) => read_input(*place, name, of),
         tree::Item::Defined(_, definition) => read_definition(definition),
-        tree::Item::Output(_, _, name) => {
-            Ok(checked(name)?.map(|name| Item::Output { name }))
-        }
+        tree::Item::Output(_, _, name) => { Ok(checked(name)?.map(|name| Item::Output { name })) }
         tree::Item::OutputAs(_, _, _, _) => Ok(None),
     }
 }

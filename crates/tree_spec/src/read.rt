@@ -1,6 +1,6 @@
 // The reader.
 
-ghost use Rattle.std.specs.Prelude.{◌≡◌, Some, map, length, ◌≤◌, ◌^◌, IfOk, IfErr, OnOk};
+ghost use Rattle.std.specs.Prelude.{◌≡◌, Some, map, IfOk, IfErr, OnOk};
 ghost use Rattle.flat_core.specs.Complete.{IsFlat};
 ghost use Rattle.flat_core.specs.WellFormed.{IsRanked};
 ghost use Rattle.plain_solver.specs.Instant.{IsInOrder};
@@ -17,6 +17,13 @@ use spec_lexer::lex::lex;
 use spec_parser::parse::parse;
 use spec_parser::tree;
 use std::alloc::Global;
+use tsl_value::place::Place;
+
+fn not_built(place: Place) -> SpecFault
+    ensures { result ≡ SpecFault.NotBuilt place }
+{
+    SpecFault::NotBuilt { place }
+}
 
 /// Takes the next item, if it is read and may stand there.
 fn add_item(table: &mut Table, part: &tree::Item) -> Result<(), SpecFault>
@@ -24,14 +31,10 @@ fn add_item(table: &mut Table, part: &tree::Item) -> Result<(), SpecFault>
     ensures err { IfErr result (IsItemFault table.old (tree_of part.now)) }
 {
     let Some(item) = read_item(part)? else {
-        return Err(SpecFault::NotBuilt {
-            place: part.place(),
-        });
+        return Err(not_built(part.place()));
     };
     if !table.is_allowed(&item) {
-        return Err(SpecFault::NotBuilt {
-            place: part.place(),
-        });
+        return Err(not_built(part.place()));
     }
     table.add(item)?;
     Ok(())
@@ -75,9 +78,7 @@ pub fn read_spec(alloc: Global, source: &[u8]) -> Result<Flat, SpecFault>
     let tree = parse(alloc, &tokens)?;
     let table = read_items(alloc, tree.items())?;
     if !table.is_whole() {
-        return Err(SpecFault::NotBuilt {
-            place: tokens.end(),
-        });
+        return Err(not_built(tokens.end()));
     }
     let flat = table.into_flat(alloc)?;
     Ok(flat)

@@ -293,7 +293,9 @@ impl Table {
                 self.is_allowed_input(name.as_str(), type_of_input(*of))
             }
             Item::Definition {
-                name, expression, ..
+                name,
+                expression,
+                ..
             } => self.is_allowed_definition(name.as_str(), expression),
             Item::Output { name } => self.is_allowed_output(name.as_str()),
         }

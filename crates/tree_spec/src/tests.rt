@@ -77,7 +77,10 @@ fn arithmetic_and_delays_are_read(rt: HostRuntime) -> Result<(), Fail> {
 #[test]
 fn tokens_and_trees_are_refused(rt: HostRuntime) {
     let alloc = rt.alloc();
-    let bad = Place { line: 1, column: 12 };
+    let bad = Place {
+        line: 1,
+        column: 12,
+    };
     let end = Place { line: 1, column: 8 };
     assert!(rt;
         matches!(
@@ -97,15 +100,39 @@ fn tokens_and_trees_are_refused(rt: HostRuntime) {
 fn other_forms_are_refused_at_their_items(rt: HostRuntime) {
     let alloc = rt.alloc();
     assert_eq!(rt; not_built(alloc, b"in i: Events[Bool]\nout i"), (1, 1));
-    assert_eq!(rt; not_built(alloc, b"in i: Events[Int]\n in j: Int out i"), (2, 2));
-    assert_eq!(rt; not_built(alloc, b"in i: Events[Int] def p := i + i\nout p"), (1, 19));
-    assert_eq!(rt; not_built(alloc, b"in i: Events[Int] def p := i - -1\nout p"), (1, 19));
-    assert_eq!(rt; not_built(alloc, b"in i: Events[Int] def p := i + 1 + 2\nout p"), (1, 19));
-    assert_eq!(rt; not_built(alloc, b"in i: Events[Int] def p(a: Int) := -a\nout i"), (1, 19));
-    assert_eq!(rt; not_built(alloc, b"in i: Events[Int] def p := { -i }\nout i"), (1, 19));
+    assert_eq!(rt;
+        not_built(alloc, b"in i: Events[Int]\n in j: Int out i"),
+        (2, 2)
+    );
+    assert_eq!(rt;
+        not_built(alloc, b"in i: Events[Int] def p := i + i\nout p"),
+        (1, 19)
+    );
+    assert_eq!(rt;
+        not_built(alloc, b"in i: Events[Int] def p := i - -1\nout p"),
+        (1, 19)
+    );
+    assert_eq!(rt;
+        not_built(alloc, b"in i: Events[Int] def p := i + 1 + 2\nout p"),
+        (1, 19)
+    );
+    assert_eq!(rt;
+        not_built(alloc, b"in i: Events[Int] def p(a: Int) := -a\nout i"),
+        (1, 19)
+    );
+    assert_eq!(rt;
+        not_built(alloc, b"in i: Events[Int] def p := { -i }\nout i"),
+        (1, 19)
+    );
     assert_eq!(rt; not_built(alloc, b"in i: Events[Int] out\ni as j"), (1, 19));
-    assert_eq!(rt; not_built(alloc, b"def u: Events[Unit] := unit\nout u"), (1, 1));
-    assert_eq!(rt; not_built(alloc, "in \u{e4}: Events[Int]".as_bytes()), (1, 1));
+    assert_eq!(rt;
+        not_built(alloc, b"def u: Events[Unit] := unit\nout u"),
+        (1, 1)
+    );
+    assert_eq!(rt;
+        not_built(alloc, "in \u{e4}: Events[Int]".as_bytes()),
+        (1, 1)
+    );
     assert_eq!(rt; not_built(alloc, b"in time: Events[Int]"), (1, 1));
     assert!(rt; is_name("x_1"));
     assert!(rt; !is_name("lift"));
@@ -114,17 +141,38 @@ fn other_forms_are_refused_at_their_items(rt: HostRuntime) {
 #[test]
 fn items_are_refused_where_they_stand(rt: HostRuntime) {
     let alloc = rt.alloc();
-    assert_eq!(rt; not_built(alloc, b"in i: Events[Int]\nout i\n  out i\n"), (3, 3));
-    assert_eq!(rt; not_built(alloc, b"in i: Events[Int] in i: Events[Int] out i"), (1, 19));
-    assert_eq!(rt; not_built(alloc, b"def u := unit def a := -u out a"), (1, 15));
-    assert_eq!(rt; not_built(alloc, b"def u := unit def a := time(v) out a"), (1, 15));
     assert_eq!(rt;
-        not_built(alloc, b"def u := unit\ndef p := delay(c, u)\nout p def c := unit"),
+        not_built(alloc, b"in i: Events[Int]\nout i\n  out i\n"),
+        (3, 3)
+    );
+    assert_eq!(rt;
+        not_built(alloc, b"in i: Events[Int] in i: Events[Int] out i"),
+        (1, 19)
+    );
+    assert_eq!(rt;
+        not_built(alloc, b"def u := unit def a := -u out a"),
+        (1, 15)
+    );
+    assert_eq!(rt;
+        not_built(alloc, b"def u := unit def a := time(v) out a"),
+        (1, 15)
+    );
+    assert_eq!(rt;
+        not_built(
+            alloc,
+            b"def u := unit\ndef p := delay(c, u)\nout p def c := unit"
+        ),
         (3, 7)
     );
-    assert_eq!(rt; not_built(alloc, b"def u := unit def c := delay(c, u)"), (1, 15));
     assert_eq!(rt;
-        not_built(alloc, b"def u := unit def p := delay(c, u) in c: Events[Int] out p"),
+        not_built(alloc, b"def u := unit def c := delay(c, u)"),
+        (1, 15)
+    );
+    assert_eq!(rt;
+        not_built(
+            alloc,
+            b"def u := unit def p := delay(c, u) in c: Events[Int] out p"
+        ),
         (0, 0)
     );
 }
@@ -133,6 +181,12 @@ fn items_are_refused_where_they_stand(rt: HostRuntime) {
 fn sources_are_refused_at_their_ends(rt: HostRuntime) {
     let alloc = rt.alloc();
     assert_eq!(rt; not_built(alloc, b""), (1, 1));
-    assert_eq!(rt; not_built(alloc, b"in i: Events[Int]\n -- no output"), (2, 14));
-    assert_eq!(rt; not_built(alloc, b"def u := unit\ndef p := delay(c, u)\nout p\n"), (4, 1));
+    assert_eq!(rt;
+        not_built(alloc, b"in i: Events[Int]\n -- no output"),
+        (2, 14)
+    );
+    assert_eq!(rt;
+        not_built(alloc, b"def u := unit\ndef p := delay(c, u)\nout p\n"),
+        (4, 1)
+    );
 }
