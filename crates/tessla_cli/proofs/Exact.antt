@@ -6,7 +6,6 @@ use Rattle.flat_core.specs.Case.{Streams}
 use Rattle.flat_core.specs.System.{System}
 use Rattle.flat_core.proofs.Alike.{named_faulty}
 use Rattle.flat_core.proofs.Members.{all_at}
-use Rattle.tsl_value.specs.declared.place.Place.{Place}
 use Rattle.tsl_world.specs.declared.outside.Did.{Did}
 use Rattle.tsl_world.specs.declared.outside.Slot.TheVariants.{Spec, Trace}
 use Rattle.tsl_world.specs.Journal.{taken, ended}

@@ -28,7 +28,6 @@ use Rattle.tessla_cli.specs.Parts.{BeginsDue, WatchEnds, EndsBy}
 use Rattle.tessla_cli.specs.Shape.{ReadsSpec, GivesSource, ends, SourceEnds, spec_refused, compiled_ends, whole_ends, WordsEnd, words_refused, asked_ends}
 use Rattle.tessla_cli.specs.Words.{Run, command_of}
 use Rattle.tessla_cli.proofs.Facts.{Shows, no_opening_in, spelled_behind, ends_behind, each_take, each_work}
-use Rattle.tsl_value.specs.declared.place.Place.{Place}
 use Rattle.std.proofs.lemmas.List.{append-nil}
 
 module _ (words : List (List ℕ)) where
