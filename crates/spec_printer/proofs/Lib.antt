@@ -1,0 +1,10 @@
+pub mod Anywhere
+pub mod Joined
+pub mod Turns
+pub mod Printable
+pub mod Lexing
+pub mod Fits
+pub mod Found
+pub mod Marked
+pub mod LexedAgain
+pub mod Behind

@@ -1,0 +1,77 @@
+// Types.
+
+ghost use Rattle.std.specs.Prelude.{◌≡◌, ◌∷◌, ◌++◌, length, take, OnOk, OnErr};
+ghost use Rattle.spec_printer.specs.Marks.{named, text_of};
+ghost use Rattle.spec_printer.specs.Print.{type_marks, shape_marks, bracketed, both_bracketed, second_bracketed};
+
+use crate::mark::{put_name, put_symbol};
+use spec_lexer::token::Symbol;
+use spec_parser::tree::{TypeName, TypeShape};
+use tsl_value::bytes::Bytes;
+use tsl_value::memory::NoMemory;
+
+#[cycle(types)]
+#[tactic(auto, using(crate::proofs::Anywhere::marks_of_shape, crate::proofs::Anywhere::size_of_shape))]
+pub(crate) fn put_type(of: &TypeName, out: &mut Bytes) -> Result<(), NoMemory>
+    ensures ok { OnOk result (out.new ≡ out.old ++ text_of (type_marks of.now)) }
+    ensures err { OnErr result (take (length out.old) out.new ≡ out.old) }
+{
+    put_shape(of.shape(), out)
+}
+
+#[cycle(types)]
+fn put_shape(shape: &TypeShape, out: &mut Bytes) -> Result<(), NoMemory>
+    ensures ok { OnOk result (out.new ≡ out.old ++ text_of (shape_marks shape.now)) }
+    ensures err { OnErr result (take (length out.old) out.new ≡ out.old) }
+{
+    match shape {
+        TypeShape::Unit => put_name("Unit", out),
+        TypeShape::Int => put_name("Int", out),
+        TypeShape::Bool => put_name("Bool", out),
+        TypeShape::Text => put_name("String", out),
+        TypeShape::Set(inner) => put_one("Set", inner, out),
+        TypeShape::Map(key, value) => put_two("Map", key, value, out),
+        TypeShape::Option(inner) => put_one("Option", inner, out),
+        TypeShape::Events(inner) => put_one("Events", inner, out),
+    }
+}
+
+/// A name and the type behind it, in brackets.
+#[cycle(types)]
+pub(crate) fn put_one(name: &str, of: &TypeName, out: &mut Bytes) -> Result<(), NoMemory>
+    ensures ok { OnOk result (out.new ≡ out.old ++ text_of (named name.now ∷ bracketed of.now)) }
+    ensures err { OnErr result (take (length out.old) out.new ≡ out.old) }
+{
+    put_name(name, out)?;
+    put_symbol(Symbol::OpenBracket, out)?;
+    put_type(of, out)?;
+    put_symbol(Symbol::CloseBracket, out)
+}
+
+/// A name and the two types behind it, in brackets.
+#[cycle(types)]
+pub(crate) fn put_two(
+    name: &str,
+    key: &TypeName,
+    value: &TypeName,
+    out: &mut Bytes,
+) -> Result<(), NoMemory>
+    ensures ok { OnOk result (out.new ≡ out.old ++ text_of (named name.now ∷ both_bracketed key.now value.now)) }
+    ensures err { OnErr result (take (length out.old) out.new ≡ out.old) }
+{
+    put_name(name, out)?;
+    put_symbol(Symbol::OpenBracket, out)?;
+    put_type(key, out)?;
+    put_second(value, out)
+}
+
+/// The second of two types in brackets, between the comma and the closing one.
+#[cycle(types)]
+fn put_second(of: &TypeName, out: &mut Bytes) -> Result<(), NoMemory>
+    ensures ok { OnOk result (out.new ≡ out.old ++ text_of (second_bracketed of.now)) }
+    ensures err { OnErr result (take (length out.old) out.new ≡ out.old) }
+{
+    put_symbol(Symbol::Comma, out)?;
+    put_type(of, out)?;
+    put_symbol(Symbol::CloseBracket, out)
+}
