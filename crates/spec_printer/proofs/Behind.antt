@@ -15,7 +15,7 @@ use Rattle.spec_parser.specs.declared.tree.Comparison.TheVariants as comparison
 use Rattle.spec_parser.specs.Words.{operator_at, symbol_at, comparison_at, compares, goes_on}
 use Rattle.spec_parser.specs.Grammar.{IsPastLevel, IsPastComparison, IsPastName}
 use Rattle.spec_printer.specs.Marks.{Mark, token, line_end}
-use Rattle.spec_printer.specs.Follow.{Follow}
+use Rattle.spec_printer.specs.Follow.{Follow, nothing, next_line, next_token}
 use Rattle.spec_printer.specs.Print.{level_strength, operator_symbol, comparison_symbol}
 use Rattle.spec_printer.proofs.Fits.{level_of}
 
@@ -53,12 +53,10 @@ abbrev pub next_strength : List Token → ℕ
 next_strength [] = 0
 next_strength (t ∷ ts) = kind_strength t.kind t.first
 
-pub follow_strength : (first : Bool) (ms : List Mark) (ts : List Token) → Follow first ms ts → next_strength ts ≡ strength_behind first ms
-follow_strength first [] [] h = refl
-follow_strength first [] (t ∷ ts) h = absurd h
-follow_strength first (line_end ∷ ms) ts h = follow_strength true ms ts h
-follow_strength first (token k ∷ ms) [] h = absurd h
-follow_strength first (token k ∷ ms) (t ∷ ts) h = λ i. kind_strength (h.0 i) (h.1 i)
+pub follow_strength : {first : Bool} {ms : List Mark} {ts : List Token} → Follow first ms ts → next_strength ts ≡ strength_behind first ms
+follow_strength nothing = refl
+follow_strength (next_line h) = follow_strength h
+follow_strength (next_token is first h) = λ i. kind_strength (is i) (first i)
 
 symbol_at_strength : (l : Level) (s : Symbol) (first : Bool) (o : Operator) → symbol_at l s first ≡ Some o → symbol_strength s first ≡ level_strength l
 symbol_at_strength level.Disjunction symbol.Or first o h = refl

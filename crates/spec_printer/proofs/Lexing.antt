@@ -13,7 +13,7 @@ use Rattle.spec_lexer.specs.Source.{Lexes, end, skip, token as one_token}
 use Rattle.spec_lexer.proofs.Runs.{both_pass}
 use Rattle.spec_lexer.proofs.Places.{place_after-within}
 use Rattle.spec_printer.specs.Marks.{Mark, token, line_end, kind_text, text_of}
-use Rattle.spec_printer.specs.Follow.{Follow}
+use Rattle.spec_printer.specs.Follow.{Follow, nothing, next_line, next_token}
 use Rattle.spec_printer.proofs.Printable.{Printable, made_printable, scalars-append}
 
 abbrev pub ArePrintable : List Mark → Type 0
@@ -41,7 +41,7 @@ line_more at last ms h l = record {
   encoded = ap (λ e. e ++ encode_utf8_all l.characters) (encode_ascii 10 (omega arith)) ∙ ap (λ b. 10 ∷ b) l.encoded;
   tokens = l.tokens;
   lexes = skip {front = 10 ∷ []} {rest = l.characters} refl lf l.lexes;
-  follow = subst (λ b. Follow b ms l.tokens) (lt-ltb last (at.line + 1) (omega arith)) l.follow;
+  follow = next_line (subst (λ b. Follow b ms l.tokens) (lt-ltb last (at.line + 1) (omega arith)) l.follow);
 }
 
 token_more : (at : Place) (last : ℕ) (k : Kind) (ms : List Mark) (p : Printable k) → Lexed (place_after (place_after at p.characters) (32 ∷ [])) at.line ms → Lexed at last (token k ∷ ms)
@@ -56,11 +56,11 @@ token_more at last k ms p l =
           ∙ sym (append_assoc (kind_text k) (32 ∷ []) (text_of ms));
       tokens = record { kind = k; place = at; first = nat_lt last at.line } ∷ l.tokens;
       lexes = one_token {front = p.characters} {rest = 32 ∷ l.characters} refl (p.makes l.characters) (skip {front = 32 ∷ []} {rest = l.characters} refl (blank refl) l.lexes);
-      follow = (refl, refl, subst (λ b. Follow b ms l.tokens) (le-ltb at.line (place_after at p.characters).line (omega (arith, stays))) l.follow);
+      follow = next_token refl refl (subst (λ b. Follow b ms l.tokens) (le-ltb at.line (place_after at p.characters).line (omega (arith, stays))) l.follow);
     }
 
 pub marks_lexed : (ms : List Mark) (at : Place) (last : ℕ) → last ≤ at.line → ArePrintable ms → Lexed at last ms
-marks_lexed [] at last h a = record { characters = []; scalars = refl; encoded = refl; tokens = []; lexes = end; follow = tt }
+marks_lexed [] at last h a = record { characters = []; scalars = refl; encoded = refl; tokens = []; lexes = end; follow = nothing }
 marks_lexed (line_end ∷ ms) at last h a = line_more at last ms h (marks_lexed ms (record { line = at.line + 1; column = 1 }) last (omega arith) a)
 marks_lexed (token k ∷ ms) at last h a =
     let stays : (place_after at a.0.characters).line ≡ at.line = ap (λ (q : Place). q.line) (place_after-within at a.0.characters a.0.within) in

@@ -8,3 +8,7 @@ pub mod Found
 pub mod Marked
 pub mod LexedAgain
 pub mod Behind
+pub mod Again
+pub mod Begins
+pub mod Items
+pub mod ComesBack

@@ -1,12 +1,11 @@
 -- Tokens that follow marks.
 use Rattle.std.specs.Prelude.{◌≡◌, Bool, true, false, List, [], ◌∷◌}
 use Rattle.spec_lexer.specs.declared.token.Token.{Token}
+use Rattle.spec_lexer.specs.declared.token.Kind.{Kind}
 use Rattle.spec_printer.specs.Marks.{Mark, token, line_end}
 
--- these kinds, and the first of its line where a line ends before it; the flag says whether the next one is that
-abbrev pub Follow : Bool → List Mark → List Token → Type 0
-Follow first [] [] = Unit {0}
-Follow first [] (t ∷ ts) = ⊥
-Follow first (line_end ∷ ms) ts = Follow true ms ts
-Follow first (token k ∷ ms) [] = ⊥
-Follow first (token k ∷ ms) (t ∷ ts) = (t.kind ≡ k) × (t.first ≡ first) × Follow false ms ts
+-- These kinds, and the first of its line where a line ends before it. The flag says whether the next token is that.
+pub data Follow : Bool → List Mark → List Token → Type 0 where
+  nothing : {first : Bool} → Follow first [] []
+  next_line : {first : Bool} {ms : List Mark} {ts : List Token} → Follow true ms ts → Follow first (line_end ∷ ms) ts
+  next_token : {first : Bool} {k : Kind} {ms : List Mark} {t : Token} {ts : List Token} → t.kind ≡ k → t.first ≡ first → Follow false ms ts → Follow first (token k ∷ ms) (t ∷ ts)
