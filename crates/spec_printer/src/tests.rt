@@ -148,8 +148,43 @@ out quiet
 out Map . size ( seen ) as devices 
 ";
 
+const SEEN: &[u8] = b"in i: Events[Int]
+def m := merge(y, Set.empty[Int])
+def yl := last(m, i)
+def y: Events[Set[Int]] := Set.add(yl, i)
+def s := Set.contains(yl, i)
+out s
+";
+
+const SEEN_PRINTED: &[u8] = b"in i : Events [ Int ] 
+def m := merge ( y , Set . empty [ Int ] ) 
+def yl := last ( m , i ) 
+def y : Events [ Set [ Int ] ] := Set . add ( yl , i ) 
+def s := Set . contains ( yl , i ) 
+out s 
+";
+
+const COUNTED: &[u8] = b"in e: Events[Int]
+def count(x: Events[Int]): Events[Int] := { def c: Events[Int] := merge(last(c, x) + 1, 0) c }
+out count(e) as n
+";
+
+const COUNTED_PRINTED: &[u8] = b"in e : Events [ Int ] 
+def count ( x : Events [ Int ] ) : Events [ Int ] := { 
+def c : Events [ Int ] := merge ( last ( c , x ) + 1 , 0 ) 
+c } 
+out count ( e ) as n 
+";
+
 #[test]
-fn a_large_specification_is_printed(rt: HostRuntime) {
-    assert!(rt; is_printed(rt.alloc(), HEARTBEATS, HEARTBEATS_PRINTED));
-    assert!(rt; is_printed(rt.alloc(), HEARTBEATS_PRINTED, HEARTBEATS_PRINTED));
+fn specifications_come_back(rt: HostRuntime) {
+    let sources: [(&[u8], &[u8]); 3] = [
+        (HEARTBEATS, HEARTBEATS_PRINTED),
+        (SEEN, SEEN_PRINTED),
+        (COUNTED, COUNTED_PRINTED),
+    ];
+    for (source, text) in sources.iter() {
+        assert!(rt; is_printed(rt.alloc(), *source, *text));
+        assert!(rt; is_printed(rt.alloc(), *text, *text));
+    }
 }
