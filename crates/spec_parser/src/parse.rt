@@ -47,6 +47,7 @@ fn place_before(tokens: &[Token], left: usize) -> Place
 /// The tree that the tokens spell, of at most 64 levels, or the first token where they spell none.
 pub fn parse(alloc: Global, tokens: &Tokens) -> Result<Tree, ParseFault>
     ensures tree { IfOk result (λ t. Spells 64 tokens.now.tokens (items_of t)) }
+    ensures end { IfOk result (λ t. t.end ≡ tokens.now.end) }
     ensures size { IfOk result (λ t. length (items_of t) ≤ length tokens.now.tokens) }
     ensures fault { IfErr result (λ e. IsFaultOf e tokens.now.tokens tokens.now.end) }
 
@@ -58,7 +59,10 @@ pub fn parse(alloc: Global, tokens: &Tokens) -> Result<Tree, ParseFault>
 {
     let all = tokens.as_slice();
     match items(alloc, 64, all) {
-        Ok(items) => Ok(Tree { items }),
+        Ok(items) => Ok(Tree {
+            items,
+            end: tokens.end(),
+        }),
         Err(Stop::Unexpected(rest)) => {
             let place = place_of(rest, tokens.end());
             Err(ParseFault::Unexpected { place })

@@ -104,6 +104,14 @@ fn sources_have_their_items(rt: HostRuntime) {
     }
 }
 
+#[test]
+fn a_tree_ends_where_its_source_ends(rt: HostRuntime) {
+    match read(rt.alloc(), b"out a -- the last\n ") {
+        Ok(tree) => assert_eq!(rt; tree.end(), Place { line: 2, column: 2 }),
+        Err(_) => assert!(rt; false),
+    }
+}
+
 const HEARTBEATS: &[u8] = b"-- heartbeats of devices
 in beat: Events[Int]
 def since(m: Map[Int, Int], k: Int, t: Int): Int :=

@@ -279,10 +279,11 @@ impl Item {
     }
 }
 
-/// The items of a specification.
+/// The items of a specification, and where its source ends.
 #[derive(Drop)]
 pub struct Tree {
     pub(crate) items: Vec<Item>,
+    pub(crate) end: Place,
 }
 
 impl Tree {
@@ -291,5 +292,12 @@ impl Tree {
         ensures { map item_of result.now ≡ items_of self.now }
     {
         self.items.as_slice()
+    }
+
+    /// The place behind the source's last character.
+    pub fn end(&self) -> Place
+        ensures { result ≡ self.now.end }
+    {
+        self.end
     }
 }

@@ -19,7 +19,7 @@ returns-in-Ok-clause-size c = size_is 64 c.args.tokens.now.tokens (map item_of c
 pub returns-in-Err-Unexpected-clause-fault : goal.returns-in-Err-Unexpected-clause-fault
 returns-in-Err-Unexpected-clause-fault c =
     let h = rw c.in-Err-Unexpected.field-0-is at c.in-Err-Unexpected.ensures in
-    unexpected_is c.args.tokens.now.tokens c.in-Err-Unexpected.rest.now c.place_of-place.result c.args.tokens.now.end (rw c.as_slice-all.ensures at h) (rw c.end.ensures at c.place_of-place.ensures)
+    unexpected_is c.args.tokens.now.tokens c.in-Err-Unexpected.rest.now c.place_of-place.result c.args.tokens.now.end (rw c.as_slice-all.ensures at h) (rw c.end-in-Err-Unexpected.ensures at c.place_of-place.ensures)
 
 pub returns-in-Err-TooDeep-clause-fault : goal.returns-in-Err-TooDeep-clause-fault
 returns-in-Err-TooDeep-clause-fault c =
