@@ -1,7 +1,6 @@
 // The body of a value function.
 
-ghost use Rattle.std.specs.Prelude.{◌≡◌, ◌↔◌, ◌+◌, ◌≤◌, IfOk, IsTrue};
-ghost use Rattle.lift_func.specs.Ints.{IsIntBody, is_int_binary};
+ghost use Rattle.std.specs.Prelude.{◌≡◌, ◌+◌, ◌≤◌, IfOk};
 
 use std::alloc::Global;
 use std::marker::Model;
@@ -85,15 +84,6 @@ impl Model for Body {
     ghost size_decreases = { λ a h. Prim.grind arith };
 }
 
-fn is_arithmetic(o: Binary) -> bool
-    ensures { result ≡ is_int_binary o }
-{
-    match o {
-        Binary::Add | Binary::Sub | Binary::Mul | Binary::Div | Binary::Rem => true,
-        _ => false,
-    }
-}
-
 impl Body {
     ghost use Rattle.lift_func.specs.Tree.{Absent, Argument, Choice, Literal, One, Two, node_count};
 
@@ -175,21 +165,6 @@ impl Body {
         ensures few { result ≤ MOST_NODES }
     {
         self.nodes
-    }
-
-    /// It has literals, arguments below a number, and arithmetic.
-    pub fn is_of_ints(&self, arguments: usize) -> bool
-        ensures { IsTrue result ↔ IsIntBody arguments self.now }
-    {
-        match &self.node {
-            Node::Literal(Scalar::Int(_)) => true,
-            Node::Argument(k) => (*k as usize) < arguments,
-            Node::One(Unary::Neg, a) => a.is_of_ints(arguments),
-            Node::Two(o, a, b) => {
-                is_arithmetic(*o) && a.is_of_ints(arguments) && b.is_of_ints(arguments)
-            }
-            _ => false,
-        }
     }
 
     /// An equal tree.

@@ -1,16 +1,16 @@
-// The value of a body of Ints.
+// The value of a body.
 
-ghost use Rattle.std.specs.Prelude.{◌≡◌, All, IfOk, length, ◌+ℤ◌, ◌-ℤ◌, ◌*ℤ◌, int_div};
+ghost use Rattle.std.specs.Prelude.{◌≡◌, All, IfOk, None, length, slice_index_or};
 ghost use Rattle.std.specs.Option.{option_map};
 ghost use Rattle.tsl_value.specs.View.{Plain};
-ghost use Rattle.lift_func.specs.Apply.{int, apply, divided, remainder, on_ints, of_one};
-ghost use Rattle.lift_func.specs.declared.body.Unary.TheVariants as unary;
+ghost use Rattle.lift_func.specs.Apply.{apply};
 ghost use Rattle.lift_func.specs.Cells.{Cells, HoldsNoAggregate, arguments, held};
 ghost use Rattle.lift_func.specs.Evaluable.{HoldsScalar, IsEvaluable};
-ghost use Rattle.lift_func.specs.Ints.{IsAnswer, IsInt, IsIntBody, IsValue, views};
+ghost use Rattle.lift_func.specs.Answered.{IsValue, views};
 
-use crate::body::{Binary, Body, Node, Unary};
+use crate::body::{Body, Node};
 use crate::fault::FaultKind;
+use crate::operation::{apply_binary, apply_unary, decided};
 use crate::reader::Reader;
 use crate::register::Register;
 use std::alloc::Global;
@@ -44,104 +44,6 @@ impl From<NoMemory> for EvalFault {
     }
 }
 
-fn negated(a: &Option<Scalar>) -> Result<Option<Scalar>, FaultKind>
-    ensures { IsAnswer result (of_one unary.Neg (option_map Plain a.now)) }
-{
-    match a {
-        Some(Scalar::Int(a)) => match a.checked_neg() {
-            Some(n) => Ok(Some(Scalar::Int(n))),
-            None => Err(FaultKind::Overflow),
-        },
-        _ => Ok(None),
-    }
-}
-
-fn added(a: &Option<Scalar>, b: &Option<Scalar>) -> Result<Option<Scalar>, FaultKind>
-    ensures { IsAnswer result (on_ints (λ x y. int (x +ℤ y)) (option_map Plain a.now) (option_map Plain b.now)) }
-{
-    match (a, b) {
-        (Some(Scalar::Int(a)), Some(Scalar::Int(b))) => match a.checked_add(*b) {
-            Some(n) => Ok(Some(Scalar::Int(n))),
-            None => Err(FaultKind::Overflow),
-        },
-        _ => Ok(None),
-    }
-}
-
-fn subtracted(a: &Option<Scalar>, b: &Option<Scalar>) -> Result<Option<Scalar>, FaultKind>
-    ensures { IsAnswer result (on_ints (λ x y. int (x -ℤ y)) (option_map Plain a.now) (option_map Plain b.now)) }
-{
-    match (a, b) {
-        (Some(Scalar::Int(a)), Some(Scalar::Int(b))) => match a.checked_sub(*b) {
-            Some(n) => Ok(Some(Scalar::Int(n))),
-            None => Err(FaultKind::Overflow),
-        },
-        _ => Ok(None),
-    }
-}
-
-fn multiplied(a: &Option<Scalar>, b: &Option<Scalar>) -> Result<Option<Scalar>, FaultKind>
-    ensures { IsAnswer result (on_ints (λ x y. int (x *ℤ y)) (option_map Plain a.now) (option_map Plain b.now)) }
-{
-    match (a, b) {
-        (Some(Scalar::Int(a)), Some(Scalar::Int(b))) => match a.checked_mul(*b) {
-            Some(n) => Ok(Some(Scalar::Int(n))),
-            None => Err(FaultKind::Overflow),
-        },
-        _ => Ok(None),
-    }
-}
-
-/// The quotient of two Ints, or why there is none.
-fn quotient(a: i64, b: i64) -> Result<i64, FaultKind>
-    ensures { IsInt result (divided b (int (int_div a b))) }
-{
-    if b == 0 {
-        return Err(FaultKind::DivideByZero);
-    }
-    match a.checked_div(b) {
-        Some(n) => Ok(n),
-        None => Err(FaultKind::Overflow),
-    }
-}
-
-/// The remainder of two Ints, or why there is none.
-fn rest(a: i64, b: i64) -> Result<i64, FaultKind>
-    ensures { IsInt result (divided b (remainder a b)) }
-{
-    if b == 0 {
-        return Err(FaultKind::DivideByZero);
-    }
-    match a.checked_rem(b) {
-        Some(n) => Ok(n),
-        None => Err(FaultKind::Overflow),
-    }
-}
-
-fn divided_by(a: &Option<Scalar>, b: &Option<Scalar>) -> Result<Option<Scalar>, FaultKind>
-    ensures { IsAnswer result (on_ints (λ x y. divided y (int (int_div x y))) (option_map Plain a.now) (option_map Plain b.now)) }
-{
-    match (a, b) {
-        (Some(Scalar::Int(a)), Some(Scalar::Int(b))) => match quotient(*a, *b) {
-            Ok(n) => Ok(Some(Scalar::Int(n))),
-            Err(kind) => Err(kind),
-        },
-        _ => Ok(None),
-    }
-}
-
-fn rest_of(a: &Option<Scalar>, b: &Option<Scalar>) -> Result<Option<Scalar>, FaultKind>
-    ensures { IsAnswer result (on_ints (λ x y. divided y (remainder x y)) (option_map Plain a.now) (option_map Plain b.now)) }
-{
-    match (a, b) {
-        (Some(Scalar::Int(a)), Some(Scalar::Int(b))) => match rest(*a, *b) {
-            Ok(n) => Ok(Some(Scalar::Int(n))),
-            Err(kind) => Err(kind),
-        },
-        _ => Ok(None),
-    }
-}
-
 fn copied(value: &Option<Scalar>) -> Result<Option<Scalar>, NoMemory>
     ensures { IfOk result (λ v. v ≡ value.now) }
 {
@@ -151,41 +53,51 @@ fn copied(value: &Option<Scalar>) -> Result<Option<Scalar>, NoMemory>
     }
 }
 
-/// The value of a body of Ints with arithmetic, or the first fault.
-pub fn eval_scalars(body: &Body, args: &[Option<Scalar>]) -> Result<Option<Scalar>, EvalFault>
-    requires { IsIntBody (length args.now) body.now }
+/// The value of an argument. One that is not there is absent.
+fn argument_at(args: &[Option<Scalar>], k: u32) -> Result<Option<Scalar>, NoMemory>
+    ensures { IfOk result (λ v. slice_index_or (views args.now) k None ≡ option_map Plain v) }
+{
+    match args.get(k as usize) {
+        Some(value) => copied(value),
+        None => Ok(None),
+    }
+}
+
+/// The value of a body at scalars that may be absent. `Fault` comes exactly where the body's
+/// operations have that fault, and is the first of them, operands taken from left to right.
+///
+/// An operand of another type than its operation's, and an argument that is not there, count as
+/// absent.
+pub fn eval_scalars(
+    alloc: Global,
+    body: &Body,
+    args: &[Option<Scalar>],
+) -> Result<Option<Scalar>, EvalFault>
     ensures { IsValue result (apply body.now (views args.now)) }
 {
     match &body.node {
-        Node::Literal(Scalar::Int(n)) => Ok(Some(Scalar::Int(*n))),
-        Node::Argument(k) => Ok(copied(&args[*k as usize])?),
-        Node::One(Unary::Neg, a) => Ok(negated(&eval_scalars(a, args)?)?),
-        Node::Two(Binary::Add, a, b) => {
-            let x = eval_scalars(a, args)?;
-            let y = eval_scalars(b, args)?;
-            Ok(added(&x, &y)?)
+        Node::Literal(s) => Ok(Some(s.copy()?)),
+        Node::Argument(k) => Ok(argument_at(args, *k)?),
+        Node::Absent(_) => Ok(None),
+        Node::One(o, a) => Ok(apply_unary(*o, eval_scalars(alloc, a, args)?)?),
+        Node::Two(o, a, b) => {
+            let x = eval_scalars(alloc, a, args)?;
+            if let Some(v) = decided(*o, &x) {
+                return Ok(v);
+            }
+            let y = eval_scalars(alloc, b, args)?;
+            apply_binary(alloc, *o, &x, y)
         }
-        Node::Two(Binary::Sub, a, b) => {
-            let x = eval_scalars(a, args)?;
-            let y = eval_scalars(b, args)?;
-            Ok(subtracted(&x, &y)?)
-        }
-        Node::Two(Binary::Mul, a, b) => {
-            let x = eval_scalars(a, args)?;
-            let y = eval_scalars(b, args)?;
-            Ok(multiplied(&x, &y)?)
-        }
-        Node::Two(Binary::Div, a, b) => {
-            let x = eval_scalars(a, args)?;
-            let y = eval_scalars(b, args)?;
-            Ok(divided_by(&x, &y)?)
-        }
-        Node::Two(Binary::Rem, a, b) => {
-            let x = eval_scalars(a, args)?;
-            let y = eval_scalars(b, args)?;
-            Ok(rest_of(&x, &y)?)
-        }
-        _ => unreachable!(),
+        Node::Choice(c, a, b) => match eval_scalars(alloc, c, args)? {
+            Some(Scalar::Bool(holds)) => {
+                if holds {
+                    eval_scalars(alloc, a, args)
+                } else {
+                    eval_scalars(alloc, b, args)
+                }
+            }
+            _ => Ok(None),
+        },
     }
 }
 
@@ -230,5 +142,5 @@ pub fn eval<R: Reader>(
     ensures { IsValue result (apply body.now (arguments (R.cells _reader.now) registers.now args.now)) }
 {
     let values = gathered(alloc, registers, args)?;
-    eval_scalars(body, &values)
+    eval_scalars(alloc, body, &values)
 }

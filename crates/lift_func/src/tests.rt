@@ -1,7 +1,7 @@
 // Each call that may want memory, with ample memory.
 
 use crate::body::{Binary, Body, Unary};
-use crate::eval::{EvalFault, eval};
+use crate::eval::{EvalFault, eval, eval_scalars};
 use crate::fault::FaultKind;
 use crate::reader::NoCells;
 use crate::register::Register;
@@ -9,20 +9,25 @@ use std::alloc::Global;
 use std::test::Fail;
 use tsl_value::memory::NoMemory;
 use tsl_value::scalar::{Scalar, ScalarType, ValueType};
+use tsl_value::text::Text;
+
+fn int(n: i64) -> Body {
+    Body::literal(Scalar::Int(n))
+}
+
+fn text(alloc: Global, of: &str) -> Result<Body, NoMemory> {
+    Ok(Body::literal(Scalar::Text(Text::from_str(alloc, of)?)))
+}
 
 /// `-(12 / $0)`.
 fn quotient(alloc: Global) -> Result<Body, NoMemory> {
-    let twelve = Body::literal(Scalar::Int(12));
-    let body = Body::two(alloc, Binary::Div, twelve, Body::argument(0))?;
+    let body = Body::two(alloc, Binary::Div, int(12), Body::argument(0))?;
     Body::one(alloc, Unary::Neg, body)
 }
 
 fn quotient_at(alloc: Global, divisor: i64) -> Result<i64, EvalFault> {
     let body = quotient(alloc)?.copy()?;
     let registers = [Register::Scalar(Scalar::Int(divisor)).copy()?];
-    if !body.is_of_ints(1) {
-        return Ok(0);
-    }
     match eval(alloc, &body, &registers, &[0], &NoCells)? {
         Some(Scalar::Int(number)) => Ok(number),
         _ => Ok(0),
@@ -36,12 +41,62 @@ fn quotients_are_evaluated(rt: HostRuntime) {
     assert_eq!(rt; quotient_at(rt.alloc(), 0), Err(fault));
 }
 
+fn rest_of(alloc: Global, a: i64, b: i64) -> Result<i64, EvalFault> {
+    let body = Body::two(alloc, Binary::Rem, Body::argument(0), Body::argument(1))?;
+    let args = [Some(Scalar::Int(a)), Some(Scalar::Int(b))];
+    match eval_scalars(alloc, &body, &args)? {
+        Some(Scalar::Int(number)) => Ok(number),
+        _ => Ok(0),
+    }
+}
+
+#[test]
+fn a_remainder_has_the_sign_of_the_dividend(rt: HostRuntime) {
+    assert_eq!(rt; rest_of(rt.alloc(), -7, 2), Ok(-1));
+    assert_eq!(rt; rest_of(rt.alloc(), 7, -2), Ok(1));
+    let fault = EvalFault::Fault(FaultKind::Overflow);
+    assert_eq!(rt; rest_of(rt.alloc(), i64::MIN, -1), Err(fault));
+}
+
+/// `b && 1 / 0 == 1`.
+fn guarded(alloc: Global, b: bool) -> Result<bool, EvalFault> {
+    let by_zero = Body::two(alloc, Binary::Div, int(1), int(0))?;
+    let equal = Body::two(alloc, Binary::Eq, by_zero, int(1))?;
+    let body = Body::two(alloc, Binary::And, Body::literal(Scalar::Bool(b)), equal)?;
+    match eval_scalars(alloc, &body, &[])? {
+        Some(Scalar::Bool(value)) => Ok(value),
+        _ => Ok(true),
+    }
+}
+
+#[test]
+fn an_operand_that_does_not_count_is_skipped(rt: HostRuntime) {
+    assert_eq!(rt; guarded(rt.alloc(), false), Ok(false));
+    let fault = EvalFault::Fault(FaultKind::DivideByZero);
+    assert_eq!(rt; guarded(rt.alloc(), true), Err(fault));
+}
+
+/// `String.concat("ab", "c") == $0`.
+fn is_joined(alloc: Global, whole: &str) -> Result<bool, EvalFault> {
+    let joined = Body::two(alloc, Binary::Concat, text(alloc, "ab")?, text(alloc, "c")?)?;
+    let body = Body::two(alloc, Binary::Eq, joined, text(alloc, whole)?)?;
+    match eval_scalars(alloc, &body, &[])? {
+        Some(Scalar::Bool(value)) => Ok(value),
+        _ => Ok(false),
+    }
+}
+
+#[test]
+fn texts_are_joined(rt: HostRuntime) {
+    assert_eq!(rt; is_joined(rt.alloc(), "abc"), Ok(true));
+    assert_eq!(rt; is_joined(rt.alloc(), "abd"), Ok(false));
+}
+
 #[test]
 fn nodes_are_counted(rt: HostRuntime) -> Result<(), Fail> {
     let of = ValueType::Scalar(ScalarType::Int);
     let absent = Body::one(rt.alloc(), Unary::IsSome, Body::none(of))?;
-    let one = Body::literal(Scalar::Int(1));
-    let body = Body::choice(rt.alloc(), absent, one, Body::argument(0))?;
+    let body = Body::choice(rt.alloc(), absent, int(1), Body::argument(0))?;
     assert_eq!(rt; body.copy()?.nodes(), 5);
     Ok(())
 }

@@ -1,6 +1,6 @@
 use Rattle.std.proofs.Common.{◌≡◌, length, take}
 use Rattle.lift_func.specs.Cells.{Cells, arguments}
-use Rattle.lift_func.specs.Ints.{views}
+use Rattle.lift_func.specs.Answered.{views}
 use Rattle.lift_func.proofs.eval.gathered.Given as goal
 
 abbrev pub invariant-loop-a : goal.invariant-loop-a
