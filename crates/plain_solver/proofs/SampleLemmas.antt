@@ -9,11 +9,11 @@ use Rattle.std.specs.List.{AllAdjacentBelow, AllByRecursion}
 use Rattle.flat_core.specs.declared.equation.Equation.{Equation}
 use Rattle.flat_core.specs.declared.line.TraceLine.{TraceLine}
 use Rattle.flat_core.specs.Line.{Line, IsSorted}
-use Rattle.lift_func.specs.Typing.{literal, argument, two, arithmetic}
+use Rattle.lift_func.specs.Typing.{literal, argument, one, two, choice, arithmetic, order, is_some}
 use Rattle.flat_core.specs.Case.{used_of}
 use Rattle.flat_core.specs.Complete.{HasShortBody, HaveDifferentNames, IsComplete}
 use Rattle.flat_core.specs.System.{System}
-use Rattle.flat_core.specs.Typed.{IsTyped, input, unit, time, last, delay, merge, lift, int_type, unit_type}
+use Rattle.flat_core.specs.Typed.{IsTyped, input, unit, time, last, delay, merge, filter, lift, bool_type, int_type, unit_type}
 use Rattle.flat_core.specs.TypedSystem.{IsOfType, IsTypedEquation}
 use Rattle.flat_core.proofs.Finished.{typed_from_all}
 use Rattle.plain_solver.specs.Instant.{IsInPlace, IsInOrder}
@@ -44,7 +44,16 @@ typed = (
                   record { types = int_type ∷ int_type ∷ []; arguments = (there 4 _ refl, (there 4 _ refl, tt)); typed = last },
                   (
                     record { types = int_type ∷ int_type ∷ []; arguments = (there 4 _ refl, (there 5 _ refl, tt)); typed = delay },
-                    (record { types = int_type ∷ []; arguments = (there 5 _ refl, tt); typed = lift (omega arith) (omega arith) (two (literal refl) (argument refl) (arithmetic refl)) }, tt),
+                    (
+                      record { types = int_type ∷ []; arguments = (there 5 _ refl, tt); typed = lift (omega arith) (omega arith) (two (literal refl) (argument refl) (arithmetic refl)) },
+                      (
+                        record { types = int_type ∷ int_type ∷ []; arguments = (there 4 _ refl, (there 5 _ refl, tt)); typed = lift (omega arith) (omega arith) (choice (one (argument refl) is_some) (argument refl) (argument refl)) },
+                        (
+                          record { types = int_type ∷ []; arguments = (there 11 _ refl, tt); typed = lift (omega arith) (omega arith) (two (argument refl) (literal refl) (order refl)) },
+                          (record { types = int_type ∷ bool_type ∷ []; arguments = (there 11 _ refl, (there 12 _ refl, tt)); typed = filter }, tt),
+                        ),
+                      ),
+                    ),
                   ),
                 ),
               ),
@@ -60,16 +69,7 @@ differ : (a b : ℕ) → (a == b) ≡ false → (a ∷ []) ≡ (b ∷ []) → �
 differ a b ne is = let same : a ≡ b = cc in true≢false (sym (eq-eqb a b same) ∙ ne)
 
 names_differ : HaveDifferentNames sample_outputs
-names_differ = (
-  (differ 116 112 refl, (differ 98 112 refl, (differ 108 112 refl, (differ 100 112 refl, (differ 113 112 refl, tt))))),
-  (
-    (differ 98 116 refl, (differ 108 116 refl, (differ 100 116 refl, (differ 113 116 refl, tt)))),
-    (
-      (differ 108 98 refl, (differ 100 98 refl, (differ 113 98 refl, tt))),
-      ((differ 100 108 refl, (differ 113 108 refl, tt)), ((differ 113 100 refl, tt), (tt, tt))),
-    ),
-  ),
-)
+names_differ = ((differ 116 112 refl, (differ 98 112 refl, (differ 108 112 refl, (differ 100 112 refl, (differ 113 112 refl, (differ 102 112 refl, tt)))))), ((differ 98 116 refl, (differ 108 116 refl, (differ 100 116 refl, (differ 113 116 refl, (differ 102 116 refl, tt))))), ((differ 108 98 refl, (differ 100 98 refl, (differ 113 98 refl, (differ 102 98 refl, tt)))), ((differ 100 108 refl, (differ 113 108 refl, (differ 102 108 refl, tt))), ((differ 113 100 refl, (differ 102 100 refl, tt)), ((differ 102 113 refl, tt), (tt, tt)))))))
 
 pub sample_complete : (b : System) → b.equations ≡ sample_equations → b.outputs ≡ sample_outputs → IsComplete b
 sample_complete b equations outputs = record {
@@ -77,9 +77,9 @@ sample_complete b equations outputs = record {
   some_output = subst (λ os. 0 < length os) (sym outputs) (lit< tt);
   outputs_there =
       subst (λ n. AllByRecursion (λ o. o.equation < n) b.outputs) (sym (ap length equations))
-      (subst (AllByRecursion (λ o. o.equation < 11)) (sym outputs) (lit< tt, (lit< tt, (lit< tt, (lit< tt, (lit< tt, (lit< tt, tt)))))));
+      (subst (AllByRecursion (λ o. o.equation < 14)) (sym outputs) (lit< tt, (lit< tt, (lit< tt, (lit< tt, (lit< tt, (lit< tt, (lit< tt, tt))))))));
   names_differ = subst HaveDifferentNames (sym outputs) names_differ;
-  short_texts = subst (AllByRecursion (λ e. HasShortBody e.op)) (sym equations) (tt, (tt, (tt, (tt, (tt, (tt, (tt, (tt, (tt, (tt, ((tt, tt), tt)))))))))));
+  short_texts = subst (AllByRecursion (λ e. HasShortBody e.op)) (sym equations) (tt, (tt, (tt, (tt, (tt, (tt, (tt, (tt, (tt, (tt, ((tt, tt), ((tt, tt, tt), ((tt, tt), (tt, tt))))))))))))));
 }
 
 -- equations in their places, from a number on
@@ -98,28 +98,7 @@ in_place_at k (x ∷ es) all (suc i) e is =
     subst (λ n. IsInPlace n e) there (in_place_at (suc k) es all.1 i e is)
 
 placed : InPlaceFrom 0 sample_equations
-placed = (
-  (tt, tt),
-  (
-    (tt, tt),
-    (
-      (tt, (lit< tt, (lit< tt, tt))),
-      (
-        (tt, (lit< tt, tt)),
-        (
-          (tt, tt),
-          (
-            (tt, tt),
-            (
-              (tt, (lit< tt, (lit< tt, tt))),
-              ((tt, (lit< tt, tt)), ((tt, (lit< tt, tt)), ((tt, tt), (((refl, tt, lit< tt), (lit< tt, tt)), tt)))),
-            ),
-          ),
-        ),
-      ),
-    ),
-  ),
-)
+placed = ((tt, tt), ((tt, tt), ((tt, (lit< tt, (lit< tt, tt))), ((tt, (lit< tt, tt)), ((tt, tt), ((tt, tt), ((tt, (lit< tt, (lit< tt, tt))), ((tt, (lit< tt, tt)), ((tt, (lit< tt, tt)), ((tt, tt), ((tt, (lit< tt, tt)), ((tt, (lit< tt, (lit< tt, tt))), ((tt, (lit< tt, tt)), ((tt, (lit< tt, (lit< tt, tt))), tt))))))))))))))
 
 pub sample_in_order : (s : System) → s.equations ≡ sample_equations → IsInOrder s
 sample_in_order s equations = record {

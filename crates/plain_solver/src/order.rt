@@ -19,11 +19,13 @@ fn has_shape(op: &Op, args: &Args) -> bool
         Op::Input => n == 0,
         Op::Nil => n == 0,
         Op::Unit => n == 0,
-        Op::Lift { body, strict } => *strict && n > 0 && body.is_of_ints(n),
+        Op::Lift { body: _, strict: _ } => n > 0,
+        Op::Any => true,
         Op::Time => n == 1,
         Op::Last => n == 2,
         Op::Delay => n == 2,
         Op::Merge => n == 2,
+        Op::Filter => n == 2,
         _ => false,
     }
 }

@@ -5,9 +5,9 @@ ghost use Rattle.std.specs.List.{list_any, list_all};
 ghost use Rattle.std.specs.Option.{option_map, option_copied};
 ghost use Rattle.tsl_value.specs.View.{Plain};
 ghost use Rattle.lift_func.specs.Apply.{apply};
-ghost use Rattle.lift_func.specs.Ints.{IsIntBody, IsValue, views};
+ghost use Rattle.lift_func.specs.Answered.{IsValue, views};
 ghost use Rattle.flat_core.specs.Stream.{event, is_fault, latest};
-ghost use Rattle.flat_core.specs.Case.{at_once, case_of, delayed, is_blocked, own, refused, root_fault};
+ghost use Rattle.flat_core.specs.Case.{case_of, delayed, filtered, is_blocked, own, refused, root_fault};
 ghost use Rattle.flat_core.specs.Line.{IsSorted, inputs_of};
 ghost use Rattle.plain_solver.specs.Moments.{seen};
 ghost use Rattle.plain_solver.specs.Shape.{HasShape, streams_of};
@@ -113,15 +113,55 @@ fn are_all_there(values: &[Option<Scalar>]) -> bool
     true
 }
 
+/// Some value is there.
+fn is_one_there(values: &[Option<Scalar>]) -> bool
+    ensures { result ≡ list_any is_some (views values.now) }
+{
+    for v in values {
+        if v.is_some() {
+            return true;
+        }
+    }
+    false
+}
+
 /// The value of a lifted body where all its arguments are there.
-fn lifted(body: &Body, values: &[Option<Scalar>]) -> Result<Option<Scalar>, EvalFault>
-    requires { IsIntBody (length values.now) body.now }
+fn lifted(
+    alloc: Global,
+    body: &Body,
+    values: &[Option<Scalar>],
+) -> Result<Option<Scalar>, EvalFault>
     ensures { IsValue result (if list_all is_some (views values.now) then apply body.now (views values.now) else Ok None) }
 {
     if are_all_there(values) {
-        eval_scalars(body, values)
+        eval_scalars(alloc, body, values)
     } else {
         Ok(None)
+    }
+}
+
+/// The value of a lifted body of options, where one of its arguments is there.
+fn lifted_over_options(
+    alloc: Global,
+    body: &Body,
+    values: &[Option<Scalar>],
+) -> Result<Option<Scalar>, EvalFault>
+    ensures { IsValue result (if list_any is_some (views values.now) then apply body.now (views values.now) else Ok None) }
+{
+    if is_one_there(values) {
+        eval_scalars(alloc, body, values)
+    } else {
+        Ok(None)
+    }
+}
+
+/// A value where a condition is true.
+fn passed<'a>(value: Option<&'a Scalar>, condition: Option<&Scalar>) -> Option<&'a Scalar>
+    ensures { option_map Plain (option_copied result) ≡ filtered (option_map Plain (option_copied value.entry)) (option_map Plain (option_copied condition.entry)) }
+{
+    match condition {
+        Some(Scalar::Bool(holds)) => { if *holds { value } else { None } }
+        _ => None,
     }
 }
 
@@ -168,9 +208,21 @@ pub fn own_of(
         } else {
             None
         }),
-        Op::Lift { body, strict: _ } => {
+        Op::Lift { body, strict } => {
             let values = values_at(alloc, e.args.ids(), streams, t)?;
-            lifted(body, &values)
+            if *strict {
+                lifted(alloc, body, &values)
+            } else {
+                lifted_over_options(alloc, body, &values)
+            }
+        }
+        Op::Any => {
+            let values = values_at(alloc, e.args.ids(), streams, t)?;
+            Ok(if is_one_there(&values) {
+                Some(Scalar::Unit)
+            } else {
+                None
+            })
         }
         Op::Time => Ok(match value_of(streams, &e.args, 0, t) {
             Some(_) => Some(Scalar::Int(t.get() as i64)),
@@ -185,6 +237,11 @@ pub fn own_of(
             Some(v) => Ok(copied(Some(v))?),
             None => Ok(copied(value_of(streams, &e.args, 1, t))?),
         },
+        Op::Filter => {
+            let value = value_of(streams, &e.args, 0, t);
+            let condition = value_of(streams, &e.args, 1, t);
+            Ok(copied(passed(value, condition))?)
+        }
         _ => Ok(None),
     }
 }

@@ -1,8 +1,8 @@
 // Runs of a small system.
 
-ghost use Rattle.std.specs.Prelude.{◌≡◌, ◌≤◌, ◌<◌, ◌^◌, true, slice_get, IfOk, IsTrue};
+ghost use Rattle.std.specs.Prelude.{◌≡◌, ◌≤◌, ◌<◌, ◌^◌, true, false, slice_get, IfOk, IsTrue};
 ghost use Rattle.flat_core.specs.Line.{IsSorted};
-ghost use Rattle.lift_func.specs.Tree.{Argument, Literal, Two};
+ghost use Rattle.lift_func.specs.Tree.{Argument, Choice, Literal, One, Two};
 ghost use Rattle.plain_solver.specs.Instant.{IsInOrder};
 ghost use Rattle.plain_solver.specs.Sample.{equation_of, sample_equations, sample_outputs};
 
@@ -13,7 +13,7 @@ use flat_core::equation::{Equation, Op, Output};
 use flat_core::flat::Flat;
 use flat_core::line::TraceLine;
 use flat_core::lists::Args;
-use lift_func::body::{Binary, Body};
+use lift_func::body::{Binary, Body, Unary};
 use lift_func::fault::FaultKind;
 use std::alloc::Global;
 use std::test::Fail;
@@ -69,8 +69,29 @@ fn divided(alloc: Global, n: i64) -> Result<Op, NoMemory>
     Ok(Op::Lift { body, strict: true })
 }
 
+/// The first of two values, or else the second one.
+fn first_there(alloc: Global) -> Result<Op, NoMemory>
+    ensures { IfOk result (λ o. o ≡ Op.Lift (Choice (One Unary.IsSome (Argument 0)) (Argument 0) (Argument 1)) false) }
+{
+    let there = Body::one(alloc, Unary::IsSome, Body::argument(0))?;
+    let body = Body::choice(alloc, there, Body::argument(0), Body::argument(1))?;
+    Ok(Op::Lift {
+        body,
+        strict: false,
+    })
+}
+
+/// `x > n`
+fn above(alloc: Global, n: i64) -> Result<Op, NoMemory>
+    ensures { IfOk result (λ o. o ≡ Op.Lift (Two Binary.Gt (Argument 0) (Literal (Scalar.Int n))) true) }
+{
+    let n = Body::literal(Scalar::Int(n));
+    let body = Body::two(alloc, Binary::Gt, Body::argument(0), n)?;
+    Ok(Op::Lift { body, strict: true })
+}
+
 fn sample_equation(alloc: Global, n: u32) -> Result<Equation, NoMemory>
-    requires { n < 11 }
+    requires { n < 14 }
     ensures { IfOk result (λ e. slice_get sample_equations n ≡ Some e) }
 {
     let int = ScalarType::Int;
@@ -85,16 +106,19 @@ fn sample_equation(alloc: Global, n: u32) -> Result<Equation, NoMemory>
         7 => equation(Op::Time, args(alloc, &[6])?, int),
         8 => equation(Op::Last, args(alloc, &[4, 4])?, int),
         9 => equation(Op::Delay, args(alloc, &[4, 5])?, unit),
-        _ => equation(divided(alloc, 10)?, args(alloc, &[5])?, int),
+        10 => equation(divided(alloc, 10)?, args(alloc, &[5])?, int),
+        11 => equation(first_there(alloc)?, args(alloc, &[4, 5])?, int),
+        12 => equation(above(alloc, 4)?, args(alloc, &[11])?, ScalarType::Bool),
+        _ => equation(Op::Filter, args(alloc, &[11, 12])?, int),
     })
 }
 
 fn sample_output(alloc: Global, n: usize) -> Result<Output, NoMemory>
-    requires { n < 6 }
+    requires { n < 7 }
     ensures { IfOk result (λ o. slice_get sample_outputs n ≡ Some o) }
 {
-    let names = ["p", "t", "b", "l", "d", "q"];
-    let equations = [1, 7, 6, 8, 9, 10];
+    let names = ["p", "t", "b", "l", "d", "q", "f"];
+    let equations = [1, 7, 6, 8, 9, 10, 13];
     Ok(Output {
         name: Text::from_str(alloc, names[n])?,
         equation: EqId::new(equations[n]),
@@ -105,10 +129,10 @@ fn sample(alloc: Global) -> Result<Flat, NoMemory>
     ensures { IfOk result (λ f. IsInOrder f) }
 {
     let mut builder = FlatBuilder::new(alloc);
-    for n in 0..11 {
+    for n in 0..14 {
         builder.add(sample_equation(alloc, n)?)?;
     }
-    for k in 0..6 {
+    for k in 0..7 {
         builder.add_output(sample_output(alloc, k)?)?;
     }
     builder.finish()
@@ -183,7 +207,7 @@ fn events_are_printed_by_time_and_output(rt: HostRuntime) -> Result<(), Fail> {
     let (end, text) = run(rt.alloc(), &events, 11, 100)?;
     assert!(rt; end == End::Bound);
     let wanted =
-        b"2: t = 2\n2: b = 5\n2: q = 1\n4: t = 4\n4: b = 8\n4: q = 1\n8: t = 8\n8: b = 3\n8: l = 5\n10: p = ()\n";
+        b"2: t = 2\n2: b = 5\n2: q = 1\n2: f = 5\n4: t = 4\n4: b = 8\n4: q = 1\n4: f = 8\n8: t = 8\n8: b = 3\n8: l = 5\n10: p = ()\n";
     assert!(rt; text.as_slice() == wanted.as_slice());
     Ok(())
 }
@@ -208,7 +232,7 @@ fn the_limit_of_instants_ends_the_run(rt: HostRuntime) -> Result<(), Fail> {
 fn a_reset_cancels(rt: HostRuntime) -> Result<(), Fail> {
     let (end, text) = run(rt.alloc(), &[(1, 4, 6), (1, 5, 1), (5, 5, 1)], 10, 100)?;
     assert!(rt; end == End::Bound);
-    let wanted = b"1: t = 1\n1: b = 6\n1: q = 10\n5: t = 5\n5: b = 1\n5: q = 10\n";
+    let wanted = b"1: t = 1\n1: b = 6\n1: q = 10\n1: f = 6\n5: t = 5\n5: b = 1\n5: q = 10\n";
     assert!(rt; text.as_slice() == wanted.as_slice());
     Ok(())
 }
@@ -226,7 +250,7 @@ fn a_reset_at_the_expiry_does_not_cancel(rt: HostRuntime) -> Result<(), Fail> {
 fn the_least_equation_with_a_root_fault_is_named(rt: HostRuntime) -> Result<(), Fail> {
     let (end, text) = run(rt.alloc(), &[(1, 5, 5), (3, 5, 0)], 10, 100)?;
     assert!(rt; is_fault(end, 3, 10, FaultKind::DivideByZero));
-    assert!(rt; text.as_slice() == b"1: t = 1\n1: b = 5\n1: q = 2\n".as_slice());
+    assert!(rt; text.as_slice() == b"1: t = 1\n1: b = 5\n1: q = 2\n1: f = 5\n".as_slice());
     let (end, _text) = run(rt.alloc(), &[(3, 5, 0), (3, 4, 0)], 10, 100)?;
     assert!(rt; is_fault(end, 3, 9, FaultKind::DelayNotPositive));
     Ok(())

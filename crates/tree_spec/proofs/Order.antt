@@ -11,23 +11,13 @@ use Rattle.flat_core.specs.System.{System}
 use Rattle.flat_core.specs.WellFormed.{IsRanked, unguarded_of}
 use Rattle.plain_solver.specs.Shape.{HasShape}
 use Rattle.plain_solver.specs.Instant.{IsInOrder}
-use Rattle.lift_func.specs.Ints.{is_int_binary}
-use Rattle.tree_spec.specs.declared.item.Operator.{Operator}
-use Rattle.tree_spec.specs.declared.item.Operator.TheVariants as operator
 use Rattle.tree_spec.specs.declared.item.Expression.{Expression}
 use Rattle.tree_spec.specs.declared.item.Expression.TheVariants as expression
 use Rattle.tree_spec.specs.declared.table.Declaration.{Declaration}
 use Rattle.tree_spec.specs.Table.{Declared, numbered, is_named}
-use Rattle.tree_spec.specs.Meaning.{number_of, binary_of, op_of, arguments_of, equation_of, HaveNames}
+use Rattle.tree_spec.specs.Meaning.{number_of, op_of, arguments_of, equation_of, HaveNames}
 use Rattle.tree_spec.proofs.Sound.{AreDifferent, IsSound, names_of}
 use Rattle.tree_spec.proofs.Systems.{equations_of, declared_at, below_at}
-
-operator-int : (o : Operator) → IsTrue (is_int_binary (binary_of o))
-operator-int operator.Add = refl
-operator-int operator.Sub = refl
-operator-int operator.Mul = refl
-operator-int operator.Div = refl
-operator-int operator.Rem = refl
 
 shaped : (ds : List Declaration) (o : Option Expression) → HasShape (op_of o) (arguments_of ds o)
 shaped ds None = tt
@@ -37,9 +27,9 @@ shaped ds (Some (expression.Time a)) = tt
 shaped ds (Some (expression.Last v r)) = tt
 shaped ds (Some (expression.Merge a b)) = tt
 shaped ds (Some (expression.Const z a)) = tt
-shaped ds (Some (expression.NameFirst a o z)) = (operator-int o, omega arith, tt)
-shaped ds (Some (expression.NumberFirst z o a)) = (operator-int o, tt, omega arith)
-shaped ds (Some (expression.Neg a)) = omega arith
+shaped ds (Some (expression.NameFirst a o z)) = tt
+shaped ds (Some (expression.NumberFirst z o a)) = tt
+shaped ds (Some (expression.Neg a)) = tt
 shaped ds (Some (expression.Delay d r)) = tt
 
 abbrev AreBelow : ℕ → List ℕ → Type 0

@@ -14,5 +14,5 @@ loop-n-preserved c = record {
 
 pub finish-requires : goal.finish-requires
 finish-requires c =
-    let all : c.loop-k.k ≡ 6 = omega arith in
+    let all : c.loop-k.k ≡ 7 = omega arith in
     sample_complete c.loop-k.builder c.loop-k.invariant.equations (c.loop-k.invariant.outputs ∙ ap (λ n. take n sample_outputs) all)
