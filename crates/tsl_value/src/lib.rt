@@ -6,6 +6,7 @@ pub mod ids;
 pub mod laws;
 pub mod literal;
 pub mod memory;
+mod order;
 pub mod place;
 pub mod print;
 pub mod scalar;

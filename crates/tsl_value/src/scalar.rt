@@ -4,6 +4,7 @@ ghost use Rattle.std.specs.Prelude.{◌≡◌, IfOk};
 
 use crate::memory::NoMemory;
 use crate::text::Text;
+use std::alloc::AllocError;
 
 /// A value that is no aggregate.
 #[derive(Drop)]
@@ -24,6 +25,19 @@ impl Scalar {
             Scalar::Int(n) => Ok(Scalar::Int(*n)),
             Scalar::Bool(b) => Ok(Scalar::Bool(*b)),
             Scalar::Text(text) => Ok(Scalar::Text(text.copy()?)),
+        }
+    }
+}
+
+impl Clone for Scalar {
+    ghost is_clone = { λ a b. b ≡ a };
+
+    fn clone(&self) -> Result<Scalar, AllocError> {
+        match self {
+            Scalar::Unit => Ok(Scalar::Unit),
+            Scalar::Int(n) => Ok(Scalar::Int(*n)),
+            Scalar::Bool(b) => Ok(Scalar::Bool(*b)),
+            Scalar::Text(text) => Ok(Scalar::Text(text.clone()?)),
         }
     }
 }

@@ -6,7 +6,7 @@ ghost use Rattle.std.specs.Str.{IsUtf8};
 
 use crate::bytes::Bytes;
 use crate::memory::NoMemory;
-use std::alloc::Global;
+use std::alloc::{AllocError, Global};
 use std::marker::Model;
 
 /// Text, in UTF-8.
@@ -86,6 +86,15 @@ impl Text {
     pub fn copy(&self) -> Result<Text, NoMemory>
         ensures { IfOk result (λ t. t ≡ self.now) }
     {
+        let text = self.text.clone()?;
+        Ok(Text { text })
+    }
+}
+
+impl Clone for Text {
+    ghost is_clone = { λ a b. b ≡ a };
+
+    fn clone(&self) -> Result<Text, AllocError> {
         let text = self.text.clone()?;
         Ok(Text { text })
     }
