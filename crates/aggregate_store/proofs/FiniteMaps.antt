@@ -1,0 +1,180 @@
+-- The finite maps and sets that ordered collections hold.
+use Rattle.std.proofs.Common.{◌≡◌, ℕ, suc, ◌+◌, ◌<◌, Bool, true, false, ◌||◌, ◌&&◌, not, cond, List, [], ◌∷◌, Option, Some, None, map, length, refl, sym, ap, subst, ◌∙◌, arith}
+use Rattle.std.specs.BTreeMap as tree
+use Rattle.std.specs.BTreeSet as sorted
+use Rattle.std.specs.BTreeMap.{BTreeMap, is_at}
+use Rattle.std.specs.BTreeSet.{BTreeSet}
+use Rattle.std.specs.FinMap as finite_map
+use Rattle.std.specs.FinMap.{FinMap, IsAntisymmetric}
+use Rattle.std.specs.FinSet as set
+use Rattle.std.specs.Cmp.{Equal-is, IsTotalOrder, eq_by_cmp_equiv}
+use Rattle.std.specs.Map.{lookup, keys_of}
+use Rattle.std.specs.List.{filter, list_any, AllByRecursion}
+use Rattle.std.specs.List.Sorted.{IsStrictlySortedBy}
+use Rattle.std.specs.Option.{option_map}
+use Rattle.std.specs.Ordering.{eq_by_cmp}
+use Rattle.std.specs.declared.cmp.Ordering.{Ordering}
+use Rattle.std.specs.declared.cmp.Ordering.TheVariants.{Less, Equal}
+use Rattle.std.proofs.lemmas.Map.Entries.{lookup-filter-keys}
+use Rattle.std.proofs.lemmas.Map.Keys.{IsDistinct-from_sorted, IsDistinct-head, Less-from_sorted, sorted_tail}
+use Rattle.std.proofs.lemmas.Map.Made.{lookup-map_values}
+
+-- ---- one change
+
+module _ {K X : Type 0} {R : K → K → Ordering} (o : IsTotalOrder R) (same : IsAntisymmetric R) where
+  pub is_insert : (a b : FinMap R X) (k : K) (v : X) → ((q : K) → finite_map.get b q ≡ cond (eq_by_cmp R k q) (Some v) (finite_map.get a q)) → b ≡ finite_map.insert a k v
+  is_insert a b k v is = finite_map.same_map o same b (finite_map.insert a k v) (λ q.
+      is q ∙ ap (λ t. cond t (Some v) (finite_map.get a q)) ((eq_by_cmp_equiv o).symm k q) ∙ sym (finite_map.get-insert o a k v q))
+
+  pub is_remove : (a b : FinMap R X) (k : K) → ((q : K) → finite_map.get b q ≡ cond (eq_by_cmp R k q) None (finite_map.get a q)) → b ≡ finite_map.remove a k
+  is_remove a b k is = finite_map.same_map o same b (finite_map.remove a k) (λ q.
+      is q ∙ ap (λ t. cond t None (finite_map.get a q)) ((eq_by_cmp_equiv o).symm k q) ∙ sym (finite_map.get-remove o a k q))
+
+true_or : (b x : Bool) → cond b true x ≡ (b || x)
+true_or true x = refl
+true_or false x = refl
+
+not_and : (b x : Bool) → cond b false x ≡ (not b && x)
+not_and true x = refl
+not_and false x = refl
+
+-- ---- a map's entries, and a set's keys
+
+pub find-lookup : {K X : Type 0} (R : K → K → Ordering) (q : K) (es : List (K × X)) → finite_map.find R q es ≡ lookup (is_at (R q)) es
+find-lookup R q [] = refl
+find-lookup R q (e ∷ es) = ap (cond (eq_by_cmp R q e.0) (Some e.1)) (find-lookup R q es)
+
+no_length : {A : Type 0} (es : List A) → length es ≡ 0 → es ≡ []
+no_length [] e = refl
+no_length (x ∷ es) e = absurd (omega arith)
+
+pub entries-empty : {K : Type 0} (R : K → K → Ordering) (X : Type 0) → finite_map.entries (finite_map.empty {X = X} {R = R}) ≡ []
+entries-empty R X = no_length _ (sym (finite_map.len-entries finite_map.empty) ∙ finite_map.len-empty R X)
+
+first_put : {K X : Type 0} (R : K → K → Ordering) (k : K) (v : X) (e : K × X) (es : List (K × X)) → R k e.0 ≡ Less → finite_map.put R k v (e ∷ es) ≡ (k, v) ∷ e ∷ es
+first_put R k v e es less = rw less refl
+
+module _ {K : Type 0} {R : K → K → Ordering} (o : IsTotalOrder R) where
+  module _ {X : Type 0} where
+    pub get-of_entries : (es : List (K × X)) (q : K) → finite_map.get (finite_map.from_entries {R = R} es) q ≡ lookup (is_at (R q)) es
+    get-of_entries es q = finite_map.get-from_entries o es q ∙ find-lookup R q es
+
+    -- the entries of a map in order are those that it was made of
+    pub entries-of_entries : (es : List (K × X)) → IsStrictlySortedBy R (keys_of es) → finite_map.entries (finite_map.from_entries {R = R} es) ≡ es
+    entries-of_entries [] ordered = entries-empty R X
+    entries-of_entries (e ∷ []) ordered =
+        finite_map.entries-insert o finite_map.empty e.0 e.1 ∙ ap (finite_map.put R e.0 e.1) (entries-empty R X)
+    entries-of_entries (e ∷ f ∷ es) ordered =
+        finite_map.entries-insert o _ e.0 e.1
+        ∙ ap (finite_map.put R e.0 e.1) (entries-of_entries (f ∷ es) (sorted_tail R e.0 (keys_of (f ∷ es)) ordered))
+        ∙ first_put R e.0 e.1 f es (Less-from_sorted R (keys_of (e ∷ f ∷ es)) 0 1 e.0 ordered (omega arith) (omega arith))
+
+    pub len-of_entries : (es : List (K × X)) → IsStrictlySortedBy R (keys_of es) → finite_map.len (finite_map.from_entries {R = R} es) ≡ length es
+    len-of_entries es ordered = finite_map.len-entries _ ∙ ap length (entries-of_entries es ordered)
+
+  none_equal : (k : K) (ks : List K) → AllByRecursion (λ y. eq_by_cmp R k y ≡ false) ks → list_any (eq_by_cmp R k) ks ≡ false
+  none_equal k [] apart = refl
+  none_equal k (x ∷ ks) apart = ap (λ b. b || list_any (eq_by_cmp R k) ks) apart.0 ∙ none_equal k ks apart.1
+
+  -- as many as the keys that a set was made of, where these ascend
+  pub len-of_keys : (ks : List K) → IsStrictlySortedBy R ks → set.len (set.from_list {R = R} ks) ≡ length ks
+  len-of_keys [] ordered = set.len-empty R
+  len-of_keys (k ∷ ks) ordered =
+      let new : set.contains (set.from_list {R = R} ks) k ≡ false = set.contains-from_list o ks k ∙ none_equal k ks (IsDistinct-head (eq_by_cmp R) k ks (IsDistinct-from_sorted R (k ∷ ks) ordered)) in
+      set.len-insert o (set.from_list ks) k
+      ∙ ap (λ b. cond b (set.len (set.from_list {R = R} ks)) (set.len (set.from_list {R = R} ks) + 1)) new
+      ∙ ap (λ n. n + 1) (len-of_keys ks (sorted_tail R k ks ordered)) ∙ (omega arith)
+
+  -- ---- a set as a map
+
+  abbrev marks : List K → List (K × Unit {0})
+  marks ks = map (λ k. (k, tt)) ks
+
+  find-marks : (q : K) (ks : List K) → finite_map.find R q (marks ks) ≡ cond (list_any (eq_by_cmp R q) ks) (Some tt) None
+  find-marks q [] = refl
+  find-marks q (k ∷ ks) = elim (eq_by_cmp R q k) as (λ b. cond b (Some tt) (finite_map.find R q (marks ks)) ≡ cond (b || list_any (eq_by_cmp R q) ks) (Some tt) None) [ true ↦ refl | false ↦ find-marks q ks ]
+
+  keys-marks : (ks : List K) → keys_of (marks ks) ≡ ks
+  keys-marks [] = refl
+  keys-marks (k ∷ ks) = ap (λ ns. k ∷ ns) (keys-marks ks)
+
+  -- the keys of a set in order are those that it was made of
+  pub keys-of_keys : IsAntisymmetric R → (ks : List K) → IsStrictlySortedBy R ks → finite_map.keys (finite_map.from_entries {R = R} (marks (set.items (set.from_list {R = R} ks)))) ≡ ks
+  keys-of_keys same ks ordered =
+      let items = set.items (set.from_list {R = R} ks) in
+      let alike : finite_map.from_entries {R = R} (marks items) ≡ finite_map.from_entries (marks ks) = finite_map.same_map o same _ _ (λ q.
+      finite_map.get-from_entries o (marks items) q ∙ find-marks q items
+      ∙ ap (λ b. cond b (Some tt) None) (sym (set.contains-items (set.from_list ks) q) ∙ set.contains-from_list o ks q)
+      ∙ sym (finite_map.get-from_entries o (marks ks) q ∙ find-marks q ks)) in
+      ap finite_map.keys alike
+      ∙ ap keys_of (entries-of_entries (marks ks) (subst (IsStrictlySortedBy R) (sym (keys-marks ks)) ordered))
+      ∙ keys-marks ks
+
+  -- ---- what the calls of ordered collections do
+
+  module _ {X : Type 0} (same : IsAntisymmetric R) (m n : BTreeMap K X) (k : K) where
+    pub table-insert : (v : X) → tree.Updates R m n k (Some v) → finite_map.from_entries {R = R} n.entries ≡ finite_map.insert (finite_map.from_entries m.entries) k v
+    table-insert v updates = is_insert o same _ _ k v (λ q.
+        get-of_entries n.entries q ∙ updates.0 q ∙ ap (cond (eq_by_cmp R k q) (Some v)) (sym (get-of_entries m.entries q)))
+
+    pub table-remove : tree.Updates R m n k None → finite_map.from_entries {R = R} n.entries ≡ finite_map.remove (finite_map.from_entries m.entries) k
+    table-remove updates = is_remove o same _ _ k (λ q.
+        get-of_entries n.entries q ∙ updates.0 q ∙ ap (cond (eq_by_cmp R k q) None) (sym (get-of_entries m.entries q)))
+
+  module _ (same : IsAntisymmetric R) (s n : BTreeSet K) (k : K) where
+    pub set-insert : sorted.Updates R s n k true → set.from_list {R = R} n.keys ≡ set.insert (set.from_list s.keys) k
+    set-insert updates = set.same_set o same _ _ (λ q.
+        set.contains-from_list o n.keys q ∙ updates.0 q ∙ true_or (eq_by_cmp R k q) _
+        ∙ ap (λ b. b || list_any (eq_by_cmp R q) s.keys) ((eq_by_cmp_equiv o).symm k q)
+        ∙ sym (set.contains-insert o (set.from_list s.keys) k q ∙ ap (λ b. eq_by_cmp R q k || b) (set.contains-from_list o s.keys q)))
+
+    pub set-remove : sorted.Updates R s n k false → set.from_list {R = R} n.keys ≡ set.remove (set.from_list s.keys) k
+    set-remove updates = set.same_set o same _ _ (λ q.
+        set.contains-from_list o n.keys q ∙ updates.0 q ∙ not_and (eq_by_cmp R k q) _
+        ∙ ap (λ b. not b && list_any (eq_by_cmp R q) s.keys) ((eq_by_cmp_equiv o).symm k q)
+        ∙ sym (set.contains-remove o (set.from_list s.keys) k q ∙ ap (λ b. not (eq_by_cmp R q k) && b) (set.contains-from_list o s.keys q)))
+
+  -- ---- a map whose values are seen by a function
+
+  module _ {X Y : Type 0} (f : X → Y) where
+    abbrev viewed : List (K × X) → List (K × Y)
+    viewed es = map (λ e. (e.0, f e.1)) es
+
+    pub keys-viewed : (es : List (K × X)) → keys_of (viewed es) ≡ keys_of es
+    keys-viewed [] = refl
+    keys-viewed (e ∷ es) = ap (λ ks. e.0 ∷ ks) (keys-viewed es)
+
+    pub get-viewed : (m : BTreeMap K X) (q : K) → finite_map.get (finite_map.from_entries {R = R} (viewed m.entries)) q ≡ option_map f (tree.get R m q)
+    get-viewed m q = get-of_entries (viewed m.entries) q ∙ lookup-map_values f (is_at (R q)) m.entries
+
+    some_viewed : (b : Bool) (v : X) (w : Option X) → option_map f (cond b (Some v) w) ≡ cond b (Some (f v)) (option_map f w)
+    some_viewed true v w = refl
+    some_viewed false v w = refl
+
+    pub viewed-insert : IsAntisymmetric R → (m n : BTreeMap K X) (k : K) (v : X) → tree.Updates R m n k (Some v) → finite_map.from_entries {R = R} (viewed n.entries) ≡ finite_map.insert (finite_map.from_entries (viewed m.entries)) k (f v)
+    viewed-insert same m n k v updates = is_insert o same _ _ k (f v) (λ q.
+        get-viewed n q ∙ ap (option_map f) (updates.0 q) ∙ some_viewed (eq_by_cmp R k q) v (tree.get R m q)
+        ∙ ap (cond (eq_by_cmp R k q) (Some (f v))) (sym (get-viewed m q)))
+
+    none_viewed : (b : Bool) (w : Option X) → option_map f (cond b w None) ≡ cond b (option_map f w) None
+    none_viewed true w = refl
+    none_viewed false w = refl
+
+    pub viewed-retain : IsAntisymmetric R → (m n : BTreeMap K X) (p : K → Bool) → n.entries ≡ filter (λ e. p e.0) m.entries → finite_map.from_entries {R = R} (viewed n.entries) ≡ finite_map.retain_keys (finite_map.from_entries (viewed m.entries)) p
+    viewed-retain same m n p kept =
+        let alike : (q x : K) → R q x ≡ Equal → p x ≡ p q = λ q x tied. ap p (sym (same q x tied)) in
+        finite_map.same_map o same _ _ (λ q.
+        get-viewed n q ∙ ap (λ es. option_map f (lookup (is_at (R q)) es)) kept
+        ∙ ap (option_map f) (lookup-filter-keys (is_at (R q)) p (p q) (λ x tied. alike q x ((Equal-is (R q x)).0 tied)) m.entries)
+        ∙ none_viewed (p q) (tree.get R m q)
+        ∙ ap (λ w. cond (p q) w None) (sym (get-viewed m q))
+        ∙ sym (finite_map.get-retain_keys (finite_map.from_entries (viewed m.entries)) p q (alike q)))
+
+    same_length : (es : List (K × X)) → length (viewed es) ≡ length es
+    same_length [] = refl
+    same_length (e ∷ es) = ap suc (same_length es)
+
+    pub len-viewed : (m : BTreeMap K X) → tree.IsOrdered R m → finite_map.len (finite_map.from_entries {R = R} (viewed m.entries)) ≡ length m.entries
+    len-viewed m ordered =
+        len-of_entries (viewed m.entries) (subst (IsStrictlySortedBy R) (sym (keys-viewed m.entries)) ordered)
+        ∙ same_length m.entries

@@ -1,0 +1,6 @@
+pub mod FiniteMaps
+pub mod Handles
+pub mod Listed
+pub mod Live
+pub mod Seen
+pub mod Typed

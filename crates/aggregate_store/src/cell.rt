@@ -1,0 +1,108 @@
+// Cells, each with a set or a map.
+
+ghost use Rattle.std.specs.Prelude.{◌≡◌, IfOk, OnOk, OnErr};
+ghost use Rattle.std.specs.Option.{option_copied};
+ghost use Rattle.tsl_value.specs.View.{Plain};
+ghost use Rattle.lift_func.specs.Cells.{has_key, value_at};
+ghost use Rattle.lift_func.specs.Update.{size_of, without_key};
+ghost use Rattle.aggregate_store.specs.Stored.{IsAggregate, empty_view, with_added};
+
+use std::alloc::Global;
+use std::collections::{BTreeMap, BTreeSet};
+use tsl_value::memory::NoMemory;
+use tsl_value::scalar::{Scalar, ValueType};
+
+/// A set of keys, or a map from keys to scalars.
+#[derive(Drop)]
+pub enum Cell {
+    Set(BTreeSet<Scalar>),
+    Map(BTreeMap<Scalar, Scalar>),
+}
+
+impl Cell {
+    ghost use Rattle.aggregate_store.specs.CellView.{view_of};
+
+    /// The cell of a type that has no element.
+    pub fn empty(alloc: Global, of: ValueType) -> Cell
+        requires { IsAggregate of }
+        ensures { view_of result ≡ empty_view of }
+    {
+        match of {
+            ValueType::Scalar(_) => unreachable!(),
+            ValueType::Set(_) => Cell::Set(BTreeSet::new(alloc)),
+            ValueType::Map(_, _) => Cell::Map(BTreeMap::new(alloc)),
+        }
+    }
+
+    /// The number of elements.
+    pub fn size(&self) -> u64
+        ensures { result ≡ size_of (view_of self.now) }
+    {
+        match self {
+            Cell::Set(keys) => keys.len() as u64,
+            Cell::Map(entries) => entries.len() as u64,
+        }
+    }
+
+    /// Whether the key is there.
+    pub fn contains(&self, key: &Scalar) -> bool
+        ensures { result ≡ has_key (view_of self.now) key.now }
+    {
+        match self {
+            Cell::Set(keys) => keys.contains(key),
+            Cell::Map(entries) => entries.contains_key(key),
+        }
+    }
+
+    /// What a map has at the key.
+    pub fn get(&self, key: &Scalar) -> Option<&Scalar>
+        ensures { option_copied result ≡ value_at (view_of self.now) key.now }
+    {
+        match self {
+            Cell::Set(_) => None,
+            Cell::Map(entries) => entries.get(key),
+        }
+    }
+
+    /// A cell with the same view.
+    pub fn copy(&self) -> Result<Cell, NoMemory>
+        ensures { IfOk result (λ cell. view_of cell ≡ view_of self.now) }
+    {
+        match self {
+            Cell::Set(keys) => Ok(Cell::Set(keys.clone()?)),
+            Cell::Map(entries) => Ok(Cell::Map(entries.clone()?)),
+        }
+    }
+
+    /// The cell with a key added, or with another value at it.
+    pub fn with(self, key: Scalar, value: Scalar) -> Result<Cell, NoMemory>
+        ensures { IfOk result (λ cell. view_of cell ≡ with_added (view_of self) key value) }
+    {
+        match self {
+            Cell::Set(mut keys) => {
+                keys.insert(key)?;
+                Ok(Cell::Set(keys))
+            }
+            Cell::Map(mut entries) => {
+                entries.insert(key, value)?;
+                Ok(Cell::Map(entries))
+            }
+        }
+    }
+
+    /// The cell without a key, present or not.
+    pub fn without(self, key: &Scalar) -> Cell
+        ensures { view_of result ≡ without_key (view_of self) (Plain key.now) }
+    {
+        match self {
+            Cell::Set(mut keys) => {
+                keys.remove(key);
+                Cell::Set(keys)
+            }
+            Cell::Map(mut entries) => {
+                entries.remove(key);
+                Cell::Map(entries)
+            }
+        }
+    }
+}

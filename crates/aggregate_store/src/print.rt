@@ -1,0 +1,89 @@
+// The text of cells.
+
+ghost use Rattle.std.specs.Prelude.{◌≡◌, ◌++◌, codes, length, map, take, OnOk, OnErr};
+ghost use Rattle.std.specs.FinMap as finite_map;
+ghost use Rattle.tsl_value.specs.Print.{in_order, listed, scalar_text, view_text};
+ghost use Rattle.aggregate_store.specs.CellView.{set_of, table_of, view_of};
+
+use crate::cell::Cell;
+use std::collections::{BTreeMap, BTreeSet};
+use tsl_value::bytes::Bytes;
+use tsl_value::memory::NoMemory;
+use tsl_value::print::print_scalar;
+use tsl_value::scalar::Scalar;
+
+/// Appends the text of a set or a map, or leaves `out` as it was.
+pub fn print_cell(cell: &Cell, out: &mut Bytes) -> Result<(), NoMemory>
+    ensures ok { OnOk result (out.new ≡ out.old ++ view_text (view_of cell.now)) }
+    ensures err { OnErr result (out.new ≡ out.old) }
+{
+    let before = out.len();
+    match append_cell(cell, out) {
+        Ok(()) => Ok(()),
+        Err(none) => {
+            out.truncate(before);
+            Err(none)
+        }
+    }
+}
+
+fn append_cell(cell: &Cell, out: &mut Bytes) -> Result<(), NoMemory>
+    ensures ok { OnOk result (out.new ≡ out.old ++ view_text (view_of cell.now)) }
+    ensures err { OnErr result (take (length out.old) out.new ≡ out.old) }
+{
+    match cell {
+        Cell::Set(keys) => {
+            out.append(b"Set(")?;
+            append_keys(keys, out)?;
+        }
+        Cell::Map(entries) => {
+            out.append(b"Map(")?;
+            append_entries(entries, out)?;
+        }
+    }
+    out.push(b')')
+}
+
+/// Appends the keys in order, with a comma and a blank between them.
+fn append_keys(keys: &BTreeSet<Scalar>, out: &mut Bytes) -> Result<(), NoMemory>
+    ensures ok { OnOk result (out.new ≡ out.old ++ listed (map scalar_text (in_order (set_of keys.now)))) }
+    ensures err { OnErr result (take (length out.old) out.new ≡ out.old) }
+{
+    let mut rest = keys.iter();
+    let Some(first) = rest.next() else {
+        return Ok(());
+    };
+    print_scalar(first, out)?;
+    for key in rest {
+        out.append(b", ")?;
+        print_scalar(key, out)?;
+    }
+    Ok(())
+}
+
+/// Appends the entries in the keys' order, with a comma and a blank between them.
+fn append_entries(entries: &BTreeMap<Scalar, Scalar>, out: &mut Bytes) -> Result<(), NoMemory>
+    ensures ok { OnOk result (out.new ≡ out.old
+        ++ listed (map (λ e. scalar_text e.0 ++ (codes " -> " ++ scalar_text e.1)) (finite_map.entries (table_of entries.now)))) }
+    ensures err { OnErr result (take (length out.old) out.new ≡ out.old) }
+{
+    let mut rest = entries.iter();
+    let Some((key, value)) = rest.next() else {
+        return Ok(());
+    };
+    append_entry(key, value, out)?;
+    for (key, value) in rest {
+        out.append(b", ")?;
+        append_entry(key, value, out)?;
+    }
+    Ok(())
+}
+
+fn append_entry(key: &Scalar, value: &Scalar, out: &mut Bytes) -> Result<(), NoMemory>
+    ensures ok { OnOk result (out.new ≡ out.old ++ (scalar_text key.now ++ (codes " -> " ++ scalar_text value.now))) }
+    ensures err { OnErr result (take (length out.old) out.new ≡ out.old) }
+{
+    print_scalar(key, out)?;
+    out.append(b" -> ")?;
+    print_scalar(value, out)
+}

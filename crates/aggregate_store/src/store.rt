@@ -1,0 +1,220 @@
+// The store, which contracts see as a finite map from handles to views and a list of numbers.
+
+ghost use Rattle.std.specs.Prelude.{◌≡◌, ◌<◌, None, IfOk, IsTrue, OnOk, OnErr, length, replicate, slice_index};
+ghost use Rattle.std.specs.FinMap as finite_map;
+ghost use Rattle.std.specs.BTreeMap as tree;
+ghost use Rattle.std.specs.Ordering.{nat_cmp};
+ghost use Rattle.tsl_value.specs.View.{Plain};
+ghost use Rattle.lift_func.specs.Cells.{FitsKey, IsLive, view_at};
+ghost use Rattle.lift_func.specs.Update.{size_of, without_key};
+ghost use Rattle.aggregate_store.specs.Stored.{FitsValue, IsAggregate, counted, empty_view, is_listed, with_added};
+
+use crate::cell::Cell;
+use crate::print::print_cell;
+use lift_func::reader::Reader;
+use std::alloc::Global;
+use std::collections::BTreeMap;
+use std::marker::Model;
+use tsl_value::bytes::Bytes;
+use tsl_value::ids::Handle;
+use tsl_value::memory::NoMemory;
+use tsl_value::scalar::{Scalar, ValueType};
+
+/// Sets and maps in cells behind handles, and a ledger: for each update, how many elements it has copied. Updates are
+/// numbers below a bound. Several registers may hold one handle.
+#[derive(Drop)]
+pub struct Store {
+    alloc: Global,
+    cells: BTreeMap<u64, Cell>,
+    ledger: Vec<u64>,
+}
+
+impl Model for Store {
+    ghost use Rattle.aggregate_store.specs.Stored.{Stored, stored_code};
+
+    ghost Value = { Stored };
+
+    ghost coded = { stored_code };
+
+    ghost use Rattle.aggregate_store.specs.CellView.{cells_of};
+
+    ghost view = { λ s. record { cells = cells_of s.cells.entries; ledger = s.ledger.items } };
+}
+
+impl Store {
+    ghost use Rattle.aggregate_store.specs.CellView.{view_of};
+
+    /// No cell, and 0 for each update.
+    pub fn new(alloc: Global, updates: u32) -> Result<Store, NoMemory>
+        ensures { IfOk result (λ store. store ≡ record { cells = finite_map.empty; ledger = replicate updates 0 }) }
+    {
+        let ledger = vec![in alloc; 0; updates as usize]?;
+        Ok(Store {
+            alloc,
+            cells: BTreeMap::new(alloc),
+            ledger,
+        })
+    }
+
+    /// Makes an empty cell of a type of sets or maps. The handle was not live. After `NoMemory` all is as it was.
+    pub fn empty(&mut self, of: ValueType) -> Result<Handle, NoMemory>
+        requires { IsAggregate of }
+        ensures fresh { IfOk result (λ handle. ¬ (IsLive self.old.cells handle)) }
+        ensures made { IfOk result (λ handle.
+            self.new ≡ record self.old { cells = finite_map.insert self.old.cells handle (empty_view of) }) }
+        ensures err { OnErr result (self.new ≡ self.old) }
+    {
+        self.place(Cell::empty(self.alloc, of))
+    }
+
+    /// Makes a cell with the source's elements and a key, which is added, or whose value is replaced. A set's value is
+    /// `Unit`. The update's number grows by the source's size, and stands once it is 2^64 - 1. After `NoMemory` all is as
+    /// it was.
+    pub fn copy_add(
+        &mut self,
+        update: u32,
+        source: Handle,
+        key: &Scalar,
+        value: &Scalar,
+    ) -> Result<Handle, NoMemory>
+        requires live { IsLive self.old.cells source }
+        requires key { FitsKey (view_at self.old.cells source) key.now }
+        requires value { FitsValue (view_at self.old.cells source) value.now }
+        requires update { update < length self.old.ledger }
+        ensures fresh { IfOk result (λ handle. ¬ (IsLive self.old.cells handle)) }
+        ensures made { IfOk result (λ handle.
+            self.new.cells ≡ finite_map.insert self.old.cells handle (with_added (view_at self.old.cells source) key.now value.now)) }
+        ensures ledger { OnOk result
+            (self.new.ledger ≡ counted self.old.ledger update (size_of (view_at self.old.cells source))) }
+        ensures err { OnErr result (self.new ≡ self.old) }
+    {
+        let cell = self.cell(source);
+        let size = cell.size();
+        let copy = cell.copy()?.with(key.copy()?, value.copy()?)?;
+        let handle = self.place(copy)?;
+        self.count_copied(update, size);
+        Ok(handle)
+    }
+
+    /// Makes a cell with the source's elements without a key, which may be there or not. The update's number grows as by
+    /// `copy_add`. After `NoMemory` all is as it was.
+    pub fn copy_remove(
+        &mut self,
+        update: u32,
+        source: Handle,
+        key: &Scalar,
+    ) -> Result<Handle, NoMemory>
+        requires live { IsLive self.old.cells source }
+        requires key { FitsKey (view_at self.old.cells source) key.now }
+        requires update { update < length self.old.ledger }
+        ensures fresh { IfOk result (λ handle. ¬ (IsLive self.old.cells handle)) }
+        ensures made { IfOk result (λ handle.
+            self.new.cells ≡ finite_map.insert self.old.cells handle (without_key (view_at self.old.cells source) (Plain key.now))) }
+        ensures ledger { OnOk result
+            (self.new.ledger ≡ counted self.old.ledger update (size_of (view_at self.old.cells source))) }
+        ensures err { OnErr result (self.new ≡ self.old) }
+    {
+        let cell = self.cell(source);
+        let size = cell.size();
+        let copy = cell.copy()?.without(key);
+        let handle = self.place(copy)?;
+        self.count_copied(update, size);
+        Ok(handle)
+    }
+
+    /// Drops all cells that are not listed. It takes no memory.
+    pub fn keep_only(&mut self, cells: &[Handle])
+        ensures { self.new ≡ record self.old { cells = finite_map.retain_keys self.old.cells (is_listed cells.now) } }
+    {
+        self.cells
+            .retain(|handle, _| cells.contains(&Handle::new(*handle)));
+    }
+
+    /// How many elements an update has copied, or 2^64 - 1 where there were more.
+    pub fn ledger(&self, update: u32) -> u64
+        requires { update < length self.now.ledger }
+        ensures { result ≡ slice_index self.now.ledger update }
+    {
+        self.ledger[update as usize]
+    }
+
+    /// The number of cells.
+    pub fn count(&self) -> u64
+        ensures { result ≡ finite_map.len self.now.cells }
+    {
+        self.cells.len() as u64
+    }
+
+    fn cell(&self, handle: Handle) -> &Cell
+        requires { IsLive self.now.cells handle }
+        ensures { view_of result.now ≡ view_at self.now.cells handle }
+    {
+        &self.cells[&handle.get()]
+    }
+
+    /// Puts a cell behind a handle that was not live.
+    fn place(&mut self, cell: Cell) -> Result<Handle, NoMemory>
+        ensures fresh { IfOk result (λ handle. ¬ (IsLive self.old.cells handle)) }
+        ensures made { IfOk result (λ handle.
+            self.new ≡ record self.old { cells = finite_map.insert self.old.cells handle (view_of cell) }) }
+        ensures err { OnErr result (self.new ≡ self.old) }
+    {
+        let handle = free_handle(&self.cells);
+        self.cells.insert(handle, cell)?;
+        Ok(Handle::new(handle))
+    }
+
+    fn count_copied(&mut self, update: u32, copied: u64)
+        requires { update < length self.old.ledger }
+        ensures { self.new ≡ record self.old { ledger = counted self.old.ledger update copied } }
+    {
+        let number = &mut self.ledger[update as usize];
+        *number = number.saturating_add(copied);
+    }
+}
+
+impl Reader for Store {
+    ghost cells = { λ store. store.cells };
+
+    fn size(&self, cell: Handle) -> u64 {
+        self.cell(cell).size()
+    }
+
+    fn contains(&self, cell: Handle, key: &Scalar) -> bool {
+        self.cell(cell).contains(key)
+    }
+
+    fn get(&self, cell: Handle, key: &Scalar) -> Option<&Scalar> {
+        self.cell(cell).get(key)
+    }
+
+    fn print(&self, cell: Handle, out: &mut Bytes) -> Result<(), NoMemory> {
+        print_cell(self.cell(cell), out)
+    }
+}
+
+/// A number that no cell has: the one behind the greatest, and where there is none the least that is free.
+fn free_handle(cells: &BTreeMap<u64, Cell>) -> u64
+    ensures { tree.get nat_cmp cells.now result ≡ None }
+{
+    match cells.last_key_value() {
+        None => 0,
+        Some((greatest, _)) => match greatest.checked_add(1) {
+            Some(next) => next,
+            None => least_free(cells),
+        },
+    }
+}
+
+/// The least number that no cell has. There are more numbers than cells.
+fn least_free(cells: &BTreeMap<u64, Cell>) -> u64
+    ensures { tree.get nat_cmp cells.now result ≡ None }
+{
+    let count = cells.len() as u64;
+    for free in 0..count {
+        if !cells.contains_key(&free) {
+            return free;
+        }
+    }
+    count
+}
