@@ -8,5 +8,6 @@ pub mod laws;
 pub mod line;
 pub mod lists;
 mod reach;
+pub mod steps;
 #[cfg(test)]
 mod tests;

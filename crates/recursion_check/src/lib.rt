@@ -1,0 +1,8 @@
+// Whether a flat system is well-formed.
+#![tactic(auto)]
+
+pub mod check;
+mod edges;
+pub mod equations;
+#[cfg(test)]
+mod tests;
