@@ -1,0 +1,9 @@
+pub mod Lists
+pub mod Circles
+pub mod Orders
+pub mod Cycles
+pub mod Counts
+pub mod Takes
+pub mod Walks
+pub mod Turned
+pub mod Alike

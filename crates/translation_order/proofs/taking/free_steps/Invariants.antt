@@ -1,0 +1,6 @@
+use Rattle.std.proofs.Common.{[]}
+use Rattle.translation_order.specs.Taking.{AreFree}
+use Rattle.translation_order.proofs.taking.free_steps.Given as goal
+
+abbrev pub invariant-loop-step : goal.invariant-loop-step
+invariant-loop-step l = AreFree l.step [] l.waits l.free
