@@ -1,0 +1,5 @@
+pub mod Builtin
+pub mod Scope
+pub mod Parts
+pub mod Bodies
+pub mod Faults
