@@ -1,6 +1,6 @@
 -- Names that are declared twice, and names that are not declared: the places of each kind, in the order of the source.
-use Rattle.std.specs.Prelude.{ℕ, Bool, true, false, not, ◌||◌, ◌&&◌, if◌then◌else◌, List, [], ◌∷◌, ◌++◌, concat, map, filter, Option, Some, None, head}
-use Rattle.std.specs.List.{list_any}
+use Rattle.std.specs.Prelude.{ℕ, Bool, true, false, not, ◌||◌, ◌&&◌, if◌then◌else◌, List, [], ◌∷◌, ◌++◌, map, filter, Option, Some, None}
+use Rattle.std.specs.List.{list_any, flat_map}
 use Rattle.std.specs.Str.{bytes_eq}
 use Rattle.tsl_value.specs.declared.place.Place.{Place}
 use Rattle.spec_parser.specs.Tree as tree
@@ -10,6 +10,11 @@ use Rattle.name_check.specs.Builtin.{is_built_in, is_called, is_unit}
 use Rattle.name_check.specs.Scope.{Scope, top, meaning, is_function, takes_arguments}
 use Rattle.name_check.specs.Parts.{Part, Operand, Function, parts, part_place}
 use Rattle.name_check.specs.Bodies.{Seen, item_bodies}
+
+-- the first of some places
+abbrev pub first : List Place → Option Place
+first [] = None
+first (p ∷ ps) = Some p
 
 -- ---- declared twice: a name that stands before in its scope, or that the language has itself
 abbrev pub again : List (List ℕ) → Place → List ℕ → List Place
@@ -64,4 +69,4 @@ abbrev pub unknown_in : Seen → List Place
 unknown_in s = map part_place (filter (is_unknown s.scope) (parts s.expr))
 
 abbrev pub unknown_names : List tree.Item → List Place
-unknown_names items = concat (map (λ i. concat (map unknown_in (item_bodies (top items) i))) items)
+unknown_names items = flat_map (λ i. flat_map unknown_in (item_bodies (top items) i)) items

@@ -3,3 +3,9 @@ pub mod Scope
 pub mod Parts
 pub mod Bodies
 pub mod Faults
+pub mod Tables
+pub mod Levels
+pub mod Shown
+pub mod Steps
+pub mod Answer
+pub mod Laws

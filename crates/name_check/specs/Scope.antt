@@ -1,6 +1,6 @@
 -- What names stand for, and which names are seen where. A scope lists the names that are seen, inner ones before the outer ones
 -- that they hide.
-use Rattle.std.specs.Prelude.{ℕ, suc, Bool, true, false, if◌then◌else◌, List, [], ◌∷◌, ◌++◌, filter, Option}
+use Rattle.std.specs.Prelude.{ℕ, suc, ◌≡◌, Bool, true, false, if◌then◌else◌, List, [], ◌∷◌, ◌++◌, filter, Option}
 use Rattle.std.specs.Option.{option_map}
 use Rattle.std.specs.List.{find, list_any, list_all}
 use Rattle.std.specs.Str.{bytes_eq}
@@ -72,11 +72,24 @@ abbrev pub are_values : List tree.Param → Bool
 are_values [] = false
 are_values (p ∷ ps) = list_all (λ q. if is_events q.of then false else true) (p ∷ ps)
 
+-- the value functions of a scope
+abbrev pub functions_of : Scope → Scope
+functions_of scope = filter (λ e. is_function e.is) scope
+
 -- What is seen in a definition with these parameters: they hide what is seen around it, and of that a value function sees value
 -- functions alone.
 abbrev pub inside : Scope → List tree.Param → Scope
-inside scope ps = parameters_from 0 ps ++ (if are_values ps then filter (λ e. is_function e.is) scope else scope)
+inside scope ps = parameters_from 0 ps ++ (if are_values ps then functions_of scope else scope)
 
 -- what is seen in a block: its definitions hide what is seen around it
 abbrev pub in_block : Scope → tree.Definitions → Scope
 in_block scope ds = locals_from 0 ds ++ scope
+
+-- all that is seen at some levels, the innermost of which is the first
+abbrev pub seen : List Scope → Scope
+seen [] = []
+seen (level ∷ levels) = level ++ seen levels
+
+-- each name stands for the same in both
+pub record Agree (a b : Scope) : Type 0 where
+  pub at : (n : List ℕ) → meaning a n ≡ meaning b n

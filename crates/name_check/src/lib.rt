@@ -1,4 +1,15 @@
-//! What the names of a specification stand for.
+//! What the names of a specification stand for, which of them are declared twice, and which are not declared where they
+//! stand.
 #![tactic(auto)]
 
+pub mod builtin;
+pub mod check;
 pub mod declaration;
+pub mod law;
+pub mod names;
+pub mod parts;
+pub mod scope;
+#[cfg(test)]
+mod tests;
+mod twice;
+mod unknown;

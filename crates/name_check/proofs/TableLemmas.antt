@@ -1,0 +1,58 @@
+-- Tables of names, and the entries that they stand for.
+use Rattle.std.proofs.Common.{◌≡◌, ℕ, Bool, true, false, not, cond, if◌then◌else◌, List, [], ◌∷◌, ◌++◌, map, filter, Option, Some, None, is_some, is_none, String, refl, sym, ap, subst, ◌∙◌}
+use Rattle.std.specs.Option.{option_map}
+use Rattle.std.specs.List.{find, IsDistinct}
+use Rattle.std.specs.Map.{lookup, keys_of}
+use Rattle.std.specs.Str.{bytes_eq}
+use Rattle.std.specs.String.{string_bytes, string_eq}
+use Rattle.std.specs.Cmp.Lexicographic.{nat_list_eq_equiv}
+use Rattle.std.proofs.lemmas.List.{map-append}
+use Rattle.indexmap.specs.IndexMap.{insert_entry}
+use Rattle.name_check.specs.declared.declaration.Declaration.{Declaration}
+use Rattle.name_check.specs.Scope.{Scope, Entry, meaning, is_function}
+use Rattle.name_check.specs.Tables.{entries_in}
+
+map_cond : {A B : Type 0} (f : A → B) (b : Bool) (x : A) (o : Option A) → option_map f (cond b (Some x) o) ≡ cond b (Some (f x)) (option_map f o)
+map_cond f true x o = refl
+map_cond f false x o = refl
+
+-- a look-up among the entries of a table
+pub meaning_in : {A : Type 0} (n : List ℕ) (es : List (String A × Declaration)) → lookup (λ k. bytes_eq n (string_bytes k)) es ≡ meaning (entries_in es) n
+meaning_in n [] = refl
+meaning_in n (e ∷ es) =
+    ap (λ b. cond b (Some e.1) (lookup (λ k. bytes_eq n (string_bytes k)) es)) (nat_list_eq_equiv.symm n (string_bytes e.0))
+    ∙ ap (λ o. cond (bytes_eq (string_bytes e.0) n) (Some e.1) o) (meaning_in n es)
+    ∙ sym (map_cond (λ x. x.is) (bytes_eq (string_bytes e.0) n) (record { name = string_bytes e.0; is = e.1 }) (find (λ x. bytes_eq x.name n) (entries_in es)))
+
+pub found_in : {A : Type 0} (s : Scope) (n : List ℕ) (es : List (String A × Declaration)) (r : Option Declaration) → entries_in es ≡ s → r ≡ lookup (λ k. bytes_eq n (string_bytes k)) es → r ≡ meaning s n
+found_in s n es r is h = h ∙ meaning_in n es ∙ ap (λ t. meaning t n) is
+
+none_of_some : {A : Type 0} (o : Option A) (b : Bool) → b ≡ is_some o → not b ≡ is_none o
+none_of_some None b h = ap not h
+none_of_some (Some x) b h = ap not h
+
+-- whether a name is new
+pub new_in : {A : Type 0} (s : Scope) (n : List ℕ) (es : List (String A × Declaration)) (b c : Bool) → entries_in es ≡ s → b ≡ is_some (lookup (λ k. bytes_eq n (string_bytes k)) es) → b ≡ c → not c ≡ is_none (meaning s n)
+new_in s n es b c is h same = none_of_some (meaning s n) c (sym same ∙ h ∙ ap is_some (meaning_in n es ∙ ap (λ t. meaning t n) is))
+
+-- a key that is not there goes last
+insert_absent : {A : Type 0} (es : List (String A × Declaration)) (k : String A) (d : Declaration) → false ≡ is_some (lookup (λ x. bytes_eq (string_bytes k) (string_bytes x)) es) → insert_entry string_eq es k d ≡ es ++ (k, d) ∷ []
+insert_absent [] k d h = refl
+insert_absent {A} (e ∷ es) k d h = by (bytes_eq (string_bytes k) (string_bytes e.0)) refl (insert_absent es k d)
+  where
+    by :
+        (b : Bool) → bytes_eq (string_bytes k) (string_bytes e.0) ≡ b →
+        (false ≡ is_some (lookup (λ x. bytes_eq (string_bytes k) (string_bytes x)) es) → insert_entry string_eq es k d ≡ es ++ (k, d) ∷ []) →
+        insert_entry string_eq (e ∷ es) k d ≡ (e ∷ es) ++ (k, d) ∷ []
+    by true p rest = absurd (cc (h ∙ ap (λ b. is_some (cond b (Some e.1) (lookup (λ x. bytes_eq (string_bytes k) (string_bytes x)) es))) p))
+    by false p rest =
+        ap (λ b. if b then (e.0, d) ∷ es else e ∷ insert_entry string_eq es k d) p
+        ∙ ap (λ l. e ∷ l) (rest (h ∙ ap (λ b. is_some (cond b (Some e.1) (lookup (λ x. bytes_eq (string_bytes k) (string_bytes x)) es))) p))
+
+-- a new name goes last
+pub declared_in : {A : Type 0} (s : Scope) (n : List ℕ) (k : String A) (d : Declaration) (es fs : List (String A × Declaration)) (b : Bool) → entries_in es ≡ s → string_bytes k ≡ n → b ≡ is_some (lookup (λ x. bytes_eq n (string_bytes x)) es) → b ≡ false → fs ≡ insert_entry string_eq es k d → entries_in fs ≡ s ++ record { name = n; is = d } ∷ []
+declared_in s n k d es fs b is same h none more =
+    ap entries_in (more ∙ insert_absent es k d (sym none ∙ h ∙ ap (λ m. is_some (lookup (λ x. bytes_eq m (string_bytes x)) es)) (sym same)))
+    ∙ map-append (λ e. record { name = string_bytes e.0; is = e.1 }) es ((k, d) ∷ [])
+    ∙ ap (λ t. t ++ record { name = string_bytes k; is = d } ∷ []) is
+    ∙ ap (λ m. s ++ record { name = m; is = d } ∷ []) same

@@ -1,0 +1,44 @@
+// The names that the language has itself.
+
+ghost use Rattle.std.specs.Prelude.{◌≡◌};
+ghost use Rattle.name_check.specs.Builtin.{is_called, is_unit, is_lift, is_built_in};
+
+/// A built-in name that is called with arguments.
+pub fn is_called(name: &str) -> bool
+    ensures { result ≡ is_called name.now }
+{
+    matches!(
+        name,
+        "time"
+            | "last"
+            | "delay"
+            | "merge"
+            | "default"
+            | "lift"
+            | "const"
+            | "filter"
+            | "isSome"
+            | "isNone"
+            | "getSome"
+            | "Some"
+    )
+}
+
+pub fn is_unit(name: &str) -> bool
+    ensures { result ≡ is_unit name.now }
+{
+    name == "unit"
+}
+
+pub fn is_lift(name: &str) -> bool
+    ensures { result ≡ is_lift name.now }
+{
+    name == "lift"
+}
+
+/// A name that the language has itself.
+pub fn is_built_in(name: &str) -> bool
+    ensures { result ≡ is_built_in name.now }
+{
+    is_unit(name) || is_called(name) || matches!(name, "nil" | "None" | "Set" | "Map" | "String")
+}

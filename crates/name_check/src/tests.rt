@@ -1,0 +1,115 @@
+// Names of small specifications.
+
+use crate::check::{NameFault, check_names};
+use crate::declaration::Declaration;
+use spec_lexer::lex::lex;
+use spec_parser::parse::parse;
+use spec_parser::tree::Tree;
+use std::alloc::Global;
+use std::test::Fail;
+use tsl_value::place::Place;
+
+fn tree_of(alloc: Global, source: &[u8]) -> Option<Tree> {
+    let Ok(tokens) = lex(alloc, source) else {
+        return None;
+    };
+    parse(alloc, &tokens).ok()
+}
+
+/// The fault of a source that has a tree.
+fn fault(alloc: Global, source: &[u8]) -> Option<NameFault> {
+    match tree_of(alloc, source) {
+        Some(tree) => check_names(alloc, &tree).err(),
+        None => Some(NameFault::Memory),
+    }
+}
+
+fn is_twice(alloc: Global, source: &[u8], line: u32, column: u32) -> bool {
+    let place = Place { line, column };
+    fault(alloc, source) == Some(NameFault::DefinedTwice { place })
+}
+
+fn is_unknown(alloc: Global, source: &[u8], line: u32, column: u32) -> bool {
+    let place = Place { line, column };
+    fault(alloc, source) == Some(NameFault::UnknownName { place })
+}
+
+fn is_fine(alloc: Global, source: &[u8]) -> bool {
+    fault(alloc, source).is_none()
+}
+
+#[test]
+fn names_that_are_declared_twice(rt: HostRuntime) {
+    let sources: [(&[u8], u32, u32); 7] = [
+        (b"in a: Int\ndef b := c\ndef a := b\ndef b := a", 3, 5),
+        (b"def m(x: Events[Int], x: Int) := x", 1, 23),
+        (b"in merge: Int", 1, 4),
+        (b"def unit := 1", 1, 5),
+        (b"def m(nil: Int) := 1", 1, 7),
+        (b"def m(x: Events[Int]) := { def a := b def a := x a }", 1, 43),
+        (
+            b"def m(x: Events[Int]) := { def a := { def x := a def x := 2 x } x }\ndef m := 1",
+            1,
+            54,
+        ),
+    ];
+    for (source, line, column) in sources {
+        assert!(rt; is_twice(rt.alloc(), source, line, column));
+    }
+}
+
+#[test]
+fn names_that_are_unknown(rt: HostRuntime) {
+    let sources: [(&[u8], u32, u32); 14] = [
+        (b"in a: Int\ndef b := a + c * d", 2, 14),
+        (b"def m(x: Events[Int]) := x\ndef b := m", 2, 10),
+        (b"def f(x: Int) := x\ndef b := f", 2, 10),
+        (b"in i: Int\ndef f(x: Int) := if x > 0 then i else y", 2, 32),
+        (b"in i: Int\ndef f(x: Int) := m(x)\ndef m(x: Events[Int]) := x", 2, 18),
+        (b"in i: Int\ndef m(x: Events[Int]) := x\ndef b := lift(i, m)", 3, 18),
+        (b"in i: Int\ndef b := lift(i, i + 1)", 2, 18),
+        (b"out a", 1, 5),
+        (b"def a := 1\nout b as a", 2, 5),
+        (b"out -a as b", 1, 6),
+        (b"def a := nil", 1, 10),
+        (b"def a := merge", 1, 10),
+        (b"def a := g(b)", 1, 10),
+        (b"def m(x: Events[Int]) := { def a := b a }", 1, 37),
+    ];
+    for (source, line, column) in sources {
+        assert!(rt; is_unknown(rt.alloc(), source, line, column));
+    }
+}
+
+#[test]
+fn names_that_are_fine(rt: HostRuntime) {
+    let sources: [&[u8]; 6] = [
+        b"in a: Int\ndef m(x: Events[Int], y: Events[Int]) := { def x := y def y := a x + y }\nout m(a, a) as time",
+        b"in i: Int\ndef f(x: Option[Int], g: Int): Option[Int] := h(x, g, unit)\ndef h(x: Int) := x\ndef b := lift(i, h)",
+        b"in i: Int\ndef b(x: Int, y: Events[Int]) := i\ndef c := b(i) + i(1) + unit(2) + time(i)\nout unit",
+        b"in x: Int\ndef f(x: Int) := x + -x % (x * 2) == Set.size(x) && !true || f(x) < \"s\"",
+        b"def m(x: Events[Int]) := { def m := x m }",
+        b"def a := if true then nil[Int] else None[Int]\nout () as u",
+    ];
+    for source in sources {
+        assert!(rt; is_fine(rt.alloc(), source));
+    }
+}
+
+#[test]
+fn names_stand_for_declarations(rt: HostRuntime) -> Result<(), Fail> {
+    let source = b"in a: Int\ndef f(x: Int) := x\nout a\ndef m(x: Events[Int]) := x\ndef n(x: Int, y: Events[Int]) := y\ndef s := a";
+    let tree = tree_of(rt.alloc(), source).ok_or("no tree")?;
+    let Ok(names) = check_names(rt.alloc(), &tree) else {
+        return Err("refused")?;
+    };
+    assert_eq!(rt; names.find("a"), Some(Declaration::Input(0)));
+    assert_eq!(rt; names.find("f"), Some(Declaration::Function(1)));
+    assert_eq!(rt; names.find("m"), Some(Declaration::Macro(3)));
+    assert_eq!(rt; names.find("n"), Some(Declaration::Mixed(4)));
+    assert_eq!(rt; names.find("s"), Some(Declaration::Stream(5)));
+    assert_eq!(rt; names.find("x"), None);
+    assert_eq!(rt; names.find_function("f"), Some(Declaration::Function(1)));
+    assert_eq!(rt; names.find_function("m"), None);
+    Ok(())
+}
