@@ -1,2 +1,8 @@
+mod AgreeLemmas
+mod FirstLemmas
 mod LawLemmas
+mod PartsLemmas
+mod SizeLemmas
 mod TableLemmas
+mod TwiceLemmas
+mod UnknownLemmas

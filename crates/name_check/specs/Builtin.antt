@@ -18,14 +18,14 @@ unit_name = codes "unit"
 abbrev pub lift_name : List ℕ
 lift_name = codes "lift"
 
-abbrev pub is_called : List ℕ → Bool
+unfoldable pub is_called : List ℕ → Bool
 is_called n = list_any (bytes_eq n) called
 
-abbrev pub is_unit : List ℕ → Bool
+unfoldable pub is_unit : List ℕ → Bool
 is_unit n = bytes_eq n unit_name
 
-abbrev pub is_lift : List ℕ → Bool
+unfoldable pub is_lift : List ℕ → Bool
 is_lift n = bytes_eq n lift_name
 
-abbrev pub is_built_in : List ℕ → Bool
+unfoldable pub is_built_in : List ℕ → Bool
 is_built_in n = list_any (bytes_eq n) (unit_name ∷ called) || list_any (bytes_eq n) prefixes

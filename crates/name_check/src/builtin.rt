@@ -4,6 +4,7 @@ ghost use Rattle.std.specs.Prelude.{◌≡◌};
 ghost use Rattle.name_check.specs.Builtin.{is_called, is_unit, is_lift, is_built_in};
 
 /// A built-in name that is called with arguments.
+#[tactic(auto, unfolding(crate::specs::Builtin::is_called))]
 pub fn is_called(name: &str) -> bool
     ensures { result ≡ is_called name.now }
 {
@@ -24,12 +25,14 @@ pub fn is_called(name: &str) -> bool
     )
 }
 
+#[tactic(auto, unfolding(crate::specs::Builtin::is_unit))]
 pub fn is_unit(name: &str) -> bool
     ensures { result ≡ is_unit name.now }
 {
     name == "unit"
 }
 
+#[tactic(auto, unfolding(crate::specs::Builtin::is_lift))]
 pub fn is_lift(name: &str) -> bool
     ensures { result ≡ is_lift name.now }
 {
@@ -37,6 +40,7 @@ pub fn is_lift(name: &str) -> bool
 }
 
 /// A name that the language has itself.
+#[tactic(auto, unfolding(crate::specs::Builtin::is_built_in, crate::specs::Builtin::is_called, crate::specs::Builtin::is_unit))]
 pub fn is_built_in(name: &str) -> bool
     ensures { result ≡ is_built_in name.now }
 {

@@ -49,9 +49,15 @@ impl Names {
     pub fn find_function(&self, name: &str) -> Option<Declaration>
         ensures { result ≡ meaning (functions_of self.now) name.now }
     {
-        match self.entries.get(name) {
-            Some(Declaration::Function(number)) => Some(Declaration::Function(*number)),
-            _ => None,
+        match self.entries.get(name).copied() {
+            Some(found) => {
+                if found.is_function() {
+                    Some(found)
+                } else {
+                    None
+                }
+            }
+            None => None,
         }
     }
 

@@ -1,6 +1,7 @@
 // What is seen where.
 
-ghost use Rattle.std.specs.Prelude.{◌≡◌, [], ◌∷◌, IfOk};
+ghost use Rattle.std.specs.Prelude.{◌≡◌, [], ◌∷◌, if◌then◌else◌, IfOk};
+ghost use Rattle.std.specs.List.{list_all, list_any};
 ghost use Rattle.spec_parser.specs.Shape.{params_in, definitions_of};
 ghost use Rattle.name_check.specs.Scope.{meaning, seen, functions_of, is_events, are_values, parameters_from, locals_from, Agree};
 
@@ -63,6 +64,18 @@ impl<'a> Scope<'a> {
         }
     }
 
+    /// What is seen around a definition with these parameters: the names, of which a value function sees the value functions
+    /// alone.
+    pub fn around(names: &'a Names, params: &[Param]) -> Scope<'a>
+        ensures { result ≡ (if are_values (params_in params.now) then functions_of names.now else names.now) ∷ [] }
+    {
+        if are_values(params) {
+            Scope::functions(names)
+        } else {
+            Scope::all(names)
+        }
+    }
+
     /// One more level inside.
     pub fn inner(level: Names, outer: &'a Scope<'a>) -> Scope<'a>
         ensures { result ≡ level ∷ outer.now }
@@ -97,11 +110,23 @@ pub fn is_events(of: &TypeName) -> bool
     }
 }
 
+pub(crate) fn all_are_streams(params: &[Param]) -> bool
+    ensures { result ≡ list_all (λ q. is_events q.of) params.now }
+{
+    params.iter().all(|param| is_events(&param.of))
+}
+
+pub(crate) fn some_are_streams(params: &[Param]) -> bool
+    ensures { result ≡ list_any (λ q. is_events q.of) params.now }
+{
+    params.iter().any(|param| is_events(&param.of))
+}
+
 /// The parameters of a value function: there are some, and none is a stream.
 pub fn are_values(params: &[Param]) -> bool
     ensures { result ≡ are_values (params_in params.now) }
 {
-    !params.is_empty() && params.iter().all(|param| !is_events(&param.of))
+    !params.is_empty() && !some_are_streams(params)
 }
 
 /// The names of parameters. The first of two equal names counts.

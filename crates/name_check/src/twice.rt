@@ -1,7 +1,6 @@
 // Names that are declared twice.
 
 ghost use Rattle.std.specs.Prelude.{◌≡◌, [], ◌∷◌, ◌++◌, map, IfOk, IfNone};
-ghost use Rattle.spec_parser.specs.Tree as tree;
 ghost use Rattle.spec_parser.specs.Shape.{params_in, body_of, definition_of, definitions_of, item_of};
 ghost use Rattle.name_check.specs.Scope.{declared_as};
 ghost use Rattle.name_check.specs.Faults.{first, again, twice_in_params, twice_in_body, twice_in_block};
@@ -12,7 +11,7 @@ use crate::builtin::is_built_in;
 use crate::check::NameFault;
 use crate::declaration::Declaration;
 use crate::names::Names;
-use crate::scope::is_events;
+use crate::scope::{all_are_streams, some_are_streams};
 use spec_parser::tree::{Body, Definition, DefinitionParts, Item, Param};
 use std::alloc::Global;
 use tsl_value::memory::NoMemory;
@@ -98,9 +97,9 @@ fn declared_as(number: usize, params: &[Param]) -> Declaration
 {
     if params.is_empty() {
         Declaration::Stream(number)
-    } else if params.iter().all(|param| is_events(&param.of)) {
+    } else if all_are_streams(params) {
         Declaration::Macro(number)
-    } else if params.iter().any(|param| is_events(&param.of)) {
+    } else if some_are_streams(params) {
         Declaration::Mixed(number)
     } else {
         Declaration::Function(number)

@@ -5,31 +5,19 @@ ghost use Rattle.std.specs.List.{flat_map};
 ghost use Rattle.spec_parser.specs.Tree as tree;
 ghost use Rattle.spec_parser.specs.Shape.{body_of, definition_of, definitions_of, item_of};
 ghost use Rattle.name_check.specs.Builtin.{is_called as is_called_name, is_unit as is_unit_name};
-ghost use Rattle.name_check.specs.Scope.{meaning, seen, takes_arguments};
+ghost use Rattle.name_check.specs.Scope.{meaning, seen};
 ghost use Rattle.name_check.specs.Shown.{part_of};
 ghost use Rattle.name_check.specs.Faults.{first, is_mentionable, is_declared, is_a_function, is_unknown, unknown_in};
 ghost use Rattle.name_check.specs.Steps.{local_body, unknown_in_body, unknown_in_locals, unknown_in_definition, unknown_in_item};
 
 use crate::builtin::{is_called, is_unit};
-use crate::declaration::Declaration;
 use crate::names::Names;
 use crate::parts::{Part, parts};
-use crate::scope::{Scope, are_values, locals, parameters};
+use crate::scope::{Scope, locals, parameters};
 use spec_parser::tree::{Body, Definition, DefinitionParts, Expr, Item, Node};
 use std::alloc::Global;
 use tsl_value::memory::NoMemory;
 use tsl_value::place::Place;
-
-/// A name that is called.
-fn takes_arguments(declaration: Declaration) -> bool
-    ensures { result ≡ takes_arguments declaration }
-{
-    match declaration {
-        Declaration::Macro(_) | Declaration::Function(_) | Declaration::Mixed(_) => true,
-        Declaration::Input(_) | Declaration::Stream(_) => false,
-        Declaration::Parameter(_) | Declaration::Local(_) => false,
-    }
-}
 
 /// The name may not stand alone here.
 fn is_unknown_alone(scope: &Scope<'_>, name: &str) -> bool
@@ -39,7 +27,7 @@ fn is_unknown_alone(scope: &Scope<'_>, name: &str) -> bool
         return false;
     }
     match scope.find(name) {
-        Some(declaration) => takes_arguments(declaration),
+        Some(declaration) => declaration.takes_arguments(),
         None => true,
     }
 }
@@ -56,8 +44,8 @@ fn is_no_function(scope: &Scope<'_>, name: &str) -> bool
     ensures { result ≡ not (is_a_function (meaning (seen scope.now) name.now)) }
 {
     match scope.find(name) {
-        Some(Declaration::Function(_)) => false,
-        _ => true,
+        Some(declaration) => !declaration.is_function(),
+        None => true,
     }
 }
 
@@ -159,11 +147,7 @@ fn find_in_definition(
 ) -> Result<Option<Place>, NoMemory>
     ensures { IfOk result (λ found. found ≡ first (unknown_in_definition names.now (definition_of parts.now))) }
 {
-    let outer = if are_values(&parts.params) {
-        Scope::functions(names)
-    } else {
-        Scope::all(names)
-    };
+    let outer = Scope::around(names, &parts.params);
     let scope = Scope::inner(parameters(alloc, &parts.params)?, &outer);
     find_in_body(alloc, &parts.body, &scope)
 }

@@ -1,0 +1,23 @@
+-- The first of some places, and lists that are walked through.
+use Rattle.std.proofs.Common.{◌≡◌, ℕ, zero, suc, ◌+◌, ◌<◌, ◌≤◌, List, [], ◌∷◌, ◌++◌, length, get_or, drop, Option, Some, None, refl, sym, ap, ◌∙◌, add-one, drop-cons, arith}
+use Rattle.tsl_value.specs.declared.place.Place.{Place}
+use Rattle.name_check.specs.Faults.{first}
+
+-- where the front has no place, the first is that of the rest
+pub first_behind : (xs ys : List Place) → first xs ≡ None → first (xs ++ ys) ≡ first ys
+first_behind [] ys h = refl
+first_behind (x ∷ xs) ys h = cc
+
+-- the first place of the front is the first of all
+pub first_of_front : (xs ys : List Place) (p : Place) → first xs ≡ Some p → first (xs ++ ys) ≡ Some p
+first_of_front [] ys p h = cc
+first_of_front (x ∷ xs) ys p h = h
+
+pub empty_without_first : (xs : List Place) → first xs ≡ None → xs ≡ []
+empty_without_first [] h = refl
+empty_without_first (x ∷ xs) h = cc
+
+-- what is left of a list at an item
+pub left_at : {A : Type 0} (xs : List A) (i : ℕ) (x : A) → i < length xs → x ≡ get_or xs i x → drop i xs ≡ x ∷ drop (i + 1) xs
+left_at xs i x h is =
+    drop-cons xs i x h ∙ ap (λ y. y ∷ drop (suc i) xs) (sym is) ∙ ap (λ j. x ∷ drop j xs) (sym (add-one i))
