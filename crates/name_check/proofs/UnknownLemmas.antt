@@ -1,5 +1,5 @@
 -- Unknown names, one part, definition or item behind the other.
-use Rattle.std.proofs.Common.{◌≡◌, ℕ, ◌+◌, ◌<◌, ◌≤◌, Bool, true, false, not, ◌||◌, cond, if◌then◌else◌, List, [], ◌∷◌, ◌++◌, map, filter, length, get_or, drop, Option, Some, None, refl, sym, ap, ◌∙◌, append_assoc, arith}
+use Rattle.std.proofs.Common.{◌≡◌, ℕ, ◌+◌, ◌<◌, ◌≤◌, Bool, true, false, not, ◌||◌, cond, if◌then◌else◌, List, [], ◌∷◌, ◌++◌, map, filter, length, get_or, drop, Option, Some, None, Result, Ok, Err, IfOk, refl, sym, ap, ◌∙◌, append_assoc, arith}
 use Rattle.std.specs.List.{flat_map}
 use Rattle.std.proofs.lemmas.List.{append-nil, drop_all}
 use Rattle.std.proofs.lemmas.List.Concat.{flat_map-append}
@@ -113,9 +113,9 @@ pub block_hit : (level s : Scope) (ds : tree.Definitions) (e : Expr) (p : Place)
 block_hit level s ds e p h found =
     sym (ap first (inner_split level s ds e h) ∙ first_of_front (unknown_in_locals (level ++ s) ds) (unknown_at (level ++ s) e) p (sym found))
 
-pub block_rest : (level s : Scope) (ds : tree.Definitions) (e : Expr) (r : Option Place) → Agree level (locals_from 0 ds) → None ≡ first (unknown_in_locals (level ++ s) ds) → r ≡ first (unknown_in (record { scope = level ++ s; expr = e })) → r ≡ first (unknown_in_body s (tree.Block ds e))
-block_rest level s ds e r h none last =
-    last ∙ sym (ap first (inner_split level s ds e h) ∙ first_behind (unknown_in_locals (level ++ s) ds) (unknown_at (level ++ s) e) (sym none))
+pub block_rest : (level s : Scope) (ds : tree.Definitions) (e : Expr) → Agree level (locals_from 0 ds) → None ≡ first (unknown_in_locals (level ++ s) ds) → first (unknown_in (record { scope = level ++ s; expr = e })) ≡ first (unknown_in_body s (tree.Block ds e))
+block_rest level s ds e h none =
+    sym (ap first (inner_split level s ds e h) ∙ first_behind (unknown_in_locals (level ++ s) ds) (unknown_at (level ++ s) e) (sym none))
 
 locals_left : (s : Scope) (ds : List tree.Definition) (i : ℕ) (d e : tree.Definition) → i < length ds → d ≡ get_or ds i d → e ≡ d → unknown_in_locals s (definitions_of (drop i ds)) ≡ unknown_in_body s (local_body e) ++ unknown_in_locals s (definitions_of (drop (i + 1) ds))
 locals_left s ds i d e h is same =
@@ -135,18 +135,22 @@ pub locals_end : (s : Scope) (ds : List tree.Definition) (i : ℕ) (all : Option
 locals_end s ds i all h done = ap (λ l. first (unknown_in_locals s (definitions_of l))) (sym (drop_all i ds h)) ∙ done
 
 -- ---- the definition of an item
-pub definition_first : (names level outer : Scope) (ps : List tree.Param) (b : tree.Body) (r : Option Place) → outer ≡ (if are_values ps then functions_of names else names) → Agree level (parameters_from 0 ps) → r ≡ first (unknown_in_body (level ++ (outer ++ [])) b) → r ≡ first (unknown_in_body (inside names ps) b)
-definition_first names level outer ps b r h k found =
-    found ∙ ap first (same_in_body (level ++ (outer ++ [])) (inside names ps) (agree_append level (parameters_from 0 ps) (outer ++ []) (if are_values ps then functions_of names else names) k (agree_same _ _ (append-nil outer ∙ h))) b)
+pub definition_same : (names level outer : Scope) (ps : List tree.Param) (b : tree.Body) → outer ≡ (if are_values ps then functions_of names else names) → Agree level (parameters_from 0 ps) → first (unknown_in_body (level ++ (outer ++ [])) b) ≡ first (unknown_in_body (inside names ps) b)
+definition_same names level outer ps b h k =
+    ap first (same_in_body (level ++ (outer ++ [])) (inside names ps) (agree_append level (parameters_from 0 ps) (outer ++ []) (if are_values ps then functions_of names else names) k (agree_same _ _ (append-nil outer ∙ h))) b)
 
 -- a definition's faults do not hang on the place of its word
-pub item_first : (names : Scope) (p : Place) (d e : tree.Definition) (r : Option Place) → e ≡ d → r ≡ first (unknown_in_definition names e) → r ≡ first (unknown_in_item names (tree.Defined p d))
-item_first names p d (tree.Define q n ps w b) r same found = found ∙ ap (λ x. first (unknown_in_item names (tree.Defined p x))) same
+pub item_same : (names : Scope) (p : Place) (d e : tree.Definition) → e ≡ d → first (unknown_in_definition names e) ≡ first (unknown_in_item names (tree.Defined p d))
+item_same names p d (tree.Define q n ps w b) same = ap (λ x. first (unknown_in_item names (tree.Defined p x))) same
 
 -- an expression under all of the names
-pub alone_first : (names : Scope) (e : Expr) (r : Option Place) → r ≡ first (unknown_in (record { scope = names ++ []; expr = e })) → r ≡ first (unknown_in (record { scope = names; expr = e }) ++ [])
-alone_first names e r found =
-    found ∙ ap (λ s. first (unknown_at s e)) (append-nil names) ∙ ap first (sym (append-nil (unknown_at names e)))
+pub alone_same : (names : Scope) (e : Expr) → first (unknown_in (record { scope = names ++ []; expr = e })) ≡ first (unknown_in (record { scope = names; expr = e }) ++ [])
+alone_same names e = ap (λ s. first (unknown_at s e)) (append-nil names) ∙ ap first (sym (append-nil (unknown_at names e)))
+
+-- what is found is the same
+pub ok_same : {E : Type 0} (r : Result (Option Place) E) (a b : Option Place) → a ≡ b → IfOk r (λ found. found ≡ a) → IfOk r (λ found. found ≡ b)
+ok_same (Ok x) a b e h = h ∙ e
+ok_same (Err x) a b e h = tt
 
 -- the mention of a name
 pub mention_unknown : (names : Scope) (p q : Place) (n : List ℕ) (b : Bool) → b ≡ not (is_unit n || is_mentionable (meaning (names ++ []) n)) → first (if b then q ∷ [] else []) ≡ first (unknown_in_item names (tree.Output p q n))

@@ -1,13 +1,26 @@
-use Rattle.std.proofs.Common.{◌≡◌, None, rules, sym, ◌∙◌}
-use Rattle.spec_parser.specs.Shape.{definition_of}
+use Rattle.std.proofs.Common.{rules, sym, ap, ◌∙◌}
+use Rattle.spec_parser.specs.Shape.{definition_of, definitions_of}
+use Rattle.name_check.specs.Scope.{seen}
+use Rattle.name_check.specs.Faults.{first, unknown_in}
+use Rattle.name_check.specs.Steps.{unknown_in_locals}
 use Rattle.name_check.proofs.SizeLemmas.{definition_smaller}
+use Rattle.name_check.proofs.UnknownLemmas.{block_hit, block_rest, ok_same}
 use Rattle.name_check.proofs.unknown.+unknown.Goals as goal
 
 pub find_in_block-returns-in-Some : goal.find_in_block-returns-in-Some
-find_in_block-returns-in-Some t c = ?
+find_in_block-returns-in-Some t c =
+    let all = definitions_of c.args.definitions.now in
+    block_hit c.in_ok-locals.field-0 (seen c.args.scope.now) all c.args.last.now c.in-Some.place c.in_ok-locals.ensures
+    (sym c.in-Some.is ∙ c.in_ok-place.ensures ∙ ap (λ l. first (unknown_in_locals (seen l) all)) c.inner-inner.ensures)
 
 pub find_in_block-returns : goal.find_in_block-returns
-find_in_block-returns t c = ?
+find_in_block-returns t c =
+    let all = definitions_of c.args.definitions.now in
+    ok_same c.find_in_expression.result _ _
+    (ap (λ l. first (unknown_in (record { scope = seen l; expr = c.args.last.now }))) c.inner-inner.ensures
+    ∙ block_rest c.in_ok-locals.field-0 (seen c.args.scope.now) all c.args.last.now c.in_ok-locals.ensures
+        (sym c.in_default.is ∙ c.in_ok-place.ensures ∙ ap (λ l. first (unknown_in_locals (seen l) all)) c.inner-inner.ensures))
+    c.find_in_expression.ensures
 
 pub find_in_locals-find_in_local-requires : goal.find_in_locals-find_in_local-requires
 find_in_locals-find_in_local-requires t c =
