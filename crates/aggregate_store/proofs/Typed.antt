@@ -18,9 +18,10 @@ use Rattle.tsl_value.specs.declared.scalar.KeyType.{KeyType}
 use Rattle.tsl_value.specs.declared.scalar.ScalarType.{ScalarType}
 use Rattle.tsl_value.specs.declared.scalar.ValueType.{ValueType}
 use Rattle.tsl_value.specs.declared.scalar.ValueType.TheVariants as value_type
-use Rattle.lift_func.specs.Cells.{FitsKey}
+use Rattle.lift_func.specs.Cells.{Cells, FitsKey, view_at}
 use Rattle.aggregate_store.specs.Stored.{FitsValue, IsAggregate, empty_view, with_added}
 use Rattle.aggregate_store.proofs.FiniteMaps.{entries-empty}
+use Rattle.aggregate_store.proofs.Live.{has_view}
 
 both : {a b : Bool} → IsTrue a → IsTrue b → IsTrue (a && b)
 both {b = b} p q = ap (λ a. a && b) p ∙ q
@@ -80,11 +81,11 @@ module _ {K X : Type 0} {R : K → K → Ordering} (o : IsTotalOrder R) (p : K �
   all-put : (k : K) (v : X) → IsTrue (p (k, v)) → (es : List (K × X)) → IsTrue (list_all p es) → IsTrue (list_all p (finite_map.put R k v es))
   all-put k v here [] all = both here refl
   all-put k v here (e ∷ es) all =
-      elim (R k e.0) as (λ r. IsTrue (list_all p (finite_map.by_order r ((k, v) ∷ e ∷ es) ((e.0, v) ∷ es) (e ∷ finite_map.put R k v es)))) [
-        | Less ↦ both here all
-        | Equal ↦ both (mixed e.0 e.1 v k (first _ _ all) here) (second _ _ all)
-        | Greater ↦ both (first _ _ all) (all-put k v here es (second _ _ all))
-      ]
+      elim (R k e.0) as (λ r. R k e.0 ≡ r → IsTrue (list_all p (finite_map.put R k v (e ∷ es)))) [
+        | Less ↦ λ is. rw is (both here all)
+        | Equal ↦ λ is. rw is (both (mixed e.0 e.1 v k (first _ _ all) here) (second _ _ all))
+        | Greater ↦ λ is. rw is (both (first _ _ all) (all-put k v here es (second _ _ all)))
+      ] refl
 
   pub all-entries-insert : (m : finite_map.FinMap R X) (k : K) (v : X) → IsTrue (p (k, v)) → IsTrue (list_all p (finite_map.entries m)) → IsTrue (list_all p (finite_map.entries (finite_map.insert m k v)))
   all-entries-insert m k v here all = subst (λ es. IsTrue (list_all p es)) (sym (finite_map.entries-insert o m k v)) (all-put k v here (finite_map.entries m) all)
@@ -110,7 +111,7 @@ is_of-added (value_type.Set k) (Mapped m) key value fits typed = absurd (cc)
 is_of-added (value_type.Map k t) (Plain s) key value fits typed = typed
 is_of-added (value_type.Map k t) (Keyed s) key value fits typed = absurd (cc)
 is_of-added (value_type.Map k t) (Mapped m) key value fits typed =
-    all-entries-insert scalar_cmp_total (λ e. is_of_key k e.0 && is_of_scalar t e.1) (λ a v w b p q. both (first _ _ p) (second _ _ q)) m key value (both fits.0 fits.1) typed
+    all-entries-insert scalar_cmp_total (λ e. is_of_key k e.0 && is_of_scalar t e.1) (λ a v w b p q. both {a = is_of_key k a} {b = is_of_scalar t w} (first (is_of_key k a) (is_of_scalar t v) p) (second (is_of_key k b) (is_of_scalar t w) q)) m key value (both fits.0 fits.1) typed
 
 weaker : {A : Type 0} (p q : A → Bool) → ((x : A) → IsTrue (p x) → IsTrue (q x)) → (xs : List A) → IsTrue (list_all p xs) → IsTrue (list_all q xs)
 weaker p q gives [] all = refl
@@ -124,7 +125,7 @@ fits_key (value_type.Set k) (Mapped m) key value fits typed = absurd (cc)
 fits_key (value_type.Map k t) (Plain s) key value fits typed = absurd (cc)
 fits_key (value_type.Map k t) (Keyed s) key value fits typed = absurd (cc)
 fits_key (value_type.Map k t) (Mapped m) key value fits typed =
-    (k, fits.0, weaker (λ e. is_of_key k e.0 && is_of_scalar t e.1) (λ e. is_of_key k e.0) (λ e p. first _ _ p) (finite_map.entries m) typed)
+    (k, fits.0, weaker (λ e. is_of_key k e.0 && is_of_scalar t e.1) (λ e. is_of_key k e.0) (λ e p. first (is_of_key k e.0) (is_of_scalar t e.1) p) (finite_map.entries m) typed)
 
 pub fits_value : (of : ValueType) (v : View) (key value : Scalar) → FitsType of key value → IsTrue (is_of of v) → FitsValue v value
 fits_value (value_type.Scalar of) v key value fits typed = absurd fits
@@ -134,4 +135,16 @@ fits_value (value_type.Set k) (Mapped m) key value fits typed = absurd (cc)
 fits_value (value_type.Map k t) (Plain s) key value fits typed = absurd (cc)
 fits_value (value_type.Map k t) (Keyed s) key value fits typed = absurd (cc)
 fits_value (value_type.Map k t) (Mapped m) key value fits typed =
-    (t, fits.1, weaker (λ e. is_of_key k e.0 && is_of_scalar t e.1) (λ e. is_of_scalar t e.1) (λ e p. second _ _ p) (finite_map.entries m) typed)
+    (t, fits.1, weaker (λ e. is_of_key k e.0 && is_of_scalar t e.1) (λ e. is_of_scalar t e.1) (λ e p. second (is_of_key k e.0) (is_of_scalar t e.1) p) (finite_map.entries m) typed)
+
+-- ---- a cell that was made
+
+pub typed_new : (of : ValueType) (old new : Cells) (handle : ℕ) (view : View) → new ≡ finite_map.insert old handle view → IsTrue (is_of of view) → IsTrue (is_of of (view_at new handle))
+typed_new of old new handle view is typed = ap (is_of of) (has_view old new handle view is) ∙ typed
+
+pub typed_empty : (of : ValueType) (old new : Cells) (handle : ℕ) → IsAggregate of → new ≡ finite_map.insert old handle (empty_view of) → IsTrue (is_of of (view_at new handle))
+typed_empty of old new handle aggregate is = typed_new of old new handle (empty_view of) is (is_of-empty of aggregate)
+
+pub typed_added : (of : ValueType) (old new : Cells) (source handle : ℕ) (key value : Scalar) → new ≡ finite_map.insert old handle (with_added (view_at old source) key value) → FitsType of key value → IsTrue (is_of of (view_at old source)) → IsTrue (is_of of (view_at new handle))
+typed_added of old new source handle key value is fits typed =
+    typed_new of old new handle (with_added (view_at old source) key value) is (is_of-added of (view_at old source) key value fits typed)
