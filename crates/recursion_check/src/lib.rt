@@ -4,5 +4,6 @@
 pub mod check;
 mod edges;
 pub mod equations;
+pub mod laws;
 #[cfg(test)]
 mod tests;

@@ -1,8 +1,8 @@
 -- Relations that hold alike have the same cycles.
-use Rattle.std.proofs.Common.{ℕ, List, [], ◌∷◌}
+use Rattle.std.proofs.Common.{ℕ, List}
 use Rattle.flat_core.specs.Graph.{Path, edge, step}
 use Rattle.translation_order.specs.Order.{IsLeast}
-use Rattle.translation_order.specs.Cycle.{Through, IsCycle, CanBeTaken, taken, Remains, RemainsBefore, IsCycleOfWalk}
+use Rattle.translation_order.specs.Cycle.{IsCycle, CanBeTaken, taken, Remains, RemainsBefore, IsCycleOfWalk}
 use Rattle.translation_order.proofs.Circles.{through_weaker}
 
 can_alike : (E F : ℕ → ℕ → Type 0) → ((a b : ℕ) → F a b → E a b) → (x : ℕ) → CanBeTaken E x → CanBeTaken F x

@@ -1,7 +1,7 @@
 -- Counts of pairs that wait.
-use Rattle.std.proofs.Common.{◌≡◌, ◌==◌, ℕ, zero, suc, ◌+◌, ◌-◌, ◌<◌, ◌≤◌, Bool, true, false, cond, not, ◌&&◌, ◌||◌, List, [], ◌∷◌, ◌++◌, length, get_or, set, replicate, eqb, Contains, refl, sym, ap, subst, ◌∙◌, ◌⊎◌, inl, inr, get_or-set_same, get_or-set_other, length-set, append-nil, take, drop, take-append-drop, length-take, arith}
-use Rattle.std.proofs.lemmas.Bool.{cases_Bool, cases_eq, or_left, or_right, false≢true, true≢false, eqb-true, eqb-false, eq-eqb, ne_eqb, false_from_ne_true, and_left, and_right, and_from, not_from_true}
-use Rattle.std.proofs.lemmas.List.{length-replicate, get_or-replicate, take_more, drop_more, get_or_read}
+use Rattle.std.proofs.Common.{◌≡◌, ℕ, ◌+◌, ◌<◌, ◌≤◌, Bool, true, false, cond, not, ◌&&◌, ◌||◌, List, [], ◌∷◌, ◌++◌, length, get_or, set, eqb, Contains, refl, sym, ap, subst, ◌∙◌, inl, inr, get_or-set_same, get_or-set_other, length-set, append-nil, take, drop, take-append-drop, length-take, arith}
+use Rattle.std.proofs.lemmas.Bool.{cases_Bool, cases_eq, or_left, or_right, false≢true, true≢false, eqb-true, eqb-false, eq-eqb, ne_eqb, and_left, and_right, and_from, not_from_true}
+use Rattle.std.proofs.lemmas.List.{take_more, drop_more, get_or_read}
 use Rattle.std.proofs.lemmas.List.Folds.{list_any-append}
 use Rattle.std.specs.List.{list_any}
 use Rattle.translation_order.specs.Order.{Before, AreOfSteps}
@@ -136,12 +136,6 @@ waiting_some listed (p ∷ pairs) x h = elim (cases_eq x p.1) [
 ]
 
 -- ---- what the code counts
-pub waits_start : (steps : ℕ) → AreWaits steps [] [] (replicate steps 0)
-waits_start steps = record {
-  one_each = length-replicate steps 0;
-  at = λ x lt. get_or-replicate steps x 0 0 lt;
-}
-
 pub waits_more : (steps : ℕ) (pairs : List (ℕ × ℕ)) (p : ℕ × ℕ) (counts : List ℕ) → p.1 < steps → AreWaits steps pairs [] counts → AreWaits steps (pairs ++ p ∷ []) [] (set counts p.1 (get_or counts p.1 0 + 1))
 waits_more steps pairs p counts below a = record {
   one_each = length-set counts p.1 (get_or counts p.1 0 + 1) ∙ a.one_each;
@@ -156,12 +150,6 @@ waits_more steps pairs p counts below a = record {
         let none : one_if (eqb x p.1 && not (is_one_of [] p.0)) ≡ 0 = ap one_if (and_left (eqb x p.1) (not (is_one_of [] p.0)) (ne_eqb x p.1 other)) in
         omega arith
   ];
-}
-
-pub seconds_start : (steps : ℕ) → AreSeconds steps [] (replicate steps [])
-seconds_start steps = record {
-  one_each = length-replicate steps [];
-  at = λ a lt. get_or-replicate steps a [] [] lt;
 }
 
 pub seconds_more : (steps : ℕ) (pairs : List (ℕ × ℕ)) (p : ℕ × ℕ) (seconds : List (List ℕ)) → p.0 < steps → AreSeconds steps pairs seconds → AreSeconds steps (pairs ++ p ∷ []) (set seconds p.0 (get_or seconds p.0 [] ++ p.1 ∷ []))

@@ -6,7 +6,7 @@ use Rattle.std.specs.List.{IsDistinct}
 use Rattle.flat_core.specs.Graph.{Path, edge, step, IsAcyclic}
 use Rattle.translation_order.specs.Order.{IsLeast, MayFollow, TakesLeast, IsLeastOrder}
 use Rattle.translation_order.specs.Cycle.{CanBeTaken, taken}
-use Rattle.translation_order.proofs.Lists.{split_at, split_push, once_from_splits, once_push, few_below, middle, here, later, none_in_nil}
+use Rattle.translation_order.proofs.Lists.{split_at, split_push, once_from_splits, once_push, few_below, none_in_nil}
 use Rattle.translation_order.proofs.Circles.{least_same}
 
 module _ (steps : ℕ) (E : ℕ → ℕ → Type 0) where
@@ -28,10 +28,6 @@ module _ (steps : ℕ) (E : ℕ → ℕ → Type 0) where
   -- at most one list is the order
   pub one_order : (xs ys : List ℕ) → IsLeastOrder steps E xs → IsLeastOrder steps E ys → xs ≡ ys
   one_order xs ys u v = agree [] xs ys u v
-
-  pub takes_none : TakesLeast steps E []
-  takes_none [] rest x e = absurd (cc)
-  takes_none (f ∷ front) rest x e = absurd (cc)
 
   -- one step more
   pub takes_push : (xs : List ℕ) (x : ℕ) → TakesLeast steps E xs → IsLeast (MayFollow steps E xs) x → TakesLeast steps E (xs ++ x ∷ [])

@@ -1,17 +1,16 @@
 -- Taking steps away, one by one.
-use Rattle.std.proofs.Common.{◌≡◌, ◌==◌, ℕ, ◌+◌, ◌-◌, ◌<◌, ◌≤◌, Bool, true, false, cond, not, ◌&&◌, ◌||◌, List, [], ◌∷◌, ◌++◌, length, get_or, set, take, eqb, nat_lt, nat_cmp, Less, Equal, Greater, is_eq, is_gt, Contains, All, IsTrue, BTreeSet, refl, sym, ap, subst, ◌∙◌, ◌⊎◌, inl, inr, get_or-set_same, get_or-set_other, length-set, arith}
-use Rattle.std.proofs.lemmas.Bool.{cases_Bool, cases_eq, cases_order, cases_lt, or_cases, and_parts, and_from, and_left, and_right, or_left, or_right, or_from, not-true, not_from_false, not_from_true, false≢true, true≢false, eqb-true, eqb-false, eq-eqb, ne_eqb, lt-ltb, le-ltb, ltb-true, false_from_ne_true}
-use Rattle.std.proofs.lemmas.List.{length_push, take_more, get_or_read}
+use Rattle.std.proofs.Common.{◌≡◌, ◌==◌, ℕ, ◌+◌, ◌-◌, ◌<◌, ◌≤◌, Bool, true, false, cond, not, ◌&&◌, ◌||◌, List, [], ◌∷◌, ◌++◌, length, get_or, set, take, eqb, nat_lt, nat_cmp, Less, Equal, Greater, is_eq, Contains, BTreeSet, sym, ap, subst, ◌∙◌, inl, inr, get_or-set_same, get_or-set_other, length-set, arith}
+use Rattle.std.proofs.lemmas.Bool.{cases_Bool, cases_eq, cases_order, cases_lt, or_cases, and_parts, and_from, and_left, and_right, or_right, or_from, not-true, not_from_false, not_from_true, false≢true, true≢false, eqb-true, eq-eqb, ne_eqb, lt-ltb, ltb-true, false_from_ne_true}
+use Rattle.std.proofs.lemmas.List.{take_more, get_or_read}
 use Rattle.std.proofs.lemmas.List.Elements.{All-contains, Contains-append_left, Contains-get_or}
 use Rattle.std.proofs.lemmas.Map.Keys.{le_from_not_gt}
 use Rattle.std.specs.Cmp.{nat_cmp_is}
-use Rattle.std.specs.List.{list_any}
 use Rattle.std.specs.BTreeSet as tree
 use Rattle.translation_order.specs.Order.{Before, AreOfSteps, IsLeast, MayFollow, TakesLeast, IsLeastOrder}
 use Rattle.translation_order.specs.Cycle.{CanBeTaken, taken, Remains}
-use Rattle.translation_order.specs.Taking.{one_if, is_one_of, times, seconds_of, waiting, AreSeconds, AreWaits, AreFree, AreReleased, IsTaking, IsTaken}
-use Rattle.translation_order.proofs.Lists.{any_from_contains, contains_from_any, split_at, here, cons_cases, later, none_in_nil}
-use Rattle.translation_order.proofs.Orders.{takes_none, takes_push, room_for, taken_below, can_be_taken}
+use Rattle.translation_order.specs.Taking.{one_if, is_one_of, times, seconds_of, waiting, AreSeconds, AreWaits, AreReleased, IsTaking, IsTaken}
+use Rattle.translation_order.proofs.Lists.{any_from_contains, contains_from_any, split_at, here, later}
+use Rattle.translation_order.proofs.Orders.{takes_push, room_for, can_be_taken}
 use Rattle.translation_order.proofs.Counts.{or_none, times_some, times_none, times_push, times_room, listed_push, listed_last, waiting_listed, waiting_zero, waiting_none}
 
 same_test : (a x : ℕ) → a ≡ x → is_eq (nat_cmp a x) ≡ true
@@ -31,45 +30,7 @@ updated before after k b u x same = u.0 x ∙ ap (λ t. cond t b (tree.contains 
 kept : (before after : BTreeSet ℕ) (k : ℕ) (b : Bool) → tree.Updates nat_cmp before after k b → (x : ℕ) → (k ≡ x → ⊥) → tree.contains nat_cmp after x ≡ tree.contains nat_cmp before x
 kept before after k b u x other = u.2 x (other_test k x other)
 
-pub none_contained : (free : BTreeSet ℕ) → free.keys ≡ [] → (x : ℕ) → tree.contains nat_cmp free x ≡ false
-none_contained free is x = ap (λ ks. list_any (λ k. is_eq (nat_cmp x k)) ks) is
-
--- ---- the first free steps
-pub free_start : (counts : List ℕ) (free : BTreeSet ℕ) → free.keys ≡ [] → AreFree 0 [] counts free
-free_start counts free is x = none_contained free is x ∙ sym (and_left (nat_lt x 0) (not (is_one_of [] x) && (get_or counts x 0 == 0)) (le-ltb x 0 (omega arith)))
-
-free_test : (i : ℕ) (counts : List ℕ) (x : ℕ) → (i ≡ x → ⊥) → (nat_lt x i && (not (is_one_of [] x) && (get_or counts x 0 == 0))) ≡ (nat_lt x (i + 1) && (not (is_one_of [] x) && (get_or counts x 0 == 0)))
-free_test i counts x other = ap (λ b. b && (not (is_one_of [] x) && (get_or counts x 0 == 0))) (elim (cases_order i x) [
-  | inl same ↦ absurd (other same)
-  | inr (inl less) ↦ le-ltb x i (omega arith) ∙ sym (le-ltb x (i + 1) (omega arith))
-  | inr (inr more) ↦ lt-ltb x i more ∙ sym (lt-ltb x (i + 1) (omega arith))
-])
-
-pub free_more : (i : ℕ) (counts : List ℕ) (free after : BTreeSet ℕ) → AreFree i [] counts free → tree.Updates nat_cmp free after i true → get_or counts i 0 ≡ 0 → AreFree (i + 1) [] counts after
-free_more i counts free after are u is_zero x = elim (cases_eq i x) [
-  | inl same ↦
-      updated free after i true u x same
-      ∙ sym (and_from (nat_lt x (i + 1)) (not (is_one_of [] x) && (get_or counts x 0 == 0)) (lt-ltb x (i + 1) (omega arith)) (eq-eqb (get_or counts x 0) 0 (ap (λ j. get_or counts j 0) (sym same) ∙ is_zero)))
-  | inr other ↦ kept free after i true u x other ∙ are x ∙ free_test i counts x other
-]
-
-pub free_same : (i : ℕ) (counts : List ℕ) (free : BTreeSet ℕ) → AreFree i [] counts free → (get_or counts i 0 ≡ 0 → ⊥) → AreFree (i + 1) [] counts free
-free_same i counts free are some x = elim (cases_eq i x) [
-  | inl same ↦
-      are x
-      ∙ and_left (nat_lt x i) (not (is_one_of [] x) && (get_or counts x 0 == 0)) (le-ltb x i (omega arith))
-      ∙ sym (and_right (nat_lt x (i + 1)) (not (is_one_of [] x) && (get_or counts x 0 == 0)) (ne_eqb (get_or counts x 0) 0 (λ z. some (ap (λ j. get_or counts j 0) same ∙ z))))
-  | inr other ↦ are x ∙ free_test i counts x other
-]
-
 -- ---- steps that are released
-pub release_start : (old : List ℕ) (before : BTreeSet ℕ) → AreReleased [] old old before before
-release_start old before = record {
-  same_length = refl;
-  waits = λ x. omega arith;
-  freed = λ x. sym (or_none (tree.contains nat_cmp before x));
-}
-
 module _ (steps old counts : List ℕ) (before free : BTreeSet ℕ) (r : AreReleased steps old counts before free) (b : ℕ) (below : b < length counts) (some : 0 < get_or counts b 0) where
   abbrev less : List ℕ
   less = set counts b (get_or counts b 0 - 1)
@@ -284,20 +245,6 @@ module _ (steps : ℕ) (pairs : List (ℕ × ℕ)) (of_steps : AreOfSteps steps 
             ]
           ];
         }
-
-    -- no free step is left
-    pub all_taken : free.keys ≡ [] → IsTaken steps pairs listed counts
-    all_taken none = record {
-      takes_least = t.takes_least;
-      waits = t.waits;
-      listed_all = λ x low is_zero. elim (cases_Bool (is_one_of listed x)) [
-        | inl there ↦ there
-        | inr new ↦ absurd (false≢true (sym (none_contained free none x) ∙ t.are_free x ∙ and_from (nat_lt x steps) (not (is_one_of listed x) && (get_or counts x 0 == 0)) (lt-ltb x steps low) (and_from (not (is_one_of listed x)) (get_or counts x 0 == 0) (not_from_false (is_one_of listed x) new) (eq-eqb (get_or counts x 0) 0 is_zero))))
-      ];
-    }
-
-  pub taking_start : (counts : List ℕ) (free : BTreeSet ℕ) → AreWaits steps pairs [] counts → AreFree steps [] counts free → IsTaking steps pairs [] counts free
-  taking_start counts free w f = record { takes_least = takes_none steps (Before pairs); waits = w; are_free = f }
 
   -- ---- what is left
   module _ (listed counts : List ℕ) (t : IsTaken steps pairs listed counts) where

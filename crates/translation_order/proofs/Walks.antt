@@ -1,25 +1,19 @@
 -- The walk among the steps that are left.
-use Rattle.std.proofs.Common.{◌≡◌, ℕ, ◌+◌, ◌-◌, ◌<◌, ◌≤◌, min, Bool, true, false, List, [], ◌∷◌, ◌++◌, length, get_or, set, take, drop, replicate, eqb, Contains, Option, Some, None, Result, Ok, Err, IfOk, refl, sym, ap, subst, ◌∙◌, ◌⊎◌, inl, inr, get_or-set_same, get_or-set_other, length-set, take-append-drop, unwrap_or, le_trans, le_of_eq, arith}
-use Rattle.std.proofs.lemmas.Bool.{cases_Bool, cases_eq, cases_lt, false≢true, true≢false, false_from_ne_true, eq-eqb}
+use Rattle.std.proofs.Common.{◌≡◌, ℕ, ◌+◌, ◌-◌, ◌<◌, ◌≤◌, min, Bool, true, false, List, [], ◌∷◌, ◌++◌, length, get_or, set, take, drop, replicate, eqb, Contains, Option, Some, None, Result, Ok, Err, IfOk, refl, sym, ap, subst, ◌∙◌, inl, inr, get_or-set_same, get_or-set_other, length-set, take-append-drop, unwrap_or, le_trans, le_of_eq, arith}
+use Rattle.std.proofs.lemmas.Bool.{cases_eq, cases_lt, false≢true}
 use Rattle.std.proofs.lemmas.List.{length_push, drop_more, length-replicate, get_or-replicate, get_or_past, get_or_read, take_more, take_rest}
 use Rattle.std.proofs.lemmas.List.Elements.{Contains-push, Contains-push_cases, Contains-append_left}
-use Rattle.std.specs.List.{IsDistinct, list_any}
+use Rattle.std.specs.List.{IsDistinct}
 use Rattle.translation_order.specs.Order.{Before, AreOfSteps, IsLeast, IsLeastOrder}
-use Rattle.translation_order.specs.Cycle.{Through, IsTurned, CanBeTaken, Remains, RemainsBefore, IsWalk, IsCycleOfWalk}
-use Rattle.translation_order.specs.Taking.{is_one_of, waiting, IsTaken}
+use Rattle.translation_order.specs.Cycle.{Through, IsTurned, Remains, RemainsBefore, IsCycleOfWalk}
+use Rattle.translation_order.specs.Taking.{is_one_of, IsTaken}
 use Rattle.translation_order.specs.Walking.{WaitsBefore, IsLeastBefore, AreLeastBefore, next_of, AreInside, HasWalked, Walked, lesser_of, Follows, IsWalkedCycle, IsWalking}
-use Rattle.translation_order.proofs.Lists.{any_from_contains, contains_from_any, once_push, few_below, none_in_nil}
-use Rattle.translation_order.proofs.Circles.{through_join, through_weaker}
+use Rattle.translation_order.proofs.Lists.{any_from_contains, contains_from_any, once_push, few_below}
+use Rattle.translation_order.proofs.Circles.{through_join}
 use Rattle.translation_order.proofs.Counts.{waiting_some, listed_push, listed_last}
 use Rattle.translation_order.proofs.Takes.{first_low, remains_from, waits_from, order_from}
 
 -- ---- the least waiting step before each
-pub least_start : (steps : ℕ) (counts : List ℕ) → AreLeastBefore steps [] counts (replicate steps None)
-least_start steps counts = record {
-  one_each = length-replicate steps None;
-  at = λ x low. subst (IsLeastBefore [] counts x) (sym (get_or-replicate steps x None None low)) (λ a w. none_in_nil (a, x) w.before);
-}
-
 same_before : (pairs : List (ℕ × ℕ)) (p : ℕ × ℕ) (counts : List ℕ) (x : ℕ) (found : Option ℕ) → ((a : ℕ) → WaitsBefore (pairs ++ p ∷ []) counts x a → WaitsBefore pairs counts x a) → IsLeastBefore pairs counts x found → IsLeastBefore (pairs ++ p ∷ []) counts x found
 same_before pairs p counts x None back h = λ a w. h a (back a w)
 same_before pairs p counts x (Some m) back h = record {
@@ -100,9 +94,6 @@ least_at_same steps pairs i counts found joined lt none l is =
 next_inside : (steps : ℕ) (pairs : List (ℕ × ℕ)) (counts : List ℕ) → AreOfSteps steps pairs → (x : ℕ) (found : Option ℕ) → x < steps → IsLeastBefore pairs counts x found → unwrap_or found x < steps
 next_inside steps pairs counts of_steps x None low h = low
 next_inside steps pairs counts of_steps x (Some a) low h = first_low steps pairs of_steps a x h.holds.before
-
-pub all_inside : (steps : ℕ) (pairs : List (ℕ × ℕ)) (counts : List ℕ) (found : List (Option ℕ)) → AreOfSteps steps pairs → AreLeastBefore steps pairs counts found → AreInside found
-all_inside steps pairs counts found of_steps l = λ x lt. let long = l.one_each in let low : x < steps = omega arith in let inside = next_inside steps pairs counts of_steps x (get_or found x None) low (l.at x low) in omega arith
 
 found_follows : (pairs : List (ℕ × ℕ)) (counts : List ℕ) (x : ℕ) (found : Option ℕ) → IsLeastBefore pairs counts x found → Follows pairs counts x (unwrap_or found x)
 found_follows pairs counts x None h = λ b w. absurd (h b w)

@@ -1,5 +1,5 @@
 -- Cycles of steps, and the one that is answered where steps have no order.
-use Rattle.std.specs.Prelude.{◌≡◌, ℕ, ◌<◌, ◌≤◌, List, [], ◌∷◌, ◌++◌, eqb, reverse}
+use Rattle.std.specs.Prelude.{◌≡◌, ℕ, ◌<◌, List, [], ◌∷◌, ◌++◌, eqb, reverse}
 use Rattle.std.specs.List.{Contains, IsDistinct}
 use Rattle.translation_order.specs.Order.{IsLeast}
 

@@ -1,10 +1,8 @@
-use Rattle.std.proofs.Common.{ℕ, List, length, sym, ap, subst, ◌∙◌}
+use Rattle.std.proofs.Common.{length, sym, subst, ◌∙◌}
 use Rattle.flat_core.specs.Graph.{IsAcyclic}
-use Rattle.flat_core.specs.WellFormed.{IsWellFormed}
 use Rattle.translation_order.specs.Answer.{OnCycle}
 use Rattle.translation_order.specs.Order.{Before, AreOfSteps}
 use Rattle.translation_order.specs.Cycle.{IsCycle, IsCycleOfWalk}
-use Rattle.recursion_check.specs.Feeds.{Feeds}
 use Rattle.recursion_check.proofs.FeedLemmas.{edges_of_steps, well_formed_from, cycle_from, walk_from, cyclic_from}
 use Rattle.recursion_check.proofs.check.check_cycles.Goals as goal
 

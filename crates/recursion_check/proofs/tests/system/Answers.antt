@@ -1,4 +1,4 @@
-use Rattle.std.proofs.Common.{◌≡◌, ◌∷◌, [], ◌++◌, length, ap, ◌∙◌}
+use Rattle.std.proofs.Common.{length, ap, ◌∙◌}
 use Rattle.flat_core.specs.declared.equation.Output.{Output}
 use Rattle.recursion_check.proofs.BuildExample.{built, guarded_complete}
 use Rattle.recursion_check.proofs.tests.system.Goals as goal

@@ -1,4 +1,4 @@
-use Rattle.std.proofs.Common.{[], ◌++◌, nat_lt, length, reverse, sym, ap, subst, ◌∙◌}
+use Rattle.std.proofs.Common.{◌++◌, nat_lt, length, reverse, sym, ap, subst, ◌∙◌}
 use Rattle.std.specs.List.{IsFirstBest}
 use Rattle.translation_order.proofs.Turned.{turned_from}
 use Rattle.translation_order.proofs.cycle.turned.Goals as goal

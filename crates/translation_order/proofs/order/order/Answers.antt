@@ -1,7 +1,5 @@
-use Rattle.flat_core.specs.Graph.{Path, IsAcyclic}
-use Rattle.std.proofs.Common.{List}
 use Rattle.translation_order.specs.Order.{Before}
-use Rattle.translation_order.specs.Cycle.{IsCycle, IsCycleOfWalk}
+use Rattle.translation_order.specs.Cycle.{IsCycle}
 use Rattle.translation_order.proofs.Orders.{ordered_acyclic}
 use Rattle.translation_order.proofs.Cycles.{walked_cycle, cycle_path}
 use Rattle.translation_order.proofs.Takes.{first_low}
