@@ -1,5 +1,5 @@
 -- Scopes in which each name stands for the same.
-use Rattle.std.proofs.Common.{◌≡◌, ℕ, suc, ◌+◌, ◌<◌, ◌≤◌, Bool, true, false, cond, if◌then◌else◌, List, [], ◌∷◌, ◌++◌, length, get_or, drop, Option, Some, None, is_none, refl, sym, ap, ◌∙◌, append_assoc, add-one, arith}
+use Rattle.std.proofs.Common.{◌≡◌, ℕ, suc, ◌+◌, ◌<◌, ◌≤◌, Bool, true, false, cond, if◌then◌else◌, List, [], ◌∷◌, ◌++◌, length, get_or, drop, Option, Some, None, is_none, refl, sym, ap, ◌∙◌, append_assoc, add-one}
 use Rattle.std.specs.Option.{option_map, option_or}
 use Rattle.std.specs.List.{find}
 use Rattle.std.specs.Str.{bytes_eq}
@@ -8,7 +8,7 @@ use Rattle.std.proofs.lemmas.List.Folds.{find-append}
 use Rattle.std.proofs.lemmas.Slice.Eq.{bytes_eq-Decides}
 use Rattle.spec_parser.specs.Tree as tree
 use Rattle.spec_parser.specs.declared.tree.Param.{Param}
-use Rattle.spec_parser.specs.Shape.{param_of, params_in, definitions_of}
+use Rattle.spec_parser.specs.Shape.{params_in, definitions_of}
 use Rattle.name_check.specs.declared.declaration.Declaration.{Declaration}
 use Rattle.name_check.specs.declared.declaration.Declaration.TheVariants as declaration
 use Rattle.name_check.specs.Scope.{Scope, Entry, meaning, parameters_from, locals_from, Agree}
@@ -32,7 +32,7 @@ agree_trans a b c h k = record { at = λ n. h.at n ∙ k.at n }
 
 pub agree_append : (a b c d : Scope) → Agree a b → Agree c d → Agree (a ++ c) (b ++ d)
 agree_append a b c d h k = record {
-  at = λ n. meaning-append a c n ∙ ap (λ o. option_or o (meaning c n)) (h.at n) ∙ ap (λ o. option_or (meaning b n) o) (k.at n) ∙ sym (meaning-append b d n)
+  at = λ n. meaning-append a c n ∙ ap (λ o. option_or o (meaning c n)) (h.at n) ∙ ap (λ o. option_or (meaning b n) o) (k.at n) ∙ sym (meaning-append b d n);
 }
 
 -- what is found through a level, and through those around it

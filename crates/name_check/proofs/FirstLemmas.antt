@@ -1,5 +1,5 @@
 -- The first of some places, and lists that are walked through.
-use Rattle.std.proofs.Common.{◌≡◌, ℕ, zero, suc, ◌+◌, ◌<◌, ◌≤◌, List, [], ◌∷◌, ◌++◌, length, get_or, drop, Option, Some, None, refl, sym, ap, ◌∙◌, add-one, drop-cons, arith}
+use Rattle.std.proofs.Common.{◌≡◌, ℕ, suc, ◌+◌, ◌<◌, List, [], ◌∷◌, ◌++◌, length, get_or, drop, Some, None, refl, sym, ap, ◌∙◌, add-one, drop-cons}
 use Rattle.tsl_value.specs.declared.place.Place.{Place}
 use Rattle.name_check.specs.Faults.{first}
 

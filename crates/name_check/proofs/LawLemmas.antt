@@ -1,5 +1,5 @@
 -- No tree has two answers, other than for want of memory.
-use Rattle.std.proofs.Common.{◌≡◌, List, [], ◌∷◌, Option, Some, None, Result, Ok, Err, refl, sym, ap, ◌∙◌}
+use Rattle.std.proofs.Common.{◌≡◌, List, [], ◌∷◌, Some, Result, Ok, Err, sym, ap, ◌∙◌}
 use Rattle.tsl_value.specs.declared.place.Place.{Place}
 use Rattle.spec_parser.specs.Tree as tree
 use Rattle.spec_parser.specs.Shape.{items_of}

@@ -10,11 +10,11 @@ use Rattle.tsl_value.specs.declared.place.Place.{Place}
 use Rattle.spec_parser.specs.Tree as tree
 use Rattle.spec_parser.specs.declared.tree.Param.{Param}
 use Rattle.spec_parser.specs.declared.tree.Item.{Item}
-use Rattle.spec_parser.specs.Shape.{param_of, params_in, definitions_of, item_of}
+use Rattle.spec_parser.specs.Shape.{params_in, definitions_of, item_of}
 use Rattle.name_check.specs.declared.declaration.Declaration.{Declaration}
 use Rattle.name_check.specs.declared.declaration.Declaration.TheVariants as declaration
 use Rattle.name_check.specs.Builtin.{is_built_in}
-use Rattle.name_check.specs.Scope.{Scope, Entry, meaning, top, declared_from, declared_as, is_events, are_values}
+use Rattle.name_check.specs.Scope.{Scope, Entry, meaning, declared_from, declared_as, is_events, are_values}
 use Rattle.name_check.specs.Faults.{first, again, twice_in_params, twice_in_block, twice_from, declared_twice}
 use Rattle.name_check.specs.Steps.{names_onto, names_of, local_name, twice_in_local, declared_by, twice_in_item}
 use Rattle.name_check.proofs.FirstLemmas.{first_behind, first_of_front, empty_without_first, left_at}

@@ -1,5 +1,5 @@
 -- Unknown names, one part, definition or item behind the other.
-use Rattle.std.proofs.Common.{◌≡◌, ℕ, ◌+◌, ◌<◌, ◌≤◌, Bool, true, false, not, ◌||◌, cond, if◌then◌else◌, List, [], ◌∷◌, ◌++◌, map, filter, length, get_or, drop, Option, Some, None, Result, Ok, Err, IfOk, refl, sym, ap, ◌∙◌, append_assoc, arith}
+use Rattle.std.proofs.Common.{◌≡◌, ℕ, ◌+◌, ◌<◌, ◌≤◌, Bool, true, false, not, ◌||◌, cond, if◌then◌else◌, List, [], ◌∷◌, ◌++◌, map, filter, length, get_or, drop, Option, Some, None, Result, Ok, Err, IfOk, refl, sym, ap, ◌∙◌}
 use Rattle.std.specs.List.{flat_map}
 use Rattle.std.proofs.lemmas.List.{append-nil, drop_all}
 use Rattle.std.proofs.lemmas.List.Concat.{flat_map-append}
@@ -10,10 +10,10 @@ use Rattle.spec_parser.specs.Tree.{Expr}
 use Rattle.spec_parser.specs.declared.tree.Item.{Item}
 use Rattle.spec_parser.specs.Shape.{definitions_of, item_of}
 use Rattle.name_check.specs.Builtin.{is_unit, is_called}
-use Rattle.name_check.specs.Scope.{Scope, meaning, seen, are_values, functions_of, parameters_from, locals_from, inside, in_block, Agree, top}
+use Rattle.name_check.specs.Scope.{Scope, meaning, are_values, functions_of, parameters_from, locals_from, inside, in_block, Agree, top}
 use Rattle.name_check.specs.Parts as spec
 use Rattle.name_check.specs.Parts.{parts, part_place}
-use Rattle.name_check.specs.Bodies.{Seen, bodies, block_bodies}
+use Rattle.name_check.specs.Bodies.{bodies, block_bodies}
 use Rattle.name_check.specs.declared.parts.Part.{Part}
 use Rattle.name_check.specs.Shown.{part_of, parts_in}
 use Rattle.name_check.specs.Faults.{first, is_mentionable, is_declared, is_a_function, is_unknown, unknown_in, unknown_names}

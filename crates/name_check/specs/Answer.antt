@@ -1,5 +1,5 @@
 -- What the check of the names of a specification answers.
-use Rattle.std.specs.Prelude.{◌≡◌, List, [], Option, Some, Result, Ok, Err}
+use Rattle.std.specs.Prelude.{◌≡◌, List, [], Some, Result, Ok, Err}
 use Rattle.spec_parser.specs.Tree as tree
 use Rattle.spec_parser.specs.declared.tree.Tree.{Tree}
 use Rattle.spec_parser.specs.Shape.{items_of}

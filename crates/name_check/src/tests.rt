@@ -46,7 +46,11 @@ fn names_that_are_declared_twice(rt: HostRuntime) {
         (b"in merge: Int", 1, 4),
         (b"def unit := 1", 1, 5),
         (b"def m(nil: Int) := 1", 1, 7),
-        (b"def m(x: Events[Int]) := { def a := b def a := x a }", 1, 43),
+        (
+            b"def m(x: Events[Int]) := { def a := b def a := x a }",
+            1,
+            43,
+        ),
         (
             b"def m(x: Events[Int]) := { def a := { def x := a def x := 2 x } x }\ndef m := 1",
             1,
@@ -65,8 +69,16 @@ fn names_that_are_unknown(rt: HostRuntime) {
         (b"def m(x: Events[Int]) := x\ndef b := m", 2, 10),
         (b"def f(x: Int) := x\ndef b := f", 2, 10),
         (b"in i: Int\ndef f(x: Int) := if x > 0 then i else y", 2, 32),
-        (b"in i: Int\ndef f(x: Int) := m(x)\ndef m(x: Events[Int]) := x", 2, 18),
-        (b"in i: Int\ndef m(x: Events[Int]) := x\ndef b := lift(i, m)", 3, 18),
+        (
+            b"in i: Int\ndef f(x: Int) := m(x)\ndef m(x: Events[Int]) := x",
+            2,
+            18,
+        ),
+        (
+            b"in i: Int\ndef m(x: Events[Int]) := x\ndef b := lift(i, m)",
+            3,
+            18,
+        ),
         (b"in i: Int\ndef b := lift(i, i + 1)", 2, 18),
         (b"out a", 1, 5),
         (b"def a := 1\nout b as a", 2, 5),
@@ -98,7 +110,8 @@ fn names_that_are_fine(rt: HostRuntime) {
 
 #[test]
 fn names_stand_for_declarations(rt: HostRuntime) -> Result<(), Fail> {
-    let source = b"in a: Int\ndef f(x: Int) := x\nout a\ndef m(x: Events[Int]) := x\ndef n(x: Int, y: Events[Int]) := y\ndef s := a";
+    let source =
+        b"in a: Int\ndef f(x: Int) := x\nout a\ndef m(x: Events[Int]) := x\ndef n(x: Int, y: Events[Int]) := y\ndef s := a";
     let tree = tree_of(rt.alloc(), source).ok_or("no tree")?;
     let Ok(names) = check_names(rt.alloc(), &tree) else {
         return Err("refused")?;

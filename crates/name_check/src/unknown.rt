@@ -83,11 +83,7 @@ fn find_in_expression(
 }
 
 #[cycle(unknown)]
-fn find_in_body(
-    alloc: Global,
-    body: &Body,
-    scope: &Scope<'_>,
-) -> Result<Option<Place>, NoMemory>
+fn find_in_body(alloc: Global, body: &Body, scope: &Scope<'_>) -> Result<Option<Place>, NoMemory>
     ensures { IfOk result (λ found. found ≡ first (unknown_in_body (seen scope.now) (body_of body.now))) }
 {
     match body {

@@ -1,5 +1,4 @@
-use Rattle.std.proofs.Common.{[], ◌∷◌, ◌++◌, is_none, if◌then◌else◌, ap, ◌∙◌}
-use Rattle.name_check.specs.declared.declaration.Declaration.TheVariants as declaration
+use Rattle.std.proofs.Common.{ap, ◌∙◌}
 use Rattle.name_check.specs.Steps.{local_name}
 use Rattle.name_check.proofs.AgreeLemmas.{locals_turn}
 use Rattle.name_check.proofs.scope.locals.Goals as goal

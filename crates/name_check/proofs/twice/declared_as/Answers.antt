@@ -1,4 +1,4 @@
-use Rattle.std.proofs.Common.{◌<◌, length, rules, arith, sym, ◌∙◌}
+use Rattle.std.proofs.Common.{◌<◌, length, rules, sym, ◌∙◌}
 use Rattle.name_check.proofs.TwiceLemmas.{is_macro, is_mixed, is_value_function}
 use Rattle.name_check.proofs.twice.declared_as.Goals as goal
 

@@ -19,7 +19,7 @@ find_in_block-returns t c =
     ok_same c.find_in_expression.result _ _
     (ap (λ l. first (unknown_in (record { scope = seen l; expr = c.args.last.now }))) c.inner-inner.ensures
     ∙ block_rest c.in_ok-locals.field-0 (seen c.args.scope.now) all c.args.last.now c.in_ok-locals.ensures
-        (sym c.in_default.is ∙ c.in_ok-place.ensures ∙ ap (λ l. first (unknown_in_locals (seen l) all)) c.inner-inner.ensures))
+    (sym c.in_default.is ∙ c.in_ok-place.ensures ∙ ap (λ l. first (unknown_in_locals (seen l) all)) c.inner-inner.ensures))
     c.find_in_expression.ensures
 
 pub find_in_locals-find_in_local-requires : goal.find_in_locals-find_in_local-requires

@@ -1,5 +1,4 @@
 use Rattle.std.proofs.Common.{Some, None, sym, ◌∙◌}
-use Rattle.name_check.specs.declared.declaration.Declaration.{Declaration}
 use Rattle.name_check.proofs.TableLemmas.{function_in, function_there, no_function}
 use Rattle.name_check.proofs.names.Names.find_function.Goals as goal
 
