@@ -25,6 +25,7 @@ pub fn is_called(name: &str) -> bool
     )
 }
 
+/// The name of the one value of type Unit.
 #[tactic(auto, unfolding(crate::specs::Builtin::is_unit))]
 pub fn is_unit(name: &str) -> bool
     ensures { result ≡ is_unit name.now }
@@ -32,6 +33,7 @@ pub fn is_unit(name: &str) -> bool
     name == "unit"
 }
 
+/// The built-in name whose last argument names a function.
 #[tactic(auto, unfolding(crate::specs::Builtin::is_lift))]
 pub fn is_lift(name: &str) -> bool
     ensures { result ≡ is_lift name.now }
