@@ -194,6 +194,7 @@ fn is_at_least(a: &Option<Scalar>, b: &Option<Scalar>) -> Option<Scalar>
 }
 
 /// Whether two scalars are equal.
+#[tactic(auto, using(crate::proofs::Same::same_texts))]
 fn is_same(a: &Scalar, b: &Scalar) -> bool
     ensures { result ≡ is_eq (scalar_cmp a.now b.now) }
 {

@@ -1,5 +1,8 @@
 // Each call that may want memory, with ample memory.
 
+ghost use Rattle.std.specs.Prelude.{◌≡◌, ◌∷◌, [], pos, IfOk};
+ghost use Rattle.lift_func.specs.Tree.{Argument, Literal, One, Two};
+
 use crate::body::{Binary, Body, Unary};
 use crate::eval::{EvalFault, eval, eval_scalars};
 use crate::fault::FaultKind;
@@ -11,16 +14,22 @@ use tsl_value::memory::NoMemory;
 use tsl_value::scalar::{Scalar, ScalarType, ValueType};
 use tsl_value::text::Text;
 
-fn int(n: i64) -> Body {
+fn int(n: i64) -> Body
+    ensures { result ≡ Literal (Scalar.Int n) }
+{
     Body::literal(Scalar::Int(n))
 }
 
-fn text(alloc: Global, of: &str) -> Result<Body, NoMemory> {
+fn text(alloc: Global, of: &str) -> Result<Body, NoMemory>
+    ensures { IfOk result (λ b. b ≡ Literal (Scalar.Text of.now)) }
+{
     Ok(Body::literal(Scalar::Text(Text::from_str(alloc, of)?)))
 }
 
 /// `-(12 / $0)`.
-fn quotient(alloc: Global) -> Result<Body, NoMemory> {
+fn quotient(alloc: Global) -> Result<Body, NoMemory>
+    ensures { IfOk result (λ b. b ≡ One Unary.Neg (Two Binary.Div (Literal (Scalar.Int (pos 12))) (Argument 0))) }
+{
     let body = Body::two(alloc, Binary::Div, int(12), Body::argument(0))?;
     Body::one(alloc, Unary::Neg, body)
 }
