@@ -53,7 +53,23 @@ held cells (register.Aggregate handle) = Some (view_at cells handle)
 abbrev pub arguments : Cells → List Register → List ℕ → List (Option View)
 arguments cells registers args = map (λ a. held cells (slice_index_or registers a register.Empty)) args
 
--- the register holds no aggregate
-abbrev pub HoldsNoAggregate : Register → Type 0
-HoldsNoAggregate (register.Aggregate handle) = ⊥
-HoldsNoAggregate _ = Unit {0}
+-- the view is a set or a map
+abbrev pub IsAggregate : View → Type 0
+IsAggregate (Plain s) = ⊥
+IsAggregate _ = Unit {0}
+
+-- the cell of an aggregate is live, and has a set or a map
+abbrev pub HoldsLive : Cells → Register → Type 0
+HoldsLive cells (register.Aggregate handle) = IsLive cells handle × IsAggregate (view_at cells handle)
+HoldsLive cells _ = Unit {0}
+
+-- the scalar of a register; an aggregate has none
+abbrev pub scalar_in : Register → Option Scalar
+scalar_in register.Empty = None
+scalar_in (register.Scalar s) = Some s
+scalar_in (register.Aggregate handle) = None
+
+-- the register of a scalar that may be absent
+abbrev pub register_of : Option Scalar → Register
+register_of None = register.Empty
+register_of (Some s) = register.Scalar s

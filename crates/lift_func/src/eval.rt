@@ -1,16 +1,17 @@
 // The value of a body.
 
-ghost use Rattle.std.specs.Prelude.{◌≡◌, All, IfOk, None, length, slice_index_or};
+ghost use Rattle.std.specs.Prelude.{◌≡◌, All, IfOk, None, slice_index_or};
 ghost use Rattle.std.specs.Option.{option_map};
 ghost use Rattle.tsl_value.specs.View.{Plain};
 ghost use Rattle.lift_func.specs.Apply.{apply};
-ghost use Rattle.lift_func.specs.Cells.{Cells, HoldsNoAggregate, arguments, held};
-ghost use Rattle.lift_func.specs.Evaluable.{HoldsScalar, IsEvaluable};
+ghost use Rattle.lift_func.specs.Cells.{Cells, HoldsLive, arguments, held};
+ghost use Rattle.lift_func.specs.Evaluable.{IsEvaluable, IsHeldValue, IsTypedAt};
 ghost use Rattle.lift_func.specs.Answered.{IsValue, views};
 
 use crate::body::{Body, Node};
 use crate::fault::FaultKind;
 use crate::operation::{apply_binary, apply_unary, decided};
+use crate::read::{is_read, read, register_of, scalar_of, unary_at};
 use crate::reader::Reader;
 use crate::register::Register;
 use std::alloc::Global;
@@ -101,46 +102,86 @@ pub fn eval_scalars(
     }
 }
 
-fn scalar_of(register: &Register) -> Result<Option<Scalar>, NoMemory>
-    requires { HoldsNoAggregate register.now }
-    ensures { IfOk result (λ v. (cells : Cells) → held cells register.now ≡ option_map Plain v) }
+/// The register of a number. One that is not there holds nothing.
+fn register_at(registers: &[Register], a: u32) -> Result<Register, NoMemory>
+    ensures { IfOk result (λ r. r ≡ slice_index_or registers.now a Register.Empty) }
 {
-    match register {
-        Register::Empty => Ok(None),
-        Register::Scalar(value) => Ok(Some(value.copy()?)),
-        Register::Aggregate(_) => unreachable!(),
+    match registers.get(a as usize) {
+        Some(register) => register.copy(),
+        None => Ok(Register::Empty),
     }
 }
 
-/// The scalars of the registers that the arguments name.
-fn gathered(
+/// The register that an argument names. One that is not there holds nothing.
+fn named_at(registers: &[Register], args: &[u32], k: u32) -> Result<Register, NoMemory>
+    ensures held { IfOk result (λ r. (cells : Cells) → slice_index_or (arguments cells registers.now args.now) k None ≡ held cells r) }
+    ensures live { IfOk result (λ r. (cells : Cells) → All (λ a. HoldsLive cells (slice_index_or registers.now a Register.Empty)) args.now → HoldsLive cells r) }
+{
+    match args.get(k as usize) {
+        Some(a) => register_at(registers, *a),
+        None => Ok(Register::Empty),
+    }
+}
+
+/// The register of a body's value, or the first fault.
+fn eval_register<R: Reader>(
     alloc: Global,
+    body: &Body,
     registers: &[Register],
     args: &[u32],
-) -> Result<Vec<Option<Scalar>>, NoMemory>
-    requires { All (HoldsScalar registers.now) args.now }
-    ensures each { IfOk result (λ v. length v.items ≡ length args.now) }
-    ensures all { IfOk result (λ v. (cells : Cells) → views v.items ≡ arguments cells registers.now args.now) }
+    reader: &R,
+) -> Result<Register, EvalFault>
+    requires { IsTypedAt (R.cells reader.now) registers.now args.now body.now }
+    ensures { IsHeldValue (R.cells reader.now) result (apply body.now (arguments (R.cells reader.now) registers.now args.now)) }
 {
-    let mut values = Vec::new(alloc);
-    for a in args {
-        values.push(scalar_of(&registers[*a as usize])?)?;
+    match &body.node {
+        Node::Literal(s) => Ok(Register::Scalar(s.copy()?)),
+        Node::Argument(k) => Ok(named_at(registers, args, *k)?),
+        Node::Absent(_) => Ok(Register::Empty),
+        Node::One(o, a) => {
+            let x = eval_register(alloc, a, registers, args, reader)?;
+            Ok(unary_at(*o, x, reader)?)
+        }
+        Node::Two(o, a, b) => {
+            let x = eval_register(alloc, a, registers, args, reader)?;
+            if is_read(*o) {
+                let key = eval_register(alloc, b, registers, args, reader)?;
+                return read(*o, &x, &key, reader);
+            }
+            let x = scalar_of(x);
+            if let Some(v) = decided(*o, &x) {
+                return Ok(register_of(v));
+            }
+            let y = scalar_of(eval_register(alloc, b, registers, args, reader)?);
+            Ok(register_of(apply_binary(alloc, *o, &x, y)?))
+        }
+        Node::Choice(c, a, b) => match scalar_of(eval_register(
+            alloc, c, registers, args, reader,
+        )?) {
+            Some(Scalar::Bool(is_first)) => {
+                if is_first {
+                    eval_register(alloc, a, registers, args, reader)
+                } else {
+                    eval_register(alloc, b, registers, args, reader)
+                }
+            }
+            _ => Ok(Register::Empty),
+        },
     }
-    Ok(values)
 }
 
 /// The value of a body at the registers that the arguments name. `Fault` comes exactly where the
 /// body's operations have that fault, and is the first of them, operands taken from left to right.
+/// `None` is the absent value of a body whose value is optional.
 pub fn eval<R: Reader>(
     alloc: Global,
     body: &Body,
     registers: &[Register],
     args: &[u32],
-    _reader: &R,
+    reader: &R,
 ) -> Result<Option<Scalar>, EvalFault>
-    requires { IsEvaluable (R.cells _reader.now) registers.now args.now body.now }
-    ensures { IsValue result (apply body.now (arguments (R.cells _reader.now) registers.now args.now)) }
+    requires { IsEvaluable (R.cells reader.now) registers.now args.now body.now }
+    ensures { IsValue result (apply body.now (arguments (R.cells reader.now) registers.now args.now)) }
 {
-    let values = gathered(alloc, registers, args)?;
-    eval_scalars(alloc, body, &values)
+    Ok(scalar_of(eval_register(alloc, body, registers, args, reader)?))
 }

@@ -1,6 +1,7 @@
 // Registers.
 
-ghost use Rattle.std.specs.Prelude.{◌≡◌, IfOk};
+ghost use Rattle.std.specs.Prelude.{◌≡◌, IfOk, is_some, not};
+ghost use Rattle.lift_func.specs.Cells.{Cells, held};
 
 use tsl_value::ids::Handle;
 use tsl_value::memory::NoMemory;
@@ -15,6 +16,17 @@ pub enum Register {
 }
 
 impl Register {
+    /// It holds nothing.
+    pub fn is_empty(&self) -> bool
+        ensures { (cells : Cells) → is_some (held cells self.now) ≡ not result }
+    {
+        match self {
+            Register::Empty => true,
+            Register::Scalar(_) => false,
+            Register::Aggregate(_) => false,
+        }
+    }
+
     /// An equal register. The copy of an aggregate's names the same cell.
     pub fn copy(&self) -> Result<Register, NoMemory>
         ensures { IfOk result (λ r. r ≡ self.now) }

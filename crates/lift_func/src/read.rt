@@ -1,0 +1,141 @@
+// The operations at registers. Those on aggregates read their cells.
+
+ghost use Rattle.std.specs.Prelude.{◌≡◌, pos};
+ghost use Rattle.std.specs.Option.{option_map};
+ghost use Rattle.tsl_value.specs.View.{Plain};
+ghost use Rattle.lift_func.specs.declared.body.Unary.TheVariants as unary;
+ghost use Rattle.lift_func.specs.Answered.{IsInt};
+ghost use Rattle.lift_func.specs.Apply.{int, found, of_one, of_two};
+ghost use Rattle.lift_func.specs.Cells.{Cells, FitsKey, HoldsLive, IsLive, IsMap, has_key, held, register_of, scalar_in, value_at, view_at};
+ghost use Rattle.lift_func.specs.Evaluable.{CanRead, FitsOperand, IsHeldAnswer, IsHeldValue, is_read};
+
+use crate::body::{Binary, Unary};
+use crate::eval::EvalFault;
+use crate::fault::FaultKind;
+use crate::operation::apply_unary;
+use crate::reader::Reader;
+use crate::register::Register;
+use tsl_value::ids::Handle;
+use tsl_value::scalar::Scalar;
+
+/// The scalar of a register. An aggregate has none.
+pub(crate) fn scalar_of(register: Register) -> Option<Scalar>
+    ensures { result ≡ scalar_in register }
+{
+    match register {
+        Register::Empty => None,
+        Register::Scalar(value) => Some(value),
+        Register::Aggregate(_) => None,
+    }
+}
+
+/// The register of a scalar that may be absent.
+pub(crate) fn register_of(value: Option<Scalar>) -> Register
+    ensures { result ≡ register_of value }
+{
+    match value {
+        Some(value) => Register::Scalar(value),
+        None => Register::Empty,
+    }
+}
+
+/// The operation reads an aggregate at a key.
+pub(crate) fn is_read(o: Binary) -> bool
+    ensures { result ≡ is_read o }
+{
+    match o {
+        Binary::Contains | Binary::Get => true,
+        _ => false,
+    }
+}
+
+/// A number as an Int, or why it is none.
+fn int_of(n: u64) -> Result<i64, FaultKind>
+    ensures { IsInt result (int (pos n)) }
+{
+    if n <= 0x7fff_ffff_ffff_ffff {
+        Ok(n as i64)
+    } else {
+        Err(FaultKind::Overflow)
+    }
+}
+
+/// The number of elements of an aggregate.
+fn size<R: Reader>(a: &Register, reader: &R) -> Result<Register, FaultKind>
+    requires { HoldsLive (R.cells reader.now) a.now }
+    ensures { IsHeldAnswer (R.cells reader.now) result (of_one unary.Size (held (R.cells reader.now) a.now)) }
+{
+    match a {
+        Register::Empty => Ok(Register::Empty),
+        Register::Scalar(_) => Ok(Register::Empty),
+        Register::Aggregate(cell) => match int_of(reader.size(*cell)) {
+            Ok(n) => Ok(Register::Scalar(Scalar::Int(n))),
+            Err(kind) => Err(kind),
+        },
+    }
+}
+
+/// The value of an operation at a scalar, or its fault.
+fn unary_at_scalar(o: Unary, a: Register) -> Result<Register, FaultKind>
+    ensures { (cells : Cells) → IsHeldAnswer cells result (of_one o (option_map Plain (scalar_in a))) }
+{
+    Ok(register_of(apply_unary(o, scalar_of(a))?))
+}
+
+/// The value of an operation of one operand, or its fault.
+pub(crate) fn unary_at<R: Reader>(o: Unary, a: Register, reader: &R) -> Result<Register, FaultKind>
+    requires live { HoldsLive (R.cells reader.now) a }
+    requires typed { FitsOperand o (held (R.cells reader.now) a) }
+    ensures { IsHeldAnswer (R.cells reader.now) result (of_one o (held (R.cells reader.now) a)) }
+{
+    match o {
+        Unary::Neg => unary_at_scalar(o, a),
+        Unary::Not => unary_at_scalar(o, a),
+        Unary::Length => unary_at_scalar(o, a),
+        Unary::Size => size(&a, reader),
+        Unary::Some => Ok(a),
+        Unary::IsSome => Ok(Register::Scalar(Scalar::Bool(!a.is_empty()))),
+        Unary::IsNone => Ok(Register::Scalar(Scalar::Bool(a.is_empty()))),
+        Unary::GetSome => {
+            if a.is_empty() {
+                Err(FaultKind::NoValue)
+            } else {
+                Ok(a)
+            }
+        }
+    }
+}
+
+/// The value at a key of a map, or its fault.
+fn value_at_key<R: Reader>(cell: Handle, key: &Scalar, reader: &R) -> Result<Register, EvalFault>
+    requires live { IsLive (R.cells reader.now) cell }
+    requires map { IsMap (view_at (R.cells reader.now) cell) }
+    requires typed { FitsKey (view_at (R.cells reader.now) cell) key.now }
+    ensures { IsHeldValue (R.cells reader.now) result (found (option_map Plain (value_at (view_at (R.cells reader.now) cell) key.now))) }
+{
+    match reader.get(cell, key) {
+        Some(value) => Ok(Register::Scalar(value.copy()?)),
+        None => Err(EvalFault::Fault(FaultKind::MissingKey)),
+    }
+}
+
+/// The value of an operation that reads an aggregate at a key, or its fault.
+pub(crate) fn read<R: Reader>(
+    o: Binary,
+    a: &Register,
+    key: &Register,
+    reader: &R,
+) -> Result<Register, EvalFault>
+    requires live { HoldsLive (R.cells reader.now) a.now }
+    requires typed { CanRead (R.cells reader.now) o a.now key.now }
+    ensures { IsHeldValue (R.cells reader.now) result (of_two o (Ok (held (R.cells reader.now) a.now)) (Ok (held (R.cells reader.now) key.now))) }
+{
+    match (a, key) {
+        (Register::Aggregate(cell), Register::Scalar(key)) => match o {
+            Binary::Contains => Ok(Register::Scalar(Scalar::Bool(reader.contains(*cell, key)))),
+            Binary::Get => value_at_key(*cell, key, reader),
+            _ => Ok(Register::Empty),
+        },
+        _ => Ok(Register::Empty),
+    }
+}
