@@ -1,6 +1,6 @@
 -- The system of sound declarations is in order, and its equations have names.
-use Rattle.std.proofs.Common.{◌≡◌, ℕ, zero, suc, ◌<◌, Bool, true, false, ◌||◌, List, [], ◌∷◌, refl, ap, ◌∙◌, sym, subst, arith, Option, Some, None}
-use Rattle.std.specs.Prelude.{slice_get, IsSome, IsTrue}
+use Rattle.std.proofs.Common.{◌≡◌, ℕ, zero, suc, ◌<◌, Bool, true, false, ◌||◌, List, [], ◌∷◌, refl, ap, ◌∙◌, sym, subst, Option, Some, None}
+use Rattle.std.specs.Prelude.{slice_get, IsSome}
 use Rattle.std.specs.List.{list_any, AllByRecursion, All}
 use Rattle.std.specs.Str.{bytes_eq}
 use Rattle.std.proofs.lemmas.List.Elements.{All-from_recursion}
