@@ -1,3 +1,4 @@
+mod Examples
 pub mod FiniteMaps
 pub mod Handles
 pub mod Listed

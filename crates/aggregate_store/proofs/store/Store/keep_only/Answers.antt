@@ -1,4 +1,4 @@
-use Rattle.std.proofs.Common.{rules, ◌≡◌, ℕ, ap, ◌∙◌}
+use Rattle.std.proofs.Common.{rules, ◌≡◌, ap, ◌∙◌}
 use Rattle.std.specs.FinMap as finite_map
 use Rattle.std.specs.List.{filter}
 use Rattle.std.proofs.lemmas.Map.Made.{filter_same_pairs}

@@ -1,4 +1,4 @@
-use Rattle.std.proofs.Common.{◌≡◌, ℕ, sym, subst, ap, ◌∙◌}
+use Rattle.std.proofs.Common.{ℕ, sym, subst, ap, ◌∙◌}
 use Rattle.std.specs.FinMap as finite_map
 use Rattle.lift_func.specs.Cells.{Cells, IsLive}
 use Rattle.aggregate_store.specs.CellView.{cells_of, view_of}
