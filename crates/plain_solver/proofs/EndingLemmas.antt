@@ -1,21 +1,20 @@
 -- A run ends where its solution says so, and the instants that it ran are the due ones.
-use Rattle.std.proofs.Common.{◌≡◌, ◌≢◌, ℕ, zero, suc, ◌+◌, ◌-◌, ◌<◌, ◌≤◌, Bool, true, false, not, List, [], ◌∷◌, ◌++◌, length, take, Option, Some, None, refl, sym, ap, subst, ◌∙◌, inl, inr, arith, append_assoc, length-append}
-use Rattle.std.proofs.lemmas.Bool.{cases_lt}
+use Rattle.std.proofs.Common.{◌≡◌, ℕ, zero, suc, ◌+◌, ◌-◌, ◌<◌, ◌≤◌, Bool, true, false, not, List, [], ◌∷◌, ◌++◌, length, take, Some, refl, sym, ap, subst, ◌∙◌, arith, append_assoc}
 use Rattle.std.proofs.lemmas.List.{append-nil}
 use Rattle.std.proofs.lemmas.List.Elements.{filter-append, Contains-append_right}
 use Rattle.std.proofs.lemmas.Option.{slice_get_within}
 use Rattle.std.proofs.Math.Bool.{true≢false}
 use Rattle.std.proofs.Math.Seq.{take-append_seam, take-append-add}
-use Rattle.std.specs.Prelude.{if◌then◌else◌, cond, slice_get, ◌↔◌, ◌⊎◌, IsTrue, is_some}
-use Rattle.std.specs.List.{AllByRecursion, Contains, filter, list_any}
+use Rattle.std.specs.Prelude.{if◌then◌else◌, cond, slice_get, IsTrue}
+use Rattle.std.specs.List.{AllByRecursion, Contains, filter}
 use Rattle.lift_func.specs.declared.fault.FaultKind.{FaultKind}
 use Rattle.flat_core.specs.Case.{Streams, Inputs}
-use Rattle.flat_core.specs.Fault.{root_at, is_faulty, is_over, IsNamed}
+use Rattle.flat_core.specs.Fault.{is_faulty, is_over, IsNamed}
 use Rattle.flat_core.specs.Instant.{is_instant, instants}
 use Rattle.flat_core.specs.Line.{Line, inputs_of}
 use Rattle.flat_core.specs.Solution.{Solves}
 use Rattle.flat_core.specs.System.{System, runs, IsProper}
-use Rattle.flat_core.proofs.Members.{all_append, all_at, contains_head, some_from}
+use Rattle.flat_core.proofs.Members.{all_append, all_at, contains_head}
 use Rattle.flat_core.proofs.PendingLemmas.{some_before_from, none_before_from}
 use Rattle.flat_core.proofs.Uniqueness.{all_by}
 use Rattle.plain_solver.specs.declared.events.Moment.{Moment}

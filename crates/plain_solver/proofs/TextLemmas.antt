@@ -1,19 +1,15 @@
 -- The text of the instants that ran is the due text.
-use Rattle.std.proofs.Common.{◌≡◌, ℕ, ◌<◌, List, [], ◌∷◌, ◌++◌, refl, sym, ap, ◌∙◌}
+use Rattle.std.proofs.Common.{◌≡◌, ℕ, List, [], ◌∷◌, ◌++◌, refl, sym, ap, ◌∙◌}
 use Rattle.std.specs.Prelude.{IsTrue}
 use Rattle.std.specs.List.{AllByRecursion, flat_map}
 use Rattle.flat_core.specs.declared.equation.Output.{Output}
 use Rattle.flat_core.specs.Stream.{event}
 use Rattle.flat_core.specs.Case.{Streams}
-use Rattle.flat_core.specs.Line.{Line, inputs_of}
-use Rattle.flat_core.specs.Solution.{Solves}
-use Rattle.flat_core.specs.System.{System, runs, IsProper}
+use Rattle.flat_core.specs.System.{System, runs}
 use Rattle.flat_core.proofs.Uniqueness.{all_by}
 use Rattle.plain_solver.specs.declared.events.Moment.{Moment}
 use Rattle.plain_solver.specs.declared.solve.End.{End}
-use Rattle.plain_solver.specs.Instant.{IsInOrder}
 use Rattle.plain_solver.specs.Shape.{streams_of}
-use Rattle.plain_solver.specs.Solved.{IsEnded}
 use Rattle.flat_core.specs.Text.{event_line, text_at}
 use Rattle.plain_solver.specs.Ending.{IsDueText}
 use Rattle.plain_solver.proofs.EndingLemmas.{all_ran, due_ran, ran_to, solved_to}
