@@ -95,7 +95,7 @@ module _ (s : System) (flat : IsFlat s) where
   to_feeds : (a i : ℕ) → Before pairs a i → Feeds s a i
   to_feeds a i c = (of_in s (length s.equations) a i c).1
 
-  from_feeds : (a i : ℕ) → Feeds s a i → Before pairs a i
+  pub from_feeds : (a i : ℕ) → Feeds s a i → Before pairs a i
   from_feeds a i need = in_of s (length s.equations) a i (needs_low s flat i a need).0 need
 
   back_on : (a b c : ℕ) → Path (Feeds s) a b → Feeds s b c → Path (Feeds s) a c

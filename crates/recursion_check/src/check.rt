@@ -1,6 +1,7 @@
 // Whether a flat system is well-formed, and a cycle where it is not.
 
 ghost use Rattle.std.specs.Prelude.{◌≡◌, length, IfOk, OnOk, IfErr};
+ghost use Rattle.flat_core.specs.Dependency.{IsRunOrder};
 ghost use Rattle.flat_core.specs.WellFormed.{IsWellFormed};
 ghost use Rattle.translation_order.specs.Cycle.{IsCycle, IsCycleOfWalk};
 ghost use Rattle.recursion_check.specs.Feeds.{Feeds};
@@ -9,6 +10,7 @@ ghost use Rattle.recursion_check.specs.Answer.{OnCycle};
 use crate::edges::edges;
 use crate::equations::EqList;
 use flat_core::flat::Flat;
+use flat_core::steps::Steps;
 use std::alloc::Global;
 use translation_order::order::{OrderFault, order};
 use tsl_value::ids::EqId;
@@ -42,6 +44,27 @@ fn equations(alloc: Global, numbers: &[u32]) -> Result<EqList, NoMemory>
     Ok(equations)
 }
 
+/// Lists all equations of a well-formed system in an order to run it in, whether they run or not: at each place stands the least
+/// number of which all arguments that are not guarded stand before it.
+///
+/// `Cycle` comes exactly where the system is not well-formed, as by `check_cycles`.
+pub fn run_order(alloc: Global, flat: &Flat) -> Result<Steps, CycleFault>
+    ensures order { IfOk result (IsRunOrder flat.now) }
+    ensures well_formed { OnOk result (IsWellFormed flat.now) }
+    ensures cycle { IfErr result (OnCycle (IsCycle (Feeds flat.now))) }
+    ensures walked { IfErr result (OnCycle (IsCycleOfWalk (length flat.now.equations) (Feeds flat.now))) }
+    ensures not_well_formed { IfErr result (OnCycle (λ _. IsWellFormed flat.now → ⊥)) }
+{
+    let edges = edges(alloc, flat)?;
+    match order(alloc, flat.count(), &edges) {
+        Ok(steps) => Ok(steps),
+        Err(OrderFault::CycleOf { steps }) => Err(CycleFault::Cycle {
+            equations: equations(alloc, steps.as_slice())?,
+        }),
+        Err(OrderFault::Memory) => Err(CycleFault::Memory),
+    }
+}
+
 /// Checks that each cycle of arguments has a first argument of a last or of a delay, whether its equations run or not. `Cycle`
 /// comes exactly where one has none.
 ///
@@ -53,12 +76,8 @@ pub fn check_cycles(alloc: Global, flat: &Flat) -> Result<(), CycleFault>
     ensures walked { IfErr result (OnCycle (IsCycleOfWalk (length flat.now.equations) (Feeds flat.now))) }
     ensures not_well_formed { IfErr result (OnCycle (λ _. IsWellFormed flat.now → ⊥)) }
 {
-    let edges = edges(alloc, flat)?;
-    match order(alloc, flat.count(), &edges) {
+    match run_order(alloc, flat) {
         Ok(_) => Ok(()),
-        Err(OrderFault::CycleOf { steps }) => Err(CycleFault::Cycle {
-            equations: equations(alloc, steps.as_slice())?,
-        }),
-        Err(OrderFault::Memory) => Err(CycleFault::Memory),
+        Err(fault) => Err(fault),
     }
 }

@@ -2,7 +2,7 @@
 
 ghost use Rattle.std.specs.Prelude.{◌≡◌, ◌<◌, ◌∷◌, [], IfOk, IsTrue, MatchBool};
 
-use crate::check::{CycleFault, check_cycles};
+use crate::check::{CycleFault, check_cycles, run_order};
 use crate::equations::EqList;
 use flat_core::builder::FlatBuilder;
 use flat_core::equation::{Equation, Op, Output};
@@ -132,5 +132,13 @@ fn first_arguments_may_lead_back(rt: HostRuntime) -> Result<(), Fail> {
         let flat = system(rt.alloc(), delays, 1, 2, 2)?;
         assert!(rt; check_cycles(rt.alloc(), &flat).is_ok());
     }
+    Ok(())
+}
+
+#[test]
+fn used_arguments_come_first(rt: HostRuntime) -> Result<(), Fail> {
+    let flat = system(rt.alloc(), false, 1, 3, 2)?;
+    let order = run_order(rt.alloc(), &flat).ok().ok_or("no order")?;
+    assert_eq!(rt; order.as_slice(), [2, 3, 0, 1].as_slice());
     Ok(())
 }

@@ -1,10 +1,11 @@
 use Rattle.std.proofs.Common.{length, sym, subst, ◌∙◌}
 use Rattle.flat_core.specs.Graph.{IsAcyclic}
 use Rattle.translation_order.specs.Answer.{OnCycle}
-use Rattle.translation_order.specs.Order.{Before, AreOfSteps}
+use Rattle.translation_order.specs.Order.{Before, AreOfSteps, IsLeastOrder}
 use Rattle.translation_order.specs.Cycle.{IsCycle, IsCycleOfWalk}
-use Rattle.recursion_check.proofs.FeedLemmas.{edges_of_steps, well_formed_from, cycle_from, walk_from, cyclic_from}
-use Rattle.recursion_check.proofs.check.check_cycles.Goals as goal
+use Rattle.recursion_check.proofs.FeedLemmas.{pairs, edges_of_steps, well_formed_from, cycle_from, walk_from, cyclic_from}
+use Rattle.recursion_check.proofs.RunOrder.{run_order_from}
+use Rattle.recursion_check.proofs.check.run_order.Goals as goal
 
 pub order-requires : goal.order-requires
 order-requires c =
@@ -30,3 +31,11 @@ pub returns-in-Err-CycleOf-clause-not_well_formed :
 returns-in-Err-CycleOf-clause-not_well_formed c =
     let e = subst (OnCycle (IsCycle (Before c.in_ok-edges.edges))) c.in-Err-CycleOf.field-0-is c.in-Err-CycleOf.ensures.cycle in
     cyclic_from c.args.flat.now c.count.ensures.is_flat c.in_ok-edges.edges c.in_ok-edges.ensures c.in-Err-CycleOf.steps e
+
+pub returns-in-Ok-clause-order : goal.returns-in-Ok-clause-order
+returns-in-Ok-clause-order c =
+    let s = c.args.flat.now in
+    let flat = c.count.ensures.is_flat in
+    run_order_from s flat c.in-Ok.steps
+    (subst (λ n. IsLeastOrder n (Before (pairs s flat)) c.in-Ok.steps) c.count.ensures.count
+    (subst (λ p. IsLeastOrder c.count.result (Before p) c.in-Ok.steps) c.in_ok-edges.ensures c.in-Ok.ensures.listed))
