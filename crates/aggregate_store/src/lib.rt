@@ -1,8 +1,8 @@
 // Sets and maps in cells behind handles.
 #![tactic(auto)]
 
-mod cell;
-mod print;
+pub mod cell;
+pub mod print;
 pub mod store;
 #[cfg(test)]
 mod tests;

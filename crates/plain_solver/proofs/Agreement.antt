@@ -1,16 +1,18 @@
--- Two solutions of a system in order agree.
-use Rattle.std.proofs.Common.{◌≡◌, ℕ, zero, suc, ◌<◌, ◌≤◌, Some, sym, subst, ◌∙◌, inl, inr, arith}
-use Rattle.std.proofs.lemmas.Bool.{cases_lt}
-use Rattle.std.proofs.lemmas.List.Elements.{recursion_from_All}
+-- Two solutions of a system with an order to run it in agree.
+use Rattle.std.proofs.Common.{◌≡◌, ℕ, zero, suc, ◌<◌, ◌≤◌, Bool, false, List, [], ◌∷◌, Some, sym, ap, subst, ◌∙◌, inl, inr, arith}
+use Rattle.std.proofs.lemmas.Bool.{cases_lt, false≢true}
+use Rattle.std.proofs.lemmas.Option.{slice_get_within}
 use Rattle.std.specs.Prelude.{IsTrue}
 use Rattle.std.specs.List.{AllByRecursion}
 use Rattle.flat_core.specs.declared.equation.Equation.{Equation}
 use Rattle.flat_core.specs.Case.{Streams, Inputs, used_of}
+use Rattle.flat_core.specs.Dependency.{with_one, with_all, IsOrdered, IsRunOrder}
 use Rattle.flat_core.specs.System.{System, runs, equation, IsProper}
 use Rattle.flat_core.specs.Solution.{Solves}
+use Rattle.flat_core.proofs.Existence.{one_or_done}
 use Rattle.flat_core.proofs.Locality.{AgreeBefore, case_of-same}
 use Rattle.flat_core.proofs.Uniqueness.{all_by, all_with, used_all}
-use Rattle.plain_solver.specs.Instant.{IsInOrder}
+use Rattle.plain_solver.proofs.OrderLemmas.{listed_done}
 
 -- the arguments of a running equation run
 pub running_args : (s : System) → IsProper s → (i : ℕ) (e : Equation) → IsTrue (runs s i) → equation s i ≡ Some e → AllByRecursion (λ a. IsTrue (runs s a)) e.args
@@ -21,17 +23,31 @@ running_args s proper i e run is =
     one_equation : (f : Equation) → equation s i ≡ Some f → f ≡ e
     one_equation f also = cc
 
-module _ (s : System) (inputs : Inputs) (order : IsInOrder s) (proper : IsProper s) (bound : ℕ) (z w : Streams) (zs : Solves s inputs bound z) (ws : Solves s inputs bound w) where
-  -- at a time before which they agree, by number
-  agree_at : (t : ℕ) → t < bound → ((i : ℕ) → IsTrue (runs s i) → AgreeBefore (z i) (w i) t) → (k i : ℕ) → i < k → IsTrue (runs s i) → z i t ≡ w i t
-  agree_at t lt past zero i low run = absurd (omega arith)
-  agree_at t lt past (suc k) i low run =
-      let found = proper.runs_all i run in
-      let e = found.0 in
-      let below = recursion_from_All (λ a. a < i) (used_of e.op e.args) ((order.each i e found.1).below) in
-      let now = all_with (λ a. a < i) (λ a. IsTrue (runs s a)) (λ a. z a t ≡ w a t) (λ a lower runs_a. agree_at t lt past k a (omega arith) runs_a) (used_of e.op e.args) below (used_all (λ a. IsTrue (runs s a)) e.op e.args found.2) in
-      let before = all_by (λ a. IsTrue (runs s a)) (λ a. AgreeBefore (z a) (w a) t) (λ a runs_a. past a runs_a) e.args found.2 in
-      zs.each i e run found.1 t lt ∙ case_of-same inputs z w i t e (past i run) before now ∙ sym (ws.each i e run found.1 t lt)
+module _ (s : System) (inputs : Inputs) (order : List ℕ) (run_order : IsRunOrder s order) (proper : IsProper s) (bound : ℕ) (z w : Streams) (zs : Solves s inputs bound z) (ws : Solves s inputs bound w) where
+  module _ (t : ℕ) (lt : t < bound) (past : (i : ℕ) → IsTrue (runs s i) → AgreeBefore (z i) (w i) t) where
+    -- an equation of which the used arguments agree
+    agree_one : (i : ℕ) (e : Equation) → IsTrue (runs s i) → equation s i ≡ Some e → AllByRecursion (λ a. z a t ≡ w a t) (used_of e.op e.args) → z i t ≡ w i t
+    agree_one i e run is now =
+        let before = all_by (λ a. IsTrue (runs s a)) (λ a. AgreeBefore (z a) (w a) t) (λ a runs_a. past a runs_a) e.args (running_args s proper i e run is) in
+        zs.each i e run is t lt ∙ case_of-same inputs z w i t e (past i run) before now ∙ sym (ws.each i e run is t lt)
+
+    -- along an order
+    agree_along : (rest : List ℕ) (done : ℕ → Bool) → IsOrdered s done rest → ((i : ℕ) → IsTrue (done i) → IsTrue (runs s i) → z i t ≡ w i t) → (i : ℕ) → IsTrue (with_all rest done i) → IsTrue (runs s i) → z i t ≡ w i t
+    agree_along [] done ordered known = known
+    agree_along (x ∷ rest) done ordered known =
+        agree_along rest (with_one x done) ordered.4 (λ i h run. elim (one_or_done x done i h) [
+          | inl same ↦
+              let e = ordered.0 in
+              let is : equation s i ≡ Some e = ap (equation s) same ∙ ordered.1 in
+              agree_one i e run is
+              (all_with (λ a. IsTrue (done a)) (λ a. IsTrue (runs s a)) (λ a. z a t ≡ w a t) known (used_of e.op e.args) ordered.3 (used_all (λ a. IsTrue (runs s a)) e.op e.args (running_args s proper i e run is)))
+          | inr before ↦ known i before run
+        ])
+
+    agree_at : (i : ℕ) → IsTrue (runs s i) → z i t ≡ w i t
+    agree_at i run =
+        let found = proper.runs_all i run in
+        agree_along order (λ j. false) run_order.ordered (λ j h r. absurd (false≢true h)) i (listed_done order (λ j. false) i (run_order.all i (slice_get_within s.equations i found.0 found.1))) run
 
   agree_before : (t : ℕ) → t ≤ bound → (i : ℕ) → IsTrue (runs s i) → AgreeBefore (z i) (w i) t
   agree_before zero le i run u lt = absurd (omega arith)
@@ -39,7 +55,7 @@ module _ (s : System) (inputs : Inputs) (order : IsInOrder s) (proper : IsProper
       let earlier = agree_before t (omega arith) in
       elim (cases_lt u t) [
         | inl before ↦ earlier i run u before
-        | inr here ↦ let e : t ≡ u = omega arith in subst (λ n. z i n ≡ w i n) e (agree_at t (omega arith) earlier (suc i) i (omega arith) run)
+        | inr here ↦ let e : t ≡ u = omega arith in subst (λ n. z i n ≡ w i n) e (agree_at t (omega arith) earlier i run)
       ]
 
   pub agree : (i : ℕ) → IsTrue (runs s i) → (t : ℕ) → t < bound → z i t ≡ w i t

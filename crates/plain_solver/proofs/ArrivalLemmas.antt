@@ -8,17 +8,18 @@ use Rattle.flat_core.specs.declared.equation.Op.TheVariants as op
 use Rattle.flat_core.specs.declared.equation.Equation.{Equation}
 use Rattle.flat_core.specs.Stream.{Event, has_event}
 use Rattle.flat_core.specs.Case.{Streams, unit, expires, case_of, delayed}
+use Rattle.flat_core.specs.Complete.{IsFlat}
 use Rattle.flat_core.specs.Instant.{is_delay_op, is_delay, is_instant, is_due, expires_at}
 use Rattle.flat_core.specs.Line.{Line, inputs_of}
 use Rattle.flat_core.specs.System.{System, runs, equation}
 use Rattle.flat_core.proofs.Locality.{AgreeBefore, expires-same}
-use Rattle.plain_solver.specs.Instant.{IsInOrder}
 use Rattle.plain_solver.specs.Shape.{HasShape}
+use Rattle.plain_solver.proofs.OrderLemmas.{shape_of}
 use Rattle.flat_core.proofs.DueLemmas.{delay_event}
 use Rattle.flat_core.proofs.Members.{some_from, some_in}
 use Rattle.std.proofs.lemmas.Bool.{or_cases}
 
-module _ (s : System) (lines : List Line) (order : IsInOrder s) (z w : Streams) (t : ℕ)
+module _ (s : System) (lines : List Line) (whole : IsFlat s) (z w : Streams) (t : ℕ)
     (past : (i : ℕ) (e : Equation) → IsTrue (runs s i) → equation s i ≡ Some e → AgreeBefore (z i) (w i) t × AllByRecursion (λ a. AgreeBefore (z a) (w a) t) e.args)
     (here : (i : ℕ) (e : Equation) → IsTrue (runs s i) → equation s i ≡ Some e → w i t ≡ case_of (inputs_of lines) w i e t) where
   expiry_event : (i : ℕ) (e : Equation) (o : Op) (args : List ℕ) → IsTrue (runs s i) → equation s i ≡ Some e → e.op ≡ o → e.args ≡ args → HasShape o args → (is_delay_op o && is_some (delayed z i args t)) ≡ true → (is_delay_op o && has_event (w i t)) ≡ true
@@ -38,7 +39,7 @@ module _ (s : System) (lines : List Line) (order : IsInOrder s) (z w : Streams) 
 
   expiry_found : (i : ℕ) → IsTrue (runs s i) → (found : Option Equation) → equation s i ≡ found → expires_at found z i t ≡ true → (is_delay found && has_event (w i t)) ≡ true
   expiry_found i running None is due = absurd (true≢false (sym due))
-  expiry_found i running (Some e) is due = expiry_event i e e.op e.args running is refl refl ((order.each i e is).shape) due
+  expiry_found i running (Some e) is due = expiry_event i e e.op e.args running is refl refl (shape_of s whole i e is) due
 
   pub comes : is_due s lines z t ≡ true → is_instant s lines w t ≡ true
   comes due =

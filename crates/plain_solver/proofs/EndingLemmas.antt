@@ -9,11 +9,13 @@ use Rattle.std.specs.Prelude.{if◌then◌else◌, cond, slice_get, IsTrue}
 use Rattle.std.specs.List.{AllByRecursion, Contains, filter}
 use Rattle.lift_func.specs.declared.fault.FaultKind.{FaultKind}
 use Rattle.flat_core.specs.Case.{Streams, Inputs}
+use Rattle.flat_core.specs.Complete.{IsFlat}
+use Rattle.flat_core.specs.Dependency.{IsRunOrder}
 use Rattle.flat_core.specs.Fault.{is_faulty, is_over, IsNamed}
 use Rattle.flat_core.specs.Instant.{is_instant, instants}
 use Rattle.flat_core.specs.Line.{Line, inputs_of}
 use Rattle.flat_core.specs.Solution.{Solves}
-use Rattle.flat_core.specs.System.{System, runs, IsProper}
+use Rattle.flat_core.specs.System.{System, runs}
 use Rattle.flat_core.proofs.Members.{all_append, all_at, contains_head}
 use Rattle.flat_core.proofs.PendingLemmas.{some_before_from, none_before_from}
 use Rattle.flat_core.proofs.Uniqueness.{all_by}
@@ -22,7 +24,6 @@ use Rattle.plain_solver.specs.declared.solve.End.{End}
 use Rattle.plain_solver.specs.declared.solve.End.TheVariants as end
 use Rattle.flat_core.specs.Ending.{EndsInFault, EndsAtLimit, EndsAtBound}
 use Rattle.plain_solver.specs.Ending.{EndsSo, IsEnding}
-use Rattle.plain_solver.specs.Instant.{IsInOrder}
 use Rattle.plain_solver.specs.Shape.{streams_of}
 use Rattle.plain_solver.specs.Solved.{IsSolved, IsWhole, IsFaulted, IsLimited, IsEnded}
 use Rattle.flat_core.specs.Text.{due_instants}
@@ -79,7 +80,7 @@ module _ (s : System) (lines : List Line) (w : Streams) where
         (omega arith, all_by (λ u. (suc t ≤ u) × (u < n)) (λ u. t ≤ u) (λ u both. let low = both.0 in omega arith) parts.0 parts.2),
       )
 
-module _ (s : System) (lines : List Line) (order : IsInOrder s) (proper : IsProper s) (bound limit : ℕ) (all : List (List Moment)) (ran : List ℕ) (w : Streams) (ws : Solves s (inputs_of lines) bound w) where
+module _ (s : System) (lines : List Line) (order : List ℕ) (ordered : IsRunOrder s order) (whole : IsFlat s) (bound limit : ℕ) (all : List (List Moment)) (ran : List ℕ) (w : Streams) (ws : Solves s (inputs_of lines) bound w) where
   abbrev z : Streams
   z = streams_of all
 
@@ -95,7 +96,7 @@ module _ (s : System) (lines : List Line) (order : IsInOrder s) (proper : IsProp
 
   -- the streams agree with the solution
   agreed : (n : ℕ) → n ≤ bound → IsSolved s inputs n all → (i : ℕ) → IsTrue (runs s i) → (t : ℕ) → t < n → z i t ≡ w i t
-  agreed n le solved = agree s inputs order proper n z w solved.solves (solves_less s inputs n bound w le ws)
+  agreed n le solved = agree s inputs order ordered whole.proper n z w solved.solves (solves_less s inputs n bound w le ws)
 
   runs_to : (n : ℕ) → n ≤ bound → IsSolved s inputs n all → ran ≡ instants s lines z n → ((u : ℕ) → u < n → is_faulty s inputs z u ≡ false) → RunsTo n
   runs_to n le solved is sound =
@@ -103,8 +104,8 @@ module _ (s : System) (lines : List Line) (order : IsInOrder s) (proper : IsProp
       record {
         early = le;
         same = same;
-        ran_is = is ∙ (happens_alike s n z w proper same lines).instants_same n (omega arith);
-        sound = λ u lt. sym ((happens_alike s n z w proper same lines).faulty_same u lt) ∙ sound u lt;
+        ran_is = is ∙ (happens_alike s n z w whole.proper same lines).instants_same n (omega arith);
+        sound = λ u lt. sym ((happens_alike s n z w whole.proper same lines).faulty_same u lt) ∙ sound u lt;
       }
 
   -- what the first instants are
@@ -141,8 +142,8 @@ module _ (s : System) (lines : List Line) (order : IsInOrder s) (proper : IsProp
   limited_split t e =
       let r = limited_to t e in
       let lt = e.early in
-      let come = comes s lines order z w t
-      (λ i f run is. (λ u low. r.same i run u low, all_by (λ a. IsTrue (runs s a)) (λ a. (u : ℕ) → u < t → z a u ≡ w a u) (λ a runs_a u low. r.same a runs_a u low) f.args (running_args s proper i f run is)))
+      let come = comes s lines whole z w t
+      (λ i f run is. (λ u low. r.same i run u low, all_by (λ a. IsTrue (runs s a)) (λ a. (u : ℕ) → u < t → z a u ≡ w a u) (λ a runs_a u low. r.same a runs_a u low) f.args (running_args s whole.proper i f run is)))
       (λ i f run is. ws.each i f run is t lt) e.due in
       let parts = split_at s lines w t bound lt come in
       (parts.0, parts.1 ∙ (λ k. sym r.ran_is k ++ t ∷ parts.0))
@@ -163,8 +164,8 @@ module _ (s : System) (lines : List Line) (order : IsInOrder s) (proper : IsProp
       record {
         early = omega arith;
         same = λ j run u low. same j run u (omega arith);
-        ran_is = e.ran_is ∙ (happens_alike s (t + 1) z w proper same lines).instants_same t (omega arith);
-        sound = λ u low. sym ((happens_alike s (t + 1) z w proper same lines).faulty_same u (omega arith)) ∙ not_true (is_faulty s inputs z u) (e.named.first u low);
+        ran_is = e.ran_is ∙ (happens_alike s (t + 1) z w whole.proper same lines).instants_same t (omega arith);
+        sound = λ u low. sym ((happens_alike s (t + 1) z w whole.proper same lines).faulty_same u (omega arith)) ∙ not_true (is_faulty s inputs z u) (e.named.first u low);
       }
     where
       not_true : (b : Bool) → IsTrue (not b) → b ≡ false
@@ -175,7 +176,7 @@ module _ (s : System) (lines : List Line) (order : IsInOrder s) (proper : IsProp
   faulted_named t i kind e =
       let lt = e.early in
       let same = agreed (t + 1) (omega arith) e.solved in
-      ((happens_alike s (t + 1) z w proper same lines).named_same t i kind (omega arith)).0 e.named
+      ((happens_alike s (t + 1) z w whole.proper same lines).named_same t i kind (omega arith)).0 e.named
 
   -- the fault's instant stands first among the others
   faulted_first : (t i : ℕ) (kind : FaultKind) → IsFaulted s lines bound limit all ran t i kind → (rest : List ℕ) × AreFirst t (t ∷ rest)
@@ -183,7 +184,7 @@ module _ (s : System) (lines : List Line) (order : IsInOrder s) (proper : IsProp
       let lt = e.early in
       let same = agreed (t + 1) (omega arith) e.solved in
       let parts = instants_first s lines w (suc t) bound (omega arith) in
-      let alike = (happens_alike s (t + 1) z w proper same lines).instants_same (suc t) (omega arith) in
+      let alike = (happens_alike s (t + 1) z w whole.proper same lines).instants_same (suc t) (omega arith) in
       let is : instants s lines w bound ≡ ran ++ t ∷ parts.0 = parts.1 ∙ (λ k. sym alike k ++ parts.0) ∙ (λ k. (sym e.ran_is k ++ (if e.comes k then t ∷ [] else [])) ++ parts.0) ∙ append_assoc ran (t ∷ []) parts.0 in
       let room = e.within in
       let more : limit ≡ length ran + suc (limit - length ran - 1) = omega arith in
@@ -289,4 +290,4 @@ solved_to s lines bound limit all ran (end.Limit t) e = (t, e.solved)
 pub ends_so : (s : System) (lines : List Line) (bound limit : ℕ) (all : List (List Moment)) (ran : List ℕ) (ends : End) → IsEnded s lines bound limit all ran ends → EndsSo s lines bound limit ends
 ends_so s lines bound limit all ran ends ended w ws =
     let solved = (solved_to s lines bound limit all ran ends ended).1 in
-    is_ending s lines solved.ordered solved.whole.proper bound limit all ran w ws ends ended
+    is_ending s lines solved.order solved.ordered solved.whole bound limit all ran w ws ends ended

@@ -1,24 +1,22 @@
--- The sample is a complete system in order.
-use Rattle.std.proofs.Common.{◌≡◌, ◌==◌, ℕ, zero, suc, ◌+◌, ◌<◌, ◌≤◌, false, List, [], ◌∷◌, ◌++◌, length, get_or, take, Some, refl, sym, ap, subst, ◌∙◌, arith, lit<, zero-add}
-use Rattle.std.proofs.lemmas.Bool.{eq-eqb, true≢false}
-use Rattle.std.proofs.lemmas.List.Elements.{All-from_recursion}
+-- The samples are complete systems with orders to run them in.
+use Rattle.std.proofs.Common.{◌≡◌, ◌==◌, ℕ, zero, suc, ◌+◌, ◌<◌, ◌≤◌, Bool, true, false, ◌&&◌, List, [], ◌∷◌, ◌++◌, length, get_or, take, Some, refl, sym, ap, subst, ◌∙◌, inl, inr, arith, lit<}
+use Rattle.std.proofs.lemmas.Bool.{and_parts, cases_lt, eq-eqb, true≢false}
 use Rattle.std.proofs.lemmas.Option.{get_or_from_slice_get, slice_get_within}
 use Rattle.std.proofs.Math.Seq.{take-suc}
-use Rattle.std.specs.Prelude.{slice_get}
+use Rattle.std.specs.Prelude.{IsTrue, slice_get}
 use Rattle.std.specs.List.{AllAdjacentBelow, AllByRecursion}
 use Rattle.flat_core.specs.declared.equation.Equation.{Equation}
 use Rattle.flat_core.specs.declared.line.TraceLine.{TraceLine}
 use Rattle.flat_core.specs.Line.{Line, IsSorted}
-use Rattle.lift_func.specs.Typing.{literal, argument, one, two, choice, arithmetic, order, is_some}
-use Rattle.flat_core.specs.Case.{used_of}
+use Rattle.lift_func.specs.Typing.{literal, argument, one, two, choice, arithmetic, order, is_some, in_set, get}
 use Rattle.flat_core.specs.Complete.{HasShortBody, HaveDifferentNames, IsComplete}
+use Rattle.flat_core.specs.Dependency.{IsRunOrder}
+use Rattle.flat_core.specs.Members.{is_in}
 use Rattle.flat_core.specs.System.{System}
-use Rattle.flat_core.specs.Typed.{input, unit, time, last, delay, merge, filter, lift, bool_type, int_type, unit_type}
+use Rattle.flat_core.specs.Typed.{input, unit, empty, time, last, delay, merge, filter, set_add, map_add, lift, bool_type, int_type, unit_type}
 use Rattle.flat_core.specs.TypedSystem.{IsOfType, IsTypedEquation}
 use Rattle.flat_core.proofs.Finished.{typed_from_all}
-use Rattle.plain_solver.specs.Instant.{IsInPlace, IsInOrder}
-use Rattle.plain_solver.specs.Shape.{HasShape}
-use Rattle.plain_solver.specs.Sample.{sample_equations, sample_outputs}
+use Rattle.plain_solver.specs.Sample.{sample_equations, sample_outputs, sample_order, grown_equations, grown_outputs, grown_order, ints, int_map}
 
 there : (a : ℕ) (e : Equation) → slice_get sample_equations a ≡ Some e → IsOfType sample_equations a e.of
 there a e is = record { at = e; is = is; of_is = refl }
@@ -82,30 +80,98 @@ sample_complete b equations outputs = record {
   short_texts = subst (AllByRecursion (λ e. HasShortBody e.op)) (sym equations) (tt, (tt, (tt, (tt, (tt, (tt, (tt, (tt, (tt, (tt, ((tt, tt), ((tt, tt, tt), ((tt, tt), (tt, tt))))))))))))));
 }
 
--- equations in their places, from a number on
-abbrev InPlaceFrom : ℕ → List Equation → Type 0
-InPlaceFrom k [] = Unit {0}
-InPlaceFrom k (e ∷ es) = (HasShape e.op e.args × AllByRecursion (λ a. a < k) (used_of e.op e.args)) × InPlaceFrom (suc k) es
+-- all below a number pass a test
+abbrev all_below : (ℕ → Bool) → ℕ → Bool
+all_below p zero = true
+all_below p (suc n) = p n && all_below p n
 
-in_place_at : (k : ℕ) (es : List Equation) → InPlaceFrom k es → (i : ℕ) (e : Equation) → slice_get es i ≡ Some e → IsInPlace (k + i) e
-in_place_at k [] all i e is = absurd (cc)
-in_place_at k (x ∷ es) all zero e is =
-    let here : k ≡ k + 0 = omega arith in
-    let same : x ≡ e = cc in
-    subst (IsInPlace (k + 0)) same (subst (λ n. IsInPlace n x) here (record { shape = all.0.0; below = All-from_recursion (λ a. a < k) (used_of x.op x.args) all.0.1 }))
-in_place_at k (x ∷ es) all (suc i) e is =
-    let there : suc k + i ≡ k + suc i = omega arith in
-    subst (λ n. IsInPlace n e) there (in_place_at (suc k) es all.1 i e is)
+each_below : (p : ℕ → Bool) (n : ℕ) → IsTrue (all_below p n) → (i : ℕ) → i < n → IsTrue (p i)
+each_below p zero all i lt = absurd (omega arith)
+each_below p (suc n) all i lt = elim (cases_lt i n) [
+  | inl low ↦ each_below p n (and_parts (p n) (all_below p n) all).1 i low
+  | inr high ↦ let here : n ≡ i = omega arith in subst (λ m. IsTrue (p m)) here (and_parts (p n) (all_below p n) all).0
+]
 
-placed : InPlaceFrom 0 sample_equations
-placed = ((tt, tt), ((tt, tt), ((tt, (lit< tt, (lit< tt, tt))), ((tt, (lit< tt, tt)), ((tt, tt), ((tt, tt), ((tt, (lit< tt, (lit< tt, tt))), ((tt, (lit< tt, tt)), ((tt, (lit< tt, tt)), ((tt, tt), ((tt, (lit< tt, tt)), ((tt, (lit< tt, (lit< tt, tt))), ((tt, (lit< tt, tt)), ((tt, (lit< tt, (lit< tt, tt))), tt))))))))))))))
+abbrev of_equations : System → List Equation → System
+of_equations s es = record s { equations = es }
 
-pub sample_in_order : (s : System) → s.equations ≡ sample_equations → IsInOrder s
-sample_in_order s equations = record {
-  each = λ i e is.
-      let at : slice_get sample_equations i ≡ Some e = sym (ap (λ es. slice_get es i) equations) ∙ is in
-      subst (λ n. IsInPlace n e) (zero-add i) (in_place_at 0 sample_equations placed i e at);
+sample_run : (s : System) → IsRunOrder (of_equations s sample_equations) sample_order
+sample_run s = record {
+  ordered = (_, refl, refl, tt, (_, refl, refl, tt, (_, refl, refl, (refl, (refl, tt)), (_, refl, refl, (refl, tt), (_, refl, refl, tt, (_, refl, refl, tt, (_, refl, refl, (refl, (refl, tt)), (_, refl, refl, (refl, tt), (_, refl, refl, (refl, tt), (_, refl, refl, tt, (_, refl, refl, (refl, tt), (_, refl, refl, (refl, (refl, tt)), (_, refl, refl, (refl, tt), (_, refl, refl, (refl, (refl, tt)), tt))))))))))))));
+  all = λ i lt. each_below (is_in sample_order) 14 refl i lt;
 }
+
+pub sample_in_order : (s : System) → s.equations ≡ sample_equations → (steps : List ℕ) → steps ≡ sample_order → IsRunOrder s steps
+sample_in_order s equations steps is =
+    subst (IsRunOrder s) (sym is) (subst (λ es. IsRunOrder (of_equations s es) sample_order) (sym equations) (sample_run s))
+
+-- ---- the other system
+
+grown_there : (a : ℕ) (e : Equation) → slice_get grown_equations a ≡ Some e → IsOfType grown_equations a e.of
+grown_there a e is = record { at = e; is = is; of_is = refl }
+
+grown_typed : AllByRecursion (IsTypedEquation grown_equations) grown_equations
+grown_typed = (
+  record { types = []; arguments = tt; typed = input },
+  (
+    record { types = ints ∷ ints ∷ []; arguments = (grown_there 4 _ refl, (grown_there 2 _ refl, tt)); typed = merge },
+    (
+      record { types = []; arguments = tt; typed = empty refl },
+      (
+        record { types = ints ∷ int_type ∷ []; arguments = (grown_there 1 _ refl, (grown_there 0 _ refl, tt)); typed = last },
+        (
+          record { types = ints ∷ int_type ∷ []; arguments = (grown_there 3 _ refl, (grown_there 0 _ refl, tt)); typed = set_add refl },
+          (
+            record { types = ints ∷ int_type ∷ []; arguments = (grown_there 3 _ refl, (grown_there 0 _ refl, tt)); typed = lift (omega arith) (omega arith) (two (argument refl) (argument refl) (in_set refl)) },
+            (
+              record { types = []; arguments = tt; typed = input },
+              (
+                record { types = []; arguments = tt; typed = empty refl },
+                (
+                  record { types = int_map ∷ int_type ∷ []; arguments = (grown_there 7 _ refl, (grown_there 6 _ refl, tt)); typed = last },
+                  (
+                    record { types = int_map ∷ int_type ∷ int_type ∷ []; arguments = (grown_there 8 _ refl, (grown_there 6 _ refl, (grown_there 6 _ refl, tt))); typed = map_add refl },
+                    (
+                      record { types = int_map ∷ int_type ∷ []; arguments = (grown_there 9 _ refl, (grown_there 0 _ refl, tt)); typed = last },
+                      (
+                        record { types = int_map ∷ int_type ∷ []; arguments = (grown_there 10 _ refl, (grown_there 0 _ refl, tt)); typed = lift (omega arith) (omega arith) (two (argument refl) (argument refl) (get refl)) },
+                        tt,
+                      ),
+                    ),
+                  ),
+                ),
+              ),
+            ),
+          ),
+        ),
+      ),
+    ),
+  ),
+)
+
+grown_names : HaveDifferentNames grown_outputs
+grown_names = ((differ 109 115 refl, (differ 112 115 refl, (differ 103 115 refl, tt))), ((differ 112 109 refl, (differ 103 109 refl, tt)), ((differ 103 112 refl, tt), (tt, tt))))
+
+pub grown_complete : (b : System) → b.equations ≡ grown_equations → b.outputs ≡ grown_outputs → IsComplete b
+grown_complete b equations outputs = record {
+  typed = typed_from_all b (subst (λ es. AllByRecursion (IsTypedEquation es) es) (sym equations) grown_typed);
+  some_output = subst (λ os. 0 < length os) (sym outputs) (lit< tt);
+  outputs_there =
+      subst (λ n. AllByRecursion (λ o. o.equation < n) b.outputs) (sym (ap length equations))
+      (subst (AllByRecursion (λ o. o.equation < 12)) (sym outputs) (lit< tt, (lit< tt, (lit< tt, (lit< tt, tt)))));
+  names_differ = subst HaveDifferentNames (sym outputs) grown_names;
+  short_texts = subst (AllByRecursion (λ e. HasShortBody e.op)) (sym equations) (tt, (tt, (tt, (tt, (tt, ((tt, tt), (tt, (tt, (tt, (tt, (tt, ((tt, tt), tt))))))))))));
+}
+
+grown_run : (s : System) → IsRunOrder (of_equations s grown_equations) grown_order
+grown_run s = record {
+  ordered = (_, refl, refl, tt, (_, refl, refl, tt, (_, refl, refl, (refl, tt), (_, refl, refl, (refl, (refl, tt)), (_, refl, refl, (refl, (refl, tt)), (_, refl, refl, (refl, (refl, tt)), (_, refl, refl, tt, (_, refl, refl, tt, (_, refl, refl, (refl, tt), (_, refl, refl, (refl, (refl, (refl, tt))), (_, refl, refl, (refl, tt), (_, refl, refl, (refl, (refl, tt)), tt))))))))))));
+  all = λ i lt. each_below (is_in grown_order) 12 refl i lt;
+}
+
+pub grown_in_order : (s : System) → s.equations ≡ grown_equations → (steps : List ℕ) → steps ≡ grown_order → IsRunOrder s steps
+grown_in_order s equations steps is =
+    subst (IsRunOrder s) (sym is) (subst (λ es. IsRunOrder (of_equations s es) grown_order) (sym equations) (grown_run s))
 
 -- one more of a list
 pub one_more : {A : Type 0} (xs : List A) (n : ℕ) (x : A) (ys zs : List A) → slice_get xs n ≡ Some x → ys ≡ take n xs → zs ≡ ys ++ x ∷ [] → zs ≡ take (n + 1) xs

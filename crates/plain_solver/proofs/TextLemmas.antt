@@ -28,9 +28,7 @@ text_same s z w t run same =
 pub ran_due : (s : System) (all : List (List Moment)) (ran : List ℕ) (ends : End) → IsDueText s all ran ends (flat_map (text_at s (streams_of all)) ran)
 ran_due s all ran ends lines bound limit ended w ws =
     let solved = (solved_to s lines bound limit all ran ends ended).1 in
-    let order = solved.ordered in
-    let proper = solved.whole.proper in
-    let to = ran_to s lines order proper bound limit all ran w ws ends ended in
+    let to = ran_to s lines solved.order solved.ordered solved.whole bound limit all ran w ws ends ended in
     let z = streams_of all in
-    let texts = all_ran s lines order proper bound limit all ran w ws (λ t. text_at s z t ≡ text_at s w t) to.0 to.1 (λ t lt. text_same s z w t solved.whole.outputs_run (λ i run. to.1.same i run t lt)) in
-    flat_map_same (text_at s z) (text_at s w) ran texts ∙ ap (flat_map (text_at s w)) (sym (due_ran s lines order proper bound limit all ran w ws ends ended))
+    let texts = all_ran s lines solved.order solved.ordered solved.whole bound limit all ran w ws (λ t. text_at s z t ≡ text_at s w t) to.0 to.1 (λ t lt. text_same s z w t solved.whole.outputs_run (λ i run. to.1.same i run t lt)) in
+    flat_map_same (text_at s z) (text_at s w) ran texts ∙ ap (flat_map (text_at s w)) (sym (due_ran s lines solved.order solved.ordered solved.whole bound limit all ran w ws ends ended))

@@ -2,17 +2,20 @@
 
 ghost use Rattle.std.specs.Prelude.{◌≡◌, ◌<◌, length, slice_index_or, map, [], OnOk, IfOk, IsTrue};
 ghost use Rattle.flat_core.specs.Complete.{IsFlat};
+ghost use Rattle.flat_core.specs.Dependency.{IsRunOrder};
 ghost use Rattle.flat_core.specs.Line.{IsSorted, inputs_of};
 ghost use Rattle.flat_core.specs.System.{runs};
 ghost use Rattle.plain_solver.specs.Moments.{AllBefore};
-ghost use Rattle.plain_solver.specs.Instant.{AreBefore, IsFirstRoot, IsInOrder, IsOneMore, IsRun};
+ghost use Rattle.plain_solver.specs.Instant.{AreBefore, IsFirstRoot, IsOneMore, IsRun};
 ghost use Rattle.plain_solver.specs.Shape.{streams_of};
+ghost use Rattle.plain_solver.specs.Typed.{AreTyped, AreTypedLines};
 ghost use Rattle.flat_core.specs.Kept.{AreKept};
 
 use crate::events::Events;
 use crate::outcome::{outcome_of, root_of};
 use flat_core::flat::Flat;
 use flat_core::line::TraceLine;
+use flat_core::steps::Steps;
 use lift_func::fault::FaultKind;
 use std::alloc::Global;
 use tsl_value::ids::EqId;
@@ -28,13 +31,13 @@ pub fn run_one(
     i: EqId,
     t: Time,
 ) -> Result<(), NoMemory>
-    requires ordered { IsInOrder flat.now }
     requires whole { IsFlat flat.now }
     requires known { i < length flat.now.equations }
     requires running { IsTrue (runs flat.now i) }
     requires one_each { length streams.old ≡ length flat.now.equations }
     requires before { AllBefore t (slice_index_or streams.old i []) }
     requires kept { AreKept flat.now (streams_of streams.old) t }
+    requires typed { AreTyped flat.now (streams_of streams.old) }
     requires sorted { IsSorted lines.now }
     ensures { OnOk result (IsOneMore flat.now (inputs_of lines.now) i t streams.old streams.new) }
 {
@@ -51,19 +54,23 @@ pub fn run_one(
 pub fn run_instant(
     alloc: Global,
     flat: &Flat,
+    order: &Steps,
     streams: &mut [Events],
     lines: &[TraceLine],
     t: Time,
 ) -> Result<(), NoMemory>
-    requires ordered { IsInOrder flat.now }
+    requires ordered { IsRunOrder flat.now order.now }
+    requires whole { IsFlat flat.now }
     requires one_each { length streams.old ≡ length flat.now.equations }
     requires before { AreBefore t streams.old }
     requires kept { AreKept flat.now (streams_of streams.old) t }
+    requires typed { AreTyped flat.now (streams_of streams.old) }
+    requires typed_lines { AreTypedLines flat.now lines.now }
     requires sorted { IsSorted lines.now }
     ensures { OnOk result (IsRun flat.now (inputs_of lines.now) t streams.old streams.new) }
 {
-    for n in 0..flat.count() {
-        let i = EqId::new(n);
+    for number in order.as_slice() {
+        let i = EqId::new(*number);
         if flat.runs(i) {
             run_one(alloc, flat, streams, lines, i, t)?;
         }
@@ -79,9 +86,9 @@ pub fn first_root(
     lines: &[TraceLine],
     t: Time,
 ) -> Result<Option<(EqId, FaultKind)>, NoMemory>
-    requires ordered { IsInOrder flat.now }
     requires one_each { length streams.now ≡ length flat.now.equations }
     requires kept { AreKept flat.now (streams_of streams.now) t }
+    requires typed { AreTyped flat.now (streams_of streams.now) }
     requires sorted { IsSorted lines.now }
     ensures { IfOk result (λ r. IsFirstRoot flat.now (inputs_of lines.now) (streams_of streams.now) t r) }
 {

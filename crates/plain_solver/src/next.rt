@@ -2,7 +2,6 @@
 
 ghost use Rattle.std.specs.Prelude.{◌≡◌, ◌≤◌, ◌<◌, ◌^◌, length, All};
 ghost use Rattle.flat_core.specs.Line.{IsSorted};
-ghost use Rattle.plain_solver.specs.Instant.{IsInOrder};
 ghost use Rattle.plain_solver.specs.Lines.{IsLeast};
 ghost use Rattle.plain_solver.specs.Next.{due_of, is_expiry, is_next, IsFirst};
 ghost use Rattle.plain_solver.specs.Shape.{HasShape, streams_of};
@@ -48,8 +47,7 @@ fn least_due(due: Option<u64>, low: u64, high: u64) -> u64
 
 /// The least time from one on and before another at which a running delay is due, else that other time.
 pub fn least_expiry(flat: &Flat, streams: &[Events], from: Time, high: u64) -> u64
-    requires ordered { IsInOrder flat.now }
-    requires one_each { length streams.now ≡ length flat.now.equations }
+    requires { length streams.now ≡ length flat.now.equations }
     ensures { IsLeast (λ u. is_expiry flat.now (streams_of streams.now) from u) from high result }
 {
     let mut least = high;
@@ -71,7 +69,6 @@ pub fn next_below(
     next: u64,
     bound: u64,
 ) -> Option<Time>
-    requires ordered { IsInOrder flat.now }
     requires one_each { length streams.now ≡ length flat.now.equations }
     requires small { bound ≤ 2 ^ 63 }
     requires sorted { IsSorted lines.now }

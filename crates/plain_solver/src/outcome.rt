@@ -1,26 +1,31 @@
 // What happens at an equation at a time.
 
-ghost use Rattle.std.specs.Prelude.{◌≡◌, ◌<◌, if◌then◌else◌, length, map, slice_index, slice_index_or, [], is_some, IfOk, Ok, All};
+ghost use Rattle.std.specs.Prelude.{◌≡◌, ◌<◌, Some, None, pos, if◌then◌else◌, length, map, slice_index, slice_index_or, [], is_some, IfOk, IsTrue, Ok, All};
 ghost use Rattle.std.specs.List.{list_any, list_all};
 ghost use Rattle.std.specs.Option.{option_map, option_copied};
 ghost use Rattle.tsl_value.specs.View.{Plain};
-ghost use Rattle.lift_func.specs.Apply.{apply};
-ghost use Rattle.lift_func.specs.Answered.{IsValue, views};
 ghost use Rattle.flat_core.specs.Stream.{event, is_fault, latest};
-ghost use Rattle.flat_core.specs.Case.{case_of, delayed, filtered, is_blocked, own, refused, root_fault};
+ghost use Rattle.flat_core.specs.Case.{case_of, delayed, filtered, is_blocked, lasting, merged, own, refused, root_fault, unit};
 ghost use Rattle.flat_core.specs.Line.{IsSorted, inputs_of};
+ghost use Rattle.flat_core.specs.Kept.{IsKept};
+ghost use Rattle.plain_solver.specs.Lent.{IsEvaluableAt};
+ghost use Rattle.plain_solver.specs.Parts.{chosen_of, counts, lifted, updated_of};
 ghost use Rattle.plain_solver.specs.Moments.{seen};
 ghost use Rattle.plain_solver.specs.Shape.{HasShape, streams_of};
-ghost use Rattle.flat_core.specs.Kept.{IsKept};
+ghost use Rattle.plain_solver.specs.Typed.{TakesTyped};
+ghost use Rattle.plain_solver.specs.ValueView.{IsAnswer};
 
 use crate::delay::{is_now, pending_before};
 use crate::events::{Events, Outcome};
+use crate::lender::evaluated;
 use crate::line::input_at;
+use crate::update::{empty_at, entry_added, key_added, key_removed, picked};
+use crate::value::{Held, Value, copied};
 use flat_core::equation::{Equation, Op};
 use flat_core::line::TraceLine;
 use flat_core::lists::Args;
 use lift_func::body::Body;
-use lift_func::eval::{EvalFault, eval_scalars};
+use lift_func::eval::EvalFault;
 use lift_func::fault::FaultKind;
 use std::alloc::Global;
 use tsl_value::ids::EqId;
@@ -45,30 +50,21 @@ pub fn stream_at(streams: &[Events], i: EqId) -> &Events
 }
 
 /// The event of an argument at a time.
-fn value_of<'a>(streams: &'a [Events], args: &Args, k: usize, t: Time) -> Option<&'a Scalar>
+fn value_of<'a>(streams: &'a [Events], args: &Args, k: usize, t: Time) -> Option<&'a Value>
     requires there { k < length args.now }
     requires known { slice_index args.now k < length streams.now }
-    ensures { option_map Plain (option_copied result) ≡ event (streams_of streams.now (slice_index args.now k) t) }
+    ensures { option_copied result ≡ event (streams_of streams.now (slice_index args.now k) t) }
 {
     streams[argument(args, k).get() as usize].value_at(t)
 }
 
 /// The latest event of an argument before a time.
-fn latest_of<'a>(streams: &'a [Events], args: &Args, k: usize, t: Time) -> Option<&'a Scalar>
+fn latest_of<'a>(streams: &'a [Events], args: &Args, k: usize, t: Time) -> Option<&'a Value>
     requires there { k < length args.now }
     requires known { slice_index args.now k < length streams.now }
-    ensures { option_map Plain (option_copied result) ≡ latest (streams_of streams.now (slice_index args.now k)) t }
+    ensures { option_copied result ≡ latest (streams_of streams.now (slice_index args.now k)) t }
 {
     streams[argument(args, k).get() as usize].latest_before(t)
-}
-
-fn copied(value: Option<&Scalar>) -> Result<Option<Scalar>, NoMemory>
-    ensures { IfOk result (λ v. v ≡ option_copied value.entry) }
-{
-    match value {
-        Some(v) => Ok(Some(v.copy()?)),
-        None => Ok(None),
-    }
 }
 
 /// The events of some equations at a time.
@@ -77,9 +73,9 @@ fn values_at(
     ids: &[EqId],
     streams: &[Events],
     t: Time,
-) -> Result<Vec<Option<Scalar>>, NoMemory>
+) -> Result<Vec<Option<Value>>, NoMemory>
     requires { All (λ a. a < length streams.now) ids.now }
-    ensures { IfOk result (λ v. views v.items ≡ map (λ a. event (streams_of streams.now a t)) ids.now) }
+    ensures { IfOk result (λ v. v.items ≡ map (λ a. event (streams_of streams.now a t)) ids.now) }
 {
     let mut values = Vec::new(alloc);
     for id in ids {
@@ -102,8 +98,8 @@ fn some_fault(ids: &[EqId], streams: &[Events], t: Time) -> bool
 }
 
 /// All values are there.
-fn are_all_there(values: &[Option<Scalar>]) -> bool
-    ensures { result ≡ list_all is_some (views values.now) }
+fn are_all_there(values: &[Option<Value>]) -> bool
+    ensures { result ≡ list_all is_some values.now }
 {
     for v in values {
         if v.is_none() {
@@ -114,8 +110,8 @@ fn are_all_there(values: &[Option<Scalar>]) -> bool
 }
 
 /// Some value is there.
-fn is_one_there(values: &[Option<Scalar>]) -> bool
-    ensures { result ≡ list_any is_some (views values.now) }
+fn is_one_there(values: &[Option<Value>]) -> bool
+    ensures { result ≡ list_any is_some values.now }
 {
     for v in values {
         if v.is_some() {
@@ -125,63 +121,177 @@ fn is_one_there(values: &[Option<Scalar>]) -> bool
     false
 }
 
-/// The value of a lifted body where all its arguments are there.
+/// The value of a lifted body: where all its arguments are there, or of a body of options where one of them is.
 fn lifted(
     alloc: Global,
     body: &Body,
-    values: &[Option<Scalar>],
-) -> Result<Option<Scalar>, EvalFault>
-    ensures { IsValue result (if list_all is_some (views values.now) then apply body.now (views values.now) else Ok None) }
+    strict: bool,
+    values: &[Option<Value>],
+) -> Result<Option<Value>, EvalFault>
+    requires { IsTrue (counts strict values.now) → IsEvaluableAt body.now values.now }
+    ensures { IsAnswer result (lifted body.now strict values.now) }
 {
-    if are_all_there(values) {
-        eval_scalars(alloc, body, values)
-    } else {
-        Ok(None)
+    if !do_count(strict, values) {
+        return Ok(None);
+    }
+    match evaluated(alloc, body, values)? {
+        Some(scalar) => Ok(Some(Value::of_scalar(scalar))),
+        None => Ok(None),
     }
 }
 
-/// The value of a lifted body of options, where one of its arguments is there.
-fn lifted_over_options(
-    alloc: Global,
-    body: &Body,
-    values: &[Option<Scalar>],
-) -> Result<Option<Scalar>, EvalFault>
-    ensures { IsValue result (if list_any is_some (views values.now) then apply body.now (views values.now) else Ok None) }
+/// The value of a scalar.
+fn given(scalar: Option<&Scalar>) -> Result<Option<Value>, NoMemory>
+    ensures { IfOk result (λ v. v ≡ option_map Plain (option_copied scalar.entry)) }
 {
-    if is_one_there(values) {
-        eval_scalars(alloc, body, values)
+    match scalar {
+        Some(scalar) => Ok(Some(Value::of_scalar(scalar.copy()?))),
+        None => Ok(None),
+    }
+}
+
+/// The unit event where something holds.
+fn unit_if(holds: bool) -> Option<Value>
+    ensures { result ≡ (if holds then Some unit else None) }
+{
+    if holds {
+        Some(Value::of_scalar(Scalar::Unit))
     } else {
-        Ok(None)
+        None
+    }
+}
+
+/// A time where a value is there.
+fn time_of(value: Option<&Value>, t: Time) -> Option<Value>
+    ensures { result ≡ option_map (λ _. Plain (Scalar.Int (pos t))) (option_copied value.entry) }
+{
+    match value {
+        Some(_) => Some(Value::of_scalar(Scalar::Int(t.get() as i64))),
+        None => None,
+    }
+}
+
+/// The first of two values, or else the second.
+fn merged<'a>(a: Option<&'a Value>, b: Option<&'a Value>) -> Option<&'a Value>
+    ensures { option_copied result ≡ merged (option_copied a.entry) (option_copied b.entry) }
+{
+    match a {
+        Some(_) => a,
+        None => b,
+    }
+}
+
+/// The values of a lift count: all of them are there, or one of them is.
+fn do_count(strict: bool, values: &[Option<Value>]) -> bool
+    ensures { result ≡ counts strict values.now }
+{
+    if strict {
+        are_all_there(values)
+    } else {
+        is_one_there(values)
     }
 }
 
 /// A value where a condition is true.
-fn passed<'a>(value: Option<&'a Scalar>, condition: Option<&Scalar>) -> Option<&'a Scalar>
-    ensures { option_map Plain (option_copied result) ≡ filtered (option_map Plain (option_copied value.entry)) (option_map Plain (option_copied condition.entry)) }
+fn passed<'a>(value: Option<&'a Value>, condition: Option<&Value>) -> Option<&'a Value>
+    ensures { option_copied result ≡ filtered (option_copied value.entry) (option_copied condition.entry) }
 {
     match condition {
-        Some(Scalar::Bool(holds)) => { if *holds { value } else { None } }
-        _ => None,
+        Some(condition) => match condition.held() {
+            Held::Scalar(Scalar::Bool(holds)) => { if *holds { value } else { None } }
+            _ => None,
+        },
+        None => None,
     }
 }
 
 /// The unit event of a delay that expires.
-fn expired(e: &Equation, i: EqId, streams: &[Events], t: Time) -> Option<Scalar>
+fn expired(e: &Equation, i: EqId, streams: &[Events], t: Time) -> Option<Value>
     requires shape { HasShape e.now.op e.now.args }
     requires delay { e.now.op ≡ Op.Delay }
     requires known { All (λ a. a < length streams.now) e.now.args }
     requires there { i < length streams.now }
     requires kept { IsKept (streams_of streams.now) i e.now.op e.now.args t }
-    ensures { option_map Plain result ≡ delayed (streams_of streams.now) i e.now.args t }
+    ensures { result ≡ delayed (streams_of streams.now) i e.now.args t }
 {
     let amount = stream_at(streams, argument(&e.args, 0));
     let reset = stream_at(streams, argument(&e.args, 1));
     let delay = stream_at(streams, i);
     let due = pending_before(amount, reset, delay, t);
     if is_now(due, t) {
-        Some(Scalar::Unit)
+        Some(Value::of_scalar(Scalar::Unit))
     } else {
         None
+    }
+}
+
+/// The event of an argument before a time, where the other argument has one at that time.
+fn lasting<'a>(e: &Equation, streams: &'a [Events], t: Time) -> Option<&'a Value>
+    requires shape { HasShape Op.Last e.now.args }
+    requires known { All (λ a. a < length streams.now) e.now.args }
+    ensures { option_copied result ≡ lasting (streams_of streams.now) e.now.args t }
+{
+    match value_of(streams, &e.args, 1, t) {
+        Some(_) => latest_of(streams, &e.args, 0, t),
+        None => None,
+    }
+}
+
+/// The event of an argument that an operation passes on.
+fn chosen<'a>(e: &Equation, streams: &'a [Events], t: Time) -> Option<&'a Value>
+    requires shape { HasShape e.now.op e.now.args }
+    requires known { All (λ a. a < length streams.now) e.now.args }
+    ensures { option_copied result ≡ chosen_of e.now.op (map (λ a. event (streams_of streams.now a t)) e.now.args) }
+{
+    let args = &e.args;
+    match &e.op {
+        Op::Merge => merged(
+            value_of(streams, args, 0, t),
+            value_of(streams, args, 1, t),
+        ),
+        Op::Filter => passed(
+            value_of(streams, args, 0, t),
+            value_of(streams, args, 1, t),
+        ),
+        Op::Pick => picked(
+            value_of(streams, args, 0, t),
+            value_of(streams, args, 1, t),
+            value_of(streams, args, 2, t),
+        ),
+        _ => None,
+    }
+}
+
+/// The aggregate that an operation makes of the one of its first argument.
+fn updated(
+    alloc: Global,
+    e: &Equation,
+    streams: &[Events],
+    t: Time,
+) -> Result<Option<Value>, NoMemory>
+    requires shape { HasShape e.now.op e.now.args }
+    requires known { All (λ a. a < length streams.now) e.now.args }
+    ensures { IfOk result (λ v. v ≡ updated_of e.now.op (map (λ a. event (streams_of streams.now a t)) e.now.args)) }
+{
+    let args = &e.args;
+    match &e.op {
+        Op::SetAdd => key_added(
+            alloc,
+            value_of(streams, args, 0, t),
+            value_of(streams, args, 1, t),
+        ),
+        Op::SetRemove | Op::MapRemove => key_removed(
+            alloc,
+            value_of(streams, args, 0, t),
+            value_of(streams, args, 1, t),
+        ),
+        Op::MapAdd => entry_added(
+            alloc,
+            value_of(streams, args, 0, t),
+            value_of(streams, args, 1, t),
+            value_of(streams, args, 2, t),
+        ),
+        _ => Ok(None),
     }
 }
 
@@ -193,56 +303,36 @@ pub fn own_of(
     streams: &[Events],
     lines: &[TraceLine],
     t: Time,
-) -> Result<Option<Scalar>, EvalFault>
+) -> Result<Option<Value>, EvalFault>
     requires shape { HasShape e.now.op e.now.args }
     requires known { All (λ a. a < length streams.now) e.now.args }
     requires there { i < length streams.now }
     requires kept { IsKept (streams_of streams.now) i e.now.op e.now.args t }
+    requires typed { TakesTyped (streams_of streams.now) e.now t }
     requires sorted { IsSorted lines.now }
-    ensures { IsValue result (own (inputs_of lines.now) (streams_of streams.now) i e.now t) }
+    ensures { IsAnswer result (own (inputs_of lines.now) (streams_of streams.now) i e.now t) }
 {
+    let args = &e.args;
     match &e.op {
-        Op::Input => Ok(copied(input_at(lines, i, t))?),
-        Op::Unit => Ok(if t.get() == 0 {
-            Some(Scalar::Unit)
-        } else {
-            None
-        }),
+        Op::Input => Ok(given(input_at(lines, i, t))?),
+        Op::Nil => Ok(None),
+        Op::Unit => Ok(unit_if(t.get() == 0)),
         Op::Lift { body, strict } => {
-            let values = values_at(alloc, e.args.ids(), streams, t)?;
-            if *strict {
-                lifted(alloc, body, &values)
-            } else {
-                lifted_over_options(alloc, body, &values)
-            }
+            let values = values_at(alloc, args.ids(), streams, t)?;
+            lifted(alloc, body, *strict, &values)
         }
         Op::Any => {
-            let values = values_at(alloc, e.args.ids(), streams, t)?;
-            Ok(if is_one_there(&values) {
-                Some(Scalar::Unit)
-            } else {
-                None
-            })
+            let values = values_at(alloc, args.ids(), streams, t)?;
+            Ok(unit_if(is_one_there(&values)))
         }
-        Op::Time => Ok(match value_of(streams, &e.args, 0, t) {
-            Some(_) => Some(Scalar::Int(t.get() as i64)),
-            None => None,
-        }),
-        Op::Last => match value_of(streams, &e.args, 1, t) {
-            Some(_) => Ok(copied(latest_of(streams, &e.args, 0, t))?),
-            None => Ok(None),
-        },
+        Op::Time => Ok(time_of(value_of(streams, args, 0, t), t)),
+        Op::Last => Ok(copied(lasting(e, streams, t))?),
         Op::Delay => Ok(expired(e, i, streams, t)),
-        Op::Merge => match value_of(streams, &e.args, 0, t) {
-            Some(v) => Ok(copied(Some(v))?),
-            None => Ok(copied(value_of(streams, &e.args, 1, t))?),
-        },
-        Op::Filter => {
-            let value = value_of(streams, &e.args, 0, t);
-            let condition = value_of(streams, &e.args, 1, t);
-            Ok(copied(passed(value, condition))?)
+        Op::Empty => Ok(empty_at(alloc, e.of, t)?),
+        Op::Merge | Op::Filter | Op::Pick => Ok(copied(chosen(e, streams, t))?),
+        Op::SetAdd | Op::SetRemove | Op::MapAdd | Op::MapRemove => {
+            Ok(updated(alloc, e, streams, t)?)
         }
-        _ => Ok(None),
     }
 }
 
@@ -272,6 +362,7 @@ pub fn outcome_of(
     requires known { All (λ a. a < length streams.now) e.now.args }
     requires there { i < length streams.now }
     requires kept { IsKept (streams_of streams.now) i e.now.op e.now.args t }
+    requires typed { TakesTyped (streams_of streams.now) e.now t }
     requires sorted { IsSorted lines.now }
     ensures { IfOk result (λ o. case_of (inputs_of lines.now) (streams_of streams.now) i e.now t ≡ option_map seen o) }
 {
@@ -287,18 +378,21 @@ pub fn outcome_of(
 }
 
 /// Why the amount of a delay is refused.
-fn refusal(amount: Option<&Scalar>) -> Option<FaultKind>
-    ensures { result ≡ refused (option_map Plain (option_copied amount.entry)) }
+fn refusal(amount: Option<&Value>) -> Option<FaultKind>
+    ensures { result ≡ refused (option_copied amount.entry) }
 {
     match amount {
-        Some(Scalar::Int(n)) => {
-            if *n <= 0 {
-                Some(FaultKind::DelayNotPositive)
-            } else {
-                None
+        Some(amount) => match amount.held() {
+            Held::Scalar(Scalar::Int(n)) => {
+                if *n <= 0 {
+                    Some(FaultKind::DelayNotPositive)
+                } else {
+                    None
+                }
             }
-        }
-        _ => None,
+            _ => None,
+        },
+        None => None,
     }
 }
 
@@ -315,6 +409,7 @@ pub fn root_of(
     requires known { All (λ a. a < length streams.now) e.now.args }
     requires there { i < length streams.now }
     requires kept { IsKept (streams_of streams.now) i e.now.op e.now.args t }
+    requires typed { TakesTyped (streams_of streams.now) e.now t }
     requires sorted { IsSorted lines.now }
     ensures { IfOk result (λ k. root_fault (inputs_of lines.now) (streams_of streams.now) i e.now t ≡ k) }
 {

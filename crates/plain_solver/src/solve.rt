@@ -1,16 +1,18 @@
 // All that happens below a bound.
 
 ghost use Rattle.std.specs.Prelude.{◌^◌, ◌<◌, ◌≤◌, ◌≡◌, [], IfOk, replicate};
+ghost use Rattle.flat_core.specs.Dependency.{IsRunOrder};
 ghost use Rattle.flat_core.specs.Line.{IsSorted};
 ghost use Rattle.plain_solver.specs.Ending.{EndsSo};
-ghost use Rattle.plain_solver.specs.Instant.{IsInOrder};
 ghost use Rattle.plain_solver.specs.Solved.{IsEnded};
+ghost use Rattle.plain_solver.specs.Typed.{AreTypedLines};
 
 use crate::events::Events;
 use crate::instant::{first_root, run_instant};
 use crate::next::next_below;
 use flat_core::flat::Flat;
 use flat_core::line::TraceLine;
+use flat_core::steps::Steps;
 use lift_func::fault::FaultKind;
 use std::alloc::Global;
 use tsl_value::ids::EqId;
@@ -59,17 +61,20 @@ fn no_events(alloc: Global, count: u32) -> Result<Vec<Events>, NoMemory>
     Ok(streams)
 }
 
-/// What happens at all equations at the times below a bound, in at most as many instants as a limit.
+/// What happens at all equations at the times below a bound, in at most as many instants as a limit. The order is one in which
+/// each equation comes behind those that it uses at the same time.
 pub fn solve(
     alloc: Global,
     flat: &Flat,
+    order: &Steps,
     lines: &[TraceLine],
     bound: u64,
     limit: u64,
 ) -> Result<Solved, NoMemory>
-    requires ordered { IsInOrder flat.now }
+    requires ordered { IsRunOrder flat.now order.now }
     requires small { bound ≤ 2 ^ 63 }
     requires sorted { IsSorted lines.now }
+    requires typed { AreTypedLines flat.now lines.now }
     ensures ended { IfOk result (λ v. IsEnded flat.now lines.now bound limit v.streams.items v.instants.items v.end) }
     ensures ending { IfOk result (λ v. EndsSo flat.now lines.now bound limit v.end) }
 {
@@ -84,7 +89,7 @@ pub fn solve(
                 end: End::Limit { time: t },
             });
         }
-        run_instant(alloc, flat, &mut streams, lines, t)?;
+        run_instant(alloc, flat, order, &mut streams, lines, t)?;
         match first_root(alloc, flat, &streams, lines, t)? {
             Some(root) => {
                 return Ok(Solved {

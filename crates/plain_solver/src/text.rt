@@ -2,7 +2,6 @@
 
 ghost use Rattle.std.specs.Prelude.{◌≡◌, ◌++◌, Some, OnOk, IfOk};
 ghost use Rattle.std.specs.List.{flat_map};
-ghost use Rattle.tsl_value.specs.View.{Plain};
 ghost use Rattle.flat_core.specs.Stream.{event};
 ghost use Rattle.flat_core.specs.Text.{event_line, text_at};
 ghost use Rattle.plain_solver.specs.Shape.{streams_of};
@@ -10,25 +9,25 @@ ghost use Rattle.plain_solver.specs.Ending.{IsDueText};
 
 use crate::events::Events;
 use crate::solve::Solved;
+use crate::value::Value;
 use flat_core::equation::Output;
 use flat_core::flat::Flat;
 use std::alloc::Global;
 use tsl_value::bytes::Bytes;
 use tsl_value::memory::NoMemory;
-use tsl_value::print::{print_number, print_scalar};
-use tsl_value::scalar::Scalar;
+use tsl_value::print::print_number;
 use tsl_value::text::Text;
 use tsl_value::time::Time;
 
 /// Appends the line of an event.
-fn append_line(time: Time, name: &Text, value: &Scalar, out: &mut Bytes) -> Result<(), NoMemory>
-    ensures { OnOk result (out.new ≡ out.old ++ event_line time name.now (Some (Plain value.now))) }
+fn append_line(time: Time, name: &Text, value: &Value, out: &mut Bytes) -> Result<(), NoMemory>
+    ensures { OnOk result (out.new ≡ out.old ++ event_line time name.now (Some value.now)) }
 {
     print_number(time.get(), out)?;
     out.append(b": ")?;
     out.append(name.as_str().as_bytes())?;
     out.append(b" = ")?;
-    print_scalar(value, out)?;
+    value.print(out)?;
     out.push(b'\n')
 }
 

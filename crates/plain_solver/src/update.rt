@@ -1,0 +1,147 @@
+// What operations on aggregates make of values.
+
+ghost use Rattle.std.specs.Prelude.{◌≡◌, IfOk};
+ghost use Rattle.std.specs.Option.{option_copied};
+ghost use Rattle.lift_func.specs.Update.{with_entry, with_key, without_key};
+ghost use Rattle.aggregate_store.specs.CellView as cell_view;
+ghost use Rattle.aggregate_store.specs.Stored.{with_added};
+ghost use Rattle.flat_core.specs.Case.{at_zero, empty_of, of_both, of_three, picked};
+
+use crate::value::{Held, Value};
+use aggregate_store::cell::Cell;
+use std::alloc::Global;
+use tsl_value::memory::NoMemory;
+use tsl_value::scalar::{Scalar, ValueType};
+use tsl_value::time::Time;
+
+/// The aggregate of a type that has no element.
+fn empty(alloc: Global, of: ValueType) -> Result<Value, NoMemory>
+    ensures { IfOk result (λ v. v ≡ empty_of of) }
+{
+    match of {
+        ValueType::Scalar(_) => Ok(Value::of_scalar(Scalar::Unit)),
+        ValueType::Set(key) => Value::of_cell(alloc, Cell::empty(alloc, ValueType::Set(key))),
+        ValueType::Map(key, value) => Value::of_cell(alloc, Cell::empty(alloc, ValueType::Map(key, value))),
+    }
+}
+
+/// It at time 0.
+pub(crate) fn empty_at(alloc: Global, of: ValueType, t: Time) -> Result<Option<Value>, NoMemory>
+    ensures { IfOk result (λ v. v ≡ at_zero t (empty_of of)) }
+{
+    if t.get() == 0 {
+        Ok(Some(empty(alloc, of)?))
+    } else {
+        Ok(None)
+    }
+}
+
+/// The first of two values where a condition is true, and the second where it is false, if all three are there.
+pub(crate) fn picked<'a>(
+    condition: Option<&Value>,
+    a: Option<&'a Value>,
+    b: Option<&'a Value>,
+) -> Option<&'a Value>
+    ensures { (option_copied result)
+        ≡ picked (option_copied condition.entry) (option_copied a.entry) (option_copied b.entry) }
+{
+    match (condition, a, b) {
+        (Some(condition), Some(_), Some(_)) => match condition.held() {
+            Held::Scalar(Scalar::Bool(is_first)) => { if *is_first { a } else { b } }
+            _ => None,
+        },
+        _ => None,
+    }
+}
+
+/// A cell with a key added, or with another value at it.
+fn added(alloc: Global, cell: &Cell, key: &Scalar, value: &Scalar) -> Result<Value, NoMemory>
+    ensures { IfOk result (λ v. v ≡ with_added (cell_view.view_of cell.now) key.now value.now) }
+{
+    let copy = cell.copy()?.with(key.copy()?, value.copy()?)?;
+    Value::of_cell(alloc, copy)
+}
+
+/// A set with a key.
+fn with_key(alloc: Global, set: &Value, key: &Value) -> Result<Value, NoMemory>
+    ensures { IfOk result (λ v. v ≡ with_key set.now key.now) }
+{
+    match (set.held(), key.held()) {
+        (Held::Aggregate(cell), Held::Scalar(key)) => match &**cell {
+            Cell::Set(_) => added(alloc, cell, key, &Scalar::Unit),
+            Cell::Map(_) => set.copy(),
+        },
+        _ => set.copy(),
+    }
+}
+
+/// A map with a key and its value.
+fn with_entry(alloc: Global, map: &Value, key: &Value, value: &Value) -> Result<Value, NoMemory>
+    ensures { IfOk result (λ v. v ≡ with_entry map.now key.now value.now) }
+{
+    match (map.held(), key.held(), value.held()) {
+        (Held::Aggregate(cell), Held::Scalar(key), Held::Scalar(value)) => match &**cell {
+            Cell::Set(_) => map.copy(),
+            Cell::Map(_) => added(alloc, cell, key, value),
+        },
+        _ => map.copy(),
+    }
+}
+
+/// An aggregate without a key.
+fn without_key(alloc: Global, aggregate: &Value, key: &Value) -> Result<Value, NoMemory>
+    ensures { IfOk result (λ v. v ≡ without_key aggregate.now key.now) }
+{
+    match (aggregate.held(), key.held()) {
+        (Held::Aggregate(cell), Held::Scalar(key)) => {
+            Value::of_cell(alloc, cell.copy()?.without(key))
+        }
+        _ => aggregate.copy(),
+    }
+}
+
+/// A set with a key, where both are there.
+pub(crate) fn key_added(
+    alloc: Global,
+    set: Option<&Value>,
+    key: Option<&Value>,
+) -> Result<Option<Value>, NoMemory>
+    ensures { IfOk result (λ v. v
+        ≡ of_both with_key (option_copied set.entry) (option_copied key.entry)) }
+{
+    match (set, key) {
+        (Some(set), Some(key)) => Ok(Some(with_key(alloc, set, key)?)),
+        _ => Ok(None),
+    }
+}
+
+/// An aggregate without a key, where both are there.
+pub(crate) fn key_removed(
+    alloc: Global,
+    aggregate: Option<&Value>,
+    key: Option<&Value>,
+) -> Result<Option<Value>, NoMemory>
+    ensures { IfOk result (λ v. v
+        ≡ of_both without_key (option_copied aggregate.entry) (option_copied key.entry)) }
+{
+    match (aggregate, key) {
+        (Some(aggregate), Some(key)) => Ok(Some(without_key(alloc, aggregate, key)?)),
+        _ => Ok(None),
+    }
+}
+
+/// A map with a key and its value, where all three are there.
+pub(crate) fn entry_added(
+    alloc: Global,
+    map: Option<&Value>,
+    key: Option<&Value>,
+    value: Option<&Value>,
+) -> Result<Option<Value>, NoMemory>
+    ensures { IfOk result (λ v. v
+        ≡ of_three with_entry (option_copied map.entry) (option_copied key.entry) (option_copied value.entry)) }
+{
+    match (map, key, value) {
+        (Some(map), Some(key), Some(value)) => Ok(Some(with_entry(alloc, map, key, value)?)),
+        _ => Ok(None),
+    }
+}
