@@ -109,3 +109,25 @@ fn nodes_are_counted(rt: HostRuntime) -> Result<(), Fail> {
     assert_eq!(rt; body.copy()?.nodes(), 5);
     Ok(())
 }
+
+/// How many nodes `$0 - $1` has with one operand in the place of its arguments.
+fn nodes_at(alloc: Global, operand: Option<Body>) -> Result<Option<u32>, NoMemory> {
+    let body = Body::two(alloc, Binary::Sub, Body::argument(0), Body::argument(1))?;
+    match body.placed(alloc, &[operand])? {
+        Some(placed) => Ok(Some(placed.nodes())),
+        None => Ok(None),
+    }
+}
+
+#[test]
+fn an_operand_that_is_missing_makes_the_whole_too_large(rt: HostRuntime) -> Result<(), Fail> {
+    let alloc = rt.alloc();
+    let negated = Body::one_within(alloc, Unary::Neg, Some(Body::argument(3)))?;
+    assert_eq!(rt; nodes_at(alloc, negated)?, Some(4));
+    assert_eq!(rt; nodes_at(alloc, None)?, None);
+    let both = Body::two_within(alloc, Binary::Add, Some(int(1)), None)?;
+    assert_eq!(rt; nodes_at(alloc, both)?, None);
+    let chosen = Body::choice_within(alloc, Some(int(1)), Some(int(2)), Some(int(3)))?;
+    assert_eq!(rt; nodes_at(alloc, chosen)?, Some(6));
+    Ok(())
+}
