@@ -1,7 +1,10 @@
 -- What a monitor keeps, a piece of the trace at a time.
 use Rattle.std.proofs.Common.{◌≡◌, ℕ, suc, ◌+◌, ◌≤◌, Bool, true, false, ◌&&◌, if◌then◌else◌, List, [], ◌∷◌, ◌++◌, length, drop, refl, sym, ◌∙◌, ap, subst, arith, Option, Some, None, is_none, slice_get, ◌-◌, Ok, Err, length-append}
 use Rattle.std.proofs.lemmas.List.{drop_at}
+use Rattle.std.specs.Prelude.{IsTrue}
+use Rattle.tsl_value.specs.View.{Plain, is_of}
 use Rattle.lift_func.specs.declared.fault.FaultKind.{FaultKind}
+use Rattle.flat_core.specs.declared.equation.Equation.{Equation}
 use Rattle.flat_core.specs.Case.{Streams}
 use Rattle.flat_core.specs.Line.{Line, IsSorted, inputs_of, last_time}
 use Rattle.flat_core.specs.Solution.{Solves}
@@ -9,15 +12,18 @@ use Rattle.flat_core.specs.System.{System}
 use Rattle.flat_core.specs.Text.{due_text}
 use Rattle.plain_solver.specs.declared.solve.End.{End}
 use Rattle.plain_solver.specs.declared.solve.End.TheVariants as end
+use Rattle.flat_core.proofs.Uniqueness.{all_by}
 use Rattle.plain_solver.specs.Ending.{EndsSo}
+use Rattle.plain_solver.specs.Typed.{IsTypedLine, AreTypedLines}
 use Rattle.trace_reader.specs.declared.fault.TraceFault.{TraceFault}
 use Rattle.trace_reader.specs.declared.fault.TraceFault.TheVariants as fault
 use Rattle.trace_reader.specs.declared.next.Rest.{Rest}
 use Rattle.trace_reader.specs.declared.next.Rest.TheVariants as rest
+use Rattle.trace_reader.specs.Laws.{IsProperLine}
 use Rattle.trace_reader.specs.Reader.{Reader, AwaitsMore}
 use Rattle.trace_reader.specs.Reading.{Reading, reading}
 use Rattle.trace_reader.specs.Reads.{Reads, Gathers, SaysRest, IfRestMore}
-use Rattle.trace_reader.proofs.LineLemmas.{reading_sorted}
+use Rattle.trace_reader.proofs.LineLemmas.{reading_proper, reading_sorted}
 use Rattle.tessla_cli.specs.declared.monitor.Monitor.{Monitor}
 use Rattle.tessla_cli.specs.declared.options.Options.{Options}
 use Rattle.tessla_cli.specs.Due.{IsDue, SolvesClosed, lines_in, refused_in, bound_in}
@@ -97,6 +103,20 @@ module _ (s : System) (o : Options) where
   module _ (m : Monitor) (bytes : List ℕ) (ended : Bool) (refused : Option TraceFault) (t : Takes s o m bytes ended refused) where
     pub sorted_lines : IsSorted m.lines.items
     sorted_lines = subst (λ (l : List Line). IsSorted l) (sym t.lines_are) (reading_sorted s o.bytes bytes ended)
+
+    pub typed_lines : AreTypedLines s m.lines.items
+    typed_lines =
+        subst (AreTypedLines s) (sym t.lines_are)
+        (all_by (IsProperLine s) (IsTypedLine s) proper_typed (reading s o.bytes bytes ended).lines (reading_proper s o.bytes bytes ended))
+      where
+        proper_typed : (l : Line) → IsProperLine s l → IsTypedLine s l
+        proper_typed l proper = record {
+          event = λ i v at e is.
+              let known = proper.event i v at in
+              let there = known.is in
+              let same : known.at ≡ e = cc in
+              subst (λ (f : Equation). IsTrue (is_of f.of (Plain v))) same known.fits;
+        }
 
     pub bound_is : bound_of m.lines.items (ended && is_none refused) ≡ bound_in s o bytes ended
     bound_is = (λ k. if ended && is_none (t.refused_is k) then last_time (t.lines_are k) + 1 else last_time (t.lines_are k))

@@ -1,9 +1,10 @@
 // What a run keeps of the trace, and what each piece brings.
 
 ghost use Rattle.std.specs.Prelude.{◌≡◌, ◌≤◌, ◌<◌, ◌++◌, ◌&&◌, ◌^◌, ℕ, List, [], false, true, drop, length, IfOk, OnErr, OnOk, Option, None, is_none};
+ghost use Rattle.flat_core.specs.Dependency.{IsRunOrder};
 ghost use Rattle.flat_core.specs.Line.{IsSorted, last_time};
 ghost use Rattle.plain_solver.specs.Ending.{EndsSo};
-ghost use Rattle.plain_solver.specs.Instant.{IsInOrder};
+ghost use Rattle.plain_solver.specs.Typed.{AreTypedLines};
 ghost use Rattle.plain_solver.specs.declared.solve.End.{End};
 ghost use Rattle.tessla_cli.specs.Due.{IsDue, bound_in, lines_in, refused_in};
 ghost use Rattle.tessla_cli.specs.Monitor.{Fed, IsRefusal, IsTextOf, IsThere, Kept, Takes, bound_of, ending_by};
@@ -15,6 +16,7 @@ use crate::options::Options;
 use crate::turn::Turn;
 use flat_core::flat::Flat;
 use flat_core::line::TraceLine;
+use flat_core::steps::Steps;
 use plain_solver::solve::{End, solve};
 use plain_solver::text::print_due;
 use std::alloc::Global;
@@ -160,19 +162,21 @@ impl<'f> Monitor<'f> {
         &self,
         alloc: Global,
         flat: &Flat,
+        order: &Steps,
         options: Options,
         has_ended: bool,
         refused: Option<TraceFault>,
     ) -> Result<Turn, NoMemory>
-        requires ordered { IsInOrder flat.now }
+        requires ordered { IsRunOrder flat.now order.now }
         requires ready { IsReady flat.now }
         requires sorted { IsSorted self.now.lines.items }
+        requires typed { AreTypedLines flat.now self.now.lines.items }
         ensures text { IfOk result (λ turn. IsTextOf flat.now self.now.lines.items (bound_of self.now.lines.items (has_ended && is_none refused)) options.instants turn.text) }
         ensures ending { IfOk result (λ turn. (end : End) × EndsSo flat.now self.now.lines.items (bound_of self.now.lines.items (has_ended && is_none refused)) options.instants end
             × (turn.ending ≡ ending_by flat.now end has_ended refused options.instants)) }
     {
         let bound = bound_of(&self.lines, has_ended && refused.is_none());
-        let solved = solve(alloc, flat, &self.lines, bound, options.instants)?;
+        let solved = solve(alloc, flat, order, &self.lines, bound, options.instants)?;
         let text = print_due(alloc, flat, &solved)?;
         Ok(Turn {
             text,
@@ -185,10 +189,11 @@ impl<'f> Monitor<'f> {
         &mut self,
         alloc: Global,
         flat: &Flat,
+        order: &Steps,
         options: Options,
         piece: &[u8],
     ) -> Result<Turn, NoMemory>
-        requires ordered { IsInOrder flat.now }
+        requires ordered { IsRunOrder flat.now order.now }
         requires ready { IsReady flat.now }
         requires kept { (fed : List ℕ) × Kept flat.now options self.old fed }
         requires short { length piece.now ≤ most_taken }
@@ -202,6 +207,7 @@ impl<'f> Monitor<'f> {
         let Turn { text, ending } = self.solve_all(
             alloc,
             flat,
+            order,
             options,
             piece.is_empty(),
             refused,

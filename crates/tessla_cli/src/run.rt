@@ -1,7 +1,7 @@
 // A run, from the words to its end.
 
 ghost use Rattle.std.specs.Prelude.{◌≡◌, ◌<◌, ◌≤◌, ◌^◌, true, false, length, IfOk, OnOk, IsErrOf};
-ghost use Rattle.plain_solver.specs.Instant.{IsInOrder};
+ghost use Rattle.flat_core.specs.Dependency.{IsRunOrder};
 ghost use Rattle.tsl_world.specs.Standing.{at_first, is_open};
 ghost use Rattle.tsl_world.specs.Runs.{Grows};
 ghost use Rattle.tsl_world.specs.World.{Rose};
@@ -17,6 +17,7 @@ use crate::source::read_source;
 use crate::watch::watch;
 use crate::words::Words;
 use flat_core::flat::Flat;
+use flat_core::steps::Steps;
 use std::alloc::Global;
 use tree_spec::fault::SpecFault;
 use tsl_world::{Slot, World};
@@ -35,13 +36,14 @@ fn run_system<W: World>(
     alloc: Global,
     world: &mut W,
     flat: &Flat,
+    order: &Steps,
     options: Options,
     buf: &mut [u8],
 ) -> Result<Ending, Broken>
     requires room { 0 < length buf.old }
     requires short { length buf.old ≤ most_taken }
     requires stands { is_open (W.standing world.old) Slot.Trace ≡ false }
-    requires ordered { IsInOrder flat.now }
+    requires ordered { IsRunOrder flat.now order.now }
     requires ready { IsReady flat.now }
     requires some { 1 ≤ options.bytes }
     requires few { options.bytes ≤ 2 ^ 40 }
@@ -53,7 +55,7 @@ fn run_system<W: World>(
 {
     let mut monitor = Monitor::new(alloc, flat, options)?;
     world.open(Slot::Trace, TRACE_NAME)?;
-    Ok(watch(alloc, world, flat, options, &mut monitor, buf)?)
+    Ok(watch(alloc, world, flat, order, options, &mut monitor, buf)?)
 }
 
 /// Compiles a source and runs its system.
@@ -76,7 +78,14 @@ fn run_source<W: World>(
     ensures ending { IfOk result (λ ending. Grows W.told W.journal world.old world.new (SourceEnds source.now options ending)) }
 {
     match compile(alloc, source) {
-        Ok(compiled) => Ok(run_system(alloc, world, &compiled.flat, options, buf)?),
+        Ok(compiled) => Ok(run_system(
+            alloc,
+            world,
+            &compiled.flat,
+            &compiled.order,
+            options,
+            buf,
+        )?),
         Err(SpecFault::Lex(fault)) => Ok(Ending::Spec(SpecFault::Lex(fault))),
         Err(SpecFault::Parse(fault)) => Ok(Ending::Spec(SpecFault::Parse(fault))),
         Err(SpecFault::NotBuilt { place }) => Ok(Ending::Spec(SpecFault::NotBuilt { place })),

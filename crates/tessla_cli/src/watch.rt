@@ -1,8 +1,8 @@
 // The loop over the trace.
 
 ghost use Rattle.std.specs.Prelude.{◌≡◌, ◌<◌, ◌≤◌, ◌++◌, ℕ, List, [], true, false, length, IfOk, OnOk, OnErr, IsErrOf};
+ghost use Rattle.flat_core.specs.Dependency.{IsRunOrder};
 ghost use Rattle.flat_core.specs.System.{System};
-ghost use Rattle.plain_solver.specs.Instant.{IsInOrder};
 ghost use Rattle.tsl_world.specs.Standing.{is_open};
 ghost use Rattle.tsl_world.specs.World.{Rose};
 ghost use Rattle.tsl_world.specs.Runs.{Runs};
@@ -17,6 +17,7 @@ use crate::options::Options;
 use crate::turn::Turn;
 use crate::write::write_all;
 use flat_core::flat::Flat;
+use flat_core::steps::Steps;
 use std::alloc::Global;
 use tsl_world::{Channel, Slot, World};
 
@@ -25,6 +26,7 @@ pub fn watch<W: World>(
     alloc: Global,
     world: &mut W,
     flat: &Flat,
+    order: &Steps,
     options: Options,
     monitor: &mut Monitor,
     buf: &mut [u8],
@@ -32,7 +34,7 @@ pub fn watch<W: World>(
     requires room { 0 < length buf.old }
     requires short { length buf.old ≤ most_taken }
     requires stands { is_open (W.standing world.old) Slot.Trace ≡ true }
-    requires ordered { IsInOrder flat.now }
+    requires ordered { IsRunOrder flat.now order.now }
     requires ready { IsReady flat.now }
     requires kept { Kept flat.now options monitor.old [] }
     ensures ok { OnOk result (W.faults world.new ≡ W.faults world.old) }
@@ -43,7 +45,7 @@ pub fn watch<W: World>(
 {
     for _ in 0..u64::MAX {
         let count = world.read(Slot::Trace, buf)?;
-        let Turn { text, ending } = monitor.advance(alloc, flat, options, &buf[..count])?;
+        let Turn { text, ending } = monitor.advance(alloc, flat, order, options, &buf[..count])?;
         write_all(world, Channel::Out, text.as_slice())?;
         if let Some(ending) = ending {
             return Ok(ending);

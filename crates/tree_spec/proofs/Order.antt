@@ -1,16 +1,14 @@
--- The system of sound declarations is in order, and its equations have names.
-use Rattle.std.proofs.Common.{◌≡◌, ℕ, zero, suc, ◌<◌, Bool, true, false, ◌||◌, List, [], ◌∷◌, refl, ap, ◌∙◌, sym, subst, Option, Some, None}
+-- The system of sound declarations is well-formed, and its equations have names.
+use Rattle.std.proofs.Common.{◌≡◌, ℕ, zero, suc, ◌<◌, Bool, true, false, ◌||◌, List, [], ◌∷◌, refl, ap, ◌∙◌, sym, subst, Option, Some, None, arith}
 use Rattle.std.specs.Prelude.{slice_get, IsSome}
-use Rattle.std.specs.List.{list_any, AllByRecursion, All}
+use Rattle.std.specs.List.{list_any, AllByRecursion}
 use Rattle.std.specs.Str.{bytes_eq}
-use Rattle.std.proofs.lemmas.List.Elements.{All-from_recursion}
 use Rattle.std.proofs.lemmas.Slice.Eq.{bytes_eq-Decides}
 use Rattle.flat_core.specs.declared.equation.Equation.{Equation}
-use Rattle.flat_core.specs.Case.{used_of}
+use Rattle.flat_core.specs.Graph.{Path, edge, step}
 use Rattle.flat_core.specs.System.{System}
-use Rattle.flat_core.specs.WellFormed.{IsRanked, unguarded_of}
-use Rattle.plain_solver.specs.Shape.{HasShape}
-use Rattle.plain_solver.specs.Instant.{IsInOrder}
+use Rattle.flat_core.specs.WellFormed.{IsRanked, IsWellFormed, Needs, unguarded_of}
+use Rattle.flat_core.proofs.Members.{all_at}
 use Rattle.tree_spec.specs.declared.item.Expression.{Expression}
 use Rattle.tree_spec.specs.declared.item.Expression.TheVariants as expression
 use Rattle.tree_spec.specs.declared.table.Declaration.{Declaration}
@@ -19,34 +17,8 @@ use Rattle.tree_spec.specs.Meaning.{number_of, op_of, arguments_of, equation_of,
 use Rattle.tree_spec.proofs.Sound.{AreDifferent, IsSound, names_of}
 use Rattle.tree_spec.proofs.Systems.{equations_of, declared_at, below_at}
 
-shaped : (ds : List Declaration) (o : Option Expression) → HasShape (op_of o) (arguments_of ds o)
-shaped ds None = tt
-shaped ds (Some expression.Nil) = tt
-shaped ds (Some expression.Unit) = tt
-shaped ds (Some (expression.Time a)) = tt
-shaped ds (Some (expression.Last v r)) = tt
-shaped ds (Some (expression.Merge a b)) = tt
-shaped ds (Some (expression.Const z a)) = tt
-shaped ds (Some (expression.NameFirst a o z)) = tt
-shaped ds (Some (expression.NumberFirst z o a)) = tt
-shaped ds (Some (expression.Neg a)) = tt
-shaped ds (Some (expression.Delay d r)) = tt
-
 abbrev AreBelow : ℕ → List ℕ → Type 0
 AreBelow n args = AllByRecursion (λ a. a < n) args
-
-used_below : (ds : List Declaration) (i : ℕ) (o : Option Expression) → AllByRecursion (λ n. number_of ds n < i) (names_of o) → AreBelow i (used_of (op_of o) (arguments_of ds o))
-used_below ds i None h = tt
-used_below ds i (Some expression.Nil) h = tt
-used_below ds i (Some expression.Unit) h = tt
-used_below ds i (Some (expression.Time a)) h = (h.0, tt)
-used_below ds i (Some (expression.Last v r)) h = (h.1.0, tt)
-used_below ds i (Some (expression.Merge a b)) h = (h.0, (h.1.0, tt))
-used_below ds i (Some (expression.Const z a)) h = (h.0, tt)
-used_below ds i (Some (expression.NameFirst a o z)) h = (h.0, tt)
-used_below ds i (Some (expression.NumberFirst z o a)) h = (h.0, tt)
-used_below ds i (Some (expression.Neg a)) h = (h.0, tt)
-used_below ds i (Some (expression.Delay d r)) h = tt
 
 unguarded_below : (ds : List Declaration) (i : ℕ) (o : Option Expression) → AllByRecursion (λ n. number_of ds n < i) (names_of o) → AreBelow i (unguarded_of (op_of o) (arguments_of ds o))
 unguarded_below ds i None h = tt
@@ -73,17 +45,18 @@ found t s i e equations h at =
     let f = declared_at (numbered t) i e (subst (λ es. slice_get es i ≡ Some e) equations at) in
     record { d = f.0; at = f.1; is = f.2; below = below_at (numbered t) i f.0 h.declarations f.1 }
 
-pub in_order : (t : Declared) (s : System) → s.equations ≡ equations_of (numbered t) → IsSound t → IsInOrder s
-in_order t s equations h =
-    record {
-      each = λ i e at.
-          let f = found t s i e equations h at in
-          let args = used_of (op_of f.d.expression) (arguments_of (numbered t) f.d.expression) in
-          record {
-            shape = subst (λ (e : Equation). HasShape e.op e.args) f.is (shaped (numbered t) f.d.expression);
-            below = subst (λ (e : Equation). All (λ a. a < i) (used_of e.op e.args)) f.is (All-from_recursion (λ a. a < i) args (used_below (numbered t) i f.d.expression f.below));
-          };
-    }
+pub well_formed : (t : Declared) (s : System) → s.equations ≡ equations_of (numbered t) → IsSound t → IsWellFormed s
+well_formed t s equations h a p = let less = path_lower a a p in omega arith
+  where
+    needs_lower : (i j : ℕ) → Needs s i j → j < i
+    needs_lower i j need =
+        let f = found t s i need.at equations h need.is in
+        let below = subst (λ (e : Equation). AllByRecursion (λ a. a < i) (unguarded_of e.op e.args)) f.is (unguarded_below (numbered t) i f.d.expression f.below) in
+        all_at (λ a. a < i) (unguarded_of need.at.op need.at.args) below j need.argument
+
+    path_lower : (i j : ℕ) → Path (Needs s) i j → j < i
+    path_lower i j (edge e) = needs_lower i j e
+    path_lower i j (step {b = m} e p) = let first = needs_lower i m e in let rest = path_lower m j p in omega arith
 
 pub ranked : (t : Declared) (s : System) → s.equations ≡ equations_of (numbered t) → IsSound t → IsRanked s (λ i. i)
 ranked t s equations h =

@@ -2,8 +2,7 @@
 
 ghost use Rattle.std.specs.Prelude.{◌≡◌, Some, map, IfOk, IfErr, OnOk};
 ghost use Rattle.flat_core.specs.Complete.{IsFlat};
-ghost use Rattle.flat_core.specs.WellFormed.{IsRanked};
-ghost use Rattle.plain_solver.specs.Instant.{IsInOrder};
+ghost use Rattle.flat_core.specs.WellFormed.{IsRanked, IsWellFormed};
 ghost use Rattle.spec_parser.specs.Shape.{item_of as tree_of};
 ghost use Rattle.tree_spec.specs.Meaning.{HaveNames};
 ghost use Rattle.tree_spec.specs.Reading.{with_tree, IsItemFault, AreRead};
@@ -68,7 +67,7 @@ fn read_items(alloc: Global, parts: &[tree::Item]) -> Result<Table, SpecFault>
 /// Inputs are numbered first, then definitions, each in the order of the source.
 pub fn read_spec(alloc: Global, source: &[u8]) -> Result<Flat, SpecFault>
     ensures ok { IfOk result (λ f. SpellsSystem source.now f) }
-    ensures in_order { IfOk result (λ f. IsInOrder f) }
+    ensures well_formed { IfOk result (λ f. IsWellFormed f) }
     ensures ranked { IfOk result (λ f. IsRanked f (λ i. i)) }
     ensures is_flat { IfOk result (λ f. IsFlat f) }
     ensures names { IfOk result (λ f. HaveNames f) }

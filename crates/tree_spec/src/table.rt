@@ -4,8 +4,7 @@ ghost use Rattle.std.specs.Prelude.{◌≡◌, ◌+◌, ◌<◌, ◌≤◌, ◌^
 ghost use Rattle.std.specs.List.{list_any};
 ghost use Rattle.std.specs.Str.{bytes_eq};
 ghost use Rattle.flat_core.specs.Complete.{IsFlat};
-ghost use Rattle.flat_core.specs.WellFormed.{IsRanked};
-ghost use Rattle.plain_solver.specs.Instant.{IsInOrder};
+ghost use Rattle.flat_core.specs.WellFormed.{IsRanked, IsWellFormed};
 ghost use Rattle.tree_spec.specs.Item.{amount_of, type_of_input};
 ghost use Rattle.tree_spec.specs.Meaning.{IsSystem, HaveNames};
 ghost use Rattle.tree_spec.specs.Table.{type_among, numbered, same_type, common_type, expression_type, is_for, is_awaited, without, newly_awaited, awaited_with, is_new, is_expected, has_room, may_be_int, has_amount, is_allowed, is_allowed_input, is_allowed_definition, is_allowed_output, with_item, with_input, with_definition, with_output, IsDeclared};
@@ -395,7 +394,7 @@ impl Table {
         requires some_output { 0 < length self.outputs }
         requires few_outputs { length self.outputs ≤ 2 ^ 31 }
         ensures system { IfOk result (λ f. IsSystem self f) }
-        ensures in_order { IfOk result (λ f. IsInOrder f) }
+        ensures well_formed { IfOk result (λ f. IsWellFormed f) }
         ensures ranked { IfOk result (λ f. IsRanked f (λ i. i)) }
         ensures is_flat { IfOk result (λ f. IsFlat f) }
         ensures names { IfOk result (λ f. HaveNames f) }

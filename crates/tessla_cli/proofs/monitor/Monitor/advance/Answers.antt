@@ -4,13 +4,18 @@ use Rattle.tessla_cli.specs.declared.monitor.Monitor.{Monitor}
 use Rattle.tessla_cli.specs.Due.{IsDue}
 use Rattle.tessla_cli.specs.Monitor.{Takes}
 use Rattle.tessla_cli.specs.Parts.{is_nothing, IsNext}
-use Rattle.tessla_cli.proofs.Monitoring.{sorted_lines, text_due_so, next_of_so, written_fits, text_added, kept_on}
+use Rattle.tessla_cli.proofs.Monitoring.{sorted_lines, typed_lines, text_due_so, next_of_so, written_fits, text_added, kept_on}
 use Rattle.tessla_cli.proofs.monitor.Monitor.advance.Goals as goal
 
 pub solve_all-requires-clause-sorted : goal.solve_all-requires-clause-sorted
 solve_all-requires-clause-sorted c =
     let (fed, kept) = c.requires.kept in
     sorted_lines c.args.flat.now c.args.options c.take.new.self (fed ++ c.args.piece.now) (is_nothing c.args.piece.now) c.in_ok-refused.refused (c.in_ok-refused.ensures.takes fed kept)
+
+pub solve_all-requires-clause-typed : goal.solve_all-requires-clause-typed
+solve_all-requires-clause-typed c =
+    let (fed, kept) = c.requires.kept in
+    typed_lines c.args.flat.now c.args.options c.take.new.self (fed ++ c.args.piece.now) (is_nothing c.args.piece.now) c.in_ok-refused.refused (c.in_ok-refused.ensures.takes fed kept)
 
 pub behind-requires : goal.behind-requires
 behind-requires c =

@@ -3,13 +3,12 @@ use Rattle.std.proofs.Common.{◌≡◌, ◌≤◌, List, length, ap, ◌∙◌,
 use Rattle.flat_core.specs.System.{System}
 use Rattle.tree_spec.specs.declared.table.Declaration.{Declaration}
 use Rattle.tree_spec.specs.Table.{Declared, numbered}
-use Rattle.plain_solver.specs.Instant.{IsInOrder}
-use Rattle.flat_core.specs.WellFormed.{IsRanked}
+use Rattle.flat_core.specs.WellFormed.{IsRanked, IsWellFormed}
 use Rattle.std.proofs.lemmas.Result.{IfOk-weaker}
 use Rattle.tree_spec.specs.Meaning.{equation_of, output_of, HaveNames}
 use Rattle.tree_spec.proofs.Sound.{sound-declared}
 use Rattle.tree_spec.proofs.Systems.{complete}
-use Rattle.tree_spec.proofs.Order.{in_order, ranked, have_names}
+use Rattle.tree_spec.proofs.Order.{well_formed, ranked, have_names}
 use Rattle.tree_spec.proofs.table.Table.into_flat.Goals as goal
 
 pub build-requires-clause-few : goal.build-requires-clause-few
@@ -32,11 +31,11 @@ build-requires-clause-complete c = λ s equations outputs.
     (outputs ∙ (ap (λ (ds : List Declaration). map (output_of ds) c.deref-2.result.now) same ∙ ap (map (output_of (numbered c.args.self))) names))
     (sound-declared c.args.self c.requires.declared) c.requires.none_awaited c.requires.some_output
 
-pub returns-clause-in_order : goal.returns-clause-in_order
-returns-clause-in_order c =
+pub returns-clause-well_formed : goal.returns-clause-well_formed
+returns-clause-well_formed c =
     let same : c.deref.result.now ≡ numbered c.args.self = c.deref.ensures.value ∙ (c.in_ok-append.ensures.items ∙ ap numbered c.self.view_is) in
-    IfOk-weaker c.build.result (λ (f : System). f.equations ≡ map (equation_of c.deref.result.now) c.deref.result.now) (λ f. IsInOrder f)
-    (λ f e. in_order c.args.self f (e ∙ ap (λ (ds : List Declaration). map (equation_of ds) ds) same) (sound-declared c.args.self c.requires.declared)) c.build.ensures.equations
+    IfOk-weaker c.build.result (λ (f : System). f.equations ≡ map (equation_of c.deref.result.now) c.deref.result.now) (λ f. IsWellFormed f)
+    (λ f e. well_formed c.args.self f (e ∙ ap (λ (ds : List Declaration). map (equation_of ds) ds) same) (sound-declared c.args.self c.requires.declared)) c.build.ensures.equations
 
 pub returns-clause-ranked : goal.returns-clause-ranked
 returns-clause-ranked c =
