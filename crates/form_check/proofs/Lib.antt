@@ -1,0 +1,5 @@
+mod AnyLemmas
+mod ArityLemmas
+mod CountLemmas
+mod OutputLemmas
+mod WalkLemmas
