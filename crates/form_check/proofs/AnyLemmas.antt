@@ -8,18 +8,15 @@ use Rattle.spec_parser.specs.declared.tree.Item.{Item}
 use Rattle.spec_parser.specs.Shape.{param_of, params_in, item_of}
 use Rattle.name_check.specs.Scope.{is_events}
 use Rattle.name_check.specs.Faults.{first}
+use Rattle.name_check.proofs.FirstLemmas.{list_any-map}
 use Rattle.form_check.specs.Declared.{are_mixed}
 use Rattle.form_check.specs.Outputs.{is_output}
-
-pub any_mapped : {A B : Type 0} (f : A → B) (p : B → Bool) (xs : List A) → list_any p (map f xs) ≡ list_any (λ x. p (f x)) xs
-any_mapped f p [] = refl
-any_mapped f p (x ∷ xs) = ap (λ b. p (f x) || b) (any_mapped f p xs)
 
 -- ---- parameters
 mixed_by : (ps : List Param) (a : Bool) → list_any (λ q. is_events q.of) ps ≡ a → are_mixed (params_in ps) ≡ (a && list_any (λ q. not (is_events q.of)) ps)
 mixed_by ps a h =
-    ap (λ b. b && list_any (λ (q : tree.Param). not (is_events q.of)) (params_in ps)) (any_mapped param_of (λ q. is_events q.of) ps ∙ h)
-    ∙ ap (λ b. a && b) (any_mapped param_of (λ q. not (is_events q.of)) ps)
+    ap (λ b. b && list_any (λ (q : tree.Param). not (is_events q.of)) (params_in ps)) (list_any-map (λ q. is_events q.of) param_of ps ∙ h)
+    ∙ ap (λ b. a && b) (list_any-map (λ q. not (is_events q.of)) param_of ps)
 
 pub mixed_if : (ps : List Param) (a b : Bool) → a ≡ list_any (λ q. is_events q.of) ps → a ≡ true → b ≡ list_any (λ q. not (is_events q.of)) ps → b ≡ are_mixed (params_in ps)
 mixed_if ps a b h is k = k ∙ sym (mixed_by ps true (sym h ∙ is))
@@ -31,4 +28,4 @@ not_mixed ps a h is = is ∙ sym (mixed_by ps false (sym h ∙ is))
 pub output_or_end : (items : List Item) (all : List tree.Item) (end : Place) (a b : Bool) → map item_of items ≡ all → a ≡ list_any (λ i. is_output (item_of i)) items → a ≡ b → first (if b then [] else end ∷ []) ≡ first (if list_any is_output all then [] else end ∷ [])
 output_or_end items all end a b same h is =
     ap (λ c. first (if c then [] else end ∷ []))
-    (sym is ∙ h ∙ sym (any_mapped item_of is_output items) ∙ ap (list_any is_output) same)
+    (sym is ∙ h ∙ sym (list_any-map is_output item_of items) ∙ ap (list_any is_output) same)

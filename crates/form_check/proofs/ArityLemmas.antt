@@ -8,8 +8,8 @@ use Rattle.name_check.specs.Builtin.{is_unit, is_lift}
 use Rattle.name_check.specs.Scope.{Scope, Agree, meaning}
 use Rattle.name_check.specs.Parts as spec
 use Rattle.name_check.specs.Parts.{parts, part_place}
-use Rattle.form_check.specs.Arity.{count, last_of, takes_one, takes_two, declared_takes, function_takes, takes, is_number, lifted_takes, lift_fits, is_wrong_call, is_wrong, wrong_in}
-use Rattle.form_check.proofs.WalkLemmas.{IsSame}
+use Rattle.form_check.specs.Arity.{count, last_of, takes_one, takes_two, declared_takes, function_takes, takes, call_fits, lifted_takes, lift_fits, is_wrong_call, is_wrong, wrong_in}
+use Rattle.name_check.proofs.WalkLemmas.{IsSame}
 
 -- ---- scopes in which each name stands for the same have the same wrong calls
 same_lifted : (items : List tree.Item) (s t : Scope) → Agree s t → (o : Option Expr) → lifted_takes items s o ≡ lifted_takes items t o
@@ -19,8 +19,8 @@ same_lifted items s t h None = refl
 
 same_call : (items : List tree.Item) (s t : Scope) → Agree s t → (n : List ℕ) (es : Exprs) → is_wrong_call items s n es ≡ is_wrong_call items t n es
 same_call items s t h n es =
-    ap (λ o. if is_lift n then not (lift_fits o (count es)) else not (is_number (takes items s n) (count es))) (same_lifted items s t h (last_of es))
-    ∙ ap (λ o. if is_lift n then not (lift_fits (lifted_takes items t (last_of es)) (count es)) else not (is_number (if is_unit n then None else if takes_one n then Some 1 else if takes_two n then Some 2 else declared_takes items o) (count es))) (h.at n)
+    ap (λ o. if is_lift n then not (lift_fits o (count es)) else not (call_fits (takes items s n) (count es))) (same_lifted items s t h (last_of es))
+    ∙ ap (λ o. if is_lift n then not (lift_fits (lifted_takes items t (last_of es)) (count es)) else not (call_fits (if is_unit n then None else if takes_one n then Some 1 else if takes_two n then Some 2 else declared_takes items o) (count es))) (h.at n)
 
 same_wrong : (items : List tree.Item) (s t : Scope) → Agree s t → (p : spec.Part) → is_wrong items s p ≡ is_wrong items t p
 same_wrong items s t h (spec.Operand (tree.Call p n es)) = same_call items s t h n es

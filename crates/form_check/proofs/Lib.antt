@@ -2,4 +2,3 @@ mod AnyLemmas
 mod ArityLemmas
 mod CountLemmas
 mod OutputLemmas
-mod WalkLemmas

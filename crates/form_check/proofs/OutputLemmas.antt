@@ -7,11 +7,11 @@ use Rattle.std.proofs.lemmas.List.{map-append}
 use Rattle.indexmap.specs.IndexSet.{insert_key}
 use Rattle.tsl_value.specs.declared.place.Place.{Place}
 use Rattle.name_check.specs.Faults.{first}
+use Rattle.name_check.proofs.FirstLemmas.{list_any-map}
 use Rattle.form_check.specs.Outputs.{printed_again}
-use Rattle.form_check.proofs.AnyLemmas.{any_mapped}
 
 has_name : {A : Type 0} (n : List ℕ) (keys : List (String A)) → list_any (bytes_eq n) (map string_bytes keys) ≡ list_any (λ k. bytes_eq n (string_bytes k)) keys
-has_name n keys = any_mapped string_bytes (bytes_eq n) keys
+has_name n keys = list_any-map (bytes_eq n) string_bytes keys
 
 again_by : {A : Type 0} (keys : List (String A)) (p : Place) (n : List ℕ) (b c : Bool) → b ≡ list_any (λ k. bytes_eq n (string_bytes k)) keys → b ≡ c → first (printed_again (map string_bytes keys) p n) ≡ first (if c then p ∷ [] else [])
 again_by keys p n b c h same = ap (λ t. first (if t then p ∷ [] else [])) (has_name n keys ∙ sym h ∙ same)

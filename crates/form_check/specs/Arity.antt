@@ -85,9 +85,10 @@ takes items scope n =
     else if takes_two n then Some 2
     else declared_takes items (meaning scope n)
 
-abbrev pub is_number : Option ℕ → ℕ → Bool
-is_number None k = false
-is_number (Some m) k = m == k
+-- a call has as many arguments as its name takes; what may not be called takes no number of them
+abbrev pub call_fits : Option ℕ → ℕ → Bool
+call_fits None k = false
+call_fits (Some m) k = m == k
 
 -- the parameters of the value function that a `lift` has as its last argument
 abbrev pub lifted_takes : List tree.Item → Scope → Option Expr → Option ℕ
@@ -107,7 +108,7 @@ abbrev pub is_wrong_lift : List tree.Item → Scope → Exprs → Bool
 is_wrong_lift items scope es = not (lift_fits (lifted_takes items scope (last_of es)) (count es))
 
 abbrev pub is_wrong_call : List tree.Item → Scope → List ℕ → Exprs → Bool
-is_wrong_call items scope n es = if is_lift n then is_wrong_lift items scope es else not (is_number (takes items scope n) (count es))
+is_wrong_call items scope n es = if is_lift n then is_wrong_lift items scope es else not (call_fits (takes items scope n) (count es))
 
 -- a call with another number of arguments than it takes
 abbrev pub is_wrong : List tree.Item → Scope → Part → Bool
@@ -119,7 +120,7 @@ is_wrong items scope (Function e) = false
 abbrev pub wrong_in : List tree.Item → Seen → List Place
 wrong_in items s = map part_place (filter (is_wrong items s.scope) (parts s.expr))
 
--- ---- value functions of more than eight parameters
+-- ---- value functions of more than eight parameters, with options or without; a macro may have more
 abbrev pub too_many_in_definition : tree.Definition → List Place
 too_many_in_definition (tree.Define q n ps w b) = if are_values ps && nat_lt 8 (length ps) then q ∷ [] else []
 
@@ -127,12 +128,13 @@ abbrev pub too_many_in_item : tree.Item → List Place
 too_many_in_item (tree.Defined p d) = too_many_in_definition d
 too_many_in_item _ = []
 
--- ---- all of them, where these names are seen at the top
+-- ---- all of them, each name of a function before the calls in its body; these names are seen at the top
 abbrev pub wrong_in_item : List tree.Item → Scope → tree.Item → List Place
 wrong_in_item items names i = too_many_in_item i ++ flat_map (wrong_in items) (item_bodies names i)
 
 abbrev pub wrong_where : Scope → List tree.Item → List Place
 wrong_where names items = flat_map (wrong_in_item items names) items
 
+-- the same of a specification by itself, where what it declares is seen at the top
 abbrev pub wrong_arities : List tree.Item → List Place
 wrong_arities items = wrong_where (top items) items

@@ -7,17 +7,18 @@ use Rattle.spec_parser.specs.Tree as tree
 use Rattle.spec_parser.specs.declared.tree.Tree.{Tree}
 use Rattle.spec_parser.specs.Shape.{items_of}
 
--- a printed name that an earlier output has
+-- the place of an output that prints a name that stands before
 abbrev pub printed_again : List (List ℕ) → Place → List ℕ → List Place
 printed_again before p n = if list_any (bytes_eq n) before then p ∷ [] else []
 
--- the name under which an item is printed, and the place of its first word: the word `out`
+-- the name under which an item is printed, if it is an output
 abbrev pub printed_name : tree.Item → List (List ℕ)
 printed_name (tree.Input p q n y) = []
 printed_name (tree.Defined p d) = []
 printed_name (tree.Output p q n) = n ∷ []
 printed_name (tree.OutputAs p e q n) = n ∷ []
 
+-- the place of an output is its word `out`
 abbrev pub printed_again_by : List (List ℕ) → tree.Item → List Place
 printed_again_by before (tree.Input p q n y) = []
 printed_again_by before (tree.Defined p d) = []

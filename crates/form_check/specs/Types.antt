@@ -1,4 +1,5 @@
--- Written types that may not stand where they do: the places of all of them, in the order of the source.
+-- Written types that may not stand where they do: their places, in the order of the source. What stands in such a type itself is
+-- not looked at.
 use Rattle.std.specs.Prelude.{List, [], ◌∷◌, ◌++◌, Option, Some, None}
 use Rattle.std.specs.List.{flat_map}
 use Rattle.tsl_value.specs.declared.place.Place.{Place}

@@ -168,8 +168,8 @@ fn find_in_item(
     find_calls_in_item(alloc, items, item, names)
 }
 
-/// The first call with another number of arguments than it takes, or the name of a value function of more than eight parameters
-/// before it, where these names are seen at the top.
+/// The first place in the source of a call with another number of arguments than it takes, or of the name of a value function with
+/// more than eight parameters. These names are seen at the top.
 pub fn find_wrong_arity(
     alloc: Global,
     items: &[Item],

@@ -4,7 +4,7 @@ ghost use Rattle.std.specs.Prelude.{◌≡◌, not, map};
 ghost use Rattle.spec_parser.specs.Shape.{exprs_of, definition_of, item_of};
 ghost use Rattle.name_check.specs.Scope.{meaning, seen};
 ghost use Rattle.name_check.specs.Shown.{part_of};
-ghost use Rattle.form_check.specs.Arity.{last_of, takes_one, takes_two, dotted_takes, definition_params, item_params, params_at, declared_takes, function_takes, takes, is_number, lifted_takes, lift_may_have, lift_fits, is_wrong_lift, is_wrong_call, is_wrong};
+ghost use Rattle.form_check.specs.Arity.{last_of, takes_one, takes_two, dotted_takes, definition_params, item_params, params_at, declared_takes, function_takes, takes, call_fits, lifted_takes, lift_may_have, lift_fits, is_wrong_lift, is_wrong_call, is_wrong};
 
 use name_check::builtin::{is_lift, is_unit};
 use name_check::declaration::Declaration;
@@ -117,8 +117,9 @@ fn takes(items: &[Item], scope: &Scope<'_>, name: &str) -> Option<usize>
     }
 }
 
-fn is_number(taken: Option<usize>, given: usize) -> bool
-    ensures { result ≡ is_number taken given }
+/// A call has as many arguments as its name takes, if it may be called at all.
+fn call_fits(taken: Option<usize>, given: usize) -> bool
+    ensures { result ≡ call_fits taken given }
 {
     match taken {
         Some(taken) => taken == given,
@@ -169,7 +170,7 @@ fn is_wrong_call(items: &[Item], scope: &Scope<'_>, name: &str, arguments: &[Exp
     if is_lift(name) {
         is_wrong_lift(items, scope, arguments)
     } else {
-        !is_number(takes(items, scope, name), arguments.len())
+        !call_fits(takes(items, scope, name), arguments.len())
     }
 }
 

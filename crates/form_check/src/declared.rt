@@ -7,15 +7,9 @@ ghost use Rattle.name_check.specs.Scope.{is_events as is_events_type};
 ghost use Rattle.name_check.specs.Faults.{first};
 ghost use Rattle.form_check.specs.Declared.{are_mixed, mixed_in_definition, mixed_in_item, mixed_parameters, is_aggregate, is_of_aggregates, aggregate_in_item, aggregate_inputs};
 
-use name_check::scope::is_events;
+use name_check::scope::{is_events, some_are_streams};
 use spec_parser::tree::{DefinitionParts, Item, Param, TypeName, TypeShape};
 use tsl_value::place::Place;
-
-fn some_are_streams(params: &[Param]) -> bool
-    ensures { result ≡ list_any (λ q. is_events_type q.of) params.now }
-{
-    params.iter().any(|param| is_events(&param.of))
-}
 
 fn some_are_values(params: &[Param]) -> bool
     ensures { result ≡ list_any (λ q. not (is_events_type q.of)) params.now }

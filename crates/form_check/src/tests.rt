@@ -55,9 +55,10 @@ fn missing_output(alloc: Global, source: &[u8]) -> Option<Place> {
 
 #[test]
 fn bad_types_are_found(rt: HostRuntime) {
-    let sources: [(&[u8], u32, u32); 20] = [
+    let sources: [(&[u8], u32, u32); 21] = [
         (b"in i: Events[Option[Int]]", 1, 14),
         (b"in i: Option[Int]", 1, 7),
+        (b"in i: Events[Events[Int]]", 1, 14),
         (b"def x: Option[Int] := 1", 1, 8),
         (b"def s := Set.empty[Set[Int]]", 1, 20),
         (b"def s := Set.empty[Unit]", 1, 20),
@@ -172,7 +173,7 @@ fn wrong_numbers_of_arguments_are_found(rt: HostRuntime) {
         assert_eq!(rt; wrong_arity(rt.alloc(), source), at(line, column));
     }
     let fine =
-        b"in i: Int\ndef m(a: Events[Int], b: Events[Int], c: Events[Int], d: Events[Int], e: Events[Int], f: Events[Int], g: Events[Int], h: Events[Int], j: Events[Int]) := a\ndef f(a: Option[Int], b: Option[Int]): Option[Int] := if isSome(a) then f(a, b) else Some(getSome(b))\ndef c := lift(i, time(i), f) + Map.get(Map.add(Map.empty[Int, Int], 1, 2), String.size(\"a\"))\nout m(i, i, i, i, i, i, i, i, c) as c\nout unit";
+        b"in i: Int\ndef m(a: Events[Int], b: Events[Int], c: Events[Int], d: Events[Int], e: Events[Int], f: Events[Int], g: Events[Int], h: Events[Int], j: Events[Int]) := a\ndef f(a: Option[Int], b: Option[Int]): Option[Int] := if isSome(a) then f(a, b) else Some(getSome(b))\ndef e(a: Int, b: Int, c: Int, d: Int, k: Int, g: Int, h: Int, l: Int): Int := a\ndef c := lift(i, time(i), f) + lift(i, i, i, i, i, i, i, i, e) + Map.get(Map.add(Map.empty[Int, Int], 1, 2), String.size(\"a\"))\nout m(i, i, i, i, i, i, i, i, c) as c\nout unit";
     assert_eq!(rt; wrong_arity(rt.alloc(), fine), None);
 }
 

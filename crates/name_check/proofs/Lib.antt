@@ -6,3 +6,4 @@ pub mod SizeLemmas
 mod TableLemmas
 mod TwiceLemmas
 pub mod UnknownLemmas
+pub mod WalkLemmas

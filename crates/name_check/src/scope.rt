@@ -116,7 +116,8 @@ pub(crate) fn all_are_streams(params: &[Param]) -> bool
     params.iter().all(|param| is_events(&param.of))
 }
 
-pub(crate) fn some_are_streams(params: &[Param]) -> bool
+/// Some of the parameters are streams.
+pub fn some_are_streams(params: &[Param]) -> bool
     ensures { result ≡ list_any (λ q. is_events q.of) params.now }
 {
     params.iter().any(|param| is_events(&param.of))

@@ -6,7 +6,7 @@ use Rattle.name_check.proofs.SizeLemmas.{definition_smaller}
 use Rattle.name_check.proofs.UnknownLemmas.{ok_same}
 use Rattle.form_check.specs.Arity.{wrong_in}
 use Rattle.form_check.specs.Steps.{wrong_in_locals}
-use Rattle.form_check.proofs.WalkLemmas.{block_hit, block_rest, locals_turn}
+use Rattle.name_check.proofs.WalkLemmas.{block_hit, block_rest, locals_turn}
 use Rattle.form_check.proofs.ArityLemmas.{wrong_same}
 use Rattle.form_check.proofs.arity.+arity.Goals as goal
 
