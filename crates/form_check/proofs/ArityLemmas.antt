@@ -1,11 +1,10 @@
 -- Calls of a wrong number of arguments hang on what names stand for alone.
-use Rattle.std.proofs.Common.{◌≡◌, ℕ, suc, Bool, not, if◌then◌else◌, List, [], ◌∷◌, ◌++◌, map, length, Option, Some, None, refl, ap, ◌∙◌, sym}
+use Rattle.std.proofs.Common.{◌≡◌, ℕ, not, if◌then◌else◌, List, map, Option, Some, None, refl, ap, ◌∙◌}
 use Rattle.std.proofs.lemmas.List.Elements.{filter_agree}
 use Rattle.spec_parser.specs.Tree as tree
 use Rattle.spec_parser.specs.Tree.{Expr, Exprs}
-use Rattle.spec_parser.specs.Shape.{exprs_of}
 use Rattle.name_check.specs.Builtin.{is_unit, is_lift}
-use Rattle.name_check.specs.Scope.{Scope, Agree, meaning}
+use Rattle.name_check.specs.Scope.{Scope, Agree}
 use Rattle.name_check.specs.Parts as spec
 use Rattle.name_check.specs.Parts.{parts, part_place}
 use Rattle.form_check.specs.Arity.{count, last_of, takes_one, takes_two, declared_takes, function_takes, takes, call_fits, lifted_takes, lift_fits, is_wrong_call, is_wrong, wrong_in}

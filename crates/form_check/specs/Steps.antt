@@ -4,7 +4,7 @@ use Rattle.std.specs.List.{flat_map}
 use Rattle.tsl_value.specs.declared.place.Place.{Place}
 use Rattle.spec_parser.specs.Tree as tree
 use Rattle.name_check.specs.Scope.{Scope, inside}
-use Rattle.name_check.specs.Bodies.{bodies, block_bodies, item_bodies}
+use Rattle.name_check.specs.Bodies.{bodies, block_bodies}
 use Rattle.form_check.specs.Arity.{wrong_in}
 
 abbrev pub wrong_in_body : List tree.Item → Scope → tree.Body → List Place
