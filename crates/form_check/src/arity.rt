@@ -62,7 +62,8 @@ fn find_in_block(
 ) -> Result<Option<Place>, NoMemory>
     ensures { IfOk result (λ found. found ≡ first (wrong_in_body (map item_of items.now) (seen scope.now) (tree.Block (definitions_of definitions.now) last.now))) }
 {
-    let inner = Scope::inner(locals(alloc, definitions)?, scope);
+    // Which numbers the definitions have does not matter here.
+    let inner = Scope::inner(locals(alloc, 0, definitions)?, scope);
     if let Some(place) = find_in_locals(alloc, items, definitions, &inner)? {
         return Ok(Some(place));
     }

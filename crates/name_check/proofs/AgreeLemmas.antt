@@ -100,6 +100,10 @@ without_number d = d
 pub record Alike (a b : Scope) : Type 0 where
   pub at : (n : List ℕ) → option_map without_number (meaning a n) ≡ option_map without_number (meaning b n)
 
+-- what does not hang on such numbers is the same
+pub alike_by : {A : Type 0} (f : Option Declaration → A) → ((o : Option Declaration) → f (option_map without_number o) ≡ f o) → (o p : Option Declaration) → option_map without_number o ≡ option_map without_number p → f o ≡ f p
+alike_by f still o p h = sym (still o) ∙ ap f h ∙ still p
+
 pub agree_alike : (a b : Scope) → Agree a b → Alike a b
 agree_alike a b h = record { at = λ n. ap (option_map without_number) (h.at n) }
 

@@ -6,5 +6,5 @@ pub mod SizeLemmas
 mod TableLemmas
 mod TopLemmas
 mod TwiceLemmas
-pub mod UnknownLemmas
+mod UnknownLemmas
 pub mod WalkLemmas

@@ -4,9 +4,8 @@ use Rattle.spec_parser.specs.Shape.{item_of}
 use Rattle.name_check.specs.Scope.{seen}
 use Rattle.name_check.specs.Bodies.{item_bodies}
 use Rattle.name_check.specs.Faults.{first}
-use Rattle.name_check.proofs.UnknownLemmas.{ok_same}
 use Rattle.form_check.specs.Arity.{wrong_in}
-use Rattle.name_check.proofs.WalkLemmas.{alone_same}
+use Rattle.name_check.proofs.WalkLemmas.{alone_same, ok_same}
 use Rattle.form_check.proofs.arity.find_calls_in_item.Goals as goal
 
 pub returns-in-OutputAs : goal.returns-in-OutputAs

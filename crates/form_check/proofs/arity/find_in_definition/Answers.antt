@@ -4,10 +4,9 @@ use Rattle.spec_parser.specs.declared.tree.Param.{Param}
 use Rattle.std.specs.Prelude.{List}
 use Rattle.name_check.specs.Scope.{seen, are_values, functions_of, parameters_from, Agree}
 use Rattle.name_check.specs.Faults.{first}
-use Rattle.name_check.proofs.UnknownLemmas.{ok_same}
 use Rattle.form_check.specs.Arity.{wrong_in}
 use Rattle.form_check.specs.Steps.{wrong_in_body}
-use Rattle.name_check.proofs.WalkLemmas.{definition_same}
+use Rattle.name_check.proofs.WalkLemmas.{definition_same, ok_same}
 use Rattle.form_check.proofs.ArityLemmas.{wrong_same}
 use Rattle.form_check.proofs.arity.find_in_definition.Goals as goal
 
