@@ -1,5 +1,6 @@
--- The first of some places, and lists that are walked through.
-use Rattle.std.proofs.Common.{◌≡◌, ℕ, suc, ◌+◌, ◌<◌, List, [], ◌∷◌, ◌++◌, length, get_or, drop, Some, None, refl, sym, ap, ◌∙◌, add-one, drop-cons}
+-- The first of some places, tests of lists, and lists that are walked through.
+use Rattle.std.proofs.Common.{◌≡◌, ℕ, suc, ◌+◌, ◌<◌, Bool, ◌||◌, List, [], ◌∷◌, ◌++◌, map, length, get_or, drop, Some, None, refl, sym, ap, ◌∙◌, add-one, drop-cons}
+use Rattle.std.specs.List.{list_any}
 use Rattle.tsl_value.specs.declared.place.Place.{Place}
 use Rattle.name_check.specs.Faults.{first}
 
@@ -16,6 +17,11 @@ first_of_front (x ∷ xs) ys p h = h
 pub empty_without_first : (xs : List Place) → first xs ≡ None → xs ≡ []
 empty_without_first [] h = refl
 empty_without_first (x ∷ xs) h = cc
+
+-- a test of what the items are mapped to
+pub list_any-map : {A B : Type 0} (p : B → Bool) (f : A → B) (xs : List A) → list_any p (map f xs) ≡ list_any (λ x. p (f x)) xs
+list_any-map p f [] = refl
+list_any-map p f (x ∷ xs) = ap (λ b. p (f x) || b) (list_any-map p f xs)
 
 -- what is left of a list at an item
 pub left_at : {A : Type 0} (xs : List A) (i : ℕ) (x : A) → i < length xs → x ≡ get_or xs i x → drop i xs ≡ x ∷ drop (i + 1) xs

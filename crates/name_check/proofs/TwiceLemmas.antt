@@ -6,18 +6,19 @@ use Rattle.std.specs.List.{find, list_any, list_all}
 use Rattle.std.specs.Str.{bytes_eq}
 use Rattle.std.specs.Cmp.Lexicographic.{nat_list_eq_equiv}
 use Rattle.std.proofs.lemmas.List.{append-nil, drop_all}
+use Rattle.std.proofs.lemmas.List.Folds.{list_all-map}
 use Rattle.tsl_value.specs.declared.place.Place.{Place}
 use Rattle.spec_parser.specs.Tree as tree
 use Rattle.spec_parser.specs.declared.tree.Param.{Param}
 use Rattle.spec_parser.specs.declared.tree.Item.{Item}
-use Rattle.spec_parser.specs.Shape.{params_in, definitions_of, item_of}
+use Rattle.spec_parser.specs.Shape.{param_of, params_in, definitions_of, item_of}
 use Rattle.name_check.specs.declared.declaration.Declaration.{Declaration}
 use Rattle.name_check.specs.declared.declaration.Declaration.TheVariants as declaration
 use Rattle.name_check.specs.Builtin.{is_built_in}
 use Rattle.name_check.specs.Scope.{Scope, Entry, meaning, declared_from, declared_as, is_events, are_values}
 use Rattle.name_check.specs.Faults.{first, again, twice_in_params, twice_in_block, twice_from, declared_twice}
 use Rattle.name_check.specs.Steps.{names_onto, names_of, local_name, twice_in_local, declared_by, twice_in_item}
-use Rattle.name_check.proofs.FirstLemmas.{first_behind, first_of_front, empty_without_first, left_at}
+use Rattle.name_check.proofs.FirstLemmas.{list_any-map, first_behind, first_of_front, empty_without_first, left_at}
 
 -- ---- names so far
 names_onto-append : (before : List (List ℕ)) (a b : Scope) → names_onto before (a ++ b) ≡ names_onto (names_onto before a) b
@@ -132,7 +133,7 @@ from-cons before (tree.Defined p (tree.Define q n ps w b)) is k = refl
 from-cons before (tree.Output p q n) is k = refl
 from-cons before (tree.OutputAs p e q n) is k = refl
 
-declared_from-cons : (k : ℕ) (i : tree.Item) (is : List tree.Item) → declared_from k (i ∷ is) ≡ declared_by k i ++ declared_from (suc k) is
+pub declared_from-cons : (k : ℕ) (i : tree.Item) (is : List tree.Item) → declared_from k (i ∷ is) ≡ declared_by k i ++ declared_from (suc k) is
 declared_from-cons k (tree.Input p q n y) is = refl
 declared_from-cons k (tree.Defined p (tree.Define q n ps w b)) is = refl
 declared_from-cons k (tree.Output p q n) is = refl
@@ -175,12 +176,10 @@ if_none (Some x) P h is = cc
 
 -- ---- what a definition is declared as, by its parameters
 all_mapped : (ps : List Param) → list_all (λ q. is_events q.of) (params_in ps) ≡ list_all (λ q. is_events q.of) ps
-all_mapped [] = refl
-all_mapped (p ∷ ps) = ap (λ b. is_events p.of && b) (all_mapped ps)
+all_mapped ps = list_all-map (λ q. is_events q.of) param_of ps
 
 any_mapped : (ps : List Param) → list_any (λ q. is_events q.of) (params_in ps) ≡ list_any (λ q. is_events q.of) ps
-any_mapped [] = refl
-any_mapped (p ∷ ps) = ap (λ b. is_events p.of || b) (any_mapped ps)
+any_mapped ps = list_any-map (λ q. is_events q.of) param_of ps
 
 by_tests : (i : ℕ) (ps : List Param) (a b : Bool) → 0 < length ps → list_all (λ q. is_events q.of) ps ≡ a → list_any (λ q. is_events q.of) ps ≡ b → declared_as i (params_in ps) ≡ (if a then declaration.Macro i else if b then declaration.Mixed i else declaration.Function i)
 by_tests i [] a b h k l = absurd (omega arith)

@@ -3,9 +3,10 @@ use Rattle.spec_parser.specs.Shape.{params_in, body_of}
 use Rattle.spec_parser.specs.declared.tree.Param.{Param}
 use Rattle.std.specs.Prelude.{List}
 use Rattle.name_check.specs.Scope.{seen, are_values, functions_of, parameters_from, Agree}
-use Rattle.name_check.specs.Faults.{first}
+use Rattle.name_check.specs.Faults.{first, unknown_in}
 use Rattle.name_check.specs.Steps.{unknown_in_body}
-use Rattle.name_check.proofs.UnknownLemmas.{definition_same, ok_same}
+use Rattle.name_check.proofs.UnknownLemmas.{unknown_same}
+use Rattle.name_check.proofs.WalkLemmas.{definition_same, ok_same}
 use Rattle.name_check.proofs.unknown.find_in_definition.Goals as goal
 
 pub returns : goal.returns
@@ -20,5 +21,5 @@ returns c =
     let around : c.around-outer.result ≡ outer ∷ [] = c.around-outer.ensures ∙ ap (λ ps. (if are_values (params_in ps) then functions_of names else names) ∷ []) c.deref.ensures.value in
     ok_same c.find_in_body.result _ _
     (ap (λ l. first (unknown_in_body (seen l) body)) (c.inner-scope.ensures ∙ ap (λ l. level ∷ l) around)
-    ∙ definition_same names level outer params body refl agrees)
+    ∙ definition_same unknown_in unknown_same names level outer params body refl agrees)
     c.find_in_body.ensures

@@ -1,0 +1,4 @@
+mod AnyLemmas
+mod ArityLemmas
+mod CountLemmas
+mod OutputLemmas

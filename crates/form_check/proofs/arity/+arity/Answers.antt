@@ -1,0 +1,44 @@
+use Rattle.std.proofs.Common.{◌≡◌, None, rules, map, sym, ap, ◌∙◌}
+use Rattle.spec_parser.specs.Shape.{definition_of, definitions_of, item_of}
+use Rattle.name_check.specs.Scope.{seen}
+use Rattle.name_check.specs.Faults.{first}
+use Rattle.name_check.proofs.SizeLemmas.{definition_smaller}
+use Rattle.form_check.specs.Arity.{wrong_in}
+use Rattle.form_check.specs.Steps.{wrong_in_locals}
+use Rattle.name_check.proofs.WalkLemmas.{block_hit, block_rest, locals_hit, locals_turn, ok_same}
+use Rattle.form_check.proofs.ArityLemmas.{wrong_same}
+use Rattle.form_check.proofs.arity.+arity.Goals as goal
+
+pub find_in_block-returns-in-Some : goal.find_in_block-returns-in-Some
+find_in_block-returns-in-Some t c =
+    let all = definitions_of c.args.definitions.now in
+    let items = map item_of c.args.items.now in
+    block_hit (wrong_in items) (wrong_same items) c.in_ok-locals.field-0 (seen c.args.scope.now) all c.args.last.now c.in-Some.place c.in_ok-locals.ensures
+    (sym c.in-Some.is ∙ c.in_ok-place.ensures ∙ ap (λ l. first (wrong_in_locals items (seen l) all)) c.inner-inner.ensures)
+
+pub find_in_block-returns : goal.find_in_block-returns
+find_in_block-returns t c =
+    let all = definitions_of c.args.definitions.now in
+    let items = map item_of c.args.items.now in
+    ok_same c.find_in_expression.result _ _
+    (ap (λ l. first (wrong_in items (record { scope = seen l; expr = c.args.last.now }))) c.inner-inner.ensures
+    ∙ block_rest (wrong_in items) (wrong_same items) c.in_ok-locals.field-0 (seen c.args.scope.now) all c.args.last.now c.in_ok-locals.ensures
+    (sym c.in_default.is ∙ c.in_ok-place.ensures ∙ ap (λ l. first (wrong_in_locals items (seen l) all)) c.inner-inner.ensures))
+    c.find_in_expression.ensures
+
+pub find_in_locals-find_in_local-requires : goal.find_in_locals-find_in_local-requires
+find_in_locals-find_in_local-requires t c =
+    let smaller = definition_smaller c.args.definitions.now c.loop-definition.definition-index c.definition-item.result (definition_of c.parts.result.now) c.loop-definition-test.true c.definition-item.is c.parts.ensures in
+    search rules
+
+pub find_in_locals-loop-definition-preserved : goal.find_in_locals-loop-definition-preserved
+find_in_locals-loop-definition-preserved t c =
+    let none : c.in_ok-place.field-0 ≡ None = search rules in
+    locals_turn (wrong_in (map item_of c.args.items.now)) (wrong_same (map item_of c.args.items.now)) (seen c.args.scope.now) c.args.definitions.now c.loop-definition.definition-index c.definition-item.result (definition_of c.parts.result.now) _ c.loop-definition-test.true c.definition-item.is c.parts.ensures c.loop-definition.invariant
+    (sym none ∙ c.in_ok-place.ensures)
+
+pub find_in_locals-returns-in-Some : goal.find_in_locals-returns-in-Some
+find_in_locals-returns-in-Some t c =
+    let items = map item_of c.args.items.now in
+    locals_hit (wrong_in items) (wrong_same items) (seen c.args.scope.now) c.args.definitions.now c.loop-definition.definition-index c.definition-item.result (definition_of c.parts.result.now) c.in-Some.place _ c.loop-definition-test.true c.definition-item.is c.parts.ensures c.loop-definition.invariant
+    (sym c.in-Some.is ∙ c.in_ok-place.ensures)

@@ -1,0 +1,20 @@
+use Rattle.std.proofs.Common.{◌≡◌, ◌+◌, ◌*◌, drop}
+use Rattle.spec_parser.specs.Shape.{body_of, definition_of, definitions_of, size_of_definition, size_of_body, size_of_definitions}
+use Rattle.name_check.specs.Faults.{first}
+use Rattle.form_check.specs.Types.{bad_in_locals}
+use Rattle.form_check.proofs.written.+written.Given as goal
+
+abbrev pub decreases-find_in_body : goal.decreases-find_in_body
+decreases-find_in_body l = 4 * size_of_body (body_of l.body.now) + 1
+
+abbrev pub decreases-find_in_block : goal.decreases-find_in_block
+decreases-find_in_block l = 4 * size_of_definitions (definitions_of l.definitions.now) + 3
+
+abbrev pub decreases-find_in_locals : goal.decreases-find_in_locals
+decreases-find_in_locals l = 4 * size_of_definitions (definitions_of l.definitions.now) + 2
+
+abbrev pub decreases-find_in_local : goal.decreases-find_in_local
+decreases-find_in_local l = 4 * size_of_definition (definition_of l.parts.now)
+
+abbrev pub invariant-find_in_locals-loop-definition : goal.invariant-find_in_locals-loop-definition
+invariant-find_in_locals-loop-definition l = first (bad_in_locals (definitions_of (drop l.definition-index l.definitions))) ≡ first (bad_in_locals (definitions_of l.definitions))

@@ -1,0 +1,5 @@
+pub mod Types
+pub mod Declared
+pub mod Arity
+pub mod Outputs
+pub mod Steps
