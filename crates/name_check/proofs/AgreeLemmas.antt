@@ -11,8 +11,8 @@ use Rattle.spec_parser.specs.declared.tree.Param.{Param}
 use Rattle.spec_parser.specs.Shape.{params_in, definitions_of}
 use Rattle.name_check.specs.declared.declaration.Declaration.{Declaration}
 use Rattle.name_check.specs.declared.declaration.Declaration.TheVariants as declaration
-use Rattle.name_check.specs.Scope.{Scope, Entry, meaning, parameters_from, locals_from, Agree}
-use Rattle.name_check.specs.Steps.{local_name}
+use Rattle.name_check.specs.Scope.{Scope, Entry, meaning, parameters_from, count_in, locals_from, Agree}
+use Rattle.name_check.specs.Steps.{local_name, local_body}
 use Rattle.name_check.proofs.FirstLemmas.{left_at}
 
 map_of_or : {A B : Type 0} (f : A → B) (a b : Option A) → option_map f (option_or a b) ≡ option_or (option_map f a) (option_map f b)
@@ -77,16 +77,53 @@ parameters_turn ps i p s t all new h is found more done =
 pub parameters_end : (ps : List Param) (i : ℕ) (s all : Scope) → length ps ≤ i → Agree (s ++ parameters_from i (params_in (drop i ps))) all → Agree s all
 parameters_end ps i s all h done = end s all (parameters_from i (params_in (drop i ps))) (ap (λ l. parameters_from i (params_in l)) (drop_all i ps h)) done
 
-locals_from-cons : (k : ℕ) (d : tree.Definition) (ds : tree.Definitions) → locals_from k (tree.more_definitions d ds) ≡ record { name = local_name d; is = declaration.Local k } ∷ locals_from (suc k) ds
+locals_from-cons : (k : ℕ) (d : tree.Definition) (ds : tree.Definitions) → locals_from k (tree.more_definitions d ds) ≡ record { name = local_name d; is = declaration.Local k } ∷ locals_from (suc k + count_in (local_body d)) ds
 locals_from-cons k (tree.Define q n ps w b) ds = refl
 
-pub locals_turn : (ds : List tree.Definition) (i : ℕ) (d : tree.Definition) (n : List ℕ) (s t all : Scope) (new : Bool) → i < length ds → d ≡ get_or ds i d → n ≡ local_name d → new ≡ is_none (meaning s n) → t ≡ (if new then s ++ record { name = n; is = declaration.Local i } ∷ [] else s) → Agree (s ++ locals_from i (definitions_of (drop i ds))) all → Agree (t ++ locals_from (i + 1) (definitions_of (drop (i + 1) ds))) all
-locals_turn ds i d n s t all new h is same found more done =
-    turn s t all (locals_from (i + 1) (definitions_of (drop (i + 1) ds))) (locals_from i (definitions_of (drop i ds))) (record { name = n; is = declaration.Local i }) new found more
-    (ap (λ l. locals_from i (definitions_of l)) (left_at ds i d h is) ∙ locals_from-cons i d (definitions_of (drop (i + 1) ds))
-    ∙ ap (λ m. record { name = m; is = declaration.Local i } ∷ locals_from (suc i) (definitions_of (drop (i + 1) ds))) (sym same)
-    ∙ ap (λ j. record { name = n; is = declaration.Local i } ∷ locals_from j (definitions_of (drop (i + 1) ds))) (sym (add-one i)))
+pub locals_turn : (ds : List tree.Definition) (i j k : ℕ) (d : tree.Definition) (n : List ℕ) (s t all : Scope) (new : Bool) → i < length ds → d ≡ get_or ds i d → n ≡ local_name d → j ≡ suc k + count_in (local_body d) → new ≡ is_none (meaning s n) → t ≡ (if new then s ++ record { name = n; is = declaration.Local k } ∷ [] else s) → Agree (s ++ locals_from k (definitions_of (drop i ds))) all → Agree (t ++ locals_from j (definitions_of (drop (i + 1) ds))) all
+locals_turn ds i j k d n s t all new h is same behind found more done =
+    turn s t all (locals_from j (definitions_of (drop (i + 1) ds))) (locals_from k (definitions_of (drop i ds))) (record { name = n; is = declaration.Local k }) new found more
+    (ap (λ l. locals_from k (definitions_of l)) (left_at ds i d h is) ∙ locals_from-cons k d (definitions_of (drop (i + 1) ds))
+    ∙ ap (λ m. record { name = m; is = declaration.Local k } ∷ locals_from (suc k + count_in (local_body d)) (definitions_of (drop (i + 1) ds))) (sym same)
+    ∙ ap (λ x. record { name = n; is = declaration.Local k } ∷ locals_from x (definitions_of (drop (i + 1) ds))) (sym behind))
     done
 
-pub locals_end : (ds : List tree.Definition) (i : ℕ) (s all : Scope) → length ds ≤ i → Agree (s ++ locals_from i (definitions_of (drop i ds))) all → Agree s all
-locals_end ds i s all h done = end s all (locals_from i (definitions_of (drop i ds))) (ap (λ l. locals_from i (definitions_of l)) (drop_all i ds h)) done
+pub locals_end : (ds : List tree.Definition) (i k : ℕ) (s all : Scope) → length ds ≤ i → Agree (s ++ locals_from k (definitions_of (drop i ds))) all → Agree s all
+locals_end ds i k s all h done = end s all (locals_from k (definitions_of (drop i ds))) (ap (λ l. locals_from k (definitions_of l)) (drop_all i ds h)) done
+
+-- ---- what a name stands for, but for the number of a block's definition
+abbrev pub without_number : Declaration → Declaration
+without_number (declaration.Local k) = declaration.Local 0
+without_number d = d
+
+-- each name stands for the same in both, but for such numbers
+pub record Alike (a b : Scope) : Type 0 where
+  pub at : (n : List ℕ) → option_map without_number (meaning a n) ≡ option_map without_number (meaning b n)
+
+pub agree_alike : (a b : Scope) → Agree a b → Alike a b
+agree_alike a b h = record { at = λ n. ap (option_map without_number) (h.at n) }
+
+pub alike_append : (a b c d : Scope) → Alike a b → Alike c d → Alike (a ++ c) (b ++ d)
+alike_append a b c d h k = record {
+  at = λ n.
+      ap (option_map without_number) (meaning-append a c n) ∙ map_of_or without_number (meaning a n) (meaning c n)
+      ∙ ap (λ o. option_or o (option_map without_number (meaning c n))) (h.at n)
+      ∙ ap (λ o. option_or (option_map without_number (meaning b n)) o) (k.at n)
+      ∙ sym (ap (option_map without_number) (meaning-append b d n) ∙ map_of_or without_number (meaning b n) (meaning d n));
+}
+
+entry_alike : (e f : Entry) (a b : Scope) → e.name ≡ f.name → without_number e.is ≡ without_number f.is → Alike a b → Alike (e ∷ a) (f ∷ b)
+entry_alike e f a b same is h = alike_append (e ∷ []) (f ∷ []) a b (record { at = one }) h
+  where
+    by : (t : Bool) → option_map without_number (option_map (λ x. x.is) (cond t (Some e) None)) ≡ option_map without_number (option_map (λ x. x.is) (cond t (Some f) None))
+    by true = ap Some is
+    by false = refl
+
+    one : (n : List ℕ) → option_map without_number (meaning (e ∷ []) n) ≡ option_map without_number (meaning (f ∷ []) n)
+    one n = by (bytes_eq e.name n) ∙ ap (λ m. option_map without_number (option_map (λ x. x.is) (cond (bytes_eq m n) (Some f) None))) same
+
+pub locals_alike : (j k : ℕ) (ds : tree.Definitions) → Alike (locals_from j ds) (locals_from k ds)
+locals_alike j k tree.no_definitions = record { at = λ n. refl }
+locals_alike j k (tree.more_definitions (tree.Define q n ps w b) ds) =
+    entry_alike (record { name = n; is = declaration.Local j }) (record { name = n; is = declaration.Local k }) (locals_from (suc j + count_in b) ds) (locals_from (suc k + count_in b) ds) refl refl
+    (locals_alike (suc j + count_in b) (suc k + count_in b) ds)

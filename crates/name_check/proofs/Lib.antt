@@ -1,8 +1,9 @@
-mod AgreeLemmas
-mod FirstLemmas
+pub mod AgreeLemmas
+pub mod FirstLemmas
 mod LawLemmas
 mod PartsLemmas
-mod SizeLemmas
+pub mod SizeLemmas
 mod TableLemmas
+mod TopLemmas
 mod TwiceLemmas
 mod UnknownLemmas

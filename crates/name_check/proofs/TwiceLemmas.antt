@@ -132,7 +132,7 @@ from-cons before (tree.Defined p (tree.Define q n ps w b)) is k = refl
 from-cons before (tree.Output p q n) is k = refl
 from-cons before (tree.OutputAs p e q n) is k = refl
 
-declared_from-cons : (k : ℕ) (i : tree.Item) (is : List tree.Item) → declared_from k (i ∷ is) ≡ declared_by k i ++ declared_from (suc k) is
+pub declared_from-cons : (k : ℕ) (i : tree.Item) (is : List tree.Item) → declared_from k (i ∷ is) ≡ declared_by k i ++ declared_from (suc k) is
 declared_from-cons k (tree.Input p q n y) is = refl
 declared_from-cons k (tree.Defined p (tree.Define q n ps w b)) is = refl
 declared_from-cons k (tree.Output p q n) is = refl

@@ -1,6 +1,7 @@
 -- Unknown names, one part, definition or item behind the other.
-use Rattle.std.proofs.Common.{◌≡◌, ℕ, ◌+◌, ◌<◌, ◌≤◌, Bool, true, false, not, ◌||◌, cond, if◌then◌else◌, List, [], ◌∷◌, ◌++◌, map, filter, length, get_or, drop, Option, Some, None, Result, Ok, Err, IfOk, refl, sym, ap, ◌∙◌}
+use Rattle.std.proofs.Common.{◌≡◌, ℕ, suc, ◌+◌, ◌<◌, ◌≤◌, Bool, true, false, not, ◌||◌, cond, if◌then◌else◌, List, [], ◌∷◌, ◌++◌, map, filter, length, get_or, drop, Option, Some, None, Result, Ok, Err, IfOk, refl, sym, ap, ◌∙◌}
 use Rattle.std.specs.List.{flat_map}
+use Rattle.std.specs.Option.{option_map}
 use Rattle.std.proofs.lemmas.List.{append-nil, drop_all}
 use Rattle.std.proofs.lemmas.List.Concat.{flat_map-append}
 use Rattle.std.proofs.lemmas.List.Elements.{filter_agree}
@@ -9,8 +10,10 @@ use Rattle.spec_parser.specs.Tree as tree
 use Rattle.spec_parser.specs.Tree.{Expr}
 use Rattle.spec_parser.specs.declared.tree.Item.{Item}
 use Rattle.spec_parser.specs.Shape.{definitions_of, item_of}
+use Rattle.name_check.specs.declared.declaration.Declaration.{Declaration}
+use Rattle.name_check.specs.declared.declaration.Declaration.TheVariants as declaration
 use Rattle.name_check.specs.Builtin.{is_unit, is_called}
-use Rattle.name_check.specs.Scope.{Scope, meaning, are_values, functions_of, parameters_from, locals_from, inside, in_block, Agree, top}
+use Rattle.name_check.specs.Scope.{Scope, meaning, are_values, functions_of, parameters_from, count_in, locals_from, inside, in_block, Agree, top}
 use Rattle.name_check.specs.Parts as spec
 use Rattle.name_check.specs.Parts.{parts, part_place}
 use Rattle.name_check.specs.Bodies.{bodies, block_bodies}
@@ -19,49 +22,103 @@ use Rattle.name_check.specs.Shown.{part_of, parts_in}
 use Rattle.name_check.specs.Faults.{first, is_mentionable, is_declared, is_a_function, is_unknown, unknown_in, unknown_names}
 use Rattle.name_check.specs.Steps.{local_body, unknown_in_body, unknown_in_locals, unknown_in_definition, unknown_in_item}
 use Rattle.name_check.proofs.FirstLemmas.{first_behind, first_of_front, empty_without_first, left_at}
-use Rattle.name_check.proofs.AgreeLemmas.{agree_same, agree_append}
+use Rattle.name_check.proofs.AgreeLemmas.{agree_same, agree_append, without_number, Alike, agree_alike, alike_append, locals_alike}
 
--- ---- scopes in which each name stands for the same have the same unknown names
-same_unknown : (s t : Scope) → Agree s t → (p : spec.Part) → is_unknown s p ≡ is_unknown t p
-same_unknown s t h (spec.Operand (tree.Name p n)) = ap (λ o. not (is_unit n || is_mentionable o)) (h.at n)
-same_unknown s t h (spec.Operand (tree.Call p n es)) = ap (λ o. not (is_unit n || is_called n || is_declared o)) (h.at n)
+-- ---- scopes in which each name stands for the same, but for numbers, have the same unknown names
+mentionable_alike : (o p : Option Declaration) → option_map without_number o ≡ option_map without_number p → is_mentionable o ≡ is_mentionable p
+mentionable_alike o p h = sym (still o) ∙ ap is_mentionable h ∙ still p
+  where
+    still : (r : Option Declaration) → is_mentionable (option_map without_number r) ≡ is_mentionable r
+    still None = refl
+    still (Some (declaration.Input i)) = refl
+    still (Some (declaration.Stream i)) = refl
+    still (Some (declaration.Macro i)) = refl
+    still (Some (declaration.Function i)) = refl
+    still (Some (declaration.Mixed i)) = refl
+    still (Some (declaration.Parameter i)) = refl
+    still (Some (declaration.Local i)) = refl
+
+declared_alike : (o p : Option Declaration) → option_map without_number o ≡ option_map without_number p → is_declared o ≡ is_declared p
+declared_alike o p h = sym (still o) ∙ ap is_declared h ∙ still p
+  where
+    still : (r : Option Declaration) → is_declared (option_map without_number r) ≡ is_declared r
+    still None = refl
+    still (Some d) = refl
+
+function_alike : (o p : Option Declaration) → option_map without_number o ≡ option_map without_number p → is_a_function o ≡ is_a_function p
+function_alike o p h = sym (still o) ∙ ap is_a_function h ∙ still p
+  where
+    still : (r : Option Declaration) → is_a_function (option_map without_number r) ≡ is_a_function r
+    still None = refl
+    still (Some (declaration.Input i)) = refl
+    still (Some (declaration.Stream i)) = refl
+    still (Some (declaration.Macro i)) = refl
+    still (Some (declaration.Function i)) = refl
+    still (Some (declaration.Mixed i)) = refl
+    still (Some (declaration.Parameter i)) = refl
+    still (Some (declaration.Local i)) = refl
+
+same_unknown : (s t : Scope) → Alike s t → (p : spec.Part) → is_unknown s p ≡ is_unknown t p
+same_unknown s t h (spec.Operand (tree.Name p n)) = ap (λ b. not (is_unit n || b)) (mentionable_alike (meaning s n) (meaning t n) (h.at n))
+same_unknown s t h (spec.Operand (tree.Call p n es)) = ap (λ b. not (is_unit n || is_called n || b)) (declared_alike (meaning s n) (meaning t n) (h.at n))
 same_unknown s t h (spec.Operand e) = refl
-same_unknown s t h (spec.Function (tree.Name p n)) = ap (λ o. not (is_a_function o)) (h.at n)
+same_unknown s t h (spec.Function (tree.Name p n)) = ap not (function_alike (meaning s n) (meaning t n) (h.at n))
 same_unknown s t h (spec.Function e) = refl
 
 abbrev unknown_at : Scope → Expr → List Place
 unknown_at s e = unknown_in (record { scope = s; expr = e })
 
-same_in_expression : (s t : Scope) → Agree s t → (e : Expr) → unknown_at s e ≡ unknown_at t e
-same_in_expression s t h e = ap (map part_place) (filter_agree (is_unknown s) (is_unknown t) (same_unknown s t h) (parts e))
+alike_in_expression : (s t : Scope) → Alike s t → (e : Expr) → unknown_at s e ≡ unknown_at t e
+alike_in_expression s t h e = ap (map part_place) (filter_agree (is_unknown s) (is_unknown t) (same_unknown s t h) (parts e))
 
-block_split : (s : Scope) (ds : tree.Definitions) (e : Expr) → unknown_in_body s (tree.Block ds e) ≡ unknown_in_locals (in_block s ds) ds ++ unknown_at (in_block s ds) e
-block_split s ds e =
-    flat_map-append unknown_in (block_bodies (in_block s ds) ds) (record { scope = in_block s ds; expr = e } ∷ [])
-    ∙ ap (λ l. unknown_in_locals (in_block s ds) ds ++ l) (append-nil (unknown_at (in_block s ds) e))
+abbrev in_body_from : ℕ → Scope → tree.Body → List Place
+in_body_from k s b = flat_map unknown_in (bodies k s b)
 
-locals-cons : (s : Scope) (d : tree.Definition) (ds : tree.Definitions) → unknown_in_locals s (tree.more_definitions d ds) ≡ unknown_in_body s (local_body d) ++ unknown_in_locals s ds
-locals-cons s (tree.Define q n ps w b) ds = flat_map-append unknown_in (bodies s b) (block_bodies s ds)
+abbrev in_locals_from : ℕ → Scope → tree.Definitions → List Place
+in_locals_from k s ds = flat_map unknown_in (block_bodies k s ds)
 
-agree_block : (s t : Scope) (ds : tree.Definitions) → Agree s t → Agree (in_block s ds) (in_block t ds)
-agree_block s t ds h = agree_append (locals_from 0 ds) (locals_from 0 ds) s t (agree_same _ _ refl) h
+block_split_from : (k : ℕ) (s : Scope) (ds : tree.Definitions) (e : Expr) → in_body_from k s (tree.Block ds e) ≡ in_locals_from k (in_block k s ds) ds ++ unknown_at (in_block k s ds) e
+block_split_from k s ds e =
+    flat_map-append unknown_in (block_bodies k (in_block k s ds) ds) (record { scope = in_block k s ds; expr = e } ∷ [])
+    ∙ ap (λ l. in_locals_from k (in_block k s ds) ds ++ l) (append-nil (unknown_at (in_block k s ds) e))
+
+alike_block : (j k : ℕ) (s t : Scope) (ds : tree.Definitions) → Alike s t → Alike (in_block j s ds) (in_block k t ds)
+alike_block j k s t ds h = alike_append (locals_from j ds) (locals_from k ds) s t (locals_alike j k ds) h
 
 mutual
-  same_in_body : (s t : Scope) → Agree s t → (b : tree.Body) → unknown_in_body s b ≡ unknown_in_body t b
-  same_in_body s t h (tree.Plain e) = ap (λ l. l ++ []) (same_in_expression s t h e)
-  same_in_body s t h (tree.Block ds e) =
-      block_split s ds e
-      ∙ ap (λ l. l ++ unknown_at (in_block s ds) e) (same_in_locals (in_block s ds) (in_block t ds) (agree_block s t ds h) ds)
-      ∙ ap (λ l. unknown_in_locals (in_block t ds) ds ++ l) (same_in_expression (in_block s ds) (in_block t ds) (agree_block s t ds h) e)
-      ∙ sym (block_split t ds e)
+  alike_in_body : (j k : ℕ) (s t : Scope) → Alike s t → (b : tree.Body) → in_body_from j s b ≡ in_body_from k t b
+  alike_in_body j k s t h (tree.Plain e) = ap (λ l. l ++ []) (alike_in_expression s t h e)
+  alike_in_body j k s t h (tree.Block ds e) =
+      block_split_from j s ds e
+      ∙ ap (λ l. l ++ unknown_at (in_block j s ds) e) (alike_in_locals j k (in_block j s ds) (in_block k t ds) (alike_block j k s t ds h) ds)
+      ∙ ap (λ l. in_locals_from k (in_block k t ds) ds ++ l) (alike_in_expression (in_block j s ds) (in_block k t ds) (alike_block j k s t ds h) e)
+      ∙ sym (block_split_from k t ds e)
 
-  same_in_locals : (s t : Scope) → Agree s t → (ds : tree.Definitions) → unknown_in_locals s ds ≡ unknown_in_locals t ds
-  same_in_locals s t h tree.no_definitions = refl
-  same_in_locals s t h (tree.more_definitions (tree.Define q n ps w b) ds) =
-      locals-cons s (tree.Define q n ps w b) ds
-      ∙ ap (λ l. l ++ unknown_in_locals s ds) (same_in_body s t h b)
-      ∙ ap (λ l. unknown_in_body t b ++ l) (same_in_locals s t h ds)
-      ∙ sym (locals-cons t (tree.Define q n ps w b) ds)
+  alike_in_locals : (j k : ℕ) (s t : Scope) → Alike s t → (ds : tree.Definitions) → in_locals_from j s ds ≡ in_locals_from k t ds
+  alike_in_locals j k s t h tree.no_definitions = refl
+  alike_in_locals j k s t h (tree.more_definitions (tree.Define q n ps w b) ds) =
+      flat_map-append unknown_in (bodies (suc j) s b) (block_bodies (suc j + count_in b) s ds)
+      ∙ ap (λ l. l ++ in_locals_from (suc j + count_in b) s ds) (alike_in_body (suc j) (suc k) s t h b)
+      ∙ ap (λ l. in_body_from (suc k) t b ++ l) (alike_in_locals (suc j + count_in b) (suc k + count_in b) s t h ds)
+      ∙ sym (flat_map-append unknown_in (bodies (suc k) t b) (block_bodies (suc k + count_in b) t ds))
+
+same_in_expression : (s t : Scope) → Agree s t → (e : Expr) → unknown_at s e ≡ unknown_at t e
+same_in_expression s t h = alike_in_expression s t (agree_alike s t h)
+
+same_in_body : (s t : Scope) → Agree s t → (b : tree.Body) → unknown_in_body s b ≡ unknown_in_body t b
+same_in_body s t h = alike_in_body 0 0 s t (agree_alike s t h)
+
+same_in_locals : (s t : Scope) → Agree s t → (ds : tree.Definitions) → unknown_in_locals s ds ≡ unknown_in_locals t ds
+same_in_locals s t h = alike_in_locals 0 0 s t (agree_alike s t h)
+
+block_split : (s : Scope) (ds : tree.Definitions) (e : Expr) → unknown_in_body s (tree.Block ds e) ≡ unknown_in_locals (in_block 0 s ds) ds ++ unknown_at (in_block 0 s ds) e
+block_split = block_split_from 0
+
+locals-cons : (s : Scope) (d : tree.Definition) (ds : tree.Definitions) → unknown_in_locals s (tree.more_definitions d ds) ≡ unknown_in_body s (local_body d) ++ unknown_in_locals s ds
+locals-cons s (tree.Define q n ps w b) ds =
+    flat_map-append unknown_in (bodies 1 s b) (block_bodies (1 + count_in b) s ds)
+    ∙ ap (λ l. l ++ in_locals_from (1 + count_in b) s ds) (alike_in_body 1 0 s s (agree_alike s s (agree_same s s refl)) b)
+    ∙ ap (λ l. unknown_in_body s b ++ l) (alike_in_locals (1 + count_in b) 0 s s (agree_alike s s (agree_same s s refl)) ds)
 
 -- ---- an expression
 pub plain_first : (s : Scope) (e : Expr) (r : Option Place) → r ≡ first (unknown_in (record { scope = s; expr = e })) → r ≡ first (unknown_in_body s (tree.Plain e))
@@ -100,14 +157,14 @@ pub parts_begin : (s : Scope) (e : Expr) (ps : List Part) → parts_in ps ≡ pa
 parts_begin s e ps h = ap (λ l. first (map part_place (filter (is_unknown s) l))) h
 
 -- ---- a block
-inner_agrees : (level s : Scope) (ds : tree.Definitions) → Agree level (locals_from 0 ds) → Agree (level ++ s) (in_block s ds)
+inner_agrees : (level s : Scope) (ds : tree.Definitions) → Agree level (locals_from 0 ds) → Agree (level ++ s) (in_block 0 s ds)
 inner_agrees level s ds h = agree_append level (locals_from 0 ds) s s h (agree_same _ _ refl)
 
 inner_split : (level s : Scope) (ds : tree.Definitions) (e : Expr) → Agree level (locals_from 0 ds) → unknown_in_body s (tree.Block ds e) ≡ unknown_in_locals (level ++ s) ds ++ unknown_at (level ++ s) e
 inner_split level s ds e h =
     block_split s ds e
-    ∙ ap (λ l. l ++ unknown_at (in_block s ds) e) (sym (same_in_locals (level ++ s) (in_block s ds) (inner_agrees level s ds h) ds))
-    ∙ ap (λ l. unknown_in_locals (level ++ s) ds ++ l) (sym (same_in_expression (level ++ s) (in_block s ds) (inner_agrees level s ds h) e))
+    ∙ ap (λ l. l ++ unknown_at (in_block 0 s ds) e) (sym (same_in_locals (level ++ s) (in_block 0 s ds) (inner_agrees level s ds h) ds))
+    ∙ ap (λ l. unknown_in_locals (level ++ s) ds ++ l) (sym (same_in_expression (level ++ s) (in_block 0 s ds) (inner_agrees level s ds h) e))
 
 pub block_hit : (level s : Scope) (ds : tree.Definitions) (e : Expr) (p : Place) → Agree level (locals_from 0 ds) → Some p ≡ first (unknown_in_locals (level ++ s) ds) → Some p ≡ first (unknown_in_body s (tree.Block ds e))
 block_hit level s ds e p h found =

@@ -1,6 +1,6 @@
 -- What names stand for, and which names are seen where. A scope lists the names that are seen, inner ones before the outer ones
 -- that they hide.
-use Rattle.std.specs.Prelude.{ℕ, suc, ◌≡◌, Bool, true, false, if◌then◌else◌, List, [], ◌∷◌, ◌++◌, filter, Option}
+use Rattle.std.specs.Prelude.{ℕ, suc, ◌+◌, ◌≡◌, Bool, true, false, if◌then◌else◌, List, [], ◌∷◌, ◌++◌, filter, Option}
 use Rattle.std.specs.Option.{option_map}
 use Rattle.std.specs.List.{find, list_any, list_all}
 use Rattle.std.specs.Str.{bytes_eq}
@@ -50,10 +50,20 @@ abbrev pub parameters_from : ℕ → List tree.Param → Scope
 parameters_from k [] = []
 parameters_from k (p ∷ ps) = record { name = p.name; is = declaration.Parameter k } ∷ parameters_from (suc k) ps
 
--- the definitions of a block, the first of which has number k
+abbrev mutual
+  -- how many definitions stand in the blocks of a body
+  pub count_in : tree.Body → ℕ
+  count_in (tree.Plain e) = 0
+  count_in (tree.Block ds e) = counts ds
+
+  pub counts : tree.Definitions → ℕ
+  counts tree.no_definitions = 0
+  counts (tree.more_definitions (tree.Define q n ps w b) ds) = suc (count_in b + counts ds)
+
+-- The definitions of a block, the first of which has number k. Those in the body of a definition have the numbers behind its own.
 abbrev pub locals_from : ℕ → tree.Definitions → Scope
 locals_from k tree.no_definitions = []
-locals_from k (tree.more_definitions (tree.Define q n ps w b) ds) = record { name = n; is = declaration.Local k } ∷ locals_from (suc k) ds
+locals_from k (tree.more_definitions (tree.Define q n ps w b) ds) = record { name = n; is = declaration.Local k } ∷ locals_from (suc k + count_in b) ds
 
 -- a value function, by what its name stands for
 abbrev pub is_function : Declaration → Bool
@@ -81,9 +91,9 @@ functions_of scope = filter (λ e. is_function e.is) scope
 abbrev pub inside : Scope → List tree.Param → Scope
 inside scope ps = parameters_from 0 ps ++ (if are_values ps then functions_of scope else scope)
 
--- what is seen in a block: its definitions hide what is seen around it
-abbrev pub in_block : Scope → tree.Definitions → Scope
-in_block scope ds = locals_from 0 ds ++ scope
+-- what is seen in a block, the first definition of which has number k: its definitions hide what is seen around it
+abbrev pub in_block : ℕ → Scope → tree.Definitions → Scope
+in_block k scope ds = locals_from k ds ++ scope
 
 -- all that is seen at some levels, the innermost of which is the first
 abbrev pub seen : List Scope → Scope

@@ -42,12 +42,12 @@ twice_in_item before (tree.Defined p d) = twice_in_definition before d
 twice_in_item before (tree.Output p q n) = []
 twice_in_item before (tree.OutputAs p e q n) = []
 
--- ---- unknown names, where these names are seen
+-- ---- unknown names, where these names are seen; which numbers the definitions of blocks have does not matter
 abbrev pub unknown_in_body : Scope → tree.Body → List Place
-unknown_in_body scope b = flat_map unknown_in (bodies scope b)
+unknown_in_body scope b = flat_map unknown_in (bodies 0 scope b)
 
 abbrev pub unknown_in_locals : Scope → tree.Definitions → List Place
-unknown_in_locals scope ds = flat_map unknown_in (block_bodies scope ds)
+unknown_in_locals scope ds = flat_map unknown_in (block_bodies 0 scope ds)
 
 abbrev pub unknown_in_definition : Scope → tree.Definition → List Place
 unknown_in_definition scope (tree.Define q n ps w b) = unknown_in_body (inside scope ps) b

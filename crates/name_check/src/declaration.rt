@@ -4,7 +4,7 @@ ghost use Rattle.std.specs.Prelude.{◌≡◌};
 ghost use Rattle.name_check.specs.Scope.{is_function, takes_arguments};
 
 /// What a name stands for. The numbers count from 0: items of the specification, parameters of the
-/// definition around, and definitions of the block around.
+/// definition around, and definitions in the blocks of the item around, each before those in its body.
 #[derive(Clone, Copy, PartialEq, Eq, Debug)]
 pub enum Declaration {
     /// The input of an item.

@@ -4,6 +4,7 @@
 
 pub mod builtin;
 pub mod check;
+pub mod count;
 pub mod declaration;
 pub mod law;
 pub mod names;
@@ -11,5 +12,6 @@ pub mod parts;
 pub mod scope;
 #[cfg(test)]
 mod tests;
+pub mod top;
 mod twice;
 mod unknown;

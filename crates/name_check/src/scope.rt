@@ -5,6 +5,7 @@ ghost use Rattle.std.specs.List.{list_all, list_any};
 ghost use Rattle.spec_parser.specs.Shape.{params_in, definitions_of};
 ghost use Rattle.name_check.specs.Scope.{meaning, seen, functions_of, is_events, are_values, parameters_from, locals_from, Agree};
 
+use crate::count::number_behind;
 use crate::declaration::Declaration;
 use crate::names::Names;
 use spec_parser::tree::{Definition, Param, TypeName, TypeShape};
@@ -140,14 +141,16 @@ pub fn parameters(alloc: Global, params: &[Param]) -> Result<Names, NoMemory>
     Ok(names)
 }
 
-/// The names of a block's definitions. The first of two equal names counts.
-pub fn locals(alloc: Global, definitions: &[Definition]) -> Result<Names, NoMemory>
-    ensures { IfOk result (λ names. Agree names (locals_from 0 (definitions_of definitions.now))) }
+/// The names of a block's definitions, the first of which has this number. The first of two equal names counts.
+pub fn locals(alloc: Global, first: usize, definitions: &[Definition]) -> Result<Names, NoMemory>
+    ensures { IfOk result (λ names. Agree names (locals_from first (definitions_of definitions.now))) }
 {
     let mut names = Names::new(alloc);
-    for (number, definition) in definitions.iter().enumerate() {
-        let name = definition.parts().name.as_str();
-        let _new = names.declare(name, Declaration::Local(number))?;
+    let mut number = first;
+    for definition in definitions {
+        let parts = definition.parts();
+        let _new = names.declare(parts.name.as_str(), Declaration::Local(number))?;
+        number = number_behind(number, &parts.body)?;
     }
     Ok(names)
 }

@@ -1,10 +1,13 @@
 // Names of small specifications.
 
 use crate::check::{NameFault, check_names};
+use crate::count::count_in;
 use crate::declaration::Declaration;
+use crate::scope::locals;
+use crate::top::{top_functions, top_names};
 use spec_lexer::lex::lex;
 use spec_parser::parse::parse;
-use spec_parser::tree::Tree;
+use spec_parser::tree::{Body, DefinitionParts, Item, Tree};
 use std::alloc::Global;
 use std::test::Fail;
 use tsl_value::place::Place;
@@ -124,5 +127,40 @@ fn names_stand_for_declarations(rt: HostRuntime) -> Result<(), Fail> {
     assert_eq!(rt; names.find("x"), None);
     assert_eq!(rt; names.find_function("f"), Some(Declaration::Function(1)));
     assert_eq!(rt; names.find_function("m"), None);
+    Ok(())
+}
+
+/// The parts of a definition that is the first item.
+fn first_definition(tree: &Tree) -> Option<&DefinitionParts> {
+    match tree.items().first() {
+        Some(Item::Defined(_, definition)) => Some(definition.parts()),
+        _ => None,
+    }
+}
+
+#[test]
+fn a_nested_block_has_numbers_of_its_own(rt: HostRuntime) -> Result<(), Fail> {
+    let source = b"def a := { def b := { def c := 1 def d := c d } def e := b e }";
+    let tree = tree_of(rt.alloc(), source).ok_or("no tree")?;
+    let parts = first_definition(&tree).ok_or("no definition")?;
+    assert_eq!(rt; count_in(&parts.body)?, 4);
+    let Body::Block(definitions, _) = &parts.body else {
+        return Err("no block")?;
+    };
+    let names = locals(rt.alloc(), 5, definitions)?;
+    assert_eq!(rt; names.find("b"), Some(Declaration::Local(5)));
+    assert_eq!(rt; names.find("c"), None);
+    assert_eq!(rt; names.find("e"), Some(Declaration::Local(8)));
+    Ok(())
+}
+
+#[test]
+fn the_first_of_two_equal_names_counts(rt: HostRuntime) -> Result<(), Fail> {
+    let source = b"def f := 1\nin f: Int\ndef f(x: Int) := x\ndef f(y: Int) := 1\nout f";
+    let tree = tree_of(rt.alloc(), source).ok_or("no tree")?;
+    let names = top_names(rt.alloc(), tree.items())?;
+    assert_eq!(rt; names.find("f"), Some(Declaration::Stream(0)));
+    let functions = top_functions(rt.alloc(), tree.items())?;
+    assert_eq!(rt; functions.find("f"), Some(Declaration::Function(2)));
     Ok(())
 }

@@ -92,7 +92,7 @@ fn find_in_local(
 }
 
 /// What the definition of an item is declared as.
-fn declared_as(number: usize, params: &[Param]) -> Declaration
+pub(crate) fn declared_as(number: usize, params: &[Param]) -> Declaration
     ensures { result ≡ declared_as number (params_in params.now) }
 {
     if params.is_empty() {

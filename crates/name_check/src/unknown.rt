@@ -101,7 +101,8 @@ fn find_in_block(
 ) -> Result<Option<Place>, NoMemory>
     ensures { IfOk result (λ found. found ≡ first (unknown_in_body (seen scope.now) (tree.Block (definitions_of definitions.now) last.now))) }
 {
-    let inner = Scope::inner(locals(alloc, definitions)?, scope);
+    // Which numbers the definitions have does not matter here.
+    let inner = Scope::inner(locals(alloc, 0, definitions)?, scope);
     if let Some(place) = find_in_locals(alloc, definitions, &inner)? {
         return Ok(Some(place));
     }

@@ -4,7 +4,7 @@ use Rattle.name_check.specs.Scope.{seen}
 use Rattle.name_check.specs.Faults.{first, unknown_in}
 use Rattle.name_check.specs.Steps.{unknown_in_locals}
 use Rattle.name_check.proofs.SizeLemmas.{definition_smaller}
-use Rattle.name_check.proofs.UnknownLemmas.{block_hit, block_rest, ok_same}
+use Rattle.name_check.proofs.UnknownLemmas.{block_hit, block_rest, locals_hit, locals_turn, ok_same}
 use Rattle.name_check.proofs.unknown.+unknown.Goals as goal
 
 pub find_in_block-returns-in-Some : goal.find_in_block-returns-in-Some
@@ -26,3 +26,13 @@ pub find_in_locals-find_in_local-requires : goal.find_in_locals-find_in_local-re
 find_in_locals-find_in_local-requires t c =
     let smaller = definition_smaller c.args.definitions.now c.loop-definition.definition-index c.definition-item.result (definition_of c.parts.result.now) c.loop-definition-test.true c.definition-item.is c.parts.ensures in
     search rules
+
+pub find_in_locals-returns-in-Some : goal.find_in_locals-returns-in-Some
+find_in_locals-returns-in-Some t c =
+    locals_hit (seen c.args.scope.now) c.args.definitions.now c.loop-definition.definition-index c.definition-item.result (definition_of c.parts.result.now) c.in-Some.place _ c.loop-definition-test.true c.definition-item.is c.parts.ensures c.loop-definition.invariant
+    (sym c.in-Some.is ∙ c.in_ok-place.ensures)
+
+pub find_in_locals-loop-definition-preserved : goal.find_in_locals-loop-definition-preserved
+find_in_locals-loop-definition-preserved t c =
+    locals_turn (seen c.args.scope.now) c.args.definitions.now c.loop-definition.definition-index c.definition-item.result (definition_of c.parts.result.now) _ c.loop-definition-test.true c.definition-item.is c.parts.ensures c.loop-definition.invariant
+    (sym c.in_default.is ∙ c.in_ok-place.ensures)
