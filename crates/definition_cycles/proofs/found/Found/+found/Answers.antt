@@ -1,0 +1,36 @@
+use Rattle.std.proofs.Common.{rules, sym, ap, ◌∙◌}
+use Rattle.spec_parser.specs.Tree as tree
+use Rattle.spec_parser.specs.Shape.{params_in, body_of, definition_of}
+use Rattle.name_check.specs.Scope.{seen}
+use Rattle.name_check.proofs.SizeLemmas.{definition_smaller}
+use Rattle.std.proofs.lemmas.Result.{on_ok_weaker}
+use Rattle.definition_cycles.specs.Nodes.{definition_nodes}
+use Rattle.definition_cycles.specs.Walk.{with_nodes}
+use Rattle.definition_cycles.proofs.FoundLemmas.{block_turn, block_end, block_learned}
+use Rattle.definition_cycles.proofs.found.Found.+found.Goals as goal
+
+pub add_block-add_definition-requires : goal.add_block-add_definition-requires
+add_block-add_definition-requires t c =
+    let smaller = definition_smaller c.args.definitions.now c.loop-definition.definition-index c.definition-item.result (definition_of c.parts-parts.result.now) c.loop-definition-test.true c.definition-item.is c.parts-parts.ensures in
+    search rules
+
+pub add_block-loop-definition-preserved : goal.add_block-loop-definition-preserved
+add_block-loop-definition-preserved t c =
+    block_turn c.args.definitions.now c.loop-definition.definition-index c.definition-item.result (definition_of c.parts-parts.result.now) c.args.item c.loop-definition.number c.in_ok-behind.behind (seen c.args.scope.now) c.loop-definition.self c.add_definition.new.self _ c.loop-definition-test.true c.definition-item.is c.parts-parts.ensures
+    c.in_ok-behind.ensures
+    c.loop-definition.invariant
+    c.in_ok-add_definition.ensures
+
+pub add_block-returns : goal.add_block-returns
+add_block-returns t c =
+    block_end c.args.definitions.now c.loop-definition.definition-index c.args.item c.loop-definition.number (seen c.args.scope.now) c.loop-definition.self _ c.loop-definition-test.false c.loop-definition.invariant
+
+pub add_definition-returns-in_ok-add_node-in-Block : goal.add_definition-returns-in_ok-add_node-in-Block
+add_definition-returns-in_ok-add_node-in-Block t c =
+    let parts = c.args.parts.now in
+    on_ok_weaker c.add_block.result
+    (λ h.
+    block_learned c.args.item c.args.number c.in_ok-locals-in-Block.field-0 c.inner-inner.result c.args.scope.now parts.place parts.name (params_in parts.params.items) parts.written c.is_some.result c.deref.result.now c.deref-in-Block.result.now c.in-Block.definitions.items c.in-Block.last c.args.self.now c.add_node-in-Block.new.self c.add_block.new.self
+    c.inner-inner.ensures c.is_some.ensures c.deref.ensures.value c.deref-in-Block.ensures.value c.in_ok-locals-in-Block.ensures c.in_ok-add_node-in-Block.ensures h
+    ∙ ap (λ b. with_nodes c.args.self.now (definition_nodes c.args.item c.args.number (seen c.args.scope.now) (tree.Define parts.place parts.name (params_in parts.params.items) parts.written (body_of b)))) (sym c.in-Block.is))
+    c.add_block.ensures

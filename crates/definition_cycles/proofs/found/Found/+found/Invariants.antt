@@ -1,0 +1,15 @@
+use Rattle.std.proofs.Common.{◌≡◌, ◌+◌, ◌*◌, drop}
+use Rattle.spec_parser.specs.Shape.{definition_of, definitions_of, size_of_definition, size_of_definitions}
+use Rattle.name_check.specs.Scope.{seen}
+use Rattle.definition_cycles.specs.Nodes.{block_nodes}
+use Rattle.definition_cycles.specs.Walk.{with_nodes}
+use Rattle.definition_cycles.proofs.found.Found.+found.Given as goal
+
+abbrev pub decreases-add_definition : goal.decreases-add_definition
+decreases-add_definition l = 4 * size_of_definition (definition_of l.parts.now)
+
+abbrev pub decreases-add_block : goal.decreases-add_block
+decreases-add_block l = 4 * size_of_definitions (definitions_of l.definitions.now) + 2
+
+abbrev pub invariant-add_block-loop-definition : goal.invariant-add_block-loop-definition
+invariant-add_block-loop-definition l = with_nodes l.self (block_nodes l.item l.number (seen l.scope) (definitions_of (drop l.definition-index l.definitions))) ≡ with_nodes l.initial.self (block_nodes l.item l.first (seen l.scope) (definitions_of l.definitions))

@@ -1,0 +1,57 @@
+// Which items call which value functions.
+
+ghost use Rattle.std.specs.Prelude.{◌≡◌, IfOk, map};
+ghost use Rattle.std.specs.List.{filter_map};
+ghost use Rattle.spec_parser.specs.Shape.{item_of};
+ghost use Rattle.definition_cycles.specs.Edges.{AreEdges, call_edge};
+ghost use Rattle.definition_cycles.specs.Calls.{Calls};
+
+use crate::graph::{Graph, to_node};
+use crate::list::push_some;
+use crate::mention::Mention;
+use name_check::declaration::Declaration;
+use spec_parser::tree::Item;
+use std::alloc::Global;
+use tsl_value::memory::NoMemory;
+
+/// A call of a value function, among so many items.
+fn call_edge(items: usize, mention: &Mention) -> Result<Option<(u32, u32)>, NoMemory>
+    ensures { IfOk result (λ edge. edge ≡ call_edge items mention.now) }
+{
+    if !mention.calls {
+        return Ok(None);
+    }
+    match mention.is {
+        Declaration::Function(called) => {
+            if called < items {
+                Ok(Some((to_node(mention.item)?, to_node(called)?)))
+            } else {
+                Ok(None)
+            }
+        }
+        _ => Ok(None),
+    }
+}
+
+/// The calls of value functions, each from the item in which it stands.
+fn call_edges(
+    alloc: Global,
+    items: usize,
+    mentions: &[Mention],
+) -> Result<Vec<(u32, u32)>, NoMemory>
+    ensures { IfOk result (λ edges. edges.items ≡ filter_map (call_edge items) mentions.now) }
+{
+    let mut edges = Vec::new(alloc);
+    for mention in mentions {
+        push_some(&mut edges, call_edge(items, mention)?)?;
+    }
+    Ok(edges)
+}
+
+/// The pairs of an item and a value function that is called in its definition.
+pub fn calls(alloc: Global, items: &[Item]) -> Result<Vec<(u32, u32)>, NoMemory>
+    ensures { IfOk result (λ edges. AreEdges (Calls (map item_of items.now)) edges.items) }
+{
+    let graph = Graph::of_items(alloc, items)?;
+    call_edges(alloc, items.len(), graph.found.mentions())
+}

@@ -1,0 +1,47 @@
+// The nodes of a specification, with the numbers of items.
+
+ghost use Rattle.std.specs.Prelude.{◌≡◌, map, IfOk};
+ghost use Rattle.spec_parser.specs.Shape.{item_of};
+ghost use Rattle.definition_cycles.specs.Nodes.{nodes};
+ghost use Rattle.definition_cycles.specs.Walk.{with_nodes, nothing_kept, firsts_from};
+
+use crate::found::Found;
+use crate::top::Top;
+use spec_parser::tree::Item;
+use std::alloc::Global;
+use tsl_value::memory::NoMemory;
+
+/// The nodes of a specification.
+#[derive(Drop)]
+pub struct Graph {
+    /// The node of each item.
+    pub firsts: Vec<usize>,
+    pub found: Found,
+}
+
+impl Graph {
+    /// The nodes of these items.
+    pub fn of_items(alloc: Global, items: &[Item]) -> Result<Graph, NoMemory>
+        ensures firsts { IfOk result (λ g. g.firsts.items ≡ firsts_from 0 (map item_of items.now)) }
+        ensures found { IfOk result (λ g. g.found ≡ with_nodes nothing_kept (nodes (map item_of items.now))) }
+    {
+        let top = Top::of_items(alloc, items)?;
+        let mut firsts = Vec::new(alloc);
+        let mut found = Found::new(alloc);
+        for (number, item) in items.iter().enumerate() {
+            firsts.push(found.heads().len())?;
+            found.add_item(alloc, &top, number, item)?;
+        }
+        Ok(Graph { firsts, found })
+    }
+}
+
+/// The number of a node, where there are few enough.
+pub fn to_node(number: usize) -> Result<u32, NoMemory>
+    ensures { IfOk result (λ n. n ≡ number) }
+{
+    match u32::try_from(number) {
+        Ok(node) => Ok(node),
+        Err(_) => Err(NoMemory),
+    }
+}

@@ -1,0 +1,55 @@
+// Definitions without a written type: their cycles, and an order.
+
+ghost use Rattle.std.specs.Prelude.{◌≡◌, map, IfOk, OnOk, IfErr};
+ghost use Rattle.spec_parser.specs.Shape.{items_of};
+ghost use Rattle.translation_order.specs.Cycle.{IsCycle};
+ghost use Rattle.translation_order.specs.Answer.{OnCycle};
+ghost use Rattle.definition_cycles.specs.Cycles.{IsFirstUntypedCycle};
+ghost use Rattle.definition_cycles.specs.Order.{IsKindOrder, Precedes, NoneNeedsType, SomeNeedsType};
+
+use crate::untyped::Untyped;
+use flat_core::steps::{Edges, Steps};
+use graph_cycles::cycle::first_on_cycle;
+use spec_parser::tree::Tree;
+use std::alloc::Global;
+use translation_order::order::{OrderFault, order};
+use tsl_value::memory::NoMemory;
+use tsl_value::place::Place;
+
+/// The place of the name of the first definition without a written type that needs one, if one does: it lies on a cycle of
+/// mentions among definitions without a written type.
+pub fn find_untyped_cycle(alloc: Global, tree: &Tree) -> Result<Option<Place>, NoMemory>
+    ensures { IfOk result (IsFirstUntypedCycle (items_of tree.now)) }
+{
+    let untyped = Untyped::of_items(alloc, tree.items())?;
+    match first_on_cycle(alloc, untyped.count, &untyped.edges)? {
+        Some(node) => Ok(Some(untyped.found.heads()[node as usize].place)),
+        None => Ok(None),
+    }
+}
+
+/// The same edges, each from its second to its first.
+fn turned(alloc: Global, edges: &[(u32, u32)]) -> Result<Edges, NoMemory>
+    ensures { IfOk result (λ t. t ≡ map (λ e. (e.1, e.0)) edges.now) }
+{
+    let mut turned = Edges::new(alloc);
+    for (from, to) in edges {
+        turned.push((*to, *from))?;
+    }
+    Ok(turned)
+}
+
+/// Lists all definitions, inputs and outputs among them, by their numbers in the order of the source, where each item comes before
+/// the definitions in its blocks. Each is listed once, and a definition without a written type behind those without one that it
+/// mentions; at each place the least that may stand there. It is refused exactly where `find_untyped_cycle` finds one, with a cycle
+/// each of which is mentioned by the next.
+pub fn kind_order(alloc: Global, tree: &Tree) -> Result<Steps, OrderFault>
+    ensures listed { IfOk result (IsKindOrder (items_of tree.now)) }
+    ensures none { OnOk result (NoneNeedsType (items_of tree.now)) }
+    ensures cycle { IfErr result (OnCycle (IsCycle (Precedes (items_of tree.now)))) }
+    ensures some { IfErr result (OnCycle (λ _. SomeNeedsType (items_of tree.now))) }
+{
+    let untyped = Untyped::of_items(alloc, tree.items())?;
+    let pairs = turned(alloc, &untyped.edges)?;
+    order(alloc, untyped.count, &pairs)
+}

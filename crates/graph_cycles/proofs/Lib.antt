@@ -1,0 +1,10 @@
+pub mod Lists
+pub mod Paths
+pub mod Visits
+pub mod Enter
+pub mod Join
+pub mod Pass
+pub mod Leave
+pub mod Ends
+pub mod Successors
+pub mod Marks
