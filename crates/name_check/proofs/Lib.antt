@@ -1,8 +1,8 @@
-mod AgreeLemmas
-mod FirstLemmas
+pub mod AgreeLemmas
+pub mod FirstLemmas
 mod LawLemmas
 mod PartsLemmas
-mod SizeLemmas
+pub mod SizeLemmas
 mod TableLemmas
 mod TwiceLemmas
-mod UnknownLemmas
+pub mod UnknownLemmas

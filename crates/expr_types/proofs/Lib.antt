@@ -1,0 +1,5 @@
+mod ArgumentLemmas
+mod CallLemmas
+mod ChainLemmas
+mod StopLemmas
+mod WrongLemmas

@@ -1,0 +1,6 @@
+pub mod Around
+pub mod Judge
+pub mod Bodies
+pub mod Answers
+pub mod Shown
+pub mod Steps
