@@ -1,5 +1,9 @@
+pub mod AlikeLemmas
 mod ArgumentLemmas
+mod BodyLemmas
 mod CallLemmas
 mod ChainLemmas
+mod Examples
+mod SameLemmas
 mod StopLemmas
 mod WrongLemmas

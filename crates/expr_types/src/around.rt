@@ -19,6 +19,7 @@ use type_rules::rule::{ExprType, Setting};
 use type_rules::written::as_written;
 
 /// Where an expression stands, and what the declared names are there.
+#[derive(Drop)]
 pub struct Around<'a> {
     pub items: &'a [Item],
     pub kinds: &'a KindTable,

@@ -1,5 +1,8 @@
 // Why a walk over expressions ends early.
 
+ghost use Rattle.std.specs.Prelude.{◌≡◌, IfOk};
+ghost use Rattle.expr_types.specs.declared.stop.Stop.TheVariants as stop;
+
 use crate::wrong::Wrong;
 use tsl_value::memory::NoMemory;
 
@@ -10,6 +13,18 @@ pub enum Stop {
     Wrong(Wrong),
     /// Memory was wanting.
     Memory,
+}
+
+impl Stop {
+    /// What does not fit, if memory was not wanting.
+    pub(crate) fn wrong(self) -> Result<Wrong, NoMemory>
+        ensures { IfOk result (λ wrong. self ≡ stop.Wrong wrong) }
+    {
+        match self {
+            Stop::Wrong(wrong) => Ok(wrong),
+            Stop::Memory => Err(NoMemory),
+        }
+    }
 }
 
 impl From<NoMemory> for Stop {
