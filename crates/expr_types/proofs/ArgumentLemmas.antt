@@ -64,9 +64,10 @@ arguments_stop at es i e ts all ws s h is fine done found =
     (λ none. sym done ∙ ap (joined ts) (rest_types at es i e h is) ∙ ap (λ x. joined ts (cons x left)) none ∙ joined_none ts) found)
 
 pub arguments_end : (at : Around) (es : List Expr) (i : ℕ) (ts all : Option (List ExprType)) (ws : List Wrong) → length es ≤ i → ws ≡ argument_wrongs at (exprs_of (drop i es)) → joined ts (types_of at (exprs_of (drop i es))) ≡ all → (ws ≡ []) × (ts ≡ all)
-arguments_end at es i ts all ws h fine done =
-    (fine ∙ ap (λ l. argument_wrongs at (exprs_of l)) (drop_all i es h),
-    sym (joined_nil ts) ∙ ap (λ l. joined ts (types_of at (exprs_of l))) (sym (drop_all i es h)) ∙ done)
+arguments_end at es i ts all ws h fine done = (
+  fine ∙ ap (λ l. argument_wrongs at (exprs_of l)) (drop_all i es h),
+  sym (joined_nil ts) ∙ ap (λ l. joined ts (types_of at (exprs_of l))) (sym (drop_all i es h)) ∙ done,
+)
 
 -- ---- the arguments of `lift`
 streams_wrong : (at : Around) (es : List Expr) (f : Expr) → stream_wrongs at (exprs_of (es ++ f ∷ [])) ≡ argument_wrongs at (exprs_of es)
@@ -92,10 +93,11 @@ lift_stop at all es f s is h =
     (λ none. ap (λ ts. lifted_by ts (last_of at (exprs_of all))) (ap (λ l. streams_of at (exprs_of l)) is ∙ streams_types at es f ∙ none)) h)
 
 pub lift_done : (at : Around) (all es : List Expr) (f : Expr) (ts : Option (List ExprType)) (c : Option Callee) (v : Option Verdict) → all ≡ es ++ f ∷ [] → (argument_wrongs at (exprs_of es) ≡ []) × (ts ≡ types_of at (exprs_of es)) → c ≡ function_of at f → v ≡ lifted_by ts c → IsWhole (stream_wrongs at (exprs_of all)) v × (v ≡ lifted_by (streams_of at (exprs_of all)) (last_of at (exprs_of all)))
-lift_done at all es f ts c v is h k done =
-    (is_whole (stream_wrongs at (exprs_of all)) v (ap (λ l. stream_wrongs at (exprs_of l)) is ∙ streams_wrong at es f ∙ h.0),
-    done ∙ ap (λ x. lifted_by x c) (h.1 ∙ sym (ap (λ l. streams_of at (exprs_of l)) is ∙ streams_types at es f))
-    ∙ ap (lifted_by (streams_of at (exprs_of all))) (k ∙ sym (ap (λ l. last_of at (exprs_of l)) is ∙ streams_last at es f)))
+lift_done at all es f ts c v is h k done = (
+  is_whole (stream_wrongs at (exprs_of all)) v (ap (λ l. stream_wrongs at (exprs_of l)) is ∙ streams_wrong at es f ∙ h.0),
+  done ∙ ap (λ x. lifted_by x c) (h.1 ∙ sym (ap (λ l. streams_of at (exprs_of l)) is ∙ streams_types at es f))
+      ∙ ap (lifted_by (streams_of at (exprs_of all))) (k ∙ sym (ap (λ l. last_of at (exprs_of l)) is ∙ streams_last at es f)),
+)
 
 pub lift_nothing : (at : Around) (all : List Expr) → length all ≡ 0 → (stream_wrongs at (exprs_of all) ≡ []) × (None ≡ lifted_by (streams_of at (exprs_of all)) (last_of at (exprs_of all)))
 lift_nothing at [] h = (refl, refl)

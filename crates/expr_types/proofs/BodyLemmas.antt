@@ -69,9 +69,10 @@ pub mention_found : (at : Around) (q : Place) (n : List ℕ) (t : Option ExprTyp
 mention_found at q n t clash r found k is =
     let known = if is_unit n then Some (expr_type.Stream unit) else option_and_then (declared_type at) (meaning at.scope n) in
     let judged : judge at (tree.Name q n) ≡ is_just known = one_choice (is_unit n) (expr_type.Stream unit) (option_and_then (declared_type at) (meaning at.scope n)) in
-    expr_found at None (tree.Name q n) t q clash r
-    (append-nil (broken (tree.Name q n) (judge at (tree.Name q n))) ∙ ap (broken (tree.Name q n)) judged ∙ just_fits (tree.Name q n) known,
-    found ∙ just_is known ∙ ap of_verdict (sym judged)) k refl is
+    expr_found at None (tree.Name q n) t q clash r (
+      append-nil (broken (tree.Name q n) (judge at (tree.Name q n))) ∙ ap (broken (tree.Name q n)) judged ∙ just_fits (tree.Name q n) known,
+      found ∙ just_is known ∙ ap of_verdict (sym judged),
+    ) k refl is
 
 -- what is found is the same
 pub ok_same : {A E : Type 0} (r : Result (Option A) E) (a b : Option A) → a ≡ b → IfOk r (λ found. found ≡ a) → IfOk r (λ found. found ≡ b)
@@ -100,19 +101,6 @@ kind_inside r at inner level levels m ds b xs e h is same here block braces =
 pub local_inside : {E : Type 0} (r : Result (Option ExprType) E) (at inner : Around) (level : Scope) (levels : List Scope) (k : ℕ) (ds : tree.Definitions) → Agree level (locals_from 0 ds) → inner ≡ moved at (seen levels) → seen levels ≡ level ++ at.scope → IfOk r (λ kind. kind ≡ local_kind inner k ds) → IfOk r (λ kind. kind ≡ local_kind (within_block at ds) k ds)
 local_inside r at inner level levels k ds h is same =
     ok_same r _ _ (ap (λ a. local_kind a k ds) (is ∙ ap (moved at) same) ∙ block_local_same at level k ds h)
-
-pub local_read : (at : Around) (ds : List tree.Definition) (k : ℕ) (d e : tree.Definition) → k < length ds → d ≡ get_or ds k d → e ≡ d → kind_of_local at e ≡ local_kind at k (definitions_of ds)
-local_read at [] k d e h is same = absurd (omega arith)
-local_read at (x ∷ xs) zero d e h is same = ap (kind_of_local at) (same ∙ is) ∙ read_first x
-  where
-    read_first : (y : tree.Definition) → kind_of_local at y ≡ local_kind at zero (tree.more_definitions y (definitions_of xs))
-    read_first (tree.Define q n ps w b) = refl
-local_read at (x ∷ xs) (suc k) d e h is same = local_read at xs k d e (omega arith) is same
-
-pub local_past : (at : Around) (ds : List tree.Definition) (k : ℕ) → length ds ≤ k → None ≡ local_kind at k (definitions_of ds)
-local_past at [] k h = refl
-local_past at (x ∷ xs) zero h = absurd (omega arith)
-local_past at (x ∷ xs) (suc k) h = local_past at xs k (omega arith)
 
 -- ---- the definition of an item
 pub inside_agrees : (items : List tree.Item) (names level : Scope) (outers levels : List Scope) (qs ps : List tree.Param) → names ≡ top items → Agree level (parameters_from 0 qs) → outers ≡ (if are_values qs then functions_of names else names) ∷ [] → levels ≡ level ∷ outers → qs ≡ ps → Agree (seen levels) (inside (top items) ps)

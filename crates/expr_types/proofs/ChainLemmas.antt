@@ -80,17 +80,18 @@ links_stop at l ls i k t all ws s h is fine done found =
     stops_same s (wrongs at k.operand ++ rest) ws all all (sym (fine ∙ rest_wrong at ls i k h is)) refl
     (stops_front s (wrongs at k.operand) rest (type_of at k.operand) all
     (λ none. sym done ∙ rest_judged at l t ls i k h is
-      ∙ ap (λ x. behind at l (with_two (link_rule at.setting l) t x) (links_in (drop (i + 1) ls))) none
-      ∙ ap (λ x. behind at l x (links_in (drop (i + 1) ls))) (nothing_chained at l t)) found)
+    ∙ ap (λ x. behind at l (with_two (link_rule at.setting l) t x) (links_in (drop (i + 1) ls))) none
+    ∙ ap (λ x. behind at l x (links_in (drop (i + 1) ls))) (nothing_chained at l t)) found)
 
 alone : (at : Around) (l : Level) (t : Option ExprType) → chain_verdict at l t no_links ≡ is_just t
 alone at l None = refl
 alone at l (Some t) = refl
 
 pub links_end : (at : Around) (l : Level) (ls : List Link) (i : ℕ) (t : Option ExprType) (v all : Option Verdict) (ws : List Wrong) → length ls ≤ i → ws ≡ link_wrongs at (links_in (drop i ls)) → chain_verdict at l t (links_in (drop i ls)) ≡ all → v ≡ is_just t → IsWhole ws v × (v ≡ all)
-links_end at l ls i t v all ws h fine done here =
-    (is_whole ws v (fine ∙ ap (λ x. link_wrongs at (links_in x)) (drop_all i ls h)),
-    here ∙ sym (alone at l t) ∙ ap (λ x. chain_verdict at l t (links_in x)) (sym (drop_all i ls h)) ∙ done)
+links_end at l ls i t v all ws h fine done here = (
+  is_whole ws v (fine ∙ ap (λ x. link_wrongs at (links_in x)) (drop_all i ls h)),
+  here ∙ sym (alone at l t) ∙ ap (λ x. chain_verdict at l t (links_in x)) (sym (drop_all i ls h)) ∙ done,
+)
 
 -- ---- the first operand before the links
 pub chain_first : (at : Around) (l : Level) (ls : Links) (s : Stop) (xs : List Wrong) (t : Option ExprType) → Stops xs t s → Stops (xs ++ link_wrongs at ls) (chain_verdict at l t ls) s

@@ -22,7 +22,7 @@ alone = record {
   scope = [];
   setting = setting.Streams;
   number = 0;
-  params = []
+  params = [];
 }
 
 abbrev at : Place

@@ -89,9 +89,10 @@ three_third f s xs ys zs t u r e d h =
     stops_behind s (xs ++ ys) zs r (with_three f t u r) (both_empty xs ys e d) (λ k. ap (λ x. with_three f t u x) k ∙ three_third_none f t u) h
 
 pub three_done : (f : ExprType → ExprType → ExprType → Verdict) (xs ys zs : List Wrong) (a b c t u r : Option ExprType) (v : Option Verdict) → (xs ≡ []) × (a ≡ t) → (ys ≡ []) × (b ≡ u) → (zs ≡ []) × (c ≡ r) → v ≡ with_three f a b c → IsWhole ((xs ++ ys) ++ zs) v × (v ≡ with_three f t u r)
-three_done f xs ys zs a b c t u r v h k l is =
-    (is_whole ((xs ++ ys) ++ zs) v (both_empty (xs ++ ys) zs (both_empty xs ys h.0 k.0) l.0),
-    is ∙ ap (λ x. with_three f x b c) h.1 ∙ ap (λ x. with_three f t x c) k.1 ∙ ap (λ x. with_three f t u x) l.1)
+three_done f xs ys zs a b c t u r v h k l is = (
+  is_whole ((xs ++ ys) ++ zs) v (both_empty (xs ++ ys) zs (both_empty xs ys h.0 k.0) l.0),
+  is ∙ ap (λ x. with_three f x b c) h.1 ∙ ap (λ x. with_three f t x c) k.1 ∙ ap (λ x. with_three f t u x) l.1,
+)
 
 -- ---- an expression, by its verdict and what is wrong inside
 pub stop_of : (e : Expr) (v : Option Verdict) (inside : List Wrong) (s : Stop) → Stops inside v s → Stops (broken e v ++ inside) (of_verdict v) s

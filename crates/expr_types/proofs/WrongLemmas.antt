@@ -139,19 +139,21 @@ clash_is (Some (Err other)) clash h = cc h
 
 pub expression_allowed : (at : Around) (e : Expr) (n : Node) (u : Option Verdict) (t : Option ExprType) → expr_of (place_of e) n ≡ e → IsWhole (inner_wrongs at (expr_of nowhere n)) u × (u ≡ judge at (expr_of nowhere n)) → None ≡ clash_in u → t ≡ of_verdict u → (wrongs at e ≡ []) × (t ≡ type_of at e)
 expression_allowed at e n u t is h none found =
-    let same : u ≡ judge at e = h.1 ∙ judged_here at e n is in
-    (wrongs_split at e
-    ∙ ap (λ v. broken e v ++ inner_wrongs at e) (sym same)
-    ∙ ap (λ l. l ++ inner_wrongs at e) (not_broken e u none)
-    ∙ sym (inside_here at e n is)
-    ∙ whole_of (inner_wrongs at (expr_of nowhere n)) u none h.0,
-    found ∙ ap of_verdict same)
+    let same : u ≡ judge at e = h.1 ∙ judged_here at e n is in (
+      wrongs_split at e
+          ∙ ap (λ v. broken e v ++ inner_wrongs at e) (sym same)
+          ∙ ap (λ l. l ++ inner_wrongs at e) (not_broken e u none)
+          ∙ sym (inside_here at e n is)
+          ∙ whole_of (inner_wrongs at (expr_of nowhere n)) u none h.0,
+      found ∙ ap of_verdict same,
+    )
 
 pub expression_broken : (at : Around) (e : Expr) (n : Node) (u : Option Verdict) (clash : Clash) (p : Place) → expr_of (place_of e) n ≡ e → IsWhole (inner_wrongs at (expr_of nowhere n)) u × (u ≡ judge at (expr_of nowhere n)) → Some clash ≡ clash_in u → p ≡ place_of e → (first (wrongs at e) ≡ Some (wrong.Part p clash)) × (type_of at e ≡ None)
 expression_broken at e n u clash p is h refused here =
-    let whole : judge at e ≡ Some (Err clash) = sym (clash_is u clash refused ∙ h.1 ∙ judged_here at e n is) in
-    (ap first (wrongs_split at e) ∙ ap (λ v. first (broken e v ++ inner_wrongs at e)) whole ∙ ap (λ q. Some (wrong.Part q clash)) (sym here),
-    ap of_verdict whole)
+    let whole : judge at e ≡ Some (Err clash) = sym (clash_is u clash refused ∙ h.1 ∙ judged_here at e n is) in (
+      ap first (wrongs_split at e) ∙ ap (λ v. first (broken e v ++ inner_wrongs at e)) whole ∙ ap (λ q. Some (wrong.Part q clash)) (sym here),
+      ap of_verdict whole,
+    )
 
 -- a node that is another one
 pub at_node : (at : Around) (n m : Node) (r : Result (Option Verdict) Stop) → m ≡ n → IsJudged (inner_wrongs at (expr_of nowhere n)) (judge at (expr_of nowhere n)) r → IsJudged (inner_wrongs at (expr_of nowhere m)) (judge at (expr_of nowhere m)) r

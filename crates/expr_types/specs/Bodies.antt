@@ -1,5 +1,5 @@
 -- What bodies are, what is asked of them, and what the declared names are.
-use Rattle.std.specs.Prelude.{◌≡◌, ℕ, zero, suc, Bool, true, false, not, ◌&&◌, if◌then◌else◌, List, [], ◌∷◌, ◌++◌, Option, Some, None, Ok, Err, slice_get}
+use Rattle.std.specs.Prelude.{◌≡◌, ℕ, suc, ◌+◌, ◌==◌, Bool, true, false, not, ◌&&◌, if◌then◌else◌, List, [], ◌∷◌, ◌++◌, Option, Some, None, Ok, Err, slice_get}
 use Rattle.std.specs.Option.{option_and_then}
 use Rattle.std.specs.List.{list_all}
 use Rattle.tsl_value.specs.declared.place.Place.{Place}
@@ -65,11 +65,25 @@ abbrev pub definition_kind : Around → List tree.Param → Option TypeName → 
 definition_kind at ps (Some w) b = written_of ps (Some w)
 definition_kind at ps None b = body_kind at (may_have_braces ps) b
 
--- the definition of number k in a block; braces may not stand in it
+abbrev mutual
+  -- how many definitions stand in the blocks of a body
+  pub count_in : tree.Body → ℕ
+  count_in (tree.Plain e) = 0
+  count_in (tree.Block ds e) = counts ds
+
+  pub counts : tree.Definitions → ℕ
+  counts tree.no_definitions = 0
+  counts (tree.more_definitions (tree.Define q n ps w b) ds) = suc (count_in b + counts ds)
+
+-- The definition of number k in a block, the first definition of which has number i. Those in the body of a definition have the
+-- numbers behind its own, and are nothing: braces may not stand there.
+abbrev pub local_from : Around → ℕ → ℕ → tree.Definitions → Option ExprType
+local_from at k i tree.no_definitions = None
+local_from at k i (tree.more_definitions (tree.Define q n ps w b) ds) =
+    if i == k then definition_kind at [] w b else local_from at k (suc i + count_in b) ds
+
 abbrev pub local_kind : Around → ℕ → tree.Definitions → Option ExprType
-local_kind at k tree.no_definitions = None
-local_kind at zero (tree.more_definitions (tree.Define q n ps w b) ds) = definition_kind at [] w b
-local_kind at (suc k) (tree.more_definitions d ds) = local_kind at k ds
+local_kind at k ds = local_from at k 0 ds
 
 -- what an item is
 abbrev pub item_kind : List tree.Item → Kinds → ℕ → Option tree.Item → Option ExprType

@@ -16,7 +16,7 @@ kind_at kinds i = option_and_then (λ kind. kind) (slice_get kinds i)
 abbrev pub kinds_of : KindTable → Kinds
 kinds_of table = record {
   item = λ i. kind_at table.items.items i;
-  local = λ i k. option_and_then (λ kinds. kind_at kinds.items k) (slice_get table.locals.items i)
+  local = λ i k. option_and_then (λ kinds. kind_at kinds.items k) (slice_get table.locals.items i);
 }
 
 abbrev pub around_of : code.Around → Around
@@ -26,7 +26,7 @@ around_of at = record {
   scope = seen at.scope.now;
   setting = at.setting;
   number = at.number;
-  params = params_in at.params.now
+  params = params_in at.params.now;
 }
 
 abbrev pub callee_in : callee.Callee → Callee

@@ -53,11 +53,7 @@ fn param_types(alloc: Global, params: &[Param]) -> Result<Option<Vec<ExprType>>,
 }
 
 /// What the parameters of an item are, if each is something.
-fn types_at(
-    alloc: Global,
-    items: &[Item],
-    number: usize,
-) -> Result<Option<Vec<ExprType>>, NoMemory>
+fn types_at(alloc: Global, items: &[Item], number: usize) -> Result<Option<Vec<ExprType>>, NoMemory>
     ensures { IfOk result (λ types. types_in types ≡ param_types (params_of (slice_get (map item_of items.now) number))) }
 {
     match items.get(number) {

@@ -56,10 +56,7 @@ fn is_const(name: &str) -> bool
 }
 
 /// A `lift` of streams that may be nothing by a function that may be nothing.
-pub(crate) fn lifted_by(
-    streams: Option<Vec<ExprType>>,
-    function: Option<Callee>,
-) -> Option<Verdict>
+pub(crate) fn lifted_by(streams: Option<Vec<ExprType>>, function: Option<Callee>) -> Option<Verdict>
     ensures { result ≡ lifted_by (types_in streams) (option_map callee_in function) }
 {
     match (streams, function) {
@@ -100,12 +97,7 @@ fn declared_call(
             None => Ok(None),
         },
         Declaration::Function(number) => match at.callee_at(alloc, number)? {
-            Some(callee) => Ok(Some(function_rule(
-                at.setting,
-                &callee.params,
-                callee.of,
-                types,
-            ))),
+            Some(callee) => Ok(Some(function_rule(at.setting, &callee.params, callee.of, types))),
             None => Ok(None),
         },
         Declaration::Input(_) => Ok(None),

@@ -11,6 +11,7 @@ ghost use Rattle.expr_types.specs.Shown.{around_of, kinds_of};
 
 use crate::around::Around;
 use crate::body::{may_have_braces, setting_of, written_of, written_stream};
+use crate::count::number_behind;
 use crate::judge::expression;
 use crate::kinds::KindTable;
 use name_check::names::Names;
@@ -102,7 +103,7 @@ fn kind_of_local(
     }
 }
 
-/// A definition of a block, at what is seen in the block.
+/// The definition of this number in a block, at what is seen in the block.
 fn local_kind(
     alloc: Global,
     at: &Around<'_>,
@@ -111,10 +112,15 @@ fn local_kind(
 ) -> Result<Option<ExprType>, NoMemory>
     ensures { IfOk result (λ kind. kind ≡ local_kind (around_of at.now) local (definitions_of definitions.now)) }
 {
-    match definitions.get(local) {
-        Some(definition) => kind_of_local(alloc, at, definition.parts()),
-        None => Ok(None),
+    let mut number = 0;
+    for definition in definitions {
+        let parts = definition.parts();
+        if number == local {
+            return kind_of_local(alloc, at, parts);
+        }
+        number = number_behind(number, &parts.body)?;
     }
+    Ok(None)
 }
 
 /// A definition of a block, at what is seen around the block.
@@ -239,7 +245,15 @@ pub fn block_kind(
 {
     match items.get(number) {
         Some(Item::Defined(_, definition)) => {
-            local_in_definition(alloc, items, names, kinds, number, local, definition.parts())
+            local_in_definition(
+                alloc,
+                items,
+                names,
+                kinds,
+                number,
+                local,
+                definition.parts(),
+            )
         }
         Some(Item::Input(_, _, _, _)) => Ok(None),
         Some(Item::Output(_, _, _)) => Ok(None),

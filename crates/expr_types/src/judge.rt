@@ -154,12 +154,7 @@ fn links(
 }
 
 #[cycle(judge)]
-fn call(
-    alloc: Global,
-    at: &Around<'_>,
-    name: &str,
-    parts: &[Expr],
-) -> Result<Option<Verdict>, Stop>
+fn call(alloc: Global, at: &Around<'_>, name: &str, parts: &[Expr]) -> Result<Option<Verdict>, Stop>
     ensures { IsJudged (inner_wrongs (around_of at.now) (tree.Call nowhere name.now (exprs_of parts.now))) (judge (around_of at.now) (tree.Call nowhere name.now (exprs_of parts.now))) result }
 {
     if is_lift(name) {
@@ -204,11 +199,7 @@ fn with_one_more(
 
 /// What the arguments of a call are, if each is something.
 #[cycle(judge)]
-fn arguments(
-    alloc: Global,
-    at: &Around<'_>,
-    parts: &[Expr],
-) -> Result<Option<Vec<ExprType>>, Stop>
+fn arguments(alloc: Global, at: &Around<'_>, parts: &[Expr]) -> Result<Option<Vec<ExprType>>, Stop>
     ensures { AreFound (argument_wrongs (around_of at.now) (exprs_of parts.now)) (types_of (around_of at.now) (exprs_of parts.now)) result }
 {
     let mut types = Some(Vec::new(alloc));

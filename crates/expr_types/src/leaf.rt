@@ -21,9 +21,7 @@ use name_check::builtin::is_unit;
 use spec_parser::tree::{Comparison, Dotted, Level, TypeName};
 use tsl_value::scalar::ValueType;
 use type_rules::asked::UNIT;
-use type_rules::operation::{
-    compare_rule, dotted_rule, if_rule, link_rule, negate_rule, not_rule,
-};
+use type_rules::operation::{compare_rule, dotted_rule, if_rule, link_rule, negate_rule, not_rule};
 use type_rules::rule::{Clash, ExprType, Setting};
 use type_rules::written::{key_of, scalar_of, value_of};
 
@@ -76,13 +74,7 @@ pub(crate) fn mentioned(at: &Around<'_>, name: &str) -> Option<ExprType>
 pub(crate) fn mention(at: &Around<'_>, name: &str) -> Option<Verdict>
     ensures { result ≡ (if is_unit_name name.now then Some (Ok (expr_type.Stream unit)) else is_just (option_and_then (declared_type (around_of at.now)) (meaning (around_of at.now).scope name.now))) }
 {
-    if is_unit(name) {
-        return Some(Ok(ExprType::Stream(UNIT)));
-    }
-    match at.scope.find(name) {
-        Some(declaration) => just(at.declared_type(declaration)),
-        None => None,
-    }
+    just(mentioned(at, name))
 }
 
 pub(crate) fn nil(of: &TypeName) -> Option<Verdict>
@@ -188,11 +180,7 @@ pub(crate) fn chosen(
     }
 }
 
-pub(crate) fn dotted(
-    at: Setting,
-    function: Dotted,
-    parts: Option<Vec<ExprType>>,
-) -> Option<Verdict>
+pub(crate) fn dotted(at: Setting, function: Dotted, parts: Option<Vec<ExprType>>) -> Option<Verdict>
     ensures { result ≡ option_map (dotted_rule at function) (types_in parts) }
 {
     match parts {

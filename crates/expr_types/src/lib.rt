@@ -3,11 +3,12 @@
 
 pub mod around;
 mod body;
-pub mod judge;
-pub mod kinds;
 mod call;
+mod count;
 pub mod define;
 pub mod items;
+pub mod judge;
+pub mod kinds;
 mod leaf;
 pub mod stop;
 #[cfg(test)]

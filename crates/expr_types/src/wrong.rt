@@ -7,7 +7,13 @@ use type_rules::rule::{Asked, Clash, ExprType};
 #[derive(Clone, Copy, PartialEq, Eq, Debug)]
 pub enum Wrong {
     /// A part does not fit, at the place of the expression.
-    Part { place: Place, clash: Clash },
+    Part {
+        place: Place,
+        clash: Clash,
+    },
     /// Braces stand where no macro is defined. What is written there is wanted, or a literal where nothing is.
-    Braces { place: Place, written: Option<ExprType> },
+    Braces {
+        place: Place,
+        written: Option<ExprType>,
+    },
 }

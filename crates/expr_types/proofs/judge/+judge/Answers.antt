@@ -109,9 +109,10 @@ links-returns-in_err-operand t c =
 pub links-returns-in-Some : goal.links-returns-in-Some
 links-returns-in-Some t c =
     let at = around_of c.args.at.now in
-    let ls = c.args.links.now in
-    (tt,
-    links_clash at c.args.level ls c.loop-link.link-index c.link-item.result c.loop-link.chained c.in_ok-operand.operand c.linked-verdict.result (chain_verdict at c.args.level c.args.first (links_in ls)) c.in-Some.clash c.loop-link-test.true c.link-item.is c.loop-link.invariant.so_far c.in_ok-operand.ensures c.linked-verdict.ensures (sym c.in-Some.is ∙ c.clash_of.ensures))
+    let ls = c.args.links.now in (
+      tt,
+      links_clash at c.args.level ls c.loop-link.link-index c.link-item.result c.loop-link.chained c.in_ok-operand.operand c.linked-verdict.result (chain_verdict at c.args.level c.args.first (links_in ls)) c.in-Some.clash c.loop-link-test.true c.link-item.is c.loop-link.invariant.so_far c.in_ok-operand.ensures c.linked-verdict.ensures (sym c.in-Some.is ∙ c.clash_of.ensures),
+    )
 
 pub links-loop-link-preserved : goal.links-loop-link-preserved
 links-loop-link-preserved t c =
