@@ -1,5 +1,5 @@
 -- Where the names that an expression mentions are alike, it is the same.
-use Rattle.std.proofs.Common.{◌≡◌, ℕ, Bool, true, false, if◌then◌else◌, List, [], ◌∷◌, ◌++◌, Option, Some, None, Result, Ok, Err, refl, sym, ap, ◌∙◌}
+use Rattle.std.proofs.Common.{◌≡◌, ℕ, Bool, true, false, if◌then◌else◌, List, [], ◌∷◌, ◌++◌, Option, Some, None, Ok, refl, ap, ◌∙◌}
 use Rattle.std.specs.Option.{option_map, option_and_then}
 use Rattle.std.specs.List.{AllByRecursion}
 use Rattle.spec_parser.specs.Tree as tree
@@ -12,11 +12,10 @@ use Rattle.name_check.specs.Scope.{meaning}
 use Rattle.name_check.specs.Parts.{Part, Operand, Function, parts, argument_parts, lift_parts, link_parts}
 use Rattle.type_rules.specs.declared.rule.ExprType.{ExprType}
 use Rattle.type_rules.specs.declared.rule.ExprType.TheVariants as expr_type
-use Rattle.type_rules.specs.declared.rule.Setting.{Setting}
 use Rattle.type_rules.specs.declared.rule.Builtin.{Builtin}
-use Rattle.type_rules.specs.Asked.{Verdict, lifted, unit, int, bool, text}
+use Rattle.type_rules.specs.Asked.{lifted, unit, int, bool, text}
 use Rattle.type_rules.specs.Rules.{compare_rule, negate_rule, not_rule, if_rule, dotted_rule, builtin_rule, macro_rule, function_rule}
-use Rattle.expr_types.specs.Around.{Around, Callee, declared_type, cons}
+use Rattle.expr_types.specs.Around.{Around, declared_type, cons}
 use Rattle.expr_types.specs.Judge.{judge, types_of, judge_links, streams_of, last_of, function_of, function_at, type_of, of_verdict, with_one, with_two, with_three, is_just, lifted_by, named_call, own_call, const_call, call_rule, is_const, builtin_of, next_link}
 use Rattle.expr_types.specs.Alike.{called, IsAlike, IsPartAlike, MentionsAlike}
 

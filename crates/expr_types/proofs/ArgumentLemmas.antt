@@ -1,7 +1,7 @@
 -- The arguments of a call, one behind the other.
-use Rattle.std.proofs.Common.{◌≡◌, ℕ, suc, ◌+◌, ◌<◌, ◌≤◌, List, [], ◌∷◌, ◌++◌, length, get_or, drop, Option, Some, None, Result, Ok, Err, refl, sym, ap, ◌∙◌, append_assoc, add-one, drop-cons, arith}
+use Rattle.std.proofs.Common.{◌≡◌, ℕ, suc, ◌+◌, ◌<◌, ◌≤◌, List, [], ◌∷◌, ◌++◌, length, get_or, drop, Option, Some, None, refl, sym, ap, ◌∙◌, append_assoc, add-one, drop-cons, arith}
 use Rattle.std.proofs.lemmas.List.{append-nil, drop_all}
-use Rattle.spec_parser.specs.Tree.{Expr, Exprs, no_exprs, more_exprs}
+use Rattle.spec_parser.specs.Tree.{Expr}
 use Rattle.spec_parser.specs.declared.tree.Param.{Param}
 use Rattle.spec_parser.specs.Shape.{exprs_of, params_in}
 use Rattle.type_rules.specs.declared.rule.ExprType.{ExprType}
@@ -12,7 +12,7 @@ use Rattle.expr_types.specs.declared.stop.Stop.{Stop}
 use Rattle.expr_types.specs.Around.{Around, Callee, cons, param_types}
 use Rattle.expr_types.specs.Judge.{type_of, types_of, streams_of, last_of, function_of, lifted_by, wrongs}
 use Rattle.expr_types.specs.Steps.{argument_wrongs, stream_wrongs, joined, one_more}
-use Rattle.expr_types.specs.Answers.{first, Stops, IsWhole}
+use Rattle.expr_types.specs.Answers.{Stops, IsWhole}
 use Rattle.expr_types.proofs.StopLemmas.{stops_front, stops_same, is_whole}
 
 -- what is left of a list at an item

@@ -1,5 +1,5 @@
 -- Bodies and items.
-use Rattle.std.proofs.Common.{◌≡◌, ℕ, zero, suc, ◌<◌, ◌≤◌, Bool, true, false, ◌&&◌, if◌then◌else◌, List, [], ◌∷◌, ◌++◌, length, get_or, Option, Some, None, Result, Ok, Err, IfOk, Vec, Global, refl, sym, ap, ◌∙◌, arith}
+use Rattle.std.proofs.Common.{◌≡◌, ℕ, ◌<◌, Bool, true, false, ◌&&◌, if◌then◌else◌, List, [], ◌∷◌, ◌++◌, length, Option, Some, None, Result, Ok, Err, IfOk, Vec, Global, refl, sym, ap, ◌∙◌, arith}
 use Rattle.std.specs.Option.{option_map, option_and_then}
 use Rattle.std.specs.List.{list_all}
 use Rattle.std.proofs.lemmas.List.{append-nil}
@@ -28,7 +28,7 @@ use Rattle.expr_types.specs.declared.wrong.Wrong.TheVariants as wrong
 use Rattle.expr_types.specs.Around.{Around, Kinds, declared_type}
 use Rattle.expr_types.specs.Judge.{type_of, wrongs, broken, judge, of_verdict, is_just}
 use Rattle.expr_types.specs.Bodies.{setting_of, written_of, may_have_braces, asked_wrong, asked_of, expr_wrongs, local_wrongs, macro_wrongs, body_wrongs, item_wrongs, in_definition, within_block, expr_kind, body_kind, definition_kind, local_kind}
-use Rattle.expr_types.specs.BodySteps.{refusal, asked_clash, kind_of_local, kind_in_block, local_in_definition}
+use Rattle.expr_types.specs.BodySteps.{refusal, asked_clash, kind_in_block, local_in_definition}
 use Rattle.expr_types.specs.Answers.{first}
 use Rattle.expr_types.proofs.StopLemmas.{first_behind, first_of_front}
 use Rattle.expr_types.proofs.SameLemmas.{moved, same_body, block_same, same_kind, block_kind_same, block_local_same, same_in_block}

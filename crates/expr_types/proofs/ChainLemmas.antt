@@ -1,5 +1,5 @@
 -- The links of a chain, one behind the other.
-use Rattle.std.proofs.Common.{◌≡◌, ℕ, ◌+◌, ◌<◌, ◌≤◌, List, [], ◌∷◌, ◌++◌, length, get_or, drop, Option, Some, None, Result, Ok, Err, refl, sym, ap, subst, ◌∙◌}
+use Rattle.std.proofs.Common.{◌≡◌, ℕ, ◌+◌, ◌<◌, ◌≤◌, List, [], ◌++◌, length, get_or, drop, Option, Some, None, Result, Ok, Err, refl, sym, ap, subst, ◌∙◌}
 use Rattle.std.proofs.lemmas.List.{drop_all}
 use Rattle.spec_parser.specs.Tree.{Expr, Links, no_links, more_links}
 use Rattle.spec_parser.specs.declared.tree.Level.{Level}
@@ -16,7 +16,7 @@ use Rattle.expr_types.specs.Around.{Around}
 use Rattle.expr_types.specs.Judge.{type_of, judge_links, next_link, continued, with_two, is_just, of_verdict, wrongs}
 use Rattle.expr_types.specs.Steps.{link_wrongs, chain_verdict, clash_in}
 use Rattle.expr_types.specs.Answers.{Stops, IsWhole, IsJudged}
-use Rattle.expr_types.proofs.StopLemmas.{stops_front, stops_behind, stops_same, is_whole, both_empty}
+use Rattle.expr_types.proofs.StopLemmas.{stops_front, stops_behind, stops_same, is_whole}
 use Rattle.expr_types.proofs.ArgumentLemmas.{left_at}
 use Rattle.expr_types.proofs.WrongLemmas.{clash_is}
 

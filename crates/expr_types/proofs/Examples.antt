@@ -1,5 +1,5 @@
 -- What the definitions say of some expressions.
-use Rattle.std.proofs.Common.{◌≡◌, Bool, true, List, [], ◌∷◌, Option, Some, None, Ok, codes, refl}
+use Rattle.std.proofs.Common.{◌≡◌, true, [], ◌∷◌, Some, None, codes, refl}
 use Rattle.tsl_value.specs.declared.place.Place.{Place}
 use Rattle.spec_parser.specs.Tree as tree
 use Rattle.spec_parser.specs.declared.tree.Level.TheVariants as level
@@ -9,10 +9,9 @@ use Rattle.type_rules.specs.declared.rule.ExprType.TheVariants as expr_type
 use Rattle.type_rules.specs.declared.rule.Setting.TheVariants as setting
 use Rattle.type_rules.specs.declared.rule.Asked.TheVariants as asked
 use Rattle.type_rules.specs.Asked.{int, bool}
-use Rattle.expr_types.specs.declared.wrong.Wrong.{Wrong}
 use Rattle.expr_types.specs.declared.wrong.Wrong.TheVariants as wrong
 use Rattle.expr_types.specs.Around.{Around}
-use Rattle.expr_types.specs.Judge.{judge, type_of, wrongs}
+use Rattle.expr_types.specs.Judge.{type_of, wrongs}
 
 -- nothing is declared
 abbrev alone : Around

@@ -1,10 +1,9 @@
 -- Walks over parts, one behind the other, that end at the first that is wrong.
-use Rattle.std.proofs.Common.{◌≡◌, List, [], ◌∷◌, ◌++◌, Option, Some, None, Result, Ok, Err, refl, sym, ap, subst, ◌∙◌}
-use Rattle.spec_parser.specs.Tree.{Expr, place_of}
+use Rattle.std.proofs.Common.{◌≡◌, List, [], ◌∷◌, ◌++◌, Option, Some, None, Ok, Err, refl, sym, ap, subst, ◌∙◌}
+use Rattle.spec_parser.specs.Tree.{Expr}
 use Rattle.type_rules.specs.declared.rule.ExprType.{ExprType}
 use Rattle.type_rules.specs.Asked.{Verdict}
 use Rattle.expr_types.specs.declared.wrong.Wrong.{Wrong}
-use Rattle.expr_types.specs.declared.wrong.Wrong.TheVariants as wrong
 use Rattle.expr_types.specs.declared.stop.Stop.{Stop}
 use Rattle.expr_types.specs.declared.stop.Stop.TheVariants as stop
 use Rattle.expr_types.specs.Judge.{with_two, with_three, of_verdict, broken}

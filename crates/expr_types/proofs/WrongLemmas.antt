@@ -1,5 +1,5 @@
 -- What is wrong in an expression is what is wrong with itself, and then what is wrong inside of it.
-use Rattle.std.proofs.Common.{◌≡◌, Bool, true, false, if◌then◌else◌, List, [], ◌∷◌, ◌++◌, Option, Some, None, Result, Ok, Err, refl, sym, ap, subst, ◌∙◌}
+use Rattle.std.proofs.Common.{◌≡◌, Bool, true, false, if◌then◌else◌, List, [], ◌++◌, Option, Some, None, Result, Ok, Err, refl, sym, ap, subst, ◌∙◌}
 use Rattle.std.specs.List.{flat_map}
 use Rattle.std.proofs.lemmas.List.Concat.{flat_map-append}
 use Rattle.tsl_value.specs.declared.place.Place.{Place}
@@ -7,7 +7,7 @@ use Rattle.spec_parser.specs.Tree as tree
 use Rattle.spec_parser.specs.Tree.{Expr, Exprs, no_exprs, more_exprs, Links, no_links, more_links, place_of}
 use Rattle.spec_parser.specs.declared.tree.Node.{Node}
 use Rattle.spec_parser.specs.declared.tree.Node.TheVariants as node
-use Rattle.spec_parser.specs.Shape.{expr_of, place_again}
+use Rattle.spec_parser.specs.Shape.{expr_of}
 use Rattle.name_check.specs.Builtin.{is_lift}
 use Rattle.name_check.specs.Parts.{parts, argument_parts, lift_parts, link_parts}
 use Rattle.name_check.specs.Shown.{nowhere}

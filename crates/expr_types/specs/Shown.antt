@@ -1,6 +1,6 @@
 -- Tables and places of expressions, without where they lie in memory.
 use Rattle.std.specs.Prelude.{ℕ, List, Option, map, slice_get}
-use Rattle.std.specs.Option.{option_map, option_and_then}
+use Rattle.std.specs.Option.{option_and_then}
 use Rattle.spec_parser.specs.Shape.{params_in, item_of}
 use Rattle.name_check.specs.Scope.{seen}
 use Rattle.type_rules.specs.declared.rule.ExprType.{ExprType}

@@ -1,5 +1,5 @@
 -- What is wrong inside of an expression, by its parts.
-use Rattle.std.specs.Prelude.{List, [], ◌∷◌, ◌++◌, if◌then◌else◌, Option, Some, None, Ok, Err}
+use Rattle.std.specs.Prelude.{List, [], ◌∷◌, ◌++◌, if◌then◌else◌, Option, Some, None, Err}
 use Rattle.std.specs.Option.{option_and_then}
 use Rattle.spec_parser.specs.Tree as tree
 use Rattle.spec_parser.specs.Tree.{Expr, Exprs, no_exprs, more_exprs, Links, no_links, more_links}

@@ -1,5 +1,5 @@
 use Rattle.expr_types.specs.Shown.{around_of}
-use Rattle.expr_types.proofs.BodyLemmas.{expr_found, expr_stopped}
+use Rattle.expr_types.proofs.BodyLemmas.{expr_found}
 use Rattle.expr_types.proofs.body.find_in_expression.Goals as goal
 
 pub returns-in-Ok : goal.returns-in-Ok
