@@ -1,5 +1,5 @@
 -- Where the names that an expression mentions are alike, it is the same.
-use Rattle.std.proofs.Common.{◌≡◌, ℕ, Bool, true, false, if◌then◌else◌, List, [], ◌∷◌, ◌++◌, Option, Some, None, Ok, refl, ap, ◌∙◌}
+use Rattle.std.proofs.Common.{◌≡◌, ℕ, Bool, true, false, if◌then◌else◌, List, [], ◌∷◌, ◌++◌, slice_get, Option, Some, None, Ok, refl, ap, ◌∙◌}
 use Rattle.std.specs.Option.{option_map, option_and_then}
 use Rattle.std.specs.List.{AllByRecursion}
 use Rattle.spec_parser.specs.Tree as tree
@@ -14,10 +14,11 @@ use Rattle.type_rules.specs.declared.rule.ExprType.{ExprType}
 use Rattle.type_rules.specs.declared.rule.ExprType.TheVariants as expr_type
 use Rattle.type_rules.specs.declared.rule.Builtin.{Builtin}
 use Rattle.type_rules.specs.Asked.{lifted, unit, int, bool, text}
-use Rattle.type_rules.specs.Rules.{compare_rule, negate_rule, not_rule, if_rule, dotted_rule, builtin_rule, macro_rule, function_rule}
-use Rattle.expr_types.specs.Around.{Around, declared_type, cons}
+use Rattle.type_rules.specs.Rules.{body_rule, compare_rule, negate_rule, not_rule, if_rule, dotted_rule, builtin_rule, macro_rule, function_rule}
+use Rattle.expr_types.specs.Around.{Around, Kinds, declared_type, params_of, param_types, callee_of, cons}
 use Rattle.expr_types.specs.Judge.{judge, types_of, judge_links, streams_of, last_of, function_of, function_at, type_of, of_verdict, with_one, with_two, with_three, is_just, lifted_by, named_call, own_call, const_call, call_rule, is_const, builtin_of, next_link}
-use Rattle.expr_types.specs.Alike.{called, IsAlike, IsPartAlike, MentionsAlike}
+use Rattle.expr_types.specs.Alike.{called, IsAlike, IsPartAlike, MentionsAlike, known, IsKnownAlike, IsPartKnownAlike}
+use Rattle.expr_types.specs.Bodies.{fitting, expr_kind}
 
 abbrev All : Around → Around → List Part → Type 0
 All at to ps = AllByRecursion (IsPartAlike at to) ps
@@ -143,3 +144,42 @@ all_alike at to (p ∷ ps) f = (parts_alike at to p f, all_alike at to ps f)
 
 pub names_alike : (at to : Around) (e : Expr) → at.setting ≡ to.setting → ((n : List ℕ) → IsAlike at to n) → MentionsAlike at to e
 names_alike at to e s f = record { same_setting = s; names = all_alike at to (parts e) f }
+
+-- ---- the same but for the table of kinds
+abbrev pub knowing : Around → Kinds → Around
+knowing at kinds = record at { kinds = kinds }
+
+type_known : (at : Around) (kinds : Kinds) (d : Declaration) → known at.kinds at.number d ≡ known kinds at.number d → declared_type at d ≡ declared_type (knowing at kinds) d
+type_known at kinds (declaration.Input j) e = e
+type_known at kinds (declaration.Stream j) e = e
+type_known at kinds (declaration.Local k) e = e
+type_known at kinds d e = refl
+
+call_known : (at : Around) (kinds : Kinds) (d : Declaration) → known at.kinds at.number d ≡ known kinds at.number d → called at d ≡ called (knowing at kinds) d
+call_known at kinds (declaration.Macro j) e = ap (callee_of (param_types (params_of (slice_get at.items j)))) e
+call_known at kinds (declaration.Function j) e = ap (callee_of (param_types (params_of (slice_get at.items j)))) e
+call_known at kinds d e = refl
+
+name_known : (at : Around) (kinds : Kinds) (n : List ℕ) → IsKnownAlike at kinds n → IsAlike at (knowing at kinds) n
+name_known at kinds n h = record {
+  stands = refl;
+  types = λ d is. type_known at kinds d (h.same d is);
+  calls = λ d is. call_known at kinds d (h.same d is);
+}
+
+part_known : (at : Around) (kinds : Kinds) (p : Part) → IsPartKnownAlike at kinds p → IsPartAlike at (knowing at kinds) p
+part_known at kinds (Operand (tree.Name p n)) h = name_known at kinds n h
+part_known at kinds (Operand (tree.Call p n es)) h = name_known at kinds n h
+part_known at kinds (Function (tree.Name p n)) h = name_known at kinds n h
+part_known at kinds p h = tt
+
+all_known : (at : Around) (kinds : Kinds) (ps : List Part) → AllByRecursion (IsPartKnownAlike at kinds) ps → All at (knowing at kinds) ps
+all_known at kinds [] h = tt
+all_known at kinds (p ∷ ps) h = (part_known at kinds p h.0, all_known at kinds ps h.1)
+
+-- two tables that say the same of the names that an expression mentions give it the same
+pub judged_by_kinds : (at : Around) (kinds : Kinds) (e : Expr) → AllByRecursion (IsPartKnownAlike at kinds) (parts e) → judge at e ≡ judge (knowing at kinds) e
+judged_by_kinds at kinds e h = alike at (knowing at kinds) e refl (all_known at kinds (parts e) h)
+
+pub kind_by_kinds : (at : Around) (kinds : Kinds) (e : Expr) → AllByRecursion (IsPartKnownAlike at kinds) (parts e) → expr_kind at e ≡ expr_kind (knowing at kinds) e
+kind_by_kinds at kinds e h = ap (λ v. option_and_then (λ u. fitting (body_rule at.setting None u) u) (of_verdict v)) (judged_by_kinds at kinds e h)

@@ -4,6 +4,6 @@ mod BodyLemmas
 mod CallLemmas
 mod ChainLemmas
 mod Examples
-mod SameLemmas
+pub mod SameLemmas
 mod StopLemmas
 mod WrongLemmas

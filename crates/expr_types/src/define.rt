@@ -89,8 +89,9 @@ pub fn definition_kind(
     }
 }
 
-/// A definition of a block, which has no parameters.
-fn kind_of_local(
+/// What a definition of a block is, where this is around it: what is seen in the block. It has no parameters, and braces may
+/// not stand in it.
+pub fn local_definition_kind(
     alloc: Global,
     at: &Around<'_>,
     parts: &DefinitionParts,
@@ -116,7 +117,7 @@ fn local_kind(
     for definition in definitions {
         let parts = definition.parts();
         if number == local {
-            return kind_of_local(alloc, at, parts);
+            return local_definition_kind(alloc, at, parts);
         }
         number = number_behind(number, &parts.body)?;
     }

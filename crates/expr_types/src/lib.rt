@@ -9,6 +9,7 @@ pub mod define;
 pub mod items;
 pub mod judge;
 pub mod kinds;
+pub mod law;
 mod leaf;
 pub mod stop;
 #[cfg(test)]
