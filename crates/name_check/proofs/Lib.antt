@@ -6,5 +6,5 @@ pub mod SizeLemmas
 mod TableLemmas
 mod TopLemmas
 mod TwiceLemmas
-mod UnknownLemmas
+pub mod UnknownLemmas
 pub mod WalkLemmas

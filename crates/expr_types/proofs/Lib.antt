@@ -1,0 +1,9 @@
+pub mod AlikeLemmas
+mod ArgumentLemmas
+mod BodyLemmas
+mod CallLemmas
+mod ChainLemmas
+mod Examples
+pub mod SameLemmas
+mod StopLemmas
+mod WrongLemmas

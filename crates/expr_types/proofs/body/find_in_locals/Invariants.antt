@@ -1,0 +1,9 @@
+use Rattle.std.proofs.Common.{◌≡◌, drop}
+use Rattle.spec_parser.specs.Shape.{definitions_of}
+use Rattle.expr_types.specs.Bodies.{local_wrongs}
+use Rattle.expr_types.specs.Shown.{around_of}
+use Rattle.expr_types.specs.Answers.{first}
+use Rattle.expr_types.proofs.body.find_in_locals.Given as goal
+
+abbrev pub invariant-loop-definition : goal.invariant-loop-definition
+invariant-loop-definition l = first (local_wrongs (around_of l.at) (definitions_of (drop l.definition-index l.definitions))) ≡ first (local_wrongs (around_of l.at) (definitions_of l.definitions))

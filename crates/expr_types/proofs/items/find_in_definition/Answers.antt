@@ -1,0 +1,15 @@
+use Rattle.std.proofs.Common.{map, ap}
+use Rattle.spec_parser.specs.Shape.{body_of, item_of, params_in}
+use Rattle.expr_types.specs.Shown.{kinds_of}
+use Rattle.expr_types.proofs.BodyLemmas.{inside_agrees, definition_wrong}
+use Rattle.expr_types.proofs.items.find_in_definition.Goals as goal
+
+pub returns : goal.returns
+returns c =
+    let items = map item_of c.args.items.now in
+    let parts = c.args.parts.now in
+    let qs = params_in c.as_slice-params.result.now in
+    let ps = params_in parts.params.items in
+    definition_wrong c.find_in_body.result items (kinds_of c.args.kinds.now) c.args.number c.inner-scope.result c.setting_of.result qs ps parts.written (body_of parts.body)
+    (inside_agrees items c.args.names.now c.in_ok-parameters.field-0 c.around-outer.result c.inner-scope.result qs ps c.requires c.in_ok-parameters.ensures c.around-outer.ensures c.inner-scope.ensures (ap params_in c.as_slice-params.ensures.value))
+    c.setting_of.ensures (ap params_in c.as_slice-params.ensures.value) c.find_in_body.ensures

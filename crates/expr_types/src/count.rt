@@ -1,0 +1,43 @@
+// The numbers of definitions in blocks.
+
+ghost use Rattle.std.specs.Prelude.{◌≡◌, suc, ◌+◌, IfOk};
+ghost use Rattle.spec_parser.specs.Shape.{body_of, definitions_of};
+ghost use Rattle.expr_types.specs.Bodies.{count_in, counts};
+
+use spec_parser::tree::{Body, Definition};
+use tsl_value::memory::NoMemory;
+
+/// How many definitions stand in the blocks of a body, those in the bodies of others among them.
+#[cycle(count)]
+fn count_in(body: &Body) -> Result<usize, NoMemory>
+    ensures { IfOk result (λ n. n ≡ count_in (body_of body.now)) }
+{
+    match body {
+        Body::Plain(_) => Ok(0),
+        Body::Block(definitions, _) => counts(definitions),
+    }
+}
+
+#[cycle(count)]
+fn counts(definitions: &[Definition]) -> Result<usize, NoMemory>
+    ensures { IfOk result (λ n. n ≡ counts (definitions_of definitions.now)) }
+{
+    let mut count = 0;
+    for definition in definitions {
+        count = number_behind(count, &definition.parts().body)?;
+    }
+    Ok(count)
+}
+
+/// The number behind a definition that has this number and this body, and behind those in its body. No memory has more
+/// definitions than there are numbers.
+#[cycle(count)]
+pub(crate) fn number_behind(number: usize, body: &Body) -> Result<usize, NoMemory>
+    ensures { IfOk result (λ n. n ≡ suc number + count_in (body_of body.now)) }
+{
+    let inner = count_in(body)?;
+    match number.checked_add(inner) {
+        Some(last) => last.checked_add(1).ok_or(NoMemory),
+        None => Err(NoMemory),
+    }
+}

@@ -1,0 +1,264 @@
+// What definitions are, by their written types or their bodies.
+
+ghost use Rattle.std.specs.Prelude.{◌≡◌, IfOk, None, map, slice_get};
+ghost use Rattle.std.specs.Option.{option_and_then};
+ghost use Rattle.spec_parser.specs.Shape.{body_of, definition_of, definitions_of, item_of};
+ghost use Rattle.name_check.specs.Scope.{top};
+ghost use Rattle.type_rules.specs.Rules.{body_rule as what_is_asked};
+ghost use Rattle.expr_types.specs.Bodies.{fitting, expr_kind, body_kind, within_block, local_kind, item_kind, block_kind};
+ghost use Rattle.expr_types.specs.BodySteps.{kind_of_local, kind_of_definition, kind_in_block, kind_in_definition, local_in_definition};
+ghost use Rattle.expr_types.specs.Shown.{around_of, kinds_of};
+
+use crate::around::Around;
+use crate::body::{may_have_braces, setting_of, written_of, written_stream};
+use crate::count::number_behind;
+use crate::judge::expression;
+use crate::kinds::KindTable;
+use name_check::names::Names;
+use name_check::scope::{Scope, locals, parameters};
+use spec_parser::tree::{Body, Definition, DefinitionParts, Expr, Item};
+use std::alloc::Global;
+use tsl_value::memory::NoMemory;
+use type_rules::call::body_rule;
+use type_rules::rule::{ExprType, Setting};
+use type_rules::written::as_stream;
+
+/// A body without a written type, if it is what is asked of it.
+fn fitting(at: Setting, of: Option<ExprType>) -> Option<ExprType>
+    ensures { result ≡ option_and_then (λ t. fitting (what_is_asked at None t) t) of }
+{
+    match of {
+        Some(of) => match body_rule(at, None, of) {
+            Ok(()) => Some(of),
+            Err(_) => None,
+        },
+        None => None,
+    }
+}
+
+fn expression_kind(
+    alloc: Global,
+    at: &Around<'_>,
+    body: &Expr,
+) -> Result<Option<ExprType>, NoMemory>
+    ensures { IfOk result (λ kind. kind ≡ expr_kind (around_of at.now) body.now) }
+{
+    match expression(alloc, at, body) {
+        Ok(of) => Ok(fitting(at.setting, of)),
+        Err(stop) => {
+            let _wrong = stop.wrong()?;
+            Ok(None)
+        }
+    }
+}
+
+/// A body, in which braces may stand or not.
+fn body_kind(
+    alloc: Global,
+    at: &Around<'_>,
+    braces: bool,
+    body: &Body,
+) -> Result<Option<ExprType>, NoMemory>
+    ensures { IfOk result (λ kind. kind ≡ body_kind (around_of at.now) braces (body_of body.now)) }
+{
+    match body {
+        Body::Plain(only) => expression_kind(alloc, at, only),
+        Body::Block(definitions, last) => {
+            if braces {
+                let scope = Scope::inner(locals(alloc, definitions)?, at.scope);
+                expression_kind(alloc, &at.within(&scope), last)
+            } else {
+                Ok(None)
+            }
+        }
+    }
+}
+
+/// What a definition is by its written type or else its body, where this is around it. It is nothing where it has no written
+/// type and its body is refused.
+pub fn definition_kind(
+    alloc: Global,
+    at: &Around<'_>,
+    parts: &DefinitionParts,
+) -> Result<Option<ExprType>, NoMemory>
+    ensures { IfOk result (λ kind. kind ≡ kind_of_definition (around_of at.now) (definition_of parts.now)) }
+{
+    match &parts.written {
+        Some(_) => Ok(written_of(&parts.params, &parts.written)),
+        None => body_kind(alloc, at, may_have_braces(&parts.params), &parts.body),
+    }
+}
+
+/// What a definition of a block is, where this is around it: what is seen in the block. It has no parameters, and braces may
+/// not stand in it.
+pub fn local_definition_kind(
+    alloc: Global,
+    at: &Around<'_>,
+    parts: &DefinitionParts,
+) -> Result<Option<ExprType>, NoMemory>
+    ensures { IfOk result (λ kind. kind ≡ kind_of_local (around_of at.now) (definition_of parts.now)) }
+{
+    match &parts.written {
+        Some(_) => Ok(written_stream(&parts.written)),
+        None => body_kind(alloc, at, false, &parts.body),
+    }
+}
+
+/// The definition of this number in a block, at what is seen in the block.
+fn local_kind(
+    alloc: Global,
+    at: &Around<'_>,
+    local: usize,
+    definitions: &[Definition],
+) -> Result<Option<ExprType>, NoMemory>
+    ensures { IfOk result (λ kind. kind ≡ local_kind (around_of at.now) local (definitions_of definitions.now)) }
+{
+    let mut number = 0;
+    for definition in definitions {
+        let parts = definition.parts();
+        if number == local {
+            return local_definition_kind(alloc, at, parts);
+        }
+        number = number_behind(number, &parts.body)?;
+    }
+    Ok(None)
+}
+
+/// A definition of a block, at what is seen around the block.
+fn kind_within(
+    alloc: Global,
+    at: &Around<'_>,
+    local: usize,
+    definitions: &[Definition],
+) -> Result<Option<ExprType>, NoMemory>
+    ensures { IfOk result (λ kind. kind ≡ local_kind (within_block (around_of at.now) (definitions_of definitions.now)) local (definitions_of definitions.now)) }
+{
+    let scope = Scope::inner(locals(alloc, definitions)?, at.scope);
+    local_kind(alloc, &at.within(&scope), local, definitions)
+}
+
+/// A definition of the block of a definition.
+fn kind_in_block(
+    alloc: Global,
+    at: &Around<'_>,
+    local: usize,
+    parts: &DefinitionParts,
+) -> Result<Option<ExprType>, NoMemory>
+    ensures { IfOk result (λ kind. kind ≡ kind_in_block (around_of at.now) local (definition_of parts.now)) }
+{
+    match &parts.body {
+        Body::Plain(_) => Ok(None),
+        Body::Block(definitions, _) => {
+            if may_have_braces(&parts.params) {
+                kind_within(alloc, at, local, definitions)
+            } else {
+                Ok(None)
+            }
+        }
+    }
+}
+
+fn kind_in_definition(
+    alloc: Global,
+    items: &[Item],
+    names: &Names,
+    kinds: &KindTable,
+    number: usize,
+    parts: &DefinitionParts,
+) -> Result<Option<ExprType>, NoMemory>
+    requires { names.now ≡ top (map item_of items.now) }
+    ensures { IfOk result (λ kind. kind ≡ kind_in_definition (map item_of items.now) (kinds_of kinds.now) number (definition_of parts.now)) }
+{
+    let params = parts.params.as_slice();
+    let outer = Scope::around(names, params);
+    let scope = Scope::inner(parameters(alloc, params)?, &outer);
+    let at = Around {
+        items,
+        kinds,
+        scope: &scope,
+        setting: setting_of(params),
+        number,
+        params,
+    };
+    definition_kind(alloc, &at, parts)
+}
+
+/// What the item of a number is by its written type or its body, where these names are declared at the top and are these. Of
+/// a macro or a value function it is what a call of it gives.
+pub fn item_kind(
+    alloc: Global,
+    items: &[Item],
+    names: &Names,
+    kinds: &KindTable,
+    number: usize,
+) -> Result<Option<ExprType>, NoMemory>
+    requires { names.now ≡ top (map item_of items.now) }
+    ensures { IfOk result (λ kind. kind ≡ item_kind (map item_of items.now) (kinds_of kinds.now) number (slice_get (map item_of items.now) number)) }
+{
+    match items.get(number) {
+        Some(Item::Input(_, _, _, of)) => Ok(as_stream(of)),
+        Some(Item::Defined(_, definition)) => {
+            kind_in_definition(alloc, items, names, kinds, number, definition.parts())
+        }
+        Some(Item::Output(_, _, _)) => Ok(None),
+        Some(Item::OutputAs(_, _, _, _)) => Ok(None),
+        None => Ok(None),
+    }
+}
+
+fn local_in_definition(
+    alloc: Global,
+    items: &[Item],
+    names: &Names,
+    kinds: &KindTable,
+    number: usize,
+    local: usize,
+    parts: &DefinitionParts,
+) -> Result<Option<ExprType>, NoMemory>
+    requires { names.now ≡ top (map item_of items.now) }
+    ensures { IfOk result (λ kind. kind ≡ local_in_definition (map item_of items.now) (kinds_of kinds.now) number local (definition_of parts.now)) }
+{
+    let params = parts.params.as_slice();
+    let outer = Scope::around(names, params);
+    let scope = Scope::inner(parameters(alloc, params)?, &outer);
+    let at = Around {
+        items,
+        kinds,
+        scope: &scope,
+        setting: setting_of(params),
+        number,
+        params,
+    };
+    kind_in_block(alloc, &at, local, parts)
+}
+
+/// What a definition of an item's block is, as `item_kind` says it of an item.
+pub fn block_kind(
+    alloc: Global,
+    items: &[Item],
+    names: &Names,
+    kinds: &KindTable,
+    number: usize,
+    local: usize,
+) -> Result<Option<ExprType>, NoMemory>
+    requires { names.now ≡ top (map item_of items.now) }
+    ensures { IfOk result (λ kind. kind ≡ block_kind (map item_of items.now) (kinds_of kinds.now) number local (slice_get (map item_of items.now) number)) }
+{
+    match items.get(number) {
+        Some(Item::Defined(_, definition)) => {
+            local_in_definition(
+                alloc,
+                items,
+                names,
+                kinds,
+                number,
+                local,
+                definition.parts(),
+            )
+        }
+        Some(Item::Input(_, _, _, _)) => Ok(None),
+        Some(Item::Output(_, _, _)) => Ok(None),
+        Some(Item::OutputAs(_, _, _, _)) => Ok(None),
+        None => Ok(None),
+    }
+}

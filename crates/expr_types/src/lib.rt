@@ -1,0 +1,17 @@
+//! What the expressions of a specification are, and which do not fit.
+#![tactic(auto)]
+
+pub mod around;
+mod body;
+mod call;
+mod count;
+pub mod define;
+pub mod items;
+pub mod judge;
+pub mod kinds;
+pub mod law;
+mod leaf;
+pub mod stop;
+#[cfg(test)]
+mod tests;
+pub mod wrong;

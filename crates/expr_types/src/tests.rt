@@ -1,0 +1,341 @@
+// Small specifications, with what the language says of them.
+
+ghost use Rattle.std.specs.Prelude.{◌≡◌, map};
+ghost use Rattle.spec_parser.specs.Shape.{item_of};
+ghost use Rattle.name_check.specs.Scope.{top};
+
+use crate::around::Around;
+use crate::define::{block_kind, definition_kind, item_kind};
+use crate::items::{find_aggregate_result, find_wrong_type};
+use crate::judge::expression;
+use crate::kinds::KindTable;
+use crate::wrong::Wrong;
+use name_check::check::check_names;
+use name_check::declaration::Declaration;
+use name_check::names::Names;
+use name_check::scope::Scope;
+use spec_lexer::lex::lex;
+use spec_parser::parse::parse;
+use spec_parser::tree::{Body, DefinitionParts, Item, Tree};
+use std::alloc::Global;
+use std::test::Fail;
+use tsl_value::place::Place;
+use tsl_value::scalar::{KeyType, ValueType};
+use type_rules::asked::{BOOL, INT, TEXT, UNIT};
+use type_rules::rule::{Asked, Clash, ExprType, Family, Setting};
+
+const INTS: ExprType = ExprType::Stream(INT);
+
+const BOOLS: ExprType = ExprType::Stream(BOOL);
+
+const TEXTS: ExprType = ExprType::Stream(TEXT);
+
+const UNITS: ExprType = ExprType::Stream(UNIT);
+
+const NUMBER: ExprType = ExprType::Value(INT);
+
+const MAYBE: ExprType = ExprType::Optional(INT);
+
+const SETS: ExprType = ExprType::Stream(ValueType::Set(KeyType::Int));
+
+fn tree_of(alloc: Global, source: &[u8]) -> Option<Tree> {
+    let Ok(tokens) = lex(alloc, source) else {
+        return None;
+    };
+    parse(alloc, &tokens).ok()
+}
+
+/// How many definitions stand in the block of an item.
+fn block_len(item: &Item) -> usize {
+    match item {
+        Item::Defined(_, definition) => match &definition.parts().body {
+            Body::Block(definitions, _) => definitions.len(),
+            Body::Plain(_) => 0,
+        },
+        _ => 0,
+    }
+}
+
+/// What the definitions of an item's block are, where what they mention stands before it.
+fn fill_block(
+    alloc: Global,
+    items: &[Item],
+    names: &Names,
+    kinds: &mut KindTable,
+    number: usize,
+    len: usize,
+) -> Option<()>
+    requires { names.now ≡ top (map item_of items.now) }
+{
+    kinds.locals.push(Vec::new(alloc)).ok()?;
+    for local in 0..len {
+        let kind = block_kind(alloc, items, names, kinds, number, local).ok()?;
+        if let Some(locals) = kinds.locals.last_mut() {
+            locals.push(kind).ok()?;
+        }
+    }
+    Some(())
+}
+
+/// What the items are, where what they mention stands before them.
+fn filled(alloc: Global, items: &[Item], names: &Names) -> Option<KindTable>
+    requires { names.now ≡ top (map item_of items.now) }
+{
+    let mut kinds = KindTable {
+        items: Vec::new(alloc),
+        locals: Vec::new(alloc),
+    };
+    for (number, item) in items.iter().enumerate() {
+        fill_block(alloc, items, names, &mut kinds, number, block_len(item))?;
+        let kind = item_kind(alloc, items, names, &kinds, number).ok()?;
+        kinds.items.push(kind).ok()?;
+    }
+    Some(kinds)
+}
+
+/// What is wrong in a source whose names are right.
+fn wrong(alloc: Global, source: &[u8]) -> Option<Wrong> {
+    let tree = tree_of(alloc, source)?;
+    let Ok(names) = check_names(alloc, &tree) else {
+        return None;
+    };
+    let kinds = filled(alloc, tree.items(), &names)?;
+    match find_wrong_type(alloc, tree.items(), &names, &kinds) {
+        Ok(wrong) => wrong,
+        Err(_) => None,
+    }
+}
+
+fn is_part(alloc: Global, source: &[u8], line: u32, column: u32, clash: Clash) -> bool {
+    let place = Place { line, column };
+    wrong(alloc, source) == Some(Wrong::Part { place, clash })
+}
+
+#[test]
+fn parts_that_do_not_fit(rt: HostRuntime) {
+    let sources: [(&[u8], u32, u32, ExprType, ExprType); 12] = [
+        (b"in i: Int\ndef b := i + true\nout b", 2, 10, BOOLS, INTS),
+        (b"def b := \"a\" * true\nout b", 1, 10, TEXTS, INTS),
+        (b"def b := 1 + (2 + true) + false", 1, 15, BOOLS, INTS),
+        (b"def b := 1 + 2 + true + (1 + true)", 1, 10, BOOLS, INTS),
+        (
+            b"in i: Int\nin b: Bool\ndef a := merge(i, b)",
+            3,
+            10,
+            BOOLS,
+            INTS,
+        ),
+        (
+            b"def f(a: Bool): Int := a + 1",
+            1,
+            24,
+            ExprType::Value(BOOL),
+            NUMBER,
+        ),
+        (
+            b"in i: Int\ndef f(a: Option[Bool]): Option[Int] := None[Int]\ndef b := lift(i, f)",
+            3,
+            10,
+            ExprType::Optional(BOOL),
+            MAYBE,
+        ),
+        (
+            b"def m(x: Events[Int]): Events[Int] := { def a: Bool := x x }",
+            1,
+            56,
+            INTS,
+            BOOLS,
+        ),
+        (
+            b"out isSome(None[Int]) as a",
+            1,
+            5,
+            ExprType::Value(BOOL),
+            BOOLS,
+        ),
+        (
+            b"def f(a: Int) := unit",
+            1,
+            18,
+            UNITS,
+            ExprType::Value(UNIT),
+        ),
+        (b"def m(x: Events[Int]): Int := x", 1, 31, INTS, NUMBER),
+        (
+            b"def m(x: Events[Int]) := { def y := x y }\ndef a := m(1) && true",
+            2,
+            10,
+            INTS,
+            BOOLS,
+        ),
+    ];
+    for (source, line, column, have, want) in sources {
+        let want = Asked::Exactly(want);
+        assert!(rt; is_part(rt.alloc(), source, line, column, Clash { have, want }));
+    }
+}
+
+#[test]
+fn parts_that_are_asked_otherwise(rt: HostRuntime) {
+    let sources: [(&[u8], u32, u32, ExprType, Asked); 5] = [
+        (
+            b"def s := Set.empty[Int]\ndef a := s == s",
+            2,
+            10,
+            SETS,
+            Asked::StreamOf(Family::Scalars),
+        ),
+        (
+            b"def a := Map.get(Set.empty[Int], 1)",
+            1,
+            10,
+            SETS,
+            Asked::StreamOf(Family::Maps),
+        ),
+        (
+            b"def f(a: Int): Bool := isSome(a)",
+            1,
+            24,
+            NUMBER,
+            Asked::OptionOf(Family::Any),
+        ),
+        (
+            b"in i: Int\ndef a := const((), i)",
+            2,
+            10,
+            UNITS,
+            Asked::Literal,
+        ),
+        (
+            b"in i: Int\ndef a := const(-(5), i)",
+            2,
+            10,
+            INTS,
+            Asked::Literal,
+        ),
+    ];
+    for (source, line, column, have, want) in sources {
+        assert!(rt; is_part(rt.alloc(), source, line, column, Clash { have, want }));
+    }
+}
+
+#[test]
+fn braces_where_no_macro_is(rt: HostRuntime) {
+    let sources: [(&[u8], u32, Option<ExprType>); 5] = [
+        (b"def a := { def b := 1 + true b }", 16, None),
+        (b"def a: Int := { def b := 1 b }", 21, Some(INTS)),
+        (b"def a := { 1 }", 12, None),
+        (b"def f(a: Int): Int := { a }", 25, Some(NUMBER)),
+        (b"def m(x: Events[Int]) := { def a := { x } a }", 39, None),
+    ];
+    for (source, column, written) in sources {
+        let place = Place { line: 1, column };
+        let braces = Wrong::Braces { place, written };
+        assert!(rt; wrong(rt.alloc(), source) == Some(braces));
+    }
+}
+
+#[test]
+fn nothing_is_wrong(rt: HostRuntime) {
+    let sources: [&[u8]; 4] = [
+        b"in i: Int\ndef m(x: Events[Int]) := { def x := true def i := x i }\nout m(i) as b",
+        b"in i: Int\ndef a := const(-5, i)\nout time(unit) as t",
+        b"in i: Int\ndef f(a: Option[Int], b: Option[Bool]) := if isNone(b) then None[Int] else a\ndef b := lift(i, i > 0, f) == default(i, 1)\nout b",
+        b"def f(a: Int, b: Int): Int := a + b\nout f(1, 2) as c\nout Set.size(Set.add(Set.empty[Int], 1)) as d",
+    ];
+    for source in sources {
+        assert!(rt; wrong(rt.alloc(), source).is_none());
+    }
+}
+
+#[test]
+fn what_names_are(rt: HostRuntime) -> Result<(), Fail> {
+    let source =
+        b"in i: Int\ndef m(x: Events[Int]) := { def y := x > i def z := y z }\ndef f(s: Set[Int]) := Some(s)\nout i\ndef b := 1 + true";
+    let tree = tree_of(rt.alloc(), source).ok_or("no tree")?;
+    let Ok(names) = check_names(rt.alloc(), &tree) else {
+        return Err("names are refused")?;
+    };
+    let kinds = filled(rt.alloc(), tree.items(), &names).ok_or("no table")?;
+    assert_eq!(rt; kinds.item(0), Some(INTS));
+    assert_eq!(rt; kinds.item(1), Some(BOOLS));
+    assert_eq!(rt; kinds.local(1, 1), Some(BOOLS));
+    assert_eq!(rt; kinds.local(1, 2), None);
+    assert_eq!(rt;
+        kinds.item(2),
+        Some(ExprType::Optional(ValueType::Set(KeyType::Int)))
+    );
+    assert_eq!(rt; kinds.item(3), None);
+    assert_eq!(rt; kinds.item(4), None);
+    assert_eq!(rt;
+        find_aggregate_result(tree.items(), &kinds),
+        Some(Place { line: 3, column: 5 })
+    );
+    Ok(())
+}
+
+#[test]
+fn definitions_of_blocks_have_numbers(rt: HostRuntime) -> Result<(), Fail> {
+    let source = b"def m(x: Events[Int]) := { def a := { def b := x b } def c := true c }";
+    let tree = tree_of(rt.alloc(), source).ok_or("no tree")?;
+    let Ok(names) = check_names(rt.alloc(), &tree) else {
+        return Err("names are refused")?;
+    };
+    let kinds = KindTable {
+        items: Vec::new(rt.alloc()),
+        locals: Vec::new(rt.alloc()),
+    };
+    let kind = |local: usize| block_kind(rt.alloc(), tree.items(), &names, &kinds, 0, local);
+    assert_eq!(rt; kind(0)?, None);
+    assert_eq!(rt; kind(1)?, None);
+    assert_eq!(rt; kind(2)?, Some(BOOLS));
+    assert_eq!(rt; kind(3)?, None);
+    Ok(())
+}
+
+/// The parts of the definition that is the last item.
+fn last_definition(items: &[Item]) -> Option<&DefinitionParts> {
+    match items.last() {
+        Some(Item::Defined(_, definition)) => Some(definition.parts()),
+        _ => None,
+    }
+}
+
+#[test]
+fn one_expression(rt: HostRuntime) -> Result<(), Fail> {
+    let tree = tree_of(
+        rt.alloc(),
+        b"in i: Int\ndef f(a: Int) := a\ndef b := f(1) + i",
+    )
+    .ok_or("no tree")?;
+    let items = tree.items();
+    let parts = last_definition(items).ok_or("no definition")?;
+    let Body::Plain(body) = &parts.body else {
+        return Err("a block")?;
+    };
+    let Ok(names) = check_names(rt.alloc(), &tree) else {
+        return Err("names are refused")?;
+    };
+    let kinds = KindTable {
+        items: vec![in rt.alloc(); None, Some(NUMBER)]?,
+        locals: Vec::new(rt.alloc()),
+    };
+    let scope = Scope::all(&names);
+    let at = Around {
+        items,
+        kinds: &kinds,
+        scope: &scope,
+        setting: Setting::Streams,
+        number: 2,
+        params: &[],
+    };
+    assert_eq!(rt; expression(rt.alloc(), &at, body), Ok(None));
+    assert_eq!(rt; definition_kind(rt.alloc(), &at, parts)?, None);
+    assert_eq!(rt; at.declared_type(Declaration::Stream(1)), Some(NUMBER));
+    let Some(callee) = at.callee_at(rt.alloc(), 1)? else {
+        return Err("no callee")?;
+    };
+    assert_eq!(rt; callee.of, NUMBER);
+    assert_eq!(rt; callee.params.as_slice(), [NUMBER].as_slice());
+    Ok(())
+}
