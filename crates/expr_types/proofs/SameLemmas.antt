@@ -4,14 +4,14 @@ use Rattle.std.specs.Option.{option_and_then}
 use Rattle.std.specs.List.{flat_map}
 use Rattle.spec_parser.specs.Tree as tree
 use Rattle.spec_parser.specs.Tree.{Expr}
-use Rattle.name_check.specs.Scope.{Scope, Agree, in_block, locals_from}
+use Rattle.name_check.specs.Scope.{Scope, Agree, in_block, locals_from, count_in}
 use Rattle.name_check.specs.Parts.{Part, Operand, Function, parts}
 use Rattle.name_check.proofs.AgreeLemmas.{agree_same, agree_append}
 use Rattle.type_rules.specs.declared.rule.ExprType.{ExprType}
 use Rattle.type_rules.specs.Rules.{body_rule}
 use Rattle.expr_types.specs.Around.{Around}
 use Rattle.expr_types.specs.Judge.{judge, of_verdict, wrongs, own_wrong, broken}
-use Rattle.expr_types.specs.Bodies.{expr_wrongs, asked_of, plain_wrongs, local_wrongs, macro_wrongs, body_wrongs, written_of, within_block, fitting, expr_kind, body_kind, definition_kind, count_in, local_from, local_kind, may_have_braces}
+use Rattle.expr_types.specs.Bodies.{expr_wrongs, asked_of, plain_wrongs, local_wrongs, macro_wrongs, body_wrongs, written_of, within_block, fitting, expr_kind, body_kind, definition_kind, local_from, local_kind, may_have_braces}
 use Rattle.expr_types.specs.BodySteps.{kind_in_block}
 use Rattle.expr_types.specs.Alike.{IsAlike}
 use Rattle.expr_types.proofs.AlikeLemmas.{judged_alike, names_alike}
@@ -44,26 +44,26 @@ same_locals : (at : Around) (t : Scope) → Agree at.scope t → (ds : tree.Defi
 same_locals at t h tree.no_definitions = refl
 same_locals at t h (tree.more_definitions (tree.Define q n ps w b) ds) = λ i. same_plain at t h (written_of [] w) b i ++ same_locals at t h ds i
 
-agree_block : (s t : Scope) (ds : tree.Definitions) → Agree s t → Agree (in_block s ds) (in_block t ds)
+agree_block : (s t : Scope) (ds : tree.Definitions) → Agree s t → Agree (in_block 0 s ds) (in_block 0 t ds)
 agree_block s t ds h = agree_append (locals_from 0 ds) (locals_from 0 ds) s t (agree_same _ _ refl) h
 
 same_macro : (at : Around) (t : Scope) → Agree at.scope t → (w : Option ExprType) (b : tree.Body) → macro_wrongs at w b ≡ macro_wrongs (moved at t) w b
 same_macro at t h w (tree.Plain e) = same_expr at t h w e
 same_macro at t h w (tree.Block ds e) =
-    λ i. same_locals (within_block at ds) (in_block t ds) (agree_block at.scope t ds h) ds i ++ same_expr (within_block at ds) (in_block t ds) (agree_block at.scope t ds h) w e i
+    λ i. same_locals (within_block at ds) (in_block 0 t ds) (agree_block at.scope t ds h) ds i ++ same_expr (within_block at ds) (in_block 0 t ds) (agree_block at.scope t ds h) w e i
 
 pub same_body : (at : Around) (t : Scope) → Agree at.scope t → (m : Bool) (w : Option ExprType) (b : tree.Body) → body_wrongs at m w b ≡ body_wrongs (moved at t) m w b
 same_body at t h true w b = same_macro at t h w b
 same_body at t h false w b = same_plain at t h w b
 
 -- what is seen in a block agrees with what its definitions declare
-block_agrees : (at : Around) (level : Scope) (ds : tree.Definitions) → Agree level (locals_from 0 ds) → Agree (level ++ at.scope) (in_block at.scope ds)
+block_agrees : (at : Around) (level : Scope) (ds : tree.Definitions) → Agree level (locals_from 0 ds) → Agree (level ++ at.scope) (in_block 0 at.scope ds)
 block_agrees at level ds h = agree_append level (locals_from 0 ds) at.scope at.scope h (agree_same _ _ refl)
 
 pub block_same : (at : Around) (level : Scope) (ds : tree.Definitions) (w : Option ExprType) (e : Expr) → Agree level (locals_from 0 ds) → local_wrongs (moved at (level ++ at.scope)) ds ++ expr_wrongs (moved at (level ++ at.scope)) w e ≡ macro_wrongs at w (tree.Block ds e)
 block_same at level ds w e h =
     let same = block_agrees at level ds h in
-    λ i. same_locals (moved at (level ++ at.scope)) (in_block at.scope ds) same ds i ++ same_expr (moved at (level ++ at.scope)) (in_block at.scope ds) same w e i
+    λ i. same_locals (moved at (level ++ at.scope)) (in_block 0 at.scope ds) same ds i ++ same_expr (moved at (level ++ at.scope)) (in_block 0 at.scope ds) same w e i
 
 -- ---- what bodies are
 pub same_expr_kind : (at : Around) (t : Scope) → Agree at.scope t → (e : Expr) → expr_kind at e ≡ expr_kind (moved at t) e
@@ -71,7 +71,7 @@ same_expr_kind at t h e = ap (λ v. option_and_then (λ u. fitting (body_rule at
 
 same_body_kind : (at : Around) (t : Scope) → Agree at.scope t → (m : Bool) (b : tree.Body) → body_kind at m b ≡ body_kind (moved at t) m b
 same_body_kind at t h m (tree.Plain e) = same_expr_kind at t h e
-same_body_kind at t h true (tree.Block ds e) = same_expr_kind (within_block at ds) (in_block t ds) (agree_block at.scope t ds h) e
+same_body_kind at t h true (tree.Block ds e) = same_expr_kind (within_block at ds) (in_block 0 t ds) (agree_block at.scope t ds h) e
 same_body_kind at t h false (tree.Block ds e) = refl
 
 pub same_kind : (at : Around) (t : Scope) → Agree at.scope t → (ps : List tree.Param) (w : Option tree.TypeName) (b : tree.Body) → definition_kind at ps w b ≡ definition_kind (moved at t) ps w b
@@ -89,10 +89,10 @@ same_local_kind at t h k ds = same_from at t h k 0 ds
 pub same_in_block : (at : Around) (t : Scope) → Agree at.scope t → (k : ℕ) (d : tree.Definition) → kind_in_block at k d ≡ kind_in_block (moved at t) k d
 same_in_block at t h k (tree.Define q n ps w (tree.Plain e)) = refl
 same_in_block at t h k (tree.Define q n ps w (tree.Block ds e)) =
-    ap (λ x. if may_have_braces ps then x else None) (same_local_kind (within_block at ds) (in_block t ds) (agree_block at.scope t ds h) k ds)
+    ap (λ x. if may_have_braces ps then x else None) (same_local_kind (within_block at ds) (in_block 0 t ds) (agree_block at.scope t ds h) k ds)
 
 pub block_kind_same : (at : Around) (level : Scope) (ds : tree.Definitions) (e : Expr) → Agree level (locals_from 0 ds) → expr_kind (moved at (level ++ at.scope)) e ≡ expr_kind (within_block at ds) e
-block_kind_same at level ds e h = same_expr_kind (moved at (level ++ at.scope)) (in_block at.scope ds) (block_agrees at level ds h) e
+block_kind_same at level ds e h = same_expr_kind (moved at (level ++ at.scope)) (in_block 0 at.scope ds) (block_agrees at level ds h) e
 
 pub block_local_same : (at : Around) (level : Scope) (k : ℕ) (ds : tree.Definitions) → Agree level (locals_from 0 ds) → local_kind (moved at (level ++ at.scope)) k ds ≡ local_kind (within_block at ds) k ds
-block_local_same at level k ds h = same_local_kind (moved at (level ++ at.scope)) (in_block at.scope ds) (block_agrees at level ds h) k ds
+block_local_same at level k ds h = same_local_kind (moved at (level ++ at.scope)) (in_block 0 at.scope ds) (block_agrees at level ds h) k ds

@@ -7,7 +7,7 @@ use Rattle.tsl_value.specs.declared.scalar.ValueType.{ValueType}
 use Rattle.tsl_value.specs.declared.scalar.ValueType.TheVariants as value_type
 use Rattle.spec_parser.specs.Tree as tree
 use Rattle.spec_parser.specs.Tree.{Expr, TypeName, place_of}
-use Rattle.name_check.specs.Scope.{top, inside, in_block, is_events, are_values}
+use Rattle.name_check.specs.Scope.{top, inside, in_block, is_events, are_values, count_in}
 use Rattle.type_rules.specs.declared.rule.ExprType.{ExprType}
 use Rattle.type_rules.specs.declared.rule.ExprType.TheVariants as expr_type
 use Rattle.type_rules.specs.declared.rule.Setting.{Setting}
@@ -35,7 +35,7 @@ at_top items kinds i = record { items = items; kinds = kinds; scope = top items;
 
 -- in the block of a macro
 abbrev pub within_block : Around → tree.Definitions → Around
-within_block at ds = record at { scope = in_block at.scope ds }
+within_block at ds = record at { scope = in_block 0 at.scope ds }
 
 -- braces may stand in a macro alone
 abbrev pub may_have_braces : List tree.Param → Bool
@@ -64,16 +64,6 @@ body_kind at false (tree.Block ds e) = None
 abbrev pub definition_kind : Around → List tree.Param → Option TypeName → tree.Body → Option ExprType
 definition_kind at ps (Some w) b = written_of ps (Some w)
 definition_kind at ps None b = body_kind at (may_have_braces ps) b
-
-abbrev mutual
-  -- how many definitions stand in the blocks of a body
-  pub count_in : tree.Body → ℕ
-  count_in (tree.Plain e) = 0
-  count_in (tree.Block ds e) = counts ds
-
-  pub counts : tree.Definitions → ℕ
-  counts tree.no_definitions = 0
-  counts (tree.more_definitions (tree.Define q n ps w b) ds) = suc (count_in b + counts ds)
 
 -- The definition of number k in a block, the first definition of which has number i. Those in the body of a definition have the
 -- numbers behind its own, and are nothing: braces may not stand there.

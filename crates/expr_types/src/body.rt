@@ -207,7 +207,7 @@ fn find_in_macro(
     match body {
         Body::Plain(only) => find_in_expression(alloc, at, written, only),
         Body::Block(definitions, last) => {
-            let scope = Scope::inner(locals(alloc, definitions)?, at.scope);
+            let scope = Scope::inner(locals(alloc, 0, definitions)?, at.scope);
             find_in_block(alloc, &at.within(&scope), written, definitions, last)
         }
     }

@@ -11,9 +11,9 @@ ghost use Rattle.expr_types.specs.Shown.{around_of, kinds_of};
 
 use crate::around::Around;
 use crate::body::{may_have_braces, setting_of, written_of, written_stream};
-use crate::count::number_behind;
 use crate::judge::expression;
 use crate::kinds::KindTable;
+use name_check::count::number_behind;
 use name_check::names::Names;
 use name_check::scope::{Scope, locals, parameters};
 use spec_parser::tree::{Body, Definition, DefinitionParts, Expr, Item};
@@ -65,7 +65,7 @@ fn body_kind(
         Body::Plain(only) => expression_kind(alloc, at, only),
         Body::Block(definitions, last) => {
             if braces {
-                let scope = Scope::inner(locals(alloc, definitions)?, at.scope);
+                let scope = Scope::inner(locals(alloc, 0, definitions)?, at.scope);
                 expression_kind(alloc, &at.within(&scope), last)
             } else {
                 Ok(None)
@@ -133,7 +133,7 @@ fn kind_within(
 ) -> Result<Option<ExprType>, NoMemory>
     ensures { IfOk result (λ kind. kind ≡ local_kind (within_block (around_of at.now) (definitions_of definitions.now)) local (definitions_of definitions.now)) }
 {
-    let scope = Scope::inner(locals(alloc, definitions)?, at.scope);
+    let scope = Scope::inner(locals(alloc, 0, definitions)?, at.scope);
     local_kind(alloc, &at.within(&scope), local, definitions)
 }
 

@@ -4,7 +4,6 @@
 pub mod around;
 mod body;
 mod call;
-mod count;
 pub mod define;
 pub mod items;
 pub mod judge;
