@@ -1,12 +1,11 @@
 -- Calls of value functions that are kept, and the relation of them.
-use Rattle.std.proofs.Common.{◌≡◌, ℕ, zero, suc, ◌+◌, ◌<◌, Bool, true, false, if◌then◌else◌, List, [], ◌∷◌, ◌++◌, map, length, get_or, Some, None, is_some, ltb, refl, sym, ap, subst, ◌∙◌, inl, inr, arith}
+use Rattle.std.proofs.Common.{◌≡◌, ℕ, zero, suc, ◌+◌, ◌<◌, Bool, true, false, if◌then◌else◌, List, [], ◌∷◌, ◌++◌, map, length, get_or, Option, Some, None, is_some, refl, sym, ap, subst, ◌∙◌, inl, inr, arith}
 use Rattle.std.specs.Prelude.{slice_get}
 use Rattle.std.specs.Option.{option_map}
 use Rattle.std.specs.List.{Contains, filter_map}
-use Rattle.std.proofs.lemmas.Bool.{ltb-true, lt-ltb}
 use Rattle.std.proofs.lemmas.List.{length-map}
 use Rattle.std.proofs.lemmas.List.Elements.{Contains-append_left, Contains-append_right, Contains-append_cases}
-use Rattle.std.proofs.lemmas.Option.{slice_get-map, slice_get-get_or, slice_get_within, cond_some}
+use Rattle.std.proofs.lemmas.Option.{slice_get-map, slice_get-get_or, slice_get_within, some_pair_parts}
 use Rattle.tsl_value.specs.declared.place.Place.{Place}
 use Rattle.spec_parser.specs.Tree as tree
 use Rattle.spec_parser.specs.declared.tree.Item.{Item}
@@ -17,6 +16,8 @@ use Rattle.graph_cycles.proofs.Paths.{first_edge}
 use Rattle.name_check.specs.declared.declaration.Declaration.{Declaration}
 use Rattle.name_check.specs.declared.declaration.Declaration.TheVariants as declaration
 use Rattle.name_check.specs.Scope.{Scope, count_in, in_block, inside, top}
+use Rattle.name_check.specs.Parts.{Part, parts}
+use Rattle.definition_cycles.specs.Mentions.{declared}
 use Rattle.name_check.specs.Bodies.{Seen, bodies, block_bodies, item_bodies}
 use Rattle.name_check.specs.Steps.{local_body}
 use Rattle.definition_cycles.specs.declared.mention.Mention.{Mention}
@@ -27,6 +28,7 @@ use Rattle.definition_cycles.specs.Walk.{mentions_from, Kept, with_nodes, nothin
 use Rattle.definition_cycles.specs.Edges.{AreEdges, edge_of_call, call_edge}
 use Rattle.definition_cycles.proofs.ListLemmas.{contains_at, at_contains, in_filtered, from_filtered}
 use Rattle.definition_cycles.proofs.MentionLemmas.{all_kept, mentioned, is_kept}
+use Rattle.definition_cycles.proofs.RangeLemmas.{called_below}
 use Rattle.definition_cycles.proofs.CycleLemmas.{are_between, least_on_cycle}
 
 -- ---- the bodies of nodes are those of items
@@ -154,59 +156,82 @@ node_in_items i scope (x ∷ items) (suc k) p d b at c =
     has_right (i + suc k) (item_nodes i scope x) (nodes_from (suc i) scope items) b (subst (λ j. HasNode j (nodes_from (suc i) scope items) b) e (node_in_items (suc i) scope items k p d b at c))
 
 -- ---- one call
-record IsCallEdge (items : ℕ) (m : Mention) (x y : ℕ) : Type 0 where
+record IsCallEdge (m : Mention) (x y : ℕ) : Type 0 where
   calls : m.calls ≡ true
   from : m.item ≡ x
   to : m.is ≡ declaration.Function y
-  within : y < items
 
-call_facts : (items : ℕ) (m : Mention) (x y : ℕ) → call_edge items m ≡ Some (x, y) → IsCallEdge items m x y
-call_facts items m x y h =
-    let first = cond_calls m.calls refl h in by m.is refl first.1
+call_facts : (m : Mention) (x y : ℕ) → call_edge m ≡ Some (x, y) → IsCallEdge m x y
+call_facts m x y h = let first = by_calls m.calls refl h in by m.is refl first.0 first.1
   where
-    cond_calls : (b : Bool) → m.calls ≡ b → (if b then edge_of_call items m.item m.is else None) ≡ Some (x, y) → (m.calls ≡ true) × (edge_of_call items m.item m.is ≡ Some (x, y))
-    cond_calls true e k = (e, k)
-    cond_calls false e k = absurd (cc)
+    by_calls : (b : Bool) → m.calls ≡ b → (if b then edge_of_call m.item m.is else None) ≡ Some (x, y) → (m.calls ≡ true) × (edge_of_call m.item m.is ≡ Some (x, y))
+    by_calls true e k = (e, k)
+    by_calls false e k = absurd (cc)
 
-    by : (d : Declaration) → m.is ≡ d → edge_of_call items m.item d ≡ Some (x, y) → IsCallEdge items m x y
-    by (declaration.Function j) e k =
-        let both = cond_some (ltb j items) (m.item, j) (x, y) k in
-        let second : j ≡ y = ap (λ (p : ℕ × ℕ). p.1) both.1 in record {
-          calls = (cond_calls m.calls refl h).0;
-          from = ap (λ (p : ℕ × ℕ). p.0) both.1;
-          to = e ∙ ap declaration.Function second;
-          within = subst (λ z. z < items) second (ltb-true j items both.0);
+    by : (d : Declaration) → m.is ≡ d → m.calls ≡ true → edge_of_call m.item d ≡ Some (x, y) → IsCallEdge m x y
+    by (declaration.Function j) e c k =
+        let both = some_pair_parts m.item x j y k in record {
+          calls = c;
+          from = both.0;
+          to = e ∙ ap declaration.Function both.1;
         }
-    by (declaration.Input j) e k = absurd (cc)
-    by (declaration.Stream j) e k = absurd (cc)
-    by (declaration.Macro j) e k = absurd (cc)
-    by (declaration.Mixed j) e k = absurd (cc)
-    by (declaration.Parameter j) e k = absurd (cc)
-    by (declaration.Local j) e k = absurd (cc)
+    by (declaration.Input j) e c k = absurd (cc)
+    by (declaration.Stream j) e c k = absurd (cc)
+    by (declaration.Macro j) e c k = absurd (cc)
+    by (declaration.Mixed j) e c k = absurd (cc)
+    by (declaration.Parameter j) e c k = absurd (cc)
+    by (declaration.Local j) e c k = absurd (cc)
 
 -- ---- all calls
 abbrev edges_of : List tree.Item → List (ℕ × ℕ)
-edges_of items = filter_map (call_edge (length items)) (mentions_from 0 (nodes items))
+edges_of items = filter_map call_edge (mentions_from 0 (nodes items))
+
+-- a mention in an item of a definition
+record IsMentionOf (items : List tree.Item) (a : ℕ) (m : Mention) : Type 0 where
+  place : Place
+  definition : tree.Definition
+  is_item : slice_get items a ≡ Some (tree.Defined place definition)
+  seen : Seen
+  is_body : Contains (item_bodies (top items) (tree.Defined place definition)) seen
+  part : Part
+  is_part : Contains (parts seen.expr) part
+  calls : m.calls ≡ is_call part
+  stands_for : declared seen.scope part ≡ Some m.is
+
+mention_of : (items : List tree.Item) (a : ℕ) (m : Mention) → m.item ≡ a → Contains (mentions_from 0 (nodes items)) m → IsMentionOf items a m
+mention_of items a m from c =
+    let n = mentioned 0 (nodes items) m c in
+    let i = in_items 0 (top items) items n.node (contains_at (nodes items) n.number n.node n.is_node) in
+    let d = in_item (0 + i.number) (top items) i.item n.node n.at.seen i.is_node n.at.is_body in
+    let number : i.number ≡ a = omega (arith, number_in_item (0 + i.number) (top items) i.item n.node i.is_node, n.at.item, from) in record {
+      place = d.place;
+      definition = d.definition;
+      is_item = same_at number (i.is_item ∙ ap Some d.is);
+      seen = n.at.seen;
+      is_body = d.is_body;
+      part = n.at.part;
+      is_part = n.at.is_part;
+      calls = n.at.calls;
+      stands_for = n.at.stands_for;
+    }
+  where
+    same_at : {j k : ℕ} {o : Option tree.Item} → j ≡ k → slice_get items j ≡ o → slice_get items k ≡ o
+    same_at e h = sym (ap (slice_get items) e) ∙ h
 
 edge_means : (items : List tree.Item) (a b : ℕ) → Contains (edges_of items) (a, b) → Calls items a b
 edge_means items a b c =
-    let g = from_filtered (call_edge (length items)) (mentions_from 0 (nodes items)) (a, b) c in
-    let f = call_facts (length items) g.from a b g.gives in
-    let m = mentioned 0 (nodes items) g.from g.is_there in
-    let there = contains_at (nodes items) m.number m.node m.is_node in
-    let i = in_items 0 (top items) items m.node there in
-    let d = in_item (0 + i.number) (top items) i.item m.node m.at.seen i.is_node m.at.is_body in
-    let number : i.number ≡ a = omega (arith, number_in_item (0 + i.number) (top items) i.item m.node i.is_node, m.at.item, f.from) in record {
-      place = d.place;
-      definition = d.definition;
-      is_item = sym (ap (slice_get items) number) ∙ i.is_item ∙ ap Some d.is;
-      seen = m.at.seen;
-      is_body = d.is_body;
-      part = m.at.part;
-      is_part = m.at.is_part;
-      calls = sym m.at.calls ∙ f.calls;
-      stands_for = m.at.stands_for ∙ ap Some f.to;
-      is_called = f.within;
+    let g = from_filtered call_edge (mentions_from 0 (nodes items)) (a, b) c in
+    let f = call_facts g.from a b g.gives in
+    let m = mention_of items a g.from f.from g.is_there in record {
+      place = m.place;
+      definition = m.definition;
+      is_item = m.is_item;
+      seen = m.seen;
+      is_body = m.is_body;
+      part = m.part;
+      is_part = m.is_part;
+      calls = sym m.calls ∙ f.calls;
+      stands_for = m.stands_for ∙ ap Some f.to;
     }
 
 is_edge : (items : List tree.Item) (a b : ℕ) → Calls items a b → Contains (edges_of items) (a, b)
@@ -215,20 +240,18 @@ is_edge items a b u =
     let at = at_contains (nodes items) n.node n.is_node in
     let kept : Mention = record { item = n.node.item; node = 0 + at.0; is = declaration.Function b; calls = is_call u.part } in
     let item : n.node.item ≡ a = omega (arith, n.item) in
-    in_filtered (call_edge (length items)) (mentions_from 0 (nodes items)) kept (a, b)
+    in_filtered call_edge (mentions_from 0 (nodes items)) kept (a, b)
     (is_kept 0 (nodes items) at.0 n.node u.seen u.part (declaration.Function b) at.1 n.is_body u.is_part u.stands_for)
-    (ap (λ t. if t then edge_of_call (length items) n.node.item (declaration.Function b) else None) u.calls
-    ∙ ap (λ t. if t then Some (n.node.item, b) else None) (lt-ltb b (length items) u.is_called)
-    ∙ ap (λ i. Some (i, b)) item)
+    (ap (λ t. if t then edge_of_call n.node.item (declaration.Function b) else None) u.calls ∙ ap (λ i. Some (i, b)) item)
 
-pub call_edges : (items : List tree.Item) (n : ℕ) (k : Kept) (edges : List (ℕ × ℕ)) → n ≡ length items → k ≡ with_nodes nothing_kept (nodes items) → edges ≡ filter_map (call_edge n) k.mentions → AreEdges (Calls items) edges
-call_edges items n k edges is kept made =
-    let same : edges ≡ edges_of items = made ∙ ap (λ m. filter_map (call_edge m) k.mentions) is ∙ ap (filter_map (call_edge (length items))) (all_kept (nodes items) k kept).1 in
+pub call_edges : (items : List tree.Item) (k : Kept) (edges : List (ℕ × ℕ)) → k ≡ with_nodes nothing_kept (nodes items) → edges ≡ filter_map call_edge k.mentions → AreEdges (Calls items) edges
+call_edges items k edges kept made =
+    let same : edges ≡ edges_of items = made ∙ ap (filter_map call_edge) (all_kept (nodes items) k kept).1 in
     let P : List (ℕ × ℕ) → Type 0 = λ e. AreEdges (Calls items) e in subst P (sym same) (record { means = edge_means items; has = is_edge items })
 
 pub calls_between : (items : List tree.Item) (n : ℕ) (edges : List (ℕ × ℕ)) → n ≡ length items → AreEdges (Calls items) edges → AreBetween n edges
 calls_between items n edges is e =
-    are_between n edges (λ a b c. let u = e.means a b c in (subst (λ m. a < m) (sym is) (slice_get_within items a (tree.Defined u.place u.definition) u.is_item), subst (λ m. b < m) (sym is) u.is_called))
+    are_between n edges (λ a b c. let u = e.means a b c in (subst (λ m. a < m) (sym is) (slice_get_within items a (tree.Defined u.place u.definition) u.is_item), subst (λ m. b < m) (sym is) (called_below items u.place u.definition u.seen u.part b u.is_body u.stands_for)))
 
 pub within_items : (items : List tree.Item) (edges : List (ℕ × ℕ)) (x : ℕ) → AreEdges (Calls items) edges → IsLeast (OnCycle edges) x → x < length items
 within_items items edges x e l =

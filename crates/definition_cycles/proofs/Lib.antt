@@ -4,5 +4,6 @@ mod FoundLemmas
 mod MentionLemmas
 mod NumberLemmas
 mod EdgeLemmas
+mod RangeLemmas
 mod CallLemmas
 mod OrderLemmas

@@ -1,5 +1,5 @@
 -- Which value functions are called in an item.
-use Rattle.std.specs.Prelude.{◌≡◌, ℕ, ◌<◌, Bool, true, false, List, Some, length, slice_get}
+use Rattle.std.specs.Prelude.{◌≡◌, ℕ, Bool, true, false, List, Some, slice_get}
 use Rattle.std.specs.List.{Contains}
 use Rattle.tsl_value.specs.declared.place.Place.{Place}
 use Rattle.spec_parser.specs.Tree as tree
@@ -26,7 +26,6 @@ pub record Calls (items : List tree.Item) (i j : ℕ) : Type 0 where
   pub is_part : Contains (parts seen.expr) part
   pub calls : is_call part ≡ true
   pub stands_for : declared seen.scope part ≡ Some (declaration.Function j)
-  pub is_called : j < length items
 
 abbrev pub name_place : tree.Item → Place
 name_place (tree.Input p q n y) = q

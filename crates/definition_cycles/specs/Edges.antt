@@ -1,5 +1,5 @@
 -- The edges that the code makes of mentions.
-use Rattle.std.specs.Prelude.{ℕ, ◌+◌, Bool, false, not, ◌&&◌, if◌then◌else◌, List, Option, Some, None, slice_get, nat_lt}
+use Rattle.std.specs.Prelude.{ℕ, ◌+◌, Bool, false, not, ◌&&◌, if◌then◌else◌, List, Option, Some, None, slice_get}
 use Rattle.std.specs.Option.{option_map}
 use Rattle.std.specs.List.{Contains}
 use Rattle.name_check.specs.declared.declaration.Declaration.{Declaration}
@@ -12,13 +12,13 @@ pub record AreEdges (E : ℕ → ℕ → Type 0) (edges : List (ℕ × ℕ)) : T
   pub means : (a b : ℕ) → Contains edges (a, b) → E a b
   pub has : (a b : ℕ) → E a b → Contains edges (a, b)
 
--- ---- calls of value functions among so many items
-abbrev pub edge_of_call : ℕ → ℕ → Declaration → Option (ℕ × ℕ)
-edge_of_call items i (declaration.Function j) = if nat_lt j items then Some (i, j) else None
-edge_of_call items i d = None
+-- ---- calls of value functions
+abbrev pub edge_of_call : ℕ → Declaration → Option (ℕ × ℕ)
+edge_of_call i (declaration.Function j) = Some (i, j)
+edge_of_call i d = None
 
-abbrev pub call_edge : ℕ → Mention → Option (ℕ × ℕ)
-call_edge items m = if m.calls then edge_of_call items m.item m.is else None
+abbrev pub call_edge : Mention → Option (ℕ × ℕ)
+call_edge m = if m.calls then edge_of_call m.item m.is else None
 
 -- ---- mentions among nodes without a written type
 abbrev pub is_unwritten : Option Head → Bool

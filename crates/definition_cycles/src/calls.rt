@@ -14,36 +14,25 @@ use spec_parser::tree::Item;
 use std::alloc::Global;
 use tsl_value::memory::NoMemory;
 
-/// A call of a value function, among so many items.
-fn call_edge(items: usize, mention: &Mention) -> Result<Option<(u32, u32)>, NoMemory>
-    ensures { IfOk result (λ edge. edge ≡ call_edge items mention.now) }
+/// The pair of an item and a value function that is called in it.
+fn call_edge(mention: &Mention) -> Result<Option<(u32, u32)>, NoMemory>
+    ensures { IfOk result (λ edge. edge ≡ call_edge mention.now) }
 {
     if !mention.calls {
         return Ok(None);
     }
     match mention.is {
-        Declaration::Function(called) => {
-            if called < items {
-                Ok(Some((to_node(mention.item)?, to_node(called)?)))
-            } else {
-                Ok(None)
-            }
-        }
+        Declaration::Function(called) => { Ok(Some((to_node(mention.item)?, to_node(called)?))) }
         _ => Ok(None),
     }
 }
 
-/// The calls of value functions, each from the item in which it stands.
-fn call_edges(
-    alloc: Global,
-    items: usize,
-    mentions: &[Mention],
-) -> Result<Vec<(u32, u32)>, NoMemory>
-    ensures { IfOk result (λ edges. edges.items ≡ filter_map (call_edge items) mentions.now) }
+fn call_edges(alloc: Global, mentions: &[Mention]) -> Result<Vec<(u32, u32)>, NoMemory>
+    ensures { IfOk result (λ edges. edges.items ≡ filter_map call_edge mentions.now) }
 {
     let mut edges = Vec::new(alloc);
     for mention in mentions {
-        push_some(&mut edges, call_edge(items, mention)?)?;
+        push_some(&mut edges, call_edge(mention)?)?;
     }
     Ok(edges)
 }
@@ -53,5 +42,5 @@ pub fn calls(alloc: Global, items: &[Item]) -> Result<Vec<(u32, u32)>, NoMemory>
     ensures { IfOk result (λ edges. AreEdges (Calls (map item_of items.now)) edges.items) }
 {
     let graph = Graph::of_items(alloc, items)?;
-    call_edges(alloc, items.len(), graph.found.mentions())
+    call_edges(alloc, graph.found.mentions())
 }
