@@ -49,9 +49,10 @@ pub record IsAccepted (t : Tree) (kinds : Kinds) : Type 0 where
   pub no_late : late t kinds ≡ []
 
 -- a cycle of value functions, or else one of definitions without a written type
-pub data IsCycleFault (t : Tree) : TypeFault → Type 0 where
-  function_cycle : {p : Place} → IsFirstFunctionCycle (items_of t) (Some p) → IsCycleFault t (fault.FunctionCycle p)
-  untyped_cycle : {p : Place} → IsFirstFunctionCycle (items_of t) None → IsFirstUntypedCycle (items_of t) (Some p) → IsCycleFault t (fault.NeedsType p)
+abbrev pub IsCycleFault : Tree → TypeFault → Type 0
+IsCycleFault t (fault.FunctionCycle p) = IsFirstFunctionCycle (items_of t) (Some p)
+IsCycleFault t (fault.NeedsType p) = IsFirstFunctionCycle (items_of t) None × IsFirstUntypedCycle (items_of t) (Some p)
+IsCycleFault t f = ⊥
 
 -- The fault is the first: one that is checked before cycles, a cycle, or one that is checked after them, for what the declared names
 -- are.
