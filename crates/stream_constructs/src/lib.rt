@@ -3,4 +3,5 @@
 #![tactic(auto)]
 
 pub mod construct;
+pub mod laws;
 pub mod maker;

@@ -1,0 +1,9 @@
+pub mod Numbered
+pub mod Fetched
+pub mod Lifting
+pub mod Making
+pub mod Simple
+pub mod Signals
+pub mod Operands
+pub mod Updates
+pub mod Made
