@@ -7,3 +7,7 @@ pub mod Signals
 pub mod Operands
 pub mod Updates
 pub mod Made
+pub mod Hanging
+pub mod LiftingHangs
+pub mod Hangs
+pub mod Hung

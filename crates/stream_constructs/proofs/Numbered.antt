@@ -27,6 +27,11 @@ at_more {P} {n} {e} {es} here rest = record { each = each }
 pub at_from : {P : ℕ → Equation → Type 0} {n : ℕ} {es : List Equation} (m : ℕ) → n ≡ m → At P n es → At P m es
 at_from {P} {n} {es} m same at = subst (λ i. At P i es) same at
 
+pub at_two : {P : ℕ → Equation → Type 0} {n : ℕ} {e f : Equation} {es : List Equation} → P n e → P (n + 1) f → At P (n + 2) es → At P n (e ∷ f ∷ es)
+at_two {P} {n} {e} {f} {es} here next rest =
+    let same : n + 1 ≡ suc n = omega arith in
+    at_more here (at_more (subst (λ i. P i f) same next) (at_from (suc (suc n)) (omega arith) rest))
+
 -- the second of two equations, and those behind it
 pub at_second : {P : ℕ → Equation → Type 0} {n : ℕ} {e f : Equation} {es : List Equation} → At P n (e ∷ f ∷ es) → P (n + 1) f
 at_second {P} {n} {e} {f} {es} at = at.each 1 f refl
