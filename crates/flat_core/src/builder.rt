@@ -1,6 +1,6 @@
 // Making a flat system.
 
-ghost use Rattle.std.specs.Prelude.{◌≡◌, ◌<◌, ◌^◌, [], ◌∷◌, ◌++◌, length, is_ok, if◌then◌else◌, IfOk};
+ghost use Rattle.std.specs.Prelude.{◌≡◌, ◌<◌, ◌≤◌, ◌^◌, [], ◌∷◌, ◌++◌, length, is_ok, if◌then◌else◌, IfOk};
 
 use crate::equation::{Equation, Output};
 use crate::flat::Flat;
@@ -10,6 +10,7 @@ use std::alloc::Global;
 use std::marker::Model;
 use tsl_value::ids::EqId;
 use tsl_value::memory::NoMemory;
+use tsl_value::text::Text;
 
 /// A flat system that is being made. Contracts see it as a system of which nothing runs yet.
 #[derive(Drop)]
@@ -35,7 +36,7 @@ impl Model for FlatBuilder {
 }
 
 impl FlatBuilder {
-    ghost use Rattle.flat_core.specs.System.{with_args};
+    ghost use Rattle.flat_core.specs.System.{with_args, with_name};
     ghost use Rattle.flat_core.specs.Complete.{IsComplete, IsFlat};
 
     /// No equation and no output.
@@ -49,6 +50,14 @@ impl FlatBuilder {
             equations: Vec::new(alloc),
             outputs: Vec::new(alloc),
         }
+    }
+
+    /// The number of equations.
+    pub fn count(&self) -> u32
+        ensures count { result ≡ length self.now.equations }
+        ensures few { result ≤ 4096 }
+    {
+        self.equations.len() as u32
     }
 
     /// Adds an equation and gives its number, the next one. Its arguments may be numbers that are not made yet.
@@ -68,6 +77,14 @@ impl FlatBuilder {
         ensures { self.new ≡ with_args self.old id args }
     {
         self.equations[id.get() as usize].args = args;
+    }
+
+    /// Names an equation.
+    pub fn set_name(&mut self, id: EqId, name: Text)
+        requires { id < length self.old.equations }
+        ensures { self.new ≡ with_name self.old id name }
+    {
+        self.equations[id.get() as usize].name = Some(name);
     }
 
     /// Adds an output behind the others.
