@@ -11,3 +11,4 @@ pub mod Hanging
 pub mod LiftingHangs
 pub mod Hangs
 pub mod Hung
+pub mod Refusals

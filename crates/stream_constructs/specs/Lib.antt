@@ -2,3 +2,4 @@ pub mod Construct
 pub mod Equations
 pub mod Limits
 pub mod Agree
+pub mod Made
