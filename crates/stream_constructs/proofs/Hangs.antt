@@ -27,10 +27,11 @@ use Rattle.stream_constructs.specs.declared.construct.Stream.{Stream}
 use Rattle.stream_constructs.specs.Construct as construct
 use Rattle.stream_constructs.specs.Construct.{Construct, Operand}
 use Rattle.stream_constructs.specs.Equations.{numbers, equation, lifting, lifted, literal_equations, operand_numbers, first_number, with_literals, own_equations, alias_equation}
+use Rattle.stream_constructs.specs.Made.{varying_count}
 use Rattle.stream_constructs.specs.Agree.{AreOperands, IsScalar, Fits, HangTogether, is_used_part}
 use Rattle.stream_constructs.proofs.Numbered.{At, at_none, at_more, at_two, at_first, at_second, at_behind, at_front, at_back, at_both}
 use Rattle.stream_constructs.proofs.Hanging.{Stands, hang, hang_from}
-use Rattle.stream_constructs.proofs.LiftingHangs.{HasType, types_lifted, varying_count, operands_vary, spread_held, lifting_spread, spread_literals, all_numbers, know_lifting, know_literals, know_operands, type_at, types_at, typed_lifting, typed_literal, typed_literals, typed_operands}
+use Rattle.stream_constructs.proofs.LiftingHangs.{HasType, types_lifted, operands_vary, spread_held, lifting_spread, spread_literals, all_numbers, know_lifting, know_literals, know_operands, type_at, types_at, typed_lifting, typed_literal, typed_literals, typed_operands}
 
 -- a body without arguments is typed in front of any
 weaker : (args : List Kind) (f : Tree) (k : Kind) → HasKind [] f k → HasKind args f k

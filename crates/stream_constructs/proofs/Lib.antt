@@ -1,9 +1,9 @@
 pub mod Numbered
 pub mod Fetched
-pub mod Lifting
+pub mod LiftedOutcomes
 pub mod Making
 pub mod Simple
-pub mod Signals
+pub mod SignalsMade
 pub mod Operands
 pub mod Updates
 pub mod Made
@@ -12,3 +12,4 @@ pub mod LiftingHangs
 pub mod Hangs
 pub mod Hung
 pub mod Refusals
+pub mod Steps

@@ -19,6 +19,7 @@ use Rattle.flat_core.proofs.Members.{contains_head, contains_tail, map_contains}
 use Rattle.stream_constructs.specs.declared.construct.Stream.{Stream}
 use Rattle.stream_constructs.specs.Construct.{Operand, Fixed, Varying}
 use Rattle.stream_constructs.specs.Equations.{numbers, equation, literal_over, held, held_each, merges, lifting, lifted, literal_equations, operand_numbers}
+use Rattle.stream_constructs.specs.Made.{varying_count}
 use Rattle.stream_constructs.specs.Agree.{AreOperands}
 use Rattle.stream_constructs.proofs.Numbered.{At, at_none, at_more, at_two, at_first, at_rest, at_second, at_behind, at_from}
 use Rattle.stream_constructs.proofs.Hanging.{Stands, Spreads, Reached}
@@ -33,11 +34,6 @@ types_lifted n (a ∷ b ∷ c ∷ rest) = each (n + 1) (a ∷ b ∷ c ∷ rest)
     each : (n : ℕ) (parts : List Stream) → map (λ b. b.of) (merges n parts) ≡ map (λ a. a.of) parts
     each n [] = refl
     each n (a ∷ rest) = ap (λ ts. a.of ∷ ts) (each (n + 2) rest)
-
-abbrev pub varying_count : List Operand → ℕ
-varying_count [] = 0
-varying_count (Fixed s ∷ os) = varying_count os
-varying_count (Varying ∷ os) = suc (varying_count os)
 
 pub operands_vary : (os : List Operand) (parts : List Stream) (ts : List ValueType) → AreOperands os parts ts → varying_count os ≡ length parts
 operands_vary [] [] [] h = refl

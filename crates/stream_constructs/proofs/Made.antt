@@ -11,9 +11,9 @@ use Rattle.stream_constructs.specs.Construct.{Construct, Operand}
 use Rattle.stream_constructs.specs.Equations.{own_equations}
 use Rattle.stream_constructs.specs.Agree.{Fits, IsItself, MakesStream, AreOperands, Updates, set_add, set_remove, map_add, map_remove}
 use Rattle.stream_constructs.proofs.Numbered.{At}
-use Rattle.stream_constructs.proofs.Lifting.{HasCase}
+use Rattle.stream_constructs.proofs.LiftedOutcomes.{HasCase}
 use Rattle.stream_constructs.proofs.Simple.{nil_made, unit_made, literal_made, empty_made, time_made, last_made, delay_made, merge_made, const_made, filter_made, filter_by_made, lift_made}
-use Rattle.stream_constructs.proofs.Signals.{signal_made, signal_alone_made}
+use Rattle.stream_constructs.proofs.SignalsMade.{signal_made, signal_alone_made}
 use Rattle.stream_constructs.proofs.Operands.{one_of, two_of, behind_aggregate}
 use Rattle.stream_constructs.proofs.Updates.{set_add_made, set_remove_made, map_add_made, map_remove_made}
 

@@ -13,7 +13,7 @@ use Rattle.stream_constructs.specs.declared.construct.Stream.{Stream}
 use Rattle.stream_constructs.specs.Construct.{Construct, outcome, root}
 use Rattle.stream_constructs.specs.Agree.{history_of, last_number, AreSolved, MakesStream}
 use Rattle.stream_constructs.proofs.Numbered.{At, at_none, at_more, at_first, at_rest}
-use Rattle.stream_constructs.proofs.Lifting.{HasCase}
+use Rattle.stream_constructs.proofs.LiftedOutcomes.{HasCase}
 
 -- what is answered is no fault
 pub no_root : (blocked : Bool) (v : Option View) → (if blocked then None else fault_of (Ok v)) ≡ None

@@ -20,7 +20,7 @@ use Rattle.stream_constructs.specs.Equations.{numbers, own_equations, alias_equa
 use Rattle.stream_constructs.specs.Agree.{history_of, MakesStream}
 use Rattle.stream_constructs.proofs.Numbered.{At, at_none, at_more, at_first, at_rest, at_second, at_behind}
 use Rattle.stream_constructs.proofs.Fetched.{last_case, held_case, merge_case, literal_case}
-use Rattle.stream_constructs.proofs.Lifting.{HasCase}
+use Rattle.stream_constructs.proofs.LiftedOutcomes.{HasCase}
 use Rattle.stream_constructs.proofs.Making.{IsQuiet, no_root, no_literal_root, makes, makes_one}
 
 module _ (p : Place) (of : ValueType) (n : ℕ) (inputs : Inputs) (z : Streams) (t : ℕ) where

@@ -19,8 +19,8 @@ use Rattle.stream_constructs.specs.Construct.{Operand, now, operand_trees}
 use Rattle.stream_constructs.specs.Equations.{own_equations, choice_equations, choice}
 use Rattle.stream_constructs.specs.Agree.{MakesStream}
 use Rattle.stream_constructs.proofs.Numbered.{At}
-use Rattle.stream_constructs.proofs.Lifting.{HasCase, some_event}
-use Rattle.stream_constructs.proofs.Signals.{literals_made}
+use Rattle.stream_constructs.proofs.LiftedOutcomes.{HasCase, some_event}
+use Rattle.stream_constructs.proofs.SignalsMade.{literals_made}
 use Rattle.stream_constructs.proofs.Operands.{One, Two, Behind, Chooses, fixed, varying, fixed_fixed, fixed_varying, varying_fixed, varying_varying, behind, by_literal, by_stream}
 
 -- the answer of an operation on some event, where it makes nothing unless all values are there

@@ -2,6 +2,11 @@
 // agree.
 #![tactic(auto)]
 
+mod arguments;
 pub mod construct;
 pub mod laws;
+mod lifting;
 pub mod maker;
+mod operations;
+mod signals;
+mod sources;

@@ -2,7 +2,7 @@
 
 ghost use Rattle.std.specs.Prelude.{◌≡◌, ◌+◌, ◌-◌, ◌<◌, ◌≤◌, ◌^◌, List, [], ◌∷◌, ◌++◌, length, is_ok, if◌then◌else◌, IfOk, OnOk, IfErr, OnErr};
 ghost use Rattle.stream_constructs.specs.Limits.{is_update, IsRefusal};
-ghost use Rattle.stream_constructs.specs.Made.{with_equations};
+ghost use Rattle.stream_constructs.specs.Made.{with_equations, stream_of};
 ghost use Rattle.stream_constructs.specs.Equations as equations;
 
 use crate::construct::Stream;
@@ -10,7 +10,7 @@ use flat_core::builder::FlatBuilder;
 use flat_core::equation::{Equation, Op, Output};
 use flat_core::flat::Flat;
 use flat_core::lists::Args;
-use std::alloc::Global;
+use std::alloc::{AllocError, AllocFailed, Global};
 use std::marker::Model;
 use tsl_value::ids::EqId;
 use tsl_value::memory::NoMemory;
@@ -41,6 +41,28 @@ impl From<NoMemory> for MakeFault {
     ghost from_gives = { λ _ f. f ≡ fault.Memory };
 
     fn from(_error: NoMemory) -> MakeFault {
+        MakeFault::Memory
+    }
+}
+
+impl From<AllocError> for MakeFault {
+    ghost use Rattle.std.specs.Prelude.{◌≡◌};
+    ghost use Rattle.stream_constructs.specs.declared.maker.MakeFault.TheVariants as fault;
+
+    ghost from_gives = { λ _ f. f ≡ fault.Memory };
+
+    fn from(_error: AllocError) -> MakeFault {
+        MakeFault::Memory
+    }
+}
+
+impl<T: Drop> From<AllocFailed<T>> for MakeFault {
+    ghost use Rattle.std.specs.Prelude.{◌≡◌};
+    ghost use Rattle.stream_constructs.specs.declared.maker.MakeFault.TheVariants as fault;
+
+    ghost from_gives = { λ _ f. f ≡ fault.Memory };
+
+    fn from(_error: AllocFailed<T>) -> MakeFault {
         MakeFault::Memory
     }
 }
@@ -134,7 +156,7 @@ impl Maker {
         of: ValueType,
     ) -> Result<Stream, MakeFault>
         ensures id { IfOk result (λ s. s.id ≡ length self.old.equations) }
-        ensures of { IfOk result (λ s. s.of ≡ of) }
+        ensures stream { IfOk result (λ s. s ≡ stream_of self.old (equations.equation place op args of ∷ []) of) }
         ensures made { OnOk result (self.new ≡ with_equations self.old (equations.equation place op args of ∷ [])) }
         ensures refused { IfErr result (IsRefusal (self.old.equations ++ equations.equation place op args of ∷ [])) }
     {

@@ -22,7 +22,7 @@ use Rattle.stream_constructs.specs.Equations.{numbers, equation, held_each, lift
 use Rattle.stream_constructs.specs.Agree.{history_of, MakesStream}
 use Rattle.stream_constructs.proofs.Numbered.{At, at_none, at_more, at_first, at_second, at_from, at_front, at_back, at_both}
 use Rattle.stream_constructs.proofs.Fetched.{fetched, nones}
-use Rattle.stream_constructs.proofs.Lifting.{HasCase, some_fault, some_event, values_of, outcomes_of, literal_values, lifted_are, operands_are, operation_is}
+use Rattle.stream_constructs.proofs.LiftedOutcomes.{HasCase, some_fault, some_event, values_of, outcomes_of, literal_values, lifted_are, operands_are, operation_is}
 use Rattle.stream_constructs.proofs.Making.{IsQuiet, no_root, no_literal_root, makes}
 
 -- a body without arguments has the same answer at all values
