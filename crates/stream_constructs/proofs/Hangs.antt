@@ -58,7 +58,7 @@ first_known K n a [] all = all.0
 first_known K n a (b ∷ []) all = all.0
 first_known K n a (b ∷ c ∷ rest) all = all.0
 
-lifted_length : (n : ℕ) (parts : List Stream) → length (lifted n parts) ≡ length parts
+pub lifted_length : (n : ℕ) (parts : List Stream) → length (lifted n parts) ≡ length parts
 lifted_length n parts = sym (length-map (lifted n parts) (λ (b : Stream). b.of)) ∙ ap length (types_lifted n parts) ∙ length-map parts (λ (b : Stream). b.of)
 
 -- a name as a definition
