@@ -1,0 +1,15 @@
+pub mod Numbered
+pub mod Fetched
+pub mod LiftedOutcomes
+pub mod Making
+pub mod Simple
+pub mod SignalsMade
+pub mod Operands
+pub mod Updates
+pub mod Made
+pub mod Hanging
+pub mod LiftingHangs
+pub mod Hangs
+pub mod Hung
+pub mod Refusals
+pub mod Steps

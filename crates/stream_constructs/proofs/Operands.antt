@@ -1,0 +1,90 @@
+-- The operands that updates and choices have: a set or a map is no literal.
+use Rattle.std.proofs.Common.{◌≡◌, true, List, [], ◌∷◌, sym, ap, ◌∙◌}
+use Rattle.std.proofs.lemmas.Bool.{false≢true}
+use Rattle.tsl_value.specs.declared.scalar.Scalar.{Scalar}
+use Rattle.tsl_value.specs.declared.scalar.ValueType.{ValueType}
+use Rattle.tsl_value.specs.declared.scalar.ValueType.TheVariants as value_type
+use Rattle.tsl_value.specs.View.{type_of}
+use Rattle.flat_core.specs.Typed.{is_aggregate}
+use Rattle.stream_constructs.specs.declared.construct.Stream.{Stream}
+use Rattle.stream_constructs.specs.Construct.{Operand, Fixed, Varying}
+use Rattle.stream_constructs.specs.Agree.{AreOperands}
+
+pub data None : List Operand → List Stream → Type 0 where
+  none : None [] []
+
+pub data One : List Operand → List Stream → Type 0 where
+  fixed : {s : Scalar} → One (Fixed s ∷ []) []
+  varying : {a : Stream} → One (Varying ∷ []) (a ∷ [])
+
+pub data Two : List Operand → List Stream → Type 0 where
+  fixed_fixed : {s r : Scalar} → Two (Fixed s ∷ Fixed r ∷ []) []
+  fixed_varying : {s : Scalar} {a : Stream} → Two (Fixed s ∷ Varying ∷ []) (a ∷ [])
+  varying_fixed : {a : Stream} {s : Scalar} → Two (Varying ∷ Fixed s ∷ []) (a ∷ [])
+  varying_varying : {a b : Stream} → Two (Varying ∷ Varying ∷ []) (a ∷ b ∷ [])
+
+-- one that varies before others, and two behind one
+pub data Behind (Rest : List Operand → List Stream → Type 0) : List Operand → List Stream → Type 0 where
+  behind : {a : Stream} {os : List Operand} {parts : List Stream} → Rest os parts → Behind Rest (Varying ∷ os) (a ∷ parts)
+
+pub data Chooses : List Operand → List Stream → Type 0 where
+  by_literal : {s : Scalar} {a b : Stream} → Chooses (Fixed s ∷ Varying ∷ Varying ∷ []) (a ∷ b ∷ [])
+  by_stream : {c a b : Stream} → Chooses (Varying ∷ Varying ∷ Varying ∷ []) (c ∷ a ∷ b ∷ [])
+
+pub none_of : (os : List Operand) (parts : List Stream) → AreOperands os parts [] → None os parts
+none_of [] [] h = none
+none_of [] (a ∷ parts) h = absurd h
+none_of (Fixed s ∷ os) parts h = absurd h
+none_of (Varying ∷ os) [] h = absurd h
+none_of (Varying ∷ os) (a ∷ parts) h = absurd h
+
+pub one_of : (os : List Operand) (parts : List Stream) (t : ValueType) → AreOperands os parts (t ∷ []) → One os parts
+one_of [] [] t h = absurd h
+one_of [] (a ∷ parts) t h = absurd h
+one_of (Fixed s ∷ os) parts t h = at (none_of os parts h.1)
+  where
+    at : {os : List Operand} {parts : List Stream} → None os parts → One (Fixed s ∷ os) parts
+    at none = fixed
+one_of (Varying ∷ os) [] t h = absurd h
+one_of (Varying ∷ os) (a ∷ parts) t h = at (none_of os parts h.1)
+  where
+    at : {os : List Operand} {parts : List Stream} → None os parts → One (Varying ∷ os) (a ∷ parts)
+    at none = varying
+
+pub two_of : (os : List Operand) (parts : List Stream) (t u : ValueType) → AreOperands os parts (t ∷ u ∷ []) → Two os parts
+two_of [] [] t u h = absurd h
+two_of [] (a ∷ parts) t u h = absurd h
+two_of (Fixed s ∷ os) parts t u h = at (one_of os parts u h.1)
+  where
+    at : {os : List Operand} {parts : List Stream} → One os parts → Two (Fixed s ∷ os) parts
+    at fixed = fixed_fixed
+    at varying = fixed_varying
+two_of (Varying ∷ os) [] t u h = absurd h
+two_of (Varying ∷ os) (a ∷ parts) t u h = at (one_of os parts u h.1)
+  where
+    at : {os : List Operand} {parts : List Stream} → One os parts → Two (Varying ∷ os) (a ∷ parts)
+    at fixed = varying_fixed
+    at varying = varying_varying
+
+no_literal : {P : Type 0} (t : ValueType) (s : Scalar) → is_aggregate t ≡ true → t ≡ value_type.Scalar (type_of s) → P
+no_literal t s aggregate is = absurd (false≢true (ap is_aggregate (sym is) ∙ aggregate))
+
+pub behind_aggregate : {Rest : List Operand → List Stream → Type 0} (os : List Operand) (parts : List Stream) (t : ValueType) (ts : List ValueType) → is_aggregate t ≡ true → ((os : List Operand) (parts : List Stream) → AreOperands os parts ts → Rest os parts) → AreOperands os parts (t ∷ ts) → Behind Rest os parts
+behind_aggregate [] [] t ts aggregate rest h = absurd h
+behind_aggregate [] (a ∷ parts) t ts aggregate rest h = absurd h
+behind_aggregate (Fixed s ∷ os) parts t ts aggregate rest h = no_literal t s aggregate h.0
+behind_aggregate (Varying ∷ os) [] t ts aggregate rest h = absurd h
+behind_aggregate (Varying ∷ os) (a ∷ parts) t ts aggregate rest h = behind (rest os parts h.1)
+
+pub chooses_of : (os : List Operand) (parts : List Stream) (c t : ValueType) → is_aggregate t ≡ true → AreOperands os parts (c ∷ t ∷ t ∷ []) → Chooses os parts
+chooses_of [] [] c t aggregate h = absurd h
+chooses_of [] (a ∷ parts) c t aggregate h = absurd h
+chooses_of (Fixed s ∷ os) parts c t aggregate h = at (behind_aggregate os parts t (t ∷ []) aggregate (λ os parts h. behind_aggregate os parts t [] aggregate none_of h) h.1)
+  where
+    at : {os : List Operand} {parts : List Stream} → Behind (Behind None) os parts → Chooses (Fixed s ∷ os) parts
+    at (behind (behind none)) = by_literal
+chooses_of (Varying ∷ os) [] c t aggregate h = absurd h
+chooses_of (Varying ∷ os) (a ∷ parts) c t aggregate h = at (behind_aggregate os parts t (t ∷ []) aggregate (λ os parts h. behind_aggregate os parts t [] aggregate none_of h) h.1)
+  where
+    at : {os : List Operand} {parts : List Stream} → Behind (Behind None) os parts → Chooses (Varying ∷ os) (a ∷ parts)
+    at (behind (behind none)) = by_stream

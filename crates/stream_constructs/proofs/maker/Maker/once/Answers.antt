@@ -1,0 +1,13 @@
+use Rattle.std.proofs.Common.{[], ◌∷◌, refl, length}
+use Rattle.std.proofs.lemmas.Result.{err_from_is_err_and}
+use Rattle.flat_core.specs.declared.equation.Op.TheVariants as op
+use Rattle.flat_core.specs.Typed.{unit_type}
+use Rattle.stream_constructs.specs.Equations.{equation}
+use Rattle.stream_constructs.proofs.Steps.{refused_early}
+use Rattle.stream_constructs.proofs.maker.Maker.once.Goals as goal
+
+pub returns-in_err-start-clause-refused : goal.returns-in_err-start-clause-refused
+returns-in_err-start-clause-refused c =
+    let p = err_from_is_err_and c.from_residual.result c.from_residual.ensures.1 in
+    let n = length c.args.self.now.equations in
+    refused_early c.from_residual.result p.0 _ c.args.self.now.equations (equation c.args.place op.Unit [] unit_type ∷ []) (equation c.args.place c.args.op (n ∷ []) c.args.of ∷ []) _ p.1 p.2 refl c.in_err-start.ensures.refused

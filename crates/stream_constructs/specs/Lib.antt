@@ -1,0 +1,5 @@
+pub mod Construct
+pub mod Equations
+pub mod Limits
+pub mod Agree
+pub mod Made
