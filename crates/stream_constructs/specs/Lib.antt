@@ -1,0 +1,4 @@
+pub mod Construct
+pub mod Equations
+pub mod Limits
+pub mod Agree
