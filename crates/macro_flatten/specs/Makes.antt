@@ -32,9 +32,10 @@ pub record Standing : Type 0 where
 abbrev pub last_of : ℕ → List Equation → ValueType → Stream
 last_of n own of = record { id = last_number n own; of = of }
 
--- an expression that is only a name
+-- an expression that is only a name, also in a chain of one operand
 abbrev pub is_name : Expr → Bool
 is_name (tree.Name p n) = if is_unit n then false else true
+is_name (tree.Chain p l e no_links) = is_name e
 is_name e = false
 
 abbrev pub is_choice : Expr → Bool

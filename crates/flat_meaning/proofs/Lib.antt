@@ -1,0 +1,4 @@
+pub mod Congruence
+pub mod OneThing
+pub mod Rising
+pub mod OneText
