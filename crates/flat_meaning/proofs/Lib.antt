@@ -2,3 +2,5 @@ pub mod Congruence
 pub mod OneThing
 pub mod Rising
 pub mod OneText
+pub mod Plain
+pub mod OwnEquations
