@@ -4,3 +4,5 @@ pub mod Rising
 pub mod OneText
 pub mod Plain
 pub mod OwnEquations
+pub mod Shapes
+pub mod Scopes
