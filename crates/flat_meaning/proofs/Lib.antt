@@ -6,3 +6,5 @@ pub mod Plain
 pub mod OwnEquations
 pub mod Shapes
 pub mod Scopes
+pub mod Placed
+pub mod Lookup
