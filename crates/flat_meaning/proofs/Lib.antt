@@ -8,3 +8,4 @@ pub mod Shapes
 pub mod Scopes
 pub mod Placed
 pub mod Lookup
+pub mod Built

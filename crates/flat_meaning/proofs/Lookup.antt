@@ -104,3 +104,31 @@ module _ (items : List tree.Item) (top : ℕ → Stream) (s : System) where
   stream_at {i} (flat.MakesStreams.output more) within (suc k) p q x w b is = next_is i k (λ j. IsMadeBody items top s outermost (result_of b) (top j)) (stream_at more within k p q x w b is)
   stream_at {i} (flat.MakesStreams.output_as more) within zero p q x w b is = cc
   stream_at {i} (flat.MakesStreams.output_as more) within (suc k) p q x w b is = next_is i k (λ j. IsMadeBody items top s outermost (result_of b) (top j)) (stream_at more within k p q x w b is)
+
+  -- an input
+  pub record IsInputAt (stream : Stream) (number : ℕ) : Type 0 where
+    pub number_is : stream.id ≡ number
+    pub place : Place
+    pub of : ValueType
+    pub within : Within s number (equation place op.Input [] of ∷ [])
+
+  pub input_at : {i : ℕ} {rest : List tree.Item} {n : ℕ} {made : List Equation} → MakesInputs items top i rest n made → Within s n made → (k : ℕ) (p q : Place) (x : List ℕ) (y : tree.TypeName) → slice_get rest k ≡ Some (tree.Input p q x y) → IsInputAt (top (i + k)) (n + input_number rest k)
+  input_at flat.MakesInputs.end within k p q x y is = none_get _ is
+  input_at {i} {n = n} (flat.MakesInputs.input {q = r} {x = w} of made event top_is more all_is) within zero p q x y is =
+      let here : Within s n (equation r op.Input [] of ∷ []) = alone (subst (Within s n) all_is within) in
+      first_is i (λ j. IsInputAt (top j) (n + 0)) (first_is n (λ m. IsInputAt (top i) m) (record { number_is = ap (λ a. a.id) top_is; place = r; of = of; within = here }))
+    where
+      alone : Within s n (record (equation r op.Input [] of) { name = Some w } ∷ made) → Within s n (equation r op.Input [] of ∷ [])
+      alone all zero e is = all 0 (record (equation r op.Input [] of) { name = Some w }) refl ∙ ap (λ f. Some (unnamed f)) (same_Some (equation r op.Input [] of) e is)
+      alone all (suc k) e is = none_get e is
+  input_at {i} {n = n} (flat.MakesInputs.input {rest = rest} of made event top_is more all_is) within (suc k) p q x y is =
+      let there = within_right s n (_ ∷ []) made (subst (Within s n) all_is within) in
+      let moved : Within s (suc n) made = let e : n + 1 ≡ suc n = omega arith in subst (λ m. Within s m made) e there in
+      let found = input_at more moved k p q x y is in
+      next_is i k (λ j. IsInputAt (top j) (n + suc (input_number rest k))) (let e : suc n + input_number rest k ≡ n + suc (input_number rest k) = omega arith in subst (λ m. IsInputAt (top (suc i + k)) m) e found)
+  input_at (flat.MakesInputs.defined more) within zero p q x y is = cc
+  input_at {i} {n = n} (flat.MakesInputs.defined {rest = rest} more) within (suc k) p q x y is = next_is i k (λ j. IsInputAt (top j) (n + input_number rest k)) (input_at more within k p q x y is)
+  input_at (flat.MakesInputs.output more) within zero p q x y is = cc
+  input_at {i} {n = n} (flat.MakesInputs.output {rest = rest} more) within (suc k) p q x y is = next_is i k (λ j. IsInputAt (top j) (n + input_number rest k)) (input_at more within k p q x y is)
+  input_at (flat.MakesInputs.output_as more) within zero p q x y is = cc
+  input_at {i} {n = n} (flat.MakesInputs.output_as {rest = rest} more) within (suc k) p q x y is = next_is i k (λ j. IsInputAt (top j) (n + input_number rest k)) (input_at more within k p q x y is)
