@@ -9,3 +9,4 @@ pub mod Scopes
 pub mod Placed
 pub mod Lookup
 pub mod Built
+pub mod Resolve
