@@ -40,7 +40,7 @@ pub record TheLaws : Type 0 where
   pub aliases_made : AliasesAreMade
   pub aliases_hang : AliasesHangTogether
 
-one_number : (n : ℕ) (own : List Equation) → IsOneDelay own → last_number n own ≡ n
+pub one_number : (n : ℕ) (own : List Equation) → IsOneDelay own → last_number n own ≡ n
 one_number n own one = let many : length own ≡ 1 = ap length one.alone in omega arith
 
 is_itself : (c : Construct) (m : ℕ) (parts : List Stream) → IsItself c m (with_itself c m parts)

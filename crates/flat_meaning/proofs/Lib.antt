@@ -10,3 +10,6 @@ pub mod Placed
 pub mod Lookup
 pub mod Built
 pub mod Resolve
+pub mod Happening
+pub mod Covered
+pub mod Means
