@@ -13,3 +13,4 @@ pub mod Resolve
 pub mod Happening
 pub mod Covered
 pub mod Means
+pub mod DueText
