@@ -1,19 +1,19 @@
 -- The equations of constructs, of choices, of aliases and of inputs make streams of occurrences.
-use Rattle.std.proofs.Common.{◌≡◌, ◌⊎◌, ℕ, zero, suc, ◌+◌, ◌-◌, ◌<◌, Bool, true, false, ◌&&◌, List, [], ◌∷◌, ◌++◌, map, length, Option, Some, None, Ok, refl, ap, sym, subst, ◌∙◌, inl, inr, arith, append-nil}
+use Rattle.std.proofs.Common.{◌≡◌, ◌⊎◌, ℕ, zero, suc, ◌+◌, ◌-◌, ◌<◌, true, List, [], ◌∷◌, ◌++◌, map, length, Some, None, Ok, refl, ap, sym, subst, ◌∙◌, inl, arith, append-nil}
 use Rattle.std.specs.Prelude.{◌==◌, slice_get, if◌then◌else◌}
 use Rattle.std.specs.List.{AllByRecursion, Contains}
-use Rattle.std.proofs.lemmas.Bool.{true≢false, false≢true, and_parts}
+use Rattle.std.proofs.lemmas.Bool.{false≢true}
 use Rattle.std.proofs.lemmas.Option.{same_Some, none-some}
 use Rattle.tsl_value.specs.declared.place.Place.{Place}
 use Rattle.tsl_value.specs.declared.scalar.ValueType.{ValueType}
 use Rattle.lift_func.specs.Tree.{Tree}
 use Rattle.flat_core.specs.declared.equation.Op.TheVariants as op
 use Rattle.flat_core.specs.declared.equation.Equation.{Equation}
-use Rattle.flat_core.specs.Case.{Inputs, Streams, case_of, root_fault, outcome_of}
+use Rattle.flat_core.specs.Case.{root_fault, outcome_of}
 use Rattle.flat_core.specs.Graph.{Walk, stay}
 use Rattle.flat_core.specs.Needed.{HasArgument}
 use Rattle.flat_core.specs.System.{System}
-use Rattle.flat_core.specs.Typed.{is_aggregate, unit_type}
+use Rattle.flat_core.specs.Typed.{unit_type}
 use Rattle.flat_core.proofs.Uniqueness.{all_by}
 use Rattle.spec_parser.specs.Tree as tree
 use Rattle.spec_parser.specs.Tree.{Expr, place_of}
@@ -21,9 +21,9 @@ use Rattle.stream_constructs.specs.declared.construct.Stream.{Stream}
 use Rattle.stream_constructs.specs.Construct.{Construct, outcome, root, operand_trees}
 use Rattle.stream_constructs.specs.Construct as construct
 use Rattle.stream_constructs.specs.Equations.{equation, own_equations, choice_equations, choice, alias_equation}
-use Rattle.stream_constructs.specs.Agree.{Makes as MakesConstruct, MakesStream, AreSolved, HangTogether, IsItself, Fits, FitsChoice, last_number, history_of, is_used_part, ConstructsAreMade, ConstructsHangTogether, ChoicesAreMade, ChoicesHangTogether, AliasesAreMade, AliasesHangTogether}
+use Rattle.stream_constructs.specs.Agree.{Makes as MakesConstruct, HangTogether, IsItself, Fits, FitsChoice, last_number, ConstructsAreMade, ConstructsHangTogether, ChoicesAreMade, ChoicesHangTogether, AliasesAreMade, AliasesHangTogether}
 use Rattle.spec_meaning.specs.Occurrence.{Occurrence}
-use Rattle.spec_meaning.specs.Shape.{Shape, shape, all_parts, itself}
+use Rattle.spec_meaning.specs.Shape.{Shape, shape, itself}
 use Rattle.macro_flatten.specs.Makes.{Standing, MakesAll, is_own, is_choice, choice_operands, with_itself}
 use Rattle.flat_meaning.proofs.Plain.{plain, Within, IsNameless, stands}
 use Rattle.flat_meaning.proofs.OwnEquations.{IsOwn, own_made, choice_made, own_some, choice_some, IsOneDelay, delay_own}

@@ -1,18 +1,17 @@
 -- What a construct makes of streams depends on the times that count alone.
-use Rattle.std.proofs.Common.{◌≡◌, ℕ, zero, suc, ◌<◌, ◌≤◌, ◌&&◌, ◌||◌, List, [], ◌∷◌, map, drop, length, Option, Some, None, Ok, refl, ap, sym, subst, ◌∙◌, arith}
-use Rattle.std.specs.Prelude.{pos, if◌then◌else◌, is_some, slice_get}
+use Rattle.std.proofs.Common.{◌≡◌, ℕ, zero, suc, ◌<◌, ◌≤◌, ◌&&◌, ◌||◌, List, [], ◌∷◌, map, drop, Option, Some, None, Ok, refl, ap, arith}
+use Rattle.std.specs.Prelude.{pos, if◌then◌else◌, is_some}
 use Rattle.std.specs.List.{list_any, list_all}
 use Rattle.std.specs.Option.{option_map, option_or}
 use Rattle.tsl_value.specs.View.{View, Plain}
 use Rattle.tsl_value.specs.declared.scalar.Scalar.TheVariants as scalar
 use Rattle.lift_func.specs.Apply.{Answer, apply}
-use Rattle.lift_func.specs.declared.fault.FaultKind.{FaultKind}
-use Rattle.flat_core.specs.Stream.{Outcome, Fault, History, event, has_event, is_fault, latest}
+use Rattle.flat_core.specs.Stream.{Fault, History, event, has_event, is_fault}
 use Rattle.flat_core.specs.Case.{Inputs, unit, merged, filtered, outcome_of, fault_of, refused}
 use Rattle.flat_core.proofs.Locality.{latest-same, expires-same}
 use Rattle.stream_constructs.specs.Construct.{Construct, now, signal, lifted, updated, operand_values, own, used, is_blocked, outcome, root}
 use Rattle.stream_constructs.specs.Construct as construct
-use Rattle.spec_meaning.specs.Happens.{counts_below, history}
+use Rattle.spec_meaning.specs.Happens.{counts_below}
 
 -- two streams
 pub record Two : Type 0 where

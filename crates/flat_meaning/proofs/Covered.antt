@@ -1,10 +1,9 @@
 -- Each running equation is one of those that make the stream of an occurrence that is needed.
-use Rattle.std.proofs.Common.{◌≡◌, ◌⊎◌, ℕ, zero, suc, ◌+◌, ◌-◌, ◌<◌, ◌≤◌, List, [], ◌∷◌, ◌++◌, map, length, Option, Some, None, refl, ap, sym, subst, ◌∙◌, inl, inr, arith}
+use Rattle.std.proofs.Common.{◌≡◌, ℕ, zero, suc, ◌+◌, ◌-◌, ◌<◌, List, [], ◌∷◌, ◌++◌, length, Some, refl, ap, sym, subst, ◌∙◌, inl, inr, arith}
 use Rattle.std.specs.Prelude.{slice_get, IsTrue}
-use Rattle.std.specs.List.{Contains, AllByRecursion}
-use Rattle.std.proofs.lemmas.List.Elements.{Contains-append_left, Contains-append_cases}
-use Rattle.std.proofs.lemmas.Option.{same_Some, none-some, slice_get_within}
-use Rattle.tsl_value.specs.declared.place.Place.{Place}
+use Rattle.std.specs.List.{Contains}
+use Rattle.std.proofs.lemmas.List.Elements.{Contains-append_left, Contains-append_right, Contains-append_cases}
+use Rattle.std.proofs.lemmas.Option.{same_Some}
 use Rattle.flat_core.specs.declared.equation.Equation.{Equation}
 use Rattle.flat_core.specs.declared.equation.Output.{Output}
 use Rattle.flat_core.specs.Complete.{IsFlat}
@@ -16,7 +15,6 @@ use Rattle.spec_parser.specs.Tree as tree
 use Rattle.stream_constructs.specs.declared.construct.Stream.{Stream}
 use Rattle.stream_constructs.specs.Construct.{Construct}
 use Rattle.stream_constructs.specs.Construct as construct
-use Rattle.stream_constructs.specs.Agree.{last_number}
 use Rattle.spec_meaning.specs.Occurrence.{Occurrence}
 use Rattle.spec_meaning.specs.Shape.{Shape, shape, all_parts, itself}
 use Rattle.spec_meaning.specs.Happens.{IsNeeded}
@@ -24,10 +22,10 @@ use Rattle.spec_meaning.specs.Happens as meaning
 use Rattle.spec_meaning.specs.Due.{Printed, outputs_of}
 use Rattle.macro_flatten.specs.Flat.{outermost, named, MakesPrinted, MakesOutputs}
 use Rattle.macro_flatten.specs.Flat as flat
-use Rattle.flat_meaning.proofs.OneThing.{at_place}
-use Rattle.flat_meaning.proofs.Plain.{plain, unnamed, original, Within, within_left, within_right, within_named}
+use Rattle.flat_meaning.proofs.ListLemmas.{at_place}
+use Rattle.flat_meaning.proofs.Plain.{unnamed, original, Within, within_left, within_right, within_named}
 use Rattle.flat_meaning.proofs.Placed.{Each, each_from, each_to, outside, IsMade, Placed, placed, IsPlaced, IsBuilt, Leads, here, onward}
-use Rattle.flat_meaning.proofs.Happening.{own_runs, part_runs}
+use Rattle.flat_meaning.proofs.Happening.{part_runs}
 
 itself_is : (c : Construct) (o x : Occurrence) → Contains (itself c o) x → o ≡ x
 itself_is construct.Delay o x (zero, lt, is) = is
@@ -37,6 +35,20 @@ itself_is c o x (k, lt, is) = absurd (omega arith)
 only : {A : Type 0} (x y : A) → Contains (x ∷ []) y → x ≡ y
 only x y (zero, lt, is) = is
 only x y (suc k, lt, is) = absurd (omega arith)
+
+-- an item's output is one of the outputs
+outputs_cons : (item : tree.Item) (rest : List tree.Item) → outputs_of (item ∷ rest) ≡ outputs_of (item ∷ []) ++ outputs_of rest
+outputs_cons (tree.Output p q n) rest = refl
+outputs_cons (tree.OutputAs p e q n) rest = refl
+outputs_cons (tree.Input p q n y) rest = refl
+outputs_cons (tree.Defined p d) rest = refl
+
+output_in : (rest : List tree.Item) (item : tree.Item) (o : Printed) → outputs_of (item ∷ []) ≡ o ∷ [] → Contains rest item → Contains (outputs_of rest) o
+output_in [] item o one (k, lt, is) = absurd (omega arith)
+output_in (v ∷ rest) item o one (zero, lt, is) =
+    let alone : outputs_of (v ∷ []) ≡ o ∷ [] = ap (λ w. outputs_of (w ∷ [])) is ∙ one in
+    subst (λ os. Contains os o) (sym (outputs_cons v rest)) (Contains-append_left (outputs_of (v ∷ [])) (outputs_of rest) o (subst (λ os. Contains os o) (sym alone) (contains_head o [])))
+output_in (v ∷ rest) item o one (suc k, lt, is) = subst (λ os. Contains os o) (sym (outputs_cons v rest)) (Contains-append_right (outputs_of (v ∷ [])) (outputs_of rest) o (output_in rest item o one (k, omega arith, is)))
 
 module _ (items : List tree.Item) (top : ℕ → Stream) (s : System) (proper : IsProper s) (leads : (o : Occurrence) (i : ℕ) → Placed items top s o i → Leads items top s o i) where
   -- equation j is one of those of an occurrence that is needed
@@ -110,28 +122,6 @@ module _ (items : List tree.Item) (top : ℕ → Stream) (s : System) (proper : 
   pub outputs_placed : {n : ℕ} {made : List Equation} {printed : List Output} → MakesOutputs items top items n made printed → Within s n made → Each IsOutput (outputs_of items) printed
   outputs_placed more within = outputs_made more within (λ item c. c)
 
-  named_output : (rest : List tree.Item) (p q : Place) (n : List ℕ) → Contains rest (tree.Output p q n) → Contains (outputs_of rest) (record { name = n; is = record { calls = []; expr = tree.Name q n } })
-  named_output [] p q n (k, lt, is) = absurd (omega arith)
-  named_output (item ∷ rest) p q n (zero, lt, is) = subst (λ v. Contains (outputs_of (v ∷ rest)) (record { name = n; is = record { calls = []; expr = tree.Name q n } })) (sym is) (contains_head _ (outputs_of rest))
-  named_output (item ∷ rest) p q n (suc k, lt, is) = later item (named_output rest p q n (k, omega arith, is))
-    where
-      later : (item : tree.Item) → Contains (outputs_of rest) (record { name = n; is = record { calls = []; expr = tree.Name q n } }) → Contains (outputs_of (item ∷ rest)) (record { name = n; is = record { calls = []; expr = tree.Name q n } })
-      later (tree.Output a b m) c = contains_tail _ (outputs_of rest) _ c
-      later (tree.OutputAs a e b m) c = contains_tail _ (outputs_of rest) _ c
-      later (tree.Input a b m y) c = c
-      later (tree.Defined a d) c = c
-
-  printed_output : (rest : List tree.Item) (p : Place) (e : tree.Expr) (q : Place) (n : List ℕ) → Contains rest (tree.OutputAs p e q n) → Contains (outputs_of rest) (record { name = n; is = record { calls = []; expr = e } })
-  printed_output [] p e q n (k, lt, is) = absurd (omega arith)
-  printed_output (item ∷ rest) p e q n (zero, lt, is) = subst (λ v. Contains (outputs_of (v ∷ rest)) (record { name = n; is = record { calls = []; expr = e } })) (sym is) (contains_head _ (outputs_of rest))
-  printed_output (item ∷ rest) p e q n (suc k, lt, is) = later item (printed_output rest p e q n (k, omega arith, is))
-    where
-      later : (item : tree.Item) → Contains (outputs_of rest) (record { name = n; is = record { calls = []; expr = e } }) → Contains (outputs_of (item ∷ rest)) (record { name = n; is = record { calls = []; expr = e } })
-      later (tree.Output a b m) c = contains_tail _ (outputs_of rest) _ c
-      later (tree.OutputAs a f b m) c = contains_tail _ (outputs_of rest) _ c
-      later (tree.Input a b m y) c = c
-      later (tree.Defined a d) c = c
-
   module _ (flat : IsFlat s) (outputs : Each IsOutput (outputs_of items) s.outputs) where
     -- each running equation
     pub covered : (i : ℕ) → IsTrue (runs s i) → IsCovered i
@@ -153,8 +143,8 @@ module _ (items : List tree.Item) (top : ℕ → Stream) (s : System) (proper : 
         record { number = found.0.equation; there = found.2.there; running = all_at (λ p. IsTrue (runs s p.equation)) s.outputs flat.outputs_run found.0 found.1 }
 
     pub needed_there : {o : Occurrence} → IsNeeded items o → IsThere o
-    needed_there (meaning.IsNeeded.printed p {e} q n c) = output_there (record { name = n; is = record { calls = []; expr = e } }) (printed_output items p e q n c)
-    needed_there (meaning.IsNeeded.named p {q} {n} c) = output_there (record { name = n; is = record { calls = []; expr = tree.Name q n } }) (named_output items p q n c)
+    needed_there (meaning.IsNeeded.printed p {e} q n c) = output_there (record { name = n; is = record { calls = []; expr = e } }) (output_in items (tree.OutputAs p e q n) _ refl c)
+    needed_there (meaning.IsNeeded.named p {q} {n} c) = output_there (record { name = n; is = record { calls = []; expr = tree.Name q n } }) (output_in items (tree.Output p q n) _ refl c)
     needed_there (meaning.IsNeeded.part o of {a} needed is c) =
         let whole = needed_there needed in
         part_there o of a is c whole.number whole.running (leads o whole.number whole.there)

@@ -1,13 +1,12 @@
 -- The text of a flat system's solution is the text that is due.
-use Rattle.std.proofs.Common.{◌≡◌, ◌⊎◌, ◌==◌, ℕ, zero, suc, ◌+◌, ◌<◌, ◌≤◌, Bool, true, false, not, ◌||◌, ◌&&◌, ◌↔◌, List, [], ◌∷◌, ◌++◌, take, length, Option, Some, None, refl, ap, sym, subst, ◌∙◌, inl, inr, arith}
-use Rattle.std.specs.Prelude.{slice_get, if◌then◌else◌, IsTrue, is_some}
+use Rattle.std.proofs.Common.{◌≡◌, ◌==◌, ℕ, zero, suc, ◌<◌, ◌≤◌, Bool, true, false, not, ◌||◌, ◌&&◌, List, [], ◌∷◌, ◌++◌, take, Option, Some, None, refl, ap, sym, subst, inl, inr, arith}
+use Rattle.std.specs.Prelude.{if◌then◌else◌, is_some}
 use Rattle.std.specs.Option.{option_and_then}
-use Rattle.std.specs.List.{AllByRecursion, Contains, filter, flat_map, list_any}
-use Rattle.std.proofs.lemmas.Bool.{cases_Bool, cases_lt, or_cases, or_left, or_right, and_parts, and_from, eqb-true, eq-eqb, true≢false, false≢true}
+use Rattle.std.specs.List.{Contains, flat_map, list_any}
+use Rattle.std.proofs.lemmas.Bool.{cases_Bool, cases_lt, or_cases, or_left, or_right, and_parts, and_from, eqb-true, eq-eqb, false≢true}
 use Rattle.std.proofs.lemmas.List.Elements.{Contains-append_left, Contains-append_right, Contains-append_cases}
 use Rattle.std.proofs.lemmas.List.Kept.{IsStrictlyIncreasing-filter}
 use Rattle.tsl_value.specs.View.{View}
-use Rattle.tsl_value.specs.declared.place.Place.{Place}
 use Rattle.lift_func.specs.declared.fault.FaultKind.{FaultKind}
 use Rattle.flat_core.specs.declared.equation.Equation.{Equation}
 use Rattle.flat_core.specs.declared.equation.Output.{Output}
@@ -18,29 +17,23 @@ use Rattle.flat_core.specs.Fault.{root_at, is_faulty, is_over}
 use Rattle.flat_core.specs.Instant.{is_delay, is_instant, instants}
 use Rattle.flat_core.specs.Line.{Line, inputs_of, is_line_on}
 use Rattle.flat_core.specs.Solution.{Solves}
-use Rattle.flat_core.specs.System.{System, runs, equation}
+use Rattle.flat_core.specs.System.{System, equation}
 use Rattle.flat_core.specs.Text.{event_line, text_at, due_instants, due_text}
 use Rattle.flat_core.specs.WellFormed.{IsWellFormed}
-use Rattle.flat_core.proofs.Members.{contains_head, contains_tail, all_from, some_from, some_in}
-use Rattle.flat_core.proofs.PendingLemmas.{some_before_gives, some_before_from, none_before}
+use Rattle.flat_core.proofs.Members.{contains_head, contains_tail, some_from, some_in}
+use Rattle.flat_core.proofs.PendingLemmas.{some_before_gives, some_before_from}
 use Rattle.spec_parser.specs.Tree as tree
 use Rattle.spec_parser.specs.Tree.{place_of}
 use Rattle.spec_meaning.specs.Due.{Printed, outputs_of, Expires, IsInstant, IsFaulty, AreInstants, AreDue, IsTextAt, IsTextOf, IsDueText}
 use Rattle.spec_meaning.specs.Due as due
 use Rattle.macro_flatten.specs.Flat.{IsFlatOf}
-use Rattle.flat_meaning.specs.Laws.{IsRootAt, IsRootOf, IsExpiry, MeansTheSame}
-use Rattle.flat_meaning.proofs.Rising.{Rising, increasing, contains_filter, from_filter}
+use Rattle.flat_meaning.specs.Laws.{IsExpiry, MeansTheSame}
+use Rattle.flat_meaning.proofs.ListLemmas.{contains_filter, from_filter, from_take}
+use Rattle.flat_meaning.proofs.Rising.{Rising, increasing}
 use Rattle.flat_meaning.proofs.Placed.{Each}
 use Rattle.flat_meaning.proofs.Built.{TheLaws}
 use Rattle.flat_meaning.proofs.Covered.{IsOutput}
 use Rattle.flat_meaning.proofs.Means.{leads, outputs_there, output_happens, means}
-
-from_take : (n : ℕ) (xs : List ℕ) (t : ℕ) → Contains (take n xs) t → Contains xs t
-from_take zero [] t c = c
-from_take zero (x ∷ xs) t (k, lt, is) = absurd (omega arith)
-from_take (suc n) [] t c = c
-from_take (suc n) (x ∷ xs) t (zero, lt, is) = (0, omega arith, is)
-from_take (suc n) (x ∷ xs) t (suc k, lt, is) = contains_tail x xs t (from_take n xs t (k, omega arith, is))
 
 rising_take : (low n : ℕ) (xs : List ℕ) → Rising low xs → Rising low (take n xs)
 rising_take low zero [] up = tt
@@ -172,8 +165,8 @@ module _ (items : List tree.Item) (s : System) (lines : List Line) (bound : ℕ)
       rising = IsStrictlyIncreasing-filter (λ t. not (is_over s (inputs_of lines) z t)) (take limit (instants s lines z bound)) (increasing 0 (take limit (instants s lines z bound)) (rising_take 0 limit (instants s lines z bound) (rising_instants bound)));
       each = λ t. (
         (λ c.
-        let found = from_filter (λ t. not (is_over s (inputs_of lines) z t)) (take limit (instants s lines z bound)) t c in
-        (found.0, not_over t (taken_low t found.0) found.1)),
+            let found = from_filter (λ t. not (is_over s (inputs_of lines) z t)) (take limit (instants s lines z bound)) t c in
+            (found.0, not_over t (taken_low t found.0) found.1)),
         (λ h. contains_filter (λ t. not (is_over s (inputs_of lines) z t)) (take limit (instants s lines z bound)) t h.0 (still_on t (taken_low t h.0) h.1)),
       );
     }

@@ -5,13 +5,11 @@ use Rattle.std.specs.List.{Contains}
 use Rattle.std.proofs.lemmas.Bool.{cases_lt, ne_eqb}
 use Rattle.std.proofs.lemmas.List.{length-map}
 use Rattle.std.proofs.lemmas.Option.{same_Some, none-some, slice_get_within}
-use Rattle.flat_core.specs.declared.equation.Equation.{Equation}
 use Rattle.flat_core.specs.Stream.{Outcome, Event, Fault, History, event, is_fault}
-use Rattle.flat_core.specs.Case.{Inputs, Streams, case_of, outcome_of}
+use Rattle.flat_core.specs.Case.{Inputs, Streams, outcome_of}
 use Rattle.flat_core.specs.Solution.{Solves}
 use Rattle.flat_core.specs.System.{System, runs, IsProper}
 use Rattle.flat_core.specs.WellFormed.{IsWellFormed}
-use Rattle.flat_core.proofs.Members.{contains_head}
 use Rattle.flat_core.proofs.WellFormedRank.{rank_of}
 use Rattle.spec_parser.specs.Tree as tree
 use Rattle.stream_constructs.specs.declared.construct.Stream.{Stream}
@@ -19,10 +17,11 @@ use Rattle.stream_constructs.specs.Construct.{Construct, outcome}
 use Rattle.stream_constructs.specs.Construct as construct
 use Rattle.stream_constructs.specs.Agree.{MakesStream, last_number, history_of, is_used_part}
 use Rattle.spec_meaning.specs.Occurrence.{Occurrence}
-use Rattle.spec_meaning.specs.Shape.{Shape, shape, all_parts}
+use Rattle.spec_meaning.specs.Shape.{all_parts}
 use Rattle.spec_meaning.specs.Happens.{counts_below, history, Happens, happens}
-use Rattle.flat_meaning.proofs.Plain.{plain, original, case_named, walk_named, walk_runs, path_lower}
-use Rattle.flat_meaning.proofs.Placed.{Each, each_at, each_length, history_is, Placed, IsPlaced, IsBuilt, Leads, here, onward}
+use Rattle.flat_meaning.proofs.ListLemmas.{place_contains}
+use Rattle.flat_meaning.proofs.Plain.{original, case_named, walk_named, walk_runs, path_lower}
+use Rattle.flat_meaning.proofs.Placed.{each_at, each_length, history_is, Placed, IsPlaced, IsBuilt, Leads, here, onward}
 use Rattle.flat_meaning.proofs.Resolve.{same_shape}
 
 -- a time that counts is earlier, or it is the same and the part is used at it
@@ -83,9 +82,6 @@ module _ (items : List tree.Item) (top : ℕ → Stream) (s : System) (proper : 
             ] in
             subst (λ (h : History). Happens items inputs a u (h u)) (sym (history_is z built.parts j found.0 found.1)) there)
             (ap (λ j. z j t) built.number_is ∙ made.outcome_is)
-          where
-            place_contains : (xs : List Stream) (k : ℕ) (x : Stream) → slice_get xs k ≡ Some x → Contains xs x
-            place_contains xs k x is = (k, slice_get_within xs k x is, Rattle.std.proofs.lemmas.Option.get_or_from_slice_get xs k x x is)
 
         lead_happens : (k : ℕ) → LowerHappens k → {o : Occurrence} {i : ℕ} → Leads items top s o i → rank_of s good i < suc k → IsTrue (runs s i) → Happens items inputs o t (z i t)
         lead_happens k lower (here built) low run = built_happens k lower built low run

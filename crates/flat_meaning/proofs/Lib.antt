@@ -1,3 +1,4 @@
+pub mod ListLemmas
 pub mod Congruence
 pub mod OneThing
 pub mod Rising
@@ -14,3 +15,4 @@ pub mod Happening
 pub mod Covered
 pub mod Means
 pub mod DueText
+pub mod FromLaws

@@ -1,7 +1,6 @@
 -- The derivations for which names stand: of arguments, of the definitions in blocks, and of those at the top.
-use Rattle.std.proofs.Common.{◌≡◌, ℕ, zero, suc, ◌+◌, ◌<◌, List, [], ◌∷◌, ◌++◌, map, length, Option, Some, None, refl, ap, sym, subst, ◌∙◌, arith}
+use Rattle.std.proofs.Common.{◌≡◌, ℕ, zero, suc, ◌+◌, List, [], ◌∷◌, map, Option, Some, refl, ap, sym, subst, ◌∙◌, arith}
 use Rattle.std.specs.Prelude.{slice_get}
-use Rattle.std.specs.List.{AllByRecursion}
 use Rattle.std.proofs.lemmas.Option.{same_Some, none-some}
 use Rattle.tsl_value.specs.declared.place.Place.{Place}
 use Rattle.tsl_value.specs.declared.scalar.ValueType.{ValueType}
@@ -14,15 +13,12 @@ use Rattle.stream_constructs.specs.declared.construct.Stream.{Stream}
 use Rattle.stream_constructs.specs.Equations.{equation}
 use Rattle.spec_meaning.specs.Occurrence.{Occurrence, argument, local, result_of}
 use Rattle.spec_meaning.specs.Shape.{expressions, input_number}
-use Rattle.macro_flatten.specs.Makes.{Standing, Makes, MakesAll, MakesBody, MakesBlock, no_part, part, no_definition, definition}
+use Rattle.macro_flatten.specs.Makes.{Standing, MakesAll, MakesBody, MakesBlock, no_part, part, no_definition, definition}
 use Rattle.macro_flatten.specs.Flat.{outermost, named, MakesInputs, MakesStreams}
 use Rattle.macro_flatten.specs.Flat as flat
-use Rattle.flat_meaning.proofs.Plain.{plain, unnamed, Within, within_left, within_right, within_named, named_length}
+use Rattle.flat_meaning.proofs.Plain.{unnamed, Within, within_left, within_right, within_named, named_length}
 use Rattle.flat_meaning.proofs.Placed.{Each, Entered, IsMade, IsMadeBody, Placed, placed, IsPlaced}
 use Rattle.flat_meaning.proofs.Shapes.{AreBeside}
-
-none_get : {A B : Type 0} (x : A) → ◌≡◌ {A = Option A} None (Some x) → B
-none_get x h = absurd (none-some x h)
 
 module _ (items : List tree.Item) (top : ℕ → Stream) (s : System) where
   -- each expression of a list
@@ -48,7 +44,7 @@ module _ (items : List tree.Item) (top : ℕ → Stream) (s : System) where
     pub made : IsMade items top s at expr stream
 
   pub argument_at : (at : Standing) (es : Exprs) (params : List Stream) → Each (IsMade items top s at) (expressions es) params → (k : ℕ) (stream : Stream) → slice_get params k ≡ Some stream → IsArgument at k es stream
-  argument_at at no_exprs [] each k stream is = none_get stream is
+  argument_at at no_exprs [] each k stream is = absurd (none-some stream is)
   argument_at at no_exprs (a ∷ params) each k stream is = absurd each
   argument_at at (more_exprs e es) [] each k stream is = absurd each
   argument_at at (more_exprs e es) (a ∷ params) each zero stream is = record { expr = e; is = refl; made = subst (IsMade items top s at e) (same_Some a stream is) each.0 }
@@ -63,7 +59,7 @@ module _ (items : List tree.Item) (top : ℕ → Stream) (s : System) where
     pub made : IsMadeBody items top s at (result_of body) stream
 
   pub local_at : {at : Standing} {ds : tree.Definitions} {n : ℕ} {made : List Equation} {locals : List Stream} → MakesBlock items top at ds n made locals → Within s n made → (k : ℕ) (stream : Stream) → slice_get locals k ≡ Some stream → IsLocal at k ds stream
-  local_at no_definition within k stream is = none_get stream is
+  local_at no_definition within k stream is = absurd (none-some stream is)
   local_at {at} {n = n} (definition {b = b} first rest {s = a} one more made_is) within zero stream is =
       record {
         body = b;
@@ -82,7 +78,7 @@ module _ (items : List tree.Item) (top : ℕ → Stream) (s : System) where
   first_is i P h = let e : i ≡ i + 0 = omega arith in subst P e h
 
   pub stream_at : {i : ℕ} {rest : List tree.Item} {n : ℕ} {made : List Equation} → MakesStreams items top i rest n made → Within s n made → (k : ℕ) (p q : Place) (x : List ℕ) (w : Option tree.TypeName) (b : tree.Body) → slice_get rest k ≡ Some (tree.Defined p (tree.Define q x [] w b)) → IsMadeBody items top s outermost (result_of b) (top (i + k))
-  stream_at flat.MakesStreams.end within k p q x w b is = none_get _ is
+  stream_at flat.MakesStreams.end within k p q x w b is = absurd (none-some _ is)
   stream_at {i} {n = n} (flat.MakesStreams.stream {x = y} {b = c} a first made top_is one more all_is) within zero p q x w b is =
       let both = within_named s n y first (within_left s n (named y first) made (subst (Within s n) all_is within)) in
       let here : IsMadeBody items top s outermost (result_of c) (top i) = record { number = n; made = first; makes = subst (MakesBody items top outermost (result_of c) n first) (sym top_is) one; within = both } in
@@ -113,14 +109,14 @@ module _ (items : List tree.Item) (top : ℕ → Stream) (s : System) where
     pub within : Within s number (equation place op.Input [] of ∷ [])
 
   pub input_at : {i : ℕ} {rest : List tree.Item} {n : ℕ} {made : List Equation} → MakesInputs items top i rest n made → Within s n made → (k : ℕ) (p q : Place) (x : List ℕ) (y : tree.TypeName) → slice_get rest k ≡ Some (tree.Input p q x y) → IsInputAt (top (i + k)) (n + input_number rest k)
-  input_at flat.MakesInputs.end within k p q x y is = none_get _ is
+  input_at flat.MakesInputs.end within k p q x y is = absurd (none-some _ is)
   input_at {i} {n = n} (flat.MakesInputs.input {q = r} {x = w} of made event top_is more all_is) within zero p q x y is =
       let here : Within s n (equation r op.Input [] of ∷ []) = alone (subst (Within s n) all_is within) in
       first_is i (λ j. IsInputAt (top j) (n + 0)) (first_is n (λ m. IsInputAt (top i) m) (record { number_is = ap (λ a. a.id) top_is; place = r; of = of; within = here }))
     where
       alone : Within s n (record (equation r op.Input [] of) { name = Some w } ∷ made) → Within s n (equation r op.Input [] of ∷ [])
       alone all zero e is = all 0 (record (equation r op.Input [] of) { name = Some w }) refl ∙ ap (λ f. Some (unnamed f)) (same_Some (equation r op.Input [] of) e is)
-      alone all (suc k) e is = none_get e is
+      alone all (suc k) e is = absurd (none-some e is)
   input_at {i} {n = n} (flat.MakesInputs.input {rest = rest} of made event top_is more all_is) within (suc k) p q x y is =
       let there = within_right s n (_ ∷ []) made (subst (Within s n) all_is within) in
       let moved : Within s (suc n) made = let e : n + 1 ≡ suc n = omega arith in subst (λ m. Within s m made) e there in

@@ -1,19 +1,18 @@
 -- The streams of a flat system are those of its specification.
-use Rattle.std.proofs.Common.{◌≡◌, ◌⊎◌, ℕ, zero, suc, ◌+◌, ◌-◌, ◌<◌, ◌≤◌, Bool, true, false, ◌↔◌, List, [], ◌∷◌, ◌++◌, map, length, Option, Some, None, refl, ap, sym, subst, ◌∙◌, inl, inr, arith, length-append}
+use Rattle.std.proofs.Common.{◌≡◌, ℕ, suc, ◌+◌, ◌-◌, ◌<◌, Bool, true, false, List, [], ◌∷◌, ◌++◌, length, Option, Some, None, refl, ap, sym, subst, ◌∙◌, arith, length-append}
 use Rattle.std.specs.Prelude.{◌==◌, slice_get, if◌then◌else◌, IsTrue}
 use Rattle.std.specs.Option.{option_and_then, option_map}
-use Rattle.std.specs.List.{AllByRecursion, Contains}
-use Rattle.std.proofs.lemmas.Bool.{cases_Bool, false≢true, eq-eqb}
+use Rattle.std.specs.List.{Contains}
+use Rattle.std.proofs.lemmas.Bool.{false≢true, eq-eqb}
 use Rattle.std.proofs.lemmas.List.{length-map}
-use Rattle.std.proofs.lemmas.Option.{same_Some, none-some, slice_get-map, slice_get_within, get_or_from_slice_get}
+use Rattle.std.proofs.lemmas.Option.{same_Some, none-some, slice_get-map}
 use Rattle.tsl_value.specs.declared.place.Place.{Place}
 use Rattle.lift_func.specs.declared.fault.FaultKind.{FaultKind}
 use Rattle.flat_core.specs.declared.equation.Equation.{Equation}
 use Rattle.flat_core.specs.declared.equation.Output.{Output}
-use Rattle.flat_core.specs.Stream.{Outcome, Event, History}
+use Rattle.flat_core.specs.Stream.{Event, History}
 use Rattle.flat_core.specs.Case.{Inputs, Streams, root_fault}
 use Rattle.flat_core.specs.Complete.{IsFlat}
-use Rattle.flat_core.specs.Fault.{root_at}
 use Rattle.flat_core.specs.Instant.{is_delay, is_delay_op}
 use Rattle.flat_core.specs.Line.{Line, inputs_of}
 use Rattle.flat_core.specs.Solution.{Solves}
@@ -25,21 +24,21 @@ use Rattle.spec_parser.specs.Tree.{place_of}
 use Rattle.stream_constructs.specs.declared.construct.Stream.{Stream}
 use Rattle.stream_constructs.specs.Construct.{Construct, root, is_blocked}
 use Rattle.stream_constructs.specs.Construct as construct
-use Rattle.stream_constructs.specs.Agree.{history_of, last_number}
+use Rattle.stream_constructs.specs.Agree.{history_of}
 use Rattle.spec_meaning.specs.Occurrence.{Occurrence, result_of}
-use Rattle.spec_meaning.specs.Shape.{Shape, shape, all_parts, input_number}
+use Rattle.spec_meaning.specs.Shape.{Shape, all_parts, input_number}
 use Rattle.spec_meaning.specs.Happens.{history, Happens, IsNeeded, HasRoot}
 use Rattle.spec_meaning.specs.Due.{Printed, outputs_of, Expires}
 use Rattle.macro_flatten.specs.Makes.{is_own}
 use Rattle.macro_flatten.specs.Flat.{outermost, IsFlatOf}
 use Rattle.flat_meaning.specs.Laws.{IsRootAt, IsRootOf, IsExpiry, MeansTheSame}
-use Rattle.flat_meaning.proofs.OneThing.{one_thing, roots_agree, at_place}
-use Rattle.flat_meaning.proofs.Plain.{plain, unnamed, original, Within, within_left, within_right, all_by_place, root_named}
-use Rattle.flat_meaning.proofs.OwnEquations.{IsOneDelay}
+use Rattle.flat_meaning.proofs.ListLemmas.{at_place, place_contains, all_by_place}
+use Rattle.flat_meaning.proofs.OneThing.{one_thing, roots_agree}
+use Rattle.flat_meaning.proofs.Plain.{plain, unnamed, original, Within, within_left, within_right, root_named}
 use Rattle.flat_meaning.proofs.Scopes.{IsInputItem, IsStreamItem}
 use Rattle.flat_meaning.proofs.Placed.{Each, each_at, each_length, history_is, IsMadeBody, Placed, IsPlaced, IsBuilt, Leads, here, onward}
 use Rattle.flat_meaning.proofs.Lookup.{IsInputAt, input_at, stream_at}
-use Rattle.flat_meaning.proofs.Built.{TheLaws, one_number}
+use Rattle.flat_meaning.proofs.Built.{TheLaws}
 use Rattle.flat_meaning.proofs.Resolve as resolve
 use Rattle.flat_meaning.proofs.Resolve.{same_shape}
 use Rattle.flat_meaning.proofs.Happening.{part_runs, built_makes}
@@ -63,9 +62,6 @@ root_own inputs c hs t kind is = refl
 if_some : (b : Bool) (x : Option FaultKind) (kind : FaultKind) → (if b then x else None) ≡ Some kind → x ≡ Some kind
 if_some true x kind is = is
 if_some false x kind is = absurd (none-some kind is)
-
-contains_at : {A : Type 0} (xs : List A) (k : ℕ) (x : A) → slice_get xs k ≡ Some x → Contains xs x
-contains_at xs k x is = (k, slice_get_within xs k x is, get_or_from_slice_get xs k x x is)
 
 module _ (items : List tree.Item) (s : System) (lines : List Line) (bound : ℕ) (z : Streams) (laws : TheLaws) (of : IsFlatOf items s.equations s.outputs) (flat : IsFlat s) (good : IsWellFormed s) (solves : Solves s (inputs_of lines) bound z) where
   whole : Within s 0 (of.inputs ++ of.streams ++ of.printed)
@@ -96,7 +92,6 @@ module _ (items : List tree.Item) (s : System) (lines : List Line) (bound : ℕ)
       let from : 0 + length (of.inputs ++ of.streams) ≡ length of.inputs + length of.streams = omega (arith, length-append of.inputs of.streams) in
       outputs_placed items of.top s flat.proper leads of.makes_outputs (subst (λ n. Within s n of.printed) from (within_right s 0 (of.inputs ++ of.streams) of.printed whole))
 
-
   pub happening_at : (o : Occurrence) (i : ℕ) → Placed items of.top s o i → IsTrue (runs s i) → (t : ℕ) → t < bound → Happens items (inputs_of lines) o t (z i t)
   happening_at o i there run t lt = happening.happening items of.top s flat.proper (inputs_of lines) bound z solves good leads o i there run t lt
 
@@ -107,7 +102,7 @@ module _ (items : List tree.Item) (s : System) (lines : List Line) (bound : ℕ)
   part_happens : {o : Occurrence} {i : ℕ} (built : IsBuilt items of.top s o i) → IsTrue (runs s i) → (k : ℕ) (a : Occurrence) → slice_get (all_parts o built.of) k ≡ Some a → (u : ℕ) → u < bound → Happens items (inputs_of lines) a u (history (history_of z built.parts) k u)
   part_happens {o} built run k a at u lt =
       let found = each_at (IsPlaced items of.top s) (all_parts o built.of) built.parts built.placed k a at in
-      subst (λ (h : History). Happens items (inputs_of lines) a u (h u)) (sym (history_is z built.parts k found.0 found.1)) (happening_at a found.0.id found.2 (part_runs items of.top s flat.proper built run found.0 (contains_at built.parts k found.0 found.1)) u lt)
+      subst (λ (h : History). Happens items (inputs_of lines) a u (h u)) (sym (history_is z built.parts k found.0 found.1)) (happening_at a found.0.id found.2 (part_runs items of.top s flat.proper built run found.0 (place_contains built.parts k found.0 found.1)) u lt)
 
   part_count : {o : Occurrence} {i : ℕ} (built : IsBuilt items of.top s o i) → length (history_of z built.parts) ≡ length (all_parts o built.of)
   part_count {o} built = length-map built.parts (λ (a : Stream). z a.id) ∙ sym (each_length (IsPlaced items of.top s) (all_parts o built.of) built.parts built.placed)
@@ -252,8 +247,8 @@ module _ (items : List tree.Item) (s : System) (lines : List Line) (bound : ℕ)
   pub means : MeansTheSame items s lines bound z
   means = record {
     outputs = λ k o is.
-    let found = each_at (IsOutput items of.top s flat.proper leads) (outputs_of items) s.outputs outputs_there k o is in
-    (found.0, found.1, found.2.name_is, output_happens o found.0 found.2 (contains_at s.outputs k found.0 found.1));
+        let found = each_at (IsOutput items of.top s flat.proper leads) (outputs_of items) s.outputs outputs_there k o is in
+        (found.0, found.1, found.2.name_is, output_happens o found.0 found.2 (place_contains s.outputs k found.0 found.1));
     roots = λ t place kind lt. (root_of_equation t lt place kind, root_of_occurrence t lt place kind);
     expiries = λ t lt. (expiry_of_equation t lt, expiry_of_occurrence t lt);
   }

@@ -1,11 +1,10 @@
 -- At most one text is due.
-use Rattle.std.proofs.Common.{◌≡◌, ◌⊎◌, ℕ, ◌<◌, ◌≤◌, List, [], ◌∷◌, ◌++◌, take, Option, Some, refl, ap, sym, subst, ◌∙◌, inl, inr, arith}
+use Rattle.std.proofs.Common.{◌≡◌, ℕ, List, [], ◌∷◌, ◌++◌, take, refl, sym, subst, ◌∙◌}
 use Rattle.std.specs.List.{Contains}
-use Rattle.flat_core.specs.Stream.{Outcome, Event, event}
+use Rattle.flat_core.specs.Stream.{event}
 use Rattle.flat_core.specs.Line.{Line, inputs_of}
 use Rattle.flat_core.specs.Text.{event_line}
 use Rattle.spec_parser.specs.Tree as tree
-use Rattle.spec_meaning.specs.Occurrence.{Occurrence}
 use Rattle.spec_meaning.specs.Due.{Printed, outputs_of, IsFaulty, AreInstants, AreDue, IsTextAt, IsTextOf, IsDueText}
 use Rattle.spec_meaning.specs.Due as due
 use Rattle.flat_meaning.proofs.OneThing.{one_thing}

@@ -1,15 +1,15 @@
 -- At most one thing happens at an occurrence at a time.
-use Rattle.std.proofs.Common.{◌≡◌, ℕ, zero, suc, ◌+◌, ◌<◌, List, [], ◌∷◌, map, length, Option, Some, None, refl, ap, sym, subst, ◌∙◌, arith}
+use Rattle.std.proofs.Common.{◌≡◌, ℕ, suc, ◌+◌, ◌<◌, List, [], ◌∷◌, length, Option, Some, refl, ap, sym, subst, ◌∙◌, arith}
 use Rattle.std.specs.Prelude.{slice_get}
 use Rattle.std.proofs.lemmas.Option.{same_Some}
-use Rattle.lift_func.specs.declared.fault.FaultKind.{FaultKind}
 use Rattle.flat_core.specs.Stream.{Outcome, History}
 use Rattle.flat_core.specs.Case.{Inputs}
 use Rattle.spec_parser.specs.Tree as tree
 use Rattle.stream_constructs.specs.Construct.{Construct, outcome, root}
 use Rattle.spec_meaning.specs.Occurrence.{Occurrence}
-use Rattle.spec_meaning.specs.Shape.{Shape, shape, all_parts}
+use Rattle.spec_meaning.specs.Shape.{all_parts}
 use Rattle.spec_meaning.specs.Happens.{counts_below, history, Happens, happens}
+use Rattle.flat_meaning.proofs.ListLemmas.{at_place}
 use Rattle.flat_meaning.proofs.Congruence.{Two, ones, others, AgreeFrom, AgreeTo, outcome_same, root_same}
 
 -- two lists of streams of one length side by side
@@ -28,12 +28,6 @@ others_are [] [] same = refl
 others_are [] (g ∷ gs) same = absurd (omega arith)
 others_are (h ∷ hs) [] same = absurd (omega arith)
 others_are (h ∷ hs) (g ∷ gs) same = ap (λ rest. g ∷ rest) (others_are hs gs (omega arith))
-
--- the element at a place of a list
-pub at_place : {A : Type 0} (xs : List A) (k : ℕ) → k < length xs → (x : A) × (slice_get xs k ≡ Some x)
-at_place [] k lt = absurd (omega arith)
-at_place (x ∷ xs) zero lt = (x, refl)
-at_place (x ∷ xs) (suc k) lt = at_place xs k (omega arith)
 
 agree_pairs : (c : Construct) (t k : ℕ) (hs gs : List History) → ((j : ℕ) → j < length hs → (u : ℕ) → u < counts_below c (k + j) t → history hs j u ≡ history gs j u) → AgreeFrom c t k (pairs hs gs)
 agree_pairs c t k [] gs same = tt

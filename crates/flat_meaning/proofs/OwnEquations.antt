@@ -1,23 +1,19 @@
 -- The equations of constructs: their places, that they have no names, and which of them are delays.
-use Rattle.std.proofs.Common.{◌≡◌, ℕ, zero, suc, ◌+◌, ◌<◌, Bool, true, false, List, [], ◌∷◌, ◌++◌, map, length, Option, Some, None, refl, ap, sym, subst, ◌∙◌, arith, length-append}
-use Rattle.std.specs.Prelude.{slice_get}
+use Rattle.std.proofs.Common.{◌≡◌, ℕ, ◌+◌, ◌<◌, true, false, List, [], ◌∷◌, ◌++◌, length, None, refl, sym, subst, ◌∙◌, arith, length-append}
 use Rattle.std.specs.List.{AllByRecursion}
 use Rattle.tsl_value.specs.declared.place.Place.{Place}
-use Rattle.tsl_value.specs.declared.scalar.Scalar.TheVariants as scalar
 use Rattle.tsl_value.specs.declared.scalar.ValueType.{ValueType}
-use Rattle.lift_func.specs.Tree.{Tree}
 use Rattle.flat_core.specs.declared.equation.Op.{Op}
 use Rattle.flat_core.specs.declared.equation.Op.TheVariants as op
 use Rattle.flat_core.specs.declared.equation.Equation.{Equation}
 use Rattle.flat_core.specs.Instant.{is_delay_op}
 use Rattle.flat_core.proofs.Members.{all_append}
-use Rattle.flat_core.proofs.Uniqueness.{all_by}
 use Rattle.stream_constructs.specs.declared.construct.Stream.{Stream}
 use Rattle.stream_constructs.specs.declared.construct.Update.{Update as UpdateOp}
 use Rattle.stream_constructs.specs.declared.construct.Update.TheVariants as update
 use Rattle.stream_constructs.specs.Construct.{Construct, Operand, Fixed, Varying}
 use Rattle.stream_constructs.specs.Construct as construct
-use Rattle.stream_constructs.specs.Equations.{equation, strict_lift, literal_over, held, held_each, lifting, lifted, literal_equations, operand_numbers, first_number, numbers, with_literals, update_op, own_equations, choice_equations}
+use Rattle.stream_constructs.specs.Equations.{equation, strict_lift, held, held_each, lifting, lifted, literal_equations, operand_numbers, first_number, numbers, with_literals, update_op, own_equations, choice_equations}
 use Rattle.stream_constructs.specs.Agree.{Fits}
 
 -- an equation of a construct at a place

@@ -1,8 +1,9 @@
 -- Where occurrences stand in a flat system, and which equations make their streams.
-use Rattle.std.proofs.Common.{◌≡◌, ◌⊎◌, ℕ, zero, suc, ◌+◌, ◌<◌, true, List, [], ◌∷◌, ◌++◌, map, length, Option, Some, None, refl, ap, sym, subst, ◌∙◌, inl, inr, arith, append-nil}
+use Rattle.std.proofs.Common.{◌≡◌, ◌⊎◌, ℕ, zero, suc, ◌+◌, ◌<◌, true, List, [], ◌∷◌, ◌++◌, map, length, Some, None, refl, ap, subst, ◌∙◌, arith}
 use Rattle.std.specs.Prelude.{slice_get}
 use Rattle.std.specs.List.{AllByRecursion, Contains}
-use Rattle.std.proofs.lemmas.Option.{same_Some, slice_get-map, get_or_from_slice_get}
+use Rattle.std.specs.Option.{option_map}
+use Rattle.std.proofs.lemmas.Option.{same_Some, none-some, slice_get-map, get_or_from_slice_get}
 use Rattle.flat_core.specs.declared.equation.Equation.{Equation}
 use Rattle.flat_core.specs.Case.{Streams}
 use Rattle.flat_core.specs.Graph.{Path, Walk}
@@ -17,10 +18,10 @@ use Rattle.stream_constructs.specs.declared.construct.Stream.{Stream}
 use Rattle.stream_constructs.specs.Construct.{Construct}
 use Rattle.stream_constructs.specs.Construct as construct
 use Rattle.stream_constructs.specs.Agree.{StandsAt, Makes as MakesConstruct, last_number, history_of, is_used_part}
-use Rattle.spec_meaning.specs.Occurrence.{Call, Occurrence, body_of, block_of}
+use Rattle.spec_meaning.specs.Occurrence.{Occurrence, body_of, block_of}
 use Rattle.spec_meaning.specs.Happens.{history}
-use Rattle.spec_meaning.specs.Shape.{Shape, shape, all_parts, itself, expressions}
-use Rattle.macro_flatten.specs.Makes.{Standing, Makes, MakesAll, MakesBody, MakesBlock, inside_call, is_own, with_itself}
+use Rattle.spec_meaning.specs.Shape.{Shape, shape, all_parts, expressions}
+use Rattle.macro_flatten.specs.Makes.{Standing, Makes, MakesAll, MakesBody, MakesBlock, inside_call, is_own}
 use Rattle.macro_flatten.specs.Flat.{outermost}
 use Rattle.flat_meaning.proofs.Plain.{plain, Within}
 use Rattle.flat_meaning.proofs.OwnEquations.{IsOneDelay}
@@ -38,10 +39,7 @@ each_length R (x ∷ xs) [] each = absurd each
 each_length R (x ∷ xs) (y ∷ ys) each = ap suc (each_length R xs ys each.1)
 
 pub each_at : {A B : Type 0} (R : A → B → Type 0) (xs : List A) (ys : List B) → Each R xs ys → (k : ℕ) (x : A) → slice_get xs k ≡ Some x → (y : B) × (slice_get ys k ≡ Some y) × R x y
-each_at {A} R [] ys each k x is = absurd (nothing is)
-  where
-    nothing : ◌≡◌ {A = Option A} None (Some x) → ⊥
-    nothing h = cc
+each_at R [] ys each k x is = absurd (none-some x is)
 each_at R (x ∷ xs) [] each k w is = absurd each
 each_at R (x ∷ xs) (y ∷ ys) each zero w is = (y, refl, subst (λ v. R v y) (same_Some x w is) each.0)
 each_at R (x ∷ xs) (y ∷ ys) each (suc k) w is = each_at R xs ys each.1 k w is
@@ -68,7 +66,7 @@ each_end R (w ∷ xs) (v ∷ ys) x y each more = (each.0, each_end R xs ys x y e
 
 -- the stream of a part by its place
 pub history_is : (z : Streams) (parts : List Stream) (k : ℕ) (a : Stream) → slice_get parts k ≡ Some a → history (history_of z parts) k ≡ z a.id
-history_is z parts k a is = get_or_from_slice_get (history_of z parts) k (z a.id) (λ t. None) (slice_get-map (λ b. z b.id) parts k ∙ ap (Rattle.std.specs.Option.option_map (λ (b : Stream). z b.id)) is)
+history_is z parts k a is = get_or_from_slice_get (history_of z parts) k (z a.id) (λ t. None) (slice_get-map (λ b. z b.id) parts k ∙ ap (option_map (λ (b : Stream). z b.id)) is)
 
 module _ (items : List tree.Item) (top : ℕ → Stream) (s : System) where
   -- the calls around an expression are laid out in the system

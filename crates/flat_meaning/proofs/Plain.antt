@@ -3,7 +3,7 @@ use Rattle.std.proofs.Common.{◌≡◌, ℕ, zero, suc, ◌+◌, ◌<◌, List,
 use Rattle.std.specs.Prelude.{slice_get, IsTrue}
 use Rattle.std.specs.Option.{option_map}
 use Rattle.std.specs.List.{AllByRecursion, Contains}
-use Rattle.std.proofs.lemmas.Option.{slice_get-map, same_Some}
+use Rattle.std.proofs.lemmas.Option.{slice_get-map, same_Some, none-some}
 use Rattle.flat_core.specs.declared.equation.Equation.{Equation}
 use Rattle.flat_core.specs.Case.{Inputs, Streams, case_of, root_fault}
 use Rattle.flat_core.specs.Graph.{Path, edge, step, Walk, stay, onward}
@@ -15,6 +15,7 @@ use Rattle.flat_core.proofs.Walks.{walk_keeps}
 use Rattle.flat_core.proofs.WellFormedRank.{rank_of, rank_falls}
 use Rattle.stream_constructs.specs.Agree.{StandsAt}
 use Rattle.macro_flatten.specs.Flat.{named}
+use Rattle.flat_meaning.proofs.ListLemmas.{all_by_place, get_left, get_right}
 
 abbrev pub unnamed : Equation → Equation
 unnamed e = record e { name = None }
@@ -26,18 +27,6 @@ plain s = record s { equations = map unnamed s.equations }
 abbrev pub Within : System → ℕ → List Equation → Type 0
 Within s n made = (k : ℕ) (e : Equation) → slice_get made k ≡ Some e → slice_get (plain s).equations (n + k) ≡ Some (unnamed e)
 
-get_left : {A : Type 0} (xs ys : List A) (k : ℕ) (x : A) → slice_get xs k ≡ Some x → slice_get (xs ++ ys) k ≡ Some x
-get_left [] ys k x is = absurd (nothing is)
-  where
-    nothing : ◌≡◌ {A = Option _} None (Some x) → ⊥
-    nothing h = cc
-get_left (y ∷ xs) ys zero x is = is
-get_left (y ∷ xs) ys (suc k) x is = get_left xs ys k x is
-
-get_right : {A : Type 0} (xs ys : List A) (k : ℕ) → slice_get (xs ++ ys) (length xs + k) ≡ slice_get ys k
-get_right [] ys k = let e : 0 + k ≡ k = omega arith in ap (slice_get ys) e
-get_right (x ∷ xs) ys k = let e : suc (length xs) + k ≡ suc (length xs + k) = omega arith in ap (slice_get (x ∷ (xs ++ ys))) e ∙ get_right xs ys k
-
 pub within_left : (s : System) (n : ℕ) (xs ys : List Equation) → Within s n (xs ++ ys) → Within s n xs
 within_left s n xs ys all k e is = all k e (get_left xs ys k e is)
 
@@ -47,15 +36,9 @@ within_right s n xs ys all k e is =
     subst (λ i. slice_get (plain s).equations i ≡ Some (unnamed e)) same (all (length xs + k) e (get_right xs ys k ∙ is))
 
 named_get : (x : List ℕ) (xs : List Equation) (k : ℕ) (e : Equation) → slice_get xs k ≡ Some e → (f : Equation) × (slice_get (named x xs) k ≡ Some f) × (unnamed f ≡ unnamed e)
-named_get x [] k e is = absurd (nothing is)
-  where
-    nothing : ◌≡◌ {A = Option Equation} None (Some e) → ⊥
-    nothing h = cc
+named_get x [] k e is = absurd (none-some e is)
 named_get x (d ∷ []) zero e is = (record d { name = Some x }, refl, ap unnamed (same_Some d e is))
-named_get x (d ∷ []) (suc k) e is = absurd (nothing is)
-  where
-    nothing : ◌≡◌ {A = Option Equation} None (Some e) → ⊥
-    nothing h = cc
+named_get x (d ∷ []) (suc k) e is = absurd (none-some e is)
 named_get x (d ∷ c ∷ xs) zero e is = (d, refl, ap unnamed (same_Some d e is))
 named_get x (d ∷ c ∷ xs) (suc k) e is = named_get x (c ∷ xs) k e is
 
@@ -71,20 +54,9 @@ named_length x (d ∷ c ∷ xs) = ap suc (named_length x (c ∷ xs))
 pub record IsNameless (e : Equation) : Type 0 where
   pub nameless : e.name ≡ None
 
-all_get : {A : Type 0} (P : A → Type 0) (xs : List A) → AllByRecursion P xs → (k : ℕ) (x : A) → slice_get xs k ≡ Some x → P x
-all_get P [] all k x is = absurd (nothing is)
-  where
-    nothing : ◌≡◌ {A = Option _} None (Some x) → ⊥
-    nothing h = cc
-all_get P (y ∷ xs) all zero x is = subst P (same_Some y x is) all.0
-all_get P (y ∷ xs) all (suc k) x is = all_get P xs all.1 k x is
-
-pub all_by_place : {A : Type 0} (P : A → Type 0) (xs : List A) → AllByRecursion P xs → (k : ℕ) (x : A) → slice_get xs k ≡ Some x → P x
-all_by_place = all_get
-
 pub stands : (s : System) (n : ℕ) (own : List Equation) → Within s n own → AllByRecursion IsNameless own → StandsAt (plain s).equations n own
 stands s n own all none k e is =
-    let without = (all_get IsNameless own none k e is).nameless in
+    let without = (all_by_place IsNameless own none k e is).nameless in
     let same : unnamed e ≡ e = λ i. record e { name = sym without i } in
     all k e is ∙ ap Some same
 
@@ -94,10 +66,7 @@ module _ (s : System) where
   original i e is = found (equation s i) refl
     where
       found : (o : Option Equation) → equation s i ≡ o → (f : Equation) × (equation s i ≡ Some f) × (unnamed f ≡ e)
-      found None be = absurd (nothing (sym (ap (option_map unnamed) be) ∙ sym (slice_get-map unnamed s.equations i) ∙ is))
-        where
-          nothing : ◌≡◌ {A = Option Equation} None (Some e) → ⊥
-          nothing h = cc
+      found None be = absurd (none-some e (sym (ap (option_map unnamed) be) ∙ sym (slice_get-map unnamed s.equations i) ∙ is))
       found (Some f) be = (f, be, same_Some (unnamed f) e (sym (ap (option_map unnamed) be) ∙ sym (slice_get-map unnamed s.equations i) ∙ is))
 
   pub argument_named : (i j : ℕ) → HasArgument (plain s).equations i j → HasArgument s.equations i j

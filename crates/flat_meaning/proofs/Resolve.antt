@@ -1,10 +1,9 @@
 -- Each occurrence that stands in a flat system leads to equations that make its stream.
-use Rattle.std.proofs.Common.{◌≡◌, ◌⊎◌, ℕ, zero, suc, ◌+◌, ◌<◌, Bool, true, false, ◌&&◌, List, [], ◌∷◌, ◌++◌, map, length, Option, Some, None, refl, ap, sym, subst, ◌∙◌, inl, inr, arith, length-append}
+use Rattle.std.proofs.Common.{◌≡◌, ℕ, ◌+◌, true, false, ◌&&◌, List, [], ◌∷◌, ◌++◌, map, length, Some, refl, ap, sym, subst, ◌∙◌, arith, length-append}
 use Rattle.std.specs.Prelude.{slice_get, if◌then◌else◌}
 use Rattle.std.specs.Option.{option_map}
-use Rattle.std.proofs.lemmas.Bool.{true≢false, false≢true, and_parts}
-use Rattle.std.proofs.lemmas.Option.{same_Some, none-some}
-use Rattle.tsl_value.specs.declared.place.Place.{Place}
+use Rattle.std.proofs.lemmas.Bool.{true≢false, and_parts}
+use Rattle.std.proofs.lemmas.Option.{none-some}
 use Rattle.tsl_value.specs.declared.scalar.ValueType.{ValueType}
 use Rattle.flat_core.specs.declared.equation.Equation.{Equation}
 use Rattle.flat_core.specs.System.{System}
@@ -13,22 +12,20 @@ use Rattle.spec_parser.specs.Tree as tree
 use Rattle.spec_parser.specs.Tree.{Expr, Exprs, place_of, no_links}
 use Rattle.name_check.specs.declared.declaration.Declaration.{Declaration}
 use Rattle.name_check.specs.declared.declaration.Declaration.TheVariants as declaration
-use Rattle.name_check.specs.Builtin.{is_unit}
-use Rattle.name_check.specs.Scope.{meaning}
 use Rattle.stream_constructs.specs.declared.construct.Stream.{Stream}
 use Rattle.stream_constructs.specs.Construct as construct
 use Rattle.stream_constructs.specs.Equations.{own_equations, choice_equations, alias_equation}
-use Rattle.stream_constructs.specs.Agree.{Fits, last_number}
-use Rattle.spec_meaning.specs.Occurrence.{Occurrence, scope_at, stands_for, result_of, body_of, block_of, local, argument}
-use Rattle.spec_meaning.specs.Shape.{Shape, shape, beside, same_as, name_shape, input_number, expressions}
-use Rattle.macro_flatten.specs.Makes.{Standing, Stands, Makes, MakesAll, MakesBody, MakesBlock, last_of, is_name, is_own, is_choice, with_itself, IsAsWritten, inside_call}
+use Rattle.stream_constructs.specs.Agree.{Fits, FitsChoice, last_number}
+use Rattle.spec_meaning.specs.Occurrence.{Occurrence, stands_for, result_of, body_of, block_of, local}
+use Rattle.spec_meaning.specs.Shape.{Shape, shape, same_as, name_shape, input_number}
+use Rattle.macro_flatten.specs.Makes.{Standing, Stands, Makes, MakesAll, MakesBody, MakesBlock, last_of, is_name, is_own, is_choice, choice_operands, with_itself, IsAsWritten, inside_call}
 use Rattle.macro_flatten.specs.Makes as makes
 use Rattle.macro_flatten.specs.Flat.{outermost}
 use Rattle.flat_meaning.proofs.Plain.{Within, within_left, within_right}
 use Rattle.flat_meaning.proofs.Shapes.{call_is, name_is}
 use Rattle.flat_meaning.proofs.Scopes.{IsInputItem, IsStreamItem, IsRight, meaning_right}
-use Rattle.flat_meaning.proofs.Placed.{Each, Entered, outside, inside, IsMade, IsMadeBody, Placed, placed, IsBuilt, Leads, here, onward}
-use Rattle.flat_meaning.proofs.Lookup.{all_made, IsArgument, argument_at, IsLocal, local_at, IsInputAt}
+use Rattle.flat_meaning.proofs.Placed.{Entered, outside, inside, IsMadeBody, Placed, placed, IsBuilt, Leads, here, onward}
+use Rattle.flat_meaning.proofs.Lookup.{all_made, argument_at, local_at, IsInputAt}
 use Rattle.flat_meaning.proofs.Built.{TheLaws, own_built, choice_built, alias_built, input_built}
 
 abbrev pub same_shape : Occurrence → Shape
@@ -52,6 +49,13 @@ module _ (items : List tree.Item) (top : ℕ → Stream) (s : System) (laws : Th
       here (own_built items top s laws at e n m sh parts before of stream entered is own_sh parts_made (within_left s n before after both) fits (subst (Within s m) after_is (within_right s n before after both)) number
       (record { number = n; made = made; makes = makes.Makes.own sh parts before after is own_sh no_choice parts_made written fits after_is made_is stream_is; within = within }))
 
+  choice_leads : {at : Standing} {e : Expr} {n : ℕ} (sh : Shape) (parts : List Stream) (before after : List Equation) {of : ValueType} {made : List Equation} {stream : Stream} → shape items (record { calls = at.calls; expr = e }) ≡ Some sh → (is_choice e && is_aggregate of) ≡ true → MakesAll items top at (map (λ o. o.expr) sh.parts) n before parts → FitsChoice (choice_operands e) parts of → after ≡ choice_equations (place_of e) of (n + length before) (choice_operands e) parts → made ≡ before ++ after → stream ≡ last_of (n + length before) after of → Entered items top s at → Within s n made → Leads items top s (record { calls = at.calls; expr = e }) stream.id
+  choice_leads {at} {e} {n} sh parts before after {of} {made} {stream} is chosen parts_made fits after_is made_is stream_is entered within =
+      let m = n + length before in
+      let both = subst (Within s n) made_is within in
+      let number = ap (λ (a : Stream). a.id) stream_is ∙ ap (last_number m) after_is in
+      here (choice_built items top s laws at e n m sh parts before of stream entered is (and_parts (is_choice e) (is_aggregate of) chosen).0 parts_made (within_left s n before after both) fits (subst (Within s m) after_is (within_right s n before after both)) number)
+
   -- a body
   alias_leads : (o : Occurrence) (at : Standing) (e : Expr) (n : ℕ) (made : List Equation) (stream a : Stream) → shape items o ≡ Some (same_shape (record { calls = at.calls; expr = e })) → Makes items top at e n [] a → made ≡ alias_equation (place_of e) a ∷ [] → stream ≡ record { id = n; of = a.of } → Entered items top s at → Within s n made → Leads items top s o stream.id
   alias_leads o at e n made stream a is one made_is stream_is entered within =
@@ -67,11 +71,7 @@ module _ (items : List tree.Item) (top : ℕ → Stream) (s : System) (laws : Th
       onward (record { calls = at.calls; expr = e }) refl (placed entered (record { number = n; made = made; makes = one; within = within })) (made_leads one entered within none)
   made_leads (makes.Makes.own sh parts before after is own_sh no_choice parts_made written fits after_is made_is stream_is) entered within none =
       own_leads sh parts before after is own_sh no_choice parts_made written fits after_is made_is stream_is entered within
-  made_leads {at} {e} {n} {stream = stream} (makes.Makes.choice sh parts before after {of} is chosen parts_made fits after_is made_is stream_is) entered within none =
-      let m = n + length before in
-      let both = subst (Within s n) made_is within in
-      let number = ap (λ (a : Stream). a.id) stream_is ∙ ap (last_number m) after_is in
-      here (choice_built items top s laws at e n m sh parts before of stream entered is (and_parts (is_choice e) (is_aggregate of) chosen).0 parts_made (within_left s n before after both) fits (subst (Within s m) after_is (within_right s n before after both)) number)
+  made_leads (makes.Makes.choice sh parts before after is chosen parts_made fits after_is made_is stream_is) entered within none = choice_leads sh parts before after is chosen parts_made fits after_is made_is stream_is entered within
   made_leads {at} {n = n} (makes.Makes.call {p = p} {x = x} {es = es} i params locals b before block after {made} other is body arguments definitions (makes.MakesBody.plain no_name one) made_is) entered within none =
       let parts = within_block n before block after made made_is within in
       let within_call = inside i b entered body arguments parts.0 definitions parts.1 in
@@ -128,11 +128,7 @@ module _ (items : List tree.Item) (top : ℕ → Stream) (s : System) (laws : Th
         onward (record { calls = at.calls; expr = e }) refl (placed entered (record { number = n; made = made; makes = one; within = within })) (at_leads one entered known within)
     at_leads (makes.Makes.own sh parts before after is own_sh no_choice parts_made written fits after_is made_is stream_is) entered known within =
         own_leads sh parts before after is own_sh no_choice parts_made written fits after_is made_is stream_is entered within
-    at_leads {at} {e} {n} {stream = stream} (makes.Makes.choice sh parts before after {of} is chosen parts_made fits after_is made_is stream_is) entered known within =
-        let m = n + length before in
-        let both = subst (Within s n) made_is within in
-        let number = ap (λ (a : Stream). a.id) stream_is ∙ ap (last_number m) after_is in
-        here (choice_built items top s laws at e n m sh parts before of stream entered is (and_parts (is_choice e) (is_aggregate of) chosen).0 parts_made (within_left s n before after both) fits (subst (Within s m) after_is (within_right s n before after both)) number)
+    at_leads (makes.Makes.choice sh parts before after is chosen parts_made fits after_is made_is stream_is) entered known within = choice_leads sh parts before after is chosen parts_made fits after_is made_is stream_is entered within
     at_leads (makes.Makes.call i params locals b before block after other is body arguments definitions result made_is) entered known within =
         made_leads (makes.Makes.call i params locals b before block after other is body arguments definitions result made_is) entered within refl
 
@@ -142,20 +138,20 @@ module _ (items : List tree.Item) (top : ℕ → Stream) (s : System) (laws : Th
         let known = known_at entered in
         record {
           params = λ k stream is.
-          let found = argument_at items top s at es params (all_made items top s arguments before_within) k stream is in
-          record {
-            next = record { calls = at.calls; expr = found.expr };
-            is = ap (option_map (λ e. record { calls = at.calls; expr = e })) found.is;
-            there = placed entered found.made;
-            leads = at_leads found.made.makes entered known found.made.within;
-          };
+              let found = argument_at items top s at es params (all_made items top s arguments before_within) k stream is in
+              record {
+                next = record { calls = at.calls; expr = found.expr };
+                is = ap (option_map (λ e. record { calls = at.calls; expr = e })) found.is;
+                there = placed entered found.made;
+                leads = at_leads found.made.makes entered known found.made.within;
+              };
           locals = λ k stream is.
-          let found = local_at items top s definitions block_within k stream is in
-          record {
-            body = found.body;
-            is = ap (λ v. option_map (λ c. record { calls = record { item = i; arguments = es } ∷ at.calls; expr = result_of c }) (local k (block_of v))) body ∙ ap (option_map (λ c. record { calls = record { item = i; arguments = es } ∷ at.calls; expr = result_of c })) found.is;
-            made = found.made;
-          };
+              let found = local_at items top s definitions block_within k stream is in
+              record {
+                body = found.body;
+                is = ap (λ v. option_map (λ c. record { calls = record { item = i; arguments = es } ∷ at.calls; expr = result_of c }) (local k (block_of v))) body ∙ ap (option_map (λ c. record { calls = record { item = i; arguments = es } ∷ at.calls; expr = result_of c })) found.is;
+                made = found.made;
+              };
         }
 
     -- an occurrence that stands in the system leads to the equations of its stream

@@ -1,11 +1,10 @@
 -- Lists of numbers that rise: two of them with the same numbers are one.
-use Rattle.std.proofs.Common.{◌≡◌, ℕ, zero, suc, ◌+◌, ◌<◌, ◌≤◌, Bool, true, false, cond, List, [], ◌∷◌, ◌++◌, length, take, refl, ap, sym, subst, ◌∙◌, inl, inr, arith}
-use Rattle.std.specs.Prelude.{slice_index_or, slice_index, IsTrue}
-use Rattle.std.specs.List.{Contains, filter, AllPairs}
+use Rattle.std.proofs.Common.{◌≡◌, ℕ, zero, suc, ◌+◌, ◌<◌, ◌≤◌, List, [], ◌∷◌, length, refl, subst, arith}
+use Rattle.std.specs.Prelude.{slice_index_or, slice_index}
+use Rattle.std.specs.List.{Contains, AllPairs}
 use Rattle.std.specs.List.Sorted.{IsStrictlyIncreasing}
 use Rattle.std.proofs.lemmas.List.Kept.{AllPairs-from_increasing}
 use Rattle.std.proofs.lemmas.List.{get_or_default}
-use Rattle.std.proofs.lemmas.Bool.{cases_eq, cases_Bool, true≢false, false≢true}
 use Rattle.flat_core.proofs.Members.{contains_head, contains_tail}
 
 -- they rise from a number on
@@ -54,23 +53,3 @@ same_rising low high (x ∷ xs) (y ∷ ys) up rise to back =
     (λ t c. in_rest y ys t (λ is. let lt = rising_at (suc x) xs up.1 t c in absurd (omega arith)) (to t (contains_tail x xs t c)))
     (λ t c. in_rest x xs t (λ is. let lt = rising_at (suc y) ys rise.1 t c in absurd (omega arith)) (back t (contains_tail y ys t c))) in
     λ i. here i ∷ rest i
-
--- filtered lists
-pub contains_filter : (p : ℕ → Bool) (xs : List ℕ) (t : ℕ) → Contains xs t → p t ≡ true → Contains (filter p xs) t
-contains_filter p [] t (k, lt, is) h = absurd (omega arith)
-contains_filter p (x ∷ xs) t (zero, lt, is) h = subst (λ b. Contains (cond b (x ∷ filter p xs) (filter p xs)) t) (sym (ap p is ∙ h)) (0, omega arith, is)
-contains_filter p (x ∷ xs) t (suc k, lt, is) h = either (p x) (contains_filter p xs t (k, omega arith, is) h)
-  where
-    either : (b : Bool) → Contains (filter p xs) t → Contains (cond b (x ∷ filter p xs) (filter p xs)) t
-    either true c = contains_tail x (filter p xs) t c
-    either false c = c
-
-pub from_filter : (p : ℕ → Bool) (xs : List ℕ) (t : ℕ) → Contains (filter p xs) t → Contains xs t × (p t ≡ true)
-from_filter p [] t (k, lt, is) = absurd (omega arith)
-from_filter p (x ∷ xs) t c = either (p x) refl c
-    (λ more. let found = from_filter p xs t more in (contains_tail x xs t found.0, found.1))
-  where
-    either : (b : Bool) → p x ≡ b → Contains (cond b (x ∷ filter p xs) (filter p xs)) t → (Contains (filter p xs) t → Contains (x ∷ xs) t × (p t ≡ true)) → Contains (x ∷ xs) t × (p t ≡ true)
-    either true h (zero, lt, is) more = ((0, omega arith, is), sym (ap p is) ∙ h)
-    either true h (suc k, lt, is) more = more (k, omega arith, is)
-    either false h c more = more c

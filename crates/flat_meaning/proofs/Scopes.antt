@@ -1,15 +1,15 @@
 -- What the names of a scope stand for: an input and a stream by their items.
-use Rattle.std.proofs.Common.{◌≡◌, ℕ, zero, suc, ◌+◌, Bool, true, false, cond, List, [], ◌∷◌, ◌++◌, Option, Some, None, refl, ap, sym, subst, ◌∙◌, arith}
+use Rattle.std.proofs.Common.{◌≡◌, ℕ, suc, ◌+◌, Bool, true, false, cond, List, [], ◌∷◌, Option, Some, ap, subst, ◌∙◌, arith}
 use Rattle.std.specs.Prelude.{if◌then◌else◌, slice_get}
-use Rattle.std.specs.List.{AllByRecursion, find, filter, list_any, list_all}
+use Rattle.std.specs.List.{AllByRecursion, find, list_any, list_all}
 use Rattle.std.specs.Option.{option_map}
 use Rattle.std.specs.Str.{bytes_eq}
-use Rattle.std.proofs.lemmas.Option.{same_Some}
+use Rattle.std.proofs.lemmas.Option.{same_Some, none-some}
 use Rattle.tsl_value.specs.declared.place.Place.{Place}
 use Rattle.spec_parser.specs.Tree as tree
 use Rattle.name_check.specs.declared.declaration.Declaration.{Declaration}
 use Rattle.name_check.specs.declared.declaration.Declaration.TheVariants as declaration
-use Rattle.name_check.specs.Scope.{Entry, Scope, meaning, is_events, declared_as, declared_from, top, parameters_from, locals_from, is_function, are_values, functions_of, inside, in_block}
+use Rattle.name_check.specs.Scope.{Scope, meaning, is_events, declared_from, top, parameters_from, locals_from, is_function, are_values, functions_of, inside}
 use Rattle.spec_meaning.specs.Occurrence.{Call, scope_at, params_of, body_of, block_of}
 use Rattle.flat_core.proofs.Members.{all_append}
 
@@ -45,10 +45,11 @@ module _ (items : List tree.Item) where
   declared_right : (i : ℕ) (rest : List tree.Item) → ((k : ℕ) → slice_get items (i + k) ≡ slice_get rest k) → AreRight (declared_from i rest)
   declared_right i [] same = tt
   declared_right i (item ∷ rest) same = each item (same_here item same)
-    (declared_right (suc i) rest (λ k. let e : suc i + k ≡ i + suc k = omega arith in ap (slice_get items) e ∙ same (suc k)))
+      (declared_right (suc i) rest (λ k. let e : suc i + k ≡ i + suc k = omega arith in ap (slice_get items) e ∙ same (suc k)))
     where
       same_here : (item : tree.Item) → ((k : ℕ) → slice_get items (i + k) ≡ slice_get (item ∷ rest) k) → slice_get items i ≡ Some item
       same_here item same = let e : i ≡ i + 0 = omega arith in ap (slice_get items) e ∙ same 0
+
       each : (item : tree.Item) → slice_get items i ≡ Some item → AreRight (declared_from (suc i) rest) → AreRight (declared_from i (item ∷ rest))
       each (tree.Input p q n y) is more = (record { place = p; at = q; name = n; of = y; is = is }, more)
       each (tree.Defined p (tree.Define q n [] w b)) is more = (record { place = p; at = q; name = n; written = w; body = b; is = is }, more)
@@ -90,10 +91,7 @@ module _ (items : List tree.Item) where
       all_append (λ e. IsRight e.is) (locals_from 0 ds) (inside (top items) ps) (locals_right 0 ds) (inside_right ps)
 
   found_right : (n : List ℕ) (scope : Scope) → AreRight scope → (d : Declaration) → meaning scope n ≡ Some d → IsRight d
-  found_right n [] all d is = absurd (nothing is)
-    where
-      nothing : ◌≡◌ {A = Option Declaration} None (Some d) → ⊥
-      nothing h = cc
+  found_right n [] all d is = absurd (none-some d is)
   found_right n (e ∷ scope) all d is = either (bytes_eq e.name n) is (λ more. found_right n scope all.1 d more)
     where
       either : (b : Bool) → option_map (λ e. e.is) (cond b (Some e) (find (λ e. bytes_eq e.name n) scope)) ≡ Some d → (meaning scope n ≡ Some d → IsRight d) → IsRight d

@@ -1,16 +1,14 @@
 -- What shapes tell: the parts of a construct with equations of its own stand in its calls, and a call of a macro stands for its result.
-use Rattle.std.proofs.Common.{◌≡◌, ℕ, zero, suc, Bool, true, false, cond, ◌||◌, List, [], ◌∷◌, ◌++◌, map, Option, Some, None, refl, ap, sym, subst, ◌∙◌}
-use Rattle.std.specs.Prelude.{if◌then◌else◌, slice_get, codes}
+use Rattle.std.proofs.Common.{◌≡◌, ℕ, Bool, true, false, cond, ◌||◌, List, [], ◌∷◌, ◌++◌, map, Option, Some, None, refl, ap, sym, subst, ◌∙◌}
+use Rattle.std.specs.Prelude.{if◌then◌else◌, slice_get}
 use Rattle.std.specs.List.{AllByRecursion, list_any, find, filter}
 use Rattle.std.specs.Option.{option_map, option_and_then}
 use Rattle.std.specs.Str.{bytes_eq}
-use Rattle.std.proofs.lemmas.Bool.{cases_Bool, or_cases, true≢false, false≢true}
+use Rattle.std.proofs.lemmas.Bool.{true≢false, false≢true}
 use Rattle.std.proofs.lemmas.Option.{same_Some}
 use Rattle.tsl_value.specs.declared.scalar.Scalar.{Scalar}
 use Rattle.tsl_value.specs.declared.scalar.Scalar.TheVariants as scalar
-use Rattle.tsl_value.specs.declared.scalar.ValueType.{ValueType}
 use Rattle.tsl_value.specs.declared.place.Place.{Place}
-use Rattle.lift_func.specs.Tree.{Tree}
 use Rattle.spec_parser.specs.Tree as tree
 use Rattle.spec_parser.specs.Tree.{Expr, Exprs, no_links, more_links}
 use Rattle.spec_parser.specs.declared.tree.Dotted.{Dotted}
@@ -23,10 +21,9 @@ use Rattle.name_check.specs.Scope.{meaning}
 use Rattle.stream_constructs.specs.Construct.{Construct, operand_trees}
 use Rattle.stream_constructs.specs.Construct as construct
 use Rattle.stream_constructs.specs.Equations.{choice}
-use Rattle.stream_constructs.specs.declared.construct.Update.{Update as UpdateOp}
 use Rattle.spec_meaning.specs.Occurrence.{Call, Occurrence, scope_at, stands_for, result_of, body_of}
 use Rattle.spec_meaning.specs.Function.{literal}
-use Rattle.spec_meaning.specs.Shape.{Shape, is_part, left_of, all_but_last, last_operand, beside, with_parts, signal_of, update_of, dotted_shape, plain_names, plain_name, is_delay, is_const, is_filter, const_shape, filtered_by, filter_shape, same_as, name_shape, declared_shape, lift_by, function_named, lift_shape, call_shape, literal_shape, empty_shape, expr_shape, shape, expressions}
+use Rattle.spec_meaning.specs.Shape.{Shape, is_part, left_of, all_but_last, last_operand, beside, with_parts, dotted_shape, plain_names, plain_name, is_delay, is_const, is_filter, const_shape, filtered_by, filter_shape, same_as, name_shape, declared_shape, lift_by, function_named, lift_shape, call_shape, expr_shape, shape, expressions}
 use Rattle.macro_flatten.specs.Makes.{is_own, is_choice, choice_operands}
 
 -- the parts stand in these calls
@@ -137,7 +134,7 @@ module _ (items : List tree.Item) where
 none_of : {A : Type 0} (p : A → Bool) (xs : List A) → list_any p xs ≡ false → AllByRecursion (λ x. p x ≡ false) xs
 none_of p [] none = tt
 none_of p (x ∷ xs) none = either (p x) refl none
-  (λ rest. none_of p xs rest)
+    (λ rest. none_of p xs rest)
   where
     either : (b : Bool) → p x ≡ b → (b || list_any p xs) ≡ false → (list_any p xs ≡ false → AllByRecursion (λ x. p x ≡ false) xs) → (p x ≡ false) × AllByRecursion (λ x. p x ≡ false) xs
     either true is h more = absurd (true≢false h)

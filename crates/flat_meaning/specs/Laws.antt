@@ -1,5 +1,5 @@
 -- The flat system of a specification means what the specification means.
-use Rattle.std.specs.Prelude.{◌≡◌, ◌⊎◌, ◌↔◌, ℕ, ◌<◌, List, Option, Some, IsTrue, slice_get}
+use Rattle.std.specs.Prelude.{◌≡◌, ◌↔◌, ℕ, ◌<◌, List, Option, Some, IsTrue, slice_get}
 use Rattle.tsl_value.specs.View.{View}
 use Rattle.tsl_value.specs.declared.place.Place.{Place}
 use Rattle.lift_func.specs.declared.fault.FaultKind.{FaultKind}
@@ -8,7 +8,7 @@ use Rattle.flat_core.specs.declared.equation.Output.{Output}
 use Rattle.flat_core.specs.Stream.{Outcome, Event}
 use Rattle.flat_core.specs.Case.{Inputs, Streams}
 use Rattle.flat_core.specs.Complete.{IsFlat}
-use Rattle.flat_core.specs.Fault.{root_at, IsNamed}
+use Rattle.flat_core.specs.Fault.{root_at}
 use Rattle.flat_core.specs.Instant.{is_delay}
 use Rattle.flat_core.specs.Line.{Line, inputs_of}
 use Rattle.flat_core.specs.Solution.{Solves}
@@ -18,9 +18,8 @@ use Rattle.flat_core.specs.WellFormed.{IsWellFormed}
 use Rattle.spec_parser.specs.Tree as tree
 use Rattle.spec_parser.specs.Tree.{place_of}
 use Rattle.spec_meaning.specs.Occurrence.{Occurrence}
-use Rattle.spec_meaning.specs.Shape.{Shape, shape}
-use Rattle.spec_meaning.specs.Happens.{Happens, IsNeeded, HasRoot}
-use Rattle.spec_meaning.specs.Due.{Printed, outputs_of, Expires, IsFaulty, IsDueText}
+use Rattle.spec_meaning.specs.Happens.{Happens, HasRoot}
+use Rattle.spec_meaning.specs.Due.{Printed, outputs_of, Expires, IsDueText}
 use Rattle.macro_flatten.specs.Flat.{IsFlatOf}
 
 -- at most one thing happens at an occurrence at a time
