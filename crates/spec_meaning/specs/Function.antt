@@ -1,5 +1,5 @@
 -- Value functions as bodies: a call of another value function stands for its body with the arguments in the place of the parameters.
-use Rattle.std.specs.Prelude.{ℕ, zero, suc, Bool, true, false, if◌then◌else◌, pos, neg_ℤ, List, [], ◌∷◌, Option, Some, None, slice_get, slice_index_or, codes}
+use Rattle.std.specs.Prelude.{ℕ, zero, suc, Bool, true, false, if◌then◌else◌, pos, neg_ℤ, List, [], ◌∷◌, length, Option, Some, None, slice_get, slice_index_or, codes}
 use Rattle.std.specs.Option.{option_map}
 use Rattle.std.specs.Str.{bytes_eq}
 use Rattle.tsl_value.specs.declared.scalar.Scalar.{Scalar}
@@ -121,20 +121,15 @@ module _ (scope : Scope) (args : List Tree) (call : ℕ → List Tree → Tree) 
   body_tree None = no_tree
   body_tree (Some b) = tree_of (result_of b)
 
--- The body of value function i where its parameters have these trees. Calls nest as deep as the number says; what nests deeper is
--- refused before.
+-- The body of value function i where its parameters have these trees. Calls nest no deeper than the number says.
 abbrev pub function_tree : List tree.Item → ℕ → ℕ → List Tree → Tree
 function_tree items zero i args = no_tree
 function_tree items (suc deep) i args =
     body_tree (inside (top items) (params_of (slice_get items i))) args (function_tree items deep) (body_of (slice_get items i))
 
--- as deep as calls may nest
-abbrev pub most_calls : ℕ
-most_calls = 64
-
--- value function i at operands
+-- Value function i at operands. Where no function calls itself, calls nest no deeper than there are items.
 abbrev pub function_at : List tree.Item → ℕ → List Tree → Tree
-function_at items i operands = function_tree items most_calls i operands
+function_at items i operands = function_tree items (length items) i operands
 
 -- the arguments of a body, as many as a list has, the first of which has this number
 abbrev pub arguments_from : {A : Type 0} → ℕ → List A → List Tree
