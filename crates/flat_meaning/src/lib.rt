@@ -1,0 +1,4 @@
+// The flat system of a specification means what the specification means.
+#![tactic(auto)]
+
+pub mod laws;
