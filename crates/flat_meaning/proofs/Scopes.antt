@@ -9,7 +9,7 @@ use Rattle.tsl_value.specs.declared.place.Place.{Place}
 use Rattle.spec_parser.specs.Tree as tree
 use Rattle.name_check.specs.declared.declaration.Declaration.{Declaration}
 use Rattle.name_check.specs.declared.declaration.Declaration.TheVariants as declaration
-use Rattle.name_check.specs.Scope.{Scope, meaning, is_events, declared_from, top, parameters_from, locals_from, is_function, are_values, functions_of, inside}
+use Rattle.name_check.specs.Scope.{count_in, Scope, meaning, is_events, declared_from, top, parameters_from, locals_from, is_function, are_values, functions_of, inside}
 use Rattle.spec_meaning.specs.Occurrence.{Call, scope_at, params_of, body_of, block_of}
 use Rattle.flat_core.proofs.Members.{all_append}
 
@@ -63,7 +63,7 @@ module _ (items : List tree.Item) where
 
   locals_right : (k : ℕ) (ds : tree.Definitions) → AreRight (locals_from k ds)
   locals_right k tree.no_definitions = tt
-  locals_right k (tree.more_definitions (tree.Define q n ps w b) ds) = (tt, locals_right (suc k) ds)
+  locals_right k (tree.more_definitions (tree.Define q n ps w b) ds) = (tt, locals_right (suc k + count_in b) ds)
 
   functions_right : (scope : Scope) → AreRight scope → AreRight (functions_of scope)
   functions_right [] all = tt

@@ -53,7 +53,7 @@ module _ (items : List tree.Item) where
   result i = option_map result_of (body_of (slice_get items i))
 
   abbrev pub seen_in : List tree.Param → Option tree.Body → Scope
-  seen_in ps b = in_block (inside (top items) ps) (block_of b)
+  seen_in ps b = in_block 0 (inside (top items) ps) (block_of b)
 
   abbrev pub scope_at : List Call → Scope
   scope_at [] = top items
