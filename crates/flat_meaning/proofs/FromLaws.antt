@@ -24,5 +24,5 @@ the_laws = record {
   choices_made = λ p of n os parts fits inputs z t solved. choice_made p of n inputs z t (chooses_of os parts _ of fits.1 fits.0) (record { each = solved });
   choices_hang = λ p of n os parts s fits stands. choice_hangs p of n s os parts fits (record { each = stands });
   aliases_made = λ p n a inputs z t solved. alias_made p n a inputs z t (record { each = solved });
-  aliases_hang = λ p n a s stands. alias_hangs p n a s (record { each = stands })
+  aliases_hang = λ p n a s stands. alias_hangs p n a s (record { each = stands });
 }
