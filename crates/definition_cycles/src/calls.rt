@@ -27,6 +27,7 @@ fn call_edge(mention: &Mention) -> Result<Option<(u32, u32)>, NoMemory>
     }
 }
 
+/// All such pairs among the mentions.
 fn call_edges(alloc: Global, mentions: &[Mention]) -> Result<Vec<(u32, u32)>, NoMemory>
     ensures { IfOk result (λ edges. edges.items ≡ filter_map call_edge mentions.now) }
 {

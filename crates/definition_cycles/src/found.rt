@@ -40,6 +40,7 @@ impl Model for Found {
 }
 
 impl Found {
+    /// No node.
     pub fn new(alloc: Global) -> Found
         ensures { result ≡ nothing_kept }
     {
@@ -49,12 +50,14 @@ impl Found {
         }
     }
 
+    /// The heads of all nodes, in order.
     pub fn heads(&self) -> &[Head]
         ensures { result.now ≡ self.now.heads }
     {
         self.heads.as_slice()
     }
 
+    /// All mentions, those of a node behind those of the nodes before it.
     pub fn mentions(&self) -> &[Mention]
         ensures { result.now ≡ self.now.mentions }
     {
@@ -115,6 +118,7 @@ impl Found {
         }
     }
 
+    /// Adds the definitions of a block, the first of which has this number.
     #[cycle(found)]
     fn add_block(
         &mut self,

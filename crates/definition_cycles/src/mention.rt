@@ -39,6 +39,7 @@ fn declared_in(scope: &Scope<'_>, expression: &Expr) -> Option<Declaration>
     }
 }
 
+/// What the name of a part stands for.
 fn declared(scope: &Scope<'_>, part: &Part<'_>) -> Option<Declaration>
     ensures { result ≡ declared (seen scope.now) (part_of part.now) }
 {

@@ -21,6 +21,7 @@ pub struct Top {
 }
 
 impl Top {
+    /// Those of these items.
     pub fn of_items(alloc: Global, items: &[Item]) -> Result<Top, NoMemory>
         ensures { IfOk result (IsTop (top (map item_of items.now))) }
     {
