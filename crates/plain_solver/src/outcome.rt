@@ -245,14 +245,8 @@ fn chosen<'a>(e: &Equation, streams: &'a [Events], t: Time) -> Option<&'a Value>
 {
     let args = &e.args;
     match &e.op {
-        Op::Merge => merged(
-            value_of(streams, args, 0, t),
-            value_of(streams, args, 1, t),
-        ),
-        Op::Filter => passed(
-            value_of(streams, args, 0, t),
-            value_of(streams, args, 1, t),
-        ),
+        Op::Merge => merged(value_of(streams, args, 0, t), value_of(streams, args, 1, t)),
+        Op::Filter => passed(value_of(streams, args, 0, t), value_of(streams, args, 1, t)),
         Op::Pick => picked(
             value_of(streams, args, 0, t),
             value_of(streams, args, 1, t),

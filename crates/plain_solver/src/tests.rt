@@ -295,10 +295,7 @@ fn run_sample(
     requires { bound ≤ 2 ^ 63 }
 {
     let flat = sample(alloc)?;
-    let order = steps(
-        alloc,
-        &[0, 1, 2, 3, 4, 5, 6, 7, 8, 9, 10, 11, 12, 13],
-    )?;
+    let order = steps(alloc, &[0, 1, 2, 3, 4, 5, 6, 7, 8, 9, 10, 11, 12, 13])?;
     run(alloc, &flat, &order, events, bound, limit)
 }
 

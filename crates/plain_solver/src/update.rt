@@ -21,7 +21,10 @@ fn empty(alloc: Global, of: ValueType) -> Result<Value, NoMemory>
     match of {
         ValueType::Scalar(_) => Ok(Value::of_scalar(Scalar::Unit)),
         ValueType::Set(key) => Value::of_cell(alloc, Cell::empty(alloc, ValueType::Set(key))),
-        ValueType::Map(key, value) => Value::of_cell(alloc, Cell::empty(alloc, ValueType::Map(key, value))),
+        ValueType::Map(key, value) => Value::of_cell(
+            alloc,
+            Cell::empty(alloc, ValueType::Map(key, value)),
+        ),
     }
 }
 

@@ -37,21 +37,21 @@ module _ (s : System) (flat : IsFlat s) where
       ] in
       elim ((slice_get_cases s.equations x).1) [
         | inl found ↦ (
-            found.0,
-            found.2,
-            new,
-            all_from (λ a. IsTrue (done a)) (used_of found.0.op found.0.args) (λ a c. to a (follows.is_free a (from_feeds s flat a x (record { at = found.0; is = found.2; argument = used_unguarded found.0.op found.0.args a c })))),
-            rest_ordered (front ++ x ∷ []) rest (with_one x done)
-            (λ a c. elim (Contains-push_cases front x a c) [
-              | inl old ↦ more_done x done a (to a old)
-              | inr same ↦ ap (λ b. b || done a) (eq-eqb a x (sym same))
-            ])
-            (λ a h. elim (one_or_done x done a h) [
-              | inl same ↦ subst (Contains (front ++ x ∷ [])) (sym same) (Contains-append_right front (x ∷ []) x (here x []))
-              | inr old ↦ Contains-append_left front (x ∷ []) a (from a old)
-            ])
-            (subst Takes (sym (append_assoc front (x ∷ []) rest)) takes),
-          )
+          found.0,
+          found.2,
+          new,
+          all_from (λ a. IsTrue (done a)) (used_of found.0.op found.0.args) (λ a c. to a (follows.is_free a (from_feeds s flat a x (record { at = found.0; is = found.2; argument = used_unguarded found.0.op found.0.args a c })))),
+          rest_ordered (front ++ x ∷ []) rest (with_one x done)
+              (λ a c. elim (Contains-push_cases front x a c) [
+                | inl old ↦ more_done x done a (to a old)
+                | inr same ↦ ap (λ b. b || done a) (eq-eqb a x (sym same))
+              ])
+              (λ a h. elim (one_or_done x done a h) [
+                | inl same ↦ subst (Contains (front ++ x ∷ [])) (sym same) (Contains-append_right front (x ∷ []) x (here x []))
+                | inr old ↦ Contains-append_left front (x ∷ []) a (from a old)
+              ])
+              (subst Takes (sym (append_assoc front (x ∷ []) rest)) takes),
+        )
         | inr beyond ↦ let low = follows.is_step in absurd (omega (arith, beyond.0))
       ]
 
