@@ -94,10 +94,7 @@ impl Model for Maker {
 fn is_update(op: &Op) -> bool
     ensures { result ≡ is_update op.now }
 {
-    matches!(
-        op,
-        Op::SetAdd | Op::SetRemove | Op::MapAdd | Op::MapRemove
-    )
+    matches!(op, Op::SetAdd | Op::SetRemove | Op::MapAdd | Op::MapRemove)
 }
 
 impl Maker {

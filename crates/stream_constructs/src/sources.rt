@@ -21,6 +21,7 @@ use tsl_value::scalar::{Scalar, ScalarType, ValueType};
 use tsl_value::text::Text;
 
 pub(crate) const INT: ValueType = ValueType::Scalar(ScalarType::Int);
+
 pub(crate) const UNIT: ValueType = ValueType::Scalar(ScalarType::Unit);
 
 fn scalar_type(s: &Scalar) -> ValueType
