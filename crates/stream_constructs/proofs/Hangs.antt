@@ -1,5 +1,5 @@
 -- The equations of each construct hang together.
-use Rattle.std.proofs.Common.{◌≡◌, ℕ, zero, suc, ◌+◌, ◌<◌, ◌≤◌, Bool, true, false, List, [], ◌∷◌, ◌++◌, map, length, Some, refl, sym, ap, subst, ◌∙◌, arith}
+use Rattle.std.proofs.Common.{◌≡◌, ℕ, zero, suc, ◌+◌, ◌≤◌, Bool, true, false, List, [], ◌∷◌, ◌++◌, map, length, Some, refl, sym, ap, subst, ◌∙◌, arith}
 use Rattle.std.specs.Prelude.{slice_get}
 use Rattle.std.specs.List.{AllByRecursion}
 use Rattle.std.proofs.lemmas.Bool.{false≢true}
@@ -9,12 +9,10 @@ use Rattle.tsl_value.specs.declared.place.Place.{Place}
 use Rattle.tsl_value.specs.declared.scalar.Scalar.{Scalar}
 use Rattle.tsl_value.specs.declared.scalar.Scalar.TheVariants as scalar
 use Rattle.tsl_value.specs.declared.scalar.ValueType.{ValueType}
-use Rattle.tsl_value.specs.declared.scalar.ValueType.TheVariants as value_type
 use Rattle.lift_func.specs.Tree.{Tree}
 use Rattle.lift_func.specs.Typing.{Kind, Value, Optional, HasKind, literal, argument, absent, one, two, choice}
 use Rattle.flat_core.specs.declared.equation.Op.{Op}
 use Rattle.flat_core.specs.declared.equation.Op.TheVariants as op
-use Rattle.flat_core.specs.declared.equation.Equation.{Equation}
 use Rattle.flat_core.specs.Graph.{Path, edge}
 use Rattle.flat_core.specs.System.{System}
 use Rattle.flat_core.specs.Typed as typed
@@ -26,10 +24,10 @@ use Rattle.flat_core.proofs.Uniqueness.{all_by}
 use Rattle.stream_constructs.specs.declared.construct.Stream.{Stream}
 use Rattle.stream_constructs.specs.Construct as construct
 use Rattle.stream_constructs.specs.Construct.{Construct, Operand}
-use Rattle.stream_constructs.specs.Equations.{numbers, equation, lifting, lifted, literal_equations, operand_numbers, first_number, with_literals, own_equations, alias_equation}
+use Rattle.stream_constructs.specs.Equations.{numbers, equation, lifting, lifted, literal_equations, first_number, with_literals, own_equations, alias_equation}
 use Rattle.stream_constructs.specs.Made.{varying_count}
 use Rattle.stream_constructs.specs.Agree.{AreOperands, IsScalar, Fits, HangTogether, is_used_part}
-use Rattle.stream_constructs.proofs.Numbered.{At, at_none, at_more, at_two, at_first, at_second, at_behind, at_front, at_back, at_both}
+use Rattle.stream_constructs.proofs.Numbered.{At, at_none, at_more, at_two, at_first, at_second, at_front, at_back, at_both}
 use Rattle.stream_constructs.proofs.Hanging.{Stands, hang, hang_from}
 use Rattle.stream_constructs.proofs.LiftingHangs.{HasType, types_lifted, operands_vary, spread_held, lifting_spread, spread_literals, all_numbers, know_lifting, know_literals, know_operands, type_at, types_at, typed_lifting, typed_literal, typed_literals, typed_operands}
 

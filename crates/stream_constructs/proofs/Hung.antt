@@ -1,5 +1,5 @@
 -- The equations of each construct, and of a choice, hang together.
-use Rattle.std.proofs.Common.{◌≡◌, ℕ, ◌<◌, ◌≤◌, true, List, [], ◌∷◌, length, refl, arith}
+use Rattle.std.proofs.Common.{◌≡◌, ℕ, ◌≤◌, List, [], ◌∷◌, length, refl, arith}
 use Rattle.tsl_value.specs.declared.place.Place.{Place}
 use Rattle.tsl_value.specs.declared.scalar.ValueType.{ValueType}
 use Rattle.flat_core.specs.declared.equation.Op.{Op}
@@ -16,7 +16,7 @@ use Rattle.stream_constructs.specs.Agree.{Fits, FitsChoice, IsItself, HangTogeth
 use Rattle.stream_constructs.proofs.Numbered.{At}
 use Rattle.stream_constructs.proofs.Hanging.{Stands}
 use Rattle.stream_constructs.proofs.LiftingHangs.{operands_few}
-use Rattle.stream_constructs.proofs.Operands.{One, Two, Behind, Chooses, one_of, two_of, behind_aggregate, chooses_of, behind, by_literal, by_stream}
+use Rattle.stream_constructs.proofs.Operands.{Behind, Chooses, one_of, two_of, behind_aggregate, chooses_of, behind, by_literal, by_stream}
 use Rattle.stream_constructs.proofs.Hangs.{nil_hangs, unit_hangs, literal_hangs, empty_hangs, time_hangs, last_hangs, delay_hangs, merge_hangs, const_hangs, filter_hangs, filter_by_hangs, lift_hangs, signal_alone_hangs, signal_hangs, literals_hang}
 
 module _ (p : Place) (of : ValueType) (n : ℕ) (s : System) where

@@ -13,3 +13,4 @@ pub mod Hangs
 pub mod Hung
 pub mod Refusals
 pub mod Steps
+pub mod UnitExample

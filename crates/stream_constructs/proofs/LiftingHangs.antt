@@ -1,24 +1,20 @@
 -- The equations that lift operands, and those of literals, hang together with the operands.
-use Rattle.std.proofs.Common.{◌≡◌, ℕ, zero, suc, ◌+◌, ◌<◌, ◌≤◌, true, false, List, [], ◌∷◌, ◌++◌, map, length, Some, refl, sym, ap, subst, ◌∙◌, arith}
-use Rattle.std.specs.List.{AllByRecursion, Contains}
+use Rattle.std.proofs.Common.{◌≡◌, ℕ, suc, ◌+◌, ◌≤◌, List, [], ◌∷◌, map, length, refl, sym, ap, subst, arith}
+use Rattle.std.specs.List.{AllByRecursion}
 use Rattle.std.proofs.lemmas.List.{length-map}
 use Rattle.tsl_value.specs.declared.place.Place.{Place}
 use Rattle.tsl_value.specs.declared.scalar.Scalar.{Scalar}
 use Rattle.tsl_value.specs.declared.scalar.ValueType.{ValueType}
-use Rattle.tsl_value.specs.declared.scalar.ValueType.TheVariants as value_type
-use Rattle.tsl_value.specs.View.{type_of}
 use Rattle.lift_func.specs.Typing.{literal}
-use Rattle.flat_core.specs.declared.equation.Op.{Op}
 use Rattle.flat_core.specs.declared.equation.Op.TheVariants as op
 use Rattle.flat_core.specs.declared.equation.Equation.{Equation}
 use Rattle.flat_core.specs.System.{System}
-use Rattle.flat_core.specs.Typed.{unit_type, IsTyped, last, merge, any, lift}
+use Rattle.flat_core.specs.Typed.{unit_type, last, merge, any, lift}
 use Rattle.flat_core.specs.TypedSystem.{IsOfType, AreOfTypes, IsTypedEquation}
-use Rattle.flat_core.specs.WellFormed.{Needs, unguarded_of}
-use Rattle.flat_core.proofs.Members.{contains_head, contains_tail, map_contains}
+use Rattle.flat_core.proofs.Members.{contains_head, contains_tail}
 use Rattle.stream_constructs.specs.declared.construct.Stream.{Stream}
 use Rattle.stream_constructs.specs.Construct.{Operand, Fixed, Varying}
-use Rattle.stream_constructs.specs.Equations.{numbers, equation, literal_over, held, held_each, merges, lifting, lifted, literal_equations, operand_numbers}
+use Rattle.stream_constructs.specs.Equations.{numbers, equation, literal_over, held_each, merges, lifting, lifted, literal_equations, operand_numbers}
 use Rattle.stream_constructs.specs.Made.{varying_count}
 use Rattle.stream_constructs.specs.Agree.{AreOperands}
 use Rattle.stream_constructs.proofs.Numbered.{At, at_none, at_more, at_two, at_first, at_rest, at_second, at_behind, at_from}

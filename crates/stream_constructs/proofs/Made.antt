@@ -1,5 +1,5 @@
 -- Each construct is made by its equations.
-use Rattle.std.proofs.Common.{◌≡◌, ℕ, true, false, List, [], ◌∷◌, refl}
+use Rattle.std.proofs.Common.{ℕ, List, [], ◌∷◌, refl}
 use Rattle.tsl_value.specs.declared.place.Place.{Place}
 use Rattle.tsl_value.specs.declared.scalar.ValueType.{ValueType}
 use Rattle.lift_func.specs.Typing.{Value}

@@ -1,8 +1,8 @@
 -- From the case and the root fault of the last equation to the stream that is made.
-use Rattle.std.proofs.Common.{◌≡◌, ◌==◌, ℕ, zero, suc, ◌+◌, ◌-◌, ◌<◌, ◌≤◌, Bool, true, false, List, [], ◌∷◌, ◌++◌, length, Option, Some, None, Ok, refl, sym, ap, subst, ◌∙◌, inl, inr, arith}
+use Rattle.std.proofs.Common.{◌≡◌, ◌==◌, ℕ, zero, suc, ◌+◌, Bool, true, false, List, [], ◌∷◌, ◌++◌, length, Option, Some, None, Ok, refl, sym, ap, ◌∙◌, inl, inr, arith}
 use Rattle.std.specs.Prelude.{slice_get, if◌then◌else◌}
 use Rattle.std.proofs.lemmas.Bool.{cases_Bool, eqb-true, eqb-false, eq-eqb, ne_eqb}
-use Rattle.std.proofs.lemmas.Option.{same_Some, none-some, slice_get_within}
+use Rattle.std.proofs.lemmas.Option.{same_Some, none-some}
 use Rattle.std.proofs.lemmas.List.{length_push}
 use Rattle.tsl_value.specs.View.{View, Plain}
 use Rattle.tsl_value.specs.declared.scalar.Scalar.{Scalar}
@@ -11,9 +11,8 @@ use Rattle.flat_core.specs.declared.equation.Equation.{Equation}
 use Rattle.flat_core.specs.Case.{Inputs, Streams, fault_of, root_fault}
 use Rattle.stream_constructs.specs.declared.construct.Stream.{Stream}
 use Rattle.stream_constructs.specs.Construct.{Construct, outcome, root}
-use Rattle.stream_constructs.specs.Agree.{history_of, last_number, AreSolved, MakesStream}
-use Rattle.stream_constructs.proofs.Numbered.{At, at_none, at_more, at_first, at_rest}
-use Rattle.stream_constructs.proofs.LiftedOutcomes.{HasCase}
+use Rattle.stream_constructs.specs.Agree.{history_of, last_number, MakesStream}
+use Rattle.stream_constructs.proofs.Numbered.{At, at_none, at_first, at_rest}
 
 -- what is answered is no fault
 pub no_root : (blocked : Bool) (v : Option View) → (if blocked then None else fault_of (Ok v)) ≡ None

@@ -6,13 +6,10 @@ use Rattle.std.proofs.lemmas.Option.{none-some}
 use Rattle.tsl_value.specs.View.{View}
 use Rattle.tsl_value.specs.declared.place.Place.{Place}
 use Rattle.tsl_value.specs.declared.scalar.ValueType.{ValueType}
-use Rattle.lift_func.specs.declared.fault.FaultKind.{FaultKind}
 use Rattle.lift_func.specs.Tree.{Tree}
 use Rattle.lift_func.specs.Apply.{Answer, and_then, chosen, of_one, of_two, apply}
 use Rattle.lift_func.specs.Typing.{Kind, HasKind, literal, argument, absent, one, two, choice}
 use Rattle.flat_core.specs.declared.equation.Op.{Op}
-use Rattle.flat_core.specs.declared.equation.Op.TheVariants as op
-use Rattle.flat_core.specs.declared.equation.Equation.{Equation}
 use Rattle.flat_core.specs.Stream.{Outcome, Fault, event, is_fault}
 use Rattle.flat_core.specs.Case.{Inputs, Streams, unit, at_zero, at_once, outcome_of, fault_of, case_of, root_fault}
 use Rattle.stream_constructs.specs.declared.construct.Stream.{Stream}

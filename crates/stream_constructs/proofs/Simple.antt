@@ -1,7 +1,7 @@
 -- The constructs that are one equation, or two or three over each other.
-use Rattle.std.proofs.Common.{◌≡◌, ℕ, zero, suc, ◌+◌, Bool, true, false, ◌||◌, ◌&&◌, List, [], ◌∷◌, map, length, Option, Some, None, Ok, refl, sym, ap, ◌∙◌, arith}
-use Rattle.std.specs.Prelude.{if◌then◌else◌, is_some, pos}
-use Rattle.std.specs.List.{list_any, list_all}
+use Rattle.std.proofs.Common.{◌≡◌, ℕ, zero, suc, ◌+◌, Bool, true, false, ◌||◌, ◌&&◌, List, [], ◌∷◌, map, Option, Some, None, Ok, refl, sym, ap, ◌∙◌}
+use Rattle.std.specs.Prelude.{if◌then◌else◌, is_some}
+use Rattle.std.specs.List.{list_any}
 use Rattle.std.specs.Option.{option_or, option_map}
 use Rattle.tsl_value.specs.View.{View, Plain}
 use Rattle.tsl_value.specs.declared.place.Place.{Place}
@@ -10,18 +10,17 @@ use Rattle.tsl_value.specs.declared.scalar.Scalar.TheVariants as scalar
 use Rattle.tsl_value.specs.declared.scalar.ValueType.{ValueType}
 use Rattle.lift_func.specs.Tree.{Tree}
 use Rattle.lift_func.specs.Apply.{Answer, apply}
-use Rattle.flat_core.specs.declared.equation.Equation.{Equation}
-use Rattle.flat_core.specs.Stream.{Outcome, Event, Fault, History, event, has_event, is_fault, latest}
+use Rattle.flat_core.specs.Stream.{Outcome, Event, Fault, event, has_event, is_fault, latest}
 use Rattle.flat_core.specs.Case.{Inputs, Streams, unit, filtered, outcome_of, fault_of, expires}
 use Rattle.stream_constructs.specs.declared.construct.Stream.{Stream}
 use Rattle.stream_constructs.specs.Construct as construct
 use Rattle.stream_constructs.specs.Construct.{now}
 use Rattle.stream_constructs.specs.Equations.{numbers, own_equations, alias_equation}
 use Rattle.stream_constructs.specs.Agree.{history_of, MakesStream}
-use Rattle.stream_constructs.proofs.Numbered.{At, at_none, at_more, at_first, at_rest, at_second, at_behind}
-use Rattle.stream_constructs.proofs.Fetched.{last_case, held_case, merge_case, literal_case}
+use Rattle.stream_constructs.proofs.Numbered.{At, at_none, at_more, at_first, at_second, at_behind}
+use Rattle.stream_constructs.proofs.Fetched.{held_case, merge_case, literal_case}
 use Rattle.stream_constructs.proofs.LiftedOutcomes.{HasCase}
-use Rattle.stream_constructs.proofs.Making.{IsQuiet, no_root, no_literal_root, makes, makes_one}
+use Rattle.stream_constructs.proofs.Making.{no_root, no_literal_root, makes, makes_one}
 
 module _ (p : Place) (of : ValueType) (n : ℕ) (inputs : Inputs) (z : Streams) (t : ℕ) where
   abbrev Has : construct.Construct → List Stream → Type 0

@@ -1,20 +1,16 @@
 -- The equations of a construct make its stream: what that means, and the laws that say so for each construct.
-use Rattle.std.specs.Prelude.{◌≡◌, ◌==◌, ◌⊎◌, ℕ, suc, ◌+◌, ◌-◌, ◌<◌, ◌≤◌, Bool, true, false, if◌then◌else◌, List, [], ◌∷◌, ◌++◌, map, length, Option, Some, None, slice_get, slice_index_or}
+use Rattle.std.specs.Prelude.{◌≡◌, ◌==◌, ◌⊎◌, ℕ, suc, ◌+◌, ◌-◌, ◌<◌, ◌≤◌, Bool, true, false, if◌then◌else◌, List, [], ◌∷◌, map, length, Some, None, slice_get}
 use Rattle.std.specs.List.{Contains, AllByRecursion}
 use Rattle.tsl_value.specs.View.{type_of}
 use Rattle.tsl_value.specs.declared.place.Place.{Place}
-use Rattle.tsl_value.specs.declared.scalar.Scalar.{Scalar}
 use Rattle.tsl_value.specs.declared.scalar.ScalarType.{ScalarType}
 use Rattle.tsl_value.specs.declared.scalar.KeyType.{KeyType}
 use Rattle.tsl_value.specs.declared.scalar.ValueType.{ValueType}
 use Rattle.tsl_value.specs.declared.scalar.ValueType.TheVariants as value_type
-use Rattle.lift_func.specs.declared.fault.FaultKind.{FaultKind}
-use Rattle.lift_func.specs.Tree.{Tree}
 use Rattle.lift_func.specs.Typing.{Value, Optional, HasKind, scalar_of}
-use Rattle.flat_core.specs.declared.equation.Op.{Op}
 use Rattle.flat_core.specs.declared.equation.Equation.{Equation}
 use Rattle.flat_core.specs.Graph.{Path, Walk}
-use Rattle.flat_core.specs.Stream.{Outcome, History}
+use Rattle.flat_core.specs.Stream.{History}
 use Rattle.flat_core.specs.Case.{Inputs, Streams, case_of, root_fault}
 use Rattle.flat_core.specs.System.{System}
 use Rattle.flat_core.specs.Typed.{unit_type, int_type, bool_type, is_aggregate}

@@ -1,5 +1,5 @@
 -- What each construct of the language makes of the streams of its parts at a time.
-use Rattle.std.specs.Prelude.{◌≡◌, ◌==◌, ℕ, zero, suc, Bool, true, false, ◌&&◌, ◌||◌, if◌then◌else◌, pos, List, [], ◌∷◌, map, drop, Option, Some, None, is_some, Ok, Err}
+use Rattle.std.specs.Prelude.{ℕ, zero, suc, Bool, ◌&&◌, if◌then◌else◌, pos, List, [], ◌∷◌, map, drop, Option, Some, None, is_some, Ok}
 use Rattle.std.specs.Option.{option_or, option_map}
 use Rattle.std.specs.List.{list_any, list_all}
 use Rattle.tsl_value.specs.View.{View, Plain}
@@ -11,7 +11,7 @@ use Rattle.lift_func.specs.Tree as body
 use Rattle.lift_func.specs.Tree.{Tree}
 use Rattle.lift_func.specs.Apply.{Answer, apply}
 use Rattle.lift_func.specs.Update.{with_key, without_key, with_entry}
-use Rattle.flat_core.specs.Stream.{Outcome, Event, Fault, History, event, has_event, is_fault, latest}
+use Rattle.flat_core.specs.Stream.{Outcome, Fault, History, event, has_event, is_fault, latest}
 use Rattle.flat_core.specs.Case.{Inputs, unit, empty_of, at_zero, merged, filtered, of_both, of_three, expires, outcome_of, fault_of, refused}
 use Rattle.stream_constructs.specs.declared.construct.Update.{Update as UpdateOp}
 use Rattle.stream_constructs.specs.declared.construct.Update.TheVariants as update

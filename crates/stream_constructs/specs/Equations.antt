@@ -1,5 +1,5 @@
 -- The equations that make a construct out of its parts, in the order in which they are made. The last one is the construct's stream.
-use Rattle.std.specs.Prelude.{◌≡◌, ℕ, zero, suc, ◌+◌, ◌≤◌, Bool, true, false, List, [], ◌∷◌, ◌++◌, map, length, Option, Some, None, slice_index_or}
+use Rattle.std.specs.Prelude.{ℕ, suc, ◌+◌, true, false, List, [], ◌∷◌, ◌++◌, map, length, None}
 use Rattle.tsl_value.specs.declared.place.Place.{Place}
 use Rattle.tsl_value.specs.View.{type_of}
 use Rattle.tsl_value.specs.declared.scalar.Scalar.{Scalar}

@@ -10,3 +10,5 @@ pub mod maker;
 mod operations;
 mod signals;
 mod sources;
+#[cfg(test)]
+mod tests;

@@ -1,6 +1,5 @@
-use Rattle.std.proofs.Common.{◌≡◌, ◌<◌, List, [], ◌∷◌, ◌++◌, length, sym, ap, subst, ◌∙◌, Fits, w32, arith}
+use Rattle.std.proofs.Common.{◌≡◌, [], ◌∷◌, ◌++◌, sym, ap, ◌∙◌, arith}
 use Rattle.stream_constructs.specs.Limits.{refusal}
-use Rattle.flat_core.specs.declared.equation.Equation.{Equation}
 use Rattle.flat_core.specs.System.{System}
 use Rattle.stream_constructs.proofs.Refusals.{full_refused, update_refused, few_equations, count_few, no_update_kept, update_kept}
 use Rattle.stream_constructs.proofs.maker.Maker.add.Goals as goal

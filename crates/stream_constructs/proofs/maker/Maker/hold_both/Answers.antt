@@ -1,4 +1,4 @@
-use Rattle.std.proofs.Common.{[], ◌∷◌, refl, length, ◌+◌}
+use Rattle.std.proofs.Common.{refl, length, ◌+◌}
 use Rattle.std.proofs.lemmas.Result.{err_from_is_err_and}
 use Rattle.stream_constructs.specs.Equations.{held}
 use Rattle.stream_constructs.proofs.Steps.{refused_early}

@@ -1,4 +1,4 @@
-use Rattle.std.proofs.Common.{◌≡◌, ℕ, sym, ap, subst}
+use Rattle.std.proofs.Common.{◌≡◌, sym, subst}
 use Rattle.std.specs.Prelude.{None}
 use Rattle.flat_core.specs.System.{System}
 use Rattle.stream_constructs.specs.Limits.{refusal, update_count}
