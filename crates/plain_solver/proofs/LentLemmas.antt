@@ -5,12 +5,11 @@ use Rattle.std.specs.Prelude.{◌≢◌, is_some, unwrap_or}
 use Rattle.std.specs.FinMap as finite_map
 use Rattle.std.specs.Cmp.{Equal-is, eq_by_cmp_equiv, nat_cmp_total}
 use Rattle.std.specs.Ordering.{eq_by_cmp, nat_cmp}
-use Rattle.std.specs.List.{All, AllByRecursion}
+use Rattle.std.specs.List.{AllByRecursion}
 use Rattle.tsl_value.specs.View.{View, Plain, Keyed, Mapped}
 use Rattle.tsl_value.specs.declared.scalar.Scalar.TheVariants as scalar
-use Rattle.lift_func.specs.declared.register.Register.{Register}
 use Rattle.lift_func.specs.declared.register.Register.TheVariants as register
-use Rattle.lift_func.specs.Cells.{Cells, HoldsLive, IsAggregate, arguments, held, view_at}
+use Rattle.lift_func.specs.Cells.{Cells, HoldsLive, IsAggregate, arguments, held}
 use Rattle.lift_func.specs.Evaluable.{IsEvaluable}
 use Rattle.lift_func.specs.Tree.{Tree}
 use Rattle.lift_func.specs.Typing.{AllFit}

@@ -1,8 +1,7 @@
 -- Events are of their equations' types.
-use Rattle.std.proofs.Common.{◌≡◌, ◌==◌, ℕ, zero, suc, ◌+◌, ◌<◌, Bool, true, false, ◌&&◌, List, [], ◌∷◌, length, map, Option, Some, None, Ok, Err, refl, sym, ap, subst, ◌∙◌, inl, inr, arith}
+use Rattle.std.proofs.Common.{◌≡◌, ◌==◌, ℕ, zero, suc, Bool, true, false, ◌&&◌, List, [], ◌∷◌, length, map, Option, Some, None, Ok, Err, refl, sym, ap, subst, inl, inr, arith}
 use Rattle.std.proofs.lemmas.Bool.{and_parts, cases_Bool, eqb-true, false≢true}
 use Rattle.std.specs.Prelude.{if◌then◌else◌, is_some, IsTrue}
-use Rattle.std.specs.Option.{option_or}
 use Rattle.std.specs.List.{list_all, list_any}
 use Rattle.tsl_value.specs.declared.scalar.KeyType.{KeyType}
 use Rattle.tsl_value.specs.declared.scalar.KeyType.TheVariants as key_type
@@ -14,24 +13,24 @@ use Rattle.tsl_value.specs.declared.scalar.ValueType.TheVariants as value_type
 use Rattle.tsl_value.specs.View.{View, Plain, Keyed, Mapped, is_of, is_of_key}
 use Rattle.lift_func.specs.Apply.{Answer, apply}
 use Rattle.lift_func.specs.Tree.{Tree}
-use Rattle.lift_func.specs.Typing.{Kind, Value, Optional, scalar_of, fits, FitsAnswer, AllFit}
+use Rattle.lift_func.specs.Typing.{Optional, scalar_of, fits, FitsAnswer, AllFit}
 use Rattle.lift_func.specs.Update.{with_key, without_key, with_entry}
 use Rattle.lift_func.proofs.Fits.{apply_fits}
 use Rattle.aggregate_store.proofs.Typed.{is_of-empty, is_of-added, is_of-removed}
 use Rattle.flat_core.specs.declared.equation.Equation.{Equation}
 use Rattle.flat_core.specs.declared.equation.Op.{Op}
 use Rattle.flat_core.specs.declared.equation.Op.TheVariants as op
-use Rattle.flat_core.specs.Case.{Streams, Inputs, unit, empty_of, at_zero, merged, filtered, picked, of_both, of_three, at_once, lasting, delayed, expires, own_of, own, is_blocked, outcome_of, case_of}
+use Rattle.flat_core.specs.Case.{Streams, Inputs, unit, empty_of, merged, filtered, picked, of_both, of_three, at_once, lasting, delayed, expires, own_of, own, is_blocked, outcome_of, case_of}
 use Rattle.flat_core.specs.Complete.{IsFlat}
 use Rattle.flat_core.specs.Line.{Line, event_in, inputs_of}
 use Rattle.flat_core.specs.Stream.{History, Fault, event, has_event, latest}
 use Rattle.flat_core.specs.System.{System, equation}
 use Rattle.flat_core.specs.Typed.{IsTyped, input, nil, empty, time, any, last, delay, merge, filter, pick, set_add, set_remove, map_add, map_remove, lift, is_aggregate, unit_type, int_type, bool_type, kind_of}
 use Rattle.flat_core.specs.Typed as typed
-use Rattle.flat_core.specs.TypedSystem.{IsOfType, AreOfTypes}
+use Rattle.flat_core.specs.TypedSystem.{AreOfTypes}
 use Rattle.plain_solver.specs.Lent.{IsEvaluableAt}
 use Rattle.plain_solver.specs.Parts.{counts}
-use Rattle.plain_solver.specs.Typed.{AreTyped, IsTypedLine, AreTypedLines, AreOf, TakesTyped}
+use Rattle.plain_solver.specs.Typed.{AreTyped, AreTypedLines, AreOf, TakesTyped}
 
 -- a value that may be absent is of a type
 abbrev IsOf : ValueType → Option View → Type 0

@@ -6,7 +6,7 @@ use Rattle.tsl_value.specs.declared.scalar.ValueType.{ValueType}
 use Rattle.tsl_value.specs.View.{View, Plain, is_of}
 use Rattle.lift_func.specs.Typing.{Optional, fits}
 use Rattle.flat_core.specs.declared.equation.Equation.{Equation}
-use Rattle.flat_core.specs.Case.{Streams, Inputs}
+use Rattle.flat_core.specs.Case.{Streams}
 use Rattle.flat_core.specs.Line.{Line}
 use Rattle.flat_core.specs.Stream.{event}
 use Rattle.flat_core.specs.System.{System, equation}
