@@ -151,11 +151,11 @@ length_heads k [] = omega arith
 length_heads k (n ∷ ns) = let rest = length_heads (with_node k n) ns in let one = length_push k.heads (head_of n) in omega (arith, rest, one)
 
 mutual
-  length_definition : (i k : ℕ) (s : Scope) (d : tree.Definition) → length (definition_nodes i k s d) ≡ 1 + count_in (local_body d)
+  pub length_definition : (i k : ℕ) (s : Scope) (d : tree.Definition) → length (definition_nodes i k s d) ≡ 1 + count_in (local_body d)
   length_definition i k s (tree.Define q n ps w (tree.Plain e)) = refl
   length_definition i k s (tree.Define q n ps w (tree.Block ds e)) = omega (arith, length_block i k (in_block k s ds) ds)
 
-  length_block : (i k : ℕ) (s : Scope) (ds : tree.Definitions) → length (block_nodes i k s ds) ≡ counts ds
+  pub length_block : (i k : ℕ) (s : Scope) (ds : tree.Definitions) → length (block_nodes i k s ds) ≡ counts ds
   length_block i k s tree.no_definitions = refl
   length_block i k s (tree.more_definitions (tree.Define q n ps w b) ds) =
       let both = length-append (definition_nodes i (suc k) s (tree.Define q n ps w b)) (block_nodes i (suc k + count_in b) s ds) in

@@ -1,6 +1,6 @@
 mod CycleLemmas
 mod ListLemmas
-mod FoundLemmas
+pub mod FoundLemmas
 mod MentionLemmas
 mod NumberLemmas
 mod EdgeLemmas

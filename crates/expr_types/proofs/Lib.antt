@@ -4,6 +4,7 @@ mod BodyLemmas
 mod CallLemmas
 mod ChainLemmas
 mod Examples
+mod KindLemmas
 pub mod SameLemmas
 mod StopLemmas
 mod WrongLemmas

@@ -1,5 +1,6 @@
 -- Tables and places of expressions, without where they lie in memory.
-use Rattle.std.specs.Prelude.{ℕ, List, Option, map, slice_get}
+use Rattle.std.specs.Prelude.{ℕ, List, Option, Vec, map, slice_get}
+use Rattle.std.specs.Global.{Global}
 use Rattle.std.specs.Option.{option_and_then}
 use Rattle.spec_parser.specs.Shape.{params_in, item_of}
 use Rattle.name_check.specs.Scope.{seen}
@@ -13,10 +14,14 @@ use Rattle.expr_types.specs.Around.{Around, Callee, Kinds}
 abbrev pub kind_at : List (Option ExprType) → ℕ → Option ExprType
 kind_at kinds i = option_and_then (λ kind. kind) (slice_get kinds i)
 
+-- what a list of such lists has at two numbers
+abbrev pub kinds_at : List (Vec (Option ExprType) Global) → ℕ → ℕ → Option ExprType
+kinds_at locals i k = option_and_then (λ kinds. kind_at kinds.items k) (slice_get locals i)
+
 abbrev pub kinds_of : KindTable → Kinds
 kinds_of table = record {
   item = λ i. kind_at table.items.items i;
-  local = λ i k. option_and_then (λ kinds. kind_at kinds.items k) (slice_get table.locals.items i);
+  local = λ i k. kinds_at table.locals.items i k;
 }
 
 abbrev pub around_of : code.Around → Around

@@ -1,1 +1,5 @@
 mod CheckLemmas
+mod SlotLemmas
+mod NodeLemmas
+mod StepLemmas
+mod KindLemmas

@@ -4,3 +4,4 @@ pub mod Answer
 pub mod Laws
 pub mod Parts
 pub mod Text
+pub mod Slots

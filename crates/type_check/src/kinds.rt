@@ -1,22 +1,84 @@
 // What the declared names are.
 
-ghost use Rattle.std.specs.Prelude.{◌≡◌, map, IfOk};
+ghost use Rattle.std.specs.Prelude.{◌≡◌, map, IfOk, OnOk};
 ghost use Rattle.spec_parser.specs.Shape.{item_of};
 ghost use Rattle.name_check.specs.Scope.{top};
 ghost use Rattle.definition_cycles.specs.Order.{IsKindOrder};
 ghost use Rattle.expr_types.specs.Bodies.{AreKinds};
 ghost use Rattle.expr_types.specs.Shown.{kinds_of};
+ghost use Rattle.type_check.specs.Slots.{slots, kind_by, IsSet, NothingElse, FixedAreRight, AllAreRight};
 
+use crate::slot::{Slot, slots_of};
+use expr_types::define::{block_kind, item_kind};
 use expr_types::kinds::KindTable;
 use flat_core::steps::Steps;
 use name_check::names::Names;
 use spec_parser::tree::Item;
 use std::alloc::Global;
 use tsl_value::memory::NoMemory;
+use type_rules::rule::ExprType;
 
-/// What the declared names are.
+/// Sets what stands at a place.
+fn set(
+    kinds: &mut KindTable,
+    alloc: Global,
+    slot: Slot,
+    kind: Option<ExprType>,
+) -> Result<(), NoMemory>
+    ensures { OnOk result (IsSet (kinds_of kinds.old) (kinds_of kinds.new) slot kind) }
+{
+    match slot {
+        Slot::Item(number) => kinds.set_item(number, kind),
+        Slot::Local(number, local) => kinds.set_local(alloc, number, local, kind),
+    }
+}
+
+/// What stands at a place by its written type, or else by its body and what is known.
+fn kind_of(
+    alloc: Global,
+    items: &[Item],
+    names: &Names,
+    kinds: &KindTable,
+    slot: Slot,
+) -> Result<Option<ExprType>, NoMemory>
+    requires { names.now ≡ top (map item_of items.now) }
+    ensures { IfOk result (λ kind. kind ≡ kind_by (map item_of items.now) (kinds_of kinds.now) slot) }
+{
+    match slot {
+        Slot::Item(number) => item_kind(alloc, items, names, kinds, number),
+        Slot::Local(number, local) => block_kind(alloc, items, names, kinds, number, local),
+    }
+}
+
+/// Sets at each place what stands there by what is known, in this order. Written types don't depend on what is known; where they are
+/// known, so is all that a body mentions when it is its turn.
+fn settle(
+    kinds: &mut KindTable,
+    alloc: Global,
+    items: &[Item],
+    names: &Names,
+    places: &[Slot],
+    order: &[u32],
+) -> Result<(), NoMemory>
+    requires names { names.now ≡ top (map item_of items.now) }
+    requires places { places.now ≡ slots (map item_of items.now) }
+    requires order { IsKindOrder (map item_of items.now) order.now }
+    ensures nothing { NothingElse (map item_of items.now) (kinds_of kinds.old) → OnOk result (NothingElse (map item_of items.now) (kinds_of kinds.new)) }
+    ensures written { OnOk result (FixedAreRight (map item_of items.now) (kinds_of kinds.new)) }
+    ensures all { FixedAreRight (map item_of items.now) (kinds_of kinds.old) → OnOk result (AllAreRight (map item_of items.now) (kinds_of kinds.new)) }
+{
+    for node in order {
+        let slot = places[*node as usize];
+        let kind = kind_of(alloc, items, names, kinds, slot)?;
+        set(kinds, alloc, slot, kind)?;
+    }
+    Ok(())
+}
+
+/// What the declared names are. Types that are written come first, since what stands before a definition in the order may
+/// mention it if its type is written.
 pub fn find_kinds(
-    _alloc: Global,
+    alloc: Global,
     items: &[Item],
     names: &Names,
     order: &Steps,
@@ -25,5 +87,9 @@ pub fn find_kinds(
     requires order { IsKindOrder (map item_of items.now) order.now }
     ensures { IfOk result (λ kinds. AreKinds (map item_of items.now) (kinds_of kinds)) }
 {
-    Err(NoMemory)
+    let slots = slots_of(alloc, items)?;
+    let mut kinds = KindTable::new(alloc);
+    settle(&mut kinds, alloc, items, names, &slots, order.as_slice())?;
+    settle(&mut kinds, alloc, items, names, &slots, order.as_slice())?;
+    Ok(kinds)
 }

@@ -4,4 +4,5 @@
 pub mod check;
 pub mod fault;
 mod kinds;
+mod slot;
 pub mod typed;
