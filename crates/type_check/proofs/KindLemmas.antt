@@ -113,22 +113,27 @@ none_behind items kinds i k (tree.Defined p (tree.Define q n ps w (tree.Block ds
 right_at : (items : List tree.Item) (kinds : Kinds) → AllAreRight items kinds → (s : Slot) → Contains (slots items) s → IsRight items kinds s
 right_at items kinds right s c = right c.0 s (slice_get-get_or (slots items) c.0 s c.1 ∙ ap Some c.2)
 
-pub are_kinds : (items : List tree.Item) (kinds : Kinds) → NothingElse items kinds → AllAreRight items kinds → AreKinds items kinds
-are_kinds items kinds nothing right = record { items_are = λ i. of_item i (slice_get items i) refl; locals_are = λ i k. of_local i k (slice_get items i) refl }
+-- what is no place is nothing, whatever is known
+pub place_cases : (items : List tree.Item) (s : Slot) → Contains (slots items) s ⊎ ((any : Kinds) → kind_by items any s ≡ None)
+place_cases items (slot.Item i) = by (slice_get items i) refl
   where
-    empty : (s : Slot) → ((any : Kinds) → kind_by items any s ≡ None) → IsRight items kinds s
-    empty s none = nothing s none ∙ sym (none kinds)
-
-    of_item : (i : ℕ) (x : Option tree.Item) → slice_get items i ≡ x → IsRight items kinds (slot.Item i)
-    of_item i None is = empty (slot.Item i) (λ any. ap (item_kind items any i) is)
-    of_item i (Some x) is = right_at items kinds right (slot.Item i) (item_slot items i x is)
-
-    of_local : (i k : ℕ) (x : Option tree.Item) → slice_get items i ≡ x → IsRight items kinds (slot.Local i k)
-    of_local i k None is = empty (slot.Local i k) (λ any. ap (block_kind items any i k) is)
-    of_local i k (Some x) is = elim (cases_lt k (block_count x)) [
-      | inl l ↦ right_at items kinds right (slot.Local i k) (local_slot items i k x is l)
-      | inr l ↦ empty (slot.Local i k) (λ any. ap (block_kind items any i k) is ∙ none_behind items any i k x l)
+    by : (x : Option tree.Item) → slice_get items i ≡ x → Contains (slots items) (slot.Item i) ⊎ ((any : Kinds) → item_kind items any i (slice_get items i) ≡ None)
+    by None is = inr (λ any. ap (item_kind items any i) is)
+    by (Some x) is = inl (item_slot items i x is)
+place_cases items (slot.Local i k) = by (slice_get items i) refl
+  where
+    by : (x : Option tree.Item) → slice_get items i ≡ x → Contains (slots items) (slot.Local i k) ⊎ ((any : Kinds) → block_kind items any i k (slice_get items i) ≡ None)
+    by None is = inr (λ any. ap (block_kind items any i k) is)
+    by (Some x) is = elim (cases_lt k (block_count x)) [
+      | inl l ↦ inl (local_slot items i k x is l)
+      | inr l ↦ inr (λ any. ap (block_kind items any i k) is ∙ none_behind items any i k x l)
     ]
+
+pub are_kinds : (items : List tree.Item) (kinds : Kinds) → NothingElse items kinds → AllAreRight items kinds → AreKinds items kinds
+are_kinds items kinds nothing right = record { items_are = λ i. each (slot.Item i); locals_are = λ i k. each (slot.Local i k) }
+  where
+    each : (s : Slot) → IsRight items kinds s
+    each s = elim (place_cases items s) [ inl c ↦ right_at items kinds right s c | inr none ↦ nothing s none ∙ sym (none kinds) ]
 
 -- a table that knows nothing
 pub nothing_else : (items : List tree.Item) (kinds : Kinds) → ((i : ℕ) → kinds.item i ≡ None) → ((i k : ℕ) → kinds.local i k ≡ None) → NothingElse items kinds

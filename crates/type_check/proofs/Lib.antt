@@ -3,3 +3,4 @@ mod SlotLemmas
 mod NodeLemmas
 mod StepLemmas
 mod KindLemmas
+mod LawLemmas

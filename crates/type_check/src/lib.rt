@@ -4,5 +4,8 @@
 pub mod check;
 pub mod fault;
 mod kinds;
+pub mod laws;
 mod slot;
+#[cfg(test)]
+mod tests;
 pub mod typed;

@@ -1,0 +1,162 @@
+-- Where there is no cycle the declared names are one thing, and so is the first fault.
+use Rattle.std.proofs.Common.{◌≡◌, ℕ, zero, suc, ◌+◌, ◌<◌, ◌≤◌, ◌⊎◌, List, [], ◌∷◌, ◌++◌, length, eqb, true, Option, Some, None, refl, sym, ap, subst, ◌∙◌, inl, inr, arith, Contains}
+use Rattle.std.specs.Prelude.{slice_get}
+use Rattle.std.specs.List.{IsDistinct}
+use Rattle.std.proofs.lemmas.List.{length_push}
+use Rattle.std.proofs.lemmas.List.Elements.{Contains-push_cases}
+use Rattle.std.proofs.lemmas.Option.{slice_get-get_or, slice_get_within}
+use Rattle.tsl_value.specs.declared.place.Place.{Place}
+use Rattle.spec_parser.specs.Tree as tree
+use Rattle.spec_parser.specs.declared.tree.Tree.{Tree}
+use Rattle.spec_parser.specs.Shape.{items_of}
+use Rattle.graph_cycles.specs.Cycle.{Path, one, more, IsLeast}
+use Rattle.graph_cycles.proofs.Paths.{path_join}
+use Rattle.graph_cycles.proofs.Lists.{none_in_nil}
+use Rattle.translation_order.proofs.Lists.{once_push, few_below}
+use Rattle.definition_cycles.specs.Nodes.{Node, nodes}
+use Rattle.definition_cycles.specs.Mentions.{Mentions, MentionsUntyped}
+use Rattle.definition_cycles.specs.Cycles.{IsPlaceOfLeast}
+use Rattle.expr_types.specs.Around.{Kinds}
+use Rattle.expr_types.specs.Bodies.{AreKinds, item_kind}
+use Rattle.type_check.specs.declared.slot.Slot.{Slot}
+use Rattle.type_check.specs.declared.slot.Slot.TheVariants as slot
+use Rattle.type_check.specs.declared.fault.TypeFault.{TypeFault}
+use Rattle.type_check.specs.declared.fault.TypeFault.TheVariants as fault
+use Rattle.type_check.specs.Slots.{slots, kind_in, kind_by, IsRight, IsFixed}
+use Rattle.type_check.specs.Faults.{first_fault, early, late, HasNoCycle, IsAccepted, IsCycleFault, IsFirstFault, before_cycles, cycle, behind_cycles}
+use Rattle.type_check.specs.Laws.{SameKinds}
+use Rattle.type_check.proofs.SlotLemmas.{number_of, slot_number}
+use Rattle.type_check.proofs.NodeLemmas.{IsBody, IsView, Beside, IsInput, is_input, view_at, same_body}
+use Rattle.type_check.proofs.StepLemmas.{IsPlace}
+use Rattle.type_check.proofs.KindLemmas.{place_cases}
+
+are_right : (items : List tree.Item) (kinds : Kinds) → AreKinds items kinds → (s : Slot) → IsRight items kinds s
+are_right items kinds are (slot.Item i) = are.items_are i
+are_right items kinds are (slot.Local i k) = are.locals_are i k
+
+once_none : IsDistinct eqb []
+unfolding IsDistinct
+once_none = tt
+
+-- ---- two tables say the same of a node, since they do of what it mentions: by the nodes from which it is reached, of which none
+-- is met twice
+module _ (items : List tree.Item) (none : (x : ℕ) → Path (MentionsUntyped items) x x → ⊥) (a b : Kinds) (is_a : AreKinds items a) (is_b : AreKinds items b) where
+  by_equation : (s : Slot) → kind_by items a s ≡ kind_by items b s → kind_in a s ≡ kind_in b s
+  by_equation s e = are_right items a is_a s ∙ e ∙ sym (are_right items b is_b s)
+
+  input_same : (j : ℕ) → IsInput items j → a.item j ≡ b.item j
+  input_same j h = by (slice_get items j) refl h
+    where
+      by : (x : Option tree.Item) → slice_get items j ≡ x → is_input x ≡ true → a.item j ≡ b.item j
+      by (Some (tree.Input p q n y)) is t = by_equation (slot.Item j) (ap (item_kind items a j) is ∙ sym (ap (item_kind items b j) is))
+      by (Some (tree.Defined p d)) is t = absurd (cc)
+      by (Some (tree.Output p q n)) is t = absurd (cc)
+      by (Some (tree.OutputAs p e q n)) is t = absurd (cc)
+      by None is t = absurd (cc)
+
+  abbrev Met : List ℕ → ℕ → Type 0
+  Met met n = IsDistinct eqb met × ((x : ℕ) → Contains met x → x < length (nodes items)) × ((x : ℕ) → Contains met x → Path (MentionsUntyped items) x n)
+
+  -- those that were met, and this one
+  met_first : (met : List ℕ) (n : ℕ) → n < length (nodes items) → Met met n → IsDistinct eqb (met ++ n ∷ []) × ((x : ℕ) → Contains (met ++ n ∷ []) x → x < length (nodes items))
+  met_first met n low m = (
+    once_push met n m.0 (λ c. none n (m.2 n c)),
+    λ x c. elim (Contains-push_cases met n x c) [ inl old ↦ m.1 x old | inr same ↦ subst (λ y. y < length (nodes items)) same low ]
+  )
+
+  met_next : (met : List ℕ) (n m : ℕ) → MentionsUntyped items n m → Met met n → (x : ℕ) → Contains (met ++ n ∷ []) x → Path (MentionsUntyped items) x m
+  met_next met n m e h x c = elim (Contains-push_cases met n x c) [
+    | inl old ↦ path_join (MentionsUntyped items) x n m (h.2 x old) (one e)
+    | inr same ↦ one (subst (λ y. MentionsUntyped items y m) same e)
+  ]
+
+  same_view : (n : ℕ) (s : Slot) (node : Node) → slice_get (nodes items) n ≡ Some node → IsView items s node → ((m : ℕ) (t : Slot) → MentionsUntyped items n m → IsPlace items m t → kind_in a t ≡ kind_in b t) → kind_in a s ≡ kind_in b s
+  same_view n s node is (inl fixed) deeper = by_equation s (fixed a b)
+  same_view n s node is (inr body) deeper = by_equation s (same_body items n s node is body a b mentioned input_same)
+    where
+      place : (t : Slot) (m : ℕ) → IsPlace items m t → (next : Node) → slice_get (nodes items) m ≡ Some next → IsView items t next → Mentions items n (number_of items t) → kind_in a t ≡ kind_in b t
+      place t m at next is_next (inl fixed) mention = by_equation t (fixed a b)
+      place t m at next is_next (inr last) mention = deeper m t (record {
+        from = record { node = node; is_node = is; not_written = body.not_written };
+        to = record { node = next; is_node = is_next; not_written = last.not_written };
+        mentions = subst (Mentions items n) (slot_number items m t at) mention;
+      }) at
+
+      mentioned : (t : Slot) → Mentions items n (number_of items t) → kind_in a t ≡ kind_in b t
+      mentioned t mention = elim (place_cases items t) [
+        | inl c ↦ let at = slice_get-get_or (slots items) c.0 t c.1 ∙ ap Some c.2 in let v = view_at items c.0 t at in place t c.0 at v.node v.is_node v.fits mention
+        | inr nothing ↦ by_equation t (nothing a ∙ sym (nothing b))
+      ]
+
+  same_at : (fuel : ℕ) (met : List ℕ) (n : ℕ) → length met + fuel ≡ length (nodes items) → Met met n → (s : Slot) → IsPlace items n s → kind_in a s ≡ kind_in b s
+  same_at zero met n room h s at =
+      let v = view_at items n s at in
+      let first = met_first met n (slice_get_within (nodes items) n v.node v.is_node) h in
+      absurd (omega (arith, room, few_below (met ++ n ∷ []) (length (nodes items)) first.0 first.1, length_push met n))
+  same_at (suc fuel) met n room h s at =
+      let v = view_at items n s at in
+      let first = met_first met n (slice_get_within (nodes items) n v.node v.is_node) h in
+      let less : length (met ++ n ∷ []) + fuel ≡ length (nodes items) = omega (arith, room, length_push met n) in
+      same_view n s v.node v.is_node v.fits (λ m t e there. same_at fuel (met ++ n ∷ []) m less (first.0, first.1, met_next met n m e h) t there)
+
+  same_slots : (s : Slot) → kind_in a s ≡ kind_in b s
+  same_slots s = elim (place_cases items s) [
+    | inl c ↦ same_at (length (nodes items)) [] c.0 (omega arith) (once_none, (λ x m. absurd (none_in_nil x m)), (λ x m. absurd (none_in_nil x m))) s (slice_get-get_or (slots items) c.0 s c.1 ∙ ap Some c.2)
+    | inr nothing ↦ by_equation s (nothing a ∙ sym (nothing b))
+  ]
+
+pub one_kinds : (t : Tree) (a b : Kinds) → HasNoCycle t → AreKinds (items_of t) a → AreKinds (items_of t) b → SameKinds a b
+one_kinds t a b clear is_a is_b = record {
+  items_same = λ i. same_slots (items_of t) clear.untyped a b is_a is_b (slot.Item i);
+  locals_same = λ i k. same_slots (items_of t) clear.untyped a b is_a is_b (slot.Local i k);
+}
+
+-- ---- the first fault
+kinds_same : (a b : Kinds) → SameKinds a b → a ≡ b
+kinds_same a b s = λ j. record { item = λ i. s.items_same i j; local = λ i k. s.locals_same i k j }
+
+late_same : (t : Tree) (a b : Kinds) → HasNoCycle t → AreKinds (items_of t) a → AreKinds (items_of t) b → late t a ≡ late t b
+late_same t a b clear is_a is_b = ap (late t) (kinds_same a b (one_kinds t a b clear is_a is_b))
+
+no_first : (fs : List TypeFault) (f : TypeFault) → fs ≡ [] → first_fault fs ≡ Some f → ⊥
+no_first fs f e h = let p = ap first_fault e in cc
+
+one_first : (fs gs : List TypeFault) (f g : TypeFault) → fs ≡ gs → first_fault fs ≡ Some f → first_fault gs ≡ Some g → f ≡ g
+one_first fs gs f g e h k = let p = ap first_fault e in cc
+
+no_cycle_fault : (t : Tree) (f : TypeFault) → HasNoCycle t → IsCycleFault t f → ⊥
+no_cycle_fault t (fault.FunctionCycle p) clear h = clear.functions h.number h.is_least.holds
+no_cycle_fault t (fault.NeedsType p) clear h = clear.untyped h.1.number h.1.is_least.holds
+no_cycle_fault t f clear h = h
+
+one_place : (P : ℕ → Type 0) (places : List Place) (p q : Place) → IsPlaceOfLeast P places p → IsPlaceOfLeast P places q → p ≡ q
+one_place P places p q h k =
+    let below = h.is_least.least k.number k.is_least.holds in
+    let above = k.is_least.least h.number h.is_least.holds in
+    let same : h.number ≡ k.number = omega (arith, below, above) in
+    let e = sym h.at ∙ ap (slice_get places) same ∙ k.at in cc
+
+one_cycle : (t : Tree) (f g : TypeFault) → IsCycleFault t f → IsCycleFault t g → f ≡ g
+one_cycle t (fault.FunctionCycle p) (fault.FunctionCycle q) h k = ap fault.FunctionCycle (one_place _ _ p q h k)
+one_cycle t (fault.FunctionCycle p) (fault.NeedsType q) h k = absurd (k.0 h.number h.is_least.holds)
+one_cycle t (fault.NeedsType p) (fault.FunctionCycle q) h k = absurd (h.0 k.number k.is_least.holds)
+one_cycle t (fault.NeedsType p) (fault.NeedsType q) h k = ap fault.NeedsType (one_place _ _ p q h.1 k.1)
+one_cycle t (fault.FunctionCycle p) g h k = absurd k
+one_cycle t (fault.NeedsType p) g h k = absurd k
+one_cycle t f g h k = absurd h
+
+pub one_fault : (t : Tree) (f g : TypeFault) → IsFirstFault t f → IsFirstFault t g → f ≡ g
+one_fault t f g (before_cycles h) (before_cycles k) = one_first (early t) (early t) f g refl h k
+one_fault t f g (before_cycles h) (cycle none k) = absurd (no_first (early t) f none h)
+one_fault t f g (before_cycles h) (behind_cycles kinds none clear are k) = absurd (no_first (early t) f none h)
+one_fault t f g (cycle none h) (before_cycles k) = absurd (no_first (early t) g none k)
+one_fault t f g (cycle none h) (cycle none_too k) = one_cycle t f g h k
+one_fault t f g (cycle none h) (behind_cycles kinds none_too clear are k) = absurd (no_cycle_fault t f clear h)
+one_fault t f g (behind_cycles kinds none clear are h) (before_cycles k) = absurd (no_first (early t) g none k)
+one_fault t f g (behind_cycles kinds none clear are h) (cycle none_too k) = absurd (no_cycle_fault t g clear k)
+one_fault t f g (behind_cycles a none clear are h) (behind_cycles b none_too no_too are_too k) = one_first (late t a) (late t b) f g (late_same t a b clear are are_too) h k
+
+pub accepted_has_no_fault : (t : Tree) (kinds : Kinds) (f : TypeFault) → IsAccepted t kinds → IsFirstFault t f → ⊥
+accepted_has_no_fault t kinds f is (before_cycles h) = no_first (early t) f is.no_early h
+accepted_has_no_fault t kinds f is (cycle none h) = no_cycle_fault t f is.no_cycle h
+accepted_has_no_fault t kinds f is (behind_cycles other none clear are h) = no_first (late t other) f (late_same t other kinds clear are is.are_kinds ∙ is.no_late) h
