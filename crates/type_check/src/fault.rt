@@ -28,29 +28,55 @@ pub enum Kind {
 #[derive(Clone, Copy, PartialEq, Eq, Debug)]
 pub enum TypeFault {
     /// The name is declared in its scope already, or is one of the language's own.
-    DefinedTwice { place: Place },
+    DefinedTwice {
+        place: Place,
+    },
     /// The name is not declared where it stands, or is a function that is not called.
-    UnknownName { place: Place },
+    UnknownName {
+        place: Place,
+    },
     /// The type may not stand here.
-    BadType { place: Place },
+    BadType {
+        place: Place,
+    },
     /// Some parameters are streams and some are not.
-    MixedParameters { place: Place },
+    MixedParameters {
+        place: Place,
+    },
     /// An input of a set or a map.
-    AggregateInput { place: Place },
+    AggregateInput {
+        place: Place,
+    },
     /// The value function lies on a cycle of calls.
-    FunctionCycle { place: Place },
+    FunctionCycle {
+        place: Place,
+    },
     /// The definition has no written type and lies on a cycle of such.
-    NeedsType { place: Place },
+    NeedsType {
+        place: Place,
+    },
     /// A call with another number of arguments.
-    WrongArity { place: Place },
+    WrongArity {
+        place: Place,
+    },
     /// An expression whose parts are well typed, and whose own rule is broken, or a body of another kind than is asked.
-    WrongType { place: Place, have: Kind, want: Kind },
+    WrongType {
+        place: Place,
+        have: Kind,
+        want: Kind,
+    },
     /// The value function's result is a set, a map or an option of one.
-    AggregateResult { place: Place },
+    AggregateResult {
+        place: Place,
+    },
     /// An output of this printed name stands before.
-    OutputTwice { place: Place },
+    OutputTwice {
+        place: Place,
+    },
     /// The source, which ends here, has no output.
-    NoOutput { place: Place },
+    NoOutput {
+        place: Place,
+    },
     /// Memory was wanting.
     Memory,
 }
