@@ -1,6 +1,6 @@
 -- From the answers of the parts of the check to that of the whole.
 use Rattle.std.specs.Prelude.{◌≡◌, List, [], ◌∷◌, ◌++◌, Some}
-use Rattle.std.proofs.Common.{rules, ap, sym, ◌∙◌}
+use Rattle.std.proofs.Common.{ap, sym, ◌∙◌}
 use Rattle.spec_parser.specs.Tree as tree
 use Rattle.spec_parser.specs.declared.tree.Tree.{Tree}
 use Rattle.spec_parser.specs.Shape.{items_of}
@@ -9,7 +9,7 @@ use Rattle.expr_types.specs.Bodies.{AreKinds}
 use Rattle.type_check.specs.declared.fault.TypeFault.{TypeFault}
 use Rattle.type_check.specs.declared.fault.TypeFault.TheVariants as fault
 use Rattle.type_check.specs.Answer.{IsFaultOf}
-use Rattle.type_check.specs.Faults.{first_fault, name_faults, form_faults, early, late, HasNoCycle, IsCycleFault, IsFirstFault, before_cycles, cycle, behind_cycles}
+use Rattle.type_check.specs.Faults.{first_fault, name_faults, form_faults, early, late, HasNoCycle, IsFirstFault, before_cycles, cycle, behind_cycles}
 use Rattle.type_check.specs.Parts.{IsFirstOf, IsCycleOf}
 
 -- the first of some faults is that of them and of others behind them, and where there are none it is that of the others

@@ -1,23 +1,21 @@
 -- The table while it is filled, and when it is full.
-use Rattle.std.proofs.Common.{◌≡◌, ℕ, zero, suc, ◌+◌, ◌<◌, ◌≤◌, ◌⊎◌, Bool, true, false, if◌then◌else◌, List, [], ◌∷◌, ◌++◌, length, take, drop, get_or, Option, Some, None, refl, sym, ap, subst, ◌∙◌, inl, inr, arith, add-one, Contains}
+use Rattle.std.proofs.Common.{◌≡◌, ℕ, zero, suc, ◌+◌, ◌<◌, ◌≤◌, ◌⊎◌, Bool, true, false, if◌then◌else◌, List, [], ◌∷◌, ◌++◌, length, take, drop, get_or, Option, Some, None, refl, sym, ap, subst, ◌∙◌, inl, inr, arith, Contains}
 use Rattle.std.specs.Prelude.{slice_get}
 use Rattle.std.proofs.lemmas.Bool.{cases_lt}
 use Rattle.std.proofs.lemmas.List.{take_all}
 use Rattle.std.proofs.lemmas.Option.{slice_get-get_or, slice_get_within}
-use Rattle.name_check.proofs.FirstLemmas.{left_at}
 use Rattle.graph_cycles.proofs.Lists.{none_in_nil}
 use Rattle.spec_parser.specs.Tree as tree
 use Rattle.type_rules.specs.declared.rule.ExprType.{ExprType}
-use Rattle.name_check.specs.Scope.{counts}
 use Rattle.definition_cycles.specs.Nodes.{nodes}
 use Rattle.definition_cycles.specs.Order.{IsKindOrder}
 use Rattle.expr_types.specs.Around.{Kinds}
 use Rattle.expr_types.specs.Bodies.{AreKinds, item_kind, block_kind, local_kind, may_have_braces, in_definition, within_block}
 use Rattle.type_check.specs.declared.slot.Slot.{Slot}
 use Rattle.type_check.specs.declared.slot.Slot.TheVariants as slot
-use Rattle.type_check.specs.Slots.{block_count, slots, kind_in, kind_by, IsRight, IsFixed, IsSet, NothingElse, FixedAreRight, AllAreRight}
+use Rattle.type_check.specs.Slots.{block_count, slots, kind_in, kind_by, IsRight, IsSet, NothingElse, FixedAreRight, AllAreRight}
 use Rattle.type_check.proofs.SlotLemmas.{item_slot, local_slot}
-use Rattle.type_check.proofs.NodeLemmas.{Beside, IsView, view_at, slots_length, local_late}
+use Rattle.type_check.proofs.NodeLemmas.{slots_length, local_late}
 use Rattle.type_check.proofs.StepLemmas.{WrittenDone, AllDone, nothing_step, written_step, all_step}
 
 -- ---- one place is set

@@ -1,5 +1,5 @@
 -- Where there is no cycle the declared names are one thing, and so is the first fault.
-use Rattle.std.proofs.Common.{◌≡◌, ℕ, zero, suc, ◌+◌, ◌<◌, ◌≤◌, ◌⊎◌, List, [], ◌∷◌, ◌++◌, length, eqb, true, Option, Some, None, refl, sym, ap, subst, ◌∙◌, inl, inr, arith, Contains}
+use Rattle.std.proofs.Common.{◌≡◌, ℕ, zero, suc, ◌+◌, ◌<◌, List, [], ◌∷◌, ◌++◌, length, eqb, true, Option, Some, None, refl, sym, ap, subst, ◌∙◌, inl, inr, arith, Contains}
 use Rattle.std.specs.Prelude.{slice_get}
 use Rattle.std.specs.List.{IsDistinct}
 use Rattle.std.proofs.lemmas.List.{length_push}
@@ -9,7 +9,7 @@ use Rattle.tsl_value.specs.declared.place.Place.{Place}
 use Rattle.spec_parser.specs.Tree as tree
 use Rattle.spec_parser.specs.declared.tree.Tree.{Tree}
 use Rattle.spec_parser.specs.Shape.{items_of}
-use Rattle.graph_cycles.specs.Cycle.{Path, one, more, IsLeast}
+use Rattle.graph_cycles.specs.Cycle.{Path, one}
 use Rattle.graph_cycles.proofs.Paths.{path_join}
 use Rattle.graph_cycles.proofs.Lists.{none_in_nil}
 use Rattle.translation_order.proofs.Lists.{once_push, few_below}
@@ -22,11 +22,11 @@ use Rattle.type_check.specs.declared.slot.Slot.{Slot}
 use Rattle.type_check.specs.declared.slot.Slot.TheVariants as slot
 use Rattle.type_check.specs.declared.fault.TypeFault.{TypeFault}
 use Rattle.type_check.specs.declared.fault.TypeFault.TheVariants as fault
-use Rattle.type_check.specs.Slots.{slots, kind_in, kind_by, IsRight, IsFixed}
+use Rattle.type_check.specs.Slots.{slots, kind_in, kind_by, IsRight}
 use Rattle.type_check.specs.Faults.{first_fault, early, late, HasNoCycle, IsAccepted, IsCycleFault, IsFirstFault, before_cycles, cycle, behind_cycles}
 use Rattle.type_check.specs.Laws.{SameKinds}
 use Rattle.type_check.proofs.SlotLemmas.{number_of, slot_number}
-use Rattle.type_check.proofs.NodeLemmas.{IsBody, IsView, Beside, IsInput, is_input, view_at, same_body}
+use Rattle.type_check.proofs.NodeLemmas.{IsView, IsInput, is_input, view_at, same_body}
 use Rattle.type_check.proofs.StepLemmas.{IsPlace}
 use Rattle.type_check.proofs.KindLemmas.{place_cases}
 
@@ -61,7 +61,7 @@ module _ (items : List tree.Item) (none : (x : ℕ) → Path (MentionsUntyped it
   met_first : (met : List ℕ) (n : ℕ) → n < length (nodes items) → Met met n → IsDistinct eqb (met ++ n ∷ []) × ((x : ℕ) → Contains (met ++ n ∷ []) x → x < length (nodes items))
   met_first met n low m = (
     once_push met n m.0 (λ c. none n (m.2 n c)),
-    λ x c. elim (Contains-push_cases met n x c) [ inl old ↦ m.1 x old | inr same ↦ subst (λ y. y < length (nodes items)) same low ]
+    λ x c. elim (Contains-push_cases met n x c) [ inl old ↦ m.1 x old | inr same ↦ subst (λ y. y < length (nodes items)) same low ],
   )
 
   met_next : (met : List ℕ) (n m : ℕ) → MentionsUntyped items n m → Met met n → (x : ℕ) → Contains (met ++ n ∷ []) x → Path (MentionsUntyped items) x m

@@ -1,8 +1,8 @@
 -- What stands at a place is a node's, and depends on what the node mentions.
-use Rattle.std.proofs.Common.{◌≡◌, ℕ, zero, suc, ◌+◌, ◌==◌, ◌<◌, ◌≤◌, ◌⊎◌, Bool, true, false, cond, if◌then◌else◌, List, [], ◌∷◌, ◌++◌, length, Option, Some, None, refl, sym, ap, subst, ◌∙◌, inl, inr, arith, length-append, Contains}
+use Rattle.std.proofs.Common.{◌≡◌, ℕ, zero, suc, ◌+◌, ◌<◌, ◌≤◌, ◌⊎◌, Bool, true, false, cond, if◌then◌else◌, List, [], ◌∷◌, ◌++◌, length, Option, Some, None, refl, sym, ap, subst, ◌∙◌, inl, inr, arith, Contains}
 use Rattle.std.specs.Prelude.{slice_get, is_some}
-use Rattle.std.specs.Option.{option_map, option_and_then}
-use Rattle.std.specs.List.{AllByRecursion, find, list_all, list_any, filter}
+use Rattle.std.specs.Option.{option_map}
+use Rattle.std.specs.List.{AllByRecursion, find, list_all, list_any}
 use Rattle.std.specs.Str.{bytes_eq}
 use Rattle.std.proofs.lemmas.Bool.{ne_eqb, eq-eqb}
 use Rattle.graph_cycles.proofs.Lists.{here, later}
@@ -15,8 +15,7 @@ use Rattle.name_check.specs.declared.declaration.Declaration.{Declaration}
 use Rattle.name_check.specs.declared.declaration.Declaration.TheVariants as declaration
 use Rattle.name_check.specs.Scope.{Scope, Entry, meaning, is_events, declared_as, declared_from, parameters_from, count_in, counts, locals_from, is_function, functions_of, are_values, inside, in_block, top}
 use Rattle.name_check.specs.Parts.{Part, Operand, Function, parts}
-use Rattle.name_check.specs.Bodies.{Seen}
-use Rattle.definition_cycles.specs.Nodes.{Node, definition_nodes, block_nodes, item_nodes, nodes_from, nodes, node_of, first_node}
+use Rattle.definition_cycles.specs.Nodes.{Node, definition_nodes, block_nodes, item_nodes, nodes_from, nodes, first_node}
 use Rattle.definition_cycles.specs.Mentions.{Mentions, declared}
 use Rattle.definition_cycles.proofs.FoundLemmas.{length_block}
 use Rattle.expr_types.specs.Around.{Around, Kinds}
@@ -183,9 +182,9 @@ each_block items i at own has k tree.no_definitions h = tt
 each_block items i at own has k (tree.more_definitions (tree.Define q n ps w b) ds) h =
     let past = suc k + count_in b in
     let rest : (j : ℕ) → suc k ≤ j → (kinds : Kinds) → kind_by items kinds (slot.Local i j) ≡ local_from (knowing at kinds) j past ds =
-        λ j l kinds. let ne : k ≡ j → ⊥ = omega arith in h j (omega arith) kinds ∙ ap (λ t. if t then definition_kind (knowing at kinds) [] w b else local_from (knowing at kinds) j past ds) (ne_eqb k j ne) in
+    λ j l kinds. let ne : k ≡ j → ⊥ = omega arith in h j (omega arith) kinds ∙ ap (λ t. if t then definition_kind (knowing at kinds) [] w b else local_from (knowing at kinds) j past ds) (ne_eqb k j ne) in
     let first : (kinds : Kinds) → kind_by items kinds (slot.Local i k) ≡ definition_kind (knowing at kinds) [] w b =
-        λ kinds. h k (omega arith) kinds ∙ ap (λ t. if t then definition_kind (knowing at kinds) [] w b else local_from (knowing at kinds) k past ds) (eq-eqb k k refl) in
+    λ kinds. h k (omega arith) kinds ∙ ap (λ t. if t then definition_kind (knowing at kinds) [] w b else local_from (knowing at kinds) k past ds) (eq-eqb k k refl) in
     let split : local_slots i k (suc (count_in b + counts ds)) ≡ (slot.Local i k ∷ local_slots i (suc k) (count_in b)) ++ local_slots i past (counts ds) = ap (λ l. slot.Local i k ∷ l) (locals_split i (suc k) (count_in b) (counts ds)) in
     subst (λ ss. Each (IsView items) ss (definition_nodes i (suc k) at.scope (tree.Define q n ps w b) ++ block_nodes i past at.scope ds)) (sym split)
     (each_join (IsView items) (slot.Local i k ∷ local_slots i (suc k) (count_in b)) (local_slots i past (counts ds)) (definition_nodes i (suc k) at.scope (tree.Define q n ps w b)) (block_nodes i past at.scope ds)

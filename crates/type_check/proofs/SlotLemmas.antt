@@ -1,7 +1,6 @@
 -- The numbers of places.
-use Rattle.std.proofs.Common.{◌≡◌, ℕ, zero, suc, ◌+◌, ◌-◌, ◌<◌, ◌≤◌, ◌⊎◌, List, [], ◌∷◌, ◌++◌, length, take, drop, map, get_or, add-one, append_assoc, Option, Some, None, refl, sym, ap, subst, ◌∙◌, inl, inr, arith, length-append, Contains}
+use Rattle.std.proofs.Common.{◌≡◌, ℕ, zero, suc, ◌+◌, ◌<◌, ◌⊎◌, List, [], ◌∷◌, ◌++◌, length, take, drop, map, get_or, add-one, append_assoc, Some, refl, sym, ap, subst, ◌∙◌, inl, inr, arith, Contains}
 use Rattle.std.specs.Prelude.{slice_get}
-use Rattle.std.specs.List.{sum_by}
 use Rattle.std.proofs.lemmas.List.Sums.{sum_by-cons}
 use Rattle.std.proofs.lemmas.List.Elements.{Contains-append_left, Contains-append_right}
 use Rattle.std.proofs.lemmas.Bool.{cases_eq}
@@ -92,13 +91,13 @@ is_at i [] a s h = absurd (cc)
 is_at i (x ∷ items) zero s h = let e : i + 0 ≡ i = omega arith in let f : slot.Item i ≡ s = cc in record { near = slot.Item 0; far = ap slot.Item e ∙ f; number = refl }
 is_at i (x ∷ items) (suc a) s h = elim (append_cases (local_slots i 0 (block_count x)) (slots_from (suc i) items) a s h) [
   | inl l ↦
-    let e : i + 0 ≡ i = omega arith in
-    let f : a ≡ 0 + a = omega arith in
-    record { near = slot.Local 0 a; far = ap (λ y. slot.Local y a) e ∙ (ap (slot.Local i) f ∙ local_at i 0 (block_count x) a s l); number = omega arith }
+      let e : i + 0 ≡ i = omega arith in
+      let f : a ≡ 0 + a = omega arith in
+      record { near = slot.Local 0 a; far = ap (λ y. slot.Local y a) e ∙ (ap (slot.Local i) f ∙ local_at i 0 (block_count x) a s l); number = omega arith }
   | inr r ↦
-    let long = locals_length i 0 (block_count x) in
-    let e : a ≡ block_count x + r.0 = omega (arith, long, r.1) in
-    at_next i x items a r.0 s e (is_at (suc i) items r.0 s r.2)
+      let long = locals_length i 0 (block_count x) in
+      let e : a ≡ block_count x + r.0 = omega (arith, long, r.1) in
+      at_next i x items a r.0 s e (is_at (suc i) items r.0 s r.2)
 ]
 
 unmoved : (s : Slot) → moved 0 s ≡ s

@@ -1,11 +1,10 @@
 -- A table of which one place more is set, in an order in which each node stands behind those that it mentions.
-use Rattle.std.proofs.Common.{◌≡◌, ℕ, zero, suc, ◌+◌, ◌<◌, ◌≤◌, ◌⊎◌, Bool, true, false, if◌then◌else◌, List, [], ◌∷◌, ◌++◌, length, Option, Some, None, refl, sym, ap, subst, ◌∙◌, inl, inr, arith, append_assoc, Contains}
+use Rattle.std.proofs.Common.{◌≡◌, ℕ, ◌⊎◌, false, List, [], ◌∷◌, ◌++◌, Some, sym, ap, subst, ◌∙◌, inl, inr, append_assoc, Contains}
 use Rattle.std.specs.Prelude.{slice_get}
-use Rattle.std.proofs.lemmas.Bool.{cases_eq, cases_lt}
+use Rattle.std.proofs.lemmas.Bool.{cases_eq}
 use Rattle.std.proofs.lemmas.List.Elements.{Contains-append_left, Contains-push_cases}
 use Rattle.spec_parser.specs.Tree as tree
-use Rattle.translation_order.proofs.Lists.{split_at, none_in_nil}
-use Rattle.type_rules.specs.declared.rule.ExprType.{ExprType}
+use Rattle.translation_order.proofs.Lists.{split_at}
 use Rattle.definition_cycles.specs.Nodes.{Node, nodes}
 use Rattle.definition_cycles.specs.Mentions.{Mentions, MentionsUntyped}
 use Rattle.definition_cycles.specs.Order.{IsKindOrder}
@@ -14,7 +13,7 @@ use Rattle.type_check.specs.declared.slot.Slot.{Slot}
 use Rattle.type_check.specs.declared.slot.Slot.TheVariants as slot
 use Rattle.type_check.specs.Slots.{slots, kind_in, kind_by, IsRight, IsFixed, IsSet, NothingElse}
 use Rattle.type_check.proofs.SlotLemmas.{number_of, same_slot, slot_number}
-use Rattle.type_check.proofs.NodeLemmas.{IsBody, IsView, Beside, IsInput, NotInput, is_input, view_at, same_body}
+use Rattle.type_check.proofs.NodeLemmas.{IsBody, IsView, IsInput, NotInput, is_input, view_at, same_body}
 
 -- the place of number a
 abbrev pub IsPlace : List tree.Item → ℕ → Slot → Type 0
@@ -89,12 +88,12 @@ module _ (items : List tree.Item) (order front rest : List ℕ) (b : ℕ) (o : I
 
     mentioned_kept : (a : ℕ) (node : Node) → slice_get (nodes items) a ≡ Some node → (t : Slot) → IsBody items t node → (next : Node) → slice_get (nodes items) b ≡ Some next → IsBody items s next → Contains (front ++ b ∷ []) a → (u : Slot) → Mentions items a (number_of items u) → kind_in old u ≡ kind_in new u
     mentioned_kept a node is_node t body next is_next last c u m = sym (set.others u (λ e.
-      let number : number_of items u ≡ b = ap (number_of items) e ∙ slot_number items b s place in
-      done_mentions a c (record {
-        from = record { node = node; is_node = is_node; not_written = body.not_written };
-        to = record { node = next; is_node = is_next; not_written = last.not_written };
-        mentions = subst (Mentions items a) number m;
-      })))
+        let number : number_of items u ≡ b = ap (number_of items) e ∙ slot_number items b s place in
+        done_mentions a c (record {
+          from = record { node = node; is_node = is_node; not_written = body.not_written };
+          to = record { node = next; is_node = is_next; not_written = last.not_written };
+          mentions = subst (Mentions items a) number m;
+        })))
 
     body_kept : AllDone items front old → (a : ℕ) (node : Node) → slice_get (nodes items) a ≡ Some node → (t : Slot) → IsBody items t node → Contains (front ++ b ∷ []) a → (next : Node) → slice_get (nodes items) b ≡ Some next → IsView items s next → kind_by items old t ≡ kind_by items new t
     body_kept h a node is_node t body c next is_next (inl fixed) =

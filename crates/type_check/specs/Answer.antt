@@ -1,5 +1,4 @@
 -- What the check answers where it refuses.
-use Rattle.std.specs.Prelude.{ℕ}
 use Rattle.spec_parser.specs.declared.tree.Tree.{Tree}
 use Rattle.type_check.specs.declared.fault.TypeFault.{TypeFault}
 use Rattle.type_check.specs.declared.fault.TypeFault.TheVariants as fault

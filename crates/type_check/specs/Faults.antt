@@ -1,6 +1,5 @@
 -- The refusals of a specification, in the order in which they are checked.
-use Rattle.std.specs.Prelude.{◌≡◌, ℕ, List, [], ◌∷◌, ◌++◌, map, Option, Some, None}
-use Rattle.tsl_value.specs.declared.place.Place.{Place}
+use Rattle.std.specs.Prelude.{◌≡◌, List, [], ◌∷◌, ◌++◌, map, Option, Some, None}
 use Rattle.spec_parser.specs.Tree as tree
 use Rattle.spec_parser.specs.declared.tree.Tree.{Tree}
 use Rattle.spec_parser.specs.Shape.{items_of}

@@ -38,7 +38,8 @@ fn fault_of(alloc: Global, source: &[u8]) -> Option<TypeFault> {
 
 #[test]
 fn a_recursive_stream_is_accepted(rt: HostRuntime) {
-    let source = b"in i: Int\ndef twice := count + count\ndef count: Events[Int] := default(last(count, i), 0) + 1\nout twice";
+    let source =
+        b"in i: Int\ndef twice := count + count\ndef count: Events[Int] := default(last(count, i), 0) + 1\nout twice";
     let Some(kinds) = kinds_of(rt.alloc(), source) else {
         assert!(rt; false);
         return;
@@ -50,7 +51,8 @@ fn a_recursive_stream_is_accepted(rt: HostRuntime) {
 
 #[test]
 fn a_block_and_a_value_function_are_accepted(rt: HostRuntime) {
-    let source = b"def a := m(i)\ndef m(x: Events[Int]) := { def b := c == x def c := lift(x, f) b }\ndef f(v: Option[Int]) := v\nin i: Int\nout a";
+    let source =
+        b"def a := m(i)\ndef m(x: Events[Int]) := { def b := c == x def c := lift(x, f) b }\ndef f(v: Option[Int]) := v\nin i: Int\nout a";
     let Some(kinds) = kinds_of(rt.alloc(), source) else {
         assert!(rt; false);
         return;
@@ -70,8 +72,8 @@ fn the_earlier_kind_is_answered(rt: HostRuntime) {
     let cyclic = fault_of(rt.alloc(), b"def a := 1 + true\ndef b := b\nout a");
     let place = Place { line: 2, column: 5 };
     assert!(rt; cyclic == Some(TypeFault::NeedsType { place }));
-    let typed = fault_of(rt.alloc(), b"def f(a: Int) := Set.empty[Int]\nout 1 + true as b");
-    let place = Place { line: 2, column: 5 };
+    let typed = fault_of(rt.alloc(), b"in i: Int\nout i\nout i\nout 1 + true as b");
+    let place = Place { line: 4, column: 5 };
     let (have, want) = (Kind::Stream(BOOL), Kind::Stream(INT));
     assert!(rt; typed == Some(TypeFault::WrongType { place, have, want }));
 }
