@@ -75,8 +75,8 @@ fn settle(
     Ok(())
 }
 
-/// What the declared names are. Types that are written come first, since what stands before a definition in the order may
-/// mention it if its type is written.
+/// What the declared names are. The first turn finds those of written types, which the order lets stand anywhere, and the second all
+/// others.
 pub fn find_kinds(
     alloc: Global,
     items: &[Item],
