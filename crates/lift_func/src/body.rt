@@ -170,7 +170,8 @@ impl Body {
     /// An equal tree.
     #[cycle(copy)]
     pub fn copy(&self) -> Result<Body, NoMemory>
-        ensures { IfOk result (λ b. b ≡ self.now) }
+        ensures equal { IfOk result (λ b. b ≡ self.now) }
+        ensures few { IfOk result (λ b. node_count b ≤ MOST_NODES) }
     {
         let node = match &self.node {
             Node::Literal(s) => Node::Literal(s.copy()?),

@@ -11,6 +11,8 @@ use Rattle.spec_parser.specs.Tree.{Expr}
 use Rattle.type_rules.specs.Written.{value_of}
 use Rattle.stream_constructs.specs.declared.construct.Stream.{Stream}
 use Rattle.stream_constructs.specs.Equations.{equation}
+use Rattle.type_rules.specs.declared.rule.ExprType.TheVariants as expr_type
+use Rattle.expr_types.specs.Around.{Kinds}
 use Rattle.spec_meaning.specs.Occurrence.{result_of}
 use Rattle.macro_flatten.specs.Makes.{Standing, Makes, MakesBody, is_name}
 
@@ -29,7 +31,7 @@ abbrev pub event_type : tree.TypeName → Option ValueType
 event_type (tree.EventsType p y) = value_of y
 event_type y = value_of y
 
-module _ (items : List tree.Item) (top : ℕ → Stream) where
+module _ (items : List tree.Item) (kinds : Kinds) (top : ℕ → Stream) where
   -- the inputs of items, the first of which has number i, where n equations are made
   pub data MakesInputs : ℕ → List tree.Item → ℕ → List Equation → Type 0 where
     end : {i n : ℕ} → MakesInputs i [] n []
@@ -41,7 +43,7 @@ module _ (items : List tree.Item) (top : ℕ → Stream) where
   -- the definitions without parameters
   pub data MakesStreams : ℕ → List tree.Item → ℕ → List Equation → Type 0 where
     end : {i n : ℕ} → MakesStreams i [] n []
-    stream : {i n : ℕ} {p q : Place} {x : List ℕ} {w : Option tree.TypeName} {b : tree.Body} {rest : List tree.Item} (s : Stream) (first made : List Equation) {all : List Equation} → top i ≡ s → MakesBody items top outermost (result_of b) n first s → MakesStreams (suc i) rest (n + length first) made → all ≡ named x first ++ made → MakesStreams i (tree.Defined p (tree.Define q x [] w b) ∷ rest) n all
+    stream : {i n : ℕ} {p q : Place} {x : List ℕ} {w : Option tree.TypeName} {b : tree.Body} {rest : List tree.Item} (s : Stream) (first made : List Equation) {all : List Equation} → top i ≡ s → kinds.item i ≡ Some (expr_type.Stream s.of) → MakesBody items kinds top outermost (result_of b) n first s → MakesStreams (suc i) rest (n + length first) made → all ≡ named x first ++ made → MakesStreams i (tree.Defined p (tree.Define q x [] w b) ∷ rest) n all
     called : {i n : ℕ} {p q : Place} {x : List ℕ} {a : tree.Param} {ps : List tree.Param} {w : Option tree.TypeName} {b : tree.Body} {rest : List tree.Item} {made : List Equation} → MakesStreams (suc i) rest n made → MakesStreams i (tree.Defined p (tree.Define q x (a ∷ ps) w b) ∷ rest) n made
     input : {i n : ℕ} {p q : Place} {x : List ℕ} {y : tree.TypeName} {rest : List tree.Item} {made : List Equation} → MakesStreams (suc i) rest n made → MakesStreams i (tree.Input p q x y ∷ rest) n made
     output : {i n : ℕ} {p q : Place} {x : List ℕ} {rest : List tree.Item} {made : List Equation} → MakesStreams (suc i) rest n made → MakesStreams i (tree.Output p q x ∷ rest) n made
@@ -49,8 +51,8 @@ module _ (items : List tree.Item) (top : ℕ → Stream) where
 
   -- an output's expression: a name makes nothing, and the last equation of another expression gets the printed name
   pub data MakesPrinted : Expr → List ℕ → ℕ → List Equation → Stream → Type 0 where
-    name : {e : Expr} {x : List ℕ} {n : ℕ} {s : Stream} → is_name e ≡ true → Makes items top outermost e n [] s → MakesPrinted e x n [] s
-    plain : {e : Expr} {x : List ℕ} {n : ℕ} (made : List Equation) {all : List Equation} {s : Stream} → is_name e ≡ false → Makes items top outermost e n made s → all ≡ named x made → MakesPrinted e x n all s
+    name : {e : Expr} {x : List ℕ} {n : ℕ} {s : Stream} → is_name e ≡ true → Makes items kinds top outermost e n [] s → MakesPrinted e x n [] s
+    plain : {e : Expr} {x : List ℕ} {n : ℕ} (made : List Equation) {all : List Equation} {s : Stream} → is_name e ≡ false → Makes items kinds top outermost e n made s → all ≡ named x made → MakesPrinted e x n all s
 
   -- the outputs of items
   pub data MakesOutputs : List tree.Item → ℕ → List Equation → List Output → Type 0 where
@@ -60,14 +62,14 @@ module _ (items : List tree.Item) (top : ℕ → Stream) where
     input : {n : ℕ} {p q : Place} {x : List ℕ} {y : tree.TypeName} {rest : List tree.Item} {made : List Equation} {printed : List Output} → MakesOutputs rest n made printed → MakesOutputs (tree.Input p q x y ∷ rest) n made printed
     defined : {n : ℕ} {p : Place} {d : tree.Definition} {rest : List tree.Item} {made : List Equation} {printed : List Output} → MakesOutputs rest n made printed → MakesOutputs (tree.Defined p d ∷ rest) n made printed
 
--- The equations and the outputs of a specification. What the names of the top stand for, by the numbers of their items, is found with
--- them.
-pub record IsFlatOf (items : List tree.Item) (equations : List Equation) (outputs : List Output) : Type 0 where
+-- The equations and the outputs of a specification whose declared names are of these types. What the names of the top stand for, by the
+-- numbers of their items, is found with them.
+pub record IsFlatOf (items : List tree.Item) (kinds : Kinds) (equations : List Equation) (outputs : List Output) : Type 0 where
   pub top : ℕ → Stream
   pub inputs : List Equation
   pub streams : List Equation
   pub printed : List Equation
-  pub makes_inputs : MakesInputs items top 0 items 0 inputs
-  pub makes_streams : MakesStreams items top 0 items (length inputs) streams
-  pub makes_outputs : MakesOutputs items top items (length inputs + length streams) printed outputs
+  pub makes_inputs : MakesInputs items kinds top 0 items 0 inputs
+  pub makes_streams : MakesStreams items kinds top 0 items (length inputs) streams
+  pub makes_outputs : MakesOutputs items kinds top items (length inputs + length streams) printed outputs
   pub equations_are : equations ≡ inputs ++ streams ++ printed

@@ -19,7 +19,9 @@ use Rattle.stream_constructs.specs.Equations.{own_equations, choice_equations, a
 use Rattle.stream_constructs.specs.Agree.{last_number, Fits, FitsChoice}
 use Rattle.spec_meaning.specs.Occurrence.{Call, Occurrence, params_of, body_of, result_of, block_of, scope_at}
 use Rattle.spec_meaning.specs.Shape.{Shape, shape, operands, expressions}
+use Rattle.type_rules.specs.declared.rule.ExprType.TheVariants as expr_type
 use Rattle.type_rules.specs.Written.{value_of}
+use Rattle.expr_types.specs.Around.{Kinds}
 
 -- Where expressions stand: in the calls around them, the streams of the parameters and of the definitions in the block. What the
 -- items of the top are is the same everywhere.
@@ -63,6 +65,10 @@ abbrev pub IsAsWritten : Expr → ValueType → Type 0
 IsAsWritten (tree.Nil p y) of = value_of y ≡ Some of
 IsAsWritten e of = Unit {0}
 
+-- the definitions of the block of item i have the types that are found for them
+abbrev pub AreLocals : Kinds → ℕ → List Stream → Type 0
+AreLocals kinds i locals = (k : ℕ) (s : Stream) → slice_get locals k ≡ Some s → kinds.local i k ≡ Some (expr_type.Stream s.of)
+
 module _ (items : List tree.Item) (top : ℕ → Stream) where
   -- the stream for which a name stands
   pub data Stands (at : Standing) : Declaration → Stream → Type 0 where
@@ -78,15 +84,17 @@ module _ (items : List tree.Item) (top : ℕ → Stream) where
   abbrev pub inside_call : Standing → ℕ → Exprs → List Stream → List Stream → Standing
   inside_call at i es params locals = record { calls = record { item = i; arguments = es } ∷ at.calls; params = params; locals = locals }
 
+-- where the declared names are of these types
+module _ (items : List tree.Item) (kinds : Kinds) (top : ℕ → Stream) where
   mutual
     -- Where n equations are made, an expression makes these, and its stream is this.
     pub data Makes : Standing → Expr → ℕ → List Equation → Stream → Type 0 where
-      name : {at : Standing} {p : Place} {x : List ℕ} {n : ℕ} {s : Stream} (d : Declaration) → is_unit x ≡ false → meaning (scope_at items at.calls) x ≡ Some d → Stands at d s → Makes at (tree.Name p x) n [] s
+      name : {at : Standing} {p : Place} {x : List ℕ} {n : ℕ} {s : Stream} (d : Declaration) → is_unit x ≡ false → meaning (scope_at items at.calls) x ≡ Some d → Stands items top at d s → Makes at (tree.Name p x) n [] s
       chain : {at : Standing} {p : Place} {l : Level} {e : Expr} {n : ℕ} {made : List Equation} {s : Stream} → Makes at e n made s → Makes at (tree.Chain p l e no_links) n made s
-      own : {at : Standing} {e : Expr} {n : ℕ} (sh : Shape) (parts : List Stream) (before after : List Equation) {of : ValueType} {made : List Equation} {s : Stream} → shape items (occurrence at e) ≡ Some sh → is_own sh.construct ≡ true → (is_choice e && is_aggregate of) ≡ false → MakesAll at (map (λ o. o.expr) sh.parts) n before parts → IsAsWritten e of → Fits sh.construct (with_itself sh.construct (n + length before) parts) of → after ≡ own_equations (place_of e) of (n + length before) sh.construct (with_itself sh.construct (n + length before) parts) → made ≡ before ++ after → s ≡ last_of (n + length before) after of → Makes at e n made s
-      choice : {at : Standing} {e : Expr} {n : ℕ} (sh : Shape) (parts : List Stream) (before after : List Equation) {of : ValueType} {made : List Equation} {s : Stream} → shape items (occurrence at e) ≡ Some sh → (is_choice e && is_aggregate of) ≡ true → MakesAll at (map (λ o. o.expr) sh.parts) n before parts → FitsChoice (choice_operands e) parts of → after ≡ choice_equations (place_of e) of (n + length before) (choice_operands e) parts → made ≡ before ++ after → s ≡ last_of (n + length before) after of → Makes at e n made s
+      own : {at : Standing} {e : Expr} {n : ℕ} (sh : Shape) (parts : List Stream) (before after : List Equation) {of : ValueType} {made : List Equation} {s : Stream} → shape items (occurrence items top at e) ≡ Some sh → is_own sh.construct ≡ true → (is_choice e && is_aggregate of) ≡ false → MakesAll at (map (λ o. o.expr) sh.parts) n before parts → IsAsWritten e of → Fits sh.construct (with_itself sh.construct (n + length before) parts) of → after ≡ own_equations (place_of e) of (n + length before) sh.construct (with_itself sh.construct (n + length before) parts) → made ≡ before ++ after → s ≡ last_of (n + length before) after of → Makes at e n made s
+      choice : {at : Standing} {e : Expr} {n : ℕ} (sh : Shape) (parts : List Stream) (before after : List Equation) {of : ValueType} {made : List Equation} {s : Stream} → shape items (occurrence items top at e) ≡ Some sh → (is_choice e && is_aggregate of) ≡ true → MakesAll at (map (λ o. o.expr) sh.parts) n before parts → FitsChoice (choice_operands e) parts of → after ≡ choice_equations (place_of e) of (n + length before) (choice_operands e) parts → made ≡ before ++ after → s ≡ last_of (n + length before) after of → Makes at e n made s
       -- the arguments, then the definitions of the block, then the result; each call makes its own
-      call : {at : Standing} {p : Place} {x : List ℕ} {es : Exprs} {n : ℕ} (i : ℕ) (params locals : List Stream) (b : tree.Body) (before block after : List Equation) {made : List Equation} {s : Stream} → is_called x ≡ false → meaning (scope_at items at.calls) x ≡ Some (declaration.Macro i) → body_of (slice_get items i) ≡ Some b → MakesAll at (expressions es) n before params → MakesBlock (inside_call at i es params locals) (block_of (Some b)) (n + length before) block locals → MakesBody (inside_call at i es params locals) (result_of b) (n + length before + length block) after s → made ≡ before ++ block ++ after → Makes at (tree.Call p x es) n made s
+      call : {at : Standing} {p : Place} {x : List ℕ} {es : Exprs} {n : ℕ} (i : ℕ) (params locals : List Stream) (b : tree.Body) (before block after : List Equation) {made : List Equation} {s : Stream} → is_called x ≡ false → meaning (scope_at items at.calls) x ≡ Some (declaration.Macro i) → body_of (slice_get items i) ≡ Some b → MakesAll at (expressions es) n before params → AreLocals kinds i locals → MakesBlock (inside_call items top at i es params locals) (block_of (Some b)) (n + length before) block locals → MakesBody (inside_call items top at i es params locals) (result_of b) (n + length before + length block) after s → made ≡ before ++ block ++ after → Makes at (tree.Call p x es) n made s
 
     pub data MakesAll : Standing → List Expr → ℕ → List Equation → List Stream → Type 0 where
       no_part : {at : Standing} {n : ℕ} → MakesAll at [] n [] []
