@@ -1,0 +1,2 @@
+// What holds of a specification that the check of types accepts.
+#![tactic(auto)]

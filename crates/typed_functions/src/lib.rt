@@ -1,0 +1,2 @@
+// The bodies of the value functions of a checked specification are typed.
+#![tactic(auto)]
