@@ -1,14 +1,14 @@
 //! Cycles of value functions, cycles of definitions without a written type, and an order of definitions.
 #![tactic(auto)]
 
-mod calls;
-mod found;
+pub mod calls;
+pub mod found;
 pub mod functions;
-mod graph;
+pub mod graph;
 pub mod kinds;
-mod list;
-mod mention;
+pub mod list;
+pub mod mention;
 #[cfg(test)]
 mod tests;
-mod top;
+pub mod top;
 mod untyped;
