@@ -1,0 +1,10 @@
+pub mod Asks
+pub mod Read
+pub mod Fitting
+pub mod Callees
+pub mod Scopes
+pub mod Words
+pub mod Expressions
+pub mod Bodies
+pub mod Depth
+pub mod Whole
