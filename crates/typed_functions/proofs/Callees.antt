@@ -38,7 +38,7 @@ abbrev pub IsNoStream : ExprType → Type 0
 IsNoStream (expr_type.Stream v) = ⊥
 IsNoStream t = Unit {0}
 
-mapped_some : {A B : Type 0} (P : B → Type 0) (f : A → B) (o : Option A) (y : B) → option_map f o ≡ Some y → ((x : A) → P (f x)) → P y
+pub mapped_some : {A B : Type 0} (P : B → Type 0) (f : A → B) (o : Option A) (y : B) → option_map f o ≡ Some y → ((x : A) → P (f x)) → P y
 mapped_some P f (Some x) y h all = subst P (same_Some (f x) y h) (all x)
 mapped_some P f None y h all = absurd (none-some y h)
 

@@ -73,7 +73,7 @@ chain_is at p l e ls u h = by (type_of at e) refl (verdict_is (option_and_then (
     by None is h = absurd (none-some (Ok u) h)
 
 -- ---- a call of a declared name has as many arguments as its item has parameters
-params_counted : (item : Option tree.Item) → item_params item ≡ length (params_of item)
+pub params_counted : (item : Option tree.Item) → item_params item ≡ length (params_of item)
 params_counted (Some (tree.Defined p (tree.Define q n ps w b))) = refl
 params_counted (Some (tree.Input p q n y)) = refl
 params_counted (Some (tree.Output p q n)) = refl

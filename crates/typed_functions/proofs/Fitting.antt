@@ -44,7 +44,7 @@ FitAll ks (t ∷ ts) (u ∷ us) = Fits ks t u × FitAll ks ts us
 FitAll ks _ _ = ⊥
 
 -- ---- aggregates
-key_is : (k : KeyType) → of_key k ≡ value_type.Scalar (scalar_of k)
+pub key_is : (k : KeyType) → of_key k ≡ value_type.Scalar (scalar_of k)
 key_is key_type.Int = refl
 key_is key_type.Bool = refl
 key_is key_type.Text = refl
@@ -78,7 +78,7 @@ scalar_in (value_type.Set k) h = absurd (false≢true h)
 scalar_in (value_type.Map k s) h = absurd (false≢true h)
 
 -- ---- operators
-operator_typed : (o : Operator) → TypesTwo (operation_of o) (Value (operand_type (level_of o))) (Value (operand_type (level_of o))) (Value (operand_type (level_of o)))
+pub operator_typed : (o : Operator) → TypesTwo (operation_of o) (Value (operand_type (level_of o))) (Value (operand_type (level_of o))) (Value (operand_type (level_of o)))
 operator_typed operator.Or = typing.logic refl
 operator_typed operator.And = typing.logic refl
 operator_typed operator.Add = typing.arithmetic refl

@@ -21,7 +21,7 @@ use Rattle.flat_core.proofs.Members.{all_append}
 use Rattle.checked_spec.specs.Formed.{IsDeclared, is_input, is_stream}
 
 -- ---- a name stands for the item that its declaration says
-none_all : {A : Type 0} (p : A → Bool) (xs : List A) → list_any p xs ≡ false → list_all (λ x. if p x then false else true) xs ≡ true
+pub none_all : {A : Type 0} (p : A → Bool) (xs : List A) → list_any p xs ≡ false → list_all (λ x. if p x then false else true) xs ≡ true
 none_all p [] h = refl
 none_all p (x ∷ xs) h =
     let both = or_parts (p x) (list_any p xs) h in

@@ -31,11 +31,11 @@ use Rattle.typed_functions.proofs.Asks.{checked, of_family, option_of, same_Ok}
 use Rattle.typed_functions.proofs.Fitting.{Fits, FitAll, stream_fits, asked_stream}
 
 -- ---- names that are none of the language's
-none_of : {A : Type 0} (p : A → Bool) (xs : List A) → list_any p xs ≡ false → AllByRecursion (λ x. p x ≡ false) xs
+pub none_of : {A : Type 0} (p : A → Bool) (xs : List A) → list_any p xs ≡ false → AllByRecursion (λ x. p x ≡ false) xs
 none_of p [] none = tt
 none_of p (x ∷ xs) none = let both = or_parts (p x) (list_any p xs) none in (both.0, none_of p xs both.1)
 
-none_among : (n : List ℕ) (xs : List (List ℕ)) → AllByRecursion (λ x. bytes_eq n x ≡ false) xs → list_any (bytes_eq n) xs ≡ false
+pub none_among : (n : List ℕ) (xs : List (List ℕ)) → AllByRecursion (λ x. bytes_eq n x ≡ false) xs → list_any (bytes_eq n) xs ≡ false
 none_among n [] none = refl
 none_among n (x ∷ xs) none = let rest = none_among n xs none.1 in λ i. none.0 i || rest i
 
