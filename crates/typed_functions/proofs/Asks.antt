@@ -1,13 +1,8 @@
 -- What a rule asks of its parts, read from what it allows.
-use Rattle.std.proofs.Common.{◌≡◌, Bool, true, false, cond, refl, ap, sym, ◌∙◌}
+use Rattle.std.proofs.Common.{◌≡◌, Bool, true, false, cond, refl, ap, ◌∙◌}
 use Rattle.std.specs.Prelude.{Result, Ok, Err}
-use Rattle.std.proofs.lemmas.Bool.{false≢true, and_parts}
-use Rattle.tsl_value.specs.declared.scalar.ScalarType.{ScalarType}
-use Rattle.tsl_value.specs.declared.scalar.ScalarType.TheVariants as scalar_type
-use Rattle.tsl_value.specs.declared.scalar.KeyType.{KeyType}
-use Rattle.tsl_value.specs.declared.scalar.KeyType.TheVariants as key_type
+use Rattle.std.proofs.lemmas.Bool.{false≢true}
 use Rattle.tsl_value.specs.declared.scalar.ValueType.{ValueType}
-use Rattle.tsl_value.specs.declared.scalar.ValueType.TheVariants as value_type
 use Rattle.type_rules.specs.declared.rule.ExprType.{ExprType}
 use Rattle.type_rules.specs.declared.rule.ExprType.TheVariants as expr_type
 use Rattle.type_rules.specs.declared.rule.Family.{Family}
@@ -16,36 +11,9 @@ use Rattle.type_rules.specs.declared.rule.Setting.TheVariants as setting
 use Rattle.type_rules.specs.declared.rule.Asked.{Asked}
 use Rattle.type_rules.specs.declared.rule.Asked.TheVariants as asked
 use Rattle.type_rules.specs.declared.rule.Clash.{Clash}
-use Rattle.type_rules.specs.Asked.{same_scalar, same_key, same_value, same_type, is_in, fits, Check, Verdict, ask, and_then, lifted, lifted_of, inner, key_of, unit}
+use Rattle.type_rules.specs.Asked.{is_in, fits, Check, Verdict, ask, and_then, lifted, lifted_of, inner, key_of, unit}
 use Rattle.type_rules.specs.Rules.{ask_two, ask_both, ask_key}
-
--- ---- types that are the same are equal
-same_scalars : (s t : ScalarType) → same_scalar s t ≡ true → s ≡ t
-same_scalars scalar_type.Unit scalar_type.Unit h = refl
-same_scalars scalar_type.Int scalar_type.Int h = refl
-same_scalars scalar_type.Bool scalar_type.Bool h = refl
-same_scalars scalar_type.Text scalar_type.Text h = refl
-same_scalars s t h = absurd (false≢true h)
-
-same_keys : (k l : KeyType) → same_key k l ≡ true → k ≡ l
-same_keys key_type.Int key_type.Int h = refl
-same_keys key_type.Bool key_type.Bool h = refl
-same_keys key_type.Text key_type.Text h = refl
-same_keys k l h = absurd (false≢true h)
-
-same_values : (s t : ValueType) → same_value s t ≡ true → s ≡ t
-same_values (value_type.Scalar s) (value_type.Scalar t) h = ap value_type.Scalar (same_scalars s t h)
-same_values (value_type.Set k) (value_type.Set l) h = ap value_type.Set (same_keys k l h)
-same_values (value_type.Map k s) (value_type.Map l t) h =
-    let both = and_parts (same_key k l) (same_scalar s t) h in
-    λ i. value_type.Map (same_keys k l both.0 i) (same_scalars s t both.1 i)
-same_values s t h = absurd (false≢true h)
-
-pub same_types : (a b : ExprType) → same_type a b ≡ true → a ≡ b
-same_types (expr_type.Stream s) (expr_type.Stream t) h = ap expr_type.Stream (same_values s t h)
-same_types (expr_type.Value s) (expr_type.Value t) h = ap expr_type.Value (same_values s t h)
-same_types (expr_type.Optional s) (expr_type.Optional t) h = ap expr_type.Optional (same_values s t h)
-same_types a b h = absurd (false≢true h)
+use Rattle.checked_spec.proofs.SameLemmas.{type_same}
 
 -- ---- tests that go on
 pub checked : {A : Type 0} (c : Check) (next : Result A Clash) (x : A) → and_then c next ≡ Ok x → (c ≡ Ok tt) × (next ≡ Ok x)
@@ -60,7 +28,7 @@ fits_asked q t h = either (fits q t) (record { have = t; want = q }) h
     either false clash h = (cc)
 
 pub exactly : (t u : ExprType) → ask (asked.Exactly t) u ≡ Ok tt → u ≡ t
-exactly t u h = same_types u t (fits_asked (asked.Exactly t) u h)
+exactly t u h = type_same u t (fits_asked (asked.Exactly t) u h)
 
 -- ---- what operations take where they stand, streams or values, of a family
 pub record IsOfFamily (at : Setting) (f : Family) (u : ExprType) : Type 0 where

@@ -1,5 +1,5 @@
 -- What a checked specification has of its value functions: how many parameters, what results, and bodies of which types.
-use Rattle.std.proofs.Common.{◌≡◌, ℕ, zero, suc, ◌+◌, ◌≤◌, Bool, true, false, ◌&&◌, ltb, List, [], ◌∷◌, ◌++◌, length, Option, Some, None, refl, ap, sym, subst, ◌∙◌, arith}
+use Rattle.std.proofs.Common.{◌≡◌, ℕ, zero, suc, ◌+◌, ◌≤◌, Bool, true, false, ◌&&◌, ltb, List, [], ◌∷◌, length, Option, Some, None, refl, ap, sym, ◌∙◌, arith}
 use Rattle.std.specs.Prelude.{Ok, Err, if◌then◌else◌, slice_get}
 use Rattle.std.specs.List.{flat_map}
 use Rattle.std.proofs.lemmas.Bool.{true≢false, false≢true, ltb-false}
@@ -9,22 +9,23 @@ use Rattle.tsl_value.specs.declared.scalar.ValueType.TheVariants as value_type
 use Rattle.spec_parser.specs.Tree as tree
 use Rattle.spec_parser.specs.Tree.{Expr, TypeName}
 use Rattle.name_check.specs.Bodies.{item_bodies}
-use Rattle.name_check.specs.Scope.{Scope, top, inside, are_values}
+use Rattle.name_check.specs.Scope.{top, are_values}
 use Rattle.type_rules.specs.declared.rule.ExprType.{ExprType}
 use Rattle.type_rules.specs.declared.rule.ExprType.TheVariants as expr_type
-use Rattle.type_rules.specs.declared.rule.Setting.{Setting}
 use Rattle.type_rules.specs.declared.rule.Setting.TheVariants as setting
 use Rattle.type_rules.specs.Asked.{Check}
-use Rattle.type_rules.specs.Rules.{value_asked, written_asked, body_asked, body_rule}
+use Rattle.type_rules.specs.Rules.{value_asked, body_asked, body_rule}
 use Rattle.form_check.specs.Arity.{too_many_in_item, wrong_in, wrong_in_item, wrong_arities}
 use Rattle.expr_types.specs.Around.{Around, Kinds, params_of}
 use Rattle.expr_types.specs.Judge.{type_of, wrongs}
-use Rattle.expr_types.specs.Bodies.{setting_of, in_definition, may_have_braces, written_of, asked_wrong, asked_of, expr_wrongs, body_wrongs, item_wrongs, wrongs_from, is_aggregate, holds_aggregate, aggregate_results_from}
+use Rattle.expr_types.specs.Bodies.{setting_of, in_definition, may_have_braces, written_of, asked_wrong, asked_of, expr_wrongs, body_wrongs, holds_aggregate, aggregate_results_from}
 use Rattle.spec_meaning.specs.Occurrence.{body_of}
+use Rattle.checked_spec.specs.Checked.{IsChecked}
+use Rattle.checked_spec.proofs.ListLemmas.{append_empty, flat_empty, contains_at}
+use Rattle.checked_spec.proofs.SoundLemmas.{wrongs_at}
+use Rattle.checked_spec.proofs.SameLemmas.{without_written}
 use Rattle.typed_functions.specs.Functions.{IsScalarResult}
-use Rattle.typed_functions.proofs.Asks.{checked}
 use Rattle.typed_functions.proofs.Callees.{IsNoStream}
-use Rattle.typed_functions.proofs.Scopes.{none_in_both}
 
 -- ---- at most eight parameters
 few_here : (item : tree.Item) → too_many_in_item item ≡ [] → are_values (params_of (Some item)) ≡ true → length (params_of (Some item)) ≤ 8
@@ -38,17 +39,14 @@ few_here (tree.Defined p (tree.Define q n ps w b)) h values = by (are_values ps)
 few_here (tree.Output p q n) h values = absurd (false≢true values)
 few_here (tree.OutputAs p e q n) h values = absurd (false≢true values)
 
-few_among : (items : List tree.Item) (names : Scope) (rest : List tree.Item) → flat_map (wrong_in_item items names) rest ≡ [] → (i : ℕ) → are_values (params_of (slice_get rest i)) ≡ true → length (params_of (slice_get rest i)) ≤ 8
-few_among items names [] h i values = absurd (false≢true values)
-few_among items names (item ∷ rest) h zero values =
-    let outer = none_in_both (wrong_in_item items names item) (flat_map (wrong_in_item items names) rest) h in
-    let inner = none_in_both (too_many_in_item item) (flat_map (wrong_in items) (item_bodies names item)) outer.0 in
-    few_here item inner.0 values
-few_among items names (item ∷ rest) h (suc i) values =
-    few_among items names rest (none_in_both (wrong_in_item items names item) (flat_map (wrong_in_item items names) rest) h).1 i values
-
 pub few_params : (items : List tree.Item) → wrong_arities items ≡ [] → (i : ℕ) → are_values (params_of (slice_get items i)) ≡ true → length (params_of (slice_get items i)) ≤ 8
-few_params items h i values = few_among items (top items) items h i values
+few_params items h i values = by (slice_get items i) refl values
+  where
+    by : (o : Option tree.Item) → slice_get items i ≡ o → are_values (params_of o) ≡ true → length (params_of o) ≤ 8
+    by (Some item) is values =
+        let wrong = flat_empty (wrong_in_item items (top items)) items h item (contains_at items i item is) in
+        few_here item (append_empty (too_many_in_item item) (flat_map (wrong_in items) (item_bodies (top items) item)) wrong).0 values
+    by None is values = absurd (false≢true values)
 
 -- ---- scalar results
 further : (kinds : Kinds) (k i : ℕ) → holds_aggregate (kinds.item (suc k + i)) ≡ false → holds_aggregate (kinds.item (k + suc i)) ≡ false
@@ -59,7 +57,7 @@ no_aggregate kinds k [] h i values = absurd (false≢true values)
 no_aggregate kinds k (tree.Input p q n y ∷ items) h zero values = absurd (false≢true values)
 no_aggregate kinds k (tree.Input p q n y ∷ items) h (suc i) values = further kinds k i (no_aggregate kinds (suc k) items h i values)
 no_aggregate kinds k (tree.Defined p (tree.Define q n ps w b) ∷ items) h zero values =
-    let both = none_in_both (if are_values ps && holds_aggregate (kinds.item k) then q ∷ [] else []) (aggregate_results_from kinds (suc k) items) h in
+    let both = append_empty (if are_values ps && holds_aggregate (kinds.item k) then q ∷ [] else []) (aggregate_results_from kinds (suc k) items) h in
     let e : k + 0 ≡ k = omega arith in
     ap (λ m. holds_aggregate (kinds.item m)) e ∙ by (are_values ps) (holds_aggregate (kinds.item k)) both.0 values
   where
@@ -69,7 +67,7 @@ no_aggregate kinds k (tree.Defined p (tree.Define q n ps w b) ∷ items) h zero 
     by false x h values = absurd (false≢true values)
 no_aggregate kinds k (tree.Defined p (tree.Define q n ps w b) ∷ items) h (suc i) values =
     further kinds k i
-    (no_aggregate kinds (suc k) items (none_in_both (if are_values ps && holds_aggregate (kinds.item k) then q ∷ [] else []) (aggregate_results_from kinds (suc k) items) h).1 i values)
+    (no_aggregate kinds (suc k) items (append_empty (if are_values ps && holds_aggregate (kinds.item k) then q ∷ [] else []) (aggregate_results_from kinds (suc k) items) h).1 i values)
 no_aggregate kinds k (tree.Output p q n ∷ items) h zero values = absurd (false≢true values)
 no_aggregate kinds k (tree.Output p q n ∷ items) h (suc i) values = further kinds k i (no_aggregate kinds (suc k) items h i values)
 no_aggregate kinds k (tree.OutputAs p e q n ∷ items) h zero values = absurd (false≢true values)
@@ -90,17 +88,6 @@ no_aggregate_result items kinds h i values =
     ap (λ m. holds_aggregate (kinds.item m)) e ∙ no_aggregate kinds 0 items h i values
 
 -- ---- a body is no stream
-none_wrong : (items : List tree.Item) (kinds : Kinds) (k : ℕ) (rest : List tree.Item) → wrongs_from items kinds k rest ≡ [] → (i : ℕ) (item : tree.Item) → slice_get rest i ≡ Some item → item_wrongs items kinds (k + i) item ≡ []
-none_wrong items kinds k [] h i item is = absurd (none-some item is)
-none_wrong items kinds k (x ∷ rest) h zero item is =
-    let both = none_in_both (item_wrongs items kinds k x) (wrongs_from items kinds (suc k) rest) h in
-    let e : k + 0 ≡ k = omega arith in
-    ap (λ m. item_wrongs items kinds m item) e ∙ ap (item_wrongs items kinds k) (sym (same_Some x item is)) ∙ both.0
-none_wrong items kinds k (x ∷ rest) h (suc i) item is =
-    let both = none_in_both (item_wrongs items kinds k x) (wrongs_from items kinds (suc k) rest) h in
-    let e : k + suc i ≡ suc k + i = omega arith in
-    ap (λ m. item_wrongs items kinds m item) e ∙ none_wrong items kinds (suc k) rest both.1 i item is
-
 -- without braces
 plain_wrongs_none : (at : Around) (braces : Bool) (written : Option ExprType) (e : Expr) → body_wrongs at braces written (tree.Plain e) ≡ [] → expr_wrongs at written e ≡ []
 plain_wrongs_none at true written e h = h
@@ -137,17 +124,14 @@ plain_item items i e h = by (slice_get items i) refl h
 pub values_here : (ps : List tree.Param) → are_values ps ≡ true → setting_of ps ≡ setting.Values
 values_here ps h = ap (λ b. if b then setting.Values else setting.Streams) h
 
--- what is asked of its expression
-pub body_no_stream : (items : List tree.Item) (kinds : Kinds) → wrongs_from items kinds 0 items ≡ [] → (i : ℕ) (e : Expr) (t : ExprType) → are_values (params_of (slice_get items i)) ≡ true → body_of (slice_get items i) ≡ Some (tree.Plain e) → type_of (in_definition items kinds i (params_of (slice_get items i))) e ≡ Some t → IsNoStream t
-body_no_stream items kinds h i e t values body is =
+-- a value is asked of its expression
+pub body_no_stream : (items : List tree.Item) (kinds : Kinds) → IsChecked items kinds → (i : ℕ) (e : Expr) (t : ExprType) → are_values (params_of (slice_get items i)) ≡ true → body_of (slice_get items i) ≡ Some (tree.Plain e) → type_of (in_definition items kinds i (params_of (slice_get items i))) e ≡ Some t → IsNoStream t
+body_no_stream items kinds checked i e t values body is =
     let d = plain_item items i e body in
     let ps = params_of (slice_get items i) in
     let at = in_definition items kinds i ps in
-    let zeroth : i ≡ 0 + i = omega arith in
-    let right = ap (λ m. item_wrongs items kinds m (tree.Defined d.place (tree.Define d.at d.name ps d.written (tree.Plain e)))) zeroth
-    ∙ none_wrong items kinds 0 items h i (tree.Defined d.place (tree.Define d.at d.name ps d.written (tree.Plain e))) d.is in
     let written = written_of ps d.written in
-    let expr = plain_wrongs_none at (may_have_braces ps) written e right in
-    let asked = (none_in_both (wrongs at e) (asked_of at written e (type_of at e)) expr).1 in
+    let right = wrongs_at items kinds checked i (tree.Defined d.place (tree.Define d.at d.name ps d.written (tree.Plain e))) d.is in
+    let asked = (append_empty (wrongs at e) (asked_of at written e (type_of at e)) (plain_wrongs_none at (may_have_braces ps) written e right)).1 in
     let allowed = asked_right e (body_rule at.setting written t) (ap (asked_of at written e) (sym is) ∙ asked) in
-    no_stream_asked t (checked (written_asked written t) (body_asked setting.Values t) tt (ap (λ s. body_rule s written t) (sym (values_here ps values)) ∙ allowed)).1
+    no_stream_asked t (ap (λ s. body_asked s t) (sym (values_here ps values)) ∙ without_written at.setting written t allowed)

@@ -1,6 +1,6 @@
 -- What value functions take and give where they are called.
-use Rattle.std.proofs.Common.{◌≡◌, ℕ, zero, suc, Bool, true, false, ◌&&◌, ◌||◌, cond, List, [], ◌∷◌, map, length, Option, Some, None, refl, ap, sym, subst, ◌∙◌, arith}
-use Rattle.std.specs.Prelude.{Ok, Err, slice_get, slice_index_or, if◌then◌else◌}
+use Rattle.std.proofs.Common.{◌≡◌, ℕ, zero, suc, Bool, true, false, cond, List, [], ◌∷◌, map, length, Option, Some, None, refl, ap, sym, subst, ◌∙◌, arith}
+use Rattle.std.specs.Prelude.{Ok, slice_get, slice_index_or, if◌then◌else◌}
 use Rattle.std.specs.List.{AllByRecursion, list_all}
 use Rattle.std.specs.Option.{option_map, option_and_then}
 use Rattle.std.proofs.lemmas.Bool.{true≢false, false≢true, and_parts}
@@ -14,7 +14,7 @@ use Rattle.type_rules.specs.declared.rule.ExprType.{ExprType}
 use Rattle.type_rules.specs.declared.rule.ExprType.TheVariants as expr_type
 use Rattle.type_rules.specs.declared.rule.Setting.TheVariants as setting
 use Rattle.type_rules.specs.declared.rule.Asked.TheVariants as asked
-use Rattle.type_rules.specs.Asked.{Verdict, ask}
+use Rattle.type_rules.specs.Asked.{ask}
 use Rattle.type_rules.specs.Rules.{ask_each, macro_rule, lifted_type, has_options, function_rule}
 use Rattle.type_rules.specs.Written.{value_of, as_written}
 use Rattle.expr_types.specs.Around.{Kinds, Callee, params_of, param_types, callee_of}
@@ -22,7 +22,7 @@ use Rattle.spec_meaning.specs.Occurrence as occurrence
 use Rattle.spec_meaning.specs.Function.{no_tree}
 use Rattle.typed_functions.specs.Functions.{HasType, HaveTypes, callee}
 use Rattle.typed_functions.proofs.Asks.{checked, exactly, same_Ok}
-use Rattle.typed_functions.proofs.Read.{IsCons, cons_is}
+use Rattle.typed_functions.proofs.Read.{cons_is}
 use Rattle.typed_functions.proofs.Fitting.{Fits, FitAll}
 
 -- the parameters of an item are the same to its types and to its meaning
@@ -96,12 +96,9 @@ pub takes_values : (items : List tree.Item) (kinds : Kinds) (i : ℕ) (c : Calle
 takes_values items kinds i c values h = no_streams (params_of (slice_get items i)) c.params (values_listed (params_of (slice_get items i)) values) (callee_is items kinds i c h).types
 
 -- ---- a call asks for just these arguments
-lifted_none : (t : ExprType) → lifted_type setting.Values t ≡ t
-lifted_none t = refl
-
-all_lifted_none : (ts : List ExprType) → map (lifted_type setting.Values) ts ≡ ts
-all_lifted_none [] = refl
-all_lifted_none (t ∷ ts) = ap (λ us. t ∷ us) (all_lifted_none ts)
+none_lifted : (ts : List ExprType) → map (lifted_type setting.Values) ts ≡ ts
+none_lifted [] = refl
+none_lifted (t ∷ ts) = ap (λ us. t ∷ us) (none_lifted ts)
 
 each_is : (ps args : List ExprType) → length args ≡ length ps → ask_each ps args ≡ Ok tt → args ≡ ps
 each_is [] [] long h = refl
@@ -127,7 +124,7 @@ function_called params result args u long h = by (has_options params result) h
   where
     by : (b : Bool) → cond b (macro_rule params result args) (macro_rule (map (lifted_type setting.Values) params) (lifted_type setting.Values result) args) ≡ Ok u → IsCalled params result args u
     by true h = called_is params result args u long h
-    by false h = called_is params result args u long (ap (λ ps. macro_rule ps result args) (sym (all_lifted_none params)) ∙ h)
+    by false h = called_is params result args u long (ap (λ ps. macro_rule ps result args) (sym (none_lifted params)) ∙ h)
 
 -- ---- trees of types that are no streams
 pub fits_type : (ks : List Kind) (t : Tree) (u : ExprType) → HasType ks t u → Fits ks t u

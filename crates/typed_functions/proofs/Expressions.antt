@@ -1,9 +1,9 @@
 -- The tree of each expression in a value function is of the type of the expression.
-use Rattle.std.proofs.Common.{◌≡◌, ℕ, suc, ◌==◌, Bool, true, false, cond, not, List, [], ◌∷◌, ◌++◌, length, Option, Some, None, refl, ap, sym, subst, ◌∙◌, arith}
+use Rattle.std.proofs.Common.{◌≡◌, ℕ, suc, ◌==◌, Bool, true, false, not, List, [], ◌∷◌, ◌++◌, length, Option, Some, None, refl, sym, subst, ◌∙◌, arith}
 use Rattle.std.specs.Prelude.{Ok, Err, if◌then◌else◌, slice_get, slice_index_or}
-use Rattle.std.specs.List.{AllByRecursion, Contains}
+use Rattle.std.specs.List.{Contains}
 use Rattle.std.specs.Option.{option_map, option_and_then}
-use Rattle.std.proofs.lemmas.Bool.{true≢false, not-false, eqb-true}
+use Rattle.std.proofs.lemmas.Bool.{not-false, eqb-true}
 use Rattle.std.proofs.lemmas.Option.{same_Some, none-some}
 use Rattle.std.proofs.lemmas.List.Elements.{Contains-append_left, Contains-append_right}
 use Rattle.tsl_value.specs.declared.place.Place.{Place}
@@ -16,12 +16,11 @@ use Rattle.lift_func.specs.Typing.{Kind, literal, absent}
 use Rattle.spec_parser.specs.Tree as tree
 use Rattle.spec_parser.specs.Tree.{Expr, Exprs, no_exprs, more_exprs, Links, no_links, more_links}
 use Rattle.spec_parser.specs.declared.tree.Level.{Level}
-use Rattle.spec_parser.specs.declared.tree.Operator.{Operator}
 use Rattle.name_check.specs.declared.declaration.Declaration.{Declaration}
 use Rattle.name_check.specs.declared.declaration.Declaration.TheVariants as declaration
 use Rattle.name_check.specs.Builtin.{is_unit, is_lift}
 use Rattle.name_check.specs.Parts.{Part, Operand, parts, argument_parts, lift_parts, link_parts}
-use Rattle.name_check.specs.Scope.{Scope, top, inside, meaning, are_values}
+use Rattle.name_check.specs.Scope.{Scope, top, inside, meaning}
 use Rattle.type_rules.specs.declared.rule.ExprType.{ExprType}
 use Rattle.type_rules.specs.declared.rule.ExprType.TheVariants as expr_type
 use Rattle.type_rules.specs.declared.rule.Setting.{Setting}
@@ -32,7 +31,7 @@ use Rattle.type_rules.specs.Rules.{link_rule, compare_rule, negate_rule, not_rul
 use Rattle.type_rules.specs.Written.{value_of, key_of, scalar_of}
 use Rattle.form_check.specs.Arity.{count, call_fits, params_at, item_params, declared_takes, takes_one, takes_two, is_wrong_lift}
 use Rattle.expr_types.specs.Around.{Around, Kinds, Callee, params_of, declared_type, callee_at}
-use Rattle.expr_types.specs.Judge.{of_verdict, is_just, is_literal, is_const, builtin_of, call_rule, last_of, lifted_by, const_call, own_call, named_call, next_link, continued, judge, judge_links, type_of, types_of, streams_of}
+use Rattle.expr_types.specs.Judge.{of_verdict, is_just, is_literal, is_const, builtin_of, call_rule, last_of, lifted_by, const_call, own_call, named_call, next_link, continued, judge_links, type_of, types_of, streams_of}
 use Rattle.spec_meaning.specs.Function.{operation_of, no_tree, absent as absent_tree, named_tree, call_tree, tree_of, trees_of, chain_tree}
 use Rattle.checked_spec.specs.Formed.{AreOfLevel, IsFormed}
 use Rattle.typed_functions.specs.Functions.{HasType, HaveTypes, callee}
@@ -40,7 +39,7 @@ use Rattle.typed_functions.proofs.Asks.{same_Ok}
 use Rattle.typed_functions.proofs.Read.{verdict_is, just_is, one_part, two_parts, three_parts, arguments_are, cons_is, types_count}
 use Rattle.typed_functions.proofs.Fitting.{Fits, FitAll, stream_fits, negate_fits, not_fits, link_fits, compare_fits, if_fits, dotted_fits}
 use Rattle.typed_functions.proofs.Callees.{takes_as_many, takes_values, function_called, fits_type, have_types}
-use Rattle.typed_functions.proofs.Scopes.{IsSeen, IsNamed, stands_for_nothing}
+use Rattle.typed_functions.proofs.Scopes.{IsNamed, stands_for_nothing}
 use Rattle.typed_functions.proofs.Words.{TakesItsOwn, takes_its_own, own_name, own_fits, const_fits, lift_fits}
 
 -- ---- chains

@@ -1,6 +1,6 @@
 -- The trees of expressions in value functions fit the types of the expressions: what the rules allow.
-use Rattle.std.proofs.Common.{◌≡◌, Bool, true, false, List, [], ◌∷◌, refl, ap, sym, subst, ◌∙◌}
-use Rattle.std.specs.Prelude.{Ok, Err}
+use Rattle.std.proofs.Common.{◌≡◌, true, List, [], ◌∷◌, refl, ap, sym, subst, ◌∙◌}
+use Rattle.std.specs.Prelude.{Ok}
 use Rattle.std.proofs.lemmas.Bool.{false≢true}
 use Rattle.tsl_value.specs.declared.scalar.ScalarType.{ScalarType}
 use Rattle.tsl_value.specs.declared.scalar.KeyType.{KeyType}
@@ -27,10 +27,10 @@ use Rattle.type_rules.specs.declared.rule.Family.TheVariants as family
 use Rattle.type_rules.specs.declared.rule.Setting.TheVariants as setting
 use Rattle.type_rules.specs.declared.rule.Asked.TheVariants as asked
 use Rattle.type_rules.specs.Asked.{ask, and_then, is_in, inner, unit, int, bool, text, of_key, key_of, entry_of}
-use Rattle.type_rules.specs.Rules.{any_stream, stream, ask_two, ask_both, ask_key, operand_type, link_rule, compare_rule, negate_rule, not_rule, if_rule, chosen_from, dotted_one, dotted_two, dotted_three, dotted_rule}
+use Rattle.type_rules.specs.Rules.{stream, ask_two, ask_both, ask_key, operand_type, link_rule, compare_rule, negate_rule, not_rule, if_rule, dotted_one, dotted_two, dotted_three, dotted_rule}
 use Rattle.spec_meaning.specs.Function.{operation_of, comparison_of, dotted_tree}
 use Rattle.checked_spec.specs.Formed.{level_of}
-use Rattle.typed_functions.proofs.Asks.{checked, exactly, IsOfFamily, of_family, both_are, AreAlike, alike, HasKey, keyed, same_Ok}
+use Rattle.typed_functions.proofs.Asks.{checked, exactly, of_family, both_are, alike, HasKey, keyed, same_Ok}
 
 -- a tree is of a type; of a stream, whatever it is
 abbrev pub Fits : List Kind → Tree → ExprType → Type 0

@@ -1,6 +1,6 @@
 -- The names that are seen in a value function: they stand for its parameters and for value functions, and the language has none of
 -- them itself.
-use Rattle.std.proofs.Common.{◌≡◌, ℕ, zero, suc, ◌+◌, Bool, true, false, ◌||◌, ◌&&◌, cond, List, [], ◌∷◌, ◌++◌, Option, Some, None, refl, ap, sym, subst, ◌∙◌, arith}
+use Rattle.std.proofs.Common.{◌≡◌, ℕ, zero, suc, ◌+◌, Bool, true, false, ◌||◌, cond, List, [], ◌∷◌, ◌++◌, Option, Some, None, refl, ap, sym, subst, ◌∙◌, arith}
 use Rattle.std.specs.Prelude.{if◌then◌else◌, slice_get}
 use Rattle.std.specs.List.{AllByRecursion, find, list_any, list_all}
 use Rattle.std.specs.Option.{option_map}
@@ -19,6 +19,7 @@ use Rattle.expr_types.specs.Around.{params_of}
 use Rattle.expr_types.specs.Bodies.{may_have_braces}
 use Rattle.flat_core.proofs.Members.{all_append}
 use Rattle.checked_spec.specs.Formed.{IsDeclared, is_input, is_stream}
+use Rattle.checked_spec.proofs.ListLemmas.{append_empty}
 
 -- ---- a name stands for the item that its declaration says
 pub none_all : {A : Type 0} (p : A → Bool) (xs : List A) → list_any p xs ≡ false → list_all (λ x. if p x then false else true) xs ≡ true
@@ -68,10 +69,6 @@ name_holds P (e ∷ scope) all n d is = either (bytes_eq e.name n) refl is (name
 abbrev AreNew : Scope → Type 0
 AreNew scope = AllByRecursion (λ e. is_built_in e.name ≡ false) scope
 
-pub none_in_both : {A : Type 0} (xs ys : List A) → xs ++ ys ≡ [] → (xs ≡ []) × (ys ≡ [])
-none_in_both [] ys h = (refl, h)
-none_in_both (x ∷ xs) ys h = (cc)
-
 not_again : (before : List (List ℕ)) (p : Place) (n : List ℕ) → again before p n ≡ [] → is_built_in n ≡ false
 not_again before p n h = by (is_built_in n) h
   where
@@ -82,25 +79,25 @@ not_again before p n h = by (is_built_in n) h
 params_new : (before : List (List ℕ)) (k : ℕ) (ps : List tree.Param) → twice_in_params before ps ≡ [] → AreNew (parameters_from k ps)
 params_new before k [] h = tt
 params_new before k (p ∷ ps) h =
-    let both = none_in_both (again before p.place p.name) (twice_in_params (p.name ∷ before) ps) h in
+    let both = append_empty (again before p.place p.name) (twice_in_params (p.name ∷ before) ps) h in
     (not_again before p.place p.name both.0, params_new (p.name ∷ before) (suc k) ps both.1)
 
-record IsOnce (before : List (List ℕ)) (q : Place) (n : List ℕ) (ps : List tree.Param) (b : tree.Body) (rest : List tree.Item) : Type 0 where
+record IsOnce (before : List (List ℕ)) (n : List ℕ) (ps : List tree.Param) (rest : List tree.Item) : Type 0 where
   new : is_built_in n ≡ false
   params : twice_in_params [] ps ≡ []
   more : twice_from (n ∷ before) rest ≡ []
 
-is_once : (before : List (List ℕ)) (q : Place) (n : List ℕ) (ps : List tree.Param) (b : tree.Body) (rest : List tree.Item) → again before q n ++ twice_in_params [] ps ++ twice_in_body b ++ twice_from (n ∷ before) rest ≡ [] → IsOnce before q n ps b rest
+is_once : (before : List (List ℕ)) (q : Place) (n : List ℕ) (ps : List tree.Param) (b : tree.Body) (rest : List tree.Item) → again before q n ++ twice_in_params [] ps ++ twice_in_body b ++ twice_from (n ∷ before) rest ≡ [] → IsOnce before n ps rest
 is_once before q n ps b rest h =
-    let outer = none_in_both (again before q n ++ twice_in_params [] ps ++ twice_in_body b) (twice_from (n ∷ before) rest) h in
-    let middle = none_in_both (again before q n ++ twice_in_params [] ps) (twice_in_body b) outer.0 in
-    let first = none_in_both (again before q n) (twice_in_params [] ps) middle.0 in
+    let outer = append_empty (again before q n ++ twice_in_params [] ps ++ twice_in_body b) (twice_from (n ∷ before) rest) h in
+    let middle = append_empty (again before q n ++ twice_in_params [] ps) (twice_in_body b) outer.0 in
+    let first = append_empty (again before q n) (twice_in_params [] ps) middle.0 in
     record { new = not_again before q n first.0; params = first.1; more = outer.1 }
 
 top_new : (before : List (List ℕ)) (k : ℕ) (items : List tree.Item) → twice_from before items ≡ [] → AreNew (declared_from k items)
 top_new before k [] h = tt
 top_new before k (tree.Input p q n y ∷ items) h =
-    let both = none_in_both (again before q n) (twice_from (n ∷ before) items) h in
+    let both = append_empty (again before q n) (twice_from (n ∷ before) items) h in
     (not_again before q n both.0, top_new (n ∷ before) (suc k) items both.1)
 top_new before k (tree.Defined p (tree.Define q n ps w b) ∷ items) h =
     let once = is_once before q n ps b items h in
@@ -112,7 +109,7 @@ top_new before k (tree.OutputAs p e q n ∷ items) h = top_new before (suc k) it
 params_once : (before : List (List ℕ)) (items : List tree.Item) → twice_from before items ≡ [] → (i : ℕ) → twice_in_params [] (params_of (slice_get items i)) ≡ []
 params_once before [] h i = refl
 params_once before (tree.Input p q n y ∷ items) h zero = refl
-params_once before (tree.Input p q n y ∷ items) h (suc i) = params_once (n ∷ before) items (none_in_both (again before q n) (twice_from (n ∷ before) items) h).1 i
+params_once before (tree.Input p q n y ∷ items) h (suc i) = params_once (n ∷ before) items (append_empty (again before q n) (twice_from (n ∷ before) items) h).1 i
 params_once before (tree.Defined p (tree.Define q n ps w b) ∷ items) h zero = (is_once before q n ps b items h).params
 params_once before (tree.Defined p (tree.Define q n ps w b) ∷ items) h (suc i) = params_once (n ∷ before) items (is_once before q n ps b items h).more i
 params_once before (tree.Output p q n ∷ items) h zero = refl

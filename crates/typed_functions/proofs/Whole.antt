@@ -1,5 +1,5 @@
--- The value functions of a checked specification have typed bodies, where their expressions are typed.
-use Rattle.std.proofs.Common.{◌≡◌, ℕ, zero, suc, ◌+◌, ◌<◌, ◌≤◌, Bool, true, false, List, [], ◌∷◌, length, Option, Some, None, refl, sym, ap, subst, ◌∙◌, arith}
+-- The value functions of a checked specification have typed bodies.
+use Rattle.std.proofs.Common.{◌≡◌, ℕ, zero, suc, ◌+◌, ◌<◌, ◌≤◌, true, List, [], ◌∷◌, length, Option, Some, None, refl, sym, ap, subst, ◌∙◌, arith}
 use Rattle.std.specs.Prelude.{slice_get}
 use Rattle.std.specs.List.{Contains}
 use Rattle.std.proofs.lemmas.Bool.{false≢true}
@@ -10,23 +10,23 @@ use Rattle.lift_func.specs.Typing.{Kind}
 use Rattle.spec_parser.specs.Tree as tree
 use Rattle.spec_parser.specs.Tree.{Expr, Exprs}
 use Rattle.name_check.specs.declared.declaration.Declaration.TheVariants as declaration
-use Rattle.name_check.specs.Parts.{Part, Operand, parts}
+use Rattle.name_check.specs.Parts.{Operand, parts}
 use Rattle.name_check.specs.Scope.{top, inside, meaning, are_values}
-use Rattle.type_rules.specs.declared.rule.ExprType.{ExprType}
 use Rattle.expr_types.specs.Around.{Kinds, Callee, params_of}
 use Rattle.expr_types.specs.Bodies.{holds_aggregate}
 use Rattle.expr_types.specs.Judge.{type_of}
 use Rattle.definition_cycles.specs.Calls.{Calls}
 use Rattle.spec_meaning.specs.Occurrence.{body_of}
-use Rattle.spec_meaning.specs.Function.{function_at, function_tree, body_tree, tree_of}
+use Rattle.spec_meaning.specs.Function.{function_tree, body_tree, tree_of}
 use Rattle.checked_spec.specs.Checked.{IsChecked}
-use Rattle.checked_spec.specs.Laws.{IsFunctionBody, FunctionBodiesAreTyped}
-use Rattle.typed_functions.specs.Functions.{HasType, HaveTypes, callee, IsTypedFunction, AreTypedFunctions}
+use Rattle.checked_spec.specs.Laws.{IsFunctionBody}
+use Rattle.checked_spec.proofs.BodyLaws.{function_bodies_are_typed}
+use Rattle.typed_functions.specs.Functions.{HasType, HaveTypes, callee, IsTypedFunction}
 use Rattle.typed_functions.specs.Laws.{FunctionsAreTyped}
 use Rattle.typed_functions.proofs.Fitting.{Fits}
 use Rattle.typed_functions.proofs.Callees.{same_params, IsNoStream, callee_is, has_type, parameter_fits}
-use Rattle.typed_functions.proofs.Scopes.{IsSeen, names_in}
-use Rattle.typed_functions.proofs.Expressions.{here, IsKnown, expr_fits}
+use Rattle.typed_functions.proofs.Scopes.{names_in}
+use Rattle.typed_functions.proofs.Expressions.{IsKnown, expr_fits}
 use Rattle.typed_functions.proofs.Bodies.{few_params, scalar_result, no_aggregate_result, plain_item, values_here, body_no_stream}
 use Rattle.typed_functions.proofs.Depth.{LeadsTo, nothing_leads, onward, fewer}
 
@@ -68,7 +68,7 @@ module _ (items : List tree.Item) (kinds : Kinds) (checked : IsChecked items kin
   no_stream_result : (i : ℕ) → IsFunction items i → (c : Callee) → callee items kinds i ≡ Some c → IsNoStream c.result
   no_stream_result i values c is =
       let b = bodies i values in
-      subst IsNoStream (result_is i b c is) (body_no_stream items kinds checked.fit i b.expr b.of values b.plain b.typed.is)
+      subst IsNoStream (result_is i b c is) (body_no_stream items kinds checked i b.expr b.of values b.plain b.typed.is)
 
   body_typed : (deep i : ℕ) → IsFunction items i → ((j : ℕ) → Calls items i j → IsFunction items j → IsTypedTree deep j) → IsTypedTree (suc deep) i
   body_typed deep i values calls c ks ts is have =
@@ -101,5 +101,5 @@ module _ (items : List tree.Item) (kinds : Kinds) (checked : IsChecked items kin
     body = λ c ks ts is have. typed (length items) [] i values (nothing_leads (Calls items) (length items) i) (omega arith) c ks ts is have;
   }
 
-pub functions_typed : FunctionBodiesAreTyped → FunctionsAreTyped
-functions_typed law items kinds checked = record { each = λ i values. function_typed items kinds checked (λ j function. law items kinds j checked function) i values }
+pub functions_are_typed : FunctionsAreTyped
+functions_are_typed items kinds checked = record { each = λ i values. function_typed items kinds checked (λ j function. function_bodies_are_typed items kinds j checked function) i values }
