@@ -1,0 +1,28 @@
+// Laws of typed expressions, as the contracts of functions that do nothing.
+
+ghost use Rattle.typed_flat.specs.Laws.{PartsAreTyped, ConstructsFit, ChoicesFit, NamesAreTyped, CallsAreTyped};
+
+/// The parts of a typed stream are streams.
+pub fn parts_are_typed()
+    ensures { PartsAreTyped }
+{}
+
+/// The construct of a typed stream fits the streams of its parts.
+pub fn constructs_fit()
+    ensures { ConstructsFit }
+{}
+
+/// A choice between sets or maps fits the streams of its parts.
+pub fn choices_fit()
+    ensures { ChoicesFit }
+{}
+
+/// A name is what it stands for.
+pub fn names_are_typed()
+    ensures { NamesAreTyped }
+{}
+
+/// What is typed around a call of a macro is typed inside of it.
+pub fn calls_are_typed()
+    ensures { CallsAreTyped }
+{}
