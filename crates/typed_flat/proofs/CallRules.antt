@@ -1,6 +1,6 @@
 -- What the language's own names ask that their rules allow.
-use Rattle.std.proofs.Common.{◌≡◌, ℕ, Bool, true, false, List, [], ◌∷◌, refl, ap, sym, subst, ◌∙◌}
-use Rattle.std.specs.Prelude.{Ok, Err}
+use Rattle.std.proofs.Common.{◌≡◌, ℕ, Bool, true, [], ◌∷◌, ap, sym, ◌∙◌}
+use Rattle.std.specs.Prelude.{Ok}
 use Rattle.tsl_value.specs.View.{type_of as scalar_type_of}
 use Rattle.tsl_value.specs.declared.scalar.Scalar.{Scalar}
 use Rattle.tsl_value.specs.declared.scalar.ValueType.{ValueType}
@@ -10,7 +10,7 @@ use Rattle.type_rules.specs.declared.rule.ExprType.TheVariants as expr_type
 use Rattle.type_rules.specs.declared.rule.Family.TheVariants as family
 use Rattle.type_rules.specs.declared.rule.Asked.TheVariants as asked
 use Rattle.type_rules.specs.declared.rule.Builtin.TheVariants as builtin
-use Rattle.type_rules.specs.Asked.{Verdict, ask, and_then, inner, unit, int, bool}
+use Rattle.type_rules.specs.Asked.{ask, and_then, inner, unit, int, bool}
 use Rattle.type_rules.specs.Rules.{ask_two, any_stream, const_rule, builtin_one, builtin_two}
 use Rattle.stream_constructs.specs.declared.construct.Stream.{Stream}
 use Rattle.stream_constructs.specs.Construct.{Construct}
@@ -18,7 +18,6 @@ use Rattle.stream_constructs.specs.Construct as construct
 use Rattle.stream_constructs.specs.Agree.{Fits}
 use Rattle.macro_flatten.specs.Makes.{with_itself}
 use Rattle.typed_flat.proofs.Asks.{checked, exactly, stream_in, same_Ok, stream_of}
-use Rattle.typed_flat.proofs.Operands.{AreOf}
 use Rattle.typed_flat.proofs.Fitting.{IsPlain, one_part, two_parts}
 
 plain_one : (c : Construct) (x : ExprType) (a t : ValueType) → x ≡ expr_type.Stream a → ((n : ℕ) (v : Stream) → v.of ≡ a → Fits c (with_itself c n (v ∷ [])) t) → IsPlain c (x ∷ []) t

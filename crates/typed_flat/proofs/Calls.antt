@@ -1,10 +1,10 @@
 -- Calls of names: what they are made of fits.
-use Rattle.std.proofs.Common.{◌≡◌, ℕ, suc, ◌==◌, ◌≤◌, Bool, true, false, cond, not, ◌&&◌, ◌||◌, List, [], ◌∷◌, ◌++◌, length, Option, Some, None, refl, ap, sym, subst, ◌∙◌, arith}
-use Rattle.std.specs.Prelude.{Ok, Err, codes, slice_get, if◌then◌else◌, nat_le}
+use Rattle.std.proofs.Common.{◌≡◌, ℕ, suc, ◌==◌, ◌≤◌, Bool, true, false, cond, not, ◌||◌, List, [], ◌∷◌, length, Option, Some, None, refl, ap, sym, subst, ◌∙◌, arith}
+use Rattle.std.specs.Prelude.{Ok, codes, slice_get, if◌then◌else◌, nat_le}
 use Rattle.std.specs.List.{AllByRecursion, list_any, find}
 use Rattle.std.specs.Option.{option_map, option_and_then}
 use Rattle.std.specs.Str.{bytes_eq}
-use Rattle.std.proofs.lemmas.Bool.{false≢true, true≢false, not-false, eqb-true, leb-true, and_parts, or_parts}
+use Rattle.std.proofs.lemmas.Bool.{true≢false, not-false, eqb-true, leb-true, and_parts, or_parts}
 use Rattle.std.proofs.lemmas.Option.{same_Some, none-some}
 use Rattle.tsl_value.specs.declared.place.Place.{Place}
 use Rattle.tsl_value.specs.declared.scalar.Scalar.{Scalar}
@@ -24,8 +24,8 @@ use Rattle.type_rules.specs.declared.rule.Setting.TheVariants as setting
 use Rattle.type_rules.specs.declared.rule.Asked.TheVariants as asked
 use Rattle.type_rules.specs.declared.rule.Builtin.{Builtin}
 use Rattle.type_rules.specs.declared.rule.Builtin.TheVariants as builtin
-use Rattle.type_rules.specs.Asked.{Verdict, ask, inner, bool}
-use Rattle.type_rules.specs.Rules.{const_rule, builtin_one, builtin_two, builtin_rule, macro_rule, function_rule, lift_rule}
+use Rattle.type_rules.specs.Asked.{ask, inner, bool}
+use Rattle.type_rules.specs.Rules.{const_rule, builtin_one, builtin_two, builtin_rule, function_rule, lift_rule}
 use Rattle.form_check.specs.Arity as form
 use Rattle.form_check.specs.Arity.{count, takes, takes_one, takes_two, declared_takes, function_takes, lifted_takes, call_fits, lift_fits as lift_count_fits, lift_may_have, is_wrong_lift, is_wrong_call}
 use Rattle.expr_types.specs.Around.{Around, Callee, params_of, callee_at}
@@ -43,7 +43,7 @@ use Rattle.typed_flat.proofs.Asks.{checked, same_Ok}
 use Rattle.typed_flat.proofs.Read.{AreTyped, arguments_are, types_are, types_count, verdict_is}
 use Rattle.typed_flat.proofs.Operands.{standard, literal_typed}
 use Rattle.typed_flat.proofs.Fitting.{IsPlain, IsFitting, plain_fits, signal_fits}
-use Rattle.typed_flat.proofs.Expressions.{IsNotOwn, never_own, same_not_own}
+use Rattle.typed_flat.proofs.Expressions.{never_own, same_not_own}
 use Rattle.typed_flat.proofs.Words as words
 use Rattle.typed_flat.proofs.Words.{Word, spelling, IsWord, is_word}
 use Rattle.typed_flat.proofs.CallRules.{time_fits, last_fits, delay_fits, merge_fits, filter_fits, filter_by_fits, const_fits}

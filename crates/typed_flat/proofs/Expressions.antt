@@ -1,5 +1,5 @@
 -- Expressions that are no calls of names: what they are made of fits.
-use Rattle.std.proofs.Common.{◌≡◌, ℕ, ◌==◌, Bool, true, false, cond, not, List, [], ◌∷◌, map, Option, Some, None, refl, ap, sym, subst, ◌∙◌}
+use Rattle.std.proofs.Common.{◌≡◌, ℕ, ◌==◌, Bool, true, false, not, List, [], ◌∷◌, Option, Some, None, refl, sym, subst, ◌∙◌}
 use Rattle.std.specs.Prelude.{Ok, if◌then◌else◌, pos, neg_ℤ}
 use Rattle.std.specs.Option.{option_map, option_and_then}
 use Rattle.std.proofs.lemmas.Bool.{false≢true, not-false, eqb-true}
@@ -29,13 +29,12 @@ use Rattle.name_check.specs.Scope.{meaning}
 use Rattle.type_rules.specs.declared.rule.ExprType.{ExprType}
 use Rattle.type_rules.specs.declared.rule.ExprType.TheVariants as expr_type
 use Rattle.type_rules.specs.declared.rule.Setting.TheVariants as setting
-use Rattle.type_rules.specs.Asked.{Verdict, unit, int, bool, text}
+use Rattle.type_rules.specs.Asked.{unit, int, bool, text}
 use Rattle.type_rules.specs.Rules.{if_rule, compare_rule, negate_rule, not_rule, dotted_rule}
 use Rattle.type_rules.specs.Written.{key_of, scalar_of, value_of}
 use Rattle.form_check.specs.Arity.{count, dotted_takes}
 use Rattle.expr_types.specs.Around.{Around, declared_type}
 use Rattle.expr_types.specs.Judge.{type_of, of_verdict, is_just, types_of}
-use Rattle.stream_constructs.specs.declared.construct.Stream.{Stream}
 use Rattle.stream_constructs.specs.declared.construct.Update.TheVariants as update
 use Rattle.stream_constructs.specs.Construct.{Construct}
 use Rattle.stream_constructs.specs.Construct as construct
@@ -43,12 +42,12 @@ use Rattle.stream_constructs.specs.Equations.{choice}
 use Rattle.stream_constructs.specs.Agree.{Fits}
 use Rattle.spec_meaning.specs.Occurrence.{Call, Occurrence, scope_at, stands_for}
 use Rattle.spec_meaning.specs.Function.{comparison_of, operation_of, dotted_tree}
-use Rattle.spec_meaning.specs.Shape.{Shape, expressions, operands, all_but_last, last_operator, last_operand, left_of, beside, with_parts, one_operand, two_operands, dotted_shape, same_as, name_shape, empty_shape, expr_shape}
+use Rattle.spec_meaning.specs.Shape.{Shape, expressions, all_but_last, last_operator, last_operand, left_of, with_parts, one_operand, two_operands, dotted_shape, same_as, name_shape, empty_shape, expr_shape}
 use Rattle.macro_flatten.specs.Makes.{is_own, with_itself}
 use Rattle.checked_spec.specs.Formed.{AreOfLevel}
-use Rattle.typed_flat.proofs.Asks.{stream_of, same_stream}
+use Rattle.typed_flat.proofs.Asks.{same_stream}
 use Rattle.typed_flat.proofs.Read.{AreTyped, one_part, two_parts, three_parts, arguments_are, types_are, types_count, just_stream}
-use Rattle.typed_flat.proofs.Operands.{standard, AreOf}
+use Rattle.typed_flat.proofs.Operands.{standard}
 use Rattle.typed_flat.proofs.Fitting.{IsPlain, IsFitting, no_parts, plain_fits, signal_fits, update_fits}
 use Rattle.typed_flat.proofs.Rules.{DottedFits, negate_signal, not_signal, link_signal, compare_signal, choice_types, choice_signal, dotted_fits}
 use Rattle.typed_flat.proofs.Chains.{last_of_level, last_link, left_typed, chain_is}

@@ -1,6 +1,6 @@
 -- From what a rule allows to what a construct asks.
-use Rattle.std.proofs.Common.{◌≡◌, ℕ, ◌≤◌, Bool, true, false, ◌&&◌, List, [], ◌∷◌, map, length, Option, Some, refl, ap, sym, subst, ◌∙◌, arith}
-use Rattle.std.specs.List.{AllByRecursion, filter}
+use Rattle.std.proofs.Common.{◌≡◌, ℕ, ◌≤◌, Bool, false, ◌&&◌, List, [], ◌∷◌, length, Some, refl, subst, arith}
+use Rattle.std.specs.List.{AllByRecursion}
 use Rattle.std.proofs.lemmas.Bool.{true≢false}
 use Rattle.std.proofs.lemmas.Option.{same_Some}
 use Rattle.tsl_value.specs.declared.scalar.ValueType.{ValueType}
@@ -15,10 +15,9 @@ use Rattle.expr_types.specs.Around.{Around}
 use Rattle.stream_constructs.specs.declared.construct.Stream.{Stream}
 use Rattle.stream_constructs.specs.declared.construct.Update.{Update as UpdateOp}
 use Rattle.stream_constructs.specs.Construct.{Construct, operand_trees}
-use Rattle.stream_constructs.specs.Construct as construct
-use Rattle.stream_constructs.specs.Agree.{AreOperands, Updates, IsScalar, Fits}
+use Rattle.stream_constructs.specs.Agree.{Updates, IsScalar, Fits}
 use Rattle.spec_meaning.specs.Occurrence.{Call}
-use Rattle.spec_meaning.specs.Shape.{Shape, operands, is_part, beside, with_parts, signal_of, update_of}
+use Rattle.spec_meaning.specs.Shape.{Shape, operands, with_parts, signal_of, update_of}
 use Rattle.macro_flatten.specs.Makes.{is_choice, with_itself, IsAsWritten}
 use Rattle.typed_flat.specs.Matches.{HaveTheirTypes}
 use Rattle.typed_flat.proofs.Read.{AreTyped}

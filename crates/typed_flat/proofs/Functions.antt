@@ -1,6 +1,6 @@
 -- Calls of value functions among streams.
-use Rattle.std.proofs.Common.{◌≡◌, ℕ, suc, ◌≤◌, Bool, true, false, ◌&&◌, ◌||◌, cond, List, [], ◌∷◌, map, length, Option, Some, None, refl, ap, sym, subst, ◌∙◌, arith}
-use Rattle.std.specs.Prelude.{Ok, Err, slice_get, if◌then◌else◌}
+use Rattle.std.proofs.Common.{◌≡◌, ℕ, suc, ◌≤◌, Bool, true, false, cond, List, [], ◌∷◌, map, length, Option, Some, None, refl, ap, sym, subst, ◌∙◌, arith}
+use Rattle.std.specs.Prelude.{Ok, slice_get, if◌then◌else◌}
 use Rattle.std.specs.List.{AllByRecursion, list_any, list_all}
 use Rattle.std.specs.Option.{option_map}
 use Rattle.std.proofs.lemmas.Bool.{true≢false, false≢true, and_parts, or_parts}
@@ -9,7 +9,7 @@ use Rattle.tsl_value.specs.declared.scalar.ValueType.{ValueType}
 use Rattle.tsl_value.specs.declared.scalar.ValueType.TheVariants as value_type
 use Rattle.flat_core.specs.Typed.{is_aggregate}
 use Rattle.lift_func.specs.Tree.{Tree}
-use Rattle.lift_func.specs.Typing.{Kind, Value, HasKind}
+use Rattle.lift_func.specs.Typing.{Kind}
 use Rattle.spec_parser.specs.Tree as tree
 use Rattle.spec_parser.specs.Tree.{TypeName, Param}
 use Rattle.name_check.specs.Scope.{is_events, are_values}
@@ -17,14 +17,14 @@ use Rattle.type_rules.specs.declared.rule.ExprType.{ExprType}
 use Rattle.type_rules.specs.declared.rule.ExprType.TheVariants as expr_type
 use Rattle.type_rules.specs.declared.rule.Setting.TheVariants as setting
 use Rattle.type_rules.specs.declared.rule.Asked.TheVariants as asked
-use Rattle.type_rules.specs.Asked.{Verdict, ask, inner}
+use Rattle.type_rules.specs.Asked.{ask, inner}
 use Rattle.type_rules.specs.Rules.{ask_each, macro_rule, is_optional, lifted_type, has_options, function_rule}
 use Rattle.type_rules.specs.Written.{value_of, as_written}
-use Rattle.expr_types.specs.Around.{Kinds, Callee, params_of, param_types, callee_of, cons}
+use Rattle.expr_types.specs.Around.{Kinds, Callee, params_of, param_types, callee_of}
 use Rattle.spec_meaning.specs.Function.{function_at}
 use Rattle.typed_functions.specs.Functions.{HasType, HaveTypes, IsScalarResult, callee, IsTypedFunction}
 use Rattle.typed_flat.proofs.Asks.{checked, exactly, same_Ok}
-use Rattle.typed_flat.proofs.Read.{IsCons, cons_is}
+use Rattle.typed_flat.proofs.Read.{cons_is}
 use Rattle.typed_flat.proofs.Operands.{streams, AreTrees}
 use Rattle.typed_flat.proofs.Fitting.{IsSignal}
 

@@ -1,6 +1,6 @@
 -- Names, and what stands inside of a call of a macro.
-use Rattle.std.proofs.Common.{◌≡◌, ℕ, zero, suc, Bool, true, false, not, ◌&&◌, List, [], ◌∷◌, length, Option, Some, None, refl, ap, sym, subst, ◌∙◌, arith}
-use Rattle.std.specs.Prelude.{Ok, Err, slice_get, if◌then◌else◌}
+use Rattle.std.proofs.Common.{◌≡◌, ℕ, zero, suc, true, false, not, ◌&&◌, List, [], ◌∷◌, length, Option, Some, None, refl, ap, sym, subst, ◌∙◌, arith}
+use Rattle.std.specs.Prelude.{Ok, slice_get, if◌then◌else◌}
 use Rattle.std.specs.List.{list_all}
 use Rattle.std.specs.Option.{option_map, option_and_then}
 use Rattle.std.proofs.lemmas.Bool.{false≢true, and_parts}
@@ -18,7 +18,7 @@ use Rattle.type_rules.specs.declared.rule.ExprType.{ExprType}
 use Rattle.type_rules.specs.declared.rule.ExprType.TheVariants as expr_type
 use Rattle.type_rules.specs.declared.rule.Setting.TheVariants as setting
 use Rattle.type_rules.specs.declared.rule.Asked.TheVariants as asked
-use Rattle.type_rules.specs.Asked.{Verdict, ask, unit}
+use Rattle.type_rules.specs.Asked.{ask, unit}
 use Rattle.type_rules.specs.Rules.{ask_each, macro_rule}
 use Rattle.type_rules.specs.Written.{as_written}
 use Rattle.form_check.specs.Arity.{count, call_fits, declared_takes}
@@ -26,18 +26,16 @@ use Rattle.expr_types.specs.Around.{Around, Callee, params_of, param_types, decl
 use Rattle.expr_types.specs.Judge.{type_of, types_of, of_verdict, is_just, call_rule}
 use Rattle.expr_types.specs.Bodies.{in_definition, within_block, setting_of, may_have_braces}
 use Rattle.stream_constructs.specs.declared.construct.Stream.{Stream}
-use Rattle.spec_meaning.specs.Occurrence.{scope_at, body_of, block_of}
-use Rattle.spec_meaning.specs.Occurrence as occurrence
+use Rattle.spec_meaning.specs.Occurrence.{body_of, block_of}
 use Rattle.spec_meaning.specs.Shape.{expressions}
-use Rattle.macro_flatten.specs.Makes.{Standing, Stands, inside_call}
+use Rattle.macro_flatten.specs.Makes.{Standing, Stands, inside_call, AreLocals}
 use Rattle.macro_flatten.specs.Makes as makes
 use Rattle.checked_spec.specs.Formed.{IsDeclared}
 use Rattle.typed_functions.specs.Functions.{callee}
 use Rattle.typed_flat.specs.Matches.{Matches, IsTypedAt, HaveTheirTypes}
-use Rattle.macro_flatten.specs.Makes.{AreLocals}
 use Rattle.typed_flat.specs.Laws.{IsTypedCall}
 use Rattle.typed_flat.proofs.Asks.{checked, exactly, same_Ok}
-use Rattle.typed_flat.proofs.Read.{AreTyped, IsCons, cons_is, types_are, verdict_is}
+use Rattle.typed_flat.proofs.Read.{AreTyped, cons_is, types_are, verdict_is}
 use Rattle.typed_flat.proofs.Functions.{callee_is}
 use Rattle.typed_flat.proofs.Lifts.{same_params}
 use Rattle.typed_flat.proofs.Scopes.{meaning_declared}

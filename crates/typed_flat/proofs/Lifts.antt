@@ -1,14 +1,12 @@
 -- Calls of `lift`.
-use Rattle.std.proofs.Common.{◌≡◌, ℕ, suc, ◌+◌, ◌≤◌, true, false, List, [], ◌∷◌, ◌++◌, map, length, Option, Some, None, refl, ap, sym, subst, ◌∙◌, append_assoc, arith}
-use Rattle.std.specs.Prelude.{Ok, Err, slice_get}
+use Rattle.std.proofs.Common.{◌≡◌, ℕ, suc, ◌+◌, ◌≤◌, List, [], ◌∷◌, ◌++◌, map, length, Option, Some, None, refl, ap, sym, subst, ◌∙◌, append_assoc, arith}
+use Rattle.std.specs.Prelude.{Ok, slice_get}
 use Rattle.std.proofs.lemmas.Option.{same_Some}
 use Rattle.tsl_value.specs.declared.scalar.ValueType.{ValueType}
 use Rattle.tsl_value.specs.declared.scalar.ValueType.TheVariants as value_type
-use Rattle.lift_func.specs.Tree.{Tree, Argument}
 use Rattle.lift_func.specs.Typing.{Kind, Optional, HasKind, argument}
 use Rattle.spec_parser.specs.Tree as tree
 use Rattle.spec_parser.specs.Tree.{Expr, Exprs, no_exprs, more_exprs}
-use Rattle.name_check.specs.Scope.{are_values}
 use Rattle.type_rules.specs.declared.rule.ExprType.{ExprType}
 use Rattle.type_rules.specs.declared.rule.ExprType.TheVariants as expr_type
 use Rattle.type_rules.specs.declared.rule.Family.TheVariants as family
@@ -24,11 +22,11 @@ use Rattle.stream_constructs.specs.Construct as construct
 use Rattle.stream_constructs.specs.Agree.{IsScalar}
 use Rattle.spec_meaning.specs.Occurrence.{Call, scope_at}
 use Rattle.spec_meaning.specs.Occurrence as occurrence
-use Rattle.spec_meaning.specs.Function.{function_at, function_body, arguments_from}
+use Rattle.spec_meaning.specs.Function.{function_body, arguments_from}
 use Rattle.spec_meaning.specs.Shape.{expressions, lift_by, function_named, lift_shape}
 use Rattle.typed_functions.specs.Functions.{HasType, HaveTypes, IsScalarResult, callee, IsTypedFunction}
-use Rattle.typed_flat.proofs.Asks.{checked, exactly, stream_in, same_Ok, stream_of}
-use Rattle.typed_flat.proofs.Read.{AreTyped, IsCons, cons_is}
+use Rattle.typed_flat.proofs.Asks.{checked, exactly, stream_in, stream_of}
+use Rattle.typed_flat.proofs.Read.{AreTyped, cons_is}
 use Rattle.typed_flat.proofs.Operands.{streams, AreOf}
 use Rattle.typed_flat.proofs.Fitting.{IsPlain}
 use Rattle.typed_flat.proofs.Functions.{takes_as_many}

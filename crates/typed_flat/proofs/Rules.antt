@@ -1,19 +1,17 @@
 -- What the constructs ask that the rules allow.
-use Rattle.std.proofs.Common.{◌≡◌, ℕ, ◌≤◌, Bool, true, false, ◌&&◌, List, [], ◌∷◌, length, refl, ap, sym, subst, ◌∙◌, arith}
-use Rattle.std.specs.Prelude.{Ok, Err}
+use Rattle.std.proofs.Common.{◌≡◌, ℕ, ◌≤◌, true, false, List, [], ◌∷◌, length, refl, ap, sym, subst, ◌∙◌, arith}
+use Rattle.std.specs.Prelude.{Ok}
 use Rattle.std.proofs.lemmas.Bool.{false≢true}
 use Rattle.tsl_value.specs.declared.scalar.ScalarType.{ScalarType}
-use Rattle.tsl_value.specs.declared.scalar.ScalarType.TheVariants as scalar_type
 use Rattle.tsl_value.specs.declared.scalar.KeyType.{KeyType}
 use Rattle.tsl_value.specs.declared.scalar.KeyType.TheVariants as key_type
 use Rattle.tsl_value.specs.declared.scalar.ValueType.{ValueType}
 use Rattle.tsl_value.specs.declared.scalar.ValueType.TheVariants as value_type
 use Rattle.flat_core.specs.Typed.{is_aggregate}
-use Rattle.lift_func.specs.declared.body.Unary.{Unary}
 use Rattle.lift_func.specs.declared.body.Unary.TheVariants as unary
 use Rattle.lift_func.specs.declared.body.Binary.{Binary}
 use Rattle.lift_func.specs.declared.body.Binary.TheVariants as binary
-use Rattle.lift_func.specs.Tree.{Tree, One, Two, Choice}
+use Rattle.lift_func.specs.Tree.{Tree, One, Two}
 use Rattle.lift_func.specs.Typing.{Kind, Value, TypesOne, TypesTwo, HasKind, one, two, scalar_of}
 use Rattle.lift_func.specs.Typing as typing
 use Rattle.spec_parser.specs.declared.tree.Level.{Level}
@@ -29,7 +27,7 @@ use Rattle.type_rules.specs.declared.rule.ExprType.TheVariants as expr_type
 use Rattle.type_rules.specs.declared.rule.Family.TheVariants as family
 use Rattle.type_rules.specs.declared.rule.Setting.TheVariants as setting
 use Rattle.type_rules.specs.declared.rule.Asked.TheVariants as asked
-use Rattle.type_rules.specs.Asked.{Verdict, ask, and_then, is_in, inner, unit, int, bool, text, of_key, key_of, entry_of}
+use Rattle.type_rules.specs.Asked.{ask, and_then, is_in, inner, int, bool, text, of_key, key_of, entry_of}
 use Rattle.type_rules.specs.Rules.{ask_two, ask_both, ask_key, any_stream, operand_type, link_rule, compare_rule, negate_rule, not_rule, if_rule, dotted_rule}
 use Rattle.form_check.specs.Arity.{dotted_takes}
 use Rattle.stream_constructs.specs.Equations.{choice}
@@ -38,8 +36,7 @@ use Rattle.stream_constructs.specs.declared.construct.Update.TheVariants as upda
 use Rattle.spec_meaning.specs.Function.{operation_of, comparison_of, dotted_tree}
 use Rattle.spec_meaning.specs.Shape.{one_operand, two_operands}
 use Rattle.checked_spec.specs.Formed.{level_of}
-use Rattle.typed_flat.proofs.Asks.{checked, exactly, stream_in, IsStreamIn, both_are, alike, keyed, HasKey, same_Ok, stream_of}
-use Rattle.typed_flat.proofs.Operands.{streams, AreTrees}
+use Rattle.typed_flat.proofs.Asks.{checked, exactly, stream_in, both_are, alike, keyed, HasKey, same_Ok, stream_of}
 use Rattle.typed_flat.proofs.Fitting.{IsSignal, IsUpdate, one_tree, two_trees, three_trees}
 
 -- ---- signals of one and of two operands

@@ -6,7 +6,6 @@ use Rattle.std.specs.Str.{bytes_eq}
 use Rattle.std.proofs.lemmas.Bool.{false≢true}
 use Rattle.std.proofs.lemmas.Slice.Eq.{bytes_eq-Decides}
 use Rattle.name_check.specs.Builtin.{is_called}
-use Rattle.name_check.specs.Builtin as builtin
 
 pub data Word : Type 0 where
   Time : Word

@@ -1,5 +1,5 @@
 -- Constructs fit their parts where expressions are typed.
-use Rattle.std.specs.Prelude.{◌≡◌, ℕ, Bool, true, false, ◌&&◌, List, map, Option, Some, slice_get}
+use Rattle.std.specs.Prelude.{◌≡◌, ℕ, true, false, ◌&&◌, List, map, Some, slice_get}
 use Rattle.std.specs.List.{AllByRecursion}
 use Rattle.tsl_value.specs.declared.place.Place.{Place}
 use Rattle.tsl_value.specs.declared.scalar.ValueType.{ValueType}
@@ -11,12 +11,12 @@ use Rattle.name_check.specs.declared.declaration.Declaration.TheVariants as decl
 use Rattle.name_check.specs.Builtin.{is_unit, is_called}
 use Rattle.name_check.specs.Scope.{meaning}
 use Rattle.type_rules.specs.declared.rule.ExprType.TheVariants as expr_type
-use Rattle.expr_types.specs.Around.{Around, Kinds, params_of}
+use Rattle.expr_types.specs.Around.{Around, params_of}
 use Rattle.expr_types.specs.Judge.{type_of}
 use Rattle.expr_types.specs.Bodies.{in_definition, within_block}
 use Rattle.stream_constructs.specs.declared.construct.Stream.{Stream}
 use Rattle.stream_constructs.specs.Agree.{Fits, FitsChoice}
-use Rattle.spec_meaning.specs.Occurrence.{scope_at, body_of, block_of}
+use Rattle.spec_meaning.specs.Occurrence.{body_of, block_of}
 use Rattle.spec_meaning.specs.Shape.{Shape, shape, expressions}
 use Rattle.macro_flatten.specs.Makes.{Standing, Stands, occurrence, inside_call, is_own, is_choice, choice_operands, with_itself, IsAsWritten, AreLocals}
 use Rattle.typed_flat.specs.Matches.{Matches, IsTypedAt, HaveTheirTypes}

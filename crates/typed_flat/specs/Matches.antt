@@ -1,5 +1,5 @@
 -- Where expressions are typed and where they stand are the same place.
-use Rattle.std.specs.Prelude.{◌≡◌, ℕ, List, [], ◌∷◌, Option, Some}
+use Rattle.std.specs.Prelude.{◌≡◌, ℕ, List, [], ◌∷◌, Some}
 use Rattle.tsl_value.specs.declared.scalar.ValueType.{ValueType}
 use Rattle.spec_parser.specs.Tree as tree
 use Rattle.spec_parser.specs.Tree.{Expr}
@@ -9,7 +9,7 @@ use Rattle.type_rules.specs.declared.rule.Setting.TheVariants as setting
 use Rattle.expr_types.specs.Around.{Around, declared_type}
 use Rattle.expr_types.specs.Judge.{type_of}
 use Rattle.stream_constructs.specs.declared.construct.Stream.{Stream}
-use Rattle.spec_meaning.specs.Occurrence.{Occurrence, scope_at}
+use Rattle.spec_meaning.specs.Occurrence.{scope_at}
 use Rattle.macro_flatten.specs.Makes.{Standing, Stands}
 use Rattle.checked_spec.specs.Formed.{IsDeclared, IsFormed}
 use Rattle.typed_functions.specs.Functions.{AreTypedFunctions}
