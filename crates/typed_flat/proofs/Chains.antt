@@ -25,14 +25,14 @@ pub last_of_level : (l : Level) (o : Operator) (e : Expr) (ls : Links) → AreOf
 last_of_level l o e no_links h = h.0
 last_of_level l o e (more_links q f ls) h = last_of_level l q f ls h.1
 
-record IsNext (l : Level) (t : ExprType) (x : Option ExprType) (rest : ExprType → Option Verdict) (u : ExprType) : Type 0 where
-  b : ExprType
-  w : ExprType
-  is : x ≡ Some b
-  allows : link_rule setting.Streams l t b ≡ Ok w
-  more : rest w ≡ Some (Ok u)
+pub record IsNext (l : Level) (t : ExprType) (x : Option ExprType) (rest : ExprType → Option Verdict) (u : ExprType) : Type 0 where
+  pub b : ExprType
+  pub w : ExprType
+  pub is : x ≡ Some b
+  pub allows : link_rule setting.Streams l t b ≡ Ok w
+  pub more : rest w ≡ Some (Ok u)
 
-next_is : (l : Level) (t : ExprType) (x : Option ExprType) (rest : ExprType → Option Verdict) (u : ExprType) → next_link setting.Streams l t x rest ≡ Some (Ok u) → IsNext l t x rest u
+pub next_is : (l : Level) (t : ExprType) (x : Option ExprType) (rest : ExprType → Option Verdict) (u : ExprType) → next_link setting.Streams l t x rest ≡ Some (Ok u) → IsNext l t x rest u
 next_is l t None rest u h = absurd (none-some (Ok u) h)
 next_is l t (Some b) rest u h = by (link_rule setting.Streams l t b) refl h
   where

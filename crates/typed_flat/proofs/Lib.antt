@@ -13,3 +13,4 @@ pub mod Calls
 pub mod Scopes
 pub mod Whole
 pub mod Inside
+pub mod Beginnings

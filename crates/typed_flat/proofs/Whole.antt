@@ -53,7 +53,7 @@ module _ (items : List tree.Item) (top : ℕ → Stream) (at : Around) (st : Sta
   pub is_standard : Matches items top at st → at ≡ standard items st.calls at
   is_standard m = λ i. record at { items = m.items_are i; scope = m.scope_is i; setting = m.setting_is i }
 
-  standard_typed : (e : Expr) (t : ValueType) → IsTypedAt items top at st e t → type_of (standard items st.calls at) e ≡ Some (expr_type.Stream t)
+  pub standard_typed : (e : Expr) (t : ValueType) → IsTypedAt items top at st e t → type_of (standard items st.calls at) e ≡ Some (expr_type.Stream t)
   standard_typed e t h = ap (λ a. type_of a e) (sym (is_standard h.matches)) ∙ h.is
 
   fits_at : (e : Expr) (t : ValueType) (sh : Shape) → IsTypedAt items top at st e t → shape items (occurrence items top st e) ≡ Some sh → is_own sh.construct ≡ true → IsFitting at e t sh

@@ -1,6 +1,7 @@
 // Laws of typed expressions, as the contracts of functions that do nothing.
 
 ghost use Rattle.typed_flat.specs.Laws.{PartsAreTyped, ConstructsFit, ChoicesFit, NamesAreTyped, CallsAreTyped};
+ghost use Rattle.typed_flat.specs.Chains.{ChainsBegin, ChainsAreOfLevel, OperandsOfChains, OneOperandIsTyped};
 
 /// The parts of a typed stream are streams.
 pub fn parts_are_typed()
@@ -25,4 +26,24 @@ pub fn names_are_typed()
 /// What is typed around a call of a macro is typed inside of it.
 pub fn calls_are_typed()
     ensures { CallsAreTyped }
+{}
+
+/// Each beginning of a typed chain is of the type of the whole.
+pub fn chains_begin()
+    ensures { ChainsBegin }
+{}
+
+/// A typed chain with an operator is of the type of the operands of its level.
+pub fn chains_are_of_level()
+    ensures { ChainsAreOfLevel }
+{}
+
+/// All the operands of a typed chain are of the type of the operands of its level.
+pub fn operands_of_chains()
+    ensures { OperandsOfChains }
+{}
+
+/// A typed chain of one operand is of the type of that.
+pub fn one_operand_is_typed()
+    ensures { OneOperandIsTyped }
 {}
