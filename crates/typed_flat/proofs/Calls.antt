@@ -159,7 +159,7 @@ pub declared_judged : (at : Around) (p : Place) (x : List ℕ) (es : Exprs) → 
 declared_judged at p x es n =
     λ k. of_verdict (if n.no_lift k then lifted_by (streams_of at es) (last_of at es) else if n.none_judged k then const_call es (types_of at es) else own_call (n.no_builtin k) at x (types_of at es))
 
-declared_made : (items : List tree.Item) (cs : List Call) (p : Place) (x : List ℕ) (es : Exprs) → IsDeclaredName x → expr_shape items cs (tree.Call p x es) ≡ declared_shape items cs (meaning (scope_at items cs) x) es
+pub declared_made : (items : List tree.Item) (cs : List Call) (p : Place) (x : List ℕ) (es : Exprs) → IsDeclaredName x → expr_shape items cs (tree.Call p x es) ≡ declared_shape items cs (meaning (scope_at items cs) x) es
 declared_made items cs p x es n =
     ap (call_shape items cs x es) n.no_plain
     ∙ (λ k.

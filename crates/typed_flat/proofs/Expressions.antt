@@ -68,6 +68,11 @@ pub same_not_own : (o : Option Occurrence) → IsNotOwn (same_as o)
 same_not_own None = tt
 same_not_own (Some a) = refl
 
+pub name_not_own : (items : List tree.Item) (cs : List Call) (d : Option Declaration) → IsNotOwn (name_shape items cs d)
+name_not_own items cs (Some (declaration.Input i)) = refl
+name_not_own items cs (Some d) = same_not_own (stands_for items cs d)
+name_not_own items cs None = tt
+
 module _ (items : List tree.Item) (cs : List Call) (at : Around) (t : ValueType) (sh : Shape) where
   abbrev pub Fitting : Expr → Type 0
   Fitting e = IsFitting (standard items cs at) e t sh
@@ -131,17 +136,12 @@ module _ (items : List tree.Item) (cs : List Call) (at : Around) (t : ValueType)
   pub unit_fitting : (p : Place) → IsOf (tree.Unit p) → IsMade (tree.Unit p) → Fitting (tree.Unit p)
   unit_fitting p h is = plain_fits items cs at (tree.Unit p) t [] [] sh tt tt construct.Unit (unit_leaf h) is
 
-  name_not_own : (d : Option Declaration) → IsNotOwn (name_shape items cs d)
-  name_not_own (Some (declaration.Input i)) = refl
-  name_not_own (Some d) = same_not_own (stands_for items cs d)
-  name_not_own None = tt
-
   pub name_fitting : (p : Place) (x : List ℕ) → IsOf (tree.Name p x) → IsMade (tree.Name p x) → is_own sh.construct ≡ true → Fitting (tree.Name p x)
   name_fitting p x h is own = by (is_unit x) h is
     where
       by : (b : Bool) → of_verdict (if b then Some (Ok (expr_type.Stream unit)) else is_just (option_and_then (declared_type (standard items cs at)) (meaning (scope_at items cs) x))) ≡ Some (expr_type.Stream t) → (if b then with_parts cs construct.Unit [] else name_shape items cs (meaning (scope_at items cs) x)) ≡ Some sh → Fitting (tree.Name p x)
       by true h is = plain_fits items cs at (tree.Name p x) t [] [] sh tt tt construct.Unit (unit_leaf h) is
-      by false h is = never_own (Fitting (tree.Name p x)) (name_shape items cs (meaning (scope_at items cs) x)) sh (name_not_own (meaning (scope_at items cs) x)) is own
+      by false h is = never_own (Fitting (tree.Name p x)) (name_shape items cs (meaning (scope_at items cs) x)) sh (name_not_own items cs (meaning (scope_at items cs) x)) is own
 
   pub nil_fitting : (p : Place) (y : tree.TypeName) → IsOf (tree.Nil p y) → IsMade (tree.Nil p y) → Fitting (tree.Nil p y)
   nil_fitting p y h is = plain_fits items cs at (tree.Nil p y) t [] [] sh tt (just_stream (value_of y) t h) construct.Nil (leaf construct.Nil t (λ n. tt)) is

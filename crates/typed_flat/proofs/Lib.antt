@@ -14,3 +14,4 @@ pub mod Scopes
 pub mod Whole
 pub mod Inside
 pub mod Beginnings
+pub mod Within

@@ -2,6 +2,7 @@
 
 ghost use Rattle.typed_flat.specs.Laws.{PartsAreTyped, ConstructsFit, ChoicesFit, NamesAreTyped, CallsAreTyped};
 ghost use Rattle.typed_flat.specs.Chains.{ChainsBegin, ChainsAreOfLevel, OperandsOfChains, OneOperandIsTyped};
+ghost use Rattle.typed_flat.specs.Inner.{SubsAreFormed, OperandsStandIn, ArgumentsStandIn};
 
 /// The parts of a typed stream are streams.
 pub fn parts_are_typed()
@@ -46,4 +47,19 @@ pub fn operands_of_chains()
 /// A typed chain of one operand is of the type of that.
 pub fn one_operand_is_typed()
     ensures { OneOperandIsTyped }
+{}
+
+/// What stands in the parts of an expression stands in the expression itself.
+pub fn subs_are_formed()
+    ensures { SubsAreFormed }
+{}
+
+/// What stands in an operand of a chain stands in the chain.
+pub fn operands_stand_in()
+    ensures { OperandsStandIn }
+{}
+
+/// What stands in an argument of a call that is no `lift` stands in the call.
+pub fn arguments_stand_in()
+    ensures { ArgumentsStandIn }
 {}
