@@ -1,5 +1,5 @@
 -- Two derivations of the inputs, of the streams of the top, and of the outputs.
-use Rattle.std.proofs.Common.{◌≡◌, ℕ, zero, suc, ◌+◌, List, [], ◌∷◌, ◌++◌, length, Option, Some, refl, ap, sym, subst, ◌∙◌, arith, length-append}
+use Rattle.std.proofs.Common.{◌≡◌, ℕ, zero, suc, ◌+◌, List, [], ◌∷◌, ◌++◌, length, Option, Some, refl, ap, sym, subst, ◌∙◌, arith}
 use Rattle.std.specs.Prelude.{slice_get}
 use Rattle.std.proofs.lemmas.Bool.{true≢false}
 use Rattle.std.proofs.lemmas.Option.{same_Some, none-some}
@@ -14,11 +14,9 @@ use Rattle.stream_constructs.specs.declared.construct.Stream.{Stream}
 use Rattle.stream_constructs.specs.Equations.{equation}
 use Rattle.macro_flatten.specs.Flat.{outermost, named, MakesInputs, MakesStreams, MakesPrinted, MakesOutputs}
 use Rattle.macro_flatten.specs.Flat as flat
-use Rattle.flat_meaning.proofs.Plain.{named_length}
 use Rattle.flat_meaning.proofs.Scopes.{IsInputItem, IsStreamItem}
 use Rattle.one_flat.specs.Laws.{SameKinds}
-use Rattle.one_flat.proofs.Lengths.{both_lengths}
-use Rattle.one_flat.proofs.Once.{Alike, IsSame, Agree, IsOne, OneStream}
+use Rattle.one_flat.proofs.Once.{Alike, IsSame, Agree, IsOne}
 use Rattle.one_flat.proofs.MakesOnce.{makes_once, body_once}
 
 -- ---- what holds of the items of a kind, by their numbers
@@ -114,15 +112,18 @@ module _ (items : List tree.Item) (a b : Kinds) (same : SameKinds a b) (top othe
         let once = (makes_once items a b same top other tops one two at_top).whole exact n_same top_same in
         (all_is ∙ ap (named x) once.0 ∙ sym all_too, once.1)
 
+    -- an output and those behind it
+    output_joined : {x : List ℕ} {first front made rest xs ys : List Equation} {s u : Stream} {outs others os ps : List Output} → (first ≡ front) × (s ≡ u) → (made ≡ rest) × (outs ≡ others) → xs ≡ first ++ made → ys ≡ front ++ rest → os ≡ record { name = x; equation = s.id } ∷ outs → ps ≡ record { name = x; equation = u.id } ∷ others → (xs ≡ ys) × (os ≡ ps)
+    output_joined {x} head tail all_is all_too printed_is printed_too =
+        (all_is ∙ (λ k. head.0 k ++ tail.0 k) ∙ sym all_too, printed_is ∙ (λ k. record { name = x; equation = (head.1 k).id } ∷ tail.1 k) ∙ sym printed_too)
+
     pub outputs_once : {rest : List tree.Item} {n m : ℕ} {xs ys : List Equation} {os ps : List Output} → n ≡ m → MakesOutputs items a top rest n xs os → MakesOutputs items b other rest m ys ps → (xs ≡ ys) × (os ≡ ps)
     outputs_once n_same flat.MakesOutputs.end flat.MakesOutputs.end = (refl, refl)
-    outputs_once n_same (flat.MakesOutputs.output {x = x} s first made outs one more all_is printed_is) (flat.MakesOutputs.output u front rest others two less all_too printed_too) =
+    outputs_once n_same (flat.MakesOutputs.output s first made outs one more all_is printed_is) (flat.MakesOutputs.output u front rest others two less all_too printed_too) =
         let head = printed_once n_same one two in
-        let tail = outputs_once (λ k. n_same k + length (head.0 k)) more less in
-        (all_is ∙ (λ k. head.0 k ++ tail.0 k) ∙ sym all_too, printed_is ∙ (λ k. record { name = x; equation = (head.1 k).id } ∷ tail.1 k) ∙ sym printed_too)
-    outputs_once n_same (flat.MakesOutputs.output_as {x = x} s first made outs one more all_is printed_is) (flat.MakesOutputs.output_as u front rest others two less all_too printed_too) =
+        output_joined head (outputs_once (λ k. n_same k + length (head.0 k)) more less) all_is all_too printed_is printed_too
+    outputs_once n_same (flat.MakesOutputs.output_as s first made outs one more all_is printed_is) (flat.MakesOutputs.output_as u front rest others two less all_too printed_too) =
         let head = printed_once n_same one two in
-        let tail = outputs_once (λ k. n_same k + length (head.0 k)) more less in
-        (all_is ∙ (λ k. head.0 k ++ tail.0 k) ∙ sym all_too, printed_is ∙ (λ k. record { name = x; equation = (head.1 k).id } ∷ tail.1 k) ∙ sym printed_too)
+        output_joined head (outputs_once (λ k. n_same k + length (head.0 k)) more less) all_is all_too printed_is printed_too
     outputs_once n_same (flat.MakesOutputs.input more) (flat.MakesOutputs.input less) = outputs_once n_same more less
     outputs_once n_same (flat.MakesOutputs.defined more) (flat.MakesOutputs.defined less) = outputs_once n_same more less

@@ -1,24 +1,18 @@
 -- A specification has one flat system at most.
-use Rattle.std.proofs.Common.{◌≡◌, ℕ, ◌+◌, true, List, ◌++◌, length, Some, refl, ap, sym, subst, ◌∙◌, arith}
-use Rattle.std.specs.Prelude.{slice_get, IsTrue}
+use Rattle.std.proofs.Common.{◌≡◌, ℕ, ◌+◌, List, ◌++◌, length, ap, sym, subst, ◌∙◌, arith}
+use Rattle.std.specs.Prelude.{slice_get}
 use Rattle.std.specs.List.{Contains}
 use Rattle.flat_core.specs.declared.equation.Equation.{Equation}
 use Rattle.flat_core.specs.declared.equation.Output.{Output}
-use Rattle.flat_core.specs.Complete.{IsFlat}
-use Rattle.flat_core.specs.Members.{is_in}
 use Rattle.flat_core.specs.Needed.{IsReached}
-use Rattle.flat_core.specs.System.{System, runs}
 use Rattle.flat_core.proofs.Members.{in-Contains, Contains-in}
-use Rattle.spec_parser.specs.Tree as tree
-use Rattle.expr_types.specs.Around.{Kinds}
 use Rattle.stream_constructs.specs.declared.construct.Stream.{Stream}
-use Rattle.macro_flatten.specs.Flat.{IsFlatOf}
 use Rattle.flat_meaning.proofs.Rising.{rising, same_rising}
 use Rattle.flat_meaning.proofs.Scopes.{IsInputItem, IsStreamItem}
-use Rattle.one_flat.specs.Laws.{SameKinds, OneFlat, OneSystem}
+use Rattle.one_flat.specs.Laws.{OneFlat, OneSystem}
 use Rattle.one_flat.proofs.Once.{Agree}
 use Rattle.one_flat.proofs.MakesOnce.{pinned}
-use Rattle.one_flat.proofs.ItemsOnce.{OfEach, inputs_once, streams_pinned, streams_once, outputs_once}
+use Rattle.one_flat.proofs.ItemsOnce.{inputs_once, streams_pinned, streams_once, outputs_once}
 
 -- from the first item on
 from_first : (IsItem : ℕ → Type 0) (P : ℕ → Type 0) → ((k : ℕ) → IsItem k → P (0 + k)) → (i : ℕ) → IsItem i → P i

@@ -1,5 +1,5 @@
 -- The type of a construct follows from those of its parts.
-use Rattle.std.proofs.Common.{◌≡◌, ℕ, Bool, true, false, List, [], ◌∷◌, map, Option, Some, None, refl, ap, sym, subst, ◌∙◌}
+use Rattle.std.proofs.Common.{◌≡◌, Bool, true, false, List, [], ◌∷◌, map, Option, Some, refl, ap, sym, subst, ◌∙◌}
 use Rattle.std.specs.Prelude.{slice_get}
 use Rattle.std.proofs.lemmas.Bool.{true≢false}
 use Rattle.std.proofs.lemmas.Option.{same_Some}
@@ -8,7 +8,7 @@ use Rattle.tsl_value.specs.declared.scalar.ValueType.{ValueType}
 use Rattle.tsl_value.specs.declared.scalar.ValueType.TheVariants as value_type
 use Rattle.lift_func.specs.Typing.{Kind, Value, Optional, HasKind}
 use Rattle.lift_func.specs.Typing as typing
-use Rattle.flat_core.specs.Typed.{unit_type, int_type, bool_type, is_aggregate}
+use Rattle.flat_core.specs.Typed.{unit_type, int_type, bool_type}
 use Rattle.stream_constructs.specs.declared.construct.Stream.{Stream}
 use Rattle.stream_constructs.specs.declared.construct.Update.{Update as UpdateOp}
 use Rattle.stream_constructs.specs.Construct.{Construct, Operand, Fixed, Varying, operand_trees}
