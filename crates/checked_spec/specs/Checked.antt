@@ -1,5 +1,5 @@
 -- Specifications that have none of the faults that are checked before flattening, and what is known of their expressions then.
-use Rattle.std.specs.Prelude.{◌≡◌, ℕ, false, List, [], Some, None}
+use Rattle.std.specs.Prelude.{◌≡◌, false, List, [], Some, None}
 use Rattle.std.specs.List.{Contains}
 use Rattle.spec_parser.specs.Tree as tree
 use Rattle.spec_parser.specs.Tree.{Expr}
@@ -12,7 +12,7 @@ use Rattle.type_rules.specs.declared.rule.ExprType.{ExprType}
 use Rattle.expr_types.specs.Around.{Around, Kinds}
 use Rattle.expr_types.specs.Bodies.{AreKinds, all_wrongs, aggregate_results_from}
 use Rattle.expr_types.specs.Judge.{type_of}
-use Rattle.definition_cycles.specs.Cycles.{IsFirstFunctionCycle}
+use Rattle.definition_cycles.specs.Cycles.{IsFirstFunctionCycle, IsFirstUntypedCycle}
 use Rattle.checked_spec.specs.Formed.{IsFormed, HaveTheirOperators}
 
 -- the specification has none of these faults, and its declared names are this
@@ -23,6 +23,7 @@ pub record IsChecked (items : List tree.Item) (kinds : Kinds) : Type 0 where
   pub not_mixed : mixed_parameters items ≡ []
   pub scalar_inputs : aggregate_inputs items ≡ []
   pub no_cycle : IsFirstFunctionCycle items None
+  pub no_untyped_cycle : IsFirstUntypedCycle items None
   pub are_kinds : AreKinds items kinds
   pub arities : wrong_arities items ≡ []
   pub fit : all_wrongs items kinds ≡ []

@@ -1,5 +1,5 @@
 -- What holds of each expression of a specification of which no call is refused.
-use Rattle.std.specs.Prelude.{◌≡◌, Bool, true, false, List, [], ◌∷◌, Option, Some, slice_get}
+use Rattle.std.specs.Prelude.{◌≡◌, Bool, true, false, List, [], Option, Some, slice_get}
 use Rattle.std.specs.List.{Contains}
 use Rattle.spec_parser.specs.Tree as tree
 use Rattle.spec_parser.specs.Tree.{Expr, Links, no_links, more_links}

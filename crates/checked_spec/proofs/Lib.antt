@@ -1,0 +1,12 @@
+pub mod ListLemmas
+pub mod Acyclic
+pub mod WrittenLemmas
+pub mod Judged
+pub mod BlockLemmas
+pub mod ScopeLemmas
+pub mod NodeLemmas
+pub mod SoundLemmas
+pub mod SameLemmas
+pub mod KindLemmas
+pub mod BodyLaws
+pub mod OwnNames
