@@ -27,7 +27,8 @@ use Rattle.definition_cycles.specs.Mentions.{MentionsUntyped, declared}
 use Rattle.spec_meaning.specs.Occurrence.{body_of, block_of, result_of}
 use Rattle.checked_spec.specs.Formed.{is_input, is_stream}
 use Rattle.checked_spec.specs.Checked.{IsChecked}
-use Rattle.checked_spec.proofs.ListLemmas.{append_empty, flat_empty, all_of, contains_at}
+use Rattle.flat_core.proofs.Members.{all_from}
+use Rattle.checked_spec.proofs.ListLemmas.{append_empty, flat_empty, contains_at}
 use Rattle.checked_spec.proofs.Acyclic.{holds}
 use Rattle.checked_spec.proofs.WrittenLemmas.{Has, stream_there, written_there}
 use Rattle.checked_spec.proofs.Judged.{IsThere, AreThere, IsFine, typed}
@@ -63,7 +64,7 @@ sound_fits at w e sound there = record { of = t.it; is = t.is; asked = allowed_b
     }
 
     t : Has (type_of at e)
-    t = typed at e (all_of (IsFine at) (parts e) fine)
+    t = typed at e (all_from (IsFine at) (parts e) fine)
 
 -- what it is for whoever mentions it, where no type is written
 pub fits_kind : (at : Around) (e : Expr) (of : ExprType) → type_of at e ≡ Some of → body_rule at.setting None of ≡ Ok tt → expr_kind at e ≡ Some of
@@ -274,7 +275,8 @@ module _ (items : List tree.Item) (kinds : Kinds) (checked : IsChecked items kin
   plain_of i (Some (tree.OutputAs p e q n)) is = tt
   plain_of i None is = tt
 
-  seen_in : (i : ℕ) (o : Option tree.Item) → slice_get items i ≡ o → (p : Part) (d : Declaration) → declared (scope_in items o) p ≡ Some d → IsSeen items o d
+  -- what is seen there stands for what it says
+  pub seen_in : (i : ℕ) (o : Option tree.Item) → slice_get items i ≡ o → (p : Part) (d : Declaration) → declared (scope_in items o) p ≡ Some d → IsSeen items o d
   seen_in i o is p d stands = mentioned_seen items o checked.not_mixed (plain_of i o is) p d stands
 
   -- ---- along mentions

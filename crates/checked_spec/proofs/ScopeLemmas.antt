@@ -19,7 +19,8 @@ use Rattle.expr_types.specs.Bodies.{may_have_braces}
 use Rattle.definition_cycles.specs.Mentions.{declared}
 use Rattle.spec_meaning.specs.Occurrence.{body_of, block_of}
 use Rattle.checked_spec.specs.Formed.{is_input, is_stream, IsDeclared}
-use Rattle.checked_spec.proofs.ListLemmas.{append_empty, all_joined}
+use Rattle.flat_core.proofs.Members.{all_append}
+use Rattle.checked_spec.proofs.ListLemmas.{append_empty}
 use Rattle.checked_spec.proofs.WrittenLemmas.{Has}
 use Rattle.checked_spec.proofs.BlockLemmas.{nth, ArePlain}
 
@@ -122,9 +123,9 @@ module _ (items : List tree.Item) where
 
   scope_seen : (o : Option tree.Item) → flat_map mixed_in_item items ≡ [] → ArePlain (block_of (body_of o)) → AreSeen o (scope_in o)
   scope_seen o none plain =
-      all_joined (λ e. IsSeen o e.is) (locals_from 0 (block_of (body_of o))) (inside (top items) (params_of o))
+      all_append (λ e. IsSeen o e.is) (locals_from 0 (block_of (body_of o))) (inside (top items) (params_of o))
       (locals_seen o 0 (block_of (body_of o)) plain (λ m. let e : 0 + m ≡ m = omega arith in ap (λ j. nth j (block_of (body_of o))) e))
-      (all_joined (λ e. IsSeen o e.is) (parameters_from 0 (params_of o)) (if are_values (params_of o) then functions_of (top items) else top items)
+      (all_append (λ e. IsSeen o e.is) (parameters_from 0 (params_of o)) (if are_values (params_of o) then functions_of (top items) else top items)
       (parameters_seen o 0 (params_of o) (λ m. let e : 0 + m ≡ m = omega arith in ap (slice_get (params_of o)) e))
       (around_seen o (are_values (params_of o)) none))
 

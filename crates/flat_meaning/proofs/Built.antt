@@ -17,6 +17,7 @@ use Rattle.flat_core.specs.Typed.{unit_type}
 use Rattle.flat_core.proofs.Uniqueness.{all_by}
 use Rattle.spec_parser.specs.Tree as tree
 use Rattle.spec_parser.specs.Tree.{Expr, place_of}
+use Rattle.expr_types.specs.Around.{Kinds}
 use Rattle.stream_constructs.specs.declared.construct.Stream.{Stream}
 use Rattle.stream_constructs.specs.Construct.{Construct, outcome, root, operand_trees}
 use Rattle.stream_constructs.specs.Construct as construct
@@ -58,26 +59,26 @@ is_itself construct.Delay m (a ∷ b ∷ c ∷ parts) = longer (parts ++ record 
     longer (d ∷ more) is = subst (λ xs. IsItself construct.Delay m (a ∷ b ∷ c ∷ xs)) (sym is) tt
 is_itself c m parts = tt
 
-module _ (items : List tree.Item) (top : ℕ → Stream) (s : System) (laws : TheLaws) where
-  joined_from : (c : Construct) (own : List Equation) (n : ℕ) (parts : List Stream) → HangTogether c own n parts (plain s) → AreJoined items top s c own n parts
+module _ (items : List tree.Item) (kinds : Kinds) (top : ℕ → Stream) (s : System) (laws : TheLaws) where
+  joined_from : (c : Construct) (own : List Equation) (n : ℕ) (parts : List Stream) → HangTogether c own n parts (plain s) → AreJoined items kinds top s c own n parts
   joined_from c own n parts hang = record { reach = hang.reach; reach_parts = hang.reach_parts; arguments = hang.arguments; falls = hang.falls }
 
-  each_itself : (c : Construct) (m : ℕ) (o : Occurrence) (os : List Occurrence) (parts : List Stream) → Each (IsPlaced items top s) os parts → (c ≡ construct.Delay → Placed items top s o m) → Each (IsPlaced items top s) (os ++ itself c o) (with_itself c m parts)
-  each_itself construct.Delay m o os parts each self = each_end (IsPlaced items top s) os parts o (record { id = m; of = unit_type }) each (self refl)
-  each_itself c m o os parts each self = subst (λ xs. Each (IsPlaced items top s) xs parts) (sym (append-nil os)) each
+  each_itself : (c : Construct) (m : ℕ) (o : Occurrence) (os : List Occurrence) (parts : List Stream) → Each (IsPlaced items kinds top s) os parts → (c ≡ construct.Delay → Placed items kinds top s o m) → Each (IsPlaced items kinds top s) (os ++ itself c o) (with_itself c m parts)
+  each_itself construct.Delay m o os parts each self = each_end (IsPlaced items kinds top s) os parts o (record { id = m; of = unit_type }) each (self refl)
+  each_itself c m o os parts each self = subst (λ xs. Each (IsPlaced items kinds top s) xs parts) (sym (append-nil os)) each
 
   nameless : (c : Construct) (p : Place) (own : List Equation) → AllByRecursion (IsOwn c p) own → AllByRecursion IsNameless own
   nameless c p own all = all_by (IsOwn c p) IsNameless (λ e h. record { nameless = h.nameless }) own all
 
   -- a construct
-  pub own_built : (at : Standing) (e : Expr) (n m : ℕ) (sh : Shape) (parts : List Stream) (before : List Equation) (of : ValueType) (stream : Stream) → Entered items top s at → shape items (record { calls = at.calls; expr = e }) ≡ Some sh → is_own sh.construct ≡ true → MakesAll items top at (map (λ o. o.expr) sh.parts) n before parts → Within s n before → Fits sh.construct (with_itself sh.construct m parts) of → Within s m (own_equations (place_of e) of m sh.construct (with_itself sh.construct m parts)) → stream.id ≡ last_number m (own_equations (place_of e) of m sh.construct (with_itself sh.construct m parts)) → IsMade items top s at e stream → IsBuilt items top s (record { calls = at.calls; expr = e }) stream.id
+  pub own_built : (at : Standing) (e : Expr) (n m : ℕ) (sh : Shape) (parts : List Stream) (before : List Equation) (of : ValueType) (stream : Stream) → Entered items kinds top s at → shape items (record { calls = at.calls; expr = e }) ≡ Some sh → is_own sh.construct ≡ true → MakesAll items kinds top at (map (λ o. o.expr) sh.parts) n before parts → Within s n before → Fits sh.construct (with_itself sh.construct m parts) of → Within s m (own_equations (place_of e) of m sh.construct (with_itself sh.construct m parts)) → stream.id ≡ last_number m (own_equations (place_of e) of m sh.construct (with_itself sh.construct m parts)) → IsMade items kinds top s at e stream → IsBuilt items kinds top s (record { calls = at.calls; expr = e }) stream.id
   own_built at e n m sh parts before of stream entered is own_sh makes before_within fits within number self =
       let o : Occurrence = record { calls = at.calls; expr = e } in
       let streams : List Stream = with_itself sh.construct m parts in
       let own : List Equation = own_equations (place_of e) of m sh.construct streams in
       let has = own_made (place_of e) of m sh.construct streams in
       let standing = stands s m own within (nameless sh.construct (place_of e) own has) in
-      let there = parts_placed items top s entered sh.parts parts (parts_beside items o sh is own_sh) (all_made items top s makes before_within) in
+      let there = parts_placed items kinds top s entered sh.parts parts (parts_beside items o sh is own_sh) (all_made items kinds top s makes before_within) in
       let one : sh.construct ≡ construct.Delay → IsOneDelay own = delay_own (place_of e) of m sh.construct streams fits in
       record {
         of = sh;
@@ -90,14 +91,14 @@ module _ (items : List tree.Item) (top : ℕ → Stream) (s : System) (laws : Th
         number_is = number;
         makes = laws.constructs_made sh.construct (place_of e) of m streams fits (is_itself sh.construct m parts);
         joined = joined_from sh.construct own m streams (laws.constructs_hang sh.construct (place_of e) of m streams (plain s) fits (is_itself sh.construct m parts) standing);
-        placed = each_itself sh.construct m o sh.parts parts there (λ delay. subst (Placed items top s o) (number ∙ one_number m own (one delay)) (placed entered self));
+        placed = each_itself sh.construct m o sh.parts parts there (λ delay. subst (Placed items kinds top s o) (number ∙ one_number m own (one delay)) (placed entered self));
         places = λ _. all_by (IsOwn sh.construct (place_of e)) (λ f. f.place ≡ place_of e) (λ f h. h.place_is) own has;
         delays = all_by (IsOwn sh.construct (place_of e)) _ (λ f h. h.delays) own has;
         one_delay = one;
       }
 
   -- a choice between sets or maps
-  pub choice_built : (at : Standing) (e : Expr) (n m : ℕ) (sh : Shape) (parts : List Stream) (before : List Equation) (of : ValueType) (stream : Stream) → Entered items top s at → shape items (record { calls = at.calls; expr = e }) ≡ Some sh → is_choice e ≡ true → MakesAll items top at (map (λ o. o.expr) sh.parts) n before parts → Within s n before → FitsChoice (choice_operands e) parts of → Within s m (choice_equations (place_of e) of m (choice_operands e) parts) → stream.id ≡ last_number m (choice_equations (place_of e) of m (choice_operands e) parts) → IsBuilt items top s (record { calls = at.calls; expr = e }) stream.id
+  pub choice_built : (at : Standing) (e : Expr) (n m : ℕ) (sh : Shape) (parts : List Stream) (before : List Equation) (of : ValueType) (stream : Stream) → Entered items kinds top s at → shape items (record { calls = at.calls; expr = e }) ≡ Some sh → is_choice e ≡ true → MakesAll items kinds top at (map (λ o. o.expr) sh.parts) n before parts → Within s n before → FitsChoice (choice_operands e) parts of → Within s m (choice_equations (place_of e) of m (choice_operands e) parts) → stream.id ≡ last_number m (choice_equations (place_of e) of m (choice_operands e) parts) → IsBuilt items kinds top s (record { calls = at.calls; expr = e }) stream.id
   choice_built at e n m sh parts before of stream entered is chosen makes before_within fits within number =
       let o : Occurrence = record { calls = at.calls; expr = e } in
       let body : Tree = choice (operand_trees 0 (choice_operands e)) in
@@ -106,7 +107,7 @@ module _ (items : List tree.Item) (top : ℕ → Stream) (s : System) (laws : Th
       let own : List Equation = choice_equations (place_of e) of m (choice_operands e) parts in
       let has = choice_made sh.construct (place_of e) of m (choice_operands e) parts in
       let standing = stands s m own within (nameless sh.construct (place_of e) own has) in
-      let there = parts_placed items top s entered sh.parts parts (parts_beside items o sh is own_sh) (all_made items top s makes before_within) in
+      let there = parts_placed items kinds top s entered sh.parts parts (parts_beside items o sh is own_sh) (all_made items kinds top s makes before_within) in
       record {
         of = sh;
         is = is;
@@ -117,8 +118,8 @@ module _ (items : List tree.Item) (top : ℕ → Stream) (s : System) (laws : Th
         some = choice_some (place_of e) of m (choice_operands e) parts;
         number_is = number;
         makes = subst (λ c. MakesConstruct c own m parts) (sym same) (laws.choices_made (place_of e) of m (choice_operands e) parts fits);
-        joined = subst (λ c. AreJoined items top s c own m parts) (sym same) (joined_from (construct.Signal body) own m parts (laws.choices_hang (place_of e) of m (choice_operands e) parts (plain s) fits standing));
-        placed = subst (λ c. Each (IsPlaced items top s) (sh.parts ++ itself c o) parts) (sym same) (subst (λ xs. Each (IsPlaced items top s) xs parts) (sym (append-nil sh.parts)) there);
+        joined = subst (λ c. AreJoined items kinds top s c own m parts) (sym same) (joined_from (construct.Signal body) own m parts (laws.choices_hang (place_of e) of m (choice_operands e) parts (plain s) fits standing));
+        placed = subst (λ c. Each (IsPlaced items kinds top s) (sh.parts ++ itself c o) parts) (sym same) (subst (λ xs. Each (IsPlaced items kinds top s) xs parts) (sym (append-nil sh.parts)) there);
         places = λ _. all_by (IsOwn sh.construct (place_of e)) (λ f. f.place ≡ place_of e) (λ f h. h.place_is) own has;
         delays = all_by (IsOwn sh.construct (place_of e)) _ (λ f h. h.delays) own has;
         one_delay = λ delay. absurd (signal_delay body (sym same ∙ delay));
@@ -128,7 +129,7 @@ module _ (items : List tree.Item) (top : ℕ → Stream) (s : System) (laws : Th
       signal_delay body h = cc
 
   -- a definition that is only a name
-  pub alias_built : (o next : Occurrence) (p : Place) (n : ℕ) (a : Stream) → shape items o ≡ Some (record { construct = construct.Same; parts = next ∷ [] }) → Placed items top s next a.id → Within s n (alias_equation p a ∷ []) → IsBuilt items top s o n
+  pub alias_built : (o next : Occurrence) (p : Place) (n : ℕ) (a : Stream) → shape items o ≡ Some (record { construct = construct.Same; parts = next ∷ [] }) → Placed items kinds top s next a.id → Within s n (alias_equation p a ∷ []) → IsBuilt items kinds top s o n
   alias_built o next p n a is there within =
       let own : List Equation = alias_equation p a ∷ [] in
       let standing = stands s n own within (record { nameless = refl }, tt) in
@@ -167,7 +168,7 @@ module _ (items : List tree.Item) (top : ℕ → Stream) (s : System) (laws : Th
       roots zero e is = ap (λ f. root_fault inputs z (k + 0) f t) (sym (same_Some (equation p op.Input [] of) e is))
       roots (suc j) e is = absurd (none-some e is)
 
-  input_joined : (p : Place) (of : ValueType) (k : ℕ) → AreJoined items top s (construct.Input k) (equation p op.Input [] of ∷ []) k []
+  input_joined : (p : Place) (of : ValueType) (k : ℕ) → AreJoined items kinds top s (construct.Input k) (equation p op.Input [] of ∷ []) k []
   input_joined p of k = record {
     reach = λ j lt. let e : k + 1 - 1 ≡ k + j = omega arith in subst (λ i. Walk (HasArgument (plain s).equations) (k + 1 - 1) i) e stay;
     reach_parts = λ a (j, lt, is). absurd (omega arith);
@@ -179,7 +180,7 @@ module _ (items : List tree.Item) (top : ℕ → Stream) (s : System) (laws : Th
       arguments zero e i is c = inl (subst (λ f. Contains f.args i) (sym (same_Some (equation p op.Input [] of) e is)) c)
       arguments (suc j) e i is c = absurd (none-some e is)
 
-  pub input_built : (o : Occurrence) (p : Place) (of : ValueType) (k : ℕ) → shape items o ≡ Some (record { construct = construct.Input k; parts = [] }) → Within s k (equation p op.Input [] of ∷ []) → IsBuilt items top s o k
+  pub input_built : (o : Occurrence) (p : Place) (of : ValueType) (k : ℕ) → shape items o ≡ Some (record { construct = construct.Input k; parts = [] }) → Within s k (equation p op.Input [] of ∷ []) → IsBuilt items kinds top s o k
   input_built o p of k is within =
       let own : List Equation = equation p op.Input [] of ∷ [] in
       record {

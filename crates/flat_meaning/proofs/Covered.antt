@@ -12,6 +12,7 @@ use Rattle.flat_core.specs.System.{System, runs, IsProper}
 use Rattle.flat_core.proofs.Members.{contains_head, contains_tail, contains_map, all_at}
 use Rattle.flat_core.proofs.Walks.{walk_keeps}
 use Rattle.spec_parser.specs.Tree as tree
+use Rattle.expr_types.specs.Around.{Kinds}
 use Rattle.stream_constructs.specs.declared.construct.Stream.{Stream}
 use Rattle.stream_constructs.specs.Construct.{Construct}
 use Rattle.stream_constructs.specs.Construct as construct
@@ -50,20 +51,20 @@ output_in (v ∷ rest) item o one (zero, lt, is) =
     subst (λ os. Contains os o) (sym (outputs_cons v rest)) (Contains-append_left (outputs_of (v ∷ [])) (outputs_of rest) o (subst (λ os. Contains os o) (sym alone) (contains_head o [])))
 output_in (v ∷ rest) item o one (suc k, lt, is) = subst (λ os. Contains os o) (sym (outputs_cons v rest)) (Contains-append_right (outputs_of (v ∷ [])) (outputs_of rest) o (output_in rest item o one (k, omega arith, is)))
 
-module _ (items : List tree.Item) (top : ℕ → Stream) (s : System) (proper : IsProper s) (leads : (o : Occurrence) (i : ℕ) → Placed items top s o i → Leads items top s o i) where
+module _ (items : List tree.Item) (kinds : Kinds) (top : ℕ → Stream) (s : System) (proper : IsProper s) (leads : (o : Occurrence) (i : ℕ) → Placed items kinds top s o i → Leads items kinds top s o i) where
   -- equation j is one of those of an occurrence that is needed
   pub record IsCovered (j : ℕ) : Type 0 where
     pub at : Occurrence
     pub needed : IsNeeded items at
     pub number : ℕ
-    pub there : Placed items top s at number
-    pub built : IsBuilt items top s at number
+    pub there : Placed items kinds top s at number
+    pub built : IsBuilt items kinds top s at number
     pub running : IsTrue (runs s number)
     pub place : ℕ
     pub low : place < length built.own
     pub is : j ≡ built.first + place
 
-  lead_covered : {o : Occurrence} {i : ℕ} → Leads items top s o i → Placed items top s o i → IsNeeded items o → IsTrue (runs s i) → IsCovered i
+  lead_covered : {o : Occurrence} {i : ℕ} → Leads items kinds top s o i → Placed items kinds top s o i → IsNeeded items o → IsTrue (runs s i) → IsCovered i
   lead_covered {o} {i} (here built) there needed run =
       let some = built.some in
       let is = built.number_is in
@@ -86,23 +87,23 @@ module _ (items : List tree.Item) (top : ℕ → Stream) (s : System) (proper : 
       elim (built.joined.arguments covered.place found.0 l found.1 argument) [
         | inl of_part ↦
             let part = contains_map (λ (a : Stream). a.id) built.parts l of_part in
-            let occurrence = each_to (IsPlaced items top s) (all_parts covered.at built.of) built.parts built.placed part.0 part.1 in
+            let occurrence = each_to (IsPlaced items kinds top s) (all_parts covered.at built.of) built.parts built.placed part.0 part.1 in
             let needed = part_needed covered.at built.of covered.needed built.is occurrence.0 occurrence.1 in
-            subst IsCovered part.2 (lead_covered (leads occurrence.0 part.0.id occurrence.2) occurrence.2 needed (part_runs items top s proper built covered.running part.0 part.1))
+            subst IsCovered part.2 (lead_covered (leads occurrence.0 part.0.id occurrence.2) occurrence.2 needed (part_runs items kinds top s proper built covered.running part.0 part.1))
         | inr own ↦ record { at = covered.at; needed = covered.needed; number = covered.number; there = covered.there; built = built; running = covered.running; place = own.0; low = own.1; is = own.2 }
       ]
 
   -- ---- outputs
   pub record IsOutput (o : Printed) (p : Output) : Type 0 where
     pub name_is : p.name ≡ o.name
-    pub there : Placed items top s o.is p.equation
+    pub there : Placed items kinds top s o.is p.equation
     pub needed : IsNeeded items o.is
 
-  printed_made : {e : tree.Expr} {x : List ℕ} {n : ℕ} {made : List Equation} {stream : Stream} → MakesPrinted items top e x n made stream → Within s n made → IsMade items top s outermost e stream
+  printed_made : {e : tree.Expr} {x : List ℕ} {n : ℕ} {made : List Equation} {stream : Stream} → MakesPrinted items kinds top e x n made stream → Within s n made → IsMade items kinds top s outermost e stream
   printed_made {n = n} (flat.MakesPrinted.name only_name one) within = record { number = n; made = []; makes = one; within = within }
   printed_made {x = x} {n = n} (flat.MakesPrinted.plain made no_name one is) within = record { number = n; made = made; makes = one; within = within_named s n x made (subst (Within s n) is within) }
 
-  outputs_made : {rest : List tree.Item} {n : ℕ} {made : List Equation} {printed : List Output} → MakesOutputs items top rest n made printed → Within s n made → ((item : tree.Item) → Contains rest item → Contains items item) → Each IsOutput (outputs_of rest) printed
+  outputs_made : {rest : List tree.Item} {n : ℕ} {made : List Equation} {printed : List Output} → MakesOutputs items kinds top rest n made printed → Within s n made → ((item : tree.Item) → Contains rest item → Contains items item) → Each IsOutput (outputs_of rest) printed
   outputs_made flat.MakesOutputs.end within all = tt
   outputs_made {n = n} (flat.MakesOutputs.output {p = p} {q = q} {x = x} {rest = rest} stream first made outs one more all_is printed_is) within all =
       let both = subst (Within s n) all_is within in
@@ -119,7 +120,7 @@ module _ (items : List tree.Item) (top : ℕ → Stream) (s : System) (proper : 
   outputs_made (flat.MakesOutputs.input {rest = rest} more) within all = outputs_made more within (λ item c. all item (contains_tail _ rest item c))
   outputs_made (flat.MakesOutputs.defined {rest = rest} more) within all = outputs_made more within (λ item c. all item (contains_tail _ rest item c))
 
-  pub outputs_placed : {n : ℕ} {made : List Equation} {printed : List Output} → MakesOutputs items top items n made printed → Within s n made → Each IsOutput (outputs_of items) printed
+  pub outputs_placed : {n : ℕ} {made : List Equation} {printed : List Output} → MakesOutputs items kinds top items n made printed → Within s n made → Each IsOutput (outputs_of items) printed
   outputs_placed more within = outputs_made more within (λ item c. c)
 
   module _ (flat : IsFlat s) (outputs : Each IsOutput (outputs_of items) s.outputs) where
@@ -134,7 +135,7 @@ module _ (items : List tree.Item) (top : ℕ → Stream) (s : System) (proper : 
     -- each occurrence that is needed stands in the system, and its equation runs
     pub record IsThere (o : Occurrence) : Type 0 where
       pub number : ℕ
-      pub there : Placed items top s o number
+      pub there : Placed items kinds top s o number
       pub running : IsTrue (runs s number)
 
     output_there : (o : Printed) → Contains (outputs_of items) o → IsThere o.is
@@ -149,13 +150,13 @@ module _ (items : List tree.Item) (top : ℕ → Stream) (s : System) (proper : 
         let whole = needed_there needed in
         part_there o of a is c whole.number whole.running (leads o whole.number whole.there)
       where
-        part_there : (o : Occurrence) (of : Shape) (a : Occurrence) → shape items o ≡ Some of → Contains of.parts a → (i : ℕ) → IsTrue (runs s i) → Leads items top s o i → IsThere a
+        part_there : (o : Occurrence) (of : Shape) (a : Occurrence) → shape items o ≡ Some of → Contains of.parts a → (i : ℕ) → IsTrue (runs s i) → Leads items kinds top s o i → IsThere a
         part_there o of a is c i run (here built) =
             let same : of ≡ built.of = same_Some of built.of (sym is ∙ built.is) in
             let in_parts : Contains (all_parts o built.of) a = Contains-append_left built.of.parts (itself built.of.construct o) a (subst (λ (v : Shape). Contains v.parts a) same c) in
-            let found = each_from (IsPlaced items top s) (all_parts o built.of) built.parts built.placed a in_parts in
-            record { number = found.0.id; there = found.2; running = part_runs items top s proper built run found.0 found.1 }
+            let found = each_from (IsPlaced items kinds top s) (all_parts o built.of) built.parts built.placed a in_parts in
+            record { number = found.0.id; there = found.2; running = part_runs items kinds top s proper built run found.0 found.1 }
         part_there o of a is c i run (onward next be there rest) =
             let same : of ≡ record { construct = construct.Same; parts = next ∷ [] } = same_Some of (record { construct = construct.Same; parts = next ∷ [] }) (sym is ∙ be) in
             let is_next : next ≡ a = only next a (subst (λ (v : Shape). Contains v.parts a) same c) in
-            record { number = i; there = subst (λ b. Placed items top s b i) is_next there; running = run }
+            record { number = i; there = subst (λ b. Placed items kinds top s b i) is_next there; running = run }

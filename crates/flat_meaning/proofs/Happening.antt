@@ -12,6 +12,7 @@ use Rattle.flat_core.specs.System.{System, runs, IsProper}
 use Rattle.flat_core.specs.WellFormed.{IsWellFormed}
 use Rattle.flat_core.proofs.WellFormedRank.{rank_of}
 use Rattle.spec_parser.specs.Tree as tree
+use Rattle.expr_types.specs.Around.{Kinds}
 use Rattle.stream_constructs.specs.declared.construct.Stream.{Stream}
 use Rattle.stream_constructs.specs.Construct.{Construct, outcome}
 use Rattle.stream_constructs.specs.Construct as construct
@@ -43,35 +44,35 @@ same_outcome inputs h t = each (h t)
     each (Some (Event v)) = refl
     each (Some Fault) = refl
 
-module _ (items : List tree.Item) (top : ℕ → Stream) (s : System) (proper : IsProper s) where
+module _ (items : List tree.Item) (kinds : Kinds) (top : ℕ → Stream) (s : System) (proper : IsProper s) where
   -- all own equations run where the last one does, and so do the parts
-  pub own_runs : {o : Occurrence} {i : ℕ} (built : IsBuilt items top s o i) → IsTrue (runs s i) → (k : ℕ) → k < length built.own → IsTrue (runs s (built.first + k))
+  pub own_runs : {o : Occurrence} {i : ℕ} (built : IsBuilt items kinds top s o i) → IsTrue (runs s i) → (k : ℕ) → k < length built.own → IsTrue (runs s (built.first + k))
   own_runs built run k lt = walk_runs s proper (walk_named s (built.joined.reach k lt)) (subst (λ j. IsTrue (runs s j)) built.number_is run)
 
-  pub part_runs : {o : Occurrence} {i : ℕ} (built : IsBuilt items top s o i) → IsTrue (runs s i) → (a : Stream) → Contains built.parts a → IsTrue (runs s a.id)
+  pub part_runs : {o : Occurrence} {i : ℕ} (built : IsBuilt items kinds top s o i) → IsTrue (runs s i) → (a : Stream) → Contains built.parts a → IsTrue (runs s a.id)
   part_runs built run a c = walk_runs s proper (walk_named s (built.joined.reach_parts a c)) (subst (λ j. IsTrue (runs s j)) built.number_is run)
 
   module _ (inputs : Inputs) (bound : ℕ) (z : Streams) (solves : Solves s inputs bound z) where
-    pub built_makes : {o : Occurrence} {i : ℕ} (built : IsBuilt items top s o i) → IsTrue (runs s i) → (t : ℕ) → t < bound → MakesStream built.of.construct built.own built.first built.parts inputs z t
+    pub built_makes : {o : Occurrence} {i : ℕ} (built : IsBuilt items kinds top s o i) → IsTrue (runs s i) → (t : ℕ) → t < bound → MakesStream built.of.construct built.own built.first built.parts inputs z t
     built_makes built run t lt =
         built.makes inputs z t (λ k e is.
         let found = original s (built.first + k) e (built.stands k e is) in
         solves.each (built.first + k) found.0 (own_runs built run k (slice_get_within built.own k e is)) found.1 t lt ∙ case_named s inputs z (built.first + k) t e found.0 found.2)
 
-    module _ (good : IsWellFormed s) (leads : (o : Occurrence) (i : ℕ) → Placed items top s o i → Leads items top s o i) where
+    module _ (good : IsWellFormed s) (leads : (o : Occurrence) (i : ℕ) → Placed items kinds top s o i → Leads items kinds top s o i) where
       abbrev AllHappens : ℕ → Type 0
-      AllHappens t = (o : Occurrence) (i : ℕ) → Placed items top s o i → IsTrue (runs s i) → Happens items inputs o t (z i t)
+      AllHappens t = (o : Occurrence) (i : ℕ) → Placed items kinds top s o i → IsTrue (runs s i) → Happens items inputs o t (z i t)
 
       module _ (t : ℕ) (lt : t < bound) (earlier : (u : ℕ) → u < t → AllHappens u) where
         abbrev LowerHappens : ℕ → Type 0
-        LowerHappens k = (o : Occurrence) (i : ℕ) → rank_of s good i < k → Placed items top s o i → IsTrue (runs s i) → Happens items inputs o t (z i t)
+        LowerHappens k = (o : Occurrence) (i : ℕ) → rank_of s good i < k → Placed items kinds top s o i → IsTrue (runs s i) → Happens items inputs o t (z i t)
 
-        built_happens : (k : ℕ) → LowerHappens k → {o : Occurrence} {i : ℕ} → IsBuilt items top s o i → rank_of s good i < suc k → IsTrue (runs s i) → Happens items inputs o t (z i t)
+        built_happens : (k : ℕ) → LowerHappens k → {o : Occurrence} {i : ℕ} → IsBuilt items kinds top s o i → rank_of s good i < suc k → IsTrue (runs s i) → Happens items inputs o t (z i t)
         built_happens k lower {o} {i} built low run =
             let made = built_makes built run t lt in
-            happens built.of (history_of z built.parts) built.is (length-map built.parts (λ (a : Stream). z a.id) ∙ sym (each_length (IsPlaced items top s) (all_parts o built.of) built.parts built.placed))
+            happens built.of (history_of z built.parts) built.is (length-map built.parts (λ (a : Stream). z a.id) ∙ sym (each_length (IsPlaced items kinds top s) (all_parts o built.of) built.parts built.placed))
             (λ j a at u counts.
-            let found = each_at (IsPlaced items top s) (all_parts o built.of) built.parts built.placed j a at in
+            let found = each_at (IsPlaced items kinds top s) (all_parts o built.of) built.parts built.placed j a at in
             let part_run = part_runs built run found.0 (place_contains built.parts j found.0 found.1) in
             let there : Happens items inputs a u (z found.0.id u) = elim (counted built.of.construct j t u counts) [
               | inl before ↦ earlier u before a found.0.id found.2 part_run
@@ -83,7 +84,7 @@ module _ (items : List tree.Item) (top : ℕ → Stream) (s : System) (proper : 
             subst (λ (h : History). Happens items inputs a u (h u)) (sym (history_is z built.parts j found.0 found.1)) there)
             (ap (λ j. z j t) built.number_is ∙ made.outcome_is)
 
-        lead_happens : (k : ℕ) → LowerHappens k → {o : Occurrence} {i : ℕ} → Leads items top s o i → rank_of s good i < suc k → IsTrue (runs s i) → Happens items inputs o t (z i t)
+        lead_happens : (k : ℕ) → LowerHappens k → {o : Occurrence} {i : ℕ} → Leads items kinds top s o i → rank_of s good i < suc k → IsTrue (runs s i) → Happens items inputs o t (z i t)
         lead_happens k lower (here built) low run = built_happens k lower built low run
         lead_happens k lower {i = i} (onward next is there rest) low run = happens (same_shape next) (z i ∷ []) is refl (parts (lead_happens k lower rest low run)) (same_outcome inputs (z i) t)
           where
@@ -107,5 +108,5 @@ module _ (items : List tree.Item) (top : ℕ → Stream) (s : System) (proper : 
             | inr after ↦ let same : t ≡ u = omega arith in subst AllHappens same (λ o i there run. happens_at t (omega arith) earlier (suc (rank_of s good i)) o i (omega arith) there run)
           ]
 
-      pub happening : (o : Occurrence) (i : ℕ) → Placed items top s o i → IsTrue (runs s i) → (t : ℕ) → t < bound → Happens items inputs o t (z i t)
+      pub happening : (o : Occurrence) (i : ℕ) → Placed items kinds top s o i → IsTrue (runs s i) → (t : ℕ) → t < bound → Happens items inputs o t (z i t)
       happening o i there run t lt = happens_before bound (omega arith) t lt o i there run

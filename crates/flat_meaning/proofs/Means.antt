@@ -21,6 +21,7 @@ use Rattle.flat_core.specs.WellFormed.{IsWellFormed}
 use Rattle.flat_core.proofs.Members.{all_at}
 use Rattle.spec_parser.specs.Tree as tree
 use Rattle.spec_parser.specs.Tree.{place_of}
+use Rattle.expr_types.specs.Around.{Kinds}
 use Rattle.stream_constructs.specs.declared.construct.Stream.{Stream}
 use Rattle.stream_constructs.specs.Construct.{Construct, root, is_blocked}
 use Rattle.stream_constructs.specs.Construct as construct
@@ -63,69 +64,69 @@ if_some : (b : Bool) (x : Option FaultKind) (kind : FaultKind) → (if b then x 
 if_some true x kind is = is
 if_some false x kind is = absurd (none-some kind is)
 
-module _ (items : List tree.Item) (s : System) (lines : List Line) (bound : ℕ) (z : Streams) (laws : TheLaws) (of : IsFlatOf items s.equations s.outputs) (flat : IsFlat s) (good : IsWellFormed s) (solves : Solves s (inputs_of lines) bound z) where
+module _ (items : List tree.Item) (kinds : Kinds) (s : System) (lines : List Line) (bound : ℕ) (z : Streams) (laws : TheLaws) (of : IsFlatOf items kinds s.equations s.outputs) (flat : IsFlat s) (good : IsWellFormed s) (solves : Solves s (inputs_of lines) bound z) where
   whole : Within s 0 (of.inputs ++ of.streams ++ of.printed)
   whole = subst (Within s 0) of.equations_are (λ k e is. let same : 0 + k ≡ k = omega arith in ap (slice_get (plain s).equations) same ∙ slice_get-map unnamed s.equations k ∙ ap (option_map unnamed) is)
 
   front : Within s 0 (of.inputs ++ of.streams)
   front = within_left s 0 (of.inputs ++ of.streams) of.printed whole
 
-  input_of : (i : ℕ) → IsInputItem (slice_get items i) → IsInputAt items of.top s (of.top i) (input_number items i)
+  input_of : (i : ℕ) → IsInputItem (slice_get items i) → IsInputAt items kinds of.top s (of.top i) (input_number items i)
   input_of i item =
-      let found = input_at items of.top s of.makes_inputs (within_left s 0 of.inputs of.streams front) i item.place item.at item.name item.of item.is in
+      let found = input_at items kinds of.top s of.makes_inputs (within_left s 0 of.inputs of.streams front) i item.place item.at item.name item.of item.is in
       let same : 0 + i ≡ i = omega arith in
       let count : 0 + input_number items i ≡ input_number items i = omega arith in
-      subst (λ j. IsInputAt items of.top s (of.top j) (input_number items i)) same (subst (IsInputAt items of.top s (of.top (0 + i))) count found)
+      subst (λ j. IsInputAt items kinds of.top s (of.top j) (input_number items i)) same (subst (IsInputAt items kinds of.top s (of.top (0 + i))) count found)
 
-  stream_of : (i : ℕ) (item : IsStreamItem (slice_get items i)) → IsMadeBody items of.top s outermost (result_of item.body) (of.top i)
+  stream_of : (i : ℕ) (item : IsStreamItem (slice_get items i)) → IsMadeBody items kinds of.top s outermost (result_of item.body) (of.top i)
   stream_of i item =
       let from : 0 + length of.inputs ≡ length of.inputs = omega arith in
       let within = subst (λ n. Within s n of.streams) from (within_right s 0 of.inputs of.streams front) in
       let same : 0 + i ≡ i = omega arith in
-      subst (λ j. IsMadeBody items of.top s outermost (result_of item.body) (of.top j)) same (stream_at items of.top s of.makes_streams within i item.place item.at item.name item.written item.body item.is)
+      subst (λ j. IsMadeBody items kinds of.top s outermost (result_of item.body) (of.top j)) same (stream_at items kinds of.top s of.makes_streams within i item.place item.at item.name item.written item.body item.is)
 
-  pub leads : (o : Occurrence) (i : ℕ) → Placed items of.top s o i → Leads items of.top s o i
-  leads o i there = resolve.leads items of.top s laws input_of stream_of there
+  pub leads : (o : Occurrence) (i : ℕ) → Placed items kinds of.top s o i → Leads items kinds of.top s o i
+  leads o i there = resolve.leads items kinds of.top s laws input_of stream_of there
 
-  pub outputs_there : Each (IsOutput items of.top s flat.proper leads) (outputs_of items) s.outputs
+  pub outputs_there : Each (IsOutput items kinds of.top s flat.proper leads) (outputs_of items) s.outputs
   outputs_there =
       let from : 0 + length (of.inputs ++ of.streams) ≡ length of.inputs + length of.streams = omega (arith, length-append of.inputs of.streams) in
-      outputs_placed items of.top s flat.proper leads of.makes_outputs (subst (λ n. Within s n of.printed) from (within_right s 0 (of.inputs ++ of.streams) of.printed whole))
+      outputs_placed items kinds of.top s flat.proper leads of.makes_outputs (subst (λ n. Within s n of.printed) from (within_right s 0 (of.inputs ++ of.streams) of.printed whole))
 
-  pub happening_at : (o : Occurrence) (i : ℕ) → Placed items of.top s o i → IsTrue (runs s i) → (t : ℕ) → t < bound → Happens items (inputs_of lines) o t (z i t)
-  happening_at o i there run t lt = happening.happening items of.top s flat.proper (inputs_of lines) bound z solves good leads o i there run t lt
+  pub happening_at : (o : Occurrence) (i : ℕ) → Placed items kinds of.top s o i → IsTrue (runs s i) → (t : ℕ) → t < bound → Happens items (inputs_of lines) o t (z i t)
+  happening_at o i there run t lt = happening.happening items kinds of.top s flat.proper (inputs_of lines) bound z solves good leads o i there run t lt
 
-  pub output_happens : (o : Printed) (p : Output) → IsOutput items of.top s flat.proper leads o p → Contains s.outputs p → (t : ℕ) → t < bound → Happens items (inputs_of lines) o.is t (z p.equation t)
+  pub output_happens : (o : Printed) (p : Output) → IsOutput items kinds of.top s flat.proper leads o p → Contains s.outputs p → (t : ℕ) → t < bound → Happens items (inputs_of lines) o.is t (z p.equation t)
   output_happens o p output c t lt = happening_at o.is p.equation output.there (all_at (λ q. IsTrue (runs s q.equation)) s.outputs flat.outputs_run p c) t lt
 
   -- what happens at a part
-  part_happens : {o : Occurrence} {i : ℕ} (built : IsBuilt items of.top s o i) → IsTrue (runs s i) → (k : ℕ) (a : Occurrence) → slice_get (all_parts o built.of) k ≡ Some a → (u : ℕ) → u < bound → Happens items (inputs_of lines) a u (history (history_of z built.parts) k u)
+  part_happens : {o : Occurrence} {i : ℕ} (built : IsBuilt items kinds of.top s o i) → IsTrue (runs s i) → (k : ℕ) (a : Occurrence) → slice_get (all_parts o built.of) k ≡ Some a → (u : ℕ) → u < bound → Happens items (inputs_of lines) a u (history (history_of z built.parts) k u)
   part_happens {o} built run k a at u lt =
-      let found = each_at (IsPlaced items of.top s) (all_parts o built.of) built.parts built.placed k a at in
-      subst (λ (h : History). Happens items (inputs_of lines) a u (h u)) (sym (history_is z built.parts k found.0 found.1)) (happening_at a found.0.id found.2 (part_runs items of.top s flat.proper built run found.0 (place_contains built.parts k found.0 found.1)) u lt)
+      let found = each_at (IsPlaced items kinds of.top s) (all_parts o built.of) built.parts built.placed k a at in
+      subst (λ (h : History). Happens items (inputs_of lines) a u (h u)) (sym (history_is z built.parts k found.0 found.1)) (happening_at a found.0.id found.2 (part_runs items kinds of.top s flat.proper built run found.0 (place_contains built.parts k found.0 found.1)) u lt)
 
-  part_count : {o : Occurrence} {i : ℕ} (built : IsBuilt items of.top s o i) → length (history_of z built.parts) ≡ length (all_parts o built.of)
-  part_count {o} built = length-map built.parts (λ (a : Stream). z a.id) ∙ sym (each_length (IsPlaced items of.top s) (all_parts o built.of) built.parts built.placed)
+  part_count : {o : Occurrence} {i : ℕ} (built : IsBuilt items kinds of.top s o i) → length (history_of z built.parts) ≡ length (all_parts o built.of)
+  part_count {o} built = length-map built.parts (λ (a : Stream). z a.id) ∙ sym (each_length (IsPlaced items kinds of.top s) (all_parts o built.of) built.parts built.placed)
 
   -- the equation of the system at a place of own equations
-  record IsAt {o : Occurrence} {i : ℕ} (built : IsBuilt items of.top s o i) (k : ℕ) : Type 0 where
+  record IsAt {o : Occurrence} {i : ℕ} (built : IsBuilt items kinds of.top s o i) (k : ℕ) : Type 0 where
     own : Equation
     own_is : slice_get built.own k ≡ Some own
     itself : Equation
     is : equation s (built.first + k) ≡ Some itself
     same : unnamed itself ≡ own
 
-  own_at : {o : Occurrence} {i : ℕ} (built : IsBuilt items of.top s o i) (k : ℕ) → k < length built.own → IsAt built k
+  own_at : {o : Occurrence} {i : ℕ} (built : IsBuilt items kinds of.top s o i) (k : ℕ) → k < length built.own → IsAt built k
   own_at built k lt =
       let found = at_place built.own k lt in
       let known = original s (built.first + k) found.0 (built.stands k found.0 found.1) in
       record { own = found.0; own_is = found.1; itself = known.0; is = known.1; same = known.2 }
 
-  covers : (i : ℕ) → IsTrue (runs s i) → IsCovered items of.top s flat.proper leads i
-  covers i run = covered.covered items of.top s flat.proper leads flat outputs_there i run
+  covers : (i : ℕ) → IsTrue (runs s i) → IsCovered items kinds of.top s flat.proper leads i
+  covers i run = covered.covered items kinds of.top s flat.proper leads flat outputs_there i run
 
-  there_is : {o : Occurrence} → IsNeeded items o → IsThere items of.top s flat.proper leads flat outputs_there o
-  there_is needed = covered.needed_there items of.top s flat.proper leads flat outputs_there needed
+  there_is : {o : Occurrence} → IsNeeded items o → IsThere items kinds of.top s flat.proper leads flat outputs_there o
+  there_is needed = covered.needed_there items kinds of.top s flat.proper leads flat outputs_there needed
 
   module _ (t : ℕ) (lt : t < bound) where
     -- ---- root faults
@@ -138,7 +139,7 @@ module _ (items : List tree.Item) (s : System) (lines : List Line) (bound : ℕ)
         let fault : root_fault (inputs_of lines) z r.number r.of t ≡ Some kind = sym (ap (option_and_then (λ e. root_fault (inputs_of lines) z r.number e t)) r.is) ∙ r.root in
         let here_fault : root_fault (inputs_of lines) z (built.first + c.place) at.own t ≡ Some kind =
         sym (root_named s (inputs_of lines) z (built.first + c.place) t at.own at.itself at.same) ∙ sym (ap (λ e. root_fault (inputs_of lines) z (built.first + c.place) e t) same) ∙ sym (ap (λ i. root_fault (inputs_of lines) z i r.of t) c.is) ∙ fault in
-        let made = built_makes items of.top s flat.proper (inputs_of lines) bound z solves built c.running t lt in
+        let made = built_makes items kinds of.top s flat.proper (inputs_of lines) bound z solves built c.running t lt in
         let root_is : root (inputs_of lines) built.of.construct (history_of z built.parts) t ≡ Some kind = if_some (suc c.place == length built.own) _ kind (sym (made.root_is c.place at.own at.own_is) ∙ here_fault) in
         let own_place : at.own.place ≡ place_of c.at.expr = all_by_place (λ (e : Equation). e.place ≡ place_of c.at.expr) built.own (built.places (root_own (inputs_of lines) built.of.construct (history_of z built.parts) t kind root_is)) c.place at.own at.own_is in
         record {
@@ -155,7 +156,7 @@ module _ (items : List tree.Item) (s : System) (lines : List Line) (bound : ℕ)
           };
         }
 
-    root_of_built : (o : Occurrence) (kind : FaultKind) (r : HasRoot items (inputs_of lines) o t kind) (i : ℕ) → IsTrue (runs s i) → IsBuilt items of.top s o i → IsRootAt s (inputs_of lines) z t (place_of o.expr) kind
+    root_of_built : (o : Occurrence) (kind : FaultKind) (r : HasRoot items (inputs_of lines) o t kind) (i : ℕ) → IsTrue (runs s i) → IsBuilt items kinds of.top s o i → IsRootAt s (inputs_of lines) z t (place_of o.expr) kind
     root_of_built o kind r i run built =
         let some = built.some in
         let number = built.number_is in
@@ -169,7 +170,7 @@ module _ (items : List tree.Item) (s : System) (lines : List Line) (bound : ℕ)
         let part = at_place (all_parts o r.of) j (omega arith) in
         one_thing items (inputs_of lines) part.0 u (history r.streams j u) (history (history_of z built.parts) j u) (r.parts j part.0 part.1 u before) (part_happens built run j part.0 (subst (λ v. slice_get (all_parts o v) j ≡ Some part.0) same part.1) u (omega arith))) in
         let root_is : root (inputs_of lines) built.of.construct (history_of z built.parts) t ≡ Some kind = sym agree ∙ sym (ap (λ (v : Shape). root (inputs_of lines) v.construct r.streams t) same) ∙ r.root_is in
-        let made = built_makes items of.top s flat.proper (inputs_of lines) bound z solves built run t lt in
+        let made = built_makes items kinds of.top s flat.proper (inputs_of lines) bound z solves built run t lt in
         let is_last : (suc k == length built.own) ≡ true = eq-eqb (suc k) (length built.own) (omega arith) in
         let fault : root_fault (inputs_of lines) z (built.first + k) at.itself t ≡ Some kind =
         root_named s (inputs_of lines) z (built.first + k) t at.own at.itself at.same ∙ made.root_is k at.own at.own_is ∙ ap (λ b. if b then root (inputs_of lines) built.of.construct (history_of z built.parts) t else None) is_last ∙ root_is in
@@ -183,7 +184,7 @@ module _ (items : List tree.Item) (s : System) (lines : List Line) (bound : ℕ)
           root = ap (option_and_then (λ e. root_fault (inputs_of lines) z i e t)) (ap (equation s) last ∙ at.is) ∙ ap (λ j. root_fault (inputs_of lines) z j at.itself t) last ∙ fault;
         }
 
-    root_of_lead : (o : Occurrence) (kind : FaultKind) (r : HasRoot items (inputs_of lines) o t kind) (i : ℕ) → IsTrue (runs s i) → Leads items of.top s o i → IsRootAt s (inputs_of lines) z t (place_of o.expr) kind
+    root_of_lead : (o : Occurrence) (kind : FaultKind) (r : HasRoot items (inputs_of lines) o t kind) (i : ℕ) → IsTrue (runs s i) → Leads items kinds of.top s o i → IsRootAt s (inputs_of lines) z t (place_of o.expr) kind
     root_of_lead o kind r i run (here built) = root_of_built o kind r i run built
     root_of_lead o kind r i run (onward next is there rest) =
         let same : r.of ≡ same_shape next = same_Some r.of (same_shape next) (sym r.is ∙ is) in
@@ -218,7 +219,7 @@ module _ (items : List tree.Item) (s : System) (lines : List Line) (bound : ℕ)
           event = subst (Happens items (inputs_of lines) c.at t) (ap (λ i. z i t) same ∙ x.event) (happening_at c.at c.number c.there c.running t lt);
         }
 
-    expiry_of_lead : (x : Expires items lines t) (i : ℕ) → Placed items of.top s x.delay i → IsTrue (runs s i) → Leads items of.top s x.delay i → IsExpiry s z t
+    expiry_of_lead : (x : Expires items lines t) (i : ℕ) → Placed items kinds of.top s x.delay i → IsTrue (runs s i) → Leads items kinds of.top s x.delay i → IsExpiry s z t
     expiry_of_lead x i there run (here built) =
         let same : x.of ≡ built.of = same_Some x.of built.of (sym x.is ∙ built.is) in
         let one = built.one_delay (sym (ap (λ (v : Shape). v.construct) same) ∙ x.is_delay) in
@@ -247,7 +248,7 @@ module _ (items : List tree.Item) (s : System) (lines : List Line) (bound : ℕ)
   pub means : MeansTheSame items s lines bound z
   means = record {
     outputs = λ k o is.
-        let found = each_at (IsOutput items of.top s flat.proper leads) (outputs_of items) s.outputs outputs_there k o is in
+        let found = each_at (IsOutput items kinds of.top s flat.proper leads) (outputs_of items) s.outputs outputs_there k o is in
         (found.0, found.1, found.2.name_is, output_happens o found.0 found.2 (place_contains s.outputs k found.0 found.1));
     roots = λ t place kind lt. (root_of_equation t lt place kind, root_of_occurrence t lt place kind);
     expiries = λ t lt. (expiry_of_equation t lt, expiry_of_occurrence t lt);

@@ -14,6 +14,7 @@ use Rattle.flat_core.specs.WellFormed.{Needs}
 use Rattle.flat_core.proofs.Members.{contains_head, contains_tail}
 use Rattle.spec_parser.specs.Tree as tree
 use Rattle.spec_parser.specs.Tree.{Expr, Exprs, place_of}
+use Rattle.expr_types.specs.Around.{Kinds}
 use Rattle.stream_constructs.specs.declared.construct.Stream.{Stream}
 use Rattle.stream_constructs.specs.Construct.{Construct}
 use Rattle.stream_constructs.specs.Construct as construct
@@ -68,23 +69,23 @@ each_end R (w ∷ xs) (v ∷ ys) x y each more = (each.0, each_end R xs ys x y e
 pub history_is : (z : Streams) (parts : List Stream) (k : ℕ) (a : Stream) → slice_get parts k ≡ Some a → history (history_of z parts) k ≡ z a.id
 history_is z parts k a is = get_or_from_slice_get (history_of z parts) k (z a.id) (λ t. None) (slice_get-map (λ b. z b.id) parts k ∙ ap (option_map (λ (b : Stream). z b.id)) is)
 
-module _ (items : List tree.Item) (top : ℕ → Stream) (s : System) where
+module _ (items : List tree.Item) (kinds : Kinds) (top : ℕ → Stream) (s : System) where
   -- the calls around an expression are laid out in the system
   pub data Entered : Standing → Type 0 where
     outside : Entered outermost
-    inside : {at : Standing} {es : Exprs} {n m : ℕ} (i : ℕ) {params locals : List Stream} (b : tree.Body) {before block : List Equation} → Entered at → body_of (slice_get items i) ≡ Some b → MakesAll items top at (expressions es) n before params → Within s n before → MakesBlock items top (inside_call items top at i es params locals) (block_of (Some b)) m block locals → Within s m block → Entered (inside_call items top at i es params locals)
+    inside : {at : Standing} {es : Exprs} {n m : ℕ} (i : ℕ) {params locals : List Stream} (b : tree.Body) {before block : List Equation} → Entered at → body_of (slice_get items i) ≡ Some b → MakesAll items kinds top at (expressions es) n before params → Within s n before → MakesBlock items kinds top (inside_call items top at i es params locals) (block_of (Some b)) m block locals → Within s m block → Entered (inside_call items top at i es params locals)
 
   -- an expression is made there, with this stream
   pub record IsMade (at : Standing) (e : Expr) (stream : Stream) : Type 0 where
     pub number : ℕ
     pub made : List Equation
-    pub makes : Makes items top at e number made stream
+    pub makes : Makes items kinds top at e number made stream
     pub within : Within s number made
 
   pub record IsMadeBody (at : Standing) (e : Expr) (stream : Stream) : Type 0 where
     pub number : ℕ
     pub made : List Equation
-    pub makes : MakesBody items top at e number made stream
+    pub makes : MakesBody items kinds top at e number made stream
     pub within : Within s number made
 
   -- an occurrence stands in the system, and its stream is that of this equation

@@ -17,6 +17,7 @@ use Rattle.flat_core.specs.Text.{due_text}
 use Rattle.flat_core.specs.WellFormed.{IsWellFormed}
 use Rattle.spec_parser.specs.Tree as tree
 use Rattle.spec_parser.specs.Tree.{place_of}
+use Rattle.expr_types.specs.Around.{Kinds}
 use Rattle.spec_meaning.specs.Occurrence.{Occurrence}
 use Rattle.spec_meaning.specs.Happens.{Happens, HasRoot}
 use Rattle.spec_meaning.specs.Due.{Printed, outputs_of, Expires, IsDueText}
@@ -64,9 +65,9 @@ pub record MeansTheSame (items : List tree.Item) (s : System) (lines : List Line
 
 abbrev pub FlatMeansTheSame : Type 0
 FlatMeansTheSame =
-    (items : List tree.Item) (s : System) (lines : List Line) (bound : ℕ) (z : Streams) → IsFlatOf items s.equations s.outputs → IsFlat s → IsWellFormed s → Solves s (inputs_of lines) bound z → MeansTheSame items s lines bound z
+    (items : List tree.Item) (kinds : Kinds) (s : System) (lines : List Line) (bound : ℕ) (z : Streams) → IsFlatOf items kinds s.equations s.outputs → IsFlat s → IsWellFormed s → Solves s (inputs_of lines) bound z → MeansTheSame items s lines bound z
 
 -- and so is the text that is due
 abbrev pub FlatTextIsDue : Type 0
 FlatTextIsDue =
-    (items : List tree.Item) (s : System) (lines : List Line) (bound limit : ℕ) (z : Streams) → IsFlatOf items s.equations s.outputs → IsFlat s → IsWellFormed s → Solves s (inputs_of lines) bound z → IsDueText items lines bound limit (due_text s lines z bound limit)
+    (items : List tree.Item) (kinds : Kinds) (s : System) (lines : List Line) (bound limit : ℕ) (z : Streams) → IsFlatOf items kinds s.equations s.outputs → IsFlat s → IsWellFormed s → Solves s (inputs_of lines) bound z → IsDueText items lines bound limit (due_text s lines z bound limit)

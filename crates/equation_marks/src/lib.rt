@@ -1,0 +1,2 @@
+// How many equations a specification makes, and where they pass the limits.
+#![tactic(auto)]

@@ -1,0 +1,2 @@
+// The flat system of a checked specification is complete.
+#![tactic(auto)]

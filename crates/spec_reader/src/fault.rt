@@ -1,0 +1,44 @@
+// Why a source is no specification that can be run.
+
+use spec_lexer::fault::LexFault;
+use spec_parser::parse::ParseFault;
+use tsl_value::memory::NoMemory;
+use tsl_value::place::Place;
+use tsl_value::text::Text;
+use type_check::fault::TypeFault;
+
+/// Why a specification has no flat system.
+#[derive(Clone, Copy, PartialEq, Eq, Debug)]
+pub enum FlatFault {
+    /// The macro of this name, the first in the source that does, lies on a cycle of calls of macros.
+    MacroCycle { place: Place },
+    /// Calls nest deeper than 64 in this definition or output, the first in the source; macros and value functions are counted
+    /// apart. The place is a definition's name, or the word `out`.
+    CallsTooDeep { place: Place },
+    /// The body of the value function of this name, the first in the source, has more than 1,024 nodes once calls are put in
+    /// place.
+    BodyTooLarge { place: Place },
+    /// The equation of the expression here would be number 4,096.
+    TooManyEquations { place: Place },
+    /// The update here would be the 257th.
+    TooManyUpdates { place: Place },
+}
+
+/// Why a source is no specification that can be run.
+#[derive(Drop)]
+pub enum SpecFault {
+    /// The source has no tokens. The fault is never `LexFault::Memory`.
+    Lex(LexFault),
+    /// The source's tokens have no tree. The fault is never `ParseFault::Memory`.
+    Parse(ParseFault),
+    /// The check of names and types refuses the tree. The fault is never `TypeFault::Memory`.
+    Types(TypeFault),
+    /// No flat system is made of the tree.
+    Flat(FlatFault),
+    /// Equations wait for each other at the same time: a cycle of arguments that passes through no first argument of a `last` or
+    /// a `delay`. The members are named in the order in which each waits for the one before it, from the least on; an equation without a
+    /// name is called by its number, as `%7`. The place is that of the first.
+    Cycle { place: Place, names: Vec<Text> },
+    /// Memory was wanting.
+    Memory,
+}
