@@ -1,7 +1,7 @@
 -- Calls that are kept, and the relation of them.
 use Rattle.std.proofs.Common.{◌≡◌, ℕ, zero, suc, ◌+◌, ◌<◌, ◌≤◌, Bool, true, false, if◌then◌else◌, List, [], ◌∷◌, ◌++◌, map, length, get_or, drop, Option, Some, None, refl, sym, ap, subst, ◌∙◌, inl, inr, append_assoc, add-one, arith}
 use Rattle.std.specs.Prelude.{slice_get}
-use Rattle.std.specs.Option.{option_map, option_to_list}
+use Rattle.std.specs.Option.{option_map}
 use Rattle.std.specs.List.{Contains, filter_map}
 use Rattle.std.proofs.lemmas.List.{append-nil, drop_all}
 use Rattle.std.proofs.lemmas.List.Elements.{Contains-append_left, Contains-append_right, Contains-append_cases, filter_map-append}
@@ -22,7 +22,7 @@ use Rattle.definition_cycles.specs.declared.mention.Mention.{Mention}
 use Rattle.definition_cycles.specs.Nodes.{nodes}
 use Rattle.definition_cycles.specs.Mentions.{declared}
 use Rattle.definition_cycles.specs.Calls.{is_call}
-use Rattle.definition_cycles.specs.Walk.{mention_in, mentions_among, mentions_from, Kept, with_nodes, nothing_kept}
+use Rattle.definition_cycles.specs.Walk.{mention_in, mentions_from, Kept, with_nodes, nothing_kept}
 use Rattle.definition_cycles.specs.Edges.{AreEdges}
 use Rattle.definition_cycles.proofs.FoundLemmas.{same_among}
 use Rattle.definition_cycles.proofs.ListLemmas.{at_contains, in_filtered, from_filtered}

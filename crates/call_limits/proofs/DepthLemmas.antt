@@ -1,11 +1,11 @@
 -- The depths of items, one behind the other.
-use Rattle.std.proofs.Common.{◌≡◌, ℕ, zero, suc, ◌+◌, ◌<◌, ◌≤◌, ◌⊎◌, List, [], ◌∷◌, ◌++◌, length, get_or, set, take, drop, Option, Some, None, Contains, refl, sym, ap, subst, ◌∙◌, inl, inr, get_or-set_same, get_or-set_other, length-set, drop-cons, take_all, arith}
-use Rattle.std.specs.Prelude.{slice_index, min, max, unwrap_or, ◌↔◌, IsNone, IfSome, MatchOption}
+use Rattle.std.proofs.Common.{◌≡◌, ℕ, suc, ◌+◌, ◌<◌, ◌≤◌, List, [], ◌∷◌, ◌++◌, length, get_or, set, take, drop, Option, Some, None, Contains, refl, sym, ap, subst, ◌∙◌, inl, inr, get_or-set_same, get_or-set_other, length-set, drop-cons, take_all, arith}
+use Rattle.std.specs.Prelude.{slice_index, max, unwrap_or, ◌↔◌, IsNone, IfSome, MatchOption}
 use Rattle.std.specs.List.{All}
 use Rattle.std.proofs.lemmas.Bool.{cases_eq, cases_lt}
 use Rattle.std.proofs.lemmas.List.{take_more, get_or_past, get_or_read, take-append-drop}
 use Rattle.std.proofs.lemmas.List.Elements.{Contains-push_cases, Contains-append_left, All-contains, All-contains_itself, All-weaker}
-use Rattle.graph_cycles.specs.Cycle.{Edge, AreBetween, IsLeast}
+use Rattle.graph_cycles.specs.Cycle.{Edge, AreBetween}
 use Rattle.graph_cycles.specs.Searching.{AreSuccessors, Leads}
 use Rattle.graph_cycles.proofs.Lists.{none_in}
 use Rattle.translation_order.proofs.Lists.{split_at}

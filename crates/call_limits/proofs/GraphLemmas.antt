@@ -1,10 +1,9 @@
 -- The graph of calls has no cycle, and so it has an order.
-use Rattle.std.proofs.Common.{◌≡◌, ℕ, ◌<◌, ◌⊎◌, List, [], ◌++◌, length, None, sym, ap, subst, ◌∙◌, inl, inr, arith}
+use Rattle.std.proofs.Common.{◌≡◌, ℕ, ◌<◌, ◌⊎◌, List, [], ◌++◌, length, None, sym, ap, subst, ◌∙◌, inl, inr}
 use Rattle.std.specs.List.{Contains}
 use Rattle.std.proofs.lemmas.List.Elements.{Contains-append_left, Contains-append_right, Contains-append_cases, All-contains}
 use Rattle.std.proofs.lemmas.Option.{slice_get_within}
 use Rattle.spec_parser.specs.Tree as tree
-use Rattle.flat_core.specs.Graph as flat
 use Rattle.flat_core.specs.Graph.{IsAcyclic}
 use Rattle.graph_cycles.specs.Cycle.{Edge, AreBetween, Path, one, more}
 use Rattle.graph_cycles.proofs.Paths.{path_alike, along_from}
@@ -21,8 +20,8 @@ use Rattle.definition_cycles.proofs.CycleLemmas.{are_between}
 use Rattle.definition_cycles.proofs.OrderLemmas.{turned_has, turned_means, way_round}
 use Rattle.call_limits.specs.Nesting.{CallsDeclared, CallsMacro, CallsFunction, IsFirstMacroCycle}
 use Rattle.call_limits.specs.Edges.{IsCallGraph, turned}
-use Rattle.call_limits.specs.Depths.{StandsBehind, AreBehind}
-use Rattle.call_limits.proofs.ScopeLemmas.{IsDefinition, IsValueFunction, called_there, function_calls_no_macro}
+use Rattle.call_limits.specs.Depths.{AreBehind}
+use Rattle.call_limits.proofs.ScopeLemmas.{IsDefinition, called_there, function_calls_no_macro}
 
 -- ---- a cycle of both kinds of calls is one of either
 abbrev pub Either : (ℕ → ℕ → Type 0) → (ℕ → ℕ → Type 0) → ℕ → ℕ → Type 0

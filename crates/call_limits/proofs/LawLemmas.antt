@@ -1,8 +1,7 @@
 -- At most one place is the first.
-use Rattle.std.proofs.Common.{◌≡◌, ℕ, ◌≤◌, List, Option, Some, None, refl, sym, ap, ◌∙◌, arith}
+use Rattle.std.proofs.Common.{◌≡◌, ℕ, List, Option, Some, None, refl, sym, ap, ◌∙◌, arith}
 use Rattle.std.specs.Prelude.{slice_get}
 use Rattle.tsl_value.specs.declared.place.Place.{Place}
-use Rattle.spec_parser.specs.Tree as tree
 use Rattle.definition_cycles.specs.Cycles.{IsFirstPlace}
 use Rattle.call_limits.specs.Nesting.{MacroCycle, IsTooDeep}
 use Rattle.call_limits.specs.Laws.{OneMacroCycle, OneTooDeep}

@@ -1,7 +1,7 @@
 pub mod ChainLemmas
 pub mod ScopeLemmas
 mod CallLemmas
-mod GraphLemmas
+pub mod GraphLemmas
 mod DepthLemmas
 mod PlaceLemmas
 mod LawLemmas

@@ -1,6 +1,5 @@
 -- The places that are answered.
-use Rattle.std.proofs.Common.{◌≡◌, ℕ, suc, ◌<◌, List, map, length, get_or, Option, Some, None, refl, sym, ap, subst, ◌∙◌, inl, inr, arith}
-use Rattle.std.specs.Prelude.{slice_get}
+use Rattle.std.proofs.Common.{◌≡◌, ℕ, suc, ◌<◌, List, map, length, get_or, Option, Some, refl, sym, ap, subst, ◌∙◌, inl, inr, arith}
 use Rattle.std.specs.Option.{option_map}
 use Rattle.std.proofs.lemmas.List.{length-map}
 use Rattle.std.proofs.lemmas.Option.{slice_get-map, slice_get-get_or, slice_get_within}
@@ -16,8 +15,8 @@ use Rattle.definition_cycles.specs.Cycles.{IsPlaceOfLeast}
 use Rattle.definition_cycles.specs.Edges.{AreEdges}
 use Rattle.definition_cycles.proofs.CycleLemmas.{least_on_cycle}
 use Rattle.call_limits.specs.Nesting.{CallsMacro, CallsFunction, MacroCycle, most_calls, IsTooDeep, deep_place}
-use Rattle.call_limits.specs.Depths.{Nests, NestsTooDeep, IsFirst}
-use Rattle.call_limits.proofs.ChainLemmas.{FunctionsBehind, nests_alike, nests_at, macros_nest, functions_nest, macros_chain, functions_chain}
+use Rattle.call_limits.specs.Depths.{NestsTooDeep, IsFirst}
+use Rattle.call_limits.proofs.ChainLemmas.{nests_alike, nests_at, macros_nest, functions_nest, macros_chain, functions_chain}
 use Rattle.call_limits.proofs.DepthLemmas.{first_alike}
 use Rattle.call_limits.proofs.ScopeLemmas.{IsDefinition, called_there}
 use Rattle.call_limits.proofs.GraphLemmas.{calls_apart}

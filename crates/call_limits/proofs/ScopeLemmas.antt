@@ -1,7 +1,7 @@
 -- What is called is a macro or a value function among the items, and value functions call no macros.
-use Rattle.std.proofs.Common.{◌≡◌, ℕ, zero, suc, ◌+◌, ◌<◌, Bool, true, false, ◌&&◌, ◌||◌, cond, if◌then◌else◌, List, [], ◌∷◌, length, Option, Some, refl, sym, ap, subst, ◌∙◌, inl, inr, arith}
+use Rattle.std.proofs.Common.{◌≡◌, ℕ, suc, ◌+◌, Bool, true, false, ◌&&◌, ◌||◌, cond, if◌then◌else◌, List, [], ◌∷◌, Option, Some, refl, sym, ap, subst, ◌∙◌, inl, inr, arith}
 use Rattle.std.specs.Prelude.{slice_get}
-use Rattle.std.specs.List.{All, Contains, filter, list_all, list_any}
+use Rattle.std.specs.List.{Contains, list_all, list_any}
 use Rattle.std.proofs.lemmas.List.Elements.{All-nil, All-cons}
 use Rattle.tsl_value.specs.declared.place.Place.{Place}
 use Rattle.spec_parser.specs.Tree as tree
@@ -14,7 +14,7 @@ use Rattle.name_check.specs.Parts.{Part}
 use Rattle.definition_cycles.specs.Mentions.{declared}
 use Rattle.definition_cycles.specs.Nodes.{parameters_of}
 use Rattle.definition_cycles.proofs.RangeLemmas.{AreAll, declared_all, around_all, declared_in_definition}
-use Rattle.call_limits.specs.Nesting.{CallsDeclared, CallsMacro, CallsFunction}
+use Rattle.call_limits.specs.Nesting.{CallsDeclared, CallsMacro}
 
 pub record IsDefinition (items : List tree.Item) (i : ℕ) : Type 0 where
   pub place : Place

@@ -1,5 +1,5 @@
 -- How deep calls nest, by edges that count and edges that do not.
-use Rattle.std.specs.Prelude.{◌≡◌, ℕ, suc, ◌≤◌, ◌<◌, ◌⊎◌, List, [], ◌∷◌, ◌++◌, length, min, Option, MatchOption, slice_index}
+use Rattle.std.specs.Prelude.{◌≡◌, ℕ, suc, ◌≤◌, ◌<◌, ◌⊎◌, List, ◌∷◌, ◌++◌, length, min, Option, MatchOption, slice_index}
 use Rattle.std.specs.List.{Contains}
 use Rattle.graph_cycles.specs.Cycle.{Edge, IsLeast}
 use Rattle.call_limits.specs.Nesting.{most_calls}
@@ -10,7 +10,7 @@ pub data Nests (C P : ℕ → ℕ → Type 0) : ℕ → ℕ → Type 0 where
   counts : {n a b : ℕ} → C a b → Nests C P n b → Nests C P (suc n) a
   passes : {n a b : ℕ} → P a b → Nests C P n b → Nests C P n a
 
--- the greatest of such numbers, of which those behind the first that is too great are none
+-- the greatest such number, where those above the first that is too great are left out
 pub record IsDepth (C P : ℕ → ℕ → Type 0) (a depth : ℕ) : Type 0 where
   pub nests : Nests C P depth a
   pub limited : depth ≤ suc most_calls

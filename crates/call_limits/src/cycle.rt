@@ -13,10 +13,10 @@ use std::alloc::Global;
 use tsl_value::memory::NoMemory;
 use tsl_value::place::Place;
 
-/// The place of the name of the first macro that lies on a cycle of calls of macros, if one does. A macro is called where a call of
-/// it stands in a definition, in blocks too.
+/// The place of the name of the first macro in the order of the source that lies on a cycle of calls of macros, if one does. A macro
+/// is called where a call of it stands, or its name as the last argument of a `lift`, in blocks too.
 ///
-/// The time is nearly linear in the size of the source.
+/// The time is nearly linear in the size of the source, whatever calls what.
 pub fn find_macro_cycle(alloc: Global, items: &[Item]) -> Result<Option<Place>, NoMemory>
     ensures { IfOk result (IsFirstMacroCycle (map item_of items.now)) }
 {

@@ -18,11 +18,11 @@ use translation_order::order::{OrderFault, order};
 use tsl_value::memory::NoMemory;
 use tsl_value::place::Place;
 
-/// The place of the first definition or output in which calls nest over 64 deep, if there is one: that of a definition's name, and
-/// of the word `out`. Macros and value functions are counted apart, and the value functions that are called in a macro count for
-/// its caller too.
+/// The place of the first definition or output in the order of the source in which calls nest over 64 deep, if there is one: that of
+/// the definition's name, or of the word `out`. Macros and value functions are counted apart, and the value functions that are
+/// called in a macro count for its caller too. There must be no cycle of either.
 ///
-/// The time is nearly linear in the size of the source.
+/// The time is nearly linear in the size of the source, whatever calls what.
 pub fn find_too_deep(alloc: Global, items: &[Item]) -> Result<Option<Place>, NoMemory>
     requires macros { IsFirstMacroCycle (map item_of items.now) None }
     requires functions { IsFirstFunctionCycle (map item_of items.now) None }
@@ -37,7 +37,7 @@ pub fn find_too_deep(alloc: Global, items: &[Item]) -> Result<Option<Place>, NoM
 }
 
 /// The place of a definition's or an input's name, or of the word `out`.
-pub fn deep_place(item: &Item) -> Place
+pub(crate) fn deep_place(item: &Item) -> Place
     ensures { result ≡ deep_place (item_of item.now) }
 {
     match item {

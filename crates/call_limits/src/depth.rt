@@ -15,11 +15,7 @@ use tsl_value::memory::NoMemory;
 const MOST_CALLS: u32 = 64;
 
 /// For each item those to which its edges lead.
-pub fn successors(
-    alloc: Global,
-    count: u32,
-    edges: &[(u32, u32)],
-) -> Result<Vec<Steps>, NoMemory>
+pub fn successors(alloc: Global, count: u32, edges: &[(u32, u32)]) -> Result<Vec<Steps>, NoMemory>
     requires { AreBetween count edges.now }
     ensures { IfOk result (λ s. AreSuccessors count edges.now s.items) }
 {
@@ -42,8 +38,8 @@ fn no_successors(alloc: Global, count: u32) -> Result<Vec<Steps>, NoMemory>
     Ok(lists)
 }
 
-/// How many edges that count stand behind each other from each item on, up to one more than may be. The order has each item behind
-/// those to which its edges lead.
+/// How many edges that count lie at most on a path from each item, up to one more than may be: those of `counted` count, and those
+/// of `passed` only lead on. The order has each item behind those to which its edges lead.
 pub fn depths(
     alloc: Global,
     order: &[u32],
@@ -57,11 +53,7 @@ pub fn depths(
     let mut depths = vec![in alloc; 0u32; counted.len()]?;
     for item in order {
         let place = *item as usize;
-        let depth = depth_by(
-            &depths,
-            counted[place].as_slice(),
-            passed[place].as_slice(),
-        );
+        let depth = depth_by(&depths, counted[place].as_slice(), passed[place].as_slice());
         depths[place] = depth;
     }
     Ok(depths)

@@ -1,8 +1,7 @@
-use Rattle.std.proofs.Common.{◌≡◌, ℕ, List, [], ◌++◌, sym, ap, subst, ◌∙◌}
+use Rattle.std.proofs.Common.{ℕ, List, sym, subst}
 use Rattle.flat_core.specs.Graph.{IsAcyclic}
 use Rattle.translation_order.specs.Order.{Before, AreOfSteps, IsLeastOrder}
 use Rattle.translation_order.specs.Answer.{OnCycle}
-use Rattle.call_limits.specs.Edges.{turned}
 use Rattle.call_limits.proofs.GraphLemmas.{both_turned, pairs_of_items, pairs_acyclic, behind_called}
 use Rattle.call_limits.proofs.deep.call_order.Goals as goal
 

@@ -1,7 +1,6 @@
-use Rattle.std.proofs.Common.{List, ℕ, ◌≡◌, length, refl, sym, ap, subst, ◌∙◌}
+use Rattle.std.proofs.Common.{refl, sym, subst}
 use Rattle.graph_cycles.specs.Cycle.{Edge}
-use Rattle.graph_cycles.specs.Searching.{AreSuccessors, Leads}
-use Rattle.call_limits.specs.Depths.{AreBehind, AreDepths}
+use Rattle.call_limits.specs.Depths.{AreBehind}
 use Rattle.call_limits.proofs.DepthLemmas.{same_successors, same_depths, order_leads, order_swapped, first_too_deep}
 use Rattle.call_limits.proofs.deep.first_too_deep.Goals as goal
 

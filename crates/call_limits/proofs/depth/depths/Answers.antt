@@ -1,7 +1,6 @@
-use Rattle.std.proofs.Common.{◌≡◌, List, ℕ, ◌<◌, [], length, get_or, set, take, All, sym, ap, subst, ◌∙◌, arith}
-use Rattle.graph_cycles.specs.Searching.{Leads}
-use Rattle.call_limits.specs.Depths.{AreBehind, IsDepthBy}
-use Rattle.call_limits.proofs.DepthLemmas.{AreKnown, read_is, is_item, counted_below, passed_below, known_turn, all_known}
+use Rattle.std.proofs.Common.{List, ℕ, ◌<◌, [], length, get_or, All, sym, ap, subst, ◌∙◌, arith}
+use Rattle.call_limits.specs.Depths.{IsDepthBy}
+use Rattle.call_limits.proofs.DepthLemmas.{read_is, is_item, counted_below, passed_below, known_turn, all_known}
 use Rattle.call_limits.proofs.depth.depths.Goals as goal
 
 pub bounds-counted-place : goal.bounds-counted-place
