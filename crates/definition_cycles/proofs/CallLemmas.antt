@@ -53,11 +53,11 @@ mutual
       elim (Contains-append_cases (definition_nodes i (suc k) s (tree.Define q x ps w d)) (block_nodes i (suc k + count_in d) s ds) n c) [ inl l ↦ Contains-append_left (bodies (suc k) s d) (block_bodies (suc k + count_in d) s ds) b (body_of_node i (suc k) s (tree.Define q x ps w d) n b l h) | inr r ↦ Contains-append_right (bodies (suc k) s d) (block_bodies (suc k + count_in d) s ds) b (body_in_block i (suc k + count_in d) s ds n b r h) ]
 
 -- a node with a body, of an item
-record HasNode (i : ℕ) (ns : List Node) (b : Seen) : Type 0 where
-  node : Node
-  is_node : Contains ns node
-  is_body : node.body ≡ Some b
-  item : node.item ≡ i
+pub record HasNode (i : ℕ) (ns : List Node) (b : Seen) : Type 0 where
+  pub node : Node
+  pub is_node : Contains ns node
+  pub is_body : node.body ≡ Some b
+  pub item : node.item ≡ i
 
 has_left : (i : ℕ) (xs ys : List Node) (b : Seen) → HasNode i xs b → HasNode i (xs ++ ys) b
 has_left i xs ys b h = record { node = h.node; is_node = Contains-append_left xs ys h.node h.is_node; is_body = h.is_body; item = h.item }
@@ -143,7 +143,7 @@ in_items i scope (x ∷ items) n c = elim (Contains-append_cases (item_nodes i s
     rest : InItems (suc i) scope items n → InItems i scope (x ∷ items) n
     rest r = let e : suc i + r.number ≡ i + suc r.number = omega arith in record { number = suc r.number; item = r.item; is_item = r.is_item; is_node = subst (λ j. Contains (item_nodes j scope r.item) n) e r.is_node }
 
-node_in_items : (i : ℕ) (scope : Scope) (items : List tree.Item) (k : ℕ) (p : Place) (d : tree.Definition) (b : Seen) → slice_get items k ≡ Some (tree.Defined p d) → Contains (item_bodies scope (tree.Defined p d)) b → HasNode (i + k) (nodes_from i scope items) b
+pub node_in_items : (i : ℕ) (scope : Scope) (items : List tree.Item) (k : ℕ) (p : Place) (d : tree.Definition) (b : Seen) → slice_get items k ≡ Some (tree.Defined p d) → Contains (item_bodies scope (tree.Defined p d)) b → HasNode (i + k) (nodes_from i scope items) b
 node_in_items i scope [] k p d b at c = absurd (cc)
 node_in_items i scope (x ∷ items) zero p d b at c =
     let same : x ≡ tree.Defined p d = cc in
@@ -187,18 +187,18 @@ abbrev edges_of : List tree.Item → List (ℕ × ℕ)
 edges_of items = filter_map call_edge (mentions_from 0 (nodes items))
 
 -- a mention in an item of a definition
-record IsMentionOf (items : List tree.Item) (a : ℕ) (m : Mention) : Type 0 where
-  place : Place
-  definition : tree.Definition
-  is_item : slice_get items a ≡ Some (tree.Defined place definition)
-  seen : Seen
-  is_body : Contains (item_bodies (top items) (tree.Defined place definition)) seen
-  part : Part
-  is_part : Contains (parts seen.expr) part
-  calls : m.calls ≡ is_call part
-  stands_for : declared seen.scope part ≡ Some m.is
+pub record IsMentionOf (items : List tree.Item) (a : ℕ) (m : Mention) : Type 0 where
+  pub place : Place
+  pub definition : tree.Definition
+  pub is_item : slice_get items a ≡ Some (tree.Defined place definition)
+  pub seen : Seen
+  pub is_body : Contains (item_bodies (top items) (tree.Defined place definition)) seen
+  pub part : Part
+  pub is_part : Contains (parts seen.expr) part
+  pub calls : m.calls ≡ is_call part
+  pub stands_for : declared seen.scope part ≡ Some m.is
 
-mention_of : (items : List tree.Item) (a : ℕ) (m : Mention) → m.item ≡ a → Contains (mentions_from 0 (nodes items)) m → IsMentionOf items a m
+pub mention_of : (items : List tree.Item) (a : ℕ) (m : Mention) → m.item ≡ a → Contains (mentions_from 0 (nodes items)) m → IsMentionOf items a m
 mention_of items a m from c =
     let n = mentioned 0 (nodes items) m c in
     let i = in_items 0 (top items) items n.node (contains_at (nodes items) n.number n.node n.is_node) in

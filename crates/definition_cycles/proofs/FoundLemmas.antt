@@ -55,7 +55,7 @@ same_declared s t h (Function (tree.Name p n)) = h.at n
 same_declared s t h (Function (tree.Call p n es)) = h.at n
 same_declared s t h (Function e) = refl
 
-same_among : (i a : ℕ) (s t : Scope) → Agree s t → (ps : List Part) → mentions_among i a s ps ≡ mentions_among i a t ps
+pub same_among : (i a : ℕ) (s t : Scope) → Agree s t → (ps : List Part) → mentions_among i a s ps ≡ mentions_among i a t ps
 same_among i a s t h [] = refl
 same_among i a s t h (p ∷ ps) =
     ap (λ d. cons_option (option_map (λ d. record { item = i; node = a; is = d; calls = is_call p }) d) (mentions_among i a s ps)) (same_declared s t h p)

@@ -52,7 +52,7 @@ pub record IsMentionIn (i a : ℕ) (s : Scope) (p : Part) (m : Mention) : Type 0
   pub item : m.item ≡ i
   pub node : m.node ≡ a
 
-mention_facts : (i a : ℕ) (s : Scope) (p : Part) (m : Mention) → mention_in i a s p ≡ Some m → IsMentionIn i a s p m
+pub mention_facts : (i a : ℕ) (s : Scope) (p : Part) (m : Mention) → mention_in i a s p ≡ Some m → IsMentionIn i a s p m
 mention_facts i a s p m h = by (declared s p) refl h
   where
     by : (o : Option Declaration) → declared s p ≡ o → option_map (λ d. record { item = i; node = a; is = d; calls = is_call p }) o ≡ Some m → IsMentionIn i a s p m

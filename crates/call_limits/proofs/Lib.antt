@@ -1,0 +1,7 @@
+pub mod ChainLemmas
+pub mod ScopeLemmas
+mod CallLemmas
+pub mod GraphLemmas
+mod DepthLemmas
+mod PlaceLemmas
+mod LawLemmas

@@ -1,0 +1,6 @@
+use Rattle.std.proofs.Common.{take}
+use Rattle.graph_cycles.specs.Searching.{AreSuccessors}
+use Rattle.call_limits.proofs.depth.successors.Given as goal
+
+abbrev pub invariant-loop-from : goal.invariant-loop-from
+invariant-loop-from l = AreSuccessors l.count (take l.from-index l.edges) l.successors.items

@@ -1,0 +1,4 @@
+pub mod Nesting
+pub mod Laws
+pub mod Edges
+pub mod Depths
