@@ -1,9 +1,9 @@
-mod CycleLemmas
+pub mod CycleLemmas
 mod ListLemmas
 pub mod FoundLemmas
 mod MentionLemmas
 mod NumberLemmas
 mod EdgeLemmas
-mod RangeLemmas
-mod CallLemmas
-mod OrderLemmas
+pub mod RangeLemmas
+pub mod CallLemmas
+pub mod OrderLemmas

@@ -34,10 +34,10 @@ order_alike steps E F go back order o = record {
 abbrev pub turned_of : List (ℕ × ℕ) → List (ℕ × ℕ)
 turned_of edges = map (λ e. (e.1, e.0)) edges
 
-turned_has : (E : ℕ → ℕ → Type 0) (edges : List (ℕ × ℕ)) → AreEdges E edges → (a b : ℕ) → E b a → Before (turned_of edges) a b
+pub turned_has : (E : ℕ → ℕ → Type 0) (edges : List (ℕ × ℕ)) → AreEdges E edges → (a b : ℕ) → E b a → Before (turned_of edges) a b
 turned_has E edges e a b h = map_contains (λ e. (e.1, e.0)) edges (b, a) (e.has b a h)
 
-turned_means : (E : ℕ → ℕ → Type 0) (edges : List (ℕ × ℕ)) → AreEdges E edges → (a b : ℕ) → Before (turned_of edges) a b → E b a
+pub turned_means : (E : ℕ → ℕ → Type 0) (edges : List (ℕ × ℕ)) → AreEdges E edges → (a b : ℕ) → Before (turned_of edges) a b → E b a
 turned_means E edges e a b h =
     let f = contains_map (λ e. (e.1, e.0)) edges (a, b) h in
     let first : f.0.1 ≡ a = ap (λ (p : ℕ × ℕ). p.0) f.2 in
@@ -53,7 +53,7 @@ back_round E a b (more {b = m} e p) = behind (λ x y. E y x) b m a (back_round E
     behind F x y z (flat.edge f) g = flat.step f (flat.edge g)
     behind F x y z (flat.step {b = w} f p) g = flat.step f (behind F w y z p g)
 
-way_round : (E : ℕ → ℕ → Type 0) (a b : ℕ) → flat.Path (λ x y. E y x) a b → Path E b a
+pub way_round : (E : ℕ → ℕ → Type 0) (a b : ℕ) → flat.Path (λ x y. E y x) a b → Path E b a
 way_round E a b (flat.edge e) = one e
 way_round E a b (flat.step {b = m} e p) = path_join E b m a (way_round E m b p) (one e)
 

@@ -6,7 +6,9 @@ use Rattle.std.proofs.lemmas.Bool.Decides.{nat_tests}
 use Rattle.std.proofs.lemmas.List.Elements.{Contains-append_cases, Contains-append_right}
 use Rattle.std.proofs.lemmas.List.{append-nil}
 use Rattle.spec_parser.specs.Tree as tree
-use Rattle.function_bodies.specs.Calls.{CallsFunction, IsCallOrder}
+use Rattle.definition_cycles.specs.Calls.{Calls}
+use Rattle.definition_cycles.proofs.RangeLemmas.{called_below}
+use Rattle.function_bodies.specs.Calls.{IsCallOrder}
 use Rattle.function_bodies.specs.Laws.{NestsWithin}
 
 -- ---- how many of the numbers below a bound are listed
@@ -89,6 +91,9 @@ nests_more items zero e i h n = absurd n
 nests_more items (suc d) zero i h n = absurd (omega arith)
 nests_more items (suc d) (suc e) i h n = λ j calls. nests_more items d e j (omega arith) (n j calls)
 
+pub called_is_item : (items : List tree.Item) (i j : ℕ) → Calls items i j → j < length items
+called_is_item items i j calls = called_below items calls.place calls.definition calls.seen calls.part j calls.is_body calls.stands_for
+
 module _ (items : List tree.Item) (order : List ℕ) (is_order : IsCallOrder items order) where
   abbrev AllNest : List ℕ → Type 0
   AllNest front = (i : ℕ) → i < length items → Contains front i → NestsWithin items (listed front (length items)) i
@@ -96,7 +101,7 @@ module _ (items : List tree.Item) (order : List ℕ) (is_order : IsCallOrder ite
   first_nests : (front rest : List ℕ) (x : ℕ) → order ≡ front ++ x ∷ rest → AllNest front → x < length items → (b : Bool) → has front x ≡ b → NestsWithin items (listed (front ++ x ∷ []) (length items)) x
   first_nests front rest x is before lt true e = nests_more items _ _ x (listed_more front x (length items)) (before x lt (has_there front x e))
   first_nests front rest x is before lt false e =
-      let here : NestsWithin items (suc (listed front (length items))) x = λ j calls. before j calls.is_called (is_order.behind front rest x j is calls) in
+      let here : NestsWithin items (suc (listed front (length items))) x = λ j calls. before j (called_is_item items x j calls) (is_order.behind front rest x j is calls) in
       nests_more items (suc (listed front (length items))) _ x (listed_new front x (length items) e lt) here
 
   one_further : (front rest : List ℕ) (x : ℕ) → order ≡ front ++ x ∷ rest → AllNest front → AllNest (front ++ x ∷ [])

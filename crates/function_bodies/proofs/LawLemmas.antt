@@ -12,7 +12,7 @@ use Rattle.name_check.specs.Scope.{meaning, inside, top}
 use Rattle.name_check.proofs.AgreeLemmas.{agree_same}
 use Rattle.spec_meaning.specs.Occurrence.{params_of, body_of}
 use Rattle.spec_meaning.specs.Function.{no_tree, tree_of, body_tree, function_tree, function_at, function_body, arguments_from}
-use Rattle.function_bodies.specs.Calls.{CallsFunction, IsCallOrder, IsFunction, ArePlain}
+use Rattle.function_bodies.specs.Calls.{IsCallOrder, IsFunction, ArePlain}
 use Rattle.function_bodies.specs.Laws.{NestsWithin, DepthIsEnough, BodiesArePlaced}
 use Rattle.function_bodies.proofs.TreeLemmas.{IsCongruence, trees_alike}
 use Rattle.function_bodies.proofs.ScopeLemmas.{within_function, scope_same, seen_in_function, no_lift_within, function_below, good_parts}
@@ -41,16 +41,16 @@ functions_alike items plain R r (suc d) (suc e) i n m function us vs args =
     let expr = (plain.no_braces i function).0 in
     let good : ℕ → Type 0 = λ j. NestsWithin items d j × NestsWithin items e j × IsFunction items j in
     let whole : R (tree_of (within_function items ps) us (function_tree items d) expr) (tree_of (within_function items ps) vs (function_tree items e) expr) =
-        trees_alike R good (within_function items ps) (within_function items ps) us vs (function_tree items d) (function_tree items e)
-        (record {
-          congruence = r;
-          names = agree_same (within_function items ps) (within_function items ps) refl;
-          arguments = args;
-          calls = λ j g xs ys z. functions_alike items plain R r d e j g.0 g.1 g.2 xs ys (λ k m is. zip_at R r xs ys z m);
-          no_lift = no_lift_within items ps plain;
-        })
-        expr
-        (good_parts items i expr function body good (λ j calls f. (n j calls, m j calls, f))) in
+    trees_alike R good (within_function items ps) (within_function items ps) us vs (function_tree items d) (function_tree items e)
+    (record {
+      congruence = r;
+      names = agree_same (within_function items ps) (within_function items ps) refl;
+      arguments = args;
+      calls = λ j g xs ys z. functions_alike items plain R r d e j g.0 g.1 g.2 xs ys (λ k m is. zip_at R r xs ys z m);
+      no_lift = no_lift_within items ps plain;
+    })
+    expr
+    (good_parts items i expr function body good (λ j calls f. (n j calls, m j calls, f))) in
     let P : Tree → Type 0 = λ t. R t (function_tree items (suc e) i vs) in
     let Q : Tree → Type 0 = λ t. R (tree_of (within_function items ps) us (function_tree items d) expr) t in
     subst P (sym (at_body items d i us expr function body)) (subst Q (sym (at_body items e i vs expr function body)) whole)
@@ -89,5 +89,5 @@ bodies_are_placed items order is_order plain i ts function =
     let deep = nests items order is_order i (function_below items i function) in
     sym (functions_alike items plain (λ a b. placed ts a ≡ b) (placed_congruence ts) (length items) (length items) i deep deep function (arguments_from 0 ps) ts
     (λ n k is.
-        let seen = seen_in_function items ps n (declaration.Parameter k) is in
-        ap (placed ts) (argument_at 0 ps k (seen.parameter k refl) ∙ ap Argument (omega arith))))
+    let seen = seen_in_function items ps n (declaration.Parameter k) is in
+    ap (placed ts) (argument_at 0 ps k (seen.parameter k refl) ∙ ap Argument (omega arith))))

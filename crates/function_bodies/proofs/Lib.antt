@@ -6,3 +6,5 @@ pub mod CallLemmas
 pub mod WalkLemmas
 pub mod MadeLemmas
 pub mod EndLemmas
+pub mod SizeLemmas
+pub mod OrderLemmas

@@ -22,7 +22,8 @@ use Rattle.name_check.specs.Scope.{Scope, top, are_values, functions_of, paramet
 use Rattle.name_check.proofs.AgreeLemmas.{agree_same, agree_append}
 use Rattle.spec_meaning.specs.Occurrence.{params_of, body_of, result_of}
 use Rattle.spec_meaning.specs.Function.{arguments_from, tree_of, function_tree, function_at, function_body}
-use Rattle.function_bodies.specs.Calls.{CallsFunction, IsCallOrder, IsFunction, ArePlain}
+use Rattle.definition_cycles.specs.Calls.{Calls}
+use Rattle.function_bodies.specs.Calls.{IsCallOrder, IsFunction, ArePlain}
 use Rattle.function_bodies.specs.Laws.{NestsWithin}
 use Rattle.function_bodies.specs.Around.{call_of, too_large, tree_or}
 use Rattle.function_bodies.specs.Bodies.{body_at, AreBodies}
@@ -110,7 +111,7 @@ module _ (items : List tree.Item) (order : List ℕ) (is_order : IsCallOrder ite
       ap within here ∙ call_right old j us vs (function_body items j) z body
 
   -- the number of items, as one more than another number
-  made_at : (old : List (Option Tree)) (x n : ℕ) (ps : List tree.Param) (b : tree.Body) (e : Expr) (made : Option Tree) → length items ≡ n → x < n → IsFunction items x → params_of (slice_get items x) ≡ ps → body_of (slice_get items x) ≡ Some b → b ≡ tree.Plain e → ((j : ℕ) → CallsFunction items x j → slice_index_or old j None ≡ body_at items j) → IsFunctionMade old (top items) ps b made → made ≡ within (function_body items x)
+  made_at : (old : List (Option Tree)) (x n : ℕ) (ps : List tree.Param) (b : tree.Body) (e : Expr) (made : Option Tree) → length items ≡ n → x < n → IsFunction items x → params_of (slice_get items x) ≡ ps → body_of (slice_get items x) ≡ Some b → b ≡ tree.Plain e → ((j : ℕ) → Calls items x j → slice_index_or old j None ≡ body_at items j) → IsFunctionMade old (top items) ps b made → made ≡ within (function_body items x)
   made_at old x zero ps b e made count lt function is_ps is_body is_plain callees h = absurd (omega arith)
   made_at old x (suc m) ps b e made count lt function is_ps is_body is_plain callees h =
       let scope = within_function items (params_of (slice_get items x)) in
@@ -118,19 +119,19 @@ module _ (items : List tree.Item) (order : List ℕ) (is_order : IsCallOrder ite
       let levels = seen (h.level ∷ functions_of (top items) ∷ []) in
       let standing : body_of (slice_get items x) ≡ Some (tree.Plain e) = is_body ∙ ap Some is_plain in
       let deep : NestsWithin items (suc m) x = (let P : ℕ → Type 0 = λ n. NestsWithin items n x in subst P count (nests items order is_order x (omega arith))) in
-      let good : ℕ → Type 0 = λ j. CallsFunction items x j × NestsWithin items m j × IsFunction items j in
+      let good : ℕ → Type 0 = λ j. Calls items x j × NestsWithin items m j × IsFunction items j in
       let agrees : Agree h.level (parameters_from 0 (params_of (slice_get items x))) = (let P : List tree.Param → Type 0 = λ qs. Agree h.level (parameters_from 0 qs) in subst P (sym is_ps) h.agrees) in
       let same : Same (tree_of scope args (function_tree items m) e) (tree_of levels args (call_of old) e) =
-          trees_alike (λ a b. Same a b) good scope levels args args (function_tree items m) (call_of old)
-          (record {
-            congruence = same_congruence;
-            names = level_agrees h.level (params_of (slice_get items x)) (functions_of (top items)) agrees;
-            arguments = λ n k is. refl;
-            calls = λ j g us vs z. call_same old m x j us vs g.2 g.1 (callees j g.0) z;
-            no_lift = no_lift_within items (params_of (slice_get items x)) plain;
-          })
-          e
-          (good_parts items x e function standing good (λ j calls f. (calls, deep j calls, f))) in
+      trees_alike (λ a b. Same a b) good scope levels args args (function_tree items m) (call_of old)
+      (record {
+        congruence = same_congruence;
+        names = level_agrees h.level (params_of (slice_get items x)) (functions_of (top items)) agrees;
+        arguments = λ n k is. refl;
+        calls = λ j g us vs z. call_same old m x j us vs g.2 g.1 (callees j g.0) z;
+        no_lift = no_lift_within items (params_of (slice_get items x)) plain;
+      })
+      e
+      (good_parts items x e function standing good (λ j calls f. (calls, deep j calls, f))) in
       h.is
       ∙ ap (λ qs. within (tree_of levels (arguments_from 0 qs) (call_of old) (result_of b))) (sym is_ps)
       ∙ ap (λ c. within (tree_of levels args (call_of old) (result_of c))) is_plain
@@ -138,27 +139,27 @@ module _ (items : List tree.Item) (order : List ℕ) (is_order : IsCallOrder ite
       ∙ ap within (sym (at_body items m x args e function standing))
       ∙ ap (λ n. within (function_tree items n x args)) (sym count)
 
-  function_right : (old : List (Option Tree)) (x : ℕ) (ps : List tree.Param) (b : tree.Body) (made : Option Tree) → IsFunction items x → params_of (slice_get items x) ≡ ps → body_of (slice_get items x) ≡ Some b → ((j : ℕ) → CallsFunction items x j → slice_index_or old j None ≡ body_at items j) → IsFunctionMade old (top items) ps b made → made ≡ within (function_body items x)
+  function_right : (old : List (Option Tree)) (x : ℕ) (ps : List tree.Param) (b : tree.Body) (made : Option Tree) → IsFunction items x → params_of (slice_get items x) ≡ ps → body_of (slice_get items x) ≡ Some b → ((j : ℕ) → Calls items x j → slice_index_or old j None ≡ body_at items j) → IsFunctionMade old (top items) ps b made → made ≡ within (function_body items x)
   function_right old x ps b made function is_ps is_body callees h =
       let it = plain.no_braces x function in
       let is_plain : b ≡ tree.Plain it.0 = cc (is_body, it.1) in
       made_at old x (length items) ps b it.0 made refl (function_below items x function) function is_ps is_body is_plain callees h
 
   -- whether its parameters make it a value function or not
-  defined_right : (old : List (Option Tree)) (x : ℕ) (ps : List tree.Param) (b : tree.Body) (made : Option Tree) (v : Bool) → are_values ps ≡ v → params_of (slice_get items x) ≡ ps → body_of (slice_get items x) ≡ Some b → ((j : ℕ) → CallsFunction items x j → slice_index_or old j None ≡ body_at items j) → (are_values ps ≡ true → IsFunctionMade old (top items) ps b made) → (are_values ps ≡ false → made ≡ None) → made ≡ (if are_values ps then within (function_body items x) else None)
+  defined_right : (old : List (Option Tree)) (x : ℕ) (ps : List tree.Param) (b : tree.Body) (made : Option Tree) (v : Bool) → are_values ps ≡ v → params_of (slice_get items x) ≡ ps → body_of (slice_get items x) ≡ Some b → ((j : ℕ) → Calls items x j → slice_index_or old j None ≡ body_at items j) → (are_values ps ≡ true → IsFunctionMade old (top items) ps b made) → (are_values ps ≡ false → made ≡ None) → made ≡ (if are_values ps then within (function_body items x) else None)
   defined_right old x ps b made true is is_ps is_body callees yes no =
       function_right old x ps b made (ap are_values is_ps ∙ is) is_ps is_body callees (yes is)
       ∙ ap (λ v. if v then within (function_body items x) else None) (sym is)
   defined_right old x ps b made false is is_ps is_body callees yes no =
       no is ∙ ap (λ v. if v then within (function_body items x) else None) (sym is)
 
-  item_right : (old : List (Option Tree)) (x : ℕ) (item : tree.Item) (made : Option Tree) → slice_get items x ≡ Some item → ((j : ℕ) → CallsFunction items x j → slice_index_or old j None ≡ body_at items j) → IsItemMade old (top items) item made → made ≡ (if are_values (params_of (Some item)) then within (function_body items x) else None)
+  item_right : (old : List (Option Tree)) (x : ℕ) (item : tree.Item) (made : Option Tree) → slice_get items x ≡ Some item → ((j : ℕ) → Calls items x j → slice_index_or old j None ≡ body_at items j) → IsItemMade old (top items) item made → made ≡ (if are_values (params_of (Some item)) then within (function_body items x) else None)
   item_right old x (tree.Input p q n y) made is callees h = h
   item_right old x (tree.Defined p (tree.Define q n ps w b)) made is callees h = defined_right old x ps b made (are_values ps) refl (ap params_of is) (ap body_of is) callees h.0 h.1
   item_right old x (tree.Output p q n) made is callees h = h
   item_right old x (tree.OutputAs p e q n) made is callees h = h
 
-  body_right : (old : List (Option Tree)) (x : ℕ) (item : tree.Item) (made : Option Tree) → slice_get items x ≡ Some item → ((j : ℕ) → CallsFunction items x j → slice_index_or old j None ≡ body_at items j) → IsItemMade old (top items) item made → made ≡ body_at items x
+  body_right : (old : List (Option Tree)) (x : ℕ) (item : tree.Item) (made : Option Tree) → slice_get items x ≡ Some item → ((j : ℕ) → Calls items x j → slice_index_or old j None ≡ body_at items j) → IsItemMade old (top items) item made → made ≡ body_at items x
   body_right old x item made is callees h =
       item_right old x item made is callees h ∙ ap (λ m. if are_values (params_of m) then within (function_body items x) else None) (sym is)
 

@@ -14,10 +14,11 @@ use Rattle.name_check.specs.declared.declaration.Declaration.TheVariants as decl
 use Rattle.name_check.specs.Builtin.{lift_name}
 use Rattle.name_check.specs.Scope.{Scope, Entry, meaning, is_events, is_function, are_values, declared_as, declared_from, functions_of, inside, parameters_from, top}
 use Rattle.name_check.specs.Parts.{Part, Operand, Function, parts}
-use Rattle.name_check.specs.Bodies.{Seen, item_bodies}
 use Rattle.name_check.proofs.AgreeLemmas.{meaning-append}
 use Rattle.spec_meaning.specs.Occurrence.{params_of, body_of}
-use Rattle.function_bodies.specs.Calls.{called_name, CallsFunction, IsFunction, ArePlain}
+use Rattle.definition_cycles.specs.Mentions.{declared}
+use Rattle.definition_cycles.specs.Calls.{is_call, Calls}
+use Rattle.function_bodies.specs.Calls.{IsFunction, ArePlain}
 use Rattle.function_bodies.proofs.TreeLemmas.{MayCall, IsGoodPart, AreGood}
 
 -- ---- what holds of all that is declared holds of what a name stands for
@@ -51,9 +52,10 @@ pub record IsSeen (count : ℕ) (good : ℕ → Type 0) (d : Declaration) : Type
 
 parameters_seen : (good : ℕ → Type 0) (count k : ℕ) (ps : List tree.Param) → k + length ps ≤ count → Holds (IsSeen count good) (parameters_from k ps)
 parameters_seen good count k [] h = tt
-parameters_seen good count k (p ∷ ps) h =
-    (record { parameter = λ m is. (let same : k ≡ m = cc in omega arith); function = λ j is. cc },
-    parameters_seen good count (suc k) ps (omega arith))
+parameters_seen good count k (p ∷ ps) h = (
+  record { parameter = λ m is. (let same : k ≡ m = cc in omega arith); function = λ j is. cc },
+  parameters_seen good count (suc k) ps (omega arith),
+)
 
 -- a definition is declared as a value function where its parameters are values
 none_is : {X : Type 0} (test : X → Bool) (xs : List X) → list_any test xs ≡ false → list_all (λ q. if test q then false else true) xs ≡ true
@@ -76,9 +78,10 @@ declared_function i j (p ∷ ps) h = by (list_all (λ q. is_events q.of) (p ∷ 
 all_declared : (good : ℕ → Type 0) (i : ℕ) (items : List tree.Item) → ((k : ℕ) → are_values (params_of (slice_get items k)) ≡ true → good (i + k)) → Holds (λ d. (j : ℕ) → d ≡ declaration.Function j → good j) (declared_from i items)
 all_declared good i [] h = tt
 all_declared good i (tree.Input p q n y ∷ items) h = ((λ j is. cc), all_declared good (suc i) items (λ k v. subst good (omega arith) (h (suc k) v)))
-all_declared good i (tree.Defined p (tree.Define q n ps w b) ∷ items) h =
-    ((λ j is. (let both = declared_function i j ps is in subst good (omega (arith, both.0)) (h 0 both.1))),
-    all_declared good (suc i) items (λ k v. subst good (omega arith) (h (suc k) v)))
+all_declared good i (tree.Defined p (tree.Define q n ps w b) ∷ items) h = (
+  (λ j is. (let both = declared_function i j ps is in subst good (omega (arith, both.0)) (h 0 both.1))),
+  all_declared good (suc i) items (λ k v. subst good (omega arith) (h (suc k) v)),
+)
 all_declared good i (tree.Output p q n ∷ items) h = all_declared good (suc i) items (λ k v. subst good (omega arith) (h (suc k) v))
 all_declared good i (tree.OutputAs p e q n ∷ items) h = all_declared good (suc i) items (λ k v. subst good (omega arith) (h (suc k) v))
 
@@ -134,43 +137,41 @@ function_below items j h = by (slice_get items j) refl h
     by None is h = cc
     by (Some x) is h = slice_get_within items j x is
 
-calls_by : (items : List tree.Item) (i j : ℕ) (e : Expr) (m : Option tree.Item) → slice_get items i ≡ m → body_of m ≡ Some (tree.Plain e) → (part : Part) → Contains (parts e) part → (n : List ℕ) → called_name part ≡ Some n → meaning (inside (top items) (params_of m)) n ≡ Some (declaration.Function j) → j < length items → CallsFunction items i j
-calls_by items i j e (Some (tree.Defined p (tree.Define q n ps w (tree.Plain f)))) is body part is_part name is_name stands below =
+calls_by : (items : List tree.Item) (i j : ℕ) (e : Expr) (m : Option tree.Item) → slice_get items i ≡ m → body_of m ≡ Some (tree.Plain e) → (part : Part) → Contains (parts e) part → is_call part ≡ true → declared (inside (top items) (params_of m)) part ≡ Some (declaration.Function j) → Calls items i j
+calls_by items i j e (Some (tree.Defined p (tree.Define q n ps w (tree.Plain f)))) is body part is_part calls stands =
     let same : f ≡ e = cc in
     record {
-      item = tree.Defined p (tree.Define q n ps w (tree.Plain f));
+      place = p;
+      definition = tree.Define q n ps w (tree.Plain f);
       is_item = is;
       seen = record { scope = inside (top items) ps; expr = f };
       is_body = (0, omega arith, refl);
       part = part;
       is_part = (let P : Expr → Type 0 = λ x. Contains (parts x) part in subst P (sym same) is_part);
-      name = name;
-      is_name = is_name;
+      calls = calls;
       stands_for = stands;
-      is_called = below;
     }
-calls_by items i j e (Some (tree.Defined p (tree.Define q n ps w (tree.Block ds f)))) is body part is_part name is_name stands below = cc
-calls_by items i j e m is body part is_part name is_name stands below = cc
+calls_by items i j e (Some (tree.Defined p (tree.Define q n ps w (tree.Block ds f)))) is body part is_part calls stands = cc
+calls_by items i j e m is body part is_part calls stands = cc
 
-calls_in : (items : List tree.Item) (i j : ℕ) (e : Expr) → IsFunction items i → Standing items i e → (part : Part) → Contains (parts e) part → (n : List ℕ) → called_name part ≡ Some n → meaning (within_function items (params_of (slice_get items i))) n ≡ Some (declaration.Function j) → CallsFunction items i j
-calls_in items i j e function body part is_part n is_name stands =
-    calls_by items i j e (slice_get items i) refl body part is_part n is_name
-    (ap (λ s. meaning s n) (scope_same items (params_of (slice_get items i)) function) ∙ stands)
-    (function_below items j ((seen_in_function items (params_of (slice_get items i)) n (declaration.Function j) stands).function j refl))
+calls_in : (items : List tree.Item) (i j : ℕ) (e : Expr) → IsFunction items i → Standing items i e → (part : Part) → Contains (parts e) part → is_call part ≡ true → declared (within_function items (params_of (slice_get items i))) part ≡ Some (declaration.Function j) → Calls items i j
+calls_in items i j e function body part is_part calls stands =
+    calls_by items i j e (slice_get items i) refl body part is_part calls
+    (ap (λ s. declared s part) (scope_same items (params_of (slice_get items i)) function) ∙ stands)
 
 may_call : (scope : Scope) (good : ℕ → Type 0) (n : List ℕ) (d : Option Declaration) → meaning scope n ≡ d → ((j : ℕ) → meaning scope n ≡ Some (declaration.Function j) → good j) → MayCall d good
 may_call scope good n (Some (declaration.Function j)) is h = h j is
 may_call scope good n d is h = tt
 
-good_part : (items : List tree.Item) (i : ℕ) (e : Expr) → IsFunction items i → Standing items i e → (good : ℕ → Type 0) → ((j : ℕ) → CallsFunction items i j → IsFunction items j → good j) → (part : Part) → Contains (parts e) part → IsGoodPart (within_function items (params_of (slice_get items i))) good part
+good_part : (items : List tree.Item) (i : ℕ) (e : Expr) → IsFunction items i → Standing items i e → (good : ℕ → Type 0) → ((j : ℕ) → Calls items i j → IsFunction items j → good j) → (part : Part) → Contains (parts e) part → IsGoodPart (within_function items (params_of (slice_get items i))) good part
 good_part items i e function body good h (Operand (tree.Call p n es)) is_part =
     let scope = within_function items (params_of (slice_get items i)) in
     may_call scope good n (meaning scope n) refl
-    (λ j stands. h j (calls_in items i j e function body (Operand (tree.Call p n es)) is_part n refl stands)
-      ((seen_in_function items (params_of (slice_get items i)) n (declaration.Function j) stands).function j refl))
+    (λ j stands. h j (calls_in items i j e function body (Operand (tree.Call p n es)) is_part refl stands)
+    ((seen_in_function items (params_of (slice_get items i)) n (declaration.Function j) stands).function j refl))
 good_part items i e function body good h part is_part = tt
 
-pub good_parts : (items : List tree.Item) (i : ℕ) (e : Expr) → IsFunction items i → Standing items i e → (good : ℕ → Type 0) → ((j : ℕ) → CallsFunction items i j → IsFunction items j → good j) → AreGood (within_function items (params_of (slice_get items i))) good (parts e)
+pub good_parts : (items : List tree.Item) (i : ℕ) (e : Expr) → IsFunction items i → Standing items i e → (good : ℕ → Type 0) → ((j : ℕ) → Calls items i j → IsFunction items j → good j) → AreGood (within_function items (params_of (slice_get items i))) good (parts e)
 good_parts items i e function body good h =
     recursion_from_All (IsGoodPart (within_function items (params_of (slice_get items i))) good) (parts e)
     (λ k d lt. good_part items i e function body good h (slice_index_or (parts e) k d) (k, lt, get_or_default (parts e) k _ d lt))

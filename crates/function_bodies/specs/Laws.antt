@@ -4,12 +4,13 @@ use Rattle.spec_parser.specs.Tree as tree
 use Rattle.lift_func.specs.Tree.{Tree}
 use Rattle.lift_func.specs.Placed.{placed}
 use Rattle.spec_meaning.specs.Function.{function_tree, function_at, function_body}
-use Rattle.function_bodies.specs.Calls.{CallsFunction, IsCallOrder, IsFunction, ArePlain}
+use Rattle.definition_cycles.specs.Calls.{Calls}
+use Rattle.function_bodies.specs.Calls.{IsCallOrder, IsFunction, ArePlain}
 
 -- calls in item i nest no deeper than the number says, its own body counted
 abbrev pub NestsWithin : List tree.Item → ℕ → ℕ → Type 0
 NestsWithin items zero i = ⊥
-NestsWithin items (suc deep) i = (j : ℕ) → CallsFunction items i j → NestsWithin items deep j
+NestsWithin items (suc deep) i = (j : ℕ) → Calls items i j → NestsWithin items deep j
 
 -- calls nest no deeper than there are items, and a number that is large enough is as good as any other
 abbrev pub DepthIsEnough : Type 0

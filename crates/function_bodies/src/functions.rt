@@ -87,16 +87,17 @@ fn copies(alloc: Global, bodies: &[Body]) -> Result<Vec<Option<Body>>, NoMemory>
     Ok(copies)
 }
 
-/// The bodies of items of which each stands behind those that it calls.
+/// The bodies of items in any order, where nothing is known of them.
 #[cfg(test)]
-pub(crate) fn in_source_order(
+pub(crate) fn along(
     alloc: Global,
     items: &[Item],
     names: &Names,
+    order: &Steps,
 ) -> Result<Functions, NoMemory> {
     let mut bodies = missing(alloc, items.len())?;
-    for number in 0..items.len() {
-        make(alloc, items, names, number, &mut bodies)?;
+    for number in order.as_slice() {
+        make(alloc, items, names, *number as usize, &mut bodies)?;
     }
     Ok(Functions { bodies })
 }

@@ -6,5 +6,6 @@ mod definition;
 mod expression;
 pub mod functions;
 pub mod laws;
+pub mod order;
 #[cfg(test)]
 mod tests;

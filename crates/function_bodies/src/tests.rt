@@ -1,6 +1,9 @@
-// The bodies of small specifications, whose value functions stand behind those that they call.
+// The bodies of small specifications.
 
-use crate::functions::{Functions, in_source_order};
+use crate::functions::{Functions, along};
+use crate::order::call_order;
+use definition_cycles::functions::find_function_cycle;
+use flat_core::steps::Steps;
 use lift_func::body::Body;
 use name_check::check::check_names;
 use spec_lexer::lex::lex;
@@ -19,11 +22,21 @@ fn tree_of(alloc: Global, source: &[u8]) -> Option<Tree> {
     parse(alloc, &tokens).ok()
 }
 
+/// An order of the items, each behind those that it calls.
+fn order_of(alloc: Global, tree: &Tree) -> Option<Steps> {
+    match find_function_cycle(alloc, tree) {
+        Ok(None) => call_order(alloc, tree.items()).ok(),
+        Ok(Some(_)) => None,
+        Err(_) => None,
+    }
+}
+
 /// The bodies of a source, and where the first that is too large stands.
 fn made(alloc: Global, source: &[u8]) -> Option<(Functions, Option<Place>)> {
     let tree = tree_of(alloc, source)?;
     let names = check_names(alloc, &tree).ok()?;
-    let functions = in_source_order(alloc, tree.items(), &names).ok()?;
+    let order = order_of(alloc, &tree)?;
+    let functions = along(alloc, tree.items(), &names, &order).ok()?;
     let place = functions.find_too_large(tree.items());
     Some((functions, place))
 }
@@ -37,7 +50,8 @@ fn nodes(functions: &Functions, number: usize) -> u32 {
 
 #[test]
 fn the_ninth_doubling_is_too_large(rt: HostRuntime) -> Result<(), Fail> {
-    let source = b"def f0(a: Int): Int := a + 1
+    let source = b"def few(a: Int): Int := one(f10(a))
+def f0(a: Int): Int := a + 1
 def f1(a: Int): Int := f0(a) + f0(a)
 def f2(a: Int): Int := f1(a) + f1(a)
 def f3(a: Int): Int := f2(a) + f2(a)
@@ -49,15 +63,20 @@ def f8(a: Int): Int := f7(a) + f7(a)
 def f9(a: Int): Int := f8(a) + f8(a)
 def f10(a: Int): Int := f9(a) + f9(a)
 def one(a: Int): Int := 1
-def few(a: Int): Int := one(f10(a))
 in i: Int
 out i";
     match made(rt.alloc(), source) {
         Some((functions, place)) => {
-            assert_eq!(rt; place, Some(Place { line: 10, column: 5 }));
-            assert_eq!(rt; nodes(&functions, 8), 1023);
-            assert_eq!(rt; nodes(&functions, 9), 0);
-            assert_eq!(rt; nodes(&functions, 12), 1);
+            assert_eq!(rt;
+                place,
+                Some(Place {
+                    line: 11,
+                    column: 5
+                })
+            );
+            assert_eq!(rt; nodes(&functions, 9), 1023);
+            assert_eq!(rt; nodes(&functions, 10), 0);
+            assert_eq!(rt; nodes(&functions, 0), 1);
         }
         None => return Err("refused")?,
     }
