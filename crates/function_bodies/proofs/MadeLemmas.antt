@@ -35,7 +35,7 @@ use Rattle.function_bodies.proofs.LawLemmas.{at_body, depth_is_enough, bodies_ar
 use Rattle.function_bodies.proofs.CallLemmas.{large_stays, too_large_is}
 
 -- ---- trees that are the same where they are small enough
-abbrev Same : Tree → Tree → Type 0
+abbrev pub Same : Tree → Tree → Type 0
 Same a b = within a ≡ within b
 
 same_congruence : IsCongruence (λ a b. Same a b)
@@ -65,7 +65,7 @@ missing_alike vs t = by (leb (node_count t) MOST_NODES) refl
     by false e = large_stays vs t (leb-false (node_count t) MOST_NODES e) ∙ sym (large_stays vs too_large too_large_is)
 
 -- a call from bodies that are right
-call_right : (functions : List (Option Tree)) (j : ℕ) (us vs : List Tree) (t : Tree) → AllZip (λ a b. Same a b) us vs → slice_index_or functions j None ≡ within t → Same (placed us t) (call_of functions j vs)
+pub call_right : (functions : List (Option Tree)) (j : ℕ) (us vs : List Tree) (t : Tree) → AllZip (λ a b. Same a b) us vs → slice_index_or functions j None ≡ within t → Same (placed us t) (call_of functions j vs)
 call_right functions j us vs t h is =
     placed_alike us vs t h ∙ missing_alike vs t ∙ ap (λ o. within (placed vs (tree_or o))) (sym is)
 
@@ -75,14 +75,13 @@ none_past [] i h = omega arith
 none_past (x ∷ xs) zero h = cc
 none_past (x ∷ xs) (suc i) h = omega (arith, none_past xs i h)
 
-pub step_past : (items : List Item) (names : Scope) (number : ℕ) (bodies : List (Option Tree)) → slice_get items number ≡ None → length bodies ≡ length items → IsStep (map item_of items) names number bodies bodies
-step_past items names number bodies none count =
-    let past = none_past items number none in
+pub step_past : (items : List Item) (names : Scope) (number : ℕ) (bodies : List (Option Tree)) → length items ≤ number → length bodies ≡ length items → IsStep (map item_of items) names number bodies bodies
+step_past items names number bodies past count =
     let behind : length bodies ≤ number = omega arith in
     record {
       made = None;
       is = sym (set_past bodies number None behind);
-      right = λ item is. cc (slice_get-map item_of items number, ap (option_map item_of) none, is);
+      right = λ item is. cc (slice_get-map item_of items number, ap (option_map item_of) (slice_get_past items number past), is);
     }
 
 pub step_made : (items : List Item) (names : Scope) (number : ℕ) (old : List (Option Tree)) (made : Option Tree) (item : Item) → slice_get items number ≡ Some item → IsItemMade old names (item_of item) made → IsStep (map item_of items) names number old (slice_set old number made)
@@ -147,11 +146,11 @@ module _ (items : List tree.Item) (order : List ℕ) (is_order : IsCallOrder ite
 
   -- whether its parameters make it a value function or not
   defined_right : (old : List (Option Tree)) (x : ℕ) (ps : List tree.Param) (b : tree.Body) (made : Option Tree) (v : Bool) → are_values ps ≡ v → params_of (slice_get items x) ≡ ps → body_of (slice_get items x) ≡ Some b → ((j : ℕ) → Calls items x j → slice_index_or old j None ≡ body_at items j) → (are_values ps ≡ true → IsFunctionMade old (top items) ps b made) → (are_values ps ≡ false → made ≡ None) → made ≡ (if are_values ps then within (function_body items x) else None)
-  defined_right old x ps b made true is is_ps is_body callees yes no =
-      function_right old x ps b made (ap are_values is_ps ∙ is) is_ps is_body callees (yes is)
+  defined_right old x ps b made true is is_ps is_body callees there missing =
+      function_right old x ps b made (ap are_values is_ps ∙ is) is_ps is_body callees (there is)
       ∙ ap (λ v. if v then within (function_body items x) else None) (sym is)
-  defined_right old x ps b made false is is_ps is_body callees yes no =
-      no is ∙ ap (λ v. if v then within (function_body items x) else None) (sym is)
+  defined_right old x ps b made false is is_ps is_body callees there missing =
+      missing is ∙ ap (λ v. if v then within (function_body items x) else None) (sym is)
 
   item_right : (old : List (Option Tree)) (x : ℕ) (item : tree.Item) (made : Option Tree) → slice_get items x ≡ Some item → ((j : ℕ) → Calls items x j → slice_index_or old j None ≡ body_at items j) → IsItemMade old (top items) item made → made ≡ (if are_values (params_of (Some item)) then within (function_body items x) else None)
   item_right old x (tree.Input p q n y) made is callees h = h

@@ -37,7 +37,7 @@ each_small items n (x ∷ rest) h (suc k) item is =
 
 small_by : (q : Place) (body : Tree) (v b : Bool) → v ≡ true → ltb MOST_NODES (node_count body) ≡ b → (if v && ltb MOST_NODES (node_count body) then q ∷ [] else []) ≡ [] → node_count body ≤ MOST_NODES
 small_by q body false b is e h = cc
-small_by q body true true is e h = absurd (cc (ap (λ l. if l then q ∷ [] else []) e, h))
+small_by q body true true is e h = absurd (cc)
 small_by q body true false is e h = ltb-false MOST_NODES (node_count body) e
 
 small_at : (items : List tree.Item) (i : ℕ) (m : Option tree.Item) → slice_get items i ≡ m → are_values (params_of m) ≡ true → ((item : tree.Item) → slice_get items i ≡ Some item → too_large_in items i item ≡ []) → node_count (function_body items i) ≤ MOST_NODES
@@ -46,7 +46,9 @@ small_at items i (Some (tree.Defined p (tree.Define q n ps w b))) is function no
 small_at items i m is function none = cc
 
 pub few_nodes : (items : List tree.Item) → too_large_bodies items ≡ [] → (i : ℕ) → IsFunction items i → node_count (function_body items i) ≤ MOST_NODES
-few_nodes items h i function = small_at items i (slice_get items i) refl function (λ item is. each_small items 0 items h i item is)
+few_nodes items h i function =
+    let number : i ≡ 0 + i = omega arith in
+    small_at items i (slice_get items i) refl function (λ item is. ap (λ m. too_large_in items m item) number ∙ each_small items 0 items h i item is)
 
 pub body_is_there : (items : List tree.Item) → too_large_bodies items ≡ [] → (i : ℕ) → IsFunction items i → body_at items i ≡ Some (function_body items i)
 body_is_there items h i function =
