@@ -38,33 +38,6 @@ pub at_answer : {E : Type 0} (r : Result (Option Tree) E) (functions found os : 
 at_answer (Ok b) functions found os ts i same is h = λ items bodies function. at_right items functions i ts b bodies function (h ts is ∙ ap (λ l. within (call_of l i ts)) same)
 at_answer (Err e) functions found os ts i same is h = tt
 
--- ---- a body that is too large
-large_by : (q : Place) (body : Tree) (found : Option Tree) (v b : Bool) → leb (node_count body) MOST_NODES ≡ b → found ≡ (if v then (if b then Some body else None) else None) → found ≡ None → first (if v then q ∷ [] else []) ≡ first (if v && ltb MOST_NODES (node_count body) then q ∷ [] else [])
-large_by q body found false b e is none = refl
-large_by q body found true true e is none = cc
-large_by q body found true false e is none = ap (λ l. first (if l then q ∷ [] else [])) (sym (lt-ltb MOST_NODES (node_count body) (leb-false (node_count body) MOST_NODES e)))
-
-pub place_right : (items : List tree.Item) (functions : List (Option Tree)) (i : ℕ) (item : tree.Item) → AreBodies items functions → slice_get items i ≡ Some item → slice_index_or functions i None ≡ None → first (item_places item) ≡ first (too_large_in items i item)
-place_right items functions i (tree.Input p q n y) h is none = refl
-place_right items functions i (tree.Defined p (tree.Define q n ps w b)) h is none =
-    large_by q (function_body items i) (slice_index_or functions i None) (are_values ps) (leb (node_count (function_body items i)) MOST_NODES) refl
-    (h.at i ∙ ap (λ m. if are_values (params_of m) then within (function_body items i) else None) is) none
-place_right items functions i (tree.Output p q n) h is none = refl
-place_right items functions i (tree.OutputAs p e q n) h is none = refl
-
-small_by : (q : Place) (body t : Tree) (found : Option Tree) (v b : Bool) → leb (node_count body) MOST_NODES ≡ b → found ≡ (if v then (if b then Some body else None) else None) → found ≡ Some t → None ≡ first (if v && ltb MOST_NODES (node_count body) then q ∷ [] else [])
-small_by q body t found false b e is some = refl
-small_by q body t found true true e is some = ap (λ l. first (if l then q ∷ [] else [])) (sym (le-ltb MOST_NODES (node_count body) (leb-true (node_count body) MOST_NODES e)))
-small_by q body t found true false e is some = cc
-
-pub place_none : (items : List tree.Item) (functions : List (Option Tree)) (i : ℕ) (item : tree.Item) (t : Tree) → AreBodies items functions → slice_get items i ≡ Some item → slice_index_or functions i None ≡ Some t → None ≡ first (too_large_in items i item)
-place_none items functions i (tree.Input p q n y) t h is some = refl
-place_none items functions i (tree.Defined p (tree.Define q n ps w b)) t h is some =
-    small_by q (function_body items i) t (slice_index_or functions i None) (are_values ps) (leb (node_count (function_body items i)) MOST_NODES) refl
-    (h.at i ∙ ap (λ m. if are_values (params_of m) then within (function_body items i) else None) is) some
-place_none items functions i (tree.Output p q n) t h is some = refl
-place_none items functions i (tree.OutputAs p e q n) t h is some = refl
-
 -- ---- the items one behind the other
 too_large_behind : (tops : List tree.Item) (items : List Item) (i : ℕ) (x : Item) → i < length items → x ≡ get_or items i x → too_large_from tops i (map item_of (drop i items)) ≡ too_large_in tops i (item_of x) ++ too_large_from tops (i + 1) (map item_of (drop (i + 1) items))
 too_large_behind tops items i x lt is =

@@ -84,13 +84,6 @@ step_past items names number bodies past count =
       right = λ item is. cc (slice_get-map item_of items number, ap (option_map item_of) (slice_get_past items number past), is);
     }
 
-pub step_made : (items : List Item) (names : Scope) (number : ℕ) (old : List (Option Tree)) (made : Option Tree) (item : Item) → slice_get items number ≡ Some item → IsItemMade old names (item_of item) made → IsStep (map item_of items) names number old (slice_set old number made)
-step_made items names number old made item found right = record {
-  made = made;
-  is = refl;
-  right = λ other is. (let same : item_of item ≡ other = cc (slice_get-map item_of items number, ap (option_map item_of) found, is) in let P : tree.Item → Type 0 = λ x. IsItemMade old names x made in subst P same right);
-}
-
 pub none_made : (items : List Item) (bodies : List (Option Tree)) → length bodies ≡ length items → AreMade (map item_of items) [] bodies
 none_made items bodies count = record {
   count = count ∙ sym (length-map items item_of);
