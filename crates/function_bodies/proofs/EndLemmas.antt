@@ -1,27 +1,24 @@
 -- Calls of bodies that are made, those that are too large, and the next step along an order.
-use Rattle.std.proofs.Common.{◌≡◌, ℕ, zero, suc, ◌+◌, ◌<◌, ◌≤◌, Bool, true, false, leb, ltb, ◌&&◌, if◌then◌else◌, List, [], ◌∷◌, ◌++◌, length, map, take, drop, get_or, Option, Some, None, Result, Ok, Err, IfOk, refl, sym, ap, subst, ◌∙◌, arith}
+use Rattle.std.proofs.Common.{◌≡◌, ℕ, suc, ◌+◌, ◌<◌, ◌≤◌, if◌then◌else◌, List, [], ◌∷◌, ◌++◌, length, map, take, drop, get_or, Option, Some, None, Result, Ok, Err, IfOk, refl, sym, ap, subst, ◌∙◌, arith}
 use Rattle.std.specs.Prelude.{slice_get, slice_index_or}
 use Rattle.std.specs.Option.{option_map}
-use Rattle.std.specs.List.{AllZip, Contains}
-use Rattle.std.proofs.lemmas.Bool.{le-ltb, lt-ltb, leb-true, leb-false}
+use Rattle.std.specs.List.{AllZip}
 use Rattle.std.proofs.lemmas.List.{get_or_default, take_all, take_more, take-append-drop}
 use Rattle.std.proofs.lemmas.Option.{slice_get-get_or, slice_get-map}
 use Rattle.tsl_value.specs.declared.place.Place.{Place}
-use Rattle.lift_func.specs.declared.body.TheConstants.{MOST_NODES}
-use Rattle.lift_func.specs.Tree.{Tree, node_count}
-use Rattle.lift_func.specs.Placed.{placed, within}
+use Rattle.lift_func.specs.Tree.{Tree}
+use Rattle.lift_func.specs.Placed.{within}
 use Rattle.spec_parser.specs.Tree as tree
 use Rattle.spec_parser.specs.declared.tree.Item.{Item}
 use Rattle.spec_parser.specs.Shape.{item_of}
-use Rattle.name_check.specs.Scope.{Scope, top, are_values}
+use Rattle.name_check.specs.Scope.{Scope, top}
 use Rattle.name_check.specs.Faults.{first}
 use Rattle.name_check.proofs.FirstLemmas.{first_behind, first_of_front, left_at}
-use Rattle.spec_meaning.specs.Occurrence.{params_of}
 use Rattle.spec_meaning.specs.Function.{function_at, function_body}
 use Rattle.function_bodies.specs.Calls.{IsCallOrder, IsFunction, ArePlain}
 use Rattle.function_bodies.specs.Around.{call_of}
-use Rattle.function_bodies.specs.Bodies.{body_at, AreBodies, too_large_in, too_large_from}
-use Rattle.function_bodies.specs.Made.{IsStep, AreMade, item_places}
+use Rattle.function_bodies.specs.Bodies.{AreBodies, too_large_in, too_large_from}
+use Rattle.function_bodies.specs.Made.{IsStep, AreMade}
 use Rattle.function_bodies.proofs.MadeLemmas.{Same, call_right, step_right, bodies_right}
 
 -- ---- a call

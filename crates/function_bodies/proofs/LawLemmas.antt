@@ -1,5 +1,5 @@
 -- Laws of value functions.
-use Rattle.std.proofs.Common.{◌≡◌, ℕ, zero, suc, ◌+◌, ◌<◌, true, List, [], ◌∷◌, length, Some, refl, sym, ap, subst, ◌∙◌, arith}
+use Rattle.std.proofs.Common.{◌≡◌, ℕ, zero, suc, ◌+◌, ◌<◌, List, [], ◌∷◌, length, Some, refl, sym, ap, subst, ◌∙◌, arith}
 use Rattle.std.specs.Prelude.{slice_get, slice_index_or}
 use Rattle.std.specs.List.{AllZip}
 use Rattle.tsl_value.specs.declared.scalar.Scalar.TheVariants as scalar
@@ -11,8 +11,8 @@ use Rattle.name_check.specs.declared.declaration.Declaration.TheVariants as decl
 use Rattle.name_check.specs.Scope.{meaning, inside, top}
 use Rattle.name_check.proofs.AgreeLemmas.{agree_same}
 use Rattle.spec_meaning.specs.Occurrence.{params_of, body_of}
-use Rattle.spec_meaning.specs.Function.{no_tree, tree_of, body_tree, function_tree, function_at, function_body, arguments_from}
-use Rattle.function_bodies.specs.Calls.{IsCallOrder, IsFunction, ArePlain}
+use Rattle.spec_meaning.specs.Function.{no_tree, tree_of, body_tree, function_tree, arguments_from}
+use Rattle.function_bodies.specs.Calls.{IsFunction, ArePlain}
 use Rattle.function_bodies.specs.Laws.{NestsWithin, DepthIsEnough, BodiesArePlaced}
 use Rattle.function_bodies.proofs.TreeLemmas.{IsCongruence, trees_alike}
 use Rattle.function_bodies.proofs.ScopeLemmas.{within_function, scope_same, seen_in_function, no_lift_within, function_below, good_parts}

@@ -1,17 +1,15 @@
 -- The bodies that are made along an order in which called functions come first.
-use Rattle.std.proofs.Common.{◌≡◌, ℕ, zero, suc, ◌+◌, ◌<◌, ◌≤◌, Bool, true, false, eqb, leb, cond, if◌then◌else◌, List, [], ◌∷◌, ◌++◌, length, map, take, drop, get_or, set, Option, Some, None, refl, sym, ap, subst, ◌∙◌, append_assoc, ◌⊎◌, inl, inr, arith, length-set, get_or-set_other, get_or-set_same}
-use Rattle.std.specs.Prelude.{slice_get, slice_index_or, slice_set}
+use Rattle.std.proofs.Common.{◌≡◌, ℕ, zero, suc, ◌<◌, ◌≤◌, Bool, true, false, eqb, leb, if◌then◌else◌, List, [], ◌∷◌, ◌++◌, length, map, Option, Some, None, refl, sym, ap, subst, ◌∙◌, ◌⊎◌, inl, inr, arith, length-set, get_or-set_other, get_or-set_same}
+use Rattle.std.specs.Prelude.{slice_get, slice_index_or}
 use Rattle.std.specs.Option.{option_map}
 use Rattle.std.specs.List.{AllZip, Contains}
-use Rattle.std.proofs.lemmas.Bool.{eqb-true, leb-false, leb-true}
+use Rattle.std.proofs.lemmas.Bool.{eqb-true, leb-false}
 use Rattle.std.proofs.lemmas.Bool.Decides.{nat_tests}
 use Rattle.std.proofs.lemmas.List.{append-nil, length-map, set_past, get_or_past}
 use Rattle.std.proofs.lemmas.List.Elements.{Contains-append_cases}
 use Rattle.std.proofs.lemmas.Option.{slice_get-map, slice_get_past, slice_get_within}
 use Rattle.lift_func.specs.declared.body.TheConstants.{MOST_NODES}
-use Rattle.lift_func.specs.declared.body.Unary.{Unary}
-use Rattle.lift_func.specs.declared.body.Binary.{Binary}
-use Rattle.lift_func.specs.Tree.{Tree, Literal, One, Two, Choice, node_count}
+use Rattle.lift_func.specs.Tree.{Tree, node_count}
 use Rattle.lift_func.specs.Placed.{placed, within, one_within, two_within, choice_within, placed_within}
 use Rattle.lift_func.proofs.PlacedLemmas.{one_same, two_same, choice_same, placed_same}
 use Rattle.spec_parser.specs.Tree as tree
@@ -21,7 +19,7 @@ use Rattle.spec_parser.specs.Shape.{item_of}
 use Rattle.name_check.specs.Scope.{Scope, top, are_values, functions_of, parameters_from, seen, Agree}
 use Rattle.name_check.proofs.AgreeLemmas.{agree_same, agree_append}
 use Rattle.spec_meaning.specs.Occurrence.{params_of, body_of, result_of}
-use Rattle.spec_meaning.specs.Function.{arguments_from, tree_of, function_tree, function_at, function_body}
+use Rattle.spec_meaning.specs.Function.{arguments_from, tree_of, function_tree, function_body}
 use Rattle.definition_cycles.specs.Calls.{Calls}
 use Rattle.function_bodies.specs.Calls.{IsCallOrder, IsFunction, ArePlain}
 use Rattle.function_bodies.specs.Laws.{NestsWithin}

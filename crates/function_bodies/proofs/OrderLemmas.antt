@@ -1,5 +1,5 @@
 -- The order of items that is made of calls, and that calls without a cycle have one.
-use Rattle.std.proofs.Common.{◌≡◌, ℕ, ◌<◌, List, ◌∷◌, ◌++◌, None, length, sym, subst, arith}
+use Rattle.std.proofs.Common.{◌≡◌, ℕ, ◌<◌, List, None, length, sym, subst, arith}
 use Rattle.std.proofs.lemmas.Option.{slice_get_within}
 use Rattle.spec_parser.specs.Tree as tree
 use Rattle.translation_order.specs.Order.{Before, AreOfSteps, IsLeastOrder}

@@ -1,5 +1,5 @@
 -- What names stand for in a value function, and which functions it calls.
-use Rattle.std.proofs.Common.{◌≡◌, ℕ, zero, suc, ◌+◌, ◌<◌, ◌≤◌, Bool, true, false, cond, if◌then◌else◌, List, [], ◌∷◌, ◌++◌, ◌||◌, ◌&&◌, length, filter, Option, Some, None, refl, sym, ap, subst, ◌∙◌, arith}
+use Rattle.std.proofs.Common.{◌≡◌, ℕ, suc, ◌+◌, ◌<◌, ◌≤◌, Bool, true, false, cond, if◌then◌else◌, List, [], ◌∷◌, ◌++◌, ◌||◌, ◌&&◌, length, Option, Some, None, refl, sym, ap, subst, ◌∙◌, arith}
 use Rattle.std.specs.Prelude.{slice_get, slice_index_or}
 use Rattle.std.specs.Option.{option_map, option_or}
 use Rattle.std.specs.List.{AllByRecursion, Contains, find, list_any, list_all}
@@ -13,7 +13,7 @@ use Rattle.name_check.specs.declared.declaration.Declaration.{Declaration}
 use Rattle.name_check.specs.declared.declaration.Declaration.TheVariants as declaration
 use Rattle.name_check.specs.Builtin.{lift_name}
 use Rattle.name_check.specs.Scope.{Scope, Entry, meaning, is_events, is_function, are_values, declared_as, declared_from, functions_of, inside, parameters_from, top}
-use Rattle.name_check.specs.Parts.{Part, Operand, Function, parts}
+use Rattle.name_check.specs.Parts.{Part, Operand, parts}
 use Rattle.name_check.proofs.AgreeLemmas.{meaning-append}
 use Rattle.spec_meaning.specs.Occurrence.{params_of, body_of}
 use Rattle.definition_cycles.specs.Mentions.{declared}

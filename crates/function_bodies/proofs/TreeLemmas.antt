@@ -1,5 +1,5 @@
 -- Trees of one expression, where arguments and calls are alike.
-use Rattle.std.proofs.Common.{◌≡◌, ℕ, Bool, true, false, if◌then◌else◌, List, [], ◌∷◌, ◌++◌, Option, Some, None, refl, sym, ap, subst, ◌∙◌, codes}
+use Rattle.std.proofs.Common.{◌≡◌, ℕ, Bool, true, false, if◌then◌else◌, List, [], ◌∷◌, ◌++◌, Option, Some, None, refl, sym, subst, codes}
 use Rattle.std.specs.Prelude.{slice_index_or}
 use Rattle.std.specs.List.{AllZip, AllByRecursion}
 use Rattle.std.specs.Str.{bytes_eq}
@@ -11,7 +11,7 @@ use Rattle.lift_func.specs.declared.body.Unary.{Unary}
 use Rattle.lift_func.specs.declared.body.Unary.TheVariants as unary
 use Rattle.lift_func.specs.declared.body.Binary.{Binary}
 use Rattle.lift_func.specs.declared.body.Binary.TheVariants as binary
-use Rattle.lift_func.specs.Tree.{Tree, Literal, Argument, Absent, One, Two, Choice}
+use Rattle.lift_func.specs.Tree.{Tree, Literal, Absent, One, Two, Choice}
 use Rattle.spec_parser.specs.Tree as tree
 use Rattle.spec_parser.specs.Tree.{Expr, Exprs, no_exprs, more_exprs, Links, no_links, more_links}
 use Rattle.spec_parser.specs.declared.tree.Dotted.{Dotted}
@@ -21,7 +21,7 @@ use Rattle.name_check.specs.declared.declaration.Declaration.{Declaration}
 use Rattle.name_check.specs.declared.declaration.Declaration.TheVariants as declaration
 use Rattle.name_check.specs.Builtin.{is_lift, lift_name}
 use Rattle.name_check.specs.Scope.{Scope, meaning, Agree}
-use Rattle.name_check.specs.Parts.{Part, Operand, Function, parts, argument_parts, lift_parts, link_parts}
+use Rattle.name_check.specs.Parts.{Part, Operand, parts, argument_parts, lift_parts, link_parts}
 use Rattle.spec_meaning.specs.Function.{no_tree, operation_of, comparison_of, dotted_tree, option_tree, absent, named_tree, call_tree, tree_of, trees_of, chain_tree}
 
 -- ---- parts, where what is called is good

@@ -1,20 +1,20 @@
 -- Expressions, one level or one part behind the other.
-use Rattle.std.proofs.Common.{◌≡◌, ℕ, suc, ◌+◌, ◌<◌, ◌≤◌, List, [], ◌∷◌, ◌++◌, length, map, drop, get_or, Option, Some, None, refl, sym, ap, subst, ◌∙◌, arith}
+use Rattle.std.proofs.Common.{◌≡◌, ℕ, ◌+◌, ◌<◌, ◌≤◌, List, ◌∷◌, length, drop, get_or, Option, refl, sym, ap, subst, ◌∙◌}
 use Rattle.std.proofs.lemmas.List.{drop_all}
 use Rattle.tsl_value.specs.declared.place.Place.{Place}
 use Rattle.lift_func.specs.Tree.{Tree, Two}
 use Rattle.lift_func.specs.Placed.{within, two_within}
 use Rattle.lift_func.proofs.PlacedLemmas.{two_same}
-use Rattle.spec_parser.specs.Tree.{Expr, Links, place_of}
+use Rattle.spec_parser.specs.Tree.{Expr, place_of}
 use Rattle.spec_parser.specs.declared.tree.Node.{Node}
 use Rattle.spec_parser.specs.declared.tree.Node.TheVariants as node
 use Rattle.spec_parser.specs.declared.tree.Link.{Link}
-use Rattle.spec_parser.specs.Shape.{expr_of, exprs_of, links_in}
+use Rattle.spec_parser.specs.Shape.{expr_of, links_in}
 use Rattle.name_check.specs.Shown.{nowhere}
 use Rattle.name_check.proofs.FirstLemmas.{left_at}
 use Rattle.spec_meaning.specs.Function.{operation_of}
 use Rattle.function_bodies.specs.declared.around.Around.{Around}
-use Rattle.function_bodies.specs.Around.{tree_at, trees_at, chain_at}
+use Rattle.function_bodies.specs.Around.{tree_at, chain_at}
 
 -- a tree does not say where its expression stands
 tree_anywhere : (at : Around) (p q : Place) (n : Node) → tree_at at (expr_of p n) ≡ tree_at at (expr_of q n)

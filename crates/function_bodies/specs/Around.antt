@@ -10,7 +10,7 @@ use Rattle.lift_func.specs.Placed.{placed}
 use Rattle.spec_parser.specs.Tree.{Expr, Exprs, Links}
 use Rattle.spec_parser.specs.Shape.{params_in}
 use Rattle.name_check.specs.Scope.{seen}
-use Rattle.spec_meaning.specs.Function.{no_tree, arguments_from, tree_of, trees_of, chain_tree, call_tree, named_tree}
+use Rattle.spec_meaning.specs.Function.{no_tree, arguments_from, tree_of, trees_of, chain_tree}
 use Rattle.function_bodies.specs.declared.around.Around.{Around}
 
 -- ---- calls, from bodies of which the ones that are too large are missing

@@ -1,5 +1,5 @@
 -- The bodies of value functions, and which of them are too large.
-use Rattle.std.specs.Prelude.{◌≡◌, ℕ, suc, ltb, ◌&&◌, if◌then◌else◌, List, [], ◌∷◌, ◌++◌, length, Option, Some, None, slice_get, slice_index_or}
+use Rattle.std.specs.Prelude.{◌≡◌, ℕ, suc, ltb, ◌&&◌, if◌then◌else◌, List, [], ◌∷◌, ◌++◌, length, Option, None, slice_get, slice_index_or}
 use Rattle.tsl_value.specs.declared.place.Place.{Place}
 use Rattle.lift_func.specs.declared.body.TheConstants.{MOST_NODES}
 use Rattle.lift_func.specs.Tree.{Tree, node_count}

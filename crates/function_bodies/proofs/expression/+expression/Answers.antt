@@ -1,8 +1,5 @@
 use Rattle.std.proofs.Common.{rules}
-use Rattle.spec_parser.specs.Shape.{links_in}
 use Rattle.name_check.proofs.SizeLemmas.{argument_smaller, link_smaller}
-use Rattle.function_bodies.specs.Around.{tree_at, chain_at}
-use Rattle.function_bodies.proofs.WalkLemmas.{chain_begins, chain_more, chain_end}
 use Rattle.function_bodies.proofs.expression.+expression.Goals as goal
 
 pub operands-expression-requires : goal.operands-expression-requires

@@ -1,5 +1,4 @@
 use Rattle.std.proofs.Common.{◌≡◌, ◌+◌, ◌*◌, ◌++◌, map, drop}
-use Rattle.lift_func.specs.Tree.{Tree}
 use Rattle.lift_func.specs.Placed.{within}
 use Rattle.spec_parser.specs.Shape.{expr_of, exprs_of, links_in, size_of, size_of_exprs, size_of_links}
 use Rattle.name_check.specs.Shown.{nowhere}
