@@ -29,7 +29,7 @@ pub fn find_untyped_cycle(alloc: Global, tree: &Tree) -> Result<Option<Place>, N
 }
 
 /// The same edges, each from its second to its first.
-fn turned(alloc: Global, edges: &[(u32, u32)]) -> Result<Edges, NoMemory>
+pub fn turned(alloc: Global, edges: &[(u32, u32)]) -> Result<Edges, NoMemory>
     ensures { IfOk result (λ t. t ≡ map (λ e. (e.1, e.0)) edges.now) }
 {
     let mut turned = Edges::new(alloc);

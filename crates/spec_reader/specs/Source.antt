@@ -73,6 +73,10 @@ pub record SpellsSystem (source : List ℕ) (items : List tree.Item) (s : System
   pub system : HasSystem source items s
   pub well_formed : IsWellFormed s
 
+-- it is some specification that means this system
+abbrev pub SpellsSomething : List ℕ → System → Type 0
+SpellsSomething source s = (items : List tree.Item) × SpellsSystem source items s
+
 -- ---- how it is refused
 -- want of memory is a fault of no source and of no tokens
 abbrev pub IsLexFault : List ℕ → LexFault → Type 0
@@ -137,5 +141,19 @@ IsRefused source (fault.Lex e) = IsLexFault source e
 IsRefused source (fault.Parse e) = IsMisspelled source e
 IsRefused source (fault.Types e) = IsMistyped source e
 IsRefused source (fault.Flat e) = HasNoFlat source e
-IsRefused source (fault.Cycle place names) = IsCyclic source place (map (λ n. n) names.items)
+IsRefused source (fault.Cycle place names) = IsCyclic source place names.items
 IsRefused source fault.Memory = Unit {0}
+
+-- ---- on the way
+-- the want of memory of a phase is that of the reader
+abbrev pub of_lex : LexFault → SpecFault
+of_lex lex_fault.Memory = fault.Memory
+of_lex e = fault.Lex e
+
+abbrev pub of_parse : ParseFault → SpecFault
+of_parse parse_fault.Memory = fault.Memory
+of_parse e = fault.Parse e
+
+abbrev pub of_type : TypeFault → SpecFault
+of_type type_fault.Memory = fault.Memory
+of_type e = fault.Types e

@@ -1,5 +1,7 @@
 // Why a source is no specification that can be run.
 
+ghost use Rattle.std.specs.Prelude.{◌≡◌};
+
 use spec_lexer::fault::LexFault;
 use spec_parser::parse::ParseFault;
 use tsl_value::memory::NoMemory;
@@ -41,4 +43,54 @@ pub enum SpecFault {
     Cycle { place: Place, names: Vec<Text> },
     /// Memory was wanting.
     Memory,
+}
+
+impl From<LexFault> for SpecFault {
+    ghost use Rattle.spec_reader.specs.Source.{of_lex};
+
+    ghost from_gives = { λ d e. e ≡ of_lex d };
+
+    fn from(fault: LexFault) -> SpecFault {
+        match fault {
+            LexFault::Memory => SpecFault::Memory,
+            other => SpecFault::Lex(other),
+        }
+    }
+}
+
+impl From<ParseFault> for SpecFault {
+    ghost use Rattle.spec_reader.specs.Source.{of_parse};
+
+    ghost from_gives = { λ d e. e ≡ of_parse d };
+
+    fn from(fault: ParseFault) -> SpecFault {
+        match fault {
+            ParseFault::Memory => SpecFault::Memory,
+            other => SpecFault::Parse(other),
+        }
+    }
+}
+
+impl From<TypeFault> for SpecFault {
+    ghost use Rattle.spec_reader.specs.Source.{of_type};
+
+    ghost from_gives = { λ d e. e ≡ of_type d };
+
+    fn from(fault: TypeFault) -> SpecFault {
+        match fault {
+            TypeFault::Memory => SpecFault::Memory,
+            other => SpecFault::Types(other),
+        }
+    }
+}
+
+impl From<NoMemory> for SpecFault {
+    ghost use Rattle.std.specs.Prelude.{◌≡◌};
+    ghost use Rattle.spec_reader.specs.declared.fault.SpecFault.TheVariants.{Memory as Wanting};
+
+    ghost from_gives = { λ _ e. e ≡ Wanting };
+
+    fn from(_error: NoMemory) -> SpecFault {
+        SpecFault::Memory
+    }
 }
