@@ -4,8 +4,6 @@ use Rattle.std.specs.List.{list_any}
 use Rattle.std.specs.Str.{bytes_eq}
 use Rattle.tsl_value.specs.declared.place.Place.{Place}
 use Rattle.spec_parser.specs.Tree as tree
-use Rattle.spec_parser.specs.declared.tree.Tree.{Tree}
-use Rattle.spec_parser.specs.Shape.{items_of}
 
 -- the place of an output that prints a name that stands before
 abbrev pub printed_again : List (List ℕ) → Place → List ℕ → List Place
@@ -41,5 +39,5 @@ is_output (tree.Output p q n) = true
 is_output (tree.OutputAs p e q n) = true
 
 -- the end of a source that has no output
-abbrev pub without_output : Tree → List Place
-without_output t = if list_any is_output (items_of t) then [] else t.end ∷ []
+abbrev pub without_output : List tree.Item → Place → List Place
+without_output items end = if list_any is_output items then [] else end ∷ []

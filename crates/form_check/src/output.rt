@@ -3,7 +3,7 @@
 ghost use Rattle.std.specs.Prelude.{◌≡◌, ◌∷◌, [], ◌++◌, map, IfOk, IfNone};
 ghost use Rattle.std.specs.List.{list_any};
 ghost use Rattle.std.specs.String.{string_bytes};
-ghost use Rattle.spec_parser.specs.Shape.{item_of};
+ghost use Rattle.spec_parser.specs.Shape.{item_of, items_of};
 ghost use Rattle.name_check.specs.Faults.{first};
 ghost use Rattle.form_check.specs.Outputs.{printed_again, printed_name, printed_again_by, outputs_twice, is_output, without_output};
 
@@ -70,7 +70,7 @@ fn has_output(items: &[Item]) -> bool
 
 /// The end of a source that has no output.
 pub fn find_missing_output(tree: &Tree) -> Option<Place>
-    ensures { result ≡ first (without_output tree.now) }
+    ensures { result ≡ first (without_output (items_of tree.now) tree.now.end) }
 {
     if has_output(tree.items()) {
         None

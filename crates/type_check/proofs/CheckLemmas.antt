@@ -1,9 +1,8 @@
 -- From the answers of the parts of the check to that of the whole.
 use Rattle.std.specs.Prelude.{◌≡◌, List, [], ◌∷◌, ◌++◌, Some}
 use Rattle.std.proofs.Common.{ap, sym, ◌∙◌}
+use Rattle.tsl_value.specs.declared.place.Place.{Place}
 use Rattle.spec_parser.specs.Tree as tree
-use Rattle.spec_parser.specs.declared.tree.Tree.{Tree}
-use Rattle.spec_parser.specs.Shape.{items_of}
 use Rattle.expr_types.specs.Around.{Kinds}
 use Rattle.expr_types.specs.Bodies.{AreKinds}
 use Rattle.type_check.specs.declared.fault.TypeFault.{TypeFault}
@@ -17,30 +16,28 @@ first_in_front : (xs ys : List TypeFault) (f : TypeFault) → first_fault xs ≡
 first_in_front [] ys f h = cc
 first_in_front (x ∷ xs) ys f h = h
 
--- a fault other than want of memory is answered
-answered : (t : Tree) (f : TypeFault) → IsFirstFault t f → IsFaultOf t f
-answered t fault.Memory h = tt
-answered t f h = h
+module _ (items : List tree.Item) (end : Place) where
+  from_first : (fs : List TypeFault) (f : TypeFault) → (first_fault fs ≡ Some f → IsFirstFault items end f) → IsFirstOf fs f → IsFaultOf items end f
+  from_first fs fault.Memory to h = tt
+  from_first fs f to h = to h
 
-from_first : (t : Tree) (fs : List TypeFault) (f : TypeFault) → (first_fault fs ≡ Some f → IsFirstFault t f) → IsFirstOf fs f → IsFaultOf t f
-from_first t fs fault.Memory to h = tt
-from_first t fs f to h = to h
+  pub from_names : (f : TypeFault) → IsFirstOf (name_faults items) f → IsFaultOf items end f
+  from_names f h =
+      from_first (name_faults items) f (λ e. before_cycles (first_in_front (name_faults items) (form_faults items) f e)) h
 
-pub from_names : (t : Tree) (f : TypeFault) → IsFirstOf (name_faults t) f → IsFaultOf t f
-from_names t f h =
-    from_first t (name_faults t) f (λ e. before_cycles (first_in_front (name_faults t) (form_faults (items_of t)) f e)) h
+  -- the same items, as they lie in memory
+  module _ (held : List tree.Item) (same : held ≡ items) (names : name_faults items ≡ []) where
+    pub from_forms : (f : TypeFault) → IsFirstOf (form_faults held) f → IsFaultOf items end f
+    from_forms f h =
+        from_first (form_faults held) f (λ e. before_cycles (ap (λ fs. first_fault (fs ++ form_faults items)) names ∙ (ap (λ is. first_fault (form_faults is)) (sym same) ∙ e))) h
 
-pub from_forms : (t : Tree) (f : TypeFault) (items : List tree.Item) → items ≡ items_of t → name_faults t ≡ [] → IsFirstOf (form_faults items) f → IsFaultOf t f
-from_forms t f items same none h =
-    from_first t (form_faults items) f (λ e. before_cycles (ap (λ fs. first_fault (fs ++ form_faults (items_of t))) none ∙ (ap (λ is. first_fault (form_faults is)) (sym same) ∙ e))) h
+    module _ (forms : form_faults held ≡ []) where
+      no_early : early items ≡ []
+      no_early = ap (λ fs. fs ++ form_faults items) names ∙ (ap form_faults (sym same) ∙ forms)
 
-no_early : (t : Tree) → name_faults t ≡ [] → form_faults (items_of t) ≡ [] → early t ≡ []
-no_early t names forms = ap (λ fs. fs ++ form_faults (items_of t)) names ∙ forms
+      pub from_cycle : (f : TypeFault) → IsCycleOf items f → IsFaultOf items end f
+      from_cycle fault.Memory h = tt
+      from_cycle f h = cycle no_early h
 
-pub from_cycle : (t : Tree) (f : TypeFault) (items : List tree.Item) → items ≡ items_of t → name_faults t ≡ [] → form_faults items ≡ [] → IsCycleOf t f → IsFaultOf t f
-from_cycle t fault.Memory items same names forms h = tt
-from_cycle t f items same names forms h = cycle (no_early t names (ap form_faults (sym same) ∙ forms)) h
-
-pub from_late : (t : Tree) (kinds : Kinds) (f : TypeFault) (items : List tree.Item) → items ≡ items_of t → name_faults t ≡ [] → form_faults items ≡ [] → HasNoCycle t → AreKinds (items_of t) kinds → IsFirstOf (late t kinds) f → IsFaultOf t f
-from_late t kinds f items same names forms none are h =
-    from_first t (late t kinds) f (λ e. behind_cycles kinds (no_early t names (ap form_faults (sym same) ∙ forms)) none are e) h
+      pub from_late : (kinds : Kinds) (f : TypeFault) → HasNoCycle items → AreKinds items kinds → IsFirstOf (late items end kinds) f → IsFaultOf items end f
+      from_late kinds f none are h = from_first (late items end kinds) f (λ e. behind_cycles kinds no_early none are e) h

@@ -7,8 +7,6 @@ use Rattle.std.proofs.lemmas.List.Elements.{Contains-push_cases}
 use Rattle.std.proofs.lemmas.Option.{slice_get-get_or, slice_get_within}
 use Rattle.tsl_value.specs.declared.place.Place.{Place}
 use Rattle.spec_parser.specs.Tree as tree
-use Rattle.spec_parser.specs.declared.tree.Tree.{Tree}
-use Rattle.spec_parser.specs.Shape.{items_of}
 use Rattle.graph_cycles.specs.Cycle.{Path, one}
 use Rattle.graph_cycles.proofs.Paths.{path_join}
 use Rattle.graph_cycles.proofs.Lists.{none_in_nil}
@@ -105,18 +103,18 @@ module _ (items : List tree.Item) (none : (x : ℕ) → Path (MentionsUntyped it
     | inr nothing ↦ by_equation s (nothing a ∙ sym (nothing b))
   ]
 
-pub one_kinds : (t : Tree) (a b : Kinds) → HasNoCycle t → AreKinds (items_of t) a → AreKinds (items_of t) b → SameKinds a b
-one_kinds t a b clear is_a is_b = record {
-  items_same = λ i. same_slots (items_of t) clear.untyped a b is_a is_b (slot.Item i);
-  locals_same = λ i k. same_slots (items_of t) clear.untyped a b is_a is_b (slot.Local i k);
+pub one_kinds : (items : List tree.Item) (a b : Kinds) → HasNoCycle items → AreKinds items a → AreKinds items b → SameKinds a b
+one_kinds items a b clear is_a is_b = record {
+  items_same = λ i. same_slots items clear.untyped a b is_a is_b (slot.Item i);
+  locals_same = λ i k. same_slots items clear.untyped a b is_a is_b (slot.Local i k);
 }
 
 -- ---- the first fault
 kinds_same : (a b : Kinds) → SameKinds a b → a ≡ b
 kinds_same a b s = λ j. record { item = λ i. s.items_same i j; local = λ i k. s.locals_same i k j }
 
-late_same : (t : Tree) (a b : Kinds) → HasNoCycle t → AreKinds (items_of t) a → AreKinds (items_of t) b → late t a ≡ late t b
-late_same t a b clear is_a is_b = ap (late t) (kinds_same a b (one_kinds t a b clear is_a is_b))
+late_same : (items : List tree.Item) (end : Place) (a b : Kinds) → HasNoCycle items → AreKinds items a → AreKinds items b → late items end a ≡ late items end b
+late_same items end a b clear is_a is_b = ap (late items end) (kinds_same a b (one_kinds items a b clear is_a is_b))
 
 no_first : (fs : List TypeFault) (f : TypeFault) → fs ≡ [] → first_fault fs ≡ Some f → ⊥
 no_first fs f e h = let p = ap first_fault e in cc
@@ -124,10 +122,10 @@ no_first fs f e h = let p = ap first_fault e in cc
 one_first : (fs gs : List TypeFault) (f g : TypeFault) → fs ≡ gs → first_fault fs ≡ Some f → first_fault gs ≡ Some g → f ≡ g
 one_first fs gs f g e h k = let p = ap first_fault e in cc
 
-no_cycle_fault : (t : Tree) (f : TypeFault) → HasNoCycle t → IsCycleFault t f → ⊥
-no_cycle_fault t (fault.FunctionCycle p) clear h = clear.functions h.number h.is_least.holds
-no_cycle_fault t (fault.NeedsType p) clear h = clear.untyped h.1.number h.1.is_least.holds
-no_cycle_fault t f clear h = h
+no_cycle_fault : (items : List tree.Item) (f : TypeFault) → HasNoCycle items → IsCycleFault items f → ⊥
+no_cycle_fault items (fault.FunctionCycle p) clear h = clear.functions h.number h.is_least.holds
+no_cycle_fault items (fault.NeedsType p) clear h = clear.untyped h.1.number h.1.is_least.holds
+no_cycle_fault items f clear h = h
 
 one_place : (P : ℕ → Type 0) (places : List Place) (p q : Place) → IsPlaceOfLeast P places p → IsPlaceOfLeast P places q → p ≡ q
 one_place P places p q h k =
@@ -136,27 +134,27 @@ one_place P places p q h k =
     let same : h.number ≡ k.number = omega (arith, below, above) in
     let e = sym h.at ∙ ap (slice_get places) same ∙ k.at in cc
 
-one_cycle : (t : Tree) (f g : TypeFault) → IsCycleFault t f → IsCycleFault t g → f ≡ g
-one_cycle t (fault.FunctionCycle p) (fault.FunctionCycle q) h k = ap fault.FunctionCycle (one_place _ _ p q h k)
-one_cycle t (fault.FunctionCycle p) (fault.NeedsType q) h k = absurd (k.0 h.number h.is_least.holds)
-one_cycle t (fault.NeedsType p) (fault.FunctionCycle q) h k = absurd (h.0 k.number k.is_least.holds)
-one_cycle t (fault.NeedsType p) (fault.NeedsType q) h k = ap fault.NeedsType (one_place _ _ p q h.1 k.1)
-one_cycle t (fault.FunctionCycle p) g h k = absurd k
-one_cycle t (fault.NeedsType p) g h k = absurd k
-one_cycle t f g h k = absurd h
+one_cycle : (items : List tree.Item) (f g : TypeFault) → IsCycleFault items f → IsCycleFault items g → f ≡ g
+one_cycle items (fault.FunctionCycle p) (fault.FunctionCycle q) h k = ap fault.FunctionCycle (one_place _ _ p q h k)
+one_cycle items (fault.FunctionCycle p) (fault.NeedsType q) h k = absurd (k.0 h.number h.is_least.holds)
+one_cycle items (fault.NeedsType p) (fault.FunctionCycle q) h k = absurd (h.0 k.number k.is_least.holds)
+one_cycle items (fault.NeedsType p) (fault.NeedsType q) h k = ap fault.NeedsType (one_place _ _ p q h.1 k.1)
+one_cycle items (fault.FunctionCycle p) g h k = absurd k
+one_cycle items (fault.NeedsType p) g h k = absurd k
+one_cycle items f g h k = absurd h
 
-pub one_fault : (t : Tree) (f g : TypeFault) → IsFirstFault t f → IsFirstFault t g → f ≡ g
-one_fault t f g (before_cycles h) (before_cycles k) = one_first (early t) (early t) f g refl h k
-one_fault t f g (before_cycles h) (cycle none k) = absurd (no_first (early t) f none h)
-one_fault t f g (before_cycles h) (behind_cycles kinds none clear are k) = absurd (no_first (early t) f none h)
-one_fault t f g (cycle none h) (before_cycles k) = absurd (no_first (early t) g none k)
-one_fault t f g (cycle none h) (cycle none_too k) = one_cycle t f g h k
-one_fault t f g (cycle none h) (behind_cycles kinds none_too clear are k) = absurd (no_cycle_fault t f clear h)
-one_fault t f g (behind_cycles kinds none clear are h) (before_cycles k) = absurd (no_first (early t) g none k)
-one_fault t f g (behind_cycles kinds none clear are h) (cycle none_too k) = absurd (no_cycle_fault t g clear k)
-one_fault t f g (behind_cycles a none clear are h) (behind_cycles b none_too no_too are_too k) = one_first (late t a) (late t b) f g (late_same t a b clear are are_too) h k
+pub one_fault : (items : List tree.Item) (end : Place) (f g : TypeFault) → IsFirstFault items end f → IsFirstFault items end g → f ≡ g
+one_fault items end f g (before_cycles h) (before_cycles k) = one_first (early items) (early items) f g refl h k
+one_fault items end f g (before_cycles h) (cycle none k) = absurd (no_first (early items) f none h)
+one_fault items end f g (before_cycles h) (behind_cycles kinds none clear are k) = absurd (no_first (early items) f none h)
+one_fault items end f g (cycle none h) (before_cycles k) = absurd (no_first (early items) g none k)
+one_fault items end f g (cycle none h) (cycle none_too k) = one_cycle items f g h k
+one_fault items end f g (cycle none h) (behind_cycles kinds none_too clear are k) = absurd (no_cycle_fault items f clear h)
+one_fault items end f g (behind_cycles kinds none clear are h) (before_cycles k) = absurd (no_first (early items) g none k)
+one_fault items end f g (behind_cycles kinds none clear are h) (cycle none_too k) = absurd (no_cycle_fault items g clear k)
+one_fault items end f g (behind_cycles a none clear are h) (behind_cycles b none_too no_too are_too k) = one_first (late items end a) (late items end b) f g (late_same items end a b clear are are_too) h k
 
-pub accepted_has_no_fault : (t : Tree) (kinds : Kinds) (f : TypeFault) → IsAccepted t kinds → IsFirstFault t f → ⊥
-accepted_has_no_fault t kinds f is (before_cycles h) = no_first (early t) f is.no_early h
-accepted_has_no_fault t kinds f is (cycle none h) = no_cycle_fault t f is.no_cycle h
-accepted_has_no_fault t kinds f is (behind_cycles other none clear are h) = no_first (late t other) f (late_same t other kinds clear are is.are_kinds ∙ is.no_late) h
+pub accepted_has_no_fault : (items : List tree.Item) (end : Place) (kinds : Kinds) (f : TypeFault) → IsAccepted items end kinds → IsFirstFault items end f → ⊥
+accepted_has_no_fault items end kinds f is (before_cycles h) = no_first (early items) f is.no_early h
+accepted_has_no_fault items end kinds f is (cycle none h) = no_cycle_fault items f is.no_cycle h
+accepted_has_no_fault items end kinds f is (behind_cycles other none clear are h) = no_first (late items end other) f (late_same items end other kinds clear are is.are_kinds ∙ is.no_late) h

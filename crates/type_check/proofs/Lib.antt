@@ -4,3 +4,4 @@ mod NodeLemmas
 mod StepLemmas
 mod KindLemmas
 mod LawLemmas
+pub mod AcceptedParts

@@ -1,7 +1,7 @@
 -- Laws of the check of types.
-use Rattle.std.specs.Prelude.{◌≡◌, ℕ}
-use Rattle.spec_parser.specs.declared.tree.Tree.{Tree}
-use Rattle.spec_parser.specs.Shape.{items_of}
+use Rattle.std.specs.Prelude.{◌≡◌, ℕ, List}
+use Rattle.tsl_value.specs.declared.place.Place.{Place}
+use Rattle.spec_parser.specs.Tree as tree
 use Rattle.expr_types.specs.Around.{Kinds}
 use Rattle.expr_types.specs.Bodies.{AreKinds}
 use Rattle.type_check.specs.declared.fault.TypeFault.{TypeFault}
@@ -14,11 +14,12 @@ pub record SameKinds (a b : Kinds) : Type 0 where
 
 -- where there is no cycle the declared names are one thing
 abbrev pub OneKinds : Type 0
-OneKinds = (t : Tree) (a b : Kinds) → HasNoCycle t → AreKinds (items_of t) a → AreKinds (items_of t) b → SameKinds a b
+OneKinds = (items : List tree.Item) (a b : Kinds) → HasNoCycle items → AreKinds items a → AreKinds items b → SameKinds a b
 
 -- a specification has at most one first fault, and none where it is accepted
 abbrev pub OneFault : Type 0
-OneFault = (t : Tree) (f g : TypeFault) → IsFirstFault t f → IsFirstFault t g → f ≡ g
+OneFault = (items : List tree.Item) (end : Place) (f g : TypeFault) → IsFirstFault items end f → IsFirstFault items end g → f ≡ g
 
 abbrev pub AcceptedHasNoFault : Type 0
-AcceptedHasNoFault = (t : Tree) (kinds : Kinds) (f : TypeFault) → IsAccepted t kinds → IsFirstFault t f → ⊥
+AcceptedHasNoFault =
+    (items : List tree.Item) (end : Place) (kinds : Kinds) (f : TypeFault) → IsAccepted items end kinds → IsFirstFault items end f → ⊥

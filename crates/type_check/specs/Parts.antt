@@ -1,6 +1,6 @@
 -- What the parts of the check answer.
 use Rattle.std.specs.Prelude.{◌≡◌, List, Some}
-use Rattle.spec_parser.specs.declared.tree.Tree.{Tree}
+use Rattle.spec_parser.specs.Tree as tree
 use Rattle.type_check.specs.declared.fault.TypeFault.{TypeFault}
 use Rattle.type_check.specs.declared.fault.TypeFault.TheVariants as fault
 use Rattle.type_check.specs.Faults.{first_fault, IsCycleFault}
@@ -11,6 +11,6 @@ IsFirstOf faults fault.Memory = Unit {0}
 IsFirstOf faults f = first_fault faults ≡ Some f
 
 -- it is the first cycle, or want of memory
-abbrev pub IsCycleOf : Tree → TypeFault → Type 0
-IsCycleOf t fault.Memory = Unit {0}
-IsCycleOf t f = IsCycleFault t f
+abbrev pub IsCycleOf : List tree.Item → TypeFault → Type 0
+IsCycleOf items fault.Memory = Unit {0}
+IsCycleOf items f = IsCycleFault items f

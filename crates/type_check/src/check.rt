@@ -30,8 +30,8 @@ use translation_order::order::OrderFault;
 /// What the names of the top stand for, where all names are declared once and known.
 fn names_of(alloc: Global, tree: &Tree) -> Result<Names, TypeFault>
     ensures names { IfOk result (λ names. names ≡ top (items_of tree.now)) }
-    ensures ok { OnOk result (name_faults tree.now ≡ []) }
-    ensures err { IfErr result (IsFirstOf (name_faults tree.now)) }
+    ensures ok { OnOk result (name_faults (items_of tree.now) ≡ []) }
+    ensures err { IfErr result (IsFirstOf (name_faults (items_of tree.now))) }
 {
     match check_names(alloc, tree) {
         Ok(names) => Ok(names),
@@ -61,8 +61,8 @@ fn check_forms(alloc: Global, items: &[Item]) -> Result<(), TypeFault>
 /// The order in which the declared names are found, where no cycle hinders it.
 fn order_of(alloc: Global, tree: &Tree) -> Result<Steps, TypeFault>
     ensures order { IfOk result (IsKindOrder (items_of tree.now)) }
-    ensures ok { OnOk result (HasNoCycle tree.now) }
-    ensures err { IfErr result (IsCycleOf tree.now) }
+    ensures ok { OnOk result (HasNoCycle (items_of tree.now)) }
+    ensures err { IfErr result (IsCycleOf (items_of tree.now)) }
 {
     if let Some(place) = find_function_cycle(alloc, tree)? {
         return Err(TypeFault::FunctionCycle { place });
@@ -85,8 +85,8 @@ fn check_expressions(
     kinds: &KindTable,
 ) -> Result<(), TypeFault>
     requires { names.now ≡ top (items_of tree.now) }
-    ensures ok { OnOk result (late tree.now (kinds_of kinds.now) ≡ []) }
-    ensures err { IfErr result (IsFirstOf (late tree.now (kinds_of kinds.now))) }
+    ensures ok { OnOk result (late (items_of tree.now) tree.now.end (kinds_of kinds.now) ≡ []) }
+    ensures err { IfErr result (IsFirstOf (late (items_of tree.now) tree.now.end (kinds_of kinds.now))) }
 {
     let items = tree.items();
     if let Some(place) = find_wrong_arity(alloc, items, names)? {
@@ -112,8 +112,8 @@ fn check_expressions(
 pub fn check<'t>(alloc: Global, tree: &'t Tree) -> Result<Typed<'t>, TypeFault>
     ensures tree { IfOk result (λ typed. typed.tree.now ≡ tree.now) }
     ensures names { IfOk result (λ typed. typed.names ≡ top (items_of tree.now)) }
-    ensures accepted { IfOk result (λ typed. IsAccepted tree.now (kinds_of typed.kinds)) }
-    ensures fault { IfErr result (IsFaultOf tree.now) }
+    ensures accepted { IfOk result (λ typed. IsAccepted (items_of tree.now) tree.now.end (kinds_of typed.kinds)) }
+    ensures fault { IfErr result (IsFaultOf (items_of tree.now) tree.now.end) }
 {
     let names = names_of(alloc, tree)?;
     check_forms(alloc, tree.items())?;

@@ -5,6 +5,9 @@ pub mod check;
 pub mod fault;
 mod kinds;
 pub mod laws;
+pub mod print;
+#[cfg(test)]
+mod print_tests;
 mod slot;
 #[cfg(test)]
 mod tests;

@@ -1,0 +1,4 @@
+// The chains of a parsed specification have the operators of their levels.
+#![tactic(auto)]
+
+pub mod laws;

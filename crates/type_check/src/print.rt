@@ -1,0 +1,92 @@
+// Types and kinds as they are printed.
+
+ghost use Rattle.std.specs.Prelude.{◌≡◌, ◌++◌, map, OnOk};
+ghost use Rattle.tsl_value.specs.Print.{listed};
+ghost use Rattle.type_check.specs.Kind.{types_of};
+ghost use Rattle.type_check.specs.Text.{key_type_text, kind_text, scalar_type_text, type_text};
+
+use crate::fault::Kind;
+use tsl_value::bytes::Bytes;
+use tsl_value::memory::NoMemory;
+use tsl_value::scalar::{KeyType, ScalarType, ValueType};
+use type_rules::rule::Family;
+
+fn scalar_name(of: ScalarType) -> &'static [u8]
+    ensures { result.now ≡ scalar_type_text of }
+{
+    match of {
+        ScalarType::Unit => b"Unit",
+        ScalarType::Int => b"Int",
+        ScalarType::Bool => b"Bool",
+        ScalarType::Text => b"String",
+    }
+}
+
+fn key_name(of: KeyType) -> &'static [u8]
+    ensures { result.now ≡ key_type_text of }
+{
+    match of {
+        KeyType::Int => b"Int",
+        KeyType::Bool => b"Bool",
+        KeyType::Text => b"String",
+    }
+}
+
+/// All types of a family, with a comma and a blank between them.
+fn family_types(family: Family) -> &'static [u8]
+    ensures { result.now ≡ listed (map type_text (types_of family)) }
+{
+    match family {
+        Family::Any => b"Unit, Int, Bool, String, Set[Int], Map[Int, Int]",
+        Family::Scalars => b"Unit, Int, Bool, String",
+        Family::Sets => b"Set[Int]",
+        Family::Maps => b"Map[Int, Int]",
+    }
+}
+
+/// Appends a type as it is written in a specification.
+pub fn print_type(of: ValueType, out: &mut Bytes) -> Result<(), NoMemory>
+    ensures { OnOk result (out.new ≡ out.old ++ type_text of) }
+{
+    match of {
+        ValueType::Scalar(scalar) => out.append(scalar_name(scalar)),
+        ValueType::Set(key) => {
+            out.append(b"Set[")?;
+            out.append(key_name(key))?;
+            out.append(b"]")
+        }
+        ValueType::Map(key, value) => {
+            out.append(b"Map[")?;
+            out.append(key_name(key))?;
+            out.append(b", ")?;
+            out.append(scalar_name(value))?;
+            out.append(b"]")
+        }
+    }
+}
+
+/// Appends a kind as a message has it: `Events[Int]` for a stream, `Option[Int]` for an option, `Int` for a value, `function`,
+/// `literal`, or `one of` and the types of a family.
+pub fn print_kind(kind: &Kind, out: &mut Bytes) -> Result<(), NoMemory>
+    ensures { OnOk result (out.new ≡ out.old ++ kind_text kind.now) }
+{
+    match kind {
+        Kind::Stream(of) => {
+            out.append(b"Events[")?;
+            print_type(*of, out)?;
+            out.append(b"]")
+        }
+        Kind::Value(of) => print_type(*of, out),
+        Kind::Optional(of) => {
+            out.append(b"Option[")?;
+            print_type(*of, out)?;
+            out.append(b"]")
+        }
+        Kind::Function => out.append(b"function"),
+        Kind::Literal => out.append(b"literal"),
+        Kind::OneOf(family) => {
+            out.append(b"one of ")?;
+            out.append(family_types(*family))
+        }
+    }
+}
