@@ -1,0 +1,5 @@
+pub mod Endings
+pub mod ShortTexts
+pub mod ShortFunctions
+pub mod ShortShapes
+pub mod ShortEquations
