@@ -3,3 +3,5 @@ pub mod ShortTexts
 pub mod ShortFunctions
 pub mod ShortShapes
 pub mod ShortEquations
+pub mod Streams
+pub mod Derived
