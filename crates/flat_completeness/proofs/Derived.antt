@@ -1,6 +1,5 @@
 -- The equations of a derivation are well typed and have short texts.
-use Rattle.std.proofs.Common.{◌≡◌, ℕ, ◌+◌, true, false, List, [], ◌∷◌, ◌++◌, map, length, Some, None, refl, ap, sym, subst, ◌∙◌, arith, length-append}
-use Rattle.std.specs.Prelude.{slice_get}
+use Rattle.std.proofs.Common.{◌≡◌, ℕ, ◌+◌, List, [], ◌∷◌, ◌++◌, length, Some, refl, ap, sym, subst, arith, length-append}
 use Rattle.std.specs.List.{AllByRecursion}
 use Rattle.std.proofs.lemmas.Bool.{and_parts}
 use Rattle.std.proofs.lemmas.Option.{none-some}
@@ -22,8 +21,7 @@ use Rattle.stream_constructs.specs.Construct.{Construct, Operand}
 use Rattle.stream_constructs.specs.Construct as construct
 use Rattle.stream_constructs.specs.Equations.{own_equations, choice_equations, alias_equation}
 use Rattle.stream_constructs.specs.Agree.{Fits, FitsChoice, last_number}
-use Rattle.spec_meaning.specs.Occurrence.{Occurrence, block_of, result_of}
-use Rattle.spec_meaning.specs.Shape.{expressions}
+use Rattle.spec_meaning.specs.Occurrence.{Occurrence, block_of}
 use Rattle.macro_flatten.specs.Makes.{Standing, Makes, MakesAll, MakesBody, MakesBlock, inside_call, is_own, is_choice, with_itself, choice_operands}
 use Rattle.macro_flatten.specs.Makes as makes
 use Rattle.flat_meaning.proofs.Built.{TheLaws, is_itself, one_number}
@@ -35,7 +33,7 @@ use Rattle.flat_completeness.proofs.ShortTexts.{ShortExpr, ShortBody, ShortDefin
 use Rattle.flat_completeness.proofs.ShortFunctions.{HasNoLift}
 use Rattle.flat_completeness.proofs.ShortShapes.{ShortConstruct, ShortOperands, is_short, choice_operands_short}
 use Rattle.flat_completeness.proofs.ShortEquations.{own_short, choice_short}
-use Rattle.flat_completeness.proofs.Streams.{IsThere, AreThere, AreKnown, IsTopThere, body_there, block_there, made_there, all_there}
+use Rattle.flat_completeness.proofs.Streams.{IsThere, AreThere, AreKnown, IsTopThere, block_there, made_there, all_there}
 
 delay_type : (parts : List Stream) (of : ValueType) → Fits construct.Delay parts of → of ≡ unit_type
 delay_type (d ∷ r ∷ x ∷ []) of fits = fits.0

@@ -1,5 +1,5 @@
 -- The last equation of a construct is of the construct's type.
-use Rattle.std.proofs.Common.{◌≡◌, ℕ, ◌+◌, true, List, [], ◌∷◌, ◌++◌, length, Some, refl, sym, subst}
+use Rattle.std.proofs.Common.{◌≡◌, ℕ, List, [], ◌∷◌, ◌++◌, length, Some, refl, sym, subst}
 use Rattle.std.specs.Prelude.{slice_get}
 use Rattle.tsl_value.specs.declared.place.Place.{Place}
 use Rattle.tsl_value.specs.declared.scalar.ValueType.{ValueType}
@@ -12,7 +12,6 @@ use Rattle.stream_constructs.specs.Construct as construct
 use Rattle.stream_constructs.specs.Equations.{lifting, lifted, literal_equations, first_number, held, own_equations, choice_equations}
 use Rattle.stream_constructs.specs.Agree.{Fits, last_number}
 use Rattle.stream_constructs.proofs.Making.{last_of_push}
-use Rattle.flat_meaning.proofs.ListLemmas.{get_right}
 use Rattle.flat_meaning.proofs.Plain.{plain, unnamed, Within}
 
 -- the last of some equations is of this type

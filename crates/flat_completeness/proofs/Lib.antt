@@ -5,3 +5,6 @@ pub mod ShortShapes
 pub mod ShortEquations
 pub mod Streams
 pub mod Derived
+pub mod Items
+pub mod Outputs
+pub mod Whole

@@ -13,7 +13,7 @@ use Rattle.stream_constructs.specs.declared.construct.Update.{Update as UpdateOp
 use Rattle.stream_constructs.specs.declared.construct.Update.TheVariants as update
 use Rattle.stream_constructs.specs.Construct.{Construct, Operand, Fixed, Varying}
 use Rattle.stream_constructs.specs.Construct as construct
-use Rattle.stream_constructs.specs.Equations.{equation, held, held_each, lifting, lifted, literal_equations, operand_numbers, first_number, numbers, with_literals, update_op, own_equations, choice_equations}
+use Rattle.stream_constructs.specs.Equations.{held_each, lifting, lifted, literal_equations, first_number, with_literals, update_op, own_equations, choice_equations}
 use Rattle.flat_completeness.proofs.ShortShapes.{ShortConstruct, ShortOperands}
 
 abbrev pub ShortEquations : List Equation → Type 0

@@ -1,6 +1,5 @@
 -- The flat system of a checked specification is complete: its equations are well typed, and its outputs are there.
-use Rattle.std.specs.Prelude.{◌≡◌, ℕ, ◌<◌, List, [], length}
-use Rattle.tsl_value.specs.declared.place.Place.{Place}
+use Rattle.std.specs.Prelude.{◌≡◌, ◌<◌, List, [], length}
 use Rattle.flat_core.specs.Complete.{IsComplete}
 use Rattle.flat_core.specs.System.{System}
 use Rattle.spec_parser.specs.Tree as tree
