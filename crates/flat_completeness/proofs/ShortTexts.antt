@@ -15,7 +15,7 @@ use Rattle.name_check.specs.Scope.{Scope, count_in, inside, in_block, top}
 use Rattle.spec_meaning.specs.Occurrence.{body_of, result_of}
 use Rattle.spec_meaning.specs.Shape.{expressions}
 use Rattle.flat_meaning.proofs.ListLemmas.{place_contains}
-use Rattle.flat_completeness.specs.Short.{HaveShortTexts}
+use Rattle.parsed_texts.specs.Short.{HaveShortTexts}
 
 -- ---- where an expression is read part by part
 abbrev mutual

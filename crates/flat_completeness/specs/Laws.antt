@@ -8,7 +8,7 @@ use Rattle.expr_types.specs.Around.{Kinds}
 use Rattle.spec_meaning.specs.Due.{outputs_of}
 use Rattle.macro_flatten.specs.Flat.{IsFlatOf}
 use Rattle.checked_spec.specs.Checked.{IsChecked}
-use Rattle.flat_completeness.specs.Short.{HaveShortTexts}
+use Rattle.parsed_texts.specs.Short.{HaveShortTexts}
 
 -- there is an output, and no two are printed under one name
 pub record HasOutputs (items : List tree.Item) : Type 0 where
