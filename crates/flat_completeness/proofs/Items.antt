@@ -47,9 +47,10 @@ scalar_events : (y : tree.TypeName) (of : ValueType) → is_of_aggregates y ≡ 
 scalar_events (tree.EventsType p y) of other is = scalar_value y of other is
 scalar_events y of other is = scalar_value y of other is
 
-no_aggregate : (b : Bool) (q : Place) → (if b then q ∷ [] else []) ≡ [] → b ≡ false
-no_aggregate true q none = cc
-no_aggregate false q none = refl
+-- a test that gives a place where it holds
+pub not_placed : (b : Bool) (q : Place) → (if b then q ∷ [] else []) ≡ [] → b ≡ false
+not_placed true q none = cc
+not_placed false q none = refl
 
 module _ (items : List tree.Item) (kinds : Kinds) (at_top : ℕ → Stream) (s : System) (laws : TheLaws) where
   abbrev Good : Equation → Type 0
@@ -77,7 +78,7 @@ module _ (items : List tree.Item) (kinds : Kinds) (at_top : ℕ → Stream) (s :
   inputs_good none flat.MakesInputs.end = tt
   inputs_good none (flat.MakesInputs.input {p = p} {q = q} {x = x} {y = y} {rest = rest} of made events top_is more all_is) =
       let both = append_empty (aggregate_in_item (tree.Input p q x y)) (aggregate_inputs rest) none in
-      let here = input_good q y of (no_aggregate (is_of_aggregates y) q both.0) events in
+      let here = input_good q y of (not_placed (is_of_aggregates y) q both.0) events in
       subst AllGood (sym all_is) (named_one x (equation q op.Input [] of) here, inputs_good both.1 more)
   inputs_good none (flat.MakesInputs.defined more) = inputs_good none more
   inputs_good none (flat.MakesInputs.output more) = inputs_good none more

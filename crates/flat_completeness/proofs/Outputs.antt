@@ -1,6 +1,5 @@
 -- The outputs and their equations.
-use Rattle.std.proofs.Common.{◌≡◌, ℕ, ◌<◌, Bool, true, false, ◌||◌, List, [], ◌∷◌, ◌++◌, length, refl, ap, sym, subst, ◌∙◌, append-nil, arith}
-use Rattle.std.specs.Prelude.{if◌then◌else◌}
+use Rattle.std.proofs.Common.{◌≡◌, ℕ, ◌<◌, false, ◌||◌, List, [], ◌∷◌, ◌++◌, length, refl, ap, sym, subst, ◌∙◌, append-nil, arith}
 use Rattle.std.specs.List.{AllByRecursion, Contains, list_any}
 use Rattle.std.specs.Str.{bytes_eq}
 use Rattle.std.proofs.lemmas.Bool.{true≢false, or_parts}
@@ -31,7 +30,7 @@ use Rattle.flat_completeness.proofs.ShortTexts.{AreBodiesShort, ShortExpr}
 use Rattle.flat_completeness.proofs.ShortFunctions.{HasNoLift}
 use Rattle.flat_completeness.proofs.Streams.{IsThere, IsTopThere, made_there}
 use Rattle.flat_completeness.proofs.Derived.{IsGood, AreGood, made_good}
-use Rattle.flat_completeness.proofs.Items.{named_good, nowhere}
+use Rattle.flat_completeness.proofs.Items.{not_placed, named_good, nowhere}
 
 -- the expressions of outputs have short texts
 pub record AreOutputsShort (rest : List tree.Item) : Type 0 where
@@ -54,13 +53,6 @@ module _ (items : List tree.Item) (kinds : Kinds) (at_top : ℕ → Stream) wher
     from : AllByRecursion (λ o. list_any (bytes_eq o.name) before ≡ false) outs
     among : HaveDifferentNames outs
 
-  new_name : (before : List (List ℕ)) (p : Place) (x : List ℕ) → printed_again before p x ≡ [] → list_any (bytes_eq x) before ≡ false
-  new_name before p x none = either (list_any (bytes_eq x) before) none
-    where
-      either : (b : Bool) → (if b then p ∷ [] else []) ≡ [] → b ≡ false
-      either true h = cc
-      either false h = refl
-
   two_parts : (before : List (List ℕ)) (x : List ℕ) (o : Output) → list_any (bytes_eq o.name) (before ++ x ∷ []) ≡ false → (list_any (bytes_eq o.name) before ≡ false) × ¬ (o.name ≡ x)
   two_parts before x o none =
       let both = or_parts (list_any (bytes_eq o.name) before) (bytes_eq o.name x || false) (sym (list_any-append (bytes_eq o.name) before (x ∷ [])) ∙ none) in
@@ -69,7 +61,7 @@ module _ (items : List tree.Item) (kinds : Kinds) (at_top : ℕ → Stream) wher
   one_differs : (before : List (List ℕ)) (p : Place) (x : List ℕ) (a : Stream) (outs printed : List Output) → printed_again before p x ≡ [] → printed ≡ record { name = x; equation = a.id } ∷ outs → Differ (before ++ x ∷ []) outs → Differ before printed
   one_differs before p x a outs printed none printed_is rest =
       subst (Differ before) (sym printed_is) (record {
-        from = (new_name before p x none, all_by _ _ (λ o h. (two_parts before x o h).0) outs rest.from);
+        from = (not_placed (list_any (bytes_eq x) before) p none, all_by _ _ (λ o h. (two_parts before x o h).0) outs rest.from);
         among = (all_by _ _ (λ o h. (two_parts before x o h).1) outs rest.from, rest.among);
       })
 
