@@ -1,6 +1,5 @@
 -- The flat system of a checked specification is complete: its equations are well typed, and its outputs are there.
-use Rattle.std.specs.Prelude.{◌≡◌, ℕ, ◌<◌, List, [], length}
-use Rattle.tsl_value.specs.declared.place.Place.{Place}
+use Rattle.std.specs.Prelude.{◌≡◌, ◌<◌, List, [], length}
 use Rattle.flat_core.specs.Complete.{IsComplete}
 use Rattle.flat_core.specs.System.{System}
 use Rattle.spec_parser.specs.Tree as tree
@@ -9,7 +8,7 @@ use Rattle.expr_types.specs.Around.{Kinds}
 use Rattle.spec_meaning.specs.Due.{outputs_of}
 use Rattle.macro_flatten.specs.Flat.{IsFlatOf}
 use Rattle.checked_spec.specs.Checked.{IsChecked}
-use Rattle.flat_completeness.specs.Short.{HaveShortTexts}
+use Rattle.parsed_texts.specs.Short.{HaveShortTexts}
 
 -- there is an output, and no two are printed under one name
 pub record HasOutputs (items : List tree.Item) : Type 0 where

@@ -1,2 +1,4 @@
 // The flat system of a checked specification is complete.
 #![tactic(auto)]
+
+pub mod laws;

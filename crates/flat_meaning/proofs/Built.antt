@@ -44,7 +44,7 @@ pub record TheLaws : Type 0 where
 pub one_number : (n : ℕ) (own : List Equation) → IsOneDelay own → last_number n own ≡ n
 one_number n own one = let many : length own ≡ 1 = ap length one.alone in omega arith
 
-is_itself : (c : Construct) (m : ℕ) (parts : List Stream) → IsItself c m (with_itself c m parts)
+pub is_itself : (c : Construct) (m : ℕ) (parts : List Stream) → IsItself c m (with_itself c m parts)
 is_itself construct.Delay m [] = tt
 is_itself construct.Delay m (a ∷ []) = tt
 is_itself construct.Delay m (a ∷ b ∷ []) = refl

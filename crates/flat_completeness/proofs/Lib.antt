@@ -1,0 +1,10 @@
+pub mod Endings
+pub mod ShortTexts
+pub mod ShortFunctions
+pub mod ShortShapes
+pub mod ShortEquations
+pub mod Streams
+pub mod Derived
+pub mod Items
+pub mod Outputs
+pub mod Whole
