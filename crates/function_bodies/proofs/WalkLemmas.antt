@@ -40,4 +40,3 @@ pub record IsChained (at : Around) (whole : Tree) (rest : List Link) (chained : 
   pub so_far : Tree
   pub is : chained ≡ within so_far
   pub goes_on : chain_at at so_far (links_in rest) ≡ whole
-
