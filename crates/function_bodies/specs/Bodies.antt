@@ -1,0 +1,34 @@
+-- The bodies of value functions, and which of them are too large.
+use Rattle.std.specs.Prelude.{◌≡◌, ℕ, suc, ltb, ◌&&◌, if◌then◌else◌, List, [], ◌∷◌, ◌++◌, length, Option, Some, None, slice_get, slice_index_or}
+use Rattle.tsl_value.specs.declared.place.Place.{Place}
+use Rattle.lift_func.specs.declared.body.TheConstants.{MOST_NODES}
+use Rattle.lift_func.specs.Tree.{Tree, node_count}
+use Rattle.lift_func.specs.Placed.{placed, within}
+use Rattle.spec_parser.specs.Tree as tree
+use Rattle.name_check.specs.Scope.{are_values}
+use Rattle.spec_meaning.specs.Occurrence.{params_of}
+use Rattle.spec_meaning.specs.Function.{function_at, function_body}
+use Rattle.function_bodies.specs.Calls.{IsFunction}
+
+-- the body of item i, if it is a value function whose body has not too many nodes
+abbrev pub body_at : List tree.Item → ℕ → Option Tree
+body_at items i = if are_values (params_of (slice_get items i)) then within (function_body items i) else None
+
+-- each item has its body, and a call of a value function is its body with the operands in the place of its arguments
+pub record AreBodies (items : List tree.Item) (bodies : List (Option Tree)) : Type 0 where
+  pub count : length bodies ≡ length items
+  pub at : (i : ℕ) → slice_index_or bodies i None ≡ body_at items i
+  pub placed : (i : ℕ) (ts : List Tree) → IsFunction items i → function_at items i ts ≡ placed ts (function_body items i)
+
+-- ---- the names of value functions whose bodies have too many nodes, in the order of the source
+abbrev pub too_large_in : List tree.Item → ℕ → tree.Item → List Place
+too_large_in items i (tree.Defined p (tree.Define q n ps w b)) =
+    if are_values ps && ltb MOST_NODES (node_count (function_body items i)) then q ∷ [] else []
+too_large_in items i item = []
+
+abbrev pub too_large_from : List tree.Item → ℕ → List tree.Item → List Place
+too_large_from items i [] = []
+too_large_from items i (item ∷ rest) = too_large_in items i item ++ too_large_from items (suc i) rest
+
+abbrev pub too_large_bodies : List tree.Item → List Place
+too_large_bodies items = too_large_from items 0 items

@@ -1,0 +1,5 @@
+pub mod Calls
+pub mod Laws
+pub mod Around
+pub mod Bodies
+pub mod Made

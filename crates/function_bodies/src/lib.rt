@@ -1,0 +1,10 @@
+//! The bodies of value functions: calls of other value functions stand in them with the arguments in the place of the parameters.
+#![tactic(auto)]
+
+mod around;
+mod definition;
+mod expression;
+pub mod functions;
+pub mod laws;
+#[cfg(test)]
+mod tests;
