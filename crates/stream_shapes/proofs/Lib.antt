@@ -1,2 +1,3 @@
 pub mod OperandLemmas
 pub mod MakeLemmas
+pub mod DottedLemmas
