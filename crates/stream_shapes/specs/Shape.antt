@@ -1,5 +1,5 @@
 -- Constructs and shapes as the code has them, and what they say of an expression.
-use Rattle.std.specs.Prelude.{◌≡◌, Bool, true, false, List, [], map, Option, Some, None}
+use Rattle.std.specs.Prelude.{◌≡◌, Bool, true, false, List, [], ◌∷◌, map, Option, Some, None}
 use Rattle.std.specs.Borrow.{Bor}
 use Rattle.lift_func.specs.Tree.{Tree}
 use Rattle.spec_parser.specs.Tree as tree
@@ -9,7 +9,7 @@ use Rattle.name_check.specs.Scope.{Scope, seen, Agree}
 use Rattle.spec_meaning.specs.Occurrence.{Call, scope_at}
 use Rattle.spec_meaning.specs.Function.{dotted_tree}
 use Rattle.spec_meaning.specs.Shape as meaning
-use Rattle.spec_meaning.specs.Shape.{operand, beside, shape, signal_of, update_of}
+use Rattle.spec_meaning.specs.Shape.{operand, beside, shape, with_parts, signal_of, update_of}
 use Rattle.stream_constructs.specs.declared.construct.Update.{Update as UpdateOp}
 use Rattle.stream_constructs.specs.Construct as construct
 use Rattle.macro_flatten.specs.Makes.{is_own}
@@ -69,3 +69,8 @@ IsShapeOf functions scope e found =
 abbrev pub dotted_by : Option UpdateOp → Dotted → List Call → List Expr → Option meaning.Shape
 dotted_by (Some o) d cs es = update_of cs o es
 dotted_by None d cs es = signal_of cs (dotted_tree d) es
+
+-- a filter, by the literal that its condition may be
+abbrev pub filter_by : Option Bool → List Call → Expr → Expr → Option meaning.Shape
+filter_by (Some b) cs e c = with_parts cs (construct.FilterBy b) (e ∷ [])
+filter_by None cs e c = with_parts cs construct.Filter (e ∷ c ∷ [])

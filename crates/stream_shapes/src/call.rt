@@ -1,18 +1,18 @@
 // Calls.
 
-ghost use Rattle.std.specs.Prelude.{◌≡◌, List, [], None, filter, IfOk};
+ghost use Rattle.std.specs.Prelude.{◌≡◌, ℕ, List, [], ◌∷◌, None, MatchOption, filter, IfOk};
 ghost use Rattle.std.specs.Option.{option_map};
 ghost use Rattle.spec_parser.specs.Tree as tree;
 ghost use Rattle.spec_parser.specs.Shape.{exprs_of};
 ghost use Rattle.name_check.specs.Scope.{meaning, seen};
-ghost use Rattle.spec_meaning.specs.Occurrence.{scope_at};
-ghost use Rattle.spec_meaning.specs.Function.{function_at};
+ghost use Rattle.spec_meaning.specs.Occurrence.{Call, scope_at};
+ghost use Rattle.spec_meaning.specs.Function.{function_at, function_body};
 ghost use Rattle.spec_meaning.specs.Shape.{call_shape, const_shape, declared_shape, filter_shape, lift_shape, function_named, plain_name, is_const as is_const_name, is_delay as is_delay_name, is_filter as is_filter_name, is_part, operands};
 ghost use Rattle.function_bodies.specs.Bodies.{AreBodies, too_large_bodies};
 ghost use Rattle.function_bodies.specs.Calls.{IsFunction};
 ghost use Rattle.stream_constructs.specs.Construct.{operand_trees};
 ghost use Rattle.stream_constructs.specs.Construct as construct;
-ghost use Rattle.stream_shapes.specs.Shape.{HasShape, IsShapeAt, IsShapeWhere, construct_of};
+ghost use Rattle.stream_shapes.specs.Shape.{HasShape, IsShapeAt, IsShapeWhere, construct_of, filter_by};
 
 use crate::construct::{Construct, Shape};
 use crate::leaf::{nothing, over};
@@ -26,7 +26,6 @@ use name_check::scope::Scope;
 use spec_parser::tree::{Expr, Node};
 use std::alloc::Global;
 use tsl_value::memory::NoMemory;
-use tsl_value::scalar::Scalar;
 
 /// The constructs of the language whose arguments are all parts, but for `delay`.
 #[tactic(auto, unfolding(spec_meaning::specs::Shape::plain_name))]
@@ -78,6 +77,16 @@ fn constant<'a>(alloc: Global, arguments: &'a [Expr]) -> Result<Shape<'a>, NoMem
     }
 }
 
+/// The condition of a filter, if it is a literal.
+fn condition_of(condition: &Expr) -> Option<bool>
+    ensures { (cs : List Call) (e : tree.Expr) → filter_shape cs (e ∷ condition.now ∷ []) ≡ filter_by result cs e condition.now }
+{
+    match condition.node() {
+        Node::Boolean(holds) => Some(*holds),
+        _ => None,
+    }
+}
+
 /// A filter. A condition that is a literal is no part.
 fn filter<'a>(alloc: Global, arguments: &'a [Expr]) -> Result<Shape<'a>, NoMemory>
     ensures { IfOk result (IsShapeAt (λ items cs. filter_shape cs arguments.now)) }
@@ -88,9 +97,9 @@ fn filter<'a>(alloc: Global, arguments: &'a [Expr]) -> Result<Shape<'a>, NoMemor
     if streams.len() != 1 {
         return Ok(nothing(alloc));
     }
-    match literal(condition)? {
-        Some(Scalar::Bool(holds)) => over(alloc, Construct::FilterBy(holds), streams),
-        _ => over(alloc, Construct::Filter, arguments),
+    match condition_of(condition) {
+        Some(holds) => over(alloc, Construct::FilterBy(holds), streams),
+        None => over(alloc, Construct::Filter, arguments),
     }
 }
 
@@ -101,6 +110,34 @@ fn function_named(scope: &Scope<'_>, function: &Expr) -> Option<Declaration>
     match function.node() {
         Node::Name(name) => scope.find(name.as_str()),
         _ => None,
+    }
+}
+
+/// The item of the value function that a name stands for, if it stands for one.
+fn function_of(declaration: Option<Declaration>) -> Option<usize>
+    ensures { MatchOption result ((i : ℕ) → declaration ≡ Some (Declaration.Function i) → ⊥) (λ i. declaration ≡ Some (Declaration.Function i)) }
+{
+    match declaration {
+        Some(Declaration::Function(number)) => Some(number),
+        Some(Declaration::Input(_)) | Some(Declaration::Stream(_)) => None,
+        Some(Declaration::Macro(_)) | Some(Declaration::Mixed(_)) => None,
+        Some(Declaration::Parameter(_)) | Some(Declaration::Local(_)) => None,
+        None => None,
+    }
+}
+
+/// Streams to which a value function is lifted. No body is too large.
+fn function_lift<'a>(
+    alloc: Global,
+    functions: &Functions,
+    number: usize,
+    streams: &'a [Expr],
+) -> Result<Shape<'a>, NoMemory>
+    ensures { IfOk result (λ s. (items : List tree.Item) → AreBodies items functions.now → too_large_bodies items ≡ [] → IsFunction items number → HasShape s (construct.Lift (function_body items number)) streams.now) }
+{
+    match functions.body(number) {
+        Some(body) => over(alloc, Construct::Lift(body.copy()?), streams),
+        None => Ok(nothing(alloc)),
     }
 }
 
@@ -116,11 +153,8 @@ fn lift<'a>(
     let Some((function, streams)) = arguments.split_last() else {
         return Ok(nothing(alloc));
     };
-    let Some(Declaration::Function(number)) = function_named(scope, function) else {
-        return Ok(nothing(alloc));
-    };
-    match functions.body(number) {
-        Some(body) => over(alloc, Construct::Lift(body.copy()?), streams),
+    match function_of(function_named(scope, function)) {
+        Some(number) => function_lift(alloc, functions, number, streams),
         None => Ok(nothing(alloc)),
     }
 }
@@ -151,9 +185,9 @@ fn declared_call<'a>(
 ) -> Result<Shape<'a>, NoMemory>
     ensures { IfOk result (IsShapeWhere functions.now scope.now (λ items cs. declared_shape items cs (meaning (scope_at items cs) name.now) (exprs_of arguments.now))) }
 {
-    match scope.find(name) {
-        Some(Declaration::Function(number)) => function_call(alloc, functions, number, arguments),
-        _ => Ok(nothing(alloc)),
+    match function_of(scope.find(name)) {
+        Some(number) => function_call(alloc, functions, number, arguments),
+        None => Ok(nothing(alloc)),
     }
 }
 

@@ -4,9 +4,11 @@ ghost use Rattle.std.specs.Prelude.{◌≡◌, IfOk};
 ghost use Rattle.std.specs.Option.{option_map, option_and_then};
 ghost use Rattle.tsl_value.specs.declared.scalar.ValueType.TheVariants as value_type;
 ghost use Rattle.type_rules.specs.Written.{key_of as key_that_is, scalar_of as scalar_that_is};
+ghost use Rattle.spec_parser.specs.Tree as tree;
 ghost use Rattle.spec_parser.specs.Shape.{expr_of};
 ghost use Rattle.name_check.specs.Shown.{nowhere};
-ghost use Rattle.stream_shapes.specs.Shape.{IsShapeOf};
+ghost use Rattle.spec_meaning.specs.Shape.{expr_shape};
+ghost use Rattle.stream_shapes.specs.Shape.{IsShapeAt, IsShapeOf};
 
 use crate::call::call;
 use crate::construct::{Construct, Shape};
@@ -47,7 +49,9 @@ fn map_of(key: &TypeName, of: &TypeName) -> Option<ValueType>
 }
 
 /// A name. The language has one that is a construct.
-fn name<'a>(alloc: Global, name: &str) -> Shape<'a> {
+fn name_shape<'a>(alloc: Global, name: &str) -> Shape<'a>
+    ensures { IsShapeAt (λ items cs. expr_shape items cs (tree.Name nowhere name.now)) result }
+{
     if is_unit(name) {
         alone(alloc, Construct::Unit)
     } else {
@@ -76,7 +80,7 @@ fn node_shape<'a>(
         Node::Text(_) => literal_shape(alloc, node),
         Node::Boolean(_) => literal_shape(alloc, node),
         Node::Unit => Ok(alone(alloc, Construct::Unit)),
-        Node::Name(text) => Ok(name(alloc, text.as_str())),
+        Node::Name(name) => Ok(name_shape(alloc, name.as_str())),
         Node::Call(name, arguments) => call(alloc, functions, scope, name.as_str(), arguments),
         Node::CallDotted(function, arguments) => dotted(alloc, *function, arguments),
         Node::Nil(_) => Ok(alone(alloc, Construct::Nil)),
