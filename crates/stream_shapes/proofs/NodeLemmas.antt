@@ -59,6 +59,6 @@ shape_alike items cs p q n chain = refl
 
 pub at_place : (functions : List (Option Tree)) (scope : List Scope) (e : Expr) (n : Node) (found : Shape) → expr_of (place_of e) n ≡ e → IsShapeOf functions scope (expr_of nowhere n) found → IsShapeOf functions scope e found
 at_place functions scope e n found is h = λ chain. (
-  let here : is_chain (expr_of (place_of e) n) ≡ false = ap is_chain is ∙ chain in
-  same_where functions scope _ _ found (λ items cs. ap (expr_shape items cs) (sym is) ∙ shape_alike items cs (place_of e) nowhere n here)
-  (h (sym (chain_alike (place_of e) nowhere n) ∙ here)))
+    let here : is_chain (expr_of (place_of e) n) ≡ false = ap is_chain is ∙ chain in
+    same_where functions scope _ _ found (λ items cs. ap (expr_shape items cs) (sym is) ∙ shape_alike items cs (place_of e) nowhere n here)
+    (h (sym (chain_alike (place_of e) nowhere n) ∙ here)))

@@ -117,7 +117,7 @@ lift_where functions scope es before f i found whole named h = record { at = at 
     at items cs sh right small agree is own =
         let here : function_named items (scope_at items cs) f ≡ Some (declaration.Function i) = sym (named_alike items (seen scope) (scope_at items cs) f agree) ∙ named items in
         let shape : lift_shape items cs [] es ≡ with_parts cs (construct.Lift (function_body items i)) before =
-            ap (lift_shape items cs []) whole ∙ front_and_last items cs [] before f ∙ ap (lift_by items cs before f) here in
+        ap (lift_shape items cs []) whole ∙ front_and_last items cs [] before f ∙ ap (lift_by items cs before f) here in
         beside_found found (construct.Lift (function_body items i)) before cs sh (h items right small (named_function items cs f i here)) (sym shape ∙ is)
 
 no_lift : (items : List tree.Item) (cs : List Call) (streams : List Expr) (f : Expr) (d : Option Declaration) → ((i : ℕ) → d ≡ Some (declaration.Function i) → ⊥) → lift_by items cs streams f d ≡ None

@@ -119,19 +119,15 @@ fn a_link_has_its_literal(rt: HostRuntime) -> Result<(), Fail> {
 #[test]
 fn constructs_are_made(rt: HostRuntime) -> Result<(), Fail> {
     let mut maker = Maker::new(rt.alloc());
-    let ints = Stream {
-        id: EqId::new(0),
-        of: INT,
-    };
-    let sets = Stream {
-        id: EqId::new(1),
-        of: SET,
-    };
-    let last = make(&mut maker, HERE, INT, Construct::Last, &[ints, sets])?;
+    let id = EqId::new(9);
+    let parts = [Stream { id, of: INT }, Stream { id, of: SET }];
+    let last = make(&mut maker, HERE, INT, Construct::Last, &parts)?;
     assert_eq!(rt; last.id, EqId::new(0));
-    let operands = vec![in rt.alloc(); None, Some(Scalar::Int(1))]?;
+    let mut operands = Vec::new(rt.alloc());
+    operands.push(None)?;
+    operands.push(Some(Scalar::Int(1)))?;
     let update = Construct::Update(Update::SetAdd, operands);
-    let added = make(&mut maker, HERE, SET, update, &[sets])?;
+    let added = make(&mut maker, HERE, SET, update, &[Stream { id, of: SET }])?;
     assert_eq!(rt; added.id, EqId::new(2));
     Ok(())
 }
@@ -145,7 +141,15 @@ fn a_choice_between_sets_is_made(rt: HostRuntime) -> Result<(), Fail> {
     let Some(expression) = output_of(&tree) else {
         return Err("no output")?;
     };
-    let operands = choice_operands(rt.alloc(), expression)?;
-    assert_eq!(rt; operands.len(), 3);
+    assert_eq!(rt; choice_operands(rt.alloc(), expression)?.len(), 3);
+    let mut maker = Maker::new(rt.alloc());
+    let id = EqId::new(9);
+    let sets = [Stream { id, of: SET }, Stream { id, of: SET }];
+    let mut operands = Vec::new(rt.alloc());
+    operands.push(Some(Scalar::Bool(true)))?;
+    operands.push(None)?;
+    operands.push(None)?;
+    let chosen = make_choice(&mut maker, HERE, SET, operands, &sets)?;
+    assert_eq!(rt; chosen.id, EqId::new(5));
     Ok(())
 }

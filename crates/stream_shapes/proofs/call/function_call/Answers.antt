@@ -10,7 +10,7 @@ pub returns : goal.returns
 returns c =
     let same : c.deref.result.now ≡ operand_trees 0 (operands c.args.arguments.now) = c.deref.ensures.value ∙ c.in_ok-operands.ensures in
     λ items right small function. (
-      let there = call_found items c.args.functions.now c.args.number (operands c.args.arguments.now) right small function in
-      let at = c.in_ok-body.ensures items right function in
-      let moved = ap (λ ts. within (function_at items c.args.number ts)) same in
-      absurd (cc))
+    let there = call_found items c.args.functions.now c.args.number (operands c.args.arguments.now) right small function in
+    let at = c.in_ok-body.ensures items right function in
+    let moved = ap (λ ts. within (function_at items c.args.number ts)) same in
+    absurd (cc))

@@ -44,14 +44,14 @@ pub returns-in-Call : goal.returns-in-Call
 returns-in-Call c =
     IfOk-weaker c.call.result _ _
     (λ found h. where_node c.args.functions.now c.args.scope.now c.args.node.now (node.Call c.in-Call.name c.in-Call.arguments) _ found c.in-Call.is
-      (λ items cs. ap (λ n. call_shape items cs n (exprs_of c.in-Call.arguments.items) (plain_name n)) (sym c.as_str-in-Call.ensures) ∙ ap (λ es. call_shape items cs c.as_str-in-Call.result.now (exprs_of es) (plain_name c.as_str-in-Call.result.now)) (sym c.deref-in-Call.ensures.value)) h)
+    (λ items cs. ap (λ n. call_shape items cs n (exprs_of c.in-Call.arguments.items) (plain_name n)) (sym c.as_str-in-Call.ensures) ∙ ap (λ es. call_shape items cs c.as_str-in-Call.result.now (exprs_of es) (plain_name c.as_str-in-Call.result.now)) (sym c.deref-in-Call.ensures.value)) h)
     c.call.ensures
 
 pub returns-in-CallDotted : goal.returns-in-CallDotted
 returns-in-CallDotted c =
     IfOk-weaker c.dotted.result _ _
     (λ found h. at_node c.args.functions.now c.args.scope.now c.args.node.now (node.CallDotted c.in-CallDotted.function c.in-CallDotted.arguments) _ found c.in-CallDotted.is
-      (λ items cs. ap (dotted_shape cs c.in-CallDotted.function) (listed c.in-CallDotted.arguments.items ∙ sym c.deref-in-CallDotted.ensures.value)) h)
+    (λ items cs. ap (dotted_shape cs c.in-CallDotted.function) (listed c.in-CallDotted.arguments.items ∙ sym c.deref-in-CallDotted.ensures.value)) h)
     c.dotted.ensures
 
 pub returns-in-EmptySet : goal.returns-in-EmptySet
