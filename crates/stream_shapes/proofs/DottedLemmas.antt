@@ -1,5 +1,5 @@
 -- Functions with a dot at a number of operands that they do not take.
-use Rattle.std.proofs.Common.{◌≡◌, ℕ, suc, List, [], ◌∷◌, map, Result, refl, sym, ap, subst, ◌∙◌}
+use Rattle.std.proofs.Common.{◌≡◌, ℕ, suc, List, [], ◌∷◌, Result, refl, sym, ap, subst, ◌∙◌}
 use Rattle.std.specs.Prelude.{IfOk}
 use Rattle.lift_func.specs.Tree.{Tree, Literal, Argument}
 use Rattle.spec_parser.specs.Tree.{Expr}

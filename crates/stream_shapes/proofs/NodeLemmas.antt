@@ -1,5 +1,5 @@
 -- The shape of an expression by its uppermost level.
-use Rattle.std.proofs.Common.{◌≡◌, ℕ, Bool, true, false, if◌then◌else◌, List, [], Option, Some, None, refl, sym, ap, ◌∙◌}
+use Rattle.std.proofs.Common.{◌≡◌, ℕ, true, false, if◌then◌else◌, List, [], Option, Some, None, refl, sym, ap, ◌∙◌}
 use Rattle.std.proofs.lemmas.Bool.{true≢false, false≢true}
 use Rattle.std.proofs.lemmas.Option.{same_Some, none-some}
 use Rattle.tsl_value.specs.declared.place.Place.{Place}
@@ -14,7 +14,7 @@ use Rattle.name_check.specs.declared.declaration.Declaration.TheVariants as decl
 use Rattle.name_check.specs.Builtin.{is_unit}
 use Rattle.name_check.specs.Scope.{Scope, meaning}
 use Rattle.name_check.specs.Shown.{nowhere}
-use Rattle.spec_meaning.specs.Occurrence.{Call, Occurrence, scope_at, stands_for}
+use Rattle.spec_meaning.specs.Occurrence.{Call, scope_at, stands_for}
 use Rattle.spec_meaning.specs.Shape as meaning
 use Rattle.spec_meaning.specs.Shape.{shape, expr_shape, with_parts, same_as, name_shape, input_number}
 use Rattle.stream_constructs.specs.Construct as construct

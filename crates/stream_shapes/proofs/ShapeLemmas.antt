@@ -1,5 +1,5 @@
 -- From what is found to the shape of an occurrence.
-use Rattle.std.proofs.Common.{◌≡◌, ℕ, suc, Bool, true, false, if◌then◌else◌, List, [], ◌∷◌, ◌++◌, map, filter, length, Option, Some, None, Result, refl, sym, ap, ◌∙◌, append_assoc, arith}
+use Rattle.std.proofs.Common.{◌≡◌, ℕ, suc, Bool, true, false, List, [], ◌∷◌, ◌++◌, map, filter, length, Option, Some, None, refl, sym, ap, ◌∙◌, append_assoc, arith}
 use Rattle.std.specs.Prelude.{slice_index_or}
 use Rattle.std.specs.List.{AllByRecursion}
 use Rattle.std.proofs.lemmas.Bool.{false≢true}
@@ -22,7 +22,7 @@ use Rattle.spec_meaning.specs.Shape.{beside, with_parts, same_as, expressions, o
 use Rattle.macro_flatten.specs.Makes.{is_own}
 use Rattle.stream_constructs.specs.Construct as construct
 use Rattle.stream_constructs.specs.Construct.{Operand, Fixed, Varying, operand_trees}
-use Rattle.function_bodies.specs.Bodies.{AreBodies, too_large_bodies, body_at}
+use Rattle.function_bodies.specs.Bodies.{AreBodies, too_large_bodies}
 use Rattle.function_bodies.specs.Calls.{IsFunction}
 use Rattle.function_bodies.proofs.SizeLemmas.{few_nodes, body_is_there, call_is_there}
 use Rattle.stream_shapes.specs.declared.construct.Shape.{Shape}

@@ -1,4 +1,4 @@
-use Rattle.std.proofs.Common.{◌≡◌, ap, ◌∙◌, rules}
+use Rattle.std.proofs.Common.{◌≡◌, ap, ◌∙◌}
 use Rattle.spec_meaning.specs.Shape.{operands}
 use Rattle.stream_constructs.specs.Construct.{operand_trees}
 use Rattle.lift_func.specs.Placed.{within}
