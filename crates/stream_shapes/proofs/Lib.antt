@@ -1,0 +1,6 @@
+pub mod OperandLemmas
+pub mod MakeLemmas
+pub mod DottedLemmas
+pub mod ScopeLemmas
+pub mod ShapeLemmas
+pub mod NodeLemmas
