@@ -1,0 +1,17 @@
+pub mod Asks
+pub mod Read
+pub mod Operands
+pub mod Fitting
+pub mod Rules
+pub mod Chains
+pub mod Expressions
+pub mod Words
+pub mod CallRules
+pub mod Functions
+pub mod Lifts
+pub mod Calls
+pub mod Scopes
+pub mod Whole
+pub mod Inside
+pub mod Beginnings
+pub mod Within

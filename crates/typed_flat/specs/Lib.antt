@@ -1,0 +1,4 @@
+pub mod Matches
+pub mod Laws
+pub mod Chains
+pub mod Inner

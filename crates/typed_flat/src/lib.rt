@@ -1,0 +1,4 @@
+// Constructs fit their parts where expressions are typed.
+#![tactic(auto)]
+
+pub mod laws;
