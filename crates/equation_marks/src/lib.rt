@@ -1,5 +1,4 @@
 // How many equations a specification makes, and where they pass the limits.
 #![tactic(auto)]
 
-pub mod count;
 mod own;
