@@ -1,5 +1,5 @@
 -- The marks of an expression are those of its parts, and those of its construct.
-use Rattle.std.proofs.Common.{◌≡◌, ℕ, suc, ◌+◌, Bool, true, false, cond, ◌&&◌, List, [], ◌∷◌, ◌++◌, map, length, drop, Option, Some, None, refl, sym, ap, subst, ◌∙◌, append_assoc, arith}
+use Rattle.std.proofs.Common.{◌≡◌, ℕ, ◌+◌, Bool, true, false, cond, ◌&&◌, List, [], ◌∷◌, ◌++◌, map, length, drop, Option, Some, None, refl, sym, ap, subst, ◌∙◌, append_assoc}
 use Rattle.std.specs.Prelude.{if◌then◌else◌, codes}
 use Rattle.std.specs.List.{filter, flat_map}
 use Rattle.std.specs.Option.{option_map, option_and_then}
@@ -15,7 +15,6 @@ use Rattle.lift_func.specs.declared.body.Unary.TheVariants as unary
 use Rattle.lift_func.specs.Tree.{Tree, One, Two}
 use Rattle.spec_parser.specs.Tree as tree
 use Rattle.spec_parser.specs.Tree.{Expr, Exprs, no_exprs, more_exprs, no_links, more_links, place_of}
-use Rattle.spec_parser.specs.Shape.{exprs_of}
 use Rattle.spec_parser.specs.declared.tree.Dotted.{Dotted}
 use Rattle.spec_parser.specs.declared.tree.Dotted.TheVariants as dotted
 use Rattle.name_check.specs.declared.declaration.Declaration.{Declaration}
@@ -36,9 +35,9 @@ use Rattle.spec_meaning.specs.Shape.{Shape, is_part, expressions, beside, with_p
 use Rattle.macro_flatten.specs.Makes.{is_own, is_choice, choice_operands}
 use Rattle.equation_marks.specs.Marks.{Mark, marks, each_marks, plain, joined, unless_literal, operands_marks, operation_marks, signal_marks, signal_count, lifting_count, varying_count, fixed_count, filter_marks, filter_marks_by, declared_marks, named_marks, dotted_marks, choice_marks, holds_aggregate}
 use Rattle.equation_marks.specs.Marks as spec
-use Rattle.equation_marks.specs.Own.{literal_count, operation_of_marks, own_marks, choice_own_marks, marks_of_shape}
-use Rattle.equation_marks.proofs.Parts.{fixed_are_literals, one_operand, two_operands, three_operands, joined_each, operands_each, expressions_again, front_each}
-use Rattle.equation_marks.proofs.ChainMarks.{operation_here, chain_by_last}
+use Rattle.equation_marks.specs.Own.{operation_of_marks, own_marks, choice_own_marks, marks_of_shape}
+use Rattle.equation_marks.proofs.Parts.{fixed_are_literals, one_operand, two_operands, three_operands, joined_each, operands_each}
+use Rattle.equation_marks.proofs.ChainMarks.{chain_by_last}
 
 operation_own : (p : Place) (es : List Expr) (update : Bool) → operation_marks p es update ≡ operation_of_marks p (varying_count es) (operands es) update
 operation_own p es update =
@@ -140,7 +139,7 @@ module _ (items : List tree.Item) (cs : List Call) (at : Around) (call : ℕ →
   lift_has p streams (more_exprs e (more_exprs f es)) =
       let rest = joined (spec.all_but_last (each_marks at call (more_exprs f es))) in
       let whole : flat_map (marks at call) (streams ++ e ∷ []) ++ rest ≡ flat_map (marks at call) streams ++ (marks at call e ++ rest) =
-          ap (λ ms. ms ++ rest) (sym (flat_map_more (marks at call) [] streams e)) ∙ append_assoc (flat_map (marks at call) streams) (marks at call e) rest in
+      ap (λ ms. ms ++ rest) (sym (flat_map_more (marks at call) [] streams e)) ∙ append_assoc (flat_map (marks at call) streams) (marks at call e) rest in
       subst (λ ms. Has p (ms ++ plain 1 p) (lift_shape items cs (streams ++ e ∷ []) (f ∷ expressions es))) whole (lift_has p (streams ++ e ∷ []) (more_exprs f es))
 
   declared_has : (p : Place) (d : Option Declaration) (es : Exprs) → Has p (declared_marks at call p d (expressions es) (each_marks at call es)) (declared_shape items cs d es)
@@ -186,8 +185,8 @@ module _ (items : List tree.Item) (cs : List Call) (at : Around) (call : ℕ →
       let left = left_of e (tree.Chain p l e) (all_but_last (more_links o f ls)) in
       let right = last_operand f ls in
       λ _.
-          chain_by_last at call p l e o f ls
-          ∙ signal_own (marks at call) cs p (spec_meaning.two_operands (Two (operation_of (last_operator o ls))) (operand_trees 0 (operands (left ∷ right ∷ [])))) (left ∷ right ∷ []) (unless_literal left (marks at call left) ++ unless_literal right (marks at call right)) (sym (two_operands (marks at call) left right))
+      chain_by_last at call p l e o f ls
+      ∙ signal_own (marks at call) cs p (spec_meaning.two_operands (Two (operation_of (last_operator o ls))) (operand_trees 0 (operands (left ∷ right ∷ [])))) (left ∷ right ∷ []) (unless_literal left (marks at call left) ++ unless_literal right (marks at call right)) (sym (two_operands (marks at call) left right))
   expr_has (tree.Compare p o a b) same other = signal_has p (spec_meaning.two_operands (Two (comparison_of o))) (a ∷ b ∷ []) _ (sym (two_operands (marks at call) a b))
   expr_has (tree.Negate p e) same other = signal_has p (spec_meaning.one_operand (One unary.Neg)) (e ∷ []) _ (sym (one_operand (marks at call) e))
   expr_has (tree.Not p e) same other = signal_has p (spec_meaning.one_operand (One unary.Not)) (e ∷ []) _ (sym (one_operand (marks at call) e))

@@ -5,3 +5,5 @@ pub mod Names
 pub mod ByShape
 pub mod CallMarks
 pub mod Refusing
+pub mod AgreeMarks
+pub mod MadeMarks

@@ -1,5 +1,5 @@
 -- The equations of a construct have its marks.
-use Rattle.std.proofs.Common.{◌≡◌, ℕ, zero, suc, ◌+◌, ◌*◌, Bool, true, false, List, [], ◌∷◌, ◌++◌, map, length, refl, sym, ap, ◌∙◌, arith, append_assoc}
+use Rattle.std.proofs.Common.{◌≡◌, ℕ, zero, suc, ◌+◌, ◌*◌, true, false, List, [], ◌∷◌, ◌++◌, map, length, refl, sym, ap, ◌∙◌, arith}
 use Rattle.std.proofs.lemmas.List.{map-append}
 use Rattle.tsl_value.specs.declared.place.Place.{Place}
 use Rattle.tsl_value.specs.declared.scalar.ValueType.{ValueType}
@@ -10,11 +10,11 @@ use Rattle.stream_constructs.specs.declared.construct.Update.{Update as UpdateOp
 use Rattle.stream_constructs.specs.declared.construct.Update.TheVariants as update
 use Rattle.stream_constructs.specs.Construct.{Construct, Operand, Fixed, Varying}
 use Rattle.stream_constructs.specs.Construct as construct
-use Rattle.stream_constructs.specs.Equations.{equation, strict_lift, held, held_each, lifting, lifted, literal_equations, operand_numbers, first_number, numbers, with_literals, update_op, own_equations, choice_equations, alias_equation}
+use Rattle.stream_constructs.specs.Equations.{equation, strict_lift, held_each, lifting, lifted, literal_equations, operand_numbers, first_number, numbers, with_literals, update_op, own_equations, choice_equations, alias_equation}
 use Rattle.stream_constructs.specs.Agree.{Fits, FitsChoice}
 use Rattle.stream_constructs.specs.Limits.{is_update}
 use Rattle.macro_flatten.specs.Makes.{with_itself}
-use Rattle.equation_marks.specs.Marks.{Mark, mark_of, plain, lifting_count, signal_count}
+use Rattle.equation_marks.specs.Marks.{mark_of, plain, lifting_count}
 use Rattle.equation_marks.specs.Own.{literal_count, operation_of_marks, own_marks, choice_own_marks}
 
 pub same_count : {m n : ℕ} (p : Place) → m ≡ n → plain m p ≡ plain n p
@@ -65,9 +65,9 @@ with_literals_marks p o of n os parts =
     let last = equation p o (operand_numbers (n + length lift) os (numbers (lifted n parts))) of ∷ [] in
     map-append mark_of (lift ++ literals) last
     ∙ ap (λ ms. ms ++ record { place = p; is_update = is_update o } ∷ [])
-      (map-append mark_of lift literals
-      ∙ (λ i. lifting_marks p n parts i ++ literals_marks p (first_number (lifted n parts)) os i)
-      ∙ sym (plain-add (lifting_count (length parts)) (literal_count os) p))
+    (map-append mark_of lift literals
+    ∙ (λ i. lifting_marks p n parts i ++ literals_marks p (first_number (lifted n parts)) os i)
+    ∙ sym (plain-add (lifting_count (length parts)) (literal_count os) p))
 
 update_is_update : (o : UpdateOp) → is_update (update_op o) ≡ true
 update_is_update update.SetAdd = refl

@@ -1,5 +1,5 @@
 -- Where equations pass the limits, more of them pass them too, and marks tell as much as equations.
-use Rattle.std.proofs.Common.{◌≡◌, ◌==◌, ℕ, suc, ◌+◌, Bool, true, false, ◌&&◌, List, [], ◌∷◌, ◌++◌, map, Option, Some, None, refl, sym, ap, ◌∙◌}
+use Rattle.std.proofs.Common.{◌≡◌, ◌==◌, ℕ, suc, ◌+◌, Bool, true, false, ◌&&◌, List, [], ◌∷◌, ◌++◌, map, Option, Some, refl, sym, ap, ◌∙◌}
 use Rattle.std.specs.Prelude.{if◌then◌else◌}
 use Rattle.flat_core.specs.declared.equation.Equation.{Equation}
 use Rattle.stream_constructs.specs.Limits.{is_update, one_if, refusal_from, refusal, IsRefusal}

@@ -1,3 +1,4 @@
 pub mod Marks
 pub mod Refused
 pub mod Own
+pub mod Counted

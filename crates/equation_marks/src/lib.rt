@@ -1,4 +1,5 @@
 // How many equations a specification makes, and where they pass the limits.
 #![tactic(auto)]
 
+pub mod count;
 mod own;
