@@ -7,3 +7,5 @@ pub mod CallMarks
 pub mod Refusing
 pub mod AgreeMarks
 pub mod MadeMarks
+pub mod Counts
+mod PartsLemmas

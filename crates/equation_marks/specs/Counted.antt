@@ -1,19 +1,13 @@
--- What counting answers: how many marks there are, up to more than any system has.
-use Rattle.std.specs.Prelude.{◌≡◌, ℕ, ◌+◌, min, List, length, map}
-use Rattle.spec_parser.specs.Shape.{item_of}
-use Rattle.name_check.specs.Scope.{top}
-use Rattle.expr_types.specs.Shown.{kinds_of}
-use Rattle.equation_marks.specs.declared.count.Counter.{Counter}
-use Rattle.equation_marks.specs.Marks.{Mark, macro_marks}
+-- Counts of marks, and what counting answers: none is counted beyond more than any system has.
+use Rattle.std.specs.Prelude.{ℕ, ◌+◌, min, Bool, true, false, List, length}
+use Rattle.spec_parser.specs.Tree.{Expr}
+use Rattle.equation_marks.specs.Marks.{Mark, lifting_count, signal_count, varying_count, fixed_count}
 
--- these behind so many, of which none is counted beyond 4,097
+-- these behind so many, up to 4,097
 abbrev pub counted : ℕ → List Mark → ℕ
 counted count ms = min (count + length ms) 4097
 
--- the names are those that the items declare
-abbrev pub HasNames : Counter → Type 0
-HasNames c = c.names.now ≡ top (map item_of c.items.now)
-
--- what a call of a macro makes besides its arguments, where calls nest no deeper than this
-abbrev pub calls_of : Counter → ℕ → ℕ → List Mark
-calls_of c deep = macro_marks (map item_of c.items.now) (kinds_of c.kinds.now) deep
+-- a choice, between sets or maps or not
+abbrev pub choice_count : Bool → List Expr → ℕ
+choice_count true es = lifting_count (varying_count es) + fixed_count es + 1
+choice_count false es = signal_count (varying_count es)

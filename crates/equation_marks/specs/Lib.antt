@@ -2,3 +2,6 @@ pub mod Marks
 pub mod Refused
 pub mod Own
 pub mod Counted
+pub mod Counters
+pub mod Calls
+pub mod CallsShown

@@ -6,7 +6,8 @@ ghost use Rattle.name_check.specs.Steps.{local_body};
 ghost use Rattle.expr_types.specs.Shown.{around_of};
 ghost use Rattle.spec_meaning.specs.Occurrence.{result_of};
 ghost use Rattle.equation_marks.specs.Marks.{marks, body_marks};
-ghost use Rattle.equation_marks.specs.Counted.{counted, calls_of, HasNames};
+ghost use Rattle.equation_marks.specs.Counted.{counted};
+ghost use Rattle.equation_marks.specs.Counters.{calls_of, HasNames};
 
 use expr_types::around::Around;
 use expr_types::kinds::KindTable;
@@ -14,9 +15,6 @@ use name_check::names::Names;
 use spec_parser::tree::{Definition, Expr, Item};
 use std::alloc::Global;
 use tsl_value::memory::NoMemory;
-
-/// More than any system has. Nothing is counted beyond.
-pub const ENOUGH: u32 = 4097;
 
 /// Counts the equations of expressions, where these names are declared at the top and are these.
 #[derive(Drop)]

@@ -1,5 +1,6 @@
 // How many equations a specification makes, and where they pass the limits.
 #![tactic(auto)]
 
+mod call;
 pub mod count;
 mod own;
