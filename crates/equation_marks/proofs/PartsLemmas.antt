@@ -85,7 +85,7 @@ module _ (at : Around) (call : ℕ → List Mark) where
   made_if true xs ys c d first second = first
   made_if false xs ys c d first second = second
 
-  parts_length : (ss os : List Expr) (own : ℕ) (callee : Option ℕ) → length (marks_of_parts at call (record { streams = ss; operands = os; own = own; callee = callee })) ≡ length (flat_map (marks at call) ss) + length (flat_map (marks at call) (filter is_part os)) + own + length (callee_marks call callee)
+  pub parts_length : (ss os : List Expr) (own : ℕ) (callee : Option ℕ) → length (marks_of_parts at call (record { streams = ss; operands = os; own = own; callee = callee })) ≡ length (flat_map (marks at call) ss) + length (flat_map (marks at call) (filter is_part os)) + own + length (callee_marks call callee)
   parts_length ss os own callee =
       let first = flat_map (marks at call) ss in
       let second = flat_map (marks at call) (filter is_part os) in

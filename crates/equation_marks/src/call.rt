@@ -12,6 +12,7 @@ use name_check::scope::Scope;
 use spec_parser::tree::{Expr, Node};
 
 /// What a call is made of.
+#[derive(Drop)]
 pub(crate) struct Parts<'a> {
     /// The arguments that are made.
     pub streams: &'a [Expr],

@@ -1,11 +1,11 @@
 // How many equations constructs make besides those of their parts.
 
-ghost use Rattle.std.specs.Prelude.{◌≡◌, ◌+◌, ◌≤◌, min, [], ◌∷◌};
+ghost use Rattle.std.specs.Prelude.{◌≡◌, ◌+◌, ◌≤◌, suc, min, [], ◌∷◌};
 ghost use Rattle.spec_meaning.specs.Shape.{is_part};
 ghost use Rattle.equation_marks.specs.Marks.{lifting_count, signal_count, varying_count, fixed_count};
-ghost use Rattle.equation_marks.specs.Counted.{choice_count};
+ghost use Rattle.equation_marks.specs.Counted.{choice_count, dotted_count};
 
-use spec_parser::tree::{Expr, Node};
+use spec_parser::tree::{Dotted, Expr, Node};
 
 /// More than any system has. Nothing is counted beyond.
 pub const ENOUGH: u32 = 4097;
@@ -111,6 +111,13 @@ fn varying_two(left: &Expr, right: &Expr) -> usize
     varying_one(left) + varying_one(right)
 }
 
+/// A signal lift of a stream and an operand.
+pub(crate) fn signal_behind(operand: &Expr) -> u32
+    ensures { result ≡ min (signal_count (suc (varying_count (operand.now ∷ [])))) ENOUGH }
+{
+    signal(varying_one(operand) + 1)
+}
+
 /// A signal lift of two operands.
 pub(crate) fn signal_of_two(left: &Expr, right: &Expr) -> u32
     ensures { result ≡ min (signal_count (varying_count (left.now ∷ right.now ∷ []))) ENOUGH }
@@ -136,5 +143,19 @@ pub(crate) fn choice(aggregate: bool, condition: &Expr, yes: &Expr, no: &Expr) -
         operation(varying, 3 - varying)
     } else {
         signal(varying)
+    }
+}
+
+/// A function with a dot, besides its operands.
+pub(crate) fn dotted_over(function: Dotted, operands: &[Expr]) -> u32
+    ensures { result ≡ min (dotted_count function operands.now) ENOUGH }
+{
+    match function {
+        Dotted::SetAdd | Dotted::SetRemove | Dotted::MapAdd | Dotted::MapRemove => {
+            operation_over(operands)
+        }
+        Dotted::SetContains | Dotted::SetSize => signal_over(operands),
+        Dotted::MapContains | Dotted::MapGet | Dotted::MapSize => signal_over(operands),
+        Dotted::StringConcat | Dotted::StringSize => signal_over(operands),
     }
 }
