@@ -33,17 +33,20 @@ use tsl_value::memory::NoMemory;
 use tsl_value::scalar::ValueType;
 use type_rules::rule::ExprType;
 
-/// Counts the equations of expressions, where these names are declared at the top and are these.
+/// Counts the equations that the expressions of a specification make. Nothing is counted beyond `ENOUGH`.
 #[derive(Drop)]
 pub struct Counter<'a> {
     pub alloc: Global,
     pub items: &'a [Item],
+    /// The names that the items declare.
     pub names: &'a Names,
+    /// What the declared names are.
     pub kinds: &'a KindTable,
 }
 
 impl Counter<'_> {
-    /// An expression behind so many equations, where calls of macros nest no deeper than this.
+    /// How many equations there are with those of an expression, behind so many others. Calls of macros nest no deeper than is
+    /// said.
     #[cycle(counting)]
     pub fn expression(
         &self,
@@ -72,18 +75,13 @@ impl Counter<'_> {
                 let count = self.operand(at, deep, right, count)?;
                 Ok(more(count, signal_of_two(left, right)))
             }
-            Node::Negate(operand) => {
+            Node::Negate(operand) | Node::Not(operand) => {
                 let count = self.operand(at, deep, operand, count)?;
                 Ok(more(count, signal_of_one(operand)))
             }
-            Node::Not(operand) => {
-                let count = self.operand(at, deep, operand, count)?;
-                Ok(more(count, signal_of_one(operand)))
+            Node::Number(_) | Node::Negative(_) | Node::Text(_) | Node::Boolean(_) => {
+                Ok(more(count, 2))
             }
-            Node::Number(_) => Ok(more(count, 2)),
-            Node::Negative(_) => Ok(more(count, 2)),
-            Node::Text(_) => Ok(more(count, 2)),
-            Node::Boolean(_) => Ok(more(count, 2)),
             Node::Unit => Ok(more(count, 1)),
             Node::Name(name) => {
                 if is_unit(name.as_str()) {
@@ -97,10 +95,8 @@ impl Counter<'_> {
                 let count = self.operands(at, deep, arguments, count)?;
                 Ok(more(count, dotted_over(*function, arguments)))
             }
-            Node::Nil(_) => Ok(more(count, 1)),
+            Node::Nil(_) | Node::EmptySet(_) | Node::EmptyMap(_, _) => Ok(more(count, 1)),
             Node::None(_) => Ok(count),
-            Node::EmptySet(_) => Ok(more(count, 1)),
-            Node::EmptyMap(_, _) => Ok(more(count, 1)),
         }
     }
 
@@ -235,7 +231,7 @@ impl Counter<'_> {
         }
     }
 
-    /// What a call of a macro makes besides its arguments.
+    /// With those that a call of the macro of this number makes besides its arguments.
     #[cycle(counting)]
     pub fn called(&self, deep: u32, number: usize, count: u32) -> Result<u32, NoMemory>
         requires { HasNames self.now }
@@ -300,7 +296,7 @@ impl Counter<'_> {
         Ok(count.min(ENOUGH))
     }
 
-    /// A definition of a block.
+    /// With those of a definition of a block.
     pub fn definition(
         &self,
         at: &Around<'_>,
@@ -314,7 +310,7 @@ impl Counter<'_> {
         self.body(at, deep, result_of(&definition.parts().body), count)
     }
 
-    /// A body. One that is only a name makes the merge of its stream with itself.
+    /// With those of a body. One that is only a name makes the merge of its stream with itself.
     #[cycle(counting)]
     pub fn body(
         &self,

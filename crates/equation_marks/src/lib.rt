@@ -5,3 +5,5 @@ mod body;
 mod call;
 pub mod count;
 mod own;
+#[cfg(test)]
+mod tests;
