@@ -1,2 +1,7 @@
 pub mod Marks
 pub mod Refused
+pub mod Own
+pub mod Counted
+pub mod Counters
+pub mod Calls
+pub mod CallsShown

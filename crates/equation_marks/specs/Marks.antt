@@ -27,7 +27,6 @@ use Rattle.spec_meaning.specs.Shape.{is_part, expressions, plain_name, is_delay,
 use Rattle.macro_flatten.specs.Makes.{is_name}
 use Rattle.checked_spec.specs.Laws.{in_macro}
 
-
 pub record Mark : Type 0 where
   pub place : Place
   pub is_update : Bool

@@ -1,0 +1,240 @@
+-- The marks of an expression are those of its parts, and those of its construct.
+use Rattle.std.proofs.Common.{◌≡◌, ℕ, ◌+◌, Bool, true, false, cond, ◌&&◌, List, [], ◌∷◌, ◌++◌, map, length, drop, Option, Some, None, refl, sym, ap, subst, ◌∙◌, append_assoc}
+use Rattle.std.specs.Prelude.{if◌then◌else◌, codes}
+use Rattle.std.specs.List.{filter, flat_map}
+use Rattle.std.specs.Option.{option_map, option_and_then}
+use Rattle.std.specs.Str.{bytes_eq}
+use Rattle.std.proofs.lemmas.Bool.{false≢true, true≢false}
+use Rattle.std.proofs.lemmas.List.{length-map, append-nil, flat_map_more}
+use Rattle.std.proofs.lemmas.List.Folds.{flat_map-map}
+use Rattle.std.proofs.lemmas.Option.{same_Some}
+use Rattle.tsl_value.specs.declared.place.Place.{Place}
+use Rattle.tsl_value.specs.declared.scalar.Scalar.{Scalar}
+use Rattle.tsl_value.specs.declared.scalar.Scalar.TheVariants as scalar
+use Rattle.lift_func.specs.declared.body.Unary.TheVariants as unary
+use Rattle.lift_func.specs.Tree.{Tree, One, Two}
+use Rattle.spec_parser.specs.Tree as tree
+use Rattle.spec_parser.specs.Tree.{Expr, Exprs, no_exprs, more_exprs, no_links, more_links, place_of}
+use Rattle.spec_parser.specs.declared.tree.Dotted.{Dotted}
+use Rattle.spec_parser.specs.declared.tree.Dotted.TheVariants as dotted
+use Rattle.name_check.specs.declared.declaration.Declaration.{Declaration}
+use Rattle.name_check.specs.declared.declaration.Declaration.TheVariants as declaration
+use Rattle.name_check.specs.Builtin.{is_unit, is_lift}
+use Rattle.name_check.specs.Scope.{meaning, Agree}
+use Rattle.expr_types.specs.Around.{Around}
+use Rattle.expr_types.specs.Judge.{type_of}
+use Rattle.stream_constructs.specs.declared.construct.Update.{Update as UpdateOp}
+use Rattle.stream_constructs.specs.declared.construct.Update.TheVariants as update
+use Rattle.stream_constructs.specs.Construct.{Construct, operand_trees}
+use Rattle.stream_constructs.specs.Construct as construct
+use Rattle.stream_constructs.specs.Equations.{choice}
+use Rattle.spec_meaning.specs.Occurrence.{Call, Occurrence, scope_at, stands_for, called}
+use Rattle.spec_meaning.specs.Function.{literal, dotted_tree, function_at, function_body, operation_of, comparison_of}
+use Rattle.spec_meaning.specs.Shape as spec_meaning
+use Rattle.spec_meaning.specs.Shape.{Shape, is_part, expressions, beside, with_parts, signal_of, update_of, operands, left_of, all_but_last, last_operator, last_operand, dotted_shape, plain_name, plain_names, is_delay, is_const, is_filter, const_shape, filtered_by, filter_shape, same_as, name_shape, declared_shape, lift_by, function_named, lift_shape, call_shape, literal_shape, empty_shape, expr_shape, shape}
+use Rattle.macro_flatten.specs.Makes.{is_own, is_choice, choice_operands}
+use Rattle.equation_marks.specs.Marks.{Mark, marks, each_marks, plain, joined, unless_literal, operands_marks, operation_marks, signal_marks, signal_count, lifting_count, varying_count, fixed_count, filter_marks, filter_marks_by, declared_marks, named_marks, dotted_marks, choice_marks, holds_aggregate}
+use Rattle.equation_marks.specs.Marks as spec
+use Rattle.equation_marks.specs.Own.{operation_of_marks, own_marks, choice_own_marks, marks_of_shape}
+use Rattle.equation_marks.proofs.Parts.{fixed_are_literals, one_operand, two_operands, three_operands, joined_each, operands_each}
+use Rattle.equation_marks.proofs.ChainMarks.{chain_by_last}
+
+operation_own : (p : Place) (es : List Expr) (update : Bool) → operation_marks p es update ≡ operation_of_marks p (varying_count es) (operands es) update
+operation_own p es update =
+    ap (λ k. plain (lifting_count (varying_count es) + k) p ++ record { place = p; is_update = update } ∷ []) (sym (fixed_are_literals es))
+
+-- ---- whatever marks parts have
+module _ (of : Expr → List Mark) (cs : List Call) where
+  parts_marks : (es : List Expr) → flat_map (λ o. of o.expr) (map (beside cs) es) ≡ flat_map of es
+  parts_marks es = flat_map-map (λ o. of o.expr) (beside cs) es
+
+  -- these marks are those of the parts, and behind them those of the construct
+  abbrev AreOf : Place → Construct → List Expr → List Mark → Type 0
+  AreOf p c es ms = ms ≡ flat_map (λ o. of o.expr) (map (beside cs) es) ++ own_marks p c (length (map (beside cs) es))
+
+  -- the construct's own are told by the number of its parts
+  with_count : (count : ℕ → List Mark) (es : List Expr) (before own : List Mark) → before ≡ flat_map of es → own ≡ count (length es) → before ++ own ≡ flat_map (λ o. of o.expr) (map (beside cs) es) ++ count (length (map (beside cs) es))
+  with_count count es before own first second =
+      (λ i. first i ++ second i)
+      ∙ (λ i. sym (parts_marks es) i ++ count (sym (length-map es (beside cs)) i))
+
+  with_own : (p : Place) (c : Construct) (es : List Expr) (before own : List Mark) → before ≡ flat_map of es → own ≡ own_marks p c (length es) → AreOf p c es (before ++ own)
+  with_own p c es before own first second = with_count (own_marks p c) es before own first second
+
+  signal_own : (p : Place) (f : Tree) (es : List Expr) (before : List Mark) → before ≡ flat_map of (filter is_part es) → AreOf p (construct.Signal f) (filter is_part es) (before ++ signal_marks p es)
+  signal_own p f es before first = with_own p (construct.Signal f) (filter is_part es) before (signal_marks p es) first refl
+
+  update_own : (p : Place) (o : UpdateOp) (es : List Expr) (before : List Mark) → before ≡ flat_map of (filter is_part es) → AreOf p (construct.Update o (operands es)) (filter is_part es) (before ++ operation_marks p es true)
+  update_own p o es before first =
+      with_own p (construct.Update o (operands es)) (filter is_part es) before (operation_marks p es true) first (operation_own p es true)
+
+  choice_own : (p : Place) (es : List Expr) (before : List Mark) → before ≡ flat_map of (filter is_part es) → before ++ operation_marks p es false ≡ flat_map (λ o. of o.expr) (map (beside cs) (filter is_part es)) ++ choice_own_marks p (length (map (beside cs) (filter is_part es))) (operands es)
+  choice_own p es before first =
+      with_count (λ k. choice_own_marks p k (operands es)) (filter is_part es) before (operation_marks p es false) first (operation_own p es false)
+
+-- ---- names of constructs whose parts are all streams
+abbrev IsOnePlain : Option Construct → Type 0
+IsOnePlain None = Unit {0}
+IsOnePlain (Some c) = (p : Place) (k : ℕ) → own_marks p c k ≡ plain 1 p
+
+found_plain : (n : List ℕ) → IsOnePlain (plain_name n)
+unfolding plain_name
+found_plain n =
+    let one : (p : Place) (k : ℕ) → plain 1 p ≡ plain 1 p = λ p k. refl in
+    either (bytes_eq n (codes "time")) (codes "time", construct.Time) _ one
+    (either (bytes_eq n (codes "last")) (codes "last", construct.Last) _ one
+    (either (bytes_eq n (codes "merge")) (codes "merge", construct.Merge) _ one
+    (either (bytes_eq n (codes "default")) (codes "default", construct.Merge) None one tt)))
+  where
+    either : (b : Bool) (c : List ℕ × Construct) (rest : Option (List ℕ × Construct)) → ((p : Place) (k : ℕ) → own_marks p c.1 k ≡ plain 1 p) → IsOnePlain (option_map (λ c. c.1) rest) → IsOnePlain (option_map (λ c. c.1) (cond b (Some c) rest))
+    either true c rest here more = here
+    either false c rest here more = more
+
+module _ (items : List tree.Item) (cs : List Call) (at : Around) (call : ℕ → List Mark) where
+  abbrev Has : Place → List Mark → Option Shape → Type 0
+  Has p ms None = Unit {0}
+  Has p ms (Some s) = is_own s.construct ≡ true → ms ≡ flat_map (λ o. marks at call o.expr) s.parts ++ own_marks p s.construct (length s.parts)
+
+  same_has : (p : Place) (ms : List Mark) (o : Option Occurrence) → Has p ms (same_as o)
+  same_has p ms None = tt
+  same_has p ms (Some a) = λ h. absurd (false≢true h)
+
+  name_has : (p : Place) (ms : List Mark) (d : Option Declaration) → Has p ms (name_shape items cs d)
+  name_has p ms (Some (declaration.Input i)) = λ h. absurd (false≢true h)
+  name_has p ms (Some d) = same_has p ms (stands_for items cs d)
+  name_has p ms None = tt
+
+  if_has : (p : Place) (b : Bool) (ms ns : List Mark) (x y : Option Shape) → Has p ms x → Has p ns y → Has p (if b then ms else ns) (if b then x else y)
+  if_has p true ms ns x y first second = first
+  if_has p false ms ns x y first second = second
+
+  const_has : (p : Place) (es : Exprs) → Has p (joined (drop 1 (each_marks at call es)) ++ plain 1 p) (const_shape cs (expressions es))
+  const_has p no_exprs = tt
+  const_has p (more_exprs v no_exprs) = tt
+  const_has p (more_exprs v (more_exprs e no_exprs)) = by (literal v)
+    where
+      by : (s : Option Scalar) → Has p (joined (marks at call e ∷ []) ++ plain 1 p) (option_and_then (λ s. with_parts cs (construct.Const s) (e ∷ [])) s)
+      by None = tt
+      by (Some s) = λ _. with_own (marks at call) cs p (construct.Const s) (e ∷ []) (joined (marks at call e ∷ [])) (plain 1 p) refl refl
+  const_has p (more_exprs v (more_exprs e (more_exprs f es))) = tt
+
+  filter_has : (p : Place) (es : Exprs) → Has p (filter_marks p (expressions es) (each_marks at call es)) (filter_shape cs (expressions es))
+  filter_has p no_exprs = tt
+  filter_has p (more_exprs e no_exprs) = tt
+  filter_has p (more_exprs e (more_exprs c no_exprs)) = by (literal c)
+    where
+      by : (s : Option Scalar) → Has p (filter_marks_by p s (marks at call e ∷ marks at call c ∷ [])) (filtered_by cs e c s)
+      by (Some (scalar.Bool b)) = λ _. with_own (marks at call) cs p (construct.FilterBy b) (e ∷ []) (marks at call e) (plain 2 p) (sym (append-nil (marks at call e))) refl
+      by s = λ _. with_own (marks at call) cs p construct.Filter (e ∷ c ∷ []) (joined (marks at call e ∷ marks at call c ∷ [])) (plain 3 p) refl refl
+  filter_has p (more_exprs e (more_exprs c (more_exprs f es))) = tt
+
+  by_has : (p : Place) (streams : List Expr) (f : Expr) (d : Option Declaration) → Has p (flat_map (marks at call) streams ++ [] ++ plain 1 p) (lift_by items cs streams f d)
+  by_has p streams f (Some (declaration.Function i)) =
+      λ _. with_own (marks at call) cs p (construct.Lift (function_body items i)) streams (flat_map (marks at call) streams ++ []) (plain 1 p) (append-nil (flat_map (marks at call) streams)) refl
+  by_has p streams f d = tt
+
+  lift_has : (p : Place) (streams : List Expr) (es : Exprs) → Has p (flat_map (marks at call) streams ++ joined (spec.all_but_last (each_marks at call es)) ++ plain 1 p) (lift_shape items cs streams (expressions es))
+  lift_has p streams no_exprs = tt
+  lift_has p streams (more_exprs f no_exprs) = by_has p streams f (function_named items (scope_at items cs) f)
+  lift_has p streams (more_exprs e (more_exprs f es)) =
+      let rest = joined (spec.all_but_last (each_marks at call (more_exprs f es))) in
+      let whole : flat_map (marks at call) (streams ++ e ∷ []) ++ rest ≡ flat_map (marks at call) streams ++ (marks at call e ++ rest) =
+      ap (λ ms. ms ++ rest) (sym (flat_map_more (marks at call) [] streams e)) ∙ append_assoc (flat_map (marks at call) streams) (marks at call e) rest in
+      subst (λ ms. Has p (ms ++ plain 1 p) (lift_shape items cs (streams ++ e ∷ []) (f ∷ expressions es))) whole (lift_has p (streams ++ e ∷ []) (more_exprs f es))
+
+  declared_has : (p : Place) (d : Option Declaration) (es : Exprs) → Has p (declared_marks at call p d (expressions es) (each_marks at call es)) (declared_shape items cs d es)
+  declared_has p (Some (declaration.Macro i)) es = same_has p _ (called items cs i es)
+  declared_has p (Some (declaration.Function i)) es =
+      λ _. signal_own (marks at call) cs p (function_at items i (operand_trees 0 (operands (expressions es)))) (expressions es) (operands_marks (expressions es) (each_marks at call es)) (operands_each at call es)
+  declared_has p d es = tt
+
+  dotted_has : (p : Place) (d : Dotted) (es : Exprs) → Has p (dotted_marks at call p d (expressions es) (each_marks at call es)) (dotted_shape cs d (expressions es))
+  dotted_has p dotted.SetAdd es = λ _. update_own (marks at call) cs p update.SetAdd (expressions es) _ (operands_each at call es)
+  dotted_has p dotted.SetRemove es = λ _. update_own (marks at call) cs p update.SetRemove (expressions es) _ (operands_each at call es)
+  dotted_has p dotted.MapAdd es = λ _. update_own (marks at call) cs p update.MapAdd (expressions es) _ (operands_each at call es)
+  dotted_has p dotted.MapRemove es = λ _. update_own (marks at call) cs p update.MapRemove (expressions es) _ (operands_each at call es)
+  dotted_has p d es =
+      λ _. signal_own (marks at call) cs p (dotted_tree d (operand_trees 0 (operands (expressions es)))) (expressions es) (operands_marks (expressions es) (each_marks at call es)) (operands_each at call es)
+
+  call_has : (p : Place) (n : List ℕ) (es : Exprs) (o : Option Construct) → Agree at.scope (scope_at items cs) → IsOnePlain o → Has p (named_marks at call p n (expressions es) (each_marks at call es) o) (call_shape items cs n es o)
+  call_has p n es (Some c) same one =
+      λ _. with_own (marks at call) cs p c (expressions es) (joined (each_marks at call es)) (plain 1 p) (joined_each at call es) (sym (one p (length (expressions es))))
+  call_has p n es None same one =
+      if_has p (is_delay n) _ _ _ _ (λ _. with_own (marks at call) cs p construct.Delay (expressions es) (joined (each_marks at call es)) (plain 1 p) (joined_each at call es) refl)
+      (if_has p (is_const n) _ _ _ _ (const_has p es)
+      (if_has p (is_filter n) _ _ _ _ (filter_has p es)
+      (if_has p (is_lift n) _ _ _ _ (lift_has p [] es)
+      (subst (λ d. Has p (declared_marks at call p (meaning at.scope n) (expressions es) (each_marks at call es)) (declared_shape items cs d es)) (same.at n) (declared_has p (meaning at.scope n) es)))))
+
+  option_has : {A : Type 0} (p : Place) (ms : List Mark) (f : A → Option Shape) → ((a : A) → Has p ms (f a)) → (o : Option A) → Has p ms (option_and_then f o)
+  option_has p ms f each None = tt
+  option_has p ms f each (Some a) = each a
+
+  -- a construct without parts
+  leaf : (p : Place) (c : Construct) (ms : List Mark) → ms ≡ own_marks p c 0 → Has p ms (with_parts cs c [])
+  leaf p c ms h = λ _. h
+
+  signal_has : (p : Place) (body : List Tree → Tree) (es : List Expr) (before : List Mark) → before ≡ flat_map (marks at call) (filter is_part es) → Has p (before ++ signal_marks p es) (signal_of cs body es)
+  signal_has p body es before first = λ _. signal_own (marks at call) cs p (body (operand_trees 0 (operands es))) es before first
+
+  -- ---- expressions but for a choice
+  expr_has : (e : Expr) → Agree at.scope (scope_at items cs) → is_choice e ≡ false → Has (place_of e) (marks at call e) (expr_shape items cs e)
+  expr_has (tree.If p c a b) same other = absurd (true≢false other)
+  expr_has (tree.Chain p l e no_links) same other = same_has p (marks at call e) (Some (beside cs e))
+  expr_has (tree.Chain p l e (more_links o f ls)) same other =
+      let left = left_of e (tree.Chain p l e) (all_but_last (more_links o f ls)) in
+      let right = last_operand f ls in
+      λ _.
+      chain_by_last at call p l e o f ls
+      ∙ signal_own (marks at call) cs p (spec_meaning.two_operands (Two (operation_of (last_operator o ls))) (operand_trees 0 (operands (left ∷ right ∷ [])))) (left ∷ right ∷ []) (unless_literal left (marks at call left) ++ unless_literal right (marks at call right)) (sym (two_operands (marks at call) left right))
+  expr_has (tree.Compare p o a b) same other = signal_has p (spec_meaning.two_operands (Two (comparison_of o))) (a ∷ b ∷ []) _ (sym (two_operands (marks at call) a b))
+  expr_has (tree.Negate p e) same other = signal_has p (spec_meaning.one_operand (One unary.Neg)) (e ∷ []) _ (sym (one_operand (marks at call) e))
+  expr_has (tree.Not p e) same other = signal_has p (spec_meaning.one_operand (One unary.Not)) (e ∷ []) _ (sym (one_operand (marks at call) e))
+  expr_has (tree.Number p n) same other = λ _. refl
+  expr_has (tree.Negative p n) same other = λ _. refl
+  expr_has (tree.Text p t) same other = λ _. refl
+  expr_has (tree.Boolean p b) same other = λ _. refl
+  expr_has (tree.Unit p) same other = λ _. refl
+  expr_has (tree.Name p n) same other = if_has p (is_unit n) (plain 1 p) [] _ _ (λ _. refl) (name_has p [] (meaning (scope_at items cs) n))
+  expr_has (tree.Call p n es) same other = call_has p n es (plain_name n) same (found_plain n)
+  expr_has (tree.CallDotted p d es) same other = dotted_has p d es
+  expr_has (tree.Nil p y) same other = λ _. refl
+  expr_has (tree.None p y) same other = tt
+  expr_has (tree.EmptySet p k) same other = option_has p (plain 1 p) (λ t. with_parts cs (construct.Empty t) []) (λ t _. refl) _
+  expr_has (tree.EmptyMap p k v) same other = option_has p (plain 1 p) (λ t. with_parts cs (construct.Empty t) []) (λ t _. refl) _
+
+  -- ---- a choice
+  abbrev choice_parts : Expr → Expr → Expr → List Mark
+  choice_parts c a b = unless_literal c (marks at call c) ++ unless_literal a (marks at call a) ++ unless_literal b (marks at call b)
+
+  if_marked : (p : Place) (c a b : Expr) (f : Tree) → marks at call (tree.If p c a b) ≡ flat_map (λ o. marks at call o.expr) (map (beside cs) (filter is_part (c ∷ a ∷ b ∷ []))) ++ marks_of_shape at (tree.If p c a b) (record { construct = construct.Signal f; parts = map (beside cs) (filter is_part (c ∷ a ∷ b ∷ [])) })
+  if_marked p c a b f = by (holds_aggregate (type_of at (tree.If p c a b)))
+    where
+      by : (h : Bool) → choice_parts c a b ++ choice_marks at call p h (c ∷ a ∷ b ∷ []) ≡ flat_map (λ o. marks at call o.expr) (map (beside cs) (filter is_part (c ∷ a ∷ b ∷ []))) ++ (if h then choice_own_marks p (length (map (beside cs) (filter is_part (c ∷ a ∷ b ∷ [])))) (operands (c ∷ a ∷ b ∷ [])) else own_marks p (construct.Signal f) (length (map (beside cs) (filter is_part (c ∷ a ∷ b ∷ [])))))
+      by true = choice_own (marks at call) cs p (c ∷ a ∷ b ∷ []) (choice_parts c a b) (sym (three_operands (marks at call) c a b))
+      by false = signal_own (marks at call) cs p f (c ∷ a ∷ b ∷ []) (choice_parts c a b) (sym (three_operands (marks at call) c a b))
+
+  -- ---- all expressions
+  no_choice : (e : Expr) (sh : Shape) → Agree at.scope (scope_at items cs) → is_choice e ≡ false → expr_shape items cs e ≡ Some sh → is_own sh.construct ≡ true → marks at call e ≡ flat_map (λ o. marks at call o.expr) sh.parts ++ marks_of_shape at e sh
+  no_choice e sh same other is own =
+      let P : Option Shape → Type 0 = Has (place_of e) (marks at call e) in
+      subst P is (expr_has e same other) own
+      ∙ (λ i. flat_map (λ o. marks at call o.expr) sh.parts ++ (if sym other i && holds_aggregate (type_of at e) then choice_own_marks (place_of e) (length sh.parts) (choice_operands e) else own_marks (place_of e) sh.construct (length sh.parts)))
+
+  -- Its marks are those of its parts, and behind them those of its construct.
+  pub marks_by_shape : (e : Expr) (sh : Shape) → Agree at.scope (scope_at items cs) → shape items (record { calls = cs; expr = e }) ≡ Some sh → is_own sh.construct ≡ true → marks at call e ≡ flat_map (λ o. marks at call o.expr) sh.parts ++ marks_of_shape at e sh
+  marks_by_shape (tree.If p c a b) sh same is own =
+      let P : Shape → Type 0 = λ s. marks at call (tree.If p c a b) ≡ flat_map (λ o. marks at call o.expr) s.parts ++ marks_of_shape at (tree.If p c a b) s in
+      subst P (same_Some _ sh is) (if_marked p c a b (choice (operand_trees 0 (operands (c ∷ a ∷ b ∷ [])))))
+  marks_by_shape e sh same is own = no_choice e sh same refl is own
+
+  -- the construct itself, and a choice between sets or maps
+  pub marks_of_own : (e : Expr) (sh : Shape) → Agree at.scope (scope_at items cs) → shape items (record { calls = cs; expr = e }) ≡ Some sh → is_own sh.construct ≡ true → (is_choice e && holds_aggregate (type_of at e)) ≡ false → marks at call e ≡ flat_map (λ o. marks at call o.expr) sh.parts ++ own_marks (place_of e) sh.construct (length sh.parts)
+  marks_of_own e sh same is own other =
+      marks_by_shape e sh same is own
+      ∙ (λ i. flat_map (λ o. marks at call o.expr) sh.parts ++ (if other i then choice_own_marks (place_of e) (length sh.parts) (choice_operands e) else own_marks (place_of e) sh.construct (length sh.parts)))
+
+  pub marks_of_choice : (e : Expr) (sh : Shape) → Agree at.scope (scope_at items cs) → shape items (record { calls = cs; expr = e }) ≡ Some sh → is_own sh.construct ≡ true → (is_choice e && holds_aggregate (type_of at e)) ≡ true → marks at call e ≡ flat_map (λ o. marks at call o.expr) sh.parts ++ choice_own_marks (place_of e) (length sh.parts) (choice_operands e)
+  marks_of_choice e sh same is own chosen =
+      marks_by_shape e sh same is own
+      ∙ (λ i. flat_map (λ o. marks at call o.expr) sh.parts ++ (if chosen i then choice_own_marks (place_of e) (length sh.parts) (choice_operands e) else own_marks (place_of e) sh.construct (length sh.parts)))

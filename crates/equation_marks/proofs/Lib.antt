@@ -1,0 +1,14 @@
+pub mod OwnMarks
+pub mod Parts
+pub mod ChainMarks
+pub mod Names
+pub mod ByShape
+pub mod CallMarks
+pub mod Refusing
+pub mod AgreeMarks
+pub mod MadeMarks
+pub mod Counts
+mod PartsLemmas
+mod Weights
+mod CountLemmas
+mod InsideLemmas
