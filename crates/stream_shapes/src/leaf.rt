@@ -1,6 +1,6 @@
 // Expressions whose parts are all streams, and those without parts.
 
-ghost use Rattle.std.specs.Prelude.{◌≡◌, [], IfOk};
+ghost use Rattle.std.specs.Prelude.{[], IfOk};
 ghost use Rattle.spec_meaning.specs.Function.{literal};
 ghost use Rattle.spec_meaning.specs.Shape.{literal_shape, empty_shape};
 ghost use Rattle.spec_parser.specs.Shape.{expr_of};

@@ -1,6 +1,6 @@
 // Operations on current values, and updates.
 
-ghost use Rattle.std.specs.Prelude.{◌≡◌, List, [], ◌∷◌, map, filter, IfOk};
+ghost use Rattle.std.specs.Prelude.{◌≡◌, [], ◌∷◌, filter, IfOk};
 ghost use Rattle.lift_func.specs.Tree.{One, Two};
 ghost use Rattle.spec_meaning.specs.Function.{comparison_of};
 ghost use Rattle.spec_meaning.specs.Shape.{is_part, operands, one_operand, two_operands};
