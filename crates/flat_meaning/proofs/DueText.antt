@@ -94,14 +94,14 @@ module _ (items : List tree.Item) (s : System) (lines : List Line) (bound : ℕ)
         ]
       ]
 
-  in_instants : (n t : ℕ) → Contains (instants s lines z n) t → (t < n) × (is_instant s lines z t ≡ true)
+  pub in_instants : (n t : ℕ) → Contains (instants s lines z n) t → (t < n) × (is_instant s lines z t ≡ true)
   in_instants zero t (k, lt, is) = absurd (omega arith)
   in_instants (suc n) t c = elim (Contains-append_cases (instants s lines z n) (if is_instant s lines z n then n ∷ [] else []) t c) [
     | inl before ↦ let found = in_instants n t before in let lt = found.0 in (omega arith, found.1)
     | inr last ↦ let found = at_end n t (is_instant s lines z n) last in let same = found.0 in (omega arith, subst (λ u. is_instant s lines z u ≡ true) same found.1)
   ]
 
-  instants_have : (n t : ℕ) → t < n → is_instant s lines z t ≡ true → Contains (instants s lines z n) t
+  pub instants_have : (n t : ℕ) → t < n → is_instant s lines z t ≡ true → Contains (instants s lines z n) t
   instants_have zero t lt h = absurd (omega arith)
   instants_have (suc n) t lt h = elim (cases_lt t n) [
     | inl before ↦ Contains-append_left (instants s lines z n) (if is_instant s lines z n then n ∷ [] else []) t (instants_have n t before h)
@@ -116,7 +116,7 @@ module _ (items : List tree.Item) (s : System) (lines : List Line) (bound : ℕ)
   rising_instants zero = tt
   rising_instants (suc n) = rising_end 0 n (instants s lines z n) (is_instant s lines z n) (rising_instants n) (λ t c. (in_instants n t c).0) (omega arith)
 
-  are_instants : AreInstants items lines bound (instants s lines z bound)
+  pub are_instants : AreInstants items lines bound (instants s lines z bound)
   are_instants = record {
     rising = increasing 0 (instants s lines z bound) (rising_instants bound);
     each = λ t. (
@@ -134,7 +134,7 @@ module _ (items : List tree.Item) (s : System) (lines : List Line) (bound : ℕ)
       let root = (means_same.roots t at.0.place kind.0 lt).0 (record { number = found.0; of = at.0; running = found.1; is = at.1; place_is = refl; root = kind.1 }) in
       record { at = root.at; kind = kind.0; root = root.root }
 
-  to_faulty : (t : ℕ) → t < bound → IsFaulty items lines t → is_faulty s (inputs_of lines) z t ≡ true
+  pub to_faulty : (t : ℕ) → t < bound → IsFaulty items lines t → is_faulty s (inputs_of lines) z t ≡ true
   to_faulty t lt f =
       let root = (means_same.roots t (place_of f.at.expr) f.kind lt).1 (record { at = f.at; place_is = refl; root = f.root }) in
       some_from (λ i. is_some (root_at s (inputs_of lines) z t i)) s.running root.number root.running (ap is_some root.root)
@@ -156,7 +156,7 @@ module _ (items : List tree.Item) (s : System) (lines : List Line) (bound : ℕ)
   ]
 
   module _ (limit : ℕ) where
-    taken_low : (t : ℕ) → Contains (take limit (instants s lines z bound)) t → t < bound
+    pub taken_low : (t : ℕ) → Contains (take limit (instants s lines z bound)) t → t < bound
     taken_low t c = (in_instants bound t (from_take limit (instants s lines z bound) t c)).0
 
     are_due : AreDue items lines bound limit (due_instants s lines z bound limit)
