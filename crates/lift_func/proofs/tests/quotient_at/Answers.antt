@@ -13,4 +13,4 @@ eval-requires c =
     let same : c.in_ok-copy.field-0 ≡ register.Scalar (scalar.Int c.args.divisor) =
     c.in_ok-copy.ensures ∙ ap (λ z. register.Scalar (scalar.Int z)) (to_z-of_z w64 c.args.divisor c.ranges.divisor) in
     quotient_evaluable (finite_map.empty {X = View} {R = nat_cmp}) (c.in_ok-copy.field-0 ∷ []) (0 ∷ []) c.in_ok-body.body c.args.divisor
-    (λ k. same k ∷ []) refl (c.in_ok-body.ensures ∙ c.in_ok-quotient.ensures)
+    (λ k. same k ∷ []) refl (c.in_ok-body.ensures.equal ∙ c.in_ok-quotient.ensures)
