@@ -1,13 +1,13 @@
 -- Counting the parts of expressions, one behind the other.
-use Rattle.std.proofs.Common.{◌≡◌, ℕ, zero, suc, ◌+◌, ◌-◌, ◌<◌, ◌≤◌, min, Bool, true, false, cond, List, [], ◌∷◌, ◌++◌, length, get_or, drop, Option, Some, None, Result, Ok, Err, refl, sym, ap, subst, ◌∙◌, arith, length-append}
-use Rattle.std.specs.Prelude.{if◌then◌else◌, IfOk}
+use Rattle.std.proofs.Common.{◌≡◌, ℕ, suc, ◌+◌, ◌<◌, ◌≤◌, min, true, List, [], ◌∷◌, ◌++◌, length, get_or, drop, Option, Result, refl, sym, ap, ◌∙◌, arith, length-append}
+use Rattle.std.specs.Prelude.{IfOk}
 use Rattle.std.specs.List.{filter, flat_map}
 use Rattle.std.proofs.lemmas.List.{drop_all}
 use Rattle.std.proofs.lemmas.Result.{IfOk-weaker}
 use Rattle.tsl_value.specs.declared.place.Place.{Place}
 use Rattle.spec_parser.specs.Tree as tree
 use Rattle.spec_parser.specs.Tree.{Expr, Links, no_links, more_links}
-use Rattle.spec_parser.specs.Shape.{exprs_of, links_in, definitions_of}
+use Rattle.spec_parser.specs.Shape.{exprs_of, links_in}
 use Rattle.spec_parser.specs.declared.tree.Level.{Level}
 use Rattle.spec_parser.specs.declared.tree.Link.{Link}
 use Rattle.spec_parser.specs.declared.tree.Comparison.{Comparison}
@@ -19,10 +19,10 @@ use Rattle.expr_types.specs.Judge.{type_of}
 use Rattle.spec_meaning.specs.Shape.{is_part, expressions}
 use Rattle.equation_marks.specs.Marks.{Mark, marks, each_marks, link_marks, plain, unless_literal, operands_marks, signal_marks, operation_marks, choice_marks, dotted_marks, holds_aggregate, lifting_count, signal_count, varying_count, fixed_count}
 use Rattle.equation_marks.specs.Counted.{counted, choice_count, dotted_count}
-use Rattle.equation_marks.specs.Calls.{Parts, call_parts, callee_marks}
+use Rattle.equation_marks.specs.Calls.{call_parts, callee_marks}
 use Rattle.equation_marks.proofs.Counts.{length-plain, length-signal, length-operation, length-choice}
 use Rattle.equation_marks.proofs.Parts.{listed_again, operands_listed}
-use Rattle.equation_marks.proofs.PartsLemmas.{AreSmall, small_parts, call_length, parts_length}
+use Rattle.equation_marks.proofs.PartsLemmas.{call_length, parts_length}
 
 -- ---- numbers that are counted no further than 4,097
 two_more : (count a b x r : ℕ) → x ≡ min (count + a) 4097 → r ≡ min (x + b) 4097 → r ≡ min (count + (a + b)) 4097

@@ -1,5 +1,5 @@
 -- Inside of a macro: what the code sees there is what its body is judged at.
-use Rattle.std.proofs.Common.{◌≡◌, ℕ, suc, ◌+◌, min, List, [], ◌∷◌, ◌++◌, map, length, Option, Some, None, refl, sym, ap, ◌∙◌}
+use Rattle.std.proofs.Common.{◌≡◌, ℕ, suc, List, [], ◌∷◌, ◌++◌, Some, sym, ap, ◌∙◌}
 use Rattle.std.specs.Prelude.{if◌then◌else◌, slice_get}
 use Rattle.std.proofs.lemmas.List.{append-nil}
 use Rattle.spec_parser.specs.Tree as tree
@@ -14,7 +14,7 @@ use Rattle.expr_types.specs.Around.{Around, Kinds, params_of}
 use Rattle.expr_types.specs.Bodies.{setting_of}
 use Rattle.spec_meaning.specs.Occurrence.{result_of, block_of, body_of}
 use Rattle.checked_spec.specs.Laws.{in_macro}
-use Rattle.equation_marks.specs.Marks.{Mark, body_marks, block_marks, macro_marks, macro_body_marks}
+use Rattle.equation_marks.specs.Marks.{body_marks, block_marks, macro_marks}
 use Rattle.equation_marks.specs.Counted.{counted}
 use Rattle.equation_marks.specs.Counters.{IsDefinitionAt}
 use Rattle.equation_marks.proofs.AgreeMarks.{block_agrees, body_agrees}

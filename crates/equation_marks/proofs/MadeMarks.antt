@@ -2,7 +2,7 @@
 use Rattle.std.proofs.Common.{◌≡◌, ℕ, suc, Bool, true, false, ◌&&◌, List, ◌++◌, map, length, Some, sym, ap, ◌∙◌, append_assoc}
 use Rattle.std.specs.Prelude.{slice_get}
 use Rattle.std.specs.List.{flat_map}
-use Rattle.std.proofs.lemmas.List.{map-append}
+use Rattle.std.proofs.lemmas.List.{length-map, map-append}
 use Rattle.std.proofs.lemmas.List.Folds.{flat_map-map}
 use Rattle.tsl_value.specs.declared.place.Place.{Place}
 use Rattle.tsl_value.specs.declared.scalar.ValueType.{ValueType}
@@ -61,3 +61,7 @@ call_made_marks items kinds deep at p x es i b before block after other is body 
     ∙ (λ k. first k ++ (second k ++ third k))
     ∙ ap (λ ms. flat_map (marks at (macro_marks items kinds (suc deep))) (expressions es) ++ ms) (sym (macro_marks_are items kinds deep i b body))
     ∙ sym (macro_call_marks at (macro_marks items kinds (suc deep)) p x es i other is)
+
+-- equations of these marks are as many
+pub made_length : (es : List Equation) (ms : List Mark) → map mark_of es ≡ ms → length es ≡ length ms
+made_length es ms h = sym (length-map es mark_of) ∙ ap length h

@@ -1,5 +1,5 @@
 -- What calls of names are made of: as many equations as their marks, of no more than their arguments.
-use Rattle.std.proofs.Common.{◌≡◌, ℕ, zero, suc, ◌+◌, ◌≤◌, Bool, true, false, List, [], ◌∷◌, ◌++◌, length, drop, Option, Some, None, refl, sym, ap, subst, ◌∙◌, arith, length-append}
+use Rattle.std.proofs.Common.{◌≡◌, ℕ, ◌+◌, ◌≤◌, Bool, true, false, List, [], ◌∷◌, ◌++◌, length, drop, Option, Some, None, refl, sym, ap, arith, length-append}
 use Rattle.std.specs.Prelude.{if◌then◌else◌}
 use Rattle.std.specs.List.{filter, flat_map}
 use Rattle.std.proofs.lemmas.List.{append-nil}
@@ -20,7 +20,7 @@ use Rattle.spec_meaning.specs.Function.{literal}
 use Rattle.spec_meaning.specs.Shape.{is_part, expressions, plain_name, is_delay, is_const, is_filter}
 use Rattle.equation_marks.specs.Marks.{Mark, marks, each_marks, plain, joined, all_but_last, operands_marks, signal_marks, signal_count, varying_count, filter_marks, filter_marks_by, declared_marks, named_marks}
 use Rattle.equation_marks.specs.Calls.{Parts, of_streams, is_truth, filter_parts, front, declared_parts, named_parts, call_parts, callee_marks, marks_of_parts}
-use Rattle.equation_marks.proofs.Parts.{listed_again, joined_listed, operands_listed, front_each}
+use Rattle.equation_marks.proofs.Parts.{listed_again, joined_listed, operands_listed}
 use Rattle.equation_marks.proofs.Counts.{length-plain}
 
 pub front-append : (es : List Expr) (f : Expr) → front (es ++ f ∷ []) ≡ es

@@ -1,7 +1,6 @@
 -- How large bodies are, together: a call of a macro goes on in one of them, and calls nest no deeper than is said.
-use Rattle.std.proofs.Common.{◌≡◌, ℕ, zero, suc, ◌+◌, ◌-◌, ◌*◌, ◌<◌, ◌≤◌, ◌≢◌, List, [], ◌∷◌, length, get_or, Option, Some, None, refl, sym, ap, subst, ◌∙◌, arith}
+use Rattle.std.proofs.Common.{◌≡◌, ℕ, zero, suc, ◌+◌, ◌-◌, ◌*◌, ◌<◌, ◌≤◌, ◌≢◌, List, [], ◌∷◌, length, get_or, Option, Some, None, refl, ap, arith}
 use Rattle.std.specs.Prelude.{slice_get}
-use Rattle.tsl_value.specs.declared.place.Place.{Place}
 use Rattle.spec_parser.specs.Tree as tree
 use Rattle.spec_parser.specs.Tree.{Expr}
 use Rattle.spec_parser.specs.Shape.{size_of, definitions_of}
