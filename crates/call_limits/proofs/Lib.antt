@@ -4,4 +4,4 @@ mod CallLemmas
 pub mod GraphLemmas
 mod DepthLemmas
 mod PlaceLemmas
-mod LawLemmas
+pub mod LawLemmas

@@ -3,5 +3,5 @@ mod SlotLemmas
 mod NodeLemmas
 mod StepLemmas
 mod KindLemmas
-mod LawLemmas
+pub mod LawLemmas
 pub mod AcceptedParts
