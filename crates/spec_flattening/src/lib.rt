@@ -1,0 +1,7 @@
+// The flat system of a specification.
+#![tactic(auto)]
+
+mod call;
+mod chain;
+mod context;
+mod expression;
