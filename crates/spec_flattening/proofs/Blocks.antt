@@ -56,7 +56,7 @@ module _ (counted : ℕ → ℕ) (at : Around) (call : ℕ → List Mark) where
       numbered_all (suc k) (counted (n + length (body_marks at call (result_of (local_body c))))) ds ss h.2 j d is
 
   -- the same where the marks and the types are
-  numbered_same : (to : Around) (of : ℕ → List Mark) → ((e : Expr) → body_marks at call e ≡ body_marks to of e) → ((k : ℕ) → at.kinds.local at.number k ≡ to.kinds.local to.number k) → (k n : ℕ) (ds : tree.Definitions) (ss : List Stream) → AreNumbered counted at call k n ds ss → AreNumbered counted to of k n ds ss
+  pub numbered_same : (to : Around) (of : ℕ → List Mark) → ((e : Expr) → body_marks at call e ≡ body_marks to of e) → ((k : ℕ) → at.kinds.local at.number k ≡ to.kinds.local to.number k) → (k n : ℕ) (ds : tree.Definitions) (ss : List Stream) → AreNumbered counted at call k n ds ss → AreNumbered counted to of k n ds ss
   numbered_same to of marked typed k n tree.no_definitions [] h = tt
   numbered_same to of marked typed k n tree.no_definitions (a ∷ ss) h = absurd h
   numbered_same to of marked typed k n (tree.more_definitions d ds) [] h = absurd h

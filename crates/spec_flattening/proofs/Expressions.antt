@@ -29,8 +29,10 @@ use Rattle.typed_flat.proofs.Beginnings.{one_operand}
 use Rattle.typed_flat.proofs.Within.{operand_in}
 use Rattle.spec_flattening.specs.declared.context.Context.{Context}
 use Rattle.spec_flattening.specs.declared.context.Here.{Here}
-use Rattle.spec_flattening.specs.Answers.{CanCall, CanConstruct, CanMake, CanName, IsAnswer, IsCall, IsCalled, IsConstruct, IsConstructed, IsExpression, IsMadeAt, IsNamed, IsRefusedBehind, marks_at}
+use Rattle.spec_flattening.specs.Answers.{CanCall, CanConstruct, CanMake, CanName, IsAnswer, IsBody, IsCall, IsCalled, IsConstruct, IsConstructed, IsExpression, IsMadeAt, IsNamed, IsRefusedBehind, marks_at}
 use Rattle.spec_flattening.specs.Here.{IsContext, IsHere, MayMakeAt, Site}
+use Rattle.spec_flattening.specs.Own.{IsAliased}
+use Rattle.spec_flattening.proofs.Made.{body_made, body_refused}
 use Rattle.spec_flattening.proofs.Constructs.{is_construct}
 use Rattle.spec_flattening.proofs.Places.{part_may, typed_at}
 use Rattle.spec_flattening.proofs.Shapes.{StandsAlone}
@@ -141,3 +143,11 @@ module _ (context : Context) (here : Here) where
         at = λ site is_here may.
             h.at site (place_of e) x is_here (record { may = may; other = other; calls = sym (is_here.agrees.at x) ∙ sym is ∙ macro });
       })
+
+-- ---- bodies
+module _ (context : Context) (here : Here) (e : Expr) where
+  pub body_is : (old mid new : System) (a : Stream) (r : Result Stream MakeFault) → IsExpression context here e old mid (Ok a) → IsAliased e a mid new r → IsBody context here e old new r
+  body_is old mid new a r h aliased = record { at = λ site is_here may. body_made site here.deep e old mid new a r (h.at site is_here may) aliased }
+
+  pub body_stopped : (old mid : System) (f : MakeFault) → IsExpression context here e old mid (Err f) → IsBody context here e old mid (Err f)
+  body_stopped old mid f h = record { at = λ site is_here may. body_refused site here.deep e old f (h.at site is_here may) }

@@ -214,10 +214,10 @@ items_room (item ∷ items) = item_room (item_of item) + items_room items
 abbrev pub room : List Item → ℕ
 room items = 8 * items_room items + 16
 
-item_within : (items : List Item) (i : ℕ) (item : Item) → slice_get items i ≡ Some item → item_room (item_of item) ≤ items_room items
+pub item_within : (items : List Item) (i : ℕ) (item : Item) → slice_get items i ≡ Some item → item_room (item_of item) ≤ items_room items
 item_within [] i item is = absurd (none-some item is)
 item_within (x ∷ items) zero item is = let same = ap (λ y. item_room (item_of y)) (same_Some x item is) in omega arith
 item_within (x ∷ items) (suc i) item is = let rest = item_within items i item is in omega arith
 
-definition_room : (d : tree.Definition) → item_room (tree.Defined (record { line = 0; column = 0 }) d) ≡ body_room (local_body d)
+pub definition_room : (d : tree.Definition) → item_room (tree.Defined (record { line = 0; column = 0 }) d) ≡ body_room (local_body d)
 definition_room (tree.Define q x ps w b) = refl

@@ -38,13 +38,13 @@ abbrev pub decreases-block : goal.decreases-block
 decreases-block l = l.here.now.deep * room l.self.now.items.now + (8 * definitions_room (definitions_of l.definitions.now) + 5)
 
 abbrev pub invariant-parts-loop-part : goal.invariant-parts-loop-part
-invariant-parts-loop-part l = AreBegun l.self l.here (expressions_in l.parts) l.part-index l.fn.maker.now l.maker l.streams.items
+invariant-parts-loop-part l = AreBegun l.self l.here (expressions_in l.parts) l.part-index l.fn.maker l.maker l.streams.items
 
 abbrev pub invariant-arguments-loop-argument : goal.invariant-arguments-loop-argument
-invariant-arguments-loop-argument l = AreBegun l.self l.here l.arguments l.argument-index l.fn.maker.now l.maker l.streams.items
+invariant-arguments-loop-argument l = AreBegun l.self l.here l.arguments l.argument-index l.fn.maker l.maker l.streams.items
 
 abbrev pub invariant-block-loop-definition : goal.invariant-block-loop-definition
-invariant-block-loop-definition l = IsBlockBegun l.self l.here l.definitions l.definition-index l.fn.maker.now l.maker
+invariant-block-loop-definition l = IsBlockBegun l.self l.here l.definitions l.definition-index l.fn.maker l.maker
 
 abbrev pub invariant-chain-loop-link : goal.invariant-chain-loop-link
-invariant-chain-loop-link l = IsBegun l.self l.here l.place l.level l.first l.links l.link-index l.fn.maker.now l.maker l.left
+invariant-chain-loop-link l = IsBegun l.self l.here l.place l.level l.first l.links l.link-index l.fn.maker l.maker l.left

@@ -1,0 +1,96 @@
+-- What a call of a macro asks and answers: its arguments, and what is inside of it.
+use Rattle.std.proofs.Common.{◌≡◌, ◌==◌, ℕ, zero, suc, ◌+◌, ◌-◌, ◌*◌, ◌<◌, ◌≤◌, Bool, true, false, List, [], ◌∷◌, map, length, Option, Some, None, refl, ap, sym, subst, ◌∙◌, arith}
+use Rattle.std.specs.Prelude.{Ok, Err, Result, Vec, slice_get}
+use Rattle.std.specs.Option.{option_map}
+use Rattle.std.proofs.lemmas.Bool.{true≢false}
+use Rattle.std.proofs.lemmas.Option.{slice_get-map}
+use Rattle.tsl_value.specs.declared.place.Place.{Place}
+use Rattle.flat_core.specs.System.{System}
+use Rattle.spec_parser.specs.Tree as tree
+use Rattle.spec_parser.specs.Tree.{Expr, Exprs}
+use Rattle.spec_parser.specs.Shape.{definition_of, exprs_of, item_of}
+use Rattle.spec_parser.specs.declared.tree.DefinitionParts.{DefinitionParts}
+use Rattle.spec_parser.specs.declared.tree.Item.{Item}
+use Rattle.name_check.specs.Steps.{local_body}
+use Rattle.expr_types.specs.Around.{params_of}
+use Rattle.expr_types.specs.Bodies.{may_have_braces}
+use Rattle.stream_constructs.specs.declared.construct.Stream.{Stream}
+use Rattle.stream_constructs.specs.declared.maker.MakeFault.{MakeFault}
+use Rattle.spec_meaning.specs.Occurrence.{body_of}
+use Rattle.spec_meaning.specs.Shape.{expressions}
+use Rattle.equation_marks.proofs.Parts.{listed_again}
+use Rattle.spec_flattening.specs.declared.context.Context.{Context}
+use Rattle.spec_flattening.specs.declared.context.Here.{Here}
+use Rattle.spec_flattening.specs.Answers.{AreExpressions, AreMade, CanCall, CanEnter, CanMakeAll, IsAnswer, IsCall, IsCalled, IsInside, IsMacroAnswer, IsRefusedBehind, marks_all}
+use Rattle.spec_flattening.specs.Here.{IsHere, MayMakeAll, Site}
+use Rattle.spec_flattening.proofs.Called.{arguments_may, arguments_refused, call_made, entered, entry_of, inside_refused, is_macro, some_left}
+
+module _ (context : Context) (here : Here) (i : ℕ) (arguments : List Expr) where
+  abbrev es : Exprs
+  es = exprs_of arguments
+
+  -- the item that is called is a definition with parameters that are streams
+  callee_is_macro : CanCall context here i es → may_have_braces (params_of (option_map item_of (slice_get context.items.now i))) ≡ true
+  callee_is_macro can =
+      ap (λ o. may_have_braces (params_of o)) (sym (slice_get-map item_of context.items.now i))
+      ∙ ap (λ items. may_have_braces (params_of (slice_get items i))) can.is_here.known.items_are
+      ∙ is_macro context here can.site can.is_here here.deep can.place can.name es i can.call
+
+  pub no_other : CanCall context here i es → (o : Option Item) → slice_get context.items.now i ≡ o → may_have_braces (params_of (option_map item_of o)) ≡ false → ⊥
+  no_other can o is none =
+      true≢false (sym (callee_is_macro can) ∙ ap (λ p. may_have_braces (params_of (option_map item_of p))) is ∙ none)
+
+  pub never_deepest : CanCall context here i es → here.deep ≡ zero → ⊥
+  never_deepest can none = some_left context here can.site can.is_here here.deep can.place can.name es i can.call none
+
+  -- ---- its arguments
+  all_may : (site : Site) (p : Place) (x : List ℕ) → IsHere context here site → IsCall site here.deep p x es i → MayMakeAll site here.deep arguments
+  all_may site p x is_here call = subst (MayMakeAll site here.deep) (listed_again arguments) (arguments_may context here site is_here here.deep p x es i call)
+
+  pub arguments_can : CanCall context here i es → CanMakeAll context here arguments
+  arguments_can can = record { site = can.site; is_here = can.is_here; may = all_may can.site can.place can.name can.is_here can.call }
+
+  pub arguments_stopped : {Z : Type 0} (old mid : System) (f : MakeFault) → AreExpressions {Z = Z} context here arguments old mid (Err f) → IsCalled context here i es old mid (Err f)
+  arguments_stopped old mid f h = record {
+    at = λ site p x is_here call.
+        arguments_refused context here site is_here here.deep p x es i call old f
+        (subst (λ xs. IsRefusedBehind old (marks_all site here.deep xs) f) (sym (listed_again arguments)) (h.at site is_here (all_may site p x is_here call)));
+  }
+
+  -- ---- what is inside of it
+  module _ {Z : Type 0} (old mid : System) (params : Vec Stream Z) (made : AreExpressions context here arguments old mid (Ok params)) (q : Place) (parts : DefinitionParts) (item : Option Item) (found : slice_get context.items.now i ≡ item) (is : option_map item_of item ≡ Some (tree.Defined q (definition_of parts))) (less : ℕ) (deeper : here.deep ≡ suc less) where
+    all_made : (site : Site) (p : Place) (x : List ℕ) → IsHere context here site → IsCall site here.deep p x es i → AreMade site here.deep (expressions es) old mid params.items
+    all_made site p x is_here call =
+        subst (λ xs. AreMade site here.deep xs old mid params.items) (sym (listed_again arguments)) (made.at site is_here (all_may site p x is_here call))
+
+    item_is : (site : Site) → IsHere context here site → slice_get site.items i ≡ Some (tree.Defined q (definition_of parts))
+    item_is site is_here = ap (λ items. slice_get items i) (sym is_here.known.items_are) ∙ slice_get-map item_of context.items.now i ∙ ap (option_map item_of) found ∙ is
+
+    pub enter_can : CanCall context here i es → CanEnter context i (definition_of parts) params.items less
+    enter_can can = record {
+      entry = entry_of context here can.site can.is_here here.deep can.place can.name es i can.call;
+      place = q;
+      is_item = item_is can.site can.is_here;
+      entered = entered context here can.site can.is_here here.deep can.place can.name es i can.call less deeper old mid params.items (all_made can.site can.place can.name can.is_here can.call);
+    }
+
+    answer : (site : Site) (p : Place) (x : List ℕ) (is_here : IsHere context here site) (call : IsCall site here.deep p x es i) (new : System) (r : Result Stream MakeFault) → IsMacroAnswer (entry_of context here site is_here here.deep p x es i call) i (local_body (definition_of parts)) params.items less mid new r → IsAnswer site here.deep (tree.Call p x es) old new r
+    answer site p x is_here call new (Ok s) h =
+        call_made context here site is_here here.deep p x es i call less deeper old mid params.items (all_made site p x is_here call) (local_body (definition_of parts)) new s (ap body_of (item_is site is_here)) h
+    answer site p x is_here call new (Err f) h =
+        inside_refused context here site is_here here.deep p x es i call less deeper old mid params.items (all_made site p x is_here call) f h
+
+    pub called : (new : System) (r : Result Stream MakeFault) → IsInside context i (definition_of parts) params.items less mid new r → IsCalled context here i es old new r
+    called new r h = record {
+      at = λ site p x is_here call.
+          answer site p x is_here call new r
+          (h.at (entry_of context here site is_here here.deep p x es i call) q (item_is site is_here)
+          (entered context here site is_here here.deep p x es i call less deeper old mid params.items (all_made site p x is_here call)));
+    }
+
+-- ---- one call less leaves room for what is inside
+pub deeper_room : (deep whole inner own : ℕ) → inner < whole → (deep == 0) ≡ false → (deep - 1) * whole + inner < deep * whole + own
+deeper_room zero whole inner own h some = absurd (true≢false some)
+deeper_room (suc deep) whole inner own h some =
+    let one : suc deep - 1 ≡ deep = omega arith in
+    omega (arith, ap (λ d. d * whole) one)
