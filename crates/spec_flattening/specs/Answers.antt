@@ -8,7 +8,8 @@ use Rattle.flat_core.specs.declared.equation.Equation.{Equation}
 use Rattle.flat_core.specs.System.{System}
 use Rattle.spec_parser.specs.Tree as tree
 use Rattle.spec_parser.specs.Tree.{Expr, Exprs}
-use Rattle.spec_parser.specs.Shape.{definitions_of}
+use Rattle.spec_parser.specs.Shape.{definition_of, definitions_of}
+use Rattle.spec_parser.specs.declared.tree.DefinitionParts.{DefinitionParts}
 use Rattle.name_check.specs.declared.declaration.Declaration.{Declaration}
 use Rattle.name_check.specs.declared.declaration.Declaration.TheVariants as declaration
 use Rattle.name_check.specs.Builtin.{is_called, is_unit}
@@ -149,6 +150,11 @@ pub record IsCalled (context : Context) (here : Here) (i : ℕ) (es : Exprs) (ol
   pub at : (site : Site) (p : Place) (x : List ℕ) → IsHere context here site → IsCall site here.deep p x es i → IsAnswer site here.deep (tree.Call p x es) old new result
 
 -- ---- the block and the result of a macro
+-- item i is this definition
+pub record IsDefinedAt (items : List tree.Item) (i : ℕ) (d : DefinitionParts) : Type 0 where
+  pub place : Place
+  pub is : slice_get items i ≡ Some (tree.Defined place (definition_of d))
+
 pub record CanEnter (context : Context) (i : ℕ) (d : tree.Definition) (params : List Stream) (deep : ℕ) : Type 0 where
   pub entry : Entry
   pub place : Place

@@ -37,6 +37,11 @@ stream_at context here (Some (declaration.Parameter k)) = slice_get here.params.
 stream_at context here (Some (declaration.Local k)) = slice_get here.locals.now k
 stream_at context here d = None
 
+-- the macro for which a name stands
+abbrev pub macro_in : Option Declaration → Option ℕ
+macro_in (Some (declaration.Macro i)) = Some i
+macro_in d = None
+
 -- ---- places
 -- A place of a specification: its items, what the declared names are, the streams of its inputs and definitions of the top, what is
 -- around, and the calls around.

@@ -1,15 +1,17 @@
 // The equations of a call of a macro.
 
-ghost use Rattle.std.specs.Prelude.{◌≡◌, ◌-◌, ◌<◌, map, length, IfOk, IfErr};
+ghost use Rattle.std.specs.Prelude.{◌≡◌, ◌-◌, ◌<◌, false, map, length, slice_get, IfOk, IfErr, MatchOption};
 ghost use Rattle.std.specs.Option.{option_map};
 ghost use Rattle.spec_parser.specs.Shape.{body_of, definition_of, definitions_of, exprs_of, item_of};
 ghost use Rattle.name_check.specs.Scope.{top};
 ghost use Rattle.type_rules.specs.Asked.{inner};
+ghost use Rattle.expr_types.specs.Around.{params_of};
+ghost use Rattle.expr_types.specs.Bodies.{may_have_braces};
 ghost use Rattle.expr_types.specs.Shown.{around_of, kinds_of};
 ghost use Rattle.stream_constructs.specs.declared.maker.MakeFault.TheVariants as fault;
 ghost use Rattle.spec_meaning.specs.Occurrence.{result_of};
 ghost use Rattle.equation_marks.specs.Marks.{macro_marks};
-ghost use Rattle.spec_flattening.specs.Answers.{AreExpressions, AreNumbered, AreStreams, CanCall, CanEnter, CanMakeAll, CanMakeBlock, IsBlock, IsCalled, IsInside, to_enough};
+ghost use Rattle.spec_flattening.specs.Answers.{AreExpressions, AreNumbered, AreStreams, CanCall, CanEnter, CanMakeAll, CanMakeBlock, IsBlock, IsCalled, IsDefinedAt, IsInside, to_enough};
 
 use crate::context::{Context, Here};
 use expr_types::around::Around;
@@ -42,6 +44,19 @@ pub(crate) fn result_of(body: &Body) -> &Expr
     }
 }
 
+/// The definition of an item, if it is one.
+fn definition_at(items: &[Item], number: usize) -> Option<&DefinitionParts>
+    ensures { MatchOption result (may_have_braces (params_of (slice_get (map item_of items.now) number)) ≡ false) (λ d. IsDefinedAt (map item_of items.now) number d.now) }
+{
+    match items.get(number) {
+        Some(Item::Defined(_, definition)) => Some(definition.parts()),
+        Some(Item::Input(_, _, _, _)) => None,
+        Some(Item::Output(_, _, _)) => None,
+        Some(Item::OutputAs(_, _, _, _)) => None,
+        None => None,
+    }
+}
+
 impl<'a> Context<'a> {
     /// A call: first the arguments, then the definitions of the block, then the result.
     #[cycle(expression)]
@@ -56,14 +71,14 @@ impl<'a> Context<'a> {
         ensures { IsCalled self.now here.now number (exprs_of arguments.now) maker.old maker.new result }
     {
         let params = self.arguments(maker, here, arguments)?;
-        match self.items.get(number) {
-            Some(Item::Defined(_, definition)) => {
+        match definition_at(self.items, number) {
+            Some(parts) => {
                 if here.deep == 0 {
                     unreachable!()
                 }
-                self.inside(maker, number, definition.parts(), &params, here.deep - 1)
+                self.inside(maker, number, parts, &params, here.deep - 1)
             }
-            _ => unreachable!(),
+            None => unreachable!(),
         }
     }
 

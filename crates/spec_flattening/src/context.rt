@@ -2,7 +2,7 @@
 
 ghost use Rattle.std.specs.Prelude.{◌≡◌};
 ghost use Rattle.name_check.specs.Scope.{meaning, seen};
-ghost use Rattle.spec_flattening.specs.Here.{stream_at, top_stream};
+ghost use Rattle.spec_flattening.specs.Here.{macro_in, stream_at, top_stream};
 
 use equation_marks::count::Counter;
 use expr_types::around::Around;
@@ -34,6 +34,22 @@ pub(crate) struct Here<'a, 's> {
     pub(crate) locals: &'s [Stream],
     /// Calls of macros nest no deeper from here on.
     pub(crate) deep: u32,
+}
+
+/// The number of the macro for which a name stands, if it stands for one.
+pub(crate) fn macro_named(here: &Here<'_, '_>, name: &str) -> Option<usize>
+    ensures { result ≡ macro_in (meaning (seen here.now.around.scope.now) name.now) }
+{
+    match here.around.scope.find(name) {
+        Some(Declaration::Macro(number)) => Some(number),
+        Some(Declaration::Input(_)) => None,
+        Some(Declaration::Stream(_)) => None,
+        Some(Declaration::Parameter(_)) => None,
+        Some(Declaration::Local(_)) => None,
+        Some(Declaration::Function(_)) => None,
+        Some(Declaration::Mixed(_)) => None,
+        None => None,
+    }
 }
 
 impl<'a> Context<'a> {

@@ -10,11 +10,10 @@ ghost use Rattle.stream_shapes.specs.Shape.{construct_of, expressions_in};
 ghost use Rattle.spec_flattening.specs.Own.{FitsOwn, IsAliased, own_of};
 ghost use Rattle.spec_flattening.specs.Answers.{AreExpressions, CanConstruct, CanMake, CanMakeAll, CanName, IsBody, IsConstructed, IsExpression, IsNamed, IsTypeOf};
 
-use crate::context::{Context, Here};
+use crate::context::{Context, Here, macro_named};
 use expr_types::judge::expression as judge;
 use expr_types::stop::Stop;
 use name_check::builtin::{is_called, is_unit};
-use name_check::declaration::Declaration;
 use spec_parser::tree::{Expr, Node};
 use std::alloc::Global;
 use stream_constructs::construct::Stream;
@@ -119,9 +118,9 @@ impl Context<'_> {
                 if is_called(name.as_str()) {
                     return self.construct(maker, here, expression);
                 }
-                match here.around.scope.find(name.as_str()) {
-                    Some(Declaration::Macro(number)) => self.call(maker, here, number, arguments),
-                    _ => self.construct(maker, here, expression),
+                match macro_named(here, name.as_str()) {
+                    Some(number) => self.call(maker, here, number, arguments),
+                    None => self.construct(maker, here, expression),
                 }
             }
             _ => self.construct(maker, here, expression),
