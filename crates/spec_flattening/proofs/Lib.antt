@@ -10,3 +10,5 @@ pub mod Entered
 pub mod Blocks
 pub mod Constructs
 pub mod Expressions
+pub mod Own
+pub mod Locals
