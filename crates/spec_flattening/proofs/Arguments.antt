@@ -1,16 +1,17 @@
 -- What a call of a macro asks and answers: its arguments, and what is inside of it.
 use Rattle.std.proofs.Common.{◌≡◌, ◌==◌, ℕ, zero, suc, ◌+◌, ◌-◌, ◌*◌, ◌<◌, ◌≤◌, Bool, true, false, List, [], ◌∷◌, map, length, Option, Some, None, refl, ap, sym, subst, ◌∙◌, arith}
-use Rattle.std.specs.Prelude.{Ok, Err, Result, Vec, slice_get}
 use Rattle.std.specs.Option.{option_map}
+use Rattle.std.specs.Prelude.{Ok, Err, Result, Vec, slice_get}
 use Rattle.std.proofs.lemmas.Bool.{true≢false}
-use Rattle.std.proofs.lemmas.Option.{slice_get-map}
+use Rattle.std.proofs.lemmas.Option.{none-some, same_Some, slice_get-map}
 use Rattle.tsl_value.specs.declared.place.Place.{Place}
 use Rattle.flat_core.specs.System.{System}
 use Rattle.spec_parser.specs.Tree as tree
 use Rattle.spec_parser.specs.Tree.{Expr, Exprs}
+use Rattle.spec_parser.specs.Shape as code
+use Rattle.spec_parser.specs.declared.tree.Item.{Item}
 use Rattle.spec_parser.specs.Shape.{definition_of, exprs_of, item_of}
 use Rattle.spec_parser.specs.declared.tree.DefinitionParts.{DefinitionParts}
-use Rattle.spec_parser.specs.declared.tree.Item.{Item}
 use Rattle.name_check.specs.Steps.{local_body}
 use Rattle.expr_types.specs.Around.{params_of}
 use Rattle.expr_types.specs.Bodies.{may_have_braces}
@@ -21,8 +22,9 @@ use Rattle.spec_meaning.specs.Shape.{expressions}
 use Rattle.equation_marks.proofs.Parts.{listed_again}
 use Rattle.spec_flattening.specs.declared.context.Context.{Context}
 use Rattle.spec_flattening.specs.declared.context.Here.{Here}
-use Rattle.spec_flattening.specs.Answers.{AreExpressions, AreMade, CanCall, CanEnter, CanMakeAll, IsAnswer, IsCall, IsCalled, IsInside, IsMacroAnswer, IsRefusedBehind, marks_all}
+use Rattle.spec_flattening.specs.Answers.{AreExpressions, AreMade, CanCall, CanEnter, CanMakeAll, IsAnswer, IsCall, IsCalled, IsDefinedAt, IsInside, IsMacroAnswer, IsRefusedBehind, marks_all}
 use Rattle.spec_flattening.specs.Here.{IsHere, MayMakeAll, Site}
+use Rattle.spec_flattening.proofs.Sizes.{body_room, item_room, item_within, room}
 use Rattle.spec_flattening.proofs.Called.{arguments_may, arguments_refused, call_made, entered, entry_of, inside_refused, is_macro, some_left}
 
 module _ (context : Context) (here : Here) (i : ℕ) (arguments : List Expr) where
@@ -30,15 +32,11 @@ module _ (context : Context) (here : Here) (i : ℕ) (arguments : List Expr) whe
   es = exprs_of arguments
 
   -- the item that is called is a definition with parameters that are streams
-  callee_is_macro : CanCall context here i es → may_have_braces (params_of (option_map item_of (slice_get context.items.now i))) ≡ true
-  callee_is_macro can =
-      ap (λ o. may_have_braces (params_of o)) (sym (slice_get-map item_of context.items.now i))
-      ∙ ap (λ items. may_have_braces (params_of (slice_get items i))) can.is_here.known.items_are
-      ∙ is_macro context here can.site can.is_here here.deep can.place can.name es i can.call
-
-  pub no_other : CanCall context here i es → (o : Option Item) → slice_get context.items.now i ≡ o → may_have_braces (params_of (option_map item_of o)) ≡ false → ⊥
-  no_other can o is none =
-      true≢false (sym (callee_is_macro can) ∙ ap (λ p. may_have_braces (params_of (option_map item_of p))) is ∙ none)
+  pub no_other : CanCall context here i es → may_have_braces (params_of (slice_get (map item_of context.items.now) i)) ≡ false → ⊥
+  no_other can none =
+      true≢false
+      (sym (is_macro context here can.site can.is_here here.deep can.place can.name es i can.call)
+      ∙ ap (λ items. may_have_braces (params_of (slice_get items i))) (sym can.is_here.known.items_are) ∙ none)
 
   pub never_deepest : CanCall context here i es → here.deep ≡ zero → ⊥
   never_deepest can none = some_left context here can.site can.is_here here.deep can.place can.name es i can.call none
@@ -58,18 +56,18 @@ module _ (context : Context) (here : Here) (i : ℕ) (arguments : List Expr) whe
   }
 
   -- ---- what is inside of it
-  module _ {Z : Type 0} (old mid : System) (params : Vec Stream Z) (made : AreExpressions context here arguments old mid (Ok params)) (q : Place) (parts : DefinitionParts) (item : Option Item) (found : slice_get context.items.now i ≡ item) (is : option_map item_of item ≡ Some (tree.Defined q (definition_of parts))) (less : ℕ) (deeper : here.deep ≡ suc less) where
+  module _ {Z : Type 0} (old mid : System) (params : Vec Stream Z) (made : AreExpressions context here arguments old mid (Ok params)) (parts : DefinitionParts) (defined : IsDefinedAt (map item_of context.items.now) i parts) (less : ℕ) (deeper : here.deep ≡ suc less) where
     all_made : (site : Site) (p : Place) (x : List ℕ) → IsHere context here site → IsCall site here.deep p x es i → AreMade site here.deep (expressions es) old mid params.items
     all_made site p x is_here call =
         subst (λ xs. AreMade site here.deep xs old mid params.items) (sym (listed_again arguments)) (made.at site is_here (all_may site p x is_here call))
 
-    item_is : (site : Site) → IsHere context here site → slice_get site.items i ≡ Some (tree.Defined q (definition_of parts))
-    item_is site is_here = ap (λ items. slice_get items i) (sym is_here.known.items_are) ∙ slice_get-map item_of context.items.now i ∙ ap (option_map item_of) found ∙ is
+    item_is : (site : Site) → IsHere context here site → slice_get site.items i ≡ Some (tree.Defined defined.place (definition_of parts))
+    item_is site is_here = ap (λ items. slice_get items i) (sym is_here.known.items_are) ∙ defined.is
 
     pub enter_can : CanCall context here i es → CanEnter context i (definition_of parts) params.items less
     enter_can can = record {
       entry = entry_of context here can.site can.is_here here.deep can.place can.name es i can.call;
-      place = q;
+      place = defined.place;
       is_item = item_is can.site can.is_here;
       entered = entered context here can.site can.is_here here.deep can.place can.name es i can.call less deeper old mid params.items (all_made can.site can.place can.name can.is_here can.call);
     }
@@ -84,7 +82,7 @@ module _ (context : Context) (here : Here) (i : ℕ) (arguments : List Expr) whe
     called new r h = record {
       at = λ site p x is_here call.
           answer site p x is_here call new r
-          (h.at (entry_of context here site is_here here.deep p x es i call) q (item_is site is_here)
+          (h.at (entry_of context here site is_here here.deep p x es i call) defined.place (item_is site is_here)
           (entered context here site is_here here.deep p x es i call less deeper old mid params.items (all_made site p x is_here call)));
     }
 
@@ -94,3 +92,13 @@ deeper_room zero whole inner own h some = absurd (true≢false some)
 deeper_room (suc deep) whole inner own h some =
     let one : suc deep - 1 ≡ deep = omega arith in
     omega (arith, ap (λ d. d * whole) one)
+
+-- the body of a macro is smaller than what a call of it may go through
+pub callee_room : (items : List Item) (i : ℕ) (parts : DefinitionParts) → IsDefinedAt (map item_of items) i parts → 8 * body_room (code.body_of parts.body) + 6 < room items
+callee_room items i parts defined = by (slice_get items i) refl
+  where
+    by : (o : Option Item) → slice_get items i ≡ o → 8 * body_room (code.body_of parts.body) + 6 < room items
+    by None none = absurd (none-some (tree.Defined defined.place (definition_of parts)) (sym (slice_get-map item_of items i ∙ ap (option_map item_of) none) ∙ defined.is))
+    by (Some item) found =
+        let same = same_Some (item_of item) (tree.Defined defined.place (definition_of parts)) (sym (slice_get-map item_of items i ∙ ap (option_map item_of) found) ∙ defined.is) in
+        omega (arith, item_within items i item found, ap item_room same)

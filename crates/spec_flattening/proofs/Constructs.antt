@@ -177,3 +177,11 @@ module _ (context : Context) (here : Here) (e : Expr) (found : Shape) (shaped : 
     own_stopped new f refused = record {
       at = λ site is_here may is. whole_refused site is_here may is of type_is old mid ss.items (h.at site is_here (parts_may site is_here may is)) f refused;
     }
+
+    -- by what its own equations answer
+    pub own_answers : (ps : List Stream) → ps ≡ ss.items → (new : System) (r : Result Stream MakeFault) → OnOk r (new ≡ with_equations mid (own_of e of (length mid.equations) (construct_of found.construct) ps)) → IfOk r (λ s. s ≡ stream_of mid (own_of e of (length mid.equations) (construct_of found.construct) ps) of) → IfErr r (IsRefusal (mid.equations ++ own_of e of (length mid.equations) (construct_of found.construct) ps)) → IsConstructed context here e old new r
+    own_answers ps same new (Ok s) made stream refused =
+        constructed new s (made ∙ ap (λ xs. with_equations mid (own_of e of (length mid.equations) (construct_of found.construct) xs)) same)
+        (stream ∙ ap (λ xs. stream_of mid (own_of e of (length mid.equations) (construct_of found.construct) xs) of) same)
+    own_answers ps same new (Err f) made stream refused =
+        own_stopped new f (subst (λ xs. IsRefusal (mid.equations ++ own_of e of (length mid.equations) (construct_of found.construct) xs) f) same refused)

@@ -30,12 +30,22 @@ use Rattle.typed_flat.proofs.Within.{operand_in}
 use Rattle.spec_flattening.specs.declared.context.Context.{Context}
 use Rattle.spec_flattening.specs.declared.context.Here.{Here}
 use Rattle.spec_flattening.specs.Answers.{CanCall, CanConstruct, CanMake, CanName, IsAnswer, IsBody, IsCall, IsCalled, IsConstruct, IsConstructed, IsExpression, IsMadeAt, IsNamed, IsRefusedBehind, marks_at}
-use Rattle.spec_flattening.specs.Here.{IsContext, IsHere, MayMakeAt, Site}
+use Rattle.spec_flattening.specs.Here.{IsContext, IsHere, MayMakeAt, Site, macro_in}
 use Rattle.spec_flattening.specs.Own.{IsAliased}
 use Rattle.spec_flattening.proofs.Made.{body_made, body_refused}
 use Rattle.spec_flattening.proofs.Constructs.{is_construct}
 use Rattle.spec_flattening.proofs.Places.{part_may, typed_at}
 use Rattle.spec_flattening.proofs.Shapes.{StandsAlone}
+
+macro_is : (found : Option Declaration) (i : ℕ) → macro_in found ≡ Some i → found ≡ Some (declaration.Macro i)
+macro_is (Some (declaration.Macro k)) i h = ap (λ n. Some (declaration.Macro n)) (same_Some k i h)
+macro_is (Some (declaration.Input k)) i h = absurd (none-some i h)
+macro_is (Some (declaration.Stream k)) i h = absurd (none-some i h)
+macro_is (Some (declaration.Parameter k)) i h = absurd (none-some i h)
+macro_is (Some (declaration.Local k)) i h = absurd (none-some i h)
+macro_is (Some (declaration.Function k)) i h = absurd (none-some i h)
+macro_is (Some (declaration.Mixed k)) i h = absurd (none-some i h)
+macro_is None i h = absurd (none-some i h)
 
 module _ (context : Context) (here : Here) where
   -- ---- expressions that are neither names nor chains nor calls of macros
@@ -64,10 +74,13 @@ module _ (context : Context) (here : Here) where
   pub own_call_alone : (e : Expr) (p : Place) (x : List ℕ) (es : Exprs) → e ≡ tree.Call p x es → is_called x ≡ true → IsAlone e
   own_call_alone e p x es same is = alone_same e (tree.Call p x es) same (record { at = λ site is_here may other. absurd (true≢false (sym is ∙ other)) })
 
-  pub other_call_alone : (e : Expr) (p : Place) (x : List ℕ) (es : Exprs) (found : Option Declaration) → e ≡ tree.Call p x es → found ≡ meaning (seen here.around.scope.now) x → ((i : ℕ) → found ≡ Some (declaration.Macro i) → ⊥) → IsAlone e
+  pub other_call_alone : (e : Expr) (p : Place) (x : List ℕ) (es : Exprs) (found : Option Declaration) → e ≡ tree.Call p x es → found ≡ meaning (seen here.around.scope.now) x → macro_in found ≡ None → IsAlone e
   other_call_alone e p x es found same is none =
       alone_same e (tree.Call p x es) same
-      (record { at = λ site is_here may other i macro. none i (is ∙ is_here.agrees.at x ∙ ap (λ scope. meaning scope x) may.matches.scope_is ∙ macro) })
+      (record {
+        at = λ site is_here may other i macro.
+            none-some i (sym none ∙ ap macro_in (is ∙ is_here.agrees.at x ∙ ap (λ scope. meaning scope x) may.matches.scope_is ∙ macro));
+      })
 
   -- by its node
   pub other_alone : (e : Expr) (n : Node) → expr_of (place_of e) n ≡ e → ((x : _) → n ≡ node.Name x → ⊥) → ((l : _) (f : _) (ls : _) → n ≡ node.Chain l f ls → ⊥) → ((x : _) (es : _) → n ≡ node.Call x es → ⊥) → IsAlone e
@@ -125,7 +138,7 @@ module _ (context : Context) (here : Here) where
       (record { at = λ site is_here may. first_answer site p l f old new r is_here may (h.at site is_here (first_may site p l f is_here may)) })
 
   -- ---- calls of macros
-  pub call_can : (e : Expr) (x : List ℕ) (es : Exprs) (i : ℕ) (found : Option Declaration) → e ≡ tree.Call (place_of e) x es → is_called x ≡ false → found ≡ meaning (seen here.around.scope.now) x → found ≡ Some (declaration.Macro i) → CanMake context here e → CanCall context here i es
+  pub call_can : (e : Expr) (x : List ℕ) (es : Exprs) (i : ℕ) (found : Option Declaration) → e ≡ tree.Call (place_of e) x es → is_called x ≡ false → found ≡ meaning (seen here.around.scope.now) x → macro_in found ≡ Some i → CanMake context here e → CanCall context here i es
   call_can e x es i found same other is macro can =
       let there = subst (CanMake context here) same can in
       record {
@@ -133,15 +146,15 @@ module _ (context : Context) (here : Here) where
         place = place_of e;
         name = x;
         is_here = there.is_here;
-        call = record { may = there.may; other = other; calls = sym (there.is_here.agrees.at x) ∙ sym is ∙ macro };
+        call = record { may = there.may; other = other; calls = sym (there.is_here.agrees.at x) ∙ sym is ∙ macro_is found i macro };
       }
 
-  pub called_is : (e : Expr) (x : List ℕ) (es : Exprs) (i : ℕ) (found : Option Declaration) (old new : System) (r : Result Stream MakeFault) → e ≡ tree.Call (place_of e) x es → is_called x ≡ false → found ≡ meaning (seen here.around.scope.now) x → found ≡ Some (declaration.Macro i) → IsCalled context here i es old new r → IsExpression context here e old new r
+  pub called_is : (e : Expr) (x : List ℕ) (es : Exprs) (i : ℕ) (found : Option Declaration) (old new : System) (r : Result Stream MakeFault) → e ≡ tree.Call (place_of e) x es → is_called x ≡ false → found ≡ meaning (seen here.around.scope.now) x → macro_in found ≡ Some i → IsCalled context here i es old new r → IsExpression context here e old new r
   called_is e x es i found old new r same other is macro h =
       subst (λ f. IsExpression context here f old new r) (sym same)
       (record {
         at = λ site is_here may.
-            h.at site (place_of e) x is_here (record { may = may; other = other; calls = sym (is_here.agrees.at x) ∙ sym is ∙ macro });
+            h.at site (place_of e) x is_here (record { may = may; other = other; calls = sym (is_here.agrees.at x) ∙ sym is ∙ macro_is found i macro });
       })
 
 -- ---- bodies

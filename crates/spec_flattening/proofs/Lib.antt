@@ -12,3 +12,5 @@ pub mod Constructs
 pub mod Expressions
 pub mod Arguments
 pub mod Inside
+pub mod Own
+pub mod Locals
