@@ -87,8 +87,8 @@ module _ (context : Context) (here : Here) (i : ℕ) (arguments : List Expr) whe
     }
 
 -- ---- one call less leaves room for what is inside
-pub deeper_room : (deep whole inner own : ℕ) → inner < whole → (deep == 0) ≡ false → (deep - 1) * whole + inner < deep * whole + own
-deeper_room zero whole inner own h some = absurd (true≢false some)
+pub deeper_room : (deep whole inner own : ℕ) → inner < whole → (deep ≡ 0 → ⊥) → (deep - 1) * whole + inner < deep * whole + own
+deeper_room zero whole inner own h some = absurd (some refl)
 deeper_room (suc deep) whole inner own h some =
     let one : suc deep - 1 ≡ deep = omega arith in
     omega (arith, ap (λ d. d * whole) one)

@@ -9,7 +9,9 @@ use Rattle.spec_parser.specs.Tree.{Expr}
 use Rattle.spec_parser.specs.Shape as code
 use Rattle.spec_parser.specs.Shape.{definition_of, definitions_of, item_of, params_in}
 use Rattle.spec_parser.specs.declared.tree.DefinitionParts.{DefinitionParts}
+use Rattle.spec_parser.specs.declared.tree.Param.{Param}
 use Rattle.name_check.specs.Scope.{Agree, Scope, are_values, functions_of, inside, locals_from, parameters_from, seen, top}
+use Rattle.name_check.proofs.AgreeLemmas.{agree_same, agree_trans}
 use Rattle.name_check.specs.Steps.{local_body}
 use Rattle.type_rules.specs.declared.rule.ExprType.TheVariants as expr_type
 use Rattle.type_rules.specs.declared.rule.Setting.TheVariants as setting
@@ -36,6 +38,43 @@ local_within [] k h = absurd (omega arith)
 local_within (tree.Define q x ps w b ∷ ds) zero h = (b, refl)
 local_within (d ∷ ds) (suc k) h = local_within ds k (omega arith)
 
+-- ---- the code in a definition
+module _ (context : Context) (i : ℕ) (parts : DefinitionParts) where
+  -- it is in this one
+  pub record IsThere (around : code_around.Around) : Type 0 where
+    pub items_are : around.items.now ≡ context.items.now
+    pub kinds_are : around.kinds.now ≡ context.kinds.now
+    pub setting_is : around.setting ≡ setting.Streams
+    pub number_is : around.number ≡ i
+    pub params_are : around.params.now ≡ parts.params.items
+
+  -- the parameters are seen, and what is around the definition
+  pub record IsOuter (levels : List Scope) : Type 0 where
+    pub written : List Param
+    pub level : Scope
+    pub outers : List Scope
+    pub written_is : written ≡ parts.params.items
+    pub agrees : Agree level (parameters_from 0 (params_in written))
+    pub around : outers ≡ (if are_values (params_in written) then functions_of context.names.now else context.names.now) ∷ []
+    pub levels_are : levels ≡ level ∷ outers
+
+  -- and the definitions of its block
+  pub record IsInner (defined : List tree.Definition) (levels : List Scope) : Type 0 where
+    pub shown : List tree.Definition
+    pub level : Scope
+    pub outers : List Scope
+    pub shown_is : shown ≡ defined
+    pub agrees : Agree level (locals_from 0 (definitions_of shown))
+    pub outer : IsOuter outers
+    pub levels_are : levels ≡ level ∷ outers
+
+  pub record IsWithin (defined : List tree.Definition) (around : code_around.Around) : Type 0 where
+    pub outside : code_around.Around
+    pub there : IsThere outside
+    pub levels : List Scope
+    pub inner : IsInner defined levels
+    pub is : around_of around ≡ record (around_of outside) { scope = seen levels }
+
 module _ (context : Context) (i : ℕ) (params : List Stream) (deep : ℕ) (entry : Entry) (entered : IsEntered context i params deep entry) (p : Place) (parts : DefinitionParts) (is : slice_get entry.items i ≡ Some (tree.Defined p (definition_of parts))) where
   abbrev at : Around
   at = in_macro entry.items entry.kinds i
@@ -53,15 +92,7 @@ module _ (context : Context) (i : ℕ) (params : List Stream) (deep : ℕ) (entr
   body_is : body_of (slice_get entry.items i) ≡ Some body
   body_is = ap body_of is
 
-  -- the code is in this definition
-  pub record IsThere (around : code_around.Around) : Type 0 where
-    pub items_are : around.items.now ≡ context.items.now
-    pub kinds_are : around.kinds.now ≡ context.kinds.now
-    pub setting_is : around.setting ≡ setting.Streams
-    pub number_is : around.number ≡ i
-    pub params_are : around.params.now ≡ parts.params.items
-
-  pub there_same : (around : code_around.Around) → IsThere around → record (around_of around) { scope = at.scope } ≡ at
+  there_same : (around : code_around.Around) → IsThere context i parts around → record (around_of around) { scope = at.scope } ≡ at
   there_same around there = around_same context i params deep entry entered around (record {
     items_are = ap (map item_of) there.items_are ∙ entered.known.items_are;
     kinds_are = ap kinds_of there.kinds_are ∙ entered.known.kinds_are;
@@ -70,12 +101,14 @@ module _ (context : Context) (i : ℕ) (params : List Stream) (deep : ℕ) (entr
     params_are = ap params_in there.params_are ∙ ap params_of (sym is);
   })
 
-  module _ (names level : Scope) (outers levels : List Scope) (known : names ≡ context.names.now) (agrees : Agree level (parameters_from 0 (params_in parts.params.items))) where
-    pub outer_agrees : outers ≡ (if are_values (params_in parts.params.items) then functions_of names else names) ∷ [] → levels ≡ level ∷ outers → Agree (seen levels) outside
-    outer_agrees around levels_are = outside_agrees entry.items i p parts is names level outers levels (known ∙ entered.known.names_are) agrees around levels_are
+  outer_agrees : (levels : List Scope) → IsOuter context i parts levels → Agree (seen levels) outside
+  outer_agrees levels o =
+      outside_agrees entry.items i p parts is context.names.now o.level o.outers levels entered.known.names_are
+      (subst (λ ps. Agree o.level (parameters_from 0 (params_in ps))) o.written_is o.agrees)
+      (o.around ∙ ap (λ ps. (if are_values (params_in ps) then functions_of context.names.now else context.names.now) ∷ []) o.written_is) o.levels_are
 
   -- ---- without a block
-  module _ (e : Expr) (plain : body ≡ tree.Plain e) (here : Here) (same : record (around_of here.around) { scope = at.scope } ≡ at) (agrees : Agree (seen here.around.scope.now) outside) (params_are : here.params.now ≡ params) (locals_are : here.locals.now ≡ []) (deep_is : here.deep ≡ deep) where
+  module _ (e : Expr) (plain : body ≡ tree.Plain e) (here : Here) (there : IsThere context i parts here.around) (outer : IsOuter context i parts here.around.scope.now) (params_are : here.params.now ≡ params) (locals_are : here.locals.now ≡ []) (deep_is : here.deep ≡ deep) where
     abbrev plain_site : Site
     plain_site = inside_of entry i params []
 
@@ -84,8 +117,8 @@ module _ (context : Context) (i : ℕ) (params : List Stream) (deep : ℕ) (entr
 
     plain_here : IsHere context here plain_site
     plain_here =
-        here_inside context i params deep entry entered [] (none_local context i params deep entry entered) none_there here here.around same
-        (plain_agrees entry.items i p parts is entry.kinds e (seen here.around.scope.now) plain agrees) params_are locals_are
+        here_inside context i params deep entry entered [] (none_local context i params deep entry entered) none_there here here.around (there_same here.around there)
+        (plain_agrees entry.items i p parts is entry.kinds e (seen here.around.scope.now) plain (outer_agrees here.around.scope.now outer)) params_are locals_are
 
     plain_may : MayMakeAt plain_site here.deep e
     plain_may =
@@ -111,43 +144,52 @@ module _ (context : Context) (i : ℕ) (params : List Stream) (deep : ℕ) (entr
     same_body : (the_macro context i params deep entry entered).body ≡ body
     same_body = same_Some (the_macro context i params deep entry entered).body body (sym (the_macro context i params deep entry entered).body_is ∙ body_is)
 
-    -- its definitions are streams
-    pub streams_there : (around : code_around.Around) → IsThere around → AreStreams (kinds_of around.kinds.now) around.number (length defined)
-    streams_there around there =
-        subst (λ (k : Kinds). AreStreams k around.number (length defined)) (sym (ap kinds_of there.kinds_are ∙ entered.known.kinds_are))
-        (subst (λ n. AreStreams entry.kinds n (length defined)) (sym there.number_is)
-        (record {
-          each = λ k h.
-              let b = local_within defined k h in
-              let stream = (the_macro context i params deep entry entered).locals k b.0 (ap (λ c. local k (block_of (Some c))) (same_body ∙ blocked) ∙ b.1) in
-              (stream.of, stream.kind_is);
-        }))
+    module _ (around : code_around.Around) (within : IsWithin context i parts defined around) where
+      within_same : record (around_of around) { scope = at.scope } ≡ at
+      within_same = ap (λ (a : Around). record a { scope = at.scope }) within.is ∙ there_same within.outside within.there
 
-    -- their streams are those that were foreseen
-    pub numbered_there : (around : code_around.Around) (n : ℕ) (locals : List Stream) → record (around_of around) { scope = at.scope } ≡ at → Agree (seen around.scope.now) at.scope → AreNumbered to_enough (around_of around) (macro_marks (map item_of context.items.now) (kinds_of context.kinds.now) deep) zero n (definitions_of defined) locals → AreNumbered to_enough at call zero n (definitions_of defined) locals
-    numbered_there around n locals same agrees h =
-        let of : ℕ → List Mark = macro_marks (map item_of context.items.now) (kinds_of context.kinds.now) deep in
-        numbered_same to_enough (around_of around) of at call
-        (λ f. body_agrees (around_of around) at.scope of agrees f ∙ (λ j. body_marks (same j) (macro_marks (entered.known.items_are j) (entered.known.kinds_are j) deep) f))
-        (λ k. ap (λ (a : Around). a.kinds.local a.number k) same)
-        zero n (definitions_of defined) locals h
+      within_agrees : Agree (seen around.scope.now) at.scope
+      within_agrees =
+          let o = within.inner in
+          agree_trans (seen around.scope.now) (o.level ++ seen o.outers) at.scope
+          (agree_same _ _ (ap (λ (a : Around). a.scope) within.is ∙ ap seen o.levels_are))
+          (block_agrees entry.items i p parts is entry.kinds (definitions_of defined) e o.level (seen o.outers) blocked
+          (subst (λ ds. Agree o.level (locals_from 0 (definitions_of ds))) o.shown_is o.agrees) (outer_agrees o.outers o.outer))
 
-    pub within_agrees : (level outer : Scope) → Agree level (locals_from 0 (definitions_of defined)) → Agree outer outside → Agree (level ++ outer) at.scope
-    within_agrees level outer inner agrees = block_agrees entry.items i p parts is entry.kinds (definitions_of defined) e level outer blocked inner agrees
+      -- its definitions are streams
+      pub streams_there : AreStreams (kinds_of around.kinds.now) around.number (length defined)
+      streams_there =
+          subst (λ (k : Kinds). AreStreams k around.number (length defined)) (sym (ap (λ (a : Around). a.kinds) within_same))
+          (subst (λ n. AreStreams entry.kinds n (length defined)) (sym (ap (λ (a : Around). a.number) within_same))
+          (record {
+            each = λ k h.
+                let b = local_within defined k h in
+                let stream = (the_macro context i params deep entry entered).locals k b.0 (ap (λ c. local k (block_of (Some c))) (same_body ∙ blocked) ∙ b.1) in
+                (stream.of, stream.kind_is);
+          }))
 
-    module _ (n : ℕ) (locals : List Stream) (numbered : AreNumbered to_enough at call zero n (definitions_of defined) locals) (here : Here) (same : record (around_of here.around) { scope = at.scope } ≡ at) (agrees : Agree (seen here.around.scope.now) at.scope) (params_are : here.params.now ≡ params) (locals_are_they : here.locals.now ≡ locals) (deep_is : here.deep ≡ deep) where
+      -- their streams are those that were foreseen
+      numbered_there : (n : ℕ) (locals : List Stream) → AreNumbered to_enough (around_of around) (macro_marks (map item_of context.items.now) (kinds_of context.kinds.now) deep) zero n (definitions_of defined) locals → AreNumbered to_enough at call zero n (definitions_of defined) locals
+      numbered_there n locals h =
+          let of : ℕ → List Mark = macro_marks (map item_of context.items.now) (kinds_of context.kinds.now) deep in
+          numbered_same to_enough (around_of around) of at call
+          (λ f. body_agrees (around_of around) at.scope of within_agrees f ∙ (λ j. body_marks (within_same j) (macro_marks (entered.known.items_are j) (entered.known.kinds_are j) deep) f))
+          (λ k. ap (λ (a : Around). a.kinds.local a.number k) within_same)
+          zero n (definitions_of defined) locals h
+
+    module _ (n : ℕ) (locals : List Stream) (here : Here) (within : IsWithin context i parts defined here.around) (numbered : AreNumbered to_enough (around_of here.around) (macro_marks (map item_of context.items.now) (kinds_of context.kinds.now) deep) zero n (definitions_of defined) locals) (params_are : here.params.now ≡ params) (locals_are_they : here.locals.now ≡ locals) (deep_is : here.deep ≡ deep) where
       abbrev site : Site
       site = inside_of entry i params locals
 
       foreseen : AreNumbered to_enough at call zero n (block_of (Some body)) locals
-      foreseen = subst (λ b. AreNumbered to_enough at call zero n (block_of (Some b)) locals) (sym blocked) numbered
+      foreseen = subst (λ b. AreNumbered to_enough at call zero n (block_of (Some b)) locals) (sym blocked) (numbered_there here.around within n locals numbered)
 
       are : AreLocals entry.kinds i locals
       are = locals_are context i params deep entry entered p parts is n locals foreseen
 
       block_here : IsHere context here site
       block_here =
-          here_inside context i params deep entry entered locals are (all_there context i params deep entry entered p parts is n locals foreseen) here here.around same agrees params_are locals_are_they
+          here_inside context i params deep entry entered locals are (all_there context i params deep entry entered p parts is n locals foreseen) here here.around (within_same here.around within) (within_agrees here.around within) params_are locals_are_they
 
       definitions_may : MayMakeBlock site here.deep (definitions_of defined)
       definitions_may =
