@@ -1,0 +1,4 @@
+pub mod Making
+pub mod Here
+pub mod Answers
+pub mod Items
