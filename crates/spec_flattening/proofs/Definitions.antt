@@ -34,7 +34,7 @@ use Rattle.spec_flattening.specs.declared.context.Context.{Context}
 use Rattle.spec_flattening.specs.declared.context.Here.{Here}
 use Rattle.spec_flattening.specs.Answers.{CanMake, IsBody, IsBodyAnswer, IsBodyMade, IsRefusedBehind}
 use Rattle.spec_flattening.specs.Here.{IsHere, MayMakeAt}
-use Rattle.spec_flattening.specs.Items.{AreNumbered, AreStreamsMade, IsReady, IsStreamDefinition, IsStreamMade, IsTopHere, count_to, items_in, kinds_in, top_in, top_site}
+use Rattle.spec_flattening.specs.Items.{AreTopNumbered, AreStreamsMade, IsReady, IsStreamDefinition, IsStreamMade, IsTopHere, count_to, items_in, kinds_in, top_in, top_site}
 use Rattle.spec_flattening.proofs.Lists.{items_before, items_more, items_split, item_there, no_stream_marks, stream_marks-append, stream_marks_behind, streams_join, streams_moved, with_both}
 use Rattle.spec_flattening.proofs.Named.{body_some, named_marks, with_named}
 use Rattle.spec_flattening.proofs.TopPlaces.{body_may, is_here, plain_body}
@@ -171,7 +171,7 @@ module _ (context : Context) where
         marks : map mark_of (first.made ++ own.made) ≡ stream_marks items (kinds_in context) 0 (before ++ item_of item ∷ [])
         marks = map-append mark_of first.made own.made ∙ (λ j. first.marks_are j ++ own.marks_are j) ∙ sym marks_more
 
-        ends : AreNumbered context (length old.equations) → (made : ℕ) → is_stream (Some (item_of item)) ≡ true → length (stream_marks items (kinds_in context) 0 (take (suc k) items)) ≡ made → length old.equations + made ≤ 4096 → (all : ℕ) → length old.equations + made ≡ all → (top_in context k).id ≡ all - 1
+        ends : AreTopNumbered context (length old.equations) → (made : ℕ) → is_stream (Some (item_of item)) ≡ true → length (stream_marks items (kinds_in context) 0 (take (suc k) items)) ≡ made → length old.equations + made ≤ 4096 → (all : ℕ) → length old.equations + made ≡ all → (top_in context k).id ≡ all - 1
         ends numbered made h many few all same =
             let id : (top_in context k).id ≡ min (length old.equations + length (stream_marks items (kinds_in context) 0 (take (suc k) items))) 4097 - 1 = numbered k (ap is_stream (item_there context.items.now k item lt is) ∙ h) in
             omega arith

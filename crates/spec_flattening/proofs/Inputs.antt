@@ -1,11 +1,12 @@
 -- The equations of inputs, and their streams.
-use Rattle.std.proofs.Common.{◌≡◌, ℕ, zero, suc, ◌+◌, ◌<◌, ◌≤◌, true, false, List, [], ◌∷◌, ◌++◌, map, length, get_or, drop, Option, Some, None, Contains, refl, ap, sym, subst, ◌∙◌, append_assoc, arith, length-append}
+use Rattle.std.proofs.Common.{◌≡◌, ℕ, zero, suc, ◌+◌, ◌-◌, ◌<◌, ◌≤◌, true, false, List, [], ◌∷◌, ◌++◌, map, length, get_or, drop, Option, Some, None, Contains, refl, ap, sym, subst, ◌∙◌, append_assoc, arith, length-append}
 use Rattle.std.specs.Prelude.{slice_get}
 use Rattle.std.specs.Option.{option_map}
 use Rattle.std.proofs.lemmas.Bool.{true≢false}
 use Rattle.std.proofs.lemmas.List.{append-nil, drop_all}
 use Rattle.std.proofs.lemmas.Option.{none-some, same_Some}
 use Rattle.tsl_value.specs.declared.place.Place.{Place}
+use Rattle.tsl_value.specs.declared.scalar.ValueType.{ValueType}
 use Rattle.flat_core.specs.declared.equation.Equation.{Equation}
 use Rattle.flat_core.specs.System.{System}
 use Rattle.flat_core.proofs.Members.{contains_head, contains_tail}
@@ -19,7 +20,7 @@ use Rattle.expr_types.specs.Around.{Kinds}
 use Rattle.stream_constructs.specs.declared.construct.Stream.{Stream}
 use Rattle.stream_constructs.specs.declared.maker.MakeFault.{MakeFault}
 use Rattle.stream_constructs.specs.Limits.{IsRefusal}
-use Rattle.stream_constructs.specs.Made.{input_equation, with_equations}
+use Rattle.stream_constructs.specs.Made.{input_equation, stream_of, with_equations}
 use Rattle.stream_constructs.proofs.Refusals.{IsRefusal_longer}
 use Rattle.stream_constructs.proofs.Steps.{drop_item}
 use Rattle.macro_flatten.specs.Flat.{MakesInputs, event_type}
@@ -28,7 +29,7 @@ use Rattle.checked_spec.specs.Formed.{is_input}
 use Rattle.checked_spec.proofs.ListLemmas.{flat_empty}
 use Rattle.checked_spec.proofs.WrittenLemmas.{Has, value_there}
 use Rattle.equation_marks.specs.Marks.{input_marks, mark_of}
-use Rattle.spec_flattening.specs.Items.{HasEventType, HaveEventTypes, input_equations, input_streams, type_or_unit}
+use Rattle.spec_flattening.specs.Items.{Follows, HasEventType, HaveEventTypes, input_equations, input_streams, type_or_unit}
 use Rattle.spec_flattening.proofs.Lists.{with_both}
 
 -- ---- one item, and those behind it
@@ -49,9 +50,13 @@ pub record AreLeft (whole : List tree.Item) (old now : System) (streams : List (
   pub made : with_equations now (input_equations left) ≡ with_equations old (input_equations whole)
   pub table : streams ++ input_streams (length now.equations) left ≡ input_streams (length old.equations) whole
 
+-- all is left
+pub left_all : (whole : List tree.Item) (now : System) (streams : List (Option Stream)) → streams ≡ [] → AreLeft whole now now streams whole
+left_all whole now streams none = record { made = refl; table = ap (λ ss. ss ++ input_streams (length now.equations) whole) none }
+
 -- an input more
-pub left_turn : (whole : List tree.Item) (old now next : System) (streams : List (Option Stream)) (s : Option Stream) (items : List Item) (k : ℕ) (item : Item) → AreLeft whole old now streams (map item_of (drop k items)) → k < length items → item ≡ get_or items k item → s ∷ [] ≡ input_streams (length now.equations) (item_of item ∷ []) → next ≡ with_equations now (input_equations (item_of item ∷ [])) → AreLeft whole old next (streams ++ s ∷ []) (map item_of (drop (k + 1) items))
-left_turn whole old now next streams s items k item left lt is table made =
+pub left_turn : (whole : List tree.Item) (old now next : System) (streams more : List (Option Stream)) (s : Option Stream) (items : List Item) (k : ℕ) (item : Item) → AreLeft whole old now streams (map item_of (drop k items)) → k < length items → item ≡ get_or items k item → s ∷ [] ≡ input_streams (length now.equations) (item_of item ∷ []) → next ≡ with_equations now (input_equations (item_of item ∷ [])) → more ≡ streams ++ s ∷ [] → AreLeft whole old next more (map item_of (drop (k + 1) items))
+left_turn whole old now next streams more s items k item left lt is table made pushed =
     let rest = map item_of (drop (k + 1) items) in
     let here : map item_of (drop k items) ≡ item_of item ∷ rest = ap (map item_of) (drop_item items k item lt is) in
     let own = input_equations (item_of item ∷ []) in
@@ -63,7 +68,8 @@ left_turn whole old now next streams s items k item left lt is table made =
           ∙ ap (with_equations now) (sym (equations_split (item_of item) rest) ∙ sym (ap input_equations here))
           ∙ left.made;
       table =
-          append_assoc streams (s ∷ []) (input_streams (length next.equations) rest)
+          ap (λ ss. ss ++ input_streams (length next.equations) rest) pushed
+          ∙ append_assoc streams (s ∷ []) (input_streams (length next.equations) rest)
           ∙ ap (λ ss. streams ++ ss) ((λ i. table i ++ input_streams (count i) rest) ∙ sym (streams_split (length now.equations) (item_of item) rest) ∙ sym (ap (input_streams (length now.equations)) here))
           ∙ left.table;
     }
@@ -86,6 +92,49 @@ left_none whole old now streams items k h past =
     let none : map item_of (drop k items) ≡ [] = ap (map item_of) (drop_all k items past) in
     (ap (λ es. record now { equations = es }) (sym (append-nil now.equations)) ∙ ap (λ l. with_equations now (input_equations l)) (sym none) ∙ h.made,
         sym (append-nil streams) ∙ ap (λ l. streams ++ input_streams (length now.equations) l) (sym none) ∙ h.table)
+
+-- ---- one item where the code makes it
+module _ (item : tree.Item) (p q : Place) (x : List ℕ) (y : tree.TypeName) (is : item ≡ tree.Input p q x y) (of : Option ValueType) (of_is : of ≡ event_type y) where
+  -- it has a type
+  pub has_type : HasEventType item → of ≡ None → ⊥
+  has_type has none =
+      let there : HasEventType (tree.Input p q x y) = subst HasEventType is has in
+      none-some there.0 (sym none ∙ of_is ∙ there.1)
+
+  module _ (z : List ℕ) (t : ValueType) (some : of ≡ Some t) (copied : z ≡ x) where
+    same_type : t ≡ type_or_unit (event_type y)
+    same_type = ap type_or_unit (sym some ∙ of_is)
+
+    own_equations : input_equation q z t ∷ [] ≡ input_equations (item ∷ [])
+    own_equations = (λ k. input_equation q (copied k) (same_type k) ∷ []) ∙ ap (λ it. input_equations (it ∷ [])) (sym is)
+
+    pub input_made_is : (old new : System) → new ≡ with_equations old (input_equation q z t ∷ []) → new ≡ with_equations old (input_equations (item ∷ []))
+    input_made_is old new made = made ∙ ap (with_equations old) own_equations
+
+    pub input_refused_is : (old : System) (f : MakeFault) → IsRefusal (old.equations ++ input_equation q z t ∷ []) f → IsRefusal (old.equations ++ input_equations (item ∷ [])) f
+    input_refused_is old f h = subst (λ es. IsRefusal (old.equations ++ es) f) own_equations h
+
+    pub input_stream_is : (old : System) (s : Stream) → s ≡ stream_of old (input_equation q z t ∷ []) t → Some s ∷ [] ≡ input_streams (length old.equations) (item ∷ [])
+    input_stream_is old s h =
+        let number : length old.equations + 1 - 1 ≡ length old.equations = omega arith in
+        ap (λ r. Some r ∷ []) (h ∙ (λ k. record { id = number k; of = same_type k }))
+        ∙ ap (λ it. input_streams (length old.equations) (it ∷ [])) (sym is)
+
+-- another item has no stream, and makes nothing
+pub other_stream : (item : tree.Item) (n : ℕ) → is_input (Some item) ≡ false → None ∷ [] ≡ input_streams n (item ∷ [])
+other_stream (tree.Input p q x y) n other = absurd (true≢false other)
+other_stream (tree.Defined p d) n other = refl
+other_stream (tree.Output p q x) n other = refl
+other_stream (tree.OutputAs p e q x) n other = refl
+
+pub other_makes : (item : tree.Item) (old : System) → is_input (Some item) ≡ false → old ≡ with_equations old (input_equations (item ∷ []))
+other_makes item old other = ap (λ es. record old { equations = es }) (sym (append-nil old.equations)) ∙ ap (with_equations old) (none item other)
+  where
+    none : (item : tree.Item) → is_input (Some item) ≡ false → [] ≡ input_equations (item ∷ [])
+    none (tree.Input p q x y) h = absurd (true≢false h)
+    none (tree.Defined p d) h = refl
+    none (tree.Output p q x) h = refl
+    none (tree.OutputAs p e q x) h = refl
 
 -- ---- what they are
 -- their marks
@@ -154,10 +203,6 @@ table_length n (tree.Output p q x ∷ items) = ap suc (table_length n items)
 table_length n (tree.OutputAs p e q x ∷ items) = ap suc (table_length n items)
 
 -- ---- they are what is asked for
--- names stand for the streams of the table
-pub record Follows (top : ℕ → Stream) (i : ℕ) (streams : List (Option Stream)) : Type 0 where
-  pub each : (k : ℕ) (s : Stream) → slice_get streams k ≡ Some (Some s) → top (i + k) ≡ s
-
 module _ (all : List tree.Item) (kinds : Kinds) (top : ℕ → Stream) where
   follows_behind : (i : ℕ) (s : Option Stream) (streams : List (Option Stream)) → Follows top i (s ∷ streams) → Follows top (suc i) streams
   follows_behind i s streams h = record { each = λ k t is. let e : suc i + k ≡ i + suc k = omega arith in ap top e ∙ h.each (suc k) t is }

@@ -2,7 +2,9 @@ pub mod Inputs
 pub mod Lists
 pub mod Named
 pub mod TopPlaces
+pub mod StreamItems
 pub mod Definitions
 pub mod Foreseen
 pub mod Outputs
+pub mod Passed
 pub mod Whole

@@ -15,6 +15,7 @@ use Rattle.expr_types.specs.Around.{Kinds}
 use Rattle.expr_types.specs.Bodies.{in_definition}
 use Rattle.stream_constructs.specs.declared.construct.Stream.{Stream}
 use Rattle.stream_constructs.specs.declared.maker.MakeFault.{MakeFault}
+use Rattle.stream_constructs.specs.declared.maker.MakeFault.TheVariants as fault
 use Rattle.stream_constructs.specs.Limits.{IsRefusal}
 use Rattle.stream_constructs.specs.Made.{with_equations}
 use Rattle.stream_constructs.proofs.Steps.{drop_item}
@@ -60,6 +61,11 @@ behind_at (Err g) y f old ms is same h = let found : f ≡ g = cc in subst (IsRe
 pub refused_at : {T : Type 0} (r : Result T MakeFault) (y f : MakeFault) (ms : List Mark) → r ≡ Err y → y ≡ f → AreRefused ms f → IfErr r (AreRefused ms)
 refused_at (Ok x) y f ms is same h = tt
 refused_at (Err g) y f ms is same h = let found : f ≡ g = cc in subst (AreRefused ms) found h
+
+-- want of memory says nothing of equations
+pub memory_behind : {T : Type 0} (r : Result T MakeFault) (old : System) (ms : List Mark) → IfErr r (λ f. f ≡ fault.Memory) → IfErr r (IsRefusedBehind old ms)
+memory_behind (Ok x) old ms h = tt
+memory_behind (Err f) old ms h = subst (IsRefusedBehind old ms) (sym h) tt
 
 -- ---- marks
 module _ (items : List tree.Item) (kinds : Kinds) where

@@ -1,5 +1,5 @@
 -- The outputs, made one behind the other.
-use Rattle.std.proofs.Common.{◌≡◌, ℕ, suc, ◌+◌, ◌-◌, ◌<◌, ◌≤◌, ◌&&◌, Bool, true, false, List, [], ◌∷◌, ◌++◌, map, length, get_or, take, drop, Option, Some, None, Result, Ok, Err, refl, ap, sym, subst, ◌∙◌, append_assoc, arith, length-append}
+use Rattle.std.proofs.Common.{◌≡◌, ℕ, suc, ◌+◌, ◌-◌, ◌<◌, ◌≤◌, ◌^◌, ◌&&◌, Bool, true, false, List, [], ◌∷◌, ◌++◌, map, length, get_or, take, drop, Option, Some, None, Result, Ok, Err, refl, ap, sym, subst, ◌∙◌, append_assoc, arith, length-append}
 use Rattle.std.specs.Prelude.{IfErr, IfOk, OnOk, if◌then◌else◌, slice_get}
 use Rattle.std.proofs.lemmas.Bool.{true≢false}
 use Rattle.std.proofs.lemmas.List.{append-nil, map-append, take_all}
@@ -171,6 +171,10 @@ module _ (context : Context) where
     at = record { ready = ready; is_here = at; is_item = is ∙ ap Some output; no_params = refl };
     may = named_output_may context ready here.around.number p q e x (is ∙ ap Some output);
   }
+
+  -- there is room for it
+  pub printed_room : (i : ℕ) (e : Expr) (x : List ℕ) (old mid : System) (s : Stream) → IsPrinted context i e x old mid s → length old.outputs < 2 ^ 31 → length mid.outputs < 2 ^ 31
+  printed_room i e x old mid s h few = let same : length mid.outputs ≡ length old.outputs = ap (λ (t : System). length t.outputs) h.new_is in omega arith
 
   -- with what it prints
   with_output : (i : ℕ) (e : Expr) (x : List ℕ) (it : tree.Item) (old mid new : System) (s : Stream) → output_marks items (kinds_in context) i (it ∷ []) ≡ printed_marks items (kinds_in context) i e ++ [] → (h : IsPrinted context i e x old mid s) → new ≡ record mid { outputs = mid.outputs ++ record { name = x; equation = s.id } ∷ [] } → MakesOutputs items (kinds_in context) (top_in context) (it ∷ []) (length old.equations) h.made (record { name = x; equation = s.id } ∷ []) → AreOutputsMade context i (it ∷ []) old new

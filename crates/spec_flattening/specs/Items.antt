@@ -130,16 +130,28 @@ pub record IsStreamMade (context : Context) (i : ℕ) (item : tree.Item) (old ne
   pub makes : (is_stream (Some item) ≡ true → (top_in context i).id ≡ length old.equations + length made - 1) → MakesStreams (items_in context) (kinds_in context) (top_in context) i (item ∷ []) (length old.equations) made
 
 -- the streams of the definitions are those that are foreseen behind n equations
-abbrev pub AreNumbered : Context → ℕ → Type 0
-AreNumbered context n =
+abbrev pub AreTopNumbered : Context → ℕ → Type 0
+AreTopNumbered context n =
     (i : ℕ) → is_stream (slice_get (items_in context) i) ≡ true → (top_in context i).id ≡ count_to (items_in context) (kinds_in context) n i - 1
+
+-- names stand for the streams of a table, the first place of which has number i
+pub record Follows (top : ℕ → Stream) (i : ℕ) (streams : List (Option Stream)) : Type 0 where
+  pub each : (k : ℕ) (s : Stream) → slice_get streams k ≡ Some (Some s) → top (i + k) ≡ s
+
+-- The inputs alone are made, and names stand for their streams and for those that are foreseen.
+pub record IsBegun (context : Context) (system : System) : Type 0 where
+  pub ready : IsReady context
+  pub equations_are : system.equations ≡ input_equations (items_in context)
+  pub no_output : system.outputs ≡ []
+  pub follows : Follows (top_in context) 0 (input_streams 0 (items_in context))
+  pub numbered : AreTopNumbered context (length system.equations)
 
 -- what the first items make; foreseen streams are exact where there are no more equations than a system has
 pub record AreStreamsMade (context : Context) (items : List tree.Item) (old new : System) : Type 0 where
   pub made : List Equation
   pub new_is : new ≡ with_equations old made
   pub marks_are : map mark_of made ≡ stream_marks (items_in context) (kinds_in context) 0 items
-  pub makes : AreNumbered context (length old.equations) → length old.equations + length made ≤ 4096 → MakesStreams (items_in context) (kinds_in context) (top_in context) 0 items (length old.equations) made
+  pub makes : AreTopNumbered context (length old.equations) → length old.equations + length made ≤ 4096 → MakesStreams (items_in context) (kinds_in context) (top_in context) 0 items (length old.equations) made
 
 -- ---- outputs
 abbrev pub named_unit : Place → List ℕ → Equation

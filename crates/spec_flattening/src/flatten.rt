@@ -2,6 +2,7 @@
 
 ghost use Rattle.std.specs.Prelude.{◌≡◌, ◌<◌, ◌^◌, ℕ, [], length, map, None, IfOk, IfErr, OnOk};
 ghost use Rattle.flat_core.specs.Complete.{IsFlat};
+ghost use Rattle.stream_constructs.specs.Limits.{is_update, refusal};
 ghost use Rattle.spec_parser.specs.Shape.{item_of};
 ghost use Rattle.name_check.specs.Scope.{top};
 ghost use Rattle.expr_types.specs.Shown.{kinds_of};
@@ -13,17 +14,20 @@ ghost use Rattle.parsed_texts.specs.Short.{HaveShortTexts};
 ghost use Rattle.flat_completeness.specs.Laws.{HasOutputs};
 ghost use Rattle.equation_marks.specs.Marks.{all_marks, mark_of};
 ghost use Rattle.equation_marks.specs.Refused.{AreRefused, refused};
+ghost use Rattle.spec_flattening.specs.Items.{IsBegun, items_in, kinds_in};
 
 use crate::context::Context;
 use crate::top::{foresee, inputs};
 use equation_marks::count::Counter;
 use expr_types::kinds::KindTable;
+use flat_core::equation::Op;
 use flat_core::flat::Flat;
 use function_bodies::functions::Functions;
 use name_check::names::Names;
 use spec_parser::tree::Item;
 use std::alloc::Global;
-use stream_constructs::maker::{MOST_EQUATIONS, MakeFault, Maker};
+use stream_constructs::maker::{MOST_EQUATIONS, MOST_UPDATES, MakeFault, Maker};
+use tsl_value::ids::EqId;
 
 /// Makes the flat system of a checked specification: first its inputs, then its definitions of the top that are streams, then its
 /// outputs, each in the order of the source.
@@ -65,9 +69,55 @@ pub fn flatten(
         functions,
         streams: &streams,
     };
-    context.definitions(&mut maker)?;
-    context.outputs(&mut maker)?;
-    // Within the limit the foreseen streams are those that were made.
-    prove!(maker.count() <= MOST_EQUATIONS);
-    Ok(maker.finish()?)
+    context.behind_inputs(maker)
+}
+
+impl Context<'_> {
+    /// Makes the definitions of the top and the outputs behind the inputs.
+    fn behind_inputs(&self, mut maker: Maker) -> Result<Flat, MakeFault>
+        requires begun { IsBegun self.now maker }
+        requires outputs { HasOutputs (items_in self.now) }
+        requires short { HaveShortTexts (items_in self.now) }
+        requires few { length self.now.items.now < 2 ^ 31 }
+        ensures flat { IfOk result (λ f. IsFlatOf (items_in self.now) (kinds_in self.now) f.equations f.outputs) }
+        ensures marks { IfOk result (λ f. map mark_of f.equations ≡ all_marks (items_in self.now) (kinds_in self.now)) }
+        ensures within { OnOk result (refused (all_marks (items_in self.now) (kinds_in self.now)) ≡ None) }
+        ensures is_flat { IfOk result (λ f. IsFlat f) }
+        ensures refused { IfErr result (AreRefused (all_marks (items_in self.now) (kinds_in self.now))) }
+    {
+        self.definitions(&mut maker)?;
+        self.outputs(&mut maker)?;
+        // Within the limit the foreseen streams are those that were made.
+        prove!(maker.count() <= MOST_EQUATIONS);
+        let flat = maker.finish()?;
+        match passed_limit(&flat) {
+            Some(fault) => Err(fault),
+            None => Ok(flat),
+        }
+    }
+}
+
+fn is_update(op: &Op) -> bool
+    ensures { result ≡ is_update op.now }
+{
+    matches!(op, Op::SetAdd | Op::SetRemove | Op::MapAdd | Op::MapRemove)
+}
+
+/// Where the equations of a system pass the limits. A maker keeps them, but doesn't tell of its updates.
+fn passed_limit(flat: &Flat) -> Option<MakeFault>
+    ensures { result ≡ refusal flat.now.equations }
+{
+    let mut updates = 0;
+    for number in 0..flat.count() {
+        let equation = flat.equation(EqId::new(number));
+        if is_update(&equation.op) {
+            if updates == MOST_UPDATES {
+                return Some(MakeFault::TooManyUpdates {
+                    place: equation.place,
+                });
+            }
+            updates += 1;
+        }
+    }
+    None
 }

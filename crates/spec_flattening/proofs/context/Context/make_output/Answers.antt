@@ -1,7 +1,7 @@
 use Rattle.std.proofs.Common.{ap}
 use Rattle.std.proofs.lemmas.Result.{on_ok_weaker}
 use Rattle.spec_parser.specs.Shape.{item_of}
-use Rattle.spec_flattening.proofs.Outputs.{definition_no_output, input_no_output, named_output_can, named_output_made, output_can, output_made}
+use Rattle.spec_flattening.proofs.Outputs.{definition_no_output, input_no_output, named_output_can, named_output_made, output_can, output_made, printed_room}
 use Rattle.spec_flattening.proofs.context.Context.make_output.Goals as goal
 
 pub output_name-requires : goal.output_name-requires
@@ -11,6 +11,14 @@ output_name-requires c =
 pub printed-requires : goal.printed-requires
 printed-requires c =
     named_output_can c.args.self.now c.args.here.now c.in-OutputAs.field-0 c.in-OutputAs.field-2 c.in-OutputAs.expression c.in-OutputAs.name (item_of c.args.item.now) c.requires.ready c.requires.here c.requires.item (ap item_of c.in-OutputAs.is)
+
+pub add_output-requires : goal.add_output-requires
+add_output-requires c =
+    printed_room c.args.self.now c.args.here.now.around.number _ c.in-Output.name c.args.maker.now c.output_name.new.maker c.in_ok-stream-in-Output.stream c.in_ok-stream-in-Output.ensures.printed c.requires.room
+
+pub add_output-in-OutputAs-requires : goal.add_output-in-OutputAs-requires
+add_output-in-OutputAs-requires c =
+    printed_room c.args.self.now c.args.here.now.around.number c.in-OutputAs.expression c.in-OutputAs.name c.args.maker.now c.printed.new.maker c.in_ok-stream-in-OutputAs.stream c.in_ok-stream-in-OutputAs.ensures.printed c.requires.room
 
 pub returns-in_ok-stream-in-Output-clause-made : goal.returns-in_ok-stream-in-Output-clause-made
 returns-in_ok-stream-in-Output-clause-made c =

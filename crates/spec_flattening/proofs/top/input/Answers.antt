@@ -1,0 +1,10 @@
+use Rattle.std.proofs.Common.{[], ◌∷◌, ◌++◌, None, Some, refl, ap}
+use Rattle.std.proofs.lemmas.Result.{err_from_is_err_and}
+use Rattle.spec_parser.specs.Shape.{item_of}
+use Rattle.spec_flattening.specs.Items.{input_equations}
+use Rattle.spec_flattening.proofs.Inputs.{has_type, input_made_is, input_refused_is, input_stream_is}
+use Rattle.spec_flattening.proofs.Lists.{refusal_at}
+use Rattle.spec_flattening.proofs.top.input.Goals as goal
+
+pub prove-unreachable-requires : goal.prove-unreachable-requires
+prove-unreachable-requires c = has_type (item_of c.args.item.now) c.in-Input.field-0 c.in-Input.place c.in-Input.name c.in-Input.of (ap item_of c.in-Input.is) None c.in-None.ensures c.requires refl
