@@ -4,6 +4,7 @@ use Rattle.std.proofs.lemmas.Result.{err_from_is_err_and}
 use Rattle.spec_parser.specs.Shape.{item_of}
 use Rattle.expr_types.specs.Shown.{kinds_of}
 use Rattle.equation_marks.specs.Marks.{all_marks}
+use Rattle.spec_flattening.specs.declared.context.Context.{Context}
 use Rattle.spec_flattening.proofs.Inputs.{have_event_types, table_length}
 use Rattle.spec_flattening.proofs.Lists.{refused_at}
 use Rattle.spec_flattening.proofs.Whole.{inputs_refused, is_begun}
@@ -18,7 +19,8 @@ foresee-requires-clause-room c =
 
 pub behind_inputs-requires-clause-begun : goal.behind_inputs-requires-clause-begun
 behind_inputs-requires-clause-begun c =
-    is_begun _ c.count.result c.new-maker.result c.inputs.new.maker c.in_ok-streams.streams.items c.foresee.new.streams.items c.deref-context.ensures.value c.requires.names c.requires.checked c.new-maker.ensures.equations c.new-maker.ensures.outputs c.in_ok-streams.ensures.made c.count.ensures.count c.in_ok-streams.ensures.streams c.in_ok-foresee.ensures c.requires.bodies c.requires.small c.requires.nests
+    let context : Context = record { alloc = c.args.alloc; items = c.args.items; names = c.args.names; kinds = c.args.kinds; functions = c.args.functions; streams = c.deref.result } in
+    is_begun context c.count.result c.new-maker.result c.inputs.new.maker c.in_ok-streams.streams.items c.foresee.new.streams.items c.deref.ensures.value c.requires.names c.requires.checked c.new-maker.ensures.equations c.new-maker.ensures.outputs c.in_ok-streams.ensures.made c.count.ensures.count c.in_ok-streams.ensures.streams c.in_ok-foresee.ensures.foreseen c.requires.bodies c.requires.small c.requires.nests
 
 pub returns-in_err-streams-clause-refused : goal.returns-in_err-streams-clause-refused
 returns-in_err-streams-clause-refused c =

@@ -6,5 +6,5 @@ use Rattle.spec_flattening.proofs.Inputs.{has_type, input_made_is, input_refused
 use Rattle.spec_flattening.proofs.Lists.{refusal_at}
 use Rattle.spec_flattening.proofs.top.input.Goals as goal
 
-pub prove-unreachable-requires : goal.prove-unreachable-requires
-prove-unreachable-requires c = has_type (item_of c.args.item.now) c.in-Input.field-0 c.in-Input.place c.in-Input.name c.in-Input.of (ap item_of c.in-Input.is) None c.in-None.ensures c.requires refl
+pub unreachable-requires : goal.unreachable-requires
+unreachable-requires c = has_type (item_of c.args.item.now) c.in-Input.field-0 c.in-Input.place c.in-Input.name c.in-Input.of (ap item_of c.in-Input.is) None c.in-None.ensures c.requires refl

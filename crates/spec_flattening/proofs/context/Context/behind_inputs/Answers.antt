@@ -1,3 +1,4 @@
+use Rattle.std.proofs.Common.{arith}
 use Rattle.std.proofs.lemmas.Result.{err_from_is_err_and}
 use Rattle.equation_marks.specs.Marks.{all_marks}
 use Rattle.spec_flattening.specs.Items.{items_in, kinds_in}
@@ -10,7 +11,7 @@ outputs-requires-clause-room c = outputs_room c.args.self.now c.args.maker c.req
 
 pub finish-requires : goal.finish-requires
 finish-requires c =
-    is_complete c.args.self.now c.args.maker c.requires.begun c.definitions.new.maker c.in_ok-definitions.ensures.made c.outputs.new.maker c.in_ok-outputs.ensures.made c.requires.outputs c.requires.short c.if-prove.true
+    is_complete c.args.self.now c.args.maker c.requires.begun c.definitions.new.maker c.in_ok-definitions.ensures.made c.outputs.new.maker c.in_ok-outputs.ensures.made c.requires.outputs c.requires.short (omega arith)
 
 pub returns-in_err-definitions-clause-refused : goal.returns-in_err-definitions-clause-refused
 returns-in_err-definitions-clause-refused c =
@@ -30,7 +31,7 @@ returns-in-Some-clause-refused c =
 
 pub returns-in-None-clause-flat : goal.returns-in-None-clause-flat
 returns-in-None-clause-flat c =
-    whole_flat c.args.self.now c.args.maker c.requires.begun c.definitions.new.maker c.in_ok-definitions.ensures.made c.outputs.new.maker c.in_ok-outputs.ensures.made c.in_ok-flat.flat c.in_ok-flat.ensures.equations c.in_ok-flat.ensures.outputs c.if-prove.true
+    whole_flat c.args.self.now c.args.maker c.requires.begun c.definitions.new.maker c.in_ok-definitions.ensures.made c.outputs.new.maker c.in_ok-outputs.ensures.made c.in_ok-flat.flat c.in_ok-flat.ensures.equations c.in_ok-flat.ensures.outputs (omega arith)
 
 pub returns-in-None-clause-marks : goal.returns-in-None-clause-marks
 returns-in-None-clause-marks c =

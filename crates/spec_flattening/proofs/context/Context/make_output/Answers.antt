@@ -16,8 +16,8 @@ pub add_output-requires : goal.add_output-requires
 add_output-requires c =
     printed_room c.args.self.now c.args.here.now.around.number _ c.in-Output.name c.args.maker.now c.output_name.new.maker c.in_ok-stream-in-Output.stream c.in_ok-stream-in-Output.ensures.printed c.requires.room
 
-pub add_output-in-OutputAs-requires : goal.add_output-in-OutputAs-requires
-add_output-in-OutputAs-requires c =
+pub add_output-requires-in-OutputAs : goal.add_output-requires-in-OutputAs
+add_output-requires-in-OutputAs c =
     printed_room c.args.self.now c.args.here.now.around.number c.in-OutputAs.expression c.in-OutputAs.name c.args.maker.now c.printed.new.maker c.in_ok-stream-in-OutputAs.stream c.in_ok-stream-in-OutputAs.ensures.printed c.requires.room
 
 pub returns-in_ok-stream-in-Output-clause-made : goal.returns-in_ok-stream-in-Output-clause-made
