@@ -1,11 +1,10 @@
 -- The definitions of the top, made one behind the other.
-use Rattle.std.proofs.Common.{◌≡◌, ℕ, suc, ◌+◌, ◌-◌, ◌<◌, ◌≤◌, true, false, List, [], ◌∷◌, ◌++◌, map, length, get_or, take, drop, min, Option, Some, None, Result, Ok, Err, refl, ap, sym, subst, ◌∙◌, append_assoc, add-one, arith, length-append}
+use Rattle.std.proofs.Common.{◌≡◌, ℕ, suc, ◌+◌, ◌-◌, ◌<◌, ◌≤◌, true, false, List, [], ◌∷◌, ◌++◌, map, length, get_or, take, drop, min, Option, Some, Result, Ok, Err, refl, ap, sym, subst, ◌∙◌, append_assoc, add-one, arith, length-append}
 use Rattle.std.specs.Prelude.{slice_get}
 use Rattle.std.proofs.lemmas.List.{append-nil, length-map, map-append, take-map, take_all}
 use Rattle.std.proofs.lemmas.Option.{same_Some}
 use Rattle.std.proofs.lemmas.Bool.{true≢false}
 use Rattle.tsl_value.specs.declared.place.Place.{Place}
-use Rattle.tsl_value.specs.declared.scalar.ValueType.{ValueType}
 use Rattle.flat_core.specs.declared.equation.Equation.{Equation}
 use Rattle.flat_core.specs.System.{System, with_name}
 use Rattle.spec_parser.specs.Tree as tree
@@ -13,7 +12,6 @@ use Rattle.spec_parser.specs.Tree.{Expr}
 use Rattle.spec_parser.specs.Shape.{body_of, item_of}
 use Rattle.spec_parser.specs.declared.tree.DefinitionParts.{DefinitionParts}
 use Rattle.spec_parser.specs.declared.tree.Item.{Item}
-use Rattle.type_rules.specs.declared.rule.ExprType.{ExprType}
 use Rattle.type_rules.specs.declared.rule.ExprType.TheVariants as expr_type
 use Rattle.type_rules.specs.Asked.{inner}
 use Rattle.expr_types.specs.Bodies.{at_top, in_definition}
@@ -34,7 +32,7 @@ use Rattle.spec_flattening.specs.declared.context.Context.{Context}
 use Rattle.spec_flattening.specs.declared.context.Here.{Here}
 use Rattle.spec_flattening.specs.Answers.{CanMake, IsBody, IsBodyAnswer, IsBodyMade, IsRefusedBehind}
 use Rattle.spec_flattening.specs.Here.{IsHere, MayMakeAt}
-use Rattle.spec_flattening.specs.Items.{AreTopNumbered, AreStreamsMade, IsReady, IsStreamDefinition, IsStreamMade, IsTopHere, count_to, items_in, kinds_in, top_in, top_site}
+use Rattle.spec_flattening.specs.Items.{AreTopNumbered, AreStreamsMade, IsReady, IsStreamDefinition, IsStreamMade, IsTopHere, items_in, kinds_in, top_in, top_site}
 use Rattle.spec_flattening.proofs.Lists.{items_before, items_more, items_split, item_there, no_stream_marks, stream_marks-append, stream_marks_behind, streams_join, streams_moved, with_both}
 use Rattle.spec_flattening.proofs.Named.{body_some, named_marks, with_named}
 use Rattle.spec_flattening.proofs.TopPlaces.{body_may, is_here, plain_body}
@@ -48,9 +46,9 @@ refused_behind old xs ys f h =
 pub refused_later : (old mid : System) (made : List Equation) (xs ys : List Mark) (f : MakeFault) → mid ≡ with_equations old made → map mark_of made ≡ xs → IsRefusedBehind mid ys f → IsRefusedBehind old (xs ++ ys) f
 refused_later old mid made xs ys f is marks h =
     let all : map mark_of mid.equations ++ ys ≡ map mark_of old.equations ++ (xs ++ ys) =
-        ap (λ (s : System). map mark_of s.equations ++ ys) is
-        ∙ ap (λ ms. ms ++ ys) (map-append mark_of old.equations made ∙ ap (λ ms. map mark_of old.equations ++ ms) marks)
-        ∙ append_assoc (map mark_of old.equations) xs ys in
+    ap (λ (s : System). map mark_of s.equations ++ ys) is
+    ∙ ap (λ ms. ms ++ ys) (map-append mark_of old.equations made ∙ ap (λ ms. map mark_of old.equations ++ ms) marks)
+    ∙ append_assoc (map mark_of old.equations) xs ys in
     subst (λ ms. AreRefused ms f) all h
 
 module _ (context : Context) where
@@ -184,9 +182,9 @@ module _ (context : Context) where
         let rest = map item_of (drop (k + 1) context.items.now) in
         let back = stream_marks items (kinds_in context) (k + 1) rest in
         let all : stream_marks items (kinds_in context) 0 items ≡ front ++ (own_marks ++ back) =
-            ap (stream_marks items (kinds_in context) 0) (items_split context.items.now k item lt is)
-            ∙ stream_marks_behind items (kinds_in context) context.items.now k (item_of item ∷ rest) lt
-            ∙ ap (λ ms. front ++ ms) (stream_marks-append items (kinds_in context) k (item_of item ∷ []) rest) in
+        ap (stream_marks items (kinds_in context) 0) (items_split context.items.now k item lt is)
+        ∙ stream_marks_behind items (kinds_in context) context.items.now k (item_of item ∷ rest) lt
+        ∙ ap (λ ms. front ++ ms) (stream_marks-append items (kinds_in context) k (item_of item ∷ []) rest) in
         subst (λ ms. IsRefusedBehind old ms f) (append_assoc front own_marks back ∙ sym all)
         (refused_behind old (front ++ own_marks) back f (refused_later old mid first.made front own_marks f first.new_is first.marks_are own))
 

@@ -7,7 +7,6 @@ use Rattle.std.proofs.lemmas.List.{append-nil, drop_all}
 use Rattle.std.proofs.lemmas.Option.{none-some, same_Some}
 use Rattle.tsl_value.specs.declared.place.Place.{Place}
 use Rattle.tsl_value.specs.declared.scalar.ValueType.{ValueType}
-use Rattle.flat_core.specs.declared.equation.Equation.{Equation}
 use Rattle.flat_core.specs.System.{System}
 use Rattle.flat_core.proofs.Members.{contains_head, contains_tail}
 use Rattle.spec_parser.specs.Tree as tree
@@ -81,17 +80,18 @@ left_refused whole old now streams items k item f left lt is refused =
     let own = input_equations (item_of item ∷ []) in
     let here : map item_of (drop k items) ≡ item_of item ∷ rest = ap (map item_of) (drop_item items k item lt is) in
     let all : (now.equations ++ own) ++ input_equations rest ≡ old.equations ++ input_equations whole =
-        append_assoc now.equations own (input_equations rest)
-        ∙ ap (λ es. now.equations ++ es) (sym (equations_split (item_of item) rest) ∙ sym (ap input_equations here))
-        ∙ ap (λ (t : System). t.equations) left.made in
+    append_assoc now.equations own (input_equations rest)
+    ∙ ap (λ es. now.equations ++ es) (sym (equations_split (item_of item) rest) ∙ sym (ap input_equations here))
+    ∙ ap (λ (t : System). t.equations) left.made in
     subst (λ es. IsRefusal es f) all (IsRefusal_longer (now.equations ++ own) (input_equations rest) f refused)
 
 -- nothing is left
 pub left_none : (whole : List tree.Item) (old now : System) (streams : List (Option Stream)) (items : List Item) (k : ℕ) → AreLeft whole old now streams (map item_of (drop k items)) → length items ≤ k → (now ≡ with_equations old (input_equations whole)) × (streams ≡ input_streams (length old.equations) whole)
 left_none whole old now streams items k h past =
-    let none : map item_of (drop k items) ≡ [] = ap (map item_of) (drop_all k items past) in
-    (ap (λ es. record now { equations = es }) (sym (append-nil now.equations)) ∙ ap (λ l. with_equations now (input_equations l)) (sym none) ∙ h.made,
-        sym (append-nil streams) ∙ ap (λ l. streams ++ input_streams (length now.equations) l) (sym none) ∙ h.table)
+    let none : map item_of (drop k items) ≡ [] = ap (map item_of) (drop_all k items past) in (
+      ap (λ es. record now { equations = es }) (sym (append-nil now.equations)) ∙ ap (λ l. with_equations now (input_equations l)) (sym none) ∙ h.made,
+      sym (append-nil streams) ∙ ap (λ l. streams ++ input_streams (length now.equations) l) (sym none) ∙ h.table,
+    )
 
 -- ---- one item where the code makes it
 module _ (item : tree.Item) (p q : Place) (x : List ℕ) (y : tree.TypeName) (is : item ≡ tree.Input p q x y) (of : Option ValueType) (of_is : of ≡ event_type y) where

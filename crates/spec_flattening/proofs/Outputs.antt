@@ -1,12 +1,9 @@
 -- The outputs, made one behind the other.
-use Rattle.std.proofs.Common.{◌≡◌, ℕ, suc, ◌+◌, ◌-◌, ◌<◌, ◌≤◌, ◌^◌, ◌&&◌, Bool, true, false, List, [], ◌∷◌, ◌++◌, map, length, get_or, take, drop, Option, Some, None, Result, Ok, Err, refl, ap, sym, subst, ◌∙◌, append_assoc, arith, length-append}
+use Rattle.std.proofs.Common.{◌≡◌, ℕ, ◌+◌, ◌-◌, ◌<◌, ◌≤◌, ◌^◌, Bool, true, false, List, [], ◌∷◌, ◌++◌, map, length, get_or, take, drop, Some, Result, Ok, Err, refl, ap, sym, subst, ◌∙◌, append_assoc, arith, length-append}
 use Rattle.std.specs.Prelude.{IfErr, IfOk, OnOk, if◌then◌else◌, slice_get}
-use Rattle.std.proofs.lemmas.Bool.{true≢false}
 use Rattle.std.proofs.lemmas.List.{append-nil, map-append, take_all}
 use Rattle.tsl_value.specs.declared.place.Place.{Place}
-use Rattle.flat_core.specs.declared.equation.Equation.{Equation}
 use Rattle.flat_core.specs.declared.equation.Op.TheVariants as op
-use Rattle.flat_core.specs.declared.equation.Output.{Output}
 use Rattle.flat_core.specs.System.{System, with_name}
 use Rattle.flat_core.specs.Typed.{unit_type}
 use Rattle.spec_parser.specs.Tree as tree
@@ -15,7 +12,6 @@ use Rattle.spec_parser.specs.Shape.{item_of}
 use Rattle.spec_parser.specs.declared.tree.Item.{Item}
 use Rattle.name_check.specs.Builtin.{is_unit}
 use Rattle.name_check.specs.Scope.{meaning, top}
-use Rattle.expr_types.specs.Around.{params_of}
 use Rattle.expr_types.specs.Bodies.{at_top}
 use Rattle.stream_constructs.specs.declared.construct.Stream.{Stream}
 use Rattle.stream_constructs.specs.declared.maker.MakeFault.{MakeFault}
@@ -35,7 +31,7 @@ use Rattle.spec_flattening.specs.declared.context.Context.{Context}
 use Rattle.spec_flattening.specs.declared.context.Here.{Here}
 use Rattle.spec_flattening.specs.Answers.{CanName, IsAnswer, IsExpression, IsMadeAt, IsNamed, IsRefusedBehind}
 use Rattle.spec_flattening.specs.Here.{IsHere, MayMakeAt}
-use Rattle.spec_flattening.specs.Items.{AreOutputsMade, CanPrint, IsPrinted, IsReady, IsTopHere, IsTopItem, items_in, kinds_in, named_unit, top_in, top_site}
+use Rattle.spec_flattening.specs.Items.{AreOutputsMade, CanPrint, IsPrinted, IsReady, IsTopHere, items_in, kinds_in, named_unit, top_in, top_site}
 use Rattle.spec_flattening.proofs.Definitions.{refused_behind}
 use Rattle.spec_flattening.proofs.Lists.{items_before, items_more, items_split, output_marks-append, output_marks_behind, outputs_join, outputs_moved}
 use Rattle.spec_flattening.proofs.Named.{makes_some, name_marks, named_marks, none_made, with_named}
@@ -100,7 +96,7 @@ module _ (context : Context) where
   unit_refused i q x old f unit h =
       let own : plain 1 q ≡ printed_marks items (kinds_in context) i (tree.Name q x) = sym (ap (λ b. if (if b then false else true) then [] else (if b then plain 1 q else [])) unit) in
       let all : map mark_of (old.equations ++ equations_for old q unit_type construct.Unit []) ≡ map mark_of old.equations ++ printed_marks items (kinds_in context) i (tree.Name q x) =
-          map-append mark_of old.equations (equations_for old q unit_type construct.Unit []) ∙ ap (λ ms. map mark_of old.equations ++ ms) own in
+      map-append mark_of old.equations (equations_for old q unit_type construct.Unit []) ∙ ap (λ ms. map mark_of old.equations ++ ms) own in
       subst (λ ms. AreRefused ms f) all (are_refused_of (old.equations ++ equations_for old q unit_type construct.Unit []) f h)
 
   -- ---- expressions where the code makes them
@@ -256,11 +252,11 @@ module _ (context : Context) where
         let rest = map item_of (drop (k + 1) context.items.now) in
         let back = output_marks items (kinds_in context) (k + 1) rest in
         let all : output_marks items (kinds_in context) 0 items ≡ front ++ (own_marks ++ back) =
-            ap (output_marks items (kinds_in context) 0) (items_split context.items.now k item lt is)
-            ∙ output_marks_behind items (kinds_in context) context.items.now k (item_of item ∷ rest) lt
-            ∙ ap (λ ms. front ++ ms) (output_marks-append items (kinds_in context) k (item_of item ∷ []) rest) in
+        ap (output_marks items (kinds_in context) 0) (items_split context.items.now k item lt is)
+        ∙ output_marks_behind items (kinds_in context) context.items.now k (item_of item ∷ rest) lt
+        ∙ ap (λ ms. front ++ ms) (output_marks-append items (kinds_in context) k (item_of item ∷ []) rest) in
         let equations_are : map mark_of mid.equations ≡ map mark_of old.equations ++ front =
-            ap (λ (s : System). map mark_of s.equations) first.new_is ∙ map-append mark_of old.equations first.made ∙ ap (λ ms. map mark_of old.equations ++ ms) first.marks_are in
+        ap (λ (s : System). map mark_of s.equations) first.new_is ∙ map-append mark_of old.equations first.made ∙ ap (λ ms. map mark_of old.equations ++ ms) first.marks_are in
         subst (λ ms. IsRefusedBehind old ms f) (append_assoc front own_marks back ∙ sym all)
         (refused_behind old (front ++ own_marks) back f (subst (λ ms. AreRefused ms f) (ap (λ ms. ms ++ own_marks) equations_are ∙ append_assoc (map mark_of old.equations) front own_marks) own))
 

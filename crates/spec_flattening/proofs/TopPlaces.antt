@@ -1,5 +1,5 @@
 -- The definitions of the top and the outputs may be made where the code makes them.
-use Rattle.std.proofs.Common.{◌≡◌, ℕ, Bool, true, false, List, [], ◌∷◌, ◌++◌, map, Option, Some, None, Contains, refl, ap, sym, subst, ◌∙◌}
+use Rattle.std.proofs.Common.{◌≡◌, ℕ, List, [], Option, Some, None, Contains, refl, ap, sym, subst, ◌∙◌}
 use Rattle.std.specs.Prelude.{if◌then◌else◌, slice_get}
 use Rattle.std.proofs.lemmas.List.{append-nil}
 use Rattle.std.proofs.lemmas.Option.{none-some}
@@ -10,14 +10,13 @@ use Rattle.spec_parser.specs.Tree as tree
 use Rattle.spec_parser.specs.Tree.{Expr}
 use Rattle.name_check.specs.declared.declaration.Declaration.{Declaration}
 use Rattle.name_check.specs.declared.declaration.Declaration.TheVariants as declaration
-use Rattle.name_check.specs.Bodies.{Seen, item_bodies}
+use Rattle.name_check.specs.Bodies.{item_bodies}
 use Rattle.name_check.specs.Parts.{Part, parts}
-use Rattle.name_check.specs.Scope.{Agree, meaning, seen, top}
+use Rattle.name_check.specs.Scope.{seen, top}
 use Rattle.name_check.proofs.AgreeLemmas.{agree_same}
 use Rattle.type_rules.specs.declared.rule.ExprType.TheVariants as expr_type
 use Rattle.expr_types.specs.Around.{Around, Kinds, declared_type, params_of}
 use Rattle.expr_types.specs.Bodies.{at_top, block_kind, in_definition, local_kind, may_have_braces, within_block}
-use Rattle.expr_types.specs.Shown.{around_of}
 use Rattle.stream_constructs.specs.declared.construct.Stream.{Stream}
 use Rattle.spec_meaning.specs.Occurrence.{result_of}
 use Rattle.macro_flatten.specs.Flat.{outermost}
@@ -28,12 +27,11 @@ use Rattle.checked_spec.specs.Formed.{IsDeclared}
 use Rattle.checked_spec.specs.Laws.{IsStreamBody}
 use Rattle.checked_spec.proofs.BodyLaws.{named_outputs_are_typed, outputs_are_typed, streams_are_typed}
 use Rattle.typed_flat.specs.Matches.{Matches}
-use Rattle.typed_flat.proofs.Scopes.{meaning_declared}
 use Rattle.equation_marks.specs.Marks.{most_calls}
 use Rattle.spec_flattening.specs.declared.context.Context.{Context}
 use Rattle.spec_flattening.specs.declared.context.Here.{Here}
-use Rattle.spec_flattening.specs.Answers.{CanMake, CanName}
-use Rattle.spec_flattening.specs.Here.{HasStream, IsHere, MayMakeAt, Site}
+use Rattle.spec_flattening.specs.Answers.{CanMake}
+use Rattle.spec_flattening.specs.Here.{HasStream, IsHere, MayMakeAt}
 use Rattle.spec_flattening.specs.Items.{CanPrint, IsReady, IsTopHere, IsTopItem, items_in, kinds_in, top_in, top_site}
 use Rattle.spec_flattening.specs.Making.{StandsIn}
 

@@ -136,7 +136,7 @@ module _ (context : Context) (names : context.names.now ≡ top (items_in contex
 pub inputs_refused : (items : List tree.Item) (kinds : Kinds) (first : System) → first.equations ≡ [] → (f : MakeFault) → IsRefusal (first.equations ++ input_equations items) f → AreRefused (all_marks items kinds) f
 inputs_refused items kinds first none f h =
     let marks : map mark_of (first.equations ++ input_equations items) ≡ input_marks items kinds items =
-        ap (λ es. map mark_of (es ++ input_equations items)) none ∙ input_equations_marks items kinds items in
+    ap (λ es. map mark_of (es ++ input_equations items)) none ∙ input_equations_marks items kinds items in
     let front = input_marks items kinds items in
     let middle = stream_marks items kinds 0 items in
     let back = output_marks items kinds 0 items in

@@ -19,7 +19,6 @@ use Rattle.expr_types.specs.Around.{Kinds, params_of}
 use Rattle.expr_types.specs.Bodies.{at_top}
 use Rattle.expr_types.specs.Shown.{around_of, kinds_of}
 use Rattle.stream_constructs.specs.declared.construct.Stream.{Stream}
-use Rattle.stream_constructs.specs.declared.maker.MakeFault.{MakeFault}
 use Rattle.stream_constructs.specs.Made.{input_equation, with_equations}
 use Rattle.macro_flatten.specs.Flat.{event_type, outermost, MakesOutputs, MakesPrinted, MakesStreams}
 use Rattle.call_limits.specs.Nesting.{CallsMacro, Chain}

@@ -12,12 +12,12 @@ loop-number-preserved c =
     let es = c.args.flat.now.equations in
     let there = ap (slice_get es) (sym c.new.ensures) ∙ c.equation-equation.ensures in
     elim c.if-is_update.branch [
-      then-is_update+else-updates-eq-MOST_UPDATES w ↦
-        subst (IsPassedFrom es (c.loop-number.number + 1)) (sym w.updates-is)
-        (update_turn es c.loop-number.number c.loop-number.updates c.loop-number.invariant c.equation-equation.result.now there (omega arith) (sym c.is_update.ensures ∙ w.if-is_update.true) w.if-updates-eq-MOST_UPDATES.false)
-    | else-is_update w ↦
-        subst (IsPassedFrom es (c.loop-number.number + 1)) (sym w.updates-is)
-        (other_turn es c.loop-number.number c.loop-number.updates c.loop-number.invariant c.equation-equation.result.now there (omega arith) (sym c.is_update.ensures ∙ w.if-is_update.false))
+      | then-is_update+else-updates-eq-MOST_UPDATES w ↦
+          subst (IsPassedFrom es (c.loop-number.number + 1)) (sym w.updates-is)
+          (update_turn es c.loop-number.number c.loop-number.updates c.loop-number.invariant c.equation-equation.result.now there (omega arith) (sym c.is_update.ensures ∙ w.if-is_update.true) w.if-updates-eq-MOST_UPDATES.false)
+      | else-is_update w ↦
+          subst (IsPassedFrom es (c.loop-number.number + 1)) (sym w.updates-is)
+          (other_turn es c.loop-number.number c.loop-number.updates c.loop-number.invariant c.equation-equation.result.now there (omega arith) (sym c.is_update.ensures ∙ w.if-is_update.false))
     ]
 
 pub returns-then-updates-eq-MOST_UPDATES : goal.returns-then-updates-eq-MOST_UPDATES

@@ -1,9 +1,6 @@
-use Rattle.std.proofs.Common.{[], ◌∷◌, ◌++◌, None, Some, refl, ap}
-use Rattle.std.proofs.lemmas.Result.{err_from_is_err_and}
+use Rattle.std.proofs.Common.{None, refl, ap}
 use Rattle.spec_parser.specs.Shape.{item_of}
-use Rattle.spec_flattening.specs.Items.{input_equations}
-use Rattle.spec_flattening.proofs.Inputs.{has_type, input_made_is, input_refused_is, input_stream_is}
-use Rattle.spec_flattening.proofs.Lists.{refusal_at}
+use Rattle.spec_flattening.proofs.Inputs.{has_type}
 use Rattle.spec_flattening.proofs.top.input.Goals as goal
 
 pub unreachable-requires : goal.unreachable-requires

@@ -12,7 +12,7 @@ output-requires-clause-item c = item_there c.args.self.now.items.now c.loop-numb
 pub output-requires-clause-room : goal.output-requires-clause-room
 output-requires-clause-room c =
     let few : length c.loop-number.maker.outputs ≤ length c.args.maker.now.outputs + c.loop-number.number =
-        room_turn c.args.self.now c.loop-number.number c.index-items-number.result c.loop-number-test.true c.index-items-number.is c.args.maker.now c.loop-number.maker c.loop-number.invariant in
+    room_turn c.args.self.now c.loop-number.number c.index-items-number.result c.loop-number-test.true c.index-items-number.is c.args.maker.now c.loop-number.maker c.loop-number.invariant in
     omega arith
 
 pub loop-number-init : goal.loop-number-init
