@@ -6,5 +6,4 @@ pub mod StreamItems
 pub mod Definitions
 pub mod Foreseen
 pub mod Outputs
-pub mod Passed
 pub mod Whole

@@ -30,13 +30,12 @@ use Rattle.flat_completeness.specs.Laws.{HasOutputs}
 use Rattle.flat_completeness.proofs.Whole.{flats_are_complete}
 use Rattle.equation_marks.specs.Marks.{Mark, all_marks, input_marks, mark_of, output_marks, stream_marks}
 use Rattle.equation_marks.specs.Refused.{AreRefused, refused}
-use Rattle.equation_marks.proofs.Refusing.{are_refused_of, are_refused-append}
+use Rattle.equation_marks.proofs.Refusing.{are_refused_of, are_refused-append, refusal_marks}
 use Rattle.spec_flattening.specs.declared.context.Context.{Context}
 use Rattle.spec_flattening.specs.Answers.{IsRefusedBehind}
 use Rattle.spec_flattening.specs.Items.{AreForeseen, AreOutputsMade, AreStreamsMade, AreTopNumbered, Follows, IsBegun, IsReady, count_to, input_equations, input_streams, items_in, kinds_in, stream_or_any, top_in, type_or_unit}
 use Rattle.spec_flattening.proofs.Inputs.{event_stream, have_event_types, input_at, input_equations_marks, input_here, inputs_made}
 use Rattle.spec_flattening.proofs.Lists.{outputs_moved, streams_moved}
-use Rattle.spec_flattening.proofs.Passed.{none_passed, passed_marks}
 
 -- a definition without parameters
 stream_item : (item : Option tree.Item) → is_stream item ≡ true → IsStreamItem item
@@ -213,11 +212,8 @@ module _ (context : Context) (second : System) (begun : IsBegun context second) 
         pub whole_marks : map mark_of whole.equations ≡ all
         whole_marks = ap (map mark_of) equations ∙ marks_are
 
-        pub whole_within : None ≡ refusal whole.equations → refused all ≡ None
-        whole_within none = ap refused (sym whole_marks) ∙ none_passed whole.equations none
-
-        pub whole_refused : (f : MakeFault) → Some f ≡ refusal whole.equations → AreRefused all f
-        whole_refused f passed = subst (λ ms. AreRefused ms f) whole_marks (passed_marks whole.equations f passed)
+        pub whole_within : refusal last.equations ≡ None → refused all ≡ None
+        whole_within none = ap refused (sym marks_are) ∙ sym (refusal_marks last.equations) ∙ none
 
 -- ---- what is known before the definitions are made
 -- where an empty system got the inputs, and the table of streams what is foreseen behind them

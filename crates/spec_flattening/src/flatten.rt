@@ -2,7 +2,6 @@
 
 ghost use Rattle.std.specs.Prelude.{◌≡◌, ◌<◌, ◌^◌, ℕ, [], length, map, None, IfOk, IfErr, OnOk};
 ghost use Rattle.flat_core.specs.Complete.{IsFlat};
-ghost use Rattle.stream_constructs.specs.Limits.{is_update, refusal};
 ghost use Rattle.spec_parser.specs.Shape.{item_of};
 ghost use Rattle.name_check.specs.Scope.{top};
 ghost use Rattle.expr_types.specs.Shown.{kinds_of};
@@ -20,14 +19,12 @@ use crate::context::Context;
 use crate::top::{foresee, inputs};
 use equation_marks::count::Counter;
 use expr_types::kinds::KindTable;
-use flat_core::equation::Op;
 use flat_core::flat::Flat;
 use function_bodies::functions::Functions;
 use name_check::names::Names;
 use spec_parser::tree::Item;
 use std::alloc::Global;
-use stream_constructs::maker::{MOST_EQUATIONS, MOST_UPDATES, MakeFault, Maker};
-use tsl_value::ids::EqId;
+use stream_constructs::maker::{MOST_EQUATIONS, MakeFault, Maker};
 
 /// Makes the flat system of a checked specification: first its inputs, then its definitions of the top that are streams, then its
 /// outputs, each in the order of the source.
@@ -89,35 +86,6 @@ impl Context<'_> {
         self.outputs(&mut maker)?;
         // Within the limit the foreseen streams are those that were made.
         prove!(maker.count() <= MOST_EQUATIONS);
-        let flat = maker.finish()?;
-        match passed_limit(&flat) {
-            Some(fault) => Err(fault),
-            None => Ok(flat),
-        }
+        Ok(maker.finish()?)
     }
-}
-
-fn is_update(op: &Op) -> bool
-    ensures { result ≡ is_update op.now }
-{
-    matches!(op, Op::SetAdd | Op::SetRemove | Op::MapAdd | Op::MapRemove)
-}
-
-/// Where the equations of a system pass the limits. A maker keeps them, but doesn't tell of its updates.
-fn passed_limit(flat: &Flat) -> Option<MakeFault>
-    ensures { result ≡ refusal flat.now.equations }
-{
-    let mut updates = 0;
-    for number in 0..flat.count() {
-        let equation = flat.equation(EqId::new(number));
-        if is_update(&equation.op) {
-            if updates == MOST_UPDATES {
-                return Some(MakeFault::TooManyUpdates {
-                    place: equation.place,
-                });
-            }
-            updates += 1;
-        }
-    }
-    None
 }

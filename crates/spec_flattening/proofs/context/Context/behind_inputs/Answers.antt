@@ -3,7 +3,7 @@ use Rattle.std.proofs.lemmas.Result.{err_from_is_err_and}
 use Rattle.equation_marks.specs.Marks.{all_marks}
 use Rattle.spec_flattening.specs.Items.{items_in, kinds_in}
 use Rattle.spec_flattening.proofs.Lists.{refused_at}
-use Rattle.spec_flattening.proofs.Whole.{is_complete, outputs_refused, outputs_room, streams_refused, whole_flat, whole_marks, whole_refused, whole_within}
+use Rattle.spec_flattening.proofs.Whole.{is_complete, outputs_refused, outputs_room, streams_refused, whole_flat, whole_marks, whole_within}
 use Rattle.spec_flattening.proofs.context.Context.behind_inputs.Goals as goal
 
 pub outputs-requires-clause-room : goal.outputs-requires-clause-room
@@ -25,18 +25,14 @@ returns-in_err-outputs-clause-refused c =
     refused_at c.from_residual-in_err-outputs.result p.0 _ (all_marks (items_in c.args.self.now) (kinds_in c.args.self.now)) p.1 p.2
     (outputs_refused c.args.self.now c.args.maker c.requires.begun c.definitions.new.maker c.in_ok-definitions.ensures.made _ c.in_err-outputs.ensures.refused)
 
-pub returns-in-Some-clause-refused : goal.returns-in-Some-clause-refused
-returns-in-Some-clause-refused c =
-    whole_refused c.args.self.now c.args.maker c.requires.begun c.definitions.new.maker c.in_ok-definitions.ensures.made c.outputs.new.maker c.in_ok-outputs.ensures.made c.in_ok-flat.flat c.in_ok-flat.ensures.equations c.in-Some.fault c.in-Some.ensures
+pub returns-clause-flat : goal.returns-clause-flat
+returns-clause-flat c =
+    whole_flat c.args.self.now c.args.maker c.requires.begun c.definitions.new.maker c.in_ok-definitions.ensures.made c.outputs.new.maker c.in_ok-outputs.ensures.made c.in_ok-finish.field-0 c.in_ok-finish.ensures.equations c.in_ok-finish.ensures.outputs (omega arith)
 
-pub returns-in-None-clause-flat : goal.returns-in-None-clause-flat
-returns-in-None-clause-flat c =
-    whole_flat c.args.self.now c.args.maker c.requires.begun c.definitions.new.maker c.in_ok-definitions.ensures.made c.outputs.new.maker c.in_ok-outputs.ensures.made c.in_ok-flat.flat c.in_ok-flat.ensures.equations c.in_ok-flat.ensures.outputs (omega arith)
+pub returns-clause-marks : goal.returns-clause-marks
+returns-clause-marks c =
+    whole_marks c.args.self.now c.args.maker c.requires.begun c.definitions.new.maker c.in_ok-definitions.ensures.made c.outputs.new.maker c.in_ok-outputs.ensures.made c.in_ok-finish.field-0 c.in_ok-finish.ensures.equations
 
-pub returns-in-None-clause-marks : goal.returns-in-None-clause-marks
-returns-in-None-clause-marks c =
-    whole_marks c.args.self.now c.args.maker c.requires.begun c.definitions.new.maker c.in_ok-definitions.ensures.made c.outputs.new.maker c.in_ok-outputs.ensures.made c.in_ok-flat.flat c.in_ok-flat.ensures.equations
-
-pub returns-in-None-clause-within : goal.returns-in-None-clause-within
-returns-in-None-clause-within c =
-    whole_within c.args.self.now c.args.maker c.requires.begun c.definitions.new.maker c.in_ok-definitions.ensures.made c.outputs.new.maker c.in_ok-outputs.ensures.made c.in_ok-flat.flat c.in_ok-flat.ensures.equations c.in-None.ensures
+pub returns-clause-within : goal.returns-clause-within
+returns-clause-within c =
+    whole_within c.args.self.now c.args.maker c.requires.begun c.definitions.new.maker c.in_ok-definitions.ensures.made c.outputs.new.maker c.in_ok-outputs.ensures.made c.in_ok-finish.field-0 c.in_ok-finish.ensures.equations c.count.ensures.within
