@@ -14,3 +14,12 @@ pub mod Arguments
 pub mod Inside
 pub mod Own
 pub mod Locals
+pub mod Inputs
+pub mod Lists
+pub mod Named
+pub mod TopPlaces
+pub mod StreamItems
+pub mod Definitions
+pub mod Foreseen
+pub mod Outputs
+pub mod Whole

@@ -3,3 +3,4 @@ pub mod Here
 pub mod Answers
 pub mod Sides
 pub mod Own
+pub mod Items

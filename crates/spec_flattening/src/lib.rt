@@ -5,3 +5,5 @@ mod call;
 mod chain;
 mod context;
 mod expression;
+pub mod flatten;
+mod top;

@@ -1,7 +1,7 @@
 // Making equations within their limits.
 
-ghost use Rattle.std.specs.Prelude.{◌≡◌, ◌+◌, ◌-◌, ◌<◌, ◌≤◌, ◌^◌, List, [], ◌∷◌, ◌++◌, length, is_ok, if◌then◌else◌, IfOk, OnOk, IfErr, OnErr};
-ghost use Rattle.stream_constructs.specs.Limits.{is_update, IsRefusal};
+ghost use Rattle.std.specs.Prelude.{◌≡◌, ◌+◌, ◌-◌, ◌<◌, ◌≤◌, ◌^◌, List, [], ◌∷◌, ◌++◌, None, length, is_ok, if◌then◌else◌, IfOk, OnOk, IfErr, OnErr};
+ghost use Rattle.stream_constructs.specs.Limits.{is_update, refusal, IsRefusal};
 ghost use Rattle.stream_constructs.specs.Made.{with_equations, stream_of};
 ghost use Rattle.stream_constructs.specs.Equations as equations;
 
@@ -118,6 +118,7 @@ impl Maker {
     pub fn count(&self) -> u32
         ensures count { result ≡ length self.now.equations }
         ensures few { result ≤ 4096 }
+        ensures within { refusal self.now.equations ≡ None }
     {
         self.builder.count()
     }
