@@ -9,6 +9,6 @@ pub mod AgreeMarks
 pub mod MadeMarks
 pub mod Counts
 mod PartsLemmas
-mod Weights
+pub mod Weights
 mod CountLemmas
 mod InsideLemmas

@@ -1,9 +1,7 @@
 -- What a call of a macro asks and answers: its arguments, and what is inside of it.
 use Rattle.std.proofs.Common.{◌≡◌, ◌==◌, ℕ, zero, suc, ◌+◌, ◌-◌, ◌*◌, ◌<◌, ◌≤◌, Bool, true, false, List, [], ◌∷◌, map, length, Option, Some, None, refl, ap, sym, subst, ◌∙◌, arith}
-use Rattle.std.specs.Option.{option_map}
 use Rattle.std.specs.Prelude.{Ok, Err, Result, Vec, slice_get}
 use Rattle.std.proofs.lemmas.Bool.{true≢false}
-use Rattle.std.proofs.lemmas.Option.{none-some, same_Some, slice_get-map}
 use Rattle.tsl_value.specs.declared.place.Place.{Place}
 use Rattle.flat_core.specs.System.{System}
 use Rattle.spec_parser.specs.Tree as tree
@@ -20,11 +18,12 @@ use Rattle.stream_constructs.specs.declared.maker.MakeFault.{MakeFault}
 use Rattle.spec_meaning.specs.Occurrence.{body_of}
 use Rattle.spec_meaning.specs.Shape.{expressions}
 use Rattle.equation_marks.proofs.Parts.{listed_again}
+use Rattle.equation_marks.proofs.Weights.{body_weight, body_within}
 use Rattle.spec_flattening.specs.declared.context.Context.{Context}
 use Rattle.spec_flattening.specs.declared.context.Here.{Here}
 use Rattle.spec_flattening.specs.Answers.{AreExpressions, AreMade, CanCall, CanEnter, CanMakeAll, IsAnswer, IsCall, IsCalled, IsDefinedAt, IsInside, IsMacroAnswer, IsRefusedBehind, marks_all}
 use Rattle.spec_flattening.specs.Here.{IsHere, MayMakeAll, Site}
-use Rattle.spec_flattening.proofs.Sizes.{body_room, item_room, item_within, room}
+use Rattle.spec_flattening.proofs.Sizes.{room}
 use Rattle.spec_flattening.proofs.Called.{arguments_may, arguments_refused, call_made, entered, entry_of, inside_refused, is_macro, some_left}
 
 module _ (context : Context) (here : Here) (i : ℕ) (arguments : List Expr) where
@@ -94,11 +93,6 @@ deeper_room (suc deep) whole inner own h some =
     omega (arith, ap (λ d. d * whole) one)
 
 -- the body of a macro is smaller than what a call of it may go through
-pub callee_room : (items : List Item) (i : ℕ) (parts : DefinitionParts) → IsDefinedAt (map item_of items) i parts → 8 * body_room (code.body_of parts.body) + 6 < room items
-callee_room items i parts defined = by (slice_get items i) refl
-  where
-    by : (o : Option Item) → slice_get items i ≡ o → 8 * body_room (code.body_of parts.body) + 6 < room items
-    by None none = absurd (none-some (tree.Defined defined.place (definition_of parts)) (sym (slice_get-map item_of items i ∙ ap (option_map item_of) none) ∙ defined.is))
-    by (Some item) found =
-        let same = same_Some (item_of item) (tree.Defined defined.place (definition_of parts)) (sym (slice_get-map item_of items i ∙ ap (option_map item_of) found) ∙ defined.is) in
-        omega (arith, item_within items i item found, ap item_room same)
+pub callee_room : (items : List Item) (i : ℕ) (parts : DefinitionParts) → IsDefinedAt (map item_of items) i parts → 8 * body_weight (code.body_of parts.body) + 6 < room items
+callee_room items i parts defined =
+    let within = body_within (map item_of items) i (code.body_of parts.body) (ap body_of defined.is) in omega (arith, within)

@@ -20,7 +20,6 @@ use Rattle.name_check.specs.declared.declaration.Declaration.{Declaration}
 use Rattle.name_check.specs.declared.declaration.Declaration.TheVariants as declaration
 use Rattle.name_check.specs.Builtin.{is_unit, is_lift, is_called}
 use Rattle.name_check.specs.Scope.{meaning}
-use Rattle.name_check.specs.Steps.{local_body}
 use Rattle.type_rules.specs.Written.{key_of, scalar_of}
 use Rattle.stream_constructs.specs.Construct.{Construct}
 use Rattle.stream_constructs.specs.Construct as construct
@@ -29,6 +28,7 @@ use Rattle.spec_meaning.specs.Function.{literal}
 use Rattle.spec_meaning.specs.Shape.{Shape, expressions, is_part, beside, with_parts, dotted_shape, plain_name, is_delay, is_const, is_filter, const_shape, filtered_by, filter_shape, lift_by, function_named, lift_shape, name_shape, declared_shape, empty_shape, same_as, expr_shape}
 use Rattle.macro_flatten.specs.Makes.{is_own}
 use Rattle.typed_flat.specs.Inner.{has_links}
+use Rattle.equation_marks.proofs.Weights.{items_weight}
 use Rattle.typed_flat.proofs.Expressions.{IsNotOwn, same_not_own, name_not_own}
 use Rattle.typed_flat.proofs.Words as words
 use Rattle.typed_flat.proofs.Words.{Word, spelling, IsWord, is_word}
@@ -192,32 +192,6 @@ one_within [] i e h is = absurd (omega arith)
 one_within (f ∷ es) zero e h is = let same = ap size_of is in omega arith
 one_within (f ∷ es) (suc i) e h is = let rest = one_within es i e (omega arith) is in omega arith
 
--- ---- how much room the bodies of macros take
-abbrev pub definitions_room : tree.Definitions → ℕ
-definitions_room tree.no_definitions = 0
-definitions_room (tree.more_definitions (tree.Define q x ps w (tree.Plain e)) ds) = size_of e + definitions_room ds
-definitions_room (tree.more_definitions (tree.Define q x ps w (tree.Block cs e)) ds) = size_of e + definitions_room ds
-
-abbrev pub body_room : tree.Body → ℕ
-body_room (tree.Plain e) = size_of e
-body_room (tree.Block ds e) = size_of e + definitions_room ds
-
-abbrev pub item_room : tree.Item → ℕ
-item_room (tree.Defined p (tree.Define q x ps w b)) = body_room b
-item_room item = 0
-
-abbrev pub items_room : List Item → ℕ
-items_room [] = 0
-items_room (item ∷ items) = item_room (item_of item) + items_room items
-
--- more than any of them takes
+-- ---- more than what the body of a macro takes
 abbrev pub room : List Item → ℕ
-room items = 8 * items_room items + 16
-
-pub item_within : (items : List Item) (i : ℕ) (item : Item) → slice_get items i ≡ Some item → item_room (item_of item) ≤ items_room items
-item_within [] i item is = absurd (none-some item is)
-item_within (x ∷ items) zero item is = let same = ap (λ y. item_room (item_of y)) (same_Some x item is) in omega arith
-item_within (x ∷ items) (suc i) item is = let rest = item_within items i item is in omega arith
-
-pub definition_room : (d : tree.Definition) → item_room (tree.Defined (record { line = 0; column = 0 }) d) ≡ body_room (local_body d)
-definition_room (tree.Define q x ps w b) = refl
+room items = 8 * items_weight (map item_of items) + 16

@@ -1,5 +1,6 @@
 -- The loops over expressions and over the definitions of a block: what is left to make.
 use Rattle.std.proofs.Common.{◌≡◌, ℕ, zero, suc, ◌+◌, ◌-◌, ◌<◌, ◌≤◌, List, [], ◌∷◌, ◌++◌, map, length, get_or, drop, Option, Some, None, refl, ap, sym, subst, ◌∙◌, append_assoc, length-append, arith}
+use Rattle.std.specs.Borrow.{Bor}
 use Rattle.std.specs.Prelude.{Ok, Err, Result, Vec, slice_get}
 use Rattle.std.specs.List.{Contains, flat_map}
 use Rattle.std.proofs.lemmas.List.{append-nil, drop_all, length-map, map-append}
@@ -14,6 +15,7 @@ use Rattle.name_check.specs.Steps.{local_body}
 use Rattle.name_check.proofs.FirstLemmas.{left_at}
 use Rattle.type_rules.specs.declared.rule.ExprType.TheVariants as expr_type
 use Rattle.expr_types.specs.Judge.{type_of}
+use Rattle.stream_shapes.specs.Shape.{expressions_in}
 use Rattle.stream_constructs.specs.declared.construct.Stream.{Stream}
 use Rattle.stream_constructs.specs.declared.maker.MakeFault.{MakeFault}
 use Rattle.stream_constructs.specs.Made.{with_equations}
@@ -30,6 +32,12 @@ use Rattle.spec_flattening.specs.Here.{IsHere, MayMakeAll, MayMakeAt, Site}
 use Rattle.spec_flattening.proofs.Made.{many_made, none_made, one_made, refused_behind, refused_front, refused_same, with_both, with_none}
 
 -- ---- expressions
+-- one of some that are shared
+pub shown_at : (es : List (Bor Expr)) (i : ℕ) (e : Bor Expr) → i < length es → e ≡ get_or es i e → (i < length (expressions_in es)) × (e.now ≡ get_or (expressions_in es) i e.now)
+shown_at [] i e below is = absurd (omega arith)
+shown_at (x ∷ es) zero e below is = (omega arith, ap (λ (y : Bor Expr). y.now) is)
+shown_at (x ∷ es) (suc i) e below is = let rest = shown_at es i e (omega arith) is in (omega (arith, rest.0), rest.1)
+
 module _ (context : Context) (here : Here) (es : List Expr) where
   -- These are made of them, and others are left. What is made of those is made of all.
   pub record IsWithin (site : Site) (left : List Expr) (old cur : System) (ss : List Stream) : Type 0 where

@@ -1,9 +1,10 @@
 use Rattle.std.proofs.Common.{◌+◌, ◌*◌}
 use Rattle.spec_parser.specs.Shape as code
 use Rattle.spec_parser.specs.Shape.{definitions_of, exprs_of, links_in, size_of, size_of_exprs, size_of_links}
+use Rattle.equation_marks.proofs.Weights.{block_weight, body_weight}
 use Rattle.stream_shapes.specs.Shape.{expressions_in}
 use Rattle.spec_flattening.proofs.Linked.{IsBegun}
-use Rattle.spec_flattening.proofs.Sizes.{body_room, definitions_room, room, total_size}
+use Rattle.spec_flattening.proofs.Sizes.{room, total_size}
 use Rattle.spec_flattening.proofs.Turns.{AreBegun, IsBlockBegun}
 use Rattle.spec_flattening.proofs.context.Context.+expression.Given as goal
 
@@ -32,10 +33,10 @@ abbrev pub decreases-arguments : goal.decreases-arguments
 decreases-arguments l = l.here.now.deep * room l.self.now.items.now + (8 * size_of_exprs (exprs_of l.arguments.now) + 3)
 
 abbrev pub decreases-inside : goal.decreases-inside
-decreases-inside l = l.deep * room l.self.now.items.now + (8 * body_room (code.body_of l.parts.now.body) + 6)
+decreases-inside l = l.deep * room l.self.now.items.now + (8 * body_weight (code.body_of l.parts.now.body) + 6)
 
 abbrev pub decreases-block : goal.decreases-block
-decreases-block l = l.here.now.deep * room l.self.now.items.now + (8 * definitions_room (definitions_of l.definitions.now) + 5)
+decreases-block l = l.here.now.deep * room l.self.now.items.now + (8 * block_weight (definitions_of l.definitions.now) + 5)
 
 abbrev pub invariant-parts-loop-part : goal.invariant-parts-loop-part
 invariant-parts-loop-part l = AreBegun l.self l.here (expressions_in l.parts) l.part-index l.fn.maker l.maker l.streams.items
