@@ -1,0 +1,12 @@
+pub mod Shapes
+pub mod Sizes
+pub mod Places
+pub mod Made
+pub mod Chained
+pub mod Linked
+pub mod Called
+pub mod Turns
+pub mod Entered
+pub mod Blocks
+pub mod Constructs
+pub mod Expressions
