@@ -9,11 +9,7 @@ use Rattle.flat_core.proofs.Members.{all_at}
 use Rattle.tsl_world.specs.declared.outside.Did.{Did}
 use Rattle.tsl_world.specs.declared.outside.Slot.TheVariants.{Spec, Trace}
 use Rattle.tsl_world.specs.Journal.{taken, ended}
-use Rattle.tree_spec.proofs.LawLemmas.{one_system, refused_spells_none}
-use Rattle.tree_spec.specs.declared.fault.SpecFault.{SpecFault}
-use Rattle.tree_spec.specs.declared.fault.SpecFault.TheVariants as spec
-use Rattle.tree_spec.specs.Source.{SpellsSystem}
-use Rattle.tessla_cli.specs.Compiled.{IsRefusedBy}
+use Rattle.spec_reader.specs.declared.fault.SpecFault.{SpecFault}
 use Rattle.tessla_cli.specs.declared.ending.Ending.{Ending}
 use Rattle.tessla_cli.specs.declared.ending.Ending.TheVariants as ending
 use Rattle.tessla_cli.specs.declared.options.Options.{Options}
@@ -23,8 +19,9 @@ use Rattle.tessla_cli.specs.Ending.{IsQuiet, IsFaulted, IsLimited}
 use Rattle.tessla_cli.specs.Messages.{status_of}
 use Rattle.tessla_cli.specs.Outcome.{Concludes, Outcome, IsExact}
 use Rattle.tessla_cli.specs.Outcome.Outcome.{told, outside, memory}
-use Rattle.tessla_cli.specs.Parts.{EndsBy, WatchEnds}
+use Rattle.tessla_cli.specs.Parts.{EndsBy}
 use Rattle.tessla_cli.specs.Words.{Run}
+use Rattle.tessla_cli.proofs.ReaderLaws.{one_system, refused_spells_none}
 
 nothing_some : {A : Type 0} (x : Option A) (a : A) → x ≡ None → x ≡ Some a → ⊥
 nothing_some x a none some = absurd (let e : false ≡ true = ap is_some (sym none ∙ some) in cc)
@@ -71,13 +68,6 @@ module _ (s : System) (o : Options) (bytes : List ℕ) (end : Bool) (z : Streams
   same_status (ending.Limit n t) ending.Words a b = absurd b
   same_status (ending.Limit n t) (ending.Spec place) a b = absurd b
 
--- a source that is refused spells no system
-refused_by_spells_none : (source : List ℕ) (e : SpecFault) (s : System) → IsRefusedBy source e → ¬ (SpellsSystem source s)
-refused_by_spells_none source (spec.Lex e) s h = refused_spells_none source (spec.Lex e) s (λ same. absurd (cc)) h
-refused_by_spells_none source (spec.Parse e) s h = refused_spells_none source (spec.Parse e) s (λ same. absurd (cc)) h
-refused_by_spells_none source (spec.NotBuilt place) s h = refused_spells_none source (spec.NotBuilt place) s (λ same. absurd (cc)) h
-refused_by_spells_none source spec.Memory s h = absurd h
-
 abbrev run_or : Run → Option Run → Run
 run_or run None = run
 run_or run (Some other) = other
@@ -87,13 +77,15 @@ module _ (words : List (List ℕ)) (part : List Did) where
   one_run : (by other : Ending) → EndsRun words by part → EndsRun words other part → status_of by ≡ status_of other
   one_run by other a b =
       let runs : b.run ≡ a.run = ap (run_or a.run) (sym b.asked ∙ a.asked) in
-      let systems : b.system ≡ a.system = one_system (taken Spec part) b.system a.system b.spelled a.spelled in
-      let ends : WatchEnds a.system (options_of a.run) other part = subst (λ (s : System). WatchEnds s (options_of a.run) other part) systems (subst (λ (r : Run). WatchEnds b.system (options_of r) other part) runs b.holds) in
-      let (z, zs) = a.holds.due.solved in
-      same_status a.system (options_of a.run) (taken Trace part) (ended Trace part) z zs by other a.holds.cause ends.cause
+      let systems : b.system ≡ a.system = (one_system (taken Spec part) b.items a.items b.system a.system b.spelled a.spelled).1 in
+      let cause : EndsBy a.system (options_of a.run) (taken Trace part) (ended Trace part) other =
+      subst (λ (s : System). EndsBy s (options_of a.run) (taken Trace part) (ended Trace part) other) systems
+      (subst (λ (r : Run). EndsBy b.system (options_of r) (taken Trace part) (ended Trace part) other) runs b.holds.ends.cause) in
+      let (z, zs) = a.holds.due.due.solved in
+      same_status a.system (options_of a.run) (taken Trace part) (ended Trace part) z zs by other a.holds.ends.cause cause
 
   spec_or_run : (fault : SpecFault) (by : Ending) → SpecRefused words fault part → EndsRun words by part → ⊥
-  spec_or_run fault by refused ends = refused_by_spells_none (taken Spec part) fault ends.system refused.refused ends.spelled
+  spec_or_run fault by refused ends = refused_spells_none (taken Spec part) fault ends.items ends.system refused.refused.0 refused.refused.1 ends.spelled
 
   from_run : (by other : Ending) → EndsRun words by part → RunEnds words other part → status_of by ≡ status_of other
   from_run by ending.Words a b = absurd (nothing_some _ a.run b.refused a.asked)

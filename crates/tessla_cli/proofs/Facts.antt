@@ -13,15 +13,18 @@ use Rattle.tsl_world.specs.Journal.{given, taken, ended, opening, openings, crea
 use Rattle.tsl_world.proofs.Journals.{openings-append, creations-append, Each-append, no_place, place}
 use Rattle.tsl_world.proofs.Parts.{taken_before, taken_behind, ended_behind, given_behind, given_none, openings_none, creations_none}
 use Rattle.tsl_world.proofs.Places.{at_none, at_no_read, at_join, at_more, at_behind, at_weaker}
-use Rattle.tree_spec.specs.Source.{SpellsSystem}
+use Rattle.spec_parser.specs.Tree as tree
+use Rattle.spec_reader.specs.Source.{SpellsSystem}
 use Rattle.tessla_cli.specs.declared.ending.Ending.{Ending}
 use Rattle.tessla_cli.specs.declared.options.Options.{Options}
 use Rattle.tessla_cli.specs.Conduct.{trace_name, HasWhole, IsBeforeOpening, MakesNothing, ReadsSpecFirst, StopsAtLimit, ReadsPieces, OfRun, OpensAsAsked, IsDueAtReads, GoesOnAtReads, IsPartlyDue, options_of}
 use Rattle.tessla_cli.specs.Due.{IsDue}
 use Rattle.tessla_cli.specs.Ending.{GoesOn}
+use Rattle.tessla_cli.specs.Meant.{IsDueAsMeant, GoesOnAsMeant, BeginsAsMeant, WatchEndsAsMeant}
 use Rattle.tessla_cli.specs.Parts.{IsTake, IsTraceWork, EndsBy, MayRead, BeginsDue, Watched, WatchEnds, most_taken}
 use Rattle.tessla_cli.specs.Shape.{MayReadSpec, ReadsSpec, GivesSource, idle, no_trace, watched, uncompiled, compiled, RunsSpec, unopened, no_spec, reading, whole, RunsWords, unasked, asked}
 use Rattle.tessla_cli.specs.Words.{Run, command_of}
+use Rattle.tessla_cli.proofs.Meaning.{due_meant, goes_on_meant, begins_meant, watch_ends_meant}
 
 -- What holds of each read of a slot holds of a part of such reads, and so for a part that reads the trace and writes output.
 pub each_take : (P : Did → Type 0) (from : Slot) → ((bytes : List ℕ) → length bytes ≤ most_taken → P (Took from bytes)) → (part : List Did) → Each (IsTake from) part → Each P part
@@ -163,8 +166,8 @@ module _ (words : List (List ℕ)) (run : Run) (asked_is : command_of words ≡ 
   ]
 
   shows_tail : (rest : List Did) → Tail rest → ((before : List Did) → IsBeforeOpening Trace before rest → HasWhole reads)
-      → AtReads Trace (λ less. OfRun words (front ++ less) (λ s o. IsDue s o (taken Trace (front ++ less)) false (given Out (front ++ less)))) rest
-      → AtReads Trace (λ less. OfRun words (front ++ less) (λ s o. GoesOn s o (taken Trace (front ++ less)))) rest → IsPartlyDue words (front ++ rest) → Shows words (front ++ rest)
+      → AtReads Trace (λ less. OfRun words (front ++ less) (λ items s o. IsDueAsMeant items s o (taken Trace (front ++ less)) false (given Out (front ++ less)))) rest
+      → AtReads Trace (λ less. OfRun words (front ++ less) (λ items s o. GoesOnAsMeant items s o (taken Trace (front ++ less)))) rest → IsPartlyDue words (front ++ rest) → Shows words (front ++ rest)
   shows_tail rest tail is_whole due goes_on partly = record {
     opens = inr (run, asked_is, subst (λ (l : List (Slot × List ℕ)). Begins l ((Spec, run.spec) ∷ (Trace, trace_name) ∷ [])) (sym (front_openings rest)) (opens_so (openings rest) tail.opens));
     makes = front_creations rest ∙ tail.makes;
@@ -177,8 +180,8 @@ module _ (words : List (List ℕ)) (run : Run) (asked_is : command_of words ≡ 
     trace_ends = at_behind Trace (λ less. ended Trace less ≡ false) (λ before. ended Trace before ≡ false) front rest front_no_trace (λ less e. ended_behind Trace front less front_no_trace ∙ e) tail.ends;
     limit = at_more Spec _ front rest (at_weaker Spec MayReadSpec _ front (λ before h. h.within) front_reads) tail.spec;
     pieces = Each-append (IsWithin most_taken) front rest front_pieces tail.pieces;
-    due = at_join Trace (λ before. OfRun words before (λ s o. IsDue s o (taken Trace before) false (given Out before))) front rest (at_no_read Trace _ front front_no_trace) due;
-    goes_on = at_join Trace (λ before. OfRun words before (λ s o. GoesOn s o (taken Trace before))) front rest (at_no_read Trace _ front front_no_trace) goes_on;
+    due = at_join Trace (λ before. OfRun words before (λ items s o. IsDueAsMeant items s o (taken Trace before) false (given Out before))) front rest (at_no_read Trace _ front front_no_trace) due;
+    goes_on = at_join Trace (λ before. OfRun words before (λ items s o. GoesOnAsMeant items s o (taken Trace before))) front rest (at_no_read Trace _ front front_no_trace) goes_on;
     partly = partly;
     silent = given_behind Err front rest front_no_err ∙ tail.silent;
   }
@@ -218,13 +221,13 @@ module _ (words : List (List ℕ)) (run : Run) (asked_is : command_of words ≡ 
       (at_no_read Trace _ (NotOpened Trace trace_name ∷ []) (tt, tt))
       (inl (given_none Out (front ++ NotOpened Trace trace_name ∷ []) (Each-append (IsNoGift Out) front (NotOpened Trace trace_name ∷ []) front_no_out (tt, tt))))
 
-  module _ (source : List ℕ) (g : GivesSource source reads) (s : System) (spelled : SpellsSystem source s) where
+  module _ (source : List ℕ) (g : GivesSource source reads) (items : List tree.Item) (s : System) (spelled : SpellsSystem source items s) where
     -- what is taken of the specification, behind which nothing of it is read
-    pub spelled_behind : (less : List Did) → Each (IsNoRead Spec) less → SpellsSystem (taken Spec (front ++ less)) s
-    spelled_behind less none = subst (λ (l : List ℕ). SpellsSystem l s) (sym (taken_before Spec front less none ∙ g.bytes_are)) spelled
+    pub spelled_behind : (less : List Did) → Each (IsNoRead Spec) less → SpellsSystem (taken Spec (front ++ less)) items s
+    spelled_behind less none = subst (λ (l : List ℕ). SpellsSystem l items s) (sym (taken_before Spec front less none ∙ g.bytes_are)) spelled
 
-    of_run : (less : List Did) (P : System → Options → Type 0) → Each (IsNoRead Spec) less → P s (options_of run) → OfRun words (front ++ less) P
-    of_run less P none holds = record { run = run; asked = asked_is; system = s; spelled = spelled_behind less none; holds = holds }
+    of_run : (less : List Did) (P : List tree.Item → System → Options → Type 0) → Each (IsNoRead Spec) less → P items s (options_of run) → OfRun words (front ++ less) P
+    of_run less P none holds = record { run = run; asked = asked_is; items = items; system = s; spelled = spelled_behind less none; holds = holds }
 
     -- what is due, what goes on and what ends behind the front is what it is without it
     due_behind : (less : List Did) (e : Bool) (text : List ℕ) → IsDue s (options_of run) (taken Trace less) e text → IsDue s (options_of run) (taken Trace (front ++ less)) e text
@@ -236,8 +239,8 @@ module _ (words : List (List ℕ)) (run : Run) (asked_is : command_of words ≡ 
     ended_so : (less : List Did) → ended Trace (front ++ less) ≡ ended Trace less
     ended_so less = ended_behind Trace front less front_no_trace
 
-    pub ends_behind : (by : Ending) (part : List Did) → WatchEnds s (options_of run) by part → WatchEnds s (options_of run) by (front ++ Opened Trace trace_name ∷ part)
-    ends_behind by part w = let rest = Opened Trace trace_name ∷ part in record {
+    pub ends_behind : (by : Ending) (part : List Did) → WatchEnds s (options_of run) by part → WatchEndsAsMeant items s (options_of run) by (front ++ Opened Trace trace_name ∷ part)
+    ends_behind by part w = let rest = Opened Trace trace_name ∷ part in watch_ends_meant source items s (options_of run) spelled by (front ++ rest) record {
       due = subst (λ (e : Bool). IsDue s (options_of run) (taken Trace (front ++ rest)) e (given Out (front ++ rest))) (sym (ended_so rest)) (given_so rest (ended Trace rest) w.due);
       cause = subst (λ (e : Bool). EndsBy s (options_of run) (taken Trace (front ++ rest)) e by) (sym (ended_so rest))
           (subst (λ (l : List ℕ). EndsBy s (options_of run) l (ended Trace rest) by) (sym (taken_behind Trace front rest front_no_trace)) w.cause);
@@ -273,14 +276,16 @@ module _ (words : List (List ℕ)) (run : Run) (asked_is : command_of words ≡ 
       shows_watched =
           shows_tail (Opened Trace trace_name ∷ part) watched_behind (λ before b. g.whole)
           (at_behind Trace (λ less. MayRead s (options_of run) less × Each (IsNoRead Spec) less)
-          (λ less. OfRun words (front ++ less) (λ s o. IsDue s o (taken Trace (front ++ less)) false (given Out (front ++ less)))) (Opened Trace trace_name ∷ []) part (tt, tt)
-          (λ less h. of_run (Opened Trace trace_name ∷ less) (λ s o. IsDue s o (taken Trace (front ++ Opened Trace trace_name ∷ less)) false (given Out (front ++ Opened Trace trace_name ∷ less))) (tt, h.1)
-          (given_so (Opened Trace trace_name ∷ less) false h.0.due)) before_read)
+          (λ less. OfRun words (front ++ less) (λ items s o. IsDueAsMeant items s o (taken Trace (front ++ less)) false (given Out (front ++ less)))) (Opened Trace trace_name ∷ []) part (tt, tt)
+          (λ less h. of_run (Opened Trace trace_name ∷ less) (λ items s o. IsDueAsMeant items s o (taken Trace (front ++ Opened Trace trace_name ∷ less)) false (given Out (front ++ Opened Trace trace_name ∷ less))) (tt, h.1)
+          (due_meant source items s (options_of run) spelled (taken Trace (front ++ Opened Trace trace_name ∷ less)) false (given Out (front ++ Opened Trace trace_name ∷ less)) (given_so (Opened Trace trace_name ∷ less) false h.0.due))) before_read)
           (at_behind Trace (λ less. MayRead s (options_of run) less × Each (IsNoRead Spec) less)
-          (λ less. OfRun words (front ++ less) (λ s o. GoesOn s o (taken Trace (front ++ less)))) (Opened Trace trace_name ∷ []) part (tt, tt)
-          (λ less h. of_run (Opened Trace trace_name ∷ less) (λ s o. GoesOn s o (taken Trace (front ++ Opened Trace trace_name ∷ less))) (tt, h.1)
-          (subst (λ (l : List ℕ). GoesOn s (options_of run) l) (sym (taken_behind Trace front (Opened Trace trace_name ∷ less) front_no_trace)) h.0.goes_on)) before_read)
-          (inr (of_run (Opened Trace trace_name ∷ part) (λ s o. BeginsDue s o (front ++ Opened Trace trace_name ∷ part)) (tt, spec_none) begins))
+          (λ less. OfRun words (front ++ less) (λ items s o. GoesOnAsMeant items s o (taken Trace (front ++ less)))) (Opened Trace trace_name ∷ []) part (tt, tt)
+          (λ less h. of_run (Opened Trace trace_name ∷ less) (λ items s o. GoesOnAsMeant items s o (taken Trace (front ++ Opened Trace trace_name ∷ less))) (tt, h.1)
+          (goes_on_meant source items s (options_of run) spelled (taken Trace (front ++ Opened Trace trace_name ∷ less))
+          (subst (λ (l : List ℕ). GoesOn s (options_of run) l) (sym (taken_behind Trace front (Opened Trace trace_name ∷ less) front_no_trace)) h.0.goes_on))) before_read)
+          (inr (of_run (Opened Trace trace_name ∷ part) (λ items s o. BeginsAsMeant items s o (front ++ Opened Trace trace_name ∷ part)) (tt, spec_none)
+          (begins_meant source items s (options_of run) spelled (front ++ Opened Trace trace_name ∷ part) begins)))
         where
           begins : BeginsDue s (options_of run) (front ++ Opened Trace trace_name ∷ part)
           begins = let rest = Opened Trace trace_name ∷ part in record {
@@ -304,9 +309,9 @@ shows_spec words run is _ no_spec =
 shows_spec words run is _ (reading reads r) = subst (λ (l : List Did). Shows words l) (ap (λ (l : List Did). Opened Spec run.spec ∷ l) (append-nil reads)) (shows_front words run is reads r)
 shows_spec words run is _ (whole reads rest source r g (uncompiled none)) =
     subst (λ (l : List Did). Shows words (Opened Spec run.spec ∷ (reads ++ l))) (sym none) (shows_front words run is reads r)
-shows_spec words run is _ (whole reads _ source r g (compiled s spelled idle)) = shows_front words run is reads r
-shows_spec words run is _ (whole reads _ source r g (compiled s spelled no_trace)) = shows_no_trace words run is reads r source g
-shows_spec words run is _ (whole reads _ source r g (compiled s spelled (watched part w))) = shows_watched words run is reads r source g s spelled part w
+shows_spec words run is _ (whole reads _ source r g (compiled items s spelled idle)) = shows_front words run is reads r
+shows_spec words run is _ (whole reads _ source r g (compiled items s spelled no_trace)) = shows_no_trace words run is reads r source g
+shows_spec words run is _ (whole reads _ source r g (compiled items s spelled (watched part w))) = shows_watched words run is reads r source g items s spelled part w
 
 pub shows_run : (words : List (List ℕ)) (part : List Did) → RunsWords words part → Shows words part
 shows_run words part (unasked none) = subst (λ (l : List Did). Shows words l) (sym none) (shows_none words)

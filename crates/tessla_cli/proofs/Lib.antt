@@ -7,4 +7,7 @@ pub mod Facts
 pub mod Told
 pub mod Readiness
 pub mod Monitoring
+pub mod FirstInstants
+pub mod Meaning
+pub mod ReaderLaws
 pub mod Exact

@@ -1,8 +1,9 @@
 -- What a run shows and how it ends, behind the line that tells it.
 use Rattle.std.proofs.Common.{◌≡◌, ◌⊎◌, inl, inr, ℕ, ◌<◌, ◌≤◌, Bool, List, [], ◌∷◌, ◌++◌, length, refl, sym, ◌∙◌, ap, subst, arith, Some}
 use Rattle.flat_core.specs.System.{System}
-use Rattle.tree_spec.specs.declared.fault.SpecFault.{SpecFault}
-use Rattle.tree_spec.specs.Source.{SpellsSystem}
+use Rattle.spec_parser.specs.Tree as tree
+use Rattle.spec_reader.specs.declared.fault.SpecFault.{SpecFault}
+use Rattle.spec_reader.specs.Source.{SpellsSystem}
 use Rattle.tessla_cli.specs.Compiled.{IsRefusedBy}
 use Rattle.tsl_world.specs.Begins.{Begins}
 use Rattle.tsl_world.specs.World.{Rose}
@@ -21,10 +22,9 @@ use Rattle.tessla_cli.specs.declared.ending.Broken.{Broken}
 use Rattle.tessla_cli.specs.declared.ending.Broken.TheVariants as broken
 use Rattle.tessla_cli.specs.declared.options.Options.{Options}
 use Rattle.tessla_cli.specs.Conduct.{HasWhole, IsBeforeOpening, OfRun, EndsRun, SpecRefused, IsPartlyDue, RunEnds, options_of, trace_name, source_limit}
-use Rattle.tessla_cli.specs.Due.{IsDue}
+use Rattle.tessla_cli.specs.Meant.{IsDueAsMeant, EndsAsMeant, BeginsAsMeant, WatchEndsAsMeant}
 use Rattle.tessla_cli.specs.Messages.{ending_line, broken_line, broken_status, status_of}
-use Rattle.tessla_cli.specs.Outcome.{TellsSome, cut_short, unfinished, Outcome, told, outside, memory, ShowsAlways, Concludes, Tells, TellsBroken, all_of_broken, some_of_broken, TellsEnding, all_of_ending, some_of_ending, no_line}
-use Rattle.tessla_cli.specs.Parts.{BeginsDue, WatchEnds, EndsBy}
+use Rattle.tessla_cli.specs.Outcome.{Ends, Faulted, TellsSome, cut_short, unfinished, Outcome, told, outside, memory, ShowsAlways, Concludes, Tells, TellsBroken, all_of_broken, some_of_broken, TellsEnding, all_of_ending, some_of_ending, no_line}
 use Rattle.tessla_cli.specs.Shape.{ReadsSpec, GivesSource, ends, SourceEnds, spec_refused, compiled_ends, whole_ends, WordsEnd, words_refused, asked_ends}
 use Rattle.tessla_cli.specs.Words.{Run, command_of}
 use Rattle.tessla_cli.proofs.Facts.{Shows, no_opening_in, spelled_behind, ends_behind, each_take, each_work}
@@ -34,8 +34,8 @@ module _ (words : List (List ℕ)) where
   -- only these endings have a cause in the trace
   of_watch : (by : Ending) (part : List Did) → EndsRun words by part → RunEnds words by part
   of_watch ending.Done part f = f
-  of_watch ending.Words part f = absurd f.holds.cause
-  of_watch (ending.Spec fault) part f = absurd f.holds.cause
+  of_watch ending.Words part f = absurd f.holds.ends.cause
+  of_watch (ending.Spec fault) part f = absurd f.holds.ends.cause
   of_watch (ending.Trace fault) part f = f
   of_watch (ending.Fault t k p) part f = f
   of_watch (ending.Limit n t) part f = f
@@ -55,13 +55,14 @@ module _ (words : List (List ℕ)) where
     source_ends by rest (spec_refused {fault} same refused none) =
         subst (λ (b : Ending). RunEnds words b (Opened Spec run.spec ∷ (reads ++ rest))) (sym same)
         (subst (λ (l : List Did). SpecRefused words fault (Opened Spec run.spec ∷ l)) (sym (ap (λ (l : List Did). reads ++ l) none ∙ append-nil reads)) (refused_front fault refused))
-    source_ends by _ (compiled_ends s spelled (ends part w e)) =
+    source_ends by _ (compiled_ends items s spelled (ends part w e)) =
         of_watch by (Opened Spec run.spec ∷ (reads ++ Opened Trace trace_name ∷ part)) record {
           run = run;
           asked = is;
+          items = items;
           system = s;
-          spelled = spelled_behind words run is reads r source g s spelled (Opened Trace trace_name ∷ part) (tt, each_work (IsNoRead Spec) (λ bytes short. refl) (λ bytes. tt) part w.work);
-          holds = ends_behind words run is reads r source g s spelled by part e;
+          spelled = spelled_behind words run is reads r source g items s spelled (Opened Trace trace_name ∷ part) (tt, each_work (IsNoRead Spec) (λ bytes short. refl) (λ bytes. tt) part w.work);
+          holds = ends_behind words run is reads r source g items s spelled by part e;
         }
 
   -- how a run ends, from its parts
@@ -85,24 +86,25 @@ module _ (words : List (List ℕ)) where
     moves = gifts_transfer Err more gifts
 
     -- a fact about the run stays
-    of_run_told : (P Q : System → Options → Type 0) → ((s : System) (o : Options) → P s o → Q s o) → OfRun words part P → OfRun words (part ++ more) Q
+    of_run_told : (P Q : List tree.Item → System → Options → Type 0) → ((items : List tree.Item) (s : System) (o : Options) → P items s o → Q items s o) → OfRun words part P → OfRun words (part ++ more) Q
     of_run_told P Q says f = record {
       run = f.run;
       asked = f.asked;
+      items = f.items;
       system = f.system;
-      spelled = subst (λ (l : List ℕ). SpellsSystem l f.system) (sym (taken_before Spec part more (no_reads Spec))) f.spelled;
-      holds = says f.system (options_of f.run) f.holds;
+      spelled = subst (λ (l : List ℕ). SpellsSystem l f.items f.system) (sym (taken_before Spec part more (no_reads Spec))) f.spelled;
+      holds = says f.items f.system (options_of f.run) f.holds;
     }
 
     partly_told : IsPartlyDue words part → IsPartlyDue words (part ++ more)
     partly_told (inl none) = inl (given_before Out part more no_out ∙ none)
-    partly_told (inr f) = inr (of_run_told (λ s o. BeginsDue s o part) (λ s o. BeginsDue s o (part ++ more)) begins f)
+    partly_told (inr f) = inr (of_run_told (λ items s o. BeginsAsMeant items s o part) (λ items s o. BeginsAsMeant items s o (part ++ more)) begins f)
       where
-        begins : (s : System) (o : Options) → BeginsDue s o part → BeginsDue s o (part ++ more)
-        begins s o b = record {
+        begins : (items : List tree.Item) (s : System) (o : Options) → BeginsAsMeant items s o part → BeginsAsMeant items s o (part ++ more)
+        begins items s o b = record {
           text = b.text;
-          due = subst (λ (l : List ℕ). IsDue s o l (ended Trace (part ++ more)) b.text) (sym (taken_before Trace part more (no_reads Trace)))
-              (subst (λ (e : Bool). IsDue s o (taken Trace part) e b.text) (sym (ended_before Trace part more (no_reads Trace))) b.due);
+          due = subst (λ (l : List ℕ). IsDueAsMeant items s o l (ended Trace (part ++ more)) b.text) (sym (taken_before Trace part more (no_reads Trace)))
+              (subst (λ (e : Bool). IsDueAsMeant items s o (taken Trace part) e b.text) (sym (ended_before Trace part more (no_reads Trace))) b.due);
           begins = subst (λ (l : List ℕ). Begins l b.text) (sym (given_before Out part more no_out)) b.begins;
         }
 
@@ -128,15 +130,15 @@ module _ (words : List (List ℕ)) where
 
     -- the ending stays
     ends_told : (by : Ending) → EndsRun words by part → EndsRun words by (part ++ more)
-    ends_told by f = of_run_told (λ s o. WatchEnds s o by part) (λ s o. WatchEnds s o by (part ++ more)) stays f
+    ends_told by f = of_run_told (λ items s o. WatchEndsAsMeant items s o by part) (λ items s o. WatchEndsAsMeant items s o by (part ++ more)) stays f
       where
-        stays : (s : System) (o : Options) → WatchEnds s o by part → WatchEnds s o by (part ++ more)
-        stays s o w = record {
-          due = subst (λ (l : List ℕ). IsDue s o l (ended Trace (part ++ more)) (given Out (part ++ more))) (sym (taken_before Trace part more (no_reads Trace)))
-              (subst (λ (e : Bool). IsDue s o (taken Trace part) e (given Out (part ++ more))) (sym (ended_before Trace part more (no_reads Trace)))
-              (subst (λ (l : List ℕ). IsDue s o (taken Trace part) (ended Trace part) l) (sym (given_before Out part more no_out)) w.due));
-          cause = subst (λ (l : List ℕ). EndsBy s o l (ended Trace (part ++ more)) by) (sym (taken_before Trace part more (no_reads Trace)))
-              (subst (λ (e : Bool). EndsBy s o (taken Trace part) e by) (sym (ended_before Trace part more (no_reads Trace))) w.cause);
+        stays : (items : List tree.Item) (s : System) (o : Options) → WatchEndsAsMeant items s o by part → WatchEndsAsMeant items s o by (part ++ more)
+        stays items s o w = record {
+          due = subst (λ (l : List ℕ). IsDueAsMeant items s o l (ended Trace (part ++ more)) (given Out (part ++ more))) (sym (taken_before Trace part more (no_reads Trace)))
+              (subst (λ (e : Bool). IsDueAsMeant items s o (taken Trace part) e (given Out (part ++ more))) (sym (ended_before Trace part more (no_reads Trace)))
+              (subst (λ (l : List ℕ). IsDueAsMeant items s o (taken Trace part) (ended Trace part) l) (sym (given_before Out part more no_out)) w.due));
+          ends = subst (λ (l : List ℕ). EndsAsMeant items s o l (ended Trace (part ++ more)) by) (sym (taken_before Trace part more (no_reads Trace)))
+              (subst (λ (e : Bool). EndsAsMeant items s o (taken Trace part) e by) (sym (ended_before Trace part more (no_reads Trace))) w.ends);
         }
 
     pub run_ends_told : (by : Ending) → RunEnds words by part → RunEnds words by (part ++ more)
@@ -221,3 +223,20 @@ five_of words status part five (memory is tells) = absurd (omega arith)
 
 pub tells_some : (words : List (List ℕ)) (status : ℕ) (part : List Did) → status ≡ 5 → Concludes words status part → TellsSome words part
 tells_some words status part five c = five_of words status part five c.outcome
+
+-- status 1 is that of a fault alone
+fault_of : (words : List (List ℕ)) (by : Ending) (part : List Did) → 1 ≡ status_of by → Ends words by part → Faulted words part
+fault_of words (ending.Fault t k p) part is held = record { time = t; kind = k; place = p; ends = held }
+fault_of words ending.Done part is held = absurd (omega arith)
+fault_of words ending.Words part is held = absurd (omega arith)
+fault_of words (ending.Spec fault) part is held = absurd (omega arith)
+fault_of words (ending.Trace fault) part is held = absurd (omega arith)
+fault_of words (ending.Limit n t) part is held = absurd (omega arith)
+
+one_of : (words : List (List ℕ)) (status : ℕ) (part : List Did) → status ≡ 1 → Outcome words status part → Faulted words part
+one_of words status part one (told by is held) = fault_of words by part (sym one ∙ is) held
+one_of words status part one (outside is some) = absurd (omega arith)
+one_of words status part one (memory is tells) = absurd (omega arith)
+
+pub is_faulted : (words : List (List ℕ)) (status : ℕ) (part : List Did) → status ≡ 1 → Concludes words status part → Faulted words part
+is_faulted words status part one c = one_of words status part one c.outcome

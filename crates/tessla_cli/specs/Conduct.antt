@@ -6,17 +6,17 @@ use Rattle.tsl_world.specs.declared.outside.Slot.{Slot}
 use Rattle.tsl_world.specs.declared.outside.Slot.TheVariants.{Spec, Trace}
 use Rattle.tsl_world.specs.declared.outside.Channel.TheVariants.{Out}
 use Rattle.tsl_world.specs.Journal.{given, taken, ended, opening, openings, creations, AtReads, IsWithin, Each}
-use Rattle.tree_spec.specs.declared.fault.SpecFault.{SpecFault}
-use Rattle.tree_spec.specs.Source.{SpellsSystem}
+use Rattle.spec_parser.specs.Tree as tree
+use Rattle.spec_reader.specs.declared.fault.SpecFault.{SpecFault}
+use Rattle.spec_reader.specs.Source.{SpellsSystem}
 use Rattle.tessla_cli.specs.Compiled.{IsRefusedBy}
 use Rattle.tessla_cli.specs.declared.ending.Ending.{Ending}
 use Rattle.tessla_cli.specs.declared.ending.Ending.TheVariants as ending
 use Rattle.tessla_cli.specs.declared.options.Options.{Options}
 use Rattle.tessla_cli.specs.Words.{Run, command_of}
-use Rattle.tessla_cli.specs.Due.{IsDue}
 use Rattle.tsl_world.specs.Begins.{Begins}
-use Rattle.tessla_cli.specs.Ending.{GoesOn}
-use Rattle.tessla_cli.specs.Parts.{most_taken, BeginsDue, WatchEnds}
+use Rattle.tessla_cli.specs.Meant.{IsDueAsMeant, GoesOnAsMeant, BeginsAsMeant, WatchEndsAsMeant}
+use Rattle.tessla_cli.specs.Parts.{most_taken}
 
 -- a specification is refused where it has more bytes than this
 abbrev pub source_limit : ℕ
@@ -62,13 +62,15 @@ abbrev pub ReadsPieces : List Did → Type 0
 ReadsPieces part = Each (IsWithin most_taken) part
 
 module _ (words : List (List ℕ)) where
-  -- A fact about the system that the specification spells, as far as it was taken, and about how far the run goes that the words ask for.
-  pub record OfRun (journal : List Did) (P : System → Options → Type 0) : Type 0 where
+  -- A fact about the items that the specification spells, as far as it was taken, about the system that they mean, and about how far the
+  -- run goes that the words ask for.
+  pub record OfRun (journal : List Did) (P : List tree.Item → System → Options → Type 0) : Type 0 where
     pub run : Run
     pub asked : command_of words ≡ Some run
+    pub items : List tree.Item
     pub system : System
-    pub spelled : SpellsSystem (taken Spec journal) system
-    pub holds : P system (options_of run)
+    pub spelled : SpellsSystem (taken Spec journal) items system
+    pub holds : P items system (options_of run)
 
   -- Nothing is opened but the specification that the words name, and then the trace, each once and each whether it could be opened or not.
   abbrev pub OpensAsAsked : List Did → Type 0
@@ -77,19 +79,19 @@ module _ (words : List (List ℕ)) where
 
   -- THE HEADLINE. Before each read of the trace, the bytes given to Out are the text that is due of the trace bytes taken before.
   abbrev pub IsDueAtReads : List Did → Type 0
-  IsDueAtReads part = AtReads Trace (λ before. OfRun before (λ s o. IsDue s o (taken Trace before) false (given Out before))) part
+  IsDueAtReads part = AtReads Trace (λ before. OfRun before (λ items s o. IsDueAsMeant items s o (taken Trace before) false (given Out before))) part
 
   -- No read of the trace follows once the bytes taken hold a refused line, close a fault or pass the limit of instants.
   abbrev pub GoesOnAtReads : List Did → Type 0
-  GoesOnAtReads part = AtReads Trace (λ before. OfRun before (λ s o. GoesOn s o (taken Trace before))) part
+  GoesOnAtReads part = AtReads Trace (λ before. OfRun before (λ items s o. GoesOnAsMeant items s o (taken Trace before))) part
 
   -- Whatever ends the program, what Out was given is nothing, or begins the text that is due of all that was taken of the trace.
   abbrev pub IsPartlyDue : List Did → Type 0
-  IsPartlyDue part = (given Out part ≡ []) ⊎ OfRun part (λ s o. BeginsDue s o part)
+  IsPartlyDue part = (given Out part ≡ []) ⊎ OfRun part (λ items s o. BeginsAsMeant items s o part)
 
   -- All the text that is due of what was taken was given to Out, and this is the cause of the ending.
   abbrev pub EndsRun : Ending → List Did → Type 0
-  EndsRun by part = OfRun part (λ s o. WatchEnds s o by part)
+  EndsRun by part = OfRun part (λ items s o. WatchEndsAsMeant items s o by part)
 
   -- The specification that the words name was read to its end or past its limit, and it is refused. The trace is not opened.
   pub record SpecRefused (fault : SpecFault) (part : List Did) : Type 0 where

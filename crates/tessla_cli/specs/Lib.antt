@@ -5,6 +5,7 @@ pub mod Messages
 pub mod Parts
 pub mod Monitor
 pub mod Ready
+pub mod Meant
 pub mod Conduct
 pub mod Outcome
 pub mod Compiled

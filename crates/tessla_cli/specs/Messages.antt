@@ -8,8 +8,14 @@ use Rattle.spec_lexer.specs.declared.fault.LexFault.{LexFault}
 use Rattle.spec_lexer.specs.declared.fault.LexFault.TheVariants as lex
 use Rattle.spec_parser.specs.declared.parse.ParseFault.{ParseFault}
 use Rattle.spec_parser.specs.declared.parse.ParseFault.TheVariants as parse
-use Rattle.tree_spec.specs.declared.fault.SpecFault.{SpecFault}
-use Rattle.tree_spec.specs.declared.fault.SpecFault.TheVariants as spec
+use Rattle.type_check.specs.declared.fault.Kind.{Kind}
+use Rattle.type_check.specs.declared.fault.TypeFault.{TypeFault}
+use Rattle.type_check.specs.declared.fault.TypeFault.TheVariants as types
+use Rattle.type_check.specs.Text.{kind_text as type_text}
+use Rattle.spec_reader.specs.declared.fault.FlatFault.{FlatFault}
+use Rattle.spec_reader.specs.declared.fault.FlatFault.TheVariants as flat
+use Rattle.spec_reader.specs.declared.fault.SpecFault.{SpecFault}
+use Rattle.spec_reader.specs.declared.fault.SpecFault.TheVariants as spec
 use Rattle.trace_reader.specs.declared.fault.TraceFault.{TraceFault}
 use Rattle.trace_reader.specs.declared.fault.TraceFault.TheVariants as trace
 use Rattle.tessla_cli.specs.declared.ending.Ending.{Ending}
@@ -60,10 +66,48 @@ parse_text (parse.Unexpected place) = at_text place (codes "Unexpected")
 parse_text (parse.TooDeep place) = at_text place (codes "TooDeep")
 parse_text parse.Memory = []
 
+-- what an expression is, and what is asked of it
+abbrev pub clash_text : Kind → Kind → List ℕ
+clash_text have want = codes ": have " ++ (type_text have ++ (codes ", want " ++ type_text want))
+
+abbrev pub types_text : TypeFault → List ℕ
+types_text (types.DefinedTwice place) = at_text place (codes "DefinedTwice")
+types_text (types.UnknownName place) = at_text place (codes "UnknownName")
+types_text (types.BadType place) = at_text place (codes "BadType")
+types_text (types.MixedParameters place) = at_text place (codes "MixedParameters")
+types_text (types.AggregateInput place) = at_text place (codes "AggregateInput")
+types_text (types.FunctionCycle place) = at_text place (codes "FunctionCycle")
+types_text (types.NeedsType place) = at_text place (codes "NeedsType")
+types_text (types.WrongArity place) = at_text place (codes "WrongArity")
+types_text (types.WrongType place have want) = at_text place (codes "WrongType" ++ clash_text have want)
+types_text (types.AggregateResult place) = at_text place (codes "AggregateResult")
+types_text (types.OutputTwice place) = at_text place (codes "OutputTwice")
+types_text (types.NoOutput place) = at_text place (codes "NoOutput")
+types_text types.Memory = []
+
+abbrev pub flat_text : FlatFault → List ℕ
+flat_text (flat.MacroCycle place) = at_text place (codes "MacroCycle")
+flat_text (flat.CallsTooDeep place) = at_text place (codes "CallsTooDeep")
+flat_text (flat.BodyTooLarge place) = at_text place (codes "BodyTooLarge")
+flat_text (flat.TooManyEquations place) = at_text place (codes "TooManyEquations")
+flat_text (flat.TooManyUpdates place) = at_text place (codes "TooManyUpdates")
+
+-- the names of a cycle, each with an arrow behind it
+abbrev pub members_text : List (List ℕ) → List ℕ
+members_text [] = []
+members_text (name ∷ names) = name ++ (codes " -> " ++ members_text names)
+
+-- a cycle ends with the name with which it begins
+abbrev pub cycle_text : Place → List (List ℕ) → List ℕ
+cycle_text place [] = at_text place (codes "cycle ")
+cycle_text place (name ∷ names) = at_text place (codes "cycle " ++ (members_text (name ∷ names) ++ name))
+
 abbrev pub spec_text : SpecFault → List ℕ
 spec_text (spec.Lex fault) = lex_text fault
 spec_text (spec.Parse fault) = parse_text fault
-spec_text (spec.NotBuilt place) = at_text place (codes "NotBuilt")
+spec_text (spec.Types fault) = types_text fault
+spec_text (spec.Flat fault) = flat_text fault
+spec_text (spec.Cycle place names) = cycle_text place names.items
 spec_text spec.Memory = []
 
 -- when, how and where an equation faults

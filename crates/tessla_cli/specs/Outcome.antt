@@ -2,7 +2,7 @@
 use Rattle.std.specs.Prelude.{◌≡◌, ◌⊎◌, ℕ, List}
 use Rattle.lift_func.specs.declared.fault.FaultKind.{FaultKind}
 use Rattle.trace_reader.specs.declared.fault.TraceFault.{TraceFault}
-use Rattle.tree_spec.specs.declared.fault.SpecFault.{SpecFault}
+use Rattle.spec_reader.specs.declared.fault.SpecFault.{SpecFault}
 use Rattle.tsl_value.specs.declared.place.Place.{Place}
 use Rattle.tsl_world.specs.Begins.{Begins}
 use Rattle.tsl_world.specs.declared.outside.Did.{Did}

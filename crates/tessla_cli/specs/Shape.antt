@@ -5,8 +5,9 @@ use Rattle.tsl_world.specs.declared.outside.Did.{Did}
 use Rattle.tsl_world.specs.declared.outside.Did.TheVariants.{Opened, NotOpened}
 use Rattle.tsl_world.specs.declared.outside.Slot.TheVariants.{Spec, Trace}
 use Rattle.tsl_world.specs.Journal.{taken, ended, AtReads, Each}
-use Rattle.tree_spec.specs.declared.fault.SpecFault.{SpecFault}
-use Rattle.tree_spec.specs.Source.{SpellsSystem}
+use Rattle.spec_parser.specs.Tree as tree
+use Rattle.spec_reader.specs.declared.fault.SpecFault.{SpecFault}
+use Rattle.spec_reader.specs.Source.{SpellsSystem}
 use Rattle.tessla_cli.specs.Compiled.{IsRefusedBy}
 use Rattle.tessla_cli.specs.declared.ending.Ending.{Ending}
 use Rattle.tessla_cli.specs.declared.ending.Ending.TheVariants as ending
@@ -43,11 +44,11 @@ pub data SystemEnds (s : System) (o : Options) (by : Ending) : List Did → Type
 -- a source is compiled and its system is run, as far as it comes
 pub data RunsSource (source : List ℕ) (o : Options) (part : List Did) : Type 0 where
   uncompiled : part ≡ [] → RunsSource source o part
-  compiled : (s : System) → SpellsSystem source s → RunsSystem s o part → RunsSource source o part
+  compiled : (items : List tree.Item) (s : System) → SpellsSystem source items s → RunsSystem s o part → RunsSource source o part
 
 pub data SourceEnds (source : List ℕ) (o : Options) (by : Ending) (part : List Did) : Type 0 where
   spec_refused : {fault : SpecFault} → by ≡ ending.Spec fault → IsRefusedBy source fault → part ≡ [] → SourceEnds source o by part
-  compiled_ends : (s : System) → SpellsSystem source s → SystemEnds s o by part → SourceEnds source o by part
+  compiled_ends : (items : List tree.Item) (s : System) → SpellsSystem source items s → SystemEnds s o by part → SourceEnds source o by part
 
 -- a run of a specification by its name
 pub data RunsSpec (name : List ℕ) (o : Options) : List Did → Type 0 where

@@ -1,9 +1,9 @@
 // How a run ends.
 
 use lift_func::fault::FaultKind;
+use spec_reader::fault::SpecFault;
 use std::alloc::AllocError;
 use trace_reader::fault::TraceFault;
-use tree_spec::fault::SpecFault;
 use tsl_value::memory::NoMemory;
 use tsl_value::place::Place;
 use tsl_value::time::Time;

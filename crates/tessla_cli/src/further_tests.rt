@@ -235,3 +235,17 @@ fn sources_are_refused(rt: HostRuntime) -> Result<(), Fail> {
     );
     Ok(())
 }
+
+#[test]
+fn specifications_are_refused(rt: HostRuntime) -> Result<(), Fail> {
+    let alloc = rt.alloc();
+    let no_output = "in i: Events[Int]\n";
+    assert!(rt; refuses(alloc, no_output, "spec 2:1: NoOutput\n")?);
+    let calls_itself =
+        "def f(x: Events[Int]): Events[Int] := f(x)\nin i: Events[Int]\nout f(i) as y\n";
+    assert!(rt; refuses(alloc, calls_itself, "spec 1:5: MacroCycle\n")?);
+    let waits =
+        "in i: Events[Int]\ndef a: Events[Int] := merge(b, i)\ndef b: Events[Int] := merge(a, i)\nout a\n";
+    assert!(rt; refuses(alloc, waits, "spec 2:23: cycle a -> b -> a\n")?);
+    Ok(())
+}

@@ -1,20 +1,23 @@
 // What is told on the standard error.
 
 ghost use Rattle.std.specs.Prelude.{◌≡◌, ◌++◌, IfOk, OnOk};
-ghost use Rattle.tessla_cli.specs.Messages.{at_text, back_text, broken_line, broken_status, ending_line, fault_text, kind_text, lex_text, limit_text, next_text, parse_text, place_text, spec_text, status_of, trace_text};
+ghost use Rattle.tessla_cli.specs.Messages.{at_text, back_text, broken_line, broken_status, clash_text, cycle_text, ending_line, fault_text, flat_text, kind_text, lex_text, limit_text, members_text, next_text, parse_text, place_text, spec_text, status_of, trace_text, types_text};
 
 use crate::ending::{Broken, Ending};
 use lift_func::fault::FaultKind;
 use spec_lexer::fault::LexFault;
 use spec_parser::parse::ParseFault;
+use spec_reader::fault::{FlatFault, SpecFault};
 use std::alloc::Global;
 use trace_reader::fault::TraceFault;
-use tree_spec::fault::SpecFault;
 use tsl_value::bytes::Bytes;
 use tsl_value::memory::NoMemory;
 use tsl_value::place::Place;
 use tsl_value::print::print_number;
+use tsl_value::text::Text;
 use tsl_value::time::Time;
+use type_check::fault::{Kind, TypeFault};
+use type_check::print::print_kind;
 
 /// Appends a place as `LINE:COLUMN`.
 fn print_place(place: Place, out: &mut Bytes) -> Result<(), NoMemory>
@@ -105,14 +108,84 @@ fn print_parse(fault: ParseFault, out: &mut Bytes) -> Result<(), NoMemory>
     }
 }
 
-/// Appends why a specification is refused.
-fn print_spec(fault: SpecFault, out: &mut Bytes) -> Result<(), NoMemory>
-    ensures { OnOk result (out.new ≡ out.old ++ spec_text fault) }
+/// Appends what an expression is, and what is asked of it.
+fn print_clash(have: &Kind, want: &Kind, out: &mut Bytes) -> Result<(), NoMemory>
+    ensures { OnOk result (out.new ≡ out.old ++ clash_text have.now want.now) }
+{
+    out.append(b": have ")?;
+    print_kind(have, out)?;
+    out.append(b", want ")?;
+    print_kind(want, out)
+}
+
+fn print_types(fault: TypeFault, out: &mut Bytes) -> Result<(), NoMemory>
+    ensures { OnOk result (out.new ≡ out.old ++ types_text fault) }
 {
     match fault {
-        SpecFault::Lex(fault) => print_lex(fault, out),
-        SpecFault::Parse(fault) => print_parse(fault, out),
-        SpecFault::NotBuilt { place } => print_at(place, b"NotBuilt", out),
+        TypeFault::DefinedTwice { place } => print_at(place, b"DefinedTwice", out),
+        TypeFault::UnknownName { place } => print_at(place, b"UnknownName", out),
+        TypeFault::BadType { place } => print_at(place, b"BadType", out),
+        TypeFault::MixedParameters { place } => print_at(place, b"MixedParameters", out),
+        TypeFault::AggregateInput { place } => print_at(place, b"AggregateInput", out),
+        TypeFault::FunctionCycle { place } => print_at(place, b"FunctionCycle", out),
+        TypeFault::NeedsType { place } => print_at(place, b"NeedsType", out),
+        TypeFault::WrongArity { place } => print_at(place, b"WrongArity", out),
+        TypeFault::WrongType { place, have, want } => {
+            print_at(place, b"WrongType", out)?;
+            print_clash(&have, &want, out)
+        }
+        TypeFault::AggregateResult { place } => print_at(place, b"AggregateResult", out),
+        TypeFault::OutputTwice { place } => print_at(place, b"OutputTwice", out),
+        TypeFault::NoOutput { place } => print_at(place, b"NoOutput", out),
+        TypeFault::Memory => Ok(()),
+    }
+}
+
+fn print_flat(fault: FlatFault, out: &mut Bytes) -> Result<(), NoMemory>
+    ensures { OnOk result (out.new ≡ out.old ++ flat_text fault) }
+{
+    match fault {
+        FlatFault::MacroCycle { place } => print_at(place, b"MacroCycle", out),
+        FlatFault::CallsTooDeep { place } => print_at(place, b"CallsTooDeep", out),
+        FlatFault::BodyTooLarge { place } => print_at(place, b"BodyTooLarge", out),
+        FlatFault::TooManyEquations { place } => print_at(place, b"TooManyEquations", out),
+        FlatFault::TooManyUpdates { place } => print_at(place, b"TooManyUpdates", out),
+    }
+}
+
+/// Appends the names of a cycle, each with an arrow behind it.
+fn print_members(names: &[Text], out: &mut Bytes) -> Result<(), NoMemory>
+    ensures { OnOk result (out.new ≡ out.old ++ members_text names.now) }
+{
+    for name in names {
+        out.append(name.as_str().as_bytes())?;
+        out.append(b" -> ")?;
+    }
+    Ok(())
+}
+
+/// Appends a cycle, at the place of its first equation. It ends with the name with which it begins.
+fn print_cycle(place: Place, names: &[Text], out: &mut Bytes) -> Result<(), NoMemory>
+    ensures { OnOk result (out.new ≡ out.old ++ cycle_text place names.now) }
+{
+    print_at(place, b"cycle ", out)?;
+    print_members(names, out)?;
+    match names.first() {
+        Some(name) => out.append(name.as_str().as_bytes()),
+        None => Ok(()),
+    }
+}
+
+/// Appends why a specification is refused.
+fn print_spec(fault: &SpecFault, out: &mut Bytes) -> Result<(), NoMemory>
+    ensures { OnOk result (out.new ≡ out.old ++ spec_text fault.now) }
+{
+    match fault {
+        SpecFault::Lex(fault) => print_lex(*fault, out),
+        SpecFault::Parse(fault) => print_parse(*fault, out),
+        SpecFault::Types(fault) => print_types(*fault, out),
+        SpecFault::Flat(fault) => print_flat(*fault, out),
+        SpecFault::Cycle { place, names } => print_cycle(*place, names, out),
         SpecFault::Memory => Ok(()),
     }
 }
@@ -154,7 +227,7 @@ fn print_ending(ending: &Ending, out: &mut Bytes) -> Result<(), NoMemory>
         Ending::Words => out.append(b"words not accepted\n"),
         Ending::Spec(fault) => {
             out.append(b"spec ")?;
-            print_spec(*fault, out)?;
+            print_spec(fault, out)?;
             out.push(b'\n')
         }
         Ending::Trace(fault) => {

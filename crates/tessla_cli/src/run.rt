@@ -1,6 +1,6 @@
 // A run, from the words to its end.
 
-ghost use Rattle.std.specs.Prelude.{◌≡◌, ◌<◌, ◌≤◌, ◌^◌, true, false, length, IfOk, OnOk, IsErrOf};
+ghost use Rattle.std.specs.Prelude.{◌≡◌, ◌≢◌, ◌<◌, ◌≤◌, ◌^◌, true, false, length, IfOk, OnOk, IsErrOf};
 ghost use Rattle.flat_core.specs.Dependency.{IsRunOrder};
 ghost use Rattle.tsl_world.specs.Standing.{at_first, is_open};
 ghost use Rattle.tsl_world.specs.Runs.{Grows};
@@ -18,8 +18,9 @@ use crate::watch::watch;
 use crate::words::Words;
 use flat_core::flat::Flat;
 use flat_core::steps::Steps;
+use spec_reader::fault::SpecFault;
 use std::alloc::Global;
-use tree_spec::fault::SpecFault;
+use tsl_value::memory::NoMemory;
 use tsl_world::{Slot, World};
 
 /// As many bytes as one read takes at most.
@@ -58,6 +59,17 @@ fn run_system<W: World>(
     Ok(watch(alloc, world, flat, order, options, &mut monitor, buf)?)
 }
 
+/// How a run ends whose specification is refused in this way. Want of memory refuses none.
+fn refused(fault: SpecFault) -> Result<Ending, NoMemory>
+    ensures ending { IfOk result (λ ending. ending ≡ Ending.Spec fault) }
+    ensures refused { IfOk result (λ _. fault ≢ SpecFault.Memory) }
+{
+    match fault {
+        SpecFault::Memory => Err(NoMemory),
+        fault => Ok(Ending::Spec(fault)),
+    }
+}
+
 /// Compiles a source and runs its system.
 fn run_source<W: World>(
     alloc: Global,
@@ -86,10 +98,7 @@ fn run_source<W: World>(
             options,
             buf,
         )?),
-        Err(SpecFault::Lex(fault)) => Ok(Ending::Spec(SpecFault::Lex(fault))),
-        Err(SpecFault::Parse(fault)) => Ok(Ending::Spec(SpecFault::Parse(fault))),
-        Err(SpecFault::NotBuilt { place }) => Ok(Ending::Spec(SpecFault::NotBuilt { place })),
-        Err(SpecFault::Memory) => Err(Broken::Memory),
+        Err(fault) => Ok(refused(fault)?),
     }
 }
 

@@ -137,18 +137,19 @@ fn a_unit_without_a_trace(rt: HostRuntime) -> Result<(), Fail> {
 }
 
 #[test]
-fn a_line_that_is_not_built(rt: HostRuntime) -> Result<(), Fail> {
+fn an_operand_of_the_wrong_type(rt: HostRuntime) -> Result<(), Fail> {
     let left = run(
         rt.alloc(),
         &["run", "s.tsl"],
-        "in i: Events[Int]\ndef p := i + i\nout p\n",
-        "1: i = 4\n",
+        "in i: Events[Bool]\ndef p := -i\nout p\n",
+        "1: i = true\n",
         64,
         &[],
     )?;
+    let err = b"spec 2:10: WrongType: have Events[Bool], want Events[Int]\n".as_slice();
     assert_eq!(rt;
         (left.status, left.world.out(), left.world.err()),
-        (3, b"".as_slice(), b"spec 2:1: NotBuilt\n".as_slice())
+        (3, b"".as_slice(), err)
     );
     assert!(rt; left.world.is_told());
     Ok(())

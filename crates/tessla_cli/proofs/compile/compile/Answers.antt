@@ -1,5 +1,6 @@
-use Rattle.tessla_cli.proofs.Readiness.{ready_of}
+use Rattle.std.proofs.lemmas.Result.{IfOk-weaker}
+use Rattle.tessla_cli.proofs.Readiness.{ready_spelled}
 use Rattle.tessla_cli.proofs.compile.compile.Goals as goal
 
-pub returns-in-Ok-clause-ready : goal.returns-in-Ok-clause-ready
-returns-in-Ok-clause-ready c = ready_of c.in_ok-flat.flat c.in_ok-flat.ensures.is_flat c.in_ok-flat.ensures.ranked
+pub returns-clause-ready : goal.returns-clause-ready
+returns-clause-ready c = IfOk-weaker c.read_spec.result _ _ (λ s spelled. ready_spelled c.args.source.now s.flat spelled) c.read_spec.ensures.system

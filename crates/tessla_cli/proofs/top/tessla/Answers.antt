@@ -1,8 +1,12 @@
 use Rattle.tsl_world.proofs.Runs.{grows_weaker}
-use Rattle.tessla_cli.specs.Outcome.{Concludes, IsExact, TellsSome}
+use Rattle.tessla_cli.specs.Outcome.{Concludes, Faulted, IsExact, TellsSome}
 use Rattle.tessla_cli.proofs.Exact.{exact}
-use Rattle.tessla_cli.proofs.Told.{tells_some}
+use Rattle.tessla_cli.proofs.Told.{is_faulted, tells_some}
 use Rattle.tessla_cli.proofs.top.tessla.Goals as goal
+
+pub returns-clause-faulted : goal.returns-clause-faulted
+returns-clause-faulted g c = λ one.
+    grows_weaker g.W.World.told g.W.World.journal c.args.world.now c.conclude.new.world (Concludes c.args.words.now c.conclude.result) (Faulted c.args.words.now) c.conclude.ensures.calls (λ p. is_faulted c.args.words.now c.conclude.result p one)
 
 pub returns-clause-failed_told : goal.returns-clause-failed_told
 returns-clause-failed_told g c = λ five.

@@ -1,0 +1,18 @@
+// Laws of sources, as the contracts of functions that do nothing.
+
+ghost use Rattle.spec_reader.specs.Laws.{OneSystem, RefusedSpellsNone, OneRefusal};
+
+/// A source is one specification at most, which means one system.
+pub fn one_system()
+    ensures { OneSystem }
+{}
+
+/// A source that is refused, other than for want of memory, is none.
+pub fn refused_spells_none()
+    ensures { RefusedSpellsNone }
+{}
+
+/// A source is refused in one way at most, other than for want of memory.
+pub fn one_refusal()
+    ensures { OneRefusal }
+{}

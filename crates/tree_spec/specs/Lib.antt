@@ -1,9 +1,0 @@
-pub mod Name
-pub mod Item
-pub mod Parts
-pub mod Table
-pub mod Meaning
-pub mod Reading
-pub mod Source
-pub mod Whole
-pub mod Laws
