@@ -10,7 +10,8 @@ use tsl_value::place::Place;
 use tsl_value::text::Text;
 use type_check::fault::TypeFault;
 
-/// Why a specification has no flat system.
+/// Why a specification that is well typed has no flat system. An earlier kind is answered before a later one; of the two limits, the
+/// one that is passed first.
 #[derive(Clone, Copy, PartialEq, Eq, Debug)]
 pub enum FlatFault {
     /// The macro of this name, the first in the source that does, lies on a cycle of calls of macros.
@@ -21,9 +22,9 @@ pub enum FlatFault {
     /// The body of the value function of this name, the first in the source, has more than 1,024 nodes once calls are put in
     /// place.
     BodyTooLarge { place: Place },
-    /// The equation of the expression here would be number 4,096.
+    /// A system has at most 4,096 equations, and the expression here would make one more.
     TooManyEquations { place: Place },
-    /// The update here would be the 257th.
+    /// A system has at most 256 updates of sets and maps, and this would be one more.
     TooManyUpdates { place: Place },
 }
 

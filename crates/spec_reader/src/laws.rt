@@ -12,7 +12,8 @@ pub fn refused_spells_none()
     ensures { RefusedSpellsNone }
 {}
 
-/// A source is refused in one way at most, other than for want of memory.
+/// A source is refused in one way at most, other than for want of memory: two refusals by a cycle have the same place and the same
+/// names, and any other two are equal.
 pub fn one_refusal()
     ensures { OneRefusal }
 {}

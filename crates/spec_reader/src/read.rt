@@ -36,7 +36,9 @@ use type_check::typed::Typed;
 /// A specification that can be run, and an order to run it in.
 #[derive(Drop)]
 pub struct Specification {
+    /// The system that the specification means.
     pub flat: Flat,
+    /// The numbers of its equations, counted from 0: each once, behind those that it uses at the same time.
     pub order: Steps,
 }
 

@@ -10,6 +10,7 @@ use Rattle.tsl_world.specs.declared.outside.Did.{Did}
 use Rattle.tsl_world.specs.declared.outside.Slot.TheVariants.{Spec, Trace}
 use Rattle.tsl_world.specs.Journal.{taken, ended}
 use Rattle.spec_reader.specs.declared.fault.SpecFault.{SpecFault}
+use Rattle.spec_reader.proofs.LawLemmas.{one_system, refused_spells_none}
 use Rattle.tessla_cli.specs.declared.ending.Ending.{Ending}
 use Rattle.tessla_cli.specs.declared.ending.Ending.TheVariants as ending
 use Rattle.tessla_cli.specs.declared.options.Options.{Options}
@@ -21,7 +22,6 @@ use Rattle.tessla_cli.specs.Outcome.{Concludes, Outcome, IsExact}
 use Rattle.tessla_cli.specs.Outcome.Outcome.{told, outside, memory}
 use Rattle.tessla_cli.specs.Parts.{EndsBy}
 use Rattle.tessla_cli.specs.Words.{Run}
-use Rattle.tessla_cli.proofs.ReaderLaws.{one_system, refused_spells_none}
 
 nothing_some : {A : Type 0} (x : Option A) (a : A) → x ≡ None → x ≡ Some a → ⊥
 nothing_some x a none some = absurd (let e : false ≡ true = ap is_some (sym none ∙ some) in cc)

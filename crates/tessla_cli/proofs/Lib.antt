@@ -9,5 +9,4 @@ pub mod Readiness
 pub mod Monitoring
 pub mod FirstInstants
 pub mod Meaning
-pub mod ReaderLaws
 pub mod Exact
