@@ -128,7 +128,7 @@ impl Context<'_> {
     }
 
     /// A name makes nothing: it stands for a stream.
-    fn named(&self, here: &Here<'_, '_>, name: &str) -> Result<Stream, MakeFault>
+    pub(crate) fn named(&self, here: &Here<'_, '_>, name: &str) -> Result<Stream, MakeFault>
         requires { CanName self.now here.now name.now }
         ensures { IsNamed self.now here.now name.now result }
     {
