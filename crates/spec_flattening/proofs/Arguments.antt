@@ -1,5 +1,5 @@
 -- What a call of a macro asks and answers: its arguments, and what is inside of it.
-use Rattle.std.proofs.Common.{◌≡◌, ◌==◌, ℕ, zero, suc, ◌+◌, ◌-◌, ◌*◌, ◌<◌, ◌≤◌, Bool, true, false, List, [], ◌∷◌, map, length, Option, Some, None, refl, ap, sym, subst, ◌∙◌, arith}
+use Rattle.std.proofs.Common.{◌≡◌, ℕ, zero, suc, ◌+◌, ◌-◌, ◌*◌, ◌<◌, false, List, map, Some, refl, ap, sym, subst, ◌∙◌, arith}
 use Rattle.std.specs.Prelude.{Ok, Err, Result, Vec, slice_get}
 use Rattle.std.proofs.lemmas.Bool.{true≢false}
 use Rattle.tsl_value.specs.declared.place.Place.{Place}

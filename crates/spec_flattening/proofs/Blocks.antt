@@ -1,10 +1,9 @@
 -- The block of a macro and its result: the streams that were foreseen are those that are made.
-use Rattle.std.proofs.Common.{◌≡◌, ℕ, zero, suc, ◌+◌, ◌-◌, ◌<◌, ◌≤◌, List, [], ◌∷◌, ◌++◌, map, length, Option, Some, None, refl, ap, sym, subst, ◌∙◌, append_assoc, length-append, arith}
-use Rattle.std.specs.Prelude.{Ok, Err, Result, min, slice_get}
-use Rattle.std.proofs.lemmas.List.{append-nil, length-map, map-append}
+use Rattle.std.proofs.Common.{◌≡◌, ℕ, zero, suc, ◌+◌, ◌-◌, ◌≤◌, List, [], ◌∷◌, ◌++◌, length, Some, refl, ap, sym, subst, ◌∙◌, length-append, arith}
+use Rattle.std.specs.Prelude.{min, slice_get}
+use Rattle.std.proofs.lemmas.List.{length-map, map-append}
 use Rattle.std.proofs.lemmas.Option.{same_Some, none-some}
 use Rattle.tsl_value.specs.declared.place.Place.{Place}
-use Rattle.tsl_value.specs.declared.scalar.ValueType.{ValueType}
 use Rattle.flat_core.specs.System.{System}
 use Rattle.spec_parser.specs.Tree as tree
 use Rattle.spec_parser.specs.Tree.{Expr}
@@ -13,25 +12,23 @@ use Rattle.spec_parser.specs.Shape.{definition_of, definitions_of}
 use Rattle.spec_parser.specs.declared.tree.DefinitionParts.{DefinitionParts}
 use Rattle.name_check.specs.Steps.{local_body}
 use Rattle.type_rules.specs.declared.rule.ExprType.TheVariants as expr_type
-use Rattle.expr_types.specs.Around.{Around, Kinds}
+use Rattle.expr_types.specs.Around.{Around}
 use Rattle.expr_types.specs.Judge.{type_of}
 use Rattle.stream_constructs.specs.declared.construct.Stream.{Stream}
 use Rattle.stream_constructs.specs.declared.maker.MakeFault.{MakeFault}
-use Rattle.stream_constructs.specs.Made.{with_equations}
-use Rattle.spec_meaning.specs.Occurrence.{block_of, body_of, local, result_of}
+use Rattle.spec_meaning.specs.Occurrence.{block_of, body_of, result_of}
 use Rattle.macro_flatten.specs.Makes as makes
 use Rattle.macro_flatten.specs.Makes.{AreLocals, MakesBlock, MakesBody, inside_call}
-use Rattle.checked_spec.specs.Laws.{IsMacro, in_macro}
+use Rattle.checked_spec.specs.Laws.{in_macro}
 use Rattle.checked_spec.proofs.BlockLemmas.{nth}
 use Rattle.typed_flat.proofs.Read.{inner_is}
 use Rattle.equation_marks.specs.Marks.{Mark, block_marks, body_marks, macro_marks, mark_of}
 use Rattle.equation_marks.proofs.CallMarks.{definition_first, macro_marks_are}
 use Rattle.spec_flattening.specs.declared.context.Context.{Context}
-use Rattle.spec_flattening.specs.declared.context.Here.{Here}
-use Rattle.spec_flattening.specs.Answers.{AreNumbered, IsBlockMade, IsBodyMade, IsMacroMade, IsRefusedBehind, exactly, marks_called, to_enough}
-use Rattle.spec_flattening.specs.Here.{Entry, IsEntered, MayMakeAt, Site, inside_of}
-use Rattle.spec_flattening.proofs.Entered.{none_local, the_macro}
-use Rattle.spec_flattening.proofs.Made.{many_made, refused_behind, refused_front, refused_same, with_both, with_none}
+use Rattle.spec_flattening.specs.Answers.{AreNumbered, IsBlockMade, IsBodyMade, IsMacroMade, IsRefusedBehind, exactly, to_enough}
+use Rattle.spec_flattening.specs.Here.{Entry, IsEntered, Site, inside_of}
+use Rattle.spec_flattening.proofs.Entered.{the_macro}
+use Rattle.spec_flattening.proofs.Made.{many_made, refused_behind, refused_front, refused_same, with_both}
 
 -- ---- numbered streams
 module _ (counted : ℕ → ℕ) (at : Around) (call : ℕ → List Mark) where
@@ -82,7 +79,7 @@ module _ (at : Around) (call : ℕ → List Mark) where
   numbers_foreseen k n (tree.more_definitions d ds) (a ∷ ss) (b ∷ made) h m few =
       let own = length (body_marks at call (result_of (local_body d))) in
       let all : length (block_marks at call (tree.more_definitions d ds)) ≡ own + length (block_marks at call ds) =
-          ap length (definition_first at call d ds) ∙ length-append (body_marks at call (result_of (local_body d))) (block_marks at call ds) in
+      ap length (definition_first at call d ds) ∙ length-append (body_marks at call (result_of (local_body d))) (block_marks at call ds) in
       let exact : min (n + own) 4097 ≡ n + own = omega arith in
       let number : b.id ≡ a.id = m.0 ∙ sym (h.0 ∙ ap (λ x. x - 1) exact) in
       let type = inner_is (at.kinds.local at.number k) b.of a.of m.1 h.1 in

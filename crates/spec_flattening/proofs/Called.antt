@@ -1,26 +1,24 @@
 -- Calls of macros: their arguments may be made, and what is made inside of them.
-use Rattle.std.proofs.Common.{◌≡◌, ℕ, zero, suc, ◌+◌, ◌<◌, ◌≤◌, true, false, List, [], ◌∷◌, ◌++◌, map, length, get_or, Option, Some, None, refl, ap, sym, subst, ◌∙◌, append_assoc, length-append, arith}
-use Rattle.std.specs.Prelude.{Ok, Err, Result, if◌then◌else◌, not, slice_get}
-use Rattle.std.specs.List.{AllByRecursion, Contains, flat_map}
+use Rattle.std.proofs.Common.{◌≡◌, ℕ, zero, suc, ◌+◌, true, List, [], ◌∷◌, ◌++◌, map, length, Option, Some, None, refl, ap, sym, subst, ◌∙◌, append_assoc, length-append, arith}
+use Rattle.std.specs.Prelude.{Ok, if◌then◌else◌, not, slice_get}
+use Rattle.std.specs.List.{AllByRecursion}
 use Rattle.std.specs.Option.{option_map, option_and_then}
-use Rattle.std.proofs.lemmas.Bool.{true≢false}
 use Rattle.std.proofs.lemmas.List.{map-append}
 use Rattle.std.proofs.lemmas.Option.{same_Some, none-some}
 use Rattle.tsl_value.specs.declared.place.Place.{Place}
 use Rattle.tsl_value.specs.declared.scalar.ValueType.{ValueType}
 use Rattle.flat_core.specs.System.{System}
-use Rattle.flat_core.proofs.Members.{all_at, contains_head, contains_tail}
+use Rattle.flat_core.proofs.Members.{all_at}
 use Rattle.spec_parser.specs.Tree as tree
 use Rattle.spec_parser.specs.Tree.{Expr, Exprs, no_exprs, more_exprs}
-use Rattle.spec_parser.specs.Shape.{exprs_of}
 use Rattle.name_check.specs.declared.declaration.Declaration.TheVariants as declaration
-use Rattle.name_check.specs.Builtin.{is_called, is_unit}
-use Rattle.name_check.specs.Parts.{Part, Operand, parts}
+use Rattle.name_check.specs.Builtin.{is_unit}
+use Rattle.name_check.specs.Parts.{Operand, parts}
 use Rattle.name_check.specs.Scope.{meaning}
 use Rattle.type_rules.specs.declared.rule.ExprType.{ExprType}
 use Rattle.type_rules.specs.declared.rule.ExprType.TheVariants as expr_type
 use Rattle.type_rules.specs.declared.rule.Asked.TheVariants as asked
-use Rattle.type_rules.specs.Asked.{Check, ask}
+use Rattle.type_rules.specs.Asked.{ask}
 use Rattle.type_rules.specs.Rules.{ask_each, macro_rule}
 use Rattle.type_rules.specs.Written.{as_written}
 use Rattle.form_check.specs.Arity.{call_fits, count, declared_takes}
@@ -40,20 +38,19 @@ use Rattle.checked_spec.specs.Laws.{IsMacro, in_macro}
 use Rattle.checked_spec.proofs.BodyLaws.{macros_are_typed}
 use Rattle.typed_flat.specs.Inner.{StandsIn}
 use Rattle.typed_flat.specs.Laws.{IsTypedCall}
-use Rattle.typed_flat.specs.Matches.{HaveTheirTypes, IsTypedAt, Matches}
-use Rattle.typed_flat.proofs.Asks.{checked, exactly, same_Ok}
+use Rattle.typed_flat.specs.Matches.{IsTypedAt, Matches}
+use Rattle.typed_flat.proofs.Asks.{checked, exactly}
 use Rattle.typed_flat.proofs.Calls.{declared_count, declared_fits, declared_judged, declared_name}
 use Rattle.typed_flat.proofs.Inside.{call_typed}
-use Rattle.typed_flat.proofs.Read.{AreTyped, cons_is, inner_is, types_are, types_count, verdict_is}
+use Rattle.typed_flat.proofs.Read.{AreTyped, cons_is, types_are, types_count, verdict_is}
 use Rattle.typed_flat.proofs.Scopes.{meaning_declared}
 use Rattle.typed_flat.proofs.Within.{argument_stands_in}
-use Rattle.equation_marks.specs.Marks.{Mark, macro_marks, mark_of, marks}
+use Rattle.equation_marks.specs.Marks.{macro_marks, mark_of}
 use Rattle.equation_marks.proofs.CallMarks.{macro_call_marks}
 use Rattle.spec_flattening.specs.declared.context.Context.{Context}
 use Rattle.spec_flattening.specs.declared.context.Here.{Here}
 use Rattle.spec_flattening.specs.Answers.{AreMade, IsCall, IsMacroMade, IsMadeAt, IsRefusedBehind, marks_all, marks_at, marks_called}
-use Rattle.spec_flattening.specs.Here.{Entry, IsContext, IsEntered, IsHere, MayMakeAll, MayMakeAt, Site, inside_of}
-use Rattle.spec_flattening.specs.Making.{StandsIn as StandsInBody}
+use Rattle.spec_flattening.specs.Here.{Entry, IsEntered, IsHere, MayMakeAll, Site}
 use Rattle.spec_flattening.proofs.Made.{refused_behind, refused_front, refused_same, typed_long, with_both}
 use Rattle.spec_flattening.proofs.Places.{itself_in, part_may, typed_at}
 
@@ -69,9 +66,10 @@ streams_given (p ∷ ps) types (a ∷ args) are fits long all =
     let c = cons_is (as_written p.of) (param_types ps) types are in
     let first = subst (λ ts. ask_each ts (a ∷ args) ≡ Ok tt) c.are fits in
     let both = checked (ask (asked.Exactly c.a) a) (ask_each c.rest args) tt first in
-    let here = all zero p refl in
-    ((here.0, exactly c.a a both.0 ∙ same_Some c.a (expr_type.Stream here.0) (sym c.first ∙ here.1)),
-    streams_given ps c.rest args c.more both.1 (omega arith) (λ k q is. all (suc k) q is))
+    let here = all zero p refl in (
+      (here.0, exactly c.a a both.0 ∙ same_Some c.a (expr_type.Stream here.0) (sym c.first ∙ here.1)),
+      streams_given ps c.rest args c.more both.1 (omega arith) (λ k q is. all (suc k) q is),
+    )
 
 all_streams : (at : Around) (es : List Expr) (args : List ExprType) → AreTyped at es args → AllByRecursion IsStreamType args → AllByRecursion (λ e. (t : ValueType) × (type_of at e ≡ Some (expr_type.Stream t))) es
 all_streams at [] args typed streams = tt
@@ -205,10 +203,10 @@ module _ (context : Context) (here : Here) (site : Site) (is_here : IsHere conte
           new_is = with_both old mid new before (inside.block ++ inside.after) arguments.new_is inside.new_is ∙ ap (λ made. record old { equations = old.equations ++ made }) (sym (append_assoc before inside.block inside.after));
           makes = makes.Makes.call i params inside.locals b before inside.block inside.after call.other (ap (λ scope. meaning scope x) (sym typed.matches.scope_is) ∙ call.calls) body_is arguments.makes inside.are_locals block result refl;
           marks_are =
-            ap (map mark_of) (append_assoc before inside.block inside.after)
-            ∙ map-append mark_of before (inside.block ++ inside.after)
-            ∙ (λ k. arguments.marks_are k ++ inside.marks_are k)
-            ∙ sym call_marks;
+              ap (map mark_of) (append_assoc before inside.block inside.after)
+              ∙ map-append mark_of before (inside.block ++ inside.after)
+              ∙ (λ k. arguments.marks_are k ++ inside.marks_are k)
+              ∙ sym call_marks;
           of_is = typed.is ∙ sym (the_result [] (λ k s is. absurd (none-some s is))) ∙ inside.of_is;
         }
       where

@@ -1,12 +1,9 @@
 -- Chains, link by link: the link behind a beginning is a construct over that and its operand.
-use Rattle.std.proofs.Common.{◌≡◌, ℕ, zero, suc, ◌+◌, ◌<◌, ◌≤◌, Bool, true, false, cond, List, [], ◌∷◌, ◌++◌, map, length, get_or, take, drop, Option, Some, None, refl, ap, sym, subst, ◌∙◌, append_assoc, arith}
-use Rattle.std.specs.Prelude.{Ok, Err, Result, is_none, if◌then◌else◌}
+use Rattle.std.proofs.Common.{◌≡◌, ℕ, zero, suc, ◌+◌, ◌<◌, cond, List, [], ◌∷◌, ◌++◌, map, length, get_or, take, drop, Some, refl, ap, sym, subst, ◌∙◌, append_assoc, arith}
+use Rattle.std.specs.Prelude.{is_none, if◌then◌else◌}
 use Rattle.std.specs.List.{Contains, filter}
-use Rattle.std.proofs.lemmas.Bool.{true≢false, false≢true}
-use Rattle.std.proofs.lemmas.List.{append-nil, take-append-drop, take_more, take_all}
-use Rattle.std.proofs.lemmas.Option.{none-some}
+use Rattle.std.proofs.lemmas.List.{append-nil, take-append-drop, take_more}
 use Rattle.tsl_value.specs.declared.place.Place.{Place}
-use Rattle.tsl_value.specs.declared.scalar.Scalar.{Scalar}
 use Rattle.tsl_value.specs.declared.scalar.ValueType.{ValueType}
 use Rattle.lift_func.specs.Tree.{Two}
 use Rattle.flat_core.specs.declared.equation.Equation.{Equation}
@@ -34,23 +31,19 @@ use Rattle.stream_constructs.specs.Made.{equations_for, stream_of, with_equation
 use Rattle.spec_meaning.specs.Occurrence.{Call}
 use Rattle.spec_meaning.specs.Function.{literal, operation_of}
 use Rattle.spec_meaning.specs.Shape.{Shape, all_but_last, beside, expr_shape, is_part, last_operand, last_operator, left_of, operand, operands, shape, signal_of, two_operands}
-use Rattle.macro_flatten.specs.Makes.{is_own, occurrence}
+use Rattle.macro_flatten.specs.Makes.{occurrence}
 use Rattle.typed_flat.specs.Chains.{HaveOperands}
 use Rattle.typed_flat.specs.Inner.{operands_behind}
 use Rattle.typed_flat.specs.Matches.{IsTypedAt}
-use Rattle.typed_flat.proofs.Beginnings.{chain_begins, chain_of_level, chain_operands}
-use Rattle.typed_flat.proofs.Within.{operand_in}
+use Rattle.typed_flat.proofs.Beginnings.{chain_of_level}
 use Rattle.equation_marks.specs.Marks.{Mark, link_marks, mark_of, marks, signal_marks, unless_literal}
 use Rattle.equation_marks.proofs.ChainMarks.{chain_more, join_assoc, link_marks-join, operation_here}
 use Rattle.spec_flattening.specs.declared.chain.Side.{Side}
 use Rattle.spec_flattening.specs.declared.chain.Side.TheVariants as side
-use Rattle.spec_flattening.specs.declared.context.Context.{Context}
-use Rattle.spec_flattening.specs.declared.context.Here.{Here}
 use Rattle.spec_flattening.specs.Answers.{AreMade, IsMadeAt, IsRefusedBehind, marks_at, marks_called}
-use Rattle.spec_flattening.specs.Here.{IsContext, IsHere, MayMakeAt, Site}
+use Rattle.spec_flattening.specs.Here.{Site}
 use Rattle.spec_flattening.specs.Sides.{IsSideMade, link_construct, side_literal, side_streams}
 use Rattle.spec_flattening.proofs.Made.{none_made, one_made, own_fits, own_made, own_refused, refused_behind, refused_front, refused_same, with_none}
-use Rattle.spec_flattening.proofs.Places.{part_may, typed_at}
 
 -- ---- lists of links
 pub links_join : (xs ys : List Link) → links_in (xs ++ ys) ≡ join_links (links_in xs) (links_in ys)
@@ -125,7 +118,7 @@ module _ (site : Site) (deep : ℕ) where
       let one = behind_side b [] cur mid mid right [] second (none_made site deep mid) in
       let both = behind_side a (kept right b ++ []) old cur mid left (side_streams right ++ []) first one in
       let all : filter is_part (a ∷ b ∷ []) ≡ kept left a ++ (kept right b ++ []) =
-          side_kept left a (b ∷ []) (side_is a old cur left first) ∙ ap (λ xs. kept left a ++ xs) (side_kept right b [] (side_is b cur mid right second)) in
+      side_kept left a (b ∷ []) (side_is a old cur left first) ∙ ap (λ xs. kept left a ++ xs) (side_kept right b [] (side_is b cur mid right second)) in
       subst (λ ss. AreMade site deep (filter is_part (a ∷ b ∷ [])) old mid (side_streams left ++ ss)) (append-nil (side_streams right))
       (subst (λ es. AreMade site deep es old mid (side_streams left ++ (side_streams right ++ []))) (sym all) both)
 

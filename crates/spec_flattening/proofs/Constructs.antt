@@ -1,36 +1,31 @@
 -- Expressions with a construct of their own, as the code finds it.
-use Rattle.std.proofs.Common.{◌≡◌, ℕ, suc, ◌+◌, ◌<◌, Bool, true, false, List, [], ◌∷◌, ◌++◌, map, length, Option, Some, None, refl, ap, sym, subst, ◌∙◌, arith}
+use Rattle.std.proofs.Common.{◌≡◌, ℕ, ◌+◌, ◌<◌, true, false, List, [], ◌∷◌, ◌++◌, map, length, Some, refl, ap, sym, subst, ◌∙◌, arith}
 use Rattle.std.specs.Prelude.{Ok, Err, Result, Vec, IfErr, IfOk, OnOk}
-use Rattle.std.specs.List.{AllByRecursion, Contains}
+use Rattle.std.specs.List.{Contains}
 use Rattle.std.proofs.lemmas.Bool.{true≢false}
-use Rattle.std.proofs.lemmas.Option.{same_Some}
-use Rattle.tsl_value.specs.declared.place.Place.{Place}
 use Rattle.tsl_value.specs.declared.scalar.ValueType.{ValueType}
 use Rattle.flat_core.specs.declared.equation.Equation.{Equation}
 use Rattle.flat_core.specs.System.{System}
 use Rattle.flat_core.proofs.Members.{all_at, contains_map}
-use Rattle.lift_func.specs.Tree.{Tree}
 use Rattle.spec_parser.specs.Tree as tree
 use Rattle.spec_parser.specs.Tree.{Expr, no_links, more_links}
 use Rattle.spec_parser.specs.Shape.{size_of}
 use Rattle.name_check.specs.Parts.{parts}
-use Rattle.name_check.specs.Scope.{Agree, Scope, seen}
+use Rattle.name_check.specs.Scope.{seen}
 use Rattle.name_check.proofs.AgreeLemmas.{agree_same, agree_trans}
 use Rattle.type_rules.specs.declared.rule.ExprType.TheVariants as expr_type
 use Rattle.expr_types.specs.Around.{Around}
 use Rattle.expr_types.specs.Judge.{type_of}
 use Rattle.stream_constructs.specs.declared.construct.Stream.{Stream}
 use Rattle.stream_constructs.specs.declared.maker.MakeFault.{MakeFault}
-use Rattle.stream_constructs.specs.Construct as construct
 use Rattle.stream_constructs.specs.Limits.{IsRefusal}
 use Rattle.stream_constructs.specs.Made.{stream_of, with_equations}
 use Rattle.spec_meaning.specs.Occurrence.{Call, Occurrence, scope_at}
-use Rattle.spec_meaning.specs.Shape as meaning
-use Rattle.spec_meaning.specs.Shape.{beside, shape}
+use Rattle.spec_meaning.specs.Shape.{beside}
 use Rattle.macro_flatten.specs.Makes.{is_own, occurrence}
 use Rattle.checked_spec.specs.Formed.{IsFormed}
 use Rattle.typed_flat.specs.Inner.{StandsIn, has_links}
-use Rattle.typed_flat.specs.Matches.{HaveTheirTypes, IsTypedAt}
+use Rattle.typed_flat.specs.Matches.{IsTypedAt}
 use Rattle.typed_flat.proofs.Read.{inner_is}
 use Rattle.typed_flat.proofs.Whole.{parts_typed, standard_typed}
 use Rattle.typed_flat.proofs.Within.{subs_stand_in}
@@ -38,12 +33,12 @@ use Rattle.stream_shapes.specs.declared.construct.Shape.{Shape}
 use Rattle.stream_shapes.specs.Shape.{IsBeside, IsShapeOf, construct_of, expressions_in, is_chain}
 use Rattle.spec_flattening.specs.declared.context.Context.{Context}
 use Rattle.spec_flattening.specs.declared.context.Here.{Here}
-use Rattle.spec_flattening.specs.Answers.{AreExpressions, AreMade, CanConstruct, CanMake, CanMakeAll, IsConstruct, IsConstructed, IsMadeAt, IsRefusedBehind, IsTypeOf, marks_all, marks_at}
-use Rattle.spec_flattening.specs.Here.{IsContext, IsHere, MayMakeAll, MayMakeAt, Site}
+use Rattle.spec_flattening.specs.Answers.{AreExpressions, AreMade, CanConstruct, CanMakeAll, IsConstruct, IsConstructed, IsMadeAt, IsRefusedBehind, IsTypeOf, marks_all, marks_at}
+use Rattle.spec_flattening.specs.Here.{IsHere, MayMakeAll, MayMakeAt, Site}
 use Rattle.spec_flattening.specs.Own.{FitsOwn, own_of}
 use Rattle.spec_flattening.proofs.Made.{own_fits, own_made, own_refused, parts_refused}
 use Rattle.spec_flattening.proofs.Places.{part_may, typed_at}
-use Rattle.spec_flattening.proofs.Shapes.{IsOwn, StandsAlone, shape_there}
+use Rattle.spec_flattening.proofs.Shapes.{StandsAlone, shape_there}
 use Rattle.spec_flattening.proofs.Sizes.{parts_size, parts_smaller, total_size}
 
 no_chain : (items : List tree.Item) (cs : List Call) (at : Around) (t : ValueType) (e : Expr) → StandsAlone items cs at t e → is_chain e ≡ false

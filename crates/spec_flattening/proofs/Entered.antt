@@ -1,8 +1,8 @@
 -- Inside of a call of a macro: the code is at its place, and the result and the definitions of the block may be made.
-use Rattle.std.proofs.Common.{◌≡◌, ℕ, zero, suc, ◌+◌, ◌<◌, ◌≤◌, List, [], ◌∷◌, ◌++◌, map, length, Option, Some, None, refl, ap, sym, subst, ◌∙◌, arith}
+use Rattle.std.proofs.Common.{◌≡◌, ℕ, zero, suc, List, [], ◌∷◌, ◌++◌, map, length, Option, Some, None, refl, ap, sym, subst, ◌∙◌, arith}
 use Rattle.std.specs.Prelude.{if◌then◌else◌, slice_get}
 use Rattle.std.specs.List.{Contains}
-use Rattle.std.specs.Option.{option_map, option_and_then}
+use Rattle.std.specs.Option.{option_map}
 use Rattle.std.proofs.lemmas.List.{append-nil}
 use Rattle.std.proofs.lemmas.List.Elements.{Contains-append_left, Contains-append_right}
 use Rattle.std.proofs.lemmas.Option.{same_Some, none-some}
@@ -14,20 +14,17 @@ use Rattle.spec_parser.specs.Tree.{Expr}
 use Rattle.spec_parser.specs.Shape as code
 use Rattle.spec_parser.specs.Shape.{definition_of, definitions_of, item_of, params_in}
 use Rattle.spec_parser.specs.declared.tree.DefinitionParts.{DefinitionParts}
-use Rattle.spec_parser.specs.declared.tree.Param.{Param}
 use Rattle.name_check.specs.declared.declaration.Declaration.{Declaration}
 use Rattle.name_check.specs.declared.declaration.Declaration.TheVariants as declaration
-use Rattle.name_check.specs.Bodies.{Seen, block_bodies, bodies, item_bodies}
+use Rattle.name_check.specs.Bodies.{block_bodies, bodies}
 use Rattle.name_check.specs.Parts.{Operand, Part, parts}
-use Rattle.name_check.specs.Scope as scope
-use Rattle.name_check.specs.Scope.{Agree, Scope, are_values, functions_of, in_block, inside, locals_from, meaning, parameters_from, seen, top}
+use Rattle.name_check.specs.Scope.{Agree, Scope, are_values, functions_of, in_block, inside, locals_from, parameters_from, seen, top}
 use Rattle.name_check.specs.Steps.{local_body}
 use Rattle.name_check.proofs.AgreeLemmas.{agree_append, agree_same, agree_trans}
 use Rattle.type_rules.specs.declared.rule.ExprType.TheVariants as expr_type
 use Rattle.type_rules.specs.declared.rule.Setting.TheVariants as setting
 use Rattle.expr_types.specs.Around.{Around, Kinds, declared_type, params_of}
 use Rattle.expr_types.specs.declared.around.Around as code_around
-use Rattle.expr_types.specs.Bodies.{in_definition, may_have_braces, within_block}
 use Rattle.expr_types.specs.Judge.{type_of}
 use Rattle.expr_types.specs.Shown.{around_of, kinds_of}
 use Rattle.stream_constructs.specs.declared.construct.Stream.{Stream}
@@ -43,7 +40,7 @@ use Rattle.checked_spec.proofs.ScopeLemmas.{IsSeen}
 use Rattle.spec_flattening.specs.declared.context.Context.{Context}
 use Rattle.spec_flattening.specs.declared.context.Here.{Here}
 use Rattle.spec_flattening.specs.Answers.{MayMakeBlock}
-use Rattle.spec_flattening.specs.Here.{Entry, HasStream, IsContext, IsEntered, IsHere, MayMakeAt, Site, inside_of}
+use Rattle.spec_flattening.specs.Here.{Entry, HasStream, IsEntered, IsHere, MayMakeAt, Site, inside_of}
 use Rattle.spec_flattening.specs.Making.{StandsIn}
 
 -- what stands at a place of one list stands there in another that is as long

@@ -1,15 +1,14 @@
 -- What an expression asks and answers, by what it is.
-use Rattle.std.proofs.Common.{◌≡◌, ℕ, zero, suc, ◌+◌, ◌<◌, ◌≤◌, Bool, true, false, List, [], ◌∷◌, ◌++◌, length, Option, Some, None, refl, ap, sym, subst, ◌∙◌, arith}
-use Rattle.std.specs.Prelude.{Ok, Err, Result, Vec}
-use Rattle.std.proofs.lemmas.Bool.{true≢false, false≢true}
+use Rattle.std.proofs.Common.{◌≡◌, ℕ, true, false, List, [], ◌∷◌, length, Option, Some, None, refl, ap, sym, subst, ◌∙◌, arith}
+use Rattle.std.specs.Prelude.{Ok, Err, Result}
+use Rattle.std.proofs.lemmas.Bool.{true≢false}
 use Rattle.std.proofs.lemmas.Option.{none-some, same_Some}
 use Rattle.tsl_value.specs.declared.place.Place.{Place}
-use Rattle.tsl_value.specs.declared.scalar.ValueType.{ValueType}
 use Rattle.flat_core.specs.System.{System}
 use Rattle.flat_core.proofs.Members.{contains_head}
 use Rattle.spec_parser.specs.Tree as tree
 use Rattle.spec_parser.specs.Tree.{Expr, Exprs, no_links, place_of}
-use Rattle.spec_parser.specs.Shape.{expr_of, exprs_of, links_in}
+use Rattle.spec_parser.specs.Shape.{expr_of, links_in}
 use Rattle.spec_parser.specs.declared.tree.Level.{Level}
 use Rattle.spec_parser.specs.declared.tree.Link.{Link}
 use Rattle.spec_parser.specs.declared.tree.Node.{Node}
@@ -23,14 +22,12 @@ use Rattle.expr_types.specs.Judge.{type_of}
 use Rattle.stream_constructs.specs.declared.construct.Stream.{Stream}
 use Rattle.stream_constructs.specs.declared.maker.MakeFault.{MakeFault}
 use Rattle.macro_flatten.specs.Makes as makes
-use Rattle.typed_flat.specs.Inner.{operands_behind}
-use Rattle.typed_flat.specs.Matches.{IsTypedAt}
 use Rattle.typed_flat.proofs.Beginnings.{one_operand}
 use Rattle.typed_flat.proofs.Within.{operand_in}
 use Rattle.spec_flattening.specs.declared.context.Context.{Context}
 use Rattle.spec_flattening.specs.declared.context.Here.{Here}
-use Rattle.spec_flattening.specs.Answers.{CanCall, CanConstruct, CanMake, CanName, IsAnswer, IsBody, IsCall, IsCalled, IsConstruct, IsConstructed, IsExpression, IsMadeAt, IsNamed, IsRefusedBehind, marks_at}
-use Rattle.spec_flattening.specs.Here.{IsContext, IsHere, MayMakeAt, Site, macro_in}
+use Rattle.spec_flattening.specs.Answers.{CanCall, CanConstruct, CanMake, CanName, IsAnswer, IsBody, IsCalled, IsConstructed, IsExpression, IsNamed}
+use Rattle.spec_flattening.specs.Here.{IsHere, MayMakeAt, Site, macro_in}
 use Rattle.spec_flattening.specs.Own.{IsAliased}
 use Rattle.spec_flattening.proofs.Made.{body_made, body_refused}
 use Rattle.spec_flattening.proofs.Constructs.{is_construct}

@@ -1,5 +1,5 @@
 -- Inside of a call of a macro: what its block and its result ask and answer.
-use Rattle.std.proofs.Common.{◌≡◌, ℕ, zero, suc, ◌+◌, ◌<◌, ◌≤◌, List, [], ◌∷◌, ◌++◌, map, length, Option, Some, None, refl, ap, sym, subst, ◌∙◌, arith}
+use Rattle.std.proofs.Common.{◌≡◌, ℕ, zero, suc, ◌<◌, ◌≤◌, List, [], ◌∷◌, ◌++◌, map, length, Some, refl, ap, sym, subst, ◌∙◌, arith}
 use Rattle.std.specs.Prelude.{if◌then◌else◌, Ok, Err, Result, slice_get}
 use Rattle.std.proofs.lemmas.Option.{same_Some, none-some}
 use Rattle.tsl_value.specs.declared.place.Place.{Place}
@@ -12,8 +12,6 @@ use Rattle.spec_parser.specs.declared.tree.DefinitionParts.{DefinitionParts}
 use Rattle.spec_parser.specs.declared.tree.Param.{Param}
 use Rattle.name_check.specs.Scope.{Agree, Scope, are_values, functions_of, inside, locals_from, parameters_from, seen, top}
 use Rattle.name_check.proofs.AgreeLemmas.{agree_same, agree_trans}
-use Rattle.name_check.specs.Steps.{local_body}
-use Rattle.type_rules.specs.declared.rule.ExprType.TheVariants as expr_type
 use Rattle.type_rules.specs.declared.rule.Setting.TheVariants as setting
 use Rattle.expr_types.specs.Around.{Around, Kinds, params_of}
 use Rattle.expr_types.specs.declared.around.Around as code_around
@@ -22,7 +20,7 @@ use Rattle.stream_constructs.specs.declared.construct.Stream.{Stream}
 use Rattle.stream_constructs.specs.declared.maker.MakeFault.{MakeFault}
 use Rattle.spec_meaning.specs.Occurrence.{block_of, body_of, local, result_of}
 use Rattle.macro_flatten.specs.Makes.{AreLocals}
-use Rattle.checked_spec.specs.Laws.{IsMacro, IsStreamBody, in_macro}
+use Rattle.checked_spec.specs.Laws.{in_macro}
 use Rattle.checked_spec.proofs.BlockLemmas.{nth}
 use Rattle.equation_marks.specs.Marks.{Mark, body_marks, macro_marks}
 use Rattle.equation_marks.proofs.AgreeMarks.{body_agrees}
@@ -30,7 +28,7 @@ use Rattle.spec_flattening.specs.declared.context.Context.{Context}
 use Rattle.spec_flattening.specs.declared.context.Here.{Here}
 use Rattle.spec_flattening.specs.Answers.{AreNumbered, AreStreams, CanMake, CanMakeBlock, IsBlock, IsBody, IsBodyAnswer, IsBlockAnswer, IsBlockMade, IsMacroAnswer, MayMakeBlock, to_enough}
 use Rattle.spec_flattening.specs.Here.{Entry, IsEntered, IsHere, MayMakeAt, Site, inside_of}
-use Rattle.spec_flattening.proofs.Entered.{IsAround, around_same, block_agrees, block_may, here_inside, none_local, outside_agrees, plain_agrees, result_may, the_macro}
+use Rattle.spec_flattening.proofs.Entered.{around_same, block_agrees, block_may, here_inside, none_local, outside_agrees, plain_agrees, result_may, the_macro}
 use Rattle.spec_flattening.proofs.Blocks.{all_there, block_made, block_refused, locals_are, numbered_same, plain_made, plain_refused, result_refused}
 
 local_within : (ds : List tree.Definition) (k : ℕ) → k < length ds → (b : tree.Body) × (local k (definitions_of ds) ≡ Some b)

@@ -1,7 +1,6 @@
 -- The loop over the links of a chain.
-use Rattle.std.proofs.Common.{◌≡◌, ℕ, zero, suc, ◌+◌, ◌<◌, ◌≤◌, List, [], ◌∷◌, ◌++◌, length, get_or, take, drop, Option, Some, None, refl, ap, sym, subst, ◌∙◌, arith}
-use Rattle.std.specs.Prelude.{Ok, Err, Result}
-use Rattle.std.specs.List.{Contains}
+use Rattle.std.proofs.Common.{◌≡◌, ℕ, zero, ◌+◌, ◌<◌, ◌≤◌, List, [], ◌∷◌, ◌++◌, length, get_or, take, drop, Some, refl, ap, sym, subst, ◌∙◌, arith}
+use Rattle.std.specs.Prelude.{Ok, Err}
 use Rattle.std.proofs.lemmas.List.{take_all}
 use Rattle.std.proofs.lemmas.Option.{none-some}
 use Rattle.tsl_value.specs.declared.place.Place.{Place}
@@ -24,20 +23,18 @@ use Rattle.stream_constructs.specs.declared.maker.MakeFault.{MakeFault}
 use Rattle.stream_constructs.specs.Agree.{Fits}
 use Rattle.stream_constructs.specs.Limits.{IsRefusal}
 use Rattle.stream_constructs.specs.Made.{equations_for, stream_of, with_equations}
-use Rattle.spec_meaning.specs.Function.{literal}
 use Rattle.spec_meaning.specs.Shape.{left_of}
 use Rattle.typed_flat.specs.Chains.{HaveOperands}
-use Rattle.typed_flat.specs.Inner.{StandsIn, operands_behind}
+use Rattle.typed_flat.specs.Inner.{operands_behind}
 use Rattle.typed_flat.specs.Matches.{IsTypedAt}
-use Rattle.name_check.specs.Parts.{parts}
 use Rattle.typed_flat.proofs.Beginnings.{chain_begins, chain_operands}
 use Rattle.typed_flat.proofs.Within.{operand_in}
 use Rattle.spec_flattening.specs.declared.chain.Side.{Side}
 use Rattle.spec_flattening.specs.declared.chain.Side.TheVariants as side
 use Rattle.spec_flattening.specs.declared.context.Context.{Context}
 use Rattle.spec_flattening.specs.declared.context.Here.{Here}
-use Rattle.spec_flattening.specs.Answers.{CanMake, IsAnswer, IsExpression, IsMadeAt, IsRefusedBehind, marks_at}
-use Rattle.spec_flattening.specs.Here.{IsContext, IsHere, MayMakeAt, Site}
+use Rattle.spec_flattening.specs.Answers.{CanMake, IsExpression, IsMadeAt, IsRefusedBehind, marks_at}
+use Rattle.spec_flattening.specs.Here.{IsHere, MayMakeAt, Site}
 use Rattle.spec_flattening.specs.Sides.{IsSide, IsSideMade, link_construct, side_streams}
 use Rattle.spec_flattening.proofs.Chained.{begin_more, begin_refused, cut_at, first_refused, link_fits, link_made, link_refused, operand_there, operand_typed, right_refused, side_marks}
 use Rattle.spec_flattening.proofs.Places.{part_may, typed_at}

@@ -1,15 +1,13 @@
 -- Equations that are made one behind the other.
-use Rattle.std.proofs.Common.{◌≡◌, ℕ, suc, ◌+◌, ◌-◌, Bool, true, false, cond, ◌&&◌, List, [], ◌∷◌, ◌++◌, map, length, drop, Option, Some, None, refl, ap, sym, subst, ◌∙◌, append_assoc, length-append, arith}
+use Rattle.std.proofs.Common.{◌≡◌, ℕ, suc, ◌+◌, Bool, true, false, ◌&&◌, List, [], ◌∷◌, ◌++◌, map, length, Some, refl, ap, sym, subst, ◌∙◌, append_assoc, length-append, arith}
 use Rattle.std.specs.Prelude.{Ok, Err, Result, if◌then◌else◌}
-use Rattle.std.specs.List.{AllByRecursion, Contains, flat_map}
-use Rattle.std.proofs.lemmas.Bool.{true≢false, false≢true}
+use Rattle.std.specs.List.{flat_map}
+use Rattle.std.proofs.lemmas.Bool.{false≢true}
 use Rattle.std.proofs.lemmas.List.{append-nil, length-map, map-append}
-use Rattle.tsl_value.specs.declared.place.Place.{Place}
 use Rattle.tsl_value.specs.declared.scalar.ValueType.{ValueType}
 use Rattle.flat_core.specs.declared.equation.Equation.{Equation}
 use Rattle.flat_core.specs.System.{System}
 use Rattle.flat_core.specs.Typed.{is_aggregate}
-use Rattle.flat_core.proofs.Members.{all_at, contains_map}
 use Rattle.spec_parser.specs.Tree as tree
 use Rattle.spec_parser.specs.Tree.{Expr, no_links, place_of}
 use Rattle.name_check.specs.Builtin.{is_unit}
@@ -20,8 +18,7 @@ use Rattle.expr_types.specs.Around.{Around}
 use Rattle.expr_types.specs.Judge.{type_of}
 use Rattle.stream_constructs.specs.declared.construct.Stream.{Stream}
 use Rattle.stream_constructs.specs.declared.maker.MakeFault.{MakeFault}
-use Rattle.stream_constructs.specs.Agree.{Fits, FitsChoice}
-use Rattle.stream_constructs.specs.Construct.{Construct}
+use Rattle.stream_constructs.specs.Agree.{Fits}
 use Rattle.stream_constructs.specs.Equations.{alias_equation, choice_equations, own_equations}
 use Rattle.stream_constructs.specs.Limits.{IsRefusal}
 use Rattle.stream_constructs.specs.Made.{stream_of, with_equations}
@@ -31,15 +28,15 @@ use Rattle.macro_flatten.specs.Makes as makes
 use Rattle.macro_flatten.specs.Makes.{IsAsWritten, Makes, MakesAll, MakesBody, choice_operands, is_choice, is_name, is_own, last_of, occurrence, with_itself}
 use Rattle.typed_flat.specs.Matches.{HaveTheirTypes, IsTypedAt}
 use Rattle.typed_flat.proofs.Whole.{choice_fits, construct_fits}
-use Rattle.equation_marks.specs.Marks.{Mark, body_marks, holds_aggregate, mark_of, marks, plain}
+use Rattle.equation_marks.specs.Marks.{Mark, body_marks, holds_aggregate, mark_of, plain}
 use Rattle.equation_marks.specs.Own.{choice_own_marks, marks_of_shape, own_marks}
 use Rattle.equation_marks.proofs.ByShape.{marks_by_shape, marks_of_choice, marks_of_own}
-use Rattle.equation_marks.proofs.CallMarks.{body_of_name, body_of_other, name_has_none}
+use Rattle.equation_marks.proofs.CallMarks.{body_of_name, body_of_other}
 use Rattle.equation_marks.proofs.OwnMarks.{alias_marks, choice_equations_marks, own_equations_marks}
 use Rattle.equation_marks.proofs.Refusing.{are_refused-append, are_refused_of}
 use Rattle.equation_marks.specs.Refused.{AreRefused}
-use Rattle.spec_flattening.specs.Answers.{AreAnswers, AreMade, IsAnswer, IsBodyAnswer, IsBodyMade, IsMadeAt, IsRefusedBehind, marks_all, marks_at, marks_called}
-use Rattle.spec_flattening.specs.Here.{MayMakeAt, Site}
+use Rattle.spec_flattening.specs.Answers.{AreMade, IsBodyAnswer, IsBodyMade, IsMadeAt, IsRefusedBehind, marks_all, marks_at, marks_called}
+use Rattle.spec_flattening.specs.Here.{Site}
 use Rattle.spec_flattening.specs.Own.{AliasedBy, FitsOwn, IsAliased, own_of}
 
 -- ---- systems to which equations are added
@@ -135,10 +132,10 @@ module _ (site : Site) (deep : ℕ) (e : Expr) (t : ValueType) (typed : IsTypedA
         new_is = with_both old mid new parts.made after parts.new_is new_is;
         makes = makes.Makes.choice sh ss parts.made after is chosen parts.makes fits (ap (λ n. choice_equations (place_of e) t n (choice_operands e) ss) many) refl (s_is ∙ ap (λ n. last_of n after t) many);
         marks_are =
-          map-append mark_of parts.made after
-          ∙ (λ i. parts.marks_are i ++ choice_equations_marks (place_of e) t (length mid.equations) (choice_operands e) ss fits i)
-          ∙ (λ i. all_marks (marks_at site deep) sh.parts i ++ choice_own_marks (place_of e) ((typed_long site.at parts_of ss parts.typed ∙ length-map sh.parts (λ o. o.expr)) i) (choice_operands e))
-          ∙ sym (marks_of_choice site.items site.st.calls site.at (marks_called site deep) e sh agrees is own (holds true chosen));
+            map-append mark_of parts.made after
+            ∙ (λ i. parts.marks_are i ++ choice_equations_marks (place_of e) t (length mid.equations) (choice_operands e) ss fits i)
+            ∙ (λ i. all_marks (marks_at site deep) sh.parts i ++ choice_own_marks (place_of e) ((typed_long site.at parts_of ss parts.typed ∙ length-map sh.parts (λ o. o.expr)) i) (choice_operands e))
+            ∙ sym (marks_of_choice site.items site.st.calls site.at (marks_called site deep) e sh agrees is own (holds true chosen));
         of_is = of_stream s t (ap (λ a. a.of) s_is) refl;
       }
 
@@ -153,10 +150,10 @@ module _ (site : Site) (deep : ℕ) (e : Expr) (t : ValueType) (typed : IsTypedA
         new_is = with_both old mid new parts.made after parts.new_is new_is;
         makes = makes.Makes.own sh ss parts.made after is own other parts.makes both.1 (subst (λ k. Fits sh.construct (with_itself sh.construct k ss) t) many both.0) (ap (λ k. own_equations (place_of e) t k sh.construct (with_itself sh.construct k ss)) many) refl (s_is ∙ ap (λ k. last_of k after t) many);
         marks_are =
-          map-append mark_of parts.made after
-          ∙ (λ i. parts.marks_are i ++ own_equations_marks (place_of e) t (length mid.equations) sh.construct ss both.0 i)
-          ∙ (λ i. all_marks (marks_at site deep) sh.parts i ++ own_marks (place_of e) sh.construct ((typed_long site.at parts_of ss parts.typed ∙ length-map sh.parts (λ o. o.expr)) i))
-          ∙ sym (marks_of_own site.items site.st.calls site.at (marks_called site deep) e sh agrees is own (holds false other));
+            map-append mark_of parts.made after
+            ∙ (λ i. parts.marks_are i ++ own_equations_marks (place_of e) t (length mid.equations) sh.construct ss both.0 i)
+            ∙ (λ i. all_marks (marks_at site deep) sh.parts i ++ own_marks (place_of e) sh.construct ((typed_long site.at parts_of ss parts.typed ∙ length-map sh.parts (λ o. o.expr)) i))
+            ∙ sym (marks_of_own site.items site.st.calls site.at (marks_called site deep) e sh agrees is own (holds false other));
         of_is = of_stream s t (ap (λ a. a.of) s_is) refl;
       }
 

@@ -1,6 +1,6 @@
 -- What holds of the code at a place of a specification.
-use Rattle.std.proofs.Common.{◌≡◌, ℕ, suc, true, false, List, [], ◌∷◌, ◌++◌, map, Option, Some, None, refl, ap, sym, subst, ◌∙◌}
-use Rattle.std.specs.Prelude.{Ok, Err, Result, if◌then◌else◌, slice_get}
+use Rattle.std.proofs.Common.{◌≡◌, ℕ, false, List, [], Option, Some, None, refl, ap, sym, subst, ◌∙◌}
+use Rattle.std.specs.Prelude.{Ok, Err, if◌then◌else◌, slice_get}
 use Rattle.std.specs.List.{Contains}
 use Rattle.std.specs.Option.{option_and_then}
 use Rattle.std.proofs.lemmas.List.{append-nil}
@@ -12,9 +12,8 @@ use Rattle.flat_core.proofs.Members.{contains_head}
 use Rattle.spec_parser.specs.Tree as tree
 use Rattle.spec_parser.specs.Tree.{Expr}
 use Rattle.name_check.specs.declared.declaration.Declaration.{Declaration}
-use Rattle.name_check.specs.declared.declaration.Declaration.TheVariants as declaration
 use Rattle.name_check.specs.Builtin.{is_unit}
-use Rattle.name_check.specs.Parts.{Part, Operand, parts}
+use Rattle.name_check.specs.Parts.{Operand, parts}
 use Rattle.name_check.specs.Scope.{Agree, Scope, meaning, seen}
 use Rattle.type_rules.specs.declared.rule.ExprType.{ExprType}
 use Rattle.type_rules.specs.declared.rule.ExprType.TheVariants as expr_type
@@ -24,17 +23,15 @@ use Rattle.expr_types.specs.declared.stop.Stop.TheVariants as stop
 use Rattle.expr_types.specs.declared.wrong.Wrong.{Wrong}
 use Rattle.expr_types.specs.Answers.{IsFound}
 use Rattle.expr_types.specs.Around.{Around, declared_type}
-use Rattle.expr_types.specs.Judge.{is_just, of_verdict, type_of, wrongs}
+use Rattle.expr_types.specs.Judge.{is_just, of_verdict, type_of}
 use Rattle.expr_types.specs.Shown.{around_of}
 use Rattle.expr_types.proofs.AlikeLemmas.{names_alike, type_alike}
 use Rattle.stream_constructs.specs.declared.construct.Stream.{Stream}
-use Rattle.stream_constructs.specs.Made.{with_equations}
-use Rattle.spec_meaning.specs.Occurrence.{scope_at}
 use Rattle.macro_flatten.specs.Makes as makes
 use Rattle.macro_flatten.specs.Makes.{Stands}
 use Rattle.checked_spec.specs.Formed.{IsDeclared}
 use Rattle.typed_flat.specs.Inner.{StandsIn}
-use Rattle.typed_flat.specs.Matches.{IsTypedAt, Matches}
+use Rattle.typed_flat.specs.Matches.{IsTypedAt}
 use Rattle.typed_flat.proofs.Inside.{name_typed}
 use Rattle.typed_flat.proofs.Scopes.{meaning_declared}
 use Rattle.typed_functions.specs.Functions.{AreTypedFunctions}
@@ -42,8 +39,8 @@ use Rattle.typed_functions.proofs.Whole.{functions_are_typed}
 use Rattle.equation_marks.proofs.CallMarks.{name_has_none}
 use Rattle.spec_flattening.specs.declared.context.Context.{Context}
 use Rattle.spec_flattening.specs.declared.context.Here.{Here}
-use Rattle.spec_flattening.specs.Answers.{CanMake, CanName, IsAnswer, IsMadeAt, IsNamed, IsTypeOf, marks_called}
-use Rattle.spec_flattening.specs.Here.{HasStream, IsContext, IsHere, MayMakeAt, Site, stream_at, top_stream}
+use Rattle.spec_flattening.specs.Answers.{CanMake, CanName, IsMadeAt, IsNamed, IsTypeOf, marks_called}
+use Rattle.spec_flattening.specs.Here.{IsContext, IsHere, MayMakeAt, Site, stream_at}
 
 -- ---- expressions that may be made
 -- an expression stands in itself
@@ -92,11 +89,14 @@ module _ (context : Context) (here : Here) (site : Site) where
       matches = may.matches;
       nests = may.nests;
       stands = λ part h. may.stands part (inside part h);
-      of = (u, record {
-        formed = λ part h. may.of.1.formed part (inside (Operand part) h);
-        known = λ part h. may.of.1.known part (inside part h);
-        is = is;
-      });
+      of = (
+        u,
+        record {
+          formed = λ part h. may.of.1.formed part (inside (Operand part) h);
+          known = λ part h. may.of.1.known part (inside part h);
+          is = is;
+        },
+      );
     }
 
 -- ---- the type of its events

@@ -1,10 +1,9 @@
 -- Typed expressions of streams that are neither names nor calls of macros nor chains have a construct of their own.
-use Rattle.std.proofs.Common.{◌≡◌, ℕ, suc, ◌==◌, Bool, true, false, cond, not, List, [], ◌∷◌, length, Option, Some, None, refl, ap, sym, subst, ◌∙◌, arith}
-use Rattle.std.specs.Prelude.{Ok, codes, if◌then◌else◌}
+use Rattle.std.proofs.Common.{◌≡◌, ℕ, ◌==◌, Bool, true, false, not, List, [], ◌∷◌, length, Option, Some, None, refl, ap, sym, subst, ◌∙◌, arith}
+use Rattle.std.specs.Prelude.{Ok, if◌then◌else◌}
 use Rattle.std.specs.List.{filter}
 use Rattle.std.specs.Option.{option_map, option_and_then}
-use Rattle.std.specs.Str.{bytes_eq}
-use Rattle.std.proofs.lemmas.Bool.{true≢false, false≢true, not-false, eqb-true}
+use Rattle.std.proofs.lemmas.Bool.{false≢true, not-false, eqb-true}
 use Rattle.std.proofs.lemmas.Option.{same_Some, none-some}
 use Rattle.tsl_value.specs.declared.place.Place.{Place}
 use Rattle.tsl_value.specs.declared.scalar.Scalar.{Scalar}
@@ -13,7 +12,6 @@ use Rattle.tsl_value.specs.declared.scalar.KeyType.{KeyType}
 use Rattle.tsl_value.specs.declared.scalar.ScalarType.{ScalarType}
 use Rattle.tsl_value.specs.declared.scalar.ValueType.{ValueType}
 use Rattle.tsl_value.specs.declared.scalar.ValueType.TheVariants as value_type
-use Rattle.lift_func.specs.Tree.{Tree}
 use Rattle.spec_parser.specs.Tree as tree
 use Rattle.spec_parser.specs.Tree.{Expr, Exprs, no_exprs, more_exprs}
 use Rattle.spec_parser.specs.declared.tree.Dotted.{Dotted}
@@ -32,13 +30,13 @@ use Rattle.type_rules.specs.Asked.{ask, bool, inner}
 use Rattle.type_rules.specs.Rules.{builtin_one, builtin_rule, const_rule}
 use Rattle.type_rules.specs.Written.{key_of, scalar_of, value_of}
 use Rattle.form_check.specs.Arity.{count, is_wrong_call, takes_one, takes_two}
-use Rattle.expr_types.specs.Around.{Around, Callee}
-use Rattle.expr_types.specs.Judge.{type_of, types_of, streams_of, last_of, of_verdict, is_literal, builtin_of, is_const, is_just, call_rule, function_at, function_of, lifted_by, const_call}
+use Rattle.expr_types.specs.Around.{Around}
+use Rattle.expr_types.specs.Judge.{type_of, types_of, streams_of, last_of, of_verdict, is_literal, builtin_of, is_just, call_rule, function_at, function_of, lifted_by, const_call}
 use Rattle.stream_constructs.specs.Construct.{Construct, operand_trees}
 use Rattle.stream_constructs.specs.Construct as construct
 use Rattle.spec_meaning.specs.Occurrence.{Call, scope_at}
 use Rattle.spec_meaning.specs.Function.{literal, function_body}
-use Rattle.spec_meaning.specs.Shape.{Shape, expressions, is_part, operands, with_parts, signal_of, update_of, dotted_shape, plain_name, is_delay, is_const as is_const_word, is_filter, const_shape, filtered_by, filter_shape, lift_by, function_named, lift_shape, declared_shape, empty_shape, expr_shape}
+use Rattle.spec_meaning.specs.Shape.{Shape, expressions, is_part, operands, with_parts, dotted_shape, plain_name, is_delay, is_const as is_const_word, is_filter, const_shape, filtered_by, filter_shape, lift_by, function_named, lift_shape, declared_shape, empty_shape, expr_shape}
 use Rattle.macro_flatten.specs.Makes.{is_own}
 use Rattle.checked_spec.specs.Formed.{IsFormed}
 use Rattle.typed_flat.proofs.Asks.{checked, same_Ok}
@@ -213,7 +211,6 @@ module _ (items : List tree.Item) (cs : List Call) (at : Around) (t : ValueType)
   named_own : (b : Bool) (o : Option Shape) → b ≡ true → IsOwn (if b then with_parts cs construct.Unit [] else o)
   named_own true o is = parts_own cs construct.Unit [] refl
   named_own false o is = absurd (false≢true is)
-
 
   dotted_own : (d : Dotted) (es : List Expr) → IsOwn (dotted_shape cs d es)
   dotted_own dotted.SetAdd es = parts_own cs (construct.Update _ (operands es)) (filter is_part es) refl

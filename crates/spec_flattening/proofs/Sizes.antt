@@ -1,10 +1,9 @@
 -- The parts of an expression with a construct of its own are smaller than it, all together.
 use Rattle.std.proofs.Common.{◌≡◌, ℕ, zero, suc, ◌+◌, ◌*◌, ◌≤◌, ◌<◌, Bool, true, false, cond, List, [], ◌∷◌, map, length, get_or, Option, Some, None, refl, ap, sym, subst, ◌∙◌, arith}
-use Rattle.std.specs.Prelude.{codes, is_none, if◌then◌else◌, slice_get}
+use Rattle.std.specs.Prelude.{codes, if◌then◌else◌}
 use Rattle.std.specs.List.{filter}
 use Rattle.std.specs.Option.{option_map, option_and_then}
 use Rattle.std.proofs.lemmas.Bool.{true≢false}
-use Rattle.std.proofs.lemmas.Option.{none-some, same_Some}
 use Rattle.tsl_value.specs.declared.place.Place.{Place}
 use Rattle.tsl_value.specs.declared.scalar.Scalar.{Scalar}
 use Rattle.tsl_value.specs.declared.scalar.Scalar.TheVariants as scalar
@@ -12,13 +11,13 @@ use Rattle.tsl_value.specs.declared.scalar.ValueType.{ValueType}
 use Rattle.tsl_value.specs.declared.scalar.ValueType.TheVariants as value_type
 use Rattle.spec_parser.specs.Tree as tree
 use Rattle.spec_parser.specs.Tree.{Expr, Exprs, no_exprs, more_exprs, no_links, more_links}
-use Rattle.spec_parser.specs.Shape.{exprs_of, item_of, size_of, size_of_exprs}
+use Rattle.spec_parser.specs.Shape.{item_of, size_of, size_of_exprs}
 use Rattle.spec_parser.specs.declared.tree.Item.{Item}
 use Rattle.spec_parser.specs.declared.tree.Dotted.{Dotted}
 use Rattle.spec_parser.specs.declared.tree.Dotted.TheVariants as dotted
 use Rattle.name_check.specs.declared.declaration.Declaration.{Declaration}
 use Rattle.name_check.specs.declared.declaration.Declaration.TheVariants as declaration
-use Rattle.name_check.specs.Builtin.{is_unit, is_lift, is_called}
+use Rattle.name_check.specs.Builtin.{is_unit, is_lift}
 use Rattle.name_check.specs.Scope.{meaning}
 use Rattle.type_rules.specs.Written.{key_of, scalar_of}
 use Rattle.stream_constructs.specs.Construct.{Construct}

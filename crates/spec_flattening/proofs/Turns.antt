@@ -1,11 +1,9 @@
 -- The loops over expressions and over the definitions of a block: what is left to make.
-use Rattle.std.proofs.Common.{◌≡◌, ℕ, zero, suc, ◌+◌, ◌-◌, ◌<◌, ◌≤◌, List, [], ◌∷◌, ◌++◌, map, length, get_or, drop, Option, Some, None, refl, ap, sym, subst, ◌∙◌, append_assoc, length-append, arith}
+use Rattle.std.proofs.Common.{◌≡◌, ℕ, zero, suc, ◌+◌, ◌<◌, ◌≤◌, List, [], ◌∷◌, ◌++◌, length, get_or, drop, Some, refl, ap, sym, subst, ◌∙◌, append_assoc, arith}
 use Rattle.std.specs.Borrow.{Bor}
-use Rattle.std.specs.Prelude.{Ok, Err, Result, Vec, slice_get}
-use Rattle.std.specs.List.{Contains, flat_map}
+use Rattle.std.specs.Prelude.{Ok, Err, Vec}
+use Rattle.std.specs.List.{Contains}
 use Rattle.std.proofs.lemmas.List.{append-nil, drop_all, length-map, map-append}
-use Rattle.std.proofs.lemmas.Option.{same_Some}
-use Rattle.tsl_value.specs.declared.place.Place.{Place}
 use Rattle.flat_core.specs.declared.equation.Equation.{Equation}
 use Rattle.flat_core.specs.System.{System}
 use Rattle.spec_parser.specs.Tree as tree
@@ -13,12 +11,10 @@ use Rattle.spec_parser.specs.Tree.{Expr}
 use Rattle.spec_parser.specs.Shape.{definitions_of}
 use Rattle.name_check.specs.Steps.{local_body}
 use Rattle.name_check.proofs.FirstLemmas.{left_at}
-use Rattle.type_rules.specs.declared.rule.ExprType.TheVariants as expr_type
 use Rattle.expr_types.specs.Judge.{type_of}
 use Rattle.stream_shapes.specs.Shape.{expressions_in}
 use Rattle.stream_constructs.specs.declared.construct.Stream.{Stream}
 use Rattle.stream_constructs.specs.declared.maker.MakeFault.{MakeFault}
-use Rattle.stream_constructs.specs.Made.{with_equations}
 use Rattle.spec_meaning.specs.Occurrence.{local, result_of}
 use Rattle.macro_flatten.specs.Makes as makes
 use Rattle.macro_flatten.specs.Makes.{MakesBlock}
@@ -27,7 +23,7 @@ use Rattle.equation_marks.specs.Marks.{Mark, block_marks, body_marks, mark_of}
 use Rattle.equation_marks.proofs.CallMarks.{block_left, definition_first}
 use Rattle.spec_flattening.specs.declared.context.Context.{Context}
 use Rattle.spec_flattening.specs.declared.context.Here.{Here}
-use Rattle.spec_flattening.specs.Answers.{AreAnswers, AreExpressions, AreMade, AreNumbered, CanMake, CanMakeAll, CanMakeBlock, IsAnswer, IsBlock, IsBlockAnswer, IsBlockMade, IsBody, IsBodyMade, IsExpression, IsMadeAt, IsRefusedBehind, MayMakeBlock, exactly, marks_all, marks_at, marks_called}
+use Rattle.spec_flattening.specs.Answers.{AreExpressions, AreMade, AreNumbered, CanMake, CanMakeAll, CanMakeBlock, IsBlock, IsBlockMade, IsBody, IsBodyMade, IsExpression, IsRefusedBehind, MayMakeBlock, exactly, marks_all, marks_at, marks_called}
 use Rattle.spec_flattening.specs.Here.{IsHere, MayMakeAll, MayMakeAt, Site}
 use Rattle.spec_flattening.proofs.Made.{many_made, none_made, one_made, refused_behind, refused_front, refused_same, with_both, with_none}
 
@@ -122,8 +118,8 @@ module _ (site : Site) (deep : ℕ) where
         new_is = with_both old mid new first.made rest.made first.new_is rest.new_is;
         makes = block_makes d ds (length old.equations) first.made rest.made s rest.streams first.makes (subst (λ n. MakesBlock site.items site.kinds site.top site.st ds n rest.made rest.streams) many rest.makes);
         marks_are =
-          map-append mark_of first.made rest.made ∙ (λ j. first.marks_are j ++ rest.marks_are j)
-          ∙ sym (definition_first site.at (marks_called site deep) d ds);
+            map-append mark_of first.made rest.made ∙ (λ j. first.marks_are j ++ rest.marks_are j)
+            ∙ sym (definition_first site.at (marks_called site deep) d ds);
         numbered = (omega arith, sym kind ∙ first.of_is, subst (λ n. AreNumbered exactly site.at (marks_called site deep) (suc k) n ds rest.streams) behind rest.numbered);
       }
 

@@ -1,38 +1,34 @@
 -- What the functions of the flattening ask, and what they answer.
-use Rattle.std.specs.Prelude.{◌≡◌, ℕ, suc, ◌+◌, ◌-◌, ◌<◌, true, false, min, List, [], ◌∷◌, ◌++◌, length, map, take, Option, Some, None, Result, Ok, Err, Vec, slice_get}
+use Rattle.std.specs.Prelude.{◌≡◌, ℕ, suc, ◌+◌, ◌-◌, ◌<◌, true, false, min, List, [], ◌∷◌, ◌++◌, length, map, Some, Result, Ok, Err, Vec, slice_get}
 use Rattle.std.specs.List.{flat_map}
 use Rattle.tsl_value.specs.declared.place.Place.{Place}
-use Rattle.tsl_value.specs.declared.scalar.Scalar.{Scalar}
 use Rattle.tsl_value.specs.declared.scalar.ValueType.{ValueType}
 use Rattle.flat_core.specs.declared.equation.Equation.{Equation}
 use Rattle.flat_core.specs.System.{System}
 use Rattle.spec_parser.specs.Tree as tree
 use Rattle.spec_parser.specs.Tree.{Expr, Exprs}
-use Rattle.spec_parser.specs.Shape.{definition_of, definitions_of}
+use Rattle.spec_parser.specs.Shape.{definition_of}
 use Rattle.spec_parser.specs.declared.tree.DefinitionParts.{DefinitionParts}
-use Rattle.name_check.specs.declared.declaration.Declaration.{Declaration}
 use Rattle.name_check.specs.declared.declaration.Declaration.TheVariants as declaration
 use Rattle.name_check.specs.Builtin.{is_called, is_unit}
 use Rattle.name_check.specs.Scope.{meaning}
 use Rattle.name_check.specs.Steps.{local_body}
 use Rattle.type_rules.specs.declared.rule.ExprType.TheVariants as expr_type
-use Rattle.expr_types.specs.Around.{Around, Kinds, declared_type}
+use Rattle.expr_types.specs.Around.{Around, Kinds}
 use Rattle.expr_types.specs.Judge.{type_of}
 use Rattle.stream_constructs.specs.declared.construct.Stream.{Stream}
 use Rattle.stream_constructs.specs.declared.maker.MakeFault.{MakeFault}
-use Rattle.stream_constructs.specs.Agree.{last_number}
 use Rattle.stream_constructs.specs.Made.{with_equations}
-use Rattle.spec_meaning.specs.Function.{literal}
 use Rattle.spec_meaning.specs.Occurrence.{block_of, local, result_of}
 use Rattle.spec_meaning.specs.Shape.{Shape, shape}
-use Rattle.macro_flatten.specs.Makes.{AreLocals, MakesAll, MakesBlock, MakesBody, Stands, inside_call, is_own, occurrence}
+use Rattle.macro_flatten.specs.Makes.{AreLocals, MakesAll, MakesBlock, MakesBody, inside_call, is_own, occurrence}
 use Rattle.typed_flat.specs.Matches.{HaveTheirTypes}
-use Rattle.equation_marks.specs.Marks.{Mark, block_marks, body_marks, macro_marks, mark_of, marks, unless_literal}
+use Rattle.equation_marks.specs.Marks.{Mark, block_marks, body_marks, macro_marks, mark_of, marks}
 use Rattle.equation_marks.specs.Refused.{AreRefused}
 use Rattle.stream_shapes.specs.Shape.{is_chain}
 use Rattle.spec_flattening.specs.declared.context.Context.{Context}
 use Rattle.spec_flattening.specs.declared.context.Here.{Here}
-use Rattle.spec_flattening.specs.Here.{Entry, IsEntered, IsHere, MayMakeAll, MayMakeAt, Site, inside_of}
+use Rattle.spec_flattening.specs.Here.{Entry, IsEntered, IsHere, MayMakeAll, MayMakeAt, Site}
 use Rattle.spec_flattening.specs.Making.{IsMade}
 
 -- the marks of what a call makes there

@@ -1,5 +1,5 @@
 -- What is made of an expression: its equations, and where they pass the limits.
-use Rattle.std.specs.Prelude.{◌≡◌, ℕ, suc, List, [], ◌∷◌, ◌++◌, length, map, Option, Some, slice_get}
+use Rattle.std.specs.Prelude.{◌≡◌, ℕ, suc, List, ◌++◌, length, map, Some, slice_get}
 use Rattle.std.specs.List.{Contains}
 use Rattle.flat_core.specs.declared.equation.Equation.{Equation}
 use Rattle.flat_core.specs.System.{System}
@@ -14,11 +14,10 @@ use Rattle.expr_types.specs.Judge.{type_of}
 use Rattle.stream_constructs.specs.declared.construct.Stream.{Stream}
 use Rattle.stream_constructs.specs.declared.maker.MakeFault.{MakeFault}
 use Rattle.stream_constructs.specs.Made.{with_equations}
-use Rattle.macro_flatten.specs.Makes.{Standing, Makes, MakesAll, MakesBody, MakesBlock}
+use Rattle.macro_flatten.specs.Makes.{Standing, Makes}
 use Rattle.call_limits.specs.Nesting.{Chain, CallsMacro}
-use Rattle.checked_spec.specs.Checked.{IsChecked, IsTyped}
+use Rattle.checked_spec.specs.Checked.{IsTyped}
 use Rattle.typed_flat.specs.Matches.{Matches}
-use Rattle.typed_functions.specs.Functions.{AreTypedFunctions}
 use Rattle.equation_marks.specs.Marks.{Mark, mark_of, marks, macro_marks}
 use Rattle.equation_marks.specs.Refused.{AreRefused}
 

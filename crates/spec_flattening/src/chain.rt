@@ -78,7 +78,13 @@ fn lift(
     let left = left.part(&mut parts)?;
     let right = right.part(&mut parts)?;
     let body = link_body(alloc, operator, left, right)?;
-    make(maker, place, operand_type(level), Construct::Signal(body), &parts)
+    make(
+        maker,
+        place,
+        operand_type(level),
+        Construct::Signal(body),
+        &parts,
+    )
 }
 
 impl Context<'_> {

@@ -73,11 +73,7 @@ fn own(
 }
 
 /// The stream of a body: one that is only a name makes the merge of its stream with itself.
-fn aliased(
-    maker: &mut Maker,
-    expression: &Expr,
-    stream: Stream,
-) -> Result<Stream, MakeFault>
+fn aliased(maker: &mut Maker, expression: &Expr, stream: Stream) -> Result<Stream, MakeFault>
     ensures { IsAliased expression.now stream maker.old maker.new result }
 {
     if is_only_name(expression) {

@@ -1,10 +1,9 @@
-use Rattle.std.proofs.Common.{◌≡◌, ◌==◌, ℕ, zero, suc, ◌+◌, ◌-◌, ◌*◌, ◌<◌, ◌≤◌, Bool, true, false, List, [], ◌∷◌, length, map, Option, Some, None, refl, rules, ap, sym, subst, ◌∙◌, arith}
+use Rattle.std.proofs.Common.{◌≡◌, ◌==◌, ℕ, zero, suc, ◌+◌, ◌-◌, ◌*◌, ◌<◌, ◌≤◌, true, List, length, map, refl, rules, ap, sym, subst, ◌∙◌, arith}
 use Rattle.std.specs.Borrow.{Bor}
-use Rattle.std.specs.Prelude.{Ok, Err, Result}
+use Rattle.std.specs.Prelude.{Ok, Err}
 use Rattle.std.proofs.lemmas.Bool.{eqb-true}
 use Rattle.std.proofs.lemmas.List.{length-map}
 use Rattle.std.proofs.lemmas.Result.{err_from_is_err_and}
-use Rattle.tsl_value.specs.declared.place.Place.{Place}
 use Rattle.spec_parser.specs.Tree as tree
 use Rattle.spec_parser.specs.Tree.{Expr, place_of}
 use Rattle.spec_parser.specs.Shape as code
@@ -21,9 +20,9 @@ use Rattle.equation_marks.specs.Marks.{macro_marks}
 use Rattle.equation_marks.proofs.Weights.{block_weight, body_weight, definition_lighter}
 use Rattle.expr_types.specs.Shown.{around_of, kinds_of}
 use Rattle.stream_shapes.specs.Shape.{expressions_in}
-use Rattle.spec_flattening.specs.Answers.{AreExpressions, AreNumbered, AreStreams, CanCall, CanConstruct, CanEnter, CanMake, CanMakeAll, CanMakeBlock, IsBlock, IsBody, IsCalled, IsConstructed, IsExpression, IsInside, IsNamed, to_enough}
+use Rattle.spec_flattening.specs.Answers.{AreExpressions, AreNumbered, AreStreams, CanCall, CanEnter, CanMake, CanMakeAll, IsBlock, IsBody, IsCalled, IsConstructed, IsExpression, IsInside, IsNamed, to_enough}
 use Rattle.spec_flattening.specs.Here.{macro_in}
-use Rattle.spec_flattening.proofs.Inside.{IsInner, IsOuter, IsThere, IsWithin, block_can, block_stopped, final_answer, final_can, plain_answer, plain_can, streams_there}
+use Rattle.spec_flattening.proofs.Inside.{block_can, block_stopped, final_answer, final_can, plain_answer, plain_can, streams_there}
 use Rattle.spec_flattening.proofs.Linked as linked
 use Rattle.spec_flattening.proofs.Turns.{AreBegun, all_made, block_done, body_can, body_more, body_refused, one_can, one_more, one_refused, shown_at}
 use Rattle.spec_flattening.proofs.Arguments.{arguments_can, arguments_stopped, callee_room, called, deeper_room, enter_can, never_deepest, no_other}
@@ -349,12 +348,13 @@ chain-returns t c =
 -- ---- inside of a call
 pub inside-body-requires : goal.inside-body-requires
 inside-body-requires t c =
-    let smaller : size_of c.in-Plain.result < body_weight (code.body_of c.args.parts.now.body) + 1 = omega (arith, ap (λ b. body_weight (code.body_of b)) c.in-Plain.is) in
-    (search rules,
-    plain_can c.args.self.now c.args.number c.args.params.now c.args.deep c.requires.entry c.requires.entered c.requires.place c.args.parts.now c.requires.is_item c.in-Plain.result (ap code.body_of c.in-Plain.is) _
-    (record { items_are = refl; kinds_are = refl; setting_is = refl; number_is = refl; params_are = c.as_slice-written.ensures.value })
-    (record { written = c.as_slice-written.result.now; level = c.in_ok-parameters.field-0; outers = c.around-outer.result; written_is = c.as_slice-written.ensures.value; agrees = c.in_ok-parameters.ensures; around = c.around-outer.ensures; levels_are = c.inner-scope.ensures })
-    refl refl refl)
+    let smaller : size_of c.in-Plain.result < body_weight (code.body_of c.args.parts.now.body) + 1 = omega (arith, ap (λ b. body_weight (code.body_of b)) c.in-Plain.is) in (
+      search rules,
+      plain_can c.args.self.now c.args.number c.args.params.now c.args.deep c.requires.entry c.requires.entered c.requires.place c.args.parts.now c.requires.is_item c.in-Plain.result (ap code.body_of c.in-Plain.is) _
+          (record { items_are = refl; kinds_are = refl; setting_is = refl; number_is = refl; params_are = c.as_slice-written.ensures.value })
+          (record { written = c.as_slice-written.result.now; level = c.in_ok-parameters.field-0; outers = c.around-outer.result; written_is = c.as_slice-written.ensures.value; agrees = c.in_ok-parameters.ensures; around = c.around-outer.ensures; levels_are = c.inner-scope.ensures })
+          refl refl refl,
+    )
 
 pub inside-returns-in-Plain : goal.inside-returns-in-Plain
 inside-returns-in-Plain t c = record {
@@ -402,36 +402,37 @@ inside-returns-in_err-locals-in-Block-2 t c =
 pub inside-block-requires : goal.inside-block-requires
 inside-block-requires t c =
     let smaller : block_weight (definitions_of c.deref-in-Block-3.result.now) ≤ body_weight (code.body_of c.args.parts.now.body) =
-    omega (arith, ap (λ b. body_weight (code.body_of b)) c.in-Block.is, ap (λ ds. block_weight (definitions_of ds)) c.deref-in-Block-3.ensures.value) in
-    (search rules,
-    block_can c.args.self.now c.args.number c.args.params.now c.args.deep c.requires.entry c.requires.entered c.requires.place c.args.parts.now c.requires.is_item c.deref-in-Block-3.result.now c.in-Block.result
-    (ap code.body_of c.in-Block.is ∙ ap (λ ds. tree.Block (definitions_of ds) c.in-Block.result) (sym c.deref-in-Block-3.ensures.value))
-    c.count.result c.in_ok-locals-in-Block-2.locals.items _
-    (record {
-      outside = record {
-        items = c.args.self.now.items;
-        kinds = c.args.self.now.kinds;
-        scope = record { ref_ptr = c.args.parts.ref_ptr; now = c.inner-scope.result };
-        setting = setting.Streams;
-        number = c.args.number;
-        params = c.as_slice-written.result;
-      };
-      there = (record { items_are = refl; kinds_are = refl; setting_is = refl; number_is = refl; params_are = c.as_slice-written.ensures.value });
-      levels = c.inner-block.result;
-      inner = record {
-        shown = c.deref.result.now;
-        level = c.in_ok-locals-in-Block.field-0;
-        outers = c.inner-scope.result;
-        shown_is = c.deref.ensures.value ∙ sym c.deref-in-Block-3.ensures.value;
-        agrees = c.in_ok-locals-in-Block.ensures;
-        outer = record { written = c.as_slice-written.result.now; level = c.in_ok-parameters.field-0; outers = c.around-outer.result; written_is = c.as_slice-written.ensures.value; agrees = c.in_ok-parameters.ensures; around = c.around-outer.ensures; levels_are = c.inner-scope.ensures };
-        levels_are = c.inner-block.ensures;
-      };
-      is = c.within-around.ensures;
-    })
-    (subst (λ ds. AreNumbered to_enough (around_of c.within-around.result) (macro_marks (map item_of c.args.self.now.items.now) (kinds_of c.args.self.now.kinds.now) c.args.deep) zero c.count.result (definitions_of ds) c.in_ok-locals-in-Block-2.locals.items)
-    (c.deref-in-Block.ensures.value ∙ sym c.deref-in-Block-3.ensures.value) c.in_ok-locals-in-Block-2.ensures.numbered)
-    refl c.deref-in-Block-2.ensures.value refl)
+    omega (arith, ap (λ b. body_weight (code.body_of b)) c.in-Block.is, ap (λ ds. block_weight (definitions_of ds)) c.deref-in-Block-3.ensures.value) in (
+      search rules,
+      block_can c.args.self.now c.args.number c.args.params.now c.args.deep c.requires.entry c.requires.entered c.requires.place c.args.parts.now c.requires.is_item c.deref-in-Block-3.result.now c.in-Block.result
+          (ap code.body_of c.in-Block.is ∙ ap (λ ds. tree.Block (definitions_of ds) c.in-Block.result) (sym c.deref-in-Block-3.ensures.value))
+          c.count.result c.in_ok-locals-in-Block-2.locals.items _
+          (record {
+            outside = record {
+              items = c.args.self.now.items;
+              kinds = c.args.self.now.kinds;
+              scope = record { ref_ptr = c.args.parts.ref_ptr; now = c.inner-scope.result };
+              setting = setting.Streams;
+              number = c.args.number;
+              params = c.as_slice-written.result;
+            };
+            there = (record { items_are = refl; kinds_are = refl; setting_is = refl; number_is = refl; params_are = c.as_slice-written.ensures.value });
+            levels = c.inner-block.result;
+            inner = record {
+              shown = c.deref.result.now;
+              level = c.in_ok-locals-in-Block.field-0;
+              outers = c.inner-scope.result;
+              shown_is = c.deref.ensures.value ∙ sym c.deref-in-Block-3.ensures.value;
+              agrees = c.in_ok-locals-in-Block.ensures;
+              outer = record { written = c.as_slice-written.result.now; level = c.in_ok-parameters.field-0; outers = c.around-outer.result; written_is = c.as_slice-written.ensures.value; agrees = c.in_ok-parameters.ensures; around = c.around-outer.ensures; levels_are = c.inner-scope.ensures };
+              levels_are = c.inner-block.ensures;
+            };
+            is = c.within-around.ensures;
+          })
+          (subst (λ ds. AreNumbered to_enough (around_of c.within-around.result) (macro_marks (map item_of c.args.self.now.items.now) (kinds_of c.args.self.now.kinds.now) c.args.deep) zero c.count.result (definitions_of ds) c.in_ok-locals-in-Block-2.locals.items)
+          (c.deref-in-Block.ensures.value ∙ sym c.deref-in-Block-3.ensures.value) c.in_ok-locals-in-Block-2.ensures.numbered)
+          refl c.deref-in-Block-2.ensures.value refl,
+    )
 
 pub inside-returns-in_err-block-in-Block : goal.inside-returns-in_err-block-in-Block
 inside-returns-in_err-block-in-Block t c =
@@ -441,99 +442,100 @@ inside-returns-in_err-block-in-Block t c =
     (record {
       at = λ entry p is entered.
           block_stopped c.args.self.now c.args.number c.args.params.now c.args.deep entry entered p c.args.parts.now is c.deref-in-Block-3.result.now c.in-Block.result
-    (ap code.body_of c.in-Block.is ∙ ap (λ ds. tree.Block (definitions_of ds) c.in-Block.result) (sym c.deref-in-Block-3.ensures.value))
-    c.count.result c.in_ok-locals-in-Block-2.locals.items _
-    (record {
-      outside = record {
-        items = c.args.self.now.items;
-        kinds = c.args.self.now.kinds;
-        scope = record { ref_ptr = c.args.parts.ref_ptr; now = c.inner-scope.result };
-        setting = setting.Streams;
-        number = c.args.number;
-        params = c.as_slice-written.result;
-      };
-      there = (record { items_are = refl; kinds_are = refl; setting_is = refl; number_is = refl; params_are = c.as_slice-written.ensures.value });
-      levels = c.inner-block.result;
-      inner = record {
-        shown = c.deref.result.now;
-        level = c.in_ok-locals-in-Block.field-0;
-        outers = c.inner-scope.result;
-        shown_is = c.deref.ensures.value ∙ sym c.deref-in-Block-3.ensures.value;
-        agrees = c.in_ok-locals-in-Block.ensures;
-        outer = record { written = c.as_slice-written.result.now; level = c.in_ok-parameters.field-0; outers = c.around-outer.result; written_is = c.as_slice-written.ensures.value; agrees = c.in_ok-parameters.ensures; around = c.around-outer.ensures; levels_are = c.inner-scope.ensures };
-        levels_are = c.inner-block.ensures;
-      };
-      is = c.within-around.ensures;
-    })
-    (subst (λ ds. AreNumbered to_enough (around_of c.within-around.result) (macro_marks (map item_of c.args.self.now.items.now) (kinds_of c.args.self.now.kinds.now) c.args.deep) zero c.count.result (definitions_of ds) c.in_ok-locals-in-Block-2.locals.items)
-    (c.deref-in-Block.ensures.value ∙ sym c.deref-in-Block-3.ensures.value) c.in_ok-locals-in-Block-2.ensures.numbered)
-    refl c.deref-in-Block-2.ensures.value refl
+          (ap code.body_of c.in-Block.is ∙ ap (λ ds. tree.Block (definitions_of ds) c.in-Block.result) (sym c.deref-in-Block-3.ensures.value))
+          c.count.result c.in_ok-locals-in-Block-2.locals.items _
+          (record {
+            outside = record {
+              items = c.args.self.now.items;
+              kinds = c.args.self.now.kinds;
+              scope = record { ref_ptr = c.args.parts.ref_ptr; now = c.inner-scope.result };
+              setting = setting.Streams;
+              number = c.args.number;
+              params = c.as_slice-written.result;
+            };
+            there = (record { items_are = refl; kinds_are = refl; setting_is = refl; number_is = refl; params_are = c.as_slice-written.ensures.value });
+            levels = c.inner-block.result;
+            inner = record {
+              shown = c.deref.result.now;
+              level = c.in_ok-locals-in-Block.field-0;
+              outers = c.inner-scope.result;
+              shown_is = c.deref.ensures.value ∙ sym c.deref-in-Block-3.ensures.value;
+              agrees = c.in_ok-locals-in-Block.ensures;
+              outer = record { written = c.as_slice-written.result.now; level = c.in_ok-parameters.field-0; outers = c.around-outer.result; written_is = c.as_slice-written.ensures.value; agrees = c.in_ok-parameters.ensures; around = c.around-outer.ensures; levels_are = c.inner-scope.ensures };
+              levels_are = c.inner-block.ensures;
+            };
+            is = c.within-around.ensures;
+          })
+          (subst (λ ds. AreNumbered to_enough (around_of c.within-around.result) (macro_marks (map item_of c.args.self.now.items.now) (kinds_of c.args.self.now.kinds.now) c.args.deep) zero c.count.result (definitions_of ds) c.in_ok-locals-in-Block-2.locals.items)
+          (c.deref-in-Block.ensures.value ∙ sym c.deref-in-Block-3.ensures.value) c.in_ok-locals-in-Block-2.ensures.numbered)
+          refl c.deref-in-Block-2.ensures.value refl
           c.args.maker.now c.block-in-Block.new.maker c.block-in-Block.new.maker c.in_err-block-in-Block.field-0.0 c.in_err-block-in-Block.ensures;
     })
 
 pub inside-body-requires-in-Block : goal.inside-body-requires-in-Block
 inside-body-requires-in-Block t c =
-    let smaller : size_of c.in-Block.result ≤ body_weight (code.body_of c.args.parts.now.body) = omega (arith, ap (λ b. body_weight (code.body_of b)) c.in-Block.is) in
-    (search rules,
-    final_can c.args.self.now c.args.number c.args.params.now c.args.deep c.requires.entry c.requires.entered c.requires.place c.args.parts.now c.requires.is_item c.deref-in-Block-3.result.now c.in-Block.result
-    (ap code.body_of c.in-Block.is ∙ ap (λ ds. tree.Block (definitions_of ds) c.in-Block.result) (sym c.deref-in-Block-3.ensures.value))
-    c.count.result c.in_ok-locals-in-Block-2.locals.items _
-    (record {
-      outside = record {
-        items = c.args.self.now.items;
-        kinds = c.args.self.now.kinds;
-        scope = record { ref_ptr = c.args.parts.ref_ptr; now = c.inner-scope.result };
-        setting = setting.Streams;
-        number = c.args.number;
-        params = c.as_slice-written.result;
-      };
-      there = (record { items_are = refl; kinds_are = refl; setting_is = refl; number_is = refl; params_are = c.as_slice-written.ensures.value });
-      levels = c.inner-block.result;
-      inner = record {
-        shown = c.deref.result.now;
-        level = c.in_ok-locals-in-Block.field-0;
-        outers = c.inner-scope.result;
-        shown_is = c.deref.ensures.value ∙ sym c.deref-in-Block-3.ensures.value;
-        agrees = c.in_ok-locals-in-Block.ensures;
-        outer = record { written = c.as_slice-written.result.now; level = c.in_ok-parameters.field-0; outers = c.around-outer.result; written_is = c.as_slice-written.ensures.value; agrees = c.in_ok-parameters.ensures; around = c.around-outer.ensures; levels_are = c.inner-scope.ensures };
-        levels_are = c.inner-block.ensures;
-      };
-      is = c.within-around.ensures;
-    })
-    (subst (λ ds. AreNumbered to_enough (around_of c.within-around.result) (macro_marks (map item_of c.args.self.now.items.now) (kinds_of c.args.self.now.kinds.now) c.args.deep) zero c.count.result (definitions_of ds) c.in_ok-locals-in-Block-2.locals.items)
-    (c.deref-in-Block.ensures.value ∙ sym c.deref-in-Block-3.ensures.value) c.in_ok-locals-in-Block-2.ensures.numbered)
-    refl c.deref-in-Block-2.ensures.value refl)
+    let smaller : size_of c.in-Block.result ≤ body_weight (code.body_of c.args.parts.now.body) = omega (arith, ap (λ b. body_weight (code.body_of b)) c.in-Block.is) in (
+      search rules,
+      final_can c.args.self.now c.args.number c.args.params.now c.args.deep c.requires.entry c.requires.entered c.requires.place c.args.parts.now c.requires.is_item c.deref-in-Block-3.result.now c.in-Block.result
+          (ap code.body_of c.in-Block.is ∙ ap (λ ds. tree.Block (definitions_of ds) c.in-Block.result) (sym c.deref-in-Block-3.ensures.value))
+          c.count.result c.in_ok-locals-in-Block-2.locals.items _
+          (record {
+            outside = record {
+              items = c.args.self.now.items;
+              kinds = c.args.self.now.kinds;
+              scope = record { ref_ptr = c.args.parts.ref_ptr; now = c.inner-scope.result };
+              setting = setting.Streams;
+              number = c.args.number;
+              params = c.as_slice-written.result;
+            };
+            there = (record { items_are = refl; kinds_are = refl; setting_is = refl; number_is = refl; params_are = c.as_slice-written.ensures.value });
+            levels = c.inner-block.result;
+            inner = record {
+              shown = c.deref.result.now;
+              level = c.in_ok-locals-in-Block.field-0;
+              outers = c.inner-scope.result;
+              shown_is = c.deref.ensures.value ∙ sym c.deref-in-Block-3.ensures.value;
+              agrees = c.in_ok-locals-in-Block.ensures;
+              outer = record { written = c.as_slice-written.result.now; level = c.in_ok-parameters.field-0; outers = c.around-outer.result; written_is = c.as_slice-written.ensures.value; agrees = c.in_ok-parameters.ensures; around = c.around-outer.ensures; levels_are = c.inner-scope.ensures };
+              levels_are = c.inner-block.ensures;
+            };
+            is = c.within-around.ensures;
+          })
+          (subst (λ ds. AreNumbered to_enough (around_of c.within-around.result) (macro_marks (map item_of c.args.self.now.items.now) (kinds_of c.args.self.now.kinds.now) c.args.deep) zero c.count.result (definitions_of ds) c.in_ok-locals-in-Block-2.locals.items)
+          (c.deref-in-Block.ensures.value ∙ sym c.deref-in-Block-3.ensures.value) c.in_ok-locals-in-Block-2.ensures.numbered)
+          refl c.deref-in-Block-2.ensures.value refl,
+    )
 
 pub inside-returns : goal.inside-returns
 inside-returns t c = record {
   at = λ entry p is entered.
       final_answer c.args.self.now c.args.number c.args.params.now c.args.deep entry entered p c.args.parts.now is c.deref-in-Block-3.result.now c.in-Block.result
-    (ap code.body_of c.in-Block.is ∙ ap (λ ds. tree.Block (definitions_of ds) c.in-Block.result) (sym c.deref-in-Block-3.ensures.value))
-    c.count.result c.in_ok-locals-in-Block-2.locals.items _
-    (record {
-      outside = record {
-        items = c.args.self.now.items;
-        kinds = c.args.self.now.kinds;
-        scope = record { ref_ptr = c.args.parts.ref_ptr; now = c.inner-scope.result };
-        setting = setting.Streams;
-        number = c.args.number;
-        params = c.as_slice-written.result;
-      };
-      there = (record { items_are = refl; kinds_are = refl; setting_is = refl; number_is = refl; params_are = c.as_slice-written.ensures.value });
-      levels = c.inner-block.result;
-      inner = record {
-        shown = c.deref.result.now;
-        level = c.in_ok-locals-in-Block.field-0;
-        outers = c.inner-scope.result;
-        shown_is = c.deref.ensures.value ∙ sym c.deref-in-Block-3.ensures.value;
-        agrees = c.in_ok-locals-in-Block.ensures;
-        outer = record { written = c.as_slice-written.result.now; level = c.in_ok-parameters.field-0; outers = c.around-outer.result; written_is = c.as_slice-written.ensures.value; agrees = c.in_ok-parameters.ensures; around = c.around-outer.ensures; levels_are = c.inner-scope.ensures };
-        levels_are = c.inner-block.ensures;
-      };
-      is = c.within-around.ensures;
-    })
-    (subst (λ ds. AreNumbered to_enough (around_of c.within-around.result) (macro_marks (map item_of c.args.self.now.items.now) (kinds_of c.args.self.now.kinds.now) c.args.deep) zero c.count.result (definitions_of ds) c.in_ok-locals-in-Block-2.locals.items)
-    (c.deref-in-Block.ensures.value ∙ sym c.deref-in-Block-3.ensures.value) c.in_ok-locals-in-Block-2.ensures.numbered)
-    refl c.deref-in-Block-2.ensures.value refl
+      (ap code.body_of c.in-Block.is ∙ ap (λ ds. tree.Block (definitions_of ds) c.in-Block.result) (sym c.deref-in-Block-3.ensures.value))
+      c.count.result c.in_ok-locals-in-Block-2.locals.items _
+      (record {
+        outside = record {
+          items = c.args.self.now.items;
+          kinds = c.args.self.now.kinds;
+          scope = record { ref_ptr = c.args.parts.ref_ptr; now = c.inner-scope.result };
+          setting = setting.Streams;
+          number = c.args.number;
+          params = c.as_slice-written.result;
+        };
+        there = (record { items_are = refl; kinds_are = refl; setting_is = refl; number_is = refl; params_are = c.as_slice-written.ensures.value });
+        levels = c.inner-block.result;
+        inner = record {
+          shown = c.deref.result.now;
+          level = c.in_ok-locals-in-Block.field-0;
+          outers = c.inner-scope.result;
+          shown_is = c.deref.ensures.value ∙ sym c.deref-in-Block-3.ensures.value;
+          agrees = c.in_ok-locals-in-Block.ensures;
+          outer = record { written = c.as_slice-written.result.now; level = c.in_ok-parameters.field-0; outers = c.around-outer.result; written_is = c.as_slice-written.ensures.value; agrees = c.in_ok-parameters.ensures; around = c.around-outer.ensures; levels_are = c.inner-scope.ensures };
+          levels_are = c.inner-block.ensures;
+        };
+        is = c.within-around.ensures;
+      })
+      (subst (λ ds. AreNumbered to_enough (around_of c.within-around.result) (macro_marks (map item_of c.args.self.now.items.now) (kinds_of c.args.self.now.kinds.now) c.args.deep) zero c.count.result (definitions_of ds) c.in_ok-locals-in-Block-2.locals.items)
+      (c.deref-in-Block.ensures.value ∙ sym c.deref-in-Block-3.ensures.value) c.in_ok-locals-in-Block-2.ensures.numbered)
+      refl c.deref-in-Block-2.ensures.value refl
       c.args.maker.now c.block-in-Block.new.maker c.in_ok-block-in-Block.field-0 c.in_ok-block-in-Block.ensures c.count.ensures.count (omega (arith, c.count-in-Block.ensures.count, c.count-in-Block.ensures.few)) c.body-in-Block.new.maker c.body-in-Block.result c.body-in-Block.ensures;
 }
