@@ -27,13 +27,13 @@ use Rattle.tessla_cli.specs.Ready.{IsReady}
 use Rattle.tessla_cli.proofs.DueTexts.{due_alike, due_grows}
 
 -- nothing is read of no bytes, and no time is closed
-pub none_read : (s : System) (limit : ℕ) → reading s limit [] false ≡ record { lines = []; refused = None }
+pub none_read : (s : System) (strict : Bool) (limit : ℕ) → reading s strict limit [] false ≡ record { lines = []; refused = None }
 unfolding reading
-none_read s zero = refl
-none_read s (suc n) = let none : nat_lt (suc n) 0 ≡ false = grind (arith, nat_tests) in λ k. limited (record { lines = []; refused = None }) (overflow (none k) 1)
+none_read s strict zero = refl
+none_read s strict (suc n) = let none : nat_lt (suc n) 0 ≡ false = grind (arith, nat_tests) in λ k. limited (record { lines = []; refused = None }) (overflow (none k) 1)
 
-pub none_closed : (s : System) (limit : ℕ) → closed_below (reading s limit [] false) false ≡ 0
-none_closed s limit = ap (λ (r : Reading). closed_below r false) (none_read s limit)
+pub none_closed : (s : System) (strict : Bool) (limit until : ℕ) → closed_below (reading s strict limit [] false) until false ≡ 0
+none_closed s strict limit until = ap (λ (r : Reading). closed_below r until false) (none_read s strict limit)
 
 -- there is no instant below 0
 module _ (s : System) (lines : List Line) (z : Streams) (bound limit : ℕ) (zero_is : bound ≡ 0) where
@@ -79,12 +79,12 @@ module _ (s : System) (o : Options) (ready : IsReady s) where
   due_more bytes more text ended due =
       let low = bound_in s o bytes false in
       let high = bound_in s o (bytes ++ more) ended in
-      let le : low ≤ high = reading_closed s o.bytes bytes more ended in
+      let le : low ≤ high = reading_closed s o.strict o.bytes o.until bytes more ended in
       let ls = lines_in s o bytes false in
       let ms = lines_in s o (bytes ++ more) ended in
-      let stay = reading_begins s o.bytes bytes more ended in
+      let stay = reading_begins s o.strict o.bytes bytes more ended in
       let (z, zs) = ready.exists (inputs_of ms) high in
-      let later : AreFrom low stay.rest = reading_later s o.bytes bytes more ended stay.rest stay.is in
+      let later : AreFrom low stay.rest = reading_later s o.strict o.bytes bytes more ended stay.rest stay.is in
       let earlier = leaves_earlier s low ls stay.rest later in
       let zlow : Solves s (inputs_of (ls ++ stay.rest)) low z = subst (λ (l : List Line). Solves s (inputs_of l) low z) stay.is (solves_less s (inputs_of ms) low high z le zs) in
       let first : Solves s (inputs_of ls) low z = (earlier.solves_same z).1 zlow in
@@ -101,11 +101,11 @@ module _ (s : System) (o : Options) (ready : IsReady s) where
   pub due_at_start : IsDue s o [] false []
   due_at_start = record {
     solved = ready.exists (inputs_of (lines_in s o [] false)) (bound_in s o [] false);
-    is = λ z zs. sym (none_due s (lines_in s o [] false) z (bound_in s o [] false) o.instants (none_closed s o.bytes));
+    is = λ z zs. sym (none_due s (lines_in s o [] false) z (bound_in s o [] false) o.instants (none_closed s o.strict o.bytes o.until));
   }
 
   pub goes_on_at_start : GoesOn s o []
   goes_on_at_start = record {
-    accepted = ap (λ (r : Reading). r.refused) (none_read s o.bytes);
-    quiet = λ z zs. none_ends s (lines_in s o [] false) z (bound_in s o [] false) o.instants (none_closed s o.bytes);
+    accepted = ap (λ (r : Reading). r.refused) (none_read s o.strict o.bytes);
+    quiet = λ z zs. none_ends s (lines_in s o [] false) z (bound_in s o [] false) o.instants (none_closed s o.strict o.bytes o.until);
   }

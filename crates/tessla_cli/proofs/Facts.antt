@@ -17,7 +17,7 @@ use Rattle.spec_parser.specs.Tree as tree
 use Rattle.spec_reader.specs.Source.{SpellsSystem}
 use Rattle.tessla_cli.specs.declared.ending.Ending.{Ending}
 use Rattle.tessla_cli.specs.declared.options.Options.{Options}
-use Rattle.tessla_cli.specs.Conduct.{trace_name, HasWhole, IsBeforeOpening, MakesNothing, ReadsSpecFirst, StopsAtLimit, ReadsPieces, OfRun, OpensAsAsked, IsDueAtReads, GoesOnAtReads, IsPartlyDue, options_of}
+use Rattle.tessla_cli.specs.Conduct.{HasWhole, IsBeforeOpening, MakesNothing, ReadsSpecFirst, StopsAtLimit, ReadsPieces, OfRun, OpensAsAsked, IsDueAtReads, GoesOnAtReads, IsPartlyDue, options_of}
 use Rattle.tessla_cli.specs.Due.{IsDue}
 use Rattle.tessla_cli.specs.Ending.{GoesOn}
 use Rattle.tessla_cli.specs.Meant.{IsDueAsMeant, GoesOnAsMeant, BeginsAsMeant, WatchEndsAsMeant}
@@ -106,9 +106,9 @@ one_place : (before after : List Did) (it d : Did) → it ∷ [] ≡ before ++ d
 one_place [] after it d is = refl
 one_place (b ∷ before) after it d is = absurd (let rest : [] ≡ before ++ d ∷ after = cc in no_place before after d rest)
 
--- What stands behind the reads of the specification.
-record Tail (rest : List Did) : Type 0 where
-  opens : (openings rest ≡ []) ⊎ (openings rest ≡ (Trace, trace_name) ∷ [])
+-- What stands behind the reads of the specification, where the trace has this name.
+record Tail (name : List ℕ) (rest : List Did) : Type 0 where
+  opens : (openings rest ≡ []) ⊎ (openings rest ≡ (Trace, name) ∷ [])
   makes : creations rest ≡ []
   first : (before : List Did) → IsBeforeOpening Trace before rest → before ≡ []
   spec : Each (IsNoRead Spec) rest
@@ -146,8 +146,8 @@ module _ (words : List (List ℕ)) (run : Run) (asked_is : command_of words ≡ 
   front_creations : (rest : List Did) → creations (front ++ rest) ≡ creations rest
   front_creations rest = creations-append reads rest ∙ ap (λ (l : List (Channel × List ℕ)). l ++ creations rest) (creations_none reads transfers)
 
-  opens_so : (opened : List (Slot × List ℕ)) → (opened ≡ []) ⊎ (opened ≡ (Trace, trace_name) ∷ []) → Begins ((Spec, run.spec) ∷ opened) ((Spec, run.spec) ∷ (Trace, trace_name) ∷ [])
-  opens_so opened (inl is) = record { rest = (Trace, trace_name) ∷ []; is = ap (λ (l : List (Slot × List ℕ)). ((Spec, run.spec) ∷ l) ++ (Trace, trace_name) ∷ []) (sym is) }
+  opens_so : (opened : List (Slot × List ℕ)) → (opened ≡ []) ⊎ (opened ≡ (Trace, run.trace) ∷ []) → Begins ((Spec, run.spec) ∷ opened) ((Spec, run.spec) ∷ (Trace, run.trace) ∷ [])
+  opens_so opened (inl is) = record { rest = (Trace, run.trace) ∷ []; is = ap (λ (l : List (Slot × List ℕ)). ((Spec, run.spec) ∷ l) ++ (Trace, run.trace) ∷ []) (sym is) }
   opens_so opened (inr is) = record { rest = []; is = ap (λ (l : List (Slot × List ℕ)). (Spec, run.spec) ∷ l) (sym is) ∙ sym (append-nil ((Spec, run.spec) ∷ opened)) }
 
   -- no opening of the trace stands in the front
@@ -165,11 +165,11 @@ module _ (words : List (List ℕ)) (run : Run) (asked_is : command_of words ≡ 
     | inr (mid, is, of) ↦ (mid, is, record { did = b.did; name = b.name; after = b.after; is = b.is; split = of })
   ]
 
-  shows_tail : (rest : List Did) → Tail rest → ((before : List Did) → IsBeforeOpening Trace before rest → HasWhole reads)
+  shows_tail : (rest : List Did) → Tail run.trace rest → ((before : List Did) → IsBeforeOpening Trace before rest → HasWhole reads)
       → AtReads Trace (λ less. OfRun words (front ++ less) (λ items s o. IsDueAsMeant items s o (taken Trace (front ++ less)) false (given Out (front ++ less)))) rest
       → AtReads Trace (λ less. OfRun words (front ++ less) (λ items s o. GoesOnAsMeant items s o (taken Trace (front ++ less)))) rest → IsPartlyDue words (front ++ rest) → Shows words (front ++ rest)
   shows_tail rest tail is_whole due goes_on partly = record {
-    opens = inr (run, asked_is, subst (λ (l : List (Slot × List ℕ)). Begins l ((Spec, run.spec) ∷ (Trace, trace_name) ∷ [])) (sym (front_openings rest)) (opens_so (openings rest) tail.opens));
+    opens = inr (run, asked_is, subst (λ (l : List (Slot × List ℕ)). Begins l ((Spec, run.spec) ∷ (Trace, run.trace) ∷ [])) (sym (front_openings rest)) (opens_so (openings rest) tail.opens));
     makes = front_creations rest ∙ tail.makes;
     spec_first = λ before b.
         let (mid, is, at) = opening_behind rest before b in
@@ -187,7 +187,7 @@ module _ (words : List (List ℕ)) (run : Run) (asked_is : command_of words ≡ 
   }
 
   -- nothing behind it
-  nothing_behind : Tail []
+  nothing_behind : Tail run.trace []
   nothing_behind = record {
     opens = inl refl;
     makes = refl;
@@ -204,22 +204,22 @@ module _ (words : List (List ℕ)) (run : Run) (asked_is : command_of words ≡ 
       (inl (given_none Out (front ++ []) (Each-append (IsNoGift Out) front [] front_no_out tt)))
 
   -- the trace could not be opened
-  no_trace_behind : Tail (NotOpened Trace trace_name ∷ [])
+  no_trace_behind : Tail run.trace (NotOpened Trace run.trace ∷ [])
   no_trace_behind = record {
     opens = inr refl;
     makes = refl;
-    first = λ before b. one_place before b.after (NotOpened Trace trace_name) b.did b.split;
+    first = λ before b. one_place before b.after (NotOpened Trace run.trace) b.did b.split;
     spec = (tt, tt);
-    ends = at_no_read Trace _ (NotOpened Trace trace_name ∷ []) (tt, tt);
+    ends = at_no_read Trace _ (NotOpened Trace run.trace ∷ []) (tt, tt);
     pieces = (tt, tt);
     silent = refl;
   }
 
-  shows_no_trace : (source : List ℕ) → GivesSource source reads → Shows words (front ++ NotOpened Trace trace_name ∷ [])
+  shows_no_trace : (source : List ℕ) → GivesSource source reads → Shows words (front ++ NotOpened Trace run.trace ∷ [])
   shows_no_trace source g =
-      shows_tail (NotOpened Trace trace_name ∷ []) no_trace_behind (λ before b. g.whole) (at_no_read Trace _ (NotOpened Trace trace_name ∷ []) (tt, tt))
-      (at_no_read Trace _ (NotOpened Trace trace_name ∷ []) (tt, tt))
-      (inl (given_none Out (front ++ NotOpened Trace trace_name ∷ []) (Each-append (IsNoGift Out) front (NotOpened Trace trace_name ∷ []) front_no_out (tt, tt))))
+      shows_tail (NotOpened Trace run.trace ∷ []) no_trace_behind (λ before b. g.whole) (at_no_read Trace _ (NotOpened Trace run.trace ∷ []) (tt, tt))
+      (at_no_read Trace _ (NotOpened Trace run.trace ∷ []) (tt, tt))
+      (inl (given_none Out (front ++ NotOpened Trace run.trace ∷ []) (Each-append (IsNoGift Out) front (NotOpened Trace run.trace ∷ []) front_no_out (tt, tt))))
 
   module _ (source : List ℕ) (g : GivesSource source reads) (items : List tree.Item) (s : System) (spelled : SpellsSystem source items s) where
     -- what is taken of the specification, behind which nothing of it is read
@@ -239,8 +239,8 @@ module _ (words : List (List ℕ)) (run : Run) (asked_is : command_of words ≡ 
     ended_so : (less : List Did) → ended Trace (front ++ less) ≡ ended Trace less
     ended_so less = ended_behind Trace front less front_no_trace
 
-    pub ends_behind : (by : Ending) (part : List Did) → WatchEnds s (options_of run) by part → WatchEndsAsMeant items s (options_of run) by (front ++ Opened Trace trace_name ∷ part)
-    ends_behind by part w = let rest = Opened Trace trace_name ∷ part in watch_ends_meant source items s (options_of run) spelled by (front ++ rest) record {
+    pub ends_behind : (by : Ending) (part : List Did) → WatchEnds s (options_of run) by part → WatchEndsAsMeant items s (options_of run) by (front ++ Opened Trace run.trace ∷ part)
+    ends_behind by part w = let rest = Opened Trace run.trace ∷ part in watch_ends_meant source items s (options_of run) spelled by (front ++ rest) record {
       due = subst (λ (e : Bool). IsDue s (options_of run) (taken Trace (front ++ rest)) e (given Out (front ++ rest))) (sym (ended_so rest)) (given_so rest (ended Trace rest) w.due);
       cause = subst (λ (e : Bool). EndsBy s (options_of run) (taken Trace (front ++ rest)) e by) (sym (ended_so rest))
           (subst (λ (l : List ℕ). EndsBy s (options_of run) l (ended Trace rest) by) (sym (taken_behind Trace front rest front_no_trace)) w.cause);
@@ -257,48 +257,48 @@ module _ (words : List (List ℕ)) (run : Run) (asked_is : command_of words ≡ 
       before_read : AtReads Trace (λ less. MayRead s (options_of run) less × Each (IsNoRead Spec) less) part
       before_read before r = (w.reads before r, each_front (IsNoRead Spec) before _ (subst (λ (l : List Did). Each (IsNoRead Spec) l) r.split spec_none))
 
-      watched_behind : Tail (Opened Trace trace_name ∷ part)
+      watched_behind : Tail run.trace (Opened Trace run.trace ∷ part)
       watched_behind = record {
-        opens = inr (ap (λ (l : List (Slot × List ℕ)). (Trace, trace_name) ∷ l) (openings_none part moves));
+        opens = inr (ap (λ (l : List (Slot × List ℕ)). (Trace, run.trace) ∷ l) (openings_none part moves));
         makes = creations_none part moves;
         first = opened_first;
         spec = (tt, spec_none);
-        ends = at_behind Trace (MayRead s (options_of run)) (λ less. ended Trace less ≡ false) (Opened Trace trace_name ∷ []) part (tt, tt) (λ less h. h.unended) w.reads;
+        ends = at_behind Trace (MayRead s (options_of run)) (λ less. ended Trace less ≡ false) (Opened Trace run.trace ∷ []) part (tt, tt) (λ less h. h.unended) w.reads;
         pieces = (tt, each_work (IsWithin most_taken) (λ bytes short. short) (λ bytes. tt) part w.work);
         silent = given_none Err part (each_work (IsNoGift Err) (λ bytes short. tt) (λ bytes. refl) part w.work);
       }
         where
-          opened_first : (before : List Did) → IsBeforeOpening Trace before (Opened Trace trace_name ∷ part) → before ≡ []
+          opened_first : (before : List Did) → IsBeforeOpening Trace before (Opened Trace run.trace ∷ part) → before ≡ []
           opened_first [] b = refl
           opened_first (x ∷ before) b = absurd (no_opening_in Trace part before moves record { did = b.did; name = b.name; after = b.after; is = b.is; split = (let e = b.split in cc) })
 
-      pub shows_watched : Shows words (front ++ Opened Trace trace_name ∷ part)
+      pub shows_watched : Shows words (front ++ Opened Trace run.trace ∷ part)
       shows_watched =
-          shows_tail (Opened Trace trace_name ∷ part) watched_behind (λ before b. g.whole)
+          shows_tail (Opened Trace run.trace ∷ part) watched_behind (λ before b. g.whole)
           (at_behind Trace (λ less. MayRead s (options_of run) less × Each (IsNoRead Spec) less)
-          (λ less. OfRun words (front ++ less) (λ items s o. IsDueAsMeant items s o (taken Trace (front ++ less)) false (given Out (front ++ less)))) (Opened Trace trace_name ∷ []) part (tt, tt)
-          (λ less h. of_run (Opened Trace trace_name ∷ less) (λ items s o. IsDueAsMeant items s o (taken Trace (front ++ Opened Trace trace_name ∷ less)) false (given Out (front ++ Opened Trace trace_name ∷ less))) (tt, h.1)
-          (due_meant source items s (options_of run) spelled (taken Trace (front ++ Opened Trace trace_name ∷ less)) false (given Out (front ++ Opened Trace trace_name ∷ less)) (given_so (Opened Trace trace_name ∷ less) false h.0.due))) before_read)
+          (λ less. OfRun words (front ++ less) (λ items s o. IsDueAsMeant items s o (taken Trace (front ++ less)) false (given Out (front ++ less)))) (Opened Trace run.trace ∷ []) part (tt, tt)
+          (λ less h. of_run (Opened Trace run.trace ∷ less) (λ items s o. IsDueAsMeant items s o (taken Trace (front ++ Opened Trace run.trace ∷ less)) false (given Out (front ++ Opened Trace run.trace ∷ less))) (tt, h.1)
+          (due_meant source items s (options_of run) spelled (taken Trace (front ++ Opened Trace run.trace ∷ less)) false (given Out (front ++ Opened Trace run.trace ∷ less)) (given_so (Opened Trace run.trace ∷ less) false h.0.due))) before_read)
           (at_behind Trace (λ less. MayRead s (options_of run) less × Each (IsNoRead Spec) less)
-          (λ less. OfRun words (front ++ less) (λ items s o. GoesOnAsMeant items s o (taken Trace (front ++ less)))) (Opened Trace trace_name ∷ []) part (tt, tt)
-          (λ less h. of_run (Opened Trace trace_name ∷ less) (λ items s o. GoesOnAsMeant items s o (taken Trace (front ++ Opened Trace trace_name ∷ less))) (tt, h.1)
-          (goes_on_meant source items s (options_of run) spelled (taken Trace (front ++ Opened Trace trace_name ∷ less))
-          (subst (λ (l : List ℕ). GoesOn s (options_of run) l) (sym (taken_behind Trace front (Opened Trace trace_name ∷ less) front_no_trace)) h.0.goes_on))) before_read)
-          (inr (of_run (Opened Trace trace_name ∷ part) (λ items s o. BeginsAsMeant items s o (front ++ Opened Trace trace_name ∷ part)) (tt, spec_none)
-          (begins_meant source items s (options_of run) spelled (front ++ Opened Trace trace_name ∷ part) begins)))
+          (λ less. OfRun words (front ++ less) (λ items s o. GoesOnAsMeant items s o (taken Trace (front ++ less)))) (Opened Trace run.trace ∷ []) part (tt, tt)
+          (λ less h. of_run (Opened Trace run.trace ∷ less) (λ items s o. GoesOnAsMeant items s o (taken Trace (front ++ Opened Trace run.trace ∷ less))) (tt, h.1)
+          (goes_on_meant source items s (options_of run) spelled (taken Trace (front ++ Opened Trace run.trace ∷ less))
+          (subst (λ (l : List ℕ). GoesOn s (options_of run) l) (sym (taken_behind Trace front (Opened Trace run.trace ∷ less) front_no_trace)) h.0.goes_on))) before_read)
+          (inr (of_run (Opened Trace run.trace ∷ part) (λ items s o. BeginsAsMeant items s o (front ++ Opened Trace run.trace ∷ part)) (tt, spec_none)
+          (begins_meant source items s (options_of run) spelled (front ++ Opened Trace run.trace ∷ part) begins)))
         where
-          begins : BeginsDue s (options_of run) (front ++ Opened Trace trace_name ∷ part)
-          begins = let rest = Opened Trace trace_name ∷ part in record {
+          begins : BeginsDue s (options_of run) (front ++ Opened Trace run.trace ∷ part)
+          begins = let rest = Opened Trace run.trace ∷ part in record {
             text = w.partly.text;
             due = subst (λ (e : Bool). IsDue s (options_of run) (taken Trace (front ++ rest)) e w.partly.text) (sym (ended_so rest)) (due_behind rest (ended Trace rest) w.partly.text w.partly.due);
             begins = subst (λ (l : List ℕ). Begins l w.partly.text) (sym (given_behind Out front rest front_no_out)) w.partly.begins;
           }
 
 -- what a run of a specification shows, and of words
-shows_spec : (words : List (List ℕ)) (run : Run) → command_of words ≡ Some run → (part : List Did) → RunsSpec run.spec (options_of run) part → Shows words part
+shows_spec : (words : List (List ℕ)) (run : Run) → command_of words ≡ Some run → (part : List Did) → RunsSpec run.spec run.trace (options_of run) part → Shows words part
 shows_spec words run is _ unopened = shows_none words
 shows_spec words run is _ no_spec =
-    shows_few words (NotOpened Spec run.spec ∷ []) (inr (run, is, record { rest = (Trace, trace_name) ∷ []; is = refl })) refl (λ before b. not_trace before b) (tt, tt) (tt, tt) (tt, tt) refl refl
+    shows_few words (NotOpened Spec run.spec ∷ []) (inr (run, is, record { rest = (Trace, run.trace) ∷ []; is = refl })) refl (λ before b. not_trace before b) (tt, tt) (tt, tt) (tt, tt) refl refl
   where
     not_trace : (before : List Did) → IsBeforeOpening Trace before (NotOpened Spec run.spec ∷ []) → ⊥
     not_trace [] b =

@@ -1,5 +1,5 @@
 -- What a monitor keeps, a piece of the trace at a time.
-use Rattle.std.proofs.Common.{◌≡◌, ℕ, suc, ◌+◌, ◌≤◌, Bool, true, false, ◌&&◌, if◌then◌else◌, List, [], ◌∷◌, ◌++◌, length, drop, refl, sym, ◌∙◌, ap, subst, arith, Option, Some, None, is_none, slice_get, ◌-◌, Ok, Err, length-append}
+use Rattle.std.proofs.Common.{◌≡◌, ◌≢◌, ℕ, suc, ◌+◌, ◌≤◌, Bool, true, false, ◌&&◌, if◌then◌else◌, max, List, [], ◌∷◌, ◌++◌, length, drop, refl, sym, ◌∙◌, ap, subst, arith, Option, Some, None, is_none, slice_get, ◌-◌, Ok, Err, length-append}
 use Rattle.std.proofs.lemmas.List.{drop_at}
 use Rattle.std.specs.Prelude.{IsTrue}
 use Rattle.tsl_value.specs.View.{Plain, is_of}
@@ -29,7 +29,7 @@ use Rattle.tessla_cli.specs.declared.options.Options.{Options}
 use Rattle.tessla_cli.specs.Due.{IsDue, SolvesClosed, lines_in, refused_in, bound_in}
 use Rattle.flat_core.specs.Ending.{EndsInFault, EndsAtLimit, EndsAtBound}
 use Rattle.tessla_cli.specs.Ending.{IsQuiet, IsFaulted}
-use Rattle.tessla_cli.specs.Monitor.{Kept, Takes, IsTextOf, IsRefusal, bound_of, place_in, ending_by}
+use Rattle.tessla_cli.specs.Monitor.{Kept, Takes, IsTextOf, bound_of, place_in, ending_by}
 use Rattle.tessla_cli.specs.Parts.{IsNext, is_nothing}
 use Rattle.tessla_cli.specs.Ready.{IsReady}
 use Rattle.tessla_cli.proofs.Dues.{due_of, due_more, none_read, none_due, none_closed}
@@ -45,23 +45,28 @@ module _ (s : System) (o : Options) where
   one_due bytes ended a b first second = let (z, zs) = first.solved in first.is z zs ∙ sym (second.is z zs)
 
   -- a monitor that took nothing
-  pub kept_new : (m : Monitor) → Reads m.reader s o.bytes [] [] false → AwaitsMore m.reader → m.lines.items ≡ [] → m.written ≡ 0 → Kept s o m []
+  pub kept_new : (m : Monitor) → Reads m.reader s o.strict o.bytes [] [] false → AwaitsMore m.reader → m.lines.items ≡ [] → m.written ≡ 0 → Kept s o m []
   kept_new m reads awaits none zero = record {
-    reads = subst (λ (l : List Line). Reads m.reader s o.bytes [] l false) (sym none) reads;
+    reads = subst (λ (l : List Line). Reads m.reader s o.strict o.bytes [] l false) (sym none) reads;
     awaits = awaits;
-    all = none_read s o.bytes ∙ ap (λ (l : List Line). record { lines = l; refused = None }) (sym none);
+    all = none_read s o.strict o.bytes ∙ ap (λ (l : List Line). record { lines = l; refused = None }) (sym none);
     written = λ text due.
         let (z, zs) = due.solved in
-        let nothing : text ≡ [] = due.is z zs ∙ none_due s (lines_in s o [] false) z (bound_in s o [] false) o.instants (none_closed s o.bytes) in
+        let nothing : text ≡ [] = due.is z zs ∙ none_due s (lines_in s o [] false) z (bound_in s o [] false) o.instants (none_closed s o.strict o.bytes o.until) in
         zero ∙ ap (λ (l : List ℕ). length l) (sym nothing);
   }
 
   -- a line that is refused is so said
-  refused_said : (r : Reading) (given : List Line) (ended : Bool) (f : TraceFault) → IsRefusal f → SaysRest r given ended (Err f) → r ≡ record { lines = given; refused = Some f }
-  refused_said r given ended (fault.BadLine n) is says = says
-  refused_said r given ended (fault.TimeBack n b t) is says = says
-  refused_said r given ended (fault.TraceTooLong n) is says = says
-  refused_said r given ended fault.Memory is says = absurd is
+  refused_said : (r : Reading) (given : List Line) (ended : Bool) (f : TraceFault) → f ≢ fault.Memory → SaysRest r given ended (Err f) → r ≡ record { lines = given; refused = Some f }
+  refused_said r given ended (fault.BadLine n) some says = says
+  refused_said r given ended (fault.TimeTooLarge n) some says = says
+  refused_said r given ended (fault.TimeBack n b t) some says = says
+  refused_said r given ended (fault.UnknownStream n) some says = says
+  refused_said r given ended (fault.WrongValue n name) some says = says
+  refused_said r given ended (fault.Twice n name) some says = says
+  refused_said r given ended (fault.LineTooLong n) some says = says
+  refused_said r given ended (fault.TraceTooLong n) some says = says
+  refused_said r given ended fault.Memory some says = absurd (some refl)
 
   all_said : (r : Reading) (given : List Line) (ended : Bool) (x : Rest) → SaysRest r given ended (Ok x) → r ≡ record { lines = given; refused = None }
   all_said r given ended rest.More says = says.0
@@ -73,20 +78,20 @@ module _ (s : System) (o : Options) where
 
   module _ (new : Monitor) (bytes : List ℕ) (ended : Bool) (given old : List Line) (same : old ≡ given) where
     -- all lines that stand were taken
-    pub takes_all : (x : Rest) → Gathers new.reader s o.bytes bytes given ended old new.lines.items (Ok x) → IfRestMore (Ok x) (AwaitsMore new.reader) → Takes s o new bytes ended None
+    pub takes_all : (x : Rest) → Gathers new.reader s o.strict o.bytes bytes given ended old new.lines.items (Ok x) → IfRestMore (Ok x) (AwaitsMore new.reader) → Takes s o new bytes ended None
     takes_all x g more =
         let now : new.lines.items ≡ given ++ g.added = g.grew ∙ ap (λ (l : List Line). l ++ g.added) same in
-        let is = all_said (reading s o.bytes bytes ended) (given ++ g.added) ended x g.says in record {
+        let is = all_said (reading s o.strict o.bytes bytes ended) (given ++ g.added) ended x g.says in record {
           lines_are = now ∙ ap (λ (r : Reading). r.lines) (sym is);
           refused_is = ap (λ (r : Reading). r.refused) (sym is);
-          reads = λ e none. subst (λ (b : Bool). Reads new.reader s o.bytes bytes new.lines.items b) e (subst (λ (l : List Line). Reads new.reader s o.bytes bytes l ended) (sym now) g.reads);
-          awaits = λ e none. more_said new.reader (reading s o.bytes bytes ended) (given ++ g.added) ended x g.says more e;
+          reads = λ e none. subst (λ (b : Bool). Reads new.reader s o.strict o.bytes bytes new.lines.items b) e (subst (λ (l : List Line). Reads new.reader s o.strict o.bytes bytes l ended) (sym now) g.reads);
+          awaits = λ e none. more_said new.reader (reading s o.strict o.bytes bytes ended) (given ++ g.added) ended x g.says more e;
         }
 
-    takes_it : (f : TraceFault) → IsRefusal f → Gathers new.reader s o.bytes bytes given ended old new.lines.items (Err f) → Takes s o new bytes ended (Some f)
-    takes_it f refusal g =
+    takes_it : (f : TraceFault) → f ≢ fault.Memory → Gathers new.reader s o.strict o.bytes bytes given ended old new.lines.items (Err f) → Takes s o new bytes ended (Some f)
+    takes_it f some g =
         let now : new.lines.items ≡ given ++ g.added = g.grew ∙ ap (λ (l : List Line). l ++ g.added) same in
-        let is = refused_said (reading s o.bytes bytes ended) (given ++ g.added) ended f refusal g.says in record {
+        let is = refused_said (reading s o.strict o.bytes bytes ended) (given ++ g.added) ended f some g.says in record {
           lines_are = now ∙ ap (λ (r : Reading). r.lines) (sym is);
           refused_is = ap (λ (r : Reading). r.refused) (sym is);
           reads = λ e none. absurd (cc);
@@ -94,20 +99,18 @@ module _ (s : System) (o : Options) where
         }
 
     -- a line is refused
-    pub takes_refused : (said f : TraceFault) → said ≡ f → IsRefusal said → Gathers new.reader s o.bytes bytes given ended old new.lines.items (Err f) → Takes s o new bytes ended (Some said)
-    takes_refused said f why is_said told =
-        let refusal : IsRefusal f = subst (λ (x : TraceFault). IsRefusal x) why is_said in
-        subst (λ (x : TraceFault). Takes s o new bytes ended (Some x)) (sym why) (takes_it f refusal told)
+    pub takes_refused : (said f : TraceFault) → said ≡ f → f ≢ fault.Memory → Gathers new.reader s o.strict o.bytes bytes given ended old new.lines.items (Err f) → Takes s o new bytes ended (Some said)
+    takes_refused said f why some told = subst (λ (x : TraceFault). Takes s o new bytes ended (Some x)) (sym why) (takes_it f some told)
 
   -- what was taken: the lines, the bound, the text and the ending
   module _ (m : Monitor) (bytes : List ℕ) (ended : Bool) (refused : Option TraceFault) (t : Takes s o m bytes ended refused) where
     pub sorted_lines : IsSorted m.lines.items
-    sorted_lines = subst (λ (l : List Line). IsSorted l) (sym t.lines_are) (reading_sorted s o.bytes bytes ended)
+    sorted_lines = subst (λ (l : List Line). IsSorted l) (sym t.lines_are) (reading_sorted s o.strict o.bytes bytes ended)
 
     pub typed_lines : AreTypedLines s m.lines.items
     typed_lines =
         subst (AreTypedLines s) (sym t.lines_are)
-        (all_by (IsProperLine s) (IsTypedLine s) proper_typed (reading s o.bytes bytes ended).lines (reading_proper s o.bytes bytes ended))
+        (all_by (IsProperLine s) (IsTypedLine s) proper_typed (reading s o.strict o.bytes bytes ended).lines (reading_proper s o.strict o.bytes bytes ended))
       where
         proper_typed : (l : Line) → IsProperLine s l → IsTypedLine s l
         proper_typed l proper = record {
@@ -118,26 +121,26 @@ module _ (s : System) (o : Options) where
               subst (λ (f : Equation). IsTrue (is_of f.of (Plain v))) same known.fits;
         }
 
-    pub bound_is : bound_of m.lines.items (ended && is_none refused) ≡ bound_in s o bytes ended
-    bound_is = (λ k. if ended && is_none (t.refused_is k) then last_time (t.lines_are k) + 1 else last_time (t.lines_are k))
+    pub bound_is : bound_of m.lines.items o.until (ended && is_none refused) ≡ bound_in s o bytes ended
+    bound_is = (λ k. if ended && is_none (t.refused_is k) then max (last_time (t.lines_are k)) o.until + 1 else last_time (t.lines_are k))
 
-    closed_solves : (z : Streams) → SolvesClosed s o bytes ended z → Solves s (inputs_of m.lines.items) (bound_of m.lines.items (ended && is_none refused)) z
+    closed_solves : (z : Streams) → SolvesClosed s o bytes ended z → Solves s (inputs_of m.lines.items) (bound_of m.lines.items o.until (ended && is_none refused)) z
     closed_solves z zs =
         subst (λ (n : ℕ). Solves s (inputs_of m.lines.items) n z) (sym bound_is) (subst (λ (l : List Line). Solves s (inputs_of l) (bound_in s o bytes ended) z) (sym t.lines_are) zs)
 
-    pub text_due : IsReady s → (text : List ℕ) → IsTextOf s m.lines.items (bound_of m.lines.items (ended && is_none refused)) o.instants text → IsDue s o bytes ended text
+    pub text_due : IsReady s → (text : List ℕ) → IsTextOf s m.lines.items (bound_of m.lines.items o.until (ended && is_none refused)) o.instants text → IsDue s o bytes ended text
     text_due ready text of = record {
       solved = ready.exists (inputs_of (lines_in s o bytes ended)) (bound_in s o bytes ended);
       is = λ z zs. of z (closed_solves z zs) ∙ (λ k. due_text s (t.lines_are k) z (bound_is k) o.instants);
     }
 
     -- whether the trace ended, as the piece said it
-    pub text_due_so : (e : Bool) → e ≡ ended → IsReady s → (text : List ℕ) → IsTextOf s m.lines.items (bound_of m.lines.items (e && is_none refused)) o.instants text → IsDue s o bytes ended text
-    text_due_so e is ready text of = text_due ready text (subst (λ (b : Bool). IsTextOf s m.lines.items (bound_of m.lines.items (b && is_none refused)) o.instants text) is of)
+    pub text_due_so : (e : Bool) → e ≡ ended → IsReady s → (text : List ℕ) → IsTextOf s m.lines.items (bound_of m.lines.items o.until (e && is_none refused)) o.instants text → IsDue s o bytes ended text
+    text_due_so e is ready text of = text_due ready text (subst (λ (b : Bool). IsTextOf s m.lines.items (bound_of m.lines.items o.until (b && is_none refused)) o.instants text) is of)
 
-    module _ (ready : IsReady s) (by : End) (ends : EndsSo s m.lines.items (bound_of m.lines.items (ended && is_none refused)) o.instants by) where
-      on_closed : (P : List Line → ℕ → Type 0) → P m.lines.items (bound_of m.lines.items (ended && is_none refused)) → P (lines_in s o bytes ended) (bound_in s o bytes ended)
-      on_closed P p = subst (λ (n : ℕ). P (lines_in s o bytes ended) n) bound_is (subst (λ (l : List Line). P l (bound_of m.lines.items (ended && is_none refused))) t.lines_are p)
+    module _ (ready : IsReady s) (by : End) (ends : EndsSo s m.lines.items (bound_of m.lines.items o.until (ended && is_none refused)) o.instants by) where
+      on_closed : (P : List Line → ℕ → Type 0) → P m.lines.items (bound_of m.lines.items o.until (ended && is_none refused)) → P (lines_in s o bytes ended) (bound_in s o bytes ended)
+      on_closed P p = subst (λ (n : ℕ). P (lines_in s o bytes ended) n) bound_is (subst (λ (l : List Line). P l (bound_of m.lines.items o.until (ended && is_none refused))) t.lines_are p)
 
       faulted : (t i : ℕ) (kind : FaultKind) → by ≡ end.Fault t i kind → IsFaulted s o bytes ended t i kind
       faulted t i kind is z zs = on_closed (λ ls n. EndsInFault s ls z n o.instants t i kind) (((ends z (closed_solves z zs)).in_fault t i kind).0 is)
@@ -168,10 +171,10 @@ module _ (s : System) (o : Options) where
       pub next_of : IsNext s o bytes ended (ending_by s by ended refused o.instants)
       next_of = next_by by refl refused refl ended refl
 
-    pub next_of_so : (e : Bool) → e ≡ ended → IsReady s → (by : End) → EndsSo s m.lines.items (bound_of m.lines.items (e && is_none refused)) o.instants by → IsNext s o bytes ended (ending_by s by e refused o.instants)
+    pub next_of_so : (e : Bool) → e ≡ ended → IsReady s → (by : End) → EndsSo s m.lines.items (bound_of m.lines.items o.until (e && is_none refused)) o.instants by → IsNext s o bytes ended (ending_by s by e refused o.instants)
     next_of_so e is ready by ends =
         subst (λ (b : Bool). IsNext s o bytes ended (ending_by s by b refused o.instants)) (sym is)
-        (next_of ready by (subst (λ (b : Bool). EndsSo s m.lines.items (bound_of m.lines.items (b && is_none refused)) o.instants by) is ends))
+        (next_of ready by (subst (λ (b : Bool). EndsSo s m.lines.items (bound_of m.lines.items o.until (b && is_none refused)) o.instants by) is ends))
 
   -- the text that is due so far begins that of more, so what was given out is no longer than it
   pub written_fits : IsReady s → (old : Monitor) (fed piece : List ℕ) (ended : Bool) (text : List ℕ) → Kept s o old fed → IsDue s o (fed ++ piece) ended text → old.written ≤ length text

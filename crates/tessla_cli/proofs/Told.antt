@@ -21,7 +21,7 @@ use Rattle.tessla_cli.specs.declared.ending.Ending.TheVariants as ending
 use Rattle.tessla_cli.specs.declared.ending.Broken.{Broken}
 use Rattle.tessla_cli.specs.declared.ending.Broken.TheVariants as broken
 use Rattle.tessla_cli.specs.declared.options.Options.{Options}
-use Rattle.tessla_cli.specs.Conduct.{HasWhole, IsBeforeOpening, OfRun, EndsRun, SpecRefused, IsPartlyDue, RunEnds, options_of, trace_name, source_limit}
+use Rattle.tessla_cli.specs.Conduct.{HasWhole, IsBeforeOpening, OfRun, EndsRun, SpecRefused, IsPartlyDue, RunEnds, options_of, source_limit}
 use Rattle.tessla_cli.specs.Meant.{IsDueAsMeant, EndsAsMeant, BeginsAsMeant, WatchEndsAsMeant}
 use Rattle.tessla_cli.specs.Messages.{ending_line, broken_line, broken_status, status_of}
 use Rattle.tessla_cli.specs.Outcome.{Ends, Faulted, TellsSome, cut_short, unfinished, Outcome, told, outside, memory, ShowsAlways, Concludes, Tells, TellsBroken, all_of_broken, some_of_broken, TellsEnding, all_of_ending, some_of_ending, no_line}
@@ -51,17 +51,17 @@ module _ (words : List (List ℕ)) where
       nothing = given_none Out reads (each_take (IsNoGift Out) Spec (λ bytes short. tt) reads r.only);
     }
 
-    source_ends : (by : Ending) (rest : List Did) → SourceEnds source (options_of run) by rest → RunEnds words by (Opened Spec run.spec ∷ (reads ++ rest))
+    source_ends : (by : Ending) (rest : List Did) → SourceEnds source run.trace (options_of run) by rest → RunEnds words by (Opened Spec run.spec ∷ (reads ++ rest))
     source_ends by rest (spec_refused {fault} same refused none) =
         subst (λ (b : Ending). RunEnds words b (Opened Spec run.spec ∷ (reads ++ rest))) (sym same)
         (subst (λ (l : List Did). SpecRefused words fault (Opened Spec run.spec ∷ l)) (sym (ap (λ (l : List Did). reads ++ l) none ∙ append-nil reads)) (refused_front fault refused))
     source_ends by _ (compiled_ends items s spelled (ends part w e)) =
-        of_watch by (Opened Spec run.spec ∷ (reads ++ Opened Trace trace_name ∷ part)) record {
+        of_watch by (Opened Spec run.spec ∷ (reads ++ Opened Trace run.trace ∷ part)) record {
           run = run;
           asked = is;
           items = items;
           system = s;
-          spelled = spelled_behind words run is reads r source g items s spelled (Opened Trace trace_name ∷ part) (tt, each_work (IsNoRead Spec) (λ bytes short. refl) (λ bytes. tt) part w.work);
+          spelled = spelled_behind words run is reads r source g items s spelled (Opened Trace run.trace ∷ part) (tt, each_work (IsNoRead Spec) (λ bytes short. refl) (λ bytes. tt) part w.work);
           holds = ends_behind words run is reads r source g items s spelled by part e;
         }
 
@@ -116,7 +116,7 @@ module _ (words : List (List ℕ)) where
 
     pub shows_told : Shows words part → ShowsAlways words (part ++ more)
     shows_told s = record {
-      opens = subst (λ (l : List (Slot × List ℕ)). (l ≡ []) ⊎ ((run : Run) × (command_of words ≡ Some run) × Begins l ((Spec, run.spec) ∷ (Trace, trace_name) ∷ []))) (sym (openings_before part more moves)) s.opens;
+      opens = subst (λ (l : List (Slot × List ℕ)). (l ≡ []) ⊎ ((run : Run) × (command_of words ≡ Some run) × Begins l ((Spec, run.spec) ∷ (Trace, run.trace) ∷ []))) (sym (openings_before part more moves)) s.opens;
       makes = creations_before part more moves ∙ s.makes;
       spec_first = λ before b. s.spec_first before (opening_told before b);
       spec_ends = at_more Spec _ part more s.spec_ends (no_reads Spec);

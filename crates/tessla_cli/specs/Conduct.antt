@@ -1,5 +1,5 @@
 -- What the program does to the outside, as the journal of its calls has it.
-use Rattle.std.specs.Prelude.{◌≡◌, ◌⊎◌, ℕ, ◌<◌, ◌≤◌, true, false, List, [], ◌∷◌, ◌++◌, length, Some, None, codes}
+use Rattle.std.specs.Prelude.{◌≡◌, ◌⊎◌, ℕ, ◌<◌, ◌≤◌, true, false, List, [], ◌∷◌, ◌++◌, length, Some, None}
 use Rattle.flat_core.specs.System.{System}
 use Rattle.tsl_world.specs.declared.outside.Did.{Did}
 use Rattle.tsl_world.specs.declared.outside.Slot.{Slot}
@@ -22,16 +22,9 @@ use Rattle.tessla_cli.specs.Parts.{most_taken}
 abbrev pub source_limit : ℕ
 source_limit = 1_048_576
 
--- as many bytes of the trace as a run takes
-abbrev pub trace_limit : ℕ
-trace_limit = 1_099_511_627_776
-
--- the name of the trace, which is the standard input
-abbrev pub trace_name : List ℕ
-trace_name = codes "-"
-
+-- how far the run goes
 abbrev pub options_of : Run → Options
-options_of run = record { instants = run.instants; bytes = trace_limit }
+options_of run = record { until = run.until; instants = run.instants; bytes = run.bytes; strict = run.strict }
 
 -- the specification was read to its end, or past its limit
 abbrev pub HasWhole : List Did → Type 0
@@ -72,10 +65,10 @@ module _ (words : List (List ℕ)) where
     pub spelled : SpellsSystem (taken Spec journal) items system
     pub holds : P items system (options_of run)
 
-  -- Nothing is opened but the specification that the words name, and then the trace, each once and each whether it could be opened or not.
+  -- Nothing is opened but the specification and then the trace that the words name, each once and each whether it could be opened or not.
   abbrev pub OpensAsAsked : List Did → Type 0
   OpensAsAsked part =
-      (openings part ≡ []) ⊎ ((run : Run) × (command_of words ≡ Some run) × Begins (openings part) ((Spec, run.spec) ∷ (Trace, trace_name) ∷ []))
+      (openings part ≡ []) ⊎ ((run : Run) × (command_of words ≡ Some run) × Begins (openings part) ((Spec, run.spec) ∷ (Trace, run.trace) ∷ []))
 
   -- THE HEADLINE. Before each read of the trace, the bytes given to Out are the text that is due of the trace bytes taken before.
   abbrev pub IsDueAtReads : List Did → Type 0

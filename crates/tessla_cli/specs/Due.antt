@@ -12,13 +12,13 @@ use Rattle.tessla_cli.specs.declared.options.Options.{Options}
 
 -- the lines that the bytes have, the refusal behind them, and the bound below which times are closed
 abbrev pub lines_in : System → Options → List ℕ → Bool → List Line
-lines_in s o bytes ended = (reading s o.bytes bytes ended).lines
+lines_in s o bytes ended = (reading s o.strict o.bytes bytes ended).lines
 
 abbrev pub refused_in : System → Options → List ℕ → Bool → Option TraceFault
-refused_in s o bytes ended = (reading s o.bytes bytes ended).refused
+refused_in s o bytes ended = (reading s o.strict o.bytes bytes ended).refused
 
 abbrev pub bound_in : System → Options → List ℕ → Bool → ℕ
-bound_in s o bytes ended = closed_below (reading s o.bytes bytes ended) ended
+bound_in s o bytes ended = closed_below (reading s o.strict o.bytes bytes ended) o.until ended
 
 -- streams that solve the system at the closed times
 abbrev pub SolvesClosed : System → Options → List ℕ → Bool → Streams → Type 0

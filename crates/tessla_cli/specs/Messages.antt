@@ -2,8 +2,7 @@
 use Rattle.std.specs.Prelude.{ℕ, List, [], ◌∷◌, ◌++◌, codes}
 use Rattle.std.specs.Fmt.{decimal}
 use Rattle.tsl_value.specs.declared.place.Place.{Place}
-use Rattle.lift_func.specs.declared.fault.FaultKind.{FaultKind}
-use Rattle.lift_func.specs.declared.fault.FaultKind.TheVariants as kind
+use Rattle.event_writer.specs.Text.{place_text, fault_line}
 use Rattle.spec_lexer.specs.declared.fault.LexFault.{LexFault}
 use Rattle.spec_lexer.specs.declared.fault.LexFault.TheVariants as lex
 use Rattle.spec_parser.specs.declared.parse.ParseFault.{ParseFault}
@@ -23,30 +22,26 @@ use Rattle.tessla_cli.specs.declared.ending.Ending.TheVariants as ending
 use Rattle.tessla_cli.specs.declared.ending.Broken.{Broken}
 use Rattle.tessla_cli.specs.declared.ending.Broken.TheVariants as broken
 
--- a place as LINE:COLUMN
-abbrev pub place_text : Place → List ℕ
-place_text p = decimal p.line ++ (codes ":" ++ decimal p.column)
-
-abbrev pub kind_text : FaultKind → List ℕ
-kind_text kind.Overflow = codes "Overflow"
-kind_text kind.DivideByZero = codes "DivideByZero"
-kind_text kind.MissingKey = codes "MissingKey"
-kind_text kind.NoValue = codes "NoValue"
-kind_text kind.TextTooLong = codes "TextTooLong"
-kind_text kind.DelayNotPositive = codes "DelayNotPositive"
+-- the number of a refused line, and why it is refused; a want of memory is told otherwise
+abbrev pub line_text : ℕ → List ℕ → List ℕ
+line_text line cause = decimal line ++ (codes ": " ++ cause)
 
 -- the two times of a line that goes back in time
 abbrev pub back_text : ℕ → ℕ → List ℕ
-back_text before now = codes ": time " ++ (decimal now ++ (codes " after " ++ decimal before))
+back_text before now = decimal now ++ (codes " after " ++ decimal before)
 
--- the number of the refused line, and why
 abbrev pub trace_text : TraceFault → List ℕ
-trace_text (trace.BadLine line) = decimal line ++ codes ": not a trace line"
-trace_text (trace.TimeBack line before now) = decimal line ++ back_text before now
-trace_text (trace.TraceTooLong line) = decimal line ++ codes ": trace too long"
+trace_text (trace.BadLine line) = line_text line (codes "not a trace line")
+trace_text (trace.TimeTooLarge line) = line_text line (codes "time too large")
+trace_text (trace.TimeBack line before now) = line_text line (codes "time " ++ back_text before now)
+trace_text (trace.UnknownStream line) = line_text line (codes "unknown stream")
+trace_text (trace.WrongValue line name) = line_text line (codes "wrong value for " ++ name)
+trace_text (trace.Twice line name) = line_text line (name ++ codes " twice at one time")
+trace_text (trace.LineTooLong line) = line_text line (codes "line too long")
+trace_text (trace.TraceTooLong line) = line_text line (codes "trace too long")
 trace_text trace.Memory = []
 
--- where and how a specification is refused; a want of memory is told otherwise
+-- where and how a specification is refused
 abbrev pub at_text : Place → List ℕ → List ℕ
 at_text place kind = place_text place ++ (codes ": " ++ kind)
 
@@ -110,10 +105,6 @@ spec_text (spec.Flat fault) = flat_text fault
 spec_text (spec.Cycle place names) = cycle_text place names.items
 spec_text spec.Memory = []
 
--- when, how and where an equation faults
-abbrev pub fault_text : ℕ → FaultKind → Place → List ℕ
-fault_text time kind place = decimal time ++ (codes ": fault " ++ (kind_text kind ++ (codes " at " ++ place_text place)))
-
 -- how many instants ran, and when the next one comes
 abbrev pub next_text : ℕ → List ℕ
 next_text time = codes " instants before time " ++ decimal time
@@ -131,7 +122,7 @@ ending_line ending.Done = []
 ending_line ending.Words = as_line (codes "words not accepted")
 ending_line (ending.Spec fault) = as_line (codes "spec " ++ spec_text fault)
 ending_line (ending.Trace fault) = as_line (codes "trace " ++ trace_text fault)
-ending_line (ending.Fault time kind place) = as_line (fault_text time kind place)
+ending_line (ending.Fault time kind place) = fault_line time kind place
 ending_line (ending.Limit count time) = as_line (limit_text count time)
 
 -- what tells that a run was cut short

@@ -1,5 +1,5 @@
 -- What a monitor keeps of the trace.
-use Rattle.std.specs.Prelude.{◌≡◌, ℕ, ◌+◌, ◌<◌, Bool, true, false, if◌then◌else◌, List, length, Option, Some, None}
+use Rattle.std.specs.Prelude.{◌≡◌, ℕ, ◌+◌, ◌<◌, Bool, true, false, if◌then◌else◌, max, List, length, Option, Some, None}
 use Rattle.flat_core.specs.declared.equation.Equation.{Equation}
 use Rattle.flat_core.specs.Case.{Streams}
 use Rattle.flat_core.specs.Line.{Line, inputs_of, last_time}
@@ -9,7 +9,6 @@ use Rattle.flat_core.specs.System.{System, equation}
 use Rattle.plain_solver.specs.declared.solve.End.{End}
 use Rattle.plain_solver.specs.declared.solve.End.TheVariants as end
 use Rattle.trace_reader.specs.declared.fault.TraceFault.{TraceFault}
-use Rattle.trace_reader.specs.declared.fault.TraceFault.TheVariants as fault
 use Rattle.trace_reader.specs.Reader.{AwaitsMore}
 use Rattle.trace_reader.specs.Reads.{Reads}
 use Rattle.trace_reader.specs.Reading.{reading}
@@ -22,21 +21,21 @@ use Rattle.tessla_cli.specs.Due.{IsDue, lines_in, refused_in}
 
 -- The monitor stands for these bytes of the trace: its lines are those of the bytes, none is refused, and what is due of them was given out.
 pub record Kept (s : System) (o : Options) (m : Monitor) (fed : List ℕ) : Type 0 where
-  pub reads : Reads m.reader s o.bytes fed m.lines.items false
+  pub reads : Reads m.reader s o.strict o.bytes fed m.lines.items false
   pub awaits : AwaitsMore m.reader
-  pub all : reading s o.bytes fed false ≡ record { lines = m.lines.items; refused = None }
+  pub all : reading s o.strict o.bytes fed false ≡ record { lines = m.lines.items; refused = None }
   pub written : (text : List ℕ) → IsDue s o fed false text → m.written ≡ length text
 
 -- A piece was taken: the lines are those of the bytes with it, and so is the refusal.
 pub record Takes (s : System) (o : Options) (m : Monitor) (bytes : List ℕ) (ended : Bool) (refused : Option TraceFault) : Type 0 where
   pub lines_are : m.lines.items ≡ lines_in s o bytes ended
   pub refused_is : refused ≡ refused_in s o bytes ended
-  pub reads : ended ≡ false → refused ≡ None → Reads m.reader s o.bytes bytes m.lines.items false
+  pub reads : ended ≡ false → refused ≡ None → Reads m.reader s o.strict o.bytes bytes m.lines.items false
   pub awaits : ended ≡ false → refused ≡ None → AwaitsMore m.reader
 
 -- the bound below which times are closed
-abbrev pub bound_of : List Line → Bool → ℕ
-bound_of lines ended = if ended then last_time lines + 1 else last_time lines
+abbrev pub bound_of : List Line → ℕ → Bool → ℕ
+bound_of lines until ended = if ended then max (last_time lines) until + 1 else last_time lines
 
 -- the equation that faults is there
 abbrev pub IsThere : System → End → Type 0
@@ -57,14 +56,9 @@ ending_by s end.Bound false None limit = None
 
 -- A piece was fed, or the end said: the reader stands for the bytes with it.
 pub record Fed (s : System) (o : Options) (old new : Monitor) (bytes : List ℕ) (ended : Bool) : Type 0 where
-  pub reads : Reads new.reader s o.bytes bytes old.lines.items ended
+  pub reads : Reads new.reader s o.strict o.bytes bytes old.lines.items ended
   pub lines_are : new.lines.items ≡ old.lines.items
 
 -- the text is due of these lines below the bound, whichever solution is taken
 abbrev pub IsTextOf : System → List Line → ℕ → ℕ → List ℕ → Type 0
 IsTextOf s lines bound limit text = (z : Streams) → Solves s (inputs_of lines) bound z → text ≡ due_text s lines z bound limit
-
--- a line is refused, and it is no want of memory
-abbrev pub IsRefusal : TraceFault → Type 0
-IsRefusal fault.Memory = ⊥
-IsRefusal f = Unit {0}

@@ -1,13 +1,13 @@
 // What a run keeps of the trace, and what each piece brings.
 
-ghost use Rattle.std.specs.Prelude.{◌≡◌, ◌≤◌, ◌<◌, ◌++◌, ◌&&◌, ◌^◌, ℕ, List, [], false, true, drop, length, IfOk, OnErr, OnOk, Option, None, is_none};
+ghost use Rattle.std.specs.Prelude.{◌≡◌, ◌≢◌, ◌≤◌, ◌<◌, ◌++◌, ◌&&◌, ◌^◌, ℕ, List, [], false, true, drop, length, IfOk, OnErr, OnOk, Option, None, is_none};
 ghost use Rattle.flat_core.specs.Dependency.{IsRunOrder};
 ghost use Rattle.flat_core.specs.Line.{IsSorted, last_time};
 ghost use Rattle.plain_solver.specs.Ending.{EndsSo};
 ghost use Rattle.plain_solver.specs.Typed.{AreTypedLines};
 ghost use Rattle.plain_solver.specs.declared.solve.End.{End};
 ghost use Rattle.tessla_cli.specs.Due.{IsDue, bound_in, lines_in, refused_in};
-ghost use Rattle.tessla_cli.specs.Monitor.{Fed, IsRefusal, IsTextOf, IsThere, Kept, Takes, bound_of, ending_by};
+ghost use Rattle.tessla_cli.specs.Monitor.{Fed, IsTextOf, IsThere, Kept, Takes, bound_of, ending_by};
 ghost use Rattle.tessla_cli.specs.Parts.{IsNext, is_nothing, most_taken};
 ghost use Rattle.tessla_cli.specs.Ready.{IsReady};
 
@@ -44,13 +44,14 @@ fn time_of_last(lines: &[TraceLine]) -> u64
     }
 }
 
-/// The bound below which times are closed: those below the last line's, and at the end that time too.
-fn bound_of(lines: &[TraceLine], has_ended: bool) -> u64
-    ensures bound { result ≡ bound_of lines.now has_ended }
+/// The bound below which times are closed: those below the last line's, and at the end that time too and those up to `until`.
+fn bound_of(lines: &[TraceLine], until: u64, has_ended: bool) -> u64
+    requires { until < 2 ^ 63 }
+    ensures bound { result ≡ bound_of lines.now until has_ended }
     ensures bounded { result ≤ 2 ^ 63 }
 {
     let last = time_of_last(lines);
-    if has_ended { last + 1 } else { last }
+    if has_ended { last.max(until) + 1 } else { last }
 }
 
 /// How a run ends by the end of what was solved, by a line that is refused and by the end of the trace, if it does.
@@ -85,17 +86,11 @@ fn ending_by(
 /// The refusal of a line; want of memory is none.
 fn refusal(fault: TraceFault) -> Result<TraceFault, NoMemory>
     ensures same { IfOk result (λ refused. refused ≡ fault) }
-    ensures refused { IfOk result IsRefusal }
+    ensures refused { IfOk result (λ _. fault ≢ TraceFault.Memory) }
 {
     match fault {
-        TraceFault::BadLine { line } => Ok(TraceFault::BadLine { line }),
-        TraceFault::TimeBack { line, before, now } => Ok(TraceFault::TimeBack {
-            line,
-            before,
-            now,
-        }),
-        TraceFault::TraceTooLong { line } => Ok(TraceFault::TraceTooLong { line }),
         TraceFault::Memory => Err(NoMemory),
+        fault => Ok(fault),
     }
 }
 
@@ -115,7 +110,7 @@ impl<'f> Monitor<'f> {
         requires few { options.bytes ≤ 2 ^ 40 }
         ensures { IfOk result (λ m. Kept flat.now options m []) }
     {
-        let reader = TraceReader::new(alloc, flat, false, options.bytes)?;
+        let reader = TraceReader::new(alloc, flat, options.strict, options.bytes)?;
         Ok(Monitor {
             reader,
             lines: Vec::new(alloc),
@@ -169,13 +164,18 @@ impl<'f> Monitor<'f> {
     ) -> Result<Turn, NoMemory>
         requires ordered { IsRunOrder flat.now order.now }
         requires ready { IsReady flat.now }
+        requires until { options.until < 2 ^ 63 }
         requires sorted { IsSorted self.now.lines.items }
         requires typed { AreTypedLines flat.now self.now.lines.items }
-        ensures text { IfOk result (λ turn. IsTextOf flat.now self.now.lines.items (bound_of self.now.lines.items (has_ended && is_none refused)) options.instants turn.text) }
-        ensures ending { IfOk result (λ turn. (end : End) × EndsSo flat.now self.now.lines.items (bound_of self.now.lines.items (has_ended && is_none refused)) options.instants end
+        ensures text { IfOk result (λ turn. IsTextOf flat.now self.now.lines.items (bound_of self.now.lines.items options.until (has_ended && is_none refused)) options.instants turn.text) }
+        ensures ending { IfOk result (λ turn. (end : End) × EndsSo flat.now self.now.lines.items (bound_of self.now.lines.items options.until (has_ended && is_none refused)) options.instants end
             × (turn.ending ≡ ending_by flat.now end has_ended refused options.instants)) }
     {
-        let bound = bound_of(&self.lines, has_ended && refused.is_none());
+        let bound = bound_of(
+            &self.lines,
+            options.until,
+            has_ended && refused.is_none(),
+        );
         let solved = solve(alloc, flat, order, &self.lines, bound, options.instants)?;
         let text = print_due(alloc, flat, &solved)?;
         Ok(Turn {
@@ -195,6 +195,7 @@ impl<'f> Monitor<'f> {
     ) -> Result<Turn, NoMemory>
         requires ordered { IsRunOrder flat.now order.now }
         requires ready { IsReady flat.now }
+        requires until { options.until < 2 ^ 63 }
         requires kept { (fed : List ℕ) × Kept flat.now options self.old fed }
         requires short { length piece.now ≤ most_taken }
         ensures kept { IfOk result (λ turn. (fed : List ℕ) → Kept flat.now options self.old fed → turn.ending ≡ None → Kept flat.now options self.new (fed ++ piece.now)) }

@@ -1,10 +1,11 @@
 // What is told on the standard error.
 
 ghost use Rattle.std.specs.Prelude.{◌≡◌, ◌++◌, IfOk, OnOk};
-ghost use Rattle.tessla_cli.specs.Messages.{at_text, back_text, broken_line, broken_status, clash_text, cycle_text, ending_line, fault_text, flat_text, kind_text, lex_text, limit_text, members_text, next_text, parse_text, place_text, spec_text, status_of, trace_text, types_text};
+ghost use Rattle.tessla_cli.specs.Messages.{at_text, back_text, broken_line, broken_status, clash_text, cycle_text, ending_line, flat_text, lex_text, limit_text, line_text, members_text, next_text, parse_text, spec_text, status_of, trace_text, types_text};
 
 use crate::ending::{Broken, Ending};
-use lift_func::fault::FaultKind;
+use event_writer::fault::write_fault;
+use event_writer::place::print_place;
 use spec_lexer::fault::LexFault;
 use spec_parser::parse::ParseFault;
 use spec_reader::fault::{FlatFault, SpecFault};
@@ -19,56 +20,46 @@ use tsl_value::time::Time;
 use type_check::fault::{Kind, TypeFault};
 use type_check::print::print_kind;
 
-/// Appends a place as `LINE:COLUMN`.
-fn print_place(place: Place, out: &mut Bytes) -> Result<(), NoMemory>
-    ensures { OnOk result (out.new ≡ out.old ++ place_text place) }
+/// Appends the number of a refused line, and why it is refused.
+fn print_line(line: u64, cause: &[u8], out: &mut Bytes) -> Result<(), NoMemory>
+    ensures { OnOk result (out.new ≡ out.old ++ line_text line cause.now) }
 {
-    print_number(place.line as u64, out)?;
-    out.append(b":")?;
-    print_number(place.column as u64, out)
-}
-
-/// The name of a kind of fault.
-fn kind_name(kind: FaultKind) -> &'static [u8]
-    ensures { result.now ≡ kind_text kind }
-{
-    match kind {
-        FaultKind::Overflow => b"Overflow",
-        FaultKind::DivideByZero => b"DivideByZero",
-        FaultKind::MissingKey => b"MissingKey",
-        FaultKind::NoValue => b"NoValue",
-        FaultKind::TextTooLong => b"TextTooLong",
-        FaultKind::DelayNotPositive => b"DelayNotPositive",
-    }
+    print_number(line, out)?;
+    out.append(b": ")?;
+    out.append(cause)
 }
 
 /// Appends the two times of a line that goes back in time.
 fn print_back(before: Time, now: Time, out: &mut Bytes) -> Result<(), NoMemory>
     ensures { OnOk result (out.new ≡ out.old ++ back_text before now) }
 {
-    out.append(b": time ")?;
     print_number(now.get(), out)?;
     out.append(b" after ")?;
     print_number(before.get(), out)
 }
 
-/// Appends the number of a refused line, and why it is refused.
+/// Appends why a trace is refused, and in which line.
 fn print_trace(fault: &TraceFault, out: &mut Bytes) -> Result<(), NoMemory>
     ensures { OnOk result (out.new ≡ out.old ++ trace_text fault.now) }
 {
     match fault {
-        TraceFault::BadLine { line } => {
-            print_number(*line, out)?;
-            out.append(b": not a trace line")
-        }
+        TraceFault::BadLine { line } => print_line(*line, b"not a trace line", out),
+        TraceFault::TimeTooLarge { line } => print_line(*line, b"time too large", out),
         TraceFault::TimeBack { line, before, now } => {
-            print_number(*line, out)?;
+            print_line(*line, b"time ", out)?;
             print_back(*before, *now, out)
         }
-        TraceFault::TraceTooLong { line } => {
-            print_number(*line, out)?;
-            out.append(b": trace too long")
+        TraceFault::UnknownStream { line } => print_line(*line, b"unknown stream", out),
+        TraceFault::WrongValue { line, name } => {
+            print_line(*line, b"wrong value for ", out)?;
+            out.append(name.as_str().as_bytes())
         }
+        TraceFault::Twice { line, name } => {
+            print_line(*line, name.as_str().as_bytes(), out)?;
+            out.append(b" twice at one time")
+        }
+        TraceFault::LineTooLong { line } => print_line(*line, b"line too long", out),
+        TraceFault::TraceTooLong { line } => print_line(*line, b"trace too long", out),
         TraceFault::Memory => Ok(()),
     }
 }
@@ -190,17 +181,6 @@ fn print_spec(fault: &SpecFault, out: &mut Bytes) -> Result<(), NoMemory>
     }
 }
 
-/// Appends when, how and where an equation faults.
-fn print_fault(time: Time, kind: FaultKind, place: Place, out: &mut Bytes) -> Result<(), NoMemory>
-    ensures { OnOk result (out.new ≡ out.old ++ fault_text time kind place) }
-{
-    print_number(time.get(), out)?;
-    out.append(b": fault ")?;
-    out.append(kind_name(kind))?;
-    out.append(b" at ")?;
-    print_place(place, out)
-}
-
 /// Appends when the next instant comes.
 fn print_next(time: Time, out: &mut Bytes) -> Result<(), NoMemory>
     ensures { OnOk result (out.new ≡ out.old ++ next_text time) }
@@ -235,10 +215,7 @@ fn print_ending(ending: &Ending, out: &mut Bytes) -> Result<(), NoMemory>
             print_trace(fault, out)?;
             out.push(b'\n')
         }
-        Ending::Fault { time, kind, place } => {
-            print_fault(*time, *kind, *place, out)?;
-            out.push(b'\n')
-        }
+        Ending::Fault { time, kind, place } => write_fault(*time, *kind, *place, out),
         Ending::Limit { count, time } => {
             print_limit(*count, *time, out)?;
             out.push(b'\n')

@@ -26,18 +26,13 @@ use tsl_world::{Slot, World};
 /// As many bytes as one read takes at most.
 const PIECE: usize = 65_536;
 
-/// As many bytes of the trace as a run takes.
-const TRACE_LIMIT: u64 = 1_099_511_627_776;
-
-/// The name of the trace, which is the standard input.
-const TRACE_NAME: &str = "-";
-
-/// Opens the trace and monitors it under a system.
+/// Opens the trace of this name and monitors it under a system.
 fn run_system<W: World>(
     alloc: Global,
     world: &mut W,
     flat: &Flat,
     order: &Steps,
+    trace: &str,
     options: Options,
     buf: &mut [u8],
 ) -> Result<Ending, Broken>
@@ -48,14 +43,15 @@ fn run_system<W: World>(
     requires ready { IsReady flat.now }
     requires some { 1 ≤ options.bytes }
     requires few { options.bytes ≤ 2 ^ 40 }
+    requires until { options.until < 2 ^ 63 }
     ensures ok { OnOk result (W.faults world.new ≡ W.faults world.old) }
     ensures outside { IsErrOf result Broken.Outside → Rose (W.faults world.old) (W.faults world.new) }
     ensures memory { IsErrOf result Broken.Memory → W.faults world.new ≡ W.faults world.old }
-    ensures calls { Grows W.told W.journal world.old world.new (RunsSystem flat.now options) }
-    ensures ending { IfOk result (λ ending. Grows W.told W.journal world.old world.new (SystemEnds flat.now options ending)) }
+    ensures calls { Grows W.told W.journal world.old world.new (RunsSystem trace.now flat.now options) }
+    ensures ending { IfOk result (λ ending. Grows W.told W.journal world.old world.new (SystemEnds trace.now flat.now options ending)) }
 {
     let mut monitor = Monitor::new(alloc, flat, options)?;
-    world.open(Slot::Trace, TRACE_NAME)?;
+    world.open(Slot::Trace, trace)?;
     Ok(watch(alloc, world, flat, order, options, &mut monitor, buf)?)
 }
 
@@ -75,6 +71,7 @@ fn run_source<W: World>(
     alloc: Global,
     world: &mut W,
     source: &[u8],
+    trace: &str,
     options: Options,
     buf: &mut [u8],
 ) -> Result<Ending, Broken>
@@ -83,11 +80,12 @@ fn run_source<W: World>(
     requires stands { is_open (W.standing world.old) Slot.Trace ≡ false }
     requires some { 1 ≤ options.bytes }
     requires few { options.bytes ≤ 2 ^ 40 }
+    requires until { options.until < 2 ^ 63 }
     ensures ok { OnOk result (W.faults world.new ≡ W.faults world.old) }
     ensures outside { IsErrOf result Broken.Outside → Rose (W.faults world.old) (W.faults world.new) }
     ensures memory { IsErrOf result Broken.Memory → W.faults world.new ≡ W.faults world.old }
-    ensures calls { Grows W.told W.journal world.old world.new (RunsSource source.now options) }
-    ensures ending { IfOk result (λ ending. Grows W.told W.journal world.old world.new (SourceEnds source.now options ending)) }
+    ensures calls { Grows W.told W.journal world.old world.new (RunsSource source.now trace.now options) }
+    ensures ending { IfOk result (λ ending. Grows W.told W.journal world.old world.new (SourceEnds source.now trace.now options ending)) }
 {
     match compile(alloc, source) {
         Ok(compiled) => Ok(run_system(
@@ -95,6 +93,7 @@ fn run_source<W: World>(
             world,
             &compiled.flat,
             &compiled.order,
+            trace,
             options,
             buf,
         )?),
@@ -107,6 +106,7 @@ fn run_spec<W: World>(
     alloc: Global,
     world: &mut W,
     name: &str,
+    trace: &str,
     options: Options,
     buf: &mut [u8],
 ) -> Result<Ending, Broken>
@@ -115,15 +115,23 @@ fn run_spec<W: World>(
     requires stands { W.standing world.old ≡ at_first }
     requires some { 1 ≤ options.bytes }
     requires few { options.bytes ≤ 2 ^ 40 }
+    requires until { options.until < 2 ^ 63 }
     ensures ok { OnOk result (W.faults world.new ≡ W.faults world.old) }
     ensures outside { IsErrOf result Broken.Outside → Rose (W.faults world.old) (W.faults world.new) }
     ensures memory { IsErrOf result Broken.Memory → W.faults world.new ≡ W.faults world.old }
-    ensures calls { Grows W.told W.journal world.old world.new (RunsSpec name.now options) }
-    ensures ending { IfOk result (λ ending. Grows W.told W.journal world.old world.new (SpecEnds name.now options ending)) }
+    ensures calls { Grows W.told W.journal world.old world.new (RunsSpec name.now trace.now options) }
+    ensures ending { IfOk result (λ ending. Grows W.told W.journal world.old world.new (SpecEnds name.now trace.now options ending)) }
 {
     world.open(Slot::Spec, name)?;
     let source = read_source(alloc, world, buf)?;
-    Ok(run_source(alloc, world, source.as_slice(), options, buf)?)
+    Ok(run_source(
+        alloc,
+        world,
+        source.as_slice(),
+        trace,
+        options,
+        buf,
+    )?)
 }
 
 /// The same, with a buffer of its own.
@@ -131,19 +139,21 @@ fn run_in_pieces<W: World>(
     alloc: Global,
     world: &mut W,
     name: &str,
+    trace: &str,
     options: Options,
 ) -> Result<Ending, Broken>
     requires stands { W.standing world.old ≡ at_first }
     requires some { 1 ≤ options.bytes }
     requires few { options.bytes ≤ 2 ^ 40 }
+    requires until { options.until < 2 ^ 63 }
     ensures ok { OnOk result (W.faults world.new ≡ W.faults world.old) }
     ensures outside { IsErrOf result Broken.Outside → Rose (W.faults world.old) (W.faults world.new) }
     ensures memory { IsErrOf result Broken.Memory → W.faults world.new ≡ W.faults world.old }
-    ensures calls { Grows W.told W.journal world.old world.new (RunsSpec name.now options) }
-    ensures ending { IfOk result (λ ending. Grows W.told W.journal world.old world.new (SpecEnds name.now options ending)) }
+    ensures calls { Grows W.told W.journal world.old world.new (RunsSpec name.now trace.now options) }
+    ensures ending { IfOk result (λ ending. Grows W.told W.journal world.old world.new (SpecEnds name.now trace.now options ending)) }
 {
     let mut buf = vec![in alloc; 0u8; PIECE]?;
-    Ok(run_spec(alloc, world, name, options, &mut buf)?)
+    Ok(run_spec(alloc, world, name, trace, options, &mut buf)?)
 }
 
 /// Does what the words ask for.
@@ -155,13 +165,21 @@ pub fn run<W: World>(alloc: Global, words: &Words, world: &mut W) -> Result<Endi
     ensures calls { Grows W.told W.journal world.old world.new (RunsWords words.now) }
     ensures ending { IfOk result (λ ending. Grows W.told W.journal world.old world.new (WordsEnd words.now ending)) }
 {
-    match words.command() {
+    match words.command(alloc)? {
         Some(asked) => {
             let options = Options {
+                until: asked.until,
                 instants: asked.instants,
-                bytes: TRACE_LIMIT,
+                bytes: asked.bytes,
+                strict: asked.strict,
             };
-            Ok(run_in_pieces(alloc, world, asked.spec, options)?)
+            Ok(run_in_pieces(
+                alloc,
+                world,
+                asked.spec,
+                asked.trace,
+                options,
+            )?)
         }
         None => Ok(Ending::Words),
     }

@@ -1,6 +1,6 @@
 // The loop over the trace.
 
-ghost use Rattle.std.specs.Prelude.{◌≡◌, ◌<◌, ◌≤◌, ◌++◌, ℕ, List, [], true, false, length, IfOk, OnOk, OnErr, IsErrOf};
+ghost use Rattle.std.specs.Prelude.{◌≡◌, ◌<◌, ◌≤◌, ◌^◌, ◌++◌, ℕ, List, [], true, false, length, IfOk, OnOk, OnErr, IsErrOf};
 ghost use Rattle.flat_core.specs.Dependency.{IsRunOrder};
 ghost use Rattle.flat_core.specs.System.{System};
 ghost use Rattle.tsl_world.specs.Standing.{is_open};
@@ -36,6 +36,7 @@ pub fn watch<W: World>(
     requires stands { is_open (W.standing world.old) Slot.Trace ≡ true }
     requires ordered { IsRunOrder flat.now order.now }
     requires ready { IsReady flat.now }
+    requires until { options.until < 2 ^ 63 }
     requires kept { Kept flat.now options monitor.old [] }
     ensures ok { OnOk result (W.faults world.new ≡ W.faults world.old) }
     ensures outside { IsErrOf result Broken.Outside → Rose (W.faults world.old) (W.faults world.new) }

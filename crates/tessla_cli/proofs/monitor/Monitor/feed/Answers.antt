@@ -13,9 +13,9 @@ returns-then-is_empty-clause-fed c = λ fed kept.
     let o = c.args.options in
     let lines = c.args.self.now.lines.items in
     record {
-      reads = subst (λ (e : Bool). Reads c.finish.new.self s o.bytes (fed ++ piece) lines e) (sym end)
-          (subst (λ (l : List ℕ). Reads c.finish.new.self s o.bytes (fed ++ l) lines true) (sym (nothing_is piece end))
-          (subst (λ (l : List ℕ). Reads c.finish.new.self s o.bytes l lines true) (sym (append-nil fed)) (c.finish.ensures.reads s o.bytes fed lines kept.reads)));
+      reads = subst (λ (e : Bool). Reads c.finish.new.self s o.strict o.bytes (fed ++ piece) lines e) (sym end)
+          (subst (λ (l : List ℕ). Reads c.finish.new.self s o.strict o.bytes (fed ++ l) lines true) (sym (nothing_is piece end))
+          (subst (λ (l : List ℕ). Reads c.finish.new.self s o.strict o.bytes l lines true) (sym (append-nil fed)) (c.finish.ensures.reads s o.strict o.bytes fed lines kept.reads)));
       lines_are = refl;
     }
 
@@ -27,6 +27,6 @@ returns-in_ok-feed-clause-fed c = λ fed kept.
     let o = c.args.options in
     let lines = c.args.self.now.lines.items in
     record {
-      reads = subst (λ (e : Bool). Reads c.feed.new.self s o.bytes (fed ++ piece) lines e) (sym some) (c.in_ok-feed.ensures.reads s o.bytes fed lines kept.reads);
+      reads = subst (λ (e : Bool). Reads c.feed.new.self s o.strict o.bytes (fed ++ piece) lines e) (sym some) (c.in_ok-feed.ensures.reads s o.strict o.bytes fed lines kept.reads);
       lines_are = refl;
     }

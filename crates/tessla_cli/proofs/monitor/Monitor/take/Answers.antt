@@ -11,7 +11,7 @@ returns-in-Ok-clause-takes c = λ fed kept.
     let ended = is_nothing c.args.piece.now in
     let f = c.in_ok-feed.ensures.fed fed kept in
     let given = c.args.self.now.lines.items in
-    takes_all s o _ bytes ended given _ f.lines_are c.in-Ok.field-0 (c.in-Ok.ensures.gathers s o.bytes bytes given ended f.reads) c.in-Ok.ensures.more
+    takes_all s o _ bytes ended given _ f.lines_are c.in-Ok.field-0 (c.in-Ok.ensures.gathers s o.strict o.bytes bytes given ended f.reads) c.in-Ok.ensures.more
 
 pub returns-in_ok-refusal-in-Err-clause-takes : goal.returns-in_ok-refusal-in-Err-clause-takes
 returns-in_ok-refusal-in-Err-clause-takes c = λ fed kept.
@@ -22,4 +22,4 @@ returns-in_ok-refusal-in-Err-clause-takes c = λ fed kept.
     let f = c.in_ok-feed.ensures.fed fed kept in
     let given = c.args.self.now.lines.items in
     takes_refused s o _ bytes ended given _ f.lines_are c.in_ok-refusal-in-Err.field-0 c.in-Err.fault c.in_ok-refusal-in-Err.ensures.same c.in_ok-refusal-in-Err.ensures.refused
-    (c.in-Err.ensures.gathers s o.bytes bytes given ended f.reads)
+    (c.in-Err.ensures.gathers s o.strict o.bytes bytes given ended f.reads)
