@@ -1,0 +1,71 @@
+// The lines of events.
+
+ghost use Rattle.std.specs.Prelude.{◌≡◌, ◌++◌, codes, length, take, OnOk, OnErr};
+ghost use Rattle.std.specs.Fmt.{decimal};
+ghost use Rattle.lift_func.specs.Cells.{held};
+ghost use Rattle.flat_core.specs.Text.{event_line};
+ghost use Rattle.event_writer.specs.Text.{IsPrintable};
+
+use lift_func::reader::Reader;
+use lift_func::register::Register;
+use tsl_value::bytes::Bytes;
+use tsl_value::memory::NoMemory;
+use tsl_value::print::{print_number, print_scalar};
+use tsl_value::text::Text;
+use tsl_value::time::Time;
+
+/// Appends the output line of an event, `TIME: NAME = VALUE` and its end, or leaves `out` as it was.
+///
+/// Unit is printed as `()`, an Int in decimal, a Bool as `true` or `false`, and a text between quotes with its
+/// escapes. The reader prints sets and maps, as `Set(1, 2)` and `Map(1 -> 2, 3 -> 4)` with their keys in order.
+pub fn write_event<R: Reader>(
+    time: Time,
+    name: &Text,
+    value: &Register,
+    reader: &R,
+    out: &mut Bytes,
+) -> Result<(), NoMemory>
+    requires { IsPrintable (R.cells reader.now) value.now }
+    ensures ok { OnOk result (out.new ≡ out.old ++ event_line time name.now (held (R.cells reader.now) value.now)) }
+    ensures err { OnErr result (out.new ≡ out.old) }
+{
+    let before = out.len();
+    match append_event(time, name, value, reader, out) {
+        Ok(()) => Ok(()),
+        Err(none) => {
+            out.truncate(before);
+            Err(none)
+        }
+    }
+}
+
+fn append_event<R: Reader>(
+    time: Time,
+    name: &Text,
+    value: &Register,
+    reader: &R,
+    out: &mut Bytes,
+) -> Result<(), NoMemory>
+    requires { IsPrintable (R.cells reader.now) value.now }
+    ensures ok { OnOk result (out.new ≡ out.old ++ event_line time name.now (held (R.cells reader.now) value.now)) }
+    ensures err { OnErr result (take (length out.old) out.new ≡ out.old) }
+{
+    append_head(time, name, out)?;
+    match value {
+        Register::Empty => unreachable!(),
+        Register::Scalar(scalar) => print_scalar(scalar, out)?,
+        Register::Aggregate(cell) => reader.print(*cell, out)?,
+    }
+    out.push(b'\n')
+}
+
+/// Appends what stands before the value.
+fn append_head(time: Time, name: &Text, out: &mut Bytes) -> Result<(), NoMemory>
+    ensures ok { OnOk result (out.new ≡ out.old ++ (decimal time ++ (codes ": " ++ (name.now ++ codes " = ")))) }
+    ensures err { OnErr result (take (length out.old) out.new ≡ out.old) }
+{
+    print_number(time.get(), out)?;
+    out.append(b": ")?;
+    out.append(name.as_str().as_bytes())?;
+    out.append(b" = ")
+}
