@@ -16,6 +16,8 @@ mod tell;
 #[cfg(test)]
 mod tests;
 mod top;
+#[cfg(test)]
+mod trace_tests;
 mod turn;
 mod watch;
 mod words;

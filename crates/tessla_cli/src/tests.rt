@@ -31,20 +31,30 @@ fn words(alloc: Global, list: &[&str]) -> Result<Words, NoMemory> {
     Ok(words)
 }
 
-fn files(alloc: Global, spec: &str, trace: &str) -> Result<Files, NoMemory> {
-    let mut files = Files::new(alloc);
-    files.push(NamedFile {
-        name: Text::from_str(alloc, "s.tsl")?,
-        bytes: Bytes::from_slice(alloc, spec.as_bytes())?,
-    })?;
-    files.push(NamedFile {
-        name: Text::from_str(alloc, "-")?,
-        bytes: Bytes::from_slice(alloc, trace.as_bytes())?,
-    })?;
-    Ok(files)
+fn file(alloc: Global, name: &str, bytes: &[u8]) -> Result<NamedFile, NoMemory> {
+    Ok(NamedFile {
+        name: Text::from_str(alloc, name)?,
+        bytes: Bytes::from_slice(alloc, bytes)?,
+    })
 }
 
-/// The calls with the numbers in `fails` fail.
+/// A run with these words over a specification `s.tsl` and a trace of this name.
+pub(crate) fn run_files(
+    alloc: Global,
+    list: &[&str],
+    spec: &str,
+    name: &str,
+    trace: &[u8],
+) -> Result<Left, NoMemory> {
+    let mut files = Files::new(alloc);
+    files.push(file(alloc, "s.tsl", spec.as_bytes())?)?;
+    files.push(file(alloc, name, trace)?)?;
+    let mut world = MemoryWorld::new(alloc, files, 64, Calls::new(alloc))?;
+    let status = tessla(alloc, &words(alloc, list)?, &mut world);
+    Ok(Left { status, world })
+}
+
+/// A run whose trace is the standard input, in pieces of this size. The calls with the numbers in `fails` fail.
 pub(crate) fn run(
     alloc: Global,
     list: &[&str],
@@ -59,7 +69,10 @@ pub(crate) fn run(
     for call in fails {
         calls.push(*call)?;
     }
-    let mut world = MemoryWorld::new(alloc, files(alloc, spec, trace)?, piece, calls)?;
+    let mut files = Files::new(alloc);
+    files.push(file(alloc, "s.tsl", spec.as_bytes())?)?;
+    files.push(file(alloc, "-", trace.as_bytes())?)?;
+    let mut world = MemoryWorld::new(alloc, files, piece, calls)?;
     let status = tessla(alloc, &words(alloc, list)?, &mut world);
     Ok(Left { status, world })
 }
@@ -150,42 +163,6 @@ fn an_operand_of_the_wrong_type(rt: HostRuntime) -> Result<(), Fail> {
     assert_eq!(rt;
         (left.status, left.world.out(), left.world.err()),
         (3, b"".as_slice(), err)
-    );
-    assert!(rt; left.world.is_told());
-    Ok(())
-}
-
-#[test]
-fn time_goes_back(rt: HostRuntime) -> Result<(), Fail> {
-    let left = run(
-        rt.alloc(),
-        &["run", "s.tsl"],
-        PREVIOUS,
-        "5: i = 1\n4: i = 1\n",
-        64,
-        &[],
-    )?;
-    assert_eq!(rt;
-        (left.status, left.world.out(), left.world.err()),
-        (4, b"".as_slice(), b"trace 2: time 4 after 5\n".as_slice())
-    );
-    assert!(rt; left.world.is_told());
-    Ok(())
-}
-
-#[test]
-fn a_line_without_a_colon(rt: HostRuntime) -> Result<(), Fail> {
-    let left = run(
-        rt.alloc(),
-        &["run", "s.tsl"],
-        PREVIOUS,
-        "1 i = 4\n",
-        64,
-        &[],
-    )?;
-    assert_eq!(rt;
-        (left.status, left.world.out(), left.world.err()),
-        (4, b"".as_slice(), b"trace 1: not a trace line\n".as_slice())
     );
     assert!(rt; left.world.is_told());
     Ok(())
