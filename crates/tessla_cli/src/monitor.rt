@@ -171,11 +171,7 @@ impl<'f> Monitor<'f> {
         ensures ending { IfOk result (λ turn. (end : End) × EndsSo flat.now self.now.lines.items (bound_of self.now.lines.items options.until (has_ended && is_none refused)) options.instants end
             × (turn.ending ≡ ending_by flat.now end has_ended refused options.instants)) }
     {
-        let bound = bound_of(
-            &self.lines,
-            options.until,
-            has_ended && refused.is_none(),
-        );
+        let bound = bound_of(&self.lines, options.until, has_ended && refused.is_none());
         let solved = solve(alloc, flat, order, &self.lines, bound, options.instants)?;
         let text = print_due(alloc, flat, &solved)?;
         Ok(Turn {

@@ -124,14 +124,7 @@ fn run_spec<W: World>(
 {
     world.open(Slot::Spec, name)?;
     let source = read_source(alloc, world, buf)?;
-    Ok(run_source(
-        alloc,
-        world,
-        source.as_slice(),
-        trace,
-        options,
-        buf,
-    )?)
+    Ok(run_source(alloc, world, source.as_slice(), trace, options, buf)?)
 }
 
 /// The same, with a buffer of its own.
@@ -173,13 +166,7 @@ pub fn run<W: World>(alloc: Global, words: &Words, world: &mut W) -> Result<Endi
                 bytes: asked.bytes,
                 strict: asked.strict,
             };
-            Ok(run_in_pieces(
-                alloc,
-                world,
-                asked.spec,
-                asked.trace,
-                options,
-            )?)
+            Ok(run_in_pieces(alloc, world, asked.spec, asked.trace, options)?)
         }
         None => Ok(Ending::Words),
     }

@@ -32,12 +32,18 @@ fn conclude<W: World>(alloc: Global, words: &Words, world: &mut W) -> u8
     }
 }
 
-/// The program, behind its words: `run SPEC` compiles the specification of that name, monitors the trace on the standard input
-/// under it, and writes the output events up to the first fault.
+/// The program, behind its words: `run SPEC TRACE` compiles the specification of the one name, monitors the trace of the other under
+/// it, and writes the output events up to the first fault. `-` names the standard input, and a TRACE that is left out is `-`.
+///
+/// `--until T` closes the times up to T at the end of the trace, `--instants N` is the limit of instants, from 1 to 10^12, `--bytes B`
+/// that of the bytes of the trace, from 1 to 2^40, and with `--strict` a line is refused whose name is no input's. Each stands anywhere
+/// behind `run`, at most once, as `--name V` or `--name=V`.
 ///
 /// The answer is the status: 0 where all was done, 1 where a fault is closed, 2 where the words are not accepted, 3 where the
 /// specification is refused, 4 where a line of the trace is, 5 where a call of the outside failed, 6 where memory was wanting, and
-/// 7 where the limit of instants was passed. Each status but 0 is told by one line on the standard error.
+/// 7 where the limit of instants was passed. Words are not accepted, and nothing is opened, where the command is another, SPEC is left
+/// out, a third name stands, an option is unknown, stands twice or has no value, or a number is none or past its limits. Each
+/// status but 0 is told by one line on the standard error.
 ///
 /// The clauses speak of the part of the journal that this call adds, where the world is told at its exit.
 pub fn tessla<W: World>(alloc: Global, words: &Words, world: &mut W) -> u8

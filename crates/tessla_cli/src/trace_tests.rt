@@ -7,7 +7,8 @@ use tsl_value::bytes::Bytes;
 use tsl_value::memory::NoMemory;
 
 /// The number of the event before, by a set of all that came.
-const SEEN: &str = "in i: Events[Int]\ndef m := merge(y, Set.empty[Int])\ndef yl := last(m, i)\ndef y: Events[Set[Int]] := Set.add(yl, i)\ndef s := Set.contains(yl, i)\nout s\n";
+const SEEN: &str =
+    "in i: Events[Int]\ndef m := merge(y, Set.empty[Int])\ndef yl := last(m, i)\ndef y: Events[Set[Int]] := Set.add(yl, i)\ndef s := Set.contains(yl, i)\nout s\n";
 
 /// The run of a specification on a trace `t` ends with this status, output and message, and its world was told of each call.
 fn ends(
@@ -26,8 +27,7 @@ fn ends(
 
 #[test]
 fn a_named_trace_is_closed_up_to_a_time(rt: HostRuntime) -> Result<(), Fail> {
-    let spec =
-        "def p: Events[Unit] := delay(const(10, merge(unit, p)), unit)\nout p\n";
+    let spec = "def p: Events[Unit] := delay(const(10, merge(unit, p)), unit)\nout p\n";
     let words = &["run", "s.tsl", "t", "--until=25"];
     let end = (0, "10: p = ()\n20: p = ()\n", "");
     assert!(rt; ends(rt.alloc(), words, spec, b"", end)?);
@@ -77,9 +77,21 @@ fn marks(alloc: Global, count: u32) -> Result<Bytes, NoMemory> {
 fn refused_traces_are_told(rt: HostRuntime) -> Result<(), Fail> {
     let alloc = rt.alloc();
     assert!(rt; refuses(alloc, b"1 i = 5\n", "trace 1: not a trace line\n")?);
-    assert!(rt; refuses(alloc, b"9223372036854775808:\n", "trace 1: time too large\n")?);
+    assert!(rt;
+        refuses(
+            alloc,
+            b"9223372036854775808:\n",
+            "trace 1: time too large\n"
+        )?
+    );
     assert!(rt; refuses(alloc, b"5: i = 1\n4: i = 1\n", "trace 2: time 4 after 5\n")?);
-    assert!(rt; refuses(alloc, b"1: i = 5\n1: i = 6\n", "trace 2: i twice at one time\n")?);
+    assert!(rt;
+        refuses(
+            alloc,
+            b"1: i = 5\n1: i = 6\n",
+            "trace 2: i twice at one time\n"
+        )?
+    );
     assert!(rt; refuses(alloc, b"1: i = x\n", "trace 1: wrong value for i\n")?);
     let long = marks(alloc, 65_537)?;
     assert!(rt; refuses(alloc, long.as_slice(), "trace 1: line too long\n")?);
@@ -90,7 +102,15 @@ fn refused_traces_are_told(rt: HostRuntime) -> Result<(), Fail> {
 fn a_trace_has_as_many_bytes_as_it_may(rt: HostRuntime) -> Result<(), Fail> {
     let alloc = rt.alloc();
     let words = &["run", "s.tsl", "t", "--bytes", "12"];
-    assert!(rt; ends(alloc, words, SEEN, b"1: i = 5\n2:\n", (0, "1: s = false\n", ""))?);
+    assert!(rt;
+        ends(
+            alloc,
+            words,
+            SEEN,
+            b"1: i = 5\n2:\n",
+            (0, "1: s = false\n", "")
+        )?
+    );
     let end = (4, "", "trace 2: trace too long\n");
     assert!(rt; ends(alloc, words, SEEN, b"1: i = 5\n2: i = 7\n", end)?);
     Ok(())
