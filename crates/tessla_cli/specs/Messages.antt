@@ -30,13 +30,20 @@ line_text line cause = decimal line ++ (codes ": " ++ cause)
 abbrev pub back_text : ℕ → ℕ → List ℕ
 back_text before now = decimal now ++ (codes " after " ++ decimal before)
 
+-- the input whose value is wrong, and one that has an event already
+abbrev pub wrong_text : ℕ → List ℕ → List ℕ
+wrong_text line name = line_text line (codes "wrong value for " ++ name)
+
+abbrev pub twice_text : ℕ → List ℕ → List ℕ
+twice_text line name = line_text line (name ++ codes " twice at one time")
+
 abbrev pub trace_text : TraceFault → List ℕ
 trace_text (trace.BadLine line) = line_text line (codes "not a trace line")
 trace_text (trace.TimeTooLarge line) = line_text line (codes "time too large")
 trace_text (trace.TimeBack line before now) = line_text line (codes "time " ++ back_text before now)
 trace_text (trace.UnknownStream line) = line_text line (codes "unknown stream")
-trace_text (trace.WrongValue line name) = line_text line (codes "wrong value for " ++ name)
-trace_text (trace.Twice line name) = line_text line (name ++ codes " twice at one time")
+trace_text (trace.WrongValue line name) = wrong_text line name
+trace_text (trace.Twice line name) = twice_text line name
 trace_text (trace.LineTooLong line) = line_text line (codes "line too long")
 trace_text (trace.TraceTooLong line) = line_text line (codes "trace too long")
 trace_text trace.Memory = []

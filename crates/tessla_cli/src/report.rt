@@ -1,7 +1,7 @@
 // What is told on the standard error.
 
 ghost use Rattle.std.specs.Prelude.{◌≡◌, ◌++◌, IfOk, OnOk};
-ghost use Rattle.tessla_cli.specs.Messages.{at_text, back_text, broken_line, broken_status, clash_text, cycle_text, ending_line, flat_text, lex_text, limit_text, line_text, members_text, next_text, parse_text, spec_text, status_of, trace_text, types_text};
+ghost use Rattle.tessla_cli.specs.Messages.{at_text, back_text, broken_line, broken_status, clash_text, cycle_text, ending_line, flat_text, lex_text, limit_text, line_text, members_text, next_text, parse_text, spec_text, status_of, trace_text, twice_text, types_text, wrong_text};
 
 use crate::ending::{Broken, Ending};
 use event_writer::fault::write_fault;
@@ -38,6 +38,22 @@ fn print_back(before: Time, now: Time, out: &mut Bytes) -> Result<(), NoMemory>
     print_number(before.get(), out)
 }
 
+/// Appends that a line has a wrong value for an input.
+fn print_wrong(line: u64, name: &Text, out: &mut Bytes) -> Result<(), NoMemory>
+    ensures { OnOk result (out.new ≡ out.old ++ wrong_text line name.now) }
+{
+    print_line(line, b"wrong value for ", out)?;
+    out.append(name.as_str().as_bytes())
+}
+
+/// Appends that a line has an event of an input that has one at this time already.
+fn print_twice(line: u64, name: &Text, out: &mut Bytes) -> Result<(), NoMemory>
+    ensures { OnOk result (out.new ≡ out.old ++ twice_text line name.now) }
+{
+    print_line(line, name.as_str().as_bytes(), out)?;
+    out.append(b" twice at one time")
+}
+
 /// Appends why a trace is refused, and in which line.
 fn print_trace(fault: &TraceFault, out: &mut Bytes) -> Result<(), NoMemory>
     ensures { OnOk result (out.new ≡ out.old ++ trace_text fault.now) }
@@ -50,14 +66,8 @@ fn print_trace(fault: &TraceFault, out: &mut Bytes) -> Result<(), NoMemory>
             print_back(*before, *now, out)
         }
         TraceFault::UnknownStream { line } => print_line(*line, b"unknown stream", out),
-        TraceFault::WrongValue { line, name } => {
-            print_line(*line, b"wrong value for ", out)?;
-            out.append(name.as_str().as_bytes())
-        }
-        TraceFault::Twice { line, name } => {
-            print_line(*line, name.as_str().as_bytes(), out)?;
-            out.append(b" twice at one time")
-        }
+        TraceFault::WrongValue { line, name } => print_wrong(*line, name, out),
+        TraceFault::Twice { line, name } => print_twice(*line, name, out),
         TraceFault::LineTooLong { line } => print_line(*line, b"line too long", out),
         TraceFault::TraceTooLong { line } => print_line(*line, b"trace too long", out),
         TraceFault::Memory => Ok(()),
