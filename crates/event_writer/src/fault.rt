@@ -32,12 +32,7 @@ pub fn write_fault(
     }
 }
 
-fn append_fault(
-    time: Time,
-    kind: FaultKind,
-    place: Place,
-    out: &mut Bytes,
-) -> Result<(), NoMemory>
+fn append_fault(time: Time, kind: FaultKind, place: Place, out: &mut Bytes) -> Result<(), NoMemory>
     ensures ok { OnOk result (out.new ≡ out.old ++ fault_line time kind place) }
     ensures err { OnErr result (take (length out.old) out.new ≡ out.old) }
 {

@@ -4,3 +4,5 @@
 pub mod event;
 pub mod fault;
 pub mod place;
+#[cfg(test)]
+mod tests;

@@ -13,6 +13,7 @@ use Rattle.lift_func.specs.Cells.{Cells, HoldsLive, IsAggregate, arguments, held
 use Rattle.lift_func.specs.Evaluable.{IsEvaluable}
 use Rattle.lift_func.specs.Tree.{Tree}
 use Rattle.lift_func.specs.Typing.{AllFit}
+use Rattle.event_writer.specs.Text.{IsPrintable}
 use Rattle.flat_core.proofs.Members.{all_true}
 use Rattle.plain_solver.specs.Lent.{aggregate_in, with_cell, cells_from, cells_of, register_of, registers_from, numbers_from, IsEvaluableAt}
 
@@ -79,6 +80,19 @@ module _ (values : List (Option View)) where
 
   lent_live : (n : ℕ) → HoldsLive (cells_of values) (get_or (registers_from 0 values) n register.Empty)
   lent_live n = subst (HoldsLive (cells_of values)) (sym (lent_register n)) (live_of (cells_of values) n (get_or values n None) (lent_cell values n))
+
+-- ---- a value by itself
+
+printable_of : (cells : Cells) (n : ℕ) (v : View) → HoldsLive cells (register_of n (Some v)) → IsPrintable cells (register_of n (Some v))
+printable_of cells n (Plain s) live = tt
+printable_of cells n (Keyed s) live = live.0
+printable_of cells n (Mapped m) live = live.0
+
+pub lent_printable : (v : View) → IsPrintable (cells_of (Some v ∷ [])) (register_of 0 (Some v))
+lent_printable v = printable_of (cells_of (Some v ∷ [])) 0 v (lent_live (Some v ∷ []) 0)
+
+pub lent_value : (v : View) → held (cells_of (Some v ∷ [])) (register_of 0 (Some v)) ≡ Some v
+lent_value v = lent_held (Some v ∷ []) 0
 
 -- ---- arguments
 

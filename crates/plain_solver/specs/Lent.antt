@@ -1,4 +1,4 @@
--- The cells and the registers of the arguments of one evaluation: the handle of an aggregate is its argument's number.
+-- The cells and the registers of values that are lent, as the arguments of one evaluation: the handle of an aggregate is its value's number.
 use Rattle.std.specs.Prelude.{ℕ, zero, suc, ◌≤◌, List, [], ◌∷◌, length, Option, Some, None}
 use Rattle.std.specs.FinMap as finite_map
 use Rattle.tsl_value.specs.View.{View, Plain}

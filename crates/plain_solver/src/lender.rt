@@ -1,4 +1,4 @@
-// The evaluation of bodies, which read the aggregates among their arguments.
+// Values lent to what reads registers, as the evaluation of bodies does.
 
 ghost use Rattle.std.specs.Prelude.{◌≡◌, ◌≤◌, None, length, slice_index_or, IfOk, map};
 ghost use Rattle.std.specs.FinMap as finite_map;
@@ -22,10 +22,10 @@ use tsl_value::memory::NoMemory;
 use tsl_value::print::print_scalar;
 use tsl_value::scalar::Scalar;
 
-/// Lends the arguments of one evaluation: a handle is the number of the argument that is its aggregate.
+/// Lends values to what reads registers: a handle is the number of the value that is its aggregate.
 #[derive(Drop)]
-struct Lender<'a> {
-    values: &'a [Option<Value>],
+pub(crate) struct Lender<'a> {
+    pub(crate) values: &'a [Option<Value>],
 }
 
 impl<'a> Lender<'a> {
@@ -72,8 +72,8 @@ impl<'a> Reader for Lender<'a> {
     }
 }
 
-/// The register of an argument of this number.
-fn register(value: &Option<Value>, number: usize) -> Result<Register, NoMemory>
+/// The register of a value of this number.
+pub(crate) fn register(value: &Option<Value>, number: usize) -> Result<Register, NoMemory>
     ensures { IfOk result (λ r. r ≡ register_of number value.now) }
 {
     match value {

@@ -1,6 +1,6 @@
 // The text of a run.
 
-ghost use Rattle.std.specs.Prelude.{◌≡◌, ◌++◌, Some, OnOk, IfOk};
+ghost use Rattle.std.specs.Prelude.{◌≡◌, ◌++◌, Some, OnOk, OnErr, IfOk};
 ghost use Rattle.std.specs.List.{flat_map};
 ghost use Rattle.flat_core.specs.Stream.{event};
 ghost use Rattle.flat_core.specs.Text.{event_line, text_at};
@@ -8,27 +8,26 @@ ghost use Rattle.plain_solver.specs.Shape.{streams_of};
 ghost use Rattle.plain_solver.specs.Ending.{IsDueText};
 
 use crate::events::Events;
+use crate::lender::{Lender, register};
 use crate::solve::Solved;
 use crate::value::Value;
+use event_writer::event::write_event;
 use flat_core::equation::Output;
 use flat_core::flat::Flat;
 use std::alloc::Global;
 use tsl_value::bytes::Bytes;
 use tsl_value::memory::NoMemory;
-use tsl_value::print::print_number;
 use tsl_value::text::Text;
 use tsl_value::time::Time;
 
-/// Appends the line of an event.
+/// Appends the line of an event, or leaves `out` as it was.
 fn append_line(time: Time, name: &Text, value: &Value, out: &mut Bytes) -> Result<(), NoMemory>
-    ensures { OnOk result (out.new ≡ out.old ++ event_line time name.now (Some value.now)) }
+    ensures ok { OnOk result (out.new ≡ out.old ++ event_line time name.now (Some value.now)) }
+    ensures err { OnErr result (out.new ≡ out.old) }
 {
-    print_number(time.get(), out)?;
-    out.append(b": ")?;
-    out.append(name.as_str().as_bytes())?;
-    out.append(b" = ")?;
-    value.print(out)?;
-    out.push(b'\n')
+    let values = [Some(value.copy()?)];
+    let register = register(&values[0], 0)?;
+    write_event(time, name, &register, &Lender { values: &values }, out)
 }
 
 /// Appends the line of an output at a time, where it has an event.

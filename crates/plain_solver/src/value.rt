@@ -1,21 +1,17 @@
 // Values: scalars, and aggregates.
 
-ghost use Rattle.std.specs.Prelude.{◌≡◌, ◌++◌, Some, IfOk, OnOk};
+ghost use Rattle.std.specs.Prelude.{◌≡◌, Some, IfOk};
 ghost use Rattle.std.specs.Option.{option_copied, option_map};
-ghost use Rattle.tsl_value.specs.Print.{view_text};
 ghost use Rattle.tsl_value.specs.View.{Plain};
 ghost use Rattle.aggregate_store.specs.CellView as cell_view;
 ghost use Rattle.plain_solver.specs.Lent.{aggregate_in};
 ghost use Rattle.plain_solver.specs.ValueView.{view_of};
 
 use aggregate_store::cell::Cell;
-use aggregate_store::print::print_cell;
 use std::alloc::Global;
 use std::marker::Model;
 use std::rc::Rc;
-use tsl_value::bytes::Bytes;
 use tsl_value::memory::NoMemory;
-use tsl_value::print::print_scalar;
 use tsl_value::scalar::Scalar;
 
 /// A scalar, or a set or a map, which contracts see as its view. Copies of an aggregate share its cell.
@@ -87,16 +83,6 @@ impl Value {
             Held::Aggregate(cell) => Ok(Value {
                 held: Held::Aggregate(cell.clone()?),
             }),
-        }
-    }
-
-    /// Appends its text.
-    pub(crate) fn print(&self, out: &mut Bytes) -> Result<(), NoMemory>
-        ensures { OnOk result (out.new ≡ out.old ++ view_text self.now) }
-    {
-        match &self.held {
-            Held::Scalar(scalar) => print_scalar(scalar, out),
-            Held::Aggregate(cell) => print_cell(cell, out),
         }
     }
 }
