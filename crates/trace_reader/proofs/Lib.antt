@@ -10,7 +10,6 @@ pub mod SpellingLemmas
 pub mod SplitLemmas
 pub mod TimeLemmas
 pub mod PlaceLemmas
-pub mod HistoryLemmas
 pub mod UnreadLemmas
 pub mod GatherLemmas
 pub mod GatherAll
