@@ -5,8 +5,7 @@ pub mod StandLemmas
 pub mod StepLemmas
 pub mod LawLemmas
 pub mod LineLemmas
-pub mod NumberLemmas
-pub mod SpellingLemmas
+pub mod SeenLemmas
 pub mod SplitLemmas
 pub mod TimeLemmas
 pub mod PlaceLemmas
