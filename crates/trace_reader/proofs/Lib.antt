@@ -1,6 +1,8 @@
 mod Examples
 pub mod JudgedLemmas
 pub mod CutLemmas
+pub mod TrimLemmas
+pub mod NameLemmas
 pub mod StandLemmas
 pub mod StepLemmas
 pub mod LawLemmas

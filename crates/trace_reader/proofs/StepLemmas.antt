@@ -1,7 +1,7 @@
 -- What an answer says of the trace, and what the reader stands for behind it.
-use Rattle.std.proofs.Common.{◌≡◌, ◌≤◌, ℕ, zero, suc, ◌+◌, Bool, true, false, ◌&&◌, List, [], ◌∷◌, ◌++◌, length, take, drop, Option, Some, None, Result, Ok, Err, refl, sym, ap, subst, ◌∙◌, arith, append_assoc, length-append, add-zero}
+use Rattle.std.proofs.Common.{◌≡◌, ◌≤◌, ◌<◌, ℕ, zero, suc, ◌+◌, ◌-◌, min, Bool, true, false, ◌&&◌, List, [], ◌∷◌, ◌++◌, length, take, drop, Option, Some, None, Result, Ok, Err, refl, sym, ap, subst, ◌∙◌, arith, append_assoc, length-append, length-drop, add-zero}
 use Rattle.std.proofs.lemmas.List.{append-nil}
-use Rattle.std.specs.Prelude.{if◌then◌else◌, is_none, option_to_list, slice_get}
+use Rattle.std.specs.Prelude.{if◌then◌else◌, is_none, is_some, not, option_to_list, slice_get}
 use Rattle.std.specs.Option.{option_or}
 use Rattle.flat_core.specs.System.{System}
 use Rattle.flat_core.specs.Line.{Line, IsSorted, last_time}
@@ -11,12 +11,12 @@ use Rattle.trace_reader.specs.declared.next.Next.{Next}
 use Rattle.trace_reader.specs.declared.next.Next.TheVariants as next
 use Rattle.trace_reader.specs.Form.{content, is_long, says_nothing, split_once}
 use Rattle.trace_reader.specs.Reading.{Reading, alone, first_line, inputs_at, had_event, judged, judged_content, go_on, reading, read_on}
-use Rattle.trace_reader.specs.Reader.{Reader, HasLine, Passes, had_now, is_skipped, judged_at, last_counts, passed, past_line, seen_with, at_fault}
-use Rattle.trace_reader.specs.Reader.Passes.{none, more}
-use Rattle.trace_reader.specs.Reads.{Reads, MayCome, IsPastLine, after, behind_all, IsAllOf, SaysNext, lines_in, TakesLine, Rests}
+use Rattle.trace_reader.specs.Reader.{Reader, HasLine, Passes, StopsAtLine, had_now, is_skipped, judged_at, last_counts, passed, past_line, seen_with, at_fault}
+use Rattle.trace_reader.specs.Reads.{Reads, MayCome, IfLine, IsPastLine, after, behind_all, IsAllOf, SaysNext, lines_in, TakesLine, Rests}
 use Rattle.trace_reader.proofs.JudgedLemmas.{line_stands, never_memory}
 use Rattle.trace_reader.proofs.LineLemmas.{last_time-push, reading_sorted}
 use Rattle.trace_reader.proofs.SeenLemmas.{had_same, judged_same, seen_push}
+use Rattle.trace_reader.proofs.StandLemmas.{reads_end, reads_fed}
 use Rattle.trace_reader.proofs.CutLemmas.{split_by, split_once-append, read_by, read_on-first}
 
 -- a list of bytes that takes nothing
@@ -215,8 +215,8 @@ count_same r s strict limit fed given ended count is it = subst (λ (n : ℕ). R
 
 pub reads_passed : (old : Reader) (s : System) (strict : Bool) (limit : ℕ) (fed : List ℕ) (given : List Line) (ended : Bool) (count : ℕ) (rest : List ℕ) → Reads old s strict limit fed given ended →
     Passes (last_counts old) old.unread count rest → Reads (passed old count rest) s strict limit fed given ended
-reads_passed old s strict limit fed given ended _ _ reads none = count_same old s strict limit fed given ended (old.count + 0) (sym (add-zero old.count)) reads
-reads_passed old s strict limit fed given ended _ _ reads (more {count} {rest} len before has skips) =
+reads_passed old s strict limit fed given ended _ _ reads Passes.none = count_same old s strict limit fed given ended (old.count + 0) (sym (add-zero old.count)) reads
+reads_passed old s strict limit fed given ended _ _ reads (Passes.more {count} {rest} len before has skips) =
     let it = reads_passed old s strict limit fed given ended count rest reads before in
     let sum : old.count + count + 1 ≡ old.count + (count + 1) = omega arith in
     count_same (passed (passed old count rest) 1 (drop (len + 1) rest)) s strict limit fed given ended (old.count + (count + 1)) sum
@@ -266,8 +266,8 @@ module _ (old : Reader) (s : System) (strict : Bool) (limit : ℕ) (fed : List �
 
   pub rests : (new : Reader) (result : Result Next TraceFault) → first_line old.unread (last_counts old) ≡ None → Rests old new result → Answered new result
   rests new (Ok (next.Line l)) none rest = absurd rest
-  rests new (Ok next.More) none rest = ((all_of none rest.0, sym reads.ended_is ∙ rest.1.1.0), same new rest.1.1.1)
-  rests new (Ok next.End) none rest = ((all_of none rest.0, sym reads.ended_is ∙ rest.1.0), same new rest.1.1)
+  rests new (Ok next.More) none rest = ((all_of none rest.0, sym reads.ended_is ∙ rest.2), same new rest.3)
+  rests new (Ok next.End) none rest = ((all_of none rest.0, sym reads.ended_is ∙ rest.1), same new rest.2)
   rests new (Err fault.Memory) none rest = (tt, same new rest)
   rests new (Err (fault.BadLine n)) none rest = refused_behind new (fault.BadLine n) none rest.0 rest.1
   rests new (Err (fault.TimeTooLarge n)) none rest = refused_behind new (fault.TimeTooLarge n) none rest.0 rest.1
@@ -293,3 +293,55 @@ refuses_line old new len fault.Memory judged kept = absurd (never_memory old.sys
 pub none_from : {A : Type 0} (o : Option A) → ((x : A) → o ≡ Some x → ⊥) → o ≡ None
 none_from None not = refl
 none_from (Some x) not = absurd (not x refl)
+
+-- A piece, and the end, with the skipped lines that stand at the front then.
+pub reads_fed_on : (r : Reader) (s : System) (strict : Bool) (limit : ℕ) (fed : List ℕ) (given : List Line) (piece unread : List ℕ) (fits : ℕ) (beyond : Option ℕ) (count : ℕ) (rest : List ℕ) →
+    r.refused ≡ None → r.ended ≡ false → r.beyond ≡ None → fits ≡ min (length piece) r.left → unread ≡ r.unread ++ take fits piece → beyond ≡ slice_get piece fits → Passes false unread count rest →
+    Reads r s strict limit fed given false → Reads (record r { left = r.left - fits; unread = rest; beyond = beyond; count = r.count + count }) s strict limit (fed ++ piece) given false
+reads_fed_on r s strict limit fed given piece unread fits beyond count rest accepted unended within least is next passes reads =
+    reads_passed (record r { left = r.left - fits; unread = unread; beyond = beyond }) s strict limit (fed ++ piece) given false count rest
+    (reads_fed r s strict limit fed given piece unread fits beyond accepted within least is next reads)
+    (subst (λ (e : Bool). Passes (e && is_none beyond) unread count rest) (sym unended) passes)
+
+pub reads_end_on : (r : Reader) (s : System) (strict : Bool) (limit : ℕ) (fed : List ℕ) (given : List Line) (count : ℕ) (rest : List ℕ) → Passes (is_none r.beyond) r.unread count rest →
+    Reads r s strict limit fed given false → Reads (record r { ended = true; unread = rest; count = r.count + count }) s strict limit fed given true
+reads_end_on r s strict limit fed given count rest passes reads =
+    reads_passed (record r { ended = true }) s strict limit fed given true count rest (reads_end r s strict limit fed given reads) passes
+
+-- said again, the end changes nothing
+pub reads_ended : (r : Reader) (s : System) (strict : Bool) (limit : ℕ) (fed : List ℕ) (given : List Line) → r.ended ≡ true → Reads r s strict limit fed given false → Reads r s strict limit fed given true
+reads_ended r s strict limit fed given is reads = let same = sym reads.ended_is ∙ is in absurd (cc)
+
+-- what the code tells of the byte beyond
+pub none_told : (o : Option ℕ) (told : Bool) → is_some o ≡ not told → told ≡ is_none o
+none_told None true is = refl
+none_told None false is = absurd (cc)
+none_told (Some b) true is = absurd (cc)
+none_told (Some b) false is = refl
+
+-- before the end bytes behind the last line's end are no line, whatever is beyond the limit
+pub unended_stops : (bytes : List ℕ) (ended : Bool) (beyond : Option ℕ) → ended ≡ false → StopsAtLine bytes false → StopsAtLine bytes (ended && is_none beyond)
+unended_stops bytes ended beyond is stops = subst (λ (e : Bool). StopsAtLine bytes (e && is_none beyond)) (sym is) stops
+
+-- the line that was taken is behind the reader, and so are skipped lines that follow it
+pub past_is : (old : Reader) (len skipped : ℕ) (l : Line) (rest seen : List ℕ) → seen ≡ seen_with old.last old.seen l → Passes (last_counts old) (drop (len + 1) old.unread) skipped rest →
+    IsPastLine old (record old { unread = rest; count = old.count + 1 + skipped; last = l.time; seen = seen }) len l
+past_is old len skipped l rest seen is passes =
+    record { skipped = skipped; rest = rest; passes = passes; is = λ k. record old { unread = rest; count = old.count + 1 + skipped; last = l.time; seen = is k } }
+
+-- a line that was taken is not kept
+passes_fewer : (ended : Bool) (bytes : List ℕ) (count : ℕ) (rest : List ℕ) → Passes ended bytes count rest → length rest ≤ length bytes
+passes_fewer ended bytes _ _ Passes.none = omega arith
+passes_fewer ended bytes _ _ (Passes.more {count} {rest} len before has skips) =
+    let le = passes_fewer ended bytes count rest before in
+    omega (arith, length-drop (len + 1) rest)
+
+pub line_fewer : (old new : Reader) (len : ℕ) (result : Result Next TraceFault) → 0 < length old.unread → TakesLine old new len result → IfLine result (length new.unread < length old.unread)
+line_fewer old new len (Ok (next.Line l)) some takes =
+    let past = takes.1 in
+    let le = passes_fewer (last_counts old) (drop (len + 1) old.unread) past.skipped past.rest past.passes in
+    let lt : length past.rest < length old.unread = omega (arith, length-drop (len + 1) old.unread) in
+    subst (λ (r : Reader). length r.unread < length old.unread) (sym past.is) lt
+line_fewer old new len (Ok next.More) some takes = tt
+line_fewer old new len (Ok next.End) some takes = tt
+line_fewer old new len (Err f) some takes = tt

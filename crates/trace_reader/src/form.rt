@@ -7,7 +7,7 @@ ghost use Rattle.std.specs.Option.{SomeIff};
 ghost use Rattle.std.specs.Str.Parse.{digits_value};
 ghost use Rattle.tsl_value.specs.Literal.{are_digits};
 ghost use Rattle.trace_reader.specs.Borrowed.{bytes_of};
-ghost use Rattle.trace_reader.specs.Form.{behind_time, called, content, is_blank, parts_of, says_nothing, split_once, time_of, timed, valued, without_end, without_front};
+ghost use Rattle.trace_reader.specs.Form.{behind_time, called, content, is_blank, is_end_blank, parts_of, says_nothing, split_once, time_of, timed, valued, without_end, without_front};
 
 use crate::name::name_of;
 use std::str;
@@ -54,21 +54,46 @@ fn without_blanks_behind(bytes: &[u8]) -> &[u8]
     ensures { result.now ≡ without_end is_blank bytes.now }
 {
     let mut rest = bytes;
-    while let [others @ .., b' ' | b'\t'] = rest {
+    while let Some((last, others)) = rest.split_last() {
+        if !is_blank(*last) {
+            return rest;
+        }
         rest = others;
     }
     rest
 }
 
-/// A line without the blanks around it. CR is a blank at a line's end alone.
+/// A line without the blanks at its end, of which CR is one.
+fn without_end_blanks(line: &[u8]) -> &[u8]
+    ensures { result.now ≡ without_end is_end_blank line.now }
+{
+    let mut rest = line;
+    while let Some((last, others)) = rest.split_last() {
+        if !is_end_blank(*last) {
+            return rest;
+        }
+        rest = others;
+    }
+    rest
+}
+
+fn is_blank(byte: u8) -> bool
+    ensures { result ≡ is_blank byte }
+{
+    byte == b' ' || byte == b'\t'
+}
+
+fn is_end_blank(byte: u8) -> bool
+    ensures { result ≡ is_end_blank byte }
+{
+    is_blank(byte) || byte == b'\r'
+}
+
+/// A line without the blanks around it.
 pub(crate) fn content(line: &[u8]) -> &[u8]
     ensures { result.now ≡ content line.now }
 {
-    let mut rest = line;
-    while let [others @ .., b' ' | b'\t' | b'\r'] = rest {
-        rest = others;
-    }
-    without_blanks_before(rest)
+    without_blanks_before(without_end_blanks(line))
 }
 
 /// Whether a line's content is empty or a comment.

@@ -1,12 +1,12 @@
 // What a line says, and whether it may stand where it does.
 
-ghost use Rattle.std.specs.Prelude.{◌≡◌, IfOk, length, option_map, false};
+ghost use Rattle.std.specs.Prelude.{◌≡◌, ◌<◌, IfOk, IsTrue, Some, length, option_map, false};
 ghost use Rattle.std.specs.Result.{result_ok};
-ghost use Rattle.tsl_value.specs.Literal.{literal};
+ghost use Rattle.tsl_value.specs.Literal.{are_digits, literal};
 ghost use Rattle.trace_reader.specs.Borrowed.{bytes_of};
 ghost use Rattle.trace_reader.specs.Form.{is_long};
 ghost use Rattle.trace_reader.specs.Reader.{had_now, is_skipped};
-ghost use Rattle.trace_reader.specs.Reading.{addressed, as_read, formed, input_called, is_input_called, judged, placed, said, said_at, value_of};
+ghost use Rattle.trace_reader.specs.Reading.{addressed, as_read, formed, input_called, is_input_called, judged, placed, said, value_at, value_of};
 
 use crate::fault::TraceFault;
 use crate::form::{Parts, content, parts_of, says_nothing, time_of};

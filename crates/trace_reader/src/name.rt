@@ -1,7 +1,10 @@
 // Names, as in specifications.
 
 ghost use Rattle.std.specs.Prelude.{◌≡◌, Some, None, if◌then◌else◌, option_map, chars, is_some};
+ghost use Rattle.std.specs.List.{list_all};
+ghost use Rattle.unicode_ident.specs.Ident.{is_xid_continue};
 ghost use Rattle.spec_lexer.specs.Found.{word_of};
+ghost use Rattle.spec_lexer.specs.Spelling.{begins_name};
 ghost use Rattle.trace_reader.specs.Form.{are_name_characters, is_name};
 
 use std::str;
@@ -21,14 +24,23 @@ pub(crate) fn name_of(bytes: &[u8]) -> Option<&str>
 fn are_name_characters(name: &str) -> bool
     ensures { result ≡ are_name_characters (chars name.now) }
 {
-    let mut characters = name.chars();
-    match characters.next() {
-        Some(first) => {
-            (unicode_ident::is_xid_start(first) || first == '_')
-                && characters.all(unicode_ident::is_xid_continue)
-        }
+    let mut rest = name.chars();
+    match rest.next() {
+        Some(first) => begins_name(first) && all_go_on(rest.as_str()),
         None => false,
     }
+}
+
+fn begins_name(character: char) -> bool
+    ensures { result ≡ begins_name character }
+{
+    unicode_ident::is_xid_start(character) || character == '_'
+}
+
+fn all_go_on(text: &str) -> bool
+    ensures { result ≡ list_all is_xid_continue (chars text.now) }
+{
+    text.chars().all(unicode_ident::is_xid_continue)
 }
 
 /// Whether a word of the language is spelled so.

@@ -1,6 +1,6 @@
 // The reader of a trace.
 
-ghost use Rattle.std.specs.Prelude.{◌≡◌, ◌≤◌, ◌<◌, ◌^◌, [], ◌∷◌, ◌++◌, ℕ, Bool, List, None, false, true, length, IfOk, OnOk, OnErr, vec_capacity, vec_len};
+ghost use Rattle.std.specs.Prelude.{◌≡◌, ◌≤◌, ◌<◌, ◌^◌, [], ◌∷◌, ◌++◌, ℕ, Bool, List, None, false, true, length, slice_get, IfOk, OnOk, OnErr, vec_capacity, vec_len};
 
 use crate::fault::TraceFault;
 use crate::line::{Judge, is_long};
@@ -56,7 +56,7 @@ impl<'f> Model for TraceReader<'f> {
 impl<'f> TraceReader<'f> {
     ghost use Rattle.flat_core.specs.System.{System};
     ghost use Rattle.flat_core.specs.Line.{Line};
-    ghost use Rattle.trace_reader.specs.Reader.{AwaitsMore, HasLine, last_counts};
+    ghost use Rattle.trace_reader.specs.Reader.{AwaitsMore, HasLine, at_fault, last_counts};
     ghost use Rattle.trace_reader.specs.Reading.{first_line, reading};
     ghost use Rattle.trace_reader.specs.Reads.{AnswersAgain, Gathers, IfLine, IfMore, IfRestMore, Reads, Rests, SaysNext, TakesLine, behind_all, lines_in};
 
@@ -102,7 +102,7 @@ impl<'f> TraceReader<'f> {
         let len = piece.len() as u64;
         let fits = len.min(self.left);
         self.unread.append(&piece[..fits as usize])?;
-        self.beyond = piece.get(fits as usize).copied();
+        self.beyond = byte_at(piece, fits as usize);
         self.left -= fits;
         self.count += self.unread.pass_skipped(false);
         Ok(())
@@ -171,15 +171,25 @@ impl<'f> TraceReader<'f> {
             Ok(line) => {
                 note_event(&mut self.seen, self.last, &line)?;
                 self.unread.skip_line(len);
-                self.count += 1 + self.unread.pass_skipped(last_counts);
+                self.count += 1;
+                self.count += self.unread.pass_skipped(last_counts);
                 self.last = line.time;
                 Ok(Next::Line(line))
             }
             Err(fault) => {
-                self.refused = Some(fault.copy()?);
+                self.refuse(&fault)?;
                 Err(fault)
             }
         }
+    }
+
+    /// Keeps a fault, which every further call answers.
+    fn refuse(&mut self, fault: &TraceFault) -> Result<(), NoMemory>
+        ensures ok { OnOk result (self.new ≡ at_fault self.old fault.now) }
+        ensures err { OnErr result (self.new ≡ self.old) }
+    {
+        self.refused = Some(fault.copy()?);
+        Ok(())
     }
 
     /// What comes where no line stands.
@@ -189,7 +199,7 @@ impl<'f> TraceReader<'f> {
         ensures { Rests self.old self.new result }
     {
         if let Some(fault) = self.behind_all() {
-            self.refused = Some(fault.copy()?);
+            self.refuse(&fault)?;
             return Err(fault);
         }
         if self.ended {
@@ -231,6 +241,13 @@ impl<'f> TraceReader<'f> {
             }
         }
     }
+}
+
+/// The byte at a place.
+fn byte_at(bytes: &[u8], place: usize) -> Option<u8>
+    ensures { result ≡ slice_get bytes.now place }
+{
+    bytes.get(place).copied()
 }
 
 /// Appends a line, for which there is room.

@@ -1,6 +1,6 @@
 // The bytes of a stream that are not read yet.
 
-ghost use Rattle.std.specs.Prelude.{◌≡◌, ◌≤◌, ◌<◌, ◌+◌, ◌++◌, [], None, length, take, drop, OnOk, OnErr, IfSome, IfNone, IsTrue};
+ghost use Rattle.std.specs.Prelude.{◌≡◌, ◌≤◌, ◌<◌, ◌^◌, ◌+◌, ◌++◌, [], None, length, take, drop, OnOk, OnErr, IfSome, IfNone, IsTrue};
 ghost use Rattle.trace_reader.specs.Form.{split_once};
 ghost use Rattle.trace_reader.specs.Reader.{Passes, StopsAtLine};
 ghost use Rattle.trace_reader.specs.Reading.{first_line};
@@ -97,6 +97,7 @@ impl Unread {
 
     /// Takes the lines at the front that are empty or comments, and gives their number.
     pub(crate) fn pass_skipped(&mut self, ended: bool) -> u64
+        requires { length self.old ≤ 2 ^ 40 }
         ensures passes { Passes ended self.old result self.new }
         ensures stops { StopsAtLine self.new ended }
         ensures fewer { result + length self.new ≤ length self.old }
