@@ -13,29 +13,34 @@ use Rattle.trace_reader.specs.Reads.{Reads, Gathers, SaysRest}
 use Rattle.trace_reader.proofs.LawLemmas.{reading_refused}
 
 -- what is gathered behind all lines that were given
-pub all_say : (new : Reader) (s : System) (limit : ℕ) (fed : List ℕ) (ended : Bool) (before behind : List Line) (result : Result Rest TraceFault) → Gathers new s limit fed before ended before behind result → SaysRest (reading s limit fed ended) behind ended result
-all_say new s limit fed ended before behind result it = subst (λ (ls : List Line). SaysRest (reading s limit fed ended) ls ended result) (sym it.grew) it.says
+pub all_say : (new : Reader) (s : System) (strict : Bool) (limit : ℕ) (fed : List ℕ) (ended : Bool) (before behind : List Line) (result : Result Rest TraceFault) → Gathers new s strict limit fed before ended before behind result → SaysRest (reading s strict limit fed ended) behind ended result
+all_say new s strict limit fed ended before behind result it = subst (λ (ls : List Line). SaysRest (reading s strict limit fed ended) ls ended result) (sym it.grew) it.says
 
-pub all_read : (new : Reader) (s : System) (limit : ℕ) (fed : List ℕ) (ended : Bool) (before behind : List Line) (result : Result Rest TraceFault) → Gathers new s limit fed before ended before behind result → Reads new s limit fed behind ended
-all_read new s limit fed ended before behind result it = subst (λ (ls : List Line). Reads new s limit fed ls ended) (sym it.grew) it.reads
+pub all_read : (new : Reader) (s : System) (strict : Bool) (limit : ℕ) (fed : List ℕ) (ended : Bool) (before behind : List Line) (result : Result Rest TraceFault) → Gathers new s strict limit fed before ended before behind result → Reads new s strict limit fed behind ended
+all_read new s strict limit fed ended before behind result it = subst (λ (ls : List Line). Reads new s strict limit fed ls ended) (sym it.grew) it.reads
 
 -- a part of the trace was read, and its lines gathered
-pub record IsBetween (now : Reader) (s : System) (limit : ℕ) (trace rest : List ℕ) (lines : List Line) : Type 0 where
+pub record IsBetween (now : Reader) (s : System) (strict : Bool) (limit : ℕ) (trace rest : List ℕ) (lines : List Line) : Type 0 where
   pub fed : List ℕ
   pub is : trace ≡ fed ++ rest
-  pub reads : Reads now s limit fed lines false
+  pub reads : Reads now s strict limit fed lines false
 
 -- a refusal in a part of the trace is one of the whole
-refused_same : (s : System) (limit : ℕ) (trace fed rest : List ℕ) (lines : List Line) (f : TraceFault) → trace ≡ fed ++ rest → reading s limit fed false ≡ record { lines = lines; refused = Some f } →
-    reading s limit trace true ≡ record { lines = lines; refused = Some f }
-refused_same s limit trace fed rest lines f is refused =
-    ap (λ bytes. reading s limit bytes true) is ∙ reading_refused s limit fed rest true f (ap (λ (r : Reading). r.refused) refused) ∙ refused
+refused_same : (s : System) (strict : Bool) (limit : ℕ) (trace fed rest : List ℕ) (lines : List Line) (f : TraceFault) → trace ≡ fed ++ rest → reading s strict limit fed false ≡ record { lines = lines; refused = Some f } →
+    reading s strict limit trace true ≡ record { lines = lines; refused = Some f }
+refused_same s strict limit trace fed rest lines f is refused =
+    ap (λ bytes. reading s strict limit bytes true) is ∙ reading_refused s strict limit fed rest true f (ap (λ (r : Reading). r.refused) refused) ∙ refused
 
-pub refused_whole : (s : System) (limit : ℕ) (trace fed rest : List ℕ) (lines : List Line) (f : TraceFault) → trace ≡ fed ++ rest → SaysRest (reading s limit fed false) lines false (Err f) → SaysRest (reading s limit trace true) lines true (Err f)
-refused_whole s limit trace fed rest lines (fault.BadLine n) is says = refused_same s limit trace fed rest lines (fault.BadLine n) is says
-refused_whole s limit trace fed rest lines (fault.TimeBack n last at) is says = refused_same s limit trace fed rest lines (fault.TimeBack n last at) is says
-refused_whole s limit trace fed rest lines (fault.TraceTooLong n) is says = refused_same s limit trace fed rest lines (fault.TraceTooLong n) is says
-refused_whole s limit trace fed rest lines fault.Memory is says = tt
+pub refused_whole : (s : System) (strict : Bool) (limit : ℕ) (trace fed rest : List ℕ) (lines : List Line) (f : TraceFault) → trace ≡ fed ++ rest → SaysRest (reading s strict limit fed false) lines false (Err f) → SaysRest (reading s strict limit trace true) lines true (Err f)
+refused_whole s strict limit trace fed rest lines (fault.BadLine n) is says = refused_same s strict limit trace fed rest lines (fault.BadLine n) is says
+refused_whole s strict limit trace fed rest lines (fault.TimeTooLarge n) is says = refused_same s strict limit trace fed rest lines (fault.TimeTooLarge n) is says
+refused_whole s strict limit trace fed rest lines (fault.TimeBack n before at) is says = refused_same s strict limit trace fed rest lines (fault.TimeBack n before at) is says
+refused_whole s strict limit trace fed rest lines (fault.UnknownStream n) is says = refused_same s strict limit trace fed rest lines (fault.UnknownStream n) is says
+refused_whole s strict limit trace fed rest lines (fault.WrongValue n name) is says = refused_same s strict limit trace fed rest lines (fault.WrongValue n name) is says
+refused_whole s strict limit trace fed rest lines (fault.Twice n name) is says = refused_same s strict limit trace fed rest lines (fault.Twice n name) is says
+refused_whole s strict limit trace fed rest lines (fault.LineTooLong n) is says = refused_same s strict limit trace fed rest lines (fault.LineTooLong n) is says
+refused_whole s strict limit trace fed rest lines (fault.TraceTooLong n) is says = refused_same s strict limit trace fed rest lines (fault.TraceTooLong n) is says
+refused_whole s strict limit trace fed rest lines fault.Memory is says = tt
 
 pub on_ok : {A E : Type 0} (P : Type 0) (r : Result A E) → P → OnOk r P
 on_ok P (Ok x) p = p
@@ -45,17 +50,17 @@ pub split_is : (trace fed rest piece behind : List ℕ) → trace ≡ fed ++ res
 split_is trace fed rest piece behind is parts = is ∙ ap (λ bytes. fed ++ bytes) parts ∙ sym (append_assoc fed piece behind)
 
 -- The parts of a trace: nothing is read yet, a piece more is, and all is.
-pub between_none : (now : Reader) (s : System) (limit : ℕ) (trace : List ℕ) (lines : List Line) → Reads now s limit [] lines false → IsBetween now s limit trace trace lines
-between_none now s limit trace lines reads = record { fed = []; is = refl; reads = reads }
+pub between_none : (now : Reader) (s : System) (strict : Bool) (limit : ℕ) (trace : List ℕ) (lines : List Line) → Reads now s strict limit [] lines false → IsBetween now s strict limit trace trace lines
+between_none now s strict limit trace lines reads = record { fed = []; is = refl; reads = reads }
 
-pub between_more : (now new : Reader) (s : System) (limit : ℕ) (trace rest piece behind : List ℕ) (before lines : List Line) (it : IsBetween now s limit trace rest before) → rest ≡ piece ++ behind →
-    Reads new s limit (it.fed ++ piece) lines false → IsBetween new s limit trace behind lines
-between_more now new s limit trace rest piece behind before lines it is reads =
+pub between_more : (now new : Reader) (s : System) (strict : Bool) (limit : ℕ) (trace rest piece behind : List ℕ) (before lines : List Line) (it : IsBetween now s strict limit trace rest before) → rest ≡ piece ++ behind →
+    Reads new s strict limit (it.fed ++ piece) lines false → IsBetween new s strict limit trace behind lines
+between_more now new s strict limit trace rest piece behind before lines it is reads =
     record { fed = it.fed ++ piece; is = split_is trace it.fed rest piece behind it.is is; reads = reads }
 
-pub all_fed : (now : Reader) (s : System) (limit : ℕ) (trace rest : List ℕ) (lines : List Line) → rest ≡ [] → IsBetween now s limit trace rest lines → Reads now s limit trace lines false
-all_fed now s limit trace rest lines none it =
-    subst (λ (bytes : List ℕ). Reads now s limit bytes lines false) (sym (it.is ∙ ap (λ bytes. it.fed ++ bytes) none ∙ append-nil it.fed)) it.reads
+pub all_fed : (now : Reader) (s : System) (strict : Bool) (limit : ℕ) (trace rest : List ℕ) (lines : List Line) → rest ≡ [] → IsBetween now s strict limit trace rest lines → Reads now s strict limit trace lines false
+all_fed now s strict limit trace rest lines none it =
+    subst (λ (bytes : List ℕ). Reads now s strict limit bytes lines false) (sym (it.is ∙ ap (λ bytes. it.fed ++ bytes) none ∙ append-nil it.fed)) it.reads
 
 pub empty_is : (bytes : List ℕ) → length bytes ≡ 0 → bytes ≡ []
 empty_is [] is = refl

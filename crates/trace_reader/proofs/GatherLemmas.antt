@@ -11,50 +11,55 @@ use Rattle.trace_reader.specs.Reader.{Reader}
 use Rattle.trace_reader.specs.Reads.{Reads, Gathers, SaysNext, SaysRest}
 
 -- lines were appended, and the reader has given them
-pub record HasGathered (now : Reader) (s : System) (limit : ℕ) (fed : List ℕ) (given : List Line) (ended : Bool) (before behind : List Line) : Type 0 where
+pub record HasGathered (now : Reader) (s : System) (strict : Bool) (limit : ℕ) (fed : List ℕ) (given : List Line) (ended : Bool) (before behind : List Line) : Type 0 where
   pub added : List Line
   pub grew : behind ≡ before ++ added
-  pub reads : Reads now s limit fed (given ++ added) ended
+  pub reads : Reads now s strict limit fed (given ++ added) ended
 
-module _ (s : System) (limit : ℕ) (fed : List ℕ) (given : List Line) (ended : Bool) (before : List Line) where
-  pub none_gathered : (now : Reader) → Reads now s limit fed given ended → HasGathered now s limit fed given ended before before
+module _ (s : System) (strict : Bool) (limit : ℕ) (fed : List ℕ) (given : List Line) (ended : Bool) (before : List Line) where
+  pub none_gathered : (now : Reader) → Reads now s strict limit fed given ended → HasGathered now s strict limit fed given ended before before
   none_gathered now reads = record {
     added = [];
     grew = sym (append-nil before);
-    reads = subst (λ (ls : List Line). Reads now s limit fed ls ended) (sym (append-nil given)) reads;
+    reads = subst (λ (ls : List Line). Reads now s strict limit fed ls ended) (sym (append-nil given)) reads;
   }
 
-  pub one_gathered : (now new : Reader) (behind : List Line) (l : Line) (it : HasGathered now s limit fed given ended before behind) → Reads new s limit fed (given ++ it.added ++ l ∷ []) ended →
-      HasGathered new s limit fed given ended before (behind ++ l ∷ [])
+  pub one_gathered : (now new : Reader) (behind : List Line) (l : Line) (it : HasGathered now s strict limit fed given ended before behind) → Reads new s strict limit fed (given ++ it.added ++ l ∷ []) ended →
+      HasGathered new s strict limit fed given ended before (behind ++ l ∷ [])
   one_gathered now new behind l it reads = record {
     added = it.added ++ l ∷ [];
     grew = ap (λ ls. ls ++ l ∷ []) it.grew ∙ append_assoc before it.added (l ∷ []);
-    reads = subst (λ (ls : List Line). Reads new s limit fed ls ended) (append_assoc given it.added (l ∷ [])) reads;
+    reads = subst (λ (ls : List Line). Reads new s strict limit fed ls ended) (append_assoc given it.added (l ∷ [])) reads;
   }
 
   -- the last answer, behind what was gathered
-  pub gathers : (now new : Reader) (behind : List Line) (it : HasGathered now s limit fed given ended before behind) → Reads new s limit fed (given ++ it.added ++ []) ended →
-      (result : Result Rest TraceFault) → SaysRest (reading s limit fed ended) (given ++ it.added) ended result → Gathers new s limit fed given ended before behind result
+  pub gathers : (now new : Reader) (behind : List Line) (it : HasGathered now s strict limit fed given ended before behind) → Reads new s strict limit fed (given ++ it.added ++ []) ended →
+      (result : Result Rest TraceFault) → SaysRest (reading s strict limit fed ended) (given ++ it.added) ended result → Gathers new s strict limit fed given ended before behind result
   gathers now new behind it reads result says = record {
     added = it.added;
     grew = it.grew;
-    reads = subst (λ (ls : List Line). Reads new s limit fed ls ended) (append-nil (given ++ it.added)) reads;
+    reads = subst (λ (ls : List Line). Reads new s strict limit fed ls ended) (append-nil (given ++ it.added)) reads;
     says = says;
   }
 
   says_fault : (r : Reading) (ls : List Line) (f : TraceFault) → SaysNext r ls ended (Err f) → SaysRest r ls ended (Err f)
   says_fault r ls (fault.BadLine n) says = says
-  says_fault r ls (fault.TimeBack n last at) says = says
+  says_fault r ls (fault.TimeTooLarge n) says = says
+  says_fault r ls (fault.TimeBack n before at) says = says
+  says_fault r ls (fault.UnknownStream n) says = says
+  says_fault r ls (fault.WrongValue n name) says = says
+  says_fault r ls (fault.Twice n name) says = says
+  says_fault r ls (fault.LineTooLong n) says = says
   says_fault r ls (fault.TraceTooLong n) says = says
   says_fault r ls fault.Memory says = tt
 
-  pub gathers_fault : (now new : Reader) (behind : List Line) (it : HasGathered now s limit fed given ended before behind) → Reads new s limit fed (given ++ it.added ++ []) ended →
-      (f : TraceFault) (result : Result Rest TraceFault) → result ≡ Err f → SaysNext (reading s limit fed ended) (given ++ it.added) ended (Err f) → Gathers new s limit fed given ended before behind result
+  pub gathers_fault : (now new : Reader) (behind : List Line) (it : HasGathered now s strict limit fed given ended before behind) → Reads new s strict limit fed (given ++ it.added ++ []) ended →
+      (f : TraceFault) (result : Result Rest TraceFault) → result ≡ Err f → SaysNext (reading s strict limit fed ended) (given ++ it.added) ended (Err f) → Gathers new s strict limit fed given ended before behind result
   gathers_fault now new behind it reads f result is says =
-      subst (λ (r : Result Rest TraceFault). Gathers new s limit fed given ended before behind r) (sym is)
-      (gathers now new behind it reads (Err f) (says_fault (reading s limit fed ended) (given ++ it.added) f says))
+      subst (λ (r : Result Rest TraceFault). Gathers new s strict limit fed given ended before behind r) (sym is)
+      (gathers now new behind it reads (Err f) (says_fault (reading s strict limit fed ended) (given ++ it.added) f says))
 
   -- want of memory, where nothing was read
-  pub gathers_memory : (now : Reader) (behind : List Line) → HasGathered now s limit fed given ended before behind → (result : Result Rest TraceFault) → result ≡ Err fault.Memory → Gathers now s limit fed given ended before behind result
+  pub gathers_memory : (now : Reader) (behind : List Line) → HasGathered now s strict limit fed given ended before behind → (result : Result Rest TraceFault) → result ≡ Err fault.Memory → Gathers now s strict limit fed given ended before behind result
   gathers_memory now behind it result is =
-      subst (λ (r : Result Rest TraceFault). Gathers now s limit fed given ended before behind r) (sym is) (record { added = it.added; grew = it.grew; reads = it.reads; says = tt })
+      subst (λ (r : Result Rest TraceFault). Gathers now s strict limit fed given ended before behind r) (sym is) (record { added = it.added; grew = it.grew; reads = it.reads; says = tt })

@@ -1,11 +1,14 @@
--- The forms of a trace line: `TIME:`, `TIME: NAME` and `TIME: NAME = VALUE`, with these single blanks and no others. They are cut
--- as the code cuts them; `Spelling` has the relation that `SpelledAgrees` proves the same.
-use Rattle.std.specs.Prelude.{◌==◌, ℕ, Bool, false, not, ◌&&◌, ◌||◌, if◌then◌else◌, nat_lt, List, [], ◌∷◌, Option, Some, None}
-use Rattle.std.specs.Char.{is_ascii_digit, is_ascii_alphanumeric}
+-- The forms of a trace line: `TIME :`, `TIME : NAME` and `TIME : NAME = VALUE`, with blanks before and between their parts. They are
+-- cut as the code cuts them; `Spelling` has the relation that `SpelledAgrees` proves the same.
+use Rattle.std.specs.Prelude.{◌==◌, ◌^◌, ℕ, Bool, true, false, ◌&&◌, ◌||◌, if◌then◌else◌, nat_lt, is_none, List, [], ◌∷◌, Option, Some, None, chars}
 use Rattle.std.specs.List.{list_all}
 use Rattle.std.specs.Option.{option_and_then, option_map}
+use Rattle.std.specs.Str.{is_utf8}
 use Rattle.std.specs.Str.Parse.{digits_value}
+use Rattle.unicode_ident.specs.Ident.{is_xid_continue}
 use Rattle.tsl_value.specs.Literal.{are_digits}
+use Rattle.spec_lexer.specs.Spelling.{begins_name}
+use Rattle.spec_lexer.specs.Found.{word_of}
 
 -- the bytes of a line's time, its name and its value, where it has them
 pub record Parts : Type 0 where
@@ -21,49 +24,74 @@ abbrev pub split_once : ℕ → List ℕ → Option (List ℕ × List ℕ)
 split_once mark [] = None
 split_once mark (b ∷ bytes) = if b == mark then Some ([], bytes) else option_map (put_first b) (split_once mark bytes)
 
--- what stands behind a first byte, where it is this one
-abbrev pub behind : ℕ → List ℕ → Option (List ℕ)
-behind first [] = None
-behind first (b ∷ bytes) = if b == first then Some bytes else None
+-- space and tab; at a line's end CR is a blank too
+abbrev pub is_blank : ℕ → Bool
+is_blank b = (b == 32) || (b == 9)
 
--- a byte of a name: an ASCII letter or digit, or `_`
-abbrev pub is_name_byte : ℕ → Bool
-is_name_byte b = is_ascii_alphanumeric b || (b == 95)
+abbrev pub is_end_blank : ℕ → Bool
+is_end_blank b = is_blank b || (b == 13)
 
--- a name does not begin with a digit
-abbrev pub is_name : List ℕ → Bool
-is_name [] = false
-is_name (b ∷ bytes) = not (is_ascii_digit b) && list_all is_name_byte (b ∷ bytes)
+-- the bytes from the first other one on, and those up to the last other one
+abbrev pub without_front : (ℕ → Bool) → List ℕ → List ℕ
+without_front passes [] = []
+without_front passes (b ∷ bytes) = if passes b then without_front passes bytes else b ∷ bytes
+
+abbrev pub put_kept : Bool → ℕ → List ℕ → List ℕ
+put_kept passes b [] = if passes then [] else b ∷ []
+put_kept passes b (c ∷ bytes) = b ∷ c ∷ bytes
+
+abbrev pub without_end : (ℕ → Bool) → List ℕ → List ℕ
+without_end passes [] = []
+without_end passes (b ∷ bytes) = put_kept (passes b) b (without_end passes bytes)
+
+-- a line without the blanks around it
+abbrev pub content : List ℕ → List ℕ
+content line = without_front is_blank (without_end is_end_blank line)
+
+-- nothing, or a comment
+abbrev pub says_nothing : List ℕ → Bool
+says_nothing [] = true
+says_nothing (b ∷ []) = b == 35
+says_nothing (b ∷ c ∷ bytes) = (b == 35) || ((b == 45) && (c == 45))
+
+-- a line has at most 65,536 bytes
+abbrev pub is_long : ℕ → Bool
+is_long count = nat_lt 65536 count
+
+-- a name of a specification, of any length
+abbrev pub are_name_characters : List ℕ → Bool
+are_name_characters [] = false
+are_name_characters (c ∷ cs) = begins_name c && list_all is_xid_continue cs
+
+unfoldable pub is_name : List ℕ → Bool
+is_name bytes = is_utf8 bytes && (are_name_characters (chars bytes) && is_none (word_of bytes))
 
 -- a name, and perhaps a value, behind a time
 abbrev pub called : List ℕ → List ℕ → Option (List ℕ) → Option Parts
 called time name value = if is_name name then Some (record { time = time; name = Some name; value = value }) else None
 
--- ` = VALUE`, of which the first blank is taken off
+-- what stands behind `=` is not empty
 abbrev pub valued : List ℕ → List ℕ → List ℕ → Option Parts
-valued time name rest =
-    option_and_then (λ sign. option_and_then (λ value. called time name (Some value)) (behind 32 sign)) (behind 61 rest)
+valued time name [] = None
+valued time name (b ∷ value) = called time name (Some (b ∷ value))
 
--- `NAME` or `NAME = VALUE`, by the first blank
+-- `NAME` or `NAME = VALUE`, by the first `=`
 abbrev pub named_by : List ℕ → List ℕ → Option (List ℕ × List ℕ) → Option Parts
 named_by time bytes None = called time bytes None
-named_by time bytes (Some p) = valued time p.0 p.1
-
-abbrev pub named : List ℕ → List ℕ → Option Parts
-named time bytes = named_by time bytes (split_once 32 bytes)
+named_by time bytes (Some p) = valued time (without_end is_blank p.0) (without_front is_blank p.1)
 
 -- what stands behind the colon
 abbrev pub behind_time : List ℕ → List ℕ → Option Parts
 behind_time time [] = Some (record { time = time; name = None; value = None })
-behind_time time (b ∷ rest) = option_and_then (named time) (behind 32 (b ∷ rest))
+behind_time time (b ∷ rest) = named_by time (b ∷ rest) (split_once 61 (b ∷ rest))
 
--- the parts of a line, where it is of one of the forms; its time may be any bytes without a colon
+abbrev pub timed : List ℕ → List ℕ → Option Parts
+timed time rest = if are_digits time then behind_time time rest else None
+
+-- the parts of a line without the blanks around it, where it is of one of the forms
 abbrev pub parts_of : List ℕ → Option Parts
-parts_of line = option_and_then (λ p. behind_time p.0 p.1) (split_once 58 line)
+parts_of line = option_and_then (λ p. timed (without_end is_blank p.0) (without_front is_blank p.1)) (split_once 58 line)
 
--- the time that bytes spell, where they are digits and it is below 2^63
-abbrev pub small_time : ℕ → Option ℕ
-small_time time = if nat_lt time 0x8000_0000_0000_0000 then Some time else None
-
+-- the time that digits spell, where it is below 2^63
 abbrev pub time_of : List ℕ → Option ℕ
-time_of bytes = if are_digits bytes then small_time (digits_value 10 bytes) else None
+time_of digits = if nat_lt (digits_value 10 digits) 0x8000_0000_0000_0000 then Some (digits_value 10 digits) else None

@@ -1,6 +1,5 @@
 pub mod Form
 pub mod Borrowed
-pub mod History
 pub mod Reading
 pub mod Spelling
 pub mod Closed

@@ -1,9 +1,10 @@
 -- The lines of a trace, and perhaps one that is refused. It speaks of the whole text, and knows no pieces.
-use Rattle.std.specs.Prelude.{◌==◌, ℕ, ◌+◌, Bool, true, false, not, ◌&&◌, if◌then◌else◌, nat_lt, List, [], ◌∷◌, ◌++◌, length, take, Option, Some, None, Result, Ok, Err}
+use Rattle.std.specs.Prelude.{◌==◌, ℕ, ◌+◌, Bool, true, false, not, ◌&&◌, if◌then◌else◌, nat_lt, List, [], ◌∷◌, ◌++◌, length, take, Option, Some, None, is_none, option_to_list, slice_get, Result, Ok, Err}
 use Rattle.std.specs.List.{list_any, position_from}
 use Rattle.std.specs.Option.{option_and_then, option_map, option_or}
 use Rattle.std.specs.Result.{result_ok}
 use Rattle.std.specs.Str.{bytes_eq}
+use Rattle.std.specs.Str.Parse.{digits_value}
 use Rattle.tsl_value.specs.declared.scalar.Scalar.{Scalar}
 use Rattle.tsl_value.specs.declared.scalar.Scalar.TheVariants as scalar
 use Rattle.tsl_value.specs.declared.scalar.ScalarType.TheVariants as scalar_type
@@ -17,7 +18,7 @@ use Rattle.flat_core.specs.System.{System, equation}
 use Rattle.flat_core.specs.Line.{Line, last_time}
 use Rattle.trace_reader.specs.declared.fault.TraceFault.{TraceFault}
 use Rattle.trace_reader.specs.declared.fault.TraceFault.TheVariants as fault
-use Rattle.trace_reader.specs.Form.{parts_of, split_once, time_of}
+use Rattle.trace_reader.specs.Form.{Parts, content, is_long, parts_of, says_nothing, split_once, time_of}
 
 -- the lines that were read, and why the next one is refused, where it is
 pub record Reading : Type 0 where
@@ -64,78 +65,96 @@ is_input_called name e = is_input e.op && is_called name e.name
 abbrev pub input_called : System → List ℕ → Option ℕ
 input_called s name = position_from (is_input_called name) 0 s.equations
 
--- the value of a type that a line has: digits for a number, and none for a unit
+-- the value of a type that a line has; a unit may have none
 abbrev pub value_of : ValueType → Option (List ℕ) → Option Scalar
-value_of (value_type.Scalar scalar_type.Int) (Some bytes) = result_ok (literal scalar_type.Int bytes)
+value_of (value_type.Scalar of) (Some bytes) = result_ok (literal of bytes)
 value_of (value_type.Scalar scalar_type.Unit) None = Some scalar.Unit
 value_of _ _ = None
 
--- The line that bytes spell: they are of a form, the time is one, and the name, if there is one, is that of an input of the value's type.
-module _ (s : System) where
-  abbrev pub event_of : Option (List ℕ) → ℕ → Option (ℕ × Scalar)
-  event_of value i = option_and_then (λ e. option_map (λ v. (i, v)) (value_of e.of value)) (equation s i)
+-- the value that a line gives an input
+abbrev pub value_at : System → ℕ → Option (List ℕ) → Option Scalar
+value_at s i value = option_and_then (λ e. value_of e.of value) (equation s i)
 
-  abbrev pub called_event : List ℕ → Option (List ℕ) → Option (ℕ × Scalar)
-  called_event name value = option_and_then (event_of value) (input_called s name)
+-- the inputs that had an event at a time
+abbrev pub input_in : Option (ℕ × Scalar) → List ℕ
+input_in None = []
+input_in (Some e) = e.0 ∷ []
 
-  abbrev pub said : ℕ → Option (List ℕ) → Option (List ℕ) → Option Line
-  said t None value = Some (record { time = t; event = None })
-  said t (Some name) value = option_map (λ e. record { time = t; event = Some e }) (called_event name value)
+abbrev pub inputs_at : ℕ → List Line → List ℕ
+inputs_at t [] = []
+inputs_at t (l ∷ ls) = (if l.time == t then input_in l.event else []) ++ inputs_at t ls
 
-  abbrev pub spelled : List ℕ → Option Line
-  spelled bytes = option_and_then (λ parts. option_and_then (λ t. said t parts.name parts.value) (time_of parts.time)) (parts_of bytes)
+abbrev pub is_among : List ℕ → ℕ → Bool
+is_among inputs i = list_any (λ j. j == i) inputs
 
--- the times and inputs of the events of lines
-abbrev pub with_event : ℕ → Option (ℕ × Scalar) → List (ℕ × ℕ) → List (ℕ × ℕ)
-with_event t None events = events
-with_event t (Some e) events = (t, e.0) ∷ events
+abbrev pub had_event : List Line → ℕ → ℕ → Bool
+had_event before t i = is_among (inputs_at t before) i
 
-abbrev pub events_of : List Line → List (ℕ × ℕ)
-events_of [] = []
-events_of (l ∷ ls) = with_event l.time l.event (events_of ls)
+-- Line number `n`, where `had` says which inputs had an event at a time before it, and `last` is the last line's time: it is skipped,
+-- it says a time and perhaps an event, or it is refused.
+abbrev pub as_read : Result Line TraceFault → Result (Option Line) TraceFault
+as_read (Ok l) = Ok (Some l)
+as_read (Err f) = Err f
 
--- an input had an event at this time
-abbrev pub had_event_at : List (ℕ × ℕ) → ℕ → ℕ → Bool
-had_event_at past t i = list_any (λ p. (p.0 == t) && (p.1 == i)) past
+module _ (s : System) (strict : Bool) (had : ℕ → ℕ → Bool) (last n : ℕ) where
+  abbrev pub placed : ℕ → List ℕ → ℕ → Option Scalar → Result Line TraceFault
+  placed t name i None = Err (fault.WrongValue n name)
+  placed t name i (Some v) = if had t i then Err (fault.Twice n name) else Ok (record { time = t; event = Some (i, v) })
 
-abbrev pub had_event : List (ℕ × ℕ) → ℕ → Option (ℕ × Scalar) → Bool
-had_event past t None = false
-had_event past t (Some e) = had_event_at past t e.0
+  abbrev pub addressed : ℕ → List ℕ → Option (List ℕ) → Option ℕ → Result Line TraceFault
+  addressed t name value None = if strict then Err (fault.UnknownStream n) else Ok (record { time = t; event = None })
+  addressed t name value (Some i) = placed t name i (value_at s i value)
 
--- Line number `n` behind the events of earlier lines, whose last time is given: a line, or why it is refused.
-abbrev pub placed : List (ℕ × ℕ) → ℕ → ℕ → Line → Result Line TraceFault
-placed past last n l =
-    if had_event past l.time l.event then Err (fault.BadLine n)
-    else (if nat_lt l.time last then Err (fault.TimeBack n last l.time) else Ok l)
+  abbrev pub said : ℕ → Option (List ℕ) → Option (List ℕ) → Result Line TraceFault
+  said t None value = Ok (record { time = t; event = None })
+  said t (Some name) value = addressed t name value (input_called s name)
 
-abbrev pub judged : List (ℕ × ℕ) → ℕ → ℕ → Option Line → Result Line TraceFault
-judged past last n None = Err (fault.BadLine n)
-judged past last n (Some l) = placed past last n l
+  abbrev pub said_at : Parts → Option ℕ → Result Line TraceFault
+  said_at parts None = Err (fault.TimeTooLarge n)
+  said_at parts (Some t) = if nat_lt t last then Err (fault.TimeBack n last t) else said t parts.name parts.value
+
+  abbrev pub formed : Option Parts → Result Line TraceFault
+  formed None = Err (fault.BadLine n)
+  formed (Some parts) = said_at parts (time_of parts.time)
+
+  abbrev pub judged_content : List ℕ → Result (Option Line) TraceFault
+  judged_content bytes = if says_nothing bytes then Ok None else as_read (formed (parts_of bytes))
+
+  abbrev pub judged : List ℕ → Result (Option Line) TraceFault
+  judged line = if is_long (length line) then Err (fault.LineTooLong n) else judged_content (content line)
 
 -- The first line that is refused ends the reading.
-abbrev pub go_on : Result Line TraceFault → (Line → Reading) → Reading
+abbrev pub go_on : Result (Option Line) TraceFault → (Option Line → Reading) → Reading
 go_on (Err f) rest = record { lines = []; refused = Some f }
-go_on (Ok l) rest = record { lines = l ∷ (rest l).lines; refused = (rest l).refused }
+go_on (Ok l) rest = record { lines = option_to_list l ++ (rest l).lines; refused = (rest l).refused }
 
 -- these lines, from number `n` on, behind earlier ones
-abbrev pub read : System → List Line → ℕ → List (List ℕ) → Reading
-read s before n [] = record { lines = []; refused = None }
-read s before n (bytes ∷ more) =
-    go_on (judged (events_of before) (last_time before) n (spelled s bytes)) (λ l. read s (before ++ l ∷ []) (n + 1) more)
+abbrev pub read : System → Bool → List Line → ℕ → List (List ℕ) → Reading
+read s strict before n [] = record { lines = []; refused = None }
+read s strict before n (bytes ∷ more) =
+    go_on (judged s strict (had_event before) (last_time before) n bytes) (λ l. read s strict (before ++ option_to_list l) (n + 1) more)
 
--- what is refused behind the lines: bytes beyond the limit, in the line in which they begin
-abbrev pub overflow : Bool → ℕ → Option TraceFault
-overflow true n = Some (fault.TraceTooLong n)
-overflow false n = None
+-- The bytes that stand on the last line, with the one beyond the limit where it goes on with the line.
+abbrev pub on_line : Option ℕ → List ℕ
+on_line None = []
+on_line (Some b) = if b == 10 then [] else b ∷ []
+
+-- What is refused behind the whole lines: a line that is too long already, or bytes beyond the limit, in the line in which they begin.
+abbrev pub overflow : Option ℕ → ℕ → Option TraceFault
+overflow None n = None
+overflow (Some b) n = Some (fault.TraceTooLong n)
+
+abbrev pub unfinished : Option ℕ → ℕ → List ℕ → Option TraceFault
+unfinished beyond n rest = if is_long (length rest + length (on_line beyond)) then Some (fault.LineTooLong n) else overflow beyond n
 
 abbrev pub limited : Reading → Option TraceFault → Reading
-limited r beyond = record { lines = r.lines; refused = option_or r.refused beyond }
+limited r behind = record { lines = r.lines; refused = option_or r.refused behind }
 
--- These bytes, from line number `n` on, behind earlier lines. With `over` there are further bytes, beyond the limit.
-abbrev pub read_on : System → List Line → ℕ → List ℕ → Bool → Bool → Reading
-read_on s before n bytes over ended =
-    limited (read s before n (lines_of bytes (ended && not over))) (overflow over (n + length (cut bytes).0))
+-- These bytes, from line number `n` on, behind earlier lines, with the first byte beyond the limit.
+abbrev pub read_on : System → Bool → List Line → ℕ → List ℕ → Option ℕ → Bool → Reading
+read_on s strict before n bytes beyond ended =
+    limited (read s strict before n (lines_of bytes (ended && is_none beyond))) (unfinished beyond (n + length (cut bytes).0) (cut bytes).1)
 
 -- The lines of a trace and what is refused. Bytes behind the last line's end are a line only where the trace has ended.
-unfoldable pub reading : System → ℕ → List ℕ → Bool → Reading
-reading s limit bytes ended = read_on s [] 1 (take limit bytes) (nat_lt limit (length bytes)) ended
+unfoldable pub reading : System → Bool → ℕ → List ℕ → Bool → Reading
+reading s strict limit bytes ended = read_on s strict [] 1 (take limit bytes) (slice_get bytes limit) ended

@@ -1,5 +1,6 @@
 -- For which traces and lines a reader stands, and what its answers say of them.
-use Rattle.std.specs.Prelude.{◌≡◌, ◌||◌, ℕ, ◌+◌, Bool, true, false, nat_lt, List, [], ◌∷◌, ◌++◌, length, take, Some, None, Result, Ok, Err, ⊤}
+use Rattle.std.specs.Prelude.{◌≡◌, ℕ, ◌+◌, Bool, true, false, List, [], ◌∷◌, ◌++◌, take, Option, Some, None, slice_get, Result, Ok, Err, ⊤}
+use Rattle.std.specs.Option.{option_or}
 use Rattle.flat_core.specs.System.{System}
 use Rattle.flat_core.specs.Line.{Line, last_time}
 use Rattle.trace_reader.specs.declared.fault.TraceFault.{TraceFault}
@@ -8,8 +9,8 @@ use Rattle.trace_reader.specs.declared.next.Next.{Next}
 use Rattle.trace_reader.specs.declared.next.Next.TheVariants as next
 use Rattle.trace_reader.specs.declared.next.Rest.{Rest}
 use Rattle.trace_reader.specs.declared.next.Rest.TheVariants as rest
-use Rattle.trace_reader.specs.Reading.{Reading, reading, read_on, events_of}
-use Rattle.trace_reader.specs.Reader.{Reader, at_fault, judged_at, past_line}
+use Rattle.trace_reader.specs.Reading.{Reading, reading, read_on, inputs_at, unfinished}
+use Rattle.trace_reader.specs.Reader.{Reader, Passes, at_fault, judged_at, last_counts, passed, past_line}
 
 -- the reading of what follows these lines
 abbrev pub after : List Line → Reading → Reading
@@ -22,15 +23,15 @@ MayCome false more ended = ⊤
 
 -- The reader was fed these bytes and has given these lines: whatever comes, the trace reads as these lines, and then as what is
 -- kept and what comes read behind them.
-pub record Reads (r : Reader) (s : System) (limit : ℕ) (fed : List ℕ) (given : List Line) (ended : Bool) : Type 0 where
+pub record Reads (r : Reader) (s : System) (strict : Bool) (limit : ℕ) (fed : List ℕ) (given : List Line) (ended : Bool) : Type 0 where
   pub system : r.system ≡ s
+  pub strict_is : r.strict ≡ strict
   pub ended_is : r.ended ≡ ended
-  pub count : r.count ≡ length given
   pub last : r.last ≡ last_time given
-  pub past : r.past ≡ events_of given
+  pub seen : r.seen ≡ inputs_at (last_time given) given
   pub goes_on : (more : List ℕ) (e : Bool) → MayCome ended more e →
-      reading s limit (fed ++ more) e ≡ after given (read_on s given (r.count + 1) (r.unread ++ take r.left more) (r.over || nat_lt r.left (length more)) e)
-  pub refused : (f : TraceFault) → r.refused ≡ Some f → reading s limit fed ended ≡ record { lines = given; refused = Some f }
+      reading s strict limit (fed ++ more) e ≡ after given (read_on s strict given (r.count + 1) (r.unread ++ take r.left more) (option_or r.beyond (slice_get more r.left)) e)
+  pub refused : (f : TraceFault) → r.refused ≡ Some f → reading s strict limit fed ended ≡ record { lines = given; refused = Some f }
 
 -- these lines are all of the reading, and nothing is refused
 abbrev pub IsAllOf : Reading → List Line → Type 0
@@ -49,29 +50,45 @@ abbrev pub lines_in : Result Next TraceFault → List Line
 lines_in (Ok (next.Line l)) = l ∷ []
 lines_in _ = []
 
+-- the reader behind a line and the skipped lines that follow it
+pub record IsPastLine (old new : Reader) (len : ℕ) (l : Line) : Type 0 where
+  pub skipped : ℕ
+  pub rest : List ℕ
+  pub passes : Passes (last_counts old) (past_line old len l).unread skipped rest
+  pub is : new ≡ passed (past_line old len l) skipped rest
+
 -- The first line that stands is given, or refused.
 abbrev pub TakesLine : Reader → Reader → ℕ → Result Next TraceFault → Type 0
-TakesLine old new len (Ok (next.Line l)) = (judged_at old len ≡ Ok l) × (new ≡ past_line old len l)
+TakesLine old new len (Ok (next.Line l)) = (judged_at old len ≡ Ok (Some l)) × IsPastLine old new len l
 TakesLine old new len (Ok _) = ⊥
 TakesLine old new len (Err fault.Memory) = new ≡ old
 TakesLine old new len (Err f) = (judged_at old len ≡ Err f) × (new ≡ at_fault old f)
 
+-- what is refused where no line stands
+abbrev pub behind_all : Reader → Option TraceFault
+behind_all r = unfinished r.beyond (r.count + 1) r.unread
+
 -- No line stands.
 abbrev pub Rests : Reader → Reader → Result Next TraceFault → Type 0
 Rests old new (Ok (next.Line l)) = ⊥
-Rests old new (Ok next.More) = (old.over ≡ false) × (old.ended ≡ false) × (new ≡ old)
-Rests old new (Ok next.End) = (old.over ≡ false) × (old.ended ≡ true) × (new ≡ old)
-Rests old new (Err f) = (old.over ≡ true) × (f ≡ fault.TraceTooLong (old.count + 1)) × (new ≡ at_fault old f)
+Rests old new (Ok next.More) = (behind_all old ≡ None) × (old.beyond ≡ None) × (old.ended ≡ false) × (new ≡ old)
+Rests old new (Ok next.End) = (behind_all old ≡ None) × (old.ended ≡ true) × (new ≡ old)
+Rests old new (Err fault.Memory) = new ≡ old
+Rests old new (Err f) = (behind_all old ≡ Some f) × (new ≡ at_fault old f)
 
--- What a later answer may rest on: a fault is kept and answered again, and want of memory changes nothing.
+-- What a later answer may rest on: a fault is kept and answered again, unless memory is wanting, which changes nothing.
 abbrev pub Keeps : Reader → Reader → Result Next TraceFault → Type 0
 Keeps old new (Ok _) = ⊤
 Keeps old new (Err fault.Memory) = new ≡ old
 Keeps old new (Err f) = new.refused ≡ Some f
 
+abbrev pub AnswersFault : TraceFault → Result Next TraceFault → Type 0
+AnswersFault f (Err fault.Memory) = ⊤
+AnswersFault f result = result ≡ Err f
+
 pub record AnswersAgain (old new : Reader) (result : Result Next TraceFault) : Type 0 where
   pub kept : Keeps old new result
-  pub again : (f : TraceFault) → old.refused ≡ Some f → (result ≡ Err f) × (new ≡ old)
+  pub again : (f : TraceFault) → old.refused ≡ Some f → AnswersFault f result × (new ≡ old)
 
 abbrev pub IfLine : Result Next TraceFault → Type 0 → Type 0
 IfLine (Ok (next.Line l)) P = P
@@ -93,8 +110,8 @@ IfRestMore (Ok rest.More) P = P
 IfRestMore _ P = ⊤
 
 -- Lines were appended to others: with them the reader has given all that stand, up to the line that is refused, or to want of memory.
-pub record Gathers (new : Reader) (s : System) (limit : ℕ) (fed : List ℕ) (given : List Line) (ended : Bool) (before behind : List Line) (result : Result Rest TraceFault) : Type 0 where
+pub record Gathers (new : Reader) (s : System) (strict : Bool) (limit : ℕ) (fed : List ℕ) (given : List Line) (ended : Bool) (before behind : List Line) (result : Result Rest TraceFault) : Type 0 where
   pub added : List Line
   pub grew : behind ≡ before ++ added
-  pub reads : Reads new s limit fed (given ++ added) ended
-  pub says : SaysRest (reading s limit fed ended) (given ++ added) ended result
+  pub reads : Reads new s strict limit fed (given ++ added) ended
+  pub says : SaysRest (reading s strict limit fed ended) (given ++ added) ended result

@@ -1,14 +1,15 @@
 // The form of a trace line.
 
-ghost use Rattle.std.specs.Prelude.{◌≡◌, ◌==◌, ◌<◌, ◌^◌, IsTrue, option_map, position};
+ghost use Rattle.std.specs.Prelude.{◌≡◌, ◌==◌, ◌<◌, ◌^◌, IfSome, IsTrue, option_map, position};
 ghost use Rattle.std.specs.Char.{is_ascii_digit};
 ghost use Rattle.std.specs.List.{list_all};
 ghost use Rattle.std.specs.Option.{SomeIff};
 ghost use Rattle.std.specs.Str.Parse.{digits_value};
 ghost use Rattle.tsl_value.specs.Literal.{are_digits};
 ghost use Rattle.trace_reader.specs.Borrowed.{bytes_of};
-ghost use Rattle.trace_reader.specs.Form.{behind, behind_time, called, is_name, is_name_byte, named, parts_of, split_once, time_of, valued};
+ghost use Rattle.trace_reader.specs.Form.{behind_time, called, content, is_blank, is_end_blank, parts_of, says_nothing, split_once, time_of, timed, valued, without_end, without_front};
 
+use crate::name::name_of;
 use std::str;
 use tsl_value::time::Time;
 
@@ -16,7 +17,7 @@ use tsl_value::time::Time;
 #[derive(Clone, Copy, Drop)]
 pub(crate) struct Parts<'a> {
     pub(crate) time: &'a [u8],
-    pub(crate) name: Option<&'a [u8]>,
+    pub(crate) name: Option<&'a str>,
     pub(crate) value: Option<&'a [u8]>,
 }
 
@@ -37,17 +38,75 @@ fn split_once(bytes: &[u8], mark: u8) -> Option<(&[u8], &[u8])>
     }
 }
 
-/// What stands behind a first byte, where it is this one.
-fn behind(bytes: &[u8], first: u8) -> Option<&[u8]>
-    ensures { option_map (λ rest. rest.now) result ≡ behind first bytes.now }
+/// The bytes without the blanks before them.
+fn without_blanks_before(bytes: &[u8]) -> &[u8]
+    ensures { result.now ≡ without_front is_blank bytes.now }
 {
-    match bytes {
-        [byte, rest @ ..] if *byte == first => Some(rest),
-        _ => None,
+    let mut rest = bytes;
+    while let [b' ' | b'\t', others @ ..] = rest {
+        rest = others;
+    }
+    rest
+}
+
+/// The bytes without the blanks behind them.
+fn without_blanks_behind(bytes: &[u8]) -> &[u8]
+    ensures { result.now ≡ without_end is_blank bytes.now }
+{
+    let mut rest = bytes;
+    while let Some((last, others)) = rest.split_last() {
+        if !is_blank(*last) {
+            return rest;
+        }
+        rest = others;
+    }
+    rest
+}
+
+/// A line without the blanks at its end, of which CR is one.
+fn without_end_blanks(line: &[u8]) -> &[u8]
+    ensures { result.now ≡ without_end is_end_blank line.now }
+{
+    let mut rest = line;
+    while let Some((last, others)) = rest.split_last() {
+        if !is_end_blank(*last) {
+            return rest;
+        }
+        rest = others;
+    }
+    rest
+}
+
+fn is_blank(byte: u8) -> bool
+    ensures { result ≡ is_blank byte }
+{
+    byte == b' ' || byte == b'\t'
+}
+
+fn is_end_blank(byte: u8) -> bool
+    ensures { result ≡ is_end_blank byte }
+{
+    is_blank(byte) || byte == b'\r'
+}
+
+/// A line without the blanks around it.
+pub(crate) fn content(line: &[u8]) -> &[u8]
+    ensures { result.now ≡ content line.now }
+{
+    without_blanks_before(without_end_blanks(line))
+}
+
+/// Whether a line's content is empty or a comment.
+pub(crate) fn says_nothing(content: &[u8]) -> bool
+    ensures { result ≡ says_nothing content.now }
+{
+    match content {
+        [] | [b'#', ..] | [b'-', b'-', ..] => true,
+        _ => false,
     }
 }
 
-pub(crate) fn are_digits(bytes: &[u8]) -> bool
+fn are_digits(bytes: &[u8]) -> bool
     ensures { result ≡ are_digits bytes.now }
 {
     !bytes.is_empty() && all_are_digits(bytes)
@@ -59,34 +118,25 @@ fn all_are_digits(bytes: &[u8]) -> bool
     bytes.iter().all(|byte| byte.is_ascii_digit())
 }
 
-fn is_name(bytes: &[u8]) -> bool
-    ensures { result ≡ is_name bytes.now }
+/// The parts of a line's content, where it is `TIME :`, `TIME : NAME` or `TIME : NAME = VALUE`.
+pub(crate) fn parts_of(content: &[u8]) -> Option<Parts<'_>>
+    ensures parts { option_map bytes_of result ≡ parts_of content.now }
+    ensures digits { IfSome result (λ p. IsTrue (are_digits p.time.now)) }
 {
-    match bytes {
-        [first, ..] => !first.is_ascii_digit() && all_are_name_bytes(bytes),
-        [] => false,
+    let (time, rest) = split_once(content, b':')?;
+    timed(without_blanks_behind(time), without_blanks_before(rest))
+}
+
+/// The parts, by what stands before the colon and behind it.
+fn timed<'a>(time: &'a [u8], rest: &'a [u8]) -> Option<Parts<'a>>
+    ensures parts { option_map bytes_of result ≡ timed time.now rest.now }
+    ensures digits { IfSome result (λ p. IsTrue (are_digits p.time.now)) }
+{
+    if are_digits(time) {
+        behind_time(time, rest)
+    } else {
+        None
     }
-}
-
-fn all_are_name_bytes(bytes: &[u8]) -> bool
-    ensures { result ≡ list_all is_name_byte bytes.now }
-{
-    bytes.iter().all(|byte| is_name_byte(*byte))
-}
-
-fn is_name_byte(byte: u8) -> bool
-    ensures { result ≡ is_name_byte byte }
-{
-    byte.is_ascii_alphanumeric() || byte == b'_'
-}
-
-/// The parts of a line, where it is `TIME:`, `TIME: NAME` or `TIME: NAME = VALUE` with a name. Its
-/// time may be any bytes without a colon.
-pub(crate) fn parts_of(line: &[u8]) -> Option<Parts<'_>>
-    ensures { option_map bytes_of result ≡ parts_of line.now }
-{
-    let (time, rest) = split_once(line, b':')?;
-    behind_time(time, rest)
 }
 
 /// The parts, by what stands behind the colon.
@@ -100,50 +150,43 @@ fn behind_time<'a>(time: &'a [u8], rest: &'a [u8]) -> Option<Parts<'a>>
             value: None,
         });
     }
-    named(time, behind(rest, b' ')?)
-}
-
-/// `NAME` or `NAME = VALUE`, behind a time.
-fn named<'a>(time: &'a [u8], bytes: &'a [u8]) -> Option<Parts<'a>>
-    ensures { option_map bytes_of result ≡ named time.now bytes.now }
-{
-    match split_once(bytes, b' ') {
-        Some((name, rest)) => valued(time, name, rest),
-        None => called(time, bytes, None),
+    match split_once(rest, b'=') {
+        Some((name, value)) => valued(
+            time,
+            without_blanks_behind(name),
+            without_blanks_before(value),
+        ),
+        None => called(time, rest, None),
     }
 }
 
-/// A name and `= VALUE`, behind a time.
-fn valued<'a>(time: &'a [u8], name: &'a [u8], rest: &'a [u8]) -> Option<Parts<'a>>
-    ensures { option_map bytes_of result ≡ valued time.now name.now rest.now }
+/// A name and a value, which is not empty, behind a time.
+fn valued<'a>(time: &'a [u8], name: &'a [u8], value: &'a [u8]) -> Option<Parts<'a>>
+    ensures { option_map bytes_of result ≡ valued time.now name.now value.now }
 {
-    let sign = behind(rest, b'=')?;
-    let value = behind(sign, b' ')?;
+    if value.is_empty() {
+        return None;
+    }
     called(time, name, Some(value))
 }
 
+/// A name, and perhaps a value, behind a time.
 fn called<'a>(time: &'a [u8], name: &'a [u8], value: Option<&'a [u8]>) -> Option<Parts<'a>>
     ensures { option_map bytes_of result ≡ called time.now name.now (option_map (λ b. b.now) value.entry) }
 {
-    if is_name(name) {
-        Some(Parts {
-            time,
-            name: Some(name),
-            value,
-        })
-    } else {
-        None
-    }
+    Some(Parts {
+        time,
+        name: Some(name_of(name)?),
+        value,
+    })
 }
 
-/// The time that bytes spell, where they are digits of a time.
-pub(crate) fn time_of(bytes: &[u8]) -> Option<Time>
-    ensures { result ≡ time_of bytes.now }
+/// The time that digits spell, where it is one.
+pub(crate) fn time_of(digits: &[u8]) -> Option<Time>
+    requires { IsTrue (are_digits digits.now) }
+    ensures { result ≡ time_of digits.now }
 {
-    if !are_digits(bytes) {
-        return None;
-    }
-    match number_of(bytes) {
+    match number_of(digits) {
         Some(number) => Time::new(number),
         None => None,
     }

@@ -17,7 +17,7 @@ pub fn lines_are_sorted()
     ensures { LinesAreSorted }
 {}
 
-/// Each time is below 2^63, and each event is one of an input and of its type.
+/// Each time is below 2^63, each event is one of an input and of its type, and texts are short.
 pub fn lines_are_proper()
     ensures { LinesAreProper }
 {}
@@ -37,8 +37,8 @@ pub fn closed_stays()
     ensures { ClosedStays }
 {}
 
-/// Bytes spell a line exactly where they are `TIME:`, `TIME: NAME` with a unit's input or
-/// `TIME: NAME = VALUE` with a number's, and the line says what stands there.
+/// A line is skipped, says what it says and is refused exactly as the relation over its characters
+/// has it: blanks and comments, the three forms, names, values and the causes in their order.
 pub fn spelled_agrees()
     ensures { SpelledAgrees }
 {}

@@ -3,11 +3,12 @@
 
 pub mod fault;
 mod form;
-mod history;
 pub mod laws;
 mod line;
+mod name;
 pub mod next;
 pub mod reader;
+mod seen;
 #[cfg(test)]
 mod tests;
 mod unread;

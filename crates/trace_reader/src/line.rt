@@ -1,16 +1,15 @@
 // What a line says, and whether it may stand where it does.
 
-ghost use Rattle.std.specs.Prelude.{◌≡◌, ℕ, IfOk, option_map};
+ghost use Rattle.std.specs.Prelude.{◌≡◌, ◌<◌, IfOk, IsTrue, Some, length, option_map, false};
 ghost use Rattle.std.specs.Result.{result_ok};
-ghost use Rattle.tsl_value.specs.declared.scalar.ScalarType.TheVariants as scalar_type;
-ghost use Rattle.tsl_value.specs.Literal.{literal};
+ghost use Rattle.tsl_value.specs.Literal.{are_digits, literal};
 ghost use Rattle.trace_reader.specs.Borrowed.{bytes_of};
-ghost use Rattle.trace_reader.specs.History.{AreUpTo};
-ghost use Rattle.trace_reader.specs.Reading.{called_event, had_event, input_called, is_input_called, judged, placed, said, spelled, value_of};
+ghost use Rattle.trace_reader.specs.Form.{is_long};
+ghost use Rattle.trace_reader.specs.Reader.{had_now, is_skipped};
+ghost use Rattle.trace_reader.specs.Reading.{addressed, as_read, formed, input_called, is_input_called, judged, placed, said, value_at, value_of};
 
 use crate::fault::TraceFault;
-use crate::form::{Parts, parts_of, time_of};
-use crate::history::had_event_at;
+use crate::form::{Parts, content, parts_of, says_nothing, time_of};
 use flat_core::equation::{Equation, Op};
 use flat_core::flat::Flat;
 use flat_core::line::TraceLine;
@@ -19,19 +18,40 @@ use tsl_value::ids::EqId;
 use tsl_value::literal::{LiteralFault, read_literal};
 use tsl_value::memory::NoMemory;
 use tsl_value::scalar::{Scalar, ScalarType, ValueType};
+use tsl_value::text::Text;
 use tsl_value::time::Time;
 
-fn is_input_called(equation: &Equation, name: &[u8]) -> bool
+/// The most bytes that a line has, its end not counted.
+const MAX_LINE: usize = 65_536;
+
+/// A line's time and perhaps an event, or why the line is refused.
+type Verdict = Result<TraceLine, TraceFault>;
+
+/// Whether a line of so many bytes is too long.
+pub(crate) fn is_long(count: usize) -> bool
+    ensures { result ≡ is_long count }
+{
+    count > MAX_LINE
+}
+
+/// Whether a line is empty or a comment.
+pub(crate) fn is_skipped(line: &[u8]) -> bool
+    ensures { result ≡ is_skipped line.now }
+{
+    !is_long(line.len()) && says_nothing(content(line))
+}
+
+fn is_input_called(equation: &Equation, name: &str) -> bool
     ensures { result ≡ is_input_called name.now equation.now }
 {
     match (&equation.op, &equation.name) {
-        (Op::Input, Some(other)) => name == other.as_str().as_bytes(),
+        (Op::Input, Some(other)) => name == other.as_str(),
         _ => false,
     }
 }
 
 /// The first input of a name.
-fn input_called(flat: &Flat, name: &[u8]) -> Option<EqId>
+fn input_called(flat: &Flat, name: &str) -> Option<EqId>
     ensures { result ≡ input_called flat.now name.now }
 {
     for number in 0..flat.count() {
@@ -43,135 +63,126 @@ fn input_called(flat: &Flat, name: &[u8]) -> Option<EqId>
     None
 }
 
-/// The value of a type that a line has: digits for a number, and none for a unit. Other types have
-/// none yet.
+/// The value of a type that a line has. A unit may have none.
 fn value_of(alloc: Global, of: ValueType, value: Option<&[u8]>) -> Result<Option<Scalar>, NoMemory>
     ensures { IfOk result (λ v. v ≡ value_of of (option_map (λ b. b.now) value.entry)) }
 {
-    match of {
-        ValueType::Scalar(ScalarType::Int) => match value {
-            Some(bytes) => read_number(alloc, bytes),
-            None => Ok(None),
-        },
-        ValueType::Scalar(ScalarType::Unit) => match value {
-            Some(_) => Ok(None),
-            None => Ok(Some(Scalar::Unit)),
-        },
+    match (of, value) {
+        (ValueType::Scalar(of), Some(bytes)) => literal_of(alloc, bytes, of),
+        (ValueType::Scalar(ScalarType::Unit), None) => Ok(Some(Scalar::Unit)),
         _ => Ok(None),
     }
 }
 
-fn read_number(alloc: Global, bytes: &[u8]) -> Result<Option<Scalar>, NoMemory>
-    ensures { IfOk result (λ v. v ≡ result_ok (literal scalar_type.Int bytes.now)) }
+fn literal_of(alloc: Global, bytes: &[u8], of: ScalarType) -> Result<Option<Scalar>, NoMemory>
+    ensures { IfOk result (λ v. v ≡ result_ok (literal of bytes.now)) }
 {
-    match read_literal(alloc, bytes, ScalarType::Int) {
+    match read_literal(alloc, bytes, of) {
         Ok(value) => Ok(Some(value)),
         Err(LiteralFault::Memory) => Err(NoMemory),
         Err(_) => Ok(None),
     }
 }
 
-/// The event that a name and a value spell, where the name is that of an input and the value is of
-/// its type.
-fn event_of(
-    alloc: Global,
-    flat: &Flat,
-    name: &[u8],
-    value: Option<&[u8]>,
-) -> Result<Option<(EqId, Scalar)>, NoMemory>
-    ensures { IfOk result (λ e. e ≡ called_event flat.now name.now (option_map (λ b. b.now) value.entry)) }
-{
-    let Some(input) = input_called(flat, name) else {
-        return Ok(None);
-    };
-    match value_of(alloc, flat.equation(input).of, value)? {
-        Some(value) => Ok(Some((input, value))),
-        None => Ok(None),
-    }
+/// Judges the line that comes next.
+#[derive(Clone, Copy, Drop)]
+pub(crate) struct Judge<'a> {
+    pub(crate) alloc: Global,
+    pub(crate) flat: &'a Flat,
+    // Names have to be inputs'.
+    pub(crate) strict: bool,
+    // The inputs that had an event at the last time, which is that of the line before.
+    pub(crate) seen: &'a [EqId],
+    pub(crate) last: Time,
+    pub(crate) number: u64,
 }
 
-/// The line of a time, and perhaps of an event.
-fn said(
-    alloc: Global,
-    flat: &Flat,
-    time: Time,
-    parts: &Parts<'_>,
-) -> Result<Option<TraceLine>, NoMemory>
-    ensures { IfOk result (λ l. l ≡ said flat.now time (bytes_of parts.now).name (bytes_of parts.now).value) }
-{
-    let Some(name) = parts.name else {
-        return Ok(Some(TraceLine { time, event: None }));
-    };
-    match event_of(alloc, flat, name, parts.value)? {
-        Some(event) => Ok(Some(TraceLine {
+impl<'a> Judge<'a> {
+    /// What a line says that is not skipped, or why it is refused.
+    pub(crate) fn judge(&self, line: &[u8]) -> Result<Verdict, NoMemory>
+        requires { is_skipped line.now ≡ false }
+        ensures { IfOk result (λ v. as_read v ≡ judged self.now.flat.now self.now.strict (had_now self.now.last self.now.seen.now) self.now.last self.now.number line.now) }
+    {
+        if is_long(line.len()) {
+            return Ok(Err(TraceFault::LineTooLong { line: self.number }));
+        }
+        match parts_of(content(line)) {
+            Some(parts) => self.said_at(&parts),
+            None => Ok(Err(TraceFault::BadLine { line: self.number })),
+        }
+    }
+
+    /// What a line of these parts says.
+    fn said_at(&self, parts: &Parts<'_>) -> Result<Verdict, NoMemory>
+        requires { IsTrue (are_digits parts.now.time.now) }
+        ensures { IfOk result (λ v. v ≡ formed self.now.flat.now self.now.strict (had_now self.now.last self.now.seen.now) self.now.last self.now.number (Some (bytes_of parts.now))) }
+    {
+        match time_of(parts.time) {
+            None => Ok(Err(TraceFault::TimeTooLarge { line: self.number })),
+            Some(time) if time < self.last => Ok(Err(TraceFault::TimeBack {
+                line: self.number,
+                before: self.last,
+                now: time,
+            })),
+            Some(time) => self.said(time, parts),
+        }
+    }
+
+    /// The line of a time, and perhaps of an event.
+    fn said(&self, time: Time, parts: &Parts<'_>) -> Result<Verdict, NoMemory>
+        ensures { IfOk result (λ v. v ≡ said self.now.flat.now self.now.strict (had_now self.now.last self.now.seen.now) self.now.last self.now.number time (bytes_of parts.now).name (bytes_of parts.now).value) }
+    {
+        match parts.name {
+            Some(name) => self.addressed(time, name, parts.value),
+            None => Ok(Ok(TraceLine { time, event: None })),
+        }
+    }
+
+    /// The line of a time and a name.
+    fn addressed(
+        &self,
+        time: Time,
+        name: &str,
+        value: Option<&[u8]>,
+    ) -> Result<Verdict, NoMemory>
+        ensures { IfOk result (λ v. v ≡ addressed self.now.flat.now self.now.strict (had_now self.now.last self.now.seen.now) self.now.last self.now.number time name.now (option_map (λ b. b.now) value.entry) (input_called self.now.flat.now name.now)) }
+    {
+        match input_called(self.flat, name) {
+            Some(input) => self.placed(time, name, input, value),
+            None if self.strict => Ok(Err(TraceFault::UnknownStream { line: self.number })),
+            None => Ok(Ok(TraceLine { time, event: None })),
+        }
+    }
+
+    /// The line of an input's event.
+    fn placed(
+        &self,
+        time: Time,
+        name: &str,
+        input: EqId,
+        value: Option<&[u8]>,
+    ) -> Result<Verdict, NoMemory>
+        requires { input < length self.now.flat.now.equations }
+        ensures { IfOk result (λ v. v ≡ placed self.now.flat.now self.now.strict (had_now self.now.last self.now.seen.now) self.now.last self.now.number time name.now input (value_at self.now.flat.now input (option_map (λ b. b.now) value.entry))) }
+    {
+        let of = self.flat.equation(input).of;
+        let Some(value) = value_of(self.alloc, of, value)? else {
+            let name = Text::from_str(self.alloc, name)?;
+            return Ok(Err(TraceFault::WrongValue {
+                line: self.number,
+                name,
+            }));
+        };
+        if time == self.last && self.seen.contains(&input) {
+            let name = Text::from_str(self.alloc, name)?;
+            return Ok(Err(TraceFault::Twice {
+                line: self.number,
+                name,
+            }));
+        }
+        Ok(Ok(TraceLine {
             time,
-            event: Some(event),
-        })),
-        None => Ok(None),
-    }
-}
-
-/// The line that bytes spell, where they are of a form, their time is one, and their name, if they
-/// have one, is that of an input of the value's type.
-fn spelled(alloc: Global, flat: &Flat, line: &[u8]) -> Result<Option<TraceLine>, NoMemory>
-    ensures { IfOk result (λ l. l ≡ spelled flat.now line.now) }
-{
-    let Some(parts) = parts_of(line) else {
-        return Ok(None);
-    };
-    match time_of(parts.time) {
-        Some(time) => said(alloc, flat, time, &parts),
-        None => Ok(None),
-    }
-}
-
-/// Line number `number` behind earlier lines, of which the last has the time `last`: what it says,
-/// or why it is refused.
-pub(crate) fn judge(
-    alloc: Global,
-    flat: &Flat,
-    past: &[(Time, EqId)],
-    last: Time,
-    number: u64,
-    line: &[u8],
-) -> Result<Result<TraceLine, TraceFault>, NoMemory>
-    requires { AreUpTo last past.now }
-    ensures { IfOk result (λ j. j ≡ judged past.now last number (spelled flat.now line.now)) }
-{
-    match spelled(alloc, flat, line)? {
-        Some(line) => Ok(place(past, last, number, line)),
-        None => Ok(Err(TraceFault::BadLine { line: number })),
-    }
-}
-
-fn place(
-    past: &[(Time, EqId)],
-    last: Time,
-    number: u64,
-    line: TraceLine,
-) -> Result<TraceLine, TraceFault>
-    requires { AreUpTo last past.now }
-    ensures { result ≡ placed past.now last number line }
-{
-    if had_event(past, &line) {
-        return Err(TraceFault::BadLine { line: number });
-    }
-    if line.time < last {
-        return Err(TraceFault::TimeBack {
-            line: number,
-            before: last,
-            now: line.time,
-        });
-    }
-    Ok(line)
-}
-
-fn had_event(past: &[(Time, EqId)], line: &TraceLine) -> bool
-    requires { (last : ℕ) × AreUpTo last past.now }
-    ensures { result ≡ had_event past.now line.now.time line.now.event }
-{
-    match &line.event {
-        Some((input, _)) => had_event_at(past, line.time, *input),
-        None => false,
+            event: Some((input, value)),
+        }))
     }
 }

@@ -1,11 +1,11 @@
 // The reader of a trace.
 
-ghost use Rattle.std.specs.Prelude.{◌≡◌, ◌≤◌, ◌<◌, ◌^◌, ◌⊎◌, [], ◌∷◌, ◌++◌, ◌&&◌, not, ℕ, Bool, List, false, true, length, IfOk, OnOk, OnErr, vec_capacity, vec_len};
+ghost use Rattle.std.specs.Prelude.{◌≡◌, ◌≤◌, ◌<◌, ◌^◌, [], ◌∷◌, ◌++◌, ℕ, Bool, List, None, false, true, length, slice_get, IfOk, OnOk, OnErr, vec_capacity, vec_len};
 
 use crate::fault::TraceFault;
-use crate::history::note_event;
-use crate::line::judge;
+use crate::line::{Judge, is_long};
 use crate::next::{Next, Rest};
+use crate::seen::note_event;
 use crate::unread::Unread;
 use flat_core::flat::Flat;
 use flat_core::line::TraceLine;
@@ -17,74 +17,74 @@ use tsl_value::time::Time;
 
 /// Reads the lines of a trace from pieces of its bytes.
 ///
-/// It keeps the bytes of the line that is not whole yet, and the times and inputs of the events
-/// that were read.
+/// It keeps the bytes of the line that is not whole yet, and which inputs had an event at the last
+/// time. Lines that say nothing are taken as soon as they stand.
 #[derive(Drop)]
 pub struct TraceReader<'f> {
     alloc: Global,
     flat: &'f Flat,
+    strict: bool,
     // How many bytes more are within the limit.
     left: u64,
     unread: Unread,
-    // Bytes beyond the limit were fed.
-    over: bool,
+    // The first byte beyond the limit, where it was fed.
+    beyond: Option<u8>,
     ended: bool,
-    // The number of lines that were given, and the time of the last one.
+    // The number of lines that were read, the time of the last one that has a time, and the inputs
+    // that had an event at it.
     count: u64,
     last: Time,
-    past: Vec<(Time, EqId)>,
+    seen: Vec<EqId>,
     refused: Option<TraceFault>,
 }
 
 impl<'f> Model for TraceReader<'f> {
     ghost use Rattle.lift_func.specs.contracts.body.Body as body;
     ghost use Rattle.std.specs.Coded.{codes};
-    ghost use Rattle.std.specs.Prelude.{◌+◌, ◌≤◌, ◌^◌, length};
-    ghost use Rattle.trace_reader.specs.Reader.{Reader};
-    ghost use Rattle.trace_reader.specs.History.{AreUpTo};
+    ghost use Rattle.std.specs.Prelude.{◌+◌, ◌≤◌, ◌^◌, ◌&&◌, is_none, length};
+    ghost use Rattle.trace_reader.specs.Reader.{Reader, StopsAtLine};
 
     ghost Value = { Reader };
 
     ghost coded = { Prim.hlevel (codes, body.the_row.coded) };
 
-    ghost view = { λ r. record { system = r.flat.now; left = r.left; unread = r.unread; over = r.over; ended = r.ended; count = r.count; last = r.last; past = r.past.items; refused = r.refused } };
+    ghost view = { λ r. record { system = r.flat.now; strict = r.strict; left = r.left; unread = r.unread; beyond = r.beyond; ended = r.ended; count = r.count; last = r.last; seen = r.seen.items; refused = r.refused } };
 
-    ghost invariant = { λ r. (r.count + length r.unread + r.left ≤ 2 ^ 40) × AreUpTo r.last r.past.items };
+    ghost invariant = { λ r. (r.count + length r.unread + r.left ≤ 2 ^ 40) × StopsAtLine r.unread (r.ended && is_none r.beyond) };
 }
 
 impl<'f> TraceReader<'f> {
     ghost use Rattle.flat_core.specs.System.{System};
     ghost use Rattle.flat_core.specs.Line.{Line};
-    ghost use Rattle.trace_reader.specs.declared.fault.TraceFault.TheVariants.{Memory};
-    ghost use Rattle.trace_reader.specs.Reader.{AwaitsMore, HasLine};
+    ghost use Rattle.trace_reader.specs.Reader.{AwaitsMore, HasLine, at_fault, last_counts};
     ghost use Rattle.trace_reader.specs.Reading.{first_line, reading};
-    ghost use Rattle.trace_reader.specs.Reads.{AnswersAgain, Gathers, IfLine, IfMore, IfRestMore, Reads, Rests, SaysNext, TakesLine, lines_in};
+    ghost use Rattle.trace_reader.specs.Reads.{AnswersAgain, Gathers, IfLine, IfMore, IfRestMore, Reads, Rests, SaysNext, TakesLine, behind_all, lines_in};
 
     /// A reader of the trace of a system's inputs, which was fed nothing. At most `limit` bytes of a
-    /// trace are read. Lines of other names are refused, and `strict` does not change this yet.
+    /// trace are read. A line of a name that no input has only says its time; with `strict` it is
+    /// refused.
     pub fn new(
         alloc: Global,
         flat: &'f Flat,
         strict: bool,
         limit: u64,
     ) -> Result<TraceReader<'f>, NoMemory>
-        requires loose { strict ≡ false }
         requires some { 1 ≤ limit }
         requires few { limit ≤ 2 ^ 40 }
-        ensures reads { IfOk result (λ r. Reads r flat.now limit [] [] false) }
+        ensures reads { IfOk result (λ r. Reads r flat.now strict limit [] [] false) }
         ensures awaits { IfOk result AwaitsMore }
     {
-        let _ = strict;
         Ok(TraceReader {
             alloc,
             flat,
+            strict,
             left: limit,
             unread: Unread::new(alloc),
-            over: false,
+            beyond: None,
             ended: false,
             count: 0,
             last: Time::new(0).unwrap(),
-            past: Vec::new(alloc),
+            seen: Vec::new(alloc),
             refused: None,
         })
     }
@@ -95,42 +95,46 @@ impl<'f> TraceReader<'f> {
         requires awaits { AwaitsMore self.old }
         requires some { 1 ≤ length piece.now }
         requires short { length piece.now ≤ 65536 }
-        ensures reads { OnOk result ((s : System) (limit : ℕ) (fed : List ℕ) (given : List Line) →
-            Reads self.old s limit fed given false → Reads self.new s limit (fed ++ piece.now) given false) }
+        ensures reads { OnOk result ((s : System) (strict : Bool) (limit : ℕ) (fed : List ℕ) (given : List Line) →
+            Reads self.old s strict limit fed given false → Reads self.new s strict limit (fed ++ piece.now) given false) }
         ensures err { OnErr result (self.new ≡ self.old) }
     {
         let len = piece.len() as u64;
         let fits = len.min(self.left);
         self.unread.append(&piece[..fits as usize])?;
-        self.over = self.left < len;
+        self.beyond = byte_at(piece, fits as usize);
         self.left -= fits;
+        self.count += self.unread.pass_skipped(false);
         Ok(())
     }
 
     /// Says that the trace has ended. Bytes behind the last line's end are a line from then on. Said
     /// again, it leaves the reader as it is, so that the last line is not given twice.
     pub fn finish(&mut self)
-        ensures reads { (s : System) (limit : ℕ) (fed : List ℕ) (given : List Line) →
-            Reads self.old s limit fed given false → Reads self.new s limit fed given true }
+        ensures reads { (s : System) (strict : Bool) (limit : ℕ) (fed : List ℕ) (given : List Line) →
+            Reads self.old s strict limit fed given false → Reads self.new s strict limit fed given true }
         ensures again { self.old.ended ≡ true → self.new ≡ self.old }
     {
-        self.ended = true;
+        if !self.ended {
+            self.ended = true;
+            self.count += self.unread.pass_skipped(self.beyond.is_none());
+        }
     }
 
     /// The next line of what was fed. `More` comes where no further whole line stands, nothing is
     /// refused and the trace has not ended, and `End` where it has. A fault is answered again by
-    /// every further call. Want of memory leaves the reader as it was.
+    /// every further call, or want of memory is. Want of memory leaves the reader as it was.
     pub fn next_line(&mut self) -> Result<Next, TraceFault>
-        ensures says { (s : System) (limit : ℕ) (fed : List ℕ) (given : List Line) (ended : Bool) →
-            Reads self.old s limit fed given ended → SaysNext (reading s limit fed ended) given ended result }
-        ensures reads { (s : System) (limit : ℕ) (fed : List ℕ) (given : List Line) (ended : Bool) →
-            Reads self.old s limit fed given ended → Reads self.new s limit fed (given ++ lines_in result) ended }
+        ensures says { (s : System) (strict : Bool) (limit : ℕ) (fed : List ℕ) (given : List Line) (ended : Bool) →
+            Reads self.old s strict limit fed given ended → SaysNext (reading s strict limit fed ended) given ended result }
+        ensures reads { (s : System) (strict : Bool) (limit : ℕ) (fed : List ℕ) (given : List Line) (ended : Bool) →
+            Reads self.old s strict limit fed given ended → Reads self.new s strict limit fed (given ++ lines_in result) ended }
         ensures more { IfMore result (AwaitsMore self.new) }
         ensures again { AnswersAgain self.old self.new result }
         ensures fewer { IfLine result (length self.new.unread < length self.old.unread) }
     {
         if let Some(fault) = &self.refused {
-            return Err(fault.copy());
+            return Err(fault.copy()?);
         }
         let last_counts = self.last_counts();
         match self.unread.line_len(last_counts) {
@@ -141,9 +145,9 @@ impl<'f> TraceReader<'f> {
 
     /// Whether bytes behind the last line's end are a line.
     fn last_counts(&self) -> bool
-        ensures { result ≡ (self.now.ended && not self.now.over) }
+        ensures { result ≡ last_counts self.now }
     {
-        self.ended && !self.over
+        self.ended && self.beyond.is_none()
     }
 
     /// Gives the first line that stands.
@@ -154,39 +158,49 @@ impl<'f> TraceReader<'f> {
         requires accepted { self.old.refused ≡ None }
         ensures { TakesLine self.old self.new len result }
     {
-        let line = &self.unread.as_slice()[..len];
-        match judge(
-            self.alloc,
-            self.flat,
-            &self.past,
-            self.last,
-            self.count + 1,
-            line,
-        )? {
+        let last_counts = self.last_counts();
+        let judge = Judge {
+            alloc: self.alloc,
+            flat: self.flat,
+            strict: self.strict,
+            seen: &self.seen,
+            last: self.last,
+            number: self.count + 1,
+        };
+        match judge.judge(&self.unread.as_slice()[..len])? {
             Ok(line) => {
-                note_event(&mut self.past, &line)?;
+                note_event(&mut self.seen, self.last, &line)?;
                 self.unread.skip_line(len);
                 self.count += 1;
+                self.count += self.unread.pass_skipped(last_counts);
                 self.last = line.time;
                 Ok(Next::Line(line))
             }
             Err(fault) => {
-                self.refused = Some(fault.copy());
+                self.refuse(&fault)?;
                 Err(fault)
             }
         }
     }
 
+    /// Keeps a fault, which every further call answers.
+    fn refuse(&mut self, fault: &TraceFault) -> Result<(), NoMemory>
+        ensures ok { OnOk result (self.new ≡ at_fault self.old fault.now) }
+        ensures err { OnErr result (self.new ≡ self.old) }
+    {
+        self.refused = Some(fault.copy()?);
+        Ok(())
+    }
+
     /// What comes where no line stands.
     fn next_at_rest(&mut self) -> Result<Next, TraceFault>
-        requires line { first_line self.old.unread (self.old.ended && not self.old.over) ≡ None }
+        requires line { first_line self.old.unread (last_counts self.old) ≡ None }
         requires accepted { self.old.refused ≡ None }
         ensures { Rests self.old self.new result }
     {
-        if self.over {
-            let line = self.count + 1;
-            self.refused = Some(TraceFault::TraceTooLong { line });
-            return Err(TraceFault::TraceTooLong { line });
+        if let Some(fault) = self.behind_all() {
+            self.refuse(&fault)?;
+            return Err(fault);
         }
         if self.ended {
             Ok(Next::End)
@@ -195,12 +209,27 @@ impl<'f> TraceReader<'f> {
         }
     }
 
+    /// Why what stands behind the whole lines is refused.
+    fn behind_all(&self) -> Option<TraceFault>
+        ensures { result ≡ behind_all self.now }
+    {
+        let line = self.count + 1;
+        let more = self.beyond.is_some_and(|byte| byte != b'\n');
+        if is_long(self.unread.len() + usize::from(more)) {
+            Some(TraceFault::LineTooLong { line })
+        } else if self.beyond.is_some() {
+            Some(TraceFault::TraceTooLong { line })
+        } else {
+            None
+        }
+    }
+
     /// Gives all lines that stand, by `next_line`. What was gathered before want of memory stays
     /// gathered.
     pub fn read_all(&mut self, lines: &mut Vec<TraceLine>) -> Result<Rest, TraceFault>
-        ensures gathers { (s : System) (limit : ℕ) (fed : List ℕ) (given : List Line) (ended : Bool) →
-            Reads self.old s limit fed given ended →
-            Gathers self.new s limit fed given ended lines.old.items lines.new.items result }
+        ensures gathers { (s : System) (strict : Bool) (limit : ℕ) (fed : List ℕ) (given : List Line) (ended : Bool) →
+            Reads self.old s strict limit fed given ended →
+            Gathers self.new s strict limit fed given ended lines.old.items lines.new.items result }
         ensures more { IfRestMore result (AwaitsMore self.new) }
     {
         loop {
@@ -212,6 +241,13 @@ impl<'f> TraceReader<'f> {
             }
         }
     }
+}
+
+/// The byte at a place.
+fn byte_at(bytes: &[u8], place: usize) -> Option<u8>
+    ensures { result ≡ slice_get bytes.now place }
+{
+    bytes.get(place).copied()
 }
 
 /// Appends a line, for which there is room.

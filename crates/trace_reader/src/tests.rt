@@ -1,6 +1,6 @@
 // The reader, on small traces.
 
-ghost use Rattle.std.specs.Prelude.{◌≡◌, ◌≤◌, ◌^◌, ℕ, List, [], ◌++◌, false, true, length, IfOk, OnOk};
+ghost use Rattle.std.specs.Prelude.{◌≡◌, ◌≤◌, ◌^◌, ℕ, Bool, List, [], ◌++◌, false, true, length, IfOk, OnOk};
 ghost use Rattle.flat_core.specs.System.{System};
 ghost use Rattle.trace_reader.specs.Reader.{AwaitsMore};
 ghost use Rattle.trace_reader.specs.Reading.{reading};
@@ -61,10 +61,10 @@ fn read_piece(
     requires some { 1 ≤ length piece.now }
     requires short { length piece.now ≤ 65536 }
     requires awaits { AwaitsMore reader.old }
-    ensures says { (s : System) (limit : ℕ) (fed : List ℕ) →
-        Reads reader.old s limit fed lines.old.items false → SaysRest (reading s limit (fed ++ piece.now) false) lines.new.items false result }
-    ensures reads { (s : System) (limit : ℕ) (fed : List ℕ) →
-        Reads reader.old s limit fed lines.old.items false → OnOk result (Reads reader.new s limit (fed ++ piece.now) lines.new.items false) }
+    ensures says { (s : System) (strict : Bool) (limit : ℕ) (fed : List ℕ) →
+        Reads reader.old s strict limit fed lines.old.items false → SaysRest (reading s strict limit (fed ++ piece.now) false) lines.new.items false result }
+    ensures reads { (s : System) (strict : Bool) (limit : ℕ) (fed : List ℕ) →
+        Reads reader.old s strict limit fed lines.old.items false → OnOk result (Reads reader.new s strict limit (fed ++ piece.now) lines.new.items false) }
     ensures more { IfRestMore result (AwaitsMore reader.new) }
 {
     match reader.feed(piece) {
@@ -75,8 +75,8 @@ fn read_piece(
 
 /// Says that the trace has ended, and gathers its last line.
 fn read_end(reader: &mut TraceReader<'_>, lines: &mut Vec<TraceLine>) -> Result<Rest, TraceFault>
-    ensures { (s : System) (limit : ℕ) (fed : List ℕ) →
-        Reads reader.old s limit fed lines.old.items false → SaysRest (reading s limit fed true) lines.new.items true result }
+    ensures { (s : System) (strict : Bool) (limit : ℕ) (fed : List ℕ) →
+        Reads reader.old s strict limit fed lines.old.items false → SaysRest (reading s strict limit fed true) lines.new.items true result }
 {
     reader.finish();
     reader.read_all(lines)
@@ -92,8 +92,8 @@ fn read_in_pieces(
     requires some { 1 ≤ size }
     requires short { size ≤ 65536 }
     requires awaits { AwaitsMore reader.old }
-    ensures { (s : System) (limit : ℕ) →
-        Reads reader.old s limit [] lines.old.items false → SaysRest (reading s limit trace.now true) lines.new.items true result }
+    ensures { (s : System) (strict : Bool) (limit : ℕ) →
+        Reads reader.old s strict limit [] lines.old.items false → SaysRest (reading s strict limit trace.now true) lines.new.items true result }
 {
     let mut rest = trace;
     while !rest.is_empty() {

@@ -1,10 +1,12 @@
 // The bytes of a stream that are not read yet.
 
-ghost use Rattle.std.specs.Prelude.{◌≡◌, ◌≤◌, ◌<◌, ◌+◌, ◌++◌, [], None, length, take, drop, OnOk, OnErr, IfSome, IfNone, IsTrue};
+ghost use Rattle.std.specs.Prelude.{◌≡◌, ◌≤◌, ◌<◌, ◌^◌, ◌+◌, ◌++◌, [], None, length, take, drop, OnOk, OnErr, IfSome, IfNone, IsTrue};
 ghost use Rattle.trace_reader.specs.Form.{split_once};
+ghost use Rattle.trace_reader.specs.Reader.{Passes, StopsAtLine};
 ghost use Rattle.trace_reader.specs.Reading.{first_line};
 
 use crate::form::place_of;
+use crate::line::is_skipped;
 use std::alloc::Global;
 use std::marker::Model;
 use tsl_value::memory::NoMemory;
@@ -91,6 +93,31 @@ impl Unread {
                 None
             }
         }
+    }
+
+    /// Takes the lines at the front that are empty or comments, and gives their number.
+    pub(crate) fn pass_skipped(&mut self, ended: bool) -> u64
+        requires { length self.old ≤ 2 ^ 40 }
+        ensures passes { Passes ended self.old result self.new }
+        ensures stops { StopsAtLine self.new ended }
+        ensures fewer { result + length self.new ≤ length self.old }
+    {
+        let mut lines = 0;
+        while let Some(len) = self.line_len(ended) {
+            if !is_skipped(&self.as_slice()[..len]) {
+                break;
+            }
+            self.skip_line(len);
+            lines += 1;
+        }
+        lines
+    }
+
+    /// The number of bytes.
+    pub(crate) fn len(&self) -> usize
+        ensures { result ≡ length self.now }
+    {
+        self.bytes.len() - self.start
     }
 
     /// The bytes.

@@ -1,35 +1,44 @@
-use Rattle.std.proofs.Common.{◌∙◌, ◌&&◌, ap, sym, not}
-use Rattle.trace_reader.specs.Reader.{Reader}
+use Rattle.std.proofs.Common.{◌∙◌, ap, sym}
+use Rattle.trace_reader.specs.Reader.{Reader, last_counts}
 use Rattle.trace_reader.specs.Reading.{first_line}
-use Rattle.trace_reader.proofs.StepLemmas.{none_from, rests, takes_line}
+use Rattle.trace_reader.proofs.StepLemmas.{line_fewer, none_from, rests, takes_line}
 use Rattle.trace_reader.proofs.reader.TraceReader.next_line.Goals as goal
 
 pub returns-in-Some-line_len-clause-says : goal.returns-in-Some-line_len-clause-says
 returns-in-Some-line_len-clause-says c =
-    let has = ap (first_line c.self.inside.unread) (ap (λ (r : Reader). r.ended && not r.over) c.self.view_is ∙ sym c.last_counts-last_counts.ensures) ∙ c.in-Some-line_len.ensures.line in
+    let has = ap (first_line c.self.inside.unread) (ap (λ (r : Reader). last_counts r) c.self.view_is ∙ sym c.last_counts-last_counts.ensures) ∙ c.in-Some-line_len.ensures.line in
     let takes = rw c.line_len.ensures.same at c.take_line.ensures in
     let accepted = none_from c.self.inside.refused c.in_default.not-Some in
-    rw (← c.self.view_is) (λ s limit fed given ended reads.
-    (takes_line _ s limit fed given ended reads c.take_line.new.self c.in-Some-line_len.len c.take_line.result has accepted takes).0)
+    rw (← c.self.view_is) (λ s strict limit fed given ended reads.
+    (takes_line _ s strict limit fed given ended reads c.take_line.new.self c.in-Some-line_len.len c.take_line.result has accepted takes).0)
 
 pub returns-in-Some-line_len-clause-reads : goal.returns-in-Some-line_len-clause-reads
 returns-in-Some-line_len-clause-reads c =
-    let has = ap (first_line c.self.inside.unread) (ap (λ (r : Reader). r.ended && not r.over) c.self.view_is ∙ sym c.last_counts-last_counts.ensures) ∙ c.in-Some-line_len.ensures.line in
+    let has = ap (first_line c.self.inside.unread) (ap (λ (r : Reader). last_counts r) c.self.view_is ∙ sym c.last_counts-last_counts.ensures) ∙ c.in-Some-line_len.ensures.line in
     let takes = rw c.line_len.ensures.same at c.take_line.ensures in
     let accepted = none_from c.self.inside.refused c.in_default.not-Some in
-    rw (← c.self.view_is) (λ s limit fed given ended reads.
-    (takes_line _ s limit fed given ended reads c.take_line.new.self c.in-Some-line_len.len c.take_line.result has accepted takes).1)
+    rw (← c.self.view_is) (λ s strict limit fed given ended reads.
+    (takes_line _ s strict limit fed given ended reads c.take_line.new.self c.in-Some-line_len.len c.take_line.result has accepted takes).1)
 
 pub returns-in-None-clause-says : goal.returns-in-None-clause-says
 returns-in-None-clause-says c =
-    let none = ap (first_line c.self.inside.unread) (ap (λ (r : Reader). r.ended && not r.over) c.self.view_is ∙ sym c.last_counts-last_counts.ensures) ∙ c.in-None.ensures.none in
+    let none = ap (first_line c.self.inside.unread) (ap (λ (r : Reader). last_counts r) c.self.view_is ∙ sym c.last_counts-last_counts.ensures) ∙ c.in-None.ensures.none in
     let rest = rw c.line_len.ensures.same at c.next_at_rest.ensures in
-    rw (← c.self.view_is) (λ s limit fed given ended reads.
-    (rests _ s limit fed given ended reads c.next_at_rest.new.self c.next_at_rest.result none rest).0)
+    rw (← c.self.view_is) (λ s strict limit fed given ended reads.
+    (rests _ s strict limit fed given ended reads c.next_at_rest.new.self c.next_at_rest.result none rest).0)
 
 pub returns-in-None-clause-reads : goal.returns-in-None-clause-reads
 returns-in-None-clause-reads c =
-    let none = ap (first_line c.self.inside.unread) (ap (λ (r : Reader). r.ended && not r.over) c.self.view_is ∙ sym c.last_counts-last_counts.ensures) ∙ c.in-None.ensures.none in
+    let none = ap (first_line c.self.inside.unread) (ap (λ (r : Reader). last_counts r) c.self.view_is ∙ sym c.last_counts-last_counts.ensures) ∙ c.in-None.ensures.none in
     let rest = rw c.line_len.ensures.same at c.next_at_rest.ensures in
-    rw (← c.self.view_is) (λ s limit fed given ended reads.
-    (rests _ s limit fed given ended reads c.next_at_rest.new.self c.next_at_rest.result none rest).1)
+    rw (← c.self.view_is) (λ s strict limit fed given ended reads.
+    (rests _ s strict limit fed given ended reads c.next_at_rest.new.self c.next_at_rest.result none rest).1)
+
+pub invariant_of-self : goal.invariant_of-self
+invariant_of-self c = rw c.in-Some-line_len.ensures.same c.self.invariant
+
+pub returns-in-Some-line_len-clause-fewer : goal.returns-in-Some-line_len-clause-fewer
+returns-in-Some-line_len-clause-fewer c =
+    let takes = rw (c.line_len.ensures.same, c.self.view_is) at c.take_line.ensures in
+    let some = ap (λ (r : Reader). r.unread) c.self.view_is in
+    line_fewer c.args.self.now c.take_line.new.self c.in-Some-line_len.len c.take_line.result (rw some at c.in-Some-line_len.ensures.some) takes
