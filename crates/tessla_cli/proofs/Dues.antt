@@ -30,7 +30,7 @@ use Rattle.tessla_cli.proofs.DueTexts.{due_alike, due_grows}
 pub none_read : (s : System) (strict : Bool) (limit : ℕ) → reading s strict limit [] false ≡ record { lines = []; refused = None }
 unfolding reading
 none_read s strict zero = refl
-none_read s strict (suc n) = let none : nat_lt (suc n) 0 ≡ false = grind (arith, nat_tests) in λ k. limited (record { lines = []; refused = None }) (overflow (none k) 1)
+none_read s strict (suc n) = refl
 
 pub none_closed : (s : System) (strict : Bool) (limit until : ℕ) → closed_below (reading s strict limit [] false) until false ≡ 0
 none_closed s strict limit until = ap (λ (r : Reading). closed_below r until false) (none_read s strict limit)
