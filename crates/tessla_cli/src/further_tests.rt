@@ -1,6 +1,6 @@
 // Whole runs with numbers, delays, faults and a limit of instants.
 
-use crate::tests::run;
+use crate::tests::{End, has_ended, prints, run};
 use std::alloc::Global;
 use std::test::Fail;
 use tsl_value::bytes::Bytes;
@@ -22,14 +22,6 @@ const DELAY: &str = "in d: Events[Int]\nin r: Events[Unit]\ndef e := delay(d, r)
 
 const QUOTIENT: &str = "in i: Events[Int]\ndef q := 1 / i\nout q\n";
 
-/// The status, the output and the message of a run.
-#[derive(Clone, Copy)]
-struct End<'a> {
-    status: u8,
-    out: &'a str,
-    err: &'a str,
-}
-
 /// The run ends so, and its world was told of each call.
 fn ends(
     alloc: Global,
@@ -39,19 +31,7 @@ fn ends(
     end: End<'_>,
 ) -> Result<bool, NoMemory> {
     let left = run(alloc, words, spec, trace, 64, &[])?;
-    let is_so = left.status == end.status
-        && left.world.out() == end.out.as_bytes()
-        && left.world.err() == end.err.as_bytes();
-    Ok(is_so && left.world.is_told())
-}
-
-/// With status 0 and this output.
-fn prints(out: &str) -> End<'_> {
-    End {
-        status: 0,
-        out,
-        err: "",
-    }
+    Ok(has_ended(&left, end))
 }
 
 /// An event at each time from 1 to 99.

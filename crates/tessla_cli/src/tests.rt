@@ -18,6 +18,31 @@ pub(crate) struct Left {
     pub(crate) world: MemoryWorld,
 }
 
+/// The status, the output and the message of a run.
+#[derive(Clone, Copy)]
+pub(crate) struct End<'a> {
+    pub(crate) status: u8,
+    pub(crate) out: &'a str,
+    pub(crate) err: &'a str,
+}
+
+/// The run ended so, and its world was told of each call.
+pub(crate) fn has_ended(left: &Left, end: End<'_>) -> bool {
+    let is_so = left.status == end.status
+        && left.world.out() == end.out.as_bytes()
+        && left.world.err() == end.err.as_bytes();
+    is_so && left.world.is_told()
+}
+
+/// With status 0 and this output.
+pub(crate) fn prints(out: &str) -> End<'_> {
+    End {
+        status: 0,
+        out,
+        err: "",
+    }
+}
+
 const PREVIOUS: &str = "in i: Events[Int]\ndef p := last(i, i)\nout p\n";
 
 const TWO_INPUTS: &str =

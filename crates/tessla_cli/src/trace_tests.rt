@@ -1,35 +1,41 @@
 // Whole runs over the forms of a trace, and how a trace is refused.
 
-use crate::tests::run_files;
+use crate::tests::{End, has_ended, prints, run_files};
 use std::alloc::Global;
 use std::test::Fail;
 use tsl_value::bytes::Bytes;
 use tsl_value::memory::NoMemory;
 
-/// The number of the event before, by a set of all that came.
+/// Whether a number came before, by a set of all that came.
 const SEEN: &str =
     "in i: Events[Int]\ndef m := merge(y, Set.empty[Int])\ndef yl := last(m, i)\ndef y: Events[Set[Int]] := Set.add(yl, i)\ndef s := Set.contains(yl, i)\nout s\n";
 
-/// The run of a specification on a trace `t` ends with this status, output and message, and its world was told of each call.
+/// The run of a specification on a trace `t` ends so.
 fn ends(
     alloc: Global,
     words: &[&str],
     spec: &str,
     trace: &[u8],
-    end: (u8, &str, &str),
+    end: End<'_>,
 ) -> Result<bool, NoMemory> {
     let left = run_files(alloc, words, spec, "t", trace)?;
-    let is_so = left.status == end.0
-        && left.world.out() == end.1.as_bytes()
-        && left.world.err() == end.2.as_bytes();
-    Ok(is_so && left.world.is_told())
+    Ok(has_ended(&left, end))
+}
+
+/// With status 4 and this message, and nothing is printed.
+fn refusal(err: &str) -> End<'_> {
+    End {
+        status: 4,
+        out: "",
+        err,
+    }
 }
 
 #[test]
 fn a_named_trace_is_closed_up_to_a_time(rt: HostRuntime) -> Result<(), Fail> {
     let spec = "def p: Events[Unit] := delay(const(10, merge(unit, p)), unit)\nout p\n";
     let words = &["run", "s.tsl", "t", "--until=25"];
-    let end = (0, "10: p = ()\n20: p = ()\n", "");
+    let end = prints("10: p = ()\n20: p = ()\n");
     assert!(rt; ends(rt.alloc(), words, spec, b"", end)?);
     Ok(())
 }
@@ -39,11 +45,11 @@ fn truth_values_and_texts_are_read(rt: HostRuntime) -> Result<(), Fail> {
     let alloc = rt.alloc();
     let words = &["run", "s.tsl", "t"];
     let negated = "in b: Events[Bool]\ndef n := !b\nout n\n";
-    let end = (0, "1: n = false\n2: n = true\n", "");
+    let end = prints("1: n = false\n2: n = true\n");
     assert!(rt; ends(alloc, words, negated, b"01 : b=true\n2:b = false", end)?);
-    let spec = "in t: Events[String]\ndef w := String.concat(t, \"!\")\nout w as said\n";
-    let end = (0, "1: said = \"a\\\"b!\"\n", "");
-    assert!(rt; ends(alloc, words, spec, b"1: t = \"a\\\"b\"\n", end)?);
+    let said = "in t: Events[String]\ndef w := String.concat(t, \"!\")\nout w as said\n";
+    let end = prints("1: said = \"a\\\"b!\"\n");
+    assert!(rt; ends(alloc, words, said, b"1: t = \"a\\\"b\"\n", end)?);
     Ok(())
 }
 
@@ -51,17 +57,25 @@ fn truth_values_and_texts_are_read(rt: HostRuntime) -> Result<(), Fail> {
 fn other_names_are_refused_where_that_is_asked(rt: HostRuntime) -> Result<(), Fail> {
     let alloc = rt.alloc();
     let trace = b"# c\n\n1: i = 5 \t\r\n2: other = ?\n3: i = 5";
-    let end = (0, "1: s = false\n3: s = true\n", "");
+    let end = prints("1: s = false\n3: s = true\n");
     assert!(rt; ends(alloc, &["run", "s.tsl", "t"], SEEN, trace, end)?);
-    let end = (4, "", "trace 4: unknown stream\n");
-    assert!(rt; ends(alloc, &["run", "s.tsl", "t", "--strict"], SEEN, trace, end)?);
+    let words = &["run", "s.tsl", "t", "--strict"];
+    assert!(rt;
+        ends(
+            alloc,
+            words,
+            SEEN,
+            trace,
+            refusal("trace 4: unknown stream\n")
+        )?
+    );
     Ok(())
 }
 
 /// The trace is refused with this message, and nothing is printed.
 fn refuses(alloc: Global, trace: &[u8], err: &str) -> Result<bool, NoMemory> {
     let words = &["run", "s.tsl", "t", "--bytes", "70000"];
-    ends(alloc, words, SEEN, trace, (4, "", err))
+    ends(alloc, words, SEEN, trace, refusal(err))
 }
 
 /// As many `#`.
@@ -108,10 +122,18 @@ fn a_trace_has_as_many_bytes_as_it_may(rt: HostRuntime) -> Result<(), Fail> {
             words,
             SEEN,
             b"1: i = 5\n2:\n",
-            (0, "1: s = false\n", "")
+            prints("1: s = false\n")
         )?
     );
-    let end = (4, "", "trace 2: trace too long\n");
-    assert!(rt; ends(alloc, words, SEEN, b"1: i = 5\n2: i = 7\n", end)?);
+    let long = b"1: i = 5\n2: i = 7\n";
+    assert!(rt;
+        ends(
+            alloc,
+            words,
+            SEEN,
+            long,
+            refusal("trace 2: trace too long\n")
+        )?
+    );
     Ok(())
 }
