@@ -8,6 +8,8 @@ pub mod StepLemmas
 pub mod LawLemmas
 pub mod LineLemmas
 pub mod SeenLemmas
+pub mod FormLemmas
+pub mod SpellingLemmas
 pub mod SplitLemmas
 pub mod TimeLemmas
 pub mod PlaceLemmas

@@ -136,9 +136,31 @@ fn is_back(rest: &Result<Rest, TraceFault>, number: u64, last: u64, given: u64) 
     }
 }
 
+fn is_wrong(fault: &TraceFault, number: u64, called: &str) -> bool {
+    match fault {
+        TraceFault::WrongValue { line, name } => *line == number && name.as_str() == called,
+        _ => false,
+    }
+}
+
+fn is_refused_for_a_value(rest: &Result<Rest, TraceFault>, number: u64, called: &str) -> bool {
+    match rest {
+        Err(fault) => is_wrong(fault, number, called),
+        Ok(_) => false,
+    }
+}
+
+fn is_twice(rest: &Result<Rest, TraceFault>, number: u64, called: &str) -> bool {
+    match rest {
+        Err(TraceFault::Twice { line, name }) => *line == number && name.as_str() == called,
+        _ => false,
+    }
+}
+
 /// What a trace of two inputs gives, in pieces of this size.
 fn lines_of(
     alloc: Global,
+    strict: bool,
     limit: u64,
     trace: &[u8],
     size: usize,
@@ -150,7 +172,7 @@ fn lines_of(
     requires high { limit ≤ 2 ^ 40 }
 {
     let flat = two_inputs(alloc)?;
-    let mut reader = TraceReader::new(alloc, &flat, false, limit)?;
+    let mut reader = TraceReader::new(alloc, &flat, strict, limit)?;
     read_in_pieces(&mut reader, trace, size, lines)
 }
 
@@ -160,8 +182,9 @@ fn a_line_that_is_cut_is_one_line(rt: HostRuntime) -> Result<(), Fail> {
         let mut lines = Vec::new(rt.alloc());
         let rest = lines_of(
             rt.alloc(),
+            true,
             100,
-            b"1: i = 5\n2: j\n2: i = -7\n9:",
+            b"# all\n1 :i=5 \r\n\n002: j = ()\n 2:\ti = -7\n9:",
             size,
             &mut lines,
         );
@@ -177,42 +200,61 @@ fn a_line_that_is_cut_is_one_line(rt: HostRuntime) -> Result<(), Fail> {
 
 #[test]
 fn the_first_refused_line_is_named(rt: HostRuntime) -> Result<(), Fail> {
-    let mut lines = Vec::new(rt.alloc());
-    let back = lines_of(rt.alloc(), 100, b"5: i = 1\n4: i = 1\n", 9, &mut lines);
-    assert!(rt; matches!(back, Err(TraceFault::TimeBack { line: 2, .. })));
-    let twice = lines_of(
-        rt.alloc(),
-        100,
-        b"1: i = 5\n1: j\n1: i = 6\n",
-        2,
-        &mut lines,
-    );
-    assert!(rt; matches!(twice, Err(TraceFault::BadLine { line: 3 })));
-    let long = lines_of(rt.alloc(), 12, b"1: i = 5\n2: i = 7\n", 4, &mut lines);
+    let alloc = rt.alloc();
+    let mut lines = Vec::new(alloc);
+    let back = lines_of(alloc, false, 100, b"9:\n\n8: i = x\n", 9, &mut lines);
+    assert!(rt; is_back(&back, 3, 9, 8));
+    let twice = lines_of(alloc, false, 100, b"1: i = 5\n1: j\n1: i = 6", 2, &mut lines);
+    assert!(rt; is_twice(&twice, 3, "i"));
+    let long = lines_of(alloc, false, 12, b"1: i = 5\n2: i = 7\n", 4, &mut lines);
     assert!(rt; matches!(long, Err(TraceFault::TraceTooLong { line: 2 })));
+    let wrong = lines_of(alloc, false, 100, b"#\n1: j = 0", 4, &mut lines);
+    assert!(rt; is_refused_for_a_value(&wrong, 2, "j"));
+    let bad = lines_of(alloc, false, 100, b"1: j =", 4, &mut lines);
+    assert!(rt; matches!(bad, Err(TraceFault::BadLine { line: 1 })));
+    let late = lines_of(alloc, false, 100, b"9223372036854775808:", 4, &mut lines);
+    assert!(rt; matches!(late, Err(TraceFault::TimeTooLarge { line: 1 })));
     assert_eq!(rt; lines.len(), 4);
     Ok(())
 }
 
 #[test]
-fn a_bare_time_closes_the_times_before(rt: HostRuntime) -> Result<(), Fail> {
+fn other_names_are_refused_with_strict_alone(rt: HostRuntime) -> Result<(), Fail> {
     let mut lines = Vec::new(rt.alloc());
-    let back = lines_of(rt.alloc(), 100, b"9:\n9:\n8: j\n", 9, &mut lines);
-    assert!(rt; is_back(&back, 3, 9, 8));
+    let trace: &[u8] = b"2: other = ?\n3: j";
+    let loose = lines_of(rt.alloc(), false, 100, trace, 9, &mut lines);
+    assert!(rt; matches!(loose, Ok(Rest::End)));
     assert_eq!(rt; lines.len(), 2);
+    assert!(rt; is_bare_time(&lines[0], 2));
+    let strict = lines_of(rt.alloc(), true, 100, trace, 9, &mut lines);
+    assert!(rt; matches!(strict, Err(TraceFault::UnknownStream { line: 1 })));
     Ok(())
 }
 
 #[test]
-fn a_form_of_another_type_is_refused(rt: HostRuntime) -> Result<(), Fail> {
-    let bad: [&[u8]; 5] = [b"1: j = 3", b"1: j = ()", b"1: i", b"1: ", b"1: i = "];
-    for trace in bad {
-        let mut lines = Vec::new(rt.alloc());
-        let refused = lines_of(rt.alloc(), 100, trace, 100, &mut lines);
-        assert!(rt; matches!(refused, Err(TraceFault::BadLine { line: 1 })));
-    }
+fn a_line_has_so_many_bytes(rt: HostRuntime) -> Result<(), Fail> {
     let mut lines = Vec::new(rt.alloc());
-    let twice = lines_of(rt.alloc(), 100, b"1: j\n1: j", 100, &mut lines);
-    assert!(rt; matches!(twice, Err(TraceFault::BadLine { line: 2 })));
+    let comment = [b'#'; 65_537];
+    let most = lines_of(rt.alloc(), false, 70_000, &comment[1..], 60_000, &mut lines);
+    assert!(rt; matches!(most, Ok(Rest::End)));
+    let long = lines_of(rt.alloc(), false, 70_000, &comment, 60_000, &mut lines);
+    assert!(rt; matches!(long, Err(TraceFault::LineTooLong { line: 1 })));
+    let beyond = lines_of(rt.alloc(), false, 65_536, &comment, 60_000, &mut lines);
+    assert!(rt; matches!(beyond, Err(TraceFault::LineTooLong { line: 1 })));
+    Ok(())
+}
+
+#[test]
+fn a_fault_is_answered_again(rt: HostRuntime) -> Result<(), Fail> {
+    let flat = two_inputs(rt.alloc()).expect(&rt, "memory");
+    let mut reader = TraceReader::new(rt.alloc(), &flat, false, 100).expect(&rt, "memory");
+    reader.feed(b"1: i\n2:\n").expect(&rt, "memory");
+    for _ in 0..2u8 {
+        let refused = match reader.next_line() {
+            Err(fault) => is_wrong(&fault, 1, "i"),
+            Ok(_next) => false,
+        };
+        assert!(rt; refused);
+    }
     Ok(())
 }
