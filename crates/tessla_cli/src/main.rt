@@ -19,6 +19,8 @@ mod top;
 mod turn;
 mod watch;
 mod words;
+#[cfg(test)]
+mod words_tests;
 mod write;
 
 use crate::ending::Broken;

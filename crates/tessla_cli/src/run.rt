@@ -155,7 +155,7 @@ pub fn run<W: World>(alloc: Global, words: &Words, world: &mut W) -> Result<Endi
     ensures calls { Grows W.told W.journal world.old world.new (RunsWords words.now) }
     ensures ending { IfOk result (λ ending. Grows W.told W.journal world.old world.new (WordsEnd words.now ending)) }
 {
-    match words.command() {
+    match words.command(alloc)? {
         Some(asked) => {
             let options = Options {
                 instants: asked.instants,
