@@ -10,3 +10,6 @@ pub mod Monitoring
 pub mod FirstInstants
 pub mod Meaning
 pub mod Exact
+pub mod WordRows
+pub mod WordTurns
+pub mod WordLemmas

@@ -1,3 +1,4 @@
+pub mod RunCommand
 pub mod Words
 pub mod Due
 pub mod Ending

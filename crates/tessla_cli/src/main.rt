@@ -21,6 +21,8 @@ mod trace_tests;
 mod turn;
 mod watch;
 mod words;
+#[cfg(test)]
+mod words_tests;
 mod write;
 
 use crate::ending::Broken;

@@ -1,33 +1,61 @@
 // The words behind the program's name.
 
-ghost use Rattle.std.specs.Prelude.{◌≡◌, ◌<◌, ◌^◌, [], ◌∷◌, ◌++◌, length, OnOk, OnErr, IsTrue, slice_get, option_map};
+ghost use Rattle.std.specs.Prelude.{IfNone, Bool, None, drop, ◌≡◌, ◌≤◌, ◌<◌, ◌^◌, [], ◌∷◌, ◌++◌, true, false, map, codes, length, IfOk, IfSome, OnOk, OnErr, IsTrue, slice_get, option_map};
 ghost use Rattle.std.specs.Option.{SomeIff};
+ghost use Rattle.std.specs.Str.{IsUtf8};
 ghost use Rattle.std.specs.Str.Parse.{digits_value};
-ghost use Rattle.std.specs.List.{list_all};
+ghost use Rattle.std.specs.List.{All, list_all, list_any};
 ghost use Rattle.std.specs.Char.{is_ascii_digit};
 ghost use Rattle.tsl_value.specs.Literal.{are_digits};
-ghost use Rattle.tessla_cli.specs.Words.{apart, command_of, count_of, is_plain, joined, named_run, run_asked, run_of};
+ghost use Rattle.clap.specs.Words.{app_of, found_of};
+ghost use Rattle.tessla_cli.specs.RunCommand.{Matches, run_app, run_found, says_strict};
+ghost use Rattle.tessla_cli.specs.Words.{IsLimited, asked_by, command_of, is_empty, number, number_or, run_asked, texts_of};
 
-use std::alloc::Global;
+use clap::error::ErrorKind;
+use clap::{Arg, ArgAction, ArgMatches, Command};
+use std::alloc::{AllocError, Global};
+use std::convert::AsStr;
 use std::marker::Model;
 use tsl_value::memory::NoMemory;
 use tsl_value::text::Text;
 
+/// The last time that there is: 2^63 - 1.
+pub const MOST_TIME: u64 = 0x7fff_ffff_ffff_ffff;
+
 /// As many instants as a run has at most.
 pub const MOST_INSTANTS: u64 = 1_000_000_000_000;
+
+/// As many bytes as a trace has at most: 2^40.
+pub const MOST_BYTES: u64 = 0x100_0000_0000;
+
+/// A word, as `clap` reads it.
+#[derive(Drop)]
+pub struct Word {
+    text: Text,
+}
+
+impl AsStr for Word {
+    ghost text = { λ word. word.text };
+
+    fn as_str(&self) -> &str {
+        self.text.as_str()
+    }
+}
 
 /// The words behind the program's name, in order.
 #[derive(Drop)]
 pub struct Words {
-    words: Vec<Text>,
+    words: Vec<Word>,
 }
 
 impl Model for Words {
     ghost use Rattle.std.specs.Prelude.{List, ℕ};
+    ghost use Rattle.tessla_cli.specs.RunCommand.{Matches, run_app, run_found, says_strict};
+    ghost use Rattle.tessla_cli.specs.Words.{texts_of};
 
     ghost Value = { List (List ℕ) };
 
-    ghost view = { λ w. w.words.items };
+    ghost view = { λ w. texts_of w.words.items };
 }
 
 impl Words {
@@ -45,37 +73,22 @@ impl Words {
         ensures ok { OnOk result (self.new ≡ self.old ++ word ∷ []) }
         ensures err { OnErr result (self.new ≡ self.old) }
     {
-        self.words.push(word)?;
+        self.words.push(Word { text: word })?;
         Ok(())
-    }
-
-    /// The number of words.
-    pub fn len(&self) -> usize
-        ensures { result ≡ length self.now }
-    {
-        self.words.len()
-    }
-
-    /// The word at a place counted from 0, if there is one.
-    pub fn get(&self, place: usize) -> Option<&Text>
-        ensures { option_map (λ x. x.now) result ≡ slice_get self.now place }
-    {
-        self.words.get(place)
     }
 }
 
-/// A run: the name of the specification, and how many instants it may have.
+/// What a run asks for.
 #[derive(Clone, Copy)]
 pub struct Asked<'a> {
     pub spec: &'a str,
+    /// The trace's name; `-`, the standard input, where the words name none.
+    pub trace: &'a str,
+    /// Times up to this one are closed at the end of the trace; 0 where the words don't say.
+    pub until: u64,
     pub instants: u64,
-}
-
-/// A word that names something: it is not empty, and begins with no `-` unless it is `-` alone.
-fn is_plain(word: &str) -> bool
-    ensures { result ≡ is_plain word.now }
-{
-    word == "-" || (!word.is_empty() && !word.starts_with('-'))
+    pub bytes: u64,
+    pub strict: bool,
 }
 
 fn are_digits(word: &str) -> bool
@@ -101,80 +114,115 @@ fn number_of(digits: &str) -> Option<u64>
     }
 }
 
-/// A number of instants: one digit or more, and from 1 to 10^12.
-fn count_of(word: &str) -> Option<u64>
-    ensures { result ≡ count_of word.now }
+/// One digit or more that spell a number from the least to the most.
+fn number(word: &str, least: u64, most: u64) -> Option<u64>
+    ensures { result ≡ number least most word.now }
 {
     if !are_digits(word) {
         return None;
     }
     match number_of(word) {
-        Some(count) if 1 <= count && count <= MOST_INSTANTS => Some(count),
+        Some(number) if least <= number && number <= most => Some(number),
         _ => None,
     }
 }
 
-/// A run of a specification with this many instants, if the word names one.
-fn named_run(name: &str, instants: u64) -> Option<Asked<'_>>
-    ensures { option_map run_asked result ≡ named_run name.now instants }
+/// Whether a word is empty. Where none is, each was seen to be text, and of such words alone `clap`'s contract says what it
+/// makes of `-` and what follows it.
+fn has_empty(words: &[Word]) -> bool
+    ensures any { result ≡ list_any is_empty (texts_of words.now) }
+    ensures texts { result ≡ false → All IsUtf8 (texts_of words.now) }
 {
-    if is_plain(name) {
-        Some(Asked {
-            spec: name,
-            instants,
-        })
-    } else {
-        None
+    for word in words {
+        if word.as_str().is_empty() {
+            return true;
+        }
+    }
+    false
+}
+
+/// The number that an option's value spells, or another where the option doesn't stand.
+fn number_or(word: Option<&str>, other: u64, least: u64, most: u64) -> Option<u64>
+    ensures { result ≡ number_or other least most (option_map (λ w. w.now) word.entry) }
+{
+    match word {
+        Some(word) => number(word, least, most),
+        None => Some(other),
     }
 }
 
-/// `SPEC` and `--instants N`.
-fn apart<'a>(name: &'a str, option: &str, value: &str) -> Option<Asked<'a>>
-    ensures { option_map run_asked result ≡ apart name.now option.now value.now }
+/// The run that the values in the matches ask for.
+fn run_asked_by<'a>(matches: &ArgMatches<'a>) -> Option<Asked<'a>>
+    ensures { (strict : Bool) → says_strict (found_of matches.now) strict
+        → option_map run_asked result ≡ run_found (found_of matches.now) strict }
 {
-    if option == "--instants" {
-        named_run(name, count_of(value)?)
-    } else {
-        None
-    }
+    let spec = matches.get_str("spec")?;
+    let trace = matches.get_str("trace").unwrap_or("-");
+    let until = number_or(matches.get_str("until"), 0, 0, MOST_TIME)?;
+    let instants = number_or(matches.get_str("instants"), MOST_INSTANTS, 1, MOST_INSTANTS)?;
+    let bytes = number_or(matches.get_str("bytes"), MOST_BYTES, 1, MOST_BYTES)?;
+    Some(Asked {
+        spec,
+        trace,
+        until,
+        instants,
+        bytes,
+        strict: matches.get_flag("strict"),
+    })
 }
 
-/// `SPEC` and `--instants=N`.
-fn joined<'a>(name: &'a str, option: &str) -> Option<Asked<'a>>
-    ensures { option_map run_asked result ≡ joined name.now option.now }
+/// `run SPEC [TRACE] [--until T] [--instants N] [--bytes B] [--strict]`, without help.
+fn run_command<'a>(alloc: Global) -> Result<Command<'a>, AllocError>
+    ensures { IfOk result (λ command. app_of command ≡ run_app) }
 {
-    let value = option.strip_prefix("--instants=")?;
-    named_run(name, count_of(value)?)
+    let spec = Arg::new(alloc, "spec").required(true);
+    let strict = Arg::new(alloc, "strict")
+        .long("strict")
+        .action(ArgAction::SetTrue);
+    Command::new(alloc, "run")
+        .disable_help_flag(true)
+        .arg(spec)?
+        .arg(Arg::new(alloc, "trace"))?
+        .arg(Arg::new(alloc, "until").long("until"))?
+        .arg(Arg::new(alloc, "instants").long("instants"))?
+        .arg(Arg::new(alloc, "bytes").long("bytes"))?
+        .arg(strict)
 }
 
-/// The run that the words behind `run` ask for.
-fn run_of(words: &[Text]) -> Option<Asked<'_>>
-    ensures { option_map run_asked result ≡ run_of words.now }
+/// What `clap` matches in the words, of which the first is the command's name. `None` where it refuses them.
+fn matched<'a>(alloc: Global, words: &'a [Word]) -> Result<Option<ArgMatches<'a>>, NoMemory>
+    requires texts { All IsUtf8 (texts_of words.now) }
+    ensures some { IfOk result (λ found. IfSome found (Matches (drop 1 (texts_of words.now)))) }
+    ensures none { IfOk result (λ found. IfNone found (asked_by (drop 1 (texts_of words.now)) ≡ None)) }
 {
-    match words {
-        [name] => named_run(name.as_str(), MOST_INSTANTS),
-        [first, second] => {
-            let (first, second) = (first.as_str(), second.as_str());
-            joined(first, second).or(joined(second, first))
-        }
-        [first, second, third] => {
-            let (first, second, third) = (first.as_str(), second.as_str(), third.as_str());
-            apart(first, second, third).or(apart(third, first, second))
-        }
-        _ => None,
+    match run_command(alloc)?.try_get_matches_from(words) {
+        Ok(matches) => Ok(Some(matches)),
+        Err(error) => match error.kind() {
+            ErrorKind::OutOfMemory => Err(NoMemory),
+            _ => Ok(None),
+        },
     }
 }
 
 impl Words {
     /// The run that the words ask for; `None` exactly where they are not accepted.
     ///
-    /// The words are `run` and then `SPEC`, and before or behind it at most once `--instants N` or `--instants=N`.
-    pub fn command(&self) -> Option<Asked<'_>>
-        ensures { option_map run_asked result ≡ command_of self.now }
+    /// The words are `run`, then `SPEC` and at most one `TRACE`, none of them empty. The options `--until T`,
+    /// `--instants N` and `--bytes B`, also written `--name=V`, and the flag `--strict` may stand anywhere before a word
+    /// `--`, each at most once. Other words than `-` that begin with `-` are refused there, and all words behind it are
+    /// plain. Numbers are one digit or more: T at most `MOST_TIME`, N from 1 to `MOST_INSTANTS`, B from 1 to `MOST_BYTES`.
+    pub fn command(&self, alloc: Global) -> Result<Option<Asked<'_>>, NoMemory>
+        ensures run { IfOk result (λ asked. option_map run_asked asked ≡ command_of self.now) }
+        ensures limits { IfOk result (λ asked. IfSome asked (λ asked. IsLimited (run_asked asked))) }
     {
-        match self.words.as_slice() {
-            [command, rest @ ..] if command.as_str() == "run" => run_of(rest),
-            _ => None,
+        let words = self.words.as_slice();
+        match words.first() {
+            Some(word) if word.as_str() == "run" && !has_empty(words) => {}
+            _ => return Ok(None),
+        }
+        match matched(alloc, words)? {
+            Some(matches) => Ok(run_asked_by(&matches)),
+            None => Ok(None),
         }
     }
 }
