@@ -1,8 +1,7 @@
 -- The text that is due as more of the trace comes.
-use Rattle.std.proofs.Common.{◌≡◌, ◌++◌, ◌<◌, ◌≤◌, Bool, false, List, [], ℕ, refl, sym, ◌∙◌, ap, subst, arith, zero, suc, take, length, not, nat_lt, Some, None, slice_get}
+use Rattle.std.proofs.Common.{◌≡◌, ◌++◌, ◌<◌, ◌≤◌, Bool, false, List, [], ℕ, refl, sym, ◌∙◌, ap, subst, arith, zero, suc, take, length, not, Some, None, slice_get}
 use Rattle.std.specs.List.{Contains, filter, flat_map}
 use Rattle.std.proofs.Math.Seq.{take-nil}
-use Rattle.std.proofs.lemmas.Bool.Decides.{nat_tests}
 use Rattle.std.proofs.lemmas.Option.{slice_get_within}
 use Rattle.flat_core.specs.Ending.{EndsAtBound}
 use Rattle.flat_core.specs.Fault.{is_over}
@@ -17,7 +16,7 @@ use Rattle.flat_core.proofs.LaterLines.{leaves_earlier}
 use Rattle.flat_core.proofs.SameMeaning.{happens_alike, outputs_agree}
 use Rattle.flat_core.proofs.SmallerBound.{solves_less}
 use Rattle.trace_reader.specs.Closed.{closed_below}
-use Rattle.trace_reader.specs.Reading.{Reading, reading, limited, overflow}
+use Rattle.trace_reader.specs.Reading.{Reading, reading}
 use Rattle.trace_reader.proofs.LawLemmas.{reading_begins}
 use Rattle.trace_reader.proofs.LineLemmas.{reading_later, reading_closed}
 use Rattle.tessla_cli.specs.declared.options.Options.{Options}
