@@ -175,7 +175,7 @@ cut_named line a time b c name z blanks digits between before named end is =
     let inner = name_inner name named in
     let last = inner_last name some inner in
     let ends : without_end is_end_blank ((c ++ name) ++ z) ≡ c ++ name =
-        end_at is_end_blank (c ++ name) (c ++ last.front) last.last z (ap (λ bs. c ++ bs) last.is ∙ sym (append_assoc c last.front (last.last ∷ []))) (inner_no_end last.last last.passes) end in
+    end_at is_end_blank (c ++ name) (c ++ last.front) last.last z (ap (λ bs. c ++ bs) last.is ∙ sym (append_assoc c last.front (last.last ∷ []))) (inner_no_end last.last last.passes) end in
     let whole : line ≡ a ++ (time ++ (b ++ (codes ":" ++ ((c ++ name) ++ z)))) = is ∙ ap (λ bs. a ++ (time ++ (b ++ (58 ∷ bs)))) (sym (append_assoc c name z)) in
     let front : without_front is_blank (c ++ name) ≡ name = front_all is_blank c name before (subst (StopsAt is_blank) (append-nil name) (inner_stops name [] some inner)) in
     record {
@@ -219,20 +219,20 @@ cut_valued line a time b c name d e value z blanks digits between before named b
     let final = whole_last value whole in
     let rest : List ℕ = c ++ (name ++ (d ++ (61 ∷ (e ++ value)))) in
     let to_end : (tail : List ℕ) → c ++ (name ++ (d ++ (61 ∷ (e ++ tail)))) ≡ (c ++ (name ++ (d ++ (61 ∷ e)))) ++ tail =
-        λ tail. sym (append_assoc c (name ++ (d ++ (61 ∷ e))) tail ∙ ap (λ bs. c ++ bs) (append_assoc name (d ++ (61 ∷ e)) tail ∙ ap (λ bs. name ++ bs) (append_assoc d (61 ∷ e) tail))) in
+    λ tail. sym (append_assoc c (name ++ (d ++ (61 ∷ e))) tail ∙ ap (λ bs. c ++ bs) (append_assoc name (d ++ (61 ∷ e)) tail ∙ ap (λ bs. name ++ bs) (append_assoc d (61 ∷ e) tail))) in
     let rest_end : rest ++ z ≡ c ++ (name ++ (d ++ (61 ∷ (e ++ (value ++ z))))) =
-        ap (λ bs. bs ++ z) (to_end value) ∙ append_assoc (c ++ (name ++ (d ++ (61 ∷ e)))) value z ∙ sym (to_end (value ++ z)) in
+    ap (λ bs. bs ++ z) (to_end value) ∙ append_assoc (c ++ (name ++ (d ++ (61 ∷ e)))) value z ∙ sym (to_end (value ++ z)) in
     let front_is : rest ≡ ((c ++ (name ++ (d ++ (61 ∷ e)))) ++ final.front) ++ final.last ∷ [] =
-        to_end value ∙ ap (λ bs. (c ++ (name ++ (d ++ (61 ∷ e)))) ++ bs) final.is ∙ sym (append_assoc (c ++ (name ++ (d ++ (61 ∷ e)))) final.front (final.last ∷ [])) in
+    to_end value ∙ ap (λ bs. (c ++ (name ++ (d ++ (61 ∷ e)))) ++ bs) final.is ∙ sym (append_assoc (c ++ (name ++ (d ++ (61 ∷ e)))) final.front (final.last ∷ [])) in
     let ends : without_end is_end_blank (rest ++ z) ≡ rest = end_at is_end_blank rest _ final.last z front_is (not_true (is_end_blank final.last) final.passes) end in
     let all : line ≡ a ++ (time ++ (b ++ (codes ":" ++ (rest ++ z)))) = is ∙ ap (λ bs. a ++ (time ++ (b ++ (58 ∷ bs)))) (sym rest_end) in
     let named_rest : List ℕ = name ++ (d ++ (61 ∷ (e ++ value))) in
     let front : without_front is_blank rest ≡ named_rest = front_all is_blank c named_rest before (inner_stops name (d ++ (61 ∷ (e ++ value))) some inner) in
     let long : 0 < length named_rest = some_longer name (d ++ (61 ∷ (e ++ value))) some in
     let split : split_once 61 named_rest ≡ Some (name ++ d, e ++ value) =
-        ap (split_once 61) (sym (append_assoc name d (61 ∷ (e ++ value))))
-        ∙ splits_off no_equals 61 refl (name ++ d) (e ++ value)
-        (all_joined no_equals name d (all_weaker is_inner no_equals name (λ n is. not_by n 61 (not_mark is_inner n 61 is refl)) inner) (all_weaker is_blank no_equals d (λ n is. not_by n 61 (not_mark is_blank n 61 is refl)) behind)) in
+    ap (split_once 61) (sym (append_assoc name d (61 ∷ (e ++ value))))
+    ∙ splits_off no_equals 61 refl (name ++ d) (e ++ value)
+    (all_joined no_equals name d (all_weaker is_inner no_equals name (λ n is. not_by n 61 (not_mark is_inner n 61 is refl)) inner) (all_weaker is_blank no_equals d (λ n is. not_by n 61 (not_mark is_blank n 61 is refl)) behind)) in
     let trimmed : without_end is_blank (name ++ d) ≡ name = end_at is_blank name last.front last.last d last.is (inner_no_blank last.last last.passes) behind in
     let value_is : without_front is_blank (e ++ value) ≡ value = front_all is_blank e value next (whole_stops value whole) in
     record {

@@ -1,5 +1,5 @@
 -- What holds of every reading.
-use Rattle.std.proofs.Common.{◌≡◌, ◌==◌, ◌≤◌, ◌<◌, ℕ, zero, suc, ◌+◌, ◌-◌, Bool, true, false, ◌&&◌, List, [], ◌∷◌, ◌++◌, length, take, nat_lt, Option, Some, None, Result, Ok, Err, refl, sym, ap, subst, ◌∙◌, arith, append_assoc, length-append, add-zero}
+use Rattle.std.proofs.Common.{◌≡◌, ◌==◌, ◌<◌, ℕ, ◌+◌, ◌-◌, Bool, true, false, ◌&&◌, List, [], ◌∷◌, ◌++◌, length, take, Option, Some, None, Result, Ok, Err, refl, sym, ap, ◌∙◌, arith, append_assoc, length-append, add-zero}
 use Rattle.std.proofs.lemmas.Bool.{ltb-true, lt-ltb}
 use Rattle.std.proofs.lemmas.List.{append-nil}
 use Rattle.std.proofs.lemmas.Option.{slice_get_within}
@@ -10,7 +10,7 @@ use Rattle.flat_core.specs.Line.{Line, last_time}
 use Rattle.trace_reader.specs.declared.fault.TraceFault.{TraceFault}
 use Rattle.trace_reader.specs.declared.fault.TraceFault.TheVariants as fault
 use Rattle.trace_reader.specs.Form.{content, is_long, put_first, split_once}
-use Rattle.trace_reader.specs.Reading.{Reading, put_before, cut, last_line, lines_of, alone, first_line, had_event, judged, judged_content, go_on, read, unfinished, limited, on_line, overflow, read_on, reading}
+use Rattle.trace_reader.specs.Reading.{Reading, put_before, cut, last_line, alone, had_event, judged, judged_content, go_on, read, unfinished, limited, on_line, overflow, read_on, reading}
 use Rattle.trace_reader.specs.Reads.{after}
 use Rattle.trace_reader.specs.Laws.{Begins}
 use Rattle.trace_reader.proofs.CutLemmas.{read_by, read_on-first, slice_get-append, split_by, split_once-append, take-append}

@@ -13,6 +13,7 @@ pub mod SpellingLemmas
 pub mod SplitLemmas
 pub mod TimeLemmas
 pub mod PlaceLemmas
+pub mod PlacesLemmas
 pub mod UnreadLemmas
 pub mod GatherLemmas
 pub mod GatherAll

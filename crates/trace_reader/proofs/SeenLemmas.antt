@@ -1,12 +1,11 @@
 -- The inputs that had an event at the last time stand for all earlier lines.
-use Rattle.std.proofs.Common.{◌≡◌, ◌==◌, ◌≤◌, ◌<◌, ℕ, Bool, true, false, ◌&&◌, List, [], ◌∷◌, ◌++◌, length, nat_lt, Option, Some, None, Result, Ok, Err, refl, sym, ap, ◌∙◌, arith, append-nil}
+use Rattle.std.proofs.Common.{◌≡◌, ◌==◌, ◌≤◌, ◌<◌, ℕ, Bool, true, false, ◌&&◌, List, [], ◌∷◌, ◌++◌, length, nat_lt, Option, Some, None, Ok, Err, refl, ap, ◌∙◌, arith, append-nil}
 use Rattle.std.proofs.lemmas.Bool.{eq-eqb, eqb-true, eqb-false, ne_eqb, ltb-false}
 use Rattle.std.specs.Prelude.{if◌then◌else◌}
 use Rattle.std.specs.List.{AllByRecursion}
 use Rattle.tsl_value.specs.declared.scalar.Scalar.{Scalar}
 use Rattle.flat_core.specs.System.{System}
 use Rattle.flat_core.specs.Line.{Line, IsSorted, last_time}
-use Rattle.trace_reader.specs.declared.fault.TraceFault.{TraceFault}
 use Rattle.trace_reader.specs.declared.fault.TraceFault.TheVariants as fault
 use Rattle.trace_reader.specs.Form.{Parts, content, is_long, parts_of, says_nothing, time_of}
 use Rattle.trace_reader.specs.Reading.{input_in, inputs_at, is_among, had_event, input_called, value_at, as_read, placed, addressed, said, said_at, formed, judged}

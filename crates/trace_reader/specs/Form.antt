@@ -1,6 +1,6 @@
 -- The forms of a trace line: `TIME :`, `TIME : NAME` and `TIME : NAME = VALUE`, with blanks before and between their parts. They are
 -- cut as the code cuts them; `Spelling` has the relation that `SpelledAgrees` proves the same.
-use Rattle.std.specs.Prelude.{◌==◌, ◌^◌, ℕ, Bool, true, false, ◌&&◌, ◌||◌, if◌then◌else◌, nat_lt, is_none, List, [], ◌∷◌, Option, Some, None, chars}
+use Rattle.std.specs.Prelude.{◌==◌, ℕ, Bool, true, false, ◌&&◌, ◌||◌, if◌then◌else◌, nat_lt, is_none, List, [], ◌∷◌, Option, Some, None, chars}
 use Rattle.std.specs.List.{list_all}
 use Rattle.std.specs.Option.{option_and_then, option_map}
 use Rattle.std.specs.Str.{is_utf8}

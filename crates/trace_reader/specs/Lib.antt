@@ -1,6 +1,7 @@
 pub mod Form
 pub mod Borrowed
 pub mod Reading
+pub mod Places
 pub mod Spelling
 pub mod Closed
 pub mod Laws

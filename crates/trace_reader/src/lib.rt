@@ -3,6 +3,7 @@
 
 pub mod fault;
 mod form;
+mod inputs;
 pub mod laws;
 mod line;
 mod name;

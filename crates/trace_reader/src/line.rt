@@ -6,12 +6,11 @@ ghost use Rattle.tsl_value.specs.Literal.{are_digits, literal};
 ghost use Rattle.trace_reader.specs.Borrowed.{bytes_of};
 ghost use Rattle.trace_reader.specs.Form.{is_long};
 ghost use Rattle.trace_reader.specs.Reader.{had_now, is_skipped};
-ghost use Rattle.trace_reader.specs.Reading.{addressed, as_read, formed, input_called, is_input_called, judged, placed, said, value_at, value_of};
+ghost use Rattle.trace_reader.specs.Reading.{addressed, as_read, formed, input_called, judged, placed, said, value_at, value_of};
 
 use crate::fault::TraceFault;
 use crate::form::{Parts, content, parts_of, says_nothing, time_of};
-use flat_core::equation::{Equation, Op};
-use flat_core::flat::Flat;
+use crate::inputs::Inputs;
 use flat_core::line::TraceLine;
 use std::alloc::Global;
 use tsl_value::ids::EqId;
@@ -41,28 +40,6 @@ pub(crate) fn is_skipped(line: &[u8]) -> bool
     !is_long(line.len()) && says_nothing(content(line))
 }
 
-fn is_input_called(equation: &Equation, name: &str) -> bool
-    ensures { result ≡ is_input_called name.now equation.now }
-{
-    match (&equation.op, &equation.name) {
-        (Op::Input, Some(other)) => name == other.as_str(),
-        _ => false,
-    }
-}
-
-/// The first input of a name.
-fn input_called(flat: &Flat, name: &str) -> Option<EqId>
-    ensures { result ≡ input_called flat.now name.now }
-{
-    for number in 0..flat.count() {
-        let id = EqId::new(number);
-        if is_input_called(flat.equation(id), name) {
-            return Some(id);
-        }
-    }
-    None
-}
-
 /// The value of a type that a line has. A unit may have none.
 fn value_of(alloc: Global, of: ValueType, value: Option<&[u8]>) -> Result<Option<Scalar>, NoMemory>
     ensures { IfOk result (λ v. v ≡ value_of of (option_map (λ b. b.now) value.entry)) }
@@ -88,7 +65,7 @@ fn literal_of(alloc: Global, bytes: &[u8], of: ScalarType) -> Result<Option<Scal
 #[derive(Clone, Copy, Drop)]
 pub(crate) struct Judge<'a> {
     pub(crate) alloc: Global,
-    pub(crate) flat: &'a Flat,
+    pub(crate) inputs: &'a Inputs<'a>,
     // Names have to be inputs'.
     pub(crate) strict: bool,
     // The inputs that had an event at the last time, which is that of the line before.
@@ -101,7 +78,7 @@ impl<'a> Judge<'a> {
     /// What a line says that is not skipped, or why it is refused.
     pub(crate) fn judge(&self, line: &[u8]) -> Result<Verdict, NoMemory>
         requires { is_skipped line.now ≡ false }
-        ensures { IfOk result (λ v. as_read v ≡ judged self.now.flat.now self.now.strict (had_now self.now.last self.now.seen.now) self.now.last self.now.number line.now) }
+        ensures { IfOk result (λ v. as_read v ≡ judged self.now.inputs.now self.now.strict (had_now self.now.last self.now.seen.now) self.now.last self.now.number line.now) }
     {
         if is_long(line.len()) {
             return Ok(Err(TraceFault::LineTooLong { line: self.number }));
@@ -115,7 +92,7 @@ impl<'a> Judge<'a> {
     /// What a line of these parts says.
     fn said_at(&self, parts: &Parts<'_>) -> Result<Verdict, NoMemory>
         requires { IsTrue (are_digits parts.now.time.now) }
-        ensures { IfOk result (λ v. v ≡ formed self.now.flat.now self.now.strict (had_now self.now.last self.now.seen.now) self.now.last self.now.number (Some (bytes_of parts.now))) }
+        ensures { IfOk result (λ v. v ≡ formed self.now.inputs.now self.now.strict (had_now self.now.last self.now.seen.now) self.now.last self.now.number (Some (bytes_of parts.now))) }
     {
         match time_of(parts.time) {
             None => Ok(Err(TraceFault::TimeTooLarge { line: self.number })),
@@ -130,7 +107,7 @@ impl<'a> Judge<'a> {
 
     /// The line of a time, and perhaps of an event.
     fn said(&self, time: Time, parts: &Parts<'_>) -> Result<Verdict, NoMemory>
-        ensures { IfOk result (λ v. v ≡ said self.now.flat.now self.now.strict (had_now self.now.last self.now.seen.now) self.now.last self.now.number time (bytes_of parts.now).name (bytes_of parts.now).value) }
+        ensures { IfOk result (λ v. v ≡ said self.now.inputs.now self.now.strict (had_now self.now.last self.now.seen.now) self.now.last self.now.number time (bytes_of parts.now).name (bytes_of parts.now).value) }
     {
         match parts.name {
             Some(name) => self.addressed(time, name, parts.value),
@@ -139,15 +116,10 @@ impl<'a> Judge<'a> {
     }
 
     /// The line of a time and a name.
-    fn addressed(
-        &self,
-        time: Time,
-        name: &str,
-        value: Option<&[u8]>,
-    ) -> Result<Verdict, NoMemory>
-        ensures { IfOk result (λ v. v ≡ addressed self.now.flat.now self.now.strict (had_now self.now.last self.now.seen.now) self.now.last self.now.number time name.now (option_map (λ b. b.now) value.entry) (input_called self.now.flat.now name.now)) }
+    fn addressed(&self, time: Time, name: &str, value: Option<&[u8]>) -> Result<Verdict, NoMemory>
+        ensures { IfOk result (λ v. v ≡ addressed self.now.inputs.now self.now.strict (had_now self.now.last self.now.seen.now) self.now.last self.now.number time name.now (option_map (λ b. b.now) value.entry) (input_called self.now.inputs.now name.now)) }
     {
-        match input_called(self.flat, name) {
+        match self.inputs.find(name) {
             Some(input) => self.placed(time, name, input, value),
             None if self.strict => Ok(Err(TraceFault::UnknownStream { line: self.number })),
             None => Ok(Ok(TraceLine { time, event: None })),
@@ -162,10 +134,10 @@ impl<'a> Judge<'a> {
         input: EqId,
         value: Option<&[u8]>,
     ) -> Result<Verdict, NoMemory>
-        requires { input < length self.now.flat.now.equations }
-        ensures { IfOk result (λ v. v ≡ placed self.now.flat.now self.now.strict (had_now self.now.last self.now.seen.now) self.now.last self.now.number time name.now input (value_at self.now.flat.now input (option_map (λ b. b.now) value.entry))) }
+        requires { input < length self.now.inputs.now.equations }
+        ensures { IfOk result (λ v. v ≡ placed self.now.inputs.now self.now.strict (had_now self.now.last self.now.seen.now) self.now.last self.now.number time name.now input (value_at self.now.inputs.now input (option_map (λ b. b.now) value.entry))) }
     {
-        let of = self.flat.equation(input).of;
+        let of = self.inputs.equation(input).of;
         let Some(value) = value_of(self.alloc, of, value)? else {
             let name = Text::from_str(self.alloc, name)?;
             return Ok(Err(TraceFault::WrongValue {

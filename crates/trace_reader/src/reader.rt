@@ -3,6 +3,7 @@
 ghost use Rattle.std.specs.Prelude.{◌≡◌, ◌≤◌, ◌<◌, ◌^◌, [], ◌∷◌, ◌++◌, ℕ, Bool, List, None, false, true, length, slice_get, IfOk, OnOk, OnErr, vec_capacity, vec_len};
 
 use crate::fault::TraceFault;
+use crate::inputs::Inputs;
 use crate::line::{Judge, is_long};
 use crate::next::{Next, Rest};
 use crate::seen::note_event;
@@ -22,7 +23,7 @@ use tsl_value::time::Time;
 #[derive(Drop)]
 pub struct TraceReader<'f> {
     alloc: Global,
-    flat: &'f Flat,
+    inputs: Inputs<'f>,
     strict: bool,
     // How many bytes more are within the limit.
     left: u64,
@@ -48,7 +49,7 @@ impl<'f> Model for TraceReader<'f> {
 
     ghost coded = { Prim.hlevel (codes, body.the_row.coded) };
 
-    ghost view = { λ r. record { system = r.flat.now; strict = r.strict; left = r.left; unread = r.unread; beyond = r.beyond; ended = r.ended; count = r.count; last = r.last; seen = r.seen.items; refused = r.refused } };
+    ghost view = { λ r. record { system = r.inputs; strict = r.strict; left = r.left; unread = r.unread; beyond = r.beyond; ended = r.ended; count = r.count; last = r.last; seen = r.seen.items; refused = r.refused } };
 
     ghost invariant = { λ r. (r.count + length r.unread + r.left ≤ 2 ^ 40) × StopsAtLine r.unread (r.ended && is_none r.beyond) };
 }
@@ -76,7 +77,7 @@ impl<'f> TraceReader<'f> {
     {
         Ok(TraceReader {
             alloc,
-            flat,
+            inputs: Inputs::new(alloc, flat)?,
             strict,
             left: limit,
             unread: Unread::new(alloc),
@@ -161,7 +162,7 @@ impl<'f> TraceReader<'f> {
         let last_counts = self.last_counts();
         let judge = Judge {
             alloc: self.alloc,
-            flat: self.flat,
+            inputs: &self.inputs,
             strict: self.strict,
             seen: &self.seen,
             last: self.last,

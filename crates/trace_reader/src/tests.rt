@@ -204,7 +204,14 @@ fn the_first_refused_line_is_named(rt: HostRuntime) -> Result<(), Fail> {
     let mut lines = Vec::new(alloc);
     let back = lines_of(alloc, false, 100, b"9:\n\n8: i = x\n", 9, &mut lines);
     assert!(rt; is_back(&back, 3, 9, 8));
-    let twice = lines_of(alloc, false, 100, b"1: i = 5\n1: j\n1: i = 6", 2, &mut lines);
+    let twice = lines_of(
+        alloc,
+        false,
+        100,
+        b"1: i = 5\n1: j\n1: i = 6",
+        2,
+        &mut lines,
+    );
     assert!(rt; is_twice(&twice, 3, "i"));
     let long = lines_of(alloc, false, 12, b"1: i = 5\n2: i = 7\n", 4, &mut lines);
     assert!(rt; matches!(long, Err(TraceFault::TraceTooLong { line: 2 })));

@@ -1,4 +1,3 @@
-use Rattle.std.proofs.Common.{None}
 use Rattle.std.proofs.lemmas.Str.{is_utf8-from_IsUtf8}
 use Rattle.tsl_value.proofs.Utf8.{is_utf8-not}
 use Rattle.trace_reader.proofs.NameLemmas.{named, not_named, no_name, no_text, word_is_no_name}

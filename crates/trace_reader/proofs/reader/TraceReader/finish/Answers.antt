@@ -1,4 +1,4 @@
-use Rattle.std.proofs.Common.{◌+◌, ◌≤◌, length, arith}
+use Rattle.std.proofs.Common.{arith}
 use Rattle.trace_reader.proofs.StepLemmas.{none_told, reads_end_on}
 use Rattle.trace_reader.proofs.reader.TraceReader.finish.Goals as goal
 

@@ -1,4 +1,4 @@
-use Rattle.std.proofs.Common.{◌≡◌, ◌+◌, ◌≤◌, ◌<◌, length, Err, ◌∙◌, sym, ap, refl, arith, length-drop}
+use Rattle.std.proofs.Common.{◌≡◌, ◌+◌, Err, ◌∙◌, sym, ap, arith, length-drop}
 use Rattle.trace_reader.specs.Reading.{as_read}
 use Rattle.trace_reader.specs.Reader.{judged_at}
 use Rattle.trace_reader.proofs.StepLemmas.{past_is, refuses_line}

@@ -1,4 +1,4 @@
-use Rattle.std.proofs.Common.{◌+◌, ◌≤◌, ◌<◌, length, arith, length-drop, sym}
+use Rattle.std.proofs.Common.{◌+◌, arith, length-drop, sym}
 use Rattle.trace_reader.specs.Reader.{Passes}
 use Rattle.trace_reader.proofs.unread.Unread.pass_skipped.Goals as goal
 
