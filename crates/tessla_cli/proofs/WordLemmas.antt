@@ -3,7 +3,7 @@ use Rattle.std.proofs.Common.{◌≡◌, ◌∙◌, ap, sym, subst, refl, arith,
 use Rattle.std.specs.Str.{bytes_eq, IsUtf8}
 use Rattle.std.specs.List.{All, before_first, list_any, prefix_len}
 use Rattle.std.proofs.lemmas.Bool.{eqb-true, eq-eqb, le-leb, leb-true, and_parts}
-use Rattle.std.proofs.lemmas.List.{append_assoc}
+use Rattle.std.proofs.lemmas.List.{append-nil, append_assoc}
 use Rattle.std.specs.Str.Parse.{digits_value}
 use Rattle.tsl_value.specs.Literal.{are_digits}
 use Rattle.clap.specs.Walk.{nothing_held, rows_of, Row, Rule, Text, Waiting, Walk, idle, option as taking, walked, value, arg_by_index, settled_rows, to_positional, has_row, with_values, more_values, with_default, default_rows, reading_by, is_empty, first_of, one_of}
@@ -21,7 +21,7 @@ use Rattle.clap.specs.declared.builder.value_parser.Reading.TheVariants.{AsWritt
 use Rattle.clap.specs.declared.parser.matches.ValueSource.TheVariants.{DefaultValue}
 use Rattle.tessla_cli.specs.RunCommand.{Matches, run_found, option_rule, run_app, spec_rule, strict_rule, trace_rule}
 use Rattle.tessla_cli.specs.Words.{IsLimited, command_of, is_empty as no_byte, number, number_or, most_time, most_instants, most_bytes, Name, until_name, instants_name, bytes_name, Piece, plain, option, strict_flag, Kind, whole, waits, ends, refused, is_dashed, is_equals, value_in, kind_of, named_kind, before, pieces, plains, values, flags, Run, run_by, run_of, is_single, asked_by}
-use Rattle.tessla_cli.proofs.WordRows.{id_of, row, flag_row, rows_from, any_row, has_chosen, flag_other, chosen_name, chosen_spec, chosen_trace, fresh_row, rows_more, has_name, has_flag, no_text, Fits, plains_then, fits_plain, fits_flag, fits_option, unfit_plain, unfit_flag, unfit_option, default_row, final, first_final, first_taken, second_dropped, strict_final, spec_given}
+use Rattle.tessla_cli.proofs.WordRows.{id_of, row, flag_row, rows_from, any_row, has_chosen, flag_other, chosen_name, chosen_spec, chosen_trace, fresh_row, rows_more, has_name, has_flag, Fits, plains_then, fits_plain, fits_flag, fits_option, unfit_plain, unfit_flag, unfit_option, default_row, final, first_final, first_taken, second_dropped, strict_final, spec_given}
 use Rattle.tessla_cli.proofs.WordTurns.{is_exact, spec_slot, trace_slot, name_slot, S, R, HasFault, left_fault, Look, look, Named, named, rest_name, name_behind, value_behind, at, fault_from, end_rows, pass_turn, stop_turn, pass_rows, held, quiet_settle, loud_settle, slot_rows, empty_settle, positional_spec, positional_trace, spec_placed, trace_placed, plain_turn, plain_walked, trailing_turn, trailing_walked, end_turn, end_walked, value_turn, value_walked, short_turn, first_char, long_turn, long_turn_is, long_walk, long_walk_is, loud_long, unknown_long, option_turn, option_walked, joined_turn, joined_again, joined_walked, flag_turn, flag_again, flag_valued, flag_walked, Texts, loud_trailing, loud_idle, undashed, end_mark, long, short, to_option, to_flag, to_none}
 
 -- ---- the pieces so far
@@ -116,12 +116,8 @@ too_many w word words done p rest fault unfit =
 not_told : (w : Walk) (words : List Text) (done : List Piece) → HasFault (fault_from w words) → Judged w words done None
 not_told w words done fault = unaccepted (λ more told fits. let bad : None ≡ Some more = told in cc) fault
 
-no_more : (done : List Piece) → done ++ [] ≡ done
-no_more [] = refl
-no_more (p ∷ ps) = ap (λ l. p ∷ l) (no_more ps)
-
 ended : (w : Walk) (done : List Piece) → Fits done → fault_from w [] ≡ [] → end_rows w [] ≡ rows_from 0 done → Judged w [] done (Some [])
-ended w done f quiet rows = accepted [] refl (subst Fits (sym (no_more done)) f) quiet (rows ∙ ap (rows_from 0) (sym (no_more done)))
+ended w done f quiet rows = accepted [] refl (subst Fits (sym (append-nil done)) f) quiet (rows ∙ ap (rows_from 0) (sym (append-nil done)))
 
 abbrev JudgedTrailing : List Text → Type 0
 JudgedTrailing words = (done : List Piece) (rows : List Row) (pending : Option (Text × List Text)) (waiting : Waiting) → Fits done → Stands done rows pending
@@ -152,7 +148,7 @@ JudgedWaiting words = (name : Name) (done : List Piece) (rows : List Row) → Fi
     → Judged (at rows (Some (id_of name, [])) (taking (id_of name)) (position_of (plains done)) false) words done (pieces (Some name) words)
 
 same_place_option : (done : List Piece) (name : Name) (word : Text) → position_of (plains done) ≡ position_of (plains (done ++ option name word ∷ []))
-same_place_option done name word = ap position_of (sym (plains_then done (option name word ∷ []) ∙ no_text (plains done)))
+same_place_option done name word = ap position_of (sym (plains_then done (option name word ∷ []) ∙ append-nil (plains done)))
 
 option_rows : (done : List Piece) (name : Name) (word : Text) (rows : List Row) → rows ≡ rows_from 0 done → rows ++ row (id_of name) word ∷ [] ≡ rows_from 0 (done ++ option name word ∷ [])
 option_rows done name word rows is = ap (λ l. l ++ row (id_of name) word ∷ []) is ∙ sym (rows_more 0 done (option name word ∷ []))
@@ -287,7 +283,7 @@ judge_word word words u us ih waiting_ih done rows pending f s = go word (look w
         → walked R [] w word ≡ long_walk n word (codes "strict") None w → (xs : List Piece) → flags done ≡ xs → Judged w (word ∷ words) done (before strict_flag (pieces None words))
     flag_word word turn walk [] e =
         let fresh : has_row (codes "strict") now ≡ false = has_flag done now [] s.settled_are e in
-        let place : n ≡ position_of (plains (done ++ strict_flag ∷ [])) = ap position_of (sym (plains_then done (strict_flag ∷ []) ∙ no_text (plains done))) in
+        let place : n ≡ position_of (plains (done ++ strict_flag ∷ [])) = ap position_of (sym (plains_then done (strict_flag ∷ []) ∙ append-nil (plains done))) in
         step_on w (at (now ++ flag_row ∷ []) None idle n false) word words done strict_flag (pieces None words)
         (turn ∙ flag_turn n word rows pending s.quiet fresh) (walk ∙ flag_walked rows pending n word fresh)
         (subst (λ k. Judged (at (now ++ flag_row ∷ []) None idle k false) words (done ++ strict_flag ∷ []) (pieces None words)) (sym place)

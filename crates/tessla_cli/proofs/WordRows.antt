@@ -1,5 +1,6 @@
 -- The rows of `clap`'s matches that stand for pieces, and how often each piece stands.
 use Rattle.std.proofs.Common.{◌≡◌, ◌∙◌, ap, sym, refl, arith, ℕ, Bool, true, false, ◌||◌, ◌+◌, zero, suc, List, [], ◌∷◌, ◌++◌, length, map, drop, take, Some, None, codes, find, ◌≤◌, if◌then◌else◌, slice_get, option_and_then}
+use Rattle.std.proofs.lemmas.List.{append-nil, length-append}
 use Rattle.std.specs.Str.{bytes_eq}
 use Rattle.std.proofs.lemmas.Bool.{le-leb}
 use Rattle.clap.specs.Walk.{Row, Text, has_row, at_row, without, with_values, more_values, first_of, one_of, row_text}
@@ -173,13 +174,9 @@ fresh_row id change missing (r ∷ rs) h = go (bytes_eq r.id id) h (fresh_row id
     go true h more = let bad : true ≡ false = h in cc
     go false h more = ap (λ l. r ∷ l) (more h)
 
-append_none : (rows : List Row) → rows ++ [] ≡ rows
-append_none [] = refl
-append_none (r ∷ rs) = ap (λ l. r ∷ l) (append_none rs)
-
 pub set_row : (id word : Text) (rows : List Row) → has_row id rows ≡ false → with_values id AsWritten CommandLine (word ∷ []) (without id rows) ≡ rows ++ row id word ∷ []
 set_row id word rows h =
-    let same : without id rows ≡ rows = fresh_row id (λ _. []) [] rows h ∙ append_none rows in
+    let same : without id rows ≡ rows = fresh_row id (λ _. []) [] rows h ∙ append-nil rows in
     ap (with_values id AsWritten CommandLine (word ∷ [])) same ∙ fresh_row id (more_values CommandLine (word ∷ [])) _ rows h
 
 pub rows_more : (n : ℕ) (ps qs : List Piece) → rows_from n (ps ++ qs) ≡ rows_from n ps ++ rows_from (n + length (plains ps)) qs
@@ -197,10 +194,6 @@ has_name name done rows xs is e = ap (has_row (id_of name)) is ∙ (has_chosen (
 pub has_flag : (done : List Piece) (rows : List Row) (xs : List Piece) → rows ≡ rows_from 0 done → flags done ≡ xs → has_row (codes "strict") rows ≡ any_row (map (λ _. flag_row) xs)
 has_flag done rows xs is e = ap (has_row (codes "strict")) is ∙ (has_chosen (codes "strict") (rows_from 0 done) ∙ (ap any_row (chosen_flag 0 done) ∙ ap (λ l. any_row (map (λ _. flag_row) l)) e))
 
-pub no_text : (xs : List Text) → xs ++ [] ≡ xs
-no_text [] = refl
-no_text (x ∷ xs) = ap (λ l. x ∷ l) (no_text xs)
-
 -- ---- the pieces so far
 
 pub record Fits (ps : List Piece) : Type 0 where
@@ -208,17 +201,14 @@ pub record Fits (ps : List Piece) : Type 0 where
   pub options : (name : Name) → length (values name ps) ≤ 1
   pub flag : length (flags ps) ≤ 1
 
-plains_more : (ps qs : List Piece) → length (plains (ps ++ qs)) ≡ length (plains ps) + length (plains qs)
-plains_more [] qs = omega arith
-plains_more (plain word ∷ ps) qs = let more = plains_more ps qs in omega arith
-plains_more (option other word ∷ ps) qs = plains_more ps qs
-plains_more (strict_flag ∷ ps) qs = plains_more ps qs
-
 pub plains_then : (ps qs : List Piece) → plains (ps ++ qs) ≡ plains ps ++ plains qs
 plains_then [] qs = refl
 plains_then (plain word ∷ ps) qs = ap (λ l. word ∷ l) (plains_then ps qs)
 plains_then (option other word ∷ ps) qs = plains_then ps qs
 plains_then (strict_flag ∷ ps) qs = plains_then ps qs
+
+plains_more : (ps qs : List Piece) → length (plains (ps ++ qs)) ≡ length (plains ps) + length (plains qs)
+plains_more ps qs = ap length (plains_then ps qs) ∙ length-append (plains ps) (plains qs)
 
 flags_more : (ps qs : List Piece) → length (flags (ps ++ qs)) ≡ length (flags ps) + length (flags qs)
 flags_more [] qs = omega arith
@@ -304,7 +294,7 @@ chosen_final id rows other = go (has_row (codes "strict") rows)
     go true = refl
     go false =
         let none : chosen id (default_row ∷ []) ≡ [] = rw other refl in
-        chosen_append id rows (default_row ∷ []) ∙ (ap (λ l. chosen id rows ++ l) none ∙ append_none (chosen id rows))
+        chosen_append id rows (default_row ∷ []) ∙ (ap (λ l. chosen id rows ++ l) none ∙ append-nil (chosen id rows))
 
 first_row : (id : Text) (texts : List Text) → option_and_then (λ r. slice_get r.values 0) (slice_get (map (row id) texts) 0) ≡ slice_get texts 0
 first_row id [] = refl

@@ -18,10 +18,12 @@ use Rattle.tessla_cli.proofs.WordRows.{id_of, row, flag_row, set_row}
 
 -- ---- the command
 
+-- `clap`'s matches and refusals of this command are functions of the words
 pub is_exact : is_simple_and_free run_app ≡ true
 unfolding clap_on_literals
 is_exact = refl
 
+-- what is made of it before the first word, and its arguments
 abbrev pub S : Shape
 S = (built run_app).top
 
@@ -30,6 +32,7 @@ R = S.rules
 
 -- ---- faults
 
+-- the words are refused
 abbrev pub HasFault : Kinds → Type 0
 HasFault [] = ⊥
 HasFault (k ∷ ks) = ⊤
