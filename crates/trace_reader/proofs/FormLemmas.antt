@@ -64,9 +64,6 @@ joined mark (b ∷ bytes) p is = joined_step mark b bytes p (b == mark) refl is 
 digit_no_blank : (b : ℕ) → is_ascii_digit b ≡ true → is_blank b ≡ false
 digit_no_blank b is = λ k. not_mark is_ascii_digit b 32 is refl k || not_mark is_ascii_digit b 9 is refl k
 
-digit_no_end : (b : ℕ) → is_ascii_digit b ≡ true → is_end_blank b ≡ false
-digit_no_end b is = λ k. digit_no_blank b is k || not_mark is_ascii_digit b 13 is refl k
-
 blank_end : (b : ℕ) → is_blank b ≡ true → is_end_blank b ≡ true
 blank_end b is = ap (λ t. t || (b == 13)) is
 

@@ -308,10 +308,6 @@ pub reads_end_on : (r : Reader) (s : System) (strict : Bool) (limit : ℕ) (fed 
 reads_end_on r s strict limit fed given count rest passes reads =
     reads_passed (record r { ended = true }) s strict limit fed given true count rest (reads_end r s strict limit fed given reads) passes
 
--- said again, the end changes nothing
-pub reads_ended : (r : Reader) (s : System) (strict : Bool) (limit : ℕ) (fed : List ℕ) (given : List Line) → r.ended ≡ true → Reads r s strict limit fed given false → Reads r s strict limit fed given true
-reads_ended r s strict limit fed given is reads = let same = sym reads.ended_is ∙ is in absurd (cc)
-
 -- what the code tells of the byte beyond
 pub none_told : (o : Option ℕ) (told : Bool) → is_some o ≡ not told → told ≡ is_none o
 none_told None true is = refl

@@ -54,7 +54,7 @@ says_nothing [] = true
 says_nothing (b ∷ []) = b == 35
 says_nothing (b ∷ c ∷ bytes) = (b == 35) || ((b == 45) && (c == 45))
 
--- a line has at most 65,536 bytes
+-- so many bytes are more than the 65,536 that a line may have
 abbrev pub is_long : ℕ → Bool
 is_long count = nat_lt 65536 count
 
