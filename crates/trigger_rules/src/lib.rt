@@ -1,0 +1,5 @@
+// Trigger formulas: when the equations of a flat system have events.
+#![tactic(auto)]
+
+pub mod laws;
+pub mod limit;
