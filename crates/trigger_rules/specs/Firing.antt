@@ -22,9 +22,9 @@ at_time z t Start = t == 0
 at_time z t (Happens x) = has_event (z x t)
 at_time z t (Holds c) = is_true (event (z c t))
 
--- each event of a running equation is of its type
-pub record HasTypedEvents (s : System) (z : Streams) : Type 0 where
-  pub each : (i : ℕ) (e : Equation) → IsTrue (runs s i) → equation s i ≡ Some e → (t : ℕ) (v : View) → event (z i t) ≡ Some v → IsTrue (is_of e.of v)
+-- each event of a running equation below a bound is of its type
+pub record HasTypedEvents (s : System) (bound : ℕ) (z : Streams) : Type 0 where
+  pub each : (i : ℕ) (e : Equation) → IsTrue (runs s i) → equation s i ≡ Some e → (t : ℕ) → t < bound → (v : View) → event (z i t) ≡ Some v → IsTrue (is_of e.of v)
 
 -- The streams solve a well-formed system below a bound, t is below the bound, and no root fault came before t. So t is at most the
 -- fault time, which is the least time with a root fault.
@@ -33,6 +33,6 @@ pub record IsUpToFault (s : System) (inputs : Inputs) (bound : ℕ) (z : Streams
   pub typed : IsTypedSystem s
   pub well_formed : IsWellFormed s
   pub solves : Solves s inputs bound z
-  pub typed_events : HasTypedEvents s z
+  pub typed_events : HasTypedEvents s bound z
   pub below : t < bound
   pub sound : (u : ℕ) → u < t → IsFalse (is_faulty s inputs z u)

@@ -35,7 +35,7 @@ pub data Meets (table : ℕ → Formula) (Starts : ℕ → Type 0) (holds : Assi
   always : Meets table Starts holds Always
   atom : {a : Atom} → IsTrue (holds a) → Meets table Starts holds (If a)
   no_atom : {a : Atom} → IsFalse (holds a) → Meets table Starts holds (IfNot a)
-  of : {x : ℕ} → Meets table Starts holds (table x) → Meets table Starts holds (Of x)
+  through : {x : ℕ} → Meets table Starts holds (table x) → Meets table Starts holds (Of x)
   both : {p q : Formula} → Meets table Starts holds p → Meets table Starts holds q → Meets table Starts holds (Both p q)
   first : {p q : Formula} → Meets table Starts holds p → Meets table Starts holds (Either p q)
   second : {p q : Formula} → Meets table Starts holds q → Meets table Starts holds (Either p q)
@@ -46,7 +46,7 @@ pub data Meets (table : ℕ → Formula) (Starts : ℕ → Type 0) (holds : Assi
 pub data HasAtom (table : ℕ → Formula) (Starts : ℕ → Type 0) (a : Atom) : Formula → Type 0 where
   atom : HasAtom table Starts a (If a)
   no_atom : HasAtom table Starts a (IfNot a)
-  of : {x : ℕ} → HasAtom table Starts a (table x) → HasAtom table Starts a (Of x)
+  through : {x : ℕ} → HasAtom table Starts a (table x) → HasAtom table Starts a (Of x)
   both_first : {p q : Formula} → HasAtom table Starts a p → HasAtom table Starts a (Both p q)
   both_second : {p q : Formula} → HasAtom table Starts a q → HasAtom table Starts a (Both p q)
   either_first : {p q : Formula} → HasAtom table Starts a p → HasAtom table Starts a (Either p q)
