@@ -1,0 +1,4 @@
+use Rattle.flat_simplify.proofs.laws.one_is_simplified.Goals as goal
+
+pub returns : goal.returns
+returns c = ?

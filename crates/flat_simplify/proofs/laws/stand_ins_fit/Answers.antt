@@ -1,0 +1,4 @@
+use Rattle.flat_simplify.proofs.laws.stand_ins_fit.Goals as goal
+
+pub returns : goal.returns
+returns c = ?
