@@ -1,0 +1,3 @@
+pub mod Stands
+pub mod CannotFault
+pub mod Fit
