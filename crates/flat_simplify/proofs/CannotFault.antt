@@ -18,6 +18,7 @@ use Rattle.lift_func.specs.Typing.{can_fault_one, can_fault_two, can_fault}
 use Rattle.flat_core.specs.declared.equation.Equation.{Equation}
 use Rattle.flat_core.specs.declared.equation.Op.{Op}
 use Rattle.flat_core.specs.declared.equation.Op.TheVariants as op
+use Rattle.flat_core.specs.Stream.{event}
 use Rattle.flat_core.specs.Case.{Streams, Inputs, at_once, own, own_of, is_blocked, fault_of, root_of}
 use Rattle.flat_simplify.specs.CanFault.{can_fault_op}
 
@@ -108,7 +109,7 @@ module _ (inputs : Inputs) (z : Streams) (i : ℕ) (t : ℕ) where
   own_sound op.Input args of never = refl
   own_sound op.Last args of never = refl
   own_sound op.Delay args of never = refl
-  own_sound o args of never = at_once_sound o of _ t never
+  own_sound o args of never = at_once_sound o of (map (λ a. event (z a t)) args) t never
 
   none_or : (b : Bool) (kind : Option FaultKind) → kind ≡ None → (if b then None else kind) ≡ None
   none_or true kind is = refl

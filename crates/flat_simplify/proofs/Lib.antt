@@ -1,3 +1,5 @@
 pub mod Stands
 pub mod CannotFault
 pub mod Fit
+pub mod Renumbered
+pub mod Streams

@@ -1,3 +1,4 @@
+use Rattle.flat_simplify.proofs.CannotFault.{never_faults}
 use Rattle.flat_simplify.proofs.laws.faults_are_kept.Goals as goal
 
 pub returns : goal.returns

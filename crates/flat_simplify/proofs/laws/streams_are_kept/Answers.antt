@@ -1,3 +1,4 @@
+use Rattle.flat_simplify.proofs.Streams.{new}
 use Rattle.flat_simplify.proofs.laws.streams_are_kept.Goals as goal
 
 pub returns : goal.returns
