@@ -1,5 +1,5 @@
 -- An equation with other arguments makes of streams what the equation makes of these streams at the other numbers.
-use Rattle.std.proofs.Common.{◌≡◌, ℕ, ◌||◌, List, [], ◌∷◌, map, Option, Some, None, refl, ap, ◌∙◌}
+use Rattle.std.proofs.Common.{◌≡◌, ℕ, ◌||◌, List, [], ◌∷◌, map, Option, Some, None, Ok, refl, sym, ap, ◌∙◌}
 use Rattle.std.specs.Prelude.{if◌then◌else◌}
 use Rattle.std.specs.List.{list_any}
 use Rattle.std.proofs.lemmas.Simd.{map-map}
@@ -9,9 +9,7 @@ use Rattle.flat_core.specs.declared.equation.Equation.{Equation}
 use Rattle.flat_core.specs.declared.equation.Op.{Op}
 use Rattle.flat_core.specs.declared.equation.Op.TheVariants as op
 use Rattle.flat_core.specs.Stream.{Fault, event, is_fault}
-use Rattle.flat_core.specs.Case.{Streams, Inputs, at_once, delayed, own_of, used_of, is_blocked, outcome_of, case_of, fault_of, amount_fault, root_of}
-use Rattle.flat_core.specs.Case.{unit, expires}
-use Rattle.std.proofs.Common.{Ok}
+use Rattle.flat_core.specs.Case.{Streams, Inputs, unit, at_once, expires, own_of, used_of, is_blocked, outcome_of, case_of, fault_of, amount_fault, root_of}
 
 module _ (f : ℕ → ℕ) (inputs : Inputs) (w : Streams) (i t : ℕ) (self : f i ≡ i) where
   -- the streams at the other numbers
@@ -24,10 +22,7 @@ module _ (f : ℕ → ℕ) (inputs : Inputs) (w : Streams) (i t : ℕ) (self : f
   own_moved op.Last [] of = refl
   own_moved op.Last (v ∷ []) of = refl
   own_moved op.Last (v ∷ r ∷ a ∷ args) of = refl
-  own_moved op.Delay (d ∷ r ∷ []) of = ap (λ j. Ok (if expires (w (f d)) (w (f r)) (w j) t then Some unit else None)) (λ k. sym_self k)
-    where
-      sym_self : i ≡ f i
-      sym_self = Rattle.std.proofs.Common.sym self
+  own_moved op.Delay (d ∷ r ∷ []) of = ap (λ j. Ok (if expires (w (f d)) (w (f r)) (w j) t then Some unit else None)) (sym self)
   own_moved op.Delay [] of = refl
   own_moved op.Delay (d ∷ []) of = refl
   own_moved op.Delay (d ∷ r ∷ a ∷ args) of = refl

@@ -31,18 +31,18 @@ module _ (s : System) where
   one_stands (through {a = a} r rest) (itself none) = absurd (none a r)
   one_stands {i} {j} {k} (through {a = a} r rest) (through {a = b} q more) = one_stands rest (subst (λ n. StandsFor s n k) (sym (replaced_once i a b r q)) more)
 
-  -- the first argument runs
-  pub first_runs : IsProper s → (i a : ℕ) → IsReplaced s i a → IsTrue (runs s a)
-  first_runs proper i a r =
+  -- the arguments of a merge that is replaced run
+  pub merged_run : IsProper s → (i a : ℕ) (r : IsReplaced s i a) → IsTrue (runs s a) × IsTrue (runs s r.other)
+  merged_run proper i a r =
       let found = proper.runs_all i r.running in
       let same : found.0 ≡ r.at = same_Some found.0 r.at (sym found.1 ∙ r.is) in
       let args : found.0.args ≡ a ∷ r.other ∷ [] = ap (λ e. e.args) same ∙ r.args_are in
       let run : AllByRecursion (λ b. IsTrue (runs s b)) (a ∷ r.other ∷ []) = subst (AllByRecursion (λ b. IsTrue (runs s b))) args found.2 in
-      run.0
+      (run.0, run.1.0)
 
   pub runs_on : IsProper s → {i j : ℕ} → StandsFor s i j → IsTrue (runs s i) → IsTrue (runs s j)
   runs_on proper (itself none) run = run
-  runs_on proper {i} {j} (through {a = a} r rest) run = runs_on proper rest (first_runs proper i a r)
+  runs_on proper {i} {j} (through {a = a} r rest) run = runs_on proper rest (merged_run proper i a r).0
 
   pub left_over : {i j : ℕ} → StandsFor s i j → (a : ℕ) → IsReplaced s j a → ⊥
   left_over (itself none) a r = none a r
