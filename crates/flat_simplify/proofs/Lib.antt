@@ -3,3 +3,4 @@ pub mod CannotFault
 pub mod Fit
 pub mod Renumbered
 pub mod Streams
+pub mod Faults

@@ -8,6 +8,7 @@ use Rattle.flat_core.specs.declared.equation.Equation.{Equation}
 use Rattle.flat_core.specs.declared.equation.Op.TheVariants as op
 use Rattle.flat_core.specs.Stream.{Outcome, Event, Fault, event, has_event, is_fault}
 use Rattle.flat_core.specs.Case.{Streams, Inputs, merged, own, own_of, used_of, is_blocked, outcome_of}
+use Rattle.flat_core.specs.Fault.{is_faulty}
 use Rattle.flat_core.specs.System.{System, runs, equation}
 use Rattle.flat_core.specs.WellFormed.{unguarded_of}
 use Rattle.flat_core.proofs.Locality.{AgreeBefore, case_of-same}
@@ -35,6 +36,11 @@ merged_is (Some Fault) q o is clear implies = absurd (true≢false (sym (ap is_f
 unblocked : (b : Bool) (o rest : Option Outcome) → o ≡ (if b then Some Fault else rest) → is_fault o ≡ false → b ≡ false
 unblocked true o rest is clear = absurd (true≢false (sym (ap is_fault is) ∙ clear))
 unblocked false o rest is clear = refl
+
+-- where none of some equations is Fault, each is not
+pub all_clear : (z : Streams) (t : ℕ) (args : List ℕ) → list_any (λ a. is_fault (z a t)) args ≡ false → AllByRecursion (λ a. is_fault (z a t) ≡ false) args
+all_clear z t [] none = tt
+all_clear z t (a ∷ args) none = let parts = or_parts (is_fault (z a t)) (list_any (λ b. is_fault (z b t)) args) none in (parts.0, all_clear z t args parts.1)
 
 all_back : (f : ℕ → ℕ) (P : ℕ → Type 0) (xs : List ℕ) → AllByRecursion P (map f xs) → AllByRecursion (λ x. P (f x)) xs
 all_back f P [] all = tt
@@ -77,10 +83,6 @@ module _ (s u : System) (inputs : Inputs) (bound : ℕ) (z w : Streams) (both : 
     abbrev IsClear : ℕ → Type 0
     IsClear a = is_fault (z a t) ≡ false
 
-    clear_used : (args : List ℕ) → list_any (λ a. is_fault (z a t)) args ≡ false → AllByRecursion IsClear args
-    clear_used [] none = tt
-    clear_used (a ∷ args) none = let parts = or_parts (is_fault (z a t)) (list_any (λ b. is_fault (z b t)) args) none in (parts.0, clear_used args parts.1)
-
     kept_by_rank : (k x : ℕ) → rank x < k → (j : ℕ) → StandsFor s x j → IsTrue (runs s x) → IsTrue (runs u j) → IsClear x → w j t ≡ z x t
     kept_by_rank zero x low j stands run after clear = absurd (omega arith)
     kept_by_rank (suc k) x low j (itself none) run after clear =
@@ -90,7 +92,7 @@ module _ (s u : System) (inputs : Inputs) (bound : ℕ) (z w : Streams) (both : 
         let keep = arguments_keep x e found.1 run after in
         let here = both.solves.each x e run found.1 t lt in
         let used : List ℕ = used_of e.op e.args in
-        let clear_args = clear_used used (unblocked (is_blocked z e t) (z x t) (outcome_of (own inputs z x e t)) here clear) in
+        let clear_args = all_clear z t used (unblocked (is_blocked z e t) (z x t) (outcome_of (own inputs z x e t)) here clear) in
         let falls = all_used (λ a. rank a < rank x) e.op e.args ((well_formed_ranked s both.well_formed).falls x e run found.1) in
         let gives = all_with (λ a. rank a < rank x) Keeps (λ a. IsClear a → v a t ≡ z a t) (λ a less keeps clear_a. kept_by_rank k a (omega arith) (new a) (new_for a keeps.0) keeps.0 keeps.1 clear_a) used falls (used_all Keeps e.op e.args keep) in
         let now = all_with IsClear (λ a. IsClear a → v a t ≡ z a t) (λ a. v a t ≡ z a t) (λ a clear_a given. given clear_a) used clear_args gives in
@@ -123,6 +125,10 @@ module _ (s u : System) (inputs : Inputs) (bound : ℕ) (z w : Streams) (both : 
             let clear = all_are_clear s inputs bound z t (up_to t (omega arith) earlier) (sound t (omega arith)) x keeps.0 in
             subst (λ m. v x m ≡ z x m) same (kept_by_rank t (omega arith) earlier past (suc (rank x)) x (omega arith) (new x) (new_for x keeps.0) keeps.0 keeps.1 clear)
       ]
+
+  -- at a time that has no root fault either
+  pub sound_kept : (t : ℕ) → t < bound → IsSoundBefore s inputs z t → is_faulty s inputs z t ≡ false → (x : ℕ) → Keeps x → v x t ≡ z x t
+  sound_kept t lt sound none x keeps = kept_by_rank t lt sound (kept_before t (omega arith) sound) (suc (rank x)) x (omega arith) (new x) (new_for x keeps.0) keeps.0 keeps.1 (all_are_clear s inputs bound z t (up_to t lt sound) none x keeps.0)
 
   pub kept : (t : ℕ) → t < bound → IsSoundBefore s inputs z t → (x j : ℕ) → IsTrue (runs s x) → StandsFor s x j → IsTrue (runs u j) → IsFalse (is_fault (z x t)) → w j t ≡ z x t
   kept t lt sound x j run stands after clear = kept_by_rank t lt sound (kept_before t (omega arith) sound) (suc (rank x)) x (omega arith) j stands run after clear
