@@ -4,3 +4,4 @@ pub mod Fit
 pub mod Renumbered
 pub mod Streams
 pub mod Faults
+pub mod Text
