@@ -1,9 +1,9 @@
 -- The fault time stays, and at it all root faults.
-use Rattle.std.proofs.Common.{◌≡◌, ◌⊎◌, ◌↔◌, ℕ, zero, suc, ◌<◌, ◌≤◌, Bool, true, false, List, [], ◌∷◌, Option, Some, None, refl, sym, ap, subst, ◌∙◌, inl, inr, arith}
-use Rattle.std.specs.Prelude.{IsTrue, IsFalse, if◌then◌else◌, is_some}
+use Rattle.std.proofs.Common.{◌≡◌, ◌⊎◌, ℕ, zero, suc, ◌<◌, ◌≤◌, Bool, true, false, List, [], ◌∷◌, Option, Some, None, refl, sym, ap, subst, ◌∙◌, inl, inr, arith}
+use Rattle.std.specs.Prelude.{IsTrue, if◌then◌else◌, is_some}
 use Rattle.std.specs.List.{AllByRecursion}
 use Rattle.std.specs.Option.{option_and_then}
-use Rattle.std.proofs.lemmas.Bool.{cases_Bool, cases_lt, cases_order, false_from_ne_true, true_from_ne_false, false≢true, true≢false}
+use Rattle.std.proofs.lemmas.Bool.{cases_Bool, cases_lt, false_from_ne_true, true_from_ne_false, false≢true, true≢false}
 use Rattle.std.proofs.lemmas.Option.{none-some}
 use Rattle.lift_func.specs.declared.fault.FaultKind.{FaultKind}
 use Rattle.flat_core.specs.declared.equation.Equation.{Equation}
@@ -17,9 +17,8 @@ use Rattle.flat_core.proofs.Locality.{AgreeBefore, own-same, blocked-same}
 use Rattle.flat_core.proofs.Members.{some_from, some_in}
 use Rattle.flat_core.proofs.PendingLemmas.{some_before_from, none_before_from}
 use Rattle.flat_core.proofs.Uniqueness.{all_by, all_with, used_all}
-use Rattle.flat_simplify.specs.CanFault.{can_fault_op, CanFault}
+use Rattle.flat_simplify.specs.CanFault.{can_fault_op}
 use Rattle.flat_simplify.specs.Replaced.{itself}
-use Rattle.flat_simplify.specs.Simplified.{with_new_args}
 use Rattle.flat_simplify.specs.Solved.{AreSolved, IsSoundBefore, IsFaultTime}
 use Rattle.flat_simplify.specs.Laws.{KeepsFaults}
 use Rattle.flat_simplify.proofs.CannotFault.{never_faults}
@@ -126,10 +125,10 @@ module _ (s u : System) (inputs : Inputs) (bound : ℕ) (z w : Streams) (both : 
 
   sound_to : (t : ℕ) → t < bound → IsSoundBefore s inputs z t → is_faulty s inputs z t ≡ false → is_faulty u inputs w t ≡ false
   sound_to t lt sound none = false_from_ne_true (is_faulty u inputs w t) (λ faulty.
-    let found = some_in (λ i. is_some (root_at u inputs w t i)) u.running faulty in
-    let root = of_some (root_at u inputs w t found.0) found.2 in
-    let before = root_came t found.0 root.0 lt sound none found.1 root.1 in
-    true≢false (sym (some_from (λ i. is_some (root_at s inputs z t i)) s.running found.0 before.0 (ap is_some before.1)) ∙ none))
+      let found = some_in (λ i. is_some (root_at u inputs w t i)) u.running faulty in
+      let root = of_some (root_at u inputs w t found.0) found.2 in
+      let before = root_came t found.0 root.0 lt sound none found.1 root.1 in
+      true≢false (sym (some_from (λ i. is_some (root_at s inputs z t i)) s.running found.0 before.0 (ap is_some before.1)) ∙ none))
 
   -- no time before n has a root fault, or there is a least one
   pub first_fault : (n : ℕ) → IsSoundBefore s inputs z n ⊎ ((f : ℕ) × (f < n) × IsFaultTime s inputs z f)

@@ -1,5 +1,5 @@
 -- What simplification makes is proper, well typed and well-formed.
-use Rattle.std.proofs.Common.{◌≡◌, ◌↔◌, ℕ, suc, ◌<◌, false, List, [], ◌∷◌, map, length, drop, Option, Some, None, refl, sym, ap, subst, ◌∙◌, inl, inr, arith}
+use Rattle.std.proofs.Common.{◌≡◌, ℕ, ◌<◌, List, [], ◌∷◌, map, length, drop, Option, Some, None, refl, sym, ap, subst, ◌∙◌, inl, inr, arith}
 use Rattle.std.specs.Prelude.{IsTrue, slice_get}
 use Rattle.std.specs.Option.{option_map}
 use Rattle.std.specs.List.{AllByRecursion, Contains}
@@ -13,11 +13,11 @@ use Rattle.flat_core.specs.declared.equation.Op.{Op}
 use Rattle.flat_core.specs.declared.equation.Op.TheVariants as op
 use Rattle.flat_core.specs.Complete.{HasShortBody, HaveDifferentNames, IsComplete}
 use Rattle.flat_core.specs.Graph.{Path, edge, step, Walk, stay, onward}
-use Rattle.flat_core.specs.Needed.{HasArgument, IsNeeded}
+use Rattle.flat_core.specs.Needed.{HasArgument}
 use Rattle.flat_core.specs.System.{System, runs, equation, IsProper}
 use Rattle.flat_core.specs.TypedSystem.{IsOfType, AreOfTypes, IsTypedEquation, IsTypedSystem}
 use Rattle.flat_core.specs.WellFormed.{unguarded_of, Needs, IsWellFormed}
-use Rattle.flat_core.proofs.Members.{contains_head, contains_tail, all_from, all_at, all_map, contains_map, map_contains}
+use Rattle.flat_core.proofs.Members.{contains_head, contains_tail, all_from, all_at, all_map, contains_map}
 use Rattle.flat_core.proofs.Uniqueness.{all_by}
 use Rattle.flat_core.proofs.Walks.{walk_on, walk_keeps}
 use Rattle.flat_simplify.specs.CanFault.{can_fault_op, CanFault}
@@ -125,10 +125,10 @@ module _ (s u : System) (proper : IsProper s) (typed : IsTypedSystem s) (formed 
   typed_new : IsTypedSystem u
   typed_new = record {
     each = λ i f is.
-    let old = old_equation i f is in
-    let g = typed.each i old.0 old.1 in
-    let new_typed : IsTypedEquation u.equations (with_new_args replaced old.0) = record { types = g.types; arguments = new_types old.0.args g.types g.arguments; typed = g.typed } in
-    subst (IsTypedEquation u.equations) old.2 new_typed;
+        let old = old_equation i f is in
+        let g = typed.each i old.0 old.1 in
+        let new_typed : IsTypedEquation u.equations (with_new_args replaced old.0) = record { types = g.types; arguments = new_types old.0.args g.types g.arguments; typed = g.typed } in
+        subst (IsTypedEquation u.equations) old.2 new_typed;
   }
 
   -- ---- what remains ran, and was not replaced
@@ -157,9 +157,9 @@ module _ (s u : System) (proper : IsProper s) (typed : IsTypedSystem s) (formed 
   faulting_left i f = (
     f.running,
     λ a r.
-    let same : f.at ≡ r.at = same_Some f.at r.at (sym f.is ∙ r.is) in
-    let merges : f.at.op ≡ op.Merge = ap (λ e. e.op) same ∙ r.merges in
-    false≢true (sym (ap can_fault_op merges) ∙ f.faults),
+        let same : f.at ≡ r.at = same_Some f.at r.at (sym f.is ∙ r.is) in
+        let merges : f.at.op ≡ op.Merge = ap (λ e. e.op) same ∙ r.merges in
+        false≢true (sym (ap can_fault_op merges) ∙ f.faults),
   )
 
   output_left : (o : Output) → Contains u.outputs o → IsLeft o.equation
@@ -185,9 +185,9 @@ module _ (s u : System) (proper : IsProper s) (typed : IsTypedSystem s) (formed 
   proper_new : IsProper u
   proper_new = record {
     runs_all = λ i run.
-    let found = proper.runs_all i (is_left i run).0 in
-    let is = new_equation i found.0 found.1 in
-    (with_new_args replaced found.0, is, arguments_run i (with_new_args replaced found.0) run is);
+        let found = proper.runs_all i (is_left i run).0 in
+        let is = new_equation i found.0 found.1 in
+        (with_new_args replaced found.0, is, arguments_run i (with_new_args replaced found.0) run is);
   }
 
   pub outputs_run_new : OutputsRun u

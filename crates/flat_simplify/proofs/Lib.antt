@@ -5,3 +5,5 @@ pub mod Renumbered
 pub mod Streams
 pub mod Faults
 pub mod Text
+pub mod One
+pub mod Exists

@@ -1,6 +1,6 @@
 -- What stands for an equation.
 use Rattle.std.proofs.Common.{◌≡◌, ℕ, ◌<◌, List, [], ◌∷◌, length, Some, refl, sym, ap, subst, ◌∙◌, arith}
-use Rattle.std.specs.Prelude.{IsTrue, slice_get}
+use Rattle.std.specs.Prelude.{IsTrue}
 use Rattle.std.specs.List.{AllByRecursion}
 use Rattle.std.proofs.lemmas.Option.{same_Some, slice_get-get_or, slice_get_within}
 use Rattle.tsl_value.specs.declared.scalar.ValueType.{ValueType}
@@ -9,6 +9,8 @@ use Rattle.flat_core.specs.declared.equation.Op.TheVariants as op
 use Rattle.flat_core.specs.System.{System, runs, equation, IsProper}
 use Rattle.flat_core.specs.Typed.{IsTyped, merge}
 use Rattle.flat_core.specs.TypedSystem.{IsOfType, AreOfTypes, IsTypedSystem}
+use Rattle.flat_core.specs.WellFormed.{unguarded_of, IsWellFormed}
+use Rattle.flat_core.proofs.WellFormedRank.{rank_of, rank_falls}
 use Rattle.flat_simplify.specs.Replaced.{IsReplaced, StandsFor, itself, through, IsReplacement}
 use Rattle.flat_simplify.specs.Simplified.{new_number}
 use Rattle.flat_simplify.specs.Laws.{IsStandIn}
@@ -39,6 +41,14 @@ module _ (s : System) where
       let args : found.0.args ≡ a ∷ r.other ∷ [] = ap (λ e. e.args) same ∙ r.args_are in
       let run : AllByRecursion (λ b. IsTrue (runs s b)) (a ∷ r.other ∷ []) = subst (AllByRecursion (λ b. IsTrue (runs s b))) args found.2 in
       (run.0, run.1.0)
+
+  -- its rank is above that of the first argument
+  pub replaced_falls : (formed : IsWellFormed s) (i a : ℕ) → IsReplaced s i a → rank_of s formed a < rank_of s formed i
+  replaced_falls formed i a r =
+      let below = λ (b : ℕ). rank_of s formed b < rank_of s formed i in
+      let falls : AllByRecursion below (unguarded_of op.Merge (a ∷ r.other ∷ [])) =
+      subst (λ args. AllByRecursion below (unguarded_of op.Merge args)) r.args_are (subst (λ o. AllByRecursion below (unguarded_of o r.at.args)) r.merges (rank_falls s formed i r.at r.is)) in
+      falls.0
 
   pub runs_on : IsProper s → {i j : ℕ} → StandsFor s i j → IsTrue (runs s i) → IsTrue (runs s j)
   runs_on proper (itself none) run = run

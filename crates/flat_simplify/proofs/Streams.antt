@@ -5,12 +5,10 @@ use Rattle.std.specs.List.{AllByRecursion, list_any}
 use Rattle.std.proofs.lemmas.Bool.{cases_lt, or_parts, false≢true, true≢false}
 use Rattle.std.proofs.lemmas.Option.{same_Some}
 use Rattle.flat_core.specs.declared.equation.Equation.{Equation}
-use Rattle.flat_core.specs.declared.equation.Op.TheVariants as op
 use Rattle.flat_core.specs.Stream.{Outcome, Event, Fault, event, has_event, is_fault}
 use Rattle.flat_core.specs.Case.{Streams, Inputs, merged, own, own_of, used_of, is_blocked, outcome_of}
 use Rattle.flat_core.specs.Fault.{is_faulty}
 use Rattle.flat_core.specs.System.{System, runs, equation}
-use Rattle.flat_core.specs.WellFormed.{unguarded_of}
 use Rattle.flat_core.proofs.Locality.{AgreeBefore, case_of-same}
 use Rattle.flat_core.proofs.Uniqueness.{all_by, all_used, all_with, used_all}
 use Rattle.flat_core.proofs.WellFormedRank.{rank_of, well_formed_ranked}
@@ -21,7 +19,7 @@ use Rattle.flat_simplify.specs.Simplified.{new_number, with_new_args}
 use Rattle.flat_simplify.specs.Solved.{AreSolved, IsSoundBefore}
 use Rattle.flat_simplify.proofs.Fit.{new_equation, arguments_run}
 use Rattle.flat_simplify.proofs.Renumbered.{case_moved}
-use Rattle.flat_simplify.proofs.Stands.{merged_run, new_stands_at, new_is}
+use Rattle.flat_simplify.proofs.Stands.{merged_run, replaced_falls, new_stands_at, new_is}
 
 -- a merge with a second argument that has an event only where the first has one
 merged_is : (p q o : Option Outcome) → o ≡ (if (is_fault p || (is_fault q || false)) then Some Fault else outcome_of (Ok (merged (event p) (event q)))) → is_fault o ≡ false → (is_fault p ≡ false → IsTrue (has_event q) → IsTrue (has_event p)) → (is_fault p ≡ false) × (o ≡ p)
@@ -107,9 +105,7 @@ module _ (s u : System) (inputs : Inputs) (bound : ℕ) (z w : Streams) (both : 
         let case : z x t ≡ (if (is_fault (z a t) || (is_fault (z r.other t) || false)) then Some Fault else outcome_of (Ok (merged (event (z a t)) (event (z r.other t))))) =
         here ∙ (λ i. if list_any (λ b. is_fault (z b t)) (used_of (r.merges i) (r.args_are i)) then Some Fault else outcome_of (own_of inputs z x (r.merges i) (r.args_are i) r.at.of t)) in
         let it = merged_is (z a t) (z r.other t) (z x t) case clear (λ clear_a has. implied s inputs bound z t (up_to t lt sound) r.other a running.1 running.0 r.implied clear_a has) in
-        let falls : AllByRecursion (λ b. rank b < rank x) (unguarded_of op.Merge (a ∷ r.other ∷ [])) =
-        subst (λ args. AllByRecursion (λ b. rank b < rank x) (unguarded_of op.Merge args)) r.args_are (subst (λ o. AllByRecursion (λ b. rank b < rank x) (unguarded_of o r.at.args)) r.merges ((well_formed_ranked s both.well_formed).falls x r.at r.running r.is)) in
-        let less = falls.0 in
+        let less = replaced_falls s both.well_formed x a r in
         kept_by_rank k a (omega arith) j rest running.0 after it.0 ∙ sym it.1
 
   -- before each time up to the fault time

@@ -1,10 +1,9 @@
 -- The instants up to the fault time stay, and so does the text that is due.
-use Rattle.std.proofs.Common.{◌≡◌, ◌==◌, ◌⊎◌, ℕ, zero, suc, ◌<◌, ◌≤◌, Bool, true, false, not, ◌&&◌, ◌||◌, List, [], ◌∷◌, ◌++◌, map, take, Option, Some, None, Ok, cond, refl, sym, ap, subst, ◌∙◌, inl, inr, arith}
-use Rattle.std.specs.Prelude.{IsTrue, IsFalse, if◌then◌else◌}
+use Rattle.std.proofs.Common.{◌≡◌, ◌==◌, ℕ, zero, suc, ◌<◌, ◌≤◌, Bool, true, false, not, ◌&&◌, ◌||◌, List, [], ◌∷◌, ◌++◌, map, take, Option, Some, None, Ok, cond, refl, sym, ap, subst, ◌∙◌, inl, inr, arith}
+use Rattle.std.specs.Prelude.{IsTrue, if◌then◌else◌}
 use Rattle.std.specs.List.{AllByRecursion, list_any, filter, flat_map}
-use Rattle.std.proofs.lemmas.Bool.{cases_Bool, and_from, and_parts, false≢true, true≢false}
+use Rattle.std.proofs.lemmas.Bool.{and_from, and_parts, false≢true}
 use Rattle.std.proofs.lemmas.List.Folds.{flat_map-map}
-use Rattle.std.proofs.lemmas.Option.{same_Some}
 use Rattle.tsl_value.specs.View.{View}
 use Rattle.flat_core.specs.declared.equation.Equation.{Equation}
 use Rattle.flat_core.specs.declared.equation.Output.{Output}
@@ -21,14 +20,14 @@ use Rattle.flat_core.proofs.Members.{all_append, some_from, some_in}
 use Rattle.flat_core.proofs.PendingLemmas.{some_before_from, none_before_from}
 use Rattle.flat_core.proofs.SmallerBound.{instants_first}
 use Rattle.flat_core.proofs.Uniqueness.{all_by, all_with}
-use Rattle.flat_simplify.specs.CanFault.{can_fault_op, CanFault}
+use Rattle.flat_simplify.specs.CanFault.{can_fault_op}
 use Rattle.flat_simplify.specs.Replaced.{itself}
 use Rattle.flat_simplify.specs.Simplified.{new_number, with_new_equation}
-use Rattle.flat_simplify.specs.Solved.{AreSolved, IsSoundBefore, IsFaultTime}
+use Rattle.flat_simplify.specs.Solved.{AreSolved, IsSoundBefore}
 use Rattle.flat_simplify.specs.Laws.{KeepsText}
 use Rattle.flat_simplify.proofs.Faults.{first_fault, sound_after, keeps_faults}
 use Rattle.flat_simplify.proofs.Fit.{is_left, faulting_runs, outputs_run_new}
-use Rattle.flat_simplify.proofs.Streams.{new, v, new_equation_at, new_for, sound_kept, kept}
+use Rattle.flat_simplify.proofs.Streams.{new_equation_at, sound_kept, kept}
 
 -- ---- lists
 

@@ -5,7 +5,7 @@ use Rattle.tsl_value.specs.declared.scalar.ValueType.{ValueType}
 use Rattle.lift_func.specs.declared.fault.FaultKind.{FaultKind}
 use Rattle.flat_core.specs.Case.{Streams, Inputs}
 use Rattle.flat_core.specs.Complete.{IsComplete}
-use Rattle.flat_core.specs.Fault.{root_at, is_faulty, is_over}
+use Rattle.flat_core.specs.Fault.{root_at, is_over}
 use Rattle.flat_core.specs.Instant.{is_instant, instants}
 use Rattle.flat_core.specs.Line.{Line, inputs_of}
 use Rattle.flat_core.specs.Stream.{is_fault}
