@@ -20,12 +20,11 @@ use Rattle.flat_core.proofs.Uniqueness.{all_by, all_with, used_all}
 use Rattle.flat_simplify.specs.CanFault.{can_fault_op}
 use Rattle.flat_simplify.specs.Replaced.{itself}
 use Rattle.flat_simplify.specs.Solved.{AreSolved, IsSoundBefore, IsFaultTime}
-use Rattle.flat_simplify.specs.Laws.{KeepsFaults}
+use Rattle.flat_simplify.specs.Laws.{IsFit, KeepsFaults}
 use Rattle.flat_simplify.proofs.CannotFault.{never_faults}
-use Rattle.flat_simplify.proofs.Fit.{is_left, faulting_runs}
 use Rattle.flat_simplify.proofs.Renumbered.{root_moved}
 use Rattle.flat_simplify.proofs.Stands.{new_is}
-use Rattle.flat_simplify.proofs.Streams.{new, v, Keeps, new_equation_at, arguments_keep, all_clear, kept_before, sound_kept, kept, new_for}
+use Rattle.flat_simplify.proofs.Streams.{fit, new, v, Keeps, new_equation_at, arguments_keep, all_clear, kept_before, sound_kept, kept, new_for}
 
 refused_clear : (o : Option Outcome) (kind : FaultKind) → refused (event o) ≡ Some kind → is_fault o ≡ false
 refused_clear None kind h = refl
@@ -62,6 +61,9 @@ module _ (inputs : Inputs) (p q : Streams) (i t : ℕ) (kind : FaultKind) where
       (λ k. if blocked k then None else fault_of (same k)) ∙ h
 
 module _ (s u : System) (inputs : Inputs) (bound : ℕ) (z w : Streams) (both : AreSolved s u inputs bound z w) where
+  fitting : IsFit s u
+  fitting = fit s u inputs bound z w both
+
   abbrev after : Streams
   after = v s u inputs bound z w both
 
@@ -74,7 +76,7 @@ module _ (s u : System) (inputs : Inputs) (bound : ℕ) (z w : Streams) (both : 
   -- an equation that runs after has the same root faults as before, at what stands for its arguments
   module _ (i : ℕ) (run : IsTrue (runs s i)) (remains : IsTrue (runs u i)) (e : Equation) (is : equation s i ≡ Some e) where
     self : new s u inputs bound z w both i ≡ i
-    self = new_is s both.simplified.replaced both.simplified.replacement i i e is (itself (is_left s u both.proper both.typed both.well_formed both.outputs_run both.simplified.replaced both.simplified.replacement both.simplified.renumbered i remains).1)
+    self = new_is s both.simplified.replaced both.simplified.replacement i i e is (itself (λ a r. fitting.left i a remains r))
 
     keeps : Kept i
     keeps = (run, subst (λ n. IsTrue (runs u n)) (sym self) remains)
@@ -106,12 +108,12 @@ module _ (s u : System) (inputs : Inputs) (bound : ℕ) (z w : Streams) (both : 
       let e = found.0 in
       let here : root_of inputs z i e e.op t ≡ Some kind = sym (ap (option_and_then (λ f. root_fault inputs z i f t)) found.1) ∙ root in
       let can : IsTrue (can_fault_op e.op) = true_from_ne_false (can_fault_op e.op) (λ never. none-some kind (sym (never_faults inputs z i t e never) ∙ here)) in
-      let remains = faulting_runs s u both.proper both.typed both.well_formed both.outputs_run both.simplified.replaced both.simplified.replacement both.simplified.renumbered i (record { at = e; is = found.1; running = run; faults = can }) in
+      let remains = fitting.faulting i (record { at = e; is = found.1; running = run; faults = can }) in
       (remains, root_to i run remains e found.1 t kind lt sound root)
 
   root_came : (t i : ℕ) (kind : FaultKind) → t < bound → IsSoundBefore s inputs z t → is_faulty s inputs z t ≡ false → IsTrue (runs u i) → root_at u inputs w t i ≡ Some kind → IsTrue (runs s i) × (root_at s inputs z t i ≡ Some kind)
   root_came t i kind lt sound none remains root =
-      let run = (is_left s u both.proper both.typed both.well_formed both.outputs_run both.simplified.replaced both.simplified.replacement both.simplified.renumbered i remains).0 in
+      let run = fitting.ran i remains in
       let found = both.proper.runs_all i run in
       (run, root_from i run remains found.0 found.1 t kind lt sound none root)
 

@@ -17,15 +17,17 @@ use Rattle.flat_core.specs.Needed.{HasArgument}
 use Rattle.flat_core.specs.System.{System, runs, equation, IsProper}
 use Rattle.flat_core.specs.TypedSystem.{IsOfType, AreOfTypes, IsTypedEquation, IsTypedSystem}
 use Rattle.flat_core.specs.WellFormed.{unguarded_of, Needs, IsWellFormed}
-use Rattle.flat_core.proofs.Members.{contains_head, contains_tail, all_from, all_at, all_map, contains_map}
+use Rattle.flat_core.proofs.Members.{contains_head, contains_tail, all_from, all_at, all_map, contains_map, map_contains}
 use Rattle.flat_core.proofs.Uniqueness.{all_by}
+use Rattle.flat_core.proofs.WellFormedOrder.{ranked_solution}
+use Rattle.flat_core.proofs.WellFormedRank.{rank_of, well_formed_ranked}
 use Rattle.flat_core.proofs.Walks.{walk_on, walk_keeps}
 use Rattle.flat_simplify.specs.CanFault.{can_fault_op, CanFault}
 use Rattle.flat_simplify.specs.Replaced.{IsReplaced, StandsFor, itself, through, IsReplacement}
 use Rattle.flat_simplify.specs.Simplified.{new_number, with_new_args, with_new_equation, Remains, IsRenumbered, IsSimplified}
 use Rattle.flat_simplify.specs.Solved.{OutputsRun}
 use Rattle.flat_simplify.specs.Laws.{IsFit}
-use Rattle.flat_simplify.proofs.Stands.{runs_on, left_over, same_type, new_stands_at}
+use Rattle.flat_simplify.proofs.Stands.{runs_on, left_over, same_type, new_stands_at, new_is}
 
 -- ---- paths
 
@@ -213,6 +215,12 @@ module _ (s u : System) (proper : IsProper s) (typed : IsTypedSystem s) (formed 
     short_texts = subst (AllByRecursion (λ e. HasShortBody e.op)) (sym made.equations_are) (all_map (with_new_args replaced) (λ e. HasShortBody e.op) s.equations c.short_texts);
   }
 
+  outputs_stand : (o : Output) (j : ℕ) → Contains s.outputs o → StandsFor s o.equation j → IsTrue (runs u j)
+  outputs_stand o j c stands =
+      let found = proper.runs_all o.equation (all_at (λ p. IsTrue (runs s p.equation)) s.outputs outputs_run o c) in
+      let among = subst (λ os. Contains os (with_new_equation replaced o)) (sym made.outputs_are) (map_contains (with_new_equation replaced) s.outputs o c) in
+      subst (λ n. IsTrue (runs u n)) (new_is s replaced replacement o.equation j found.0 found.1 stands) (all_at (λ p. IsTrue (runs u p.equation)) u.outputs outputs_run_new (with_new_equation replaced o) among)
+
   pub fit : IsFit s u
   fit = record {
     proper = proper_new;
@@ -223,6 +231,8 @@ module _ (s u : System) (proper : IsProper s) (typed : IsTypedSystem s) (formed 
     ran = λ i run. (is_left i run).0;
     left = λ i a run r. (is_left i run).1 a r;
     faulting = faulting_runs;
+    outputs_stand = outputs_stand;
+    solved = ranked_solution u (rank_of u well_formed) proper_new (well_formed_ranked u well_formed);
   }
 
 pub simplified_fit : (s u : System) → IsProper s → IsTypedSystem s → IsWellFormed s → OutputsRun s → IsSimplified s u → IsFit s u

@@ -7,3 +7,5 @@ pub mod Faults
 pub mod Text
 pub mod One
 pub mod Exists
+pub mod Named
+pub mod Ends

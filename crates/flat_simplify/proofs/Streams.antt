@@ -1,5 +1,5 @@
 -- What stands for an equation has its outcome, up to the fault time.
-use Rattle.std.proofs.Common.{◌≡◌, ℕ, zero, suc, ◌<◌, ◌≤◌, Bool, true, false, ◌||◌, List, [], ◌∷◌, map, Option, Some, None, Ok, refl, sym, ap, subst, ◌∙◌, inl, inr, arith}
+use Rattle.std.proofs.Common.{◌≡◌, ℕ, zero, suc, ◌+◌, ◌<◌, ◌≤◌, Bool, true, false, ◌||◌, List, [], ◌∷◌, map, Option, Some, None, Ok, refl, sym, ap, subst, ◌∙◌, inl, inr, arith}
 use Rattle.std.specs.Prelude.{IsTrue, IsFalse, if◌then◌else◌}
 use Rattle.std.specs.List.{AllByRecursion, list_any}
 use Rattle.std.proofs.lemmas.Bool.{cases_lt, or_parts, false≢true, true≢false}
@@ -17,7 +17,8 @@ use Rattle.trigger_rules.proofs.Times.{all_are_clear, implied}
 use Rattle.flat_simplify.specs.Replaced.{StandsFor, itself, through}
 use Rattle.flat_simplify.specs.Simplified.{new_number, with_new_args}
 use Rattle.flat_simplify.specs.Solved.{AreSolved, IsSoundBefore}
-use Rattle.flat_simplify.proofs.Fit.{new_equation, arguments_run}
+use Rattle.flat_simplify.specs.Laws.{IsFit, KeepsStreams}
+use Rattle.flat_simplify.proofs.Fit.{new_equation, arguments_run, simplified_fit}
 use Rattle.flat_simplify.proofs.Renumbered.{case_moved}
 use Rattle.flat_simplify.proofs.Stands.{merged_run, replaced_falls, new_stands_at, new_is}
 
@@ -57,6 +58,9 @@ module _ (s u : System) (inputs : Inputs) (bound : ℕ) (z w : Streams) (both : 
 
   pub up_to : (t : ℕ) → t < bound → IsSoundBefore s inputs z t → IsUpToFault s inputs bound z t
   up_to t lt sound = record { proper = both.proper; typed = both.typed; well_formed = both.well_formed; solves = both.solves; typed_events = both.typed_events; below = lt; sound = sound }
+
+  pub fit : IsFit s u
+  fit = simplified_fit s u both.proper both.typed both.well_formed both.outputs_run both.simplified
 
   -- it ran, and what stands for it runs
   abbrev pub Keeps : ℕ → Type 0
@@ -128,3 +132,11 @@ module _ (s u : System) (inputs : Inputs) (bound : ℕ) (z w : Streams) (both : 
 
   pub kept : (t : ℕ) → t < bound → IsSoundBefore s inputs z t → (x j : ℕ) → IsTrue (runs s x) → StandsFor s x j → IsTrue (runs u j) → IsFalse (is_fault (z x t)) → w j t ≡ z x t
   kept t lt sound x j run stands after clear = kept_by_rank t lt sound (kept_before t (omega arith) sound) (suc (rank x)) x (omega arith) j stands run after clear
+
+  below : (t : ℕ) → t < bound → IsSoundBefore s inputs z (t + 1) → (x j : ℕ) → IsTrue (runs s x) → StandsFor s x j → IsTrue (runs u j) → w j t ≡ z x t
+  below t lt sound x j run stands after =
+      let earlier : IsSoundBefore s inputs z t = λ m less. sound m (omega arith) in
+      kept t lt earlier x j run stands after (all_are_clear s inputs bound z t (up_to t lt earlier) (sound t (omega arith)) x run)
+
+  pub keeps_streams : KeepsStreams s u inputs bound z w
+  keeps_streams = record { same = kept; same_below = below }

@@ -1,5 +1,5 @@
 -- The instants up to the fault time stay, and so does the text that is due.
-use Rattle.std.proofs.Common.{◌≡◌, ◌==◌, ℕ, zero, suc, ◌<◌, ◌≤◌, Bool, true, false, not, ◌&&◌, ◌||◌, List, [], ◌∷◌, ◌++◌, map, take, Option, Some, None, Ok, cond, refl, sym, ap, subst, ◌∙◌, inl, inr, arith}
+use Rattle.std.proofs.Common.{◌≡◌, ◌==◌, ℕ, zero, suc, ◌<◌, ◌≤◌, Bool, true, false, not, ◌&&◌, ◌||◌, List, [], ◌∷◌, ◌++◌, take, Option, Some, None, Ok, cond, refl, sym, ap, ◌∙◌, inl, inr, arith}
 use Rattle.std.specs.Prelude.{IsTrue, if◌then◌else◌}
 use Rattle.std.specs.List.{AllByRecursion, list_any, filter, flat_map}
 use Rattle.std.proofs.lemmas.Bool.{and_from, and_parts, false≢true}
@@ -16,18 +16,17 @@ use Rattle.flat_core.specs.Instant.{is_delay_op, is_delay, is_instant, instants}
 use Rattle.flat_core.specs.Line.{Line, inputs_of, is_line_on}
 use Rattle.flat_core.specs.System.{System, runs, equation}
 use Rattle.flat_core.specs.Text.{event_line, text_at, due_instants, due_text}
-use Rattle.flat_core.proofs.Members.{all_append, some_from, some_in}
+use Rattle.flat_core.proofs.Members.{all_append, all_at, all_from, some_from, some_in}
 use Rattle.flat_core.proofs.PendingLemmas.{some_before_from, none_before_from}
 use Rattle.flat_core.proofs.SmallerBound.{instants_first}
-use Rattle.flat_core.proofs.Uniqueness.{all_by, all_with}
+use Rattle.flat_core.proofs.Uniqueness.{all_by}
 use Rattle.flat_simplify.specs.CanFault.{can_fault_op}
 use Rattle.flat_simplify.specs.Replaced.{itself}
 use Rattle.flat_simplify.specs.Simplified.{new_number, with_new_equation}
 use Rattle.flat_simplify.specs.Solved.{AreSolved, IsSoundBefore}
-use Rattle.flat_simplify.specs.Laws.{KeepsText}
+use Rattle.flat_simplify.specs.Laws.{IsFit, KeepsText}
 use Rattle.flat_simplify.proofs.Faults.{first_fault, sound_after, keeps_faults}
-use Rattle.flat_simplify.proofs.Fit.{is_left, faulting_runs, outputs_run_new}
-use Rattle.flat_simplify.proofs.Streams.{new_equation_at, sound_kept, kept}
+use Rattle.flat_simplify.proofs.Streams.{fit, new_equation_at, new_for, sound_kept, kept}
 
 -- ---- lists
 
@@ -36,7 +35,7 @@ same_test true c to from = sym (to refl)
 same_test false true to from = absurd (false≢true (from refl))
 same_test false false to from = refl
 
-all_take : (P : ℕ → Type 0) (n : ℕ) (xs : List ℕ) → AllByRecursion P xs → AllByRecursion P (take n xs)
+pub all_take : (P : ℕ → Type 0) (n : ℕ) (xs : List ℕ) → AllByRecursion P xs → AllByRecursion P (take n xs)
 all_take P zero xs all = tt
 all_take P (suc n) [] all = tt
 all_take P (suc n) (x ∷ xs) all = (all.0, all_take P n xs all.1)
@@ -61,7 +60,7 @@ all_one : (P : ℕ → Type 0) (b : Bool) (n : ℕ) → P n → AllByRecursion P
 all_one P true n p = (p, tt)
 all_one P false n p = tt
 
-instants_below : (s : System) (lines : List Line) (z : Streams) (n : ℕ) → AllByRecursion (λ t. t < n) (instants s lines z n)
+pub instants_below : (s : System) (lines : List Line) (z : Streams) (n : ℕ) → AllByRecursion (λ t. t < n) (instants s lines z n)
 instants_below s lines z zero = tt
 instants_below s lines z (suc n) =
     all_append (λ t. t < suc n) (instants s lines z n) (if is_instant s lines z n then n ∷ [] else [])
@@ -89,6 +88,9 @@ module _ (s u : System) (lines : List Line) (bound : ℕ) (z w : Streams) (both 
   abbrev inputs : Inputs
   inputs = inputs_of lines
 
+  fitting : IsFit s u
+  fitting = fit s u inputs bound z w both
+
   -- a delay is never Fault
   delay_clear : (i : ℕ) (e : Equation) → IsTrue (runs s i) → equation s i ≡ Some e → e.op ≡ op.Delay → (t : ℕ) → t < bound → is_fault (z i t) ≡ false
   delay_clear i e run is delays t lt =
@@ -100,7 +102,7 @@ module _ (s u : System) (lines : List Line) (bound : ℕ) (z w : Streams) (both 
   module _ (t : ℕ) (lt : t < bound) (sound : IsSoundBefore s inputs z t) where
     delay_same : (i : ℕ) (e : Equation) → IsTrue (runs s i) → IsTrue (runs u i) → equation s i ≡ Some e → e.op ≡ op.Delay → w i t ≡ z i t
     delay_same i e run remains is delays =
-        kept s u inputs bound z w both t lt sound i i run (itself (is_left s u both.proper both.typed both.well_formed both.outputs_run both.simplified.replaced both.simplified.replacement both.simplified.renumbered i remains).1) remains (delay_clear i e run is delays t lt)
+        kept s u inputs bound z w both t lt sound i i run (itself (λ a r. fitting.left i a remains r)) remains (delay_clear i e run is delays t lt)
 
     event_to : (i : ℕ) → IsTrue (runs s i) → (is_delay (equation s i) && has_event (z i t)) ≡ true → IsTrue (runs u i) × ((is_delay (equation u i) && has_event (w i t)) ≡ true)
     event_to i run h =
@@ -108,14 +110,14 @@ module _ (s u : System) (lines : List Line) (bound : ℕ) (z w : Streams) (both 
         let found = both.proper.runs_all i run in
         let e = found.0 in
         let delays = delay_op e.op (sym (ap is_delay found.1) ∙ parts.0) in
-        let remains = faulting_runs s u both.proper both.typed both.well_formed both.outputs_run both.simplified.replaced both.simplified.replacement both.simplified.renumbered i (record { at = e; is = found.1; running = run; faults = ap can_fault_op delays }) in
+        let remains = fitting.faulting i (record { at = e; is = found.1; running = run; faults = ap can_fault_op delays }) in
         let same = delay_same i e run remains found.1 delays in
         (remains, and_from (is_delay (equation u i)) (has_event (w i t)) (ap is_delay (new_equation_at s u inputs bound z w both i e found.1) ∙ ap is_delay_op delays) (ap has_event same ∙ parts.1))
 
     event_from : (i : ℕ) → IsTrue (runs u i) → (is_delay (equation u i) && has_event (w i t)) ≡ true → IsTrue (runs s i) × ((is_delay (equation s i) && has_event (z i t)) ≡ true)
     event_from i remains h =
         let parts = and_parts (is_delay (equation u i)) (has_event (w i t)) h in
-        let run = (is_left s u both.proper both.typed both.well_formed both.outputs_run both.simplified.replaced both.simplified.replacement both.simplified.renumbered i remains).0 in
+        let run = fitting.ran i remains in
         let found = both.proper.runs_all i run in
         let e = found.0 in
         let delays = delay_op e.op (sym (ap is_delay (new_equation_at s u inputs bound z w both i e found.1)) ∙ parts.0) in
@@ -130,10 +132,10 @@ module _ (s u : System) (lines : List Line) (bound : ℕ) (z w : Streams) (both 
         (λ h. let found = some_in q u.running h in let it = event_from found.0 found.1 found.2 in some_from p s.running found.0 it.0 it.1)
         (λ h. let found = some_in p s.running h in let it = event_to found.0 found.1 found.2 in some_from q u.running found.0 it.0 it.1)
 
-    instant_same : is_instant u lines w t ≡ is_instant s lines z t
+    pub instant_same : is_instant u lines w t ≡ is_instant s lines z t
     instant_same = let delays = delays_same in λ k. (t == 0) || is_line_on t lines || delays k
 
-  instants_same : (t : ℕ) → t ≤ bound → IsSoundBefore s inputs z t → instants u lines w t ≡ instants s lines z t
+  pub instants_same : (t : ℕ) → t ≤ bound → IsSoundBefore s inputs z t → instants u lines w t ≡ instants s lines z t
   instants_same zero le sound = refl
   instants_same (suc t) le sound =
       let earlier : IsSoundBefore s inputs z t = λ m less. sound m (omega arith) in
@@ -147,15 +149,11 @@ module _ (s u : System) (lines : List Line) (bound : ℕ) (z w : Streams) (both 
       let earlier : IsSoundBefore s inputs z t = λ m less. sound m (omega arith) in
       let replaced = both.simplified.replaced in
       let line = λ (o : Output). event_line t o.name (event (w o.equation t)) in
-      let outputs_run : AllByRecursion (λ o. IsTrue (runs u o.equation)) (map (with_new_equation replaced) s.outputs) =
-      subst (AllByRecursion (λ o. IsTrue (runs u o.equation))) both.simplified.renumbered.outputs_are (outputs_run_new s u both.proper both.typed both.well_formed both.outputs_run replaced both.simplified.replacement both.simplified.renumbered) in
-      let keeps = all_with (λ o. IsTrue (runs s o.equation)) (λ o. IsTrue (runs u (new_number replaced o.equation))) (λ o. line (with_new_equation replaced o) ≡ event_line t o.name (event (z o.equation t)))
-      (λ o run remains. ap (λ x. event_line t o.name (event x)) (sound_kept s u inputs bound z w both t lt earlier (sound t (omega arith)) o.equation (run, remains))) s.outputs both.outputs_run (outputs_back s.outputs outputs_run) in
+      let keeps = all_from (λ o. line (with_new_equation replaced o) ≡ event_line t o.name (event (z o.equation t))) s.outputs (λ o c.
+      let run = all_at (λ p. IsTrue (runs s p.equation)) s.outputs both.outputs_run o c in
+      let remains = fitting.outputs_stand o (new_number replaced o.equation) c (new_for s u inputs bound z w both o.equation run) in
+      ap (λ x. event_line t o.name (event x)) (sound_kept s u inputs bound z w both t lt earlier (sound t (omega arith)) o.equation (run, remains))) in
       ap (flat_map line) both.simplified.renumbered.outputs_are ∙ flat_map-map line (with_new_equation replaced) s.outputs ∙ flat_map_same (λ o. line (with_new_equation replaced o)) (λ o. event_line t o.name (event (z o.equation t))) s.outputs keeps
-    where
-      outputs_back : (os : List Output) → AllByRecursion (λ o. IsTrue (runs u o.equation)) (map (with_new_equation both.simplified.replaced) os) → AllByRecursion (λ o. IsTrue (runs u (new_number both.simplified.replaced o.equation))) os
-      outputs_back [] all = tt
-      outputs_back (o ∷ os) all = (all.0, outputs_back os all.1)
 
   -- the time from which on it is over, or the bound
   record IsFront (f : ℕ) : Type 0 where

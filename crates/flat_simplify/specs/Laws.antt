@@ -1,13 +1,17 @@
 -- Laws of simplification. What stands for an equation has its stream up to the fault time, and the fault time stays. A merge that was
 -- replaced does not pass on a fault of its second argument any more, so that more equations may have a root fault at that time.
-use Rattle.std.specs.Prelude.{◌≡◌, ℕ, ◌<◌, ◌≤◌, ◌⊎◌, ◌↔◌, List, Some, IsTrue, IsFalse}
+use Rattle.std.specs.Prelude.{◌≡◌, ℕ, ◌+◌, ◌<◌, ◌≤◌, ◌⊎◌, ◌↔◌, List, Some, IsTrue, IsFalse}
+use Rattle.std.specs.List.{Contains}
 use Rattle.tsl_value.specs.declared.scalar.ValueType.{ValueType}
 use Rattle.lift_func.specs.declared.fault.FaultKind.{FaultKind}
+use Rattle.flat_core.specs.declared.equation.Output.{Output}
 use Rattle.flat_core.specs.Case.{Streams, Inputs}
 use Rattle.flat_core.specs.Complete.{IsComplete}
+use Rattle.flat_core.specs.Ending.{EndsInFault, EndsAtLimit, EndsAtBound}
 use Rattle.flat_core.specs.Fault.{root_at, is_over}
 use Rattle.flat_core.specs.Instant.{is_instant, instants}
 use Rattle.flat_core.specs.Line.{Line, inputs_of}
+use Rattle.flat_core.specs.Solution.{Solves}
 use Rattle.flat_core.specs.Stream.{is_fault}
 use Rattle.flat_core.specs.System.{System, runs, IsProper}
 use Rattle.flat_core.specs.Text.{due_text}
@@ -49,14 +53,19 @@ pub record IsFit (s u : System) : Type 0 where
   pub ran : (i : ℕ) → IsTrue (runs u i) → IsTrue (runs s i)
   pub left : (i a : ℕ) → IsTrue (runs u i) → IsReplaced s i a → ⊥
   pub faulting : (i : ℕ) → CanFault s i → IsTrue (runs u i)
+  pub outputs_stand : (o : Output) (j : ℕ) → Contains s.outputs o → StandsFor s o.equation j → IsTrue (runs u j)
+  pub solved : (inputs : Inputs) (bound : ℕ) → (w : Streams) × Solves u inputs bound w
 
 abbrev pub SimplifiedIsFit : Type 0
 SimplifiedIsFit = (s u : System) → IsProper s → IsTypedSystem s → IsWellFormed s → OutputsRun s → IsSimplified s u → IsFit s u
 
--- Up to the fault time an equation that is not Fault has the outcome of what stands for it. Below the fault time none is Fault.
+-- up to the fault time what stands for an equation has its outcome, where that is not Fault; below the fault time none is
+pub record KeepsStreams (s u : System) (inputs : Inputs) (bound : ℕ) (z w : Streams) : Type 0 where
+  pub same : (t : ℕ) → t < bound → IsSoundBefore s inputs z t → (x j : ℕ) → IsTrue (runs s x) → StandsFor s x j → IsTrue (runs u j) → IsFalse (is_fault (z x t)) → w j t ≡ z x t
+  pub same_below : (t : ℕ) → t < bound → IsSoundBefore s inputs z (t + 1) → (x j : ℕ) → IsTrue (runs s x) → StandsFor s x j → IsTrue (runs u j) → w j t ≡ z x t
+
 abbrev pub StreamsAreKept : Type 0
-StreamsAreKept =
-    (s u : System) (inputs : Inputs) (bound : ℕ) (z w : Streams) → AreSolved s u inputs bound z w → (t : ℕ) → t < bound → IsSoundBefore s inputs z t → (x j : ℕ) → IsTrue (runs s x) → StandsFor s x j → IsTrue (runs u j) → IsFalse (is_fault (z x t)) → w j t ≡ z x t
+StreamsAreKept = (s u : System) (inputs : Inputs) (bound : ℕ) (z w : Streams) → AreSolved s u inputs bound z w → KeepsStreams s u inputs bound z w
 
 -- the fault time stays, and at it all root faults
 pub record KeepsFaults (s u : System) (inputs : Inputs) (bound : ℕ) (z w : Streams) : Type 0 where
@@ -75,3 +84,12 @@ pub record KeepsText (s u : System) (lines : List Line) (bound : ℕ) (z w : Str
 
 abbrev pub TextIsKept : Type 0
 TextIsKept = (s u : System) (lines : List Line) (bound : ℕ) (z w : Streams) → AreSolved s u (inputs_of lines) bound z w → KeepsText s u lines bound z w
+
+-- a run ends in a fault at the same time, at the limit at the same time, or at the bound in both
+pub record KeepsEnds (s u : System) (lines : List Line) (bound limit : ℕ) (z w : Streams) : Type 0 where
+  pub fault_same : (t : ℕ) → ((i : ℕ) × (kind : FaultKind) × EndsInFault s lines z bound limit t i kind) ↔ ((j : ℕ) × (other : FaultKind) × EndsInFault u lines w bound limit t j other)
+  pub limit_same : (t : ℕ) → EndsAtLimit s lines z bound limit t ↔ EndsAtLimit u lines w bound limit t
+  pub bound_same : EndsAtBound s lines z bound limit ↔ EndsAtBound u lines w bound limit
+
+abbrev pub EndsAreKept : Type 0
+EndsAreKept = (s u : System) (lines : List Line) (bound limit : ℕ) (z w : Streams) → AreSolved s u (inputs_of lines) bound z w → KeepsEnds s u lines bound limit z w

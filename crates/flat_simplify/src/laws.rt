@@ -1,6 +1,6 @@
 // Laws of simplification, as the contracts of functions that do nothing.
 
-ghost use Rattle.flat_simplify.specs.Laws.{StandInsFit, OneStandsForEach, OneIsSimplified, ReplacementsExist, SimplifiedIsFit, StreamsAreKept, FaultsAreKept, TextIsKept};
+ghost use Rattle.flat_simplify.specs.Laws.{StandInsFit, OneStandsForEach, OneIsSimplified, ReplacementsExist, SimplifiedIsFit, StreamsAreKept, FaultsAreKept, TextIsKept, EndsAreKept};
 
 /// What stands for a running equation runs, is not replaced and has its type.
 pub fn stand_ins_fit()
@@ -40,4 +40,9 @@ pub fn faults_are_kept()
 /// The instants up to the fault time stay, and so does the text that is due.
 pub fn text_is_kept()
     ensures { TextIsKept }
+{}
+
+/// A run ends in a fault, at the limit of instants or at the bound, in both systems alike.
+pub fn ends_are_kept()
+    ensures { EndsAreKept }
 {}
