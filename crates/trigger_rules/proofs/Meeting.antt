@@ -11,7 +11,9 @@ use Rattle.flat_core.specs.declared.equation.Op.TheVariants as op
 use Rattle.flat_core.specs.Stream.{History, event, has_event, latest}
 use Rattle.flat_core.specs.Case.{Streams, Inputs, unit, expires, delayed, lasting, at_once, own_of, used_of}
 use Rattle.flat_core.specs.Typed.{IsTyped, filter, last, delay}
-use Rattle.trigger_rules.specs.Formula.{Atom, Happens, Formula, If, Of, Both, all_of, any_of, Meets, always, atom, no_atom, through, both, first, second, started, unless}
+use Rattle.trigger_rules.specs.declared.atom.Atom.{Atom}
+use Rattle.trigger_rules.specs.declared.atom.Atom.TheVariants.{Happens}
+use Rattle.trigger_rules.specs.Formula.{Formula, If, Of, Both, all_of, any_of, Meets, always, atom, no_atom, through, both, first, second, started, unless}
 use Rattle.trigger_rules.specs.Firing.{at_time}
 use Rattle.trigger_rules.specs.Table.{formula_of}
 use Rattle.trigger_rules.proofs.Values.{AreOf, is_plain, happens, gives, same_value}

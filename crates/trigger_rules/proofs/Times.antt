@@ -19,7 +19,8 @@ use Rattle.flat_core.specs.TypedSystem.{AreOfTypes}
 use Rattle.flat_core.proofs.Members.{none_in}
 use Rattle.flat_core.proofs.Uniqueness.{all_used, all_with, used_all}
 use Rattle.flat_core.proofs.WellFormedRank.{rank_of, well_formed_ranked}
-use Rattle.trigger_rules.specs.Formula.{Formula, Start, Never, IfNot, Both, no_atom, through, both}
+use Rattle.trigger_rules.specs.declared.atom.Atom.TheVariants.{Start}
+use Rattle.trigger_rules.specs.Formula.{Formula, Never, IfNot, Both, no_atom, through, both}
 use Rattle.trigger_rules.specs.Firing.{at_time, IsUpToFault}
 use Rattle.trigger_rules.specs.Table.{formula_of, at_zero, formula, zero_formula}
 use Rattle.trigger_rules.specs.Question.{Fires, Starts, Implies, Together}

@@ -10,7 +10,8 @@ use Rattle.flat_core.specs.Stream.{event, has_event}
 use Rattle.flat_core.specs.System.{System, runs, equation, IsProper}
 use Rattle.flat_core.specs.TypedSystem.{IsTypedSystem}
 use Rattle.flat_core.specs.WellFormed.{IsWellFormed}
-use Rattle.trigger_rules.specs.Formula.{Start, Happens, Holds, Assignment}
+use Rattle.trigger_rules.specs.declared.atom.Atom.TheVariants.{Start, Happens, Holds}
+use Rattle.trigger_rules.specs.Formula.{Assignment}
 
 abbrev pub is_true : Option View → Bool
 is_true (Some (Plain (scalar.Bool true))) = true

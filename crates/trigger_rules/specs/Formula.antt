@@ -1,12 +1,8 @@
 -- Formulas over what is at a time, and over the formulas of equations.
 use Rattle.std.specs.Prelude.{ℕ, Bool, List, [], ◌∷◌, IsTrue, IsFalse}
+use Rattle.trigger_rules.specs.declared.atom.Atom.{Atom}
 
--- what is or is not at a time: that it is 0, that an equation has an event, that it has the event true
-pub data Atom : Type 0 where
-  Start : Atom
-  Happens : ℕ → Atom
-  Holds : ℕ → Atom
-
+-- which atoms are true at a time
 abbrev pub Assignment : Type 0
 Assignment = Atom → Bool
 

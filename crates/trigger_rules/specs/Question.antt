@@ -4,7 +4,9 @@ use Rattle.std.specs.Prelude.{◌≡◌, ℕ, ◌≤◌, ◌⊎◌, List, length
 use Rattle.std.specs.List.{Contains}
 use Rattle.flat_core.specs.System.{System}
 use Rattle.trigger_rules.specs.declared.limit.TheConstants.{ATOMS}
-use Rattle.trigger_rules.specs.Formula.{Atom, Start, Assignment, Of, Meets, HasAtom}
+use Rattle.trigger_rules.specs.declared.atom.Atom.{Atom}
+use Rattle.trigger_rules.specs.declared.atom.Atom.TheVariants.{Start}
+use Rattle.trigger_rules.specs.Formula.{Assignment, Of, Meets, HasAtom}
 use Rattle.trigger_rules.specs.Table.{formula, zero_formula}
 
 -- there are at most so many atoms of this property as a question may have

@@ -4,7 +4,8 @@ use Rattle.std.specs.Option.{option_map_or}
 use Rattle.flat_core.specs.declared.equation.Op.{Op}
 use Rattle.flat_core.specs.declared.equation.Op.TheVariants as op
 use Rattle.flat_core.specs.System.{System, equation}
-use Rattle.trigger_rules.specs.Formula.{Formula, Start, Happens, Holds, Never, If, IfNot, Of, Both, Unless, all_of, any_of}
+use Rattle.trigger_rules.specs.declared.atom.Atom.TheVariants.{Start, Happens, Holds}
+use Rattle.trigger_rules.specs.Formula.{Formula, Never, If, IfNot, Of, Both, Unless, all_of, any_of}
 
 -- the formula of equation x with an operation and arguments; no other number of arguments occurs
 abbrev pub formula_of : Op → ℕ → List ℕ → Formula
