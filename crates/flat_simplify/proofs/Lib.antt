@@ -9,3 +9,4 @@ pub mod One
 pub mod Exists
 pub mod Named
 pub mod Ends
+mod Examples
