@@ -1,0 +1,12 @@
+pub mod Stands
+pub mod CannotFault
+pub mod Fit
+pub mod Renumbered
+pub mod Streams
+pub mod Faults
+pub mod Text
+pub mod One
+pub mod Exists
+pub mod Named
+pub mod Ends
+mod Examples

@@ -1,0 +1,5 @@
+pub mod CanFault
+pub mod Replaced
+pub mod Simplified
+pub mod Solved
+pub mod Laws

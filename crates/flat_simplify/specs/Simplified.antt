@@ -1,0 +1,43 @@
+-- The system that simplification makes: other numbers as arguments and at outputs, and fewer equations that run.
+use Rattle.std.specs.Prelude.{◌≡◌, ℕ, ◌⊎◌, ◌↔◌, List, map, IsTrue, slice_index_or}
+use Rattle.std.specs.List.Sorted.{IsStrictlyIncreasing}
+use Rattle.flat_core.specs.declared.equation.Equation.{Equation}
+use Rattle.flat_core.specs.declared.equation.Output.{Output}
+use Rattle.flat_core.specs.Graph.{Walk}
+use Rattle.flat_core.specs.Needed.{HasArgument, IsNeeded}
+use Rattle.flat_core.specs.System.{System, runs}
+use Rattle.flat_simplify.specs.CanFault.{CanFault}
+use Rattle.flat_simplify.specs.Replaced.{IsReplacement}
+
+-- the number that a list has for a number, and an equation and an output with these
+abbrev pub new_number : List ℕ → ℕ → ℕ
+new_number replaced i = slice_index_or replaced i i
+
+abbrev pub with_new_args : List ℕ → Equation → Equation
+with_new_args replaced e = record e { args = map (new_number replaced) e.args }
+
+abbrev pub with_new_equation : List ℕ → Output → Output
+with_new_equation replaced o = record o { equation = new_number replaced o.equation }
+
+-- a walk along the arguments of u leads to i from an equation that ran in s and can fault
+pub record IsBehindFault (s u : System) (i : ℕ) : Type 0 where
+  pub start : ℕ
+  pub faults : CanFault s start
+  pub walk : Walk (HasArgument u.equations) start i
+
+-- what is needed by the outputs, or behind an equation that ran before and can fault
+abbrev pub Remains : System → System → ℕ → Type 0
+Remains s u i = IsNeeded u i ⊎ IsBehindFault s u i
+
+-- u is s with other numbers: all else of equations and outputs is as before, and what remains runs, in ascending order
+pub record IsRenumbered (s : System) (replaced : List ℕ) (u : System) : Type 0 where
+  pub equations_are : u.equations ≡ map (with_new_args replaced) s.equations
+  pub outputs_are : u.outputs ≡ map (with_new_equation replaced) s.outputs
+  pub ascending : IsStrictlyIncreasing u.running
+  pub remains : (i : ℕ) → IsTrue (runs u i) ↔ Remains s u i
+
+-- u is what simplification makes of s
+pub record IsSimplified (s u : System) : Type 0 where
+  pub replaced : List ℕ
+  pub replacement : IsReplacement s replaced
+  pub renumbered : IsRenumbered s replaced u

@@ -1,0 +1,5 @@
+pub mod Formula
+pub mod Table
+pub mod Question
+pub mod Firing
+pub mod Laws
