@@ -1,2 +1,4 @@
 pub mod Rules
+pub mod AtomLists
+pub mod Words
 pub mod Sample

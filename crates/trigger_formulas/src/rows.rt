@@ -1,7 +1,11 @@
 // Assignments, 64 to a word.
 
+ghost use Rattle.std.specs.Prelude.{◌≡◌, ℕ, ◌+◌, ◌*◌, ◌^◌, ◌<◌, ◌≤◌, ◌↔◌, if◌then◌else◌, length, IsTrue};
+ghost use Rattle.trigger_formulas.specs.Words.{assigned, ones, IsOn};
+
 use crate::atoms::Atoms;
 use trigger_rules::atom::Atom;
+use trigger_rules::limit::ATOMS;
 
 /// The digits of the numbers of the 64 places of a word, by the digit's place.
 const DIGITS: [u64; 6] = [
@@ -14,8 +18,18 @@ const DIGITS: [u64; 6] = [
 ];
 
 /// All ones, or none.
-fn all_or_none(all: bool) -> u64 {
+fn all_or_none(all: bool) -> u64
+    ensures { result ≡ ones all }
+{
     if all { u64::MAX } else { 0 }
+}
+
+/// Whether a row's number has the digit 1 at a place.
+fn has_digit(row: u32, place: usize) -> bool
+    requires { place < 32 }
+    ensures { IsTrue result ↔ IsOn row place }
+{
+    row >> place & 1 == 1
 }
 
 /// The assignments of some atoms by the binary digits of numbers: the atom at a place is true where the digit of that place is 1.
@@ -28,20 +42,26 @@ pub(crate) struct Assignments {
 
 impl Assignments {
     /// The number of words that have all assignments.
-    pub(crate) fn rows(&self) -> u32 {
+    pub(crate) fn rows(&self) -> u32
+        requires { length self.now.atoms ≤ ATOMS }
+        ensures { 2 ^ length self.now.atoms ≤ 64 * result }
+    {
         let count = self.atoms.list().len() as u32;
         if count <= 6 { 1 } else { 1 << (count - 6) }
     }
 
     /// Where an atom is true in the 64 assignments of a row: those of the numbers from 64 times the row's on.
-    pub(crate) fn word(&self, row: u32, atom: Atom) -> u64 {
-        match self.atoms.list().iter().position(|other| *other == atom) {
+    pub(crate) fn word(&self, row: u32, atom: &Atom) -> u64
+        requires { length self.now.atoms ≤ ATOMS }
+        ensures { (j : ℕ) → j < 64 → IsOn result j ↔ IsTrue (assigned self.now.atoms self.now.others (64 * row + j) atom.now) }
+    {
+        match self.atoms.place(atom) {
             None => all_or_none(self.others),
             Some(place) => {
                 if place < 6 {
                     DIGITS[place]
                 } else {
-                    all_or_none(row >> (place - 6) & 1 == 1)
+                    all_or_none(has_digit(row, place - 6))
                 }
             }
         }

@@ -37,28 +37,28 @@ fn word(
 ) -> u64 {
     match rule {
         Rule::Never => 0,
-        Rule::Start => assignments.word(row, Atom::Start),
-        Rule::Own => assignments.word(row, Atom::Happens(own)),
+        Rule::Start => assignments.word(row, &Atom::Start),
+        Rule::Own => assignments.word(row, &Atom::Happens(own)),
         Rule::All { args } => all(words, args.ids()),
         Rule::Any { args } => any(words, args.ids()),
         Rule::AnyAndOwn { args } => {
-            assignments.word(row, Atom::Happens(own)) & any(words, args.ids())
+            assignments.word(row, &Atom::Happens(own)) & any(words, args.ids())
         }
         Rule::Filter { events, condition } => {
             words[events.get() as usize]
                 & words[condition.get() as usize]
-                & assignments.word(row, Atom::Holds(*condition))
+                & assignments.word(row, &Atom::Holds(*condition))
         }
         Rule::Last { values, trigger } => {
             let there = if starts[values.get() as usize] {
                 u64::MAX
             } else {
-                assignments.word(row, Atom::Happens(own))
+                assignments.word(row, &Atom::Happens(own))
             };
-            !assignments.word(row, Atom::Start) & words[trigger.get() as usize] & there
+            !assignments.word(row, &Atom::Start) & words[trigger.get() as usize] & there
         }
         Rule::Delay => {
-            !assignments.word(row, Atom::Start) & assignments.word(row, Atom::Happens(own))
+            !assignments.word(row, &Atom::Start) & assignments.word(row, &Atom::Happens(own))
         }
     }
 }

@@ -1,0 +1,101 @@
+-- Lists of different atoms.
+use Rattle.std.proofs.Common.{◌≡◌, ℕ, zero, suc, ◌+◌, ◌<◌, ◌≤◌, ◌↔◌, ◌⊎◌, Bool, true, false, List, [], ◌∷◌, ◌++◌, length, take, get_or, Contains, refl, sym, ap, subst, ◌∙◌, inl, inr, arith, length-append}
+use Rattle.std.specs.Prelude.{IsTrue}
+use Rattle.std.proofs.lemmas.Bool.{false≢true}
+use Rattle.std.proofs.lemmas.List.{take_more}
+use Rattle.std.proofs.lemmas.List.Elements.{Contains-append_left, Contains-push, Contains-push_cases}
+use Rattle.trigger_rules.specs.declared.atom.Atom.{Atom}
+use Rattle.trigger_rules.specs.declared.limit.TheConstants.{ATOMS}
+use Rattle.trigger_formulas.specs.AtomLists.{AreDifferent, Adds}
+
+-- ---- elements
+pub here : {A : Type 0} (x : A) (xs : List A) → Contains (x ∷ xs) x
+here x xs = (0, omega arith, refl)
+
+pub later : {A : Type 0} (x y : A) (xs : List A) → Contains xs y → Contains (x ∷ xs) y
+later x y xs (k, lt, is) = (suc k, omega arith, is)
+
+pub none_in_nil : {A : Type 0} (x : A) → Contains [] x → ⊥
+none_in_nil x (k, lt, is) = absurd (omega arith)
+
+pub in_cons : {A : Type 0} (x y : A) (xs : List A) → Contains (x ∷ xs) y → (x ≡ y) ⊎ Contains xs y
+in_cons x y xs (zero, lt, is) = inl is
+in_cons x y xs (suc k, lt, is) = inr (k, omega arith, is)
+
+-- ---- one more atom
+different_push : (atoms : List Atom) (a : Atom) → (Contains atoms a → ⊥) → AreDifferent atoms → AreDifferent (atoms ++ a ∷ [])
+different_push [] a new all = (none_in_nil a, tt)
+different_push (b ∷ atoms) a new all = (
+  λ c. elim (Contains-push_cases atoms a b c) [
+    | inl old ↦ all.0 old
+    | inr same ↦ new (subst (Contains (b ∷ atoms)) (sym same) (here b atoms))
+  ],
+  different_push atoms a (λ c. new (later b a atoms c)) all.1,
+)
+
+adds_push : (old : List Atom) (a : Atom) → (Contains old a → ⊥) → Adds old (λ b. b ≡ a) (old ++ a ∷ [])
+adds_push old a new = record {
+  grows = omega (arith, length-append old (a ∷ []));
+  kept = λ b c. Contains-append_left old (a ∷ []) b c;
+  from = λ b c. elim (Contains-push_cases old a b c) [
+    | inl before ↦ inl before
+    | inr same ↦ inr (sym same)
+  ];
+  different = different_push old a new;
+  there = λ few b is. subst (Contains (old ++ a ∷ [])) (sym is) (Contains-push old a);
+}
+
+pub adds_one : (old items new : List Atom) (a : Atom) (has : Bool) → items ≡ old → (IsTrue has ↔ Contains old a) → has ≡ false → new ≡ items ++ a ∷ [] → Adds old (λ b. b ≡ a) new
+adds_one old items new a has same exact not is =
+    subst (Adds old (λ b. b ≡ a)) (sym (is ∙ ap (λ l. l ++ a ∷ []) same)) (adds_push old a (λ c. false≢true (sym not ∙ exact.1 c)))
+
+-- ---- one after another
+pub adds_none : (old : List Atom) (P : Atom → Type 0) → ((a : Atom) → P a → ⊥) → Adds old P old
+adds_none old P none = record { grows = omega arith; kept = λ a c. c; from = λ a c. inl c; different = λ d. d; there = λ few a p. absurd (none a p) }
+
+pub adds_also : {old mid new : List Atom} {P Q : Atom → Type 0} → Adds old P mid → Adds mid Q new → Adds old (λ a. P a ⊎ Q a) new
+adds_also {old = old} {mid = mid} {new = new} p q = record {
+  grows = (let a = p.grows in let b = q.grows in omega arith);
+  kept = λ a c. q.kept a (p.kept a c);
+  from = λ a c. elim (q.from a c) [
+    | inl before ↦ elim (p.from a before) [
+      | inl old ↦ inl old
+      | inr first ↦ inr (inl first)
+    ]
+    | inr second ↦ inr (inr second)
+  ];
+  different = λ d. q.different (p.different d);
+  there = λ few a either. elim either [
+    | inl first ↦ q.kept a (p.there (let b = q.grows in omega arith) a first)
+    | inr second ↦ q.there few a second
+  ];
+}
+
+pub adds_alike : {old new : List Atom} {P Q : Atom → Type 0} → ((a : Atom) → P a → Q a) → ((a : Atom) → Q a → P a) → Adds old P new → Adds old Q new
+adds_alike to back p = record {
+  grows = p.grows;
+  kept = p.kept;
+  from = λ a c. elim (p.from a c) [
+    | inl old ↦ inl old
+    | inr first ↦ inr (to a first)
+  ];
+  different = p.different;
+  there = λ few a q. p.there few a (back a q);
+}
+
+-- ---- loops
+more_taken : {A : Type 0} (xs : List A) (k : ℕ) (x y : A) → k < length xs → x ≡ get_or xs k x → Contains (take (k + 1) xs) y → Contains (take k xs) y ⊎ (y ≡ x)
+more_taken xs k x y lt is c = elim (Contains-push_cases (take k xs) x y (subst (λ l. Contains l y) (take_more xs k x lt ∙ ap (λ z. take k xs ++ z ∷ []) (sym is)) c)) [
+  | inl before ↦ inl before
+  | inr same ↦ inr (sym same)
+]
+
+taken_more : {A : Type 0} (xs : List A) (k : ℕ) (x y : A) → k < length xs → x ≡ get_or xs k x → Contains (take k xs) y ⊎ (y ≡ x) → Contains (take (k + 1) xs) y
+taken_more xs k x y lt is either =
+    subst (λ l. Contains l y) (sym (take_more xs k x lt ∙ ap (λ z. take k xs ++ z ∷ []) (sym is))) (elim either [
+      | inl before ↦ Contains-append_left (take k xs) (x ∷ []) y before
+      | inr same ↦ subst (Contains (take k xs ++ x ∷ [])) (sym same) (Contains-push (take k xs) x)
+    ])
+
+pub adds_next : (xs : List Atom) (k : ℕ) (x : Atom) (old mid new : List Atom) → k < length xs → x ≡ get_or xs k x → Adds old (Contains (take k xs)) mid → Adds mid (λ a. a ≡ x) new → Adds old (Contains (take (k + 1) xs)) new
+adds_next xs k x old mid new lt is before one = adds_alike (λ a. taken_more xs k x a lt is) (λ a. more_taken xs k x a lt is) (adds_also before one)
