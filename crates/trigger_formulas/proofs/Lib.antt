@@ -1,2 +1,3 @@
 pub mod AtomLists
 pub mod WordLemmas
+pub mod RuleWords

@@ -5,7 +5,7 @@ use Rattle.trigger_rules.specs.declared.atom.Atom.{Atom}
 use Rattle.trigger_rules.specs.declared.atom.Atom.TheVariants.{Start, Happens, Holds}
 use Rattle.trigger_rules.specs.declared.limit.TheConstants.{ATOMS}
 use Rattle.trigger_formulas.specs.declared.rules.Rule.{Rule}
-use Rattle.trigger_formulas.specs.declared.rules.Rule.TheVariants.{Never, Start as AtStart, Own, All, Any, AnyAndOwn, Filter, Last, Delay}
+use Rattle.trigger_formulas.specs.declared.rules.Rule.TheVariants as rule
 use Rattle.trigger_formulas.specs.Rules.{starts_at}
 
 abbrev pub AreDifferent : List Atom → Type 0
@@ -35,12 +35,12 @@ IsInSome all args a = (x : ℕ) × Contains args x × Contains (atoms_at all x) 
 
 -- the atoms of a rule, by the lists of its arguments
 abbrev pub StandsBy : Rule → ℕ → List Bool → List (List Atom) → Atom → Type 0
-StandsBy Never x starts all a = ⊥
-StandsBy AtStart x starts all a = a ≡ Start
-StandsBy Own x starts all a = a ≡ Happens x
-StandsBy (All args) x starts all a = IsInSome all args a
-StandsBy (Any args) x starts all a = IsInSome all args a
-StandsBy (AnyAndOwn args) x starts all a = (a ≡ Happens x) ⊎ IsInSome all args a
-StandsBy (Filter e c) x starts all a = (Contains (atoms_at all e) a ⊎ Contains (atoms_at all c) a) ⊎ (a ≡ Holds c)
-StandsBy (Last v r) x starts all a = ((a ≡ Start) ⊎ Contains (atoms_at all r) a) ⊎ (IsFalse (starts_at starts v) × (a ≡ Happens x))
-StandsBy Delay x starts all a = (a ≡ Start) ⊎ (a ≡ Happens x)
+StandsBy rule.Never x starts all a = ⊥
+StandsBy rule.Start x starts all a = a ≡ Start
+StandsBy rule.Own x starts all a = a ≡ Happens x
+StandsBy (rule.All args) x starts all a = IsInSome all args a
+StandsBy (rule.Any args) x starts all a = IsInSome all args a
+StandsBy (rule.AnyAndOwn args) x starts all a = (a ≡ Happens x) ⊎ IsInSome all args a
+StandsBy (rule.Filter e c) x starts all a = (Contains (atoms_at all e) a ⊎ Contains (atoms_at all c) a) ⊎ (a ≡ Holds c)
+StandsBy (rule.Last v r) x starts all a = ((a ≡ Start) ⊎ Contains (atoms_at all r) a) ⊎ (IsFalse (starts_at starts v) × (a ≡ Happens x))
+StandsBy rule.Delay x starts all a = (a ≡ Start) ⊎ (a ≡ Happens x)

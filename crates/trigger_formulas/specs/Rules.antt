@@ -1,6 +1,6 @@
 -- What is kept of an equation: its trigger formula.
 use Rattle.std.specs.Prelude.{◌≡◌, ℕ, ◌<◌, Bool, true, false, List, [], ◌∷◌, ◌++◌, map, Option, Some, None, slice_get, slice_index_or, length}
-use Rattle.std.specs.List.{AllByRecursion, Contains}
+use Rattle.std.specs.List.{All, AllByRecursion, Contains}
 use Rattle.std.specs.Option.{option_map_or}
 use Rattle.flat_core.specs.declared.equation.Equation.{Equation}
 use Rattle.flat_core.specs.declared.equation.Op.{Op}
@@ -10,7 +10,7 @@ use Rattle.trigger_rules.specs.declared.atom.Atom.TheVariants.{Start, Happens, H
 use Rattle.trigger_rules.specs.Formula as formula
 use Rattle.trigger_rules.specs.Formula.{Formula, If, IfNot, Of, Both, Unless, all_of, any_of}
 use Rattle.trigger_formulas.specs.declared.rules.Rule.{Rule}
-use Rattle.trigger_formulas.specs.declared.rules.Rule.TheVariants.{Never, Start as AtStart, Own, All, Any, AnyAndOwn, Filter, Last, Delay}
+use Rattle.trigger_formulas.specs.declared.rules.Rule.TheVariants as rule
 
 -- the arguments, if there are just two
 abbrev pub pair_of : List ℕ → Option (ℕ × ℕ)
@@ -18,30 +18,30 @@ pair_of (a ∷ b ∷ []) = Some (a, b)
 pair_of _ = None
 
 abbrev pub filter_by : Option (ℕ × ℕ) → Rule
-filter_by None = Never
-filter_by (Some p) = Filter p.0 p.1
+filter_by None = rule.Never
+filter_by (Some p) = rule.Filter p.0 p.1
 
 abbrev pub last_by : Option (ℕ × ℕ) → Rule
-last_by None = Never
-last_by (Some p) = Last p.0 p.1
+last_by None = rule.Never
+last_by (Some p) = rule.Last p.0 p.1
 
 abbrev pub lift_by : Bool → List ℕ → Rule
-lift_by true args = All args
-lift_by false args = AnyAndOwn args
+lift_by true args = rule.All args
+lift_by false args = rule.AnyAndOwn args
 
 -- the rule of an operation and its arguments
 abbrev pub rule_by : Op → List ℕ → Rule
-rule_by op.Input args = Own
-rule_by op.Nil args = Never
-rule_by op.Unit args = AtStart
-rule_by op.Empty args = AtStart
+rule_by op.Input args = rule.Own
+rule_by op.Nil args = rule.Never
+rule_by op.Unit args = rule.Start
+rule_by op.Empty args = rule.Start
 rule_by (op.Lift body strict) args = lift_by strict args
-rule_by op.Any args = Any args
-rule_by op.Merge args = Any args
+rule_by op.Any args = rule.Any args
+rule_by op.Merge args = rule.Any args
 rule_by op.Filter args = filter_by (pair_of args)
 rule_by op.Last args = last_by (pair_of args)
-rule_by op.Delay args = Delay
-rule_by o args = All args
+rule_by op.Delay args = rule.Delay
+rule_by o args = rule.All args
 
 abbrev pub rule_of : Equation → Rule
 rule_of e = rule_by e.op e.args
@@ -52,58 +52,58 @@ rules_of s = map rule_of s.equations
 
 -- the formula that a rule is for equation x
 abbrev pub formula_by : Rule → ℕ → Formula
-formula_by Never x = formula.Never
-formula_by AtStart x = If Start
-formula_by Own x = If (Happens x)
-formula_by (All args) x = all_of args
-formula_by (Any args) x = any_of args
-formula_by (AnyAndOwn args) x = Both (If (Happens x)) (any_of args)
-formula_by (Filter e c) x = Both (Of e) (Both (Of c) (If (Holds c)))
-formula_by (Last v r) x = Both (IfNot Start) (Both (Of r) (Unless v (Happens x)))
-formula_by Delay x = Both (IfNot Start) (If (Happens x))
+formula_by rule.Never x = formula.Never
+formula_by rule.Start x = If Start
+formula_by rule.Own x = If (Happens x)
+formula_by (rule.All args) x = all_of args
+formula_by (rule.Any args) x = any_of args
+formula_by (rule.AnyAndOwn args) x = Both (If (Happens x)) (any_of args)
+formula_by (rule.Filter e c) x = Both (Of e) (Both (Of c) (If (Holds c)))
+formula_by (rule.Last v r) x = Both (IfNot Start) (Both (Of r) (Unless v (Happens x)))
+formula_by rule.Delay x = Both (IfNot Start) (If (Happens x))
 
 -- a rule looks back where its formula at time 0 is false
 abbrev pub looks_back : Rule → Bool
-looks_back (Last v r) = true
-looks_back Delay = true
+looks_back (rule.Last v r) = true
+looks_back rule.Delay = true
 looks_back _ = false
 
 abbrev pub zero_formula_by : Rule → ℕ → Formula
-zero_formula_by (Last v r) x = formula.Never
-zero_formula_by Delay x = formula.Never
-zero_formula_by rule x = formula_by rule x
+zero_formula_by (rule.Last v r) x = formula.Never
+zero_formula_by rule.Delay x = formula.Never
+zero_formula_by it x = formula_by it x
 
 -- the formulas of a list of rules, at time 0 or else at any time
 abbrev pub either_formula : Bool → Rule → ℕ → Formula
-either_formula true rule x = zero_formula_by rule x
-either_formula false rule x = formula_by rule x
+either_formula true it x = zero_formula_by it x
+either_formula false it x = formula_by it x
 
 abbrev pub ruled : Bool → List Rule → ℕ → Formula
-ruled at_zero rules x = option_map_or (λ rule. either_formula at_zero rule x) (slice_get rules x) formula.Never
+ruled at_zero rules x = option_map_or (λ it. either_formula at_zero it x) (slice_get rules x) formula.Never
 
 -- the arguments whose formulas a rule needs, and all that it names
 abbrev pub used_by : Rule → List ℕ
-used_by (All args) = args
-used_by (Any args) = args
-used_by (AnyAndOwn args) = args
-used_by (Filter e c) = e ∷ c ∷ []
-used_by (Last v r) = r ∷ []
+used_by (rule.All args) = args
+used_by (rule.Any args) = args
+used_by (rule.AnyAndOwn args) = args
+used_by (rule.Filter e c) = e ∷ c ∷ []
+used_by (rule.Last v r) = r ∷ []
 used_by _ = []
 
 abbrev pub named_by : Rule → List ℕ
-named_by (Last v r) = v ∷ r ∷ []
-named_by rule = used_by rule
+named_by (rule.Last v r) = v ∷ r ∷ []
+named_by it = used_by it
 
 -- all arguments are numbers of rules
 abbrev pub ArgumentsBelow : ℕ → Rule → Type 0
-ArgumentsBelow count rule = AllByRecursion (λ a. a < count) (named_by rule)
+ArgumentsBelow count it = All (λ a. a < count) (named_by it)
 
 abbrev pub AreClosed : List Rule → Type 0
-AreClosed rules = (x : ℕ) (rule : Rule) → slice_get rules x ≡ Some rule → ArgumentsBelow (length rules) rule
+AreClosed rules = (x : ℕ) (it : Rule) → slice_get rules x ≡ Some it → ArgumentsBelow (length rules) it
 
 -- the steps come behind those in front whose formulas they need
 abbrev pub IsReady : List Rule → List ℕ → ℕ → Type 0
-IsReady rules front x = (rule : Rule) → slice_get rules x ≡ Some rule → AllByRecursion (Contains front) (used_by rule)
+IsReady rules front x = (it : Rule) → slice_get rules x ≡ Some it → AllByRecursion (Contains front) (used_by it)
 
 abbrev pub AreReady : List Rule → List ℕ → List ℕ → Type 0
 AreReady rules front [] = Unit {0}

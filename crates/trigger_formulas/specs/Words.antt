@@ -5,10 +5,10 @@ use Rattle.std.specs.List.{AllByRecursion, Contains}
 use Rattle.std.specs.Option.{option_map_or}
 use Rattle.trigger_rules.specs.declared.atom.Atom.{Atom}
 use Rattle.trigger_rules.specs.declared.atom.Atom.TheVariants.{Start, Happens, Holds}
-use Rattle.trigger_rules.specs.Formula.{Assignment}
+use Rattle.trigger_rules.specs.Formula.{Assignment, Of, Meets}
 use Rattle.trigger_formulas.specs.declared.rules.Rule.{Rule}
-use Rattle.trigger_formulas.specs.declared.rules.Rule.TheVariants.{Never, Start as AtStart, Own, All, Any, AnyAndOwn, Filter, Last, Delay}
-use Rattle.trigger_formulas.specs.Rules.{starts_at}
+use Rattle.trigger_formulas.specs.declared.rules.Rule.TheVariants as rule
+use Rattle.trigger_formulas.specs.Rules.{ruled, starts_at}
 
 abbrev pub same : Atom → Atom → Bool
 same Start Start = true
@@ -29,3 +29,33 @@ IsOn word j = bit_at word j ≡ 1
 abbrev pub ones : Bool → ℕ
 ones true = 2 ^ 64 - 1
 ones false = 0
+
+-- the word of an equation
+abbrev pub word_at : List ℕ → ℕ → ℕ
+word_at words x = slice_index_or words x 0
+
+abbrev pub HasSome : (ℕ → Type 0) → List ℕ → Type 0
+HasSome P args = (a : ℕ) × Contains args a × P a
+
+-- the formula of a rule is true in an assignment, by the arguments whose formulas are
+abbrev pub TrueBy : Rule → ℕ → List Bool → (ℕ → Type 0) → Assignment → Type 0
+TrueBy rule.Never x starts P holds = ⊥
+TrueBy rule.Start x starts P holds = IsTrue (holds Start)
+TrueBy rule.Own x starts P holds = IsTrue (holds (Happens x))
+TrueBy (rule.All args) x starts P holds = AllByRecursion P args
+TrueBy (rule.Any args) x starts P holds = HasSome P args
+TrueBy (rule.AnyAndOwn args) x starts P holds = IsTrue (holds (Happens x)) × HasSome P args
+TrueBy (rule.Filter e c) x starts P holds = P e × P c × IsTrue (holds (Holds c))
+TrueBy (rule.Last v r) x starts P holds = IsFalse (holds Start) × P r × (IsTrue (starts_at starts v) ⊎ IsTrue (holds (Happens x)))
+TrueBy rule.Delay x starts P holds = IsFalse (holds Start) × IsTrue (holds (Happens x))
+
+-- the formulas of rules, where those equations start that are kept as starting
+abbrev pub Started : List Bool → ℕ → Type 0
+Started starts v = IsTrue (starts_at starts v)
+
+abbrev pub IsMet : Bool → List Rule → List Bool → Assignment → ℕ → Type 0
+IsMet at_zero rules starts holds x = Meets (ruled at_zero rules) (Started starts) holds (Of x)
+
+-- the bits of a word are those of an equation's formula, in the assignments of a row
+abbrev pub IsWordOf : List Rule → List Bool → List Atom → Bool → ℕ → ℕ → ℕ → Type 0
+IsWordOf rules starts atoms others row word x = (j : ℕ) → j < 64 → IsOn word j ↔ IsMet false rules starts (assigned atoms others (64 * row + j)) x

@@ -18,7 +18,7 @@ const DIGITS: [u64; 6] = [
 ];
 
 /// All ones, or none.
-fn all_or_none(all: bool) -> u64
+pub(crate) fn all_or_none(all: bool) -> u64
     ensures { result ≡ ones all }
 {
     if all { u64::MAX } else { 0 }

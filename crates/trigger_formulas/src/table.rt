@@ -1,15 +1,26 @@
 // Truth tables of trigger formulas, and the atoms that stand in them.
 
+ghost use Rattle.std.specs.Prelude.{◌≡◌, ℕ, ◌+◌, ◌*◌, ◌<◌, ◌≤◌, ◌↔◌, false, [], length, IfOk, OnOk};
+ghost use Rattle.std.specs.List.{All, AllByRecursion, Contains};
+ghost use Rattle.trigger_rules.specs.Formula.{HasAtom, Of};
+ghost use Rattle.trigger_formulas.specs.AtomLists.{Adds, HasAtoms, IsInSome, StandsBy, atoms_at};
+ghost use Rattle.trigger_formulas.specs.Rules.{AreClosed, AreReady, ArgumentsBelow, ruled};
+ghost use Rattle.trigger_formulas.specs.Words.{HasSome, IsOn, IsWordOf, Started, TrueBy, assigned, word_at};
+
 use crate::atoms::Atoms;
-use crate::rows::Assignments;
+use crate::rows::{Assignments, all_or_none};
 use crate::rules::Rule;
 use std::alloc::Global;
 use trigger_rules::atom::Atom;
+use trigger_rules::limit::ATOMS;
 use tsl_value::ids::EqId;
 use tsl_value::memory::NoMemory;
 
 /// Where all of some equations have events, by their words.
-fn all(words: &[u64], args: &[EqId]) -> u64 {
+fn all(words: &[u64], args: &[EqId]) -> u64
+    requires { All (λ a. a < length words.now) args.now }
+    ensures { (j : ℕ) → j < 64 → IsOn result j ↔ AllByRecursion (λ a. IsOn (word_at words.now a) j) args.now }
+{
     let mut word = u64::MAX;
     for arg in args {
         word &= words[arg.get() as usize];
@@ -18,7 +29,10 @@ fn all(words: &[u64], args: &[EqId]) -> u64 {
 }
 
 /// Where any of them has one.
-fn any(words: &[u64], args: &[EqId]) -> u64 {
+fn any(words: &[u64], args: &[EqId]) -> u64
+    requires { All (λ a. a < length words.now) args.now }
+    ensures { (j : ℕ) → j < 64 → IsOn result j ↔ HasSome (λ a. IsOn (word_at words.now a) j) args.now }
+{
     let mut word = 0;
     for arg in args {
         word |= words[arg.get() as usize];
@@ -34,7 +48,12 @@ fn word(
     assignments: &Assignments,
     row: u32,
     words: &[u64],
-) -> u64 {
+) -> u64
+    requires one_each { length starts.now ≡ length words.now }
+    requires below { ArgumentsBelow (length words.now) rule.now }
+    requires few { length assignments.now.atoms ≤ ATOMS }
+    ensures { (j : ℕ) → j < 64 → IsOn result j ↔ TrueBy rule.now own starts.now (λ a. IsOn (word_at words.now a) j) (assigned assignments.now.atoms assignments.now.others (64 * row + j)) }
+{
     match rule {
         Rule::Never => 0,
         Rule::Start => assignments.word(row, &Atom::Start),
@@ -50,11 +69,8 @@ fn word(
                 & assignments.word(row, &Atom::Holds(*condition))
         }
         Rule::Last { values, trigger } => {
-            let there = if starts[values.get() as usize] {
-                u64::MAX
-            } else {
-                assignments.word(row, &Atom::Happens(own))
-            };
+            let there = all_or_none(starts[values.get() as usize])
+                | assignments.word(row, &Atom::Happens(own));
             !assignments.word(row, &Atom::Start) & words[trigger.get() as usize] & there
         }
         Rule::Delay => {
@@ -71,7 +87,14 @@ pub(crate) fn fill(
     assignments: &Assignments,
     row: u32,
     words: &mut [u64],
-) {
+)
+    requires one_each { length starts.now ≡ length rules.now }
+    requires many { length words.old ≡ length rules.now }
+    requires closed { AreClosed rules.now }
+    requires ready { AreReady rules.now [] steps.now }
+    requires few { length assignments.now.atoms ≤ ATOMS }
+    ensures { (x : ℕ) → Contains steps.now x → IsWordOf rules.now starts.now assignments.now.atoms assignments.now.others row (word_at words.new x) x }
+{
     for step in steps {
         let index = *step as usize;
         words[index] = word(
@@ -85,7 +108,10 @@ pub(crate) fn fill(
     }
 }
 
-fn add_each(atoms: &mut Atoms, args: &[EqId], all: &[Atoms]) -> Result<(), NoMemory> {
+fn add_each(atoms: &mut Atoms, args: &[EqId], all: &[Atoms]) -> Result<(), NoMemory>
+    requires { All (λ a. a < length all.now) args.now }
+    ensures { OnOk result (Adds atoms.old (IsInSome all.now args.now) atoms.new) }
+{
     for arg in args {
         atoms.add_all(all[arg.get() as usize].list())?;
     }
@@ -99,7 +125,11 @@ fn add_atoms(
     own: EqId,
     starts: &[bool],
     all: &[Atoms],
-) -> Result<(), NoMemory> {
+) -> Result<(), NoMemory>
+    requires one_each { length starts.now ≡ length all.now }
+    requires below { ArgumentsBelow (length all.now) rule.now }
+    ensures { OnOk result (Adds atoms.old (StandsBy rule.now own starts.now all.now) atoms.new) }
+{
     match rule {
         Rule::Never => Ok(()),
         Rule::Start => atoms.add(Atom::Start),
@@ -138,7 +168,13 @@ pub(crate) fn gather(
     starts: &[bool],
     order: &[u32],
     at_zero: bool,
-) -> Result<Vec<Atoms>, NoMemory> {
+) -> Result<Vec<Atoms>, NoMemory>
+    requires one_each { length starts.now ≡ length rules.now }
+    requires closed { AreClosed rules.now }
+    requires ready { AreReady rules.now [] order.now }
+    ensures one_each { IfOk result (λ all. length all.items ≡ length rules.now) }
+    ensures atoms { IfOk result (λ all. (x : ℕ) → Contains order.now x → HasAtoms (λ a. HasAtom (ruled at_zero rules.now) (Started starts.now) a (Of x)) (atoms_at all.items x)) }
+{
     let mut all = Vec::new(alloc);
     for _ in rules {
         all.push(Atoms::new(alloc))?;
