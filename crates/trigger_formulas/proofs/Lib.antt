@@ -1,3 +1,4 @@
 pub mod AtomLists
 pub mod WordLemmas
 pub mod RuleWords
+pub mod Meaning
