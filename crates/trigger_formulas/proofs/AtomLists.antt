@@ -2,11 +2,11 @@
 use Rattle.std.proofs.Common.{◌≡◌, ℕ, zero, suc, ◌+◌, ◌<◌, ◌≤◌, ◌↔◌, ◌⊎◌, Bool, true, false, List, [], ◌∷◌, ◌++◌, length, take, get_or, Contains, refl, sym, ap, subst, ◌∙◌, inl, inr, arith, length-append}
 use Rattle.std.specs.Prelude.{IsTrue}
 use Rattle.std.proofs.lemmas.Bool.{false≢true}
-use Rattle.std.proofs.lemmas.List.{take_more}
+use Rattle.std.proofs.lemmas.List.{take_more, get_or_default}
 use Rattle.std.proofs.lemmas.List.Elements.{Contains-append_left, Contains-push, Contains-push_cases}
 use Rattle.trigger_rules.specs.declared.atom.Atom.{Atom}
 use Rattle.trigger_rules.specs.declared.limit.TheConstants.{ATOMS}
-use Rattle.trigger_formulas.specs.AtomLists.{AreDifferent, Adds}
+use Rattle.trigger_formulas.specs.AtomLists.{AreDifferent, Adds, IsInSome, atoms_at}
 
 -- ---- elements
 pub here : {A : Type 0} (x : A) (xs : List A) → Contains (x ∷ xs) x
@@ -99,3 +99,21 @@ taken_more xs k x y lt is either =
 
 pub adds_next : (xs : List Atom) (k : ℕ) (x : Atom) (old mid new : List Atom) → k < length xs → x ≡ get_or xs k x → Adds old (Contains (take k xs)) mid → Adds mid (λ a. a ≡ x) new → Adds old (Contains (take (k + 1) xs)) new
 adds_next xs k x old mid new lt is before one = adds_alike (λ a. taken_more xs k x a lt is) (λ a. more_taken xs k x a lt is) (adds_also before one)
+
+-- the list of an argument, as it is read
+pub atoms_read : (all : List (List Atom)) (x y : ℕ) (list seen : List Atom) → y ≡ x → list ≡ get_or all y list → seen ≡ list → x < length all → seen ≡ atoms_at all x
+atoms_read all x y list seen at read same low = same ∙ read ∙ ap (λ n. get_or all n list) at ∙ get_or_default all x list [] low
+
+-- the list of one more argument
+pub adds_each_next : (all : List (List Atom)) (args : List ℕ) (k x : ℕ) (seen old mid new : List Atom) → k < length args → x ≡ get_or args k x → seen ≡ atoms_at all x → Adds old (IsInSome all (take k args)) mid → Adds mid (Contains seen) new → Adds old (IsInSome all (take (k + 1) args)) new
+adds_each_next all args k x seen old mid new lt is seen_is before one =
+    adds_alike
+    (λ a either. elim either [
+      | inl some ↦ (some.0, taken_more args k x some.0 lt is (inl some.1), some.2)
+      | inr c ↦ (x, taken_more args k x x lt is (inr refl), subst (λ l. Contains l a) seen_is c)
+    ])
+    (λ a some. elim (more_taken args k x some.0 lt is some.1) [
+      | inl front ↦ inl (some.0, front, some.2)
+      | inr last ↦ inr (subst (λ l. Contains l a) (sym seen_is) (subst (λ n. Contains (atoms_at all n) a) last some.2))
+    ])
+    (adds_also before one)

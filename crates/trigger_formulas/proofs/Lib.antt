@@ -2,3 +2,4 @@ pub mod AtomLists
 pub mod WordLemmas
 pub mod RuleWords
 pub mod Meaning
+pub mod RuleAtoms
