@@ -3,3 +3,4 @@ pub mod WordLemmas
 pub mod RuleWords
 pub mod Meaning
 pub mod RuleAtoms
+pub mod Gathered

@@ -14,8 +14,8 @@ use Rattle.trigger_rules.specs.Formula as formula
 use Rattle.trigger_rules.specs.Formula.{Formula, Assignment, Of, Both, If, IfNot, Unless, all_of, any_of, Meets, always, atom, no_atom, through, both, first, second, started, unless}
 use Rattle.trigger_formulas.specs.declared.rules.Rule.{Rule}
 use Rattle.trigger_formulas.specs.declared.rules.Rule.TheVariants as rule
-use Rattle.trigger_formulas.specs.Rules.{formula_by, either_formula, ruled, used_by, IsReady, AreReady, starts_at}
-use Rattle.trigger_formulas.specs.Words.{HasSome, IsOn, IsMet, IsWordOf, Started, TrueBy, assigned, word_at}
+use Rattle.trigger_formulas.specs.Rules.{HasSome, formula_by, either_formula, ruled, used_by, IsReady, AreReady, starts_at}
+use Rattle.trigger_formulas.specs.Words.{IsOn, IsMet, IsWordOf, Started, TrueBy, assigned, word_at}
 use Rattle.trigger_formulas.proofs.AtomLists.{here, later, none_in_nil, in_cons}
 
 -- ---- a formula by its rule

@@ -5,8 +5,8 @@ use Rattle.trigger_rules.specs.declared.atom.Atom.TheVariants.{Start, Happens, H
 use Rattle.trigger_rules.specs.Formula.{Assignment}
 use Rattle.trigger_formulas.specs.declared.rules.Rule.{Rule}
 use Rattle.trigger_formulas.specs.declared.rules.Rule.TheVariants as rule
-use Rattle.trigger_formulas.specs.Rules.{starts_at}
-use Rattle.trigger_formulas.specs.Words.{HasSome, IsOn, TrueBy, ones, word_at}
+use Rattle.trigger_formulas.specs.Rules.{HasSome, starts_at}
+use Rattle.trigger_formulas.specs.Words.{IsOn, TrueBy, ones, word_at}
 use Rattle.trigger_formulas.proofs.WordLemmas.{and_on, or_on, not_on, ones_are}
 
 module _ (own : ℕ) (starts : List Bool) (words : List ℕ) (assignment : ℕ → Assignment) where

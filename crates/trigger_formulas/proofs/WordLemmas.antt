@@ -1,4 +1,5 @@
 -- Words of 64 assignments.
+use Rattle.trigger_formulas.specs.Rules.{HasSome}
 use Rattle.std.proofs.Common.{◌≡◌, ◌==◌, ℕ, zero, suc, ◌+◌, ◌-◌, ◌*◌, ◌^◌, ◌%◌, ◌<◌, ◌≤◌, ◌↔◌, ◌⊎◌, Bool, true, false, List, [], ◌∷◌, ◌++◌, length, take, take_all, get_or, Option, Some, None, refl, sym, ap, subst, ◌∙◌, inl, inr, arith, bit_and, bit_or, w64}
 use Rattle.std.specs.Prelude.{IsTrue, IsFalse, slice_index_or}
 use Rattle.std.specs.List.{AllByRecursion}
@@ -11,7 +12,7 @@ use Rattle.std.proofs.lemmas.Nat.{pow-add}
 use Rattle.std.proofs.lemmas.Nat.Bits.{bit_at-zero, bit_at_ones, bit_at_and, bit_at_or, bit_at_not, bit_at-lt, bit_at_cat_low, bit_at_cat_high}
 use Rattle.std.proofs.lemmas.List.{take_more}
 use Rattle.std.proofs.lemmas.List.Elements.{Contains-append_left, Contains-push, Contains-push_cases}
-use Rattle.trigger_formulas.specs.Words.{ones, IsOn, word_at, HasSome}
+use Rattle.trigger_formulas.specs.Words.{ones, IsOn, word_at}
 
 -- ---- single words
 pub ones_are : (b : Bool) (j : ℕ) → j < 64 → IsOn (ones b) j ↔ IsTrue b

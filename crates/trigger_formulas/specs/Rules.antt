@@ -112,3 +112,7 @@ AreReady rules front (x ∷ steps) = (x < length rules) × IsReady rules front x
 -- whether an equation starts, as it is kept
 abbrev pub starts_at : List Bool → ℕ → Bool
 starts_at starts x = slice_index_or starts x false
+
+-- one of some arguments has a property
+abbrev pub HasSome : (ℕ → Type 0) → List ℕ → Type 0
+HasSome P args = (a : ℕ) × Contains args a × P a

@@ -1,14 +1,14 @@
 -- Words of 64 assignments: each bit of a word stands for one of them.
 use Rattle.std.specs.Prelude.{◌≡◌, ◌==◌, ℕ, ◌+◌, ◌*◌, ◌-◌, ◌^◌, ◌≤◌, ◌<◌, ◌↔◌, ◌⊎◌, Bool, true, false, List, position, slice_index_or, IsTrue, IsFalse}
 use Rattle.std.specs.Int.{bit_at}
-use Rattle.std.specs.List.{AllByRecursion, Contains}
+use Rattle.std.specs.List.{AllByRecursion}
 use Rattle.std.specs.Option.{option_map_or}
 use Rattle.trigger_rules.specs.declared.atom.Atom.{Atom}
 use Rattle.trigger_rules.specs.declared.atom.Atom.TheVariants.{Start, Happens, Holds}
 use Rattle.trigger_rules.specs.Formula.{Assignment, Of, Meets}
 use Rattle.trigger_formulas.specs.declared.rules.Rule.{Rule}
 use Rattle.trigger_formulas.specs.declared.rules.Rule.TheVariants as rule
-use Rattle.trigger_formulas.specs.Rules.{ruled, starts_at}
+use Rattle.trigger_formulas.specs.Rules.{HasSome, ruled, starts_at}
 
 abbrev pub same : Atom → Atom → Bool
 same Start Start = true
@@ -33,9 +33,6 @@ ones false = 0
 -- the word of an equation
 abbrev pub word_at : List ℕ → ℕ → ℕ
 word_at words x = slice_index_or words x 0
-
-abbrev pub HasSome : (ℕ → Type 0) → List ℕ → Type 0
-HasSome P args = (a : ℕ) × Contains args a × P a
 
 -- the formula of a rule is true in an assignment, by the arguments whose formulas are
 abbrev pub TrueBy : Rule → ℕ → List Bool → (ℕ → Type 0) → Assignment → Type 0

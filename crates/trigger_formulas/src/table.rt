@@ -3,9 +3,9 @@
 ghost use Rattle.std.specs.Prelude.{◌≡◌, ℕ, ◌+◌, ◌*◌, ◌<◌, ◌≤◌, ◌↔◌, false, [], length, IfOk, OnOk};
 ghost use Rattle.std.specs.List.{All, AllByRecursion, Contains};
 ghost use Rattle.trigger_rules.specs.Formula.{HasAtom, Of};
-ghost use Rattle.trigger_formulas.specs.AtomLists.{Adds, HasAtoms, IsInSome, StandsBy, atoms_at};
-ghost use Rattle.trigger_formulas.specs.Rules.{AreClosed, AreReady, ArgumentsBelow, ruled};
-ghost use Rattle.trigger_formulas.specs.Words.{HasSome, IsOn, IsWordOf, Started, TrueBy, assigned, word_at};
+ghost use Rattle.trigger_formulas.specs.AtomLists.{Adds, HasAtoms, IsInSome, StandsAs, StandsBy, atoms_at};
+ghost use Rattle.trigger_formulas.specs.Rules.{AreClosed, AreReady, ArgumentsBelow, HasSome, ruled};
+ghost use Rattle.trigger_formulas.specs.Words.{IsOn, IsWordOf, Started, TrueBy, assigned, word_at};
 
 use crate::atoms::Atoms;
 use crate::rows::{Assignments, all_or_none};
@@ -161,6 +161,38 @@ fn add_atoms(
     }
 }
 
+/// The atoms of an equation's formula, or of its formula at time 0.
+fn atoms_of(
+    alloc: Global,
+    rule: &Rule,
+    own: EqId,
+    starts: &[bool],
+    all: &[Atoms],
+    at_zero: bool,
+) -> Result<Atoms, NoMemory>
+    requires one_each { length starts.now ≡ length all.now }
+    requires below { ArgumentsBelow (length all.now) rule.now }
+    ensures { IfOk result (λ atoms. Adds [] (StandsAs at_zero rule.now own starts.now all.now) atoms) }
+{
+    let mut atoms = Atoms::new(alloc);
+    if at_zero && rule.looks_back() {
+        return Ok(atoms);
+    }
+    add_atoms(&mut atoms, rule, own, starts, all)?;
+    Ok(atoms)
+}
+
+/// No atom for each of so many equations.
+fn none(alloc: Global, count: usize) -> Result<Vec<Atoms>, NoMemory>
+    ensures { IfOk result (λ all. length all.items ≡ count) }
+{
+    let mut all = Vec::new(alloc);
+    for _index in 0..count {
+        all.push(Atoms::new(alloc))?;
+    }
+    Ok(all)
+}
+
 /// The atoms of each equation's formula, or of its formula at time 0. The order has each equation behind its arguments.
 pub(crate) fn gather(
     alloc: Global,
@@ -175,17 +207,17 @@ pub(crate) fn gather(
     ensures one_each { IfOk result (λ all. length all.items ≡ length rules.now) }
     ensures atoms { IfOk result (λ all. (x : ℕ) → Contains order.now x → HasAtoms (λ a. HasAtom (ruled at_zero rules.now) (Started starts.now) a (Of x)) (atoms_at all.items x)) }
 {
-    let mut all = Vec::new(alloc);
-    for _ in rules {
-        all.push(Atoms::new(alloc))?;
-    }
+    let mut all = none(alloc, rules.len())?;
     for step in order {
         let index = *step as usize;
-        let mut atoms = Atoms::new(alloc);
-        if !(at_zero && rules[index].looks_back()) {
-            add_atoms(&mut atoms, &rules[index], EqId::new(*step), starts, &all)?;
-        }
-        all[index] = atoms;
+        all[index] = atoms_of(
+            alloc,
+            &rules[index],
+            EqId::new(*step),
+            starts,
+            &all,
+            at_zero,
+        )?;
     }
     Ok(all)
 }

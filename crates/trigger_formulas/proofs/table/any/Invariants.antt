@@ -1,5 +1,6 @@
+use Rattle.trigger_formulas.specs.Rules.{HasSome}
 use Rattle.std.proofs.Common.{ℕ, ◌<◌, ◌↔◌, take}
-use Rattle.trigger_formulas.specs.Words.{HasSome, IsOn, word_at}
+use Rattle.trigger_formulas.specs.Words.{IsOn, word_at}
 use Rattle.trigger_formulas.proofs.table.any.Given as goal
 
 abbrev pub invariant-loop-arg : goal.invariant-loop-arg
