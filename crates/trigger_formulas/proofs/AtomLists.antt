@@ -117,3 +117,8 @@ adds_each_next all args k x seen old mid new lt is seen_is before one =
       | inr last ↦ inr (subst (λ l. Contains l a) (sym seen_is) (subst (λ n. Contains (atoms_at all n) a) last some.2))
     ])
     (adds_also before one)
+
+-- two lists
+pub adds_both : (none xs ys first second mid new : List Atom) → none ≡ [] → xs ≡ first → ys ≡ second → Adds none (Contains xs) mid → Adds mid (Contains ys) new → Adds [] (λ a. Contains first a ⊎ Contains second a) new
+adds_both none xs ys first second mid new is xs_are ys_are one two =
+    adds_also (subst (λ l. Adds l (Contains first) mid) is (subst (λ l. Adds none (Contains l) mid) xs_are one)) (subst (λ l. Adds mid (Contains l) new) ys_are two)

@@ -10,7 +10,7 @@ use Rattle.flat_core.proofs.Members.{all_at}
 use Rattle.trigger_rules.specs.declared.atom.Atom.{Atom}
 use Rattle.trigger_rules.specs.declared.atom.Atom.TheVariants.{Start, Happens, Holds}
 use Rattle.trigger_rules.specs.Formula as formula
-use Rattle.trigger_rules.specs.Formula.{Formula, Of, If, all_of, any_of, HasAtom, atom, no_atom, through, both_first, both_second, either_first, either_second, unless}
+use Rattle.trigger_rules.specs.Formula.{Formula, Of, If, all_of, any_of, HasAtom, in_if, in_if_not, in_of, both_first, both_second, either_first, either_second, in_unless}
 use Rattle.trigger_formulas.specs.declared.rules.Rule.{Rule}
 use Rattle.trigger_formulas.specs.declared.rules.Rule.TheVariants as rule
 use Rattle.trigger_formulas.specs.AtomLists.{AreDifferent, Adds, HasAtoms, StandsFrom, StandsBy, StandsAs, atoms_at}
@@ -65,16 +65,16 @@ module _ (table : ℕ → Formula) (starts : List Bool) (a : Atom) where
   StandsAt x = Stands (Of x)
 
   to_if : (b : Atom) → Stands (If b) → a ≡ b
-  to_if b atom = refl
+  to_if b in_if = refl
 
   from_if : (b : Atom) → a ≡ b → Stands (If b)
-  from_if b is = subst (λ c. Stands (If c)) is atom
+  from_if b is = subst (λ c. Stands (If c)) is in_if
 
   from_if_not : (b : Atom) → a ≡ b → Stands (formula.IfNot b)
-  from_if_not b is = subst (λ c. Stands (formula.IfNot c)) is no_atom
+  from_if_not b is = subst (λ c. Stands (formula.IfNot c)) is in_if_not
 
   from_unless : (v : ℕ) (b : Atom) → IsFalse (starts_at starts v) → a ≡ b → Stands (formula.Unless v b)
-  from_unless v b quiet is = subst (λ c. Stands (formula.Unless v c)) is (unless (λ started. true≢false (sym started ∙ quiet)))
+  from_unless v b quiet is = subst (λ c. Stands (formula.Unless v c)) is (in_unless (λ started. true≢false (sym started ∙ quiet)))
 
   to_all : (args : List ℕ) → Stands (all_of args) → HasSome StandsAt args
   to_all [] m = elim m [ ]
@@ -107,10 +107,10 @@ module _ (table : ℕ → Formula) (starts : List Bool) (a : Atom) where
   ]
 
   to_unless : (v : ℕ) (b : Atom) → Stands (formula.Unless v b) → IsFalse (starts_at starts v) × (a ≡ b)
-  to_unless v b (unless never) = (quiet_from v never, refl)
+  to_unless v b (in_unless never) = (quiet_from v never, refl)
 
   to_not : (b : Atom) → Stands (formula.IfNot b) → a ≡ b
-  to_not b no_atom = refl
+  to_not b in_if_not = refl
 
   to_stand : (it : Rule) (x : ℕ) → Stands (formula_by it x) → StandsFrom it x starts StandsAt a
   to_stand rule.Never x m = elim m [ ]
@@ -216,14 +216,14 @@ module _ (at_zero : Bool) (rules : List Rule) (starts : List Bool) (all : List (
   ruled_is = ap (λ o. option_map_or (λ r. either_formula at_zero r x) o formula.Never) is
 
   to_ruled : (a : Atom) → Standing x a → HasAtom (ruled at_zero rules) (Started starts) a (either_formula at_zero it x)
-  to_ruled a (through m) = subst (HasAtom (ruled at_zero rules) (Started starts) a) ruled_is m
+  to_ruled a (in_of m) = subst (HasAtom (ruled at_zero rules) (Started starts) a) ruled_is m
 
   module _ (used : AllByRecursion (λ y. HasAtoms (Standing y) (atoms_at all y)) (used_by it)) (new : List Atom) (adds : Adds [] (StandsAs at_zero it x starts all) new) where
     from_new : (a : Atom) → Contains new a → Standing x a
     from_new a c = elim (adds.from a c) [
       | inl none ↦ absurd (none_in_nil a none)
-      | inr h ↦ through (subst (HasAtom (ruled at_zero rules) (Started starts) a) (sym (ruled_is ∙ either_is at_zero it x h.0)) (from_stand (ruled at_zero rules) starts a it x
-      (stands_on (λ y. Contains (atoms_at all y) a) (λ y. Standing y a) it x starts a (on (used_by it) used a) h.1)))
+      | inr h ↦ in_of (subst (HasAtom (ruled at_zero rules) (Started starts) a) (sym (ruled_is ∙ either_is at_zero it x h.0)) (from_stand (ruled at_zero rules) starts a it x
+          (stands_on (λ y. Contains (atoms_at all y) a) (λ y. Standing y a) it x starts a (on (used_by it) used a) h.1)))
     ]
       where
         on : (args : List ℕ) → AllByRecursion (λ y. HasAtoms (Standing y) (atoms_at all y)) args → (a : Atom) → AllByRecursion (λ y. Contains (atoms_at all y) a → Standing y a) args

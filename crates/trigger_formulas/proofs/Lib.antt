@@ -1,6 +1,9 @@
 pub mod AtomLists
 pub mod WordLemmas
+pub mod WordTests
 pub mod RuleWords
 pub mod Meaning
 pub mod RuleAtoms
 pub mod Gathered
+pub mod Tables
+pub mod Transfer

@@ -8,3 +8,4 @@ mod table;
 #[cfg(test)]
 mod tests;
 pub mod triggers;
+mod words;

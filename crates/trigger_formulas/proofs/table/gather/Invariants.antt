@@ -8,5 +8,5 @@ use Rattle.trigger_formulas.proofs.table.gather.Given as goal
 abbrev pub invariant-loop-step : goal.invariant-loop-step
 invariant-loop-step l = record {
   one_each : length l.all.items ≡ length l.rules;
-  atoms : (x : ℕ) → Contains (take l.step-index l.order) x → HasAtoms (λ a. HasAtom (ruled l.at_zero l.rules) (Started l.starts) a (Of x)) (atoms_at l.all.items x)
+  atoms : (x : ℕ) → Contains (take l.step-index l.order) x → HasAtoms (λ a. HasAtom (ruled l.at_zero l.rules) (Started l.starts) a (Of x)) (atoms_at l.all.items x);
 }
