@@ -7,3 +7,5 @@ pub mod RuleAtoms
 pub mod Gathered
 pub mod Tables
 pub mod Transfer
+pub mod Coding
+pub mod Starting
