@@ -122,3 +122,22 @@ adds_each_next all args k x seen old mid new lt is seen_is before one =
 pub adds_both : (none xs ys first second mid new : List Atom) → none ≡ [] → xs ≡ first → ys ≡ second → Adds none (Contains xs) mid → Adds mid (Contains ys) new → Adds [] (λ a. Contains first a ⊎ Contains second a) new
 adds_both none xs ys first second mid new is xs_are ys_are one two =
     adds_also (subst (λ l. Adds l (Contains first) mid) is (subst (λ l. Adds none (Contains l) mid) xs_are one)) (subst (λ l. Adds mid (Contains l) new) ys_are two)
+
+-- one atom alone
+pub one_atom : (none new : List Atom) (b : Atom) → none ≡ [] → Adds none (λ a. a ≡ b) new → new ≡ b ∷ []
+one_atom none new b is adds = alone new b (subst (λ l. Adds l (λ a. a ≡ b) new) is adds)
+  where
+    it_is : (new : List Atom) (b : Atom) → Adds [] (λ a. a ≡ b) new → (a : Atom) → Contains new a → a ≡ b
+    it_is new b adds a c = elim (adds.from a c) [
+      | inl none ↦ absurd (none_in_nil a none)
+      | inr same ↦ same
+    ]
+
+    alone : (new : List Atom) (b : Atom) → Adds [] (λ a. a ≡ b) new → new ≡ b ∷ []
+    alone [] b adds = absurd (none_in_nil b (adds.there (omega arith) b refl))
+    alone (a ∷ []) b adds = ap (λ x. x ∷ []) (it_is (a ∷ []) b adds a (here a []))
+    alone (a ∷ c ∷ new) b adds =
+        let first = it_is (a ∷ c ∷ new) b adds a (here a (c ∷ new)) in
+        let second = it_is (a ∷ c ∷ new) b adds c (later a c (c ∷ new) (here c new)) in
+        let different = adds.different tt in
+        absurd (different.0 (subst (Contains (c ∷ new)) (second ∙ sym first) (here c new)))

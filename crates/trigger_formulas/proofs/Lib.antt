@@ -9,3 +9,4 @@ pub mod Tables
 pub mod Transfer
 pub mod Coding
 pub mod Starting
+pub mod Entailing

@@ -121,9 +121,9 @@ module _ (s : System) (rules : List Rule) (are : rules ≡ rules_of s) where
     starts_by = (
       λ h. record { few = record { atoms = atoms; all = λ a st. has.there h.0 a (to_stands a st); few = h.0 }; fires = everywhere (on_to h.1) },
       λ starts.
-      let short = no_more atoms starts.few.atoms has.different (λ a c. starts.few.all a (stands_to a (has.from a c))) in
-      let low = starts.few.few in
-      (omega arith, to_on (starts.fires least least_start)),
+          let short = no_more atoms starts.few.atoms has.different (λ a c. starts.few.all a (stands_to a (has.from a c))) in
+          let low = starts.few.few in
+          (omega arith, to_on (starts.fires least least_start)),
     )
 
   -- what is no equation does not start

@@ -122,16 +122,17 @@ fn entails(
     starts: &[bool],
     order: &[u32],
     atoms: Atoms,
-    pair: (EqId, EqId),
+    a: EqId,
+    b: EqId,
 ) -> Result<bool, NoMemory>
     requires one_each { length starts.now ≡ length rules.now }
     requires closed { AreClosed rules.now }
     requires ready { AreReady rules.now [] order.now }
-    requires first { Contains order.now pair.0 }
-    requires second { Contains order.now pair.1 }
+    requires first { Contains order.now a }
+    requires second { Contains order.now b }
     requires few { length atoms ≤ ATOMS }
-    requires all { HasAtoms (IsAtomOfOne rules.now starts.now pair.0 pair.1) atoms }
-    ensures { IfOk result (λ r. IsTrue r ↔ IsEntailed rules.now starts.now pair.0 pair.1) }
+    requires all { HasAtoms (IsAtomOfOne rules.now starts.now a b) atoms }
+    ensures { IfOk result (λ r. IsTrue r ↔ IsEntailed rules.now starts.now a b) }
 {
     let assignments = Assignments {
         atoms,
@@ -140,7 +141,7 @@ fn entails(
     let mut words = vec![in alloc; 0; rules.len()]?;
     for row in 0..assignments.rows() {
         fill(rules, starts, order, &assignments, row, &mut words);
-        if exceeds(words[pair.0.get() as usize], words[pair.1.get() as usize]) {
+        if exceeds(words[a.get() as usize], words[b.get() as usize]) {
             return Ok(false);
         }
     }
@@ -200,7 +201,8 @@ impl Triggers {
             &self.starts,
             self.order.as_slice(),
             atoms,
-            (a, b),
+            a,
+            b,
         )
     }
 

@@ -1,6 +1,7 @@
 use Rattle.trigger_formulas.proofs.Tables.{rules_more}
 use Rattle.trigger_formulas.proofs.Coding.{coded}
 use Rattle.trigger_formulas.proofs.Starting.{starts_by}
+use Rattle.trigger_formulas.proofs.Entailing.{all_covered}
 use Rattle.trigger_formulas.proofs.triggers.rules.Goals as goal
 
 pub loop-number-preserved : goal.loop-number-preserved
