@@ -164,8 +164,8 @@ module _ (rules : List Rule) (starts : List Bool) (atoms : List Atom) (x y : ℕ
 
   -- a bit that is
   pub exceeded : (row first second : ℕ) (answer : Bool) → IsWordOf rules starts atoms false row first x → IsWordOf rules starts atoms false row second y → IsTrue answer ↔ ((j : ℕ) × (j < 64) × IsOn first j × ¬ IsOn second j) → answer ≡ true → IsTrue false ↔ IsEntailed rules starts x y
-  exceeded row first second answer first_is second_is is yes =
-      let it = is.0 yes in
+  exceeded row first second answer first_is second_is is exceeds =
+      let it = is.0 exceeds in
       (λ h. absurd (false≢true h), λ entails. absurd (it.3 ((second_is it.0 it.1).1 (entails (assigned atoms false (64 * row + it.0)) ((first_is it.0 it.1).0 it.2)))))
 
   -- all rows

@@ -1,10 +1,10 @@
 -- A formula by its rule, and the steps of a truth table.
-use Rattle.std.proofs.Common.{◌≡◌, ℕ, zero, suc, ◌+◌, ◌*◌, ◌<◌, ◌↔◌, ◌⊎◌, Bool, true, false, List, [], ◌∷◌, ◌++◌, length, take, get_or, set, Contains, Some, refl, sym, ap, subst, ◌∙◌, inl, inr, arith, append_assoc, append-nil}
+use Rattle.std.proofs.Common.{◌≡◌, ℕ, zero, suc, ◌+◌, ◌*◌, ◌<◌, ◌↔◌, ◌⊎◌, Bool, true, false, List, [], ◌∷◌, ◌++◌, length, take, drop, get_or, set, Contains, Some, refl, sym, ap, subst, ◌∙◌, inl, inr, arith, append_assoc, append-nil}
 use Rattle.std.specs.Prelude.{IsTrue, slice_get}
 use Rattle.std.specs.List.{AllByRecursion}
 use Rattle.std.specs.Option.{option_map_or}
 use Rattle.std.proofs.lemmas.Bool.{cases_eq, false≢true}
-use Rattle.std.proofs.lemmas.List.{take_more, get_or-set_same, get_or-set_other}
+use Rattle.std.proofs.lemmas.List.{take_at, take_more, get_or_default, get_or-set_same, get_or-set_other}
 use Rattle.std.proofs.lemmas.List.Elements.{Contains-push_cases}
 use mathlib.Core.Logic.Iff.{trans}
 use Rattle.flat_core.proofs.Uniqueness.{all_by}
@@ -165,3 +165,15 @@ module _ (rules : List Rule) (starts : List Bool) (atoms : List Atom) (others : 
           | inr same ↦ absurd (other (sym same))
         ]))
       ]
+
+-- each step is the number of a rule
+pub step_below : (rules : List Rule) (steps : List ℕ) → AreReady rules [] steps → (x : ℕ) → Contains steps x → x < length rules
+step_below rules steps ready x (k, lt, is) = subst (λ n. n < length rules) (default_read k lt ∙ is) (ready_at rules steps [] k lt ready).0
+  where
+    default_read : (k : ℕ) → k < length steps → get_or steps k 0 ≡ get_or steps k x
+    default_read k lt = get_or_default steps k 0 x lt
+
+-- a word as it is read after a table was written
+pub word_read : (rules : List Rule) (starts : List Bool) (atoms : List Atom) (others : Bool) (row : ℕ) (steps new old : List ℕ) (len n x value : ℕ) → length new ≡ len → x < len → value ≡ get_or (take len (new ++ drop (length new) old)) n value → n ≡ x → ((y : ℕ) → Contains steps y → IsWordOf rules starts atoms others row (word_at new y) y) → Contains steps x → IsWordOf rules starts atoms others row value x
+word_read rules starts atoms others row steps new old len n x value many low is at all c =
+    subst (λ v. IsWordOf rules starts atoms others row v x) (sym (is ∙ ap (λ l. get_or l n value) (take_at new (drop (length new) old) len many) ∙ ap (λ m. get_or new m value) at ∙ get_or_default new x value 0 (omega arith))) (all x c)
