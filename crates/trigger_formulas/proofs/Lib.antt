@@ -10,3 +10,4 @@ pub mod Transfer
 pub mod Coding
 pub mod Starting
 pub mod Entailing
+pub mod Orders

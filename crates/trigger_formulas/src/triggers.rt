@@ -2,7 +2,6 @@
 
 ghost use Rattle.std.specs.Prelude.{◌≡◌, ℕ, ◌<◌, ◌≤◌, ◌↔◌, ◌⊎◌, true, false, [], ◌∷◌, length, IfOk, IsTrue};
 ghost use Rattle.std.specs.List.{Contains};
-ghost use Rattle.flat_core.specs.Dependency.{IsRunOrder};
 ghost use Rattle.flat_core.specs.System.{System};
 ghost use Rattle.flat_core.specs.WellFormed.{IsWellFormed};
 ghost use Rattle.trigger_rules.specs.Question.{Implies, Starts, Together};
@@ -48,7 +47,8 @@ impl Model for Triggers {
 }
 
 fn rules(alloc: Global, flat: &Flat) -> Result<Vec<Rule>, NoMemory>
-    ensures { IfOk result (λ r. AreTriggersOf r.items flat.now) }
+    ensures exact { IfOk result (λ r. AreTriggersOf r.items flat.now) }
+    ensures closed { IfOk result (λ r. AreClosed r.items) }
 {
     let mut rules = Vec::new(alloc);
     for number in 0..flat.count() {
@@ -59,7 +59,7 @@ fn rules(alloc: Global, flat: &Flat) -> Result<Vec<Rule>, NoMemory>
 
 fn order(alloc: Global, flat: &Flat) -> Result<Steps, NoMemory>
     requires { IsWellFormed flat.now }
-    ensures { IfOk result (λ o. IsRunOrder flat.now o) }
+    ensures { IfOk result (λ o. IsOrder (rules_of flat.now) o) }
 {
     match run_order(alloc, flat) {
         Ok(order) => Ok(order),
