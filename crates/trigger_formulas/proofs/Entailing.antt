@@ -1,5 +1,5 @@
 -- Questions about two equations.
-use Rattle.std.proofs.Common.{◌≡◌, ℕ, ◌+◌, ◌-◌, ◌*◌, ◌^◌, ◌<◌, ◌≤◌, ◌↔◌, ◌⊎◌, Bool, true, false, List, [], ◌∷◌, length, Contains, refl, sym, ap, subst, ◌∙◌, inl, inr, arith}
+use Rattle.std.proofs.Common.{◌≡◌, ℕ, ◌+◌, ◌-◌, ◌*◌, ◌^◌, ◌<◌, ◌≤◌, ◌↔◌, ◌⊎◌, Bool, true, false, List, [], ◌∷◌, length, Contains, refl, sym, subst, ◌∙◌, inl, inr, arith}
 use Rattle.std.specs.Prelude.{IsTrue, IsFalse}
 use Rattle.std.specs.Int.{bit_at}
 use Rattle.std.proofs.lemmas.Bool.{cases_Bool, cases_eq, cases_lt, false≢true, true≢false}
@@ -8,8 +8,7 @@ use Rattle.trigger_rules.specs.declared.atom.Atom.{Atom}
 use Rattle.trigger_rules.specs.declared.atom.Atom.TheVariants.{Start, Happens, Holds}
 use Rattle.trigger_rules.specs.declared.limit.TheConstants.{ATOMS}
 use Rattle.trigger_rules.specs.Formula.{Assignment, Of, Meets, HasAtom}
-use Rattle.trigger_rules.specs.Question.{AreFew, AreMet, Entails, Fires, Implies, Stands, StandsInOne, Starts, Together}
-use Rattle.trigger_rules.specs.Table.{formula}
+use Rattle.trigger_rules.specs.Question.{AreFew, AreMet, Fires, Implies, Stands, StandsInOne, Starts, Together}
 use Rattle.trigger_formulas.specs.declared.rules.Rule.{Rule}
 use Rattle.trigger_formulas.specs.AtomLists.{Adds, HasAtoms}
 use Rattle.trigger_formulas.specs.Kept.{IsAtomOf, IsAtomOfOne, IsEntailed}
@@ -134,8 +133,8 @@ module _ (s : System) (rules : List Rule) (are : rules ≡ rules_of s) (starts :
       pub together_few : (answer : Bool) → IsTrue answer ↔ ((j : ℕ) × (j < 64) × IsOn first j × IsOn second j) → IsTrue answer ↔ Together s x y
       together_few answer is = (
         λ h.
-        let it = is.0 h in
-        inr (record { holds = at it.0; first = to_fires (at it.0) x ((first_is it.0 it.1).0 it.2); second = to_fires (at it.0) y ((second_is it.0 it.1).0 it.3) }),
+            let it = is.0 h in
+            inr (record { holds = at it.0; first = to_fires (at it.0) x ((first_is it.0 it.1).0 it.2); second = to_fires (at it.0) y ((second_is it.0 it.1).0 it.3) }),
         λ h. elim h [
           | inl many ↦ absurd (many (few_to (StandsInOne s x y) atoms has_stands few))
           | inr met ↦ is.1 (met_to met)
@@ -172,11 +171,11 @@ module _ (rules : List Rule) (starts : List Bool) (atoms : List Atom) (x y : ℕ
   pub all_covered : (rows : ℕ) → 2 ^ length atoms ≤ 64 * rows → length atoms ≤ ATOMS → HasAtoms (IsAtomOfOne rules starts x y) atoms → ((k : ℕ) → k < 64 * rows → Covers k) → IsTrue true ↔ IsEntailed rules starts x y
   all_covered rows enough few has covers = (
     λ h holds m.
-    let k = code holds atoms in
-    let low = code_low holds atoms in
-    let to = met_alike (ruled false rules) (Started starts) holds (assigned atoms false k) decided m (λ a st. coded holds atoms false a (has.there few a (inl st))) in
-    let covered = covers k (omega arith) to in
-    met_alike (ruled false rules) (Started starts) (assigned atoms false k) holds decided covered (λ a st. sym (coded holds atoms false a (has.there few a (inr st)))),
+        let k = code holds atoms in
+        let low = code_low holds atoms in
+        let to = met_alike (ruled false rules) (Started starts) holds (assigned atoms false k) decided m (λ a st. coded holds atoms false a (has.there few a (inl st))) in
+        let covered = covers k (omega arith) to in
+        met_alike (ruled false rules) (Started starts) (assigned atoms false k) holds decided covered (λ a st. sym (coded holds atoms false a (has.there few a (inr st)))),
     λ entails. refl,
   )
     where

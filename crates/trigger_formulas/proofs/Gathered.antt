@@ -1,5 +1,5 @@
 -- The atoms of formulas, and the steps in which they are gathered.
-use Rattle.std.proofs.Common.{◌≡◌, ℕ, zero, suc, ◌+◌, ◌<◌, ◌≤◌, ◌⊎◌, Bool, true, false, ◌&&◌, List, [], ◌∷◌, ◌++◌, length, take, get_or, set, Contains, Some, refl, sym, ap, subst, ◌∙◌, inl, inr, arith}
+use Rattle.std.proofs.Common.{◌≡◌, ℕ, suc, ◌+◌, ◌<◌, ◌≤◌, Bool, true, false, ◌&&◌, List, [], ◌∷◌, length, take, get_or, set, Contains, Some, refl, sym, ap, subst, ◌∙◌, inl, inr, arith}
 use Rattle.std.specs.Prelude.{IsFalse, slice_get}
 use Rattle.std.specs.List.{AllByRecursion}
 use Rattle.std.specs.Option.{option_map_or}
@@ -13,8 +13,8 @@ use Rattle.trigger_rules.specs.Formula as formula
 use Rattle.trigger_rules.specs.Formula.{Formula, Of, If, all_of, any_of, HasAtom, in_if, in_if_not, in_of, both_first, both_second, either_first, either_second, in_unless}
 use Rattle.trigger_formulas.specs.declared.rules.Rule.{Rule}
 use Rattle.trigger_formulas.specs.declared.rules.Rule.TheVariants as rule
-use Rattle.trigger_formulas.specs.AtomLists.{AreDifferent, Adds, HasAtoms, StandsFrom, StandsBy, StandsAs, atoms_at}
-use Rattle.trigger_formulas.specs.Rules.{HasSome, formula_by, zero_formula_by, either_formula, looks_back, ruled, used_by, IsReady, AreReady, starts_at}
+use Rattle.trigger_formulas.specs.AtomLists.{AreDifferent, Adds, HasAtoms, StandsFrom, StandsAs, atoms_at}
+use Rattle.trigger_formulas.specs.Rules.{HasSome, formula_by, zero_formula_by, either_formula, looks_back, ruled, used_by, AreReady, starts_at}
 use Rattle.trigger_formulas.specs.Words.{Started}
 use Rattle.trigger_formulas.proofs.AtomLists.{here, later, none_in_nil, in_cons}
 use Rattle.trigger_formulas.proofs.Meaning.{ready_at}

@@ -11,3 +11,4 @@ pub mod Coding
 pub mod Starting
 pub mod Entailing
 pub mod Orders
+pub mod KeptLemmas

@@ -1,9 +1,9 @@
 -- A formula by its rule, and the steps of a truth table.
-use Rattle.std.proofs.Common.{◌≡◌, ℕ, zero, suc, ◌+◌, ◌*◌, ◌<◌, ◌↔◌, ◌⊎◌, Bool, true, false, List, [], ◌∷◌, ◌++◌, length, take, drop, get_or, set, Contains, Some, refl, sym, ap, subst, ◌∙◌, inl, inr, arith, append_assoc, append-nil}
+use Rattle.std.proofs.Common.{◌≡◌, ℕ, zero, suc, ◌+◌, ◌*◌, ◌<◌, ◌↔◌, ◌⊎◌, Bool, false, List, [], ◌∷◌, ◌++◌, length, take, drop, get_or, set, Contains, Some, sym, ap, subst, ◌∙◌, inl, inr, arith, append_assoc, append-nil}
 use Rattle.std.specs.Prelude.{IsTrue, slice_get}
 use Rattle.std.specs.List.{AllByRecursion}
 use Rattle.std.specs.Option.{option_map_or}
-use Rattle.std.proofs.lemmas.Bool.{cases_eq, false≢true}
+use Rattle.std.proofs.lemmas.Bool.{cases_eq}
 use Rattle.std.proofs.lemmas.List.{take_at, take_more, get_or_default, get_or-set_same, get_or-set_other}
 use Rattle.std.proofs.lemmas.List.Elements.{Contains-push_cases}
 use mathlib.Core.Logic.Iff.{trans}
@@ -14,7 +14,7 @@ use Rattle.trigger_rules.specs.Formula as formula
 use Rattle.trigger_rules.specs.Formula.{Formula, Assignment, Of, Both, If, IfNot, Unless, all_of, any_of, Meets, always, atom, no_atom, through, both, first, second, started, unless}
 use Rattle.trigger_formulas.specs.declared.rules.Rule.{Rule}
 use Rattle.trigger_formulas.specs.declared.rules.Rule.TheVariants as rule
-use Rattle.trigger_formulas.specs.Rules.{HasSome, formula_by, either_formula, ruled, used_by, IsReady, AreReady, starts_at}
+use Rattle.trigger_formulas.specs.Rules.{HasSome, formula_by, ruled, used_by, IsReady, AreReady, starts_at}
 use Rattle.trigger_formulas.specs.Words.{IsOn, IsMet, IsWordOf, Started, TrueBy, assigned, word_at}
 use Rattle.trigger_formulas.proofs.AtomLists.{here, later, none_in_nil, in_cons}
 

@@ -1,5 +1,5 @@
 -- The rules of a flat system are closed, and its run order is one of its rules.
-use Rattle.std.proofs.Common.{◌≡◌, ℕ, ◌<◌, ◌⊎◌, Bool, true, false, List, [], ◌∷◌, ◌++◌, length, map, Contains, Option, Some, None, refl, sym, ap, subst, ◌∙◌, inl, inr, arith}
+use Rattle.std.proofs.Common.{◌≡◌, ℕ, ◌<◌, Bool, true, false, List, [], ◌∷◌, ◌++◌, length, Contains, Option, Some, None, refl, sym, ap, subst, ◌∙◌, inl, inr, arith}
 use Rattle.std.specs.Prelude.{IsTrue, slice_get}
 use Rattle.std.specs.List.{AllByRecursion}
 use Rattle.std.specs.Option.{option_map}
@@ -92,13 +92,12 @@ module _ (s : System) where
   order_ready : (order front : List ℕ) (done : ℕ → Bool) → ((a : ℕ) → IsTrue (done a) → Contains front a) → IsOrdered s done order → AreReady (rules_of s) front order
   order_ready [] front done from ordered = tt
   order_ready (i ∷ order) front done from ordered =
-      let e = ordered.0 in
-      (
+      let e = ordered.0 in (
         let low = slice_get_within s.equations i e ordered.1 in let same = count in omega arith,
         λ it is.
-        let r = rule_at i it is in
-        let same : e ≡ r.at = let both = sym ordered.1 ∙ r.is in cc in
-        subst (λ u. AllByRecursion (Contains front) (used_by u)) (ap rule_of same ∙ r.rule_is) (used_all (Contains front) e.op e.args (all_by (λ a. IsTrue (done a)) (Contains front) from (used_of e.op e.args) ordered.3)),
+            let r = rule_at i it is in
+            let same : e ≡ r.at = let both = sym ordered.1 ∙ r.is in cc in
+            subst (λ u. AllByRecursion (Contains front) (used_by u)) (ap rule_of same ∙ r.rule_is) (used_all (Contains front) e.op e.args (all_by (λ a. IsTrue (done a)) (Contains front) from (used_of e.op e.args) ordered.3)),
         order_ready order (front ++ i ∷ []) (with_one i done) (λ a h. elim (one_or_done i done a h) [
           | inl it ↦ subst (Contains (front ++ i ∷ [])) (sym it) (Contains-push front i)
           | inr old ↦ Contains-append_left front (i ∷ []) a (from a old)

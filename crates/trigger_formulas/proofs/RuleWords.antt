@@ -1,5 +1,5 @@
 -- The word of an equation, by its rule and the words of its arguments.
-use Rattle.std.proofs.Common.{◌≡◌, ℕ, ◌-◌, ◌^◌, ◌<◌, ◌↔◌, ◌⊎◌, Bool, List, sym, subst, bit_and, bit_or}
+use Rattle.std.proofs.Common.{◌≡◌, ℕ, ◌-◌, ◌^◌, ◌<◌, ◌↔◌, Bool, List, sym, subst, bit_and, bit_or}
 use Rattle.std.specs.Prelude.{IsTrue, slice_index_or}
 use Rattle.trigger_rules.specs.declared.atom.Atom.TheVariants.{Start, Happens, Holds}
 use Rattle.trigger_rules.specs.Formula.{Assignment}

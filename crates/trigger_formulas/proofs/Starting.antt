@@ -1,6 +1,6 @@
 -- Which equations start, by the formulas at time 0.
-use Rattle.std.proofs.Common.{◌≡◌, ◌==◌, ℕ, zero, suc, ◌+◌, ◌*◌, ◌<◌, ◌≤◌, ◌↔◌, ◌⊎◌, Bool, true, false, List, [], ◌∷◌, length, get_or, replicate, Contains, Option, Some, None, refl, sym, ap, subst, ◌∙◌, inl, inr, arith}
-use Rattle.std.specs.Prelude.{IsTrue, IsFalse, slice_get}
+use Rattle.std.proofs.Common.{◌≡◌, ℕ, zero, suc, ◌+◌, ◌*◌, ◌<◌, ◌≤◌, ◌↔◌, Bool, true, false, List, [], ◌∷◌, length, get_or, replicate, Option, Some, None, refl, sym, subst, ◌∙◌, inl, inr, arith}
+use Rattle.std.specs.Prelude.{IsTrue, slice_get}
 use Rattle.std.specs.Option.{option_map_or}
 use Rattle.std.proofs.lemmas.Bool.{cases_lt, true≢false, false≢true}
 use Rattle.std.proofs.lemmas.List.{get_or-replicate}
@@ -10,16 +10,15 @@ use Rattle.trigger_rules.specs.declared.atom.Atom.{Atom}
 use Rattle.trigger_rules.specs.declared.atom.Atom.TheVariants.{Start, Happens, Holds}
 use Rattle.trigger_rules.specs.Formula as formula
 use Rattle.trigger_rules.specs.Formula.{Formula, Assignment, Of, Meets, both, no_atom, through, HasAtom}
-use Rattle.trigger_rules.specs.Question.{AreFew, FiresAtZero, StandsAtZero, Starts}
-use Rattle.trigger_rules.specs.Table.{zero_formula}
+use Rattle.trigger_rules.specs.Question.{FiresAtZero, StandsAtZero, Starts}
 use Rattle.trigger_formulas.specs.declared.rules.Rule.{Rule}
 use Rattle.trigger_formulas.specs.declared.rules.Rule.TheVariants as rule
 use Rattle.trigger_formulas.specs.AtomLists.{HasAtoms}
 use Rattle.trigger_formulas.specs.Kept.{StartsBy}
-use Rattle.trigger_formulas.specs.Rules.{rules_of, formula_by, zero_formula_by, either_formula, ruled, starts_at}
+use Rattle.trigger_formulas.specs.Rules.{rules_of, formula_by, zero_formula_by, either_formula, ruled}
 use Rattle.trigger_formulas.specs.Words.{IsOn, IsWordOf, Started, assigned}
 use Rattle.trigger_formulas.proofs.Gathered.{no_more}
-use Rattle.trigger_formulas.proofs.Tables.{table_is, zero_table_is}
+use Rattle.trigger_formulas.proofs.Tables.{zero_table_is}
 use Rattle.trigger_formulas.proofs.Transfer.{DeniesStart, all_denies, any_denies, atom_under, met_more, met_turned}
 
 -- ---- only the start is denied

@@ -1,5 +1,5 @@
 -- The formulas of rules are those of the system.
-use Rattle.std.proofs.Common.{◌≡◌, ℕ, suc, ◌+◌, Bool, true, false, List, [], ◌∷◌, ◌++◌, length, take, Option, Some, None, refl, sym, ap, ◌∙◌, arith}
+use Rattle.std.proofs.Common.{◌≡◌, ℕ, suc, ◌+◌, true, false, List, [], ◌∷◌, ◌++◌, take, Option, Some, None, refl, sym, ap, ◌∙◌, arith}
 use Rattle.std.specs.Prelude.{slice_get}
 use Rattle.std.specs.Option.{option_map, option_map_or}
 use Rattle.std.proofs.Math.Seq.{take-suc}
@@ -8,10 +8,10 @@ use Rattle.flat_core.specs.declared.equation.Equation.{Equation}
 use Rattle.flat_core.specs.declared.equation.Op.{Op}
 use Rattle.flat_core.specs.declared.equation.Op.TheVariants as op
 use Rattle.flat_core.specs.System.{System, equation}
-use Rattle.trigger_rules.specs.Formula.{Formula, Never}
+use Rattle.trigger_rules.specs.Formula.{Never}
 use Rattle.trigger_rules.specs.Table.{formula_of, at_zero, formula, zero_formula}
 use Rattle.trigger_formulas.specs.declared.rules.Rule.{Rule}
-use Rattle.trigger_formulas.specs.Rules.{rule_by, rule_of, rules_of, formula_by, zero_formula_by, either_formula, ruled}
+use Rattle.trigger_formulas.specs.Rules.{rule_by, rule_of, rules_of, formula_by, zero_formula_by, ruled}
 
 formula_is : (o : Op) (args : List ℕ) (x : ℕ) → formula_by (rule_by o args) x ≡ formula_of o x args
 formula_is (op.Lift body true) args x = refl

@@ -1,9 +1,9 @@
 -- What is true of formulas in one assignment or table is true in another.
-use Rattle.std.proofs.Common.{◌≡◌, ℕ, ◌⊎◌, List, [], ◌∷◌, Bool, true, false, Option, Some, None, refl, sym, subst, ◌∙◌, inl, inr}
+use Rattle.std.proofs.Common.{◌≡◌, ℕ, ◌⊎◌, List, [], ◌∷◌, sym, subst, ◌∙◌, inl, inr}
 use Rattle.std.specs.Prelude.{IsTrue, IsFalse}
 use Rattle.trigger_rules.specs.declared.atom.Atom.{Atom}
 use Rattle.trigger_rules.specs.declared.atom.Atom.TheVariants.{Start}
-use Rattle.trigger_rules.specs.Formula.{Formula, Assignment, If, IfNot, Of, Both, Either, Unless, all_of, any_of, Meets, always, atom, no_atom, through, both, first, second, started, unless, HasAtom, in_if, in_if_not, in_of, both_first, both_second, either_first, either_second, in_unless}
+use Rattle.trigger_rules.specs.Formula.{Formula, Assignment, IfNot, Both, Either, Unless, all_of, any_of, Meets, always, atom, no_atom, through, both, first, second, started, unless, HasAtom, in_if, in_if_not, in_of, both_first, both_second, either_first, either_second, in_unless}
 
 -- ---- other equations start
 module _ (table : ℕ → Formula) (K L : ℕ → Type 0) (holds : Assignment) (to : (v : ℕ) → K v → L v) where

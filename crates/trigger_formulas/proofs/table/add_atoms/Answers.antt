@@ -1,4 +1,4 @@
-use Rattle.std.proofs.Common.{length, sym}
+use Rattle.std.proofs.Common.{length}
 use Rattle.std.proofs.lemmas.Result.{on_ok_weaker}
 use Rattle.trigger_formulas.specs.declared.rules.Rule.TheVariants as rule
 use Rattle.trigger_formulas.proofs.AtomLists.{atoms_read}

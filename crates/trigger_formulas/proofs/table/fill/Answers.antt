@@ -1,6 +1,6 @@
-use Rattle.std.proofs.Common.{◌≡◌, List, ℕ, length, take, take_all, Contains, refl, sym, ap, subst, ◌∙◌, get_or, arith}
+use Rattle.std.proofs.Common.{List, ℕ, length, take_all, Contains, refl, sym, subst, ◌∙◌, get_or, arith}
 use Rattle.std.proofs.lemmas.Option.{slice_get_read}
-use Rattle.trigger_formulas.specs.Rules.{named_by, ArgumentsBelow}
+use Rattle.trigger_formulas.specs.Rules.{ArgumentsBelow}
 use Rattle.trigger_formulas.specs.Words.{IsWordOf, word_at}
 use Rattle.trigger_formulas.proofs.Meaning.{below, fill_step}
 use Rattle.trigger_formulas.proofs.table.fill.Goals as goal

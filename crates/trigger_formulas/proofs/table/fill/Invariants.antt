@@ -1,4 +1,4 @@
-use Rattle.std.proofs.Common.{◌≡◌, ℕ, Contains, length, take}
+use Rattle.std.proofs.Common.{ℕ, Contains, take}
 use Rattle.trigger_formulas.specs.Words.{IsWordOf, word_at}
 use Rattle.trigger_formulas.proofs.table.fill.Given as goal
 

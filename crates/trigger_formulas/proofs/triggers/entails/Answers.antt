@@ -1,4 +1,4 @@
-use Rattle.std.proofs.Common.{◌≡◌, ℕ, ◌*◌, ◌<◌, ◌≤◌, ◌^◌, false, List, length, drop, sym, ap, subst, ◌∙◌, arith}
+use Rattle.std.proofs.Common.{◌*◌, ◌<◌, ◌≤◌, ◌^◌, false, length, drop, ap, ◌∙◌, arith}
 use Rattle.std.proofs.lemmas.List.{length-replicate, take_at}
 use Rattle.trigger_formulas.proofs.Entailing.{all_covered, covers_more, exceeded}
 use Rattle.trigger_formulas.proofs.Meaning.{step_below, word_read}

@@ -1,4 +1,4 @@
-use Rattle.std.proofs.Common.{length, ap, sym, subst, ◌≤◌, ◌^◌, arith}
+use Rattle.std.proofs.Common.{length, ap, sym, arith}
 use Rattle.trigger_formulas.proofs.WordLemmas.{few_rows, enough_rows}
 use Rattle.trigger_formulas.proofs.rows.Assignments.rows.Goals as goal
 

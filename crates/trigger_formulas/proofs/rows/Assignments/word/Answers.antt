@@ -1,4 +1,4 @@
-use Rattle.std.proofs.Common.{sym, ◌∙◌, arith}
+use Rattle.std.proofs.Common.{sym, ◌∙◌}
 use Rattle.trigger_formulas.proofs.WordLemmas.{word_none, word_low, word_high}
 use Rattle.trigger_formulas.proofs.rows.Assignments.word.Goals as goal
 
