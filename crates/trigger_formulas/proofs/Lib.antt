@@ -12,3 +12,4 @@ pub mod Starting
 pub mod Entailing
 pub mod Orders
 pub mod KeptLemmas
+pub mod SampleLemmas

@@ -1,7 +1,7 @@
 -- A small system that tests ask about:
 --     i, an input of Int, e := an empty set, m := merge(y, e), l := last(m, i), y := set_add(l, i) with its lifted operands
 --     c := contains(l, i), f := filter(y, c), d := delay(i, c)
-use Rattle.std.specs.Prelude.{ℕ, List, [], ◌∷◌, true, None, codes}
+use Rattle.std.specs.Prelude.{ℕ, List, [], ◌∷◌, true, None}
 use Rattle.tsl_value.specs.declared.scalar.KeyType.TheVariants as key_type
 use Rattle.tsl_value.specs.declared.scalar.ValueType.{ValueType}
 use Rattle.tsl_value.specs.declared.scalar.ValueType.TheVariants as value_type
@@ -10,7 +10,6 @@ use Rattle.lift_func.specs.declared.body.Binary.TheVariants as binary
 use Rattle.flat_core.specs.declared.equation.Op.{Op}
 use Rattle.flat_core.specs.declared.equation.Op.TheVariants as op
 use Rattle.flat_core.specs.declared.equation.Equation.{Equation}
-use Rattle.flat_core.specs.declared.equation.Output.{Output}
 use Rattle.flat_core.specs.Typed.{bool_type, int_type, unit_type}
 
 abbrev pub equation_of : Op → List ℕ → ValueType → Equation
@@ -34,6 +33,3 @@ sample_equations =
     ∷ equation_of op.Filter (8 ∷ 9 ∷ []) ints
     ∷ equation_of op.Delay (0 ∷ 9 ∷ []) unit_type
     ∷ []
-
-abbrev pub sample_outputs : List Output
-sample_outputs = record { name = codes "f"; equation = 10 } ∷ []

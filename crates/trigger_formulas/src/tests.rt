@@ -1,8 +1,8 @@
 // Questions about a small system.
 
-ghost use Rattle.std.specs.Prelude.{◌≡◌, ◌<◌, true, slice_get, IfOk};
+ghost use Rattle.std.specs.Prelude.{◌≡◌, ◌<◌, length, true, slice_get, IfOk};
 ghost use Rattle.lift_func.specs.Tree.{Argument, Two};
-ghost use Rattle.trigger_formulas.specs.Sample.{equation_of, ints, sample_equations, sample_outputs};
+ghost use Rattle.trigger_formulas.specs.Sample.{equation_of, ints, sample_equations};
 
 use crate::triggers::Triggers;
 use flat_core::builder::FlatBuilder;
@@ -10,6 +10,7 @@ use flat_core::equation::{Equation, Op, Output};
 use flat_core::flat::Flat;
 use flat_core::lists::Args;
 use lift_func::body::{Binary, Body};
+use recursion_check::check::check_cycles;
 use std::alloc::Global;
 use std::test::Fail;
 use tsl_value::ids::EqId;
@@ -94,38 +95,45 @@ fn sample(alloc: Global) -> Result<Flat, NoMemory>
     builder.finish()
 }
 
+/// The triggers of the sample.
+fn triggers(alloc: Global) -> Result<Triggers, Fail>
+    ensures { IfOk result (λ t. length t ≡ 12) }
+{
+    let flat = sample(alloc)?;
+    match check_cycles(alloc, &flat) {
+        Ok(()) => Ok(Triggers::of(alloc, &flat)?),
+        Err(_) => Err(Fail::from("a cycle")),
+    }
+}
+
 #[test]
 fn implications_of_a_set_that_grows(rt: HostRuntime) -> Result<(), Fail> {
-    let alloc = rt.alloc();
-    let triggers = Triggers::of(alloc, &sample(alloc)?)?;
-    // y and i, both ways: at 0 there is no last value
-    assert!(rt; triggers.implies(alloc, EqId::new(8), EqId::new(0))?);
-    assert!(rt; !triggers.implies(alloc, EqId::new(0), EqId::new(8))?);
-    // yl and y
-    assert!(rt; triggers.implies(alloc, EqId::new(3), EqId::new(8))?);
-    assert!(rt; triggers.implies(alloc, EqId::new(8), EqId::new(3))?);
-    // the lifted operands are those of y
-    assert!(rt; triggers.implies(alloc, EqId::new(4), EqId::new(3))?);
-    assert!(rt; !triggers.implies(alloc, EqId::new(3), EqId::new(4))?);
-    assert!(rt; triggers.implies(alloc, EqId::new(10), EqId::new(9))?);
-    assert!(rt; !triggers.implies(alloc, EqId::new(9), EqId::new(10))?);
-    assert!(rt; triggers.implies(alloc, EqId::new(8), EqId::new(2))?);
-    assert!(rt; !triggers.implies(alloc, EqId::new(2), EqId::new(8))?);
-    assert!(rt; triggers.implies(alloc, EqId::new(11), EqId::new(11))?);
+    let triggers = triggers(rt.alloc())?;
+    // `a` implies `b`, `b` implies `a`: at 0 there is no last value, and an operand's last value comes later
+    for (a, b, there, back) in [
+        (8, 0, true, false),
+        (3, 8, true, true),
+        (4, 3, true, false),
+        (10, 9, true, false),
+        (8, 2, true, false),
+        (11, 11, true, true),
+    ] {
+        let (a, b) = (EqId::new(a), EqId::new(b));
+        assert_eq!(rt; triggers.implies(rt.alloc(), a, b)?, there);
+        assert_eq!(rt; triggers.implies(rt.alloc(), b, a)?, back);
+    }
     Ok(())
 }
 
 #[test]
 fn what_starts_and_what_meets(rt: HostRuntime) -> Result<(), Fail> {
-    let alloc = rt.alloc();
-    let triggers = Triggers::of(alloc, &sample(alloc)?)?;
-    assert!(rt; triggers.starts(alloc, EqId::new(1))?);
-    assert!(rt; triggers.starts(alloc, EqId::new(2))?);
-    assert!(rt; !triggers.starts(alloc, EqId::new(0))?);
-    assert!(rt; !triggers.starts(alloc, EqId::new(3))?);
-    assert!(rt; !triggers.together(alloc, EqId::new(1), EqId::new(8))?);
-    assert!(rt; triggers.together(alloc, EqId::new(2), EqId::new(8))?);
-    assert!(rt; triggers.together(alloc, EqId::new(0), EqId::new(1))?);
-    assert!(rt; !triggers.together(alloc, EqId::new(11), EqId::new(1))?);
+    let triggers = triggers(rt.alloc())?;
+    for (a, starts) in [(0, false), (1, true), (2, true), (3, false)] {
+        assert_eq!(rt; triggers.starts(rt.alloc(), EqId::new(a))?, starts);
+    }
+    for (a, b, together) in [(1, 8, false), (2, 8, true), (0, 1, true), (11, 1, false)] {
+        let (a, b) = (EqId::new(a), EqId::new(b));
+        assert_eq!(rt; triggers.together(rt.alloc(), a, b)?, together);
+    }
     Ok(())
 }
