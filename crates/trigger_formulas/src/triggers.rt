@@ -187,12 +187,12 @@ impl Triggers {
         if a == b {
             return Ok(true);
         }
-        let atoms = joined(
+        let both = joined(
             alloc,
             &self.atoms[a.get() as usize],
             &self.atoms[b.get() as usize],
         )?;
-        if !atoms.are_few() {
+        if !both.are_few() {
             return Ok(false);
         }
         entails(
@@ -200,7 +200,7 @@ impl Triggers {
             &self.rules,
             &self.starts,
             self.order.as_slice(),
-            atoms,
+            both,
             a,
             b,
         )
