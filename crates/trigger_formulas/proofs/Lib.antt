@@ -13,3 +13,4 @@ pub mod Entailing
 pub mod Orders
 pub mod KeptLemmas
 pub mod SampleLemmas
+pub mod Marking

@@ -136,9 +136,9 @@ module _ (rules : List Rule) (starts : List Bool) (holds : Assignment) (x : ℕ)
 -- ---- steps
 pub ready_at : (rules : List Rule) (steps front : List ℕ) (k : ℕ) → k < length steps → AreReady rules front steps → (get_or steps k 0 < length rules) × IsReady rules (front ++ take k steps) (get_or steps k 0)
 ready_at rules [] front k lt ready = absurd (omega arith)
-ready_at rules (x ∷ steps) front zero lt ready = (ready.0, subst (λ l. IsReady rules l x) (sym (append-nil front)) ready.1)
+ready_at rules (x ∷ steps) front zero lt ready = (ready.0, subst (λ l. IsReady rules l x) (sym (append-nil front)) ready.2)
 ready_at rules (x ∷ steps) front (suc k) lt ready =
-    let rest = ready_at rules steps (front ++ x ∷ []) k (omega arith) ready.2 in
+    let rest = ready_at rules steps (front ++ x ∷ []) k (omega arith) ready.3 in
     (rest.0, subst (λ l. IsReady rules l (get_or steps k 0)) (append_assoc front (x ∷ []) (take k steps)) rest.1)
 
 -- one more word of a table

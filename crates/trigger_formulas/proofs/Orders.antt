@@ -1,11 +1,11 @@
 -- The rules of a flat system are closed, and its run order is one of its rules.
-use Rattle.std.proofs.Common.{◌≡◌, ℕ, ◌<◌, Bool, true, false, List, [], ◌∷◌, ◌++◌, length, Contains, Option, Some, None, refl, sym, ap, subst, ◌∙◌, inl, inr, arith}
+use Rattle.std.proofs.Common.{◌≡◌, ℕ, ◌<◌, Bool, ◌||◌, true, false, List, [], ◌∷◌, ◌++◌, length, Contains, Option, Some, None, refl, sym, ap, subst, ◌∙◌, inl, inr, arith}
 use Rattle.std.specs.Prelude.{IsTrue, slice_get}
 use Rattle.std.specs.List.{AllByRecursion}
 use Rattle.std.specs.Option.{option_map}
-use Rattle.std.proofs.lemmas.Bool.{false≢true}
+use Rattle.std.proofs.lemmas.Bool.{eq-eqb, false≢true, true≢false}
 use Rattle.std.proofs.lemmas.List.{length-map}
-use Rattle.std.proofs.lemmas.List.Elements.{All-from_recursion, Contains-append_left, Contains-push}
+use Rattle.std.proofs.lemmas.List.Elements.{All-from_recursion, Contains-append_left, Contains-push, Contains-push_cases}
 use Rattle.std.proofs.lemmas.Option.{slice_get-map, slice_get_within}
 use Rattle.tsl_value.specs.declared.scalar.ValueType.{ValueType}
 use Rattle.flat_core.specs.declared.equation.Equation.{Equation}
@@ -16,10 +16,11 @@ use Rattle.flat_core.specs.Complete.{IsFlat}
 use Rattle.flat_core.specs.Dependency.{with_one, IsOrdered, IsRunOrder}
 use Rattle.flat_core.specs.System.{System, equation}
 use Rattle.flat_core.specs.TypedSystem.{AreOfTypes}
-use Rattle.flat_core.proofs.Existence.{one_or_done}
+use Rattle.flat_core.proofs.Existence.{more_done, one_or_done}
 use Rattle.flat_core.proofs.Members.{Contains-in}
 use Rattle.flat_core.proofs.Uniqueness.{all_by}
 use Rattle.trigger_formulas.specs.declared.rules.Rule.{Rule}
+use Rattle.trigger_formulas.proofs.AtomLists.{none_in_nil}
 use Rattle.trigger_formulas.specs.Kept.{IsOrder}
 use Rattle.trigger_formulas.specs.Rules.{AreClosed, AreReady, named_by, rule_by, rule_of, rules_of, used_by}
 
@@ -89,11 +90,12 @@ module _ (s : System) where
       let low : AllByRecursion (λ a. a < length (rules_of s)) (named_by (rule_of e.at)) = named_all (λ a. a < length (rules_of s)) e.at.op e.at.args (typed_low e.at.args typed.types typed.arguments) in
       All-from_recursion (λ a. a < length (rules_of s)) (named_by it) (subst (λ r. AllByRecursion (λ a. a < length (rules_of s)) (named_by r)) e.rule_is low)
 
-  order_ready : (order front : List ℕ) (done : ℕ → Bool) → ((a : ℕ) → IsTrue (done a) → Contains front a) → IsOrdered s done order → AreReady (rules_of s) front order
-  order_ready [] front done from ordered = tt
-  order_ready (i ∷ order) front done from ordered =
+  order_ready : (order front : List ℕ) (done : ℕ → Bool) → ((a : ℕ) → IsTrue (done a) → Contains front a) → ((a : ℕ) → Contains front a → IsTrue (done a)) → IsOrdered s done order → AreReady (rules_of s) front order
+  order_ready [] front done from to ordered = tt
+  order_ready (i ∷ order) front done from to ordered =
       let e = ordered.0 in (
         let low = slice_get_within s.equations i e ordered.1 in let same = count in omega arith,
+        λ c. true≢false (sym (to i c) ∙ ordered.2),
         λ it is.
             let r = rule_at i it is in
             let same : e ≡ r.at = let both = sym ordered.1 ∙ r.is in cc in
@@ -101,11 +103,14 @@ module _ (s : System) where
         order_ready order (front ++ i ∷ []) (with_one i done) (λ a h. elim (one_or_done i done a h) [
           | inl it ↦ subst (Contains (front ++ i ∷ [])) (sym it) (Contains-push front i)
           | inr old ↦ Contains-append_left front (i ∷ []) a (from a old)
+        ]) (λ a c. elim (Contains-push_cases front i a c) [
+          | inl old ↦ more_done i done a (to a old)
+          | inr same ↦ ap (λ b. b || done a) (eq-eqb a i (sym same))
         ]) ordered.4,
       )
 
   pub order_from : (order : List ℕ) → IsRunOrder s order → IsOrder (rules_of s) order
   order_from order run = record {
-    ready = order_ready order [] (λ i. false) (λ a h. absurd (false≢true h)) run.ordered;
+    ready = order_ready order [] (λ i. false) (λ a h. absurd (false≢true h)) (λ a c. absurd (none_in_nil a c)) run.ordered;
     all = λ x low. Contains-in order x (run.all x (let same = count in omega arith));
   }

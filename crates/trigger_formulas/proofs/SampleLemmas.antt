@@ -1,5 +1,5 @@
 -- The sample is a complete system.
-use Rattle.std.proofs.Common.{◌≡◌, ◌==◌, ℕ, zero, suc, ◌+◌, ◌<◌, ◌≤◌, List, [], ◌∷◌, ◌++◌, length, take, take_all, Some, refl, sym, ap, subst, ◌∙◌, arith, lit<}
+use Rattle.std.proofs.Common.{◌≡◌, ℕ, suc, ◌+◌, ◌<◌, ◌≤◌, List, [], ◌∷◌, ◌++◌, length, take, take_all, Some, refl, sym, ap, subst, ◌∙◌, arith, lit<}
 use Rattle.std.specs.Prelude.{slice_get}
 use Rattle.std.specs.List.{AllByRecursion}
 use Rattle.std.proofs.Math.Seq.{take-suc}
@@ -8,8 +8,8 @@ use Rattle.lift_func.specs.Typing.{argument, two, in_set}
 use Rattle.flat_core.specs.declared.equation.Equation.{Equation}
 use Rattle.flat_core.specs.declared.equation.Output.{Output}
 use Rattle.flat_core.specs.Complete.{HasShortBody, HaveDifferentNames, IsComplete}
-use Rattle.flat_core.specs.System.{System, equation}
-use Rattle.flat_core.specs.Typed.{bool_type, input, empty, delay, last, merge, filter, set_add, lift, int_type, unit_type}
+use Rattle.flat_core.specs.System.{System}
+use Rattle.flat_core.specs.Typed.{bool_type, input, empty, delay, last, merge, filter, set_add, lift, int_type}
 use Rattle.flat_core.specs.TypedSystem.{IsOfType, IsTypedEquation}
 use Rattle.flat_core.proofs.Finished.{typed_from_all}
 use Rattle.trigger_formulas.specs.Sample.{ints, sample_equations}

@@ -1,5 +1,5 @@
 -- What is kept of an equation: its trigger formula.
-use Rattle.std.specs.Prelude.{◌≡◌, ℕ, ◌<◌, Bool, true, false, List, [], ◌∷◌, ◌++◌, map, Option, Some, None, slice_get, slice_index_or, length}
+use Rattle.std.specs.Prelude.{◌≡◌, ℕ, ◌<◌, ◌⊎◌, Bool, true, false, List, [], ◌∷◌, ◌++◌, map, Option, Some, None, slice_get, slice_index_or, length, IsTrue}
 use Rattle.std.specs.List.{All, AllByRecursion, Contains}
 use Rattle.std.specs.Option.{option_map_or}
 use Rattle.flat_core.specs.declared.equation.Equation.{Equation}
@@ -101,13 +101,13 @@ ArgumentsBelow count it = All (λ a. a < count) (named_by it)
 abbrev pub AreClosed : List Rule → Type 0
 AreClosed rules = (x : ℕ) (it : Rule) → slice_get rules x ≡ Some it → ArgumentsBelow (length rules) it
 
--- the steps come behind those in front whose formulas they need
+-- each step comes once, behind those in front whose formulas it needs
 abbrev pub IsReady : List Rule → List ℕ → ℕ → Type 0
 IsReady rules front x = (it : Rule) → slice_get rules x ≡ Some it → AllByRecursion (Contains front) (used_by it)
 
 abbrev pub AreReady : List Rule → List ℕ → List ℕ → Type 0
 AreReady rules front [] = Unit {0}
-AreReady rules front (x ∷ steps) = (x < length rules) × IsReady rules front x × AreReady rules (front ++ x ∷ []) steps
+AreReady rules front (x ∷ steps) = (x < length rules) × (Contains front x → ⊥) × IsReady rules front x × AreReady rules (front ++ x ∷ []) steps
 
 -- whether an equation starts, as it is kept
 abbrev pub starts_at : List Bool → ℕ → Bool
@@ -116,3 +116,16 @@ starts_at starts x = slice_index_or starts x false
 -- one of some arguments has a property
 abbrev pub HasSome : (ℕ → Type 0) → List ℕ → Type 0
 HasSome P args = (a : ℕ) × Contains args a × P a
+
+-- marked equations, and the words of a list of them: a marked rule has its used arguments marked
+abbrev pub is_marked : List Bool → ℕ → Bool
+is_marked marks x = slice_index_or marks x false
+
+abbrev pub UsedMarked : List Rule → List Bool → ℕ → Type 0
+UsedMarked rules marks x = IsTrue (is_marked marks x) → (it : Rule) → slice_get rules x ≡ Some it → AllByRecursion (λ a. IsTrue (is_marked marks a)) (used_by it)
+
+-- the new marks are the old ones and those of a property
+pub record Marks (P : ℕ → Type 0) (old new : List Bool) : Type 0 where
+  pub kept : (x : ℕ) → IsTrue (is_marked old x) → IsTrue (is_marked new x)
+  pub there : (x : ℕ) → P x → IsTrue (is_marked new x)
+  pub from : (x : ℕ) → IsTrue (is_marked new x) → IsTrue (is_marked old x) ⊎ P x

@@ -2,6 +2,7 @@
 #![tactic(auto)]
 
 mod atoms;
+mod needed;
 mod rows;
 mod rules;
 mod table;

@@ -10,6 +10,7 @@ ghost use Rattle.trigger_formulas.specs.Kept.{AreStarts, AreTriggersOf, AreWords
 ghost use Rattle.trigger_formulas.specs.Rules.{AreClosed, AreReady, rules_of};
 
 use crate::atoms::Atoms;
+use crate::needed::needed;
 use crate::rows::Assignments;
 use crate::rules::{Rule, rule_of};
 use crate::table::{fill, gather};
@@ -138,9 +139,17 @@ fn entails(
         atoms,
         others: false,
     };
+    let steps = needed(alloc, rules, order, a, b)?;
     let mut words = vec![in alloc; 0; rules.len()]?;
     for row in 0..assignments.rows() {
-        fill(rules, starts, order, &assignments, row, &mut words);
+        fill(
+            rules,
+            starts,
+            steps.as_slice(),
+            &assignments,
+            row,
+            &mut words,
+        );
         if exceeds(words[a.get() as usize], words[b.get() as usize]) {
             return Ok(false);
         }

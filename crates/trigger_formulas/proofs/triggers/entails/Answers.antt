@@ -1,4 +1,4 @@
-use Rattle.std.proofs.Common.{◌*◌, ◌<◌, ◌≤◌, ◌^◌, false, length, drop, ap, ◌∙◌, arith}
+use Rattle.std.proofs.Common.{subst, sym, ℕ, List, Contains, ◌*◌, ◌<◌, ◌≤◌, ◌^◌, false, length, drop, ap, ◌∙◌, arith}
 use Rattle.std.proofs.lemmas.List.{length-replicate, take_at}
 use Rattle.trigger_formulas.proofs.Entailing.{all_covered, covers_more, exceeded}
 use Rattle.trigger_formulas.proofs.Meaning.{step_below, word_read}
@@ -27,9 +27,11 @@ returns-then-exceeds c =
     let lower = step_below c.args.rules.now c.args.order.now c.requires.ready c.args.b c.requires.second in
     let first : c.args.a < c.loop-row.words.len = omega (arith, c.deref_mut.ensures.len) in
     let second : c.args.b < c.loop-row.words.len = omega (arith, c.deref_mut.ensures.len) in
+    let first_in = subst (λ (l : List ℕ). Contains l c.args.a) (sym c.as_slice.ensures) c.in_ok-steps.ensures.first in
+    let second_in = subst (λ (l : List ℕ). Contains l c.args.b) (sym c.as_slice.ensures) c.in_ok-steps.ensures.second in
     exceeded c.args.rules.now c.args.starts.now c.args.atoms c.args.a c.args.b c.loop-row.row c.index.result.now c.index-in-loop-row.result.now c.exceeds.result
-    (word_read c.args.rules.now c.args.starts.now c.args.atoms false c.loop-row.row c.args.order.now c.fill.new.words c.loop-row.words.items c.loop-row.words.len c.get.result c.args.a c.index.result.now many first c.index.ensures c.get.ensures c.fill.ensures c.requires.first)
-    (word_read c.args.rules.now c.args.starts.now c.args.atoms false c.loop-row.row c.args.order.now c.fill.new.words c.loop-row.words.items c.loop-row.words.len c.get-in-loop-row.result c.args.b c.index-in-loop-row.result.now many second c.index-in-loop-row.ensures c.get-in-loop-row.ensures c.fill.ensures c.requires.second) c.exceeds.ensures
+    (word_read c.args.rules.now c.args.starts.now c.args.atoms false c.loop-row.row c.as_slice.result.now c.fill.new.words c.loop-row.words.items c.loop-row.words.len c.get.result c.args.a c.index.result.now many first c.index.ensures c.get.ensures c.fill.ensures first_in)
+    (word_read c.args.rules.now c.args.starts.now c.args.atoms false c.loop-row.row c.as_slice.result.now c.fill.new.words c.loop-row.words.items c.loop-row.words.len c.get-in-loop-row.result c.args.b c.index-in-loop-row.result.now many second c.index-in-loop-row.ensures c.get-in-loop-row.ensures c.fill.ensures second_in) c.exceeds.ensures
     c.if-exceeds.true
 
 pub loop-row-preserved : goal.loop-row-preserved
@@ -40,13 +42,15 @@ loop-row-preserved c =
     let lower = step_below c.args.rules.now c.args.order.now c.requires.ready c.args.b c.requires.second in
     let first : c.args.a < c.loop-row.words.len = omega (arith, c.deref_mut.ensures.len) in
     let second : c.args.b < c.loop-row.words.len = omega (arith, c.deref_mut.ensures.len) in
+    let first_in = subst (λ (l : List ℕ). Contains l c.args.a) (sym c.as_slice.ensures) c.in_ok-steps.ensures.first in
+    let second_in = subst (λ (l : List ℕ). Contains l c.args.b) (sym c.as_slice.ensures) c.in_ok-steps.ensures.second in
     let written = take_at c.fill.new.words (drop (length c.fill.new.words) c.loop-row.words.items) c.loop-row.words.len many in
     record {
       one_each = ap length written ∙ c.fill.auto.words ∙ ap length c.deref_mut.ensures.value ∙ c.loop-row.invariant.one_each;
       covered =
           covers_more c.args.rules.now c.args.starts.now c.args.atoms c.args.a c.args.b c.loop-row.row c.index.result.now c.index-in-loop-row.result.now c.exceeds.result
-          (word_read c.args.rules.now c.args.starts.now c.args.atoms false c.loop-row.row c.args.order.now c.fill.new.words c.loop-row.words.items c.loop-row.words.len c.get.result c.args.a c.index.result.now many first c.index.ensures c.get.ensures c.fill.ensures c.requires.first)
-          (word_read c.args.rules.now c.args.starts.now c.args.atoms false c.loop-row.row c.args.order.now c.fill.new.words c.loop-row.words.items c.loop-row.words.len c.get-in-loop-row.result c.args.b c.index-in-loop-row.result.now many second c.index-in-loop-row.ensures c.get-in-loop-row.ensures c.fill.ensures c.requires.second) c.exceeds.ensures
+          (word_read c.args.rules.now c.args.starts.now c.args.atoms false c.loop-row.row c.as_slice.result.now c.fill.new.words c.loop-row.words.items c.loop-row.words.len c.get.result c.args.a c.index.result.now many first c.index.ensures c.get.ensures c.fill.ensures first_in)
+          (word_read c.args.rules.now c.args.starts.now c.args.atoms false c.loop-row.row c.as_slice.result.now c.fill.new.words c.loop-row.words.items c.loop-row.words.len c.get-in-loop-row.result c.args.b c.index-in-loop-row.result.now many second c.index-in-loop-row.ensures c.get-in-loop-row.ensures c.fill.ensures second_in) c.exceeds.ensures
           c.if-exceeds.false c.loop-row.invariant.covered;
     }
 
