@@ -40,11 +40,11 @@ pub data Meets (table : ℕ → Formula) (Starts : ℕ → Type 0) (holds : Assi
 
 -- an atom stands in a formula, whether the formula depends on it or not
 pub data HasAtom (table : ℕ → Formula) (Starts : ℕ → Type 0) (a : Atom) : Formula → Type 0 where
-  atom : HasAtom table Starts a (If a)
-  no_atom : HasAtom table Starts a (IfNot a)
-  through : {x : ℕ} → HasAtom table Starts a (table x) → HasAtom table Starts a (Of x)
+  in_if : HasAtom table Starts a (If a)
+  in_if_not : HasAtom table Starts a (IfNot a)
+  in_of : {x : ℕ} → HasAtom table Starts a (table x) → HasAtom table Starts a (Of x)
   both_first : {p q : Formula} → HasAtom table Starts a p → HasAtom table Starts a (Both p q)
   both_second : {p q : Formula} → HasAtom table Starts a q → HasAtom table Starts a (Both p q)
   either_first : {p q : Formula} → HasAtom table Starts a p → HasAtom table Starts a (Either p q)
   either_second : {p q : Formula} → HasAtom table Starts a q → HasAtom table Starts a (Either p q)
-  unless : {v : ℕ} → (Starts v → ⊥) → HasAtom table Starts a (Unless v a)
+  in_unless : {v : ℕ} → (Starts v → ⊥) → HasAtom table Starts a (Unless v a)

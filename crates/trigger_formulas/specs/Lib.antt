@@ -1,0 +1,5 @@
+pub mod Rules
+pub mod AtomLists
+pub mod Words
+pub mod Kept
+pub mod Sample
