@@ -101,7 +101,7 @@ ArgumentsBelow count it = All (λ a. a < count) (named_by it)
 abbrev pub AreClosed : List Rule → Type 0
 AreClosed rules = (x : ℕ) (it : Rule) → slice_get rules x ≡ Some it → ArgumentsBelow (length rules) it
 
--- each step comes once, behind those in front whose formulas it needs
+-- The steps come once each, behind those in front whose formulas they need.
 abbrev pub IsReady : List Rule → List ℕ → ℕ → Type 0
 IsReady rules front x = (it : Rule) → slice_get rules x ≡ Some it → AllByRecursion (Contains front) (used_by it)
 
@@ -117,7 +117,7 @@ starts_at starts x = slice_index_or starts x false
 abbrev pub HasSome : (ℕ → Type 0) → List ℕ → Type 0
 HasSome P args = (a : ℕ) × Contains args a × P a
 
--- marked equations, and the words of a list of them: a marked rule has its used arguments marked
+-- marks of equations: the arguments whose formulas a marked one needs are marked
 abbrev pub is_marked : List Bool → ℕ → Bool
 is_marked marks x = slice_index_or marks x false
 
