@@ -19,7 +19,7 @@ use Rattle.flat_core.specs.Typed.{int_type}
 use Rattle.flat_core.proofs.Walks.{walk_keeps}
 use Rattle.trigger_rules.specs.declared.atom.Atom.{Atom}
 use Rattle.trigger_rules.specs.declared.atom.Atom.TheVariants.{Happens}
-use Rattle.trigger_rules.specs.Formula.{Assignment, If, Of, Both, Always, Meets, HasAtom, atom, through, both, both_first, both_second}
+use Rattle.trigger_rules.specs.Formula.{Assignment, If, Of, Both, Always, Meets, HasAtom, through, both, in_if, in_of, both_first, both_second}
 use Rattle.trigger_rules.specs.Question.{Starts, Fires, Stands, Implies}
 use Rattle.trigger_rules.specs.Table.{formula}
 use Rattle.flat_simplify.specs.CanFault.{can_fault_op, CanFault}
@@ -45,17 +45,17 @@ module _ (place : Place) (name : List ℕ) where
 
   -- the negation has an event only where the input has one
   input_atom : (a : Atom) → HasAtom (formula before) (Starts before) a (If (Happens 0)) → a ≡ Happens 0
-  input_atom a atom = refl
+  input_atom a in_if = refl
 
   input_stands : (a : Atom) → Stands before 0 a → a ≡ Happens 0
-  input_stands a (through h) = input_atom a h
+  input_stands a (in_of h) = input_atom a h
 
   negation_part : (a : Atom) → HasAtom (formula before) (Starts before) a (Both (Of 0) Always) → a ≡ Happens 0
   negation_part a (both_first h) = input_stands a h
   negation_part a (both_second h) = elim h [ ]
 
   negation_stands : (a : Atom) → Stands before 1 a → a ≡ Happens 0
-  negation_stands a (through h) = negation_part a h
+  negation_stands a (in_of h) = negation_part a h
 
   first_of_both : (holds : Assignment) → Meets (formula before) (Starts before) holds (Both (Of 0) Always) → Fires before holds 0
   first_of_both holds (both h rest) = h
