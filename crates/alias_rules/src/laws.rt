@@ -1,0 +1,48 @@
+// Laws of updates in place, as the contracts of functions that do nothing.
+
+ghost use Rattle.alias_rules.specs.Laws.{SharingIsOfStored, AliasedRootsShare, AliasTurns, NoneBypassesItself, OneIsKeptFirst, OneIsNotOverwrittenFirst, OneListedSet, EmptySetIsFine, ListedSetIsFit};
+
+/// Sharing is of stored variables.
+pub fn sharing_is_of_stored()
+    ensures { SharingIsOfStored }
+{}
+
+/// Stored variables share where they have roots that alias.
+pub fn aliased_roots_share()
+    ensures { AliasedRootsShare }
+{}
+
+/// A root aliases another where the other aliases it.
+pub fn alias_turns()
+    ensures { AliasTurns }
+{}
+
+/// No update of the set bypasses itself.
+pub fn none_bypasses_itself()
+    ensures { NoneBypassesItself }
+{}
+
+/// At most one update and variable are the first that are kept.
+pub fn one_is_kept_first()
+    ensures { OneIsKeptFirst }
+{}
+
+/// At most one update and variable are the first that are not overwritten.
+pub fn one_is_not_overwritten_first()
+    ensures { OneIsNotOverwrittenFirst }
+{}
+
+/// At most one set of updates is listed.
+pub fn one_listed_set()
+    ensures { OneListedSet }
+{}
+
+/// Without updates in place a well-formed system has no conflict.
+pub fn empty_set_is_fine()
+    ensures { EmptySetIsFine }
+{}
+
+/// The listed set is one of running updates, and fine.
+pub fn listed_set_is_fit()
+    ensures { ListedSetIsFit }
+{}
