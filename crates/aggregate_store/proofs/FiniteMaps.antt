@@ -18,6 +18,7 @@ use Rattle.std.specs.declared.cmp.Ordering.TheVariants.{Less, Equal}
 use Rattle.std.proofs.lemmas.Map.Entries.{lookup-filter-keys}
 use Rattle.std.proofs.lemmas.Map.Keys.{IsDistinct-from_sorted, IsDistinct-head, Less-from_sorted, sorted_tail}
 use Rattle.std.proofs.lemmas.Map.Made.{lookup-map_values}
+use Rattle.lift_func.proofs.FiniteMaps.{entries-empty, get-of_entries, is_remove}
 
 -- ---- one change
 
@@ -25,10 +26,6 @@ module _ {K X : Type 0} {R : K → K → Ordering} (o : IsTotalOrder R) (same : 
   pub is_insert : (a b : FinMap R X) (k : K) (v : X) → ((q : K) → finite_map.get b q ≡ cond (eq_by_cmp R k q) (Some v) (finite_map.get a q)) → b ≡ finite_map.insert a k v
   is_insert a b k v is = finite_map.same_map o same b (finite_map.insert a k v) (λ q.
       is q ∙ ap (λ t. cond t (Some v) (finite_map.get a q)) ((eq_by_cmp_equiv o).symm k q) ∙ sym (finite_map.get-insert o a k v q))
-
-  pub is_remove : (a b : FinMap R X) (k : K) → ((q : K) → finite_map.get b q ≡ cond (eq_by_cmp R k q) None (finite_map.get a q)) → b ≡ finite_map.remove a k
-  is_remove a b k is = finite_map.same_map o same b (finite_map.remove a k) (λ q.
-      is q ∙ ap (λ t. cond t None (finite_map.get a q)) ((eq_by_cmp_equiv o).symm k q) ∙ sym (finite_map.get-remove o a k q))
 
 true_or : (b x : Bool) → cond b true x ≡ (b || x)
 true_or true x = refl
@@ -40,25 +37,11 @@ not_and false x = refl
 
 -- ---- a map's entries, and a set's keys
 
-pub find-lookup : {K X : Type 0} (R : K → K → Ordering) (q : K) (es : List (K × X)) → finite_map.find R q es ≡ lookup (is_at (R q)) es
-find-lookup R q [] = refl
-find-lookup R q (e ∷ es) = ap (cond (eq_by_cmp R q e.0) (Some e.1)) (find-lookup R q es)
-
-no_length : {A : Type 0} (es : List A) → length es ≡ 0 → es ≡ []
-no_length [] e = refl
-no_length (x ∷ es) e = absurd (omega arith)
-
-pub entries-empty : {K : Type 0} (R : K → K → Ordering) (X : Type 0) → finite_map.entries (finite_map.empty {X = X} {R = R}) ≡ []
-entries-empty R X = no_length _ (sym (finite_map.len-entries finite_map.empty) ∙ finite_map.len-empty R X)
-
 first_put : {K X : Type 0} (R : K → K → Ordering) (k : K) (v : X) (e : K × X) (es : List (K × X)) → R k e.0 ≡ Less → finite_map.put R k v (e ∷ es) ≡ (k, v) ∷ e ∷ es
 first_put R k v e es less = rw less refl
 
 module _ {K : Type 0} {R : K → K → Ordering} (o : IsTotalOrder R) where
   module _ {X : Type 0} where
-    pub get-of_entries : (es : List (K × X)) (q : K) → finite_map.get (finite_map.from_entries {R = R} es) q ≡ lookup (is_at (R q)) es
-    get-of_entries es q = finite_map.get-from_entries o es q ∙ find-lookup R q es
-
     -- the entries of a map in order are those that it was made of
     pub entries-of_entries : (es : List (K × X)) → IsStrictlySortedBy R (keys_of es) → finite_map.entries (finite_map.from_entries {R = R} es) ≡ es
     entries-of_entries [] ordered = entries-empty R X
@@ -115,11 +98,11 @@ module _ {K : Type 0} {R : K → K → Ordering} (o : IsTotalOrder R) where
   module _ {X : Type 0} (same : IsAntisymmetric R) (m n : BTreeMap K X) (k : K) where
     pub table-insert : (v : X) → tree.Updates R m n k (Some v) → finite_map.from_entries {R = R} n.entries ≡ finite_map.insert (finite_map.from_entries m.entries) k v
     table-insert v updates = is_insert o same _ _ k v (λ q.
-        get-of_entries n.entries q ∙ updates.0 q ∙ ap (cond (eq_by_cmp R k q) (Some v)) (sym (get-of_entries m.entries q)))
+        get-of_entries o n.entries q ∙ updates.0 q ∙ ap (cond (eq_by_cmp R k q) (Some v)) (sym (get-of_entries o m.entries q)))
 
     pub table-remove : tree.Updates R m n k None → finite_map.from_entries {R = R} n.entries ≡ finite_map.remove (finite_map.from_entries m.entries) k
     table-remove updates = is_remove o same _ _ k (λ q.
-        get-of_entries n.entries q ∙ updates.0 q ∙ ap (cond (eq_by_cmp R k q) None) (sym (get-of_entries m.entries q)))
+        get-of_entries o n.entries q ∙ updates.0 q ∙ ap (cond (eq_by_cmp R k q) None) (sym (get-of_entries o m.entries q)))
 
   module _ (same : IsAntisymmetric R) (s n : BTreeSet K) (k : K) where
     pub set-insert : sorted.Updates R s n k true → set.from_list {R = R} n.keys ≡ set.insert (set.from_list s.keys) k
@@ -145,7 +128,7 @@ module _ {K : Type 0} {R : K → K → Ordering} (o : IsTotalOrder R) where
     keys-viewed (e ∷ es) = ap (λ ks. e.0 ∷ ks) (keys-viewed es)
 
     pub get-viewed : (m : BTreeMap K X) (q : K) → finite_map.get (finite_map.from_entries {R = R} (viewed m.entries)) q ≡ option_map f (tree.get R m q)
-    get-viewed m q = get-of_entries (viewed m.entries) q ∙ lookup-map_values f (is_at (R q)) m.entries
+    get-viewed m q = get-of_entries o (viewed m.entries) q ∙ lookup-map_values f (is_at (R q)) m.entries
 
     some_viewed : (b : Bool) (v : X) (w : Option X) → option_map f (cond b (Some v) w) ≡ cond b (Some (f v)) (option_map f w)
     some_viewed true v w = refl

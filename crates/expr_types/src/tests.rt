@@ -21,22 +21,14 @@ use std::alloc::Global;
 use std::test::Fail;
 use tsl_value::place::Place;
 use tsl_value::scalar::{KeyType, ValueType};
-use type_rules::asked::{BOOL, INT, TEXT, UNIT};
-use type_rules::rule::{Asked, Clash, ExprType, Family, Setting};
+use type_rules::asked::{BOOL, INT};
+use type_rules::rule::{Asked, Clash, ExprType, Setting};
 
 const INTS: ExprType = ExprType::Stream(INT);
 
 const BOOLS: ExprType = ExprType::Stream(BOOL);
 
-const TEXTS: ExprType = ExprType::Stream(TEXT);
-
-const UNITS: ExprType = ExprType::Stream(UNIT);
-
 const NUMBER: ExprType = ExprType::Value(INT);
-
-const MAYBE: ExprType = ExprType::Optional(INT);
-
-const SETS: ExprType = ExprType::Stream(ValueType::Set(KeyType::Int));
 
 fn tree_of(alloc: Global, source: &[u8]) -> Option<Tree> {
     let Ok(tokens) = lex(alloc, source) else {
@@ -113,18 +105,8 @@ fn is_part(alloc: Global, source: &[u8], line: u32, column: u32, clash: Clash) -
 
 #[test]
 fn parts_that_do_not_fit(rt: HostRuntime) {
-    let sources: [(&[u8], u32, u32, ExprType, ExprType); 12] = [
+    let sources: [(&[u8], u32, u32, ExprType, ExprType); 3] = [
         (b"in i: Int\ndef b := i + true\nout b", 2, 10, BOOLS, INTS),
-        (b"def b := \"a\" * true\nout b", 1, 10, TEXTS, INTS),
-        (b"def b := 1 + (2 + true) + false", 1, 15, BOOLS, INTS),
-        (b"def b := 1 + 2 + true + (1 + true)", 1, 10, BOOLS, INTS),
-        (
-            b"in i: Int\nin b: Bool\ndef a := merge(i, b)",
-            3,
-            10,
-            BOOLS,
-            INTS,
-        ),
         (
             b"def f(a: Bool): Int := a + 1",
             1,
@@ -133,39 +115,10 @@ fn parts_that_do_not_fit(rt: HostRuntime) {
             NUMBER,
         ),
         (
-            b"in i: Int\ndef f(a: Option[Bool]): Option[Int] := None[Int]\ndef b := lift(i, f)",
-            3,
-            10,
-            ExprType::Optional(BOOL),
-            MAYBE,
-        ),
-        (
-            b"def m(x: Events[Int]): Events[Int] := { def a: Bool := x x }",
-            1,
-            56,
-            INTS,
-            BOOLS,
-        ),
-        (
             b"out isSome(None[Int]) as a",
             1,
             5,
             ExprType::Value(BOOL),
-            BOOLS,
-        ),
-        (
-            b"def f(a: Int) := unit",
-            1,
-            18,
-            UNITS,
-            ExprType::Value(UNIT),
-        ),
-        (b"def m(x: Events[Int]): Int := x", 1, 31, INTS, NUMBER),
-        (
-            b"def m(x: Events[Int]) := { def y := x y }\ndef a := m(1) && true",
-            2,
-            10,
-            INTS,
             BOOLS,
         ),
     ];
@@ -176,57 +129,10 @@ fn parts_that_do_not_fit(rt: HostRuntime) {
 }
 
 #[test]
-fn parts_that_are_asked_otherwise(rt: HostRuntime) {
-    let sources: [(&[u8], u32, u32, ExprType, Asked); 5] = [
-        (
-            b"def s := Set.empty[Int]\ndef a := s == s",
-            2,
-            10,
-            SETS,
-            Asked::StreamOf(Family::Scalars),
-        ),
-        (
-            b"def a := Map.get(Set.empty[Int], 1)",
-            1,
-            10,
-            SETS,
-            Asked::StreamOf(Family::Maps),
-        ),
-        (
-            b"def f(a: Int): Bool := isSome(a)",
-            1,
-            24,
-            NUMBER,
-            Asked::OptionOf(Family::Any),
-        ),
-        (
-            b"in i: Int\ndef a := const((), i)",
-            2,
-            10,
-            UNITS,
-            Asked::Literal,
-        ),
-        (
-            b"in i: Int\ndef a := const(-(5), i)",
-            2,
-            10,
-            INTS,
-            Asked::Literal,
-        ),
-    ];
-    for (source, line, column, have, want) in sources {
-        assert!(rt; is_part(rt.alloc(), source, line, column, Clash { have, want }));
-    }
-}
-
-#[test]
 fn braces_where_no_macro_is(rt: HostRuntime) {
-    let sources: [(&[u8], u32, Option<ExprType>); 5] = [
+    let sources: [(&[u8], u32, Option<ExprType>); 2] = [
         (b"def a := { def b := 1 + true b }", 16, None),
         (b"def a: Int := { def b := 1 b }", 21, Some(INTS)),
-        (b"def a := { 1 }", 12, None),
-        (b"def f(a: Int): Int := { a }", 25, Some(NUMBER)),
-        (b"def m(x: Events[Int]) := { def a := { x } a }", 39, None),
     ];
     for (source, column, written) in sources {
         let place = Place { line: 1, column };
@@ -237,10 +143,8 @@ fn braces_where_no_macro_is(rt: HostRuntime) {
 
 #[test]
 fn nothing_is_wrong(rt: HostRuntime) {
-    let sources: [&[u8]; 4] = [
-        b"in i: Int\ndef m(x: Events[Int]) := { def x := true def i := x i }\nout m(i) as b",
+    let sources: [&[u8]; 2] = [
         b"in i: Int\ndef a := const(-5, i)\nout time(unit) as t",
-        b"in i: Int\ndef f(a: Option[Int], b: Option[Bool]) := if isNone(b) then None[Int] else a\ndef b := lift(i, i > 0, f) == default(i, 1)\nout b",
         b"def f(a: Int, b: Int): Int := a + b\nout f(1, 2) as c\nout Set.size(Set.add(Set.empty[Int], 1)) as d",
     ];
     for source in sources {
@@ -271,25 +175,6 @@ fn what_names_are(rt: HostRuntime) -> Result<(), Fail> {
         find_aggregate_result(tree.items(), &kinds),
         Some(Place { line: 3, column: 5 })
     );
-    Ok(())
-}
-
-#[test]
-fn definitions_of_blocks_have_numbers(rt: HostRuntime) -> Result<(), Fail> {
-    let source = b"def m(x: Events[Int]) := { def a := { def b := x b } def c := true c }";
-    let tree = tree_of(rt.alloc(), source).ok_or("no tree")?;
-    let Ok(names) = check_names(rt.alloc(), &tree) else {
-        return Err("names are refused")?;
-    };
-    let kinds = KindTable {
-        items: Vec::new(rt.alloc()),
-        locals: Vec::new(rt.alloc()),
-    };
-    let kind = |local: usize| block_kind(rt.alloc(), tree.items(), &names, &kinds, 0, local);
-    assert_eq!(rt; kind(0)?, None);
-    assert_eq!(rt; kind(1)?, None);
-    assert_eq!(rt; kind(2)?, Some(BOOLS));
-    assert_eq!(rt; kind(3)?, None);
     Ok(())
 }
 

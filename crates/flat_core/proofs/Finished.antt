@@ -14,7 +14,7 @@ use Rattle.flat_core.specs.Members.{is_in}
 use Rattle.flat_core.specs.System.{System, equation, IsProper}
 use Rattle.flat_core.specs.Typed.{IsTyped}
 use Rattle.flat_core.specs.TypedSystem.{AreOfTypes, IsTypedEquation, IsTypedSystem}
-use Rattle.flat_core.specs.Needed.{HasArgument, IsReached}
+use Rattle.flat_core.specs.Needed.{HasArgument, IsReached, RunsNeeded}
 use Rattle.flat_core.specs.Complete.{IsComplete, IsFlat}
 use Rattle.flat_core.specs.Marks.{ArgumentsThere}
 use Rattle.flat_core.proofs.Members.{all_from, all_at}
@@ -34,6 +34,11 @@ pub arguments_there : (s : System) → IsTypedSystem s → ArgumentsThere s.equa
 arguments_there s typed k d lt =
     let e = get_or s.equations k d in
     All-from_recursion (λ a. a < length s.equations) e.args (typed_there s typed k e (slice_get-get_or s.equations k d lt))
+
+-- an equation of a number below the count is there
+pub equation_there : (equations : List Equation) (i : ℕ) → i < length equations → (e : Equation) × (slice_get equations i ≡ Some e)
+equation_there [] i lt = absurd (omega arith)
+equation_there (e ∷ equations) i lt = (get_or (e ∷ equations) i e, slice_get-get_or (e ∷ equations) i e lt)
 
 module _ (b : System) (complete : IsComplete b) (running : List ℕ) (exact : (i : ℕ) → IsTrue (is_in running i) ↔ IsReached b.equations b.outputs i) where
   abbrev finished : System
@@ -55,16 +60,9 @@ module _ (b : System) (complete : IsComplete b) (running : List ℕ) (exact : (i
       let r = (exact i).0 h in
       all_from (λ a. IsTrue (is_in running a)) e.args (λ a there. (exact a).1 (record { output = r.output; printed = r.printed; walk = walk_on r.walk (record { at = e; is = is; argument = there }) }))
 
-  found : (i : ℕ) → i < length b.equations → (e : Equation) × (equation b i ≡ Some e)
-  found i lt = at b.equations i lt
-    where
-      at : (es : List Equation) (k : ℕ) → k < length es → (e : Equation) × (slice_get es k ≡ Some e)
-      at [] k low = absurd (omega arith)
-      at (e ∷ es) k low = (get_or (e ∷ es) k e, slice_get-get_or (e ∷ es) k e low)
-
   finished_proper : IsProper finished
   finished_proper = record {
-    runs_all = λ i h. let e = found i (runs_there i h) in (e.0, e.1, argument_runs i h e.0 e.1);
+    runs_all = λ i h. let e = equation_there b.equations i (runs_there i h) in (e.0, e.1, argument_runs i h e.0 e.1);
   }
 
   pub finished_flat : length b.equations ≤ 4096 → length b.outputs ≤ 2 ^ 31 → IsStrictlyIncreasing running → IsFlat finished
@@ -79,10 +77,12 @@ module _ (b : System) (complete : IsComplete b) (running : List ℕ) (exact : (i
     few_equations = few_equations;
     few_outputs = few_outputs;
     ascending = ascending;
-    needed = exact;
     outputs_run = all_from (λ o. IsTrue (is_in running o.equation)) b.outputs output_runs;
     proper = finished_proper;
   }
+
+  pub finished_needed : RunsNeeded finished
+  finished_needed = record { each = exact }
 
 -- a system of which each listed equation is typed
 pub typed_from_all : (s : System) → AllByRecursion (IsTypedEquation s.equations) s.equations → IsTypedSystem s

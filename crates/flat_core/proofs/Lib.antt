@@ -10,6 +10,7 @@ pub mod Members
 pub mod Walks
 pub mod MarkLemmas
 pub mod Finished
+pub mod Renumbering
 pub mod WellFormedRank
 pub mod WellFormedOrder
 pub mod ListedSolution
@@ -21,5 +22,7 @@ pub mod Alike
 pub mod LaterLines
 pub mod SmallerBound
 pub mod SameMeaning
+pub mod TypedCase
+pub mod TypedEvents
 mod Examples
 pub mod BuildExample

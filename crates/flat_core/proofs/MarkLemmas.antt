@@ -12,7 +12,7 @@ use Rattle.flat_core.specs.declared.equation.Output.{Output}
 use Rattle.flat_core.specs.declared.reach.Marks.{Marks}
 use Rattle.flat_core.specs.Graph.{Walk, stay}
 use Rattle.flat_core.specs.Members.{is_in}
-use Rattle.flat_core.specs.Needed.{HasArgument, IsReached}
+use Rattle.flat_core.specs.Needed.{HasArgument, IsReached, IsReachedFrom}
 use Rattle.flat_core.specs.Marks.{has_mark, is_marked, is_waiting, AreBelow, ArgumentsThere, ArgumentsMarked, Marked, Spread, Spreading}
 use Rattle.flat_core.proofs.Members.{Contains-in, in-Contains, contains_map, map_contains}
 use Rattle.flat_core.proofs.Walks.{walk_on, walk_keeps}
@@ -67,13 +67,12 @@ arguments_below equations k e ids n there lt args len =
     let below : AreBelow n (get_or equations k e).args = subst (λ m. AreBelow m (get_or equations k e).args) (sym len) (there k e lt) in
     subst (AreBelow n) (sym args) below
 
--- an output's number is one more of the outputs' numbers
-pub outputs_more : (outputs : List Output) (k : ℕ) (m n o : Marks) (x : Output) → k < length outputs → x ≡ get_or outputs k x → Marked (take k (map (λ y. y.equation) outputs)) m n → Marked (x.equation ∷ []) n o → Marked (take (k + 1) (map (λ y. y.equation) outputs)) m o
-outputs_more outputs k m n o x lt is first second =
-    let number : Output → ℕ = λ y. y.equation in
-    let within : k < length (map number outputs) = subst (λ l. k < l) (sym (length-map outputs number)) lt in
-    let read : x.equation ≡ get_or (map number outputs) k x.equation = ap number is ∙ sym (get_or-map number outputs k x x.equation lt) in
-    marked_more (map number outputs) k m n o x.equation within read first second
+-- the number of an item is one more of the items' numbers
+pub numbers_more : {A : Type 0} (number : A → ℕ) (items : List A) (k : ℕ) (m n o : Marks) (x : A) → k < length items → x ≡ get_or items k x → Marked (take k (map number items)) m n → Marked (number x ∷ []) n o → Marked (take (k + 1) (map number items)) m o
+numbers_more number items k m n o x lt is first second =
+    let within : k < length (map number items) = subst (λ l. k < l) (sym (length-map items number)) lt in
+    let read : number x ≡ get_or (map number items) k (number x) = ap number is ∙ sym (get_or-map number items k x (number x) lt) in
+    marked_more (map number items) k m n o (number x) within read first second
 
 module _ (equations : List Equation) where
   pub spreading_none : (m : Marks) → ((i : ℕ) → is_marked m i ≡ is_waiting m i) → Spreading equations m m
@@ -146,21 +145,29 @@ module _ (equations : List Equation) where
       closed = closed_one;
     }
 
-  -- what is marked in the end is what the outputs need
-  module _ (outputs : List Output) (m n o : Marks) (fresh : (i : ℕ) → is_marked m i ≡ false) (printed : Marked (map (λ y. y.equation) outputs) m n) (spread : Spread equations n o) where
-    first : (i : ℕ) → is_marked n i ≡ is_in (map (λ y. y.equation) outputs) i
-    first i = printed.marks i ∙ ap (λ b. is_in (map (λ y. y.equation) outputs) i || b) (fresh i) ∙ or-false (is_in (map (λ y. y.equation) outputs) i)
+  -- what is marked in the end is what is reached from what was marked first
+  module _ (starts : List ℕ) (m n o : Marks) (fresh : (i : ℕ) → is_marked m i ≡ false) (begun : Marked starts m n) (spread : Spread equations n o) where
+    first : (i : ℕ) → is_marked n i ≡ is_in starts i
+    first i = begun.marks i ∙ ap (λ b. is_in starts i || b) (fresh i) ∙ or-false (is_in starts i)
 
-    pub marked_needed : (i : ℕ) → is_marked o i ≡ true → IsReached equations outputs i
-    marked_needed i h =
+    pub marked_reached : (i : ℕ) → is_marked o i ≡ true → IsReachedFrom equations starts i
+    marked_reached i h =
         let found = spread.from i h in
-        let output = contains_map (λ y. y.equation) outputs found.0 (Contains-in (map (λ y. y.equation) outputs) found.0 (sym (first found.0) ∙ found.1)) in
-        record { output = output.0; printed = output.1; walk = subst (λ j. Walk (HasArgument equations) j i) (sym output.2) found.2 }
+        record { start = found.0; among = Contains-in starts found.0 (sym (first found.0) ∙ found.1); walk = found.2 }
 
-    pub needed_marked : (i : ℕ) → IsReached equations outputs i → is_marked o i ≡ true
-    needed_marked i r =
-        let start = first r.output.equation ∙ in-Contains (map (λ y. y.equation) outputs) r.output.equation (map_contains (λ y. y.equation) outputs r.output r.printed) in
-        walk_keeps (λ j. is_marked o j ≡ true) (λ a b step h. spread.closed a h step.at step.is b (in-Contains step.at.args b step.argument)) r.walk (spread.kept r.output.equation start)
+    pub reached_marked : (i : ℕ) → IsReachedFrom equations starts i → is_marked o i ≡ true
+    reached_marked i r =
+        let start = first r.start ∙ in-Contains starts r.start r.among in
+        walk_keeps (λ j. is_marked o j ≡ true) (λ a b step h. spread.closed a h step.at step.is b (in-Contains step.at.args b step.argument)) r.walk (spread.kept r.start start)
+
+  -- and the outputs need what is reached from their equations
+  pub reached_needed : (outputs : List Output) (i : ℕ) → IsReachedFrom equations (map (λ y. y.equation) outputs) i → IsReached equations outputs i
+  reached_needed outputs i r =
+      let output = contains_map (λ y. y.equation) outputs r.start r.among in
+      record { output = output.0; printed = output.1; walk = subst (λ j. Walk (HasArgument equations) j i) (sym output.2) r.walk }
+
+  pub needed_reached : (outputs : List Output) (i : ℕ) → IsReached equations outputs i → IsReachedFrom equations (map (λ y. y.equation) outputs) i
+  needed_reached outputs i r = record { start = r.output.equation; among = map_contains (λ y. y.equation) outputs r.output r.printed; walk = r.walk }
 
 pub unmarked : (marked : List Bool) (count i : ℕ) → marked ≡ replicate count false → has_mark marked i ≡ false
 unmarked marked count i is =

@@ -1,5 +1,5 @@
 -- What a system has when it is whole.
-use Rattle.std.specs.Prelude.{◌≡◌, ℕ, ◌<◌, ◌≤◌, ◌^◌, ◌↔◌, List, [], ◌∷◌, length, IsTrue}
+use Rattle.std.specs.Prelude.{◌≡◌, ◌<◌, ◌≤◌, ◌^◌, List, [], ◌∷◌, length}
 use Rattle.std.specs.List.{AllByRecursion}
 use Rattle.std.specs.List.Sorted.{IsStrictlyIncreasing}
 use Rattle.tsl_value.specs.declared.scalar.Scalar.{Scalar}
@@ -8,9 +8,8 @@ use Rattle.lift_func.specs.Tree.{Tree, Literal, Argument, Absent, One, Two, Choi
 use Rattle.flat_core.specs.declared.equation.Op.{Op}
 use Rattle.flat_core.specs.declared.equation.Op.TheVariants as op
 use Rattle.flat_core.specs.declared.equation.Output.{Output}
-use Rattle.flat_core.specs.System.{System, runs, IsProper}
+use Rattle.flat_core.specs.System.{System, OutputsRun, IsProper}
 use Rattle.flat_core.specs.TypedSystem.{IsTypedSystem}
-use Rattle.flat_core.specs.Needed.{IsNeeded}
 
 -- a text has at most 65,536 bytes
 abbrev pub IsShort : Scalar → Type 0
@@ -43,12 +42,11 @@ pub record IsComplete (s : System) : Type 0 where
   pub names_differ : HaveDifferentNames s.outputs
   pub short_texts : AllByRecursion (λ e. HasShortBody e.op) s.equations
 
--- what every `Flat` has: the equations that run are those that the outputs need, in ascending order
+-- what every `Flat` has: the equations of the outputs run, and with each its arguments, in ascending order
 pub record IsFlat (s : System) : Type 0 where
   pub complete : IsComplete s
   pub few_equations : length s.equations ≤ 4096
   pub few_outputs : length s.outputs ≤ 2 ^ 31
   pub ascending : IsStrictlyIncreasing s.running
-  pub needed : (i : ℕ) → IsTrue (runs s i) ↔ IsNeeded s i
-  pub outputs_run : AllByRecursion (λ o. IsTrue (runs s o.equation)) s.outputs
+  pub outputs_run : OutputsRun s
   pub proper : IsProper s

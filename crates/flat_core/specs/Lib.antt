@@ -15,8 +15,11 @@ pub mod TypedSystem
 pub mod Pending
 pub mod Kept
 pub mod Needed
+pub mod Renumbered
 pub mod Complete
 pub mod Marks
 pub mod BoundLaws
+pub mod TypedLines
+pub mod TypedEvents
 pub mod Text
 pub mod Ending

@@ -38,6 +38,7 @@ impl Model for FlatBuilder {
 impl FlatBuilder {
     ghost use Rattle.flat_core.specs.System.{with_args, with_name};
     ghost use Rattle.flat_core.specs.Complete.{IsComplete, IsFlat};
+    ghost use Rattle.flat_core.specs.Needed.{RunsNeeded};
 
     /// No equation and no output.
     pub fn new(alloc: Global) -> FlatBuilder
@@ -104,6 +105,7 @@ impl FlatBuilder {
         ensures equations { IfOk result (λ f. f.equations ≡ self.equations) }
         ensures outputs { IfOk result (λ f. f.outputs ≡ self.outputs) }
         ensures is_flat { IfOk result (λ f. IsFlat f) }
+        ensures needed { IfOk result (λ f. RunsNeeded f) }
     {
         let FlatBuilder {
             alloc,

@@ -1,15 +1,20 @@
 // The flat system.
 
-ghost use Rattle.std.specs.Prelude.{◌≡◌, length};
+ghost use Rattle.std.specs.Prelude.{◌≡◌, length, map};
+ghost use Rattle.flat_core.specs.Renumbered.{with_new_args, with_new_equation};
 
 use crate::equation::{Equation, Output};
 use crate::lists::EqSet;
+use crate::reach::reached;
+use crate::replacements::Replacements;
+use std::alloc::Global;
 use std::marker::Model;
 use tsl_value::ids::EqId;
+use tsl_value::memory::NoMemory;
 
 /// Numbered equations, the outputs, and which equations run. `FlatBuilder::finish` makes it.
 ///
-/// An equation runs where an output needs it, through any argument.
+/// The equations of the outputs run, and with each equation its arguments.
 #[derive(Drop)]
 pub struct Flat {
     pub(crate) equations: Vec<Equation>,
@@ -33,10 +38,30 @@ impl Model for Flat {
     ghost invariant = { λ f. IsFlat (record { equations = f.equations.items; outputs = f.outputs.items; running = f.running }) };
 }
 
+fn replace_args(equations: &mut [Equation], replaced: &Replacements)
+    ensures { equations.new ≡ map (with_new_args replaced.now) equations.old }
+{
+    for equation in equations.iter_mut() {
+        equation.args.replace(replaced);
+    }
+}
+
+fn replace_outputs(outputs: &mut [Output], replaced: &Replacements)
+    ensures { outputs.new ≡ map (with_new_equation replaced.now) outputs.old }
+{
+    for output in outputs.iter_mut() {
+        output.equation = replaced.new_number(output.equation);
+    }
+}
+
 impl Flat {
-    ghost use Rattle.std.specs.Prelude.{◌<◌};
-    ghost use Rattle.flat_core.specs.System.{equation, runs};
+    ghost use Rattle.std.specs.Prelude.{◌<◌, ◌↔◌, ℕ, All, IfOk, IsTrue};
+    ghost use Rattle.std.specs.List.Sorted.{IsStrictlyIncreasing};
+    ghost use Rattle.flat_core.specs.Members.{is_in};
+    ghost use Rattle.flat_core.specs.Needed.{IsReachedFrom};
+    ghost use Rattle.flat_core.specs.System.{equation, runs, OutputsRun, IsProper};
     ghost use Rattle.flat_core.specs.Complete.{IsFlat};
+    ghost use Rattle.flat_core.specs.Renumbered.{renumbered, AreReplacements};
 
     /// The number of equations, at most 4,096.
     ///
@@ -56,7 +81,7 @@ impl Flat {
         &self.equations[id.get() as usize]
     }
 
-    /// Whether an output needs the equation.
+    /// Whether the equation runs.
     pub fn runs(&self, id: EqId) -> bool
         ensures { result ≡ runs self.now id }
     {
@@ -68,5 +93,45 @@ impl Flat {
         ensures { result.now ≡ self.now.outputs }
     {
         &self.outputs
+    }
+
+    /// The equations to which arguments lead from these, with other numbers in place of arguments.
+    pub fn reached(
+        &self,
+        alloc: Global,
+        replaced: &Replacements,
+        starts: &[EqId],
+    ) -> Result<EqSet, NoMemory>
+        requires replaced { AreReplacements self.now replaced.now }
+        requires starts { All (λ i. i < length self.now.equations) starts.now }
+        ensures ascending { IfOk result (λ s. IsStrictlyIncreasing s) }
+        ensures members { IfOk result (λ s. (i : ℕ) → IsTrue (is_in s i) ↔ IsReachedFrom (map (with_new_args replaced.now) self.now.equations) starts.now i) }
+    {
+        reached(alloc, &self.equations, replaced, starts)
+    }
+
+    /// The system with other numbers as arguments and at outputs, in which these equations run. All else stays, and no memory is taken.
+    ///
+    /// An equation's number gives way to that of an equation of the same type.
+    pub fn simplified(self, replaced: Replacements, running: EqSet) -> Flat
+        requires replaced { AreReplacements self replaced }
+        requires outputs_run { OutputsRun (renumbered self replaced running) }
+        requires proper { IsProper (renumbered self replaced running) }
+        ensures { result ≡ renumbered self replaced running }
+    {
+        let Flat {
+            mut equations,
+            mut outputs,
+            running: _,
+        } = self;
+        // A set is in ascending order, as its length tells.
+        let _ = running.len();
+        replace_args(&mut equations, &replaced);
+        replace_outputs(&mut outputs, &replaced);
+        Flat {
+            equations,
+            outputs,
+            running,
+        }
     }
 }

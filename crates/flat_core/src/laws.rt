@@ -1,6 +1,7 @@
 // Laws of solutions, as the contracts of functions that do nothing.
 
 ghost use Rattle.flat_core.specs.Laws.{SolutionsAgree, SolutionsExist, WellFormedHasOneSolution};
+ghost use Rattle.flat_core.specs.TypedEvents.{TypedLinesGiveTypedInputs, TypedInputsGiveTypedEvents};
 ghost use Rattle.flat_core.specs.BoundLaws.{LaterLinesLeaveEarlier, SmallerBoundIsSolved, EarlierInstantsComeFirst, AgreeingStreamsMeanTheSame, OneFaultIsNamed, AllHappensAtInstants};
 
 /// A system in dependency order has one solution at most.
@@ -46,4 +47,14 @@ pub fn one_fault_is_named()
 /// All that happens in a well-formed system, root faults among it, happens at instants.
 pub fn all_happens_at_instants()
     ensures { AllHappensAtInstants }
+{}
+
+/// Lines whose events are of their inputs' types give typed inputs.
+pub fn typed_lines_give_typed_inputs()
+    ensures { TypedLinesGiveTypedInputs }
+{}
+
+/// In a solution for typed inputs each event is of its equation's type.
+pub fn typed_inputs_give_typed_events()
+    ensures { TypedInputsGiveTypedEvents }
 {}

@@ -8,6 +8,7 @@ pub mod laws;
 pub mod line;
 pub mod lists;
 mod reach;
+pub mod replacements;
 pub mod steps;
 #[cfg(test)]
 mod tests;

@@ -1,10 +1,12 @@
 // Lists of equations, which contracts see as lists of numbers.
 
-ghost use Rattle.std.specs.Prelude.{◌≡◌, ℕ, ◌∷◌, [], ◌++◌, ◌==◌, ◌||◌, length, slice_get, is_ok, if◌then◌else◌, IfOk, OnOk, OnErr, IsTrue};
+ghost use Rattle.std.specs.Prelude.{◌≡◌, ℕ, ◌∷◌, [], ◌++◌, ◌==◌, ◌||◌, length, map, slice_get, is_ok, if◌then◌else◌, IfOk, OnOk, OnErr, IsTrue};
 ghost use Rattle.std.specs.Option.{option_copied};
 ghost use Rattle.std.specs.List.Sorted.{IsStrictlyIncreasing};
 ghost use Rattle.flat_core.specs.Members.{is_in, IsPlace};
+ghost use Rattle.flat_core.specs.Renumbered.{new_number};
 
+use crate::replacements::Replacements;
 use smallvec::SmallVec;
 use std::alloc::Global;
 use std::marker::Model;
@@ -64,12 +66,27 @@ impl Args {
         self.ids.as_slice()
     }
 
+    /// Puts the number that each argument has in its place.
+    pub(crate) fn replace(&mut self, replaced: &Replacements)
+        ensures { self.new ≡ map (new_number replaced.now) self.old }
+    {
+        replace_all(self.ids.as_mut_slice(), replaced);
+    }
+
     /// Equal arguments.
     pub fn copy(&self) -> Result<Args, NoMemory>
         ensures { IfOk result (λ a. a ≡ self.now) }
     {
         let ids = SmallVec::from_slice(*self.ids.allocator(), self.ids.as_slice())?;
         Ok(Args { ids })
+    }
+}
+
+fn replace_all(ids: &mut [EqId], replaced: &Replacements)
+    ensures { ids.new ≡ map (new_number replaced.now) ids.old }
+{
+    for id in ids.iter_mut() {
+        *id = replaced.new_number(*id);
     }
 }
 
@@ -124,8 +141,11 @@ impl EqSet {
     }
 
     /// The number of equations.
+    ///
+    /// Its second clause gives callers what every set has.
     pub fn len(&self) -> usize
-        ensures { result ≡ length self.now }
+        ensures count { result ≡ length self.now }
+        ensures ascending { IsStrictlyIncreasing self.now }
     {
         self.ids.len()
     }

@@ -1,13 +1,15 @@
-// Which equations the outputs need.
+// Which equations are reached through arguments.
 
 ghost use Rattle.std.specs.Prelude.{◌≡◌, ◌↔◌, ◌<◌, ◌≤◌, [], ◌∷◌, ℕ, length, map, replicate, false, All, IfOk, OnOk, IsTrue};
 ghost use Rattle.std.specs.List.Sorted.{IsStrictlyIncreasing};
 ghost use Rattle.flat_core.specs.Members.{is_in};
-ghost use Rattle.flat_core.specs.Needed.{IsReached};
+ghost use Rattle.flat_core.specs.Needed.{IsReached, IsReachedFrom};
 ghost use Rattle.flat_core.specs.Marks.{is_marked, is_waiting, AreBelow, ArgumentsThere, Marked, Spread};
+ghost use Rattle.flat_core.specs.Renumbered.{new_number, with_new_args};
 
 use crate::equation::{Equation, Output};
 use crate::lists::EqSet;
+use crate::replacements::Replacements;
 use std::alloc::Global;
 use tsl_value::ids::EqId;
 use tsl_value::memory::NoMemory;
@@ -44,12 +46,13 @@ impl Marks {
         Ok(())
     }
 
-    fn mark_all(&mut self, ids: &[EqId]) -> Result<(), NoMemory>
-        requires { AreBelow (length self.old.marked.items) ids.now }
-        ensures { OnOk result (Marked ids.now self.old self.new) }
+    /// Marks the numbers that these have.
+    fn mark_all(&mut self, ids: &[EqId], replaced: &Replacements) -> Result<(), NoMemory>
+        requires { AreBelow (length self.old.marked.items) (map (new_number replaced.now) ids.now) }
+        ensures { OnOk result (Marked (map (new_number replaced.now) ids.now) self.old self.new) }
     {
         for id in ids {
-            self.mark(*id)?;
+            self.mark(replaced.new_number(*id))?;
         }
         Ok(())
     }
@@ -64,15 +67,15 @@ impl Marks {
         Ok(())
     }
 
-    /// Marks the arguments of all that is marked, again until no argument is left.
-    fn spread(&mut self, equations: &[Equation]) -> Result<(), NoMemory>
+    /// Marks the numbers that the arguments of all that is marked have, again until no argument is left.
+    fn spread(&mut self, equations: &[Equation], replaced: &Replacements) -> Result<(), NoMemory>
         requires one_each { length self.old.marked.items ≡ length equations.now }
-        requires there { ArgumentsThere equations.now }
+        requires there { ArgumentsThere (map (with_new_args replaced.now) equations.now) }
         requires all_wait { (i : ℕ) → is_marked self.old i ≡ is_waiting self.old i }
-        ensures { OnOk result (Spread equations.now self.old self.new) }
+        ensures { OnOk result (Spread (map (with_new_args replaced.now) equations.now) self.old self.new) }
     {
         while let Some(id) = self.waiting.pop() {
-            self.mark_all(equations[id.get() as usize].args.ids())?;
+            self.mark_all(equations[id.get() as usize].args.ids(), replaced)?;
         }
         Ok(())
     }
@@ -107,6 +110,27 @@ pub(crate) fn needed(
 {
     let mut marks = Marks::new(alloc, equations.len())?;
     marks.mark_outputs(outputs)?;
-    marks.spread(equations)?;
+    let unchanged = Replacements::new(alloc);
+    marks.spread(equations, &unchanged)?;
+    marks.set(alloc)
+}
+
+/// The equations to which arguments lead from these, with other numbers in place of arguments.
+pub(crate) fn reached(
+    alloc: Global,
+    equations: &[Equation],
+    replaced: &Replacements,
+    starts: &[EqId],
+) -> Result<EqSet, NoMemory>
+    requires few { length equations.now ≤ 4096 }
+    requires there { ArgumentsThere (map (with_new_args replaced.now) equations.now) }
+    requires starts_there { AreBelow (length equations.now) starts.now }
+    ensures ascending { IfOk result (λ s. IsStrictlyIncreasing s) }
+    ensures members { IfOk result (λ s. (i : ℕ) → IsTrue (is_in s i) ↔ IsReachedFrom (map (with_new_args replaced.now) equations.now) starts.now i) }
+{
+    let mut marks = Marks::new(alloc, equations.len())?;
+    let unchanged = Replacements::new(alloc);
+    marks.mark_all(starts, &unchanged)?;
+    marks.spread(equations, replaced)?;
     marks.set(alloc)
 }

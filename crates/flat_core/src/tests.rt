@@ -6,6 +6,7 @@ use crate::builder::FlatBuilder;
 use crate::equation::{Equation, Op, Output};
 use crate::flat::Flat;
 use crate::lists::{Args, EqSet};
+use crate::replacements::Replacements;
 use lift_func::body::Body;
 use std::alloc::Global;
 use std::test::Fail;
@@ -98,6 +99,18 @@ fn a_set_has_each_equation_once_in_order(rt: HostRuntime) -> Result<(), Fail> {
     assert_eq!(rt; set.get(3).copied(), None);
     assert!(rt; set.contains(EqId::new(5)));
     assert!(rt; !set.contains(EqId::new(4)));
+    Ok(())
+}
+
+#[test]
+fn a_number_past_the_list_stays(rt: HostRuntime) -> Result<(), Fail> {
+    let mut replaced = Replacements::new(rt.alloc());
+    replaced.push(EqId::new(0))?;
+    replaced.push(EqId::new(0))?;
+    assert_eq!(rt; replaced.len(), 2);
+    assert_eq!(rt; replaced.get(1).copied(), Some(EqId::new(0)));
+    assert_eq!(rt; replaced.new_number(EqId::new(1)), EqId::new(0));
+    assert_eq!(rt; replaced.new_number(EqId::new(2)), EqId::new(2));
     Ok(())
 }
 

@@ -7,7 +7,7 @@ use Rattle.std.proofs.lemmas.Option.{same_Some}
 use Rattle.flat_core.specs.declared.equation.Equation.{Equation}
 use Rattle.flat_core.specs.declared.equation.Output.{Output}
 use Rattle.flat_core.specs.Complete.{IsFlat}
-use Rattle.flat_core.specs.Needed.{HasArgument}
+use Rattle.flat_core.specs.Needed.{HasArgument, RunsNeeded}
 use Rattle.flat_core.specs.System.{System, runs, IsProper}
 use Rattle.flat_core.proofs.Members.{contains_head, contains_tail, contains_map, all_at}
 use Rattle.flat_core.proofs.Walks.{walk_keeps}
@@ -125,9 +125,9 @@ module _ (items : List tree.Item) (kinds : Kinds) (top : ℕ → Stream) (s : Sy
 
   module _ (flat : IsFlat s) (outputs : Each IsOutput (outputs_of items) s.outputs) where
     -- each running equation
-    pub covered : (i : ℕ) → IsTrue (runs s i) → IsCovered i
-    covered i run =
-        let reached = (flat.needed i).0 run in
+    pub covered : RunsNeeded s → (i : ℕ) → IsTrue (runs s i) → IsCovered i
+    covered needs i run =
+        let reached = (needs.each i).0 run in
         let output = each_to IsOutput (outputs_of items) s.outputs outputs reached.output reached.printed in
         let first = lead_covered (leads output.0.is reached.output.equation output.2.there) output.2.there output.2.needed (all_at (λ p. IsTrue (runs s p.equation)) s.outputs flat.outputs_run reached.output reached.printed) in
         walk_keeps IsCovered argument_covered reached.walk first

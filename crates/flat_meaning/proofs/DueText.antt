@@ -13,6 +13,7 @@ use Rattle.flat_core.specs.declared.equation.Output.{Output}
 use Rattle.flat_core.specs.Stream.{Outcome, Event, Fault, event, has_event}
 use Rattle.flat_core.specs.Case.{Streams, root_fault}
 use Rattle.flat_core.specs.Complete.{IsFlat}
+use Rattle.flat_core.specs.Needed.{RunsNeeded}
 use Rattle.flat_core.specs.Fault.{root_at, is_faulty, is_over}
 use Rattle.flat_core.specs.Instant.{is_delay, is_instant, instants}
 use Rattle.flat_core.specs.Line.{Line, inputs_of, is_line_on}
@@ -175,23 +176,23 @@ module _ (items : List tree.Item) (s : System) (lines : List Line) (bound : ℕ)
     due_low : (t : ℕ) → Contains (due_instants s lines z bound limit) t → t < bound
     due_low t c = taken_low t (from_filter (λ t. not (is_over s (inputs_of lines) z t)) (take limit (instants s lines z bound)) t c).0
 
-module _ (items : List tree.Item) (kinds : Kinds) (s : System) (lines : List Line) (bound : ℕ) (z : Streams) (laws : TheLaws) (of : IsFlatOf items kinds s.equations s.outputs) (flat : IsFlat s) (good : IsWellFormed s) (solves : Solves s (inputs_of lines) bound z) where
-  texts_at : (t : ℕ) → t < bound → (os : List Printed) (ps : List Output) → Each (IsOutput items kinds of.top s flat.proper (leads items kinds s lines bound z laws of flat good solves)) os ps → ((p : Output) → Contains ps p → Contains s.outputs p) → IsTextAt items lines t os (flat_map (λ (p : Output). event_line t p.name (event (z p.equation t))) ps)
+module _ (items : List tree.Item) (kinds : Kinds) (s : System) (lines : List Line) (bound : ℕ) (z : Streams) (laws : TheLaws) (of : IsFlatOf items kinds s.equations s.outputs) (flat : IsFlat s) (needs : RunsNeeded s) (good : IsWellFormed s) (solves : Solves s (inputs_of lines) bound z) where
+  texts_at : (t : ℕ) → t < bound → (os : List Printed) (ps : List Output) → Each (IsOutput items kinds of.top s flat.proper (leads items kinds s lines bound z laws of flat needs good solves)) os ps → ((p : Output) → Contains ps p → Contains s.outputs p) → IsTextAt items lines t os (flat_map (λ (p : Output). event_line t p.name (event (z p.equation t))) ps)
   texts_at t lt [] [] each all = due.IsTextAt.end
   texts_at t lt [] (p ∷ ps) each all = absurd each
   texts_at t lt (o ∷ os) [] each all = absurd each
   texts_at t lt (o ∷ os) (p ∷ ps) each all =
       let rest : List ℕ = flat_map (λ (q : Output). event_line t q.name (event (z q.equation t))) ps in
-      due.IsTextAt.output (z p.equation t) rest (output_happens items kinds s lines bound z laws of flat good solves o p each.0 (all p (contains_head p ps)) t lt) (texts_at t lt os ps each.1 (λ q c. all q (contains_tail p ps q c))) (ap (λ n. event_line t n (event (z p.equation t)) ++ rest) each.0.name_is)
+      due.IsTextAt.output (z p.equation t) rest (output_happens items kinds s lines bound z laws of flat needs good solves o p each.0 (all p (contains_head p ps)) t lt) (texts_at t lt os ps each.1 (λ q c. all q (contains_tail p ps q c))) (ap (λ n. event_line t n (event (z p.equation t)) ++ rest) each.0.name_is)
 
   texts_of : (ts : List ℕ) → ((t : ℕ) → Contains ts t → t < bound) → IsTextOf items lines ts (flat_map (text_at s z) ts)
   texts_of [] low = due.IsTextOf.end
   texts_of (t ∷ ts) low =
-      due.IsTextOf.instant (text_at s z t) (flat_map (text_at s z) ts) (texts_at t (low t (contains_head t ts)) (outputs_of items) s.outputs (outputs_there items kinds s lines bound z laws of flat good solves) (λ p c. c)) (texts_of ts (λ u c. low u (contains_tail t ts u c))) refl
+      due.IsTextOf.instant (text_at s z t) (flat_map (text_at s z) ts) (texts_at t (low t (contains_head t ts)) (outputs_of items) s.outputs (outputs_there items kinds s lines bound z laws of flat needs good solves) (λ p c. c)) (texts_of ts (λ u c. low u (contains_tail t ts u c))) refl
 
   pub text_is_due : (limit : ℕ) → IsDueText items lines bound limit (due_text s lines z bound limit)
   text_is_due limit =
-      let same = means items kinds s lines bound z laws of flat good solves in
+      let same = means items kinds s lines bound z laws of flat needs good solves in
       record {
         due = due_instants s lines z bound limit;
         are_due = are_due items s lines bound z same limit;

@@ -11,10 +11,10 @@ use Rattle.flat_meaning.proofs.Means.{means}
 use Rattle.flat_meaning.proofs.DueText.{text_is_due}
 
 pub flat_means_the_same : TheLaws → FlatMeansTheSame
-flat_means_the_same laws items kinds s lines bound z of flat good solves = means items kinds s lines bound z laws of flat good solves
+flat_means_the_same laws items kinds s lines bound z of flat needs good solves = means items kinds s lines bound z laws of flat needs good solves
 
 pub flat_text_is_due : TheLaws → FlatTextIsDue
-flat_text_is_due laws items kinds s lines bound limit z of flat good solves = text_is_due items kinds s lines bound z laws of flat good solves limit
+flat_text_is_due laws items kinds s lines bound limit z of flat needs good solves = text_is_due items kinds s lines bound z laws of flat needs good solves limit
 
 -- the laws of constructs, which their crate proves
 pub the_laws : TheLaws

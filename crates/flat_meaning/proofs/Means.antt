@@ -13,6 +13,7 @@ use Rattle.flat_core.specs.declared.equation.Output.{Output}
 use Rattle.flat_core.specs.Stream.{Event, History}
 use Rattle.flat_core.specs.Case.{Inputs, Streams, root_fault}
 use Rattle.flat_core.specs.Complete.{IsFlat}
+use Rattle.flat_core.specs.Needed.{RunsNeeded}
 use Rattle.flat_core.specs.Instant.{is_delay, is_delay_op}
 use Rattle.flat_core.specs.Line.{Line, inputs_of}
 use Rattle.flat_core.specs.Solution.{Solves}
@@ -64,7 +65,7 @@ if_some : (b : Bool) (x : Option FaultKind) (kind : FaultKind) → (if b then x 
 if_some true x kind is = is
 if_some false x kind is = absurd (none-some kind is)
 
-module _ (items : List tree.Item) (kinds : Kinds) (s : System) (lines : List Line) (bound : ℕ) (z : Streams) (laws : TheLaws) (of : IsFlatOf items kinds s.equations s.outputs) (flat : IsFlat s) (good : IsWellFormed s) (solves : Solves s (inputs_of lines) bound z) where
+module _ (items : List tree.Item) (kinds : Kinds) (s : System) (lines : List Line) (bound : ℕ) (z : Streams) (laws : TheLaws) (of : IsFlatOf items kinds s.equations s.outputs) (flat : IsFlat s) (needs : RunsNeeded s) (good : IsWellFormed s) (solves : Solves s (inputs_of lines) bound z) where
   whole : Within s 0 (of.inputs ++ of.streams ++ of.printed)
   whole = subst (Within s 0) of.equations_are (λ k e is. let same : 0 + k ≡ k = omega arith in ap (slice_get (plain s).equations) same ∙ slice_get-map unnamed s.equations k ∙ ap (option_map unnamed) is)
 
@@ -123,7 +124,7 @@ module _ (items : List tree.Item) (kinds : Kinds) (s : System) (lines : List Lin
       record { own = found.0; own_is = found.1; itself = known.0; is = known.1; same = known.2 }
 
   covers : (i : ℕ) → IsTrue (runs s i) → IsCovered items kinds of.top s flat.proper leads i
-  covers i run = covered.covered items kinds of.top s flat.proper leads flat outputs_there i run
+  covers i run = covered.covered items kinds of.top s flat.proper leads flat outputs_there needs i run
 
   there_is : {o : Occurrence} → IsNeeded items o → IsThere items kinds of.top s flat.proper leads flat outputs_there o
   there_is needed = covered.needed_there items kinds of.top s flat.proper leads flat outputs_there needed

@@ -11,6 +11,7 @@ use Rattle.flat_core.specs.Complete.{IsFlat}
 use Rattle.flat_core.specs.Fault.{root_at}
 use Rattle.flat_core.specs.Instant.{is_delay}
 use Rattle.flat_core.specs.Line.{Line, inputs_of}
+use Rattle.flat_core.specs.Needed.{RunsNeeded}
 use Rattle.flat_core.specs.Solution.{Solves}
 use Rattle.flat_core.specs.System.{System, runs, equation}
 use Rattle.flat_core.specs.Text.{due_text}
@@ -65,9 +66,9 @@ pub record MeansTheSame (items : List tree.Item) (s : System) (lines : List Line
 
 abbrev pub FlatMeansTheSame : Type 0
 FlatMeansTheSame =
-    (items : List tree.Item) (kinds : Kinds) (s : System) (lines : List Line) (bound : ℕ) (z : Streams) → IsFlatOf items kinds s.equations s.outputs → IsFlat s → IsWellFormed s → Solves s (inputs_of lines) bound z → MeansTheSame items s lines bound z
+    (items : List tree.Item) (kinds : Kinds) (s : System) (lines : List Line) (bound : ℕ) (z : Streams) → IsFlatOf items kinds s.equations s.outputs → IsFlat s → RunsNeeded s → IsWellFormed s → Solves s (inputs_of lines) bound z → MeansTheSame items s lines bound z
 
 -- and so is the text that is due
 abbrev pub FlatTextIsDue : Type 0
 FlatTextIsDue =
-    (items : List tree.Item) (kinds : Kinds) (s : System) (lines : List Line) (bound limit : ℕ) (z : Streams) → IsFlatOf items kinds s.equations s.outputs → IsFlat s → IsWellFormed s → Solves s (inputs_of lines) bound z → IsDueText items lines bound limit (due_text s lines z bound limit)
+    (items : List tree.Item) (kinds : Kinds) (s : System) (lines : List Line) (bound limit : ℕ) (z : Streams) → IsFlatOf items kinds s.equations s.outputs → IsFlat s → RunsNeeded s → IsWellFormed s → Solves s (inputs_of lines) bound z → IsDueText items lines bound limit (due_text s lines z bound limit)

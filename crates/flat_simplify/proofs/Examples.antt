@@ -19,7 +19,7 @@ use Rattle.flat_core.specs.Typed.{int_type}
 use Rattle.flat_core.proofs.Walks.{walk_keeps}
 use Rattle.trigger_rules.specs.declared.atom.Atom.{Atom}
 use Rattle.trigger_rules.specs.declared.atom.Atom.TheVariants.{Happens}
-use Rattle.trigger_rules.specs.Formula.{Assignment, If, Of, Both, Always, Meets, HasAtom, through, both, in_if, in_of, both_first, both_second}
+use Rattle.trigger_rules.specs.Formula.{Assignment, If, Of, Both, Always, Meets, HasAtom, in_if, in_of, through, both, both_first, both_second}
 use Rattle.trigger_rules.specs.Question.{Starts, Fires, Stands, Implies}
 use Rattle.trigger_rules.specs.Table.{formula}
 use Rattle.flat_simplify.specs.CanFault.{can_fault_op, CanFault}

@@ -14,7 +14,8 @@ use Rattle.flat_core.specs.declared.equation.Op.TheVariants as op
 use Rattle.flat_core.specs.Complete.{HasShortBody, HaveDifferentNames, IsComplete}
 use Rattle.flat_core.specs.Graph.{Path, edge, step, Walk, stay, onward}
 use Rattle.flat_core.specs.Needed.{HasArgument}
-use Rattle.flat_core.specs.System.{System, runs, equation, IsProper}
+use Rattle.flat_core.specs.Renumbered.{new_number, with_new_args, with_new_equation}
+use Rattle.flat_core.specs.System.{System, runs, equation, OutputsRun, IsProper}
 use Rattle.flat_core.specs.TypedSystem.{IsOfType, AreOfTypes, IsTypedEquation, IsTypedSystem}
 use Rattle.flat_core.specs.WellFormed.{unguarded_of, Needs, IsWellFormed}
 use Rattle.flat_core.proofs.Members.{contains_head, contains_tail, all_from, all_at, all_map, contains_map, map_contains}
@@ -24,8 +25,7 @@ use Rattle.flat_core.proofs.WellFormedRank.{rank_of, well_formed_ranked}
 use Rattle.flat_core.proofs.Walks.{walk_on, walk_keeps}
 use Rattle.flat_simplify.specs.CanFault.{can_fault_op, CanFault}
 use Rattle.flat_simplify.specs.Replaced.{IsReplaced, StandsFor, itself, through, IsReplacement}
-use Rattle.flat_simplify.specs.Simplified.{new_number, with_new_args, with_new_equation, Remains, IsRenumbered, IsSimplified}
-use Rattle.flat_simplify.specs.Solved.{OutputsRun}
+use Rattle.flat_simplify.specs.Simplified.{Remains, IsRenumbered, IsSimplified}
 use Rattle.flat_simplify.specs.Laws.{IsFit}
 use Rattle.flat_simplify.proofs.Stands.{runs_on, left_over, same_type, new_stands_at, new_is}
 

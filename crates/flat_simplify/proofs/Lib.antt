@@ -7,6 +7,9 @@ pub mod Faults
 pub mod Text
 pub mod One
 pub mod Exists
+pub mod Making
 pub mod Named
 pub mod Ends
+pub mod Kept
 mod Examples
+pub mod SampleLemmas

@@ -12,7 +12,8 @@ use Rattle.flat_core.specs.Needed.{HasArgument}
 use Rattle.flat_core.specs.System.{System}
 use Rattle.flat_core.proofs.Members.{Contains-in}
 use Rattle.flat_simplify.specs.Replaced.{IsReplacement}
-use Rattle.flat_simplify.specs.Simplified.{with_new_args, with_new_equation, Remains, IsSimplified}
+use Rattle.flat_core.specs.Renumbered.{with_new_args, with_new_equation}
+use Rattle.flat_simplify.specs.Simplified.{Remains, IsSimplified}
 use Rattle.flat_simplify.proofs.Stands.{one_stands}
 
 -- ---- ascending lists with the same members

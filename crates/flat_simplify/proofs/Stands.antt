@@ -12,7 +12,7 @@ use Rattle.flat_core.specs.TypedSystem.{IsOfType, AreOfTypes, IsTypedSystem}
 use Rattle.flat_core.specs.WellFormed.{unguarded_of, IsWellFormed}
 use Rattle.flat_core.proofs.WellFormedRank.{rank_of, rank_falls}
 use Rattle.flat_simplify.specs.Replaced.{IsReplaced, StandsFor, itself, through, IsReplacement}
-use Rattle.flat_simplify.specs.Simplified.{new_number}
+use Rattle.flat_core.specs.Renumbered.{new_number}
 use Rattle.flat_simplify.specs.Laws.{IsStandIn}
 
 -- both arguments of a merge have its type

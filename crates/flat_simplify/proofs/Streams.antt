@@ -15,7 +15,7 @@ use Rattle.flat_core.proofs.WellFormedRank.{rank_of, well_formed_ranked}
 use Rattle.trigger_rules.specs.Firing.{IsUpToFault}
 use Rattle.trigger_rules.proofs.Times.{all_are_clear, implied}
 use Rattle.flat_simplify.specs.Replaced.{StandsFor, itself, through}
-use Rattle.flat_simplify.specs.Simplified.{new_number, with_new_args}
+use Rattle.flat_core.specs.Renumbered.{new_number, with_new_args}
 use Rattle.flat_simplify.specs.Solved.{AreSolved, IsSoundBefore}
 use Rattle.flat_simplify.specs.Laws.{IsFit, KeepsStreams}
 use Rattle.flat_simplify.proofs.Fit.{new_equation, arguments_run, simplified_fit}
@@ -57,7 +57,7 @@ module _ (s u : System) (inputs : Inputs) (bound : ℕ) (z w : Streams) (both : 
   rank = rank_of s both.well_formed
 
   pub up_to : (t : ℕ) → t < bound → IsSoundBefore s inputs z t → IsUpToFault s inputs bound z t
-  up_to t lt sound = record { proper = both.proper; typed = both.typed; well_formed = both.well_formed; solves = both.solves; typed_events = both.typed_events; below = lt; sound = sound }
+  up_to t lt sound = record { proper = both.proper; typed = both.typed; well_formed = both.well_formed; solves = both.solves; typed_inputs = both.typed_inputs; below = lt; sound = sound }
 
   pub fit : IsFit s u
   fit = simplified_fit s u both.proper both.typed both.well_formed both.outputs_run both.simplified

@@ -22,7 +22,7 @@ use Rattle.flat_core.proofs.SmallerBound.{instants_first}
 use Rattle.flat_core.proofs.Uniqueness.{all_by}
 use Rattle.flat_simplify.specs.CanFault.{can_fault_op}
 use Rattle.flat_simplify.specs.Replaced.{itself}
-use Rattle.flat_simplify.specs.Simplified.{new_number, with_new_equation}
+use Rattle.flat_core.specs.Renumbered.{new_number, with_new_equation}
 use Rattle.flat_simplify.specs.Solved.{AreSolved, IsSoundBefore}
 use Rattle.flat_simplify.specs.Laws.{IsFit, KeepsText}
 use Rattle.flat_simplify.proofs.Faults.{first_fault, sound_after, keeps_faults}

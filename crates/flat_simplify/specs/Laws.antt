@@ -1,9 +1,11 @@
 -- Laws of simplification. What stands for an equation has its stream up to the fault time, and the fault time stays. A merge that was
 -- replaced does not pass on a fault of its second argument any more, so that more equations may have a root fault at that time.
-use Rattle.std.specs.Prelude.{◌≡◌, ℕ, ◌+◌, ◌<◌, ◌≤◌, ◌⊎◌, ◌↔◌, List, Some, IsTrue, IsFalse}
+use Rattle.std.specs.Prelude.{◌≡◌, ℕ, ◌+◌, ◌<◌, ◌≤◌, ◌⊎◌, ◌↔◌, List, [], map, Some, IsTrue, IsFalse}
+use Rattle.std.specs.Option.{option_map}
 use Rattle.std.specs.List.{Contains}
 use Rattle.tsl_value.specs.declared.scalar.ValueType.{ValueType}
 use Rattle.lift_func.specs.declared.fault.FaultKind.{FaultKind}
+use Rattle.flat_core.specs.declared.equation.Equation.{Equation}
 use Rattle.flat_core.specs.declared.equation.Output.{Output}
 use Rattle.flat_core.specs.Case.{Streams, Inputs}
 use Rattle.flat_core.specs.Complete.{IsComplete}
@@ -13,14 +15,14 @@ use Rattle.flat_core.specs.Instant.{is_instant, instants}
 use Rattle.flat_core.specs.Line.{Line, inputs_of}
 use Rattle.flat_core.specs.Solution.{Solves}
 use Rattle.flat_core.specs.Stream.{is_fault}
-use Rattle.flat_core.specs.System.{System, runs, IsProper}
+use Rattle.flat_core.specs.System.{System, runs, equation, OutputsRun, IsProper}
 use Rattle.flat_core.specs.Text.{due_text}
 use Rattle.flat_core.specs.TypedSystem.{IsOfType, IsTypedSystem}
 use Rattle.flat_core.specs.WellFormed.{IsWellFormed}
 use Rattle.flat_simplify.specs.CanFault.{CanFault}
 use Rattle.flat_simplify.specs.Replaced.{IsReplaced, StandsFor, IsReplacement}
 use Rattle.flat_simplify.specs.Simplified.{IsSimplified}
-use Rattle.flat_simplify.specs.Solved.{OutputsRun, AreSolved, IsSoundBefore, IsFaultTime}
+use Rattle.flat_simplify.specs.Solved.{AreSolved, IsSoundBefore, IsFaultTime}
 
 -- what stands for a running equation runs, is not replaced and has its type
 pub record IsStandIn (s : System) (i j : ℕ) : Type 0 where
@@ -42,6 +44,18 @@ OneIsSimplified = (s u v : System) → IsSimplified s u → IsSimplified s v →
 abbrev pub ReplacementsExist : Type 0
 ReplacementsExist =
     (s : System) → IsWellFormed s → ((i : ℕ) → ((a : ℕ) × IsReplaced s i a) ⊎ ((a : ℕ) → IsReplaced s i a → ⊥)) → (replaced : List ℕ) × IsReplacement s replaced
+
+-- an equation without its arguments
+abbrev pub without_args : Equation → Equation
+without_args e = record e { args = [] }
+
+-- Number by number the equations differ in their arguments alone: operation, type, name and place stay.
+pub record KeepsEquations (s u : System) : Type 0 where
+  pub all_same : map without_args u.equations ≡ map without_args s.equations
+  pub each : (i : ℕ) → option_map without_args (equation u i) ≡ option_map without_args (equation s i)
+
+abbrev pub EquationsAreKept : Type 0
+EquationsAreKept = (s u : System) → IsSimplified s u → KeepsEquations s u
 
 -- u has what a system needs to be run, and runs what ran, without what was replaced, and with all that can fault
 pub record IsFit (s u : System) : Type 0 where

@@ -3,3 +3,4 @@ pub mod Replaced
 pub mod Simplified
 pub mod Solved
 pub mod Laws
+pub mod Sample

@@ -1,5 +1,5 @@
 -- Which merges are replaced by their first argument, and which number stands for each equation then.
-use Rattle.std.specs.Prelude.{◌≡◌, ℕ, List, [], ◌∷◌, length, Some, IsTrue, slice_get}
+use Rattle.std.specs.Prelude.{◌≡◌, ℕ, List, [], ◌∷◌, length, Option, Some, None, IsTrue, slice_get}
 use Rattle.flat_core.specs.declared.equation.Equation.{Equation}
 use Rattle.flat_core.specs.declared.equation.Op.TheVariants as op
 use Rattle.flat_core.specs.System.{System, runs, equation}
@@ -14,6 +14,11 @@ pub record IsReplaced (s : System) (i a : ℕ) : Type 0 where
   pub other : ℕ
   pub args_are : at.args ≡ a ∷ other ∷ []
   pub implied : Implies s other a
+
+-- it gives way to this argument, or to none
+abbrev pub IsReplacedBy : System → ℕ → Option ℕ → Type 0
+IsReplacedBy s i (Some a) = IsReplaced s i a
+IsReplacedBy s i None = (a : ℕ) → IsReplaced s i a → ⊥
 
 -- j stands for i: each replaced number gives way to the first argument, until one is left that is not replaced
 pub data StandsFor (s : System) : ℕ → ℕ → Type 0 where

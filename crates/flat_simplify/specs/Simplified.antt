@@ -1,29 +1,23 @@
 -- The system that simplification makes: other numbers as arguments and at outputs, and fewer equations that run.
-use Rattle.std.specs.Prelude.{◌≡◌, ℕ, ◌⊎◌, ◌↔◌, List, map, IsTrue, slice_index_or}
+use Rattle.std.specs.Prelude.{◌≡◌, ℕ, ◌⊎◌, ◌↔◌, List, map, IsTrue}
+use Rattle.std.specs.List.{Contains}
 use Rattle.std.specs.List.Sorted.{IsStrictlyIncreasing}
-use Rattle.flat_core.specs.declared.equation.Equation.{Equation}
-use Rattle.flat_core.specs.declared.equation.Output.{Output}
 use Rattle.flat_core.specs.Graph.{Walk}
 use Rattle.flat_core.specs.Needed.{HasArgument, IsNeeded}
+use Rattle.flat_core.specs.Renumbered.{new_number, with_new_args, with_new_equation}
 use Rattle.flat_core.specs.System.{System, runs}
 use Rattle.flat_simplify.specs.CanFault.{CanFault}
 use Rattle.flat_simplify.specs.Replaced.{IsReplacement}
-
--- the number that a list has for a number, and an equation and an output with these
-abbrev pub new_number : List ℕ → ℕ → ℕ
-new_number replaced i = slice_index_or replaced i i
-
-abbrev pub with_new_args : List ℕ → Equation → Equation
-with_new_args replaced e = record e { args = map (new_number replaced) e.args }
-
-abbrev pub with_new_equation : List ℕ → Output → Output
-with_new_equation replaced o = record o { equation = new_number replaced o.equation }
 
 -- a walk along the arguments of u leads to i from an equation that ran in s and can fault
 pub record IsBehindFault (s u : System) (i : ℕ) : Type 0 where
   pub start : ℕ
   pub faults : CanFault s start
   pub walk : Walk (HasArgument u.equations) start i
+
+-- what stands for an equation that is printed, or what ran and can fault
+abbrev pub IsStart : System → List ℕ → ℕ → Type 0
+IsStart s replaced i = Contains (map (λ o. new_number replaced o.equation) s.outputs) i ⊎ CanFault s i
 
 -- what is needed by the outputs, or behind an equation that ran before and can fault
 abbrev pub Remains : System → System → ℕ → Type 0

@@ -1,19 +1,15 @@
 -- A system and what simplification makes of it, each with streams that solve it.
 use Rattle.std.specs.Prelude.{ℕ, ◌<◌, IsTrue, IsFalse}
-use Rattle.std.specs.List.{AllByRecursion}
 use Rattle.flat_core.specs.Case.{Streams, Inputs}
 use Rattle.flat_core.specs.Fault.{is_faulty}
 use Rattle.flat_core.specs.Solution.{Solves}
-use Rattle.flat_core.specs.System.{System, runs, IsProper}
+use Rattle.flat_core.specs.System.{System, OutputsRun, IsProper}
+use Rattle.flat_core.specs.TypedEvents.{AreTypedInputs}
 use Rattle.flat_core.specs.TypedSystem.{IsTypedSystem}
 use Rattle.flat_core.specs.WellFormed.{IsWellFormed}
-use Rattle.trigger_rules.specs.Firing.{HasTypedEvents}
 use Rattle.flat_simplify.specs.Simplified.{IsSimplified}
 
-abbrev pub OutputsRun : System → Type 0
-OutputsRun s = AllByRecursion (λ o. IsTrue (runs s o.equation)) s.outputs
-
--- below the bound z solves s, with events of its types, and w solves what simplification makes of s
+-- below the bound z solves s and w solves what simplification makes of s, for inputs of their types
 pub record AreSolved (s u : System) (inputs : Inputs) (bound : ℕ) (z w : Streams) : Type 0 where
   pub proper : IsProper s
   pub typed : IsTypedSystem s
@@ -21,7 +17,7 @@ pub record AreSolved (s u : System) (inputs : Inputs) (bound : ℕ) (z w : Strea
   pub outputs_run : OutputsRun s
   pub simplified : IsSimplified s u
   pub solves : Solves s inputs bound z
-  pub typed_events : HasTypedEvents s bound z
+  pub typed_inputs : AreTypedInputs s inputs
   pub solves_simplified : Solves u inputs bound w
 
 -- no root fault comes before t, so t is at most the fault time

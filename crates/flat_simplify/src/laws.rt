@@ -1,6 +1,6 @@
 // Laws of simplification, as the contracts of functions that do nothing.
 
-ghost use Rattle.flat_simplify.specs.Laws.{StandInsFit, OneStandsForEach, OneIsSimplified, ReplacementsExist, SimplifiedIsFit, StreamsAreKept, FaultsAreKept, TextIsKept, EndsAreKept};
+ghost use Rattle.flat_simplify.specs.Laws.{StandInsFit, OneStandsForEach, OneIsSimplified, ReplacementsExist, EquationsAreKept, SimplifiedIsFit, StreamsAreKept, FaultsAreKept, TextIsKept, EndsAreKept};
 
 /// What stands for a running equation runs, is not replaced and has its type.
 pub fn stand_ins_fit()
@@ -20,6 +20,11 @@ pub fn one_is_simplified()
 /// Where it can be told which equations are replaced, each has a number that stands for it.
 pub fn replacements_exist()
     ensures { ReplacementsExist }
+{}
+
+/// Each equation stays at its number, and has its operation, type, name and place.
+pub fn equations_are_kept()
+    ensures { EquationsAreKept }
 {}
 
 /// What simplification makes is proper, well typed and well-formed, and runs all that ran and can fault.

@@ -2,3 +2,6 @@
 #![tactic(auto)]
 
 pub mod laws;
+pub mod simplify;
+#[cfg(test)]
+mod tests;

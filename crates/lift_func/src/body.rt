@@ -53,9 +53,11 @@ pub struct Body {
     nodes: u32,
 }
 
+/// What stands at the root of a body: a literal, an argument by its number, the absent value of a type, an operation at its
+/// operands, or a choice.
 #[cycle(body)]
 #[derive(Drop)]
-pub(crate) enum Node {
+pub enum Node {
     Literal(Scalar),
     Argument(u32),
     Absent(ValueType),
@@ -86,6 +88,7 @@ impl Model for Body {
 
 impl Body {
     ghost use Rattle.lift_func.specs.Tree.{Absent, Argument, Choice, Literal, One, Two, node_count};
+    ghost use Rattle.lift_func.specs.Shape.{tree_of};
 
     /// A literal.
     pub fn literal(s: Scalar) -> Body
@@ -157,6 +160,13 @@ impl Body {
             node: Node::Choice(condition, a, b),
             nodes,
         })
+    }
+
+    /// What stands at the root.
+    pub fn node(&self) -> &Node
+        ensures { tree_of result.now ≡ self.now }
+    {
+        &self.node
     }
 
     /// The number of nodes.

@@ -50,41 +50,6 @@ fn quotients_are_evaluated(rt: HostRuntime) {
     assert_eq!(rt; quotient_at(rt.alloc(), 0), Err(fault));
 }
 
-fn rest_of(alloc: Global, a: i64, b: i64) -> Result<i64, EvalFault> {
-    let body = Body::two(alloc, Binary::Rem, Body::argument(0), Body::argument(1))?;
-    let args = [Some(Scalar::Int(a)), Some(Scalar::Int(b))];
-    match eval_scalars(alloc, &body, &args)? {
-        Some(Scalar::Int(number)) => Ok(number),
-        _ => Ok(0),
-    }
-}
-
-#[test]
-fn a_remainder_has_the_sign_of_the_dividend(rt: HostRuntime) {
-    assert_eq!(rt; rest_of(rt.alloc(), -7, 2), Ok(-1));
-    assert_eq!(rt; rest_of(rt.alloc(), 7, -2), Ok(1));
-    let fault = EvalFault::Fault(FaultKind::Overflow);
-    assert_eq!(rt; rest_of(rt.alloc(), i64::MIN, -1), Err(fault));
-}
-
-/// `b && 1 / 0 == 1`.
-fn guarded(alloc: Global, b: bool) -> Result<bool, EvalFault> {
-    let by_zero = Body::two(alloc, Binary::Div, int(1), int(0))?;
-    let equal = Body::two(alloc, Binary::Eq, by_zero, int(1))?;
-    let body = Body::two(alloc, Binary::And, Body::literal(Scalar::Bool(b)), equal)?;
-    match eval_scalars(alloc, &body, &[])? {
-        Some(Scalar::Bool(value)) => Ok(value),
-        _ => Ok(true),
-    }
-}
-
-#[test]
-fn an_operand_that_does_not_count_is_skipped(rt: HostRuntime) {
-    assert_eq!(rt; guarded(rt.alloc(), false), Ok(false));
-    let fault = EvalFault::Fault(FaultKind::DivideByZero);
-    assert_eq!(rt; guarded(rt.alloc(), true), Err(fault));
-}
-
 /// `String.concat("ab", "c") == $0`.
 fn is_joined(alloc: Global, whole: &str) -> Result<bool, EvalFault> {
     let joined = Body::two(alloc, Binary::Concat, text(alloc, "ab")?, text(alloc, "c")?)?;

@@ -43,17 +43,9 @@ fn is_fine(alloc: Global, source: &[u8]) -> bool {
 
 #[test]
 fn names_that_are_declared_twice(rt: HostRuntime) {
-    let sources: [(&[u8], u32, u32); 7] = [
+    let sources: [(&[u8], u32, u32); 3] = [
         (b"in a: Int\ndef b := c\ndef a := b\ndef b := a", 3, 5),
         (b"def m(x: Events[Int], x: Int) := x", 1, 23),
-        (b"in merge: Int", 1, 4),
-        (b"def unit := 1", 1, 5),
-        (b"def m(nil: Int) := 1", 1, 7),
-        (
-            b"def m(x: Events[Int]) := { def a := b def a := x a }",
-            1,
-            43,
-        ),
         (
             b"def m(x: Events[Int]) := { def a := { def x := a def x := 2 x } x }\ndef m := 1",
             1,
@@ -67,28 +59,13 @@ fn names_that_are_declared_twice(rt: HostRuntime) {
 
 #[test]
 fn names_that_are_unknown(rt: HostRuntime) {
-    let sources: [(&[u8], u32, u32); 14] = [
+    let sources: [(&[u8], u32, u32); 3] = [
         (b"in a: Int\ndef b := a + c * d", 2, 14),
-        (b"def m(x: Events[Int]) := x\ndef b := m", 2, 10),
-        (b"def f(x: Int) := x\ndef b := f", 2, 10),
-        (b"in i: Int\ndef f(x: Int) := if x > 0 then i else y", 2, 32),
         (
             b"in i: Int\ndef f(x: Int) := m(x)\ndef m(x: Events[Int]) := x",
             2,
             18,
         ),
-        (
-            b"in i: Int\ndef m(x: Events[Int]) := x\ndef b := lift(i, m)",
-            3,
-            18,
-        ),
-        (b"in i: Int\ndef b := lift(i, i + 1)", 2, 18),
-        (b"out a", 1, 5),
-        (b"def a := 1\nout b as a", 2, 5),
-        (b"out -a as b", 1, 6),
-        (b"def a := nil", 1, 10),
-        (b"def a := merge", 1, 10),
-        (b"def a := g(b)", 1, 10),
         (b"def m(x: Events[Int]) := { def a := b a }", 1, 37),
     ];
     for (source, line, column) in sources {
@@ -98,13 +75,9 @@ fn names_that_are_unknown(rt: HostRuntime) {
 
 #[test]
 fn names_that_are_fine(rt: HostRuntime) {
-    let sources: [&[u8]; 6] = [
+    let sources: [&[u8]; 2] = [
         b"in a: Int\ndef m(x: Events[Int], y: Events[Int]) := { def x := y def y := a x + y }\nout m(a, a) as time",
         b"in i: Int\ndef f(x: Option[Int], g: Int): Option[Int] := h(x, g, unit)\ndef h(x: Int) := x\ndef b := lift(i, h)",
-        b"in i: Int\ndef b(x: Int, y: Events[Int]) := i\ndef c := b(i) + i(1) + unit(2) + time(i)\nout unit",
-        b"in x: Int\ndef f(x: Int) := x + -x % (x * 2) == Set.size(x) && !true || f(x) < \"s\"",
-        b"def m(x: Events[Int]) := { def m := x m }",
-        b"def a := if true then nil[Int] else None[Int]\nout () as u",
     ];
     for source in sources {
         assert!(rt; is_fine(rt.alloc(), source));

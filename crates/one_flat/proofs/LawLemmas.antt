@@ -40,11 +40,11 @@ reached_same : {xs ys : List Equation} {os ps : List Output} (i : ℕ) → xs �
 reached_same {xs} {ys} {os} i equations outputs reached = subst (λ qs. IsReached ys qs i) outputs (subst (λ es. IsReached es os i) equations reached)
 
 pub one_system : OneSystem
-one_system items a b s u same f g s_flat u_flat =
+one_system items a b s u same f g s_flat u_flat s_needed u_needed =
     let once = one_flat items a b s.equations u.equations s.outputs u.outputs same f g in
     let to : (t : ℕ) → Contains s.running t → Contains u.running t =
-    λ t c. Contains-in u.running t ((u_flat.needed t).1 (reached_same t once.0 once.1 ((s_flat.needed t).0 (in-Contains s.running t c)))) in
+    λ t c. Contains-in u.running t ((u_needed.each t).1 (reached_same t once.0 once.1 ((s_needed.each t).0 (in-Contains s.running t c)))) in
     let back : (t : ℕ) → Contains u.running t → Contains s.running t =
-    λ t c. Contains-in s.running t ((s_flat.needed t).1 (reached_same t (sym once.0) (sym once.1) ((u_flat.needed t).0 (in-Contains u.running t c)))) in
+    λ t c. Contains-in s.running t ((s_needed.each t).1 (reached_same t (sym once.0) (sym once.1) ((u_needed.each t).0 (in-Contains u.running t c)))) in
     let running = same_rising 0 0 s.running u.running (rising s.running s_flat.ascending) (rising u.running u_flat.ascending) to back in
     λ k. record { equations = once.0 k; outputs = once.1 k; running = running k }

@@ -3,6 +3,7 @@ use Rattle.std.specs.Prelude.{◌≡◌, ℕ, List}
 use Rattle.flat_core.specs.declared.equation.Equation.{Equation}
 use Rattle.flat_core.specs.declared.equation.Output.{Output}
 use Rattle.flat_core.specs.Complete.{IsFlat}
+use Rattle.flat_core.specs.Needed.{RunsNeeded}
 use Rattle.flat_core.specs.System.{System}
 use Rattle.spec_parser.specs.Tree as tree
 use Rattle.expr_types.specs.Around.{Kinds}
@@ -18,7 +19,7 @@ abbrev pub OneFlat : Type 0
 OneFlat =
     (items : List tree.Item) (a b : Kinds) (xs ys : List Equation) (os ps : List Output) → SameKinds a b → IsFlatOf items a xs os → IsFlatOf items b ys ps → (xs ≡ ys) × (os ≡ ps)
 
--- and with them which equations run
+-- and with them which equations run, where these are just those that the outputs need
 abbrev pub OneSystem : Type 0
 OneSystem =
-    (items : List tree.Item) (a b : Kinds) (s u : System) → SameKinds a b → IsFlatOf items a s.equations s.outputs → IsFlatOf items b u.equations u.outputs → IsFlat s → IsFlat u → s ≡ u
+    (items : List tree.Item) (a b : Kinds) (s u : System) → SameKinds a b → IsFlatOf items a s.equations s.outputs → IsFlatOf items b u.equations u.outputs → IsFlat s → IsFlat u → RunsNeeded s → RunsNeeded u → s ≡ u

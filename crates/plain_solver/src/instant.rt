@@ -8,7 +8,8 @@ ghost use Rattle.flat_core.specs.System.{runs};
 ghost use Rattle.plain_solver.specs.Moments.{AllBefore};
 ghost use Rattle.plain_solver.specs.Instant.{AreBefore, IsFirstRoot, IsOneMore, IsRun};
 ghost use Rattle.plain_solver.specs.Shape.{streams_of};
-ghost use Rattle.plain_solver.specs.Typed.{AreTyped, AreTypedLines};
+ghost use Rattle.flat_core.specs.TypedLines.{AreTypedLines};
+ghost use Rattle.plain_solver.specs.Typed.{AreTyped};
 ghost use Rattle.flat_core.specs.Kept.{AreKept};
 
 use crate::events::Events;

@@ -5,7 +5,7 @@ ghost use Rattle.flat_core.specs.Dependency.{IsRunOrder};
 ghost use Rattle.flat_core.specs.Line.{IsSorted};
 ghost use Rattle.plain_solver.specs.Ending.{EndsSo};
 ghost use Rattle.plain_solver.specs.Solved.{IsEnded};
-ghost use Rattle.plain_solver.specs.Typed.{AreTypedLines};
+ghost use Rattle.flat_core.specs.TypedLines.{AreTypedLines};
 
 use crate::events::Events;
 use crate::instant::{first_root, run_instant};

@@ -5,7 +5,7 @@ ghost use Rattle.flat_core.specs.Line.{IsSorted};
 ghost use Rattle.lift_func.specs.Tree.{Argument, Choice, Literal, One, Two};
 ghost use Rattle.flat_core.specs.Dependency.{IsRunOrder};
 ghost use Rattle.plain_solver.specs.Sample.{equation_of, grown_equations, grown_outputs, int_map, ints, sample_equations, sample_outputs};
-ghost use Rattle.plain_solver.specs.Typed.{AreTypedLines, IsTypedLine};
+ghost use Rattle.flat_core.specs.TypedLines.{AreTypedLines, IsTypedLine};
 
 use crate::solve::{End, solve};
 use crate::text::print_due;
@@ -335,36 +335,10 @@ fn events_are_printed_by_time_and_output(rt: HostRuntime) -> Result<(), Fail> {
 }
 
 #[test]
-fn a_delay_sets_itself_again(rt: HostRuntime) -> Result<(), Fail> {
-    let (end, text) = run_sample(rt.alloc(), &[], 36, 100)?;
-    assert!(rt; end == End::Bound);
-    assert!(rt; text.as_slice() == b"10: p = ()\n20: p = ()\n30: p = ()\n".as_slice());
-    Ok(())
-}
-
-#[test]
 fn the_limit_of_instants_ends_the_run(rt: HostRuntime) -> Result<(), Fail> {
     let (end, text) = run_sample(rt.alloc(), &[], 1001, 3)?;
     assert!(rt; is_limit(end, 30));
     assert!(rt; text.as_slice() == b"10: p = ()\n20: p = ()\n".as_slice());
-    Ok(())
-}
-
-#[test]
-fn a_reset_cancels(rt: HostRuntime) -> Result<(), Fail> {
-    let (end, text) = run_sample(rt.alloc(), &[(1, 4, 6), (1, 5, 1), (5, 5, 1)], 10, 100)?;
-    assert!(rt; end == End::Bound);
-    let wanted = b"1: t = 1\n1: b = 6\n1: q = 10\n1: f = 6\n5: t = 5\n5: b = 1\n5: q = 10\n";
-    assert!(rt; text.as_slice() == wanted.as_slice());
-    Ok(())
-}
-
-#[test]
-fn a_reset_at_the_expiry_does_not_cancel(rt: HostRuntime) -> Result<(), Fail> {
-    let (end, text) = run_sample(rt.alloc(), &[(1, 4, 4), (1, 5, 1), (5, 5, 1)], 10, 100)?;
-    assert!(rt; end == End::Bound);
-    let wanted = b"1: t = 1\n1: b = 4\n1: q = 10\n5: t = 5\n5: b = 1\n5: d = ()\n5: q = 10\n";
-    assert!(rt; text.as_slice() == wanted.as_slice());
     Ok(())
 }
 
@@ -384,15 +358,6 @@ fn a_set_grows(rt: HostRuntime) -> Result<(), Fail> {
     assert!(rt; end == End::Bound);
     let wanted =
         b"0: m = Set()\n1: s = false\n1: m = Set(5)\n2: s = false\n2: m = Set(5, 7)\n3: s = true\n3: m = Set(5, 7)\n";
-    assert!(rt; text.as_slice() == wanted.as_slice());
-    Ok(())
-}
-
-#[test]
-fn an_absent_key_is_a_fault(rt: HostRuntime) -> Result<(), Fail> {
-    let (end, text) = run_grown(rt.alloc(), &[(1, 6, 5), (2, 0, 5), (3, 0, 7)])?;
-    assert!(rt; is_fault(end, 3, 11, FaultKind::MissingKey));
-    let wanted = b"0: m = Set()\n1: p = Map(5 -> 5)\n2: s = false\n2: m = Set(5)\n2: g = 5\n";
     assert!(rt; text.as_slice() == wanted.as_slice());
     Ok(())
 }

@@ -2,6 +2,7 @@
 
 ghost use Rattle.std.specs.Prelude.{◌≡◌, ◌<◌, ◌^◌, ℕ, [], length, map, None, IfOk, IfErr, OnOk};
 ghost use Rattle.flat_core.specs.Complete.{IsFlat};
+ghost use Rattle.flat_core.specs.Needed.{RunsNeeded};
 ghost use Rattle.spec_parser.specs.Shape.{item_of};
 ghost use Rattle.name_check.specs.Scope.{top};
 ghost use Rattle.expr_types.specs.Shown.{kinds_of};
@@ -47,6 +48,7 @@ pub fn flatten(
     ensures marks { IfOk result (λ f. map mark_of f.equations ≡ all_marks (map item_of items.now) (kinds_of kinds.now)) }
     ensures within { OnOk result (refused (all_marks (map item_of items.now) (kinds_of kinds.now)) ≡ None) }
     ensures is_flat { IfOk result (λ f. IsFlat f) }
+    ensures needed { IfOk result (λ f. RunsNeeded f) }
     ensures refused { IfErr result (AreRefused (all_marks (map item_of items.now) (kinds_of kinds.now))) }
 {
     let mut maker = Maker::new(alloc);
@@ -80,6 +82,7 @@ impl Context<'_> {
         ensures marks { IfOk result (λ f. map mark_of f.equations ≡ all_marks (items_in self.now) (kinds_in self.now)) }
         ensures within { OnOk result (refused (all_marks (items_in self.now) (kinds_in self.now)) ≡ None) }
         ensures is_flat { IfOk result (λ f. IsFlat f) }
+        ensures needed { IfOk result (λ f. RunsNeeded f) }
         ensures refused { IfErr result (AreRefused (all_marks (items_in self.now) (kinds_in self.now))) }
     {
         self.definitions(&mut maker)?;

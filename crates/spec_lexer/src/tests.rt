@@ -33,84 +33,14 @@ fn a_source_has_its_tokens(rt: HostRuntime) {
 }
 
 #[test]
-fn words_and_symbols_are_spelled(rt: HostRuntime) {
-    let Ok(words) = lex(rt.alloc(), b"in def out as if then else true false") else {
-        panic!(rt; "no words");
-    };
-    let expected = [
-        Word::In,
-        Word::Def,
-        Word::Out,
-        Word::As,
-        Word::If,
-        Word::Then,
-        Word::Else,
-        Word::True,
-        Word::False,
-    ];
-    assert_eq!(rt; words.len(), expected.len());
-    for (token, word) in words.as_slice().iter().zip(expected.iter()) {
-        assert!(rt;
-            matches!(&token.kind, Kind::Word(found) if *found == *word),
-            "{word:?}"
-        );
-    }
-    let source = b"== = := : , . ( ) [ ] { } || && != <= >= < > + - * / % !";
-    let Ok(symbols) = lex(rt.alloc(), source) else {
-        panic!(rt; "no symbols");
-    };
-    let expected = [
-        Symbol::Same,
-        Symbol::Equals,
-        Symbol::Define,
-        Symbol::Colon,
-        Symbol::Comma,
-        Symbol::Dot,
-        Symbol::Open,
-        Symbol::Close,
-        Symbol::OpenBracket,
-        Symbol::CloseBracket,
-        Symbol::OpenBrace,
-        Symbol::CloseBrace,
-        Symbol::Or,
-        Symbol::And,
-        Symbol::Differs,
-        Symbol::AtMost,
-        Symbol::AtLeast,
-        Symbol::Below,
-        Symbol::Above,
-        Symbol::Plus,
-        Symbol::Minus,
-        Symbol::Times,
-        Symbol::Divide,
-        Symbol::Remainder,
-        Symbol::Not,
-    ];
-    assert_eq!(rt; symbols.len(), expected.len());
-    for (token, symbol) in symbols.as_slice().iter().zip(expected.iter()) {
-        assert!(rt;
-            matches!(&token.kind, Kind::Symbol(found) if *found == *symbol),
-            "{symbol:?}"
-        );
-    }
-}
-
-#[test]
 fn each_fault_comes(rt: HostRuntime) {
     let at = |line, column| Place { line, column };
-    let faults: [(&[u8], LexFault); 7] = [
+    let faults: [(&[u8], LexFault); 3] = [
         (
             b"\xc3\xa9\n\xc3\xa9 \xc3",
             LexFault::BadUtf8 { place: at(2, 3) },
         ),
-        (
-            b"def a := 1 ? 2",
-            LexFault::BadCharacter { place: at(1, 12) },
-        ),
         (b"def t := \"ab", LexFault::OpenText { place: at(1, 10) }),
-        (b"\"a\\", LexFault::OpenText { place: at(1, 1) }),
-        (b"\"a\\\n\"", LexFault::BadEscape { place: at(1, 3) }),
-        (b"\"a\\q", LexFault::BadEscape { place: at(1, 3) }),
         (
             b"def n := 9223372036854775808",
             LexFault::LiteralTooWide { place: at(1, 10) },

@@ -163,7 +163,7 @@ module _ (source : List ℕ) where
     same_system : s ≡ t
     same_system =
         let kinds : g.kinds ≡ h.kinds = typed_kinds source items others g.kinds h.kinds g.specifies.typed h.specifies.typed in
-        one_flat_system others g.kinds h.kinds s t (record { items_same = λ i k. (kinds k).item i; locals_same = λ i j k. (kinds k).local i j }) (subst (λ is. IsFlatOf is g.kinds s.equations s.outputs) system_items g.is_flat_of) h.is_flat_of g.is_flat h.is_flat
+        one_flat_system others g.kinds h.kinds s t (record { items_same = λ i k. (kinds k).item i; locals_same = λ i j k. (kinds k).local i j }) (subst (λ is. IsFlatOf is g.kinds s.equations s.outputs) system_items g.is_flat_of) h.is_flat_of g.is_flat h.is_flat g.needed h.needed
 
   -- ---- cycles of equations
   module _ (p q : Place) (names others : List (List ℕ)) (g : IsCyclic source p names) (h : IsCyclic source q others) where

@@ -3,6 +3,7 @@ use Rattle.std.proofs.Common.{◌≡◌, ℕ, List, [], None, Ok, Err, sym, subs
 use Rattle.std.specs.Prelude.{Result, IfOk}
 use Rattle.tsl_value.specs.declared.place.Place.{Place}
 use Rattle.flat_core.specs.Complete.{IsFlat}
+use Rattle.flat_core.specs.Needed.{RunsNeeded}
 use Rattle.flat_core.specs.System.{System}
 use Rattle.flat_core.specs.WellFormed.{IsWellFormed}
 use Rattle.spec_lexer.specs.declared.fault.LexFault.{LexFault}
@@ -72,12 +73,13 @@ module _ (source : List ℕ) where
       make_refused (make_fault.TooManyUpdates place) h =
           record { items = held; kinds = kinds; typed = held_typed; refused = (no_macro_cycle, nests, small, h) }
 
-      pub has_system : (s : System) → refused (all_marks held kinds) ≡ None → IsFlatOf held kinds s.equations s.outputs → IsFlat s → HasSystem source items s
-      has_system s few flat_of is_flat = subst (λ is. HasSystem source is s) same (record {
+      pub has_system : (s : System) → refused (all_marks held kinds) ≡ None → IsFlatOf held kinds s.equations s.outputs → IsFlat s → RunsNeeded s → HasSystem source items s
+      has_system s few flat_of is_flat needed = subst (λ is. HasSystem source is s) same (record {
         kinds = kinds;
         specifies = record { typed = held_typed; no_macro_cycle = no_macro_cycle; nests = nests; small = small; few = few };
         is_flat_of = flat_of;
         is_flat = is_flat;
+        needed = needed;
       })
 
 -- ---- the whole

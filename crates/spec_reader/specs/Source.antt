@@ -5,6 +5,7 @@ use Rattle.std.specs.Option.{option_map_or, option_and_then}
 use Rattle.tsl_value.specs.declared.place.Place.{Place}
 use Rattle.flat_core.specs.declared.equation.Equation.{Equation}
 use Rattle.flat_core.specs.Complete.{IsFlat}
+use Rattle.flat_core.specs.Needed.{RunsNeeded}
 use Rattle.flat_core.specs.System.{System, equation}
 use Rattle.flat_core.specs.WellFormed.{IsWellFormed}
 use Rattle.spec_lexer.specs.declared.token.Token.{Token}
@@ -58,12 +59,13 @@ pub record Specifies (source : List ℕ) (items : List tree.Item) (kinds : Kinds
   pub small : too_large_bodies items ≡ []
   pub few : refused (all_marks items kinds) ≡ None
 
--- their flat system
+-- their flat system, in which just those equations run that the outputs need
 pub record HasSystem (source : List ℕ) (items : List tree.Item) (s : System) : Type 0 where
   pub kinds : Kinds
   pub specifies : Specifies source items kinds
   pub is_flat_of : IsFlatOf items kinds s.equations s.outputs
   pub is_flat : IsFlat s
+  pub needed : RunsNeeded s
 
 -- The source is a specification that can be run: these items, which mean this system.
 pub record SpellsSystem (source : List ℕ) (items : List tree.Item) (s : System) : Type 0 where

@@ -4,7 +4,9 @@ ghost use Rattle.std.specs.Prelude.{◌≡◌};
 
 use spec_lexer::fault::LexFault;
 use spec_parser::parse::ParseFault;
+use std::fmt::{self, Debug, Display, Formatter, Write};
 use stream_constructs::maker::MakeFault;
+use thiserror::Error;
 use tsl_value::memory::NoMemory;
 use tsl_value::place::Place;
 use tsl_value::text::Text;
@@ -28,23 +30,37 @@ pub enum FlatFault {
     TooManyUpdates { place: Place },
 }
 
-/// Why a source is no specification that can be run.
-#[derive(Drop)]
+/// Why a source is no specification that can be run. As text it is one word for its kind; what is told of it stands in the message
+/// of the program.
+#[derive(Drop, Error)]
 pub enum SpecFault {
     /// The source has no tokens. The fault is never `LexFault::Memory`.
+    #[error("tokens")]
     Lex(LexFault),
     /// The source's tokens have no tree. The fault is never `ParseFault::Memory`.
+    #[error("grammar")]
     Parse(ParseFault),
     /// The check of names and types refuses the tree. The fault is never `TypeFault::Memory`.
+    #[error("types")]
     Types(TypeFault),
     /// No flat system is made of the tree.
+    #[error("limits")]
     Flat(FlatFault),
     /// Equations wait for each other at the same time: a cycle of arguments that passes through no first argument of a `last` or
     /// a `delay`. The members are named in the order in which each waits for the one before it, from the least on; an equation without a
     /// name is called by its number, as `%7`. The place is that of the first.
+    #[error("cycle")]
     Cycle { place: Place, names: Vec<Text> },
     /// Memory was wanting.
+    #[error("memory")]
     Memory,
+}
+
+/// The same word as the text has.
+impl Debug for SpecFault {
+    fn fmt<W: Write>(&self, f: &mut Formatter<W>) -> Result<(), fmt::Error> {
+        Display::fmt(self, f)
+    }
 }
 
 impl From<LexFault> for SpecFault {

@@ -100,6 +100,7 @@ fn is_update(op: &Op) -> bool
 impl Maker {
     ghost use Rattle.flat_core.specs.System.{with_name};
     ghost use Rattle.flat_core.specs.Complete.{IsComplete, IsFlat};
+    ghost use Rattle.flat_core.specs.Needed.{RunsNeeded};
 
     /// No equation and no output.
     pub fn new(alloc: Global) -> Maker
@@ -192,6 +193,7 @@ impl Maker {
         ensures equations { IfOk result (λ f. f.equations ≡ self.equations) }
         ensures outputs { IfOk result (λ f. f.outputs ≡ self.outputs) }
         ensures is_flat { IfOk result (λ f. IsFlat f) }
+        ensures needed { IfOk result (λ f. RunsNeeded f) }
     {
         self.builder.finish()
     }

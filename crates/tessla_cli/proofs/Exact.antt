@@ -1,11 +1,14 @@
 -- The causes of the endings exclude each other.
-use Rattle.std.proofs.Common.{◌≡◌, ◌⊎◌, inl, inr, ℕ, Bool, true, false, List, Option, Some, None, is_some, refl, sym, ◌∙◌, ap, subst}
-use Rattle.std.specs.Prelude.{IsFalse}
+use Rattle.std.proofs.Common.{◌≡◌, ◌⊎◌, inl, inr, ℕ, ◌<◌, take, length, slice_get, arith, Bool, true, false, List, Option, Some, None, is_some, refl, sym, ◌∙◌, ap, subst}
 use Rattle.lift_func.specs.declared.fault.FaultKind.{FaultKind}
-use Rattle.flat_core.specs.Case.{Streams}
+use Rattle.flat_core.specs.Line.{Line}
+use Rattle.flat_meaning.proofs.Rising.{rising, same_rising}
+use Rattle.spec_meaning.specs.Due.{AreInstants}
+use Rattle.spec_parser.specs.Tree as tree
+use Rattle.std.specs.List.{Contains}
+use Rattle.std.proofs.lemmas.Option.{slice_get_within}
+use Rattle.tsl_value.specs.declared.place.Place.{Place}
 use Rattle.flat_core.specs.System.{System}
-use Rattle.flat_core.proofs.Alike.{named_faulty}
-use Rattle.flat_core.proofs.Members.{all_at}
 use Rattle.tsl_world.specs.declared.outside.Did.{Did}
 use Rattle.tsl_world.specs.declared.outside.Slot.TheVariants.{Spec, Trace}
 use Rattle.tsl_world.specs.Journal.{taken, ended}
@@ -14,48 +17,64 @@ use Rattle.spec_reader.proofs.LawLemmas.{one_system, refused_spells_none}
 use Rattle.tessla_cli.specs.declared.ending.Ending.{Ending}
 use Rattle.tessla_cli.specs.declared.ending.Ending.TheVariants as ending
 use Rattle.tessla_cli.specs.declared.options.Options.{Options}
-use Rattle.tessla_cli.specs.Conduct.{EndsRun, RunEnds, SpecRefused, options_of}
-use Rattle.tessla_cli.specs.Due.{SolvesClosed, refused_in}
-use Rattle.tessla_cli.specs.Ending.{IsQuiet, IsFaulted, IsLimited}
+use Rattle.tessla_cli.specs.Conduct.{EndsRun, RunEnds, SpecRefused}
+use Rattle.tessla_cli.specs.Headline.{options_of}
+use Rattle.tessla_cli.specs.Due.{lines_in, bound_in, refused_in}
+use Rattle.tessla_cli.specs.Meant.{QuietIsMeant, FaultIsMeant, LimitIsMeant, EndsAsMeant}
 use Rattle.tessla_cli.specs.Messages.{status_of}
 use Rattle.tessla_cli.specs.Outcome.{Concludes, Outcome, IsExact}
 use Rattle.tessla_cli.specs.Outcome.Outcome.{told, outside, memory}
-use Rattle.tessla_cli.specs.Parts.{EndsBy}
 use Rattle.tessla_cli.specs.Words.{Run}
 
 nothing_some : {A : Type 0} (x : Option A) (a : A) → x ≡ None → x ≡ Some a → ⊥
 nothing_some x a none some = absurd (let e : false ≡ true = ap is_some (sym none ∙ some) in cc)
 
-module _ (s : System) (o : Options) (bytes : List ℕ) (end : Bool) (z : Streams) (zs : SolvesClosed s o bytes end z) where
-  loud : (t i : ℕ) (kind : FaultKind) → IsQuiet s o bytes end → IsFaulted s o bytes end t i kind → ⊥
-  loud t i kind quiet faulted = (quiet z zs).no_fault t i kind (faulted z zs)
+module _ (items : List tree.Item) (lines : List Line) (bound limit : ℕ) where
+  -- the instants below the bound
+  one_list : (xs ys : List ℕ) → AreInstants items lines bound xs → AreInstants items lines bound ys → xs ≡ ys
+  one_list xs ys a b = same_rising 0 0 xs ys (rising xs a.rising) (rising ys b.rising) (λ t c. (b.each t).1 ((a.each t).0 c)) (λ t c. (a.each t).1 ((b.each t).0 c))
 
-  long : (t : ℕ) → IsQuiet s o bytes end → IsLimited s o bytes end t → ⊥
-  long t quiet limited = (quiet z zs).no_limit t (limited z zs)
+  loud : (t : ℕ) (place : Place) (kind : FaultKind) → QuietIsMeant items lines bound limit → FaultIsMeant items lines bound limit t place kind → ⊥
+  loud t place kind quiet fault =
+      let same = one_list fault.instants quiet.instants fault.are quiet.are in
+      quiet.sound t (subst (λ (l : List ℕ). Contains (take limit l) t) same fault.within) record { at = fault.root.at; kind = kind; root = fault.root.root }
 
-  both : (t i u : ℕ) (kind : FaultKind) → IsFaulted s o bytes end t i kind → IsLimited s o bytes end u → ⊥
-  both t i u kind faulted limited =
-      let first = faulted z zs in
-      let sound = all_at _ _ (limited z zs).sound t first.within in
-      let there = named_faulty s _ z t i kind first.named in
-      absurd (let e : true ≡ false = subst (λ (b : Bool). IsFalse b) there sound in cc)
+  long : (t : ℕ) → QuietIsMeant items lines bound limit → LimitIsMeant items lines bound limit t → ⊥
+  long t quiet limited =
+      let same = one_list limited.instants quiet.instants limited.are quiet.are in
+      let there : slice_get quiet.instants limit ≡ Some t = subst (λ (l : List ℕ). slice_get l limit ≡ Some t) same limited.next in
+      let lt : limit < length quiet.instants = slice_get_within quiet.instants limit t there in
+      let few = quiet.few in
+      absurd (omega arith)
 
-  same_status : (by other : Ending) → EndsBy s o bytes end by → EndsBy s o bytes end other → status_of by ≡ status_of other
+  both : (t u : ℕ) (place : Place) (kind : FaultKind) → FaultIsMeant items lines bound limit t place kind → LimitIsMeant items lines bound limit u → ⊥
+  both t u place kind fault limited =
+      let same = one_list fault.instants limited.instants fault.are limited.are in
+      limited.sound t (subst (λ (l : List ℕ). Contains (take limit l) t) same fault.within) record { at = fault.root.at; kind = kind; root = fault.root.root }
+
+module _ (items : List tree.Item) (s : System) (o : Options) (bytes : List ℕ) (end : Bool) where
+  abbrev lines : List Line
+  lines = lines_in s o bytes end
+
+  abbrev bound : ℕ
+  bound = bound_in s o bytes end
+
+  same_status : (by other : Ending) → EndsAsMeant items s o bytes end by → EndsAsMeant items s o bytes end other → status_of by ≡ status_of other
   same_status ending.Done ending.Done a b = refl
   same_status ending.Done (ending.Trace f) a b = absurd (nothing_some (refused_in s o bytes end) f a.1 b.0)
-  same_status ending.Done (ending.Fault t kind place) a (i, at, faulted) = absurd (loud t i kind a.2 faulted)
-  same_status ending.Done (ending.Limit n t) a b = absurd (long t a.2 b.1)
+  same_status ending.Done (ending.Fault t kind place) a b = absurd (loud items lines bound o.instants t place kind a.2 b.0)
+  same_status ending.Done (ending.Limit n t) a b = absurd (long items lines bound o.instants t a.2 b.1)
   same_status (ending.Trace f) ending.Done a b = absurd (nothing_some (refused_in s o bytes end) f b.1 a.0)
   same_status (ending.Trace f) (ending.Trace g) a b = refl
-  same_status (ending.Trace f) (ending.Fault t kind place) a (i, at, faulted) = absurd (loud t i kind a.1 faulted)
-  same_status (ending.Trace f) (ending.Limit n t) a b = absurd (long t a.1 b.1)
-  same_status (ending.Fault t kind place) ending.Done (i, at, faulted) b = absurd (loud t i kind b.2 faulted)
-  same_status (ending.Fault t kind place) (ending.Trace f) (i, at, faulted) b = absurd (loud t i kind b.1 faulted)
+  same_status (ending.Trace f) (ending.Fault t kind place) a b = absurd (loud items lines bound o.instants t place kind a.1 b.0)
+  same_status (ending.Trace f) (ending.Limit n t) a b = absurd (long items lines bound o.instants t a.1 b.1)
+  same_status (ending.Fault t kind place) ending.Done a b = absurd (loud items lines bound o.instants t place kind b.2 a.0)
+  same_status (ending.Fault t kind place) (ending.Trace f) a b = absurd (loud items lines bound o.instants t place kind b.1 a.0)
   same_status (ending.Fault t kind place) (ending.Fault u l at) a b = refl
-  same_status (ending.Fault t kind place) (ending.Limit n u) (i, at, faulted) b = absurd (both t i u kind faulted b.1)
-  same_status (ending.Limit n t) ending.Done a b = absurd (long t b.2 a.1)
-  same_status (ending.Limit n t) (ending.Trace f) a b = absurd (long t b.1 a.1)
-  same_status (ending.Limit n u) (ending.Fault t kind place) a (i, at, faulted) = absurd (both t i u kind faulted a.1)
+  same_status (ending.Fault t kind place) (ending.Limit n u) a b = absurd (both items lines bound o.instants t u place kind a.0 b.1)
+  same_status (ending.Limit n t) ending.Done a b = absurd (long items lines bound o.instants t b.2 a.1)
+  same_status (ending.Limit n t) (ending.Trace f) a b = absurd (long items lines bound o.instants t b.1 a.1)
+  same_status (ending.Limit n u) (ending.Fault t kind place) a b = absurd (both items lines bound o.instants t u place kind b.0 a.1)
   same_status (ending.Limit n t) (ending.Limit m u) a b = refl
   same_status ending.Words other a b = absurd a
   same_status (ending.Spec place) other a b = absurd a
@@ -77,12 +96,12 @@ module _ (words : List (List ℕ)) (part : List Did) where
   one_run : (by other : Ending) → EndsRun words by part → EndsRun words other part → status_of by ≡ status_of other
   one_run by other a b =
       let runs : b.run ≡ a.run = ap (run_or a.run) (sym b.asked ∙ a.asked) in
-      let systems : b.system ≡ a.system = (one_system (taken Spec part) b.items a.items b.system a.system b.spelled a.spelled).1 in
-      let cause : EndsBy a.system (options_of a.run) (taken Trace part) (ended Trace part) other =
-      subst (λ (s : System). EndsBy s (options_of a.run) (taken Trace part) (ended Trace part) other) systems
-      (subst (λ (r : Run). EndsBy b.system (options_of r) (taken Trace part) (ended Trace part) other) runs b.holds.ends.cause) in
-      let (z, zs) = a.holds.due.due.solved in
-      same_status a.system (options_of a.run) (taken Trace part) (ended Trace part) z zs by other a.holds.ends.cause cause
+      let one = one_system (taken Spec part) b.items a.items b.system a.system b.spelled a.spelled in
+      let of : EndsAsMeant a.items a.system (options_of a.run) (taken Trace part) (ended Trace part) other =
+      subst (λ (l : List tree.Item). EndsAsMeant l a.system (options_of a.run) (taken Trace part) (ended Trace part) other) one.0
+      (subst (λ (s : System). EndsAsMeant b.items s (options_of a.run) (taken Trace part) (ended Trace part) other) one.1
+      (subst (λ (r : Run). EndsAsMeant b.items b.system (options_of r) (taken Trace part) (ended Trace part) other) runs b.holds.ends)) in
+      same_status a.items a.system (options_of a.run) (taken Trace part) (ended Trace part) by other a.holds.ends of
 
   spec_or_run : (fault : SpecFault) (by : Ending) → SpecRefused words fault part → EndsRun words by part → ⊥
   spec_or_run fault by refused ends = refused_spells_none (taken Spec part) fault ends.items ends.system refused.refused.0 refused.refused.1 ends.spelled

@@ -17,7 +17,8 @@ use Rattle.spec_parser.specs.Tree as tree
 use Rattle.spec_reader.specs.Source.{SpellsSystem}
 use Rattle.tessla_cli.specs.declared.ending.Ending.{Ending}
 use Rattle.tessla_cli.specs.declared.options.Options.{Options}
-use Rattle.tessla_cli.specs.Conduct.{HasWhole, IsBeforeOpening, MakesNothing, ReadsSpecFirst, StopsAtLimit, ReadsPieces, OfRun, OpensAsAsked, IsDueAtReads, GoesOnAtReads, IsPartlyDue, options_of}
+use Rattle.tessla_cli.specs.Conduct.{HasWhole, IsBeforeOpening, MakesNothing, ReadsSpecFirst, StopsAtLimit, ReadsPieces, OpensAsAsked, GoesOnAtReads, IsPartlyDue}
+use Rattle.tessla_cli.specs.Headline.{OfRun, IsDueAtReads, options_of}
 use Rattle.tessla_cli.specs.Due.{IsDue}
 use Rattle.tessla_cli.specs.Ending.{GoesOn}
 use Rattle.tessla_cli.specs.Meant.{IsDueAsMeant, GoesOnAsMeant, BeginsAsMeant, WatchEndsAsMeant}

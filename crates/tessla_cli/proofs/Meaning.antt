@@ -31,7 +31,7 @@ use Rattle.tessla_cli.specs.declared.ending.Ending.TheVariants as ending
 use Rattle.tessla_cli.specs.declared.options.Options.{Options}
 use Rattle.tessla_cli.specs.Due.{IsDue, SolvesClosed, lines_in, bound_in}
 use Rattle.tessla_cli.specs.Ending.{GoesOn, IsQuiet}
-use Rattle.tessla_cli.specs.Meant.{FaultIsMeant, QuietIsMeant, LimitIsMeant, IsDueAsMeant, GoesOnAsMeant, CauseIsMeant, EndsAsMeant, BeginsAsMeant, WatchEndsAsMeant}
+use Rattle.tessla_cli.specs.Meant.{FaultIsMeant, QuietIsMeant, LimitIsMeant, IsDueAsMeant, GoesOnAsMeant, EndsAsMeant, BeginsAsMeant, WatchEndsAsMeant}
 use Rattle.tessla_cli.specs.Parts.{IsPlaceOf, EndsBy, BeginsDue, WatchEnds}
 use Rattle.tessla_cli.specs.Ready.{IsReady}
 use Rattle.tessla_cli.proofs.FirstInstants.{Listed, first_sound, first_few}
@@ -103,11 +103,11 @@ module _ (source : List ℕ) (items : List tree.Item) (s : System) (o : Options)
 
     module _ (z : Streams) (zs : SolvesClosed s o bytes ended z) where
       same : MeansTheSame items s lines bound z
-      same = flat_means_the_same the_laws items spelled.system.kinds s lines bound z spelled.system.is_flat_of spelled.system.is_flat spelled.well_formed zs
+      same = flat_means_the_same the_laws items spelled.system.kinds s lines bound z spelled.system.is_flat_of spelled.system.is_flat spelled.system.needed spelled.well_formed zs
 
       text_meant : IsDueText items lines bound o.instants (due_text s lines z bound o.instants)
       text_meant =
-          flat_text_is_due the_laws items spelled.system.kinds s lines bound o.instants z spelled.system.is_flat_of spelled.system.is_flat spelled.well_formed zs
+          flat_text_is_due the_laws items spelled.system.kinds s lines bound o.instants z spelled.system.is_flat_of spelled.system.is_flat spelled.system.needed spelled.well_formed zs
 
       happens : HappensAtInstants s lines bound z
       happens =
@@ -115,28 +115,22 @@ module _ (source : List ℕ) (items : List tree.Item) (s : System) (o : Options)
           happens_at_instants s lines z bound flat.proper flat.complete.typed (rank_of s spelled.well_formed) (well_formed_ranked s spelled.well_formed) zs
 
     pub due_meant : (text : List ℕ) → IsDue s o bytes ended text → IsDueAsMeant items s o bytes ended text
-    due_meant text due = let (z, zs) = due.solved in record {
-      due = due;
-      means = subst (λ (l : List ℕ). IsDueText items lines bound o.instants l) (sym (due.is z zs)) (text_meant z zs);
-    }
+    due_meant text due = let (z, zs) = due.solved in subst (λ (l : List ℕ). IsDueText items lines bound o.instants l) (sym (due.is z zs)) (text_meant z zs)
 
     quiet_meant : IsQuiet s o bytes ended → QuietIsMeant items lines bound o.instants
     quiet_meant quiet = let (z, zs) = solution in quiet_is_meant items s lines bound o.instants z (same z zs) (happens z zs) (quiet z zs)
 
-    cause_meant : (by : Ending) → EndsBy s o bytes ended by → CauseIsMeant items s o bytes ended by
-    cause_meant ending.Done cause = quiet_meant cause.2
-    cause_meant (ending.Trace fault) cause = quiet_meant cause.1
-    cause_meant (ending.Fault time kind place) (i, at, faulted) =
-        let (z, zs) = solution in fault_is_meant items s lines bound o.instants z (same z zs) time i kind o place at (faulted z zs)
-    cause_meant (ending.Limit count time) cause = let (z, zs) = solution in limit_is_meant items s lines bound o.instants z (same z zs) time (cause.1 z zs)
-    cause_meant ending.Words cause = cause
-    cause_meant (ending.Spec fault) cause = cause
-
     pub ends_meant : (by : Ending) → EndsBy s o bytes ended by → EndsAsMeant items s o bytes ended by
-    ends_meant by cause = record { cause = cause; means = cause_meant by cause }
+    ends_meant ending.Done cause = (cause.0, cause.1, quiet_meant cause.2)
+    ends_meant (ending.Trace fault) cause = (cause.0, quiet_meant cause.1)
+    ends_meant (ending.Fault time kind place) (i, at, faulted) =
+        let (z, zs) = solution in (fault_is_meant items s lines bound o.instants z (same z zs) time i kind o place at (faulted z zs), (i, at, faulted))
+    ends_meant (ending.Limit count time) cause = let (z, zs) = solution in (cause.0, limit_is_meant items s lines bound o.instants z (same z zs) time (cause.1 z zs))
+    ends_meant ending.Words cause = cause
+    ends_meant (ending.Spec fault) cause = cause
 
   pub goes_on_meant : (bytes : List ℕ) → GoesOn s o bytes → GoesOnAsMeant items s o bytes
-  goes_on_meant bytes goes_on = record { goes_on = goes_on; quiet = quiet_meant bytes false goes_on.quiet }
+  goes_on_meant bytes goes_on = record { accepted = goes_on.accepted; quiet = quiet_meant bytes false goes_on.quiet }
 
   pub begins_meant : (part : List Did) → BeginsDue s o part → BeginsAsMeant items s o part
   begins_meant part b = record { text = b.text; due = due_meant (taken Trace part) (ended Trace part) b.text b.due; begins = b.begins }

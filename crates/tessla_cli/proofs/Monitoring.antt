@@ -14,7 +14,7 @@ use Rattle.plain_solver.specs.declared.solve.End.{End}
 use Rattle.plain_solver.specs.declared.solve.End.TheVariants as end
 use Rattle.flat_core.proofs.Uniqueness.{all_by}
 use Rattle.plain_solver.specs.Ending.{EndsSo}
-use Rattle.plain_solver.specs.Typed.{IsTypedLine, AreTypedLines}
+use Rattle.flat_core.specs.TypedLines.{IsTypedLine, AreTypedLines}
 use Rattle.trace_reader.specs.declared.fault.TraceFault.{TraceFault}
 use Rattle.trace_reader.specs.declared.fault.TraceFault.TheVariants as fault
 use Rattle.trace_reader.specs.declared.next.Rest.{Rest}

@@ -21,7 +21,8 @@ use Rattle.tessla_cli.specs.declared.ending.Ending.TheVariants as ending
 use Rattle.tessla_cli.specs.declared.ending.Broken.{Broken}
 use Rattle.tessla_cli.specs.declared.ending.Broken.TheVariants as broken
 use Rattle.tessla_cli.specs.declared.options.Options.{Options}
-use Rattle.tessla_cli.specs.Conduct.{HasWhole, IsBeforeOpening, OfRun, EndsRun, SpecRefused, IsPartlyDue, RunEnds, options_of, source_limit}
+use Rattle.tessla_cli.specs.Conduct.{HasWhole, IsBeforeOpening, EndsRun, SpecRefused, IsPartlyDue, RunEnds, source_limit}
+use Rattle.tessla_cli.specs.Headline.{OfRun, options_of}
 use Rattle.tessla_cli.specs.Meant.{IsDueAsMeant, EndsAsMeant, BeginsAsMeant, WatchEndsAsMeant}
 use Rattle.tessla_cli.specs.Messages.{ending_line, broken_line, broken_status, status_of}
 use Rattle.tessla_cli.specs.Outcome.{Ends, Faulted, TellsSome, cut_short, unfinished, Outcome, told, outside, memory, ShowsAlways, Concludes, Tells, TellsBroken, all_of_broken, some_of_broken, TellsEnding, all_of_ending, some_of_ending, no_line}
@@ -34,8 +35,8 @@ module _ (words : List (List ℕ)) where
   -- only these endings have a cause in the trace
   of_watch : (by : Ending) (part : List Did) → EndsRun words by part → RunEnds words by part
   of_watch ending.Done part f = f
-  of_watch ending.Words part f = absurd f.holds.ends.cause
-  of_watch (ending.Spec fault) part f = absurd f.holds.ends.cause
+  of_watch ending.Words part f = absurd f.holds.ends
+  of_watch (ending.Spec fault) part f = absurd f.holds.ends
   of_watch (ending.Trace fault) part f = f
   of_watch (ending.Fault t k p) part f = f
   of_watch (ending.Limit n t) part f = f

@@ -1,30 +1,23 @@
 -- What the program does to the outside, as the journal of its calls has it.
 use Rattle.std.specs.Prelude.{◌≡◌, ◌⊎◌, ℕ, ◌<◌, ◌≤◌, true, false, List, [], ◌∷◌, ◌++◌, length, Some, None}
-use Rattle.flat_core.specs.System.{System}
 use Rattle.tsl_world.specs.declared.outside.Did.{Did}
 use Rattle.tsl_world.specs.declared.outside.Slot.{Slot}
 use Rattle.tsl_world.specs.declared.outside.Slot.TheVariants.{Spec, Trace}
 use Rattle.tsl_world.specs.declared.outside.Channel.TheVariants.{Out}
 use Rattle.tsl_world.specs.Journal.{given, taken, ended, opening, openings, creations, AtReads, IsWithin, Each}
-use Rattle.spec_parser.specs.Tree as tree
 use Rattle.spec_reader.specs.declared.fault.SpecFault.{SpecFault}
-use Rattle.spec_reader.specs.Source.{SpellsSystem}
 use Rattle.tessla_cli.specs.Compiled.{IsRefusedBy}
 use Rattle.tessla_cli.specs.declared.ending.Ending.{Ending}
 use Rattle.tessla_cli.specs.declared.ending.Ending.TheVariants as ending
-use Rattle.tessla_cli.specs.declared.options.Options.{Options}
 use Rattle.tessla_cli.specs.Words.{Run, command_of}
 use Rattle.tsl_world.specs.Begins.{Begins}
-use Rattle.tessla_cli.specs.Meant.{IsDueAsMeant, GoesOnAsMeant, BeginsAsMeant, WatchEndsAsMeant}
+use Rattle.tessla_cli.specs.Meant.{GoesOnAsMeant, BeginsAsMeant, WatchEndsAsMeant}
+use Rattle.tessla_cli.specs.Headline.{OfRun}
 use Rattle.tessla_cli.specs.Parts.{most_taken}
 
 -- a specification is refused where it has more bytes than this
 abbrev pub source_limit : ℕ
 source_limit = 1_048_576
-
--- how far the run goes
-abbrev pub options_of : Run → Options
-options_of run = record { until = run.until; instants = run.instants; bytes = run.bytes; strict = run.strict }
 
 -- the specification was read to its end, or past its limit
 abbrev pub HasWhole : List Did → Type 0
@@ -55,36 +48,22 @@ abbrev pub ReadsPieces : List Did → Type 0
 ReadsPieces part = Each (IsWithin most_taken) part
 
 module _ (words : List (List ℕ)) where
-  -- A fact about the items that the specification spells, as far as it was taken, about the system that they mean, and about how far the
-  -- run goes that the words ask for.
-  pub record OfRun (journal : List Did) (P : List tree.Item → System → Options → Type 0) : Type 0 where
-    pub run : Run
-    pub asked : command_of words ≡ Some run
-    pub items : List tree.Item
-    pub system : System
-    pub spelled : SpellsSystem (taken Spec journal) items system
-    pub holds : P items system (options_of run)
-
   -- Nothing is opened but the specification and then the trace that the words name, each once and each whether it could be opened or not.
   abbrev pub OpensAsAsked : List Did → Type 0
   OpensAsAsked part =
       (openings part ≡ []) ⊎ ((run : Run) × (command_of words ≡ Some run) × Begins (openings part) ((Spec, run.spec) ∷ (Trace, run.trace) ∷ []))
 
-  -- THE HEADLINE. Before each read of the trace, the bytes given to Out are the text that is due of the trace bytes taken before.
-  abbrev pub IsDueAtReads : List Did → Type 0
-  IsDueAtReads part = AtReads Trace (λ before. OfRun before (λ items s o. IsDueAsMeant items s o (taken Trace before) false (given Out before))) part
-
   -- No read of the trace follows once the bytes taken hold a refused line, close a fault or pass the limit of instants.
   abbrev pub GoesOnAtReads : List Did → Type 0
-  GoesOnAtReads part = AtReads Trace (λ before. OfRun before (λ items s o. GoesOnAsMeant items s o (taken Trace before))) part
+  GoesOnAtReads part = AtReads Trace (λ before. OfRun words before (λ items s o. GoesOnAsMeant items s o (taken Trace before))) part
 
   -- Whatever ends the program, what Out was given is nothing, or begins the text that is due of all that was taken of the trace.
   abbrev pub IsPartlyDue : List Did → Type 0
-  IsPartlyDue part = (given Out part ≡ []) ⊎ OfRun part (λ items s o. BeginsAsMeant items s o part)
+  IsPartlyDue part = (given Out part ≡ []) ⊎ OfRun words part (λ items s o. BeginsAsMeant items s o part)
 
   -- All the text that is due of what was taken was given to Out, and this is the cause of the ending.
   abbrev pub EndsRun : Ending → List Did → Type 0
-  EndsRun by part = OfRun part (λ items s o. WatchEndsAsMeant items s o by part)
+  EndsRun by part = OfRun words part (λ items s o. WatchEndsAsMeant items s o by part)
 
   -- The specification that the words name was read to its end or past its limit, and it is refused. The trace is not opened.
   pub record SpecRefused (fault : SpecFault) (part : List Did) : Type 0 where

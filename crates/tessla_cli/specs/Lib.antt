@@ -7,6 +7,7 @@ pub mod Parts
 pub mod Monitor
 pub mod Ready
 pub mod Meant
+pub mod Headline
 pub mod Conduct
 pub mod Outcome
 pub mod Compiled

@@ -1,5 +1,5 @@
 -- What is due and how a run stands, by the meaning of the specification itself.
-use Rattle.std.specs.Prelude.{◌≡◌, ℕ, ◌<◌, ◌≤◌, Bool, false, List, length, take, Some, slice_get}
+use Rattle.std.specs.Prelude.{◌≡◌, ℕ, ◌<◌, ◌≤◌, Bool, true, false, List, length, take, Some, None, slice_get}
 use Rattle.std.specs.List.{Contains}
 use Rattle.lift_func.specs.declared.fault.FaultKind.{FaultKind}
 use Rattle.flat_core.specs.Line.{Line, inputs_of}
@@ -16,9 +16,9 @@ use Rattle.tsl_world.specs.declared.outside.Slot.TheVariants.{Trace}
 use Rattle.tessla_cli.specs.declared.ending.Ending.{Ending}
 use Rattle.tessla_cli.specs.declared.ending.Ending.TheVariants as ending
 use Rattle.tessla_cli.specs.declared.options.Options.{Options}
-use Rattle.tessla_cli.specs.Due.{IsDue, lines_in, bound_in}
-use Rattle.tessla_cli.specs.Ending.{GoesOn}
-use Rattle.tessla_cli.specs.Parts.{EndsBy}
+use Rattle.tessla_cli.specs.Due.{lines_in, refused_in, bound_in}
+use Rattle.tessla_cli.specs.Ending.{IsFaulted}
+use Rattle.tessla_cli.specs.Parts.{IsPlaceOf}
 
 -- for the lines of a trace, of which the times below a bound are closed, and a limit of instants
 module _ (items : List tree.Item) (lines : List Line) (bound limit : ℕ) where
@@ -46,31 +46,35 @@ module _ (items : List tree.Item) (lines : List Line) (bound limit : ℕ) where
     pub sound : (u : ℕ) → Contains (take limit instants) u → IsFaulty items lines u → ⊥
     pub next : slice_get instants limit ≡ Some t
 
--- for the items of a specification, and the flat system that they mean
+-- For the items of a specification and the flat system that they mean. Of the system, what is due takes the inputs alone: by them the
+-- lines of the trace are read, and so the bound below which times are closed.
 module _ (items : List tree.Item) (s : System) (o : Options) where
   -- the text is due of these bytes of the trace
-  pub record IsDueAsMeant (bytes : List ℕ) (ended : Bool) (text : List ℕ) : Type 0 where
-    pub due : IsDue s o bytes ended text
-    pub means : IsDueText items (lines_in s o bytes ended) (bound_in s o bytes ended) o.instants text
+  abbrev pub IsDueAsMeant : List ℕ → Bool → List ℕ → Type 0
+  IsDueAsMeant bytes ended text = IsDueText items (lines_in s o bytes ended) (bound_in s o bytes ended) o.instants text
 
-  -- a run goes on behind them
+  -- no fault is closed, and the limit of instants is not passed
+  abbrev pub IsQuietAsMeant : List ℕ → Bool → Type 0
+  IsQuietAsMeant bytes ended = QuietIsMeant items (lines_in s o bytes ended) (bound_in s o bytes ended) o.instants
+
+  -- a run goes on behind them: no line is refused either
   pub record GoesOnAsMeant (bytes : List ℕ) : Type 0 where
-    pub goes_on : GoesOn s o bytes
-    pub quiet : QuietIsMeant items (lines_in s o bytes false) (bound_in s o bytes false) o.instants
+    pub accepted : refused_in s o bytes false ≡ None
+    pub quiet : IsQuietAsMeant bytes false
+
+  -- Among the root faults at t the one that is named: that of the equation with the least number.
+  abbrev pub IsNamedFault : List ℕ → Bool → ℕ → Place → FaultKind → Type 0
+  IsNamedFault bytes is_end t place kind = (i : ℕ) × IsPlaceOf s o i place × IsFaulted s o bytes is_end t i kind
 
   -- the cause that the specification gives an ending there
-  abbrev pub CauseIsMeant : List ℕ → Bool → Ending → Type 0
-  CauseIsMeant bytes ended ending.Done = QuietIsMeant items (lines_in s o bytes ended) (bound_in s o bytes ended) o.instants
-  CauseIsMeant bytes ended (ending.Trace fault) = QuietIsMeant items (lines_in s o bytes ended) (bound_in s o bytes ended) o.instants
-  CauseIsMeant bytes ended (ending.Fault time kind place) =
-      FaultIsMeant items (lines_in s o bytes ended) (bound_in s o bytes ended) o.instants time place kind
-  CauseIsMeant bytes ended (ending.Limit count time) = LimitIsMeant items (lines_in s o bytes ended) (bound_in s o bytes ended) o.instants time
-  CauseIsMeant bytes ended _ = ⊥
-
-  -- a run ends there
-  pub record EndsAsMeant (bytes : List ℕ) (ended : Bool) (by : Ending) : Type 0 where
-    pub cause : EndsBy s o bytes ended by
-    pub means : CauseIsMeant bytes ended by
+  abbrev pub EndsAsMeant : List ℕ → Bool → Ending → Type 0
+  EndsAsMeant bytes ended ending.Done = (ended ≡ true) × (refused_in s o bytes ended ≡ None) × IsQuietAsMeant bytes ended
+  EndsAsMeant bytes ended (ending.Trace fault) = (refused_in s o bytes ended ≡ Some fault) × IsQuietAsMeant bytes ended
+  EndsAsMeant bytes ended (ending.Fault time kind place) =
+      FaultIsMeant items (lines_in s o bytes ended) (bound_in s o bytes ended) o.instants time place kind × IsNamedFault bytes ended time place kind
+  EndsAsMeant bytes ended (ending.Limit count time) =
+      (count ≡ o.instants) × LimitIsMeant items (lines_in s o bytes ended) (bound_in s o bytes ended) o.instants time
+  EndsAsMeant bytes ended _ = ⊥
 
   -- what was given to Out begins the text that is due of all that was taken
   pub record BeginsAsMeant (part : List Did) : Type 0 where

@@ -13,7 +13,8 @@ use Rattle.tessla_cli.specs.declared.ending.Ending.{Ending}
 use Rattle.tessla_cli.specs.declared.ending.Ending.TheVariants as ending
 use Rattle.tessla_cli.specs.declared.ending.Broken.{Broken}
 use Rattle.tessla_cli.specs.declared.ending.Broken.TheVariants as broken
-use Rattle.tessla_cli.specs.Conduct.{OpensAsAsked, MakesNothing, ReadsSpecFirst, StopsAtLimit, ReadsPieces, IsDueAtReads, GoesOnAtReads, IsPartlyDue, RunEnds}
+use Rattle.tessla_cli.specs.Conduct.{OpensAsAsked, MakesNothing, ReadsSpecFirst, StopsAtLimit, ReadsPieces, GoesOnAtReads, IsPartlyDue, RunEnds}
+use Rattle.tessla_cli.specs.Headline.{IsDueAtReads}
 use Rattle.tessla_cli.specs.Messages.{ending_line, broken_line, broken_status, status_of}
 
 -- this is what was given to Err

@@ -12,7 +12,8 @@ use Rattle.tessla_cli.specs.Compiled.{IsRefusedBy}
 use Rattle.tessla_cli.specs.declared.ending.Ending.{Ending}
 use Rattle.tessla_cli.specs.declared.ending.Ending.TheVariants as ending
 use Rattle.tessla_cli.specs.declared.options.Options.{Options}
-use Rattle.tessla_cli.specs.Conduct.{HasWhole, source_limit, options_of}
+use Rattle.tessla_cli.specs.Conduct.{HasWhole, source_limit}
+use Rattle.tessla_cli.specs.Headline.{options_of}
 use Rattle.tessla_cli.specs.Words.{Run, command_of}
 use Rattle.tessla_cli.specs.Parts.{IsTake, Watched, WatchEnds}
 

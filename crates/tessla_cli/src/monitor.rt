@@ -4,7 +4,7 @@ ghost use Rattle.std.specs.Prelude.{◌≡◌, ◌≢◌, ◌≤◌, ◌<◌, �
 ghost use Rattle.flat_core.specs.Dependency.{IsRunOrder};
 ghost use Rattle.flat_core.specs.Line.{IsSorted, last_time};
 ghost use Rattle.plain_solver.specs.Ending.{EndsSo};
-ghost use Rattle.plain_solver.specs.Typed.{AreTypedLines};
+ghost use Rattle.flat_core.specs.TypedLines.{AreTypedLines};
 ghost use Rattle.plain_solver.specs.declared.solve.End.{End};
 ghost use Rattle.tessla_cli.specs.Due.{IsDue, bound_in, lines_in, refused_in};
 ghost use Rattle.tessla_cli.specs.Monitor.{Fed, IsTextOf, IsThere, Kept, Takes, bound_of, ending_by};

@@ -7,7 +7,6 @@ use Rattle.std.proofs.lemmas.Bool.{cases_lt, or_from, or_parts, true≢false, fa
 use Rattle.tsl_value.specs.declared.scalar.ValueType.{ValueType}
 use Rattle.tsl_value.specs.View.{View, is_of}
 use Rattle.lift_func.specs.Apply.{Answer}
-use Rattle.lift_func.specs.Typing.{Optional, fits}
 use Rattle.flat_core.specs.declared.equation.Equation.{Equation}
 use Rattle.flat_core.specs.declared.equation.Op.{Op}
 use Rattle.flat_core.specs.declared.equation.Op.TheVariants as op
@@ -15,8 +14,11 @@ use Rattle.flat_core.specs.Stream.{Outcome, Event, Fault, History, event, has_ev
 use Rattle.flat_core.specs.Case.{Streams, Inputs, delayed, own, own_of, used_of, is_blocked, outcome_of, fault_of, root_of, root_fault}
 use Rattle.flat_core.specs.Fault.{root_at, is_faulty}
 use Rattle.flat_core.specs.System.{System, runs, equation}
+use Rattle.flat_core.specs.TypedEvents.{HasTypedEvents}
 use Rattle.flat_core.specs.TypedSystem.{AreOfTypes}
 use Rattle.flat_core.proofs.Members.{none_in}
+use Rattle.flat_core.proofs.TypedCase.{is_of_from}
+use Rattle.flat_core.proofs.TypedEvents.{events_typed}
 use Rattle.flat_core.proofs.Uniqueness.{all_used, all_with, used_all}
 use Rattle.flat_core.proofs.WellFormedRank.{rank_of, well_formed_ranked}
 use Rattle.trigger_rules.specs.declared.atom.Atom.TheVariants.{Start}
@@ -93,16 +95,15 @@ module _ (s : System) (inputs : Inputs) (bound : ℕ) (z : Streams) (t : ℕ) (u
   none_blocks (a ∷ args) all = or_from (is_fault (z a t)) (list_any (λ b. is_fault (z b t)) args) all.0 (none_blocks args all.1)
 
   -- ---- values have their types
-  fits_from : (of : ValueType) (v : Option View) → ((x : View) → v ≡ Some x → IsTrue (is_of of x)) → IsTrue (fits (Optional of) v)
-  fits_from of None each = refl
-  fits_from of (Some x) each = each x refl
+  typed_events : HasTypedEvents s bound z
+  typed_events = events_typed s inputs bound z up.proper up.typed up.well_formed up.typed_inputs up.solves
 
   values_typed : (args : List ℕ) (types : List ValueType) → AreOfTypes s.equations args types → AllByRecursion (λ a. IsTrue (runs s a)) args → AreOf types (map (λ a. event (z a t)) args)
   values_typed [] [] of run = tt
   values_typed [] (k ∷ types) of run = absurd of
   values_typed (a ∷ args) [] of run = absurd of
   values_typed (a ∷ args) (k ∷ types) of run = (
-    fits_from k (event (z a t)) (λ x is. subst (λ u. IsTrue (is_of u x)) of.0.of_is (up.typed_events.each a of.0.at run.0 of.0.is t up.below x is)),
+    is_of_from k (event (z a t)) (λ x is. subst (λ u. IsTrue (is_of u x)) of.0.of_is (typed_events.each a of.0.at run.0 of.0.is t up.below x is)),
     values_typed args types of.1 run.1,
   )
 
@@ -188,7 +189,7 @@ module _ (s : System) (inputs : Inputs) (bound : ℕ) (z : Streams) (t : ℕ) (u
   tabled x e is b met = subst (λ o. Met (formula s) (Starts s) z t (option_map_or (λ f. formula_of f.op x f.args) o Never) ↔ IsTrue b) (sym is) met
 
   at_start : IsUpToFault s inputs bound z 0
-  at_start = record { proper = up.proper; typed = up.typed; well_formed = up.well_formed; solves = up.solves; typed_events = up.typed_events; below = (let low = up.below in omega arith); sound = λ u lt. absurd (omega arith) }
+  at_start = record { proper = up.proper; typed = up.typed; well_formed = up.well_formed; solves = up.solves; typed_inputs = up.typed_inputs; below = (let low = up.below in omega arith); sound = λ u lt. absurd (omega arith) }
 
   -- what starts was before
   pub was_before : (v : ℕ) → IsTrue (runs s v) → Starts s v → IsFalse (t == 0) → IsTrue (is_some (latest (z v) t))

@@ -1,13 +1,13 @@
 -- What is at a time of a solution.
-use Rattle.std.specs.Prelude.{◌≡◌, ◌==◌, ℕ, ◌<◌, Bool, true, false, Option, Some, IsTrue, IsFalse}
+use Rattle.std.specs.Prelude.{◌==◌, ℕ, ◌<◌, Bool, true, false, Option, Some, IsFalse}
 use Rattle.tsl_value.specs.declared.scalar.Scalar.TheVariants as scalar
-use Rattle.tsl_value.specs.View.{View, Plain, is_of}
-use Rattle.flat_core.specs.declared.equation.Equation.{Equation}
+use Rattle.tsl_value.specs.View.{View, Plain}
 use Rattle.flat_core.specs.Case.{Streams, Inputs}
 use Rattle.flat_core.specs.Fault.{is_faulty}
 use Rattle.flat_core.specs.Solution.{Solves}
 use Rattle.flat_core.specs.Stream.{event, has_event}
-use Rattle.flat_core.specs.System.{System, runs, equation, IsProper}
+use Rattle.flat_core.specs.System.{System, IsProper}
+use Rattle.flat_core.specs.TypedEvents.{AreTypedInputs}
 use Rattle.flat_core.specs.TypedSystem.{IsTypedSystem}
 use Rattle.flat_core.specs.WellFormed.{IsWellFormed}
 use Rattle.trigger_rules.specs.declared.atom.Atom.TheVariants.{Start, Happens, Holds}
@@ -23,17 +23,13 @@ at_time z t Start = t == 0
 at_time z t (Happens x) = has_event (z x t)
 at_time z t (Holds c) = is_true (event (z c t))
 
--- each event of a running equation below a bound is of its type
-pub record HasTypedEvents (s : System) (bound : ℕ) (z : Streams) : Type 0 where
-  pub each : (i : ℕ) (e : Equation) → IsTrue (runs s i) → equation s i ≡ Some e → (t : ℕ) → t < bound → (v : View) → event (z i t) ≡ Some v → IsTrue (is_of e.of v)
-
--- The streams solve a well-formed system below a bound, t is below the bound, and no root fault came before t. So t is at most the
--- fault time, which is the least time with a root fault.
+-- The streams solve a well-formed system for typed inputs below a bound, t is below the bound, and no root fault came before t. So t is
+-- at most the fault time, which is the least time with a root fault.
 pub record IsUpToFault (s : System) (inputs : Inputs) (bound : ℕ) (z : Streams) (t : ℕ) : Type 0 where
   pub proper : IsProper s
   pub typed : IsTypedSystem s
   pub well_formed : IsWellFormed s
   pub solves : Solves s inputs bound z
-  pub typed_events : HasTypedEvents s bound z
+  pub typed_inputs : AreTypedInputs s inputs
   pub below : t < bound
   pub sound : (u : ℕ) → u < t → IsFalse (is_faulty s inputs z u)

@@ -90,25 +90,6 @@ fn memory_of_the_first_file(rt: HostRuntime) -> Result<(), Fail> {
 }
 
 #[test]
-fn memory_fails_as_listed(rt: HostRuntime) -> Result<(), Fail> {
-    let alloc = rt.alloc();
-    for listed in [0u64, 1, 2, 3] {
-        let mut fails = Calls::new(alloc);
-        fails.push(listed)?;
-        let mut world = MemoryWorld::new(alloc, two_files(alloc)?, 1, fails)?;
-        assert_eq!(rt;
-            reads(&mut world, "a").is_ok(),
-            listed == 3,
-            "call {listed}"
-        );
-        assert!(rt; world.is_told());
-    }
-    let mut world = MemoryWorld::new(alloc, two_files(alloc)?, 1, Calls::new(alloc))?;
-    assert_eq!(rt; reads(&mut world, "absent"), Err(Failed));
-    Ok(())
-}
-
-#[test]
 fn calm_without_failures(rt: HostRuntime) -> Result<(), Fail> {
     let alloc = rt.alloc();
     let mut world = CalmWorld::new(alloc, two_files(alloc)?, 2)?;

@@ -1,6 +1,6 @@
 -- Where there is no cycle the declared names are one thing, and so is the first fault.
-use Rattle.std.proofs.Common.{◌≡◌, ℕ, zero, suc, ◌+◌, ◌<◌, List, [], ◌∷◌, ◌++◌, length, eqb, true, Option, Some, None, refl, sym, ap, subst, ◌∙◌, inl, inr, arith, Contains}
-use Rattle.std.specs.Prelude.{slice_get}
+use Rattle.std.proofs.Common.{◌≡◌, ℕ, zero, suc, ◌+◌, ◌<◌, List, [], ◌∷◌, ◌++◌, length, eqb, true, Option, Some, None, Result, Ok, Err, refl, sym, ap, subst, ◌∙◌, inl, inr, arith, Contains}
+use Rattle.std.specs.Prelude.{slice_get, IfOk, IfErr}
 use Rattle.std.specs.List.{IsDistinct}
 use Rattle.std.proofs.lemmas.List.{length_push}
 use Rattle.std.proofs.lemmas.List.Elements.{Contains-push_cases}
@@ -21,6 +21,7 @@ use Rattle.type_check.specs.declared.slot.Slot.TheVariants as slot
 use Rattle.type_check.specs.declared.fault.TypeFault.{TypeFault}
 use Rattle.type_check.specs.declared.fault.TypeFault.TheVariants as fault
 use Rattle.type_check.specs.Slots.{slots, kind_in, kind_by, IsRight}
+use Rattle.type_check.specs.Answer.{IsAcceptedUnlessMemory, IsFaultOf, IsRefusedUnlessMemory}
 use Rattle.type_check.specs.Faults.{first_fault, early, late, HasNoCycle, IsAccepted, IsCycleFault, IsFirstFault, before_cycles, cycle, behind_cycles}
 use Rattle.type_check.specs.Laws.{SameKinds}
 use Rattle.type_check.proofs.SlotLemmas.{number_of, slot_number}
@@ -158,3 +159,14 @@ pub accepted_has_no_fault : (items : List tree.Item) (end : Place) (kinds : Kind
 accepted_has_no_fault items end kinds f is (before_cycles h) = no_first (early items) f is.no_early h
 accepted_has_no_fault items end kinds f is (cycle none h) = no_cycle_fault items f is.no_cycle h
 accepted_has_no_fault items end kinds f is (behind_cycles other none clear are h) = no_first (late items end other) f (late_same items end other kinds clear are is.are_kinds ∙ is.no_late) h
+
+-- ---- what the check answers is the only answer
+pub only_accepted : {X : Type 0} (r : Result X TypeFault) (items : List tree.Item) (end : Place) (kinds : Kinds) → IfErr r (IsFaultOf items end) → IsAccepted items end kinds → IsAcceptedUnlessMemory r
+only_accepted (Ok x) items end kinds err is = tt
+only_accepted (Err fault.Memory) items end kinds err is = tt
+only_accepted (Err f) items end kinds err is = accepted_has_no_fault items end kinds f is err
+
+pub only_fault : {X : Type 0} (r : Result X TypeFault) (items : List tree.Item) (end : Place) (f : TypeFault) (kinds_in : X → Kinds) → IfOk r (λ x. IsAccepted items end (kinds_in x)) → IfErr r (IsFaultOf items end) → IsFirstFault items end f → IsRefusedUnlessMemory r f
+only_fault (Ok x) items end f kinds_in ok err first = accepted_has_no_fault items end (kinds_in x) f ok first
+only_fault (Err fault.Memory) items end f kinds_in ok err first = tt
+only_fault (Err g) items end f kinds_in ok err first = one_fault items end g f err first

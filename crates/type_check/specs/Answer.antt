@@ -1,5 +1,5 @@
 -- What the check answers where it refuses.
-use Rattle.std.specs.Prelude.{List}
+use Rattle.std.specs.Prelude.{◌≡◌, List, Result, Ok, Err}
 use Rattle.tsl_value.specs.declared.place.Place.{Place}
 use Rattle.spec_parser.specs.Tree as tree
 use Rattle.type_check.specs.declared.fault.TypeFault.{TypeFault}
@@ -10,3 +10,15 @@ use Rattle.type_check.specs.Faults.{IsFirstFault}
 abbrev pub IsFaultOf : List tree.Item → Place → TypeFault → Type 0
 IsFaultOf items end fault.Memory = Unit {0}
 IsFaultOf items end f = IsFirstFault items end f
+
+-- where memory is not wanting, a specification without a fault is accepted
+abbrev pub IsAcceptedUnlessMemory : {X : Type 0} → Result X TypeFault → Type 0
+IsAcceptedUnlessMemory (Ok typed) = Unit {0}
+IsAcceptedUnlessMemory (Err fault.Memory) = Unit {0}
+IsAcceptedUnlessMemory (Err f) = ⊥
+
+-- and one with this fault is refused for it
+abbrev pub IsRefusedUnlessMemory : {X : Type 0} → Result X TypeFault → TypeFault → Type 0
+IsRefusedUnlessMemory (Ok typed) f = ⊥
+IsRefusedUnlessMemory (Err fault.Memory) f = Unit {0}
+IsRefusedUnlessMemory (Err g) f = g ≡ f

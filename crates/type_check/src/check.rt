@@ -4,10 +4,12 @@ ghost use Rattle.std.specs.Prelude.{◌≡◌, [], map, IfOk, IfErr, OnOk};
 ghost use Rattle.spec_parser.specs.Shape.{item_of, items_of};
 ghost use Rattle.name_check.specs.Scope.{top};
 ghost use Rattle.definition_cycles.specs.Order.{IsKindOrder};
+ghost use Rattle.expr_types.specs.Around.{Kinds};
 ghost use Rattle.expr_types.specs.Shown.{kinds_of};
-ghost use Rattle.type_check.specs.Answer.{IsFaultOf};
-ghost use Rattle.type_check.specs.Faults.{HasNoCycle, IsAccepted, IsCycleFault, form_faults, late, name_faults};
+ghost use Rattle.type_check.specs.Answer.{IsAcceptedUnlessMemory, IsFaultOf, IsRefusedUnlessMemory};
+ghost use Rattle.type_check.specs.Faults.{HasNoCycle, IsAccepted, IsCycleFault, IsFirstFault, form_faults, late, name_faults};
 ghost use Rattle.type_check.specs.Parts.{IsCycleOf, IsFirstOf};
+ghost use Rattle.type_check.specs.declared.fault.TypeFault.{TypeFault as Fault};
 
 use crate::fault::{TypeFault, wrong_type};
 use crate::kinds::find_kinds;
@@ -107,9 +109,8 @@ fn check_expressions(
     Ok(())
 }
 
-/// Checks the names and types of a specification. It is accepted exactly where it has none of the faults of `TypeFault`. The first
-/// kind that occurs is answered, in the order in which they are listed there, at its first place in the source.
-pub fn check<'t>(alloc: Global, tree: &'t Tree) -> Result<Typed<'t>, TypeFault>
+/// Checks the names and types of a specification, phase by phase.
+fn checked<'t>(alloc: Global, tree: &'t Tree) -> Result<Typed<'t>, TypeFault>
     ensures tree { IfOk result (λ typed. typed.tree.now ≡ tree.now) }
     ensures names { IfOk result (λ typed. typed.names ≡ top (items_of tree.now)) }
     ensures accepted { IfOk result (λ typed. IsAccepted (items_of tree.now) tree.now.end (kinds_of typed.kinds)) }
@@ -121,4 +122,19 @@ pub fn check<'t>(alloc: Global, tree: &'t Tree) -> Result<Typed<'t>, TypeFault>
     let kinds = find_kinds(alloc, tree.items(), &names, &order)?;
     check_expressions(alloc, tree, &names, &kinds)?;
     Ok(Typed { tree, names, kinds })
+}
+
+/// Checks the names and types of a specification. It is accepted exactly where it has none of the faults of `TypeFault`. The first
+/// kind that occurs is answered, in the order in which they are listed there, at its first place in the source.
+pub fn check<'t>(alloc: Global, tree: &'t Tree) -> Result<Typed<'t>, TypeFault>
+    ensures tree { IfOk result (λ typed. typed.tree.now ≡ tree.now) }
+    ensures names { IfOk result (λ typed. typed.names ≡ top (items_of tree.now)) }
+    ensures accepted { IfOk result (λ typed. IsAccepted (items_of tree.now) tree.now.end (kinds_of typed.kinds)) }
+    ensures fault { IfErr result (IsFaultOf (items_of tree.now) tree.now.end) }
+
+    // Where memory is not wanting, a specification is accepted wherever it has no fault, and so does each fault come.
+    ensures accepted_exactly { (kinds : Kinds) → IsAccepted (items_of tree.now) tree.now.end kinds → IsAcceptedUnlessMemory result }
+    ensures fault_exactly { (f : Fault) → IsFirstFault (items_of tree.now) tree.now.end f → IsRefusedUnlessMemory result f }
+{
+    checked(alloc, tree)
 }

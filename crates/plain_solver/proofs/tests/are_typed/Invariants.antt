@@ -1,5 +1,5 @@
 use Rattle.std.proofs.Common.{take}
-use Rattle.plain_solver.specs.Typed.{AreTypedLines}
+use Rattle.flat_core.specs.TypedLines.{AreTypedLines}
 use Rattle.plain_solver.proofs.tests.are_typed.Given as goal
 
 abbrev pub invariant-loop-line : goal.invariant-loop-line

@@ -40,4 +40,4 @@ returns-in_err-flat-clause-refused c = λ source typed.
 
 pub returns-clause-system : goal.returns-clause-system
 returns-clause-system c = λ source typed.
-    has_system source _ _ _ c.items-items.ensures typed c.in_ok-functions.ensures.no_macro_cycle c.in_ok-functions.ensures.nests c.in_ok-functions.ensures.small c.in_ok-flat.flat c.in_ok-flat.ensures.within c.in_ok-flat.ensures.flat c.in_ok-flat.ensures.is_flat
+    has_system source _ _ _ c.items-items.ensures typed c.in_ok-functions.ensures.no_macro_cycle c.in_ok-functions.ensures.nests c.in_ok-functions.ensures.small c.in_ok-flat.flat c.in_ok-flat.ensures.within c.in_ok-flat.ensures.flat c.in_ok-flat.ensures.is_flat c.in_ok-flat.ensures.needed

@@ -1,5 +1,5 @@
 use Rattle.std.proofs.Common.{◌∙◌, ap, option_map, sym}
-use Rattle.tessla_cli.specs.Conduct.{options_of}
+use Rattle.tessla_cli.specs.Headline.{options_of}
 use Rattle.tessla_cli.specs.Shape.{RunsSpec, SpecEnds, RunsWords, WordsEnd, asked, asked_ends}
 use Rattle.tessla_cli.specs.Words.{run_asked}
 use Rattle.tsl_world.proofs.Runs.{grows_weaker}

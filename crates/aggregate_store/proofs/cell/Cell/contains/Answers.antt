@@ -5,7 +5,7 @@ use Rattle.tsl_value.specs.ScalarOrder.{scalar_cmp_total}
 use Rattle.lift_func.specs.Cells.{has_key}
 use Rattle.aggregate_store.specs.CellView.{view_of}
 use Rattle.aggregate_store.specs.declared.cell.Cell.{Cell}
-use Rattle.aggregate_store.proofs.FiniteMaps.{get-of_entries}
+use Rattle.lift_func.proofs.FiniteMaps.{get-of_entries}
 use Rattle.aggregate_store.proofs.cell.Cell.contains.Goals as goal
 
 pub returns-in-Set : goal.returns-in-Set

@@ -7,7 +7,7 @@ use Rattle.flat_core.specs.Needed.{IsReached}
 use Rattle.flat_core.specs.System.{System}
 use Rattle.flat_core.specs.Marks.{ArgumentsThere}
 use Rattle.flat_core.specs.Complete.{IsComplete}
-use Rattle.flat_core.proofs.Finished.{arguments_there, finished_flat}
+use Rattle.flat_core.proofs.Finished.{arguments_there, finished_flat, finished_needed}
 use Rattle.flat_core.proofs.builder.FlatBuilder.finish.Goals as goal
 
 pub needed-requires-clause-there : goal.needed-requires-clause-there
@@ -25,6 +25,12 @@ invariant_of-result c =
     let running = c.in_ok-running.running in
     let exact : (i : ℕ) → IsTrue (is_in running i) ↔ IsReached c.self.inside.equations.items c.self.inside.outputs.items i = λ i. read c.deref.ensures.value c.deref-2.ensures.value running i (c.in_ok-running.ensures.members i) in
     finished_flat _ complete running exact c.self.invariant.0 c.self.invariant.1 c.in_ok-running.ensures.ascending
+
+pub returns-clause-needed : goal.returns-clause-needed
+returns-clause-needed c =
+    let complete = subst IsComplete (sym c.self.view_is) c.requires in
+    let running = c.in_ok-running.running in
+    finished_needed _ complete running (λ i. read c.deref.ensures.value c.deref-2.ensures.value running i (c.in_ok-running.ensures.members i))
 
 pub returns-clause-is_flat : goal.returns-clause-is_flat
 returns-clause-is_flat c = invariant_of-result c

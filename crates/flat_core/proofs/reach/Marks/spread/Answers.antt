@@ -1,13 +1,17 @@
-use Rattle.std.proofs.Common.{◌≡◌, ℕ, ◌<◌, true, List, ◌∷◌, [], ◌++◌, length, get_or, refl, ap, sym, subst, ◌∙◌, arith}
-use Rattle.std.proofs.lemmas.Option.{slice_get-get_or}
+use Rattle.std.proofs.Common.{◌≡◌, ℕ, ◌<◌, true, List, ◌∷◌, [], ◌++◌, length, map, get_or, refl, ap, sym, subst, ◌∙◌, arith}
+use Rattle.std.specs.Option.{option_map}
+use Rattle.std.proofs.lemmas.List.{length-map, get_or-map}
+use Rattle.std.proofs.lemmas.Option.{slice_get-get_or, slice_get-map}
+use Rattle.flat_core.specs.declared.equation.Equation.{Equation}
 use Rattle.flat_core.specs.Marks.{Marked, is_marked, is_waiting}
 use Rattle.flat_core.specs.Members.{is_in}
+use Rattle.flat_core.specs.Renumbered.{new_number, with_new_args}
 use Rattle.flat_core.specs.declared.reach.Marks.{Marks}
 use Rattle.flat_core.proofs.MarkLemmas.{arguments_below, last_in, mark_within, spreading_none, spreading_more}
 use Rattle.flat_core.proofs.reach.Marks.spread.Goals as goal
 
 pub loop-id-init : goal.loop-id-init
-loop-id-init c = spreading_none c.args.equations.now c.args.self.now c.requires.all_wait
+loop-id-init c = spreading_none (map (with_new_args c.args.replaced.now) c.args.equations.now) c.args.self.now c.requires.all_wait
 
 -- the number of an equation that waited
 within : (xs : List ℕ) (n : Marks) (id j size : ℕ) → n.waiting.items ≡ xs ++ (id ∷ []) → j ≡ id → ((i : ℕ) → is_waiting n i ≡ true → is_marked n i ≡ true) → length n.marked.items ≡ size → j < size
@@ -20,17 +24,28 @@ bounds-equations-get c =
 
 pub mark_all-requires : goal.mark_all-requires
 mark_all-requires c =
+    let number = new_number c.args.replaced.now in
+    let f = with_new_args c.args.replaced.now in
+    let equations = c.args.equations.now in
     let all = c.loop-id.invariant.one_each ∙ c.requires.one_each in
-    let low = within c.pop.new.self.items c.loop-id.self c.in-Some.id c.get.result (length c.args.equations.now) c.in-Some.ensures.items c.get.ensures c.loop-id.invariant.waiting all in
-    arguments_below c.args.equations.now c.get.result c.index-equations-get.result c.ids.result.now (length c.loop-id.self.marked.items) c.requires.there low c.ids.ensures all
+    let low = within c.pop.new.self.items c.loop-id.self c.in-Some.id c.get.result (length equations) c.in-Some.ensures.items c.get.ensures c.loop-id.invariant.waiting all in
+    let e = c.index-equations-get.result in
+    let count = length-map equations f in
+    let new_low : c.get.result < length (map f equations) = omega arith in
+    let read = get_or-map f equations c.get.result e (f e) low in
+    let args = ap (map number) c.ids.ensures ∙ sym (ap (λ (x : Equation). x.args) read) in
+    arguments_below (map f equations) c.get.result (f e) (map number c.ids.result.now) (length c.loop-id.self.marked.items) c.requires.there new_low args (all ∙ sym count)
 
 pub loop-id-preserved : goal.loop-id-preserved
 loop-id-preserved c =
+    let number = new_number c.args.replaced.now in
+    let f = with_new_args c.args.replaced.now in
+    let equations = c.args.equations.now in
     let all = c.loop-id.invariant.one_each ∙ c.requires.one_each in
-    let low = within c.pop.new.self.items c.loop-id.self c.in-Some.id c.get.result (length c.args.equations.now) c.in-Some.ensures.items c.get.ensures c.loop-id.invariant.waiting all in
+    let low = within c.pop.new.self.items c.loop-id.self c.in-Some.id c.get.result (length equations) c.in-Some.ensures.items c.get.ensures c.loop-id.invariant.waiting all in
     let popped : Marks = record { marked = c.loop-id.self.marked; waiting = c.pop.new.self } in
-    let more = subst (λ ids. Marked ids popped c.mark_all.new.self) c.ids.ensures c.in_ok-mark_all.ensures in
+    let more = subst (λ ids. Marked (map number ids) popped c.mark_all.new.self) c.ids.ensures c.in_ok-mark_all.ensures in
     let taken = c.in-Some.ensures.items ∙ ap (λ j. c.pop.new.self.items ++ (j ∷ [])) (sym c.get.ensures) in
-    let e = get_or c.args.equations.now c.get.result c.index-equations-get.result in
-    let read = slice_get-get_or c.args.equations.now c.get.result c.index-equations-get.result low in
-    spreading_more c.args.equations.now c.args.self.now c.loop-id.self popped c.mark_all.new.self c.get.result e c.loop-id.invariant refl taken read more
+    let e : Equation = get_or equations c.get.result c.index-equations-get.result in
+    let read = slice_get-map f equations c.get.result ∙ ap (option_map f) (slice_get-get_or equations c.get.result c.index-equations-get.result low) in
+    spreading_more (map f equations) c.args.self.now c.loop-id.self popped c.mark_all.new.self c.get.result (f e) c.loop-id.invariant refl taken read more

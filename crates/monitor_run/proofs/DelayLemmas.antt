@@ -1,0 +1,136 @@
+-- The delays of a system.
+use Rattle.std.proofs.Common.{◌≡◌, ◌==◌, ℕ, zero, suc, ◌+◌, ◌<◌, ◌≤◌, Bool, true, false, ◌||◌, List, [], ◌∷◌, length, get_or, map, take, Option, Some, None, refl, sym, ap, subst, ◌∙◌, inl, inr, arith}
+use Rattle.std.proofs.lemmas.Bool.{cases_Bool, eqb-true, eqb-false, and_parts, false≢true}
+use Rattle.std.proofs.Math.Bool.{or-false}
+use Rattle.std.proofs.lemmas.List.Folds.{list_any_more}
+use Rattle.std.proofs.lemmas.Option.{slice_get_within}
+use Rattle.std.specs.Prelude.{◌≢◌, if◌then◌else◌, is_some, IsTrue, slice_index}
+use Rattle.std.specs.Option.{option_map}
+use Rattle.std.specs.FinMap as finite_map
+use Rattle.delay_timers.specs.Pending.{Times}
+use Rattle.lift_func.specs.declared.fault.FaultKind.{FaultKind}
+use Rattle.lift_func.specs.declared.register.Register.{Register}
+use Rattle.lift_func.specs.Cells.{Cells, held}
+use Rattle.flat_core.specs.declared.equation.Equation.{Equation}
+use Rattle.flat_core.specs.declared.equation.Op.{Op}
+use Rattle.flat_core.specs.declared.equation.Op.TheVariants as op
+use Rattle.flat_core.specs.Case.{refused}
+use Rattle.flat_core.specs.Complete.{IsFlat}
+use Rattle.flat_core.specs.Instant.{is_delay, is_delay_op}
+use Rattle.flat_core.specs.Members.{is_in}
+use Rattle.flat_core.specs.Pending.{reached}
+use Rattle.flat_core.specs.System.{System, equation, runs}
+use Rattle.register_code.specs.Code.{is_timer}
+use Rattle.monitor_run.specs.declared.run.Root.{Root}
+use Rattle.monitor_run.specs.Due.{in_time}
+use Rattle.monitor_run.specs.Here.{HasShape, first_of}
+use Rattle.monitor_run.specs.Instant.{IsLeastRoot, refusal_of, second_of, set_at, set_by}
+use Rattle.monitor_run.specs.Registers.{register_at, value_at}
+use Rattle.monitor_run.proofs.PlanLemmas.{shape_of}
+use Rattle.monitor_run.proofs.RunLemmas.{least-one, least-same}
+
+pub delay_op : (o : Op) → is_delay_op o ≡ true → o ≡ op.Delay
+delay_op op.Delay is = refl
+delay_op _ is = absurd (false≢true is)
+
+-- a running delay is there
+pub timer_there : (s : System) → IsFlat s → (i : ℕ) → IsTrue (is_timer s i) → i < length s.equations
+timer_there s whole i h =
+    let parts = and_parts (runs s i) (is_delay (equation s i)) h in
+    let found = whole.proper.runs_all i parts.0 in
+    slice_get_within s.equations i found.0 found.1
+
+pub timer_runs : (s : System) (i : ℕ) → IsTrue (is_timer s i) → IsTrue (runs s i)
+timer_runs s i h = (and_parts (runs s i) (is_delay (equation s i)) h).0
+
+pub timer_shape : (s : System) → IsFlat s → (i : ℕ) (e : Equation) → IsTrue (is_timer s i) → equation s i ≡ Some e → HasShape op.Delay e.args
+timer_shape s whole i e h is =
+    let parts = and_parts (runs s i) (is_delay (equation s i)) h in
+    subst (λ o. HasShape o e.args) (delay_op e.op (ap is_delay (sym is) ∙ parts.1)) (shape_of s whole i e is)
+
+pub delay_two : (args : List ℕ) → HasShape op.Delay args → length args ≡ 2
+delay_two [] shape = absurd shape
+delay_two (d ∷ []) shape = absurd shape
+delay_two (d ∷ r ∷ []) shape = refl
+delay_two (d ∷ r ∷ a ∷ args) shape = absurd shape
+
+pub first_is : (c : Cells) (registers : List Register) (args : List ℕ) → HasShape op.Delay args → first_of (map (value_at c registers) args) ≡ held c (register_at registers (slice_index args 0))
+first_is c registers [] shape = absurd shape
+first_is c registers (d ∷ []) shape = absurd shape
+first_is c registers (d ∷ r ∷ []) shape = refl
+first_is c registers (d ∷ r ∷ a ∷ args) shape = absurd shape
+
+pub second_is : (c : Cells) (registers : List Register) (args : List ℕ) → HasShape op.Delay args → second_of (map (value_at c registers) args) ≡ held c (register_at registers (slice_index args 1))
+second_is c registers [] shape = absurd shape
+second_is c registers (d ∷ []) shape = absurd shape
+second_is c registers (d ∷ r ∷ []) shape = refl
+second_is c registers (d ∷ r ∷ a ∷ args) shape = absurd shape
+
+-- ---- refused amounts
+module _ (s : System) (c : Cells) (registers : List Register) where
+  pub refused-more : (delays : List ℕ) (k d : ℕ) (e : Equation) → k < length delays → d ≡ get_or delays k 0 → equation s d ≡ Some e → HasShape op.Delay e.args → (root found result : Option Root)
+      → IsLeastRoot (is_in (take k delays)) (λ i. refusal_of (equation s i) c registers) root
+      → found ≡ option_map (λ kind. record { equation = d; kind = kind }) (refused (held c (register_at registers (slice_index e.args 0))))
+      → ((among besides : ℕ → Bool) (p : ℕ → Option FaultKind) → IsLeastRoot among p root → IsLeastRoot besides p found → IsLeastRoot (λ i. among i || besides i) p result)
+      → IsLeastRoot (is_in (take (k + 1) delays)) (λ i. refusal_of (equation s i) c registers) result
+  refused-more delays k d e lt is there shape root found result before found_is least =
+      let one : refusal_of (equation s d) c registers ≡ refused (held c (register_at registers (slice_index e.args 0))) = (λ j. refusal_of (there j) c registers) ∙ ap refused (first_is c registers e.args shape) in
+      least-same (λ i. is_in (take k delays) i || (d == i)) (is_in (take (k + 1) delays)) (λ i. refusal_of (equation s i) c registers) result
+      (λ i. (λ j. is_in (take k delays) i || (is j == i)) ∙ sym (list_any_more (λ j. j == i) delays k 0 lt))
+      (least (is_in (take k delays)) (λ i. d == i) (λ i. refusal_of (equation s i) c registers) before
+      (subst (IsLeastRoot (λ i. d == i) (λ i. refusal_of (equation s i) c registers)) (sym found_is) (least-one d (λ i. refusal_of (equation s i) c registers) (refused (held c (register_at registers (slice_index e.args 0)))) one)))
+
+-- ---- setting
+pub set_again : (o : Option Equation) (c : Cells) (registers : List Register) (t i : ℕ) (due : Option ℕ) → set_at o c registers t i (set_at o c registers t i due) ≡ set_at o c registers t i due
+set_again None c registers t i due = refl
+set_again (Some e) c registers t i due = again (is_some (second_of (map (value_at c registers) e.args)) || is_some (value_at c registers i)) (in_time (reached t (first_of (map (value_at c registers) e.args))))
+  where
+    again : (b : Bool) (x : Option ℕ) → (if b then x else (if b then x else due)) ≡ (if b then x else due)
+    again true x = refl
+    again false x = refl
+
+module _ (s : System) (c : Cells) (registers : List Register) (t : ℕ) (delays : List ℕ) (k d : ℕ) (lt : k < length delays) (is : d ≡ get_or delays k 0) (first mid new : Times) where
+  pub set-more : (e : Equation) → equation s d ≡ Some e
+      → ((i : ℕ) → finite_map.get mid i ≡ (if is_in (take k delays) i then set_at (equation s i) c registers t i (finite_map.get first i) else finite_map.get first i))
+      → finite_map.get new d ≡ set_at (Some e) c registers t d (finite_map.get mid d)
+      → ((i : ℕ) → i ≢ d → finite_map.get new i ≡ finite_map.get mid i)
+      → (i : ℕ) → finite_map.get new i ≡ (if is_in (take (k + 1) delays) i then set_at (equation s i) c registers t i (finite_map.get first i) else finite_map.get first i)
+  set-more e there before here others i =
+      let more : (is_in (take k delays) i || (d == i)) ≡ is_in (take (k + 1) delays) i = (λ j. is_in (take k delays) i || (is j == i)) ∙ sym (list_any_more (λ j. j == i) delays k 0 lt) in
+      elim (cases_Bool (d == i)) [
+        | inl now ↦
+            let same = eqb-true d i now in
+            subst (λ j. finite_map.get new j ≡ set_at (equation s j) c registers t j (finite_map.get first j)) same (set_here (is_in (take k delays) d) (before d))
+            ∙ sym (λ j. if (sym more ∙ (λ x. is_in (take k delays) i || now x) ∙ or_true (is_in (take k delays) i)) j then set_at (equation s i) c registers t i (finite_map.get first i) else finite_map.get first i)
+        | inr other ↦
+            others i (λ same. eqb-false d i other (sym same)) ∙ before i
+            ∙ sym (λ j. if (sym more ∙ (λ x. is_in (take k delays) i || other x) ∙ or-false (is_in (take k delays) i)) j then set_at (equation s i) c registers t i (finite_map.get first i) else finite_map.get first i)
+      ]
+    where
+      or_true : (b : Bool) → (b || true) ≡ true
+      or_true true = refl
+      or_true false = refl
+
+      set_here : (b : Bool) → finite_map.get mid d ≡ (if b then set_at (equation s d) c registers t d (finite_map.get first d) else finite_map.get first d) → finite_map.get new d ≡ set_at (equation s d) c registers t d (finite_map.get first d)
+      set_here true was = here ∙ (λ j. set_at (sym there j) c registers t d (was j)) ∙ set_again (equation s d) c registers t d (finite_map.get first d)
+      set_here false was = here ∙ (λ j. set_at (sym there j) c registers t d (was j))
+
+-- one delay
+module _ (c : Cells) (registers : List Register) (args : List ℕ) (shape : HasShape op.Delay args) (t i : ℕ) (amount reset own : Register) (b : Bool)
+    (amount_is : amount ≡ register_at registers (slice_index args 0)) (reset_is : reset ≡ register_at registers (slice_index args 1)) (own_is : own ≡ register_at registers i) (sets : b ≡ (is_some (held c reset) || is_some (held c own))) where
+  pub set_case : (due : Option ℕ) → set_by t (first_of (map (value_at c registers) args)) (second_of (map (value_at c registers) args)) (value_at c registers i) due ≡ (if b then in_time (reached t (held c amount)) else due)
+  set_case due =
+      (λ j. if is_some (second_value j) || is_some (held c (sym own_is j)) then in_time (reached t (first_value_is j)) else due)
+      ∙ (λ j. if sym sets j then in_time (reached t (held c amount)) else due)
+    where
+      first_value_is : first_of (map (value_at c registers) args) ≡ held c amount
+      first_value_is = first_is c registers args shape ∙ ap (held c) (sym amount_is)
+
+      second_value : second_of (map (value_at c registers) args) ≡ held c reset
+      second_value = second_is c registers args shape ∙ ap (held c) (sym reset_is)
+
+pub take_whole : (xs : List ℕ) (m : ℕ) → length xs ≤ m → take m xs ≡ xs
+take_whole [] zero le = refl
+take_whole [] (suc m) le = refl
+take_whole (x ∷ xs) zero le = absurd (omega arith)
+take_whole (x ∷ xs) (suc m) le = ap (λ l. x ∷ l) (take_whole xs m (omega arith))

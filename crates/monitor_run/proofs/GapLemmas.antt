@@ -1,0 +1,277 @@
+-- Between two instants nothing happens, and what is kept goes on to the next.
+use Rattle.std.proofs.Common.{◌≡◌, ◌==◌, ℕ, zero, suc, ◌+◌, ◌<◌, ◌≤◌, ◌^◌, ◌-◌, Bool, true, false, ◌&&◌, ◌||◌, List, [], ◌∷◌, ◌++◌, Option, Some, None, refl, sym, ap, subst, ◌∙◌, append-nil, inl, inr, arith}
+use Rattle.std.proofs.lemmas.Bool.{cases_Bool, cases_lt, eq-eqb, eqb-true, ne_eqb, lt-ltb, or_left, or_right, true≢false}
+use Rattle.std.proofs.lemmas.List.Folds.{list_any-append}
+use Rattle.std.proofs.lemmas.Option.{get_or_from_slice_get, slice_get_within}
+use Rattle.std.specs.Prelude.{if◌then◌else◌, is_some, min, nat_lt, IsTrue, slice_get}
+use Rattle.std.specs.List.{AllByRecursion, Contains, list_any}
+use Rattle.std.specs.FinMap as finite_map
+use Rattle.delay_timers.specs.Pending.{Times}
+use Rattle.flat_core.specs.declared.equation.Equation.{Equation}
+use Rattle.flat_core.specs.declared.equation.Op.{Op}
+use Rattle.flat_core.specs.declared.equation.Op.TheVariants as op
+use Rattle.flat_core.specs.Case.{Streams, delayed, unit}
+use Rattle.flat_core.specs.Complete.{IsFlat}
+use Rattle.flat_core.specs.BoundLaws.{HappensAtInstants}
+use Rattle.flat_core.specs.Fault.{is_faulty}
+use Rattle.flat_core.specs.Instant.{instants, is_delay, is_delay_op, is_instant}
+use Rattle.flat_core.specs.Line.{Line, inputs_of, is_line_at, is_line_on}
+use Rattle.flat_core.specs.Pending.{option_is, pending}
+use Rattle.flat_core.specs.Solution.{Solves}
+use Rattle.flat_core.specs.Stream.{has_event, latest}
+use Rattle.flat_core.specs.System.{System, equation, runs}
+use Rattle.flat_core.specs.WellFormed.{IsRanked, unguarded_of}
+use Rattle.flat_core.proofs.DueLemmas.{delay_kept, delayed_is-due, expires_is-due, option_is-some, some-option_is}
+use Rattle.flat_core.proofs.Members.{all_from, none_from, some_from}
+use Rattle.flat_core.proofs.Silence.{happens_at_instants}
+use Rattle.flat_core.proofs.StillLemmas.{latest_still, pending_still}
+use Rattle.register_code.specs.Plan.{IsPlanOrder, argument}
+use Rattle.monitor_run.specs.Copied.{copied, size_copied, source_size}
+use Rattle.monitor_run.specs.Due.{due_at, due_of, due_time, in_time}
+use Rattle.monitor_run.specs.Given.{AreBefore, AreEventLines}
+use Rattle.monitor_run.specs.Here.{HasShape}
+use Rattle.monitor_run.specs.Instant.{unit_if_due}
+use Rattle.monitor_run.specs.Next.{Comes, NothingBefore}
+use Rattle.monitor_run.proofs.DelayLemmas.{delay_op}
+use Rattle.monitor_run.proofs.PlanLemmas.{one_place, running_args, shape_of}
+
+-- ---- the place in an order is a rank
+pub place : List ℕ → ℕ → ℕ
+place [] i = 0
+place (x ∷ xs) i = if x == i then 0 else suc (place xs i)
+
+place_le : (xs : List ℕ) (m i : ℕ) → slice_get xs m ≡ Some i → place xs i ≤ m
+unfolding place
+place_le [] m i is = omega arith
+place_le (x ∷ xs) m i is = elim (cases_Bool (x == i)) [
+  | inl here ↦ let first : (if x == i then 0 else suc (place xs i)) ≡ 0 = λ k. if here k then 0 else suc (place xs i) in omega arith
+  | inr other ↦ later (λ k at. place_le xs k i at) m is other
+]
+  where
+    some_same : (a b : ℕ) → Some a ≡ Some b → a ≡ b
+    some_same a b p = cc
+
+    later : ((k : ℕ) → slice_get xs k ≡ Some i → place xs i ≤ k) → (k : ℕ) → slice_get (x ∷ xs) k ≡ Some i → (x == i) ≡ false → (if x == i then 0 else suc (place xs i)) ≤ k
+    later rest zero at other = absurd (true≢false (sym (eq-eqb x i (some_same x i at)) ∙ other))
+    later rest (suc k) at other = let deeper = rest k at in let is_next : (if x == i then 0 else suc (place xs i)) ≡ suc (place xs i) = λ j. if other j then 0 else suc (place xs i) in omega arith
+
+place_there : (xs : List ℕ) (m i : ℕ) → slice_get xs m ≡ Some i → slice_get xs (place xs i) ≡ Some i
+unfolding place
+place_there [] m i is = let within = slice_get_within [] m i is in absurd (omega arith)
+place_there (x ∷ xs) m i is = elim (cases_Bool (x == i)) [
+  | inl here ↦ (λ k. slice_get (x ∷ xs) (if here k then 0 else suc (place xs i))) ∙ ap Some (eqb-true x i here)
+  | inr other ↦ (λ k. slice_get (x ∷ xs) (if other k then 0 else suc (place xs i))) ∙ later (λ k at. place_there xs k i at) m is other
+]
+  where
+    some_same : (a b : ℕ) → Some a ≡ Some b → a ≡ b
+    some_same a b p = cc
+
+    later : ((k : ℕ) → slice_get xs k ≡ Some i → slice_get xs (place xs i) ≡ Some i) → (k : ℕ) → slice_get (x ∷ xs) k ≡ Some i → (x == i) ≡ false → slice_get xs (place xs i) ≡ Some i
+    later rest zero at other = absurd (true≢false (sym (eq-eqb x i (some_same x i at)) ∙ other))
+    later rest (suc k) at other = rest k at
+
+pub plan_ranked : (s : System) (order : List ℕ) → IsPlanOrder s order → IsRanked s (place order)
+plan_ranked s order plan = record {
+  falls = λ i e run is. all_from (λ a. place order a < place order i) (unguarded_of e.op e.args) (λ a c.
+      let p = plan.agrees a i (argument run (record { at = e; is = is; argument = c })) in
+      let within = slice_get_within order p.second i p.second_is in
+      let at_second = get_or_from_slice_get order p.second i 0 p.second_is in
+      let same : place order i ≡ p.second = one_place order p.second (place order i) plan.once within (place_there order p.second i p.second_is ∙ ap Some (sym at_second)) in
+      let low = place_le order p.first a p.first_is in
+      let before = p.is_before in
+      omega arith);
+}
+
+-- ---- numbers of the ledger
+pub copied_small : (s : System) (z : Streams) (i t : ℕ) → copied s z i t ≤ 2 ^ 64 - 1
+copied_small s z i zero = omega arith
+copied_small s z i (suc t) = omega arith
+
+pub nothing_copied : (o : Option Equation) (z : Streams) (i t : ℕ) → has_event (z i t) ≡ false → size_copied o z i t ≡ 0
+nothing_copied None z i t none = refl
+nothing_copied (Some e) z i t none = λ k. if none k then source_size z e.args t else 0
+
+pub copied_still : (s : System) (z : Streams) (i t : ℕ) → has_event (z i t) ≡ false → copied s z i (suc t) ≡ copied s z i t
+copied_still s z i t none = let small = copied_small s z i t in (λ k. min (copied s z i t + nothing_copied (equation s i) z i t none k) (2 ^ 64 - 1)) ∙ omega arith
+
+-- ---- times that come
+pub in_time_is : (t : ℕ) (o : Option ℕ) → t < 2 ^ 63 → option_is t (in_time o) ≡ option_is t o
+in_time_is t None lt = refl
+in_time_is t (Some u) lt = elim (cases_Bool (nat_lt u (2 ^ 63))) [
+  | inl early ↦ λ k. option_is t (if early k then Some u else None)
+  | inr late ↦ (λ k. option_is t (if late k then Some u else None)) ∙ sym (ne_eqb u t (λ same. true≢false (sym (lt-ltb u (2 ^ 63) (omega arith)) ∙ late)))
+]
+
+-- ---- a gap
+module _ (s : System) (whole : IsFlat s) (order : List ℕ) (plan : IsPlanOrder s order) (lines past given : List Line) (parts : lines ≡ past ++ given) (events : AreEventLines s given) (timers : Times)
+    (n t B : ℕ) (earlier : AreBefore n past) (none : NothingBefore n given timers t) (small : t ≤ 2 ^ 63) (within : t ≤ B) (z : Streams) (solves : Solves s (inputs_of lines) B z) (due : (i : ℕ) → finite_map.get timers i ≡ due_time s z n i) where
+  happens : HappensAtInstants s lines B z
+  happens = happens_at_instants s lines z B whole.proper whole.complete.typed (place order) (plan_ranked s order plan) solves
+
+  -- lines at a time from n on
+  no_past : (u : ℕ) → n ≤ u → (ls : List Line) → AreBefore n ls → is_line_on u ls ≡ false
+  no_past u low [] all = refl
+  no_past u low (l ∷ ls) all = let before = all.0 in λ k. (ne_eqb l.time u (λ same. absurd (omega arith)) k && is_some l.event) || no_past u low ls all.1 k
+
+  no_given : (u : ℕ) → u < t → (ls : List Line) → AllByRecursion (λ l. t ≤ l.time) ls → is_line_on u ls ≡ false
+  no_given u lt [] all = refl
+  no_given u lt (l ∷ ls) all = let from = all.0 in λ k. (ne_eqb l.time u (λ same. absurd (omega arith)) k && is_some l.event) || no_given u lt ls all.1 k
+
+  no_line : (u : ℕ) → n ≤ u → u < t → is_line_on u lines ≡ false
+  no_line u low lt = ap (is_line_on u) parts ∙ list_any-append (is_line_at u) past given ∙ (λ k. no_past u low past earlier k || no_given u lt given none.events k)
+
+  -- what is pending of a delay at a time up to which nothing happened
+  module _ (u : ℕ) (low : n ≤ u) (high : u ≤ t) (silent : (i w : ℕ) → IsTrue (runs s i) → n ≤ w → w < u → z i w ≡ None) (i : ℕ) (e : Equation) (run : IsTrue (runs s i)) (is : equation s i ≡ Some e) where
+    still : (d r : ℕ) → e.args ≡ d ∷ r ∷ [] → pending (z d) (z r) (z i) u ≡ pending (z d) (z r) (z i) n
+    still d r args_are =
+        let all = subst (AllByRecursion (λ a. IsTrue (runs s a))) args_are (running_args s whole.proper i e run is) in
+        pending_still (z d) (z r) (z i) n u low (λ w from to. (silent r w all.1.0 from to, silent i w run from to))
+
+    due_is : e.op ≡ op.Delay → (d r : ℕ) → e.args ≡ d ∷ r ∷ [] → finite_map.get timers i ≡ in_time (pending (z d) (z r) (z i) u)
+    due_is op_is d r args_are =
+        due i ∙ (λ k. if run k then in_time (due_at (is k) z i n) else None) ∙ (λ k. in_time (due_of z i (op_is k) (args_are k) n)) ∙ ap in_time (sym (still d r args_are))
+
+    -- an event of a delay at u is one that was due
+    event_is_due : u < B → u < 2 ^ 63 → e.op ≡ op.Delay → (d r : ℕ) → e.args ≡ d ∷ r ∷ [] → has_event (z i u) ≡ option_is u (finite_map.get timers i)
+    event_is_due lt early op_is d r args_are =
+        delay_kept s (inputs_of lines) z B solves i e run is op_is d r args_are u lt
+        ∙ expires_is-due (z d) (z r) (z i) u (λ w before. delay_kept s (inputs_of lines) z B solves i e run is op_is d r args_are w (omega arith))
+        ∙ sym (in_time_is u (pending (z d) (z r) (z i) u) early) ∙ ap (option_is u) (sym (due_is op_is d r args_are))
+
+  pub two_args : (i : ℕ) (e : Equation) → equation s i ≡ Some e → e.op ≡ op.Delay → (d : ℕ) × (r : ℕ) × (e.args ≡ d ∷ r ∷ [])
+  two_args i e is op_is = from e.args (subst (λ o. HasShape o e.args) op_is (shape_of s whole i e is))
+    where
+      from : (args : List ℕ) → HasShape op.Delay args → (d : ℕ) × (r : ℕ) × (args ≡ d ∷ r ∷ [])
+      from [] shape = absurd shape
+      from (d ∷ []) shape = absurd shape
+      from (d ∷ r ∷ []) shape = (d, r, refl)
+      from (d ∷ r ∷ x ∷ args) shape = absurd shape
+
+  not_before : (i u : ℕ) → u < t → option_is u (finite_map.get timers i) ≡ false
+  not_before i u lt = elim (cases_Bool (option_is u (finite_map.get timers i))) [
+    | inl holds ↦ let late = none.delays i u (option_is-some u (finite_map.get timers i) holds) in absurd (omega arith)
+    | inr no_not ↦ no_not
+  ]
+
+  -- no instant comes, time by time
+  module _ (k : ℕ) (early : k < t) (from : n ≤ k) (before : (w : ℕ) → n ≤ w → w < k → is_instant s lines z w ≡ false) where
+    silent : (i w : ℕ) → IsTrue (runs s i) → n ≤ w → w < k → z i w ≡ None
+    silent i w run low lt = happens.silent w (omega arith) (before w low lt) i run
+
+    not_zero : (k == 0) ≡ false
+    not_zero = ne_eqb k 0 (λ is. let first = none.start (omega arith) in absurd (omega arith))
+
+    and_false : (b : Bool) → (b && false) ≡ false
+    and_false true = refl
+    and_false false = refl
+
+    no_delay : (i : ℕ) → IsTrue (runs s i) → (is_delay (equation s i) && has_event (z i k)) ≡ false
+    no_delay i run =
+        let f = whole.proper.runs_all i run in
+        elim (cases_Bool (is_delay_op f.0.op)) [
+          | inr other ↦ (λ j. (ap is_delay f.1 ∙ other) j && has_event (z i k))
+          | inl timer ↦
+              let op_is = delay_op f.0.op timer in
+              let two = two_args i f.0 f.1 op_is in
+              let quiet_delay = event_is_due k from (omega arith) silent i f.0 run f.1 (omega arith) (omega arith) op_is two.0 two.1 two.2 ∙ not_before i k early in
+              (λ j. is_delay (equation s i) && quiet_delay j) ∙ and_false (is_delay (equation s i))
+        ]
+
+    quiet_at : is_instant s lines z k ≡ false
+    quiet_at = let line = no_line k from early in let delay = none_from (λ i. is_delay (equation s i) && has_event (z i k)) s.running no_delay in λ j. not_zero j || line j || delay j
+
+  quiet_to : (k : ℕ) → k ≤ t → (u : ℕ) → n ≤ u → u < k → is_instant s lines z u ≡ false
+  quiet_to zero le u low lt = absurd (omega arith)
+  quiet_to (suc k) le u low lt = elim (cases_lt u k) [
+    | inl before ↦ quiet_to k (omega arith) u low before
+    | inr level ↦
+        let same : k ≡ u = omega arith in
+        subst (λ w. is_instant s lines z w ≡ false) same (quiet_at k (omega arith) (omega arith) (quiet_to k (omega arith)))
+  ]
+
+  pub quiet : (u : ℕ) → n ≤ u → u < t → is_instant s lines z u ≡ false
+  quiet u low lt = quiet_to t (omega arith) u low lt
+
+  pub silent_gap : (i u : ℕ) → IsTrue (runs s i) → n ≤ u → u < t → z i u ≡ None
+  silent_gap i u run low lt = happens.silent u (omega arith) (quiet u low lt) i run
+
+  pub sound_gap : (u : ℕ) → n ≤ u → u < t → is_faulty s (inputs_of lines) z u ≡ false
+  sound_gap u low lt = happens.sound u (omega arith) (quiet u low lt)
+
+  pub latest_gap : n ≤ t → (i : ℕ) → IsTrue (runs s i) → latest (z i) t ≡ latest (z i) n
+  latest_gap le i run = latest_still (z i) n t le (λ u low lt. silent_gap i u run low lt)
+
+  instants_to : (k : ℕ) → n ≤ k → k ≤ t → instants s lines z k ≡ instants s lines z n
+  instants_to zero low le = let same : zero ≡ n = omega arith in ap (instants s lines z) same
+  instants_to (suc k) low le = elim (cases_lt k n) [
+    | inl end ↦ let same : suc k ≡ n = omega arith in ap (instants s lines z) same
+    | inr more ↦ (λ j. instants s lines z k ++ (if quiet k more (omega arith) j then k ∷ [] else [])) ∙ append-nil (instants s lines z k) ∙ instants_to k more (omega arith)
+  ]
+
+  pub instants_gap : n ≤ t → instants s lines z t ≡ instants s lines z n
+  instants_gap le = instants_to t le (omega arith)
+
+  copied_to : (i : ℕ) → IsTrue (runs s i) → (k : ℕ) → n ≤ k → k ≤ t → copied s z i k ≡ copied s z i n
+  copied_to i run zero low le = let same : zero ≡ n = omega arith in ap (copied s z i) same
+  copied_to i run (suc k) low le = elim (cases_lt k n) [
+    | inl end ↦ let same : suc k ≡ n = omega arith in ap (copied s z i) same
+    | inr more ↦ copied_still s z i k (ap has_event (silent_gap i k run more (omega arith))) ∙ copied_to i run k more (omega arith)
+  ]
+
+  pub copied_gap : n ≤ t → (i : ℕ) → IsTrue (runs s i) → copied s z i t ≡ copied s z i n
+  copied_gap le i run = copied_to i run t le (omega arith)
+
+  -- what is pending at t
+  module _ (le : n ≤ t) (i : ℕ) (e : Equation) (run : IsTrue (runs s i)) (is : equation s i ≡ Some e) (op_is : e.op ≡ op.Delay) (d r : ℕ) (args_are : e.args ≡ d ∷ r ∷ []) where
+    pub due_at_t : finite_map.get timers i ≡ in_time (pending (z d) (z r) (z i) t)
+    due_at_t = due_is t le (omega arith) (λ j w run_j from to. silent_gap j w run_j from to) i e run is op_is d r args_are
+
+    pub event_at_t : t < B → t < 2 ^ 63 → has_event (z i t) ≡ option_is t (finite_map.get timers i)
+    event_at_t lt early = event_is_due t le (omega arith) (λ j w run_j from to. silent_gap j w run_j from to) i e run is lt early op_is d r args_are
+
+    pub delayed_at_t : t < B → t < 2 ^ 63 → delayed z i e.args t ≡ unit_if_due t (finite_map.get timers i)
+    delayed_at_t lt early =
+        (λ k. delayed z i (args_are k) t)
+        ∙ delayed_is-due z i t d r (λ w before. delay_kept s (inputs_of lines) z B solves i e run is op_is d r args_are w (omega arith))
+        ∙ (λ k. if (sym (in_time_is t (pending (z d) (z r) (z i) t) early) ∙ ap (option_is t) (sym due_at_t)) k then Some unit else None)
+
+  -- an instant comes at t
+  given_line : (ls : List Line) → AreEventLines s ls → (l : Line) → Contains ls l → l.time ≡ t → is_line_on t ls ≡ true
+  given_line [] all l (k, lt, there) at = absurd (omega arith)
+  given_line (m ∷ ls) all l (zero, lt, there) at =
+      or_left (is_line_at t m) (is_line_on t ls) (λ k. eq-eqb m.time t (ap (λ (x : Line). x.time) there ∙ at) k && is_some (all.0.is k))
+  given_line (m ∷ ls) all l (suc k, lt, there) at = or_right (is_line_at t m) (is_line_on t ls) (given_line ls all.1 l (k, omega arith, there) at)
+
+  pub comes : n ≤ t → t < B → t < 2 ^ 63 → Comes n given timers t → is_instant s lines z t ≡ true
+  comes le lt early (inl start) = λ k. eq-eqb t 0 start.1 k || is_line_on t lines || list_any (λ i. is_delay (equation s i) && has_event (z i t)) s.running
+  comes le lt early (inr (inl line)) =
+      let on : is_line_on t lines ≡ true = ap (is_line_on t) parts ∙ list_any-append (is_line_at t) past given ∙ or_right (is_line_on t past) (is_line_on t given) (given_line given events line.0 line.1 line.2) in
+      or_left ((t == 0) || is_line_on t lines) (list_any (λ i. is_delay (equation s i) && has_event (z i t)) s.running) (or_right (t == 0) (is_line_on t lines) on)
+  comes le lt early (inr (inr timer)) =
+      or_right ((t == 0) || is_line_on t lines) (list_any (λ i. is_delay (equation s i) && has_event (z i t)) s.running)
+      (some_from (λ i. is_delay (equation s i) && has_event (z i t)) s.running timer.0 run (λ k. (ap is_delay f.1 ∙ delay_is) k && (event_at_t le timer.0 f.0 run f.1 op_is two.0 two.1 two.2 lt early ∙ some-option_is t (finite_map.get timers timer.0) timer.1) k))
+    where
+      run : runs s timer.0 ≡ true
+      run = elim (cases_Bool (runs s timer.0)) [
+        | inl holds ↦ holds
+        | inr idle ↦ let nothing : Some t ≡ None = sym timer.1 ∙ due timer.0 ∙ (λ k. if idle k then in_time (due_at (equation s timer.0) z timer.0 n) else None) in absurd (cc)
+      ]
+
+      f : (e : Equation) × (equation s timer.0 ≡ Some e) × AllByRecursion (λ a. IsTrue (runs s a)) e.args
+      f = whole.proper.runs_all timer.0 run
+
+      delay_is : is_delay_op f.0.op ≡ true
+      delay_is = elim (cases_Bool (is_delay_op f.0.op)) [
+        | inl holds ↦ holds
+        | inr other ↦ absurd (no_due f.0.op f.0.args other (sym (sym timer.1 ∙ due timer.0 ∙ (λ k. if run k then in_time (due_at (f.1 k) z timer.0 n) else None))))
+      ]
+        where
+          no_due : (o : Op) (args : List ℕ) → is_delay_op o ≡ false → in_time (due_of z timer.0 o args n) ≡ Some t → ⊥
+          no_due op.Delay args other is = true≢false other
+          no_due o args other is = absurd (cc)
+
+      op_is : f.0.op ≡ op.Delay
+      op_is = delay_op f.0.op delay_is
+
+      two : (d : ℕ) × (r : ℕ) × (f.0.args ≡ d ∷ r ∷ [])
+      two = two_args timer.0 f.0 f.1 op_is

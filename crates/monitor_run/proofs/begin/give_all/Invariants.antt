@@ -1,0 +1,13 @@
+use Rattle.std.proofs.Common.{length, vec_len}
+use Rattle.monitor_run.specs.Given.{AreThere}
+use Rattle.monitor_run.proofs.BeginLemmas.{AreMoving}
+use Rattle.monitor_run.proofs.begin.give_all.Given as goal
+
+abbrev pub invariant-loop-line : goal.invariant-loop-line
+invariant-loop-line l = record {
+  moving : AreMoving l.fn.given.items l.given.items l.fn.registers l.registers;
+  there : AreThere (length l.registers) l.given.items;
+}
+
+abbrev pub decreases-loop-line : goal.decreases-loop-line
+decreases-loop-line l = vec_len l.given

@@ -1,0 +1,10 @@
+use Rattle.std.proofs.Common.{take}
+use Rattle.lift_func.specs.Cells.{Cells}
+use Rattle.flat_core.specs.Members.{is_in}
+use Rattle.flat_core.specs.System.{equation}
+use Rattle.monitor_run.specs.Instant.{IsLeastRoot, refusal_of}
+use Rattle.monitor_run.specs.Registers.{AreHeld}
+use Rattle.monitor_run.proofs.delay.first_refused.Given as goal
+
+abbrev pub invariant-loop-delay : goal.invariant-loop-delay
+invariant-loop-delay l = (cells : Cells) → AreHeld l.flat cells l.registers → IsLeastRoot (is_in (take l.delay-index l.delays)) (λ i. refusal_of (equation l.flat i) cells l.registers) l.root

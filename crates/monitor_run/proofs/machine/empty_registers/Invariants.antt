@@ -1,0 +1,6 @@
+use Rattle.std.proofs.Common.{◌≡◌, replicate}
+use Rattle.lift_func.specs.declared.register.Register.TheVariants.{Empty}
+use Rattle.monitor_run.proofs.machine.empty_registers.Given as goal
+
+abbrev pub invariant-loop-n : goal.invariant-loop-n
+invariant-loop-n l = l.registers.items ≡ replicate l._n Empty

@@ -1,0 +1,94 @@
+use Rattle.std.proofs.Common.{◌+◌, Some, refl, sym, ap, subst, ◌∙◌, arith}
+use Rattle.monitor_run.specs.Given.{AreAt}
+use Rattle.monitor_run.specs.Instant.{IsInstant}
+use Rattle.monitor_run.specs.Next.{IsNextTime, NothingBefore}
+use Rattle.monitor_run.specs.Stands.{Stands}
+use Rattle.monitor_run.specs.State.{State}
+use Rattle.monitor_run.specs.Steps.{HasFaulted, HasRun, IsAtLimit, IsBegun, NoneIsLeft}
+use Rattle.monitor_run.proofs.MonitorLemmas.{begun_is, below_limit, fault_is, limit_is, none_left, ready_on, run_is}
+use Rattle.monitor_run.proofs.monitor.Monitor.step.Goals as goal
+
+pub next_below-requires : goal.next_below-requires
+next_below-requires c =
+    let ready = c.self.invariant.1 c.in_default.is in
+    (ready.time, subst (AreAt ready.time) (sym c.deref.ensures.value) ready.given_at)
+
+pub returns-in-None-clause-steps : goal.returns-in-None-clause-steps
+returns-in-None-clause-steps c = λ going lines stands.
+    let inside = c.self.inside in
+    let old = inside.machine in
+    let ready = c.self.invariant.1 (ap (λ (m : State). m.stop) c.self.view_is ∙ going) in
+    let stands_in = subst (λ (m : State). Stands m lines) (sym c.self.view_is) stands in
+    let none = subst (λ gs. NothingBefore inside.next gs old.timers.times inside.bound) c.deref.ensures.value c.in-None.ensures in
+    (refl, refl, subst (λ (m : State). NoneIsLeft m lines) c.self.view_is (none_left _ ready lines stands_in none))
+
+pub returns-then-self-clause-steps : goal.returns-then-self-clause-steps
+returns-then-self-clause-steps c = λ going lines stands.
+    let inside = c.self.inside in
+    let old = inside.machine in
+    let ready = c.self.invariant.1 (ap (λ (m : State). m.stop) c.self.view_is ∙ going) in
+    let stands_in = subst (λ (m : State). Stands m lines) (sym c.self.view_is) stands in
+    let t = c.in-Some-next_below.time in
+    let found = subst (λ gs. IsNextTime inside.next inside.bound gs old.timers.times (Some t)) c.deref.ensures.value c.in-Some-next_below.ensures in
+    rw c.stop_with.ensures.same
+    (refl, (λ k. record (c.self.view_is k) { stop = c.stop_with.ensures.kept k }), subst (λ (m : State). IsAtLimit m lines inside.limit t) c.self.view_is (limit_is _ ready t found.1 found.2 found.0 lines stands_in c.if-self.true))
+
+pub run_instant-requires-clause-one : goal.run_instant-requires-clause-one
+run_instant-requires-clause-one c =
+    let ready = c.self.invariant.1 c.in_default.is in
+    (ready.time, ready.given_at)
+
+pub invariant_of-self-in-Ok-None : goal.invariant_of-self-in-Ok-None
+invariant_of-self-in-Ok-None c = (
+  c.run_instant.ensures.room,
+  λ going.
+      let inside = c.self.inside in
+      let old = inside.machine in
+      let ready = c.self.invariant.1 going in
+      let t = c.in-Some-next_below.time in
+      let found = subst (λ gs. IsNextTime inside.next inside.bound gs old.timers.times (Some t)) c.deref.ensures.value c.in-Some-next_below.ensures in
+      let after = c.run_instant.new.machine in
+      let ran = subst (λ r. IsInstant inside.code.now.system t inside.given.items old after c.args.out.now c.run_instant.new.out r) c.in-Ok-None.field-0-is c.in-Ok-None.ensures.ran in
+      let new : State = record { system = inside.code.now.system; order = inside.code.now.order; limit = inside.limit; ran = inside.ran + 1; next = c.get.result + 1; bound = inside.bound; given = c.run_instant.new.given.items; cells = after.store.cells; ledger = after.store.ledger; last = after.last.items; timers = after.timers.times; stop = inside.stop } in
+      ready_on _ ready t found.1 found.2 found.0 new old after c.args.out.now c.run_instant.new.out (record { cells = refl; last = refl; timers = refl; ledger = refl }) (record { system = refl; order = refl; limit = refl; bound = refl }) (omega (arith, c.get.ensures.value)) refl (below_limit inside.ran inside.limit ready.room c.if-self.false) (c.run_instant.ensures.given ready.time ready.given_at) ran,
+)
+
+pub returns-in-Ok-None-clause-steps : goal.returns-in-Ok-None-clause-steps
+returns-in-Ok-None-clause-steps c = λ going lines stands.
+    let inside = c.self.inside in
+    let old = inside.machine in
+    let ready = c.self.invariant.1 (ap (λ (m : State). m.stop) c.self.view_is ∙ going) in
+    let stands_in = subst (λ (m : State). Stands m lines) (sym c.self.view_is) stands in
+    let t = c.in-Some-next_below.time in
+    let found = subst (λ gs. IsNextTime inside.next inside.bound gs old.timers.times (Some t)) c.deref.ensures.value c.in-Some-next_below.ensures in
+    let after = c.run_instant.new.machine in
+    let ran = subst (λ r. IsInstant inside.code.now.system t inside.given.items old after c.args.out.now c.run_instant.new.out r) c.in-Ok-None.field-0-is c.in-Ok-None.ensures.ran in
+    let new : State = record { system = inside.code.now.system; order = inside.code.now.order; limit = inside.limit; ran = inside.ran + 1; next = c.get.result + 1; bound = inside.bound; given = c.run_instant.new.given.items; cells = after.store.cells; ledger = after.store.ledger; last = after.last.items; timers = after.timers.times; stop = inside.stop } in
+    subst (λ (m : State). HasRun m new lines c.args.out.now c.run_instant.new.out) c.self.view_is (run_is _ ready t found.1 found.2 found.0 lines stands_in new old after c.args.out.now c.run_instant.new.out (record { cells = refl; last = refl; timers = refl; ledger = refl }) (record { cells = refl; last = refl; timers = refl; ledger = refl }) (record { system = refl; order = refl; limit = refl; bound = refl }) (omega (arith, c.get.ensures.value)) refl (ap (λ (m : State). m.stop) c.self.view_is ∙ going) (c.run_instant.ensures.given ready.time ready.given_at) ran)
+
+pub returns-in-Ok-Some-clause-steps : goal.returns-in-Ok-Some-clause-steps
+returns-in-Ok-Some-clause-steps c = λ going lines stands.
+    let inside = c.self.inside in
+    let old = inside.machine in
+    let ready = c.self.invariant.1 (ap (λ (m : State). m.stop) c.self.view_is ∙ going) in
+    let stands_in = subst (λ (m : State). Stands m lines) (sym c.self.view_is) stands in
+    let t = c.in-Some-next_below.time in
+    let found = subst (λ gs. IsNextTime inside.next inside.bound gs old.timers.times (Some t)) c.deref.ensures.value c.in-Some-next_below.ensures in
+    let after = c.run_instant.new.machine in
+    let root = c.in-Ok-Some.field-0-0 in
+    let faulted = subst (λ r. IsInstant inside.code.now.system t inside.given.items old after c.args.out.now c.run_instant.new.out r) c.in-Ok-Some.field-0-is c.in-Ok-Some.ensures.ran in
+    let new : State = record { system = inside.code.now.system; order = inside.code.now.order; limit = inside.limit; ran = inside.ran; next = inside.next; bound = inside.bound; given = c.run_instant.new.given.items; cells = after.store.cells; ledger = after.store.ledger; last = after.last.items; timers = after.timers.times; stop = c.stop_with-in-Ok-Some.new.slot } in
+    let named = fault_is _ ready t found.1 found.2 found.0 lines stands_in new old after root c.args.out.now c.run_instant.new.out (record { cells = refl; last = refl; timers = refl; ledger = refl }) refl (below_limit inside.ran inside.limit ready.room c.if-self.false) faulted in
+    rw c.stop_with-in-Ok-Some.ensures.same
+    (faulted.unwritten, subst (λ (m : State). HasFaulted m new lines t root.equation root.kind) c.self.view_is named)
+
+pub returns-in-Err-clause-steps : goal.returns-in-Err-clause-steps
+returns-in-Err-clause-steps c = λ going lines stands.
+    let inside = c.self.inside in
+    let old = inside.machine in
+    let ready = c.self.invariant.1 (ap (λ (m : State). m.stop) c.self.view_is ∙ going) in
+    let stands_in = subst (λ (m : State). Stands m lines) (sym c.self.view_is) stands in
+    let t = c.in-Some-next_below.time in
+    let found = subst (λ gs. IsNextTime inside.next inside.bound gs old.timers.times (Some t)) c.deref.ensures.value c.in-Some-next_below.ensures in
+    rw c.stop_with-in-Err.ensures.same
+    (subst (λ (m : State). IsBegun m lines c.args.out.now c.run_instant.new.out) c.self.view_is (begun_is _ ready t found.1 found.2 found.0 lines stands_in old c.args.out.now c.run_instant.new.out (record { cells = refl; last = refl; timers = refl; ledger = refl }) (below_limit inside.ran inside.limit ready.room c.if-self.false) c.in-Err.ensures.err))

@@ -1,0 +1,18 @@
+//! The engine: it runs a flat system instant by instant, and keeps between instants the last registers, the cells of aggregates,
+//! the pending delays and the events of the open time.
+#![tactic(auto)]
+
+mod begin;
+mod case;
+mod delay;
+mod end;
+mod event;
+mod instant;
+pub mod laws;
+mod machine;
+pub mod monitor;
+mod next;
+mod run;
+#[cfg(test)]
+mod tests;
+mod update;

@@ -1,0 +1,255 @@
+// The monitor.
+
+ghost use Rattle.std.specs.Prelude.{◌≡◌, ◌≤◌, ◌^◌, [], ◌∷◌, ◌++◌, None, Some, max, is_ok, is_some, slice_index, IfErr, IfOk, OnOk, IsTrue, List, ℕ, Ok};
+ghost use Rattle.std.specs.FinMap as map;
+ghost use Rattle.flat_core.specs.Line.{Line};
+ghost use Rattle.monitor_run.specs.Copied.{is_running_update};
+ghost use Rattle.monitor_run.specs.Given.{line_of};
+ghost use Rattle.monitor_run.specs.Next.{IsIdle};
+ghost use Rattle.monitor_run.specs.Stands.{Stands};
+ghost use Rattle.monitor_run.specs.State.{IsReady, bound_of};
+ghost use Rattle.monitor_run.specs.Stored.{stored_count};
+ghost use Rattle.monitor_run.specs.Steps.{AreAsSet, CanTake, HasStepped, IsStoppedAgain, stopped};
+
+use crate::instant::run_instant;
+use crate::machine::Machine;
+use crate::next::next_below;
+use crate::run::Root;
+use flat_core::line::TraceLine;
+use lift_func::fault::FaultKind;
+use register_code::code::Code;
+use std::alloc::Global;
+use std::marker::Model;
+use tsl_value::bytes::Bytes;
+use tsl_value::ids::EqId;
+use tsl_value::memory::NoMemory;
+use tsl_value::scalar::Scalar;
+use tsl_value::time::Time;
+
+/// Which times are closed: those below a time, or up to it. No further event comes at a closed time.
+#[derive(Clone, Copy, PartialEq, Eq, Debug)]
+pub enum Closed {
+    Below(Time),
+    Through(Time),
+}
+
+/// Whether a step ran an instant, or none was left.
+#[derive(Clone, Copy, PartialEq, Eq, Debug)]
+pub enum Step {
+    Ran,
+    Idle,
+}
+
+/// Why a monitor runs no further.
+#[derive(Clone, Copy, PartialEq, Eq, Debug)]
+pub enum Stop {
+    /// The instant at `time` has a root fault, and `equation` is the least one with a root fault there.
+    Fault {
+        time: Time,
+        equation: EqId,
+        kind: FaultKind,
+    },
+    /// `count` instants have run, as many as may, and another comes at `time`.
+    Limit {
+        count: u64,
+        time: Time,
+    },
+    /// Memory was wanting.
+    Memory,
+}
+
+/// Runs a system instant by instant.
+///
+/// Events are given in order of time, and times are closed. Each step then runs one instant at a closed time. After a stop, each
+/// call that can answer one answers it again, and changes nothing.
+#[derive(Drop)]
+pub struct Monitor<'c> {
+    alloc: Global,
+    code: &'c Code,
+    limit: u64,
+    ran: u64,
+    // All instants before `next` have run, and all times before `bound` are closed.
+    next: u64,
+    bound: u64,
+    // The events of the open time.
+    given: Vec<TraceLine>,
+    machine: Machine,
+    stop: Option<Stop>,
+}
+
+impl<'c> Model for Monitor<'c> {
+    ghost use Rattle.std.specs.Coded.{codes};
+    ghost use Rattle.std.specs.Prelude.{◌≡◌, None};
+    ghost use Rattle.lift_func.specs.contracts.body.Body as body;
+    ghost use Rattle.monitor_run.specs.Code.{cells_code, times_code};
+    ghost use Rattle.monitor_run.specs.Machine.{HasRoom};
+    ghost use Rattle.monitor_run.specs.State.{State, IsReady};
+
+    ghost Value = { State };
+
+    ghost coded = { Prim.hlevel (codes, body.the_row.coded, cells_code, times_code) };
+
+    ghost view = { λ m. record { system = m.code.now.system; order = m.code.now.order; limit = m.limit; ran = m.ran; next = m.next; bound = m.bound; given = m.given.items; cells = m.machine.store.cells; ledger = m.machine.store.ledger; last = m.machine.last.items; timers = m.machine.timers.times; stop = m.stop } };
+
+    ghost invariant = { λ m. HasRoom m.code.now.system m.machine
+        × (m.stop ≡ None → IsReady (record { system = m.code.now.system; order = m.code.now.order; limit = m.limit; ran = m.ran; next = m.next; bound = m.bound; given = m.given.items; cells = m.machine.store.cells; ledger = m.machine.store.ledger; last = m.machine.last.items; timers = m.machine.timers.times; stop = m.stop })) };
+}
+
+/// Keeps a stop.
+fn stop_with(slot: &mut Option<Stop>, stop: Stop) -> Stop
+    ensures kept { slot.new ≡ Some stop }
+    ensures same { result ≡ stop }
+{
+    let kept = stop;
+    *slot = Some(kept);
+    stop
+}
+
+/// The number of times that are closed.
+fn closed_below(upto: Closed) -> u64
+    ensures bound { result ≡ bound_of upto }
+    ensures in_time { result ≤ 2 ^ 63 }
+{
+    match upto {
+        Closed::Below(time) => time.get(),
+        Closed::Through(time) => time.get() + 1,
+    }
+}
+
+impl<'c> Monitor<'c> {
+    /// A monitor of a system, which was given no event. No time is closed, and at most `limit` instants may run.
+    pub fn new(alloc: Global, code: &'c Code, limit: u64) -> Result<Monitor<'c>, NoMemory>
+        requires { 1 ≤ limit }
+        ensures stands { IfOk result (λ m. Stands m []) }
+        ensures system { IfOk result (λ m. m.system ≡ code.now.system) }
+        ensures order { IfOk result (λ m. m.order ≡ code.now.order) }
+        ensures limit { IfOk result (λ m. m.limit ≡ limit) }
+        ensures unclosed { IfOk result (λ m. m.bound ≡ 0) }
+    {
+        Ok(Monitor {
+            alloc,
+            code,
+            limit,
+            ran: 0,
+            next: 0,
+            bound: 0,
+            given: Vec::new(alloc),
+            machine: Machine::new(alloc, code.flat().count())?,
+            stop: None,
+        })
+    }
+
+    /// Gives the event of an input at a time that is not closed. The instants of earlier events have run.
+    pub fn event(&mut self, time: Time, input: EqId, value: Scalar) -> Result<(), Stop>
+        requires { self.old.stop ≡ None → CanTake self.old time input value }
+        ensures given { OnOk result (self.new ≡ record self.old { given = self.old.given ++ line_of time input value ∷ [] }) }
+        ensures stands { OnOk result ((lines : List Line) → Stands self.old lines → Stands self.new (lines ++ line_of time input value ∷ [])) }
+        ensures again { IsStoppedAgain self.old self.new result }
+        ensures stop { IfErr result (λ stop. self.old.stop ≡ None → (stop ≡ Stop.Memory) × (self.new ≡ stopped self.old Stop.Memory)) }
+    {
+        if let Some(stop) = self.stop {
+            return Err(stop);
+        }
+        let line = TraceLine {
+            time,
+            event: Some((input, value)),
+        };
+        match self.given.push(line) {
+            Ok(()) => Ok(()),
+            Err(_) => {
+                self.stop = Some(Stop::Memory);
+                Err(Stop::Memory)
+            }
+        }
+    }
+
+    /// Closes times. It runs nothing. Where they are closed already it changes nothing.
+    pub fn close(&mut self, upto: Closed) -> Result<(), Stop>
+        ensures closed { OnOk result (self.new ≡ record self.old { bound = max self.old.bound (bound_of upto) }) }
+        ensures stands { OnOk result ((lines : List Line) → Stands self.old lines → Stands self.new lines) }
+        ensures again { IsStoppedAgain self.old self.new result }
+        ensures ok { self.old.stop ≡ None → IsTrue (is_ok result) }
+    {
+        if let Some(stop) = self.stop {
+            return Err(stop);
+        }
+        self.bound = self.bound.max(closed_below(upto));
+        Ok(())
+    }
+
+    /// Runs the first instant at a closed time that has not run, and appends the lines of its events. `Idle` is answered where none
+    /// is left.
+    pub fn step(&mut self, out: &mut Bytes) -> Result<Step, Stop>
+        ensures steps { self.old.stop ≡ None → (lines : List Line) → Stands self.old lines → HasStepped self.old self.new lines out.old out.new result }
+        ensures again { IsStoppedAgain self.old self.new result }
+        ensures unwritten { IsTrue (is_some self.old.stop) → out.new ≡ out.old }
+        ensures kept { IfErr result (λ stop. self.new.stop ≡ Some stop) }
+        ensures going { OnOk result (self.new.stop ≡ None) }
+        ensures as_set { AreAsSet self.old self.new }
+        ensures idle { result ≡ Ok Step.Idle → IsIdle self.new }
+    {
+        if let Some(stop) = self.stop {
+            return Err(stop);
+        }
+        let time = match next_below(self.next, self.bound, &self.given, &self.machine.timers) {
+            Some(time) => time,
+            None => return Ok(Step::Idle),
+        };
+        if self.ran == self.limit {
+            let stop = Stop::Limit {
+                count: self.limit,
+                time,
+            };
+            return Err(stop_with(&mut self.stop, stop));
+        }
+        match run_instant(
+            self.alloc,
+            self.code,
+            time,
+            &mut self.given,
+            &mut self.machine,
+            out,
+        ) {
+            Ok(None) => {
+                self.ran += 1;
+                self.next = time.get() + 1;
+                Ok(Step::Ran)
+            }
+            Ok(Some(Root { equation, kind })) => {
+                let stop = Stop::Fault {
+                    time,
+                    equation,
+                    kind,
+                };
+                Err(stop_with(&mut self.stop, stop))
+            }
+            Err(NoMemory) => Err(stop_with(&mut self.stop, Stop::Memory)),
+        }
+    }
+
+    /// How many elements a running update has copied, or 2^64 - 1 where there were more.
+    pub fn copied(&self, update: EqId) -> u64
+        requires { IsTrue (is_running_update self.now.system update) }
+        ensures { result ≡ slice_index self.now.ledger update }
+    {
+        self.machine.store.ledger(update.get())
+    }
+
+    /// The number of instants that have run.
+    ///
+    /// Its second clause gives callers what every monitor has where no stop is kept.
+    pub fn instants(&self) -> u64
+        ensures ran { result ≡ self.now.ran }
+        ensures ready { self.now.stop ≡ None → IsReady self.now }
+    {
+        self.ran
+    }
+
+    /// The number of cells, each of which has a set or a map. It is no more than the aggregates that last registers can hold.
+    pub fn cells(&self) -> u64
+        ensures cells { result ≡ map.len self.now.cells }
+        ensures few { self.now.stop ≡ None → result ≤ stored_count self.now.system }
+    {
+        self.machine.store.count()
+    }
+}

@@ -1,0 +1,153 @@
+-- The printed form of a flat system.
+use Rattle.std.specs.Prelude.{ℕ, Bool, true, false, List, [], ◌∷◌, ◌++◌, Option, Some, None, codes, length}
+use Rattle.std.specs.Fmt.{decimal}
+use Rattle.std.specs.List.{filter, flat_map, range_with_len}
+use Rattle.tsl_value.specs.Print.{listed, scalar_text}
+use Rattle.tsl_value.specs.declared.scalar.ScalarType.{ScalarType}
+use Rattle.tsl_value.specs.declared.scalar.ScalarType.TheVariants as scalar_type
+use Rattle.tsl_value.specs.declared.scalar.KeyType.{KeyType}
+use Rattle.tsl_value.specs.declared.scalar.KeyType.TheVariants as key_type
+use Rattle.tsl_value.specs.declared.scalar.ValueType.{ValueType}
+use Rattle.tsl_value.specs.declared.scalar.ValueType.TheVariants as value_type
+use Rattle.lift_func.specs.declared.body.Unary.{Unary}
+use Rattle.lift_func.specs.declared.body.Unary.TheVariants as unary
+use Rattle.lift_func.specs.declared.body.Binary.{Binary}
+use Rattle.lift_func.specs.declared.body.Binary.TheVariants as binary
+use Rattle.lift_func.specs.Tree.{Tree, Literal, Argument, Absent, One, Two, Choice}
+use Rattle.flat_core.specs.declared.equation.Op.{Op}
+use Rattle.flat_core.specs.declared.equation.Op.TheVariants as op
+use Rattle.flat_core.specs.declared.equation.Equation.{Equation}
+use Rattle.flat_core.specs.declared.equation.Output.{Output}
+use Rattle.flat_core.specs.System.{System, equation, runs}
+
+abbrev pub scalar_type_text : ScalarType → List ℕ
+scalar_type_text scalar_type.Unit = codes "Unit"
+scalar_type_text scalar_type.Int = codes "Int"
+scalar_type_text scalar_type.Bool = codes "Bool"
+scalar_type_text scalar_type.Text = codes "String"
+
+abbrev pub key_type_text : KeyType → List ℕ
+key_type_text key_type.Int = codes "Int"
+key_type_text key_type.Bool = codes "Bool"
+key_type_text key_type.Text = codes "String"
+
+-- a type as it is written in a specification
+abbrev pub type_text : ValueType → List ℕ
+type_text (value_type.Scalar s) = scalar_type_text s
+type_text (value_type.Set k) = codes "Set[" ++ (key_type_text k ++ codes "]")
+type_text (value_type.Map k s) = codes "Map[" ++ (key_type_text k ++ (codes ", " ++ (scalar_type_text s ++ codes "]")))
+
+-- the names of operations in bodies
+abbrev pub unary_text : Unary → List ℕ
+unary_text unary.Neg = codes "neg"
+unary_text unary.Not = codes "not"
+unary_text unary.Size = codes "size"
+unary_text unary.Length = codes "length"
+unary_text unary.Some = codes "some"
+unary_text unary.IsSome = codes "issome"
+unary_text unary.IsNone = codes "isnone"
+unary_text unary.GetSome = codes "getsome"
+
+abbrev pub binary_text : Binary → List ℕ
+binary_text binary.Add = codes "add"
+binary_text binary.Sub = codes "sub"
+binary_text binary.Mul = codes "mul"
+binary_text binary.Div = codes "div"
+binary_text binary.Rem = codes "rem"
+binary_text binary.Eq = codes "eq"
+binary_text binary.Ne = codes "ne"
+binary_text binary.Lt = codes "lt"
+binary_text binary.Le = codes "le"
+binary_text binary.Gt = codes "gt"
+binary_text binary.Ge = codes "ge"
+binary_text binary.And = codes "and"
+binary_text binary.Or = codes "or"
+binary_text binary.Contains = codes "contains"
+binary_text binary.Get = codes "get"
+binary_text binary.Concat = codes "concat"
+
+-- an operation of some parts: its name, and the parts in parentheses with a comma and a blank between them
+abbrev pub applied_text : List ℕ → List (List ℕ) → List ℕ
+applied_text name parts = name ++ (codes "(" ++ (listed parts ++ codes ")"))
+
+-- a body: a literal, an argument as `$` and its number, an operation's name alone where it has no part, or an operation of its parts
+abbrev pub body_text : Tree → List ℕ
+body_text (Literal s) = scalar_text s
+body_text (Argument n) = codes "$" ++ decimal n
+body_text (Absent t) = codes "none"
+body_text (One o a) = applied_text (unary_text o) (body_text a ∷ [])
+body_text (Two o a b) = applied_text (binary_text o) (body_text a ∷ body_text b ∷ [])
+body_text (Choice c a b) = applied_text (codes "if") (body_text c ∷ body_text a ∷ body_text b ∷ [])
+
+abbrev pub op_name : Op → List ℕ
+op_name op.Input = codes "Input"
+op_name op.Nil = codes "Nil"
+op_name op.Unit = codes "Unit"
+op_name (op.Lift body true) = codes "Lift"
+op_name (op.Lift body false) = codes "OptLift"
+op_name op.Any = codes "Any"
+op_name op.Time = codes "Time"
+op_name op.Last = codes "Last"
+op_name op.Delay = codes "Delay"
+op_name op.Merge = codes "Merge"
+op_name op.Filter = codes "Filter"
+op_name op.Pick = codes "Pick"
+op_name op.Empty = codes "Empty"
+op_name op.MapAdd = codes "MapAdd"
+op_name op.MapRemove = codes "MapRemove"
+op_name op.SetAdd = codes "SetAdd"
+op_name op.SetRemove = codes "SetRemove"
+
+-- what is written behind the name of an operation: the type of an input, of no events and of an empty aggregate, and a lift's body
+abbrev pub behind_op_text : Op → ValueType → List ℕ
+behind_op_text op.Input t = codes " " ++ type_text t
+behind_op_text op.Nil t = codes " " ++ type_text t
+behind_op_text op.Empty t = codes " " ++ type_text t
+behind_op_text (op.Lift body strict) t = codes " " ++ body_text body
+behind_op_text o t = []
+
+abbrev pub op_text : Op → ValueType → List ℕ
+op_text o t = op_name o ++ behind_op_text o t
+
+-- an equation by its number
+abbrev pub number_text : ℕ → List ℕ
+number_text i = codes "%" ++ decimal i
+
+-- a name with a blank behind it, where there is one
+abbrev pub name_text : Option (List ℕ) → List ℕ
+name_text None = []
+name_text (Some name) = name ++ codes " "
+
+-- the arguments, each with a blank before it
+abbrev pub args_text : List ℕ → List ℕ
+args_text args = flat_map (λ a. codes " " ++ number_text a) args
+
+-- an equation of this number, without the end of its line
+abbrev pub text_of : ℕ → Equation → List ℕ
+text_of i e = number_text i ++ (codes " " ++ (name_text e.name ++ (codes ":= " ++ (op_text e.op e.of ++ args_text e.args))))
+
+abbrev pub text_at : ℕ → Option Equation → List ℕ
+text_at i None = []
+text_at i (Some e) = text_of i e
+
+-- equation i without the end of its line, and its line
+abbrev pub definition_text : System → ℕ → List ℕ
+definition_text s i = text_at i (equation s i)
+
+abbrev pub equation_line : System → ℕ → List ℕ
+equation_line s i = definition_text s i ++ codes "\n"
+
+-- the line of an output
+abbrev pub output_line : Output → List ℕ
+output_line o = codes "out " ++ (o.name ++ (codes " " ++ (number_text o.equation ++ codes "\n")))
+
+-- the numbers of the equations, and of those that run, in order
+abbrev pub numbers : System → List ℕ
+numbers s = range_with_len 0 (length s.equations)
+
+abbrev pub running : System → List ℕ
+running s = filter (runs s) (numbers s)
+
+-- the lines of the running equations by number, and of the outputs
+abbrev pub flat_text : System → List ℕ
+flat_text s = flat_map (equation_line s) (running s) ++ flat_map output_line s.outputs

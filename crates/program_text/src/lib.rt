@@ -1,0 +1,8 @@
+//! The printed form of a flat system.
+#![tactic(auto)]
+
+mod body;
+mod names;
+pub mod print;
+#[cfg(test)]
+mod tests;

@@ -1,0 +1,6 @@
+pub mod Filtered
+pub mod Gathered
+pub mod PairLemmas
+pub mod PlanOrders
+pub mod SampleLemmas
+pub mod PlanLaws

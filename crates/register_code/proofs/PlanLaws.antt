@@ -1,0 +1,35 @@
+-- The order of a plan has the least step that may stand at each place, and is the only one.
+use Rattle.std.proofs.Common.{◌≡◌, ℕ, List, ◌∷◌, ◌++◌, true, Contains, subst, sym, ap, ◌∙◌}
+use Rattle.std.specs.List.{filter}
+use Rattle.flat_core.specs.Complete.{IsFlat}
+use Rattle.flat_core.specs.System.{System}
+use Rattle.translation_order.specs.Order.{IsLeast}
+use Rattle.translation_order.proofs.Lists.{middle}
+use Rattle.translation_order.proofs.Orders.{one_order}
+use Rattle.register_code.specs.Plan.{step_count, is_step, MustPrecede, IsLeastPlanOrder}
+use Rattle.register_code.specs.Laws.{MayStandNext, LeastStepsFirst, OnePlanOrder}
+use Rattle.register_code.proofs.Filtered.{in_filter, filter_in, filter_split}
+use Rattle.register_code.proofs.PairLemmas.{first_runs, step_runs, step_low}
+
+pub least_steps_first : LeastStepsFirst
+least_steps_first s order front rest x flat least is =
+    let parts = filter_split (is_step s) least.all front rest x (sym least.is ∙ is) in
+    let before = parts.0 in
+    let at = least.is_least.takes_least before parts.1 x parts.2 in
+    let kept : (a : ℕ) → Contains before a → is_step s a ≡ true → Contains front a = λ a c h. subst (λ l. Contains l a) parts.3 (in_filter (is_step s) before a c h) in
+    let whole : (a : ℕ) → Contains front a → Contains before a = λ a c. (filter_in (is_step s) before a (subst (λ l. Contains l a) (sym parts.3) c)).0 in
+    record {
+      holds = record {
+        is_one = (filter_in (is_step s) least.all x (subst (λ l. Contains l x) (sym is ∙ least.is) (middle front rest x))).1;
+        is_new = λ c. at.holds.is_new (whole x c);
+        is_free = λ a must. kept a (at.holds.is_free a must) (step_runs s flat a (first_runs s flat a x must));
+      };
+      least = λ y may. at.least y (record {
+        is_step = step_low s flat y may.is_one;
+        is_new = λ c. may.is_new (kept y c may.is_one);
+        is_free = λ a must. whole a (may.is_free a must);
+      });
+    }
+
+pub one_plan_order : OnePlanOrder
+one_plan_order s xs ys u v = u.is ∙ ap (filter (is_step s)) (one_order (step_count s) (MustPrecede s) u.all v.all u.is_least v.is_least) ∙ sym v.is

@@ -1,0 +1,6 @@
+pub mod Readiness
+pub mod FirstInstants
+pub mod FlatMeaning
+pub mod Meaning
+pub mod Kept
+pub mod Something

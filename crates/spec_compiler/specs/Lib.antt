@@ -1,0 +1,4 @@
+pub mod Compiled
+pub mod Ready
+pub mod Meant
+pub mod Laws

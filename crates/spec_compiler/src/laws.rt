@@ -1,0 +1,28 @@
+// Laws of compiled specifications, as the contracts of functions that do nothing.
+
+ghost use Rattle.spec_compiler.specs.Laws.{OneIsCompiled, RefusedCompilesNone, CompiledSaysWhatIsMeant, SomethingHappens, FaultsAreDecided};
+
+/// A source is one specification at most, and one system at most is run for it.
+pub fn one_is_compiled()
+    ensures { OneIsCompiled }
+{}
+
+/// For a source that is refused, other than for want of memory, no system is run.
+pub fn refused_compiles_none()
+    ensures { RefusedCompilesNone }
+{}
+
+/// What the system that is run says of a trace, the specification says, where the events of its lines are of their inputs' types.
+pub fn compiled_says_what_is_meant()
+    ensures { CompiledSaysWhatIsMeant }
+{}
+
+/// In a specification that is compiled one thing happens at each occurrence that is needed, at each time.
+pub fn something_happens()
+    ensures { SomethingHappens }
+{}
+
+/// It is decided whether a time has a root fault.
+pub fn faults_are_decided()
+    ensures { FaultsAreDecided }
+{}
