@@ -5,7 +5,7 @@ use Rattle.lift_func.specs.declared.body.Unary.TheVariants as unary
 use Rattle.flat_core.specs.declared.equation.Op.TheVariants as op
 use Rattle.flat_core.specs.declared.equation.Equation.{Equation}
 use Rattle.flat_core.specs.Typed.{int_type}
-use Rattle.trigger_formulas.specs.Sample.{equation_of}
+use Rattle.trigger_starts.specs.Sample.{equation_of}
 
 abbrev pub sample_equations : List Equation
 sample_equations =

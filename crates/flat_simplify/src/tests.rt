@@ -2,7 +2,7 @@
 
 ghost use Rattle.std.specs.Prelude.{◌≡◌, ◌<◌, true, slice_get, IfOk};
 ghost use Rattle.lift_func.specs.Tree.{Argument, One};
-ghost use Rattle.trigger_formulas.specs.Sample.{equation_of};
+ghost use Rattle.trigger_starts.specs.Sample.{equation_of};
 ghost use Rattle.flat_simplify.specs.Sample.{sample_equations};
 
 use crate::simplify::simplify;

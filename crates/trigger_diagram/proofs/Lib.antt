@@ -3,3 +3,7 @@ pub mod Nodes
 pub mod Once
 pub mod Joining
 pub mod Finding
+pub mod Truths
+pub mod Making
+pub mod Questions
+pub mod Keeping

@@ -1,5 +1,6 @@
 -- Two nodes taken together.
-use Rattle.std.specs.Prelude.{◌≡◌, ◌==◌, ℕ, ◌+◌, ◌<◌, Bool, true, false, not, ◌&&◌, ◌||◌, List, if◌then◌else◌, Option, Some, None, nat_eq, IsTrue}
+use Rattle.std.specs.Prelude.{◌≡◌, ◌==◌, ℕ, ◌+◌, ◌<◌, Bool, true, false, not, ◌&&◌, ◌||◌, if◌then◌else◌, IsTrue}
+use Rattle.std.specs.Prelude.{List, Option, Some, None, nat_eq}
 use Rattle.indexmap.specs.IndexMap.{IndexMap, get}
 use Rattle.indexmap.specs.IndexSet.{IndexSet, contains}
 use Rattle.trigger_diagram.specs.declared.arena.Branch.{Branch}
@@ -32,8 +33,14 @@ AreJoined c bs known = (p : Pair) (n : ℕ) → get same_pair known p ≡ Some n
 
 -- the answer where it needs no branch
 abbrev pub settled : Connective → Pair → Option ℕ
-settled connective.And p = if p.first == 0 || p.second == 0 then Some 0 else if p.first == 1 then Some p.second else if p.second == 1 then Some p.first else None
-settled connective.Or p = if p.first == 1 || p.second == 1 then Some 1 else if p.first == 0 then Some p.second else if p.second == 0 then Some p.first else None
+settled connective.And p =
+    if p.first == 0 || p.second == 0 then Some 0 else
+    if p.first == 1 then Some p.second else
+    if p.second == 1 then Some p.first else None
+settled connective.Or p =
+    if p.first == 1 || p.second == 1 then Some 1 else
+    if p.first == 0 then Some p.second else
+    if p.second == 0 then Some p.first else None
 
 -- the sides of a branch by a variable that stands at it or before it
 abbrev pub sides_of : Branch → ℕ → ℕ → ℕ × ℕ
@@ -45,8 +52,12 @@ pub record IsSplit (bs : List Branch) (p : Pair) (s : Split) : Type 0 where
   pub high : AreNodes bs s.high
   pub low_less : s.low.first + s.low.second < p.first + p.second
   pub high_less : s.high.first + s.high.second < p.first + p.second
-  pub first : (v : Valuation) → value v (tree_at bs p.first) ≡ (if v s.variable then value v (tree_at bs s.high.first) else value v (tree_at bs s.low.first))
-  pub second : (v : Valuation) → value v (tree_at bs p.second) ≡ (if v s.variable then value v (tree_at bs s.high.second) else value v (tree_at bs s.low.second))
+  pub first :
+      (v : Valuation) →
+      value v (tree_at bs p.first) ≡ (if v s.variable then value v (tree_at bs s.high.first) else value v (tree_at bs s.low.first))
+  pub second :
+      (v : Valuation) →
+      value v (tree_at bs p.second) ≡ (if v s.variable then value v (tree_at bs s.high.second) else value v (tree_at bs s.low.second))
   pub low_behind : IsBehind s.variable (tree_at bs s.low.first) × IsBehind s.variable (tree_at bs s.low.second)
   pub high_behind : IsBehind s.variable (tree_at bs s.high.first) × IsBehind s.variable (tree_at bs s.high.second)
   pub before : (x : ℕ) → IsBehind x (tree_at bs p.first) → IsBehind x (tree_at bs p.second) → x < s.variable
@@ -64,7 +75,11 @@ AreRefuted both bs refuted = (p : Pair) → contains same_pair refuted p ≡ tru
 
 -- the answer where it needs no branch
 abbrev pub decided : Bool → Pair → Option Bool
-decided both p = if p.first == 0 then Some false else if p.second == 0 then Some (not both) else if p.second == 1 then Some both else if p.first == 1 then Some true else None
+decided both p =
+    if p.first == 0 then Some false else
+    if p.second == 0 then Some (not both) else
+    if p.second == 1 then Some both else
+    if p.first == 1 then Some true else None
 
 -- some valuation has both nodes, and each valuation with the first has the second
 abbrev pub AreTogether : List Branch → Pair → Type 0

@@ -1,3 +1,6 @@
 pub mod Tree
 pub mod Arena
 pub mod Join
+pub mod Truth
+pub mod Made
+pub mod Kept

@@ -69,7 +69,8 @@ impl Arena {
         requires high_behind { IsBehind variable (tree_at self.old high) }
         ensures grows { Grows self.old self.new }
         ensures there { IfOk result (λ n. IsNode self.new n) }
-        ensures exact { IfOk result (λ n. (v : Valuation) → value v (tree_at self.new n) ≡ (if v variable then value v (tree_at self.old high) else value v (tree_at self.old low))) }
+        ensures exact { IfOk result (λ n. (v : Valuation) →
+            value v (tree_at self.new n) ≡ (if v variable then value v (tree_at self.old high) else value v (tree_at self.old low))) }
         ensures behind { IfOk result (λ n. (x : ℕ) → x < variable → IsBehind x (tree_at self.new n)) }
     {
         if low == high {

@@ -1,8 +1,11 @@
-// Reduced ordered decision diagrams over numbered variables: nodes that are true in the same valuations are one node.
+// Reduced ordered decision diagrams of trigger formulas: formulas that are true in the same assignments are one node.
 #![tactic(auto)]
 
 pub mod arena;
+pub mod diagrams;
+mod formula;
 pub mod join;
+mod made;
 pub mod search;
 #[cfg(test)]
 mod tests;

@@ -57,6 +57,7 @@ impl Arena {
     }
 
     /// Whether two nodes are true in the same valuations. Nodes that are have one number.
+    #[tactic(auto, using(crate::proofs::Finding::agree_is))]
     pub fn agree(&self, pair: Pair) -> bool
         requires { AreNodes self.now pair }
         ensures { IsTrue result ↔ Agree (tree_at self.now pair.first) (tree_at self.now pair.second) }
@@ -77,6 +78,7 @@ impl Arena {
     }
 
     /// Whether each valuation with the first node of a pair has the second.
+    #[tactic(auto, using(crate::proofs::Finding::implied_is))]
     pub fn implies(&self, alloc: Global, pair: Pair) -> Result<bool, NoMemory>
         requires { AreNodes self.now pair }
         ensures { IfOk result (λ r. IsTrue r ↔ IsImplied self.now pair) }

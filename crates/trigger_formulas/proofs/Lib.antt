@@ -1,16 +1,1 @@
-pub mod AtomLists
-pub mod WordLemmas
-pub mod WordTests
-pub mod RuleWords
-pub mod Meaning
-pub mod RuleAtoms
-pub mod Gathered
-pub mod Tables
-pub mod Transfer
-pub mod Coding
-pub mod Starting
-pub mod Entailing
-pub mod Orders
-pub mod KeptLemmas
-pub mod SampleLemmas
-pub mod Marking
+mod Answering

@@ -1,5 +1,1 @@
-pub mod Rules
-pub mod AtomLists
-pub mod Words
 pub mod Kept
-pub mod Sample

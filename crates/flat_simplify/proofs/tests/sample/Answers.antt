@@ -2,7 +2,7 @@ use Rattle.std.proofs.Common.{[], ◌∷◌, ◌++◌, ap, ◌∙◌}
 use Rattle.flat_core.specs.declared.equation.Output.{Output}
 use Rattle.flat_core.specs.System.{System}
 use Rattle.flat_simplify.specs.Sample.{sample_equations}
-use Rattle.trigger_formulas.proofs.SampleLemmas.{one_more}
+use Rattle.trigger_starts.proofs.SampleLemmas.{one_more}
 use Rattle.flat_simplify.proofs.SampleLemmas.{sample_complete}
 use Rattle.flat_simplify.proofs.tests.sample.Goals as goal
 

@@ -1,4 +1,4 @@
-use Rattle.trigger_formulas.proofs.AtomLists.{adds_both}
+use Rattle.trigger_starts.proofs.AtomLists.{adds_both}
 use Rattle.trigger_formulas.proofs.triggers.joined.Goals as goal
 
 pub returns : goal.returns

@@ -1,0 +1,12 @@
+use Rattle.std.proofs.Common.{take}
+use Rattle.std.specs.List.{list_any}
+use Rattle.trigger_diagram.specs.Arena.{Grows}
+use Rattle.trigger_diagram.specs.Made.{value_at}
+use Rattle.trigger_diagram.specs.Truth.{Tells}
+use Rattle.trigger_diagram.proofs.arena.Arena.any.Given as goal
+
+abbrev pub invariant-loop-arg : goal.invariant-loop-arg
+invariant-loop-arg l = record {
+  grows : Grows l.initial.self l.self;
+  tells : Tells l.self l.node (λ h. list_any (value_at l.initial.self l.nodes h) (take l.arg-index l.args));
+}

@@ -1,0 +1,5 @@
+use Rattle.trigger_diagram.proofs.Questions.{follows_told}
+use Rattle.trigger_diagram.proofs.diagrams.Diagrams.implies.Goals as goal
+
+pub returns : goal.returns
+returns c = follows_told c.args.self.now c.self.inside.rules.items c.self.inside.arena c.args.a c.args.b c.a.inside.number c.b.inside.number c.implies.result c.self.view_is c.a.view_is c.b.view_is c.implies.ensures

@@ -1,6 +1,0 @@
-use Rattle.std.proofs.Common.{take}
-use Rattle.trigger_formulas.specs.AtomLists.{Adds, IsInSome}
-use Rattle.trigger_formulas.proofs.table.add_each.Given as goal
-
-abbrev pub invariant-loop-arg : goal.invariant-loop-arg
-invariant-loop-arg l = Adds l.initial.atoms (IsInSome l.all (take l.arg-index l.args)) l.atoms

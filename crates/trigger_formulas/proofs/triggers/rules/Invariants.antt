@@ -1,6 +1,0 @@
-use Rattle.std.proofs.Common.{◌≡◌, take}
-use Rattle.trigger_formulas.specs.Rules.{rules_of}
-use Rattle.trigger_formulas.proofs.triggers.rules.Given as goal
-
-abbrev pub invariant-loop-number : goal.invariant-loop-number
-invariant-loop-number l = l.rules.items ≡ take l.number (rules_of l.flat)

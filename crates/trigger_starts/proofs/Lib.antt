@@ -1,0 +1,11 @@
+pub mod AtomLists
+pub mod Meaning
+pub mod RuleAtoms
+pub mod Gathered
+pub mod Tables
+pub mod Transfer
+pub mod Starting
+pub mod Orders
+pub mod Marking
+pub mod Systems
+pub mod SampleLemmas
