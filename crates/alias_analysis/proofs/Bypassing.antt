@@ -1,0 +1,173 @@
+-- What bypasses an update, by following edges around it.
+use Rattle.std.proofs.Common.{◌≡◌, ◌↔◌, ℕ, ◌+◌, ◌<◌, Bool, List, [], ◌∷◌, length, take, get_or, Some, refl, sym, ap, subst, ◌∙◌, inl, inr, arith}
+use Rattle.std.specs.Prelude.{IsTrue}
+use Rattle.std.specs.List.{Contains}
+use Rattle.std.proofs.Math.Seq.{take-length}
+use Rattle.std.proofs.lemmas.List.{length-map}
+use Rattle.std.proofs.lemmas.Option.{same_Some, slice_get_within}
+use Rattle.tsl_value.specs.declared.scalar.ValueType.{ValueType}
+use Rattle.flat_core.specs.declared.equation.Equation.{Equation}
+use Rattle.flat_core.specs.Complete.{IsFlat}
+use Rattle.flat_core.specs.Marks.{has_mark}
+use Rattle.flat_core.specs.System.{System, equation}
+use Rattle.flat_core.specs.TypedSystem.{AreOfTypes}
+use Rattle.translation_order.specs.Order.{Before}
+use Rattle.trigger_rules.specs.Question.{Implies}
+use Rattle.trigger_starts.specs.declared.rules.Rule.{Rule}
+use Rattle.trigger_formulas.specs.Kept.{AreTriggersOf}
+use Rattle.trigger_starts.specs.Rules.{rule_of}
+use Rattle.alias_rules.specs.Uses.{IsLast, IsWritten}
+use Rattle.alias_rules.specs.Roots.{Carries, IsRoot}
+use Rattle.alias_rules.specs.Sharing.{Alias, same, lasts}
+use Rattle.alias_rules.specs.Bypass.{PassesOver, GoesAround, Bypasses}
+use Rattle.alias_analysis.specs.Search.{AreReached}
+use Rattle.alias_analysis.specs.Pairs.{ArePairs, Adds, IsWanted, IsGiven}
+use Rattle.alias_analysis.specs.Marking.{AreJust, AddsMarks, HasMarkedSecond, HasMarkedFirst}
+use Rattle.alias_analysis.specs.Kept.{AreStoredMarks}
+use Rattle.alias_analysis.specs.Flows.{SharesWithOne}
+use Rattle.alias_analysis.specs.Contents.{IsMergeBehind, LeadsAround, IsRootOfSource, SharesWithLast, IsLastOfMarked, AreAliased, IsMarkedBeside}
+use Rattle.alias_analysis.proofs.Adding.{adds_as, given_more, pairs_of, marks_as}
+use Rattle.alias_analysis.proofs.Rooting.{just_as, walk_as}
+use Rattle.alias_analysis.proofs.Sharers.{last_origin}
+
+-- ---- merges
+
+pub two_items : (args : List ℕ) → length args ≡ 2 → args ≡ get_or args 0 0 ∷ get_or args 1 0 ∷ []
+two_items [] size = absurd (omega arith)
+two_items (a ∷ []) size = absurd (omega arith)
+two_items (a ∷ b ∷ []) size = refl
+two_items (a ∷ b ∷ c ∷ args) size = absurd (omega arith)
+
+pub rules_length : (s : System) (rules : List Rule) → AreTriggersOf rules s → length rules ≡ length s.equations
+rules_length s rules are = ap length are ∙ length-map s.equations rule_of
+
+first_typed : (equations : List Equation) (a : ℕ) (rest : List ℕ) (types : List ValueType) → AreOfTypes equations (a ∷ rest) types → a < length equations
+first_typed equations a rest [] h = absurd h
+first_typed equations a rest (t ∷ types) h = slice_get_within equations a h.0.at h.0.is
+
+module _ (s : System) (i x : ℕ) (e : Equation) (found : equation s i ≡ Some e) where
+  pub merged_low : IsFlat s → (other : ℕ) → IsMergeBehind e other x → other < length s.equations
+  merged_low flat other behind =
+      let typed = flat.complete.typed.each i e found in
+      first_typed s.equations other (x ∷ []) typed.types (subst (λ args. AreOfTypes s.equations args typed.types) behind.args_are typed.arguments)
+
+  pub merge_of : (y : ℕ) (p : PassesOver s y i x) → IsMergeBehind e p.other x
+  merge_of y p =
+      let is : p.at ≡ e = same_Some p.at e (sym p.is ∙ found) in
+      record { merges = ap (λ (d : Equation). d.op) (sym is) ∙ p.merges; args_are = ap (λ (d : Equation). d.args) (sym is) ∙ p.args_are; differ = p.differ }
+
+  pub passes_some : (y other : ℕ) (r : Bool) → IsMergeBehind e other x → IsTrue r ↔ Implies s y other → IsTrue r ↔ PassesOver s y i x
+  passes_some y other r behind exact = (
+    (λ h. record { at = e; is = found; merges = behind.merges; other = other; args_are = behind.args_are; differ = behind.differ; implied = exact.0 h }),
+    (λ p.
+        let args = (merge_of y p).args_are in
+        let one : p.other ≡ other = let also = behind.args_are in cc in
+        exact.1 (subst (Implies s y) one p.implied)),
+  )
+
+-- ---- edges around an update
+
+pub record GivesAround (s : System) (y : ℕ) (p : ℕ × ℕ) (a i : ℕ) : Type 0 where
+  pub leads : LeadsAround s y p.0 p.1
+  pub first : a ≡ p.0
+  pub second : i ≡ p.1
+
+module _ (s : System) (y : ℕ) (carriers : List (ℕ × ℕ)) where
+  pub around_more : (k : ℕ) (p : ℕ × ℕ) (wanted : Bool) (old mid new : List (ℕ × ℕ)) → k < length carriers → p ≡ get_or carriers k p → IsTrue wanted ↔ LeadsAround s y p.0 p.1 → Adds old (IsGiven (take k carriers) (GivesAround s y)) mid → Adds mid (IsWanted wanted p.0 p.1) new → Adds old (IsGiven (take (k + 1) carriers) (GivesAround s y)) new
+  around_more k p wanted old mid new lt is exact before added =
+      given_more carriers (GivesAround s y) k p old mid new lt is before (
+      adds_as mid (IsWanted wanted p.0 p.1) (GivesAround s y p) new added
+      (λ a i w. record { leads = exact.0 w.is_wanted; first = w.first; second = w.second })
+      (λ a i g. record { is_wanted = exact.1 g.leads; first = g.first; second = g.second })
+      )
+
+  pub around_are : (set : List ℕ) (k : ℕ) (old new : List (ℕ × ℕ)) → old ≡ [] → k ≡ length carriers → ArePairs (Carries s set) carriers → Adds old (IsGiven (take k carriers) (GivesAround s y)) new → ArePairs (GoesAround s set y) new
+  around_are set k old new none all are h =
+      let whole : take k carriers ≡ carriers = ap (λ m. take m carriers) all ∙ take-length carriers in
+      pairs_of (GoesAround s set y) new (
+      adds_as [] (IsGiven (take k carriers) (GivesAround s y)) (GoesAround s set y) new (subst (λ l. Adds l (IsGiven (take k carriers) (GivesAround s y)) new) none h)
+      (λ a i g.
+      let among = subst (λ zs. Contains zs g.item) whole g.among in
+      let here : Before carriers a i = subst (Contains carriers) (λ j. (sym g.gives.first j, sym g.gives.second j)) among in
+      let leads = subst (λ (q : ℕ × ℕ). LeadsAround s y q.0 q.1) (λ j. (sym g.gives.first j, sym g.gives.second j)) g.gives.leads in
+      record { carries = (are.each a i).0 here; avoids = leads.avoids; enters = leads.enters })
+      (λ a i g. record {
+        item = (a, i);
+        among = subst (λ zs. Contains zs (a, i)) (sym whole) ((are.each a i).1 g.carries);
+        gives = record { leads = record { avoids = g.avoids; enters = g.enters }; first = refl; second = refl };
+      })
+      )
+
+-- ---- who shares with a last value among the roots
+
+module _ (s : System) (set : List ℕ) (y : ℕ) (last_pairs : List (ℕ × ℕ)) (are : ArePairs (IsLast s) last_pairs) (roots stored : List Bool) (rooted : AreJust (length s.equations) (IsRootOfSource s set y) roots) (found : AreJust (length roots) (HasMarkedSecond last_pairs roots) stored) where
+  pub all_stored : AreStoredMarks s stored
+  all_stored x m = let h = (found.each x).0 m in record { last = h.second; taken = (are.each x h.second).0 h.among }
+
+  pub last_sharers_are : (marks : List Bool) → AreJust (length s.equations) (SharesWithOne s set stored) marks → AreJust (length s.equations) (SharesWithLast s set y) marks
+  last_sharers_are marks h =
+      just_as (length s.equations) (SharesWithOne s set stored) (SharesWithLast s set y) marks h
+      (λ v m.
+      let one = (found.each m.one).0 m.marked in
+      let root = (rooted.each one.second).0 one.marked in
+      record { source = root.source; written = root.written; last = m.one; comes = record { root = one.second; is_root = root.root; last = (are.each m.one one.second).0 one.among }; shares = m.shares })
+      (λ v w. record {
+        one = w.last;
+        marked = (found.each w.last).1 (record {
+          second = w.comes.root;
+          among = (are.each w.last w.comes.root).1 w.comes.last;
+          marked = (rooted.each w.comes.root).1 (record { source = w.source; written = w.written; root = w.comes.is_root });
+        });
+        shares = w.shares;
+      })
+
+pub aliased_by : (s : System) (last_pairs : List (ℕ × ℕ)) (sharers old new : List Bool) → ArePairs (IsLast s) last_pairs → AddsMarks old (HasMarkedFirst last_pairs sharers) new → AreAliased s old sharers new
+aliased_by s last_pairs sharers old new are h =
+    marks_as old (HasMarkedFirst last_pairs sharers) (IsLastOfMarked s sharers) new h
+    (λ o m. record { variable = m.first; last = (are.each m.first o).0 m.among; marked = m.marked })
+    (λ o l. record { first = l.variable; among = (are.each l.variable o).1 l.last; marked = l.marked })
+
+-- ---- the whole
+
+module _ (s : System) (flat : IsFlat s) (set : List ℕ) (y : ℕ) (around : List (ℕ × ℕ)) (are : ArePairs (GoesAround s set y) around) (roots sharers begins reached : List Bool) (rooted : AreJust (length s.equations) (IsRootOfSource s set y) roots) (shared : AreJust (length s.equations) (SharesWithLast s set y) sharers) (aliased : AreAliased s roots sharers begins) (ends : AreReached (Before around) begins reached) where
+  bypass_from : (x : ℕ) → IsMarkedBeside s y reached x → Bypasses s set y x
+  bypass_from x b =
+      let way = (ends.each x).0 b.marked in
+      let walk = walk_as (Before around) (GoesAround s set y) (λ a c h. (are.each a c).0 h) way.walk in
+      elim (aliased.from way.start way.is_start) [
+        | inl at_root ↦
+            let r = (rooted.each way.start).0 at_root in
+            record { variable = b.beside.variable; together = b.beside.together; source = r.source; written = r.written; root = way.start; source_root = r.root; origin = way.start; begins = r.root.origin; aliases = same; around = walk }
+        | inr at_last ↦
+            let w = (shared.each at_last.variable).0 at_last.marked in
+            record {
+              variable = b.beside.variable;
+              together = b.beside.together;
+              source = w.source;
+              written = w.written;
+              root = w.comes.root;
+              source_root = w.comes.is_root;
+              origin = way.start;
+              begins = last_origin s flat set at_last.variable way.start at_last.last;
+              aliases = lasts at_last.last w.comes.last w.shares;
+              around = walk;
+            }
+      ]
+
+  begun : (source root origin : ℕ) → IsWritten s source y → IsRoot s set root source → Alias s set origin root → IsTrue (has_mark begins origin)
+  begun source root origin written at_root same = aliased.kept origin ((rooted.each origin).1 (record { source = source; written = written; root = at_root }))
+  begun source root origin written at_root (lasts {v} {w} first second h) =
+      aliased.there origin (record {
+        variable = v;
+        last = first;
+        marked = (shared.each v).1 (record { source = source; written = written; last = w; comes = record { root = root; is_root = at_root; last = second }; shares = h });
+      })
+
+  from_bypass : (x : ℕ) → Bypasses s set y x → IsMarkedBeside s y reached x
+  from_bypass x b = record {
+    marked = (ends.each x).1 (record { start = b.origin; is_start = begun b.source b.root b.origin b.written b.source_root b.aliases; walk = walk_as (GoesAround s set y) (Before around) (λ a c h. (are.each a c).1 h) b.around });
+    beside = record { variable = b.variable; together = b.together };
+  }
+
+  pub bypassed_are : (marks : List Bool) → AreJust (length s.equations) (IsMarkedBeside s y reached) marks → AreJust (length s.equations) (Bypasses s set y) marks
+  bypassed_are marks h = just_as (length s.equations) (IsMarkedBeside s y reached) (Bypasses s set y) marks h bypass_from from_bypass

@@ -1,0 +1,7 @@
+use Rattle.alias_analysis.specs.Constraints.{IsAskedFor}
+use Rattle.alias_analysis.specs.Pairs.{Adds}
+use Rattle.alias_analysis.proofs.Constraining.{Asks}
+use Rattle.alias_analysis.proofs.constraints.constraints.Given as goal
+
+abbrev pub invariant-loop-place : goal.invariant-loop-place
+invariant-loop-place l = Adds l.initial.pairs (IsAskedFor l.flat l.set (Asks l.flat l.set) l.place) l.pairs

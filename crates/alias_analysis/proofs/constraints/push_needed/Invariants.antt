@@ -1,0 +1,7 @@
+use Rattle.alias_analysis.specs.Constraints.{IsNeeded}
+use Rattle.alias_analysis.specs.Pairs.{Adds, IsKeyBelow}
+use Rattle.alias_analysis.proofs.Constraining.{second_key}
+use Rattle.alias_analysis.proofs.constraints.push_needed.Given as goal
+
+abbrev pub invariant-loop-number : goal.invariant-loop-number
+invariant-loop-number l = Adds l.initial.pairs (IsKeyBelow second_key l.number (IsNeeded l.flat)) l.pairs

@@ -1,0 +1,7 @@
+use Rattle.alias_analysis.specs.Constraints.{IsPrintedBefore}
+use Rattle.alias_analysis.specs.Pairs.{Adds, IsKeyBelow}
+use Rattle.alias_analysis.proofs.Constraining.{printer_key}
+use Rattle.alias_analysis.proofs.constraints.push_printers.Given as goal
+
+abbrev pub invariant-loop-place : goal.invariant-loop-place
+invariant-loop-place l = Adds l.initial.pairs (IsKeyBelow (printer_key l.flat) l.place (IsPrintedBefore l.flat l.marks l.update)) l.pairs

@@ -1,0 +1,8 @@
+use Rattle.std.proofs.Common.{take}
+use Rattle.alias_analysis.specs.Constraints.{WritesMarked}
+use Rattle.alias_analysis.specs.Pairs.{Adds, IsGiven}
+use Rattle.alias_analysis.proofs.Constraining.{GivesTaker}
+use Rattle.alias_analysis.proofs.constraints.push_writers.Given as goal
+
+abbrev pub invariant-loop-variable : goal.invariant-loop-variable
+invariant-loop-variable l = Adds l.initial.pairs (IsGiven (take l.variable-index l.written) (GivesTaker l.marks l.update (WritesMarked l.marks l.update))) l.pairs

@@ -1,0 +1,5 @@
+use Rattle.alias_analysis.specs.Kept.{HasUsesBelow}
+use Rattle.alias_analysis.proofs.uses.uses_of.Given as goal
+
+abbrev pub invariant-loop-number : goal.invariant-loop-number
+invariant-loop-number l = HasUsesBelow l.flat l.number l.uses

@@ -1,0 +1,270 @@
+// Which steps have to stand before others.
+
+ghost use Rattle.std.specs.Prelude.{◌≡◌, ◌↔◌, ◌<◌, ◌^◌, length, IfOk, OnOk, IsTrue};
+ghost use Rattle.flat_core.specs.WellFormed.{unguarded_of};
+ghost use Rattle.translation_order.specs.Order.{AreOfSteps};
+ghost use Rattle.alias_rules.specs.Uses.{AreUpdates};
+ghost use Rattle.alias_rules.specs.Conflict.{StandsBefore};
+ghost use Rattle.alias_rules.specs.Steps.{step_count};
+ghost use Rattle.trigger_formulas.specs.Kept.{AreTriggersOf};
+ghost use Rattle.alias_analysis.specs.Kept.{AreUses};
+ghost use Rattle.alias_analysis.specs.Pairs.{Adds, ArePairs};
+ghost use Rattle.alias_analysis.specs.Constraints.{IsArgumentAt, IsNeeded, IsPrintOf, IsMarkedBefore, IsTakenBefore};
+ghost use Rattle.alias_analysis.specs.Constraints.{WritesMarked, IsWrittenBefore, PassesMarked, IsPassedBefore, IsPrintedBefore};
+ghost use Rattle.alias_analysis.specs.Constraints.{StandsBeforeUpdate};
+
+use crate::bypass::{bypassed, passes_over};
+use crate::conflict::update_at;
+use crate::pairs::push_if;
+use crate::uses::{Uses, behind_first};
+use flat_core::equation::{Equation, Op};
+use flat_core::flat::Flat;
+use flat_core::lists::EqSet;
+use flat_core::steps::Edges;
+use std::alloc::Global;
+use trigger_formulas::triggers::Triggers;
+use tsl_value::ids::EqId;
+use tsl_value::memory::NoMemory;
+
+/// All arguments but the first of a last or of a delay.
+fn unguarded(equation: &Equation) -> &[EqId]
+    ensures { result.now ≡ unguarded_of equation.now.op equation.now.args }
+{
+    let arguments = equation.args.ids();
+    match &equation.op {
+        Op::Last => behind_first(arguments),
+        Op::Delay => behind_first(arguments),
+        Op::Input => arguments,
+        Op::Nil => arguments,
+        Op::Unit => arguments,
+        Op::Lift { body: _, strict: _ } => arguments,
+        Op::Any => arguments,
+        Op::Time => arguments,
+        Op::Merge => arguments,
+        Op::Filter => arguments,
+        Op::Pick => arguments,
+        Op::Empty => arguments,
+        Op::MapAdd => arguments,
+        Op::MapRemove => arguments,
+        Op::SetAdd => arguments,
+        Op::SetRemove => arguments,
+    }
+}
+
+/// Appends a pair of each of these arguments and the equation that has them, if it runs.
+fn push_arguments(
+    pairs: &mut Edges,
+    arguments: &[EqId],
+    number: u32,
+    runs: bool,
+) -> Result<(), NoMemory>
+    ensures { OnOk result (Adds pairs.old (IsArgumentAt arguments.now number runs) pairs.new) }
+{
+    for argument in arguments {
+        push_if(pairs, (argument.get(), number), runs)?;
+    }
+    Ok(())
+}
+
+/// Appends a pair of each argument that has to stand before a running equation, and that equation.
+fn push_needed(pairs: &mut Edges, flat: &Flat) -> Result<(), NoMemory>
+    ensures { OnOk result (Adds pairs.old (IsNeeded flat.now) pairs.new) }
+{
+    for number in 0..flat.count() {
+        let id = EqId::new(number);
+        push_arguments(pairs, unguarded(flat.equation(id)), number, flat.runs(id))?;
+    }
+    Ok(())
+}
+
+/// Appends a pair of each printed equation and its print.
+fn push_prints(pairs: &mut Edges, flat: &Flat) -> Result<(), NoMemory>
+    ensures { OnOk result (Adds pairs.old (IsPrintOf flat.now) pairs.new) }
+{
+    let count = flat.count();
+    let outputs = flat.outputs();
+    for place in 0..outputs.len() {
+        let printed = outputs[place].equation.get();
+        pairs.push((printed, count + place as u32))?;
+    }
+    Ok(())
+}
+
+/// Appends a pair of each marked equation and the update.
+fn push_marked(pairs: &mut Edges, marks: &[bool], update: u32) -> Result<(), NoMemory>
+    requires { length marks.now < 2 ^ 32 }
+    ensures { OnOk result (Adds pairs.old (IsMarkedBefore marks.now update) pairs.new) }
+{
+    for index in 0..marks.len() {
+        push_if(pairs, (index as u32, update), marks[index])?;
+    }
+    Ok(())
+}
+
+/// Appends a pair of each equation that reads a marked one, and the update.
+fn push_readers(
+    pairs: &mut Edges,
+    read: &[(u32, u32)],
+    marks: &[bool],
+    update: u32,
+) -> Result<(), NoMemory>
+    requires { AreOfSteps (length marks.now) read.now }
+    ensures { OnOk result (Adds pairs.old (IsTakenBefore read.now marks.now update) pairs.new) }
+{
+    for (variable, reader) in read {
+        push_if(pairs, (*reader, update), marks[*variable as usize])?;
+    }
+    Ok(())
+}
+
+/// Whether this writer is another than the update, and writes a marked variable.
+fn writes_marked(marks: &[bool], variable: u32, writer: u32, update: u32) -> bool
+    requires { variable < length marks.now }
+    ensures { IsTrue result ↔ WritesMarked marks.now update variable writer }
+{
+    marks[variable as usize] && writer != update
+}
+
+/// Appends a pair of each other equation that writes a marked one, and the update.
+fn push_writers(
+    pairs: &mut Edges,
+    written: &[(u32, u32)],
+    marks: &[bool],
+    update: u32,
+) -> Result<(), NoMemory>
+    requires { AreOfSteps (length marks.now) written.now }
+    ensures { OnOk result (Adds pairs.old (IsWrittenBefore written.now marks.now update) pairs.new) }
+{
+    for (variable, writer) in written {
+        let wanted = writes_marked(marks, *variable, *writer, update);
+        push_if(pairs, (*writer, update), wanted)?;
+    }
+    Ok(())
+}
+
+/// Whether this equation passes a marked variable on where the update has an event.
+fn passes_marked(
+    alloc: Global,
+    flat: &Flat,
+    triggers: &Triggers,
+    marks: &[bool],
+    edge: (u32, u32),
+    update: EqId,
+) -> Result<bool, NoMemory>
+    requires triggers { AreTriggersOf triggers.now flat.now }
+    requires update { update < length flat.now.equations }
+    requires variable { edge.0 < length marks.now }
+    requires there { edge.1 < length flat.now.equations }
+    ensures { IfOk result (λ r. IsTrue r ↔ PassesMarked flat.now marks.now update edge.0 edge.1) }
+{
+    let (variable, passer) = edge;
+    if !marks[variable as usize] {
+        return Ok(false);
+    }
+    let over = passes_over(
+        alloc,
+        flat,
+        triggers,
+        update,
+        EqId::new(passer),
+        EqId::new(variable),
+    )?;
+    Ok(!over)
+}
+
+/// Appends a pair of each equation that passes a marked one on where the update has an event, and the update.
+fn push_passers(
+    pairs: &mut Edges,
+    alloc: Global,
+    flat: &Flat,
+    triggers: &Triggers,
+    passed: &[(u32, u32)],
+    marks: &[bool],
+    update: EqId,
+) -> Result<(), NoMemory>
+    requires triggers { AreTriggersOf triggers.now flat.now }
+    requires update { update < length flat.now.equations }
+    requires one_each { length marks.now ≡ length flat.now.equations }
+    requires there { AreOfSteps (length flat.now.equations) passed.now }
+    ensures { OnOk result (Adds pairs.old (IsPassedBefore flat.now passed.now marks.now update) pairs.new) }
+{
+    for (variable, passer) in passed {
+        let edge = (*variable, *passer);
+        let wanted = passes_marked(alloc, flat, triggers, marks, edge, update)?;
+        push_if(pairs, (*passer, update.get()), wanted)?;
+    }
+    Ok(())
+}
+
+/// Appends a pair of each print of a marked equation, and the update.
+fn push_printers(
+    pairs: &mut Edges,
+    flat: &Flat,
+    marks: &[bool],
+    update: u32,
+) -> Result<(), NoMemory>
+    requires { length marks.now ≡ length flat.now.equations }
+    ensures { OnOk result (Adds pairs.old (IsPrintedBefore flat.now marks.now update) pairs.new) }
+{
+    let count = flat.count();
+    let outputs = flat.outputs();
+    for place in 0..outputs.len() {
+        let printed = outputs[place].equation.get() as usize;
+        push_if(pairs, (count + place as u32, update), marks[printed])?;
+    }
+    Ok(())
+}
+
+/// Appends the pairs that an update of the set asks for.
+fn push_update(
+    pairs: &mut Edges,
+    alloc: Global,
+    flat: &Flat,
+    triggers: &Triggers,
+    uses: &Uses,
+    set: &EqSet,
+    update: EqId,
+) -> Result<(), NoMemory>
+    requires triggers { AreTriggersOf triggers.now flat.now }
+    requires uses { AreUses flat.now uses.now }
+    requires update { update < length flat.now.equations }
+    ensures { OnOk result (Adds pairs.old (StandsBeforeUpdate flat.now set.now update) pairs.new) }
+{
+    // A system has few equations, as their count tells.
+    let _ = flat.count();
+    let number = update.get();
+    let marks = bypassed(alloc, flat, triggers, uses, set, update)?;
+    let passed = uses.passed.as_slice();
+    push_marked(pairs, &marks, number)?;
+    push_readers(pairs, uses.read.as_slice(), &marks, number)?;
+    push_writers(pairs, uses.written.as_slice(), &marks, number)?;
+    push_passers(pairs, alloc, flat, triggers, passed, &marks, update)?;
+    push_printers(pairs, flat, &marks, number)?;
+    Ok(())
+}
+
+/// The pairs of steps of which the first has to stand before the second where the updates of the set happen in place.
+pub fn constraints(
+    alloc: Global,
+    flat: &Flat,
+    triggers: &Triggers,
+    uses: &Uses,
+    set: &EqSet,
+) -> Result<Edges, NoMemory>
+    requires triggers { AreTriggersOf triggers.now flat.now }
+    requires uses { AreUses flat.now uses.now }
+    requires updates { AreUpdates flat.now set.now }
+    ensures exact { IfOk result (λ e. ArePairs (StandsBefore flat.now set.now) e) }
+    ensures of_steps { IfOk result (λ e. AreOfSteps (step_count flat.now) e) }
+{
+    // A system is typed, as the count of its equations tells.
+    let _ = flat.count();
+    let mut pairs = Edges::new(alloc);
+    push_needed(&mut pairs, flat)?;
+    push_prints(&mut pairs, flat)?;
+    for place in 0..set.len() {
+        let update = update_at(set, place);
+        push_update(&mut pairs, alloc, flat, triggers, uses, set, update)?;
+    }
+    Ok(pairs)
+}

@@ -1,0 +1,122 @@
+// What updates in place would do to content, for one set of updates after the other.
+
+ghost use Rattle.std.specs.Prelude.{◌≡◌, ◌↔◌, ◌<◌, ℕ, IfOk, IsTrue};
+ghost use Rattle.std.specs.List.Sorted.{IsStrictlyIncreasing};
+ghost use Rattle.flat_core.specs.Members.{is_in};
+ghost use Rattle.trigger_formulas.specs.Kept.{AreTriggersOf};
+ghost use Rattle.alias_rules.specs.Uses.{IsVariable, AreUpdates};
+ghost use Rattle.alias_rules.specs.Roots.{IsRoot};
+ghost use Rattle.alias_rules.specs.Sharing.{Shares};
+ghost use Rattle.alias_rules.specs.Bypass.{Bypasses};
+ghost use Rattle.alias_rules.specs.Conflict.{StandsBefore};
+ghost use Rattle.translation_order.specs.Order.{Before, AreOfSteps};
+ghost use Rattle.alias_rules.specs.Steps.{step_count};
+ghost use Rattle.alias_analysis.specs.Answer.{IsFirstConflict};
+
+use crate::bypass::bypassed;
+use crate::conflict::first_conflict;
+use crate::constraints::constraints;
+use crate::marks::set_of;
+use crate::reason::Reason;
+use crate::roots::{carriers, roots_of_one};
+use crate::sharing::sharing;
+use crate::uses::{Uses, uses_of};
+use flat_core::flat::Flat;
+use flat_core::lists::EqSet;
+use flat_core::steps::Edges;
+use std::alloc::Global;
+use std::marker::Model;
+use trigger_formulas::triggers::Triggers;
+use tsl_value::ids::EqId;
+use tsl_value::memory::NoMemory;
+
+/// Which equations of a flat system take content, with the system's trigger formulas. Contracts see the system.
+///
+/// Each question is about a set of running updates that would happen in place.
+#[derive(Drop)]
+pub struct Graph<'a> {
+    flat: &'a Flat,
+    triggers: &'a Triggers,
+    uses: Uses,
+}
+
+impl<'a> Model for Graph<'a> {
+    ghost use Rattle.flat_core.specs.System.{System};
+    ghost use Rattle.lift_func.specs.contracts.body.Body as body;
+    ghost use Rattle.std.specs.Coded.{codes};
+
+    ghost Value = { System };
+
+    ghost coded = { Prim.hlevel (codes, body.the_row.coded) };
+
+    ghost view = { λ g. g.flat.now };
+
+    ghost use Rattle.alias_analysis.specs.Kept.{IsGraph};
+
+    ghost invariant = { λ g. IsGraph g.flat.now g.triggers.now g.uses };
+}
+
+impl<'a> Graph<'a> {
+    /// Keeps the uses of content in a system.
+    pub fn of(alloc: Global, flat: &'a Flat, triggers: &'a Triggers) -> Result<Graph<'a>, NoMemory>
+        requires { AreTriggersOf triggers.now flat.now }
+        ensures { IfOk result (λ g. g ≡ flat.now) }
+    {
+        let uses = uses_of(alloc, flat)?;
+        Ok(Graph {
+            flat,
+            triggers,
+            uses,
+        })
+    }
+
+    /// The equations at which the content of a variable may begin.
+    pub fn roots(&self, alloc: Global, set: &EqSet, x: EqId) -> Result<EqSet, NoMemory>
+        requires variable { IsVariable self.now x }
+        ensures ascending { IfOk result (λ r. IsStrictlyIncreasing r) }
+        ensures members { IfOk result (λ r. (i : ℕ) → IsTrue (is_in r i) ↔ IsRoot self.now set.now i x) }
+    {
+        // A system has few equations, as their count tells.
+        let _ = self.flat.count();
+        let carriers = carriers(alloc, self.flat, &self.uses, set)?;
+        let roots = roots_of_one(alloc, self.flat, set, carriers.as_slice(), x)?;
+        set_of(alloc, &roots)
+    }
+
+    /// All pairs of stored variables that may keep one content from an earlier time.
+    pub fn share(&self, alloc: Global, set: &EqSet) -> Result<Edges, NoMemory>
+        ensures { IfOk result (λ e. (v w : ℕ) → Before e v w ↔ Shares self.now set.now v w) }
+    {
+        sharing(alloc, self.flat, &self.uses, set)
+    }
+
+    /// The variables that may have, beside an update of the set, the content that it changes.
+    pub fn bypass(&self, alloc: Global, set: &EqSet, update: EqId) -> Result<EqSet, NoMemory>
+        requires updates { AreUpdates self.now set.now }
+        requires inside { IsTrue (is_in set.now update) }
+        ensures ascending { IfOk result (λ r. IsStrictlyIncreasing r) }
+        ensures members { IfOk result (λ r. (x : ℕ) → IsTrue (is_in r x) ↔ Bypasses self.now set.now update x) }
+    {
+        // A system has few equations, as their count tells.
+        let _ = self.flat.count();
+        let bypassed = bypassed(alloc, self.flat, self.triggers, &self.uses, set, update)?;
+        set_of(alloc, &bypassed)
+    }
+
+    /// The first update of the set that is kept, or else the first that is not overwritten. `None` comes exactly where there is none.
+    pub fn conflict(&self, alloc: Global, set: &EqSet) -> Result<Option<Reason>, NoMemory>
+        requires { AreUpdates self.now set.now }
+        ensures { IfOk result (λ r. IsFirstConflict self.now set.now r) }
+    {
+        first_conflict(alloc, self.flat, self.triggers, &self.uses, set)
+    }
+
+    /// The pairs of steps of which the first has to stand before the second where the updates of the set happen in place.
+    pub fn constraints(&self, alloc: Global, set: &EqSet) -> Result<Edges, NoMemory>
+        requires { AreUpdates self.now set.now }
+        ensures exact { IfOk result (λ e. (a b : ℕ) → Before e a b ↔ StandsBefore self.now set.now a b) }
+        ensures of_steps { IfOk result (λ e. AreOfSteps (step_count self.now) e) }
+    {
+        constraints(alloc, self.flat, self.triggers, &self.uses, set)
+    }
+}

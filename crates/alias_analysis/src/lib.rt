@@ -1,0 +1,16 @@
+// Where updates of sets and maps would change content that is still needed.
+#![tactic(auto)]
+
+mod bypass;
+mod conflict;
+mod constraints;
+pub mod graph;
+mod marks;
+mod pairs;
+mod reach;
+pub mod reason;
+mod roots;
+mod sharing;
+#[cfg(test)]
+mod tests;
+mod uses;
