@@ -1,0 +1,179 @@
+-- What the pieces in `clap`'s matches ask for, and what holds of it.
+use Rattle.std.proofs.Common.{◌≡◌, ◌∙◌, ap, sym, subst, refl, arith, ℕ, Bool, true, false, not, ◌&&◌, suc, List, [], ◌∷◌, length, drop, Option, Some, None, codes, ◌≤◌, if◌then◌else◌, slice_get, option_and_then, option_map, unwrap_or, Bor}
+use Rattle.std.specs.Prelude.{nat_le, is_some, IfSome}
+use Rattle.std.specs.Str.Parse.{digits_value}
+use Rattle.std.specs.List.{list_any}
+use Rattle.std.proofs.lemmas.Bool.{le-leb, leb-true, and_parts}
+use Rattle.tsl_value.specs.Literal.{are_digits}
+use Rattle.clap.specs.Matches.{first_value}
+use Rattle.clap.specs.Walk.{Text}
+use Rattle.clap.specs.declared.parser.matches.Found.{Found}
+use Rattle.command_words.specs.Reader.{Holds, IsRefused, run_found}
+use Rattle.command_words.specs.declared.words.Command.{Command as CodeCommand}
+use Rattle.command_words.specs.declared.words.Kind.{Kind}
+use Rattle.command_words.specs.declared.words.Verb.{Verb}
+use Rattle.command_words.specs.declared.words.Verb.TheVariants as verb
+use Rattle.command_words.specs.Words.{IsLimited, IsLimitedRun, IsLimitedCount, Command, Form, Name, until_name, instants_name, bytes_name, Flag, strict_flag, stats_flag, Piece, pieces, plains, values, uses, are_plain, fits, read, spec_form, run_form, count_form, number, number_or, most_time, most_instants, most_bytes, most_lines, Run, run_by, run_of, spec_of, kind_of as trace_kind, counted_by, counted_of, first_verb, verb_of, asked_by, command_asked, command_of, is_empty, check as checks, flat as flattens, code as codes_of, run as runs, generate, bench}
+
+fits_run : (ps : List Piece) (found : Found) → Holds ps found → fits run_form ps ≡ true
+fits_run ps found h = rw (le-leb _ _ h.some_word, le-leb _ _ h.few_words, le-leb _ _ (h.one_value until_name), le-leb _ _ (h.one_value instants_name), le-leb _ _ (h.one_value bytes_name), le-leb _ _ (h.one_use strict_flag), le-leb _ _ (h.one_use stats_flag)) refl
+
+pub run_held : (ps : List Piece) (found : Found) → Holds ps found → option_and_then run_of (if fits run_form ps then Some ps else None) ≡ run_found found (nat_le 1 (length (uses strict_flag ps))) (nat_le 1 (length (uses stats_flag ps)))
+run_held ps found h = ap (λ b. option_and_then run_of (if b then Some ps else None)) (fits_run ps found h) ∙ same
+  where
+    same : run_of ps ≡ run_found found (nat_le 1 (length (uses strict_flag ps))) (nat_le 1 (length (uses stats_flag ps)))
+    same = rw (h.first, h.second, h.named until_name, h.named instants_name, h.named bytes_name) refl
+
+abbrev told_spec : List Piece → Option Text
+told_spec ps = option_and_then spec_of (if fits spec_form ps then Some ps else None)
+
+unless : (a b c : Bool) → c ≡ false → (a && (b && c)) ≡ false
+unless true true c e = e
+unless true false c e = refl
+unless false b c e = refl
+
+negated : (b : Bool) → not b ≡ true → b ≡ false
+negated true h = let bad : false ≡ true = h in cc
+negated false h = refl
+
+affirmed : (b : Bool) → not b ≡ false → b ≡ true
+affirmed true h = refl
+affirmed false h = let bad : true ≡ false = h in cc
+
+pub spec_with_options : (ps : List Piece) → not (are_plain ps) ≡ true → None ≡ told_spec ps
+spec_with_options ps h = sym (ap (λ b. option_and_then spec_of (if b then Some ps else None)) (unless (nat_le 1 (length (plains ps))) (nat_le (length (plains ps)) 1) (are_plain ps) (negated (are_plain ps) h)))
+
+by_plains : (ps : List Piece) (xs : List Text) → plains ps ≡ xs → are_plain ps ≡ true → is_some (slice_get xs 1) ≡ false → 1 ≤ length xs → slice_get (plains ps) 0 ≡ told_spec ps
+by_plains ps [] e p s some = let bad : ⊥ = omega arith in absurd bad
+by_plains ps (x ∷ []) e p s some =
+    let is : fits spec_form ps ≡ true = rw (e, p) refl in
+    sym (ap (λ b. option_and_then spec_of (if b then Some ps else None)) is)
+by_plains ps (x ∷ y ∷ xs) e p s some = let bad : true ≡ false = s in cc
+
+now_some : (o : Option (Bor Text)) (t : Option Text) → option_map (λ b. b.now) o ≡ t → is_some t ≡ is_some o
+now_some None t e = ap is_some (sym e)
+now_some (Some b) t e = ap is_some (sym e)
+
+pub spec_alone : (ps : List Piece) (found : Found) (spec trace : Option (Bor Text)) → Holds ps found → option_map (λ b. b.now) spec ≡ first_value found (codes "spec")
+    → option_map (λ b. b.now) trace ≡ first_value found (codes "trace") → is_some trace ≡ false → not (are_plain ps) ≡ false → option_map (λ b. b.now) spec ≡ told_spec ps
+spec_alone ps found spec trace h a b none p =
+    a ∙ (h.first ∙ by_plains ps (plains ps) refl (affirmed (are_plain ps) p) (now_some trace (slice_get (plains ps) 1) (b ∙ h.second) ∙ none) h.some_word)
+
+two_words : (ps : List Piece) (xs : List Text) → plains ps ≡ xs → is_some (slice_get xs 1) ≡ true → fits spec_form ps ≡ false
+two_words ps [] e s = let bad : false ≡ true = s in cc
+two_words ps (x ∷ []) e s = let bad : false ≡ true = s in cc
+two_words ps (x ∷ y ∷ xs) e s = many (nat_le (length (plains ps)) 1) refl
+  where
+    many : (q : Bool) → nat_le (length (plains ps)) 1 ≡ q → (nat_le 1 (length (plains ps)) && (q && are_plain ps)) ≡ false
+    many true h =
+        let few : length (plains ps) ≤ 1 = leb-true (length (plains ps)) 1 h in
+        let two : length (plains ps) ≡ suc (suc (length xs)) = ap length e in
+        let bad : ⊥ = omega arith in absurd bad
+    many false h = first (nat_le 1 (length (plains ps)))
+      where
+        first : (q : Bool) → (q && false) ≡ false
+        first true = refl
+        first false = refl
+
+pub spec_with_more : (ps : List Piece) (found : Found) (trace : Option (Bor Text)) → Holds ps found → option_map (λ b. b.now) trace ≡ first_value found (codes "trace") → is_some trace ≡ true → None ≡ told_spec ps
+spec_with_more ps found trace h b some =
+    sym (ap (λ b. option_and_then spec_of (if b then Some ps else None)) (two_words ps (plains ps) refl (now_some trace (slice_get (plains ps) 1) (b ∙ h.second) ∙ some)))
+
+pub refused_by : (words : List Text) (v : Verb) → IsRefused words → asked_by v words ≡ None
+refused_by words verb.Run h = rw h.run refl
+refused_by words verb.Check h = rw h.spec refl
+refused_by words verb.Flat h = rw h.spec refl
+refused_by words verb.Code h = rw h.spec refl
+refused_by words verb.Generate h = rw h.count refl
+refused_by words verb.Bench h = rw h.count refl
+
+-- ---- what holds of each command
+
+then_some : {X Y : Type 0} (f : X → Option Y) (o : Option X) (y : Y) → option_and_then f o ≡ Some y → (x : X) × (o ≡ Some x) × (f x ≡ Some y)
+then_some f None y e = let bad : None ≡ Some y = e in cc
+then_some f (Some x) y e = (x, refl, e)
+
+map_some : {X Y : Type 0} (f : X → Y) (o : Option X) (y : Y) → option_map f o ≡ Some y → (x : X) × (o ≡ Some x) × (f x ≡ y)
+map_some f None y e = let bad : None ≡ Some y = e in cc
+map_some f (Some x) y e = (x, refl, ap (λ r. unwrap_or r (f x)) e)
+
+kept : {X : Type 0} (b : Bool) (o : Option X) (x : X) → (if b then o else None) ≡ Some x → o ≡ Some x
+kept true o x e = e
+kept false o x e = let bad : None ≡ Some x = e in cc
+
+number_within : (least most : ℕ) (word : Text) (n : ℕ) → number least most word ≡ Some n → (least ≤ n) × (n ≤ most)
+number_within least most word n e = go _ refl e
+  where
+    value_of : ℕ
+    value_of = digits_value 10 word
+
+    go : (b : Bool) → (are_digits word && (nat_le least value_of && nat_le value_of most)) ≡ b → (if b then Some value_of else None) ≡ Some n → (least ≤ n) × (n ≤ most)
+    go true h e =
+        let is : value_of ≡ n = ap (λ r. unwrap_or r value_of) e in
+        let bounds = and_parts _ _ (and_parts _ _ h).1 in
+        (subst (λ k. least ≤ k) is (leb-true least value_of bounds.0), subst (λ k. k ≤ most) is (leb-true value_of most bounds.1))
+    go false h e = let bad : None ≡ Some n = e in cc
+
+or_within : (other least most : ℕ) (word : Option Text) (n : ℕ) → least ≤ other → other ≤ most → number_or other least most word ≡ Some n → (least ≤ n) × (n ≤ most)
+or_within other least most None n low high e = let is : other ≡ n = ap (λ r. unwrap_or r other) e in (omega arith, omega arith)
+or_within other least most (Some word) n low high e = number_within least most word n e
+
+limited_by : (spec trace until instants bytes : Option Text) (strict stats : Bool) (run : Run) → run_by spec trace until instants bytes strict stats ≡ Some run → IsLimitedRun run
+limited_by spec trace until instants bytes strict stats run e =
+    let named = then_some _ spec run e in
+    let timed = then_some _ (number_or 0 0 most_time until) run named.2 in
+    let counted = then_some _ (number_or most_instants 1 most_instants instants) run timed.2 in
+    let measured = map_some _ (number_or most_bytes 1 most_bytes bytes) run counted.2 in
+    let time = or_within 0 0 most_time until timed.0 (omega arith) (omega arith) timed.1 in
+    let count = or_within most_instants 1 most_instants instants counted.0 (omega arith) (omega arith) counted.1 in
+    let size = or_within most_bytes 1 most_bytes bytes measured.0 (omega arith) (omega arith) measured.1 in
+    subst IsLimitedRun measured.2 (record { until = omega arith; some_instants = count.0; instants = count.1; some_bytes = size.0; bytes = size.1 })
+
+counted_limited : (name count : Option Text) (c : Kind × ℕ) → counted_by name count ≡ Some c → IsLimitedCount c.1
+counted_limited name count c e =
+    let kind = then_some _ (option_and_then trace_kind name) c e in
+    let n = map_some _ (option_and_then (number 1 most_lines) count) c kind.2 in
+    let told = then_some (number 1 most_lines) count n.0 n.1 in
+    let within = number_within 1 most_lines told.0 n.0 told.2 in
+    subst (λ (d : Kind × ℕ). IsLimitedCount d.1) n.2 (record { some = within.0; most = within.1 })
+
+run_limited : (ps : List Piece) (r : Run) → run_of ps ≡ Some r → IsLimitedRun r
+run_limited ps r e =
+    limited_by (slice_get (plains ps) 0) (slice_get (plains ps) 1) (slice_get (values until_name ps) 0) (slice_get (values instants_name ps) 0)
+    (slice_get (values bytes_name ps) 0) (nat_le 1 (length (uses strict_flag ps))) (nat_le 1 (length (uses stats_flag ps))) r e
+
+asked_limited : (v : Verb) (words : List Text) (c : Command) → asked_by v words ≡ Some c → IsLimited c
+asked_limited verb.Run words c e =
+    let r = map_some runs _ c e in
+    let ps = then_some run_of (read run_form words) r.0 r.1 in
+    subst IsLimited r.2 (run_limited ps.0 r.0 ps.2)
+asked_limited verb.Check words c e = let r = map_some checks _ c e in subst IsLimited r.2 tt
+asked_limited verb.Flat words c e = let r = map_some flattens _ c e in subst IsLimited r.2 tt
+asked_limited verb.Code words c e = let r = map_some codes_of _ c e in subst IsLimited r.2 tt
+asked_limited verb.Generate words c e =
+    let r = map_some (λ (d : Kind × ℕ). generate d.0 d.1) _ c e in
+    let ps = then_some counted_of (read count_form words) r.0 r.1 in
+    subst IsLimited r.2 (counted_limited (slice_get (plains ps.0) 0) (slice_get (plains ps.0) 1) r.0 ps.2)
+asked_limited verb.Bench words c e =
+    let r = map_some (λ (d : Kind × ℕ). bench d.0 d.1) _ c e in
+    let ps = then_some counted_of (read count_form words) r.0 r.1 in
+    subst IsLimited r.2 (counted_limited (slice_get (plains ps.0) 0) (slice_get (plains ps.0) 1) r.0 ps.2)
+
+unless_empty : {X : Type 0} (b : Bool) (o : Option X) (x : X) → (if b then None else o) ≡ Some x → o ≡ Some x
+unless_empty true o x e = let bad : None ≡ Some x = e in cc
+unless_empty false o x e = e
+
+pub command_is_limited : (words : List Text) (c : Command) → command_of words ≡ Some c → IsLimited c
+command_is_limited words c e =
+    let told = then_some (λ v. asked_by v (drop 1 words)) (first_verb words) c (unless_empty (list_any is_empty words) _ c e) in
+    asked_limited told.0 (drop 1 words) c told.2
+
+pub are_limited : (v : Verb) (words : List Text) (o : Option CodeCommand) → option_map command_asked o ≡ asked_by v words → IfSome o (λ c. IsLimited (command_asked c))
+are_limited v words None e = tt
+are_limited v words (Some c) e = asked_limited v words (command_asked c) (sym e)
+
+pub told_when : (words : List Text) (v : Verb) → list_any is_empty words ≡ false → first_verb words ≡ Some v → command_of words ≡ asked_by v (drop 1 words)
+told_when words v e f = rw (e, f) refl
+
+pub told_never : (words : List Text) → list_any is_empty words ≡ false → first_verb words ≡ None → command_of words ≡ None
+told_never words e f = rw (e, f) refl

@@ -1,0 +1,5 @@
+pub mod Digits
+pub mod WordRows
+pub mod WordTurns
+pub mod WordLemmas
+pub mod Commands

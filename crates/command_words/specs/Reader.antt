@@ -1,0 +1,76 @@
+-- How `clap` reads the words behind a command's name, and what its matches say of them.
+use Rattle.std.specs.Prelude.{◌≡◌, ◌≤◌, ℕ, Bool, true, List, Option, Some, None, codes, length, nat_le, slice_get}
+use Rattle.clap.specs.Matches.{first_value, found_of, one_text}
+use Rattle.clap.specs.Simple.{App, new_app, new_rule, on_top, with_rule}
+use Rattle.clap.specs.Values.{bool_text}
+use Rattle.clap.specs.Walk.{Rule, Text}
+use Rattle.clap.specs.declared.builder.action.ArgAction.TheVariants.{SetTrue}
+use Rattle.clap.specs.declared.parser.matches.ArgMatches.{ArgMatches}
+use Rattle.clap.specs.declared.parser.matches.Found.{Found}
+use Rattle.command_words.specs.Words.{Name, until_name, instants_name, bytes_name, Flag, strict_flag, stats_flag, Piece, pieces, plains, values, uses, Run, read, run_by, spec_form, run_form, count_form}
+
+-- the names of the arguments
+abbrev pub id_of : Name → Text
+id_of until_name = codes "until"
+id_of instants_name = codes "instants"
+id_of bytes_name = codes "bytes"
+
+abbrev pub flag_id : Flag → Text
+flag_id strict_flag = codes "strict"
+flag_id stats_flag = codes "stats"
+
+abbrev pub spec_rule : Rule
+spec_rule = record (new_rule (codes "spec")) { required = true }
+
+abbrev pub trace_rule : Rule
+trace_rule = new_rule (codes "trace")
+
+-- an option, whose value is a text
+abbrev pub option_rule : Text → Rule
+option_rule name = record (new_rule name) { long = Some name }
+
+abbrev pub flag_rule : Text → Rule
+flag_rule name = record (option_rule name) { action = Some SetTrue }
+
+-- without help
+abbrev pub helpless_app : App
+helpless_app = on_top (λ s. record s { disable_help_flag = true }) (new_app (codes "run"))
+
+abbrev pub run_app : App
+run_app =
+    with_rule (with_rule (with_rule (with_rule (with_rule (with_rule (with_rule helpless_app spec_rule) trace_rule)
+    (option_rule (codes "until")))
+    (option_rule (codes "instants")))
+    (option_rule (codes "bytes")))
+    (flag_rule (codes "strict")))
+    (flag_rule (codes "stats"))
+
+-- the matches hold these pieces, of which each option and each flag stands once at most
+pub record Holds (ps : List Piece) (found : Found) : Type 0 where
+  pub first : first_value found (codes "spec") ≡ slice_get (plains ps) 0
+  pub second : first_value found (codes "trace") ≡ slice_get (plains ps) 1
+  pub named : (name : Name) → first_value found (id_of name) ≡ slice_get (values name ps) 0
+  pub flags : (f : Flag) → one_text found (flag_id f) ≡ Some (bool_text (nat_le 1 (length (uses f ps))))
+  pub some_word : 1 ≤ length (plains ps)
+  pub few_words : length (plains ps) ≤ 2
+  pub one_value : (name : Name) → length (values name ps) ≤ 1
+  pub one_use : (f : Flag) → length (uses f ps) ≤ 1
+
+-- the matches hold the pieces that the words say
+abbrev pub Matches : List (List ℕ) → ArgMatches → Type 0
+Matches words m = (ps : List Piece) × (pieces None words ≡ Some ps) × Holds ps (found_of m)
+
+-- the run that the values in the matches ask for
+abbrev pub run_found : Found → Bool → Bool → Option Run
+run_found found strict stats = run_by (first_value found (codes "spec")) (first_value found (codes "trace")) (first_value found (codes "until"))
+    (first_value found (codes "instants")) (first_value found (codes "bytes")) strict stats
+
+-- what the matches say of a flag
+abbrev pub says : Found → Text → Bool → Type 0
+says found id b = one_text found id ≡ Some (bool_text b)
+
+-- no command reads the words
+pub record IsRefused (words : List (List ℕ)) : Type 0 where
+  pub run : read run_form words ≡ None
+  pub spec : read spec_form words ≡ None
+  pub count : read count_form words ≡ None

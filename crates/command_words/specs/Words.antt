@@ -1,0 +1,335 @@
+-- What the words behind the program's name ask for.
+use Rattle.std.specs.Prelude.{◌<◌, ◌≤◌, ◌==◌, ◌^◌, ◌-◌, ℕ, Bool, true, false, not, ◌&&◌, if◌then◌else◌, nat_le, ⊤, List, [], ◌∷◌, length, map, Option, Some, None, codes, drop, option_map, option_and_then, unwrap_or, slice_get}
+use Rattle.std.specs.List.{list_any, before_first, after_first}
+use Rattle.std.specs.Str.{bytes_eq}
+use Rattle.std.specs.Str.Parse.{digits_value}
+use Rattle.tsl_value.specs.Literal.{are_digits}
+use Rattle.command_words.specs.declared.words.Command.{Command as CodeCommand}
+use Rattle.command_words.specs.declared.words.Command.TheVariants as asked
+use Rattle.command_words.specs.declared.words.Kind.{Kind}
+use Rattle.command_words.specs.declared.words.Kind.TheVariants as kind
+use Rattle.command_words.specs.declared.words.Run.{Run as CodeRun}
+use Rattle.command_words.specs.declared.words.Verb.{Verb}
+use Rattle.command_words.specs.declared.words.Verb.TheVariants as verb
+use Rattle.command_words.specs.declared.words.Word.{Word}
+
+-- a run: the names of the specification and of the trace, the time up to which times are closed at the end of the trace,
+-- how many instants and bytes it may have, whether the trace is read strictly, and whether copies are told at the end
+pub record Run : Type 0 where
+  pub spec : List ℕ
+  pub trace : List ℕ
+  pub until : ℕ
+  pub instants : ℕ
+  pub bytes : ℕ
+  pub strict : Bool
+  pub stats : Bool
+
+-- what words ask for: one of the first three with the name of a specification, a run, or a trace of a kind with so many lines
+pub data Command : Type 0 where
+  check : List ℕ → Command
+  flat : List ℕ → Command
+  code : List ℕ → Command
+  run : Run → Command
+  generate : Kind → ℕ → Command
+  bench : Kind → ℕ → Command
+
+-- the options that have a value
+pub data Name : Type 0 where
+  until_name : Name
+  instants_name : Name
+  bytes_name : Name
+
+-- the options that have none
+pub data Flag : Type 0 where
+  strict_flag : Flag
+  stats_flag : Flag
+
+-- what words say together: a plain word, an option with its value, a flag
+pub data Piece : Type 0 where
+  plain : List ℕ → Piece
+  option : Name → List ℕ → Piece
+  flag : Flag → Piece
+
+-- what a word may be where no value is waited for: a piece, an option whose value is the next word, `--`, or refused
+pub data Class : Type 0 where
+  whole : Piece → Class
+  waits : Name → Class
+  ends : Class
+  refused : Class
+
+-- the word has no byte
+abbrev pub is_empty : List ℕ → Bool
+is_empty word = length word == 0
+
+-- the word begins with `-` (45), and is not `-` alone
+abbrev pub is_dashed : List ℕ → Bool
+is_dashed [] = false
+is_dashed (b ∷ []) = false
+is_dashed (b ∷ c ∷ more) = b == 45
+
+-- `=`
+abbrev pub is_equals : ℕ → Bool
+is_equals b = b == 61
+
+-- what stands behind the first `=`, if there is one
+abbrev pub value_in : List ℕ → Option (List ℕ)
+value_in word = if list_any is_equals word then Some (after_first is_equals word) else None
+
+-- which option it is
+abbrev pub name_of : List ℕ → Option Name
+name_of word =
+    if bytes_eq (codes "--until") word then Some until_name
+    else (if bytes_eq (codes "--instants") word then Some instants_name
+    else (if bytes_eq (codes "--bytes") word then Some bytes_name else None))
+
+-- a flag has no value
+abbrev pub flag_class : Flag → Option (List ℕ) → Class
+flag_class f None = whole (flag f)
+flag_class f (Some value) = refused
+
+-- an option has its value behind `=`, or in the next word
+abbrev pub option_class : Option Name → Option (List ℕ) → Class
+option_class None value = refused
+option_class (Some name) None = waits name
+option_class (Some name) (Some value) = whole (option name value)
+
+-- by what stands before the first `=`, and what stands behind it
+abbrev pub named_class : List ℕ → Option (List ℕ) → Class
+named_class name value =
+    if bytes_eq (codes "--strict") name then flag_class strict_flag value
+    else (if bytes_eq (codes "--stats") name then flag_class stats_flag value else option_class (name_of name) value)
+
+-- what a word is
+abbrev pub class_of : List ℕ → Class
+class_of word =
+    if not (is_dashed word) then whole (plain word)
+    else (if bytes_eq word (codes "--") then ends
+    else named_class (before_first is_equals word) (value_in word))
+
+-- one piece more
+abbrev pub before : Piece → Option (List Piece) → Option (List Piece)
+before piece = option_map (λ pieces. piece ∷ pieces)
+
+-- the pieces that words say, of which the first is the value of an option where one waits; `None` where a word is refused or
+-- a value is missing. Behind `--` every word is a plain one
+abbrev pub pieces : Option Name → List (List ℕ) → Option (List Piece)
+pieces None [] = Some []
+pieces (Some name) [] = None
+pieces (Some name) (word ∷ words) =
+    elim (is_dashed word) [
+      | true ↦ None
+      | false ↦ before (option name word) (pieces None words)
+    ]
+pieces None (word ∷ words) =
+    elim (class_of word) [
+      | whole piece ↦ before piece (pieces None words)
+      | waits name ↦ pieces (Some name) words
+      | ends ↦ Some (map plain words)
+      | refused ↦ None
+    ]
+
+-- the same option
+abbrev pub same_name : Name → Name → Bool
+same_name until_name until_name = true
+same_name instants_name instants_name = true
+same_name bytes_name bytes_name = true
+same_name _ _ = false
+
+-- the same flag
+abbrev pub same_flag : Flag → Flag → Bool
+same_flag strict_flag strict_flag = true
+same_flag stats_flag stats_flag = true
+same_flag _ _ = false
+
+-- the plain words, in their order
+abbrev pub plains : List Piece → List (List ℕ)
+plains [] = []
+plains (plain word ∷ pieces) = word ∷ plains pieces
+plains (piece ∷ pieces) = plains pieces
+
+-- the values of an option
+abbrev pub values : Name → List Piece → List (List ℕ)
+values name [] = []
+values name (option other value ∷ pieces) = if same_name name other then value ∷ values name pieces else values name pieces
+values name (piece ∷ pieces) = values name pieces
+
+-- the uses of a flag
+abbrev pub uses : Flag → List Piece → List Flag
+uses f [] = []
+uses f (flag other ∷ pieces) = if same_flag f other then f ∷ uses f pieces else uses f pieces
+uses f (piece ∷ pieces) = uses f pieces
+
+-- one digit or more, which spell a number from the least to the most
+abbrev pub number : ℕ → ℕ → List ℕ → Option ℕ
+number least most word =
+    if are_digits word && (nat_le least (digits_value 10 word) && nat_le (digits_value 10 word) most) then Some (digits_value 10 word) else None
+
+-- the number that an option's value spells, or another where the option does not stand
+abbrev pub number_or : ℕ → ℕ → ℕ → Option (List ℕ) → Option ℕ
+number_or other least most None = Some other
+number_or other least most (Some word) = number least most word
+
+-- the limits of the numbers
+abbrev pub most_time : ℕ
+most_time = 2 ^ 63 - 1
+
+abbrev pub most_instants : ℕ
+most_instants = 1_000_000_000_000
+
+abbrev pub most_bytes : ℕ
+most_bytes = 2 ^ 40
+
+abbrev pub most_lines : ℕ
+most_lines = 1_000_000
+
+-- which words stand behind a command's name: how many plain ones at least and at most, and how often each option and each
+-- flag at most
+pub record Form : Type 0 where
+  pub least : ℕ
+  pub most : ℕ
+  pub options : ℕ
+  pub flags : ℕ
+
+-- pieces of this form
+abbrev pub fits : Form → List Piece → Bool
+fits form ps =
+    nat_le form.least (length (plains ps)) && (nat_le (length (plains ps)) form.most
+    && (nat_le (length (values until_name ps)) form.options && (nat_le (length (values instants_name ps)) form.options
+    && (nat_le (length (values bytes_name ps)) form.options
+    && (nat_le (length (uses strict_flag ps)) form.flags && nat_le (length (uses stats_flag ps)) form.flags)))))
+
+-- only plain words
+abbrev pub are_plain : List Piece → Bool
+are_plain ps =
+    nat_le (length (values until_name ps)) 0 && (nat_le (length (values instants_name ps)) 0 && (nat_le (length (values bytes_name ps)) 0
+    && (nat_le (length (uses strict_flag ps)) 0 && nat_le (length (uses stats_flag ps)) 0)))
+
+-- the pieces of words of this form
+abbrev pub read : Form → List (List ℕ) → Option (List Piece)
+read form words = option_and_then (λ ps. if fits form ps then Some ps else None) (pieces None words)
+
+-- `SPEC`
+abbrev pub spec_form : Form
+spec_form = record { least = 1; most = 1; options = 0; flags = 0 }
+
+-- `SPEC [TRACE]` with all options and flags
+abbrev pub run_form : Form
+run_form = record { least = 1; most = 2; options = 1; flags = 1 }
+
+-- `KIND N`
+abbrev pub count_form : Form
+count_form = record { least = 2; most = 2; options = 0; flags = 0 }
+
+-- the run of these values. Where the trace has no name it is `-`, the standard input
+abbrev pub run_by : Option (List ℕ) → Option (List ℕ) → Option (List ℕ) → Option (List ℕ) → Option (List ℕ) → Bool → Bool → Option Run
+run_by spec trace until instants bytes strict stats =
+    option_and_then (λ spec. option_and_then (λ until. option_and_then (λ instants. option_map (λ bytes. record {
+      spec = spec;
+      trace = unwrap_or trace (codes "-");
+      until = until;
+      instants = instants;
+      bytes = bytes;
+      strict = strict;
+      stats = stats;
+    })
+    (number_or most_bytes 1 most_bytes bytes))
+    (number_or most_instants 1 most_instants instants))
+    (number_or 0 0 most_time until))
+    spec
+
+-- the run that pieces ask for; the first plain word is the specification
+abbrev pub run_of : List Piece → Option Run
+run_of ps =
+    run_by (slice_get (plains ps) 0) (slice_get (plains ps) 1) (slice_get (values until_name ps) 0) (slice_get (values instants_name ps) 0)
+    (slice_get (values bytes_name ps) 0) (nat_le 1 (length (uses strict_flag ps))) (nat_le 1 (length (uses stats_flag ps)))
+
+-- the specification that pieces name
+abbrev pub spec_of : List Piece → Option (List ℕ)
+spec_of ps = slice_get (plains ps) 0
+
+-- the kinds of traces
+abbrev pub kind_of : List ℕ → Option Kind
+kind_of word =
+    if bytes_eq word (codes "seen") then Some kind.Seen else (if bytes_eq word (codes "copy") then Some kind.Copy else None)
+
+abbrev pub counted_by : Option (List ℕ) → Option (List ℕ) → Option (Kind × ℕ)
+counted_by name count =
+    option_and_then (λ k. option_map (λ n. (k, n)) (option_and_then (number 1 most_lines) count)) (option_and_then kind_of name)
+
+-- the kind and the number that pieces ask for
+abbrev pub counted_of : List Piece → Option (Kind × ℕ)
+counted_of ps = counted_by (slice_get (plains ps) 0) (slice_get (plains ps) 1)
+
+-- which command a name is
+abbrev pub verb_of : List ℕ → Option Verb
+verb_of word =
+    if bytes_eq word (codes "run") then Some verb.Run
+    else (if bytes_eq word (codes "check") then Some verb.Check
+    else (if bytes_eq word (codes "flat") then Some verb.Flat
+    else (if bytes_eq word (codes "code") then Some verb.Code
+    else (if bytes_eq word (codes "gen") then Some verb.Generate
+    else (if bytes_eq word (codes "bench") then Some verb.Bench else None)))))
+
+-- what is asked for behind the name of a command
+abbrev pub asked_by : Verb → List (List ℕ) → Option Command
+asked_by verb.Run words = option_map run (option_and_then run_of (read run_form words))
+asked_by verb.Check words = option_map check (option_and_then spec_of (read spec_form words))
+asked_by verb.Flat words = option_map flat (option_and_then spec_of (read spec_form words))
+asked_by verb.Code words = option_map code (option_and_then spec_of (read spec_form words))
+asked_by verb.Generate words = option_map (λ c. generate c.0 c.1) (option_and_then counted_of (read count_form words))
+asked_by verb.Bench words = option_map (λ c. bench c.0 c.1) (option_and_then counted_of (read count_form words))
+
+-- the command that the first word names
+abbrev pub first_verb : List (List ℕ) → Option Verb
+first_verb [] = None
+first_verb (name ∷ words) = verb_of name
+
+-- what is asked for: the name of a command and then what is asked for behind it, in words of which none is empty
+abbrev pub command_of : List (List ℕ) → Option Command
+command_of words = if list_any is_empty words then None else option_and_then (λ v. asked_by v (drop 1 words)) (first_verb words)
+
+-- the texts of the code's words
+abbrev pub texts_of : List Word → List (List ℕ)
+texts_of = map (λ word. word.text)
+
+-- what holds of each run that is asked for
+pub record IsLimitedRun (run : Run) : Type 0 where
+  pub until : run.until < 2 ^ 63
+  pub some_instants : 1 ≤ run.instants
+  pub instants : run.instants ≤ most_instants
+  pub some_bytes : 1 ≤ run.bytes
+  pub bytes : run.bytes ≤ most_bytes
+
+-- and of each number of lines
+pub record IsLimitedCount (n : ℕ) : Type 0 where
+  pub some : 1 ≤ n
+  pub most : n ≤ most_lines
+
+-- what holds of each command that is asked for
+abbrev pub IsLimited : Command → Type 0
+IsLimited (check spec) = ⊤
+IsLimited (flat spec) = ⊤
+IsLimited (code spec) = ⊤
+IsLimited (run r) = IsLimitedRun r
+IsLimited (generate k n) = IsLimitedCount n
+IsLimited (bench k n) = IsLimitedCount n
+
+-- what the code answers
+abbrev pub run_asked : CodeRun → Run
+run_asked asked = record {
+  spec = asked.spec.now;
+  trace = asked.trace.now;
+  until = asked.until;
+  instants = asked.instants;
+  bytes = asked.bytes;
+  strict = asked.strict;
+  stats = asked.stats;
+}
+
+abbrev pub command_asked : CodeCommand → Command
+command_asked (asked.Check spec) = check spec.now
+command_asked (asked.Flat spec) = flat spec.now
+command_asked (asked.Code spec) = code spec.now
+command_asked (asked.Run r) = run (run_asked r)
+command_asked (asked.Generate k n) = generate k n
+command_asked (asked.Bench k n) = bench k n
