@@ -13,6 +13,4 @@ mod machine;
 pub mod monitor;
 mod next;
 mod run;
-#[cfg(test)]
-mod tests;
 mod update;

@@ -1,0 +1,13 @@
+pub mod DueTexts
+pub mod Ends
+pub mod Events
+pub mod Counts
+pub mod Going
+pub mod Readiness
+pub mod Taking
+pub mod Following
+pub mod ReadOn
+pub mod RunOut
+pub mod Concluding
+pub mod Advancing
+pub mod Within

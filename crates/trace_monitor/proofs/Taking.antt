@@ -1,0 +1,188 @@
+-- Closing times, running their instants, and giving events.
+use Rattle.std.proofs.Common.{◌≡◌, ◌≢◌, ℕ, ◌+◌, ◌≤◌, max, List, [], ◌∷◌, ◌++◌, Option, Some, None, is_some, if◌then◌else◌, Result, Ok, Err, OnOk, IfErr, IfOk, refl, sym, subst, ap, arith, ◌∙◌}
+use Rattle.std.proofs.Math.Nat.{max-eq_right}
+use Rattle.std.proofs.lemmas.List.Elements.{filter-append}
+use Rattle.std.specs.List.{AllByRecursion, flat_map}
+use Rattle.std.specs.Option.{option_or}
+use Rattle.tsl_value.specs.View.{View}
+use Rattle.tsl_value.specs.declared.scalar.Scalar.{Scalar}
+use Rattle.flat_core.specs.BoundLaws.{LeavesEarlier}
+use Rattle.flat_core.specs.Line.{Line, event_in, inputs_of, last_time}
+use Rattle.flat_core.specs.System.{System}
+use Rattle.flat_core.specs.Text.{text_at}
+use Rattle.flat_core.proofs.LaterLines.{leaves_earlier}
+use Rattle.monitor_run.specs.declared.monitor.Stop.{Stop}
+use Rattle.monitor_run.specs.Given.{AreAt, IsInputOf, line_of}
+use Rattle.monitor_run.specs.Next.{IsIdle}
+use Rattle.monitor_run.specs.State as engine
+use Rattle.monitor_run.specs.Steps.{AreAsSet, CanTake}
+use Rattle.monitor_run.specs.Written.{HasWritten}
+use Rattle.monitor_run.proofs.MonitorLemmas.{stands_closed, stands_given}
+use Rattle.trace_monitor.specs.Kept.{events_of}
+use Rattle.trace_monitor.specs.declared.halt.Halt.{Halt}
+use Rattle.trace_monitor.specs.declared.halt.Halt.TheVariants as halt
+use Rattle.trace_monitor.specs.Reading.{bound_at}
+use Rattle.trace_monitor.specs.Run.{HasRunOut, HasStopped, HasRunBelow, HasStoppedAt, HasTaken, CountsSo, MayFollow, StopsSo, closed_to}
+
+pub written_closed : (m : engine.State) (bound : ℕ) (lines : List Line) (text : List ℕ) → HasWritten m lines text → HasWritten (record m { bound = bound }) lines text
+written_closed m bound lines text w = record { stands = stands_closed m bound lines w.stands; text_is = w.text_is }
+
+pub written_given : (m : engine.State) → engine.IsReady m → (time i : ℕ) (value : Scalar) → CanTake m time i value → (lines : List Line) (text : List ℕ) → HasWritten m lines text
+    → HasWritten (record m { given = m.given ++ line_of time i value ∷ [] }) (lines ++ line_of time i value ∷ []) text
+written_given m ready time i value can lines text w = record {
+  stands = stands_given m ready time i value can lines w.stands;
+  text_is = λ z zs. w.text_is z ((leaves.solves_same z).1 zs) ∙ ap (flat_map (text_at m.system z)) ((leaves.happens z).instants_same m.next (omega arith));
+}
+  where
+    next_below : m.next ≤ time
+    next_below = let within = ready.within in let unclosed = can.unclosed in omega arith
+
+    leaves : LeavesEarlier m.system m.next lines (line_of time i value ∷ [])
+    leaves = leaves_earlier m.system m.next lines (line_of time i value ∷ []) (next_below, tt)
+
+-- the engine whose times below a time are closed
+abbrev closed_at : engine.State → ℕ → engine.State
+closed_at m time = record m { bound = max m.bound time }
+
+module _ (m new : engine.State) (time : ℕ) (later : m.bound ≤ time) (lines : List Line) (text before after : List ℕ) where
+  pub ran_below : HasRunOut (closed_at m time) new lines text before after → HasRunBelow m new lines time text before after
+  ran_below h = record {
+    added = h.added;
+    after_is = h.after_is;
+    system_is = h.as_set.system;
+    limit_is = h.as_set.limit;
+    bound_is = h.as_set.bound ∙ max-eq_right later;
+    written = h.written;
+    idle = h.idle;
+  }
+
+  pub stopped_at : (why : Stop) → HasStopped (closed_at m time) new lines text before after why → HasStoppedAt m new lines time text before after why
+  stopped_at why h = record {
+    added = h.added;
+    after_is = h.after_is;
+    stops = subst (λ (b : ℕ). StopsSo m.system lines b m.limit (text ++ h.added) why) (max-eq_right later) h.stops;
+    counts = subst (λ (b : ℕ). CountsSo new m.system lines b why) (max-eq_right later) h.counts;
+  }
+
+one_event : (l : Line) (i : ℕ) (value : Scalar) → l.event ≡ Some (i, value) → events_of (l ∷ []) ≡ line_of l.time i value ∷ []
+one_event l i value is = λ k. if is_some (is k) then record { time = l.time; event = is k } ∷ [] else []
+
+pub given_on : (m new : engine.State) (l : Line) (i : ℕ) (value : Scalar) → l.event ≡ Some (i, value) → (m.stop ≡ None → engine.IsReady m) → CanTake m l.time i value → new ≡ record m { given = m.given ++ line_of l.time i value ∷ [] }
+    → (lines : List Line) (text : List ℕ) → HasWritten m lines text → HasWritten new (lines ++ events_of (l ∷ [])) text
+given_on m new l i value is ready can same lines text w =
+    subst (λ (e : engine.State). HasWritten e (lines ++ events_of (l ∷ [])) text) (sym same)
+    (subst (λ (ls : List Line). HasWritten (record m { given = m.given ++ line_of l.time i value ∷ [] }) (lines ++ ls) text) (sym (one_event l i value is))
+    (written_given m (ready w.stands.going) l.time i value can lines text w))
+
+-- what holds at an answer, and another thing with it
+pub on_ok : {A E : Type 0} (r : Result A E) (P Q : Type 0) → (P → Q) → OnOk r P → OnOk r Q
+on_ok (Ok a) P Q f p = f p
+on_ok (Err e) P Q f p = tt
+
+pub on_both : {A E : Type 0} (r : Result A E) (P Q R : Type 0) → (P → Q → R) → OnOk r P → OnOk r Q → OnOk r R
+on_both (Ok a) P Q R f p q = f p q
+on_both (Err e) P Q R f p q = tt
+
+pub if_err : {A E : Type 0} (r : Result A E) (P Q : E → Type 0) → ((e : E) → P e → Q e) → IfErr r P → IfErr r Q
+if_err (Ok a) P Q f p = tt
+if_err (Err e) P Q f p = f e p
+
+module _ (m mid new : engine.State) (time : ℕ) (later : m.bound ≤ time) (same : mid ≡ closed_at m time) where
+  pub runs_below : (before after : List ℕ) → ((lines : List Line) (text : List ℕ) → HasWritten mid lines text → HasRunOut mid new lines text before after) → (lines : List Line) (text : List ℕ) → HasWritten m lines text → HasRunBelow m new lines time text before after
+  runs_below before after runs lines text w =
+      ran_below m new time later lines text before after
+      (subst (λ (e : engine.State). HasRunOut e new lines text before after) same
+      (runs lines text (subst (λ (e : engine.State). HasWritten e lines text) (sym same) (written_closed m (max m.bound time) lines text w))))
+
+  pub stops_below : (before after : List ℕ) (why : Stop) → ((lines : List Line) (text : List ℕ) → HasWritten mid lines text → HasStopped mid new lines text before after why) → (lines : List Line) (text : List ℕ) → HasWritten m lines text → HasStoppedAt m new lines time text before after why
+  stops_below before after why stops lines text w =
+      stopped_at m new time later lines text before after why
+      (subst (λ (e : engine.State). HasStopped e new lines text before after why) same
+      (stops lines text (subst (λ (e : engine.State). HasWritten e lines text) (sym same) (written_closed m (max m.bound time) lines text w))))
+
+-- ---- a line
+last_snoc : (lines : List Line) (l : Line) → last_time (lines ++ l ∷ []) ≡ l.time
+last_snoc [] l = refl
+last_snoc (x ∷ []) l = refl
+last_snoc (x ∷ y ∷ lines) l = last_snoc (y ∷ lines) l
+
+all_behind : (P : Line → Type 0) (xs ys : List Line) → AllByRecursion P (xs ++ ys) → AllByRecursion P ys
+all_behind P [] ys all = all
+all_behind P (x ∷ xs) ys all = all_behind P xs ys all.1
+
+at_time : (t : ℕ) (lines : List Line) → AllByRecursion (λ e. e.time ≤ t) lines → AllByRecursion (λ e. t ≤ e.time) lines → AreAt t lines
+at_time t [] most least = tt
+at_time t (l ∷ lines) most least = ((let le = most.0 in let ge = least.0 in omega arith), at_time t lines most.1 least.1)
+
+fresh_behind : (past given : List Line) (i t : ℕ) → inputs_of (past ++ given) i t ≡ None → inputs_of given i t ≡ None
+fresh_behind [] given i t none = none
+fresh_behind (l ∷ past) given i t none = fresh_behind past given i t (second_none (event_in i t l.time l.event) (inputs_of (past ++ given) i t) none)
+  where
+    second_none : (a b : Option View) → option_or a b ≡ None → b ≡ None
+    second_none None b h = h
+    second_none (Some v) b h = absurd (cc)
+
+pub can_take : (e : engine.State) (s : System) (lines : List Line) (text : List ℕ) (l : Line) → e.system ≡ s → HasWritten e (events_of lines) text → IsIdle e → e.bound ≡ l.time → MayFollow s lines l
+    → (i : ℕ) (value : Scalar) → l.event ≡ Some (i, value) → CanTake e l.time i value
+can_take e s lines text l same w idle closed may i value is =
+    let parts = w.stands.parts in record {
+      unclosed = omega arith;
+      alone = at_time l.time e.given (all_behind (λ x. x.time ≤ l.time) w.stands.past e.given (subst (AllByRecursion (λ x. x.time ≤ l.time)) parts may.all_before))
+          (subst (λ (b : ℕ). AllByRecursion (λ x. b ≤ x.time) e.given) closed idle.events);
+      fresh = fresh_behind w.stands.past e.given i l.time (subst (λ (ls : List Line). inputs_of ls i l.time ≡ None) parts (may.fresh i value is));
+      fits = subst (λ (t : System). IsInputOf t i value) (sym same) (may.fits i value is);
+    }
+
+pub taken_line : (m mid new : engine.State) (lines : List Line) (l : Line) (text before after : List ℕ) → HasRunBelow m mid (events_of lines) l.time text before after
+    → ((ls : List Line) (written : List ℕ) → HasWritten mid ls written → HasWritten new (ls ++ events_of (l ∷ [])) written) → AreAsSet mid new → HasTaken m new lines l text before after
+taken_line m mid new lines l text before after h given set = record {
+  added = h.added;
+  after_is = h.after_is;
+  system_is = set.system ∙ h.system_is;
+  limit_is = set.limit ∙ h.limit_is;
+  has = record {
+    bound_is = set.bound ∙ h.bound_is ∙ sym (last_snoc lines l);
+    written = subst (λ (ls : List Line). HasWritten new ls (text ++ h.added)) (sym (filter-append (λ x. is_some x.event) lines (l ∷ []))) (given (events_of lines) (text ++ h.added) h.written);
+  };
+}
+
+-- ---- times that are closed up to a bound
+module _ (m mid new : engine.State) (bound : ℕ) (same : mid ≡ closed_to m bound) where
+  written_at : (lines : List Line) (text : List ℕ) → HasWritten m lines text → HasWritten mid lines text
+  written_at lines text w = subst (λ (e : engine.State). HasWritten e lines text) (sym same) (written_closed m bound lines text w)
+
+  pub runs_closed : (before after : List ℕ) → ((lines : List Line) (text : List ℕ) → HasWritten mid lines text → HasRunOut mid new lines text before after) → (lines : List Line) (text : List ℕ) → HasWritten m lines text → HasRunOut (closed_to m bound) new lines text before after
+  runs_closed before after runs lines text w = subst (λ (e : engine.State). HasRunOut e new lines text before after) same (runs lines text (written_at lines text w))
+
+  pub stops_closed : (before after : List ℕ) (why : Stop) → ((lines : List Line) (text : List ℕ) → HasWritten mid lines text → HasStopped mid new lines text before after why) → (lines : List Line) (text : List ℕ) → HasWritten m lines text → HasStopped (closed_to m bound) new lines text before after why
+  stops_closed before after why stops lines text w = subst (λ (e : engine.State). HasStopped e new lines text before after why) same (stops lines text (written_at lines text w))
+
+  pub begins_closed : ((lines : List Line) × (text : List ℕ) × HasWritten m lines text) → (lines : List Line) × (text : List ℕ) × HasWritten mid lines text
+  begins_closed (lines, text, w) = (lines, text, written_at lines text w)
+
+-- both times are closed at the end of a trace
+pub closed_both : (m : engine.State) (last until : ℕ) → m.bound ≡ last → (by : Halt) → by ≡ halt.End → (mid end : engine.State) → mid ≡ record m { bound = max m.bound (last + 1) }
+    → end ≡ record mid { bound = max mid.bound (until + 1) } → end ≡ closed_to m (bound_at by last until)
+closed_both m last until at by is mid end first second =
+    let bound : max (max m.bound (last + 1)) (until + 1) ≡ max last until + 1 = omega arith in
+    second ∙ ap (λ (e : engine.State). record e { bound = max e.bound (until + 1) }) first ∙ ap (closed_to m) bound ∙ sym (ap (λ (h : Halt). closed_to m (bound_at h last until)) is)
+
+pub closed_none : (m : engine.State) (last until : ℕ) → m.bound ≡ last → (by : Halt) → by ≢ halt.End → m ≡ closed_to m (bound_at by last until)
+closed_none m last until at halt.End none = absurd (none refl)
+closed_none m last until at halt.More none = ap (closed_to m) at
+closed_none m last until at (halt.Refused f) none = ap (closed_to m) at
+
+pub if_is_err : {A E : Type 0} (r : Result A E) (e : E) (P : E → Type 0) → r ≡ Err e → P e → IfErr r P
+if_is_err {A} {E} r e P is p = subst (λ (r : Result A E). IfErr r P) (sym is) p
+
+pub if_both : {A E : Type 0} (r : Result A E) (P Q R : A → Type 0) → ((a : A) → P a → Q a → R a) → IfOk r P → IfOk r Q → IfOk r R
+if_both (Ok a) P Q R f p q = f a p q
+if_both (Err e) P Q R f p q = tt
+
+pub if_ok : {A E : Type 0} (r : Result A E) (P Q : A → Type 0) → ((a : A) → P a → Q a) → IfOk r P → IfOk r Q
+if_ok (Ok a) P Q f p = f a p
+if_ok (Err e) P Q f p = tt
+
+pub on_if_ok : {A E : Type 0} (r : Result A E) (P : A → Type 0) (Q : Type 0) → ((a : A) → P a → Q) → IfOk r P → OnOk r Q
+on_if_ok (Ok a) P Q f p = f a p
+on_if_ok (Err e) P Q f p = tt

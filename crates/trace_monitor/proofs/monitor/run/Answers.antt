@@ -1,0 +1,46 @@
+use Rattle.std.proofs.Common.{◌≡◌, ◌∙◌, refl, Ok, Err, Result, subst, rules}
+use Rattle.monitor_run.specs.declared.monitor.Step.{Step}
+use Rattle.monitor_run.specs.declared.monitor.Step.TheVariants as step
+use Rattle.monitor_run.specs.declared.monitor.Stop.{Stop}
+use Rattle.monitor_run.specs.Steps.{HasStepped}
+use Rattle.trace_monitor.proofs.Going.{not_begun, ran_on, less_left, ran_out, stopped_so}
+use Rattle.trace_monitor.proofs.monitor.run.Goals as goal
+
+pub loop-stop-smaller : goal.loop-stop-smaller
+loop-stop-smaller c =
+    let (lines, text, written) = c.requires in
+    let on = c.loop-stop.invariant.0 lines text written in
+    let going = on.written.stands.going in
+    let is : c.step.result ≡ Ok step.Ran = search rules in
+    let ran = subst (λ (r : Result Step Stop). HasStepped c.loop-stop.engine c.step.new.self lines c.loop-stop.out c.step.new.out r) is (c.step.ensures.steps going lines on.written.stands) in
+    less_left c.args.engine.now c.loop-stop.engine c.step.new.self lines text c.args.out.now c.loop-stop.out c.step.new.out (c.instants.ensures.ready going) on ran
+
+pub loop-stop-preserved : goal.loop-stop-preserved
+loop-stop-preserved c = (
+  λ lines text written.
+      let on = c.loop-stop.invariant.0 lines text written in
+      let going = on.written.stands.going in
+      let is : c.step.result ≡ Ok step.Ran = search rules in
+      let ran = subst (λ (r : Result Step Stop). HasStepped c.loop-stop.engine c.step.new.self lines c.loop-stop.out c.step.new.out r) is (c.step.ensures.steps going lines on.written.stands) in
+      ran_on c.args.engine.now c.loop-stop.engine c.step.new.self lines text c.args.out.now c.loop-stop.out c.step.new.out (c.instants.ensures.ready going) on ran,
+  c.step.ensures.as_set.system ∙ c.loop-stop.invariant.1,
+)
+
+pub returns-in-Ok-Idle-clause-runs : goal.returns-in-Ok-Idle-clause-runs
+returns-in-Ok-Idle-clause-runs c = λ lines text written.
+    let on = c.loop-stop.invariant.0 lines text written in
+    let going = on.written.stands.going in
+    let is : c.step.result ≡ Ok step.Idle = search rules in
+    let idle = subst (λ (r : Result Step Stop). HasStepped c.loop-stop.engine c.step.new.self lines c.loop-stop.out c.step.new.out r) is (c.step.ensures.steps going lines on.written.stands) in
+    ran_out c.args.engine.now c.loop-stop.engine c.step.new.self lines text c.args.out.now c.loop-stop.out c.step.new.out (c.instants.ensures.ready going) on idle (c.step.ensures.idle is)
+
+pub returns-in-Err-clause-stops : goal.returns-in-Err-clause-stops
+returns-in-Err-clause-stops c = λ lines text written.
+    let on = c.loop-stop.invariant.0 lines text written in
+    let going = on.written.stands.going in
+    let is : c.step.result ≡ Err c.in-Err.stop = search rules in
+    let stopped = subst (λ (r : Result Step Stop). HasStepped c.loop-stop.engine c.step.new.self lines c.loop-stop.out c.step.new.out r) is (c.step.ensures.steps going lines on.written.stands) in
+    stopped_so c.args.engine.now c.loop-stop.engine c.step.new.self lines text c.args.out.now c.loop-stop.out c.step.new.out (c.instants.ensures.ready going) on c.in-Err.stop stopped
+
+pub loop-stop-init : goal.loop-stop-init
+loop-stop-init c = (λ lines text written. not_begun c.args.engine.now lines text c.args.out.now written, refl)

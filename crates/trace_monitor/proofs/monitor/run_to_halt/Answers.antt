@@ -1,0 +1,24 @@
+use Rattle.std.proofs.Common.{◌≡◌, ◌∙◌}
+use Rattle.trace_monitor.specs.Reading.{bound_at}
+use Rattle.trace_monitor.specs.Run.{closed_to}
+use Rattle.trace_monitor.proofs.Taking.{on_ok, if_err, closed_both, closed_none, runs_closed, stops_closed}
+use Rattle.trace_monitor.proofs.monitor.run_to_halt.Goals.{in-End+in_ok-close+in_ok-close-2, in_default}
+use Rattle.trace_monitor.proofs.monitor.run_to_halt.Goals as goal
+
+pub returns-clause-runs : goal.returns-clause-runs
+returns-clause-runs c =
+    let m = c.args.engine.now in
+    let same : c.match-by.engine ≡ closed_to m (bound_at c.args.by.now c.args.last c.args.until) = elim c.match-by.branch [
+      | in-End+in_ok-close+in_ok-close-2 w ↦ closed_both m c.args.last c.args.until c.requires.last c.args.by.now w.in-End.is w.close.new.self c.match-by.engine w.in_ok-close.ensures.closed (w.engine-is ∙ w.in_ok-close-2.ensures.closed)
+      | in_default w ↦ w.engine-is ∙ closed_none m c.args.last c.args.until c.requires.last c.args.by.now w.in_default.not-End
+    ] in
+    on_ok c.run.result _ _ (runs_closed m c.match-by.engine c.run.new.engine (bound_at c.args.by.now c.args.last c.args.until) same c.args.out.now c.run.new.out) c.run.ensures.runs
+
+pub returns-clause-stops : goal.returns-clause-stops
+returns-clause-stops c =
+    let m = c.args.engine.now in
+    let same : c.match-by.engine ≡ closed_to m (bound_at c.args.by.now c.args.last c.args.until) = elim c.match-by.branch [
+      | in-End+in_ok-close+in_ok-close-2 w ↦ closed_both m c.args.last c.args.until c.requires.last c.args.by.now w.in-End.is w.close.new.self c.match-by.engine w.in_ok-close.ensures.closed (w.engine-is ∙ w.in_ok-close-2.ensures.closed)
+      | in_default w ↦ w.engine-is ∙ closed_none m c.args.last c.args.until c.requires.last c.args.by.now w.in_default.not-End
+    ] in
+    if_err c.run.result _ _ (stops_closed m c.match-by.engine c.run.new.engine (bound_at c.args.by.now c.args.last c.args.until) same c.args.out.now c.run.new.out) c.run.ensures.stops
