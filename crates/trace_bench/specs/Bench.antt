@@ -1,0 +1,20 @@
+-- What comes of a specification that is run over the sample trace.
+use Rattle.std.specs.Prelude.{ℕ, List}
+use Rattle.command_words.specs.declared.words.Kind.{Kind}
+use Rattle.command_words.specs.declared.words.Kind.TheVariants as kind
+use Rattle.flat_core.specs.System.{System}
+use Rattle.sample_trace.specs.Source.{copy_source, seen_source}
+use Rattle.spec_compiler.specs.Compiled.{CompilesSomething}
+use Rattle.trace_bench.specs.declared.outcome.Outcome.{Outcome}
+use Rattle.trace_bench.specs.Outcome.{IsOutcomeOf}
+
+-- the specification of a kind
+abbrev pub source_of : Kind → List ℕ
+source_of kind.Seen = seen_source
+source_of kind.Copy = copy_source
+
+-- This comes of the system that is run for the source, over the trace with so many lines.
+pub record IsBenched (source : List ℕ) (count : ℕ) (outcome : Outcome) : Type 0 where
+  pub system : System
+  pub compiles : CompilesSomething source system
+  pub is : IsOutcomeOf system count outcome

@@ -1,0 +1,12 @@
+//! How much a run over the sample trace does: its events, its instants, the bytes of its output, and the elements that its updates copy.
+#![tactic(auto)]
+
+pub mod bench;
+pub mod laws;
+pub mod measure;
+pub mod outcome;
+pub mod run;
+pub mod tally;
+#[cfg(test)]
+mod tests;
+pub mod updates;
