@@ -1,46 +1,33 @@
 -- The text that is due as more of the trace comes.
-use Rattle.std.proofs.Common.{◌≡◌, ◌++◌, ◌<◌, ◌≤◌, Bool, false, List, [], ℕ, refl, sym, ◌∙◌, ap, subst, arith, zero, suc, take, length, not, Some, None, slice_get}
-use Rattle.std.specs.List.{Contains, filter, flat_map}
+use Rattle.std.proofs.Common.{◌≡◌, ◌++◌, ◌<◌, ◌≤◌, Bool, false, List, [], ℕ, refl, sym, ◌∙◌, ap, subst, arith, take, length, Some, slice_get}
+use Rattle.std.specs.List.{Contains}
 use Rattle.std.proofs.Math.Seq.{take-nil}
 use Rattle.std.proofs.lemmas.Option.{slice_get_within}
 use Rattle.flat_core.specs.Ending.{EndsAtBound}
-use Rattle.flat_core.specs.Fault.{is_over}
 use Rattle.flat_core.specs.Instant.{instants}
 use Rattle.flat_core.specs.BoundLaws.{AreFrom}
 use Rattle.flat_core.specs.Case.{Streams}
 use Rattle.flat_core.specs.Line.{Line, inputs_of}
 use Rattle.flat_core.specs.Solution.{Solves}
 use Rattle.flat_core.specs.System.{System}
-use Rattle.flat_core.specs.Text.{text_at, due_text}
+use Rattle.flat_core.specs.Text.{due_text}
 use Rattle.flat_core.proofs.LaterLines.{leaves_earlier}
 use Rattle.flat_core.proofs.SameMeaning.{happens_alike, outputs_agree}
 use Rattle.flat_core.proofs.SmallerBound.{solves_less}
-use Rattle.trace_reader.specs.Closed.{closed_below}
-use Rattle.trace_reader.specs.Reading.{Reading, reading}
+use Rattle.trace_reader.specs.Reading.{Reading}
 use Rattle.trace_reader.proofs.LawLemmas.{reading_begins}
 use Rattle.trace_reader.proofs.LineLemmas.{reading_later, reading_closed}
-use Rattle.tessla_cli.specs.declared.options.Options.{Options}
-use Rattle.tessla_cli.specs.Due.{IsDue, SolvesClosed, lines_in, bound_in}
-use Rattle.tessla_cli.specs.Ending.{GoesOn}
-use Rattle.tessla_cli.specs.Ready.{IsReady}
-use Rattle.tessla_cli.proofs.DueTexts.{due_alike, due_grows}
-
--- nothing is read of no bytes, and no time is closed
-pub none_read : (s : System) (strict : Bool) (limit : ℕ) → reading s strict limit [] false ≡ record { lines = []; refused = None }
-unfolding reading
-none_read s strict zero = refl
-none_read s strict (suc n) = refl
-
-pub none_closed : (s : System) (strict : Bool) (limit until : ℕ) → closed_below (reading s strict limit [] false) until false ≡ 0
-none_closed s strict limit until = ap (λ (r : Reading). closed_below r until false) (none_read s strict limit)
+use Rattle.trace_monitor.specs.declared.options.Options.{Options}
+use Rattle.trace_monitor.specs.Due.{IsDue, SolvesClosed, lines_in, bound_in}
+use Rattle.trace_monitor.specs.Ending.{GoesOn}
+use Rattle.spec_compiler.specs.Ready.{IsReady}
+use Rattle.trace_monitor.proofs.DueTexts.{due_alike, due_grows}
+use Rattle.trace_monitor.proofs.Readiness.{none_read, none_closed, none_due}
 
 -- there is no instant below 0
 module _ (s : System) (lines : List Line) (z : Streams) (bound limit : ℕ) (zero_is : bound ≡ 0) where
   none_first : take limit (instants s lines z bound) ≡ []
   none_first = ap (λ (n : ℕ). take limit (instants s lines z n)) zero_is ∙ take-nil limit
-
-  pub none_due : due_text s lines z bound limit ≡ []
-  none_due = ap (λ (l : List ℕ). flat_map (text_at s z) (filter (λ t. not (is_over s (inputs_of lines) z t)) l)) none_first
 
   none_ends : EndsAtBound s lines z bound limit
   none_ends = record {
@@ -106,5 +93,8 @@ module _ (s : System) (o : Options) (ready : IsReady s) where
   pub goes_on_at_start : GoesOn s o []
   goes_on_at_start = record {
     accepted = ap (λ (r : Reading). r.refused) (none_read s o.strict o.bytes);
-    quiet = λ z zs. none_ends s (lines_in s o [] false) z (bound_in s o [] false) o.instants (none_closed s o.strict o.bytes o.until);
+    quiet = record {
+      solved = ready.exists (inputs_of (lines_in s o [] false)) (bound_in s o [] false);
+      each = λ z zs. none_ends s (lines_in s o [] false) z (bound_in s o [] false) o.instants (none_closed s o.strict o.bytes o.until);
+    };
   }

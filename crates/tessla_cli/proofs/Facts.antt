@@ -11,20 +11,24 @@ use Rattle.tsl_world.specs.declared.outside.Channel.{Channel}
 use Rattle.tsl_world.specs.declared.outside.Channel.TheVariants.{Out, Err}
 use Rattle.tsl_world.specs.Journal.{given, taken, ended, opening, openings, creations, AtReads, StopsAtEnd, IsNoRead, IsNoGift, IsTransfer, IsWithin, Each}
 use Rattle.tsl_world.proofs.Journals.{openings-append, creations-append, Each-append, no_place, place}
-use Rattle.tsl_world.proofs.Parts.{taken_before, taken_behind, ended_behind, given_behind, given_none, openings_none, creations_none}
+use Rattle.tsl_world.proofs.Parts.{gifts_read_none, gifts_transfer, gifts_within, gifts_elsewhere, taken_before, taken_behind, ended_behind, given_behind, given_none, openings_none, creations_none}
 use Rattle.tsl_world.proofs.Places.{at_none, at_no_read, at_join, at_more, at_behind, at_weaker}
 use Rattle.spec_parser.specs.Tree as tree
-use Rattle.spec_reader.specs.Source.{SpellsSystem}
+use Rattle.spec_compiler.specs.Compiled.{Compiles}
+use Rattle.trace_monitor.specs.declared.options.Options.{Options}
+use Rattle.trace_monitor.specs.Due.{IsDue}
+use Rattle.trace_monitor.specs.Ending.{GoesOn}
+use Rattle.trace_monitor.specs.Next.{EndsBy, most_taken}
 use Rattle.tessla_cli.specs.declared.ending.Ending.{Ending}
-use Rattle.tessla_cli.specs.declared.options.Options.{Options}
-use Rattle.tessla_cli.specs.Conduct.{HasWhole, IsBeforeOpening, MakesNothing, ReadsSpecFirst, StopsAtLimit, ReadsPieces, OpensAsAsked, GoesOnAtReads, IsPartlyDue}
-use Rattle.tessla_cli.specs.Headline.{OfRun, IsDueAtReads, options_of}
-use Rattle.tessla_cli.specs.Due.{IsDue}
-use Rattle.tessla_cli.specs.Ending.{GoesOn}
+use Rattle.tessla_cli.specs.Conduct.{HasWhole, IsBeforeOpening, MakesNothing, ReadsSpecFirst, StopsAtLimit, ReadsPieces, OpensAsAsked, OfPrint, GoesOnAtReads, IsPartlyDue}
+use Rattle.tessla_cli.specs.Headline.{OfRun, IsDueAtReads}
 use Rattle.tessla_cli.specs.Meant.{IsDueAsMeant, GoesOnAsMeant, BeginsAsMeant, WatchEndsAsMeant}
-use Rattle.tessla_cli.specs.Parts.{IsTake, IsTraceWork, EndsBy, MayRead, BeginsDue, Watched, WatchEnds, most_taken}
-use Rattle.tessla_cli.specs.Shape.{MayReadSpec, ReadsSpec, GivesSource, idle, no_trace, watched, uncompiled, compiled, RunsSpec, unopened, no_spec, reading, whole, RunsWords, unasked, asked}
-use Rattle.tessla_cli.specs.Words.{Run, command_of}
+use Rattle.tessla_cli.specs.Parts.{IsTake, IsTraceWork, MayRead, BeginsDue, Watched, WatchEnds}
+use Rattle.tessla_cli.specs.Shape.{MayReadSpec, ReadsSpec, GivesSource, Prints, idle, no_trace, watched, uncompiled, compiled, prints, RunsSpec, unopened, no_spec, reading, whole, RunsWords, unasked, asked, samples, PrintsText, unmade, writes}
+use Rattle.tessla_cli.specs.Alone.{IsAloneText}
+use Rattle.tessla_cli.specs.Printed.{IsTextOf}
+use Rattle.tessla_cli.specs.Tasks.{Alone, Task, alone_of, print, monitor, asked_of, names_of, traces_of}
+use Rattle.tessla_cli.specs.declared.task.Form.{Form}
 use Rattle.tessla_cli.proofs.Meaning.{due_meant, goes_on_meant, begins_meant, watch_ends_meant}
 
 -- What holds of each read of a slot holds of a part of such reads, and so for a part that reads the trace and writes output.
@@ -107,9 +111,9 @@ one_place : (before after : List Did) (it d : Did) → it ∷ [] ≡ before ++ d
 one_place [] after it d is = refl
 one_place (b ∷ before) after it d is = absurd (let rest : [] ≡ before ++ d ∷ after = cc in no_place before after d rest)
 
--- What stands behind the reads of the specification, where the trace has this name.
-record Tail (name : List ℕ) (rest : List Did) : Type 0 where
-  opens : (openings rest ≡ []) ⊎ (openings rest ≡ (Trace, name) ∷ [])
+-- What stands behind the reads of the specification, for a task.
+record Tail (task : Task) (rest : List Did) : Type 0 where
+  opens : (openings rest ≡ []) ⊎ (openings rest ≡ traces_of task)
   makes : creations rest ≡ []
   first : (before : List Did) → IsBeforeOpening Trace before rest → before ≡ []
   spec : Each (IsNoRead Spec) rest
@@ -117,10 +121,10 @@ record Tail (name : List ℕ) (rest : List Did) : Type 0 where
   pieces : ReadsPieces rest
   silent : given Err rest ≡ []
 
-module _ (words : List (List ℕ)) (run : Run) (asked_is : command_of words ≡ Some run) (reads : List Did) (r : ReadsSpec reads) where
+module _ (words : List (List ℕ)) (name : List ℕ) (task : Task) (asked_is : asked_of words ≡ Some (name, task)) (reads : List Did) (r : ReadsSpec reads) where
   -- the specification, opened and read
   abbrev front : List Did
-  front = Opened Spec run.spec ∷ reads
+  front = Opened Spec name ∷ reads
 
   front_no_trace : Each (IsNoRead Trace) front
   front_no_trace = (tt, each_take (IsNoRead Trace) Spec (λ bytes short. refl) reads r.only)
@@ -138,23 +142,23 @@ module _ (words : List (List ℕ)) (run : Run) (asked_is : command_of words ≡ 
   front_pieces = (tt, each_take (IsWithin most_taken) Spec (λ bytes short. short) reads r.only)
 
   front_reads : AtReads Spec MayReadSpec front
-  front_reads = at_behind Spec MayReadSpec MayReadSpec (Opened Spec run.spec ∷ []) reads (tt, tt) (λ less h. record { unended = h.unended; within = h.within }) r.reads
+  front_reads = at_behind Spec MayReadSpec MayReadSpec (Opened Spec name ∷ []) reads (tt, tt) (λ less h. record { unended = h.unended; within = h.within }) r.reads
 
   -- the openings of the front and of what is behind it
-  front_openings : (rest : List Did) → openings (front ++ rest) ≡ (Spec, run.spec) ∷ openings rest
-  front_openings rest = ap (λ (l : List (Slot × List ℕ)). (Spec, run.spec) ∷ l) (openings-append reads rest ∙ ap (λ (l : List (Slot × List ℕ)). l ++ openings rest) (openings_none reads transfers))
+  front_openings : (rest : List Did) → openings (front ++ rest) ≡ (Spec, name) ∷ openings rest
+  front_openings rest = ap (λ (l : List (Slot × List ℕ)). (Spec, name) ∷ l) (openings-append reads rest ∙ ap (λ (l : List (Slot × List ℕ)). l ++ openings rest) (openings_none reads transfers))
 
   front_creations : (rest : List Did) → creations (front ++ rest) ≡ creations rest
   front_creations rest = creations-append reads rest ∙ ap (λ (l : List (Channel × List ℕ)). l ++ creations rest) (creations_none reads transfers)
 
-  opens_so : (opened : List (Slot × List ℕ)) → (opened ≡ []) ⊎ (opened ≡ (Trace, run.trace) ∷ []) → Begins ((Spec, run.spec) ∷ opened) ((Spec, run.spec) ∷ (Trace, run.trace) ∷ [])
-  opens_so opened (inl is) = record { rest = (Trace, run.trace) ∷ []; is = ap (λ (l : List (Slot × List ℕ)). ((Spec, run.spec) ∷ l) ++ (Trace, run.trace) ∷ []) (sym is) }
-  opens_so opened (inr is) = record { rest = []; is = ap (λ (l : List (Slot × List ℕ)). (Spec, run.spec) ∷ l) (sym is) ∙ sym (append-nil ((Spec, run.spec) ∷ opened)) }
+  opens_so : (opened : List (Slot × List ℕ)) → (opened ≡ []) ⊎ (opened ≡ traces_of task) → Begins ((Spec, name) ∷ opened) (names_of name task)
+  opens_so opened (inl is) = record { rest = traces_of task; is = ap (λ (l : List (Slot × List ℕ)). ((Spec, name) ∷ l) ++ traces_of task) (sym is) }
+  opens_so opened (inr is) = record { rest = []; is = ap (λ (l : List (Slot × List ℕ)). (Spec, name) ∷ l) (sym is) ∙ sym (append-nil ((Spec, name) ∷ opened)) }
 
   -- no opening of the trace stands in the front
   no_opening_front : (before : List Did) → IsBeforeOpening Trace before front → ⊥
   no_opening_front [] o =
-      let same : Opened Spec run.spec ≡ o.did = (let e = o.split in cc) in
+      let same : Opened Spec name ≡ o.did = (let e = o.split in cc) in
       let other : Spec ≡ Trace = ap (λ (d : Did). first_slot (opening d)) same ∙ ap first_slot o.is in
       cc
   no_opening_front (x ∷ before) o = no_opening_in Trace reads before transfers record { did = o.did; name = o.name; after = o.after; is = o.is; split = (let e = o.split in cc) }
@@ -166,11 +170,11 @@ module _ (words : List (List ℕ)) (run : Run) (asked_is : command_of words ≡ 
     | inr (mid, is, of) ↦ (mid, is, record { did = b.did; name = b.name; after = b.after; is = b.is; split = of })
   ]
 
-  shows_tail : (rest : List Did) → Tail run.trace rest → ((before : List Did) → IsBeforeOpening Trace before rest → HasWhole reads)
+  shows_tail : (rest : List Did) → Tail task rest → ((before : List Did) → IsBeforeOpening Trace before rest → HasWhole reads)
       → AtReads Trace (λ less. OfRun words (front ++ less) (λ items s o. IsDueAsMeant items s o (taken Trace (front ++ less)) false (given Out (front ++ less)))) rest
       → AtReads Trace (λ less. OfRun words (front ++ less) (λ items s o. GoesOnAsMeant items s o (taken Trace (front ++ less)))) rest → IsPartlyDue words (front ++ rest) → Shows words (front ++ rest)
   shows_tail rest tail is_whole due goes_on partly = record {
-    opens = inr (run, asked_is, subst (λ (l : List (Slot × List ℕ)). Begins l ((Spec, run.spec) ∷ (Trace, run.trace) ∷ [])) (sym (front_openings rest)) (opens_so (openings rest) tail.opens));
+    opens = inr (name, task, asked_is, subst (λ (l : List (Slot × List ℕ)). Begins l (names_of name task)) (sym (front_openings rest)) (opens_so (openings rest) tail.opens));
     makes = front_creations rest ∙ tail.makes;
     spec_first = λ before b.
         let (mid, is, at) = opening_behind rest before b in
@@ -188,7 +192,7 @@ module _ (words : List (List ℕ)) (run : Run) (asked_is : command_of words ≡ 
   }
 
   -- nothing behind it
-  nothing_behind : Tail run.trace []
+  nothing_behind : Tail task []
   nothing_behind = record {
     opens = inl refl;
     makes = refl;
@@ -204,116 +208,176 @@ module _ (words : List (List ℕ)) (run : Run) (asked_is : command_of words ≡ 
       shows_tail [] nothing_behind (λ before b. absurd (no_place before b.after b.did b.split)) (at_none Trace _) (at_none Trace _)
       (inl (given_none Out (front ++ []) (Each-append (IsNoGift Out) front [] front_no_out tt)))
 
-  -- the trace could not be opened
-  no_trace_behind : Tail run.trace (NotOpened Trace run.trace ∷ [])
-  no_trace_behind = record {
-    opens = inr refl;
-    makes = refl;
-    first = λ before b. one_place before b.after (NotOpened Trace run.trace) b.did b.split;
-    spec = (tt, tt);
-    ends = at_no_read Trace _ (NotOpened Trace run.trace ∷ []) (tt, tt);
-    pieces = (tt, tt);
-    silent = refl;
-  }
-
-  shows_no_trace : (source : List ℕ) → GivesSource source reads → Shows words (front ++ NotOpened Trace run.trace ∷ [])
-  shows_no_trace source g =
-      shows_tail (NotOpened Trace run.trace ∷ []) no_trace_behind (λ before b. g.whole) (at_no_read Trace _ (NotOpened Trace run.trace ∷ []) (tt, tt))
-      (at_no_read Trace _ (NotOpened Trace run.trace ∷ []) (tt, tt))
-      (inl (given_none Out (front ++ NotOpened Trace run.trace ∷ []) (Each-append (IsNoGift Out) front (NotOpened Trace run.trace ∷ []) front_no_out (tt, tt))))
-
-  module _ (source : List ℕ) (g : GivesSource source reads) (items : List tree.Item) (s : System) (spelled : SpellsSystem source items s) where
-    -- what is taken of the specification, behind which nothing of it is read
-    pub spelled_behind : (less : List Did) → Each (IsNoRead Spec) less → SpellsSystem (taken Spec (front ++ less)) items s
-    spelled_behind less none = subst (λ (l : List ℕ). SpellsSystem l items s) (sym (taken_before Spec front less none ∙ g.bytes_are)) spelled
-
-    of_run : (less : List Did) (P : List tree.Item → System → Options → Type 0) → Each (IsNoRead Spec) less → P items s (options_of run) → OfRun words (front ++ less) P
-    of_run less P none holds = record { run = run; asked = asked_is; items = items; system = s; spelled = spelled_behind less none; holds = holds }
-
-    -- what is due, what goes on and what ends behind the front is what it is without it
-    due_behind : (less : List Did) (e : Bool) (text : List ℕ) → IsDue s (options_of run) (taken Trace less) e text → IsDue s (options_of run) (taken Trace (front ++ less)) e text
-    due_behind less e text due = subst (λ (l : List ℕ). IsDue s (options_of run) l e text) (sym (taken_behind Trace front less front_no_trace)) due
-
-    given_so : (less : List Did) (e : Bool) → IsDue s (options_of run) (taken Trace less) e (given Out less) → IsDue s (options_of run) (taken Trace (front ++ less)) e (given Out (front ++ less))
-    given_so less e due = subst (λ (l : List ℕ). IsDue s (options_of run) (taken Trace (front ++ less)) e l) (sym (given_behind Out front less front_no_out)) (due_behind less e (given Out less) due)
-
-    ended_so : (less : List Did) → ended Trace (front ++ less) ≡ ended Trace less
-    ended_so less = ended_behind Trace front less front_no_trace
-
-    pub ends_behind : (by : Ending) (part : List Did) → WatchEnds s (options_of run) by part → WatchEndsAsMeant items s (options_of run) by (front ++ Opened Trace run.trace ∷ part)
-    ends_behind by part w = let rest = Opened Trace run.trace ∷ part in watch_ends_meant source items s (options_of run) spelled by (front ++ rest) record {
-      due = subst (λ (e : Bool). IsDue s (options_of run) (taken Trace (front ++ rest)) e (given Out (front ++ rest))) (sym (ended_so rest)) (given_so rest (ended Trace rest) w.due);
-      cause = subst (λ (e : Bool). EndsBy s (options_of run) (taken Trace (front ++ rest)) e by) (sym (ended_so rest))
-          (subst (λ (l : List ℕ). EndsBy s (options_of run) l (ended Trace rest) by) (sym (taken_behind Trace front rest front_no_trace)) w.cause);
+  -- a text is printed
+  module _ (source : List ℕ) (g : GivesSource source reads) (f : Form) (task_is : task ≡ print f) (part : List Did) (p : Prints source f part) where
+    print_behind : Tail task part
+    print_behind = record {
+      opens = inl (openings_none part (gifts_transfer Out part p.gifts));
+      makes = creations_none part (gifts_transfer Out part p.gifts);
+      first = λ before b. absurd (no_opening_in Trace part before (gifts_transfer Out part p.gifts) b);
+      spec = gifts_read_none Out Spec part p.gifts;
+      ends = at_no_read Trace _ part (gifts_read_none Out Trace part p.gifts);
+      pieces = gifts_within Out most_taken part p.gifts;
+      silent = given_none Err part (gifts_elsewhere Out Err refl part p.gifts);
     }
 
-    module _ (part : List Did) (w : Watched s (options_of run) part) where
-      spec_none : Each (IsNoRead Spec) part
-      spec_none = each_work (IsNoRead Spec) (λ bytes short. refl) (λ bytes. tt) part w.work
+    asked_print : asked_of words ≡ Some (name, print f)
+    asked_print = asked_is ∙ ap (λ (t : Task). Some (name, t)) task_is
 
-      moves : Each IsTransfer part
-      moves = each_work IsTransfer (λ bytes short. tt) (λ bytes. tt) part w.work
+    -- the text is that of what was taken
+    printed_behind : (text : List ℕ) → IsTextOf source f text → IsTextOf (taken Spec (front ++ part)) f text
+    printed_behind text is = subst (λ (l : List ℕ). IsTextOf l f text) (sym (taken_before Spec front part (gifts_read_none Out Spec part p.gifts) ∙ g.bytes_are)) is
 
-      -- before a read
-      before_read : AtReads Trace (λ less. MayRead s (options_of run) less × Each (IsNoRead Spec) less) part
-      before_read before r = (w.reads before r, each_front (IsNoRead Spec) before _ (subst (λ (l : List Did). Each (IsNoRead Spec) l) r.split spec_none))
+    pub of_print : (P : List ℕ → Type 0) → P p.text → OfPrint words (front ++ part) P
+    of_print P holds = record { name = name; form = f; asked = asked_print; text = p.text; is = printed_behind p.text p.is; holds = holds }
 
-      watched_behind : Tail run.trace (Opened Trace run.trace ∷ part)
-      watched_behind = record {
-        opens = inr (ap (λ (l : List (Slot × List ℕ)). (Trace, run.trace) ∷ l) (openings_none part moves));
-        makes = creations_none part moves;
-        first = opened_first;
-        spec = (tt, spec_none);
-        ends = at_behind Trace (MayRead s (options_of run)) (λ less. ended Trace less ≡ false) (Opened Trace run.trace ∷ []) part (tt, tt) (λ less h. h.unended) w.reads;
-        pieces = (tt, each_work (IsWithin most_taken) (λ bytes short. short) (λ bytes. tt) part w.work);
-        silent = given_none Err part (each_work (IsNoGift Err) (λ bytes short. tt) (λ bytes. refl) part w.work);
+    shows_print : Shows words (front ++ part)
+    shows_print =
+        shows_tail part print_behind (λ before b. g.whole) (at_no_read Trace _ part (gifts_read_none Out Trace part p.gifts)) (at_no_read Trace _ part (gifts_read_none Out Trace part p.gifts))
+        (inr (inr (inl (of_print (λ text. Begins (given Out (front ++ part)) text) (subst (λ (l : List ℕ). Begins l p.text) (sym (given_behind Out front part front_no_out)) p.some)))))
+
+  -- a trace is asked for
+  module _ (trace : List ℕ) (o : Options) (task_is : task ≡ monitor trace o) where
+    traces_are : traces_of task ≡ (Trace, trace) ∷ []
+    traces_are = ap traces_of task_is
+
+    asked_run : asked_of words ≡ Some (name, monitor trace o)
+    asked_run = asked_is ∙ ap (λ (t : Task). Some (name, t)) task_is
+
+    -- the trace could not be opened
+    no_trace_behind : Tail task (NotOpened Trace trace ∷ [])
+    no_trace_behind = record {
+      opens = inr (sym traces_are);
+      makes = refl;
+      first = λ before b. one_place before b.after (NotOpened Trace trace) b.did b.split;
+      spec = (tt, tt);
+      ends = at_no_read Trace _ (NotOpened Trace trace ∷ []) (tt, tt);
+      pieces = (tt, tt);
+      silent = refl;
+    }
+
+    shows_no_trace : (source : List ℕ) → GivesSource source reads → Shows words (front ++ NotOpened Trace trace ∷ [])
+    shows_no_trace source g =
+        shows_tail (NotOpened Trace trace ∷ []) no_trace_behind (λ before b. g.whole) (at_no_read Trace _ (NotOpened Trace trace ∷ []) (tt, tt))
+        (at_no_read Trace _ (NotOpened Trace trace ∷ []) (tt, tt))
+        (inl (given_none Out (front ++ NotOpened Trace trace ∷ []) (Each-append (IsNoGift Out) front (NotOpened Trace trace ∷ []) front_no_out (tt, tt))))
+
+    module _ (source : List ℕ) (g : GivesSource source reads) (items : List tree.Item) (s : System) (compiled_so : Compiles source items s) where
+      -- what is taken of the specification, behind which nothing of it is read
+      pub compiled_behind : (less : List Did) → Each (IsNoRead Spec) less → Compiles (taken Spec (front ++ less)) items s
+      compiled_behind less none = subst (λ (l : List ℕ). Compiles l items s) (sym (taken_before Spec front less none ∙ g.bytes_are)) compiled_so
+
+      pub of_run : (less : List Did) (P : List tree.Item → System → Options → Type 0) → Each (IsNoRead Spec) less → P items s o → OfRun words (front ++ less) P
+      of_run less P none holds = record { name = name; trace = trace; options = o; asked = asked_run; items = items; system = s; compiled = compiled_behind less none; holds = holds }
+
+      -- what is due, what goes on and what ends behind the front is what it is without it
+      due_behind : (less : List Did) (e : Bool) (text : List ℕ) → IsDue s o (taken Trace less) e text → IsDue s o (taken Trace (front ++ less)) e text
+      due_behind less e text due = subst (λ (l : List ℕ). IsDue s o l e text) (sym (taken_behind Trace front less front_no_trace)) due
+
+      given_so : (less : List Did) (e : Bool) → IsDue s o (taken Trace less) e (given Out less) → IsDue s o (taken Trace (front ++ less)) e (given Out (front ++ less))
+      given_so less e due = subst (λ (l : List ℕ). IsDue s o (taken Trace (front ++ less)) e l) (sym (given_behind Out front less front_no_out)) (due_behind less e (given Out less) due)
+
+      ended_so : (less : List Did) → ended Trace (front ++ less) ≡ ended Trace less
+      ended_so less = ended_behind Trace front less front_no_trace
+
+      pub ends_behind : (by : Ending) (part : List Did) → WatchEnds s o by part → WatchEndsAsMeant items s o by (front ++ Opened Trace trace ∷ part)
+      ends_behind by part w = let rest = Opened Trace trace ∷ part in watch_ends_meant source items s o compiled_so by (front ++ rest) record {
+        due = subst (λ (e : Bool). IsDue s o (taken Trace (front ++ rest)) e (given Out (front ++ rest))) (sym (ended_so rest)) (given_so rest (ended Trace rest) w.due);
+        how = w.how;
+        by_is = w.by_is;
+        cause = subst (λ (e : Bool). EndsBy s o (taken Trace (front ++ rest)) e w.how) (sym (ended_so rest))
+            (subst (λ (l : List ℕ). EndsBy s o l (ended Trace rest) w.how) (sym (taken_behind Trace front rest front_no_trace)) w.cause);
       }
-        where
-          opened_first : (before : List Did) → IsBeforeOpening Trace before (Opened Trace run.trace ∷ part) → before ≡ []
-          opened_first [] b = refl
-          opened_first (x ∷ before) b = absurd (no_opening_in Trace part before moves record { did = b.did; name = b.name; after = b.after; is = b.is; split = (let e = b.split in cc) })
 
-      pub shows_watched : Shows words (front ++ Opened Trace run.trace ∷ part)
-      shows_watched =
-          shows_tail (Opened Trace run.trace ∷ part) watched_behind (λ before b. g.whole)
-          (at_behind Trace (λ less. MayRead s (options_of run) less × Each (IsNoRead Spec) less)
-          (λ less. OfRun words (front ++ less) (λ items s o. IsDueAsMeant items s o (taken Trace (front ++ less)) false (given Out (front ++ less)))) (Opened Trace run.trace ∷ []) part (tt, tt)
-          (λ less h. of_run (Opened Trace run.trace ∷ less) (λ items s o. IsDueAsMeant items s o (taken Trace (front ++ Opened Trace run.trace ∷ less)) false (given Out (front ++ Opened Trace run.trace ∷ less))) (tt, h.1)
-          (due_meant source items s (options_of run) spelled (taken Trace (front ++ Opened Trace run.trace ∷ less)) false (given Out (front ++ Opened Trace run.trace ∷ less)) (given_so (Opened Trace run.trace ∷ less) false h.0.due))) before_read)
-          (at_behind Trace (λ less. MayRead s (options_of run) less × Each (IsNoRead Spec) less)
-          (λ less. OfRun words (front ++ less) (λ items s o. GoesOnAsMeant items s o (taken Trace (front ++ less)))) (Opened Trace run.trace ∷ []) part (tt, tt)
-          (λ less h. of_run (Opened Trace run.trace ∷ less) (λ items s o. GoesOnAsMeant items s o (taken Trace (front ++ Opened Trace run.trace ∷ less))) (tt, h.1)
-          (goes_on_meant source items s (options_of run) spelled (taken Trace (front ++ Opened Trace run.trace ∷ less))
-          (subst (λ (l : List ℕ). GoesOn s (options_of run) l) (sym (taken_behind Trace front (Opened Trace run.trace ∷ less) front_no_trace)) h.0.goes_on))) before_read)
-          (inr (of_run (Opened Trace run.trace ∷ part) (λ items s o. BeginsAsMeant items s o (front ++ Opened Trace run.trace ∷ part)) (tt, spec_none)
-          (begins_meant source items s (options_of run) spelled (front ++ Opened Trace run.trace ∷ part) begins)))
-        where
-          begins : BeginsDue s (options_of run) (front ++ Opened Trace run.trace ∷ part)
-          begins = let rest = Opened Trace run.trace ∷ part in record {
-            text = w.partly.text;
-            due = subst (λ (e : Bool). IsDue s (options_of run) (taken Trace (front ++ rest)) e w.partly.text) (sym (ended_so rest)) (due_behind rest (ended Trace rest) w.partly.text w.partly.due);
-            begins = subst (λ (l : List ℕ). Begins l w.partly.text) (sym (given_behind Out front rest front_no_out)) w.partly.begins;
-          }
+      module _ (part : List Did) (w : Watched s o part) where
+        spec_none : Each (IsNoRead Spec) part
+        spec_none = each_work (IsNoRead Spec) (λ bytes short. refl) (λ bytes. tt) part w.work
+
+        moves : Each IsTransfer part
+        moves = each_work IsTransfer (λ bytes short. tt) (λ bytes. tt) part w.work
+
+        -- before a read
+        before_read : AtReads Trace (λ less. MayRead s o less × Each (IsNoRead Spec) less) part
+        before_read before r = (w.reads before r, each_front (IsNoRead Spec) before _ (subst (λ (l : List Did). Each (IsNoRead Spec) l) r.split spec_none))
+
+        watched_behind : Tail task (Opened Trace trace ∷ part)
+        watched_behind = record {
+          opens = inr (ap (λ (l : List (Slot × List ℕ)). (Trace, trace) ∷ l) (openings_none part moves) ∙ sym traces_are);
+          makes = creations_none part moves;
+          first = opened_first;
+          spec = (tt, spec_none);
+          ends = at_behind Trace (MayRead s o) (λ less. ended Trace less ≡ false) (Opened Trace trace ∷ []) part (tt, tt) (λ less h. h.unended) w.reads;
+          pieces = (tt, each_work (IsWithin most_taken) (λ bytes short. short) (λ bytes. tt) part w.work);
+          silent = given_none Err part (each_work (IsNoGift Err) (λ bytes short. tt) (λ bytes. refl) part w.work);
+        }
+          where
+            opened_first : (before : List Did) → IsBeforeOpening Trace before (Opened Trace trace ∷ part) → before ≡ []
+            opened_first [] b = refl
+            opened_first (x ∷ before) b = absurd (no_opening_in Trace part before moves record { did = b.did; name = b.name; after = b.after; is = b.is; split = (let e = b.split in cc) })
+
+        pub shows_watched : Shows words (front ++ Opened Trace trace ∷ part)
+        shows_watched =
+            shows_tail (Opened Trace trace ∷ part) watched_behind (λ before b. g.whole)
+            (at_behind Trace (λ less. MayRead s o less × Each (IsNoRead Spec) less)
+            (λ less. OfRun words (front ++ less) (λ items s o. IsDueAsMeant items s o (taken Trace (front ++ less)) false (given Out (front ++ less)))) (Opened Trace trace ∷ []) part (tt, tt)
+            (λ less h. of_run (Opened Trace trace ∷ less) (λ items s o. IsDueAsMeant items s o (taken Trace (front ++ Opened Trace trace ∷ less)) false (given Out (front ++ Opened Trace trace ∷ less))) (tt, h.1)
+            (due_meant source items s o compiled_so (taken Trace (front ++ Opened Trace trace ∷ less)) false (given Out (front ++ Opened Trace trace ∷ less)) (given_so (Opened Trace trace ∷ less) false h.0.due))) before_read)
+            (at_behind Trace (λ less. MayRead s o less × Each (IsNoRead Spec) less)
+            (λ less. OfRun words (front ++ less) (λ items s o. GoesOnAsMeant items s o (taken Trace (front ++ less)))) (Opened Trace trace ∷ []) part (tt, tt)
+            (λ less h. of_run (Opened Trace trace ∷ less) (λ items s o. GoesOnAsMeant items s o (taken Trace (front ++ Opened Trace trace ∷ less))) (tt, h.1)
+            (goes_on_meant source items s o compiled_so (taken Trace (front ++ Opened Trace trace ∷ less))
+            (subst (λ (l : List ℕ). GoesOn s o l) (sym (taken_behind Trace front (Opened Trace trace ∷ less) front_no_trace)) h.0.goes_on))) before_read)
+            (inr (inl (of_run (Opened Trace trace ∷ part) (λ items s o. BeginsAsMeant items s o (front ++ Opened Trace trace ∷ part)) (tt, spec_none)
+            (begins_meant source items s o compiled_so (front ++ Opened Trace trace ∷ part) begins))))
+          where
+            begins : BeginsDue s o (front ++ Opened Trace trace ∷ part)
+            begins = let rest = Opened Trace trace ∷ part in record {
+              text = w.partly.text;
+              due = subst (λ (e : Bool). IsDue s o (taken Trace (front ++ rest)) e w.partly.text) (sym (ended_so rest)) (due_behind rest (ended Trace rest) w.partly.text w.partly.due);
+              begins = subst (λ (l : List ℕ). Begins l w.partly.text) (sym (given_behind Out front rest front_no_out)) w.partly.begins;
+            }
 
 -- what a run of a specification shows, and of words
-shows_spec : (words : List (List ℕ)) (run : Run) → command_of words ≡ Some run → (part : List Did) → RunsSpec run.spec run.trace (options_of run) part → Shows words part
-shows_spec words run is _ unopened = shows_none words
-shows_spec words run is _ no_spec =
-    shows_few words (NotOpened Spec run.spec ∷ []) (inr (run, is, record { rest = (Trace, run.trace) ∷ []; is = refl })) refl (λ before b. not_trace before b) (tt, tt) (tt, tt) (tt, tt) refl refl
+shows_spec : (words : List (List ℕ)) (name : List ℕ) (task : Task) → asked_of words ≡ Some (name, task) → (part : List Did) → RunsSpec name task part → Shows words part
+shows_spec words name task is _ unopened = shows_none words
+shows_spec words name task is _ no_spec =
+    shows_few words (NotOpened Spec name ∷ []) (inr (name, task, is, record { rest = traces_of task; is = refl })) refl (λ before b. not_trace before b) (tt, tt) (tt, tt) (tt, tt) refl refl
   where
-    not_trace : (before : List Did) → IsBeforeOpening Trace before (NotOpened Spec run.spec ∷ []) → ⊥
+    not_trace : (before : List Did) → IsBeforeOpening Trace before (NotOpened Spec name ∷ []) → ⊥
     not_trace [] b =
-        let same : NotOpened Spec run.spec ≡ b.did = (let e = b.split in cc) in
+        let same : NotOpened Spec name ≡ b.did = (let e = b.split in cc) in
         let other : Spec ≡ Trace = ap (λ (d : Did). first_slot (opening d)) same ∙ ap first_slot b.is in
         cc
     not_trace (x ∷ before) b = let rest : [] ≡ before ++ b.did ∷ b.after = (let e = b.split in cc) in no_place before b.after b.did rest
-shows_spec words run is _ (reading reads r) = subst (λ (l : List Did). Shows words l) (ap (λ (l : List Did). Opened Spec run.spec ∷ l) (append-nil reads)) (shows_front words run is reads r)
-shows_spec words run is _ (whole reads rest source r g (uncompiled none)) =
-    subst (λ (l : List Did). Shows words (Opened Spec run.spec ∷ (reads ++ l))) (sym none) (shows_front words run is reads r)
-shows_spec words run is _ (whole reads _ source r g (compiled items s spelled idle)) = shows_front words run is reads r
-shows_spec words run is _ (whole reads _ source r g (compiled items s spelled no_trace)) = shows_no_trace words run is reads r source g
-shows_spec words run is _ (whole reads _ source r g (compiled items s spelled (watched part w))) = shows_watched words run is reads r source g items s spelled part w
+shows_spec words name task is _ (reading reads r) = subst (λ (l : List Did). Shows words l) (ap (λ (l : List Did). Opened Spec name ∷ l) (append-nil reads)) (shows_front words name task is reads r)
+shows_spec words name task is _ (whole reads rest source r g (uncompiled none)) =
+    subst (λ (l : List Did). Shows words (Opened Spec name ∷ (reads ++ l))) (sym none) (shows_front words name task is reads r)
+shows_spec words name task is _ (whole reads _ source r g (compiled trace o monitors items s c idle)) = shows_front words name task is reads r
+shows_spec words name task is _ (whole reads _ source r g (compiled trace o monitors items s c no_trace)) = shows_no_trace words name task is reads r trace o monitors source g
+shows_spec words name task is _ (whole reads _ source r g (compiled trace o monitors items s c (watched part w))) = shows_watched words name task is reads r trace o monitors source g items s c part w
+shows_spec words name task is _ (whole reads rest source r g (prints f printing p)) = shows_print words name task is reads r source g f printing rest p
+
+-- what a run shows that writes a text without a specification
+shows_alone : (words : List (List ℕ)) (a : Alone) → alone_of words ≡ Some a → (part : List Did) → PrintsText (IsAloneText a) part → Shows words part
+shows_alone words a is part p = record {
+  opens = inl (openings_none part moves);
+  makes = creations_none part moves;
+  spec_first = λ before b. absurd (no_opening_in Trace part before moves b);
+  spec_ends = at_no_read Spec _ part (gifts_read_none Out Spec part p.gifts);
+  trace_ends = at_no_read Trace _ part (gifts_read_none Out Trace part p.gifts);
+  limit = at_no_read Spec _ part (gifts_read_none Out Spec part p.gifts);
+  pieces = gifts_within Out most_taken part p.gifts;
+  due = at_no_read Trace _ part (gifts_read_none Out Trace part p.gifts);
+  goes_on = at_no_read Trace _ part (gifts_read_none Out Trace part p.gifts);
+  partly = inr (inr (inr (record { what = a; asked = is; text = p.text; is = p.is; holds = p.some })));
+  silent = given_none Err part (gifts_elsewhere Out Err refl part p.gifts);
+}
+  where
+    moves : Each IsTransfer part
+    moves = gifts_transfer Out part p.gifts
 
 pub shows_run : (words : List (List ℕ)) (part : List Did) → RunsWords words part → Shows words part
 shows_run words part (unasked none) = subst (λ (l : List Did). Shows words l) (sym none) (shows_none words)
-shows_run words part (asked run is runs) = shows_spec words run is part runs
+shows_run words part (asked name task is runs) = shows_spec words name task is part runs
+shows_run words part (samples a is (unmade none)) = subst (λ (l : List Did). Shows words l) (sym none) (shows_none words)
+shows_run words part (samples a is (writes p)) = shows_alone words a is part p

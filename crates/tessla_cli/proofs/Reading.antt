@@ -11,7 +11,8 @@ use Rattle.tsl_world.specs.Standing.{Standing}
 use Rattle.tsl_world.proofs.Runs.{go_on, called}
 use Rattle.tsl_world.proofs.Journals.{taken-append, ended-append, Each-append}
 use Rattle.tessla_cli.specs.Conduct.{source_limit}
-use Rattle.tessla_cli.specs.Parts.{IsTake, most_taken, is_nothing}
+use Rattle.trace_monitor.specs.Next.{most_taken, is_nothing}
+use Rattle.tessla_cli.specs.Parts.{IsTake}
 use Rattle.tessla_cli.specs.Shape.{MayReadSpec, ReadsSpec, GivesSource}
 use Rattle.tessla_cli.proofs.Watching.{not_zero}
 use Rattle.tsl_world.proofs.Places.{at_none, at_read}

@@ -1,10 +1,12 @@
 -- What a run shows and how it ends, behind the line that tells it.
-use Rattle.std.proofs.Common.{◌≡◌, ◌⊎◌, inl, inr, ℕ, ◌<◌, ◌≤◌, Bool, List, [], ◌∷◌, ◌++◌, length, refl, sym, ◌∙◌, ap, subst, arith, Some}
+use Rattle.std.proofs.Common.{◌≡◌, ◌≢◌, ◌⊎◌, inl, inr, ℕ, ◌<◌, ◌≤◌, Bool, List, [], ◌∷◌, ◌++◌, length, refl, sym, ◌∙◌, ap, subst, arith, Some}
 use Rattle.flat_core.specs.System.{System}
 use Rattle.spec_parser.specs.Tree as tree
 use Rattle.spec_reader.specs.declared.fault.SpecFault.{SpecFault}
-use Rattle.spec_reader.specs.Source.{SpellsSystem}
-use Rattle.tessla_cli.specs.Compiled.{IsRefusedBy}
+use Rattle.spec_compiler.specs.Compiled.{Compiles, IsRefusedBy}
+use Rattle.trace_monitor.specs.declared.ending.RunEnding.{RunEnding}
+use Rattle.trace_monitor.specs.declared.ending.RunEnding.TheVariants as run
+use Rattle.trace_monitor.specs.declared.options.Options.{Options}
 use Rattle.tsl_world.specs.Begins.{Begins}
 use Rattle.tsl_world.specs.World.{Rose}
 use Rattle.tsl_world.specs.declared.outside.Did.{Did}
@@ -14,57 +16,108 @@ use Rattle.tsl_world.specs.declared.outside.Slot.TheVariants.{Spec, Trace}
 use Rattle.tsl_world.specs.declared.outside.Channel.TheVariants.{Out, Err}
 use Rattle.tsl_world.specs.Journal.{given, taken, ended, openings, IsNoRead, IsNoGift, IsTransfer, IsGift, Each}
 use Rattle.tsl_world.proofs.Journals.{given-append, place, Each-append}
-use Rattle.tsl_world.proofs.Parts.{gifts_read_none, gifts_transfer, gifts_within, gifts_elsewhere, taken_before, ended_before, given_before, given_none, openings_before, creations_before, openings_none}
+use Rattle.tsl_world.proofs.Parts.{gifts_read_none, gifts_transfer, gifts_within, gifts_elsewhere, taken_before, ended_before, given_before, given_behind, given_none, openings_before, creations_before, openings_none}
 use Rattle.tsl_world.proofs.Places.{at_more}
 use Rattle.tessla_cli.specs.declared.ending.Ending.{Ending}
 use Rattle.tessla_cli.specs.declared.ending.Ending.TheVariants as ending
 use Rattle.tessla_cli.specs.declared.ending.Broken.{Broken}
 use Rattle.tessla_cli.specs.declared.ending.Broken.TheVariants as broken
-use Rattle.tessla_cli.specs.declared.options.Options.{Options}
-use Rattle.tessla_cli.specs.Conduct.{HasWhole, IsBeforeOpening, EndsRun, SpecRefused, IsPartlyDue, RunEnds, source_limit}
-use Rattle.tessla_cli.specs.Headline.{OfRun, options_of}
+use Rattle.tessla_cli.specs.Alone.{AloneStops}
+use Rattle.tessla_cli.specs.Conduct.{HasWhole, IsBeforeOpening, OfPrint, OfAlone, EndsRun, AloneEnds, SpecRefused, IsPartlyDue, RunEnds, source_limit}
+use Rattle.tessla_cli.specs.Headline.{OfRun}
 use Rattle.tessla_cli.specs.Meant.{IsDueAsMeant, EndsAsMeant, BeginsAsMeant, WatchEndsAsMeant}
 use Rattle.tessla_cli.specs.Messages.{ending_line, broken_line, broken_status, status_of}
-use Rattle.tessla_cli.specs.Outcome.{Ends, Faulted, TellsSome, cut_short, unfinished, Outcome, told, outside, memory, ShowsAlways, Concludes, Tells, TellsBroken, all_of_broken, some_of_broken, TellsEnding, all_of_ending, some_of_ending, no_line}
-use Rattle.tessla_cli.specs.Shape.{ReadsSpec, GivesSource, ends, SourceEnds, spec_refused, compiled_ends, whole_ends, WordsEnd, words_refused, asked_ends}
-use Rattle.tessla_cli.specs.Words.{Run, command_of}
-use Rattle.tessla_cli.proofs.Facts.{Shows, no_opening_in, spelled_behind, ends_behind, each_take, each_work}
+use Rattle.tessla_cli.specs.Outcome.{Ends, Faulted, Limited, LineRefused, Refused, TellsSome, cut_short, unfinished, Outcome, told, outside, memory, ShowsAlways, Concludes, Tells, TellsBroken, all_of_broken, some_of_broken, TellsEnding, all_of_ending, some_of_ending, no_line}
+use Rattle.tessla_cli.specs.Parts.{ending_of}
+use Rattle.tessla_cli.specs.Shape.{ReadsSpec, GivesSource, ends, SourceEnds, spec_refused, compiled_ends, printed, whole_ends, WordsEnd, words_refused, asked_ends, sampled, AloneIsDone, written, stopped}
+use Rattle.tessla_cli.specs.Printed.{IsTextOf}
+use Rattle.tessla_cli.specs.Tasks.{Alone, Task, alone_of, asked_of, benched, made, names_of}
+use Rattle.tessla_cli.proofs.Facts.{Shows, no_opening_in, of_run, of_print, ends_behind, each_take, each_work}
 use Rattle.std.proofs.lemmas.List.{append-nil}
+
+-- a run that ends before the end of its trace is not done
+early_not_done : (how : RunEnding) → how ≢ run.Done → ending.Done ≡ ending_of how → ⊥
+early_not_done run.Done early is = early refl
+early_not_done (run.Trace fault) early is = absurd (let e : ending.Done ≡ ending.Trace fault = is in cc)
+early_not_done (run.Fault t k p) early is = absurd (let e : ending.Done ≡ ending.Fault t k p = is in cc)
+early_not_done (run.Limit n t) early is = absurd (let e : ending.Done ≡ ending.Limit n t = is in cc)
+
+run_not_words : (how : RunEnding) → ending.Words ≡ ending_of how → ⊥
+run_not_words run.Done is = absurd (let e : ending.Words ≡ ending.Done = is in cc)
+run_not_words (run.Trace fault) is = absurd (let e : ending.Words ≡ ending.Trace fault = is in cc)
+run_not_words (run.Fault t k p) is = absurd (let e : ending.Words ≡ ending.Fault t k p = is in cc)
+run_not_words (run.Limit n t) is = absurd (let e : ending.Words ≡ ending.Limit n t = is in cc)
+
+-- where there is no text, not all is done, and the words are accepted
+stops_not_done : (a : Alone) → AloneStops a ending.Done → ⊥
+stops_not_done (made n) stops = stops
+stops_not_done (benched kind n) (inl (fault, refused, is)) = absurd (let e : ending.Done ≡ ending.Spec fault = is in cc)
+stops_not_done (benched kind n) (inr (how, ran, is)) = early_not_done how ran.is.early is
+
+stops_not_words : (a : Alone) → AloneStops a ending.Words → ⊥
+stops_not_words (made n) stops = stops
+stops_not_words (benched kind n) (inl (fault, refused, is)) = absurd (let e : ending.Words ≡ ending.Spec fault = is in cc)
+stops_not_words (benched kind n) (inr (how, ran, is)) = run_not_words how is
 
 module _ (words : List (List ℕ)) where
   -- only these endings have a cause in the trace
   of_watch : (by : Ending) (part : List Did) → EndsRun words by part → RunEnds words by part
-  of_watch ending.Done part f = f
+  of_watch ending.Done part f = inl f
   of_watch ending.Words part f = absurd f.holds.ends
   of_watch (ending.Spec fault) part f = absurd f.holds.ends
-  of_watch (ending.Trace fault) part f = f
-  of_watch (ending.Fault t k p) part f = f
-  of_watch (ending.Limit n t) part f = f
+  of_watch (ending.Trace fault) part f = inl f
+  of_watch (ending.Fault t k p) part f = inl f
+  of_watch (ending.Limit n t) part f = inl f
 
-  module _ (run : Run) (is : command_of words ≡ Some run) (reads : List Did) (source : List ℕ) (r : ReadsSpec reads) (g : GivesSource source reads) where
-    refused_front : (fault : SpecFault) → IsRefusedBy source fault → SpecRefused words fault (Opened Spec run.spec ∷ reads)
+  -- and these one where there is no text
+  of_stops : (by : Ending) (part : List Did) → AloneEnds words by part → RunEnds words by part
+  of_stops ending.Done part f = absurd (stops_not_done f.what f.stops)
+  of_stops ending.Words part f = absurd (stops_not_words f.what f.stops)
+  of_stops (ending.Spec fault) part f = inr f
+  of_stops (ending.Trace fault) part f = inr f
+  of_stops (ending.Fault t k p) part f = inr f
+  of_stops (ending.Limit n t) part f = inr f
+
+  alone_ends : (by : Ending) (part : List Did) (a : Alone) → alone_of words ≡ Some a → AloneIsDone a by part → RunEnds words by part
+  alone_ends by part a is (written done p) =
+      subst (λ (b : Ending). RunEnds words b part) (sym done) (inr (inr (record {
+        wrote = record { what = a; asked = is; text = p.text; is = p.is; holds = p.whole };
+        opens = openings_none part (gifts_transfer Out part p.gifts);
+      })))
+  alone_ends by part a is (stopped stops none) = of_stops by part record {
+    what = a;
+    asked = is;
+    stops = stops;
+    opens = ap (λ (l : List Did). openings l) none;
+    nothing = ap (λ (l : List Did). given Out l) none;
+  }
+
+  module _ (name : List ℕ) (task : Task) (is : asked_of words ≡ Some (name, task)) (reads : List Did) (source : List ℕ) (r : ReadsSpec reads) (g : GivesSource source reads) where
+    refused_front : (fault : SpecFault) → IsRefusedBy source fault → SpecRefused words fault (Opened Spec name ∷ reads)
     refused_front fault refused = record {
-      run = run;
+      name = name;
+      task = task;
       asked = is;
-      opens = ap (λ (l : List (Slot × List ℕ)). (Spec, run.spec) ∷ l) (openings_none reads (each_take IsTransfer Spec (λ bytes short. tt) reads r.only));
+      opens = ap (λ (l : List (Slot × List ℕ)). (Spec, name) ∷ l) (openings_none reads (each_take IsTransfer Spec (λ bytes short. tt) reads r.only));
       whole = g.whole;
       refused = subst (λ (l : List ℕ). IsRefusedBy l fault) (sym g.bytes_are) refused;
       nothing = given_none Out reads (each_take (IsNoGift Out) Spec (λ bytes short. tt) reads r.only);
     }
 
-    source_ends : (by : Ending) (rest : List Did) → SourceEnds source run.trace (options_of run) by rest → RunEnds words by (Opened Spec run.spec ∷ (reads ++ rest))
+    source_ends : (by : Ending) (rest : List Did) → SourceEnds source task by rest → RunEnds words by (Opened Spec name ∷ (reads ++ rest))
     source_ends by rest (spec_refused {fault} same refused none) =
-        subst (λ (b : Ending). RunEnds words b (Opened Spec run.spec ∷ (reads ++ rest))) (sym same)
-        (subst (λ (l : List Did). SpecRefused words fault (Opened Spec run.spec ∷ l)) (sym (ap (λ (l : List Did). reads ++ l) none ∙ append-nil reads)) (refused_front fault refused))
-    source_ends by _ (compiled_ends items s spelled (ends part w e)) =
-        of_watch by (Opened Spec run.spec ∷ (reads ++ Opened Trace run.trace ∷ part)) record {
-          run = run;
-          asked = is;
-          items = items;
-          system = s;
-          spelled = spelled_behind words run is reads r source g items s spelled (Opened Trace run.trace ∷ part) (tt, each_work (IsNoRead Spec) (λ bytes short. refl) (λ bytes. tt) part w.work);
-          holds = ends_behind words run is reads r source g items s spelled by part e;
-        }
+        subst (λ (b : Ending). RunEnds words b (Opened Spec name ∷ (reads ++ rest))) (sym same)
+        (inl (subst (λ (l : List Did). SpecRefused words fault (Opened Spec name ∷ l)) (sym (ap (λ (l : List Did). reads ++ l) none ∙ append-nil reads)) (refused_front fault refused)))
+    source_ends by _ (compiled_ends trace o monitors items s c (ends part w e)) =
+        of_watch by (Opened Spec name ∷ (reads ++ Opened Trace trace ∷ part))
+        (of_run words name task is reads r trace o monitors source g items s c (Opened Trace trace ∷ part) (λ items s o. WatchEndsAsMeant items s o by (Opened Spec name ∷ (reads ++ Opened Trace trace ∷ part)))
+        (tt, each_work (IsNoRead Spec) (λ bytes short. refl) (λ bytes. tt) part w.work) (ends_behind words name task is reads r trace o monitors source g items s c by part e))
+    source_ends by rest (printed f printing done p) =
+        let part = Opened Spec name ∷ (reads ++ rest) in
+        let begins : Begins (given Out rest) p.text = record { rest = []; is = sym p.whole ∙ sym (append-nil (given Out rest)) } in
+        let given_is : given Out part ≡ p.text = given_behind Out (Opened Spec name ∷ reads) rest (tt, each_take (IsNoGift Out) Spec (λ bytes short. tt) reads r.only) ∙ p.whole in
+        subst (λ (b : Ending). RunEnds words b part) (sym done)
+        (inr (inl (of_print words name task is reads r source g f printing rest record { text = p.text; is = p.is; gifts = p.gifts; some = begins } (λ text. given Out part ≡ text) given_is)))
 
   -- how a run ends, from its parts
   pub run_ends : (by : Ending) (part : List Did) → WordsEnd words by part → RunEnds words by part
@@ -74,7 +127,8 @@ module _ (words : List (List ℕ)) where
         opens = ap (λ (l : List Did). openings l) empty;
         nothing = ap (λ (l : List Did). given Out l) empty;
       }
-  run_ends by _ (asked_ends run is (whole_ends reads rest source r g e)) = source_ends run is reads source r g by rest e
+  run_ends by _ (asked_ends name task is (whole_ends reads rest source r g e)) = source_ends name task is reads source r g by rest e
+  run_ends by part (sampled a is e) = alone_ends by part a is e
 
   module _ (part more : List Did) (gifts : Each (IsGift Err) more) where
     no_reads : (from : Slot) → Each (IsNoRead from) more
@@ -89,17 +143,36 @@ module _ (words : List (List ℕ)) where
     -- a fact about the run stays
     of_run_told : (P Q : List tree.Item → System → Options → Type 0) → ((items : List tree.Item) (s : System) (o : Options) → P items s o → Q items s o) → OfRun words part P → OfRun words (part ++ more) Q
     of_run_told P Q says f = record {
-      run = f.run;
+      name = f.name;
+      trace = f.trace;
+      options = f.options;
       asked = f.asked;
       items = f.items;
       system = f.system;
-      spelled = subst (λ (l : List ℕ). SpellsSystem l f.items f.system) (sym (taken_before Spec part more (no_reads Spec))) f.spelled;
-      holds = says f.items f.system (options_of f.run) f.holds;
+      compiled = subst (λ (l : List ℕ). Compiles l f.items f.system) (sym (taken_before Spec part more (no_reads Spec))) f.compiled;
+      holds = says f.items f.system f.options f.holds;
     }
+
+    of_print_told : (P Q : List ℕ → Type 0) → ((text : List ℕ) → P text → Q text) → OfPrint words part P → OfPrint words (part ++ more) Q
+    of_print_told P Q says f = record {
+      name = f.name;
+      form = f.form;
+      asked = f.asked;
+      text = f.text;
+      is = subst (λ (l : List ℕ). IsTextOf l f.form f.text) (sym (taken_before Spec part more (no_reads Spec))) f.is;
+      holds = says f.text f.holds;
+    }
+
+    of_alone_told : (P Q : List ℕ → Type 0) → ((text : List ℕ) → P text → Q text) → OfAlone words P → OfAlone words Q
+    of_alone_told P Q says f = record { what = f.what; asked = f.asked; text = f.text; is = f.is; holds = says f.text f.holds }
 
     partly_told : IsPartlyDue words part → IsPartlyDue words (part ++ more)
     partly_told (inl none) = inl (given_before Out part more no_out ∙ none)
-    partly_told (inr f) = inr (of_run_told (λ items s o. BeginsAsMeant items s o part) (λ items s o. BeginsAsMeant items s o (part ++ more)) begins f)
+    partly_told (inr (inr (inr f))) =
+        inr (inr (inr (of_alone_told (λ text. Begins (given Out part) text) (λ text. Begins (given Out (part ++ more)) text) (λ text b. subst (λ (l : List ℕ). Begins l text) (sym (given_before Out part more no_out)) b) f)))
+    partly_told (inr (inr (inl f))) =
+        inr (inr (inl (of_print_told (λ text. Begins (given Out part) text) (λ text. Begins (given Out (part ++ more)) text) (λ text b. subst (λ (l : List ℕ). Begins l text) (sym (given_before Out part more no_out)) b) f)))
+    partly_told (inr (inl f)) = inr (inl (of_run_told (λ items s o. BeginsAsMeant items s o part) (λ items s o. BeginsAsMeant items s o (part ++ more)) begins f))
       where
         begins : (items : List tree.Item) (s : System) (o : Options) → BeginsAsMeant items s o part → BeginsAsMeant items s o (part ++ more)
         begins items s o b = record {
@@ -117,7 +190,7 @@ module _ (words : List (List ℕ)) where
 
     pub shows_told : Shows words part → ShowsAlways words (part ++ more)
     shows_told s = record {
-      opens = subst (λ (l : List (Slot × List ℕ)). (l ≡ []) ⊎ ((run : Run) × (command_of words ≡ Some run) × Begins l ((Spec, run.spec) ∷ (Trace, run.trace) ∷ []))) (sym (openings_before part more moves)) s.opens;
+      opens = subst (λ (l : List (Slot × List ℕ)). (l ≡ []) ⊎ ((name : List ℕ) × (task : Task) × (asked_of words ≡ Some (name, task)) × Begins l (names_of name task))) (sym (openings_before part more moves)) s.opens;
       makes = creations_before part more moves ∙ s.makes;
       spec_first = λ before b. s.spec_first before (opening_told before b);
       spec_ends = at_more Spec _ part more s.spec_ends (no_reads Spec);
@@ -142,11 +215,28 @@ module _ (words : List (List ℕ)) where
               (subst (λ (e : Bool). EndsAsMeant items s o (taken Trace part) e by) (sym (ended_before Trace part more (no_reads Trace))) w.ends);
         }
 
+    stops_told : (by : Ending) → AloneEnds words by part → AloneEnds words by (part ++ more)
+    stops_told by f = record {
+      what = f.what;
+      asked = f.asked;
+      stops = f.stops;
+      opens = openings_before part more moves ∙ f.opens;
+      nothing = given_before Out part more no_out ∙ f.nothing;
+    }
+
     pub run_ends_told : (by : Ending) → RunEnds words by part → RunEnds words by (part ++ more)
-    run_ends_told ending.Done f = ends_told ending.Done f
+    run_ends_told ending.Done (inl f) = inl (ends_told ending.Done f)
+    run_ends_told ending.Done (inr (inl f)) =
+        inr (inl (of_print_told (λ text. given Out part ≡ text) (λ text. given Out (part ++ more) ≡ text) (λ text all. given_before Out part more no_out ∙ all) f))
+    run_ends_told ending.Done (inr (inr f)) = inr (inr (record {
+      wrote = of_alone_told (λ text. given Out part ≡ text) (λ text. given Out (part ++ more) ≡ text) (λ text all. given_before Out part more no_out ∙ all) f.wrote;
+      opens = openings_before part more moves ∙ f.opens;
+    }))
     run_ends_told ending.Words f = record { refused = f.refused; opens = openings_before part more moves ∙ f.opens; nothing = given_before Out part more no_out ∙ f.nothing }
-    run_ends_told (ending.Spec fault) f = record {
-      run = f.run;
+    run_ends_told (ending.Spec fault) (inr f) = inr (stops_told (ending.Spec fault) f)
+    run_ends_told (ending.Spec fault) (inl f) = inl record {
+      name = f.name;
+      task = f.task;
       asked = f.asked;
       opens = openings_before part more moves ∙ f.opens;
       whole = whole_told f.whole;
@@ -157,9 +247,12 @@ module _ (words : List (List ℕ)) where
         whole_told : HasWhole part → HasWhole (part ++ more)
         whole_told (inl is) = inl (ended_before Spec part more (no_reads Spec) ∙ is)
         whole_told (inr over) = inr (subst (λ (l : List ℕ). source_limit < length l) (sym (taken_before Spec part more (no_reads Spec))) over)
-    run_ends_told (ending.Trace fault) f = ends_told (ending.Trace fault) f
-    run_ends_told (ending.Fault t k p) f = ends_told (ending.Fault t k p) f
-    run_ends_told (ending.Limit n t) f = ends_told (ending.Limit n t) f
+    run_ends_told (ending.Trace fault) (inl f) = inl (ends_told (ending.Trace fault) f)
+    run_ends_told (ending.Trace fault) (inr f) = inr (stops_told (ending.Trace fault) f)
+    run_ends_told (ending.Fault t k p) (inl f) = inl (ends_told (ending.Fault t k p) f)
+    run_ends_told (ending.Fault t k p) (inr f) = inr (stops_told (ending.Fault t k p) f)
+    run_ends_told (ending.Limit n t) (inl f) = inl (ends_told (ending.Limit n t) f)
+    run_ends_told (ending.Limit n t) (inr f) = inr (stops_told (ending.Limit n t) f)
 
     -- what Err got
     pub err_told : given Err part ≡ [] → given Err (part ++ more) ≡ given Err more
@@ -241,3 +334,71 @@ one_of words status part one (memory is tells) = absurd (omega arith)
 
 pub is_faulted : (words : List (List ℕ)) (status : ℕ) (part : List Did) → status ≡ 1 → Concludes words status part → Faulted words part
 is_faulted words status part one c = one_of words status part one c.outcome
+
+-- status 0 is that of a run to its end alone
+done_of : (words : List (List ℕ)) (by : Ending) (part : List Did) → 0 ≡ status_of by → Ends words by part → Ends words ending.Done part
+done_of words ending.Done part is held = held
+done_of words ending.Words part is held = absurd (omega arith)
+done_of words (ending.Spec fault) part is held = absurd (omega arith)
+done_of words (ending.Trace fault) part is held = absurd (omega arith)
+done_of words (ending.Fault t k p) part is held = absurd (omega arith)
+done_of words (ending.Limit n t) part is held = absurd (omega arith)
+
+pub is_done : (words : List (List ℕ)) (status : ℕ) (part : List Did) → status ≡ 0 → Concludes words status part → Ends words ending.Done part
+is_done words status part none c = go c.outcome
+  where
+    go : Outcome words status part → Ends words ending.Done part
+    go (told by is held) = done_of words by part (sym none ∙ is) held
+    go (outside is some) = absurd (omega arith)
+    go (memory is tells) = absurd (omega arith)
+
+-- status 4 is that of a refused line alone
+line_of : (words : List (List ℕ)) (by : Ending) (part : List Did) → 4 ≡ status_of by → Ends words by part → LineRefused words part
+line_of words (ending.Trace fault) part is held = record { fault = fault; ends = held }
+line_of words ending.Done part is held = absurd (omega arith)
+line_of words ending.Words part is held = absurd (omega arith)
+line_of words (ending.Spec fault) part is held = absurd (omega arith)
+line_of words (ending.Fault t k p) part is held = absurd (omega arith)
+line_of words (ending.Limit n t) part is held = absurd (omega arith)
+
+pub is_line : (words : List (List ℕ)) (status : ℕ) (part : List Did) → status ≡ 4 → Concludes words status part → LineRefused words part
+is_line words status part same c = go c.outcome
+  where
+    go : Outcome words status part → LineRefused words part
+    go (told by is held) = line_of words by part (sym same ∙ is) held
+    go (outside is some) = absurd (omega arith)
+    go (memory is tells) = absurd (omega arith)
+
+-- status 7 is that of the limit of instants alone
+limit_of : (words : List (List ℕ)) (by : Ending) (part : List Did) → 7 ≡ status_of by → Ends words by part → Limited words part
+limit_of words (ending.Limit n t) part is held = record { count = n; time = t; ends = held }
+limit_of words ending.Done part is held = absurd (omega arith)
+limit_of words ending.Words part is held = absurd (omega arith)
+limit_of words (ending.Spec fault) part is held = absurd (omega arith)
+limit_of words (ending.Trace fault) part is held = absurd (omega arith)
+limit_of words (ending.Fault t k p) part is held = absurd (omega arith)
+
+pub is_limit : (words : List (List ℕ)) (status : ℕ) (part : List Did) → status ≡ 7 → Concludes words status part → Limited words part
+is_limit words status part same c = go c.outcome
+  where
+    go : Outcome words status part → Limited words part
+    go (told by is held) = limit_of words by part (sym same ∙ is) held
+    go (outside is some) = absurd (omega arith)
+    go (memory is tells) = absurd (omega arith)
+
+-- status 3 is that of a refused specification alone
+refused_of : (words : List (List ℕ)) (by : Ending) (part : List Did) → 3 ≡ status_of by → Ends words by part → Refused words part
+refused_of words (ending.Spec fault) part is held = record { fault = fault; ends = held }
+refused_of words ending.Done part is held = absurd (omega arith)
+refused_of words ending.Words part is held = absurd (omega arith)
+refused_of words (ending.Trace fault) part is held = absurd (omega arith)
+refused_of words (ending.Fault t k p) part is held = absurd (omega arith)
+refused_of words (ending.Limit n t) part is held = absurd (omega arith)
+
+pub is_refused : (words : List (List ℕ)) (status : ℕ) (part : List Did) → status ≡ 3 → Concludes words status part → Refused words part
+is_refused words status part same c = go c.outcome
+  where
+    go : Outcome words status part → Refused words part
+    go (told by is held) = refused_of words by part (sym same ∙ is) held
+    go (outside is some) = absurd (omega arith)
+    go (memory is tells) = absurd (omega arith)

@@ -1,5 +1,5 @@
 -- How what a run does to the outside goes on, a read or a write at a time.
-use Rattle.std.proofs.Common.{◌≡◌, ℕ, suc, ◌≤◌, Bool, true, false, ◌||◌, List, [], ◌∷◌, ◌++◌, length, refl, sym, ◌∙◌, ap, subst, append_assoc, arith, nat_eq, Ok, Result, IsTrue}
+use Rattle.std.proofs.Common.{◌≡◌, ℕ, suc, ◌≤◌, Bool, true, false, ◌||◌, List, [], ◌∷◌, ◌++◌, length, refl, sym, ◌∙◌, ap, subst, append_assoc, arith, nat_eq, Ok, Option, Result, IsTrue}
 use Rattle.std.proofs.lemmas.Bool.Decides.{nat_tests}
 use Rattle.std.proofs.lemmas.List.{append-nil}
 use Rattle.flat_core.specs.System.{System}
@@ -17,12 +17,15 @@ use Rattle.tsl_world.proofs.Parts.{gifts_read_none, taken_before, ended_before}
 use Rattle.tsl_world.proofs.Places.{at_none, at_more, at_read}
 use Rattle.tsl_world.proofs.Journals.{given-append, taken-append, ended-append, Each-append}
 use Rattle.tessla_cli.specs.declared.ending.Ending.{Ending}
-use Rattle.tessla_cli.specs.declared.options.Options.{Options}
-use Rattle.tessla_cli.specs.Due.{IsDue}
+use Rattle.trace_monitor.specs.declared.options.Options.{Options}
+use Rattle.trace_monitor.specs.Due.{IsDue}
 use Rattle.tsl_world.specs.Begins.{Begins}
-use Rattle.tessla_cli.specs.Ending.{GoesOn}
-use Rattle.tessla_cli.specs.Parts.{Gives, most_taken, IsTraceWork, EndsBy, MayRead, Watched, WatchEnds, is_nothing}
-use Rattle.tessla_cli.specs.Ready.{IsReady}
+use Rattle.trace_monitor.specs.Ending.{GoesOn}
+use Rattle.trace_monitor.specs.declared.ending.RunEnding.{RunEnding}
+use Rattle.trace_monitor.specs.Next.{EndsBy, IsNext, most_taken, is_nothing}
+use Rattle.trace_monitor.specs.State.{State}
+use Rattle.tessla_cli.specs.Parts.{Gives, IsTraceWork, MayRead, Watched, WatchEnds, ending_of}
+use Rattle.spec_compiler.specs.Ready.{IsReady}
 use Rattle.tessla_cli.proofs.Dues.{due_more}
 
 is_out : (at : Channel) → same_channel at Out ≡ true → at ≡ Out
@@ -133,11 +136,14 @@ module _ (s : System) (o : Options) where
       subst (λ (l : List ℕ). Stands (part ++ q) bytes l e) (ap (λ (l : List ℕ). text ++ l) gives.whole) (wrote part q bytes text e stands gives.gifts)
 
   -- at an ending
-  pub ends : (by : Ending) (part : List Did) (bytes text : List ℕ) (e : Bool) → Stands part bytes text e → IsDue s o bytes e text → EndsBy s o bytes e by → WatchEnds s o by part
-  ends by part bytes text e stands due cause = record {
+  pub ends : (by : Ending) (how : RunEnding) (part : List Did) (bytes text : List ℕ) (e : Bool) → by ≡ ending_of how → Stands part bytes text e → IsDue s o bytes e text → EndsBy s o bytes e how
+      → WatchEnds s o by part
+  ends by how part bytes text e by_is stands due cause = record {
     due = subst (λ (l : List ℕ). IsDue s o l (ended Trace part) (given Out part)) (sym stands.bytes_are)
         (subst (λ (b : Bool). IsDue s o bytes b (given Out part)) (sym stands.end_is) (subst (λ (l : List ℕ). IsDue s o bytes e l) (sym stands.text_is) due));
-    cause = subst (λ (l : List ℕ). EndsBy s o l (ended Trace part) by) (sym stands.bytes_are) (subst (λ (b : Bool). EndsBy s o bytes b by) (sym stands.end_is) cause);
+    how = how;
+    by_is = by_is;
+    cause = subst (λ (l : List ℕ). EndsBy s o l (ended Trace part) how) (sym stands.bytes_are) (subst (λ (b : Bool). EndsBy s o bytes b how) (sym stands.end_is) cause);
   }
 
 -- one read of the trace more, told or not
@@ -149,3 +155,18 @@ module _ {W : Type 0} (told : W → Bool) (journal : W → List Did) (standing :
       go_on told journal standing old mid new _ (λ q. q ≡ Took Trace piece ∷ []) _ calls
       (called told journal standing mid new (Took Trace piece) (λ q. q ≡ Took Trace piece ∷ []) kept stands adds refl)
       (λ p q at is. subst (λ (l : List Did). Stands s o (p ++ l) (bytes ++ piece) text (is_nothing piece)) (sym is) (read_more s o p bytes text piece at due goes_on short))
+
+-- What a monitor whose system and options are these says of it, by them.
+module _ (m : State) (s : System) (o : Options) (system_is : m.system ≡ s) (options_is : m.options ≡ o) where
+  due_for : (bytes : List ℕ) (ended : Bool) (text : List ℕ) → IsDue s o bytes ended text → IsDue m.system m.options bytes ended text
+  due_for bytes ended text due =
+      subst (λ (u : System). IsDue u m.options bytes ended text) (sym system_is) (subst (λ (p : Options). IsDue s p bytes ended text) (sym options_is) due)
+
+  pub due_as : (bytes text piece more : List ℕ) → IsDue s o bytes false text
+      → (IsDue m.system m.options bytes false text → IsDue m.system m.options (bytes ++ piece) (is_nothing piece) (text ++ more)) → IsDue s o (bytes ++ piece) (is_nothing piece) (text ++ more)
+  due_as bytes text piece more due adds =
+      subst (λ (p : Options). IsDue s p (bytes ++ piece) (is_nothing piece) (text ++ more)) options_is
+      (subst (λ (u : System). IsDue u m.options (bytes ++ piece) (is_nothing piece) (text ++ more)) system_is (adds (due_for bytes false text due)))
+
+  pub next_as : (bytes : List ℕ) (ended : Bool) (next : Option RunEnding) → IsNext m.system m.options bytes ended next → IsNext s o bytes ended next
+  next_as bytes ended next is = subst (λ (p : Options). IsNext s p bytes ended next) options_is (subst (λ (u : System). IsNext u m.options bytes ended next) system_is is)

@@ -1,19 +1,22 @@
 -- What the program does to the outside, as the journal of its calls has it.
-use Rattle.std.specs.Prelude.{◌≡◌, ◌⊎◌, ℕ, ◌<◌, ◌≤◌, true, false, List, [], ◌∷◌, ◌++◌, length, Some, None}
+use Rattle.std.specs.Prelude.{◌≡◌, ◌⊎◌, ℕ, ◌<◌, ◌≤◌, true, List, [], ◌∷◌, ◌++◌, length, Some, None}
 use Rattle.tsl_world.specs.declared.outside.Did.{Did}
 use Rattle.tsl_world.specs.declared.outside.Slot.{Slot}
 use Rattle.tsl_world.specs.declared.outside.Slot.TheVariants.{Spec, Trace}
 use Rattle.tsl_world.specs.declared.outside.Channel.TheVariants.{Out}
 use Rattle.tsl_world.specs.Journal.{given, taken, ended, opening, openings, creations, AtReads, IsWithin, Each}
 use Rattle.spec_reader.specs.declared.fault.SpecFault.{SpecFault}
-use Rattle.tessla_cli.specs.Compiled.{IsRefusedBy}
+use Rattle.spec_compiler.specs.Compiled.{IsRefusedBy}
 use Rattle.tessla_cli.specs.declared.ending.Ending.{Ending}
 use Rattle.tessla_cli.specs.declared.ending.Ending.TheVariants as ending
-use Rattle.tessla_cli.specs.Words.{Run, command_of}
+use Rattle.trace_monitor.specs.Next.{most_taken}
 use Rattle.tsl_world.specs.Begins.{Begins}
+use Rattle.tessla_cli.specs.Alone.{AloneStops, IsAloneText}
 use Rattle.tessla_cli.specs.Meant.{GoesOnAsMeant, BeginsAsMeant, WatchEndsAsMeant}
 use Rattle.tessla_cli.specs.Headline.{OfRun}
-use Rattle.tessla_cli.specs.Parts.{most_taken}
+use Rattle.tessla_cli.specs.Printed.{IsTextOf}
+use Rattle.tessla_cli.specs.Tasks.{Alone, Task, alone_of, print, asked_of, names_of, requested}
+use Rattle.tessla_cli.specs.declared.task.Form.{Form}
 
 -- a specification is refused where it has more bytes than this
 abbrev pub source_limit : ℕ
@@ -48,40 +51,79 @@ abbrev pub ReadsPieces : List Did → Type 0
 ReadsPieces part = Each (IsWithin most_taken) part
 
 module _ (words : List (List ℕ)) where
-  -- Nothing is opened but the specification and then the trace that the words name, each once and each whether it could be opened or not.
+  -- Nothing is opened but what the words ask for, the specification and then the trace, each once and each whether it could be opened or not.
   abbrev pub OpensAsAsked : List Did → Type 0
-  OpensAsAsked part =
-      (openings part ≡ []) ⊎ ((run : Run) × (command_of words ≡ Some run) × Begins (openings part) ((Spec, run.spec) ∷ (Trace, run.trace) ∷ []))
+  OpensAsAsked part = (openings part ≡ [])
+      ⊎ ((name : List ℕ) × (task : Task) × (asked_of words ≡ Some (name, task)) × Begins (openings part) (names_of name task))
 
   -- No read of the trace follows once the bytes taken hold a refused line, close a fault or pass the limit of instants.
   abbrev pub GoesOnAtReads : List Did → Type 0
   GoesOnAtReads part = AtReads Trace (λ before. OfRun words before (λ items s o. GoesOnAsMeant items s o (taken Trace before))) part
 
-  -- Whatever ends the program, what Out was given is nothing, or begins the text that is due of all that was taken of the trace.
+  -- A fact about the text that the words ask to print, of the specification as far as it was taken.
+  pub record OfPrint (journal : List Did) (P : List ℕ → Type 0) : Type 0 where
+    pub name : List ℕ
+    pub form : Form
+    pub asked : asked_of words ≡ Some (name, print form)
+    pub text : List ℕ
+    pub is : IsTextOf (taken Spec journal) form text
+    pub holds : P text
+
+  -- A fact about the text that the words ask for without a specification of the outside.
+  pub record OfAlone (P : List ℕ → Type 0) : Type 0 where
+    pub what : Alone
+    pub asked : alone_of words ≡ Some what
+    pub text : List ℕ
+    pub is : IsAloneText what text
+    pub holds : P text
+
+  -- Whatever ends the program, what Out was given is nothing, or begins the text that is due of all that was taken of the trace or that
+  -- the words ask to print, of a specification or without one.
   abbrev pub IsPartlyDue : List Did → Type 0
-  IsPartlyDue part = (given Out part ≡ []) ⊎ OfRun words part (λ items s o. BeginsAsMeant items s o part)
+  IsPartlyDue part =
+      (given Out part ≡ []) ⊎ OfRun words part (λ items s o. BeginsAsMeant items s o part) ⊎ OfPrint part (λ text. Begins (given Out part) text)
+      ⊎ OfAlone (λ text. Begins (given Out part) text)
 
   -- All the text that is due of what was taken was given to Out, and this is the cause of the ending.
   abbrev pub EndsRun : Ending → List Did → Type 0
   EndsRun by part = OfRun words part (λ items s o. WatchEndsAsMeant items s o by part)
 
+  -- All of the text that the words ask to print was given to Out.
+  abbrev pub EndsPrint : List Did → Type 0
+  EndsPrint part = OfPrint part (λ text. given Out part ≡ text)
+
+  -- All of the text was given to Out that the words ask for without a specification of the outside, and nothing was opened.
+  pub record EndsAlone (part : List Did) : Type 0 where
+    pub wrote : OfAlone (λ text. given Out part ≡ text)
+    pub opens : openings part ≡ []
+
+  -- There is none of it, with this ending, and nothing was opened.
+  pub record AloneEnds (by : Ending) (part : List Did) : Type 0 where
+    pub what : Alone
+    pub asked : alone_of words ≡ Some what
+    pub stops : AloneStops what by
+    pub opens : openings part ≡ []
+    pub nothing : given Out part ≡ []
+
   -- The specification that the words name was read to its end or past its limit, and it is refused. The trace is not opened.
   pub record SpecRefused (fault : SpecFault) (part : List Did) : Type 0 where
-    pub run : Run
-    pub asked : command_of words ≡ Some run
-    pub opens : openings part ≡ (Spec, run.spec) ∷ []
+    pub name : List ℕ
+    pub task : Task
+    pub asked : asked_of words ≡ Some (name, task)
+    pub opens : openings part ≡ (Spec, name) ∷ []
     pub whole : HasWhole part
     pub refused : IsRefusedBy (taken Spec part) fault
     pub nothing : given Out part ≡ []
 
   -- The words are not accepted, and nothing was opened.
   pub record WordsRefused (part : List Did) : Type 0 where
-    pub refused : command_of words ≡ None
+    pub refused : requested words ≡ None
     pub opens : openings part ≡ []
     pub nothing : given Out part ≡ []
 
   -- what stands where the program ends so
   abbrev pub RunEnds : Ending → List Did → Type 0
+  RunEnds ending.Done part = EndsRun ending.Done part ⊎ EndsPrint part ⊎ EndsAlone part
   RunEnds ending.Words part = WordsRefused part
-  RunEnds (ending.Spec fault) part = SpecRefused fault part
-  RunEnds by part = EndsRun by part
+  RunEnds (ending.Spec fault) part = SpecRefused fault part ⊎ AloneEnds (ending.Spec fault) part
+  RunEnds by part = EndsRun by part ⊎ AloneEnds by part

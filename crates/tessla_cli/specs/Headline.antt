@@ -3,31 +3,29 @@
 -- the limit of instants.
 use Rattle.std.specs.Prelude.{◌≡◌, ℕ, false, List, Some}
 use Rattle.flat_core.specs.System.{System}
+use Rattle.spec_compiler.specs.Compiled.{Compiles}
 use Rattle.spec_meaning.specs.Due.{IsDueText}
 use Rattle.spec_parser.specs.Tree as tree
-use Rattle.spec_reader.specs.Source.{SpellsSystem}
+use Rattle.trace_monitor.specs.declared.options.Options.{Options}
+use Rattle.trace_monitor.specs.Due.{lines_in, bound_in}
 use Rattle.tsl_world.specs.Journal.{given, taken, AtReads}
 use Rattle.tsl_world.specs.declared.outside.Channel.TheVariants.{Out}
 use Rattle.tsl_world.specs.declared.outside.Did.{Did}
 use Rattle.tsl_world.specs.declared.outside.Slot.TheVariants.{Spec, Trace}
-use Rattle.tessla_cli.specs.declared.options.Options.{Options}
-use Rattle.tessla_cli.specs.Due.{lines_in, bound_in}
-use Rattle.tessla_cli.specs.Words.{Run, command_of}
-
--- how far the run goes
-abbrev pub options_of : Run → Options
-options_of run = record { until = run.until; instants = run.instants; bytes = run.bytes; strict = run.strict }
+use Rattle.tessla_cli.specs.Tasks.{monitor, asked_of}
 
 module _ (words : List (List ℕ)) where
-  -- A fact about the items that the specification spells, as far as it was taken, about the system that they mean, and about how far the
-  -- run goes that the words ask for.
+  -- A fact about the items that the specification spells, as far as it was taken, about their flat system once it is simplified, and about
+  -- how far the run goes that the words ask for.
   pub record OfRun (journal : List Did) (P : List tree.Item → System → Options → Type 0) : Type 0 where
-    pub run : Run
-    pub asked : command_of words ≡ Some run
+    pub name : List ℕ
+    pub trace : List ℕ
+    pub options : Options
+    pub asked : asked_of words ≡ Some (name, monitor trace options)
     pub items : List tree.Item
     pub system : System
-    pub spelled : SpellsSystem (taken Spec journal) items system
-    pub holds : P items system (options_of run)
+    pub compiled : Compiles (taken Spec journal) items system
+    pub holds : P items system options
 
   abbrev pub IsDueAtReads : List Did → Type 0
   IsDueAtReads part = AtReads Trace (λ before. OfRun before (λ items s o. let bytes = taken Trace before in

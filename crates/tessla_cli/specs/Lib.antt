@@ -1,14 +1,10 @@
-pub mod RunCommand
-pub mod Words
-pub mod Due
-pub mod Ending
+pub mod Tasks
+pub mod Printed
 pub mod Messages
 pub mod Parts
-pub mod Monitor
-pub mod Ready
+pub mod Alone
 pub mod Meant
 pub mod Headline
 pub mod Conduct
 pub mod Outcome
-pub mod Compiled
 pub mod Shape

@@ -1,13 +1,11 @@
 -- What is due and how a run stands, by the meaning of the specification itself.
-use Rattle.std.specs.Prelude.{◌≡◌, ℕ, ◌<◌, ◌≤◌, Bool, true, false, List, length, take, Some, None, slice_get}
-use Rattle.std.specs.List.{Contains}
-use Rattle.lift_func.specs.declared.fault.FaultKind.{FaultKind}
-use Rattle.flat_core.specs.Line.{Line, inputs_of}
+use Rattle.std.specs.Prelude.{◌≡◌, ℕ, Bool, true, false, List, Some, None}
 use Rattle.flat_core.specs.System.{System}
-use Rattle.flat_meaning.specs.Laws.{IsRootOf}
-use Rattle.spec_meaning.specs.Due.{IsFaulty, AreInstants, IsDueText}
+use Rattle.spec_compiler.specs.Meant.{FaultTimeIsMeant, QuietIsMeant, LimitIsMeant, IsFaultNamed}
+use Rattle.spec_meaning.specs.Due.{IsDueText}
 use Rattle.spec_parser.specs.Tree as tree
-use Rattle.tsl_value.specs.declared.place.Place.{Place}
+use Rattle.trace_monitor.specs.declared.options.Options.{Options}
+use Rattle.trace_monitor.specs.Due.{lines_in, refused_in, bound_in}
 use Rattle.tsl_world.specs.Begins.{Begins}
 use Rattle.tsl_world.specs.Journal.{given, taken, ended}
 use Rattle.tsl_world.specs.declared.outside.Channel.TheVariants.{Out}
@@ -15,39 +13,14 @@ use Rattle.tsl_world.specs.declared.outside.Did.{Did}
 use Rattle.tsl_world.specs.declared.outside.Slot.TheVariants.{Trace}
 use Rattle.tessla_cli.specs.declared.ending.Ending.{Ending}
 use Rattle.tessla_cli.specs.declared.ending.Ending.TheVariants as ending
-use Rattle.tessla_cli.specs.declared.options.Options.{Options}
-use Rattle.tessla_cli.specs.Due.{lines_in, refused_in, bound_in}
-use Rattle.tessla_cli.specs.Ending.{IsFaulted}
-use Rattle.tessla_cli.specs.Parts.{IsPlaceOf}
 
--- for the lines of a trace, of which the times below a bound are closed, and a limit of instants
-module _ (items : List tree.Item) (lines : List Line) (bound limit : ℕ) where
-  -- At t, which is closed and one of the first instants, as many as the limit, a needed occurrence at this place has this root fault, and
-  -- no occurrence has one earlier.
-  pub record FaultIsMeant (t : ℕ) (place : Place) (kind : FaultKind) : Type 0 where
-    pub root : IsRootOf items (inputs_of lines) t place kind
-    pub least : (u : ℕ) → u < t → IsFaulty items lines u → ⊥
-    pub closed : t < bound
-    pub instants : List ℕ
-    pub are : AreInstants items lines bound instants
-    pub within : Contains (take limit instants) t
-
-  -- No closed instant has a root fault, and there are no more of them than the limit.
-  pub record QuietIsMeant : Type 0 where
-    pub instants : List ℕ
-    pub are : AreInstants items lines bound instants
-    pub sound : (t : ℕ) → Contains (take limit instants) t → IsFaulty items lines t → ⊥
-    pub few : length instants ≤ limit
-
-  -- None of the first instants, as many as the limit, has a root fault, and t is the next one that is closed.
-  pub record LimitIsMeant (t : ℕ) : Type 0 where
-    pub instants : List ℕ
-    pub are : AreInstants items lines bound instants
-    pub sound : (u : ℕ) → Contains (take limit instants) u → IsFaulty items lines u → ⊥
-    pub next : slice_get instants limit ≡ Some t
-
--- For the items of a specification and the flat system that they mean. Of the system, what is due takes the inputs alone: by them the
--- lines of the trace are read, and so the bound below which times are closed.
+-- For the items of a specification and their flat system once it is simplified. Of the system, what is due takes the inputs alone: by them
+-- the lines of the trace are read, and so the bound below which times are closed.
+--
+-- The time of a fault is that of the meaning, and its place and kind are those that the system names. These can differ. Take `in i: Events[Int]`,
+-- `def c := 5 / m`, `def m := merge(i, b)`, `def b := 1 / i` and `out c`, and the line `1: i = 0`. In the meaning `m` is a fault at 1,
+-- so `c` passes it on, and `1 / i` alone has a root fault. In the simplified system `m` gives way to `i`, so that `5 / m` has one too, and
+-- it is named, since its number is less.
 module _ (items : List tree.Item) (s : System) (o : Options) where
   -- the text is due of these bytes of the trace
   abbrev pub IsDueAsMeant : List ℕ → Bool → List ℕ → Type 0
@@ -62,16 +35,13 @@ module _ (items : List tree.Item) (s : System) (o : Options) where
     pub accepted : refused_in s o bytes false ≡ None
     pub quiet : IsQuietAsMeant bytes false
 
-  -- Among the root faults at t the one that is named: that of the equation with the least number.
-  abbrev pub IsNamedFault : List ℕ → Bool → ℕ → Place → FaultKind → Type 0
-  IsNamedFault bytes is_end t place kind = (i : ℕ) × IsPlaceOf s o i place × IsFaulted s o bytes is_end t i kind
-
   -- the cause that the specification gives an ending there
   abbrev pub EndsAsMeant : List ℕ → Bool → Ending → Type 0
   EndsAsMeant bytes ended ending.Done = (ended ≡ true) × (refused_in s o bytes ended ≡ None) × IsQuietAsMeant bytes ended
   EndsAsMeant bytes ended (ending.Trace fault) = (refused_in s o bytes ended ≡ Some fault) × IsQuietAsMeant bytes ended
   EndsAsMeant bytes ended (ending.Fault time kind place) =
-      FaultIsMeant items (lines_in s o bytes ended) (bound_in s o bytes ended) o.instants time place kind × IsNamedFault bytes ended time place kind
+      FaultTimeIsMeant items (lines_in s o bytes ended) (bound_in s o bytes ended) o.instants time
+      × IsFaultNamed s (lines_in s o bytes ended) (bound_in s o bytes ended) time place kind
   EndsAsMeant bytes ended (ending.Limit count time) =
       (count ≡ o.instants) × LimitIsMeant items (lines_in s o bytes ended) (bound_in s o bytes ended) o.instants time
   EndsAsMeant bytes ended _ = ⊥

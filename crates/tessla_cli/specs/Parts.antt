@@ -1,8 +1,13 @@
 -- What single functions do to the outside.
-use Rattle.std.specs.Prelude.{◌≡◌, ℕ, ◌≤◌, Bool, true, false, List, length, Result, Option, None, Some, OnOk, nat_eq}
-use Rattle.flat_core.specs.System.{System, equation}
-use Rattle.flat_core.specs.declared.equation.Equation.{Equation}
-use Rattle.tsl_value.specs.declared.place.Place.{Place}
+use Rattle.std.specs.Prelude.{◌≡◌, ℕ, ◌≤◌, false, List, length, Result, OnOk}
+use Rattle.flat_core.specs.System.{System}
+use Rattle.trace_monitor.specs.declared.ending.RunEnding.{RunEnding}
+use Rattle.trace_monitor.specs.declared.ending.RunEnding.TheVariants as run
+use Rattle.trace_monitor.specs.declared.options.Options.{Options}
+use Rattle.trace_monitor.specs.Due.{IsDue}
+use Rattle.trace_monitor.specs.Ending.{GoesOn}
+use Rattle.trace_monitor.specs.Next.{EndsBy, most_taken}
+use Rattle.tsl_world.specs.Begins.{Begins}
 use Rattle.tsl_world.specs.declared.outside.Channel.{Channel}
 use Rattle.tsl_world.specs.declared.outside.Did.{Did}
 use Rattle.tsl_world.specs.declared.outside.Did.TheVariants.{Took, Gave}
@@ -10,10 +15,6 @@ use Rattle.tsl_world.specs.declared.outside.Slot.{Slot}
 use Rattle.tsl_world.specs.declared.outside.Slot.TheVariants.{Trace}
 use Rattle.tsl_world.specs.declared.outside.Channel.TheVariants.{Out}
 use Rattle.tsl_world.specs.Journal.{given, taken, ended, AtReads, IsGift, Each}
-use Rattle.tessla_cli.specs.declared.options.Options.{Options}
-use Rattle.tsl_world.specs.Begins.{Begins}
-use Rattle.tessla_cli.specs.Due.{IsDue, refused_in}
-use Rattle.tessla_cli.specs.Ending.{IsQuiet, IsFaulted, IsLimited, GoesOn}
 use Rattle.tessla_cli.specs.declared.ending.Ending.{Ending}
 use Rattle.tessla_cli.specs.declared.ending.Ending.TheVariants as ending
 
@@ -23,11 +24,7 @@ pub record Gives {E : Type 0} (to : Channel) (bytes : List ℕ) (result : Result
   pub some : Begins (given to part) bytes
   pub whole : OnOk result (given to part ≡ bytes)
 
--- as many bytes as one read takes at most
-abbrev pub most_taken : ℕ
-most_taken = 65536
-
--- a read of the slot that takes no more than that
+-- a read of the slot that takes no more than one may
 abbrev pub IsTake : Slot → Did → Type 0
 IsTake from (Took at bytes) = (at ≡ from) × (length bytes ≤ most_taken)
 IsTake from did = ⊥
@@ -38,26 +35,14 @@ IsTraceWork (Took at bytes) = (at ≡ Trace) × (length bytes ≤ most_taken)
 IsTraceWork (Gave to bytes) = to ≡ Out
 IsTraceWork did = ⊥
 
+-- the ending of the program where a run over a trace ends so
+abbrev pub ending_of : RunEnding → Ending
+ending_of run.Done = ending.Done
+ending_of (run.Trace fault) = ending.Trace fault
+ending_of (run.Fault time kind place) = ending.Fault time kind place
+ending_of (run.Limit count time) = ending.Limit count time
+
 module _ (s : System) (o : Options) where
-  -- the place of equation i
-  pub record IsPlaceOf (i : ℕ) (place : Place) : Type 0 where
-    pub at : Equation
-    pub is : equation s i ≡ Some at
-    pub place_is : at.place ≡ place
-
-  -- the cause of an ending at these bytes of the trace
-  abbrev pub EndsBy : List ℕ → Bool → Ending → Type 0
-  EndsBy bytes ended ending.Done = (ended ≡ true) × (refused_in s o bytes ended ≡ None) × IsQuiet s o bytes ended
-  EndsBy bytes ended (ending.Trace fault) = (refused_in s o bytes ended ≡ Some fault) × IsQuiet s o bytes ended
-  EndsBy bytes ended (ending.Fault time kind place) = (i : ℕ) × IsPlaceOf i place × IsFaulted s o bytes ended time i kind
-  EndsBy bytes ended (ending.Limit count time) = (count ≡ o.instants) × IsLimited s o bytes ended time
-  EndsBy bytes ended _ = ⊥
-
-  -- how it stands at these bytes where a turn ends: it goes on, or the run ends
-  abbrev pub IsNext : List ℕ → Bool → Option Ending → Type 0
-  IsNext bytes ended None = (ended ≡ false) × GoesOn s o bytes
-  IsNext bytes ended (Some by) = EndsBy bytes ended by
-
   -- the trace may be read behind this much of the journal: its end was not read, the output text that is due was written, and nothing ends the run
   pub record MayRead (before : List Did) : Type 0 where
     pub unended : ended Trace before ≡ false
@@ -79,8 +64,6 @@ module _ (s : System) (o : Options) where
   -- how it ends: all that is due was written, and the ending has its cause
   pub record WatchEnds (by : Ending) (part : List Did) : Type 0 where
     pub due : IsDue s o (taken Trace part) (ended Trace part) (given Out part)
-    pub cause : EndsBy (taken Trace part) (ended Trace part) by
-
--- no bytes
-abbrev pub is_nothing : List ℕ → Bool
-is_nothing bytes = nat_eq (length bytes) 0
+    pub how : RunEnding
+    pub by_is : by ≡ ending_of how
+    pub cause : EndsBy s o (taken Trace part) (ended Trace part) how

@@ -1,21 +1,24 @@
 -- The parts of a run's journal, one behind another.
 use Rattle.std.specs.Prelude.{◌≡◌, ℕ, ◌≤◌, false, List, [], ◌∷◌, ◌++◌, length, Some, None}
 use Rattle.flat_core.specs.System.{System}
+use Rattle.spec_compiler.specs.Compiled.{Compiles, IsRefusedBy}
+use Rattle.spec_parser.specs.Tree as tree
+use Rattle.spec_reader.specs.declared.fault.SpecFault.{SpecFault}
+use Rattle.trace_monitor.specs.declared.options.Options.{Options}
+use Rattle.tsl_world.specs.Begins.{Begins}
+use Rattle.tsl_world.specs.declared.outside.Channel.TheVariants.{Out}
 use Rattle.tsl_world.specs.declared.outside.Did.{Did}
 use Rattle.tsl_world.specs.declared.outside.Did.TheVariants.{Opened, NotOpened}
 use Rattle.tsl_world.specs.declared.outside.Slot.TheVariants.{Spec, Trace}
-use Rattle.tsl_world.specs.Journal.{taken, ended, AtReads, Each}
-use Rattle.spec_parser.specs.Tree as tree
-use Rattle.spec_reader.specs.declared.fault.SpecFault.{SpecFault}
-use Rattle.spec_reader.specs.Source.{SpellsSystem}
-use Rattle.tessla_cli.specs.Compiled.{IsRefusedBy}
+use Rattle.tsl_world.specs.Journal.{given, taken, ended, AtReads, IsGift, Each}
 use Rattle.tessla_cli.specs.declared.ending.Ending.{Ending}
 use Rattle.tessla_cli.specs.declared.ending.Ending.TheVariants as ending
-use Rattle.tessla_cli.specs.declared.options.Options.{Options}
+use Rattle.tessla_cli.specs.declared.task.Form.{Form}
+use Rattle.tessla_cli.specs.Alone.{AloneStops, IsAloneText}
 use Rattle.tessla_cli.specs.Conduct.{HasWhole, source_limit}
-use Rattle.tessla_cli.specs.Headline.{options_of}
-use Rattle.tessla_cli.specs.Words.{Run, command_of}
 use Rattle.tessla_cli.specs.Parts.{IsTake, Watched, WatchEnds}
+use Rattle.tessla_cli.specs.Printed.{IsTextOf}
+use Rattle.tessla_cli.specs.Tasks.{Alone, Task, alone_of, print, monitor, asked_of, requested}
 
 -- the specification may be read behind this much of the journal
 pub record MayReadSpec (before : List Did) : Type 0 where
@@ -42,30 +45,65 @@ pub data RunsSystem (trace : List ℕ) (s : System) (o : Options) : List Did →
 pub data SystemEnds (trace : List ℕ) (s : System) (o : Options) (by : Ending) : List Did → Type 0 where
   ends : (part : List Did) → Watched s o part → WatchEnds s o by part → SystemEnds trace s o by (Opened Trace trace ∷ part)
 
--- a source is compiled and its system is run, as far as it comes
-pub data RunsSource (source trace : List ℕ) (o : Options) (part : List Did) : Type 0 where
-  uncompiled : part ≡ [] → RunsSource source trace o part
-  compiled : (items : List tree.Item) (s : System) → SpellsSystem source items s → RunsSystem trace s o part → RunsSource source trace o part
+-- a text of which this holds is given to Out, as far as it comes
+pub record PrintsText (P : List ℕ → Type 0) (part : List Did) : Type 0 where
+  pub text : List ℕ
+  pub is : P text
+  pub gifts : Each (IsGift Out) part
+  pub some : Begins (given Out part) text
 
-pub data SourceEnds (source trace : List ℕ) (o : Options) (by : Ending) (part : List Did) : Type 0 where
-  spec_refused : {fault : SpecFault} → by ≡ ending.Spec fault → IsRefusedBy source fault → part ≡ [] → SourceEnds source trace o by part
-  compiled_ends : (items : List tree.Item) (s : System) → SpellsSystem source items s → SystemEnds trace s o by part → SourceEnds source trace o by part
+-- all of it
+pub record HasPrintedText (P : List ℕ → Type 0) (part : List Did) : Type 0 where
+  pub text : List ℕ
+  pub is : P text
+  pub gifts : Each (IsGift Out) part
+  pub whole : given Out part ≡ text
 
--- a run of a specification by its name
-pub data RunsSpec (name trace : List ℕ) (o : Options) : List Did → Type 0 where
-  unopened : RunsSpec name trace o []
-  no_spec : RunsSpec name trace o (NotOpened Spec name ∷ [])
-  reading : (reads : List Did) → ReadsSpec reads → RunsSpec name trace o (Opened Spec name ∷ reads)
-  whole : (reads rest : List Did) (source : List ℕ) → ReadsSpec reads → GivesSource source reads → RunsSource source trace o rest → RunsSpec name trace o (Opened Spec name ∷ (reads ++ rest))
+-- the text that a source has in a form
+abbrev pub Prints : List ℕ → Form → List Did → Type 0
+Prints source f = PrintsText (IsTextOf source f)
 
-pub data SpecEnds (name trace : List ℕ) (o : Options) (by : Ending) : List Did → Type 0 where
-  whole_ends : (reads rest : List Did) (source : List ℕ) → ReadsSpec reads → GivesSource source reads → SourceEnds source trace o by rest → SpecEnds name trace o by (Opened Spec name ∷ (reads ++ rest))
+abbrev pub HasPrinted : List ℕ → Form → List Did → Type 0
+HasPrinted source f = HasPrintedText (IsTextOf source f)
 
--- the run that the words ask for
+-- what is asked for without a specification of the outside is written, as far as it comes
+pub data RunsAlone (a : Alone) (part : List Did) : Type 0 where
+  unmade : part ≡ [] → RunsAlone a part
+  writes : PrintsText (IsAloneText a) part → RunsAlone a part
+
+-- all of it, or there is none and the program ends so
+pub data AloneIsDone (a : Alone) (by : Ending) (part : List Did) : Type 0 where
+  written : by ≡ ending.Done → HasPrintedText (IsAloneText a) part → AloneIsDone a by part
+  stopped : AloneStops a by → part ≡ [] → AloneIsDone a by part
+
+-- a source is compiled and something is done with it, as far as it comes
+pub data RunsSource (source : List ℕ) (task : Task) (part : List Did) : Type 0 where
+  uncompiled : part ≡ [] → RunsSource source task part
+  compiled : (trace : List ℕ) (o : Options) → task ≡ monitor trace o → (items : List tree.Item) (s : System) → Compiles source items s → RunsSystem trace s o part → RunsSource source task part
+  prints : (f : Form) → task ≡ print f → Prints source f part → RunsSource source task part
+
+pub data SourceEnds (source : List ℕ) (task : Task) (by : Ending) (part : List Did) : Type 0 where
+  spec_refused : {fault : SpecFault} → by ≡ ending.Spec fault → IsRefusedBy source fault → part ≡ [] → SourceEnds source task by part
+  compiled_ends : (trace : List ℕ) (o : Options) → task ≡ monitor trace o → (items : List tree.Item) (s : System) → Compiles source items s → SystemEnds trace s o by part → SourceEnds source task by part
+  printed : (f : Form) → task ≡ print f → by ≡ ending.Done → HasPrinted source f part → SourceEnds source task by part
+
+-- a specification is read by its name and something is done with it
+pub data RunsSpec (name : List ℕ) (task : Task) : List Did → Type 0 where
+  unopened : RunsSpec name task []
+  no_spec : RunsSpec name task (NotOpened Spec name ∷ [])
+  reading : (reads : List Did) → ReadsSpec reads → RunsSpec name task (Opened Spec name ∷ reads)
+  whole : (reads rest : List Did) (source : List ℕ) → ReadsSpec reads → GivesSource source reads → RunsSource source task rest → RunsSpec name task (Opened Spec name ∷ (reads ++ rest))
+
+pub data SpecEnds (name : List ℕ) (task : Task) (by : Ending) : List Did → Type 0 where
+  whole_ends : (reads rest : List Did) (source : List ℕ) → ReadsSpec reads → GivesSource source reads → SourceEnds source task by rest → SpecEnds name task by (Opened Spec name ∷ (reads ++ rest))
+
+-- what the words ask for
 pub data RunsWords (words : List (List ℕ)) (part : List Did) : Type 0 where
   unasked : part ≡ [] → RunsWords words part
-  asked : (run : Run) → command_of words ≡ Some run → RunsSpec run.spec run.trace (options_of run) part → RunsWords words part
+  asked : (name : List ℕ) (task : Task) → asked_of words ≡ Some (name, task) → RunsSpec name task part → RunsWords words part
+  samples : (a : Alone) → alone_of words ≡ Some a → RunsAlone a part → RunsWords words part
 
 pub data WordsEnd (words : List (List ℕ)) (by : Ending) (part : List Did) : Type 0 where
-  words_refused : by ≡ ending.Words → command_of words ≡ None → part ≡ [] → WordsEnd words by part
-  asked_ends : (run : Run) → command_of words ≡ Some run → SpecEnds run.spec run.trace (options_of run) by part → WordsEnd words by part
+  words_refused : by ≡ ending.Words → requested words ≡ None → part ≡ [] → WordsEnd words by part
+  asked_ends : (name : List ℕ) (task : Task) → asked_of words ≡ Some (name, task) → SpecEnds name task by part → WordsEnd words by part
+  sampled : (a : Alone) → alone_of words ≡ Some a → AloneIsDone a by part → WordsEnd words by part

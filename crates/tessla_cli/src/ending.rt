@@ -1,5 +1,7 @@
 // How a run ends.
 
+ghost use Rattle.std.specs.Prelude.{◌≡◌, ◌≢◌, IfOk};
+
 use lift_func::fault::FaultKind;
 use spec_reader::fault::SpecFault;
 use std::alloc::AllocError;
@@ -31,6 +33,17 @@ pub enum Ending {
         count: u64,
         time: Time,
     },
+}
+
+/// How a run ends whose specification is refused in this way. Want of memory refuses none.
+pub fn refused(fault: SpecFault) -> Result<Ending, NoMemory>
+    ensures ending { IfOk result (λ ending. ending ≡ Ending.Spec fault) }
+    ensures refused { IfOk result (λ _. fault ≢ SpecFault.Memory) }
+{
+    match fault {
+        SpecFault::Memory => Err(NoMemory),
+        fault => Ok(Ending::Spec(fault)),
+    }
 }
 
 /// What cut a run short.

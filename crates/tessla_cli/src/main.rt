@@ -1,34 +1,26 @@
-//! The monitor: from a specification and a trace to the output events up to the first fault, and that fault.
+//! The monitor: from a specification and a trace to the output events up to the first fault, and that fault. It also prints what is run.
 //!
 //! `top` has the one public call, `tessla`, with all that is promised of the program.
 #![tactic(auto)]
 
-mod compile;
+mod alone;
 mod ending;
-#[cfg(test)]
-mod further_tests;
-mod monitor;
-mod options;
+mod print;
 mod report;
 mod run;
 mod source;
+mod task;
 mod tell;
 #[cfg(test)]
 mod tests;
 mod top;
-#[cfg(test)]
-mod trace_tests;
-mod turn;
 mod watch;
-mod words;
-#[cfg(test)]
-mod words_tests;
 mod write;
 
 use crate::ending::Broken;
 use crate::tell::tell_broken;
 use crate::top::tessla;
-use crate::words::Words;
+use command_words::words::Words;
 use std::env;
 use std::io::ErrorKind;
 use std::process::ExitCode;

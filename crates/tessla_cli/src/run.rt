@@ -1,37 +1,39 @@
 // A run, from the words to its end.
 
-ghost use Rattle.std.specs.Prelude.{◌≡◌, ◌≢◌, ◌<◌, ◌≤◌, ◌^◌, true, false, length, IfOk, OnOk, IsErrOf};
-ghost use Rattle.flat_core.specs.Dependency.{IsRunOrder};
+ghost use Rattle.std.specs.Prelude.{◌≡◌, ◌<◌, ◌≤◌, ℕ, List, true, false, [], length, IfOk, OnOk, IsErrOf};
+ghost use Rattle.register_code.specs.Plan.{IsLeastPlanOrder};
+ghost use Rattle.spec_compiler.specs.Compiled.{CompilesSomething};
+ghost use Rattle.spec_compiler.specs.Ready.{IsReady};
+ghost use Rattle.trace_monitor.specs.Next.{most_taken};
 ghost use Rattle.tsl_world.specs.Standing.{at_first, is_open};
 ghost use Rattle.tsl_world.specs.Runs.{Grows};
 ghost use Rattle.tsl_world.specs.World.{Rose};
-ghost use Rattle.tessla_cli.specs.Parts.{most_taken};
-ghost use Rattle.tessla_cli.specs.Ready.{IsReady};
-ghost use Rattle.tessla_cli.specs.Shape.{RunsSystem, SystemEnds, RunsSource, SourceEnds, RunsSpec, SpecEnds, RunsWords, WordsEnd};
+ghost use Rattle.tessla_cli.specs.Shape.{AloneIsDone, HasPrinted, Prints, RunsAlone, RunsSystem, SystemEnds, RunsSource, SourceEnds, RunsSpec, SpecEnds, RunsWords, WordsEnd};
+ghost use Rattle.tessla_cli.specs.Tasks.{AreLimited, IsLimitedAlone, IsLimitedTask, alone_seen, task_seen};
 
-use crate::compile::compile;
-use crate::ending::{Broken, Ending};
-use crate::monitor::Monitor;
-use crate::options::Options;
+use crate::alone::{AloneOutcome, outcome_of};
+use crate::ending::{Broken, Ending, refused};
+use crate::print::text_of;
 use crate::source::read_source;
+use crate::task::{Alone, Form, Request, Task, asked_for};
 use crate::watch::watch;
-use crate::words::Words;
-use flat_core::flat::Flat;
-use flat_core::steps::Steps;
-use spec_reader::fault::SpecFault;
+use crate::write::write_all;
+use command_words::words::Words;
+use register_code::code::Code;
+use spec_compiler::compile::compile;
 use std::alloc::Global;
-use tsl_value::memory::NoMemory;
-use tsl_world::{Slot, World};
+use trace_monitor::monitor::TraceMonitor;
+use trace_monitor::options::Options;
+use tsl_world::{Channel, Slot, World};
 
 /// As many bytes as one read takes at most.
 const PIECE: usize = 65_536;
 
-/// Opens the trace of this name and monitors it under a system.
-fn run_system<W: World>(
+/// Opens the trace of this name and monitors it by the code of a system.
+fn run_code<W: World>(
     alloc: Global,
     world: &mut W,
-    flat: &Flat,
-    order: &Steps,
+    code: &Code,
     trace: &str,
     options: Options,
     buf: &mut [u8],
@@ -39,92 +41,113 @@ fn run_system<W: World>(
     requires room { 0 < length buf.old }
     requires short { length buf.old ≤ most_taken }
     requires stands { is_open (W.standing world.old) Slot.Trace ≡ false }
-    requires ordered { IsRunOrder flat.now order.now }
-    requires ready { IsReady flat.now }
-    requires some { 1 ≤ options.bytes }
-    requires few { options.bytes ≤ 2 ^ 40 }
-    requires until { options.until < 2 ^ 63 }
+    requires ready { IsReady code.now.system }
+    requires limited { AreLimited options }
     ensures ok { OnOk result (W.faults world.new ≡ W.faults world.old) }
     ensures outside { IsErrOf result Broken.Outside → Rose (W.faults world.old) (W.faults world.new) }
     ensures memory { IsErrOf result Broken.Memory → W.faults world.new ≡ W.faults world.old }
-    ensures calls { Grows W.told W.journal world.old world.new (RunsSystem trace.now flat.now options) }
-    ensures ending { IfOk result (λ ending. Grows W.told W.journal world.old world.new (SystemEnds trace.now flat.now options ending)) }
+    ensures calls { Grows W.told W.journal world.old world.new (RunsSystem trace.now code.now.system options) }
+    ensures ending { IfOk result (λ ending. Grows W.told W.journal world.old world.new (SystemEnds trace.now code.now.system options ending)) }
 {
-    let mut monitor = Monitor::new(alloc, flat, options)?;
+    let mut monitor = TraceMonitor::new(alloc, code, options)?;
     world.open(Slot::Trace, trace)?;
-    Ok(watch(alloc, world, flat, order, options, &mut monitor, buf)?)
+    Ok(watch(alloc, world, &mut monitor, options.bytes, buf)?)
 }
 
-/// How a run ends whose specification is refused in this way. Want of memory refuses none.
-fn refused(fault: SpecFault) -> Result<Ending, NoMemory>
-    ensures ending { IfOk result (λ ending. ending ≡ Ending.Spec fault) }
-    ensures refused { IfOk result (λ _. fault ≢ SpecFault.Memory) }
+/// Prints the text that the code of a source has in a form.
+fn print_code<W: World>(
+    alloc: Global,
+    world: &mut W,
+    form: Form,
+    code: &Code,
+) -> Result<Ending, Broken>
+    requires copies { code.now.in_place ≡ [] }
+    requires order { IsLeastPlanOrder code.now.system code.now.order }
+    ensures ok { OnOk result (W.faults world.new ≡ W.faults world.old) }
+    ensures outside { IsErrOf result Broken.Outside → Rose (W.faults world.old) (W.faults world.new) }
+    ensures memory { IsErrOf result Broken.Memory → W.faults world.new ≡ W.faults world.old }
+    ensures calls { (source : List ℕ) → CompilesSomething source code.now.system → Grows W.told W.journal world.old world.new (Prints source form) }
+    ensures ending { IfOk result (λ ending. (source : List ℕ) → CompilesSomething source code.now.system
+        → (ending ≡ Ending.Done) × Grows W.told W.journal world.old world.new (HasPrinted source form)) }
 {
-    match fault {
-        SpecFault::Memory => Err(NoMemory),
-        fault => Ok(Ending::Spec(fault)),
+    let text = text_of(alloc, form, code)?;
+    write_all(world, Channel::Out, text.as_slice())?;
+    Ok(Ending::Done)
+}
+
+/// Does with the code of a source what is asked for.
+fn perform<W: World>(
+    alloc: Global,
+    world: &mut W,
+    code: &Code,
+    task: Task<'_>,
+    buf: &mut [u8],
+) -> Result<Ending, Broken>
+    requires room { 0 < length buf.old }
+    requires short { length buf.old ≤ most_taken }
+    requires stands { is_open (W.standing world.old) Slot.Trace ≡ false }
+    requires limited { IsLimitedTask (task_seen task) }
+    requires ready { IsReady code.now.system }
+    requires copies { code.now.in_place ≡ [] }
+    requires order { IsLeastPlanOrder code.now.system code.now.order }
+    ensures ok { OnOk result (W.faults world.new ≡ W.faults world.old) }
+    ensures outside { IsErrOf result Broken.Outside → Rose (W.faults world.old) (W.faults world.new) }
+    ensures memory { IsErrOf result Broken.Memory → W.faults world.new ≡ W.faults world.old }
+    ensures calls { (source : List ℕ) → CompilesSomething source code.now.system → Grows W.told W.journal world.old world.new (RunsSource source (task_seen task.entry)) }
+    ensures ending { IfOk result (λ ending. (source : List ℕ) → CompilesSomething source code.now.system
+        → Grows W.told W.journal world.old world.new (SourceEnds source (task_seen task.entry) ending)) }
+{
+    match task {
+        Task::Print(form) => Ok(print_code(alloc, world, form, code)?),
+        Task::Monitor { trace, options } => Ok(run_code(alloc, world, code, trace, options, buf)?),
     }
 }
 
-/// Compiles a source and runs its system.
+/// Compiles a source and does with it what is asked for.
 fn run_source<W: World>(
     alloc: Global,
     world: &mut W,
     source: &[u8],
-    trace: &str,
-    options: Options,
+    task: Task<'_>,
     buf: &mut [u8],
 ) -> Result<Ending, Broken>
     requires room { 0 < length buf.old }
     requires short { length buf.old ≤ most_taken }
     requires stands { is_open (W.standing world.old) Slot.Trace ≡ false }
-    requires some { 1 ≤ options.bytes }
-    requires few { options.bytes ≤ 2 ^ 40 }
-    requires until { options.until < 2 ^ 63 }
+    requires limited { IsLimitedTask (task_seen task) }
     ensures ok { OnOk result (W.faults world.new ≡ W.faults world.old) }
     ensures outside { IsErrOf result Broken.Outside → Rose (W.faults world.old) (W.faults world.new) }
     ensures memory { IsErrOf result Broken.Memory → W.faults world.new ≡ W.faults world.old }
-    ensures calls { Grows W.told W.journal world.old world.new (RunsSource source.now trace.now options) }
-    ensures ending { IfOk result (λ ending. Grows W.told W.journal world.old world.new (SourceEnds source.now trace.now options ending)) }
+    ensures calls { Grows W.told W.journal world.old world.new (RunsSource source.now (task_seen task.entry)) }
+    ensures ending { IfOk result (λ ending. Grows W.told W.journal world.old world.new (SourceEnds source.now (task_seen task.entry) ending)) }
 {
     match compile(alloc, source) {
-        Ok(compiled) => Ok(run_system(
-            alloc,
-            world,
-            &compiled.flat,
-            &compiled.order,
-            trace,
-            options,
-            buf,
-        )?),
+        Ok(compiled) => Ok(perform(alloc, world, &compiled.code, task, buf)?),
         Err(fault) => Ok(refused(fault)?),
     }
 }
 
-/// Opens and reads a specification and runs it, by this buffer.
+/// Opens and reads a specification and does with it what is asked for, by this buffer.
 fn run_spec<W: World>(
     alloc: Global,
     world: &mut W,
     name: &str,
-    trace: &str,
-    options: Options,
+    task: Task<'_>,
     buf: &mut [u8],
 ) -> Result<Ending, Broken>
     requires room { 0 < length buf.old }
     requires short { length buf.old ≤ most_taken }
     requires stands { W.standing world.old ≡ at_first }
-    requires some { 1 ≤ options.bytes }
-    requires few { options.bytes ≤ 2 ^ 40 }
-    requires until { options.until < 2 ^ 63 }
+    requires limited { IsLimitedTask (task_seen task) }
     ensures ok { OnOk result (W.faults world.new ≡ W.faults world.old) }
     ensures outside { IsErrOf result Broken.Outside → Rose (W.faults world.old) (W.faults world.new) }
     ensures memory { IsErrOf result Broken.Memory → W.faults world.new ≡ W.faults world.old }
-    ensures calls { Grows W.told W.journal world.old world.new (RunsSpec name.now trace.now options) }
-    ensures ending { IfOk result (λ ending. Grows W.told W.journal world.old world.new (SpecEnds name.now trace.now options ending)) }
+    ensures calls { Grows W.told W.journal world.old world.new (RunsSpec name.now (task_seen task.entry)) }
+    ensures ending { IfOk result (λ ending. Grows W.told W.journal world.old world.new (SpecEnds name.now (task_seen task.entry) ending)) }
 {
     world.open(Slot::Spec, name)?;
     let source = read_source(alloc, world, buf)?;
-    Ok(run_source(alloc, world, source.as_slice(), trace, options, buf)?)
+    Ok(run_source(alloc, world, source.as_slice(), task, buf)?)
 }
 
 /// The same, with a buffer of its own.
@@ -132,21 +155,36 @@ fn run_in_pieces<W: World>(
     alloc: Global,
     world: &mut W,
     name: &str,
-    trace: &str,
-    options: Options,
+    task: Task<'_>,
 ) -> Result<Ending, Broken>
     requires stands { W.standing world.old ≡ at_first }
-    requires some { 1 ≤ options.bytes }
-    requires few { options.bytes ≤ 2 ^ 40 }
-    requires until { options.until < 2 ^ 63 }
+    requires limited { IsLimitedTask (task_seen task) }
     ensures ok { OnOk result (W.faults world.new ≡ W.faults world.old) }
     ensures outside { IsErrOf result Broken.Outside → Rose (W.faults world.old) (W.faults world.new) }
     ensures memory { IsErrOf result Broken.Memory → W.faults world.new ≡ W.faults world.old }
-    ensures calls { Grows W.told W.journal world.old world.new (RunsSpec name.now trace.now options) }
-    ensures ending { IfOk result (λ ending. Grows W.told W.journal world.old world.new (SpecEnds name.now trace.now options ending)) }
+    ensures calls { Grows W.told W.journal world.old world.new (RunsSpec name.now (task_seen task.entry)) }
+    ensures ending { IfOk result (λ ending. Grows W.told W.journal world.old world.new (SpecEnds name.now (task_seen task.entry) ending)) }
 {
     let mut buf = vec![in alloc; 0u8; PIECE]?;
-    Ok(run_spec(alloc, world, name, trace, options, &mut buf)?)
+    Ok(run_spec(alloc, world, name, task, &mut buf)?)
+}
+
+/// Writes what is asked for without a specification of the outside, or tells how the program ends where there is none of it.
+fn write_alone<W: World>(alloc: Global, world: &mut W, alone: Alone) -> Result<Ending, Broken>
+    requires { IsLimitedAlone (alone_seen alone) }
+    ensures ok { OnOk result (W.faults world.new ≡ W.faults world.old) }
+    ensures outside { IsErrOf result Broken.Outside → Rose (W.faults world.old) (W.faults world.new) }
+    ensures memory { IsErrOf result Broken.Memory → W.faults world.new ≡ W.faults world.old }
+    ensures calls { Grows W.told W.journal world.old world.new (RunsAlone (alone_seen alone)) }
+    ensures ending { IfOk result (λ ending. Grows W.told W.journal world.old world.new (AloneIsDone (alone_seen alone) ending)) }
+{
+    match outcome_of(alloc, alone)? {
+        AloneOutcome::Text(text) => {
+            write_all(world, Channel::Out, text.as_slice())?;
+            Ok(Ending::Done)
+        }
+        AloneOutcome::Stops(ending) => Ok(ending),
+    }
 }
 
 /// Does what the words ask for.
@@ -158,16 +196,9 @@ pub fn run<W: World>(alloc: Global, words: &Words, world: &mut W) -> Result<Endi
     ensures calls { Grows W.told W.journal world.old world.new (RunsWords words.now) }
     ensures ending { IfOk result (λ ending. Grows W.told W.journal world.old world.new (WordsEnd words.now ending)) }
 {
-    match words.command(alloc)? {
-        Some(asked) => {
-            let options = Options {
-                until: asked.until,
-                instants: asked.instants,
-                bytes: asked.bytes,
-                strict: asked.strict,
-            };
-            Ok(run_in_pieces(alloc, world, asked.spec, asked.trace, options)?)
-        }
+    match asked_for(alloc, words)? {
+        Some(Request::Over { spec, task }) => Ok(run_in_pieces(alloc, world, spec, task)?),
+        Some(Request::Alone(alone)) => Ok(write_alone(alloc, world, alone)?),
         None => Ok(Ending::Words),
     }
 }

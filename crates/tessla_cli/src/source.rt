@@ -1,10 +1,10 @@
 // Reading of the specification.
 
 ghost use Rattle.std.specs.Prelude.{◌≡◌, ◌<◌, ◌≤◌, true, length, IfOk, OnOk, IsErrOf};
+ghost use Rattle.trace_monitor.specs.Next.{most_taken};
 ghost use Rattle.tsl_world.specs.Standing.{is_open};
 ghost use Rattle.tsl_world.specs.World.{Rose};
 ghost use Rattle.tsl_world.specs.Runs.{Runs};
-ghost use Rattle.tessla_cli.specs.Parts.{most_taken};
 ghost use Rattle.tessla_cli.specs.Shape.{ReadsSpec, GivesSource};
 
 use crate::ending::Broken;

@@ -3,7 +3,7 @@
 ghost use Rattle.std.specs.Prelude.{◌≡◌, ◌≤◌, ◌<◌};
 
 use crate::top::tessla;
-use crate::words::Words;
+use command_words::words::Words;
 use std::alloc::Global;
 use std::test::Fail;
 use tsl_value::bytes::Bytes;
@@ -13,21 +13,21 @@ use tsl_world::{Calls, Files, MemoryWorld, NamedFile};
 
 /// What a run left.
 #[derive(Drop)]
-pub(crate) struct Left {
-    pub(crate) status: u8,
-    pub(crate) world: MemoryWorld,
+struct Left {
+    status: u8,
+    world: MemoryWorld,
 }
 
 /// The status, the output and the message of a run.
 #[derive(Clone, Copy)]
-pub(crate) struct End<'a> {
-    pub(crate) status: u8,
-    pub(crate) out: &'a str,
-    pub(crate) err: &'a str,
+struct End<'a> {
+    status: u8,
+    out: &'a str,
+    err: &'a str,
 }
 
 /// The run ended so, and its world was told of each call.
-pub(crate) fn has_ended(left: &Left, end: End<'_>) -> bool {
+fn has_ended(left: &Left, end: End<'_>) -> bool {
     let is_so = left.status == end.status
         && left.world.out() == end.out.as_bytes()
         && left.world.err() == end.err.as_bytes();
@@ -35,7 +35,7 @@ pub(crate) fn has_ended(left: &Left, end: End<'_>) -> bool {
 }
 
 /// With status 0 and this output.
-pub(crate) fn prints(out: &str) -> End<'_> {
+fn prints(out: &str) -> End<'_> {
     End {
         status: 0,
         out,
@@ -45,8 +45,17 @@ pub(crate) fn prints(out: &str) -> End<'_> {
 
 const PREVIOUS: &str = "in i: Events[Int]\ndef p := last(i, i)\nout p\n";
 
-const TWO_INPUTS: &str =
-    "in i: Events[Int]\nin j: Events[Int]\ndef m := merge(i, j)\ndef t := time(m)\nout t\nout m\n";
+/// A delay that sets itself again at each time.
+const TICKS: &str =
+    "def u := unit\ndef p: Events[Unit] := delay(c, u)\ndef m := merge(u, p)\ndef c := const(1, m)\nout p\n";
+
+const QUOTIENT: &str = "in i: Events[Int]\ndef q := 1 / i\nout q\n";
+
+/// Whether a number came before, by a set of all that came.
+const SEEN: &str =
+    "in i: Events[Int]\ndef m := merge(y, Set.empty[Int])\ndef yl := last(m, i)\ndef y: Events[Set[Int]] := Set.add(yl, i)\ndef s := Set.contains(yl, i)\nout s\n";
+
+const RUN: &[&str] = &["run", "s.tsl"];
 
 fn words(alloc: Global, list: &[&str]) -> Result<Words, NoMemory> {
     let mut words = Words::new(alloc);
@@ -64,7 +73,7 @@ fn file(alloc: Global, name: &str, bytes: &[u8]) -> Result<NamedFile, NoMemory> 
 }
 
 /// A run with these words over a specification `s.tsl` and a trace of this name.
-pub(crate) fn run_files(
+fn run_files(
     alloc: Global,
     list: &[&str],
     spec: &str,
@@ -80,7 +89,7 @@ pub(crate) fn run_files(
 }
 
 /// A run whose trace is the standard input, in pieces of this size. The calls with the numbers in `fails` fail.
-pub(crate) fn run(
+fn run(
     alloc: Global,
     list: &[&str],
     spec: &str,
@@ -102,122 +111,140 @@ pub(crate) fn run(
     Ok(Left { status, world })
 }
 
-#[test]
-fn the_previous_value(rt: HostRuntime) -> Result<(), Fail> {
-    let left = run(
-        rt.alloc(),
-        &["run", "s.tsl"],
-        PREVIOUS,
-        "1: i = 4\n3: i = 9\n",
-        64,
-        &[],
-    )?;
-    assert_eq!(rt;
-        (left.status, left.world.out(), left.world.err()),
-        (0, b"3: p = 4\n".as_slice(), b"".as_slice())
-    );
-    assert!(rt; left.world.is_told());
-    Ok(())
+/// The run of a specification on a trace on the standard input ends so, and its world was told of each call.
+fn ends(
+    alloc: Global,
+    words: &[&str],
+    spec: &str,
+    trace: &str,
+    end: End<'_>,
+) -> Result<bool, NoMemory> {
+    let left = run(alloc, words, spec, trace, 64, &[])?;
+    Ok(has_ended(&left, end))
+}
+
+/// With this status and this message, and nothing is printed.
+fn refusal(status: u8, err: &str) -> End<'_> {
+    End {
+        status,
+        out: "",
+        err,
+    }
 }
 
 #[test]
-fn the_same_in_pieces_of_one_byte(rt: HostRuntime) -> Result<(), Fail> {
-    let left = run(
-        rt.alloc(),
-        &["run", "s.tsl"],
-        PREVIOUS,
-        "1: i = 4\n3: i = 9\n",
-        1,
-        &[],
-    )?;
-    assert_eq!(rt;
-        (left.status, left.world.out(), left.world.err()),
-        (0, b"3: p = 4\n".as_slice(), b"".as_slice())
-    );
-    assert!(rt; left.world.is_told());
-    Ok(())
-}
-
-#[test]
-fn two_inputs_at_one_time(rt: HostRuntime) -> Result<(), Fail> {
-    let left = run(
-        rt.alloc(),
-        &["run", "s.tsl"],
-        TWO_INPUTS,
-        "2: j = 7\n2: i = 5\n4: j = 8\n",
-        64,
-        &[],
-    )?;
-    assert_eq!(rt;
-        (left.status, left.world.out()),
-        (0, b"2: t = 2\n2: m = 5\n4: t = 4\n4: m = 8\n".as_slice())
-    );
-    assert!(rt; left.world.is_told());
-    Ok(())
-}
-
-#[test]
-fn a_unit_without_a_trace(rt: HostRuntime) -> Result<(), Fail> {
-    let left = run(
-        rt.alloc(),
-        &["run", "s.tsl"],
-        "def u := unit\nout u\n",
-        "",
-        64,
-        &[],
-    )?;
-    assert_eq!(rt;
-        (left.status, left.world.out()),
-        (0, b"0: u = ()\n".as_slice())
-    );
-    assert!(rt; left.world.is_told());
-    Ok(())
-}
-
-#[test]
-fn an_operand_of_the_wrong_type(rt: HostRuntime) -> Result<(), Fail> {
-    let left = run(
-        rt.alloc(),
-        &["run", "s.tsl"],
-        "in i: Events[Bool]\ndef p := -i\nout p\n",
-        "1: i = true\n",
-        64,
-        &[],
-    )?;
-    let err = b"spec 2:10: WrongType: have Events[Bool], want Events[Int]\n".as_slice();
-    assert_eq!(rt;
-        (left.status, left.world.out(), left.world.err()),
-        (3, b"".as_slice(), err)
-    );
-    assert!(rt; left.world.is_told());
+fn the_previous_value_in_pieces_of_one_byte(rt: HostRuntime) -> Result<(), Fail> {
+    let trace = "1: i = 4\n3: i = 9\n";
+    let left = run(rt.alloc(), RUN, PREVIOUS, trace, 1, &[])?;
+    assert!(rt; has_ended(&left, prints("3: p = 4\n")));
     Ok(())
 }
 
 #[test]
 fn the_first_call_fails(rt: HostRuntime) -> Result<(), Fail> {
-    let left = run(
-        rt.alloc(),
-        &["run", "s.tsl"],
-        PREVIOUS,
-        "1: i = 4\n3: i = 9\n",
-        64,
-        &[0],
-    )?;
-    assert_eq!(rt;
-        (left.status, left.world.out(), left.world.err()),
-        (5, b"".as_slice(), b"outside: a call failed\n".as_slice())
-    );
-    assert!(rt; left.world.is_told());
+    let left = run(rt.alloc(), RUN, PREVIOUS, "1: i = 4\n", 64, &[0])?;
+    let end = refusal(5, "outside: a call failed\n");
+    assert!(rt; has_ended(&left, end));
     Ok(())
 }
 
 #[test]
 fn words_that_are_not_accepted(rt: HostRuntime) -> Result<(), Fail> {
-    let left = run(rt.alloc(), &["run"], PREVIOUS, "1: i = 4\n", 64, &[])?;
-    assert_eq!(rt;
-        (left.status, left.world.out(), left.world.err()),
-        (2, b"".as_slice(), b"words not accepted\n".as_slice())
+    let alloc = rt.alloc();
+    let end = refusal(2, "words not accepted\n");
+    assert!(rt; ends(alloc, &["run"], PREVIOUS, "1: i = 4\n", end)?);
+    assert!(rt; ends(alloc, &["flat", "s.tsl", "t"], PREVIOUS, "", end)?);
+    Ok(())
+}
+
+#[test]
+fn specifications_are_refused(rt: HostRuntime) -> Result<(), Fail> {
+    let alloc = rt.alloc();
+    let end = refusal(3, "spec 1:8: Unexpected\n");
+    assert!(rt; ends(alloc, RUN, "out x +", "1: i = 4\n", end)?);
+    let waits =
+        "in i: Events[Int]\ndef a: Events[Int] := merge(b, i)\ndef b: Events[Int] := merge(a, i)\nout a\n";
+    let end = refusal(3, "spec 2:23: cycle a -> b -> a\n");
+    assert!(rt; ends(alloc, &["check", "s.tsl"], waits, "", end)?);
+    Ok(())
+}
+
+#[test]
+fn a_limit_of_instants(rt: HostRuntime) -> Result<(), Fail> {
+    let words = &["run", "s.tsl", "--instants", "3"];
+    let end = End {
+        status: 7,
+        out: "1: p = ()\n2: p = ()\n",
+        err: "limit: 3 instants before time 3\n",
+    };
+    assert!(rt; ends(rt.alloc(), words, TICKS, "1000:\n", end)?);
+    Ok(())
+}
+
+#[test]
+fn nothing_is_printed_from_the_fault_on(rt: HostRuntime) -> Result<(), Fail> {
+    let end = End {
+        status: 1,
+        out: "1: q = 1\n",
+        err: "3: fault DivideByZero at 2:10\n",
+    };
+    let trace = "1: i = 1\n3: i = 0\n4: i = 1\n";
+    assert!(rt; ends(rt.alloc(), RUN, QUOTIENT, trace, end)?);
+    Ok(())
+}
+
+#[test]
+fn a_named_trace_is_closed_up_to_a_time(rt: HostRuntime) -> Result<(), Fail> {
+    let spec = "def p: Events[Unit] := delay(const(10, merge(unit, p)), unit)\nout p\n";
+    let words = &["run", "s.tsl", "t", "--until=25"];
+    let left = run_files(rt.alloc(), words, spec, "t", b"")?;
+    assert!(rt; has_ended(&left, prints("10: p = ()\n20: p = ()\n")));
+    Ok(())
+}
+
+#[test]
+fn other_names_are_refused_where_that_is_asked(rt: HostRuntime) -> Result<(), Fail> {
+    let alloc = rt.alloc();
+    let trace = "# c\n\n1: i = 5 \t\r\n2: other = ?\n3: i = 5";
+    let end = prints("1: s = false\n3: s = true\n");
+    assert!(rt; ends(alloc, RUN, SEEN, trace, end)?);
+    let words = &["run", "s.tsl", "--strict"];
+    let end = refusal(4, "trace 4: unknown stream\n");
+    assert!(rt; ends(alloc, words, SEEN, trace, end)?);
+    Ok(())
+}
+
+#[test]
+fn refused_traces_are_told(rt: HostRuntime) -> Result<(), Fail> {
+    let alloc = rt.alloc();
+    let words = &["run", "s.tsl", "--bytes", "20"];
+    let back = refusal(4, "trace 2: time 4 after 5\n");
+    assert!(rt; ends(alloc, words, SEEN, "5: i = 1\n4: i = 1\n", back)?);
+    let wrong = refusal(4, "trace 1: wrong value for i\n");
+    assert!(rt; ends(alloc, words, SEEN, "1: i = x\n", wrong)?);
+    let long = refusal(4, "trace 1: trace too long\n");
+    assert!(rt; ends(alloc, words, SEEN, "# no more than a comment\n", long)?);
+    Ok(())
+}
+
+#[test]
+fn what_is_run_is_printed(rt: HostRuntime) -> Result<(), Fail> {
+    let alloc = rt.alloc();
+    assert!(rt; ends(alloc, &["check", "s.tsl"], SEEN, "", prints("ok 6 1\n"))?);
+    let flat = prints(
+        "%0 i := Input Int\n%1 := Empty Set[Int]\n%2 m := Merge %8 %1\n%3 yl := Last %2 %0\n%8 y := SetAdd %3 %0\n%13 s := Lift contains($0, $1) %3 %0\nout s %13\n",
     );
-    assert!(rt; left.world.is_told());
+    assert!(rt; ends(alloc, &["flat", "s.tsl"], SEEN, "", flat)?);
+    let code = prints(
+        "%0 i := Input Int\n%1 := Empty Set[Int]\n%3 yl := Last %2 %0\n%8 y := SetAdd %3 %0\n%2 m := Merge %8 %1\n%13 s := Lift contains($0, $1) %3 %0\nprint s %13\nkeep %2\n",
+    );
+    assert!(rt; ends(alloc, &["code", "s.tsl"], SEEN, "", code)?);
+    Ok(())
+}
+
+#[test]
+fn the_sample_trace_is_benched(rt: HostRuntime) -> Result<(), Fail> {
+    let tally = prints("events 3\ninstants 4\nbytes 39\ncopied 3\n");
+    assert!(rt; ends(rt.alloc(), &["bench", "seen", "3"], "", "", tally)?);
     Ok(())
 }

@@ -10,12 +10,11 @@ ghost use Rattle.tessla_cli.specs.Conduct.{OpensAsAsked, MakesNothing, ReadsSpec
 ghost use Rattle.tessla_cli.specs.Headline.{IsDueAtReads};
 ghost use Rattle.tessla_cli.specs.Messages.{broken_line};
 ghost use Rattle.tessla_cli.specs.Outcome.{Concludes, Ends, Faulted, Limited, IsExact, LineRefused, Refused, Tells, TellsSome};
-ghost use Rattle.tessla_cli.specs.Words.{command_of};
 
 use crate::ending::{Broken, Ending};
 use crate::run::run;
 use crate::tell::{tell_broken, tell_ending};
-use crate::words::Words;
+use command_words::words::Words;
 use std::alloc::Global;
 use tsl_world::{Slot, World};
 
@@ -33,18 +32,25 @@ fn conclude<W: World>(alloc: Global, words: &Words, world: &mut W) -> u8
     }
 }
 
-/// The program, behind its words: `run SPEC TRACE` compiles the specification of the one name, monitors the trace of the other under
-/// it, and writes the output events up to the first fault. `-` names the standard input, and a TRACE that is left out is `-`.
+/// The program, behind its words. Each command with a SPEC compiles that specification: its flat system is simplified and becomes register
+/// code.
 ///
-/// `--until T` closes the times up to T at the end of the trace, `--instants N` is the limit of instants, from 1 to 10^12, `--bytes B`
-/// that of the bytes of the trace, from 1 to 2^40, and with `--strict` a line is refused whose name is no input's. Each stands anywhere
-/// behind `run`, at most once, as `--name V` or `--name=V`.
+/// - `run SPEC TRACE` monitors the trace under it, and writes the output events up to the first fault. `-` names the standard input,
+///   and a TRACE that is left out is `-`. `--until T` closes the times up to T at the end of the trace, `--instants N` is the limit of
+///   instants, from 1 to 10^12, `--bytes B` that of the bytes of the trace, from 1 to 2^40, and with `--strict` a line is refused whose
+///   name is no input's. Each stands anywhere behind `run`, at most once, as `--name V` or `--name=V`.
+/// - `check SPEC` writes `ok E U`, how many equations and how many updates run.
+/// - `flat SPEC` writes the running equations and the outputs.
+/// - `code SPEC` writes the register code.
+/// - `gen KIND N` writes the sample trace with N lines, from 1 to 1,000,000. KIND is `seen` or `copy`.
+/// - `bench KIND N` compiles the specification of that kind and runs it over that trace. It writes the lines `events N`, `instants X`,
+///   `bytes Y` and `copied Z`: how many instants ran, how many bytes of text are due, and how many elements the updates copied together.
 ///
 /// The answer is the status: 0 where all was done, 1 where a fault is closed, 2 where the words are not accepted, 3 where the
 /// specification is refused, 4 where a line of the trace is, 5 where a call of the outside failed, 6 where memory was wanting, and
-/// 7 where the limit of instants was passed. Words are not accepted, and nothing is opened, where the command is another, SPEC is left
-/// out, a third name stands, an option is unknown, stands twice or has no value, or a number is none or past its limits. Each
-/// status but 0 is told by one line on the standard error.
+/// 7 where the limit of instants was passed. Words are not accepted, and nothing is opened, where the command is another, SPEC, KIND
+/// or N is left out, KIND is another, a further name stands, an option is unknown, stands twice or has no value, or a number is none
+/// or past its limits. Each status but 0 is told by one line on the standard error.
 ///
 /// The clauses speak of the part of the journal that this call adds, where the world is told at its exit.
 pub fn tessla<W: World>(alloc: Global, words: &Words, world: &mut W) -> u8
@@ -63,7 +69,7 @@ pub fn tessla<W: World>(alloc: Global, words: &Words, world: &mut W) -> u8
     ensures due { Grows W.told W.journal world.old world.new (IsDueAtReads words.now) }
     ensures goes_on { Grows W.told W.journal world.old world.new (GoesOnAtReads words.now) }
 
-    // Whatever the status, what was given to Out begins the text that is due of all that was taken.
+    // Whatever the status, what was given to Out begins the text that is due of all that was taken, or that the words ask to print.
     ensures partly { Grows W.told W.journal world.old world.new (IsPartlyDue words.now) }
 
     // The cause of each status, and what it leaves on Out and Err.

@@ -1,56 +1,65 @@
 // The loop over the trace.
 
-ghost use Rattle.std.specs.Prelude.{◌≡◌, ◌<◌, ◌≤◌, ◌^◌, ◌++◌, ℕ, List, [], true, false, length, IfOk, OnOk, OnErr, IsErrOf};
-ghost use Rattle.flat_core.specs.Dependency.{IsRunOrder};
-ghost use Rattle.flat_core.specs.System.{System};
+ghost use Rattle.std.specs.Prelude.{◌≡◌, ◌<◌, ◌≤◌, ◌^◌, [], true, length, IfOk, OnOk, IsErrOf};
+ghost use Rattle.spec_compiler.specs.Ready.{IsReady};
+ghost use Rattle.trace_monitor.specs.Kept.{Kept};
+ghost use Rattle.trace_monitor.specs.Next.{most_taken};
 ghost use Rattle.tsl_world.specs.Standing.{is_open};
 ghost use Rattle.tsl_world.specs.World.{Rose};
 ghost use Rattle.tsl_world.specs.Runs.{Runs};
-ghost use Rattle.tessla_cli.specs.Due.{IsDue};
-ghost use Rattle.tessla_cli.specs.Monitor.{Kept};
-ghost use Rattle.tessla_cli.specs.Parts.{IsNext, Watched, WatchEnds, most_taken, is_nothing};
-ghost use Rattle.tessla_cli.specs.Ready.{IsReady};
+ghost use Rattle.tessla_cli.specs.Parts.{Watched, WatchEnds, ending_of};
 
 use crate::ending::{Broken, Ending};
-use crate::monitor::Monitor;
-use crate::options::Options;
-use crate::turn::Turn;
 use crate::write::write_all;
-use flat_core::flat::Flat;
-use flat_core::steps::Steps;
 use std::alloc::Global;
+use trace_monitor::ending::RunEnding;
+use trace_monitor::monitor::TraceMonitor;
+use tsl_value::bytes::Bytes;
 use tsl_world::{Channel, Slot, World};
 
-/// Reads the trace until the run ends, and writes what is due before each further read.
+/// How the program ends where a run over a trace ends so.
+pub fn ending_of(ending: RunEnding) -> Ending
+    ensures { result ≡ ending_of ending }
+{
+    match ending {
+        RunEnding::Done => Ending::Done,
+        RunEnding::Trace(fault) => Ending::Trace(fault),
+        RunEnding::Fault { time, kind, place } => Ending::Fault { time, kind, place },
+        RunEnding::Limit { count, time } => Ending::Limit { count, time },
+    }
+}
+
+/// Reads the trace until the run ends, and writes what is due before each further read. `limit` is how many bytes of the trace the
+/// monitor takes at most.
 pub fn watch<W: World>(
     alloc: Global,
     world: &mut W,
-    flat: &Flat,
-    order: &Steps,
-    options: Options,
-    monitor: &mut Monitor,
+    monitor: &mut TraceMonitor<'_>,
+    limit: u64,
     buf: &mut [u8],
 ) -> Result<Ending, Broken>
     requires room { 0 < length buf.old }
     requires short { length buf.old ≤ most_taken }
     requires stands { is_open (W.standing world.old) Slot.Trace ≡ true }
-    requires ordered { IsRunOrder flat.now order.now }
-    requires ready { IsReady flat.now }
-    requires until { options.until < 2 ^ 63 }
-    requires kept { Kept flat.now options monitor.old [] }
+    requires ready { IsReady monitor.old.system }
+    requires kept { Kept monitor.old [] }
+    requires limit { limit ≡ monitor.old.options.bytes }
+    requires few { limit ≤ 2 ^ 40 }
     ensures ok { OnOk result (W.faults world.new ≡ W.faults world.old) }
     ensures outside { IsErrOf result Broken.Outside → Rose (W.faults world.old) (W.faults world.new) }
     ensures memory { IsErrOf result Broken.Memory → W.faults world.new ≡ W.faults world.old }
-    ensures calls { Runs W.told W.journal W.standing world.old world.new (Watched flat.now options) }
-    ensures ending { IfOk result (λ ending. Runs W.told W.journal W.standing world.old world.new (WatchEnds flat.now options ending)) }
+    ensures calls { Runs W.told W.journal W.standing world.old world.new (Watched monitor.old.system monitor.old.options) }
+    ensures ending { IfOk result (λ ending. Runs W.told W.journal W.standing world.old world.new (WatchEnds monitor.old.system monitor.old.options ending)) }
 {
-    for _ in 0..u64::MAX {
+    let mut text = Bytes::new(alloc);
+    // Each round but the last one takes a byte at least, and no run goes on behind more than the limit.
+    for _ in 0..limit + 1 {
         let count = world.read(Slot::Trace, buf)?;
-        let Turn { text, ending } = monitor.advance(alloc, flat, order, options, &buf[..count])?;
+        let next = monitor.advance(&buf[..count], &mut text)?;
         write_all(world, Channel::Out, text.as_slice())?;
-        if let Some(ending) = ending {
-            return Ok(ending);
+        if let Some(ending) = next {
+            return Ok(ending_of(ending));
         }
     }
-    Err(Broken::Memory)
+    unreachable!()
 }

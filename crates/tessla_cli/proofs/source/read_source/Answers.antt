@@ -3,7 +3,7 @@ use Rattle.tsl_world.specs.Runs.{Runs}
 use Rattle.tsl_world.proofs.Parts.{read_within}
 use Rattle.tsl_world.proofs.Runs.{none}
 use Rattle.tessla_cli.specs.Conduct.{source_limit}
-use Rattle.tessla_cli.specs.Parts.{most_taken, is_nothing}
+use Rattle.trace_monitor.specs.Next.{most_taken, is_nothing}
 use Rattle.tessla_cli.specs.Shape.{ReadsSpec, GivesSource}
 use Rattle.tessla_cli.proofs.Reading.{HasRead, has_read_none, reads_more, has_read_more, has_read_all, spec_read_on, none_taken, some_taken}
 use Rattle.tessla_cli.proofs.source.read_source.Goals as goal

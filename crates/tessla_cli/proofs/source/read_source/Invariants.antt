@@ -1,7 +1,7 @@
 use Rattle.std.proofs.Common.{◌≡◌, ◌<◌, ◌≤◌, ◌-◌, ◌+◌, length}
 use Rattle.tsl_world.specs.Runs.{Runs}
 use Rattle.tessla_cli.specs.Conduct.{source_limit}
-use Rattle.tessla_cli.specs.Parts.{most_taken}
+use Rattle.trace_monitor.specs.Next.{most_taken}
 use Rattle.tessla_cli.proofs.Reading.{HasRead}
 use Rattle.tessla_cli.proofs.source.read_source.Given as goal
 

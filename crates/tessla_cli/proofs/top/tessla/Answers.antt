@@ -1,7 +1,8 @@
 use Rattle.tsl_world.proofs.Runs.{grows_weaker}
-use Rattle.tessla_cli.specs.Outcome.{Concludes, Faulted, IsExact, TellsSome}
+use Rattle.tessla_cli.specs.declared.ending.Ending.TheVariants as ending
+use Rattle.tessla_cli.specs.Outcome.{Concludes, Ends, Faulted, IsExact, Limited, LineRefused, Refused, TellsSome}
 use Rattle.tessla_cli.proofs.Exact.{exact}
-use Rattle.tessla_cli.proofs.Told.{is_faulted, tells_some}
+use Rattle.tessla_cli.proofs.Told.{is_done, is_faulted, is_limit, is_line, is_refused, tells_some}
 use Rattle.tessla_cli.proofs.top.tessla.Goals as goal
 
 pub returns-clause-faulted : goal.returns-clause-faulted
@@ -15,3 +16,19 @@ returns-clause-failed_told g c = λ five.
 pub returns-clause-exact : goal.returns-clause-exact
 returns-clause-exact g c =
     grows_weaker g.W.World.told g.W.World.journal c.args.world.now c.conclude.new.world (Concludes c.args.words.now c.conclude.result) (IsExact c.args.words.now c.conclude.result) c.conclude.ensures.calls (λ p. exact c.args.words.now p c.conclude.result)
+
+pub returns-clause-done : goal.returns-clause-done
+returns-clause-done g c = λ same.
+    grows_weaker g.W.World.told g.W.World.journal c.args.world.now c.conclude.new.world (Concludes c.args.words.now c.conclude.result) (Ends c.args.words.now ending.Done) c.conclude.ensures.calls (λ p. is_done c.args.words.now c.conclude.result p same)
+
+pub returns-clause-line_refused : goal.returns-clause-line_refused
+returns-clause-line_refused g c = λ same.
+    grows_weaker g.W.World.told g.W.World.journal c.args.world.now c.conclude.new.world (Concludes c.args.words.now c.conclude.result) (LineRefused c.args.words.now) c.conclude.ensures.calls (λ p. is_line c.args.words.now c.conclude.result p same)
+
+pub returns-clause-refused : goal.returns-clause-refused
+returns-clause-refused g c = λ same.
+    grows_weaker g.W.World.told g.W.World.journal c.args.world.now c.conclude.new.world (Concludes c.args.words.now c.conclude.result) (Refused c.args.words.now) c.conclude.ensures.calls (λ p. is_refused c.args.words.now c.conclude.result p same)
+
+pub returns-clause-limited : goal.returns-clause-limited
+returns-clause-limited g c = λ same.
+    grows_weaker g.W.World.told g.W.World.journal c.args.world.now c.conclude.new.world (Concludes c.args.words.now c.conclude.result) (Limited c.args.words.now) c.conclude.ensures.calls (λ p. is_limit c.args.words.now c.conclude.result p same)

@@ -1,106 +1,131 @@
-use Rattle.std.proofs.Common.{◌≤◌, ◌++◌, [], take, length, false, refl, ◌∙◌, subst, rules, Bool, Option}
+use Rattle.std.proofs.Common.{◌≡◌, ◌≤◌, ◌++◌, [], take, length, false, refl, ◌∙◌, ap, subst, rules, arith, Bool, Option, Ok}
+use Rattle.std.specs.Result.{result_from_control_flow}
 use Rattle.tsl_world.proofs.Parts.{read_within}
 use Rattle.tsl_world.proofs.Runs.{none, go_on, weaker}
-use Rattle.tessla_cli.specs.Due.{IsDue}
-use Rattle.tessla_cli.specs.Parts.{Watched, WatchEnds, EndsBy, IsNext, most_taken, is_nothing}
-use Rattle.tessla_cli.specs.declared.ending.Ending.{Ending}
+use Rattle.trace_monitor.specs.declared.options.Options.{Options}
+use Rattle.trace_monitor.specs.declared.ending.RunEnding.{RunEnding}
+use Rattle.trace_monitor.specs.Due.{IsDue}
+use Rattle.trace_monitor.specs.Next.{EndsBy, IsNext, most_taken, is_nothing}
+use Rattle.trace_monitor.proofs.Within.{kept_within, some_more}
+use Rattle.tessla_cli.specs.Parts.{Watched, WatchEnds}
 use Rattle.tessla_cli.proofs.Dues.{due_at_start, goes_on_at_start}
-use Rattle.tessla_cli.proofs.Watching.{Stands, at_start, read_on, stopped_at_piece, stopped_at_gift, stopped_between, gave_all, ends}
+use Rattle.tessla_cli.proofs.Watching.{Stands, at_start, read_on, stopped_at_piece, stopped_at_gift, stopped_between, gave_all, ends, due_as, next_as}
 use Rattle.tessla_cli.proofs.watch.watch.Goals as goal
 
 pub loop-init : goal.loop-init
 loop-init g c =
-    let s = c.args.flat.now in
-    let o = c.args.options in (
+    let s = c.args.monitor.now.system in
+    let o = c.args.monitor.now.options in (
       c.requires.room,
       c.requires.short,
+      refl,
+      refl,
       refl,
       (
         [],
         [],
         c.requires.kept,
+        omega arith,
         due_at_start s o c.requires.ready,
         goes_on_at_start s o c.requires.ready,
         none g.W.World.told g.W.World.journal g.W.World.standing c.args.world.now (λ part. Stands s o part [] [] false) (at_start s o),
       ),
     )
 
-pub returns-in_err-text-clause-calls : goal.returns-in_err-text-clause-calls
-returns-in_err-text-clause-calls g c =
-    let s = c.args.flat.now in
-    let o = c.args.options in
-    let (fed, text, kept, due, goes_on, calls) = c.loop.invariant.3 in
+pub advance-requires-clause-kept : goal.advance-requires-clause-kept
+advance-requires-clause-kept g c = let (fed, written, kept, taken, due, goes_on, calls) = c.loop.invariant.5 in (fed, kept)
+
+pub returns-in_err-next-clause-calls : goal.returns-in_err-next-clause-calls
+returns-in_err-next-clause-calls g c =
+    let s = c.args.monitor.now.system in
+    let o = c.args.monitor.now.options in
+    let (fed, written, kept, taken, due, goes_on, calls) = c.loop.invariant.5 in
     let piece = take c.in_ok-count.count c.read.new.buf in
     let short : length piece ≤ most_taken = read_within c.read.new.buf c.in_ok-count.count most_taken c.in_ok-count.ensures.count (search rules) in
-    let read = read_on g.W.World.told g.W.World.journal g.W.World.standing s o c.args.world.now c.loop.world c.read.new.self fed text piece calls due goes_on short c.read.ensures.told c.read.ensures.standing c.in_ok-count.ensures.journal in
+    let read = read_on g.W.World.told g.W.World.journal g.W.World.standing s o c.args.world.now c.loop.world c.read.new.self fed written piece calls due goes_on short c.read.ensures.told c.read.ensures.standing c.in_ok-count.ensures.journal in
     weaker g.W.World.told g.W.World.journal g.W.World.standing _ _ _ (Watched s o) read
-    (λ p at. stopped_at_piece s o c.requires.ready p fed text piece at due)
+    (λ p at. stopped_at_piece s o c.requires.ready p fed written piece at due)
 
 pub returns-in_err-write_all-clause-calls : goal.returns-in_err-write_all-clause-calls
 returns-in_err-write_all-clause-calls g c =
-    let s = c.args.flat.now in
-    let o = c.args.options in
-    let (fed, text, kept, due, goes_on, calls) = c.loop.invariant.3 in
+    let s = c.args.monitor.now.system in
+    let o = c.args.monitor.now.options in
+    let (fed, written, kept, taken, due, goes_on, calls) = c.loop.invariant.5 in
     let piece = take c.in_ok-count.count c.read.new.buf in
     let short : length piece ≤ most_taken = read_within c.read.new.buf c.in_ok-count.count most_taken c.in_ok-count.ensures.count (search rules) in
-    let read = read_on g.W.World.told g.W.World.journal g.W.World.standing s o c.args.world.now c.loop.world c.read.new.self fed text piece calls due goes_on short c.read.ensures.told c.read.ensures.standing c.in_ok-count.ensures.journal in
-    let brings = c.in_ok-text.ensures.text fed text kept due in
+    let read = read_on g.W.World.told g.W.World.journal g.W.World.standing s o c.args.world.now c.loop.world c.read.new.self fed written piece calls due goes_on short c.read.ensures.told c.read.ensures.standing c.in_ok-count.ensures.journal in
+    let brings = due_as c.loop.monitor s o c.loop.invariant.3 c.loop.invariant.4 fed written piece c.advance.new.out due (c.in_ok-next.ensures.text fed written kept) in
     let gives = rw c.as_slice.ensures at c.in_err-write_all.ensures.calls in
     go_on g.W.World.told g.W.World.journal g.W.World.standing _ _ _ _ _ (Watched s o) read gives
-    (λ p q at. stopped_at_gift s o p q (fed ++ piece) text c.in_ok-text.field-0.text (is_nothing piece) _ at brings)
+    (λ p q at. stopped_at_gift s o p q (fed ++ piece) written c.advance.new.out (is_nothing piece) _ at brings)
 
 pub returns-in-Some-clause-calls : goal.returns-in-Some-clause-calls
 returns-in-Some-clause-calls g c =
-    let s = c.args.flat.now in
-    let o = c.args.options in
-    let (fed, text, kept, due, goes_on, calls) = c.loop.invariant.3 in
+    let s = c.args.monitor.now.system in
+    let o = c.args.monitor.now.options in
+    let (fed, written, kept, taken, due, goes_on, calls) = c.loop.invariant.5 in
     let piece = take c.in_ok-count.count c.read.new.buf in
     let short : length piece ≤ most_taken = read_within c.read.new.buf c.in_ok-count.count most_taken c.in_ok-count.ensures.count (search rules) in
-    let read = read_on g.W.World.told g.W.World.journal g.W.World.standing s o c.args.world.now c.loop.world c.read.new.self fed text piece calls due goes_on short c.read.ensures.told c.read.ensures.standing c.in_ok-count.ensures.journal in
-    let brings = c.in_ok-text.ensures.text fed text kept due in
+    let read = read_on g.W.World.told g.W.World.journal g.W.World.standing s o c.args.world.now c.loop.world c.read.new.self fed written piece calls due goes_on short c.read.ensures.told c.read.ensures.standing c.in_ok-count.ensures.journal in
+    let brings = due_as c.loop.monitor s o c.loop.invariant.3 c.loop.invariant.4 fed written piece c.advance.new.out due (c.in_ok-next.ensures.text fed written kept) in
     let gives = rw c.as_slice.ensures at c.in_ok-write_all.ensures.calls in
     go_on g.W.World.told g.W.World.journal g.W.World.standing _ _ _ _ _ (Watched s o) read gives
-    (λ p q at gave. stopped_between s o (p ++ q) (fed ++ piece) (text ++ c.in_ok-text.field-0.text) (is_nothing piece)
-    (gave_all s o p q (fed ++ piece) text c.in_ok-text.field-0.text (is_nothing piece) at gave) brings)
+    (λ p q at gave. stopped_between s o (p ++ q) (fed ++ piece) (written ++ c.advance.new.out) (is_nothing piece)
+    (gave_all s o p q (fed ++ piece) written c.advance.new.out (is_nothing piece) at gave) brings)
 
 pub returns-in-Some-clause-ending : goal.returns-in-Some-clause-ending
 returns-in-Some-clause-ending g c =
-    let s = c.args.flat.now in
-    let o = c.args.options in
-    let (fed, text, kept, due, goes_on, calls) = c.loop.invariant.3 in
+    let s = c.args.monitor.now.system in
+    let o = c.args.monitor.now.options in
+    let (fed, written, kept, taken, due, goes_on, calls) = c.loop.invariant.5 in
     let piece = take c.in_ok-count.count c.read.new.buf in
     let short : length piece ≤ most_taken = read_within c.read.new.buf c.in_ok-count.count most_taken c.in_ok-count.ensures.count (search rules) in
-    let read = read_on g.W.World.told g.W.World.journal g.W.World.standing s o c.args.world.now c.loop.world c.read.new.self fed text piece calls due goes_on short c.read.ensures.told c.read.ensures.standing c.in_ok-count.ensures.journal in
-    let brings = c.in_ok-text.ensures.text fed text kept due in
+    let read = read_on g.W.World.told g.W.World.journal g.W.World.standing s o c.args.world.now c.loop.world c.read.new.self fed written piece calls due goes_on short c.read.ensures.told c.read.ensures.standing c.in_ok-count.ensures.journal in
+    let brings = due_as c.loop.monitor s o c.loop.invariant.3 c.loop.invariant.4 fed written piece c.advance.new.out due (c.in_ok-next.ensures.text fed written kept) in
     let gives = rw c.as_slice.ensures at c.in_ok-write_all.ensures.calls in
-    let cause : EndsBy s o (fed ++ piece) (is_nothing piece) c.in-Some.ending = subst (λ (e : Option Ending). IsNext s o (fed ++ piece) (is_nothing piece) e) c.in-Some.is (c.in_ok-text.ensures.ending fed kept) in
-    go_on g.W.World.told g.W.World.journal g.W.World.standing _ _ _ _ _ (WatchEnds s o c.in-Some.ending) read gives
-    (λ p q at gave. ends s o c.in-Some.ending (p ++ q) (fed ++ piece) (text ++ c.in_ok-text.field-0.text) (is_nothing piece)
-    (gave_all s o p q (fed ++ piece) text c.in_ok-text.field-0.text (is_nothing piece) at gave) brings cause)
+    let next = next_as c.loop.monitor s o c.loop.invariant.3 c.loop.invariant.4 (fed ++ piece) (is_nothing piece) c.in_ok-next.next (c.in_ok-next.ensures.ending fed kept) in
+    let cause : EndsBy s o (fed ++ piece) (is_nothing piece) c.in-Some.ending = subst (λ (e : Option RunEnding). IsNext s o (fed ++ piece) (is_nothing piece) e) c.in-Some.is next in
+    go_on g.W.World.told g.W.World.journal g.W.World.standing _ _ _ _ _ (WatchEnds s o c.ending_of.result) read gives
+    (λ p q at gave. ends s o c.ending_of.result c.in-Some.ending (p ++ q) (fed ++ piece) (written ++ c.advance.new.out) (is_nothing piece) c.ending_of.ensures
+    (gave_all s o p q (fed ++ piece) written c.advance.new.out (is_nothing piece) at gave) brings cause)
 
 pub loop-preserved : goal.loop-preserved
 loop-preserved g c =
-    let s = c.args.flat.now in
-    let o = c.args.options in
-    let (fed, text, kept, due, goes_on, calls) = c.loop.invariant.3 in
+    let s = c.args.monitor.now.system in
+    let o = c.args.monitor.now.options in
+    let (fed, written, kept, taken, due, goes_on, calls) = c.loop.invariant.5 in
     let piece = take c.in_ok-count.count c.read.new.buf in
     let short : length piece ≤ most_taken = read_within c.read.new.buf c.in_ok-count.count most_taken c.in_ok-count.ensures.count (search rules) in
-    let read = read_on g.W.World.told g.W.World.journal g.W.World.standing s o c.args.world.now c.loop.world c.read.new.self fed text piece calls due goes_on short c.read.ensures.told c.read.ensures.standing c.in_ok-count.ensures.journal in
-    let brings = c.in_ok-text.ensures.text fed text kept due in
+    let read = read_on g.W.World.told g.W.World.journal g.W.World.standing s o c.args.world.now c.loop.world c.read.new.self fed written piece calls due goes_on short c.read.ensures.told c.read.ensures.standing c.in_ok-count.ensures.journal in
+    let brings = due_as c.loop.monitor s o c.loop.invariant.3 c.loop.invariant.4 fed written piece c.advance.new.out due (c.in_ok-next.ensures.text fed written kept) in
     let gives = rw c.as_slice.ensures at c.in_ok-write_all.ensures.calls in
-    let next = subst (λ (e : Option Ending). IsNext s o (fed ++ piece) (is_nothing piece) e) c.in_default.is (c.in_ok-text.ensures.ending fed kept) in
+    let all = next_as c.loop.monitor s o c.loop.invariant.3 c.loop.invariant.4 (fed ++ piece) (is_nothing piece) c.in_ok-next.next (c.in_ok-next.ensures.ending fed kept) in
+    let next = subst (λ (e : Option RunEnding). IsNext s o (fed ++ piece) (is_nothing piece) e) c.in_default.is all in
     let e = next.0 in (
       search rules,
       search rules,
       c.in_ok-write_all.ensures.ok ∙ c.in_ok-count.ensures.cause.ok ∙ c.loop.invariant.2,
+      c.advance.ensures.system ∙ c.loop.invariant.3,
+      c.advance.ensures.options ∙ c.loop.invariant.4,
       (
         fed ++ piece,
-        text ++ c.in_ok-text.field-0.text,
-        c.in_ok-text.ensures.kept fed kept c.in_default.is,
-        subst (λ (b : Bool). IsDue s o (fed ++ piece) b (text ++ c.in_ok-text.field-0.text)) e brings,
+        written ++ c.advance.new.out,
+        c.advance.ensures.kept fed kept (c.branch-next.ensures ∙ ap result_from_control_flow c.in_ok-next.is ∙ ap (λ (e : Option RunEnding). Ok e) c.in_default.is),
+        some_more fed piece c.loop.counter e taken,
+        subst (λ (b : Bool). IsDue s o (fed ++ piece) b (written ++ c.advance.new.out)) e brings,
         next.1,
-        go_on g.W.World.told g.W.World.journal g.W.World.standing _ _ _ _ _ (λ part. Stands s o part (fed ++ piece) (text ++ c.in_ok-text.field-0.text) false) read gives
-            (λ p q at gave. subst (λ (b : Bool). Stands s o (p ++ q) (fed ++ piece) (text ++ c.in_ok-text.field-0.text) b) e
-            (gave_all s o p q (fed ++ piece) text c.in_ok-text.field-0.text (is_nothing piece) at gave)),
+        go_on g.W.World.told g.W.World.journal g.W.World.standing _ _ _ _ _ (λ part. Stands s o part (fed ++ piece) (written ++ c.advance.new.out) false) read gives
+            (λ p q at gave. subst (λ (b : Bool). Stands s o (p ++ q) (fed ++ piece) (written ++ c.advance.new.out) b) e
+            (gave_all s o p q (fed ++ piece) written c.advance.new.out (is_nothing piece) at gave)),
       ),
     )
+
+pub unreachable-requires : goal.unreachable-requires
+unreachable-requires g c =
+    let (fed, written, kept, taken, due, goes_on, calls) = c.loop.invariant.5 in
+    let most = kept_within c.loop.monitor fed kept in
+    let options = c.loop.invariant.4 in
+    let limit = c.requires.limit in
+    let same : c.loop.monitor.options.bytes ≡ c.args.monitor.now.options.bytes = ap (λ (o : Options). o.bytes) options in
+    let past = c.loop-test.false in
+    absurd (omega arith)

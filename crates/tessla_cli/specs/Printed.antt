@@ -1,0 +1,39 @@
+-- What is printed of a specification that is compiled.
+use Rattle.std.specs.Prelude.{◌≡◌, ℕ, List, [], ◌++◌, codes, length}
+use Rattle.std.specs.Fmt.{decimal}
+use Rattle.flat_core.specs.System.{System}
+use Rattle.program_text.specs.Text.{flat_text, running}
+use Rattle.register_code.specs.Code.{Code}
+use Rattle.register_code.specs.Plan.{IsLeastPlanOrder}
+use Rattle.register_code.specs.Text.{code_text}
+use Rattle.spec_compiler.specs.Compiled.{Compiles}
+use Rattle.spec_parser.specs.Tree as tree
+use Rattle.trace_bench.specs.Ran.{running_updates}
+use Rattle.tessla_cli.specs.declared.task.Form.{Form}
+use Rattle.tessla_cli.specs.declared.task.Form.TheVariants as form
+
+-- how many equations and how many updates run
+abbrev pub updates_text : ℕ → List ℕ
+updates_text updates = codes " " ++ (decimal updates ++ codes "\n")
+
+abbrev pub counts_text : ℕ → ℕ → List ℕ
+counts_text equations updates = codes "ok " ++ (decimal equations ++ updates_text updates)
+
+abbrev pub check_text : System → List ℕ
+check_text s = counts_text (length (running s)) (length (running_updates s))
+
+-- the text that code has in a form
+abbrev pub text_of : Form → Code → List ℕ
+text_of form.Check c = check_text c.system
+text_of form.Flat c = flat_text c.system
+text_of form.Code c = code_text c
+
+-- The text of a form that the source has: that of the code of its simplified system, in which all updates copy and each step is the least
+-- one that can follow.
+pub record IsTextOf (source : List ℕ) (f : Form) (text : List ℕ) : Type 0 where
+  pub items : List tree.Item
+  pub system : System
+  pub order : List ℕ
+  pub compiles : Compiles source items system
+  pub least : IsLeastPlanOrder system order
+  pub is : text ≡ text_of f (record { system = system; in_place = []; order = order })
