@@ -1,0 +1,31 @@
+pub mod Cells
+pub mod Running
+pub mod Orders
+pub mod Reach
+pub mod Middle
+pub mod Moves
+pub mod Setting
+pub mod Uses
+pub mod Effects
+pub mod FailedKinds
+pub mod Steps
+pub mod Walks
+pub mod Kept
+pub mod Taken
+pub mod Still
+pub mod End
+pub mod Faults
+pub mod Gaps
+pub mod Safety
+pub mod Progress
+pub mod InstantLaws
+pub mod Ledger
+pub mod Counted
+pub mod CellCount
+pub mod Fitting
+pub mod Instants
+pub mod Premises
+pub mod LaterRuns
+pub mod Shown
+mod SeenSystem
+mod SeenPlan

@@ -1,0 +1,6 @@
+pub mod Copied
+pub mod Machine
+pub mod Run
+pub mod Content
+pub mod Stands
+pub mod Laws
