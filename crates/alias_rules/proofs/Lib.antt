@@ -3,4 +3,10 @@ pub mod Around
 pub mod Firsts
 pub mod Rising
 pub mod Listed
+pub mod Ordered
 pub mod Empty
+pub mod Tried
+pub mod TakenPlan
+pub mod Below
+pub mod Acyclic
+pub mod Existing

@@ -10,7 +10,7 @@ use Rattle.alias_rules.specs.Fine.{IsFine, with_tried, IsListed}
 use Rattle.alias_rules.specs.Laws.{IsFit}
 use Rattle.alias_rules.proofs.Rising.{Rises, rest_rises, above, head_in, same_rising, in_filter}
 
-abbrev below : ℕ → ℕ → Bool
+abbrev pub below : ℕ → ℕ → Bool
 below y x = nat_lt x y
 
 -- ---- at most one set is listed

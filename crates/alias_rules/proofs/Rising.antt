@@ -1,11 +1,16 @@
 -- Ascending lists, and the part of one that is below a number.
-use Rattle.std.proofs.Common.{◌≡◌, ◌==◌, ◌&&◌, ℕ, suc, ◌<◌, Bool, List, [], ◌∷◌, refl, sym, ap, subst, inl, inr, arith}
+use Rattle.std.proofs.Common.{◌≡◌, ◌==◌, ◌&&◌, ◌⊎◌, ℕ, suc, ◌+◌, ◌<◌, Bool, List, [], ◌∷◌, ◌++◌, length, get_or, refl, sym, ap, subst, ◌∙◌, inl, inr, arith}
 use Rattle.std.specs.Prelude.{IsTrue}
 use Rattle.std.specs.List.{AllPairs, filter}
-use Rattle.std.proofs.lemmas.Bool.{or_cases, or_left, or_right, eq-eqb, eqb-true, false≢true}
+use Rattle.std.specs.List.Sorted.{IsStrictlyIncreasing}
+use Rattle.std.proofs.lemmas.Bool.{cases_lt, or_cases, or_left, or_right, eq-eqb, eqb-true, false≢true}
+use Rattle.std.proofs.lemmas.List.{get_or_append_left, length_push}
+use Rattle.std.proofs.lemmas.List.Elements.{Contains-get_or}
+use Rattle.std.proofs.lemmas.List.Folds.{list_any-append}
 use Rattle.std.proofs.lemmas.Map.Views.{any-filter_same}
+use Rattle.std.proofs.Math.Seq.{get_or-append_seam}
 use Rattle.flat_core.specs.Members.{is_in}
-use Rattle.flat_core.proofs.Members.{Contains-in}
+use Rattle.flat_core.proofs.Members.{Contains-in, in-Contains}
 
 abbrev pub Rises : List ℕ → Type 0
 Rises xs = AllPairs (λ x y. x < y) xs
@@ -54,3 +59,36 @@ same_rising (x ∷ xs) (y ∷ ys) p q to from =
 -- a member of the part that passes a test is a member that passes it
 pub in_filter : (p : ℕ → Bool) (xs : List ℕ) (i : ℕ) → is_in (filter p xs) i ≡ (p i && is_in xs i)
 in_filter p xs i = any-filter_same (λ j. j == i) p (p i) (λ k e. ap p (eqb-true k i e)) xs
+
+-- ---- one more at the end
+
+pub in_push : (xs : List ℕ) (y x : ℕ) → IsTrue (is_in (xs ++ y ∷ []) x) → IsTrue (is_in xs x) ⊎ (y ≡ x)
+in_push xs y x h = elim (or_cases (is_in xs x) (is_in (y ∷ []) x) (sym (list_any-append (λ j. j == x) xs (y ∷ [])) ∙ h)) [
+  | inl old ↦ inl old
+  | inr new ↦ elim (or_cases (y == x) (is_in [] x) new) [
+    | inl same ↦ inr (eqb-true y x same)
+    | inr none ↦ absurd (false≢true none)
+  ]
+]
+
+pub push_old : (xs : List ℕ) (y x : ℕ) → IsTrue (is_in xs x) → IsTrue (is_in (xs ++ y ∷ []) x)
+push_old xs y x h = list_any-append (λ j. j == x) xs (y ∷ []) ∙ or_left (is_in xs x) (is_in (y ∷ []) x) h
+
+pub push_new : (xs : List ℕ) (y x : ℕ) → y ≡ x → IsTrue (is_in (xs ++ y ∷ []) x)
+push_new xs y x same = list_any-append (λ j. j == x) xs (y ∷ []) ∙ or_right (is_in xs x) (is_in (y ∷ []) x) (or_left (y == x) (is_in [] x) (eq-eqb y x same))
+
+pub increasing_push : (xs : List ℕ) (y : ℕ) → IsStrictlyIncreasing xs → ((x : ℕ) → IsTrue (is_in xs x) → x < y) → IsStrictlyIncreasing (xs ++ y ∷ [])
+increasing_push xs y up low k lt =
+    let long = length_push xs y in
+    let here = get_or_append_left xs (y ∷ []) 0 k (omega arith) in
+    elim (cases_lt (k + 1) (length xs)) [
+      | inl inner ↦
+          let next = get_or_append_left xs (y ∷ []) 0 (k + 1) inner in
+          let rises = up k inner in
+          omega arith
+      | inr outer ↦
+          let at : k + 1 ≡ length xs = omega arith in
+          let last : get_or (xs ++ y ∷ []) (k + 1) 0 ≡ y = ap (λ n. get_or (xs ++ y ∷ []) n 0) at ∙ get_or-append_seam xs y [] 0 in
+          let rises = low (get_or xs k 0) (in-Contains xs (get_or xs k 0) (Contains-get_or xs k 0 (omega arith))) in
+          omega arith
+    ]

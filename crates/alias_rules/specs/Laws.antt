@@ -8,8 +8,9 @@ use Rattle.alias_rules.specs.Uses.{IsStored, AreUpdates}
 use Rattle.alias_rules.specs.Roots.{IsRoot}
 use Rattle.alias_rules.specs.Sharing.{Shares, Alias}
 use Rattle.alias_rules.specs.Bypass.{Bypasses}
-use Rattle.alias_rules.specs.Conflict.{IsFirstKept, IsFirstNotOverwritten}
-use Rattle.alias_rules.specs.Fine.{IsFine, IsListed}
+use Rattle.alias_rules.specs.Conflict.{IsFirstKept, IsFirstNotOverwritten, StandsBefore}
+use Rattle.alias_rules.specs.Fine.{IsFine, IsListed, IsFinePlan, IsTakenPlan}
+use Rattle.alias_rules.specs.Steps.{IsLeastOrderBy}
 
 -- sharing is of stored variables
 pub record AreStored (s : System) (v w : ℕ) : Type 0 where
@@ -60,3 +61,26 @@ pub record IsFit (s : System) (set : List ℕ) : Type 0 where
 
 abbrev pub ListedSetIsFit : Type 0
 ListedSetIsFit = (s : System) (set : List ℕ) → IsProper s → OutputsRun s → IsWellFormed s → IsListed s set → IsFit s set
+
+-- a set has at most one order in which at each place stands the least step that may stand there
+abbrev pub OneLeastOrder : Type 0
+OneLeastOrder = (s : System) (set xs ys : List ℕ) → IsLeastOrderBy s (StandsBefore s set) xs → IsLeastOrderBy s (StandsBefore s set) ys → xs ≡ ys
+
+-- the plan that is taken is fine, and there is one at most
+abbrev pub TakenPlanIsFine : Type 0
+TakenPlanIsFine = (s : System) (set order : List ℕ) → IsProper s → OutputsRun s → IsWellFormed s → IsTakenPlan s set order → IsFinePlan s set order
+
+pub record AreOnePlan (set order other others : List ℕ) : Type 0 where
+  pub set_is : set ≡ other
+  pub order_is : order ≡ others
+
+abbrev pub OneTakenPlan : Type 0
+OneTakenPlan = (s : System) (set order other others : List ℕ) → IsTakenPlan s set order → IsTakenPlan s other others → AreOnePlan set order other others
+
+-- It cannot be that no plan is taken, nor that a fine set has no least order.
+abbrev pub SomePlanIsTaken : Type 0
+SomePlanIsTaken = (s : System) → IsProper s → OutputsRun s → IsWellFormed s → ((set order : List ℕ) → IsTakenPlan s set order → ⊥) → ⊥
+
+abbrev pub FineSetHasAnOrder : Type 0
+FineSetHasAnOrder =
+    (s : System) (set : List ℕ) → IsProper s → OutputsRun s → AreUpdates s set → IsFine s set → ((order : List ℕ) → IsLeastOrderBy s (StandsBefore s set) order → ⊥) → ⊥

@@ -5,4 +5,6 @@ pub mod Bypass
 pub mod Steps
 pub mod Conflict
 pub mod Fine
+pub mod Outside
+pub mod Below
 pub mod Laws

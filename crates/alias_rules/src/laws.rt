@@ -1,6 +1,7 @@
 // Laws of updates in place, as the contracts of functions that do nothing.
 
 ghost use Rattle.alias_rules.specs.Laws.{SharingIsOfStored, AliasedRootsShare, AliasTurns, NoneBypassesItself, OneIsKeptFirst, OneIsNotOverwrittenFirst, OneListedSet, EmptySetIsFine, ListedSetIsFit};
+ghost use Rattle.alias_rules.specs.Laws.{OneLeastOrder, TakenPlanIsFine, OneTakenPlan, SomePlanIsTaken, FineSetHasAnOrder};
 
 /// Sharing is of stored variables.
 pub fn sharing_is_of_stored()
@@ -45,4 +46,29 @@ pub fn empty_set_is_fine()
 /// The listed set is one of running updates, and fine.
 pub fn listed_set_is_fit()
     ensures { ListedSetIsFit }
+{}
+
+/// A set of updates has at most one least order of the steps.
+pub fn one_least_order()
+    ensures { OneLeastOrder }
+{}
+
+/// The plan that is taken is fine.
+pub fn taken_plan_is_fine()
+    ensures { TakenPlanIsFine }
+{}
+
+/// At most one plan is taken.
+pub fn one_taken_plan()
+    ensures { OneTakenPlan }
+{}
+
+/// It cannot be that no plan is taken.
+pub fn some_plan_is_taken()
+    ensures { SomePlanIsTaken }
+{}
+
+/// It cannot be that a fine set has no least order of the steps.
+pub fn fine_set_has_an_order()
+    ensures { FineSetHasAnOrder }
 {}

@@ -1,0 +1,5 @@
+pub mod Reasoning
+pub mod Choosing
+pub mod Trying
+pub mod Ordering
+pub mod SampleLemmas

@@ -1,0 +1,142 @@
+// The choice of updates that happen in place.
+
+ghost use Rattle.std.specs.Prelude.{◌≡◌, ◌+◌, ◌<◌, length, IfOk};
+ghost use Rattle.flat_core.specs.WellFormed.{IsWellFormed};
+ghost use Rattle.trigger_formulas.specs.Kept.{AreTriggersOf};
+ghost use Rattle.alias_rules.specs.Conflict.{StandsBefore};
+ghost use Rattle.alias_rules.specs.Fine.{IsFine, IsFinePlan, IsTakenPlan};
+ghost use Rattle.alias_rules.specs.Steps.{IsLeastOrderBy};
+ghost use Rattle.alias_rules.specs.Uses.{IsUpdate, AreUpdates};
+ghost use Rattle.last_use.specs.Choosing.{IsChosenBelow};
+ghost use Rattle.last_use.specs.Reasons.{AreReasons};
+
+use crate::reasons::Reasons;
+use crate::trial::{is_running_update, ordered, refusal, tried_set};
+use alias_analysis::graph::Graph;
+use flat_core::flat::Flat;
+use flat_core::lists::EqSet;
+use flat_core::steps::Steps;
+use register_code::copying::steps_among;
+use register_code::plan::Plan;
+use std::alloc::Global;
+use translation_order::order::OrderFault;
+use trigger_formulas::triggers::Triggers;
+use tsl_value::ids::EqId;
+use tsl_value::memory::NoMemory;
+
+/// Which updates happen in place, with an order of the steps that lets them, and why each other update copies.
+#[derive(Drop)]
+pub struct Choice {
+    pub plan: Plan,
+    /// The running updates outside the plan's set, in ascending order. The reason of each speaks of the set in which it was tried.
+    pub reasons: Reasons,
+}
+
+/// What is chosen of the equations with the lowest numbers.
+#[derive(Drop)]
+struct Chosen {
+    in_place: EqSet,
+    reasons: Reasons,
+}
+
+/// Tries an update with those that are chosen.
+fn with_update(
+    alloc: Global,
+    flat: &Flat,
+    graph: &Graph,
+    chosen: Chosen,
+    update: EqId,
+) -> Result<Chosen, NoMemory>
+    requires graph { graph.now ≡ flat.now }
+    requires chosen { IsChosenBelow flat.now update chosen.in_place chosen.reasons }
+    requires update { IsUpdate flat.now update }
+    ensures { IfOk result (λ c. IsChosenBelow flat.now (update + 1) c.in_place c.reasons) }
+{
+    let Chosen {
+        in_place,
+        mut reasons,
+    } = chosen;
+    let tried = tried_set(alloc, &in_place, update)?;
+    match refusal(alloc, flat, graph, &tried)? {
+        None => Ok(Chosen {
+            in_place: tried,
+            reasons,
+        }),
+        Some(reason) => {
+            reasons.push((update, reason))?;
+            Ok(Chosen { in_place, reasons })
+        }
+    }
+}
+
+/// Tries an equation, if it is an update that runs.
+fn with_equation(
+    alloc: Global,
+    flat: &Flat,
+    graph: &Graph,
+    chosen: Chosen,
+    id: EqId,
+) -> Result<Chosen, NoMemory>
+    requires graph { graph.now ≡ flat.now }
+    requires chosen { IsChosenBelow flat.now id chosen.in_place chosen.reasons }
+    requires there { id < length flat.now.equations }
+    ensures { IfOk result (λ c. IsChosenBelow flat.now (id + 1) c.in_place c.reasons) }
+{
+    if is_running_update(flat, id) {
+        with_update(alloc, flat, graph, chosen, id)
+    } else {
+        Ok(chosen)
+    }
+}
+
+/// Tries all equations.
+fn try_all(alloc: Global, flat: &Flat, graph: &Graph) -> Result<Chosen, NoMemory>
+    requires { graph.now ≡ flat.now }
+    ensures { IfOk result (λ c. IsChosenBelow flat.now (length flat.now.equations) c.in_place c.reasons) }
+{
+    let mut chosen = Chosen {
+        in_place: EqSet::new(alloc),
+        reasons: Reasons::new(alloc),
+    };
+    for number in 0..flat.count() {
+        chosen = with_equation(alloc, flat, graph, chosen, EqId::new(number))?;
+    }
+    Ok(chosen)
+}
+
+/// The steps in the least order that lets the updates of a fine set happen in place.
+fn order_of(alloc: Global, flat: &Flat, graph: &Graph, set: &EqSet) -> Result<Steps, NoMemory>
+    requires graph { graph.now ≡ flat.now }
+    requires updates { AreUpdates flat.now set.now }
+    requires fine { IsFine flat.now set.now }
+    ensures { IfOk result (IsLeastOrderBy flat.now (StandsBefore flat.now set.now)) }
+{
+    match ordered(alloc, flat, graph, set) {
+        Ok(all) => steps_among(alloc, flat, all.as_slice()),
+        Err(OrderFault::CycleOf { steps: _ }) => unreachable!(),
+        Err(OrderFault::Memory) => Err(NoMemory),
+    }
+}
+
+/// Chooses the updates that happen in place.
+///
+/// Running updates are tried by number. Each happens in place where no update among it and those chosen before it is kept or not
+/// overwritten, and the pairs of steps that they ask for have no cycle. The order is the one of these pairs in which at each place stands
+/// the least step that may stand there.
+pub fn choose(alloc: Global, flat: &Flat, triggers: &Triggers) -> Result<Choice, NoMemory>
+    requires triggers { AreTriggersOf triggers.now flat.now }
+    requires well_formed { IsWellFormed flat.now }
+    ensures taken { IfOk result (λ c. IsTakenPlan flat.now c.plan.in_place c.plan.order) }
+    ensures fine { IfOk result (λ c. IsFinePlan flat.now c.plan.in_place c.plan.order) }
+    ensures reasons { IfOk result (λ c. AreReasons flat.now c.plan.in_place c.reasons) }
+{
+    // The outputs of a system run, as its count tells.
+    let _ = flat.count();
+    let graph = Graph::of(alloc, flat, triggers)?;
+    let Chosen { in_place, reasons } = try_all(alloc, flat, &graph)?;
+    let order = order_of(alloc, flat, &graph, &in_place)?;
+    Ok(Choice {
+        plan: Plan { in_place, order },
+        reasons,
+    })
+}

@@ -1,0 +1,9 @@
+//! Which updates of sets and maps happen in place, and why the others copy.
+#![tactic(auto)]
+
+pub mod choice;
+pub mod laws;
+pub mod reasons;
+#[cfg(test)]
+mod tests;
+mod trial;

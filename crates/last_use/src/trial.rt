@@ -1,0 +1,100 @@
+// What is found where an update is tried.
+
+ghost use Rattle.std.specs.Prelude.{◌≡◌, ◌↔◌, ◌<◌, ℕ, length, slice_index, IfOk, OnOk, IfErr, IsTrue};
+ghost use Rattle.flat_core.specs.Graph.{IsAcyclic};
+ghost use Rattle.flat_core.specs.Members.{is_in};
+ghost use Rattle.translation_order.specs.Answer.{OnCycle};
+ghost use Rattle.translation_order.specs.Cycle.{IsCycleOfWalk};
+ghost use Rattle.translation_order.specs.Order.{IsLeastOrder};
+ghost use Rattle.alias_rules.specs.Conflict.{StandsBefore};
+ghost use Rattle.alias_rules.specs.Fine.{with_tried};
+ghost use Rattle.alias_rules.specs.Steps.{step_count};
+ghost use Rattle.alias_rules.specs.Uses.{is_update as seen_update, IsUpdate, AreUpdates};
+ghost use Rattle.last_use.specs.Choosing.{IsRefusal};
+
+use alias_analysis::graph::Graph;
+use alias_analysis::reason::Reason;
+use flat_core::equation::Op;
+use flat_core::flat::Flat;
+use flat_core::lists::EqSet;
+use flat_core::steps::Steps;
+use std::alloc::Global;
+use translation_order::order::{OrderFault, order};
+use tsl_value::ids::EqId;
+use tsl_value::memory::NoMemory;
+
+fn is_update(operation: &Op) -> bool
+    ensures { result ≡ seen_update operation.now }
+{
+    match operation {
+        Op::SetAdd | Op::SetRemove | Op::MapAdd | Op::MapRemove => true,
+        _ => false,
+    }
+}
+
+/// Whether an equation runs and is an update.
+pub fn is_running_update(flat: &Flat, id: EqId) -> bool
+    requires { id < length flat.now.equations }
+    ensures { IsTrue result ↔ IsUpdate flat.now id }
+{
+    flat.runs(id) && is_update(&flat.equation(id).op)
+}
+
+/// The update at a place of a set.
+fn update_at(set: &EqSet, place: usize) -> EqId
+    requires { place < length set.now }
+    ensures { result ≡ slice_index set.now place }
+{
+    match set.get(place) {
+        Some(update) => *update,
+        None => unreachable!(),
+    }
+}
+
+/// The set in which an update is tried: those before it, and itself.
+pub fn tried_set(alloc: Global, set: &EqSet, update: EqId) -> Result<EqSet, NoMemory>
+    requires { (x : ℕ) → IsTrue (is_in set.now x) → x < update }
+    ensures { IfOk result (λ tried. tried ≡ with_tried set.now update) }
+{
+    let mut tried = EqSet::new(alloc);
+    for place in 0..set.len() {
+        tried.push(update_at(set, place))?;
+    }
+    tried.push(update)?;
+    Ok(tried)
+}
+
+/// All numbers of steps in the least order by the pairs of a set.
+pub fn ordered(alloc: Global, flat: &Flat, graph: &Graph, set: &EqSet) -> Result<Steps, OrderFault>
+    requires graph { graph.now ≡ flat.now }
+    requires updates { AreUpdates flat.now set.now }
+    ensures least { IfOk result (IsLeastOrder (step_count flat.now) (StandsBefore flat.now set.now)) }
+    ensures acyclic { OnOk result (IsAcyclic (StandsBefore flat.now set.now)) }
+    ensures cycle { IfErr result (OnCycle (IsCycleOfWalk (step_count flat.now) (StandsBefore flat.now set.now))) }
+    ensures cyclic { IfErr result (OnCycle (λ _. IsAcyclic (StandsBefore flat.now set.now) → ⊥)) }
+{
+    let pairs = graph.constraints(alloc, set)?;
+    let steps = flat.count() + flat.outputs().len() as u32;
+    order(alloc, steps, &pairs)
+}
+
+/// Why the updates of a set cannot all happen in place, if they cannot.
+pub fn refusal(
+    alloc: Global,
+    flat: &Flat,
+    graph: &Graph,
+    set: &EqSet,
+) -> Result<Option<Reason>, NoMemory>
+    requires graph { graph.now ≡ flat.now }
+    requires updates { AreUpdates flat.now set.now }
+    ensures { IfOk result (IsRefusal flat.now set.now) }
+{
+    match graph.conflict(alloc, set)? {
+        Some(reason) => Ok(Some(reason)),
+        None => match ordered(alloc, flat, graph, set) {
+            Ok(_) => Ok(None),
+            Err(OrderFault::CycleOf { steps }) => Ok(Some(Reason::Cycle { steps })),
+            Err(OrderFault::Memory) => Err(NoMemory),
+        },
+    }
+}
