@@ -1,12 +1,13 @@
 -- What is seen of the cells that a store keeps.
 use Rattle.std.proofs.Common.{◌≡◌, ℕ, Bool, false, Option, Some, None, refl, sym, ap, ◌∙◌}
-use Rattle.std.specs.Prelude.{is_some, unwrap_or, IsSome}
+use Rattle.std.specs.Prelude.{is_some, unwrap_or, IsSome, OnSome}
+use Rattle.std.specs.Borrow.{MutBor}
 use Rattle.std.specs.BTreeMap as tree
 use Rattle.std.specs.BTreeMap.{BTreeMap}
 use Rattle.std.specs.Cmp.{nat_cmp_total}
 use Rattle.std.specs.FinMap as finite_map
 use Rattle.std.specs.List.{filter}
-use Rattle.std.specs.Option.{option_map}
+use Rattle.std.specs.Option.{option_copied_mut, option_map}
 use Rattle.std.specs.Ordering.{nat_cmp}
 use Rattle.tsl_value.specs.View.{Plain}
 use Rattle.tsl_value.specs.declared.scalar.Scalar.TheVariants as scalar
@@ -42,3 +43,8 @@ module _ (m : BTreeMap ℕ Cell) where
 
     pub cells-retain : (p : ℕ → Bool) → n.entries ≡ filter (λ e. p e.0) m.entries → cells_of n.entries ≡ finite_map.retain_keys (cells_of m.entries) p
     cells-retain p kept = viewed-retain nat_cmp_total view_of finite_map.nat_cmp-IsAntisymmetric m n p kept
+
+-- what holds where something is lent
+pub where_lent : (r : Option (MutBor Cell)) (o : Option Cell) (P : Type 0) → option_copied_mut r ≡ o → (IsSome o → P) → OnSome r P
+where_lent None o P is gives = tt
+where_lent (Some r) o P is gives = gives (sym (ap is_some is))

@@ -72,3 +72,6 @@ typed_empty of old new handle aggregate is = typed_new of old new handle (empty_
 pub typed_added : (of : ValueType) (old new : Cells) (source handle : ℕ) (key value : Scalar) → new ≡ finite_map.insert old handle (with_added (view_at old source) key value) → FitsType of key value → IsTrue (is_of of (view_at old source)) → IsTrue (is_of of (view_at new handle))
 typed_added of old new source handle key value is fits typed =
     typed_new of old new handle (with_added (view_at old source) key value) is (is_of-added of (view_at old source) key value fits typed)
+
+pub typed_removed : (of : ValueType) (old new : Cells) (source handle : ℕ) (key : Scalar) → new ≡ finite_map.insert old handle (without_key (view_at old source) (Plain key)) → IsTrue (is_of of (view_at old source)) → IsTrue (is_of of (view_at new handle))
+typed_removed of old new source handle key is typed = typed_new of old new handle (without_key (view_at old source) (Plain key)) is (is_of-removed of (view_at old source) key typed)

@@ -1,2 +1,3 @@
 pub mod Stored
 pub mod CellView
+pub mod Lent

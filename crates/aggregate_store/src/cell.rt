@@ -74,34 +74,32 @@ impl Cell {
         }
     }
 
-    /// The cell with a key added, or with another value at it.
-    pub fn with(self, key: Scalar, value: Scalar) -> Result<Cell, NoMemory>
-        ensures { IfOk result (λ cell. view_of cell ≡ with_added (view_of self) key value) }
+    /// Adds a key, or puts another value at it. After `NoMemory` the view is as it was.
+    pub fn add(&mut self, key: Scalar, value: Scalar) -> Result<(), NoMemory>
+        ensures ok { OnOk result (view_of self.new ≡ with_added (view_of self.old) key value) }
+        ensures err { OnErr result (view_of self.new ≡ view_of self.old) }
     {
         match self {
-            Cell::Set(mut keys) => {
+            Cell::Set(keys) => {
                 keys.insert(key)?;
-                Ok(Cell::Set(keys))
             }
-            Cell::Map(mut entries) => {
+            Cell::Map(entries) => {
                 entries.insert(key, value)?;
-                Ok(Cell::Map(entries))
             }
         }
+        Ok(())
     }
 
-    /// The cell without a key, present or not.
-    pub fn without(self, key: &Scalar) -> Cell
-        ensures { view_of result ≡ without_key (view_of self) (Plain key.now) }
+    /// Takes a key out, present or not.
+    pub fn remove(&mut self, key: &Scalar)
+        ensures { view_of self.new ≡ without_key (view_of self.old) (Plain key.now) }
     {
         match self {
-            Cell::Set(mut keys) => {
+            Cell::Set(keys) => {
                 keys.remove(key);
-                Cell::Set(keys)
             }
-            Cell::Map(mut entries) => {
+            Cell::Map(entries) => {
                 entries.remove(key);
-                Cell::Map(entries)
             }
         }
     }

@@ -3,6 +3,7 @@
 ghost use Rattle.std.specs.Prelude.{◌≡◌, ◌<◌, None, IfOk, IsTrue, OnOk, OnErr, length, replicate, slice_index};
 ghost use Rattle.std.specs.FinMap as finite_map;
 ghost use Rattle.std.specs.BTreeMap as tree;
+ghost use Rattle.std.specs.Option.{option_copied_mut, option_map};
 ghost use Rattle.std.specs.Ordering.{nat_cmp};
 ghost use Rattle.tsl_value.specs.View.{Plain};
 ghost use Rattle.lift_func.specs.Cells.{FitsKey, IsLive, view_at};
@@ -42,7 +43,9 @@ impl Model for Store {
 }
 
 impl Store {
+    ghost use Rattle.std.specs.Borrow.{sem};
     ghost use Rattle.aggregate_store.specs.CellView.{view_of};
+    ghost use Rattle.aggregate_store.specs.Lent.{LendsCell};
 
     /// No cell, and 0 for each update.
     pub fn new(alloc: Global, updates: u32) -> Result<Store, NoMemory>
@@ -90,7 +93,8 @@ impl Store {
     {
         let cell = self.cell(source);
         let size = cell.size();
-        let copy = cell.copy()?.with(key.copy()?, value.copy()?)?;
+        let mut copy = cell.copy()?;
+        copy.add(key.copy()?, value.copy()?)?;
         let handle = self.place(copy)?;
         self.count_copied(update, size);
         Ok(handle)
@@ -116,10 +120,49 @@ impl Store {
     {
         let cell = self.cell(source);
         let size = cell.size();
-        let copy = cell.copy()?.without(key);
+        let mut copy = cell.copy()?;
+        copy.remove(key);
         let handle = self.place(copy)?;
         self.count_copied(update, size);
         Ok(handle)
+    }
+
+    /// Adds a key to a cell, or replaces its value. A set's value is `Unit`. The handle stays, and no update's number grows. After
+    /// `NoMemory` all is as it was.
+    pub fn add_in_place(
+        &mut self,
+        cell: Handle,
+        key: &Scalar,
+        value: &Scalar,
+    ) -> Result<(), NoMemory>
+        requires live { IsLive self.old.cells cell }
+        requires key { FitsKey (view_at self.old.cells cell) key.now }
+        requires value { FitsValue (view_at self.old.cells cell) value.now }
+        ensures changed { OnOk result (self.new ≡ record self.old {
+          cells = finite_map.insert self.old.cells cell (with_added (view_at self.old.cells cell) key.now value.now);
+        }) }
+        ensures err { OnErr result (self.new ≡ self.old) }
+    {
+        let key = key.copy()?;
+        let value = value.copy()?;
+        match self.cell_mut(cell) {
+            Some(lent) => lent.add(key, value),
+            None => unreachable!(),
+        }
+    }
+
+    /// Takes a key out of a cell, present or not. The cell stays, and no update's number grows. It takes no memory.
+    pub fn remove_in_place(&mut self, cell: Handle, key: &Scalar)
+        requires live { IsLive self.old.cells cell }
+        requires key { FitsKey (view_at self.old.cells cell) key.now }
+        ensures { self.new ≡ record self.old {
+          cells = finite_map.insert self.old.cells cell (without_key (view_at self.old.cells cell) (Plain key.now));
+        } }
+    {
+        match self.cell_mut(cell) {
+            Some(lent) => lent.remove(key),
+            None => unreachable!(),
+        }
     }
 
     /// Drops all cells that are not listed. It takes no memory.
@@ -150,6 +193,14 @@ impl Store {
         ensures { view_of result.now ≡ view_at self.now.cells handle }
     {
         &self.cells[&handle.get()]
+    }
+
+    /// Lends the cell behind a handle. `None` exactly where the handle is not live.
+    fn cell_mut(&mut self, handle: Handle) -> Option<&mut Cell>
+        ensures* lends { sem 𝓛 (LendsCell self.entry handle result) }
+        ensures cell { option_map view_of (option_copied_mut result) ≡ finite_map.get self.old.cells handle }
+    {
+        self.cells.get_mut(&handle.get())
     }
 
     /// Puts a cell behind a handle that was not live.

@@ -59,6 +59,32 @@ fn values_are_replaced_in_maps(rt: HostRuntime) -> Result<(), Fail> {
 }
 
 #[test]
+fn keys_are_added_in_place(rt: HostRuntime) -> Result<(), Fail> {
+    let mut store = Store::new(rt.alloc(), 1)?;
+    let cell = store.empty(ValueType::Map(KeyType::Int, ScalarType::Bool))?;
+    store.add_in_place(cell, &Scalar::Int(3), &Scalar::Bool(true))?;
+    store.add_in_place(cell, &Scalar::Int(3), &Scalar::Bool(false))?;
+    let printed = text(rt.alloc(), &store, cell)?;
+    assert_eq!(rt; printed.as_slice(), b"Map(3 -> false)".as_slice());
+    assert_eq!(rt; store.ledger(0), 0);
+    Ok(())
+}
+
+#[test]
+fn keys_are_removed_in_place(rt: HostRuntime) -> Result<(), Fail> {
+    let mut store = Store::new(rt.alloc(), 0)?;
+    let cell = store.empty(ValueType::Set(KeyType::Int))?;
+    store.add_in_place(cell, &Scalar::Int(2), &Scalar::Unit)?;
+    store.remove_in_place(cell, &Scalar::Int(7));
+    let printed = text(rt.alloc(), &store, cell)?;
+    assert_eq!(rt; printed.as_slice(), b"Set(2)".as_slice());
+    store.remove_in_place(cell, &Scalar::Int(2));
+    let printed = text(rt.alloc(), &store, cell)?;
+    assert_eq!(rt; printed.as_slice(), b"Set()".as_slice());
+    Ok(())
+}
+
+#[test]
 fn cells_are_dropped(rt: HostRuntime) -> Result<(), Fail> {
     let mut store = Store::new(rt.alloc(), 0)?;
     let first = store.empty(ValueType::Set(KeyType::Text))?;

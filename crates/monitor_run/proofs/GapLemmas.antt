@@ -25,7 +25,8 @@ use Rattle.flat_core.proofs.DueLemmas.{delay_kept, delayed_is-due, expires_is-du
 use Rattle.flat_core.proofs.Members.{all_from, none_from, some_from}
 use Rattle.flat_core.proofs.Silence.{happens_at_instants}
 use Rattle.flat_core.proofs.StillLemmas.{latest_still, pending_still}
-use Rattle.register_code.specs.Plan.{IsPlanOrder, argument}
+use Rattle.alias_rules.specs.Steps.{argument}
+use Rattle.register_code.specs.Plan.{IsPlanOrder}
 use Rattle.monitor_run.specs.Copied.{copied, size_copied, source_size}
 use Rattle.monitor_run.specs.Due.{due_at, due_of, due_time, in_time}
 use Rattle.monitor_run.specs.Given.{AreBefore, AreEventLines}

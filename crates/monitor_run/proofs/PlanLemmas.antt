@@ -19,7 +19,8 @@ use Rattle.flat_core.specs.TypedSystem.{AreOfTypes}
 use Rattle.flat_core.specs.WellFormed.{unguarded_of}
 use Rattle.flat_core.proofs.Members.{all_at, all_from, in-Contains}
 use Rattle.flat_core.proofs.Uniqueness.{all_used}
-use Rattle.register_code.specs.Plan.{IsPlanOrder, argument, is_print, is_step}
+use Rattle.alias_rules.specs.Steps.{argument, is_print, is_step}
+use Rattle.register_code.specs.Plan.{IsPlanOrder}
 use Rattle.monitor_run.specs.Here.{HasShape}
 
 -- ---- arguments

@@ -118,8 +118,11 @@ fn closed_below(upto: Closed) -> u64
 
 impl<'c> Monitor<'c> {
     /// A monitor of a system, which was given no event. No time is closed, and at most `limit` instants may run.
+    ///
+    /// It copies at each update, so it takes only code in which none happens in place.
     pub fn new(alloc: Global, code: &'c Code, limit: u64) -> Result<Monitor<'c>, NoMemory>
-        requires { 1 ≤ limit }
+        requires limit { 1 ≤ limit }
+        requires copies { code.now.in_place ≡ [] }
         ensures stands { IfOk result (λ m. Stands m []) }
         ensures system { IfOk result (λ m. m.system ≡ code.now.system) }
         ensures order { IfOk result (λ m. m.order ≡ code.now.order) }

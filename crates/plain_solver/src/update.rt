@@ -61,7 +61,8 @@ pub(crate) fn picked<'a>(
 fn added(alloc: Global, cell: &Cell, key: &Scalar, value: &Scalar) -> Result<Value, NoMemory>
     ensures { IfOk result (λ v. v ≡ with_added (cell_view.view_of cell.now) key.now value.now) }
 {
-    let copy = cell.copy()?.with(key.copy()?, value.copy()?)?;
+    let mut copy = cell.copy()?;
+    copy.add(key.copy()?, value.copy()?)?;
     Value::of_cell(alloc, copy)
 }
 
@@ -97,7 +98,9 @@ fn without_key(alloc: Global, aggregate: &Value, key: &Value) -> Result<Value, N
 {
     match (aggregate.held(), key.held()) {
         (Held::Aggregate(cell), Held::Scalar(key)) => {
-            Value::of_cell(alloc, cell.copy()?.without(key))
+            let mut copy = cell.copy()?;
+            copy.remove(key);
+            Value::of_cell(alloc, copy)
         }
         _ => aggregate.copy(),
     }

@@ -5,7 +5,7 @@ use Rattle.std.proofs.lemmas.List.Elements.{filter-append}
 use Rattle.std.specs.Prelude.{slice_get}
 use Rattle.std.specs.List.{IsDistinct, filter}
 use Rattle.translation_order.proofs.Lists.{here, later, none_in_nil, cons_cases, not_among, all_others}
-use Rattle.register_code.specs.Plan.{Precedes}
+use Rattle.alias_rules.specs.Steps.{Precedes}
 
 -- an item between two lists
 at_split : (front rest : List ℕ) (x : ℕ) → slice_get (front ++ x ∷ rest) (length front) ≡ Some x

@@ -17,8 +17,9 @@ use Rattle.flat_core.specs.WellFormed.{unguarded_of, Needs}
 use Rattle.flat_core.proofs.Members.{all_at, contains_map, map_contains}
 use Rattle.translation_order.specs.Order.{Before, AreOfSteps}
 use Rattle.translation_order.proofs.Lists.{here, later, none_in_nil, cons_cases}
+use Rattle.alias_rules.specs.Steps.{print_step, step_count, is_print, is_step, MustPrecede, argument, printed}
+use Rattle.alias_rules.proofs.Empty.{is_within, source_within}
 use Rattle.register_code.specs.Pairs.{unguarded_at, pairs_to, pairs_at, argument_pairs, print_pairs, all_pairs}
-use Rattle.register_code.specs.Plan.{print_step, step_count, is_print, is_step, MustPrecede, argument, printed}
 
 -- ---- lists
 in_flat_map : {X Y : Type 0} (f : X → List Y) (xs : List X) (x : X) (y : Y) → Contains xs x → Contains (f x) y → Contains (flat_map f xs) y
@@ -99,37 +100,8 @@ prints_next first outputs k o step start old new lt is at was more =
     ∙ ap (λ q. start ++ print_pairs first (take k outputs ++ q ∷ [])) is
     ∙ ap (λ l. start ++ print_pairs first l) (sym (take_more outputs k o lt))
 
--- ---- arguments
-behind : (args : List ℕ) (a : ℕ) → Contains (drop 1 args) a → Contains args a
-behind [] a c = c
-behind (b ∷ args) a c = later b a args c
-
-unguarded_in : (o : Op) (args : List ℕ) (a : ℕ) → Contains (unguarded_of o args) a → Contains args a
-unguarded_in op.Last args a c = behind args a c
-unguarded_in op.Delay args a c = behind args a c
-unguarded_in o args a c = c
-
-module _ (s : System) (flat : IsFlat s) where
-  pub runs_low : (a : ℕ) → IsTrue (runs s a) → a < length s.equations
-  runs_low a run = let there = flat.proper.runs_all a run in slice_get_within s.equations a there.0 there.1
-
-  argument_runs : (i a : ℕ) → IsTrue (runs s i) → Needs s i a → IsTrue (runs s a)
-  argument_runs i a run need =
-      let there = flat.proper.runs_all i run in
-      let same : need.at ≡ there.0 = same_Some need.at there.0 (sym need.is ∙ there.1) in
-      all_at (λ b. IsTrue (runs s b)) there.0.args there.2 a (subst (λ (e : Equation). Contains e.args a) same (unguarded_in need.at.op need.at.args a need.argument))
-
-  printed_runs : (k : ℕ) (o : Output) → slice_get s.outputs k ≡ Some o → IsTrue (runs s o.equation)
-  printed_runs k o is = all_at (λ (p : Output). IsTrue (runs s p.equation)) s.outputs flat.outputs_run o (k, slice_get_within s.outputs k o is, get_or_from_slice_get s.outputs k o o is)
-
-  -- the first of a pair runs, and the second is a step
-  pub first_runs : (a x : ℕ) → MustPrecede s a x → IsTrue (runs s a)
-  first_runs a x (argument run need) = argument_runs x a run need
-  first_runs a x (printed k o is a_is x_is) = subst (λ m. IsTrue (runs s m)) (sym a_is) (printed_runs k o is)
-
-  pub first_low : (a x : ℕ) → MustPrecede s a x → a < length s.equations
-  first_low a x must = runs_low a (first_runs a x must)
-
+-- ---- steps
+module _ (s : System) where
   pub step_runs : (a : ℕ) → IsTrue (runs s a) → IsTrue (is_step s a)
   step_runs a run = or_left (runs s a) (is_print s a) run
 
@@ -139,9 +111,10 @@ module _ (s : System) (flat : IsFlat s) where
       let within = slice_get_within s.outputs k o is in
       or_right (runs s x) (is_print s x) (and_from (nat_le (length s.equations) x) (nat_lt x (step_count s)) (le-leb (length s.equations) x (omega arith)) (lt-ltb x (step_count s) (omega arith)))
 
+module _ (s : System) (flat : IsFlat s) where
   pub step_low : (x : ℕ) → IsTrue (is_step s x) → x < step_count s
   step_low x step = elim (or_cases (runs s x) (is_print s x) step) [
-    | inl run ↦ let low = runs_low x run in omega arith
+    | inl run ↦ let low = is_within s flat.proper flat.outputs_run x run in omega arith
     | inr print ↦ ltb-true x (step_count s) (and_parts (nat_le (length s.equations) x) (nat_lt x (step_count s)) print).1
   ]
 
@@ -157,7 +130,7 @@ module _ (s : System) (flat : IsFlat s) where
   pub from_precede : (a x : ℕ) → MustPrecede s a x → Before (all_pairs s) a x
   from_precede a x (argument run need) =
       Contains-append_left (argument_pairs s (length s.equations)) (print_pairs (length s.equations) s.outputs) (a, x)
-      (in_flat_map (pairs_at s) (range_with_len 0 (length s.equations)) x (a, x) (low_in (length s.equations) x (runs_low x run)) (at_from s x a run need))
+      (in_flat_map (pairs_at s) (range_with_len 0 (length s.equations)) x (a, x) (low_in (length s.equations) x (is_within s flat.proper flat.outputs_run x run)) (at_from s x a run need))
   from_precede a x (printed k o is a_is x_is) =
       Contains-append_right (argument_pairs s (length s.equations)) (print_pairs (length s.equations) s.outputs) (a, x)
       (in_print (length s.equations) s.outputs k o a x is a_is x_is)
@@ -167,5 +140,5 @@ module _ (s : System) (flat : IsFlat s) where
       All-from_get_or (λ (p : ℕ × ℕ). (p.0 < step_count s) × (p.1 < step_count s)) (all_pairs s) (0, 0) (λ k lt.
       let p = get_or (all_pairs s) k (0, 0) in
       let must = to_precede p.0 p.1 (Contains-get_or (all_pairs s) k (0, 0) lt) in
-      let first = first_low p.0 p.1 must in
-      (omega arith, step_low p.1 (second_step p.0 p.1 must)))
+      let first = source_within s flat.proper flat.outputs_run p.0 p.1 must in
+      (omega arith, step_low p.1 (second_step s p.0 p.1 must)))

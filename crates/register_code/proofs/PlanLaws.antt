@@ -6,10 +6,12 @@ use Rattle.flat_core.specs.System.{System}
 use Rattle.translation_order.specs.Order.{IsLeast}
 use Rattle.translation_order.proofs.Lists.{middle}
 use Rattle.translation_order.proofs.Orders.{one_order}
-use Rattle.register_code.specs.Plan.{step_count, is_step, MustPrecede, IsLeastPlanOrder}
+use Rattle.alias_rules.specs.Steps.{step_count, is_step, MustPrecede}
+use Rattle.alias_rules.proofs.Empty.{source_runs}
+use Rattle.register_code.specs.Plan.{IsLeastPlanOrder}
 use Rattle.register_code.specs.Laws.{MayStandNext, LeastStepsFirst, OnePlanOrder}
 use Rattle.register_code.proofs.Filtered.{in_filter, filter_in, filter_split}
-use Rattle.register_code.proofs.PairLemmas.{first_runs, step_runs, step_low}
+use Rattle.register_code.proofs.PairLemmas.{step_runs, step_low}
 
 pub least_steps_first : LeastStepsFirst
 least_steps_first s order front rest x flat least is =
@@ -22,7 +24,7 @@ least_steps_first s order front rest x flat least is =
       holds = record {
         is_one = (filter_in (is_step s) least.all x (subst (λ l. Contains l x) (sym is ∙ least.is) (middle front rest x))).1;
         is_new = λ c. at.holds.is_new (whole x c);
-        is_free = λ a must. kept a (at.holds.is_free a must) (step_runs s flat a (first_runs s flat a x must));
+        is_free = λ a must. kept a (at.holds.is_free a must) (step_runs s a (source_runs s flat.proper flat.outputs_run a x must));
       };
       least = λ y may. at.least y (record {
         is_step = step_low s flat y may.is_one;

@@ -1,18 +1,22 @@
 -- The least order of all equations and prints has the steps in an order for a plan.
-use Rattle.std.proofs.Common.{◌≡◌, ℕ, ◌<◌, List, ◌∷◌, ◌++◌, length, Contains, subst, sym, arith}
+use Rattle.std.proofs.Common.{◌≡◌, ℕ, List, [], ◌∷◌, ◌++◌, Contains, subst}
 use Rattle.std.specs.List.{filter}
-use Rattle.flat_core.specs.Graph.{Path, edge, step, IsAcyclic}
+use Rattle.flat_core.specs.Graph.{IsAcyclic}
 use Rattle.flat_core.specs.Complete.{IsFlat}
 use Rattle.flat_core.specs.System.{System}
-use Rattle.flat_core.specs.WellFormed.{Needs, IsWellFormed}
+use Rattle.flat_core.specs.WellFormed.{IsWellFormed}
 use Rattle.translation_order.specs.Order.{Before, MayFollow, IsLeastOrder}
 use Rattle.translation_order.proofs.Alike.{least_alike, path_alike}
 use Rattle.translation_order.proofs.Lists.{split_at}
 use Rattle.translation_order.proofs.Orders.{taken_once}
+use Rattle.alias_rules.specs.Conflict.{StandsBefore, needed}
+use Rattle.alias_rules.specs.Fine.{IsFine, IsFinePlan}
+use Rattle.alias_rules.specs.Steps.{step_count, is_step, MustPrecede}
+use Rattle.alias_rules.proofs.Empty.{empty_is_fine, empty_plan, source_runs}
 use Rattle.register_code.specs.Pairs.{all_pairs}
-use Rattle.register_code.specs.Plan.{step_count, is_step, MustPrecede, argument, printed, IsPlanOrder, IsLeastPlanOrder}
+use Rattle.register_code.specs.Plan.{IsPlanOrder}
 use Rattle.register_code.proofs.Filtered.{in_filter, filter_in, once_filter, filter_precedes}
-use Rattle.register_code.proofs.PairLemmas.{first_runs, first_low, step_runs, second_step, step_low, to_precede, from_precede}
+use Rattle.register_code.proofs.PairLemmas.{step_runs, second_step, step_low, to_precede, from_precede}
 
 -- relations that hold alike have the same least order
 module _ (steps : ℕ) (E F : ℕ → ℕ → Type 0) (more : (a b : ℕ) → E a b → F a b) (back : (a b : ℕ) → F a b → E a b) where
@@ -28,44 +32,28 @@ module _ (steps : ℕ) (E F : ℕ → ℕ → Type 0) (more : (a b : ℕ) → E 
     all = least.all;
   }
 
-path_on : (E : ℕ → ℕ → Type 0) (a b c : ℕ) → Path E a b → E b c → Path E a c
-path_on E a b c (edge e) f = step e (edge f)
-path_on E a b c (step {b = m} e p) f = step e (path_on E m b c p f)
-
-turned : (E : ℕ → ℕ → Type 0) (a b : ℕ) → Path (λ x y. E y x) a b → Path E b a
-turned E a b (edge e) = edge e
-turned E a b (step {b = m} e p) = path_on E b m a (turned E m b p) e
-
 module _ (s : System) (flat : IsFlat s) where
-  needs_edge : (a x : ℕ) → MustPrecede s a x → x < length s.equations → Needs s x a
-  needs_edge a x (argument run need) low = need
-  needs_edge a x (printed k o is a_is x_is) low = absurd (omega arith)
-
-  path_low : (a b : ℕ) → Path (MustPrecede s) a b → a < length s.equations
-  path_low a b (edge e) = first_low s flat a b e
-  path_low a b (step {b = m} e p) = first_low s flat a m e
-
-  needs_path : (a b : ℕ) → Path (MustPrecede s) a b → b < length s.equations → Path (λ x y. Needs s y x) a b
-  needs_path a b (edge e) low = edge (needs_edge a b e low)
-  needs_path a b (step {b = m} e p) low = step (needs_edge a m e (path_low m b p)) (needs_path m b p low)
+  empty_fine : IsWellFormed s → IsFine s []
+  empty_fine good = empty_is_fine s flat.proper flat.outputs_run good
 
   -- the pairs of a well-formed system have no cycle
   pub no_cycle : IsWellFormed s → IsAcyclic (Before (all_pairs s))
-  no_cycle good a p =
-      let q = path_alike (Before (all_pairs s)) (MustPrecede s) (to_precede s flat) a a p in
-      good a (turned (Needs s) a a (needs_path a a q (path_low a a q)))
+  no_cycle good a p = (empty_fine good).acyclic a (path_alike (Before (all_pairs s)) (StandsBefore s []) (λ x y pair. needed (to_precede s flat x y pair)) a a p)
 
   pub least_of_all : (count : ℕ) → count ≡ step_count s → (pairs : List (ℕ × ℕ)) → pairs ≡ all_pairs s → (all : List ℕ) → IsLeastOrder count (Before pairs) all → IsLeastOrder (step_count s) (MustPrecede s) all
   least_of_all count counted pairs are all least =
       order_alike (step_count s) (Before (all_pairs s)) (MustPrecede s) (to_precede s flat) (from_precede s flat) all
       (subst (λ n. IsLeastOrder n (Before (all_pairs s)) all) counted (subst (λ p. IsLeastOrder count (Before p) all) are least))
 
-  pub plan_order : (all : List ℕ) → IsLeastOrder (step_count s) (MustPrecede s) all → IsPlanOrder s (filter (is_step s) all)
+  plan_order : (all : List ℕ) → IsLeastOrder (step_count s) (MustPrecede s) all → IsPlanOrder s (filter (is_step s) all)
   plan_order all least = record {
     once = once_filter (is_step s) all (taken_once (step_count s) (MustPrecede s) all least.takes_least);
     steps = λ x. ((λ c. (filter_in (is_step s) all x c).1), (λ h. in_filter (is_step s) all x (least.all x (step_low s flat x h)) h));
     agrees = λ a b must.
-        let at = split_at all b (least.all b (step_low s flat b (second_step s flat a b must))) in
-        filter_precedes (is_step s) all at.0 at.1 a b (step_runs s flat a (first_runs s flat a b must)) (second_step s flat a b must) at.2
+        let at = split_at all b (least.all b (step_low s flat b (second_step s a b must))) in
+        filter_precedes (is_step s) all at.0 at.1 a b (step_runs s a (source_runs s flat.proper flat.outputs_run a b must)) (second_step s a b must) at.2
         ((least.takes_least at.0 at.1 b at.2).holds.is_free a must);
   }
+
+  pub copying_fine : IsWellFormed s → (all : List ℕ) → IsLeastOrder (step_count s) (MustPrecede s) all → IsFinePlan s [] (filter (is_step s) all)
+  copying_fine good all least = empty_plan s (empty_fine good) (filter (is_step s) all) (plan_order all least)

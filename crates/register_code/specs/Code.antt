@@ -7,8 +7,8 @@ use Rattle.flat_core.specs.declared.equation.Equation.{Equation}
 use Rattle.flat_core.specs.Complete.{IsFlat}
 use Rattle.flat_core.specs.Instant.{is_delay}
 use Rattle.flat_core.specs.System.{System, equation, runs}
+use Rattle.alias_rules.specs.Fine.{IsFinePlan}
 use Rattle.program_text.specs.Text.{numbers}
-use Rattle.register_code.specs.Plan.{IsPlanOrder}
 
 pub record Code : Type 0 where
   pub system : System
@@ -18,8 +18,7 @@ pub record Code : Type 0 where
 -- what all code has
 pub record IsCode (c : Code) : Type 0 where
   pub is_flat : IsFlat c.system
-  pub ordered : IsPlanOrder c.system c.order
-  pub all_copy : c.in_place ≡ []
+  pub fine : IsFinePlan c.system c.in_place c.order
 
 -- the first argument of a last
 abbrev pub kept_by : Op → List ℕ → Option ℕ

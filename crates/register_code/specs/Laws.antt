@@ -4,7 +4,8 @@ use Rattle.std.specs.List.{Contains}
 use Rattle.flat_core.specs.Complete.{IsFlat}
 use Rattle.flat_core.specs.System.{System}
 use Rattle.translation_order.specs.Order.{IsLeast}
-use Rattle.register_code.specs.Plan.{is_step, MustPrecede, IsLeastPlanOrder}
+use Rattle.alias_rules.specs.Steps.{is_step, MustPrecede}
+use Rattle.register_code.specs.Plan.{IsLeastPlanOrder}
 
 -- a step that may stand next: it does not stand in front, and all that has to stand before it does
 pub record MayStandNext (s : System) (front : List ℕ) (x : ℕ) : Type 0 where

@@ -1,7 +1,7 @@
 // Code, which a plan makes of a flat system.
 
-ghost use Rattle.std.specs.Prelude.{◌≡◌, [], IfOk};
-ghost use Rattle.register_code.specs.Plan.{IsPlanOrder};
+ghost use Rattle.std.specs.Prelude.{◌≡◌, IfOk};
+ghost use Rattle.alias_rules.specs.Fine.{IsFinePlan};
 ghost use Rattle.register_code.specs.Code.{IsCode, keeps_of, timers_of};
 
 use crate::keep::{keeps, timers};
@@ -77,11 +77,10 @@ impl Code {
 
 /// The code of a system by a plan. Both are gone after `NoMemory`.
 ///
-/// The plan's order has the running equations and the prints, each once and behind those that have to stand before it, as
-/// `copying_plan` lists them. No update may happen in place yet.
+/// The plan has to be fine: all updates of its set can happen in place together, and its order has the running equations and the
+/// prints, each once and behind those that have to stand before it.
 pub fn generate(alloc: Global, flat: Flat, plan: Plan) -> Result<Code, NoMemory>
-    requires ordered { IsPlanOrder flat plan.order }
-    requires all_copy { plan.in_place ≡ [] }
+    requires { IsFinePlan flat plan.in_place plan.order }
     ensures system { IfOk result (λ c. c.system ≡ flat) }
     ensures in_place { IfOk result (λ c. c.in_place ≡ plan.in_place) }
     ensures order { IfOk result (λ c. c.order ≡ plan.order) }

@@ -4,7 +4,9 @@ ghost use Rattle.std.specs.Prelude.{◌≡◌, [], IfOk};
 ghost use Rattle.std.specs.List.{filter};
 ghost use Rattle.flat_core.specs.WellFormed.{IsWellFormed};
 ghost use Rattle.translation_order.specs.Order.{IsLeastOrder};
-ghost use Rattle.register_code.specs.Plan.{IsLeastPlanOrder, IsPlanOrder, MustPrecede, is_print as seen_print, is_step as seen_step, step_count};
+ghost use Rattle.alias_rules.specs.Fine.{IsFinePlan};
+ghost use Rattle.alias_rules.specs.Steps.{MustPrecede, is_print as seen_print, is_step as seen_step, step_count};
+ghost use Rattle.register_code.specs.Plan.{IsLeastPlanOrder};
 
 use crate::pairs::pairs;
 use crate::plan::Plan;
@@ -30,7 +32,7 @@ fn is_print(flat: &Flat, step: u32) -> bool
 }
 
 /// Those of the numbers that are steps.
-fn steps_among(alloc: Global, flat: &Flat, numbers: &[u32]) -> Result<Steps, NoMemory>
+pub fn steps_among(alloc: Global, flat: &Flat, numbers: &[u32]) -> Result<Steps, NoMemory>
     ensures { IfOk result (λ steps. steps ≡ filter (seen_step flat.now) numbers.now) }
 {
     let mut steps = Steps::new(alloc);
@@ -47,7 +49,7 @@ fn steps_among(alloc: Global, flat: &Flat, numbers: &[u32]) -> Result<Steps, NoM
 fn all_ordered(alloc: Global, flat: &Flat) -> Result<Steps, NoMemory>
     requires { IsWellFormed flat.now }
     ensures least { IfOk result (IsLeastOrder (step_count flat.now) (MustPrecede flat.now)) }
-    ensures steps { IfOk result (λ all. IsPlanOrder flat.now (filter (seen_step flat.now) all)) }
+    ensures fine { IfOk result (λ all. IsFinePlan flat.now [] (filter (seen_step flat.now) all)) }
 {
     let edges = pairs(alloc, flat)?;
     let steps = flat.count() + flat.outputs().len() as u32;
@@ -66,7 +68,7 @@ fn all_ordered(alloc: Global, flat: &Flat) -> Result<Steps, NoMemory>
 pub fn copying_plan(alloc: Global, flat: &Flat) -> Result<Plan, NoMemory>
     requires { IsWellFormed flat.now }
     ensures in_place { IfOk result (λ p. p.in_place ≡ []) }
-    ensures order { IfOk result (λ p. IsPlanOrder flat.now p.order) }
+    ensures fine { IfOk result (λ p. IsFinePlan flat.now p.in_place p.order) }
     ensures least { IfOk result (λ p. IsLeastPlanOrder flat.now p.order) }
 {
     let all = all_ordered(alloc, flat)?;

@@ -241,7 +241,7 @@ fn conclude(code: &Code, halted: Result<Halt, Stop>) -> Result<Option<RunEnding>
 }
 
 impl<'c> TraceMonitor<'c> {
-    /// A monitor of a trace of which nothing was taken.
+    /// A monitor of a trace of which nothing was taken. No update of the code happens in place.
     pub fn new(
         alloc: Global,
         code: &'c Code,
@@ -251,6 +251,7 @@ impl<'c> TraceMonitor<'c> {
         requires few { options.bytes ≤ 2 ^ 40 }
         requires instants { 1 ≤ options.instants }
         requires until { options.until < 2 ^ 63 }
+        requires copies { code.now.in_place ≡ [] }
         ensures kept { IfOk result (λ m. Kept m []) }
         ensures system { IfOk result (λ m. m.system ≡ code.now.system) }
         ensures options { IfOk result (λ m. m.options ≡ options) }

@@ -3,9 +3,9 @@ use Rattle.flat_core.specs.declared.equation.Output.{Output}
 use Rattle.flat_core.specs.Graph.{IsAcyclic}
 use Rattle.translation_order.specs.Answer.{OnCycle}
 use Rattle.translation_order.specs.Order.{Before, AreOfSteps, IsLeastOrder}
-use Rattle.register_code.specs.Plan.{step_count}
+use Rattle.alias_rules.specs.Steps.{step_count}
 use Rattle.register_code.proofs.PairLemmas.{pairs_of_steps}
-use Rattle.register_code.proofs.PlanOrders.{least_of_all, no_cycle, plan_order}
+use Rattle.register_code.proofs.PlanOrders.{copying_fine, least_of_all, no_cycle}
 use Rattle.register_code.proofs.copying.all_ordered.Goals as goal
 
 pub order-requires : goal.order-requires
@@ -20,11 +20,11 @@ returns-in-Ok-clause-least c =
     let counted : c.count.result + length c.outputs.result.now ≡ step_count s = λ k. c.count.ensures.count k + length (c.outputs.ensures k) in
     least_of_all s c.count.ensures.is_flat (c.count.result + length c.outputs.result.now) counted c.in_ok-edges.edges c.in_ok-edges.ensures c.in-Ok.all c.in-Ok.ensures.listed
 
-pub returns-in-Ok-clause-steps : goal.returns-in-Ok-clause-steps
-returns-in-Ok-clause-steps c =
+pub returns-in-Ok-clause-fine : goal.returns-in-Ok-clause-fine
+returns-in-Ok-clause-fine c =
     let s = c.args.flat.now in
     let counted : c.count.result + length c.outputs.result.now ≡ step_count s = λ k. c.count.ensures.count k + length (c.outputs.ensures k) in
-    plan_order s c.count.ensures.is_flat c.in-Ok.all
+    copying_fine s c.count.ensures.is_flat c.requires c.in-Ok.all
     (least_of_all s c.count.ensures.is_flat (c.count.result + length c.outputs.result.now) counted c.in_ok-edges.edges c.in_ok-edges.ensures c.in-Ok.all c.in-Ok.ensures.listed)
 
 pub unreachable-requires : goal.unreachable-requires

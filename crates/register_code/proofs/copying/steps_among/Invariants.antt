@@ -1,6 +1,6 @@
 use Rattle.std.proofs.Common.{◌≡◌, take}
 use Rattle.std.specs.List.{filter}
-use Rattle.register_code.specs.Plan.{is_step}
+use Rattle.alias_rules.specs.Steps.{is_step}
 use Rattle.register_code.proofs.copying.steps_among.Given as goal
 
 abbrev pub invariant-loop-number : goal.invariant-loop-number

@@ -6,7 +6,7 @@ use Rattle.lift_func.specs.Update.{without_key}
 use Rattle.aggregate_store.specs.CellView.{view_of}
 use Rattle.aggregate_store.specs.declared.cell.Cell.{Cell}
 use Rattle.aggregate_store.proofs.FiniteMaps.{set-remove, table-remove}
-use Rattle.aggregate_store.proofs.cell.Cell.without.Goals as goal
+use Rattle.aggregate_store.proofs.cell.Cell.remove.Goals as goal
 
 pub returns-in-Set : goal.returns-in-Set
 returns-in-Set c =

@@ -6,14 +6,14 @@ use Rattle.aggregate_store.specs.Stored.{with_added}
 use Rattle.aggregate_store.specs.CellView.{view_of}
 use Rattle.aggregate_store.specs.declared.cell.Cell.{Cell}
 use Rattle.aggregate_store.proofs.FiniteMaps.{set-insert, table-insert}
-use Rattle.aggregate_store.proofs.cell.Cell.with.Goals as goal
+use Rattle.aggregate_store.proofs.cell.Cell.add.Goals as goal
 
-pub returns-in_ok-insert-in-Set : goal.returns-in_ok-insert-in-Set
-returns-in_ok-insert-in-Set c =
+pub returns-in_ok-insert-in-Set-clause-ok : goal.returns-in_ok-insert-in-Set-clause-ok
+returns-in_ok-insert-in-Set-clause-ok c =
     ap Keyed (set-insert scalar_cmp_total scalar_cmp-IsAntisymmetric c.in-Set.keys c.insert.new.self c.args.key c.in_ok-insert-in-Set.ensures.updates)
     ∙ sym (ap (λ (cell : Cell). with_added (view_of cell) c.args.key c.args.value) c.in-Set.is)
 
-pub returns-in_ok-insert-in-Map : goal.returns-in_ok-insert-in-Map
-returns-in_ok-insert-in-Map c =
+pub returns-in_ok-insert-in-Map-clause-ok : goal.returns-in_ok-insert-in-Map-clause-ok
+returns-in_ok-insert-in-Map-clause-ok c =
     ap Mapped (table-insert scalar_cmp_total scalar_cmp-IsAntisymmetric c.in-Map.entries c.insert-in-Map.new.self c.args.key c.args.value c.in_ok-insert-in-Map.ensures.updates)
     ∙ sym (ap (λ (cell : Cell). with_added (view_of cell) c.args.key c.args.value) c.in-Map.is)
