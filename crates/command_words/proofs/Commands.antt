@@ -13,7 +13,7 @@ use Rattle.command_words.specs.declared.words.Command.{Command as CodeCommand}
 use Rattle.command_words.specs.declared.words.Kind.{Kind}
 use Rattle.command_words.specs.declared.words.Verb.{Verb}
 use Rattle.command_words.specs.declared.words.Verb.TheVariants as verb
-use Rattle.command_words.specs.Words.{IsLimited, IsLimitedRun, IsLimitedCount, Command, Form, Name, until_name, instants_name, bytes_name, Flag, strict_flag, stats_flag, Piece, pieces, plains, values, uses, are_plain, fits, read, spec_form, run_form, count_form, number, number_or, most_time, most_instants, most_bytes, most_lines, Run, run_by, run_of, spec_of, kind_of as trace_kind, counted_by, counted_of, first_verb, verb_of, asked_by, command_asked, command_of, is_empty, check as checks, flat as flattens, code as codes_of, run as runs, generate, bench}
+use Rattle.command_words.specs.Words.{IsLimited, IsLimitedRun, IsLimitedCount, Command, until_name, instants_name, bytes_name, strict_flag, stats_flag, Piece, plains, values, uses, are_plain, fits, read, spec_form, run_form, count_form, number, number_or, most_time, most_instants, most_bytes, most_lines, Run, run_by, run_of, spec_of, kind_of as trace_kind, counted_by, counted_of, first_verb, asked_by, command_asked, command_of, is_empty, check as checks, flat as flattens, show as shows, code as codes_of, run as runs, generate, bench}
 
 fits_run : (ps : List Piece) (found : Found) → Holds ps found → fits run_form ps ≡ true
 fits_run ps found h = rw (le-leb _ _ h.some_word, le-leb _ _ h.few_words, le-leb _ _ (h.one_value until_name), le-leb _ _ (h.one_value instants_name), le-leb _ _ (h.one_value bytes_name), le-leb _ _ (h.one_use strict_flag), le-leb _ _ (h.one_use stats_flag)) refl
@@ -83,6 +83,7 @@ pub refused_by : (words : List Text) (v : Verb) → IsRefused words → asked_by
 refused_by words verb.Run h = rw h.run refl
 refused_by words verb.Check h = rw h.spec refl
 refused_by words verb.Flat h = rw h.spec refl
+refused_by words verb.Show h = rw h.spec refl
 refused_by words verb.Code h = rw h.spec refl
 refused_by words verb.Generate h = rw h.count refl
 refused_by words verb.Bench h = rw h.count refl
@@ -149,6 +150,7 @@ asked_limited verb.Run words c e =
     subst IsLimited r.2 (run_limited ps.0 r.0 ps.2)
 asked_limited verb.Check words c e = let r = map_some checks _ c e in subst IsLimited r.2 tt
 asked_limited verb.Flat words c e = let r = map_some flattens _ c e in subst IsLimited r.2 tt
+asked_limited verb.Show words c e = let r = map_some shows _ c e in subst IsLimited r.2 tt
 asked_limited verb.Code words c e = let r = map_some codes_of _ c e in subst IsLimited r.2 tt
 asked_limited verb.Generate words c e =
     let r = map_some (λ (d : Kind × ℕ). generate d.0 d.1) _ c e in

@@ -1,11 +1,9 @@
 -- What `clap` makes of the words of a run: where it refuses them, and else the pieces in its matches.
-use Rattle.std.proofs.Common.{◌≡◌, ◌∙◌, ap, sym, subst, refl, arith, ℕ, Bool, true, false, not, ◌&&◌, ◌||◌, ◌==◌, ◌+◌, suc, List, [], ◌∷◌, ◌++◌, length, map, drop, take, Option, Some, None, codes, fold, ◌≤◌, if◌then◌else◌, slice_get, option_and_then, option_map, unwrap_or}
+use Rattle.std.proofs.Common.{◌≡◌, ◌∙◌, ap, sym, subst, refl, arith, ℕ, Bool, true, false, not, ◌||◌, ◌==◌, ◌+◌, suc, List, [], ◌∷◌, ◌++◌, length, map, drop, take, Option, Some, None, codes, fold, ◌≤◌, if◌then◌else◌, option_and_then, unwrap_or}
 use Rattle.std.specs.Str.{bytes_eq, IsUtf8}
-use Rattle.std.specs.List.{All, before_first, list_any, prefix_len}
+use Rattle.std.specs.List.{All, before_first, prefix_len}
 use Rattle.std.proofs.lemmas.Bool.{eqb-true, eq-eqb, le-leb, leb-true, and_parts}
 use Rattle.std.proofs.lemmas.List.{append-nil, append_assoc}
-use Rattle.std.specs.Str.Parse.{digits_value}
-use Rattle.tsl_value.specs.Literal.{are_digits}
 use Rattle.clap.specs.Walk.{nothing_held, rows_of, Row, Rule, Text, Waiting, Walk, idle, option as taking, walked, value, arg_by_index, settled_rows, to_positional, has_row, with_values, more_values, with_default, default_rows, reading_by, is_empty, first_of, one_of}
 use Rattle.clap.specs.Lexer.{long_of, short_of}
 use Rattle.clap.specs.Simple.{App, HasMatchesOf, is_simple, matches_of, built, filled, with_index}
@@ -19,8 +17,8 @@ use Rattle.clap.specs.Matches.{found_of, first_value}
 use Rattle.clap.specs.declared.error.kind.ErrorKind.{ErrorKind}
 use Rattle.clap.specs.declared.builder.value_parser.Reading.TheVariants.{AsWritten}
 use Rattle.clap.specs.declared.parser.matches.ValueSource.TheVariants.{DefaultValue}
-use Rattle.command_words.specs.Reader.{Holds, IsRefused, Matches, flag_id, flag_rule, id_of, option_rule, run_app, spec_rule, trace_rule}
-use Rattle.command_words.specs.Words.{IsLimited, IsLimitedRun, Command, Form, Name, until_name, instants_name, bytes_name, Flag, strict_flag, stats_flag, Piece, plain, option, flag, Class, whole, waits, ends, refused, is_dashed, is_equals, value_in, class_of, named_class, before, pieces, plains, values, uses, fits, read, spec_form, run_form, count_form}
+use Rattle.command_words.specs.Reader.{IsRefused, Matches, flag_id, flag_rule, id_of, option_rule, run_app, spec_rule, trace_rule}
+use Rattle.command_words.specs.Words.{Form, Name, until_name, instants_name, bytes_name, Flag, strict_flag, stats_flag, Piece, plain, option, flag, Class, whole, waits, ends, refused, is_dashed, is_equals, value_in, class_of, named_class, before, pieces, plains, values, uses, fits, read, spec_form, run_form, count_form}
 use Rattle.command_words.proofs.WordRows.{row, flag_row, rows_from, any_row, has_chosen, flag_other, chosen_name, chosen_spec, chosen_trace, defaulted, flag_no_spec, flag_no_trace, fresh_row, rows_more, has_name, has_flag, Fits, plains_then, fits_plain, fits_flag, fits_option, unfit_plain, unfit_flag, unfit_option, default_row, final, first_final, first_taken, second_dropped, flag_final, spec_given}
 use Rattle.command_words.proofs.WordTurns.{is_exact, spec_slot, trace_slot, name_slot, S, R, HasFault, left_fault, Look, look, Named, named, rest_name, name_behind, value_behind, at, fault_from, end_rows, pass_turn, stop_turn, pass_rows, held, quiet_settle, loud_settle, slot_rows, empty_settle, positional_spec, positional_trace, spec_placed, trace_placed, plain_turn, plain_walked, trailing_turn, trailing_walked, end_turn, end_walked, value_turn, value_walked, short_turn, first_char, long_turn, long_turn_is, long_walk, long_walk_is, loud_long, unknown_long, option_turn, option_walked, joined_turn, joined_again, joined_walked, flag_turn, flag_again, flag_valued, flag_walked, Texts, loud_trailing, loud_idle, undashed, end_mark, long, short, to_option, to_flag, to_none}
 

@@ -24,10 +24,11 @@ pub record Run : Type 0 where
   pub strict : Bool
   pub stats : Bool
 
--- what words ask for: one of the first three with the name of a specification, a run, or a trace of a kind with so many lines
+-- what words ask for: one of the first four with the name of a specification, a run, or a trace of a kind with so many lines
 pub data Command : Type 0 where
   check : List ℕ → Command
   flat : List ℕ → Command
+  show : List ℕ → Command
   code : List ℕ → Command
   run : Run → Command
   generate : Kind → ℕ → Command
@@ -266,15 +267,17 @@ verb_of word =
     if bytes_eq word (codes "run") then Some verb.Run
     else (if bytes_eq word (codes "check") then Some verb.Check
     else (if bytes_eq word (codes "flat") then Some verb.Flat
+    else (if bytes_eq word (codes "show") then Some verb.Show
     else (if bytes_eq word (codes "code") then Some verb.Code
     else (if bytes_eq word (codes "gen") then Some verb.Generate
-    else (if bytes_eq word (codes "bench") then Some verb.Bench else None)))))
+    else (if bytes_eq word (codes "bench") then Some verb.Bench else None))))))
 
 -- what is asked for behind the name of a command
 abbrev pub asked_by : Verb → List (List ℕ) → Option Command
 asked_by verb.Run words = option_map run (option_and_then run_of (read run_form words))
 asked_by verb.Check words = option_map check (option_and_then spec_of (read spec_form words))
 asked_by verb.Flat words = option_map flat (option_and_then spec_of (read spec_form words))
+asked_by verb.Show words = option_map show (option_and_then spec_of (read spec_form words))
 asked_by verb.Code words = option_map code (option_and_then spec_of (read spec_form words))
 asked_by verb.Generate words = option_map (λ c. generate c.0 c.1) (option_and_then counted_of (read count_form words))
 asked_by verb.Bench words = option_map (λ c. bench c.0 c.1) (option_and_then counted_of (read count_form words))
@@ -309,6 +312,7 @@ pub record IsLimitedCount (n : ℕ) : Type 0 where
 abbrev pub IsLimited : Command → Type 0
 IsLimited (check spec) = ⊤
 IsLimited (flat spec) = ⊤
+IsLimited (show spec) = ⊤
 IsLimited (code spec) = ⊤
 IsLimited (run r) = IsLimitedRun r
 IsLimited (generate k n) = IsLimitedCount n
@@ -329,6 +333,7 @@ run_asked asked = record {
 abbrev pub command_asked : CodeCommand → Command
 command_asked (asked.Check spec) = check spec.now
 command_asked (asked.Flat spec) = flat spec.now
+command_asked (asked.Show spec) = show spec.now
 command_asked (asked.Code spec) = code spec.now
 command_asked (asked.Run r) = run (run_asked r)
 command_asked (asked.Generate k n) = generate k n

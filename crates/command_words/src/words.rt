@@ -107,6 +107,7 @@ pub struct Run<'a> {
 enum Verb {
     Check,
     Flat,
+    Show,
     Code,
     Run,
     Generate,
@@ -120,6 +121,8 @@ pub enum Command<'a> {
     Check { spec: &'a str },
     /// To print its equations.
     Flat { spec: &'a str },
+    /// To print which of its updates happen in place, and why the others copy.
+    Show { spec: &'a str },
     /// To print its register code.
     Code { spec: &'a str },
     Run(Run<'a>),
@@ -313,6 +316,7 @@ fn verb_of(word: &str) -> Option<Verb>
         "run" => Some(Verb::Run),
         "check" => Some(Verb::Check),
         "flat" => Some(Verb::Flat),
+        "show" => Some(Verb::Show),
         "code" => Some(Verb::Code),
         "gen" => Some(Verb::Generate),
         "bench" => Some(Verb::Bench),
@@ -330,6 +334,9 @@ fn command_by<'a>(verb: Verb, matches: &ArgMatches<'a>) -> Option<Command<'a>>
             spec: spec_by(matches)?,
         }),
         Verb::Flat => Some(Command::Flat {
+            spec: spec_by(matches)?,
+        }),
+        Verb::Show => Some(Command::Show {
             spec: spec_by(matches)?,
         }),
         Verb::Code => Some(Command::Code {
@@ -376,9 +383,9 @@ fn asked_behind<'a>(
 impl Words {
     /// What the words ask for; `None` exactly where they are not accepted.
     ///
-    /// The first word is the name of a command. Behind it stand `SPEC` for `check`, `flat` and `code`, `SPEC` and at most one
-    /// `TRACE` for `run`, and `KIND N` for `gen` and `bench`, where `KIND` is `seen` or `copy`, none of them empty. For `run`
-    /// the options `--until T`, `--instants N` and `--bytes B`, also written `--name=V`, and the flags `--strict` and
+    /// The first word is the name of a command. Behind it stand `SPEC` for `check`, `flat`, `show` and `code`, `SPEC` and at
+    /// most one `TRACE` for `run`, and `KIND N` for `gen` and `bench`, where `KIND` is `seen` or `copy`, none of them empty. For
+    /// `run` the options `--until T`, `--instants N` and `--bytes B`, also written `--name=V`, and the flags `--strict` and
     /// `--stats` may stand anywhere before a word `--`, each at most once. Other words than `-` that begin with `-` are
     /// refused there, and all words behind it are plain. Numbers are one digit or more: T at most `MOST_TIME`, N of `run`
     /// from 1 to `MOST_INSTANTS`, B from 1 to `MOST_BYTES`, N of `gen` and `bench` from 1 to `MOST_LINES`.

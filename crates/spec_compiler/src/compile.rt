@@ -5,11 +5,13 @@ ghost use Rattle.flat_core.specs.Complete.{IsFlat};
 ghost use Rattle.flat_core.specs.WellFormed.{IsWellFormed};
 ghost use Rattle.register_code.specs.Plan.{IsLeastPlanOrder};
 ghost use Rattle.spec_reader.specs.Source.{IsRefused};
-ghost use Rattle.spec_compiler.specs.Compiled.{CompilesSomething};
+ghost use Rattle.spec_compiler.specs.Compiled.{AreReasonsListed, CompilesSomething};
 ghost use Rattle.spec_compiler.specs.Ready.{IsReady};
 
 use flat_core::flat::Flat;
 use flat_simplify::simplify::simplify;
+use last_use::choice::{Choice, choose};
+use last_use::reasons::Reasons;
 use register_code::code::{Code, generate};
 use register_code::copying::copying_plan;
 use spec_reader::fault::SpecFault;
@@ -50,6 +52,16 @@ fn copying_code(alloc: Global, flat: Flat) -> Result<Code, NoMemory>
     // A code's system is whole, as this call tells.
     let _ = code.flat();
     Ok(code)
+}
+
+/// Why updates of a system don't happen in place, for each that is not chosen to.
+pub fn reasons_of(alloc: Global, flat: &Flat) -> Result<Reasons, NoMemory>
+    requires { IsWellFormed flat.now }
+    ensures { IfOk result (AreReasonsListed flat.now) }
+{
+    let triggers = Triggers::of(alloc, flat)?;
+    let Choice { plan: _, reasons } = choose(alloc, flat, &triggers)?;
+    Ok(reasons)
 }
 
 /// Compiles the bytes of a specification: its flat system is simplified, and the code is made by the plan in which all updates copy.

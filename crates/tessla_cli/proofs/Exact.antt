@@ -98,7 +98,7 @@ module _ (items : List tree.Item) (s : System) (o : Options) (bytes : List ℕ) 
 -- the options of a run that is asked for
 abbrev task_options : Options → Task → Options
 task_options o (print f) = o
-task_options o (monitor trace other) = other
+task_options o (monitor trace other statistics) = other
 
 abbrev options_or : Options → Option (List ℕ × Task) → Options
 options_or o None = o
@@ -106,7 +106,7 @@ options_or o (Some asked) = task_options o asked.1
 
 abbrev is_print : Task → Bool
 is_print (print f) = true
-is_print (monitor trace o) = false
+is_print (monitor trace o statistics) = false
 
 abbrev asks_print : Option (List ℕ × Task) → Bool
 asks_print None = false
@@ -166,10 +166,10 @@ module _ (words : List (List ℕ)) (part : List Did) where
   none_alone none = ap (option_and_then without_spec) none
 
   run_or_alone : (by : Ending) → EndsRun words by part → EndsAlone words part → ⊥
-  run_or_alone by a b = apart (requested words) (a.name, monitor a.trace a.options) b.wrote.what a.asked b.wrote.asked
+  run_or_alone by a b = apart (requested words) (a.name, monitor a.trace a.options a.statistics) b.wrote.what a.asked b.wrote.asked
 
   run_or_stops : (by other : Ending) → EndsRun words by part → AloneEnds words other part → ⊥
-  run_or_stops by other a b = apart (requested words) (a.name, monitor a.trace a.options) b.what a.asked b.asked
+  run_or_stops by other a b = apart (requested words) (a.name, monitor a.trace a.options a.statistics) b.what a.asked b.asked
 
   print_or_alone : EndsPrint words part → EndsAlone words part → ⊥
   print_or_alone a b = apart (requested words) (a.name, print a.form) b.wrote.what a.asked b.wrote.asked
@@ -215,7 +215,7 @@ module _ (words : List (List ℕ)) (part : List Did) where
   run_or_print by ends prints = true≢false (ap asks_print (sym prints.asked ∙ ends.asked))
 
   from_run : (by other : Ending) → EndsRun words by part → RunEnds words other part → status_of by ≡ status_of other
-  from_run by ending.Words a b = absurd (nothing_some _ (a.name, monitor a.trace a.options) (none_asked b.refused) a.asked)
+  from_run by ending.Words a b = absurd (nothing_some _ (a.name, monitor a.trace a.options a.statistics) (none_asked b.refused) a.asked)
   from_run by (ending.Spec place) a (inl b) = absurd (spec_or_run place by b a)
   from_run by (ending.Spec place) a (inr b) = absurd (run_or_stops by (ending.Spec place) a b)
   from_run by ending.Done a (inl b) = one_run by ending.Done a b
@@ -270,14 +270,14 @@ module _ (words : List (List ℕ)) (part : List Did) where
   from_words ending.Words none neither b = refl
   from_words (ending.Spec place) none neither (inl b) = absurd (nothing_some _ (b.name, b.task) none b.asked)
   from_words (ending.Spec place) none neither (inr b) = absurd (nothing_some _ b.what neither b.asked)
-  from_words ending.Done none neither (inl b) = absurd (nothing_some _ (b.name, monitor b.trace b.options) none b.asked)
+  from_words ending.Done none neither (inl b) = absurd (nothing_some _ (b.name, monitor b.trace b.options b.statistics) none b.asked)
   from_words ending.Done none neither (inr (inl b)) = absurd (nothing_some _ (b.name, print b.form) none b.asked)
   from_words ending.Done none neither (inr (inr b)) = absurd (nothing_some _ b.wrote.what neither b.wrote.asked)
-  from_words (ending.Trace f) none neither (inl b) = absurd (nothing_some _ (b.name, monitor b.trace b.options) none b.asked)
+  from_words (ending.Trace f) none neither (inl b) = absurd (nothing_some _ (b.name, monitor b.trace b.options b.statistics) none b.asked)
   from_words (ending.Trace f) none neither (inr b) = absurd (nothing_some _ b.what neither b.asked)
-  from_words (ending.Fault t kind place) none neither (inl b) = absurd (nothing_some _ (b.name, monitor b.trace b.options) none b.asked)
+  from_words (ending.Fault t kind place) none neither (inl b) = absurd (nothing_some _ (b.name, monitor b.trace b.options b.statistics) none b.asked)
   from_words (ending.Fault t kind place) none neither (inr b) = absurd (nothing_some _ b.what neither b.asked)
-  from_words (ending.Limit n t) none neither (inl b) = absurd (nothing_some _ (b.name, monitor b.trace b.options) none b.asked)
+  from_words (ending.Limit n t) none neither (inl b) = absurd (nothing_some _ (b.name, monitor b.trace b.options b.statistics) none b.asked)
   from_words (ending.Limit n t) none neither (inr b) = absurd (nothing_some _ b.what neither b.asked)
 
   from_spec : (fault : SpecFault) (other : Ending) → SpecRefused words fault part → RunEnds words other part → 3 ≡ status_of other

@@ -1,7 +1,9 @@
 -- What the journal of a run shows, from its parts.
-use Rattle.std.proofs.Common.{◌≡◌, ◌⊎◌, inl, inr, ℕ, ◌≤◌, Bool, false, List, [], ◌∷◌, ◌++◌, length, refl, sym, ◌∙◌, ap, subst, Some}
+use Rattle.std.proofs.Common.{◌≡◌, ◌⊎◌, inl, inr, ℕ, ◌≤◌, Bool, true, false, List, [], ◌∷◌, ◌++◌, length, refl, sym, ◌∙◌, ap, subst, Some}
 use Rattle.std.proofs.lemmas.List.{append-nil}
 use Rattle.flat_core.specs.System.{System}
+use Rattle.monitor_run.specs.State as engine
+use Rattle.trace_monitor.specs.Counted.{HasCounted}
 use Rattle.tsl_world.specs.Begins.{Begins}
 use Rattle.tsl_world.specs.declared.outside.Did.{Did}
 use Rattle.tsl_world.specs.declared.outside.Did.TheVariants.{Opened, Created, NotOpened, NotCreated, Took, Gave}
@@ -24,11 +26,13 @@ use Rattle.tessla_cli.specs.Conduct.{HasWhole, IsBeforeOpening, MakesNothing, Re
 use Rattle.tessla_cli.specs.Headline.{OfRun, IsDueAtReads}
 use Rattle.tessla_cli.specs.Meant.{IsDueAsMeant, GoesOnAsMeant, BeginsAsMeant, WatchEndsAsMeant}
 use Rattle.tessla_cli.specs.Parts.{IsTake, IsTraceWork, MayRead, BeginsDue, Watched, WatchEnds}
-use Rattle.tessla_cli.specs.Shape.{MayReadSpec, ReadsSpec, GivesSource, Prints, idle, no_trace, watched, uncompiled, compiled, prints, RunsSpec, unopened, no_spec, reading, whole, RunsWords, unasked, asked, samples, PrintsText, unmade, writes}
+use Rattle.tessla_cli.specs.Statistics.{AreStatistics}
+use Rattle.tessla_cli.specs.Shape.{counted_text, MayReadSpec, ReadsSpec, GivesSource, Prints, idle, no_trace, watched, uncompiled, compiled, prints, RunsSpec, unopened, no_spec, reading, whole, RunsWords, unasked, asked, samples, PrintsText, unmade, writes}
 use Rattle.tessla_cli.specs.Alone.{IsAloneText}
 use Rattle.tessla_cli.specs.Printed.{IsTextOf}
 use Rattle.tessla_cli.specs.Tasks.{Alone, Task, alone_of, print, monitor, asked_of, names_of, traces_of}
 use Rattle.tessla_cli.specs.declared.task.Form.{Form}
+use Rattle.tessla_cli.proofs.Counted.{statistics_meant}
 use Rattle.tessla_cli.proofs.Meaning.{due_meant, goes_on_meant, begins_meant, watch_ends_meant}
 
 -- What holds of each read of a slot holds of a part of such reads, and so for a part that reads the trace and writes output.
@@ -237,11 +241,11 @@ module _ (words : List (List ℕ)) (name : List ℕ) (task : Task) (asked_is : a
         (inr (inr (inl (of_print (λ text. Begins (given Out (front ++ part)) text) (subst (λ (l : List ℕ). Begins l p.text) (sym (given_behind Out front part front_no_out)) p.some)))))
 
   -- a trace is asked for
-  module _ (trace : List ℕ) (o : Options) (task_is : task ≡ monitor trace o) where
+  module _ (trace : List ℕ) (o : Options) (statistics : Bool) (task_is : task ≡ monitor trace o statistics) where
     traces_are : traces_of task ≡ (Trace, trace) ∷ []
     traces_are = ap traces_of task_is
 
-    asked_run : asked_of words ≡ Some (name, monitor trace o)
+    asked_run : asked_of words ≡ Some (name, monitor trace o statistics)
     asked_run = asked_is ∙ ap (λ (t : Task). Some (name, t)) task_is
 
     -- the trace could not be opened
@@ -268,7 +272,7 @@ module _ (words : List (List ℕ)) (name : List ℕ) (task : Task) (asked_is : a
       compiled_behind less none = subst (λ (l : List ℕ). Compiles l items s) (sym (taken_before Spec front less none ∙ g.bytes_are)) compiled_so
 
       pub of_run : (less : List Did) (P : List tree.Item → System → Options → Type 0) → Each (IsNoRead Spec) less → P items s o → OfRun words (front ++ less) P
-      of_run less P none holds = record { name = name; trace = trace; options = o; asked = asked_run; items = items; system = s; compiled = compiled_behind less none; holds = holds }
+      of_run less P none holds = record { name = name; trace = trace; options = o; statistics = statistics; asked = asked_run; items = items; system = s; compiled = compiled_behind less none; holds = holds }
 
       -- what is due, what goes on and what ends behind the front is what it is without it
       due_behind : (less : List Did) (e : Bool) (text : List ℕ) → IsDue s o (taken Trace less) e text → IsDue s o (taken Trace (front ++ less)) e text
@@ -280,14 +284,24 @@ module _ (words : List (List ℕ)) (name : List ℕ) (task : Task) (asked_is : a
       ended_so : (less : List Did) → ended Trace (front ++ less) ≡ ended Trace less
       ended_so less = ended_behind Trace front less front_no_trace
 
-      pub ends_behind : (by : Ending) (part : List Did) → WatchEnds s o by part → WatchEndsAsMeant items s o by (front ++ Opened Trace trace ∷ part)
-      ends_behind by part w = let rest = Opened Trace trace ∷ part in watch_ends_meant source items s o compiled_so by (front ++ rest) record {
+      all_ends : (state : engine.State) (by : Ending) (part : List Did) → WatchEnds s o state by part → WatchEnds s o state by (front ++ Opened Trace trace ∷ part)
+      all_ends state by part w = let rest = Opened Trace trace ∷ part in record {
         due = subst (λ (e : Bool). IsDue s o (taken Trace (front ++ rest)) e (given Out (front ++ rest))) (sym (ended_so rest)) (given_so rest (ended Trace rest) w.due);
         how = w.how;
         by_is = w.by_is;
         cause = subst (λ (e : Bool). EndsBy s o (taken Trace (front ++ rest)) e w.how) (sym (ended_so rest))
             (subst (λ (l : List ℕ). EndsBy s o l (ended Trace rest) w.how) (sym (taken_behind Trace front rest front_no_trace)) w.cause);
+        counted = subst (λ (e : Bool). HasCounted s o (taken Trace (front ++ rest)) e state w.how) (sym (ended_so rest))
+            (subst (λ (l : List ℕ). HasCounted s o l (ended Trace rest) state w.how) (sym (taken_behind Trace front rest front_no_trace)) w.counted);
       }
+
+      pub ends_behind : (state : engine.State) (by : Ending) (part : List Did) → WatchEnds s o state by part → WatchEndsAsMeant items s o by (front ++ Opened Trace trace ∷ part)
+      ends_behind state by part w = watch_ends_meant source items s o compiled_so state by (front ++ Opened Trace trace ∷ part) (all_ends state by part w)
+
+      -- what is told of the updates
+      pub statistics_behind : (state : engine.State) (by : Ending) (part : List Did) (text : List ℕ) → WatchEnds s o state by part → text ≡ counted_text s state true
+          → AreStatistics s o (taken Trace (front ++ Opened Trace trace ∷ part)) (ended Trace (front ++ Opened Trace trace ∷ part)) by text
+      statistics_behind state by part text w is = statistics_meant s o state by (front ++ Opened Trace trace ∷ part) text (all_ends state by part w) is
 
       module _ (part : List Did) (w : Watched s o part) where
         spec_none : Each (IsNoRead Spec) part
@@ -352,9 +366,9 @@ shows_spec words name task is _ no_spec =
 shows_spec words name task is _ (reading reads r) = subst (λ (l : List Did). Shows words l) (ap (λ (l : List Did). Opened Spec name ∷ l) (append-nil reads)) (shows_front words name task is reads r)
 shows_spec words name task is _ (whole reads rest source r g (uncompiled none)) =
     subst (λ (l : List Did). Shows words (Opened Spec name ∷ (reads ++ l))) (sym none) (shows_front words name task is reads r)
-shows_spec words name task is _ (whole reads _ source r g (compiled trace o monitors items s c idle)) = shows_front words name task is reads r
-shows_spec words name task is _ (whole reads _ source r g (compiled trace o monitors items s c no_trace)) = shows_no_trace words name task is reads r trace o monitors source g
-shows_spec words name task is _ (whole reads _ source r g (compiled trace o monitors items s c (watched part w))) = shows_watched words name task is reads r trace o monitors source g items s c part w
+shows_spec words name task is _ (whole reads _ source r g (compiled trace o statistics monitors items s c idle)) = shows_front words name task is reads r
+shows_spec words name task is _ (whole reads _ source r g (compiled trace o statistics monitors items s c no_trace)) = shows_no_trace words name task is reads r trace o statistics monitors source g
+shows_spec words name task is _ (whole reads _ source r g (compiled trace o statistics monitors items s c (watched part w))) = shows_watched words name task is reads r trace o statistics monitors source g items s c part w
 shows_spec words name task is _ (whole reads rest source r g (prints f printing p)) = shows_print words name task is reads r source g f printing rest p
 
 -- what a run shows that writes a text without a specification

@@ -4,6 +4,7 @@ pub mod Reading
 pub mod Grown
 pub mod TypedLines
 pub mod Meaning
+pub mod Counted
 pub mod Facts
 pub mod Printing
 pub mod Counting

@@ -1,6 +1,7 @@
 -- What the system that is run says of a trace, the specification itself says.
 use Rattle.std.proofs.Common.{◌≡◌, ℕ, Bool, false, List, sym, subst}
 use Rattle.lift_func.specs.declared.fault.FaultKind.{FaultKind}
+use Rattle.monitor_run.specs.State as engine
 use Rattle.flat_core.specs.Case.{Streams}
 use Rattle.flat_core.specs.Ending.{EndsInFault}
 use Rattle.flat_core.specs.Line.{Line}
@@ -67,8 +68,8 @@ module _ (source : List ℕ) (items : List tree.Item) (s : System) (o : Options)
   pub begins_meant : (part : List Did) → BeginsDue s o part → BeginsAsMeant items s o part
   begins_meant part b = record { text = b.text; due = due_meant (taken Trace part) (ended Trace part) b.text b.due; begins = b.begins }
 
-  pub watch_ends_meant : (by : Ending) (part : List Did) → WatchEnds s o by part → WatchEndsAsMeant items s o by part
-  watch_ends_meant by part w = record {
+  pub watch_ends_meant : (e : engine.State) (by : Ending) (part : List Did) → WatchEnds s o e by part → WatchEndsAsMeant items s o by part
+  watch_ends_meant e by part w = record {
     due = due_meant (taken Trace part) (ended Trace part) (given Out part) w.due;
     ends = ends_meant (taken Trace part) (ended Trace part) by w.how w.by_is w.cause;
   }

@@ -1,13 +1,13 @@
 -- A text that is printed, as far as it comes.
-use Rattle.std.proofs.Common.{◌≡◌, ℕ, List, [], Result, Ok, refl, ◌∙◌}
-use Rattle.register_code.specs.Code.{Code}
+use Rattle.std.proofs.Common.{◌≡◌, ℕ, List, [], Result, Ok, refl, subst}
 use Rattle.register_code.specs.Plan.{IsLeastPlanOrder}
+use Rattle.register_code.specs.Code.{Code}
 use Rattle.spec_compiler.specs.Compiled.{CompilesSomething}
 use Rattle.tsl_world.specs.declared.outside.Channel.TheVariants.{Out}
 use Rattle.tsl_world.specs.declared.outside.Did.{Did}
 use Rattle.tessla_cli.specs.declared.task.Form.{Form}
 use Rattle.tessla_cli.specs.Parts.{Gives}
-use Rattle.tessla_cli.specs.Printed.{IsTextOf, text_of}
+use Rattle.tessla_cli.specs.Printed.{HasText, IsTextOf}
 use Rattle.tessla_cli.specs.Shape.{Prints, HasPrinted, PrintsText, HasPrintedText}
 
 -- any text
@@ -21,7 +21,7 @@ module _ (P : List ℕ → Type 0) (text : List ℕ) (is : P text) where
   pub text_all : {E : Type 0} (part : List Did) → Gives {E = E} Out text (Ok tt) part → HasPrintedText P part
   text_all part g = record { text = text; is = is; gifts = g.gifts; whole = g.whole }
 
-module _ (source : List ℕ) (f : Form) (c : Code) (copies : c.in_place ≡ []) (least : IsLeastPlanOrder c.system c.order) (compiles : CompilesSomething source c.system) (text : List ℕ) (is : text ≡ text_of f c) where
+module _ (source : List ℕ) (f : Form) (c : Code) (copies : c.in_place ≡ []) (least : IsLeastPlanOrder c.system c.order) (compiles : CompilesSomething source c.system) (text : List ℕ) (is : HasText f c text) where
   pub is_text : IsTextOf source f text
   is_text = record {
     items = compiles.0;
@@ -29,11 +29,8 @@ module _ (source : List ℕ) (f : Form) (c : Code) (copies : c.in_place ≡ []) 
     order = c.order;
     compiles = compiles.1;
     least = least;
-    is = is ∙ λ k. text_of f (record { system = c.system; in_place = copies k; order = c.order });
+    is = subst (λ (set : List ℕ). HasText f (record { system = c.system; in_place = set; order = c.order }) text) copies is;
   }
-
-  pub prints_none : Prints source f []
-  prints_none = text_none (IsTextOf source f) text is_text
 
   pub prints_some : {E : Type 0} (result : Result (Unit {0}) E) (part : List Did) → Gives Out text result part → Prints source f part
   prints_some result part g = text_some (IsTextOf source f) text is_text result part g

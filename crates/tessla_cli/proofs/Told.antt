@@ -1,6 +1,8 @@
 -- What a run shows and how it ends, behind the line that tells it.
-use Rattle.std.proofs.Common.{◌≡◌, ◌≢◌, ◌⊎◌, inl, inr, ℕ, ◌<◌, ◌≤◌, Bool, List, [], ◌∷◌, ◌++◌, length, refl, sym, ◌∙◌, ap, subst, arith, Some}
+use Rattle.std.proofs.Common.{◌≡◌, ◌≢◌, ◌⊎◌, inl, inr, ℕ, ◌<◌, ◌≤◌, Bool, true, false, List, [], ◌∷◌, ◌++◌, length, refl, sym, ◌∙◌, ap, subst, arith, Option, Some, None, option_and_then}
+use Rattle.std.specs.Option.{option_map_or}
 use Rattle.flat_core.specs.System.{System}
+use Rattle.monitor_run.specs.State as engine
 use Rattle.spec_parser.specs.Tree as tree
 use Rattle.spec_reader.specs.declared.fault.SpecFault.{SpecFault}
 use Rattle.spec_compiler.specs.Compiled.{Compiles, IsRefusedBy}
@@ -18,6 +20,7 @@ use Rattle.tsl_world.specs.Journal.{given, taken, ended, openings, IsNoRead, IsN
 use Rattle.tsl_world.proofs.Journals.{given-append, place, Each-append}
 use Rattle.tsl_world.proofs.Parts.{gifts_read_none, gifts_transfer, gifts_within, gifts_elsewhere, taken_before, ended_before, given_before, given_behind, given_none, openings_before, creations_before, openings_none}
 use Rattle.tsl_world.proofs.Places.{at_more}
+use Rattle.tessla_cli.specs.declared.ending.Ended.{Ended}
 use Rattle.tessla_cli.specs.declared.ending.Ending.{Ending}
 use Rattle.tessla_cli.specs.declared.ending.Ending.TheVariants as ending
 use Rattle.tessla_cli.specs.declared.ending.Broken.{Broken}
@@ -26,13 +29,14 @@ use Rattle.tessla_cli.specs.Alone.{AloneStops}
 use Rattle.tessla_cli.specs.Conduct.{HasWhole, IsBeforeOpening, OfPrint, OfAlone, EndsRun, AloneEnds, SpecRefused, IsPartlyDue, RunEnds, source_limit}
 use Rattle.tessla_cli.specs.Headline.{OfRun}
 use Rattle.tessla_cli.specs.Meant.{IsDueAsMeant, EndsAsMeant, BeginsAsMeant, WatchEndsAsMeant}
-use Rattle.tessla_cli.specs.Messages.{ending_line, broken_line, broken_status, status_of}
-use Rattle.tessla_cli.specs.Outcome.{Ends, Faulted, Limited, LineRefused, Refused, TellsSome, cut_short, unfinished, Outcome, told, outside, memory, ShowsAlways, Concludes, Tells, TellsBroken, all_of_broken, some_of_broken, TellsEnding, all_of_ending, some_of_ending, no_line}
-use Rattle.tessla_cli.specs.Parts.{ending_of}
-use Rattle.tessla_cli.specs.Shape.{ReadsSpec, GivesSource, ends, SourceEnds, spec_refused, compiled_ends, printed, whole_ends, WordsEnd, words_refused, asked_ends, sampled, AloneIsDone, written, stopped}
+use Rattle.tessla_cli.specs.Messages.{ended_text, ending_line, broken_line, broken_status, status_of}
+use Rattle.tessla_cli.specs.Outcome.{Ends, Faulted, IsToldBefore, unasked, refused_before, counted, Limited, LineRefused, Refused, TellsSome, cut_short, unfinished, Outcome, told, outside, memory, ShowsAlways, Concludes, Tells, TellsBroken, all_of_broken, some_of_broken, TellsEnding, all_of_ending, some_of_ending, no_text}
+use Rattle.tessla_cli.specs.Parts.{ending_of, Watched, WatchEnds}
+use Rattle.tessla_cli.specs.Shape.{ReadsSpec, GivesSource, counted_text, ends, SourceEnds, spec_refused, compiled_ends, printed, whole_ends, WordsEnd, words_refused, asked_ends, sampled, AloneIsDone, written, stopped}
 use Rattle.tessla_cli.specs.Printed.{IsTextOf}
-use Rattle.tessla_cli.specs.Tasks.{Alone, Task, alone_of, asked_of, benched, made, names_of}
-use Rattle.tessla_cli.proofs.Facts.{Shows, no_opening_in, of_run, of_print, ends_behind, each_take, each_work}
+use Rattle.tessla_cli.specs.Statistics.{AreStatistics}
+use Rattle.tessla_cli.specs.Tasks.{Alone, Request, Task, alone, alone_of, asked_of, asks_statistics, benched, has_statistics, made, monitor, names_of, over, requested, with_spec, without_spec}
+use Rattle.tessla_cli.proofs.Facts.{Shows, no_opening_in, of_run, of_print, ends_behind, statistics_behind, each_take, each_work}
 use Rattle.std.proofs.lemmas.List.{append-nil}
 
 -- a run that ends before the end of its trace is not done
@@ -58,6 +62,19 @@ stops_not_words : (a : Alone) → AloneStops a ending.Words → ⊥
 stops_not_words (made n) stops = stops
 stops_not_words (benched kind n) (inl (fault, refused, is)) = absurd (let e : ending.Words ≡ ending.Spec fault = is in cc)
 stops_not_words (benched kind n) (inr (how, ran, is)) = run_not_words how is
+
+-- whether statistics are asked for, by what is asked for
+abbrev tells_of : Option (List ℕ × Task) → Bool
+tells_of asked = option_map_or (λ a. has_statistics a.1) asked false
+
+asks_as : (words : List (List ℕ)) (name : List ℕ) (task : Task) → asked_of words ≡ Some (name, task) → asks_statistics words ≡ has_statistics task
+asks_as words name task is = ap tells_of is
+
+-- none are where nothing is done with a specification of the outside
+alone_unasked : (r : Option Request) (a : Alone) → option_and_then without_spec r ≡ Some a → tells_of (option_and_then with_spec r) ≡ false
+alone_unasked None a is = refl
+alone_unasked (Some (over name task)) a is = absurd (cc)
+alone_unasked (Some (alone b)) a is = refl
 
 module _ (words : List (List ℕ)) where
   -- only these endings have a cause in the trace
@@ -104,31 +121,53 @@ module _ (words : List (List ℕ)) where
       nothing = given_none Out reads (each_take (IsNoGift Out) Spec (λ bytes short. tt) reads r.only);
     }
 
-    source_ends : (by : Ending) (rest : List Did) → SourceEnds source task by rest → RunEnds words by (Opened Spec name ∷ (reads ++ rest))
-    source_ends by rest (spec_refused {fault} same refused none) =
+    source_ends : (by : Ended) (rest : List Did) → SourceEnds source task by rest → RunEnds words by.ending (Opened Spec name ∷ (reads ++ rest))
+    source_ends by rest (spec_refused {fault} same nothing refused none) =
         subst (λ (b : Ending). RunEnds words b (Opened Spec name ∷ (reads ++ rest))) (sym same)
         (inl (subst (λ (l : List Did). SpecRefused words fault (Opened Spec name ∷ l)) (sym (ap (λ (l : List Did). reads ++ l) none ∙ append-nil reads)) (refused_front fault refused)))
-    source_ends by _ (compiled_ends trace o monitors items s c (ends part w e)) =
-        of_watch by (Opened Spec name ∷ (reads ++ Opened Trace trace ∷ part))
-        (of_run words name task is reads r trace o monitors source g items s c (Opened Trace trace ∷ part) (λ items s o. WatchEndsAsMeant items s o by (Opened Spec name ∷ (reads ++ Opened Trace trace ∷ part)))
-        (tt, each_work (IsNoRead Spec) (λ bytes short. refl) (λ bytes. tt) part w.work) (ends_behind words name task is reads r trace o monitors source g items s c by part e))
-    source_ends by rest (printed f printing done p) =
+    source_ends by _ (compiled_ends trace o statistics monitors items s c (ends state part w e is_told)) =
+        of_watch by.ending (Opened Spec name ∷ (reads ++ Opened Trace trace ∷ part))
+        (of_run words name task is reads r trace o statistics monitors source g items s c (Opened Trace trace ∷ part) (λ items s o. WatchEndsAsMeant items s o by.ending (Opened Spec name ∷ (reads ++ Opened Trace trace ∷ part)))
+        (tt, each_work (IsNoRead Spec) (λ bytes short. refl) (λ bytes. tt) part w.work) (ends_behind words name task is reads r trace o statistics monitors source g items s c state by.ending part e))
+    source_ends by rest (printed f printing done nothing p) =
         let part = Opened Spec name ∷ (reads ++ rest) in
         let begins : Begins (given Out rest) p.text = record { rest = []; is = sym p.whole ∙ sym (append-nil (given Out rest)) } in
         let given_is : given Out part ≡ p.text = given_behind Out (Opened Spec name ∷ reads) rest (tt, each_take (IsNoGift Out) Spec (λ bytes short. tt) reads r.only) ∙ p.whole in
         subst (λ (b : Ending). RunEnds words b part) (sym done)
         (inr (inl (of_print words name task is reads r source g f printing rest record { text = p.text; is = p.is; gifts = p.gifts; some = begins } (λ text. given Out part ≡ text) given_is)))
 
+    -- what is told of the updates of a run, with statistics or without
+    run_before : (trace : List ℕ) (o : Options) (statistics : Bool) → task ≡ monitor trace o statistics → (items : List tree.Item) (s : System) → Compiles source items s → (state : engine.State)
+        (by : Ended) (part : List Did) → Watched s o part → WatchEnds s o state by.ending part → by.statistics ≡ counted_text s state statistics
+        → IsToldBefore words by.ending (Opened Spec name ∷ (reads ++ Opened Trace trace ∷ part)) by.statistics
+    run_before trace o false monitors items s c state by part w e is_told = unasked (asks_as words name task is ∙ ap has_statistics monitors) is_told
+    run_before trace o true monitors items s c state by part w e is_told =
+        let whole = Opened Spec name ∷ (reads ++ Opened Trace trace ∷ part) in
+        counted (asks_as words name task is ∙ ap has_statistics monitors)
+        (of_run words name task is reads r trace o true monitors source g items s c (Opened Trace trace ∷ part) (λ items s o. AreStatistics s o (taken Trace whole) (ended Trace whole) by.ending by.statistics)
+        (tt, each_work (IsNoRead Spec) (λ bytes short. refl) (λ bytes. tt) part w.work) (statistics_behind words name task is reads r trace o true monitors source g items s c state by.ending part by.statistics e is_told))
+
+    source_before : (by : Ended) (rest : List Did) → SourceEnds source task by rest → IsToldBefore words by.ending (Opened Spec name ∷ (reads ++ rest)) by.statistics
+    source_before by rest (spec_refused {fault} same nothing refused none) = refused_before fault same nothing
+    source_before by _ (compiled_ends trace o statistics monitors items s c (ends state part w e is_told)) = run_before trace o statistics monitors items s c state by part w e is_told
+    source_before by rest (printed f printing done nothing p) = unasked (asks_as words name task is ∙ ap has_statistics printing) nothing
+
   -- how a run ends, from its parts
-  pub run_ends : (by : Ending) (part : List Did) → WordsEnd words by part → RunEnds words by part
-  run_ends by part (words_refused is none empty) =
+  pub run_ends : (by : Ended) (part : List Did) → WordsEnd words by part → RunEnds words by.ending part
+  run_ends by part (words_refused is nothing none empty) =
       subst (λ (b : Ending). RunEnds words b part) (sym is) record {
         refused = none;
         opens = ap (λ (l : List Did). openings l) empty;
         nothing = ap (λ (l : List Did). given Out l) empty;
       }
   run_ends by _ (asked_ends name task is (whole_ends reads rest source r g e)) = source_ends name task is reads source r g by rest e
-  run_ends by part (sampled a is e) = alone_ends by part a is e
+  run_ends by part (sampled a is nothing e) = alone_ends by.ending part a is e
+
+  -- and what is told before its line
+  pub run_told_before : (by : Ended) (part : List Did) → WordsEnd words by part → IsToldBefore words by.ending part by.statistics
+  run_told_before by part (words_refused is nothing none empty) = unasked (ap (λ (r : Option Request). tells_of (option_and_then with_spec r)) none) nothing
+  run_told_before by _ (asked_ends name task is (whole_ends reads rest source r g e)) = source_before name task is reads source r g by rest e
+  run_told_before by part (sampled a is nothing e) = unasked (alone_unasked (requested words) a is) nothing
 
   module _ (part more : List Did) (gifts : Each (IsGift Err) more) where
     no_reads : (from : Slot) → Each (IsNoRead from) more
@@ -146,6 +185,7 @@ module _ (words : List (List ℕ)) where
       name = f.name;
       trace = f.trace;
       options = f.options;
+      statistics = f.statistics;
       asked = f.asked;
       items = f.items;
       system = f.system;
@@ -246,13 +286,22 @@ module _ (words : List (List ℕ)) where
       where
         whole_told : HasWhole part → HasWhole (part ++ more)
         whole_told (inl is) = inl (ended_before Spec part more (no_reads Spec) ∙ is)
-        whole_told (inr over) = inr (subst (λ (l : List ℕ). source_limit < length l) (sym (taken_before Spec part more (no_reads Spec))) over)
+        whole_told (inr beyond) = inr (subst (λ (l : List ℕ). source_limit < length l) (sym (taken_before Spec part more (no_reads Spec))) beyond)
     run_ends_told (ending.Trace fault) (inl f) = inl (ends_told (ending.Trace fault) f)
     run_ends_told (ending.Trace fault) (inr f) = inr (stops_told (ending.Trace fault) f)
     run_ends_told (ending.Fault t k p) (inl f) = inl (ends_told (ending.Fault t k p) f)
     run_ends_told (ending.Fault t k p) (inr f) = inr (stops_told (ending.Fault t k p) f)
     run_ends_told (ending.Limit n t) (inl f) = inl (ends_told (ending.Limit n t) f)
     run_ends_told (ending.Limit n t) (inr f) = inr (stops_told (ending.Limit n t) f)
+
+    -- what is told before the line stays
+    before_told : (by : Ending) (text : List ℕ) → IsToldBefore words by part text → IsToldBefore words by (part ++ more) text
+    before_told by text (unasked asks nothing) = unasked asks nothing
+    before_told by text (refused_before fault is nothing) = refused_before fault is nothing
+    before_told by text (counted asks f) =
+        counted asks (of_run_told (λ items s o. AreStatistics s o (taken Trace part) (ended Trace part) by text) (λ items s o. AreStatistics s o (taken Trace (part ++ more)) (ended Trace (part ++ more)) by text)
+        (λ items s o are. subst (λ (l : List ℕ). AreStatistics s o l (ended Trace (part ++ more)) by text) (sym (taken_before Trace part more (no_reads Trace)))
+        (subst (λ (e : Bool). AreStatistics s o (taken Trace part) e by text) (sym (ended_before Trace part more (no_reads Trace))) are)) f)
 
     -- what Err got
     pub err_told : given Err part ≡ [] → given Err (part ++ more) ≡ given Err more
@@ -273,12 +322,19 @@ module _ (words : List (List ℕ)) where
       with_outcome part more gifts shows status (outside is (cut_short by (subst (λ (l : List ℕ). Begins l (broken_line by)) (sym (err_told part more gifts shows.silent)) some)))
 
   -- an ending is told
-  pub concludes_ending : (by : Ending) (status : ℕ) (part more : List Did) → Shows words part → RunEnds words by part → TellsEnding by status more → Concludes words status (part ++ more)
-  concludes_ending by status part more shows held (all_of_ending is gifts whole) =
-      with_outcome part more gifts shows status (told by is record { ends = run_ends_told part more gifts by held; told = err_told part more gifts shows.silent ∙ whole })
-  concludes_ending by status part more shows held (some_of_ending is gifts some) =
-      with_outcome part more gifts shows status (outside is (unfinished by (run_ends_told part more gifts by held) (subst (λ (l : List ℕ). Begins l (ending_line by)) (sym (err_told part more gifts shows.silent)) some)))
-  concludes_ending by status part more shows held (no_line tells) = concludes_broken broken.Memory status part more shows tells
+  pub concludes_ending : (by : Ended) (status : ℕ) (part more : List Did) → Shows words part → RunEnds words by.ending part → IsToldBefore words by.ending part by.statistics → TellsEnding by status more
+      → Concludes words status (part ++ more)
+  concludes_ending by status part more shows held before (all_of_ending is gifts whole) =
+      with_outcome part more gifts shows status (told by.ending is record {
+        ends = run_ends_told part more gifts by.ending held;
+        before = by.statistics;
+        is_before = before_told part more gifts by.ending by.statistics before;
+        told = err_told part more gifts shows.silent ∙ whole;
+      })
+  concludes_ending by status part more shows held before (some_of_ending is gifts some) =
+      with_outcome part more gifts shows status (outside is (unfinished by.ending (run_ends_told part more gifts by.ending held) by.statistics (before_told part more gifts by.ending by.statistics before)
+      (subst (λ (l : List ℕ). Begins l (ended_text by)) (sym (err_told part more gifts shows.silent)) some)))
+  concludes_ending by status part more shows held before (no_text tells) = concludes_broken broken.Memory status part more shows tells
 
 is_which : (by : Broken) → (by ≡ broken.Outside) ⊎ (by ≡ broken.Memory)
 is_which broken.Outside = inl refl

@@ -17,6 +17,8 @@ use Rattle.tsl_world.proofs.Parts.{gifts_read_none, taken_before, ended_before}
 use Rattle.tsl_world.proofs.Places.{at_none, at_more, at_read}
 use Rattle.tsl_world.proofs.Journals.{given-append, taken-append, ended-append, Each-append}
 use Rattle.tessla_cli.specs.declared.ending.Ending.{Ending}
+use Rattle.monitor_run.specs.State as engine
+use Rattle.trace_monitor.specs.Counted.{HasCounted}
 use Rattle.trace_monitor.specs.declared.options.Options.{Options}
 use Rattle.trace_monitor.specs.Due.{IsDue}
 use Rattle.tsl_world.specs.Begins.{Begins}
@@ -136,14 +138,15 @@ module _ (s : System) (o : Options) where
       subst (λ (l : List ℕ). Stands (part ++ q) bytes l e) (ap (λ (l : List ℕ). text ++ l) gives.whole) (wrote part q bytes text e stands gives.gifts)
 
   -- at an ending
-  pub ends : (by : Ending) (how : RunEnding) (part : List Did) (bytes text : List ℕ) (e : Bool) → by ≡ ending_of how → Stands part bytes text e → IsDue s o bytes e text → EndsBy s o bytes e how
-      → WatchEnds s o by part
-  ends by how part bytes text e by_is stands due cause = record {
+  pub ends : (state : engine.State) (by : Ending) (how : RunEnding) (part : List Did) (bytes text : List ℕ) (e : Bool) → by ≡ ending_of how → Stands part bytes text e → IsDue s o bytes e text
+      → EndsBy s o bytes e how → HasCounted s o bytes e state how → WatchEnds s o state by part
+  ends state by how part bytes text e by_is stands due cause counted = record {
     due = subst (λ (l : List ℕ). IsDue s o l (ended Trace part) (given Out part)) (sym stands.bytes_are)
         (subst (λ (b : Bool). IsDue s o bytes b (given Out part)) (sym stands.end_is) (subst (λ (l : List ℕ). IsDue s o bytes e l) (sym stands.text_is) due));
     how = how;
     by_is = by_is;
     cause = subst (λ (l : List ℕ). EndsBy s o l (ended Trace part) how) (sym stands.bytes_are) (subst (λ (b : Bool). EndsBy s o bytes b how) (sym stands.end_is) cause);
+    counted = subst (λ (l : List ℕ). HasCounted s o l (ended Trace part) state how) (sym stands.bytes_are) (subst (λ (b : Bool). HasCounted s o bytes b state how) (sym stands.end_is) counted);
   }
 
 -- one read of the trace more, told or not
@@ -170,3 +173,6 @@ module _ (m : State) (s : System) (o : Options) (system_is : m.system ≡ s) (op
 
   pub next_as : (bytes : List ℕ) (ended : Bool) (next : Option RunEnding) → IsNext m.system m.options bytes ended next → IsNext s o bytes ended next
   next_as bytes ended next is = subst (λ (p : Options). IsNext s p bytes ended next) options_is (subst (λ (u : System). IsNext u m.options bytes ended next) system_is is)
+
+  pub counted_as : (bytes : List ℕ) (ended : Bool) (state : engine.State) (how : RunEnding) → HasCounted m.system m.options bytes ended state how → HasCounted s o bytes ended state how
+  counted_as bytes ended state how is = subst (λ (p : Options). HasCounted s p bytes ended state how) options_is (subst (λ (u : System). HasCounted u m.options bytes ended state how) system_is is)

@@ -1,7 +1,7 @@
 -- THE HEADLINE: before each read of the trace, the bytes given to Out are the text of the output events that the specification means
 -- for the bytes of the trace that were taken before. It is due for the times that these bytes close, up to the first fault and within
 -- the limit of instants.
-use Rattle.std.specs.Prelude.{◌≡◌, ℕ, false, List, Some}
+use Rattle.std.specs.Prelude.{◌≡◌, ℕ, Bool, false, List, Some}
 use Rattle.flat_core.specs.System.{System}
 use Rattle.spec_compiler.specs.Compiled.{Compiles}
 use Rattle.spec_meaning.specs.Due.{IsDueText}
@@ -21,7 +21,8 @@ module _ (words : List (List ℕ)) where
     pub name : List ℕ
     pub trace : List ℕ
     pub options : Options
-    pub asked : asked_of words ≡ Some (name, monitor trace options)
+    pub statistics : Bool
+    pub asked : asked_of words ≡ Some (name, monitor trace options statistics)
     pub items : List tree.Item
     pub system : System
     pub compiled : Compiles (taken Spec journal) items system

@@ -2,6 +2,7 @@ pub mod Tasks
 pub mod Printed
 pub mod Messages
 pub mod Parts
+pub mod Statistics
 pub mod Alone
 pub mod Meant
 pub mod Headline

@@ -19,6 +19,7 @@ use Rattle.trace_reader.specs.declared.fault.TraceFault.{TraceFault}
 use Rattle.trace_reader.specs.declared.fault.TraceFault.TheVariants as trace
 use Rattle.tessla_cli.specs.declared.ending.Ending.{Ending}
 use Rattle.tessla_cli.specs.declared.ending.Ending.TheVariants as ending
+use Rattle.tessla_cli.specs.declared.ending.Ended.{Ended}
 use Rattle.tessla_cli.specs.declared.ending.Broken.{Broken}
 use Rattle.tessla_cli.specs.declared.ending.Broken.TheVariants as broken
 
@@ -131,6 +132,10 @@ ending_line (ending.Spec fault) = as_line (codes "spec " ++ spec_text fault)
 ending_line (ending.Trace fault) = as_line (codes "trace " ++ trace_text fault)
 ending_line (ending.Fault time kind place) = fault_line time kind place
 ending_line (ending.Limit count time) = as_line (limit_text count time)
+
+-- what tells the end of a run: the statistics, and then the line of the ending
+abbrev pub ended_text : Ended → List ℕ
+ended_text e = e.statistics ++ ending_line e.ending
 
 -- what tells that a run was cut short
 abbrev pub broken_line : Broken → List ℕ

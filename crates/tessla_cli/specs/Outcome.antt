@@ -1,5 +1,5 @@
 -- What stands for each status of the program.
-use Rattle.std.specs.Prelude.{◌≡◌, ◌⊎◌, ℕ, List}
+use Rattle.std.specs.Prelude.{◌≡◌, ◌⊎◌, ℕ, true, false, List, [], ◌++◌}
 use Rattle.lift_func.specs.declared.fault.FaultKind.{FaultKind}
 use Rattle.trace_reader.specs.declared.fault.TraceFault.{TraceFault}
 use Rattle.spec_reader.specs.declared.fault.SpecFault.{SpecFault}
@@ -8,14 +8,17 @@ use Rattle.tsl_world.specs.Begins.{Begins}
 use Rattle.tsl_world.specs.declared.outside.Did.{Did}
 use Rattle.tsl_world.specs.declared.outside.Slot.TheVariants.{Spec, Trace}
 use Rattle.tsl_world.specs.declared.outside.Channel.TheVariants.{Err}
-use Rattle.tsl_world.specs.Journal.{given, IsGift, Each, StopsAtEnd}
+use Rattle.tsl_world.specs.Journal.{given, taken, ended, IsGift, Each, StopsAtEnd}
+use Rattle.tessla_cli.specs.declared.ending.Ended.{Ended}
 use Rattle.tessla_cli.specs.declared.ending.Ending.{Ending}
 use Rattle.tessla_cli.specs.declared.ending.Ending.TheVariants as ending
 use Rattle.tessla_cli.specs.declared.ending.Broken.{Broken}
 use Rattle.tessla_cli.specs.declared.ending.Broken.TheVariants as broken
 use Rattle.tessla_cli.specs.Conduct.{OpensAsAsked, MakesNothing, ReadsSpecFirst, StopsAtLimit, ReadsPieces, GoesOnAtReads, IsPartlyDue, RunEnds}
-use Rattle.tessla_cli.specs.Headline.{IsDueAtReads}
-use Rattle.tessla_cli.specs.Messages.{ending_line, broken_line, broken_status, status_of}
+use Rattle.tessla_cli.specs.Headline.{IsDueAtReads, OfRun}
+use Rattle.tessla_cli.specs.Messages.{ended_text, ending_line, broken_line, broken_status, status_of}
+use Rattle.tessla_cli.specs.Statistics.{AreStatistics}
+use Rattle.tessla_cli.specs.Tasks.{asks_statistics}
 
 -- this is what was given to Err
 abbrev pub Tells : List ℕ → List Did → Type 0
@@ -26,17 +29,27 @@ pub data TellsBroken (by : Broken) (status : ℕ) (part : List Did) : Type 0 whe
   all_of_broken : status ≡ broken_status by → Each (IsGift Err) part → Tells (broken_line by) part → TellsBroken by status part
   some_of_broken : status ≡ 5 → Each (IsGift Err) part → Begins (given Err part) (broken_line by) → TellsBroken by status part
 
--- An ending is told by its line, or by its beginning where the writing failed, or the want of memory for the line is told.
-pub data TellsEnding (by : Ending) (status : ℕ) (part : List Did) : Type 0 where
-  all_of_ending : status ≡ status_of by → Each (IsGift Err) part → Tells (ending_line by) part → TellsEnding by status part
-  some_of_ending : status ≡ 5 → Each (IsGift Err) part → Begins (given Err part) (ending_line by) → TellsEnding by status part
-  no_line : TellsBroken broken.Memory status part → TellsEnding by status part
+-- An ending is told by its text, or by the beginning of that where the writing failed, or the want of memory for the text is told.
+pub data TellsEnding (by : Ended) (status : ℕ) (part : List Did) : Type 0 where
+  all_of_ending : status ≡ status_of by.ending → Each (IsGift Err) part → Tells (ended_text by) part → TellsEnding by status part
+  some_of_ending : status ≡ 5 → Each (IsGift Err) part → Begins (given Err part) (ended_text by) → TellsEnding by status part
+  no_text : TellsBroken broken.Memory status part → TellsEnding by status part
 
 module _ (words : List (List ℕ)) where
-  -- The program ends so, and its line, if it has one, was given to Err.
+  -- This is told before the line of an ending: the statistics of a run that was asked for them. Nothing is told where they are not asked for, and
+  -- of a specification that is refused.
+  pub data IsToldBefore (by : Ending) (part : List Did) (text : List ℕ) : Type 0 where
+    unasked : asks_statistics words ≡ false → text ≡ [] → IsToldBefore by part text
+    refused_before : (fault : SpecFault) → by ≡ ending.Spec fault → text ≡ [] → IsToldBefore by part text
+    counted : asks_statistics words ≡ true → OfRun words part (λ items s o. AreStatistics s o (taken Trace part) (ended Trace part) by text)
+        → IsToldBefore by part text
+
+  -- The program ends so. Err was given what is told before and then the line of the ending, if it has one.
   pub record Ends (by : Ending) (part : List Did) : Type 0 where
     pub ends : RunEnds words by part
-    pub told : Tells (ending_line by) part
+    pub before : List ℕ
+    pub is_before : IsToldBefore by part before
+    pub told : Tells (before ++ ending_line by) part
 
   -- Status 1: a fault is closed within the limit of instants.
   pub record Faulted (part : List Did) : Type 0 where
@@ -61,10 +74,11 @@ module _ (words : List (List ℕ)) where
     pub time : ℕ
     pub ends : Ends (ending.Limit count time) part
 
-  -- Status 5: what was given to Err begins the line of a failure of the outside, or another line, whose own writing failed.
+  -- Status 5: what was given to Err begins the line of a failure of the outside, or what tells another ending, whose own writing failed.
   pub data TellsSome (part : List Did) : Type 0 where
     cut_short : (by : Broken) → Begins (given Err part) (broken_line by) → TellsSome part
-    unfinished : (by : Ending) → RunEnds words by part → Begins (given Err part) (ending_line by) → TellsSome part
+    unfinished : (by : Ending) → RunEnds words by part → (before : List ℕ) → IsToldBefore by part before
+        → Begins (given Err part) (before ++ ending_line by) → TellsSome part
 
   -- one of these, by the status
   pub data Outcome (status : ℕ) (part : List Did) : Type 0 where

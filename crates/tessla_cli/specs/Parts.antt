@@ -1,6 +1,8 @@
 -- What single functions do to the outside.
 use Rattle.std.specs.Prelude.{◌≡◌, ℕ, ◌≤◌, false, List, length, Result, OnOk}
 use Rattle.flat_core.specs.System.{System}
+use Rattle.monitor_run.specs.State as engine
+use Rattle.trace_monitor.specs.Counted.{HasCounted}
 use Rattle.trace_monitor.specs.declared.ending.RunEnding.{RunEnding}
 use Rattle.trace_monitor.specs.declared.ending.RunEnding.TheVariants as run
 use Rattle.trace_monitor.specs.declared.options.Options.{Options}
@@ -61,9 +63,10 @@ module _ (s : System) (o : Options) where
     pub reads : AtReads Trace MayRead part
     pub partly : BeginsDue part
 
-  -- how it ends: all that is due was written, and the ending has its cause
-  pub record WatchEnds (by : Ending) (part : List Did) : Type 0 where
+  -- how it ends: all that is due was written, the ending has its cause, and the engine has counted what it has run
+  pub record WatchEnds (e : engine.State) (by : Ending) (part : List Did) : Type 0 where
     pub due : IsDue s o (taken Trace part) (ended Trace part) (given Out part)
     pub how : RunEnding
     pub by_is : by ≡ ending_of how
     pub cause : EndsBy s o (taken Trace part) (ended Trace part) how
+    pub counted : HasCounted s o (taken Trace part) (ended Trace part) e how

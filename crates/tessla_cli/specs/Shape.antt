@@ -1,6 +1,7 @@
 -- The parts of a run's journal, one behind another.
-use Rattle.std.specs.Prelude.{◌≡◌, ℕ, ◌≤◌, false, List, [], ◌∷◌, ◌++◌, length, Some, None}
+use Rattle.std.specs.Prelude.{◌≡◌, ℕ, ◌≤◌, Bool, true, false, List, [], ◌∷◌, ◌++◌, length, slice_index, Some, None}
 use Rattle.flat_core.specs.System.{System}
+use Rattle.monitor_run.specs.State as engine
 use Rattle.spec_compiler.specs.Compiled.{Compiles, IsRefusedBy}
 use Rattle.spec_parser.specs.Tree as tree
 use Rattle.spec_reader.specs.declared.fault.SpecFault.{SpecFault}
@@ -11,6 +12,7 @@ use Rattle.tsl_world.specs.declared.outside.Did.{Did}
 use Rattle.tsl_world.specs.declared.outside.Did.TheVariants.{Opened, NotOpened}
 use Rattle.tsl_world.specs.declared.outside.Slot.TheVariants.{Spec, Trace}
 use Rattle.tsl_world.specs.Journal.{given, taken, ended, AtReads, IsGift, Each}
+use Rattle.tessla_cli.specs.declared.ending.Ended.{Ended}
 use Rattle.tessla_cli.specs.declared.ending.Ending.{Ending}
 use Rattle.tessla_cli.specs.declared.ending.Ending.TheVariants as ending
 use Rattle.tessla_cli.specs.declared.task.Form.{Form}
@@ -18,6 +20,7 @@ use Rattle.tessla_cli.specs.Alone.{AloneStops, IsAloneText}
 use Rattle.tessla_cli.specs.Conduct.{HasWhole, source_limit}
 use Rattle.tessla_cli.specs.Parts.{IsTake, Watched, WatchEnds}
 use Rattle.tessla_cli.specs.Printed.{IsTextOf}
+use Rattle.tessla_cli.specs.Statistics.{statistics_text}
 use Rattle.tessla_cli.specs.Tasks.{Alone, Task, alone_of, print, monitor, asked_of, requested}
 
 -- the specification may be read behind this much of the journal
@@ -41,9 +44,15 @@ pub data RunsSystem (trace : List ℕ) (s : System) (o : Options) : List Did →
   no_trace : RunsSystem trace s o (NotOpened Trace trace ∷ [])
   watched : (part : List Did) → Watched s o part → RunsSystem trace s o (Opened Trace trace ∷ part)
 
+-- what an engine tells of the updates of a system, where that is asked for
+abbrev pub counted_text : System → engine.State → Bool → List ℕ
+counted_text s e true = statistics_text s (λ u. slice_index e.ledger u)
+counted_text s e false = []
+
 -- and it ends so
-pub data SystemEnds (trace : List ℕ) (s : System) (o : Options) (by : Ending) : List Did → Type 0 where
-  ends : (part : List Did) → Watched s o part → WatchEnds s o by part → SystemEnds trace s o by (Opened Trace trace ∷ part)
+pub data SystemEnds (trace : List ℕ) (s : System) (o : Options) (statistics : Bool) (by : Ended) : List Did → Type 0 where
+  ends : (e : engine.State) (part : List Did) → Watched s o part → WatchEnds s o e by.ending part → by.statistics ≡ counted_text s e statistics
+      → SystemEnds trace s o statistics by (Opened Trace trace ∷ part)
 
 -- a text of which this holds is given to Out, as far as it comes
 pub record PrintsText (P : List ℕ → Type 0) (part : List Did) : Type 0 where
@@ -79,13 +88,16 @@ pub data AloneIsDone (a : Alone) (by : Ending) (part : List Did) : Type 0 where
 -- a source is compiled and something is done with it, as far as it comes
 pub data RunsSource (source : List ℕ) (task : Task) (part : List Did) : Type 0 where
   uncompiled : part ≡ [] → RunsSource source task part
-  compiled : (trace : List ℕ) (o : Options) → task ≡ monitor trace o → (items : List tree.Item) (s : System) → Compiles source items s → RunsSystem trace s o part → RunsSource source task part
+  compiled : (trace : List ℕ) (o : Options) (statistics : Bool) → task ≡ monitor trace o statistics → (items : List tree.Item) (s : System)
+      → Compiles source items s → RunsSystem trace s o part → RunsSource source task part
   prints : (f : Form) → task ≡ print f → Prints source f part → RunsSource source task part
 
-pub data SourceEnds (source : List ℕ) (task : Task) (by : Ending) (part : List Did) : Type 0 where
-  spec_refused : {fault : SpecFault} → by ≡ ending.Spec fault → IsRefusedBy source fault → part ≡ [] → SourceEnds source task by part
-  compiled_ends : (trace : List ℕ) (o : Options) → task ≡ monitor trace o → (items : List tree.Item) (s : System) → Compiles source items s → SystemEnds trace s o by part → SourceEnds source task by part
-  printed : (f : Form) → task ≡ print f → by ≡ ending.Done → HasPrinted source f part → SourceEnds source task by part
+pub data SourceEnds (source : List ℕ) (task : Task) (by : Ended) (part : List Did) : Type 0 where
+  spec_refused : {fault : SpecFault} → by.ending ≡ ending.Spec fault → by.statistics ≡ [] → IsRefusedBy source fault → part ≡ []
+      → SourceEnds source task by part
+  compiled_ends : (trace : List ℕ) (o : Options) (statistics : Bool) → task ≡ monitor trace o statistics → (items : List tree.Item) (s : System)
+      → Compiles source items s → SystemEnds trace s o statistics by part → SourceEnds source task by part
+  printed : (f : Form) → task ≡ print f → by.ending ≡ ending.Done → by.statistics ≡ [] → HasPrinted source f part → SourceEnds source task by part
 
 -- a specification is read by its name and something is done with it
 pub data RunsSpec (name : List ℕ) (task : Task) : List Did → Type 0 where
@@ -94,7 +106,7 @@ pub data RunsSpec (name : List ℕ) (task : Task) : List Did → Type 0 where
   reading : (reads : List Did) → ReadsSpec reads → RunsSpec name task (Opened Spec name ∷ reads)
   whole : (reads rest : List Did) (source : List ℕ) → ReadsSpec reads → GivesSource source reads → RunsSource source task rest → RunsSpec name task (Opened Spec name ∷ (reads ++ rest))
 
-pub data SpecEnds (name : List ℕ) (task : Task) (by : Ending) : List Did → Type 0 where
+pub data SpecEnds (name : List ℕ) (task : Task) (by : Ended) : List Did → Type 0 where
   whole_ends : (reads rest : List Did) (source : List ℕ) → ReadsSpec reads → GivesSource source reads → SourceEnds source task by rest → SpecEnds name task by (Opened Spec name ∷ (reads ++ rest))
 
 -- what the words ask for
@@ -103,7 +115,7 @@ pub data RunsWords (words : List (List ℕ)) (part : List Did) : Type 0 where
   asked : (name : List ℕ) (task : Task) → asked_of words ≡ Some (name, task) → RunsSpec name task part → RunsWords words part
   samples : (a : Alone) → alone_of words ≡ Some a → RunsAlone a part → RunsWords words part
 
-pub data WordsEnd (words : List (List ℕ)) (by : Ending) (part : List Did) : Type 0 where
-  words_refused : by ≡ ending.Words → requested words ≡ None → part ≡ [] → WordsEnd words by part
+pub data WordsEnd (words : List (List ℕ)) (by : Ended) (part : List Did) : Type 0 where
+  words_refused : by.ending ≡ ending.Words → by.statistics ≡ [] → requested words ≡ None → part ≡ [] → WordsEnd words by part
   asked_ends : (name : List ℕ) (task : Task) → asked_of words ≡ Some (name, task) → SpecEnds name task by part → WordsEnd words by part
-  sampled : (a : Alone) → alone_of words ≡ Some a → AloneIsDone a by part → WordsEnd words by part
+  sampled : (a : Alone) → alone_of words ≡ Some a → by.statistics ≡ [] → AloneIsDone a by.ending part → WordsEnd words by part

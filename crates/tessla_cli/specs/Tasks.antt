@@ -1,6 +1,7 @@
 -- What the words ask the program to do.
-use Rattle.std.specs.Prelude.{ℕ, ◌<◌, ◌≤◌, ◌^◌, ⊤, if◌then◌else◌, List, [], ◌∷◌, Option, Some, None, option_and_then}
-use Rattle.command_words.specs.Words.{Command, Run, check, flat, code, run, generate, bench, command_of}
+use Rattle.std.specs.Prelude.{ℕ, ◌<◌, ◌≤◌, ◌^◌, ⊤, Bool, false, List, [], ◌∷◌, Option, Some, None, option_and_then, option_map}
+use Rattle.std.specs.Option.{option_map_or}
+use Rattle.command_words.specs.Words.{Command, Run, check, flat, show, code, run, generate, bench, command_of}
 use Rattle.command_words.specs.declared.words.Kind.{Kind}
 use Rattle.trace_monitor.specs.declared.options.Options.{Options}
 use Rattle.tsl_world.specs.declared.outside.Slot.{Slot}
@@ -14,10 +15,10 @@ use Rattle.tessla_cli.specs.declared.task.Form.TheVariants as form
 use Rattle.tessla_cli.specs.declared.task.Task.{Task as CodeTask}
 use Rattle.tessla_cli.specs.declared.task.Task.TheVariants as seen
 
--- With a specification that is compiled: a text of this form is printed, or the trace of this name is monitored
+-- With a specification that is compiled: a text of this form is printed, or the trace of this name is monitored, with statistics or without
 pub data Task : Type 0 where
   print : Form → Task
-  monitor : List ℕ → Options → Task
+  monitor : List ℕ → Options → Bool → Task
 
 -- Without a specification of the outside: the sample trace with so many lines is written, or what the specification of a kind does over it
 pub data Alone : Type 0 where
@@ -33,22 +34,22 @@ pub data Request : Type 0 where
 abbrev pub options_of : Run → Options
 options_of r = record { until = r.until; instants = r.instants; bytes = r.bytes; strict = r.strict }
 
--- the statistics are not built yet, and so not accepted
-abbrev pub request_of_run : Run → Option Request
-request_of_run r = if r.stats then None else Some (over r.spec (monitor r.trace (options_of r)))
+abbrev pub request_of_run : Run → Request
+request_of_run r = over r.spec (monitor r.trace (options_of r) r.stats)
 
 -- what a command asks for
-abbrev pub request_of : Command → Option Request
-request_of (check name) = Some (over name (print form.Check))
-request_of (flat name) = Some (over name (print form.Flat))
-request_of (code name) = Some (over name (print form.Code))
+abbrev pub request_of : Command → Request
+request_of (check name) = over name (print form.Check)
+request_of (flat name) = over name (print form.Flat)
+request_of (show name) = over name (print form.Show)
+request_of (code name) = over name (print form.Code)
 request_of (run r) = request_of_run r
-request_of (generate kind n) = Some (alone (made n))
-request_of (bench kind n) = Some (alone (benched kind n))
+request_of (generate kind n) = alone (made n)
+request_of (bench kind n) = alone (benched kind n)
 
 -- what the words ask for; none where they are not accepted
 abbrev pub requested : List (List ℕ) → Option Request
-requested words = option_and_then request_of (command_of words)
+requested words = option_map request_of (command_of words)
 
 -- the name of the specification that is read, and what is done with it
 abbrev pub with_spec : Request → Option (List ℕ × Task)
@@ -66,10 +67,18 @@ asked_of words = option_and_then with_spec (requested words)
 abbrev pub alone_of : List (List ℕ) → Option Alone
 alone_of words = option_and_then without_spec (requested words)
 
+-- the words ask for a run with statistics
+abbrev pub has_statistics : Task → Bool
+has_statistics (print f) = false
+has_statistics (monitor trace o statistics) = statistics
+
+abbrev pub asks_statistics : List (List ℕ) → Bool
+asks_statistics words = option_map_or (λ asked. has_statistics asked.1) (asked_of words) false
+
 -- the trace that is opened behind the specification
 abbrev pub traces_of : Task → List (Slot × List ℕ)
 traces_of (print f) = []
-traces_of (monitor trace o) = (Trace, trace) ∷ []
+traces_of (monitor trace o statistics) = (Trace, trace) ∷ []
 
 -- what is opened, in this order
 abbrev pub names_of : List ℕ → Task → List (Slot × List ℕ)
@@ -84,12 +93,12 @@ pub record AreLimited (o : Options) : Type 0 where
 
 abbrev pub IsLimitedTask : Task → Type 0
 IsLimitedTask (print f) = ⊤
-IsLimitedTask (monitor trace o) = AreLimited o
+IsLimitedTask (monitor trace o statistics) = AreLimited o
 
 -- what the code has
 abbrev pub task_seen : CodeTask → Task
 task_seen (seen.Print f) = print f
-task_seen (seen.Monitor trace o) = monitor trace.now o
+task_seen (seen.Monitor trace o statistics) = monitor trace.now o statistics
 
 abbrev pub alone_seen : CodeAlone → Alone
 alone_seen (by_itself.Made n) = made n

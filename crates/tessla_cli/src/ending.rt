@@ -1,11 +1,12 @@
 // How a run ends.
 
-ghost use Rattle.std.specs.Prelude.{◌≡◌, ◌≢◌, IfOk};
+ghost use Rattle.std.specs.Prelude.{◌≡◌, ◌≢◌, [], IfOk};
 
 use lift_func::fault::FaultKind;
 use spec_reader::fault::SpecFault;
-use std::alloc::AllocError;
+use std::alloc::{AllocError, Global};
 use trace_reader::fault::TraceFault;
+use tsl_value::bytes::Bytes;
 use tsl_value::memory::NoMemory;
 use tsl_value::place::Place;
 use tsl_value::time::Time;
@@ -33,6 +34,27 @@ pub enum Ending {
         count: u64,
         time: Time,
     },
+}
+
+/// How a run ends, and what is told of its updates before that.
+#[derive(Drop)]
+pub struct Ended {
+    pub ending: Ending,
+    /// The statistics, where they are asked for. Else no bytes.
+    pub statistics: Bytes,
+}
+
+impl Ended {
+    /// An ending without statistics.
+    pub fn alone(alloc: Global, ending: Ending) -> Ended
+        ensures ending { result.ending ≡ ending }
+        ensures statistics { result.statistics ≡ [] }
+    {
+        Ended {
+            ending,
+            statistics: Bytes::new(alloc),
+        }
+    }
 }
 
 /// How a run ends whose specification is refused in this way. Want of memory refuses none.

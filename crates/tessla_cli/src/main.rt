@@ -9,6 +9,7 @@ mod print;
 mod report;
 mod run;
 mod source;
+mod statistics;
 mod task;
 mod tell;
 #[cfg(test)]

@@ -1,15 +1,19 @@
 // What is printed of a compiled specification.
 
 ghost use Rattle.std.specs.Prelude.{◌≡◌, ◌++◌, length, IfOk, OnOk};
-ghost use Rattle.program_text.specs.Text.{running};
-ghost use Rattle.tessla_cli.specs.Printed.{check_text, counts_text, text_of, updates_text};
+ghost use Rattle.flat_core.specs.WellFormed.{IsWellFormed};
+ghost use Rattle.program_text.specs.Text.{flat_text, running};
+ghost use Rattle.register_code.specs.Text.{code_text};
+ghost use Rattle.tessla_cli.specs.Printed.{HasText, ShowsReasons, check_text, counts_text, updates_text};
 ghost use Rattle.trace_bench.specs.Ran.{running_updates};
 
 use crate::task::Form;
+use choice_text::print::print_choice;
 use flat_core::flat::Flat;
 use program_text::print::print_flat;
 use register_code::code::Code;
 use register_code::print::print_code;
+use spec_compiler::compile::reasons_of;
 use std::alloc::Global;
 use trace_bench::updates::is_running_update;
 use tsl_value::bytes::Bytes;
@@ -60,25 +64,54 @@ fn print_updates(updates: u64, out: &mut Bytes) -> Result<(), NoMemory>
     out.push(b'\n')
 }
 
-/// Appends the text that code has in a form.
-fn print_form(form: Form, code: &Code, out: &mut Bytes) -> Result<(), NoMemory>
-    ensures { OnOk result (out.new ≡ out.old ++ text_of form code.now) }
+/// How many equations and how many updates of a system run.
+fn counted(alloc: Global, flat: &Flat) -> Result<Bytes, NoMemory>
+    ensures { IfOk result (λ text. text ≡ check_text flat.now) }
 {
-    match form {
-        Form::Check => {
-            let flat = code.flat();
-            print_counts(count_running(flat), count_updates(flat), out)
-        }
-        Form::Flat => print_flat(code.flat(), out),
-        Form::Code => print_code(code, out),
-    }
+    let mut text = Bytes::new(alloc);
+    print_counts(count_running(flat), count_updates(flat), &mut text)?;
+    Ok(text)
+}
+
+/// The running equations and the outputs of a system.
+fn listed(alloc: Global, flat: &Flat) -> Result<Bytes, NoMemory>
+    ensures { IfOk result (λ text. text ≡ flat_text flat.now) }
+{
+    let mut text = Bytes::new(alloc);
+    print_flat(flat, &mut text)?;
+    Ok(text)
+}
+
+/// Which updates of a system happen in place, and why the others copy.
+fn shown(alloc: Global, flat: &Flat) -> Result<Bytes, NoMemory>
+    requires { IsWellFormed flat.now }
+    ensures { IfOk result (ShowsReasons flat.now) }
+{
+    let reasons = reasons_of(alloc, flat)?;
+    let mut text = Bytes::new(alloc);
+    print_choice(flat, reasons.as_slice(), &mut text)?;
+    Ok(text)
+}
+
+/// The lines of code.
+fn coded(alloc: Global, code: &Code) -> Result<Bytes, NoMemory>
+    ensures { IfOk result (λ text. text ≡ code_text code.now) }
+{
+    let mut text = Bytes::new(alloc);
+    print_code(code, &mut text)?;
+    Ok(text)
 }
 
 /// The text that code has in a form.
 pub fn text_of(alloc: Global, form: Form, code: &Code) -> Result<Bytes, NoMemory>
-    ensures { IfOk result (λ text. text ≡ text_of form code.now) }
+    requires { IsWellFormed code.now.system }
+    ensures { IfOk result (HasText form code.now) }
 {
-    let mut text = Bytes::new(alloc);
-    print_form(form, code, &mut text)?;
-    Ok(text)
+    let flat = code.flat();
+    match form {
+        Form::Check => counted(alloc, flat),
+        Form::Flat => listed(alloc, flat),
+        Form::Show => shown(alloc, flat),
+        Form::Code => coded(alloc, code),
+    }
 }

@@ -1,9 +1,9 @@
 // What is told on the standard error.
 
 ghost use Rattle.std.specs.Prelude.{◌≡◌, ◌++◌, IfOk, OnOk};
-ghost use Rattle.tessla_cli.specs.Messages.{at_text, back_text, broken_line, broken_status, clash_text, cycle_text, ending_line, flat_text, lex_text, limit_text, line_text, members_text, next_text, parse_text, spec_text, status_of, trace_text, twice_text, types_text, wrong_text};
+ghost use Rattle.tessla_cli.specs.Messages.{at_text, back_text, broken_line, broken_status, clash_text, cycle_text, ended_text, ending_line, flat_text, lex_text, limit_text, line_text, members_text, next_text, parse_text, spec_text, status_of, trace_text, twice_text, types_text, wrong_text};
 
-use crate::ending::{Broken, Ending};
+use crate::ending::{Broken, Ended, Ending};
 use event_writer::fault::write_fault;
 use event_writer::place::print_place;
 use spec_lexer::fault::LexFault;
@@ -233,16 +233,19 @@ fn print_ending(ending: &Ending, out: &mut Bytes) -> Result<(), NoMemory>
     }
 }
 
-impl Ending {
-    /// The line that tells the ending; no bytes where all was done.
-    pub fn line(&self, alloc: Global) -> Result<Bytes, NoMemory>
-        ensures { IfOk result (λ line. line ≡ ending_line self.now) }
+impl Ended {
+    /// What is told of the end of a run: the statistics, and then the line of the ending, if it has one.
+    pub fn text(&self, alloc: Global) -> Result<Bytes, NoMemory>
+        ensures { IfOk result (λ text. text ≡ ended_text self.now) }
     {
-        let mut line = Bytes::new(alloc);
-        print_ending(self, &mut line)?;
-        Ok(line)
+        let mut text = Bytes::new(alloc);
+        text.append(self.statistics.as_slice())?;
+        print_ending(&self.ending, &mut text)?;
+        Ok(text)
     }
+}
 
+impl Ending {
     /// The status with which the program ends so.
     pub fn status(&self) -> u8
         ensures { result ≡ status_of self.now }

@@ -8,13 +8,14 @@ ghost use Rattle.trace_monitor.specs.Next.{most_taken};
 ghost use Rattle.tsl_world.specs.Standing.{at_first, is_open};
 ghost use Rattle.tsl_world.specs.Runs.{Grows};
 ghost use Rattle.tsl_world.specs.World.{Rose};
-ghost use Rattle.tessla_cli.specs.Shape.{AloneIsDone, HasPrinted, Prints, RunsAlone, RunsSystem, SystemEnds, RunsSource, SourceEnds, RunsSpec, SpecEnds, RunsWords, WordsEnd};
-ghost use Rattle.tessla_cli.specs.Tasks.{AreLimited, IsLimitedAlone, IsLimitedTask, alone_seen, task_seen};
+ghost use Rattle.tessla_cli.specs.Shape.{AloneIsDone, HasPrinted, RunsAlone, RunsSystem, SystemEnds, RunsSource, SourceEnds, RunsSpec, SpecEnds, RunsWords, WordsEnd};
+ghost use Rattle.tessla_cli.specs.Tasks.{AreLimited, IsLimitedAlone, IsLimitedTask, alone_seen, print, task_seen};
 
 use crate::alone::{AloneOutcome, outcome_of};
-use crate::ending::{Broken, Ending, refused};
+use crate::ending::{Broken, Ended, Ending, refused};
 use crate::print::text_of;
 use crate::source::read_source;
+use crate::statistics::statistics_of;
 use crate::task::{Alone, Form, Request, Task, asked_for};
 use crate::watch::watch;
 use crate::write::write_all;
@@ -29,44 +30,50 @@ use tsl_world::{Channel, Slot, World};
 /// As many bytes as one read takes at most.
 const PIECE: usize = 65_536;
 
-/// Opens the trace of this name and monitors it by the code of a system.
+/// Opens the trace of this name and monitors it by the code of a system, with statistics or without.
 fn run_code<W: World>(
     alloc: Global,
     world: &mut W,
     code: &Code,
     trace: &str,
     options: Options,
+    with_statistics: bool,
     buf: &mut [u8],
-) -> Result<Ending, Broken>
+) -> Result<Ended, Broken>
     requires room { 0 < length buf.old }
     requires short { length buf.old ≤ most_taken }
     requires stands { is_open (W.standing world.old) Slot.Trace ≡ false }
     requires ready { IsReady code.now.system }
+    requires copies { code.now.in_place ≡ [] }
     requires limited { AreLimited options }
     ensures ok { OnOk result (W.faults world.new ≡ W.faults world.old) }
     ensures outside { IsErrOf result Broken.Outside → Rose (W.faults world.old) (W.faults world.new) }
     ensures memory { IsErrOf result Broken.Memory → W.faults world.new ≡ W.faults world.old }
     ensures calls { Grows W.told W.journal world.old world.new (RunsSystem trace.now code.now.system options) }
-    ensures ending { IfOk result (λ ending. Grows W.told W.journal world.old world.new (SystemEnds trace.now code.now.system options ending)) }
+    ensures ending { IfOk result (λ ended. Grows W.told W.journal world.old world.new
+        (SystemEnds trace.now code.now.system options with_statistics ended)) }
 {
     let mut monitor = TraceMonitor::new(alloc, code, options)?;
     world.open(Slot::Trace, trace)?;
-    Ok(watch(alloc, world, &mut monitor, options.bytes, buf)?)
+    let ending = watch(alloc, world, &mut monitor, options.bytes, buf)?;
+    let statistics = statistics_of(alloc, code.flat(), &monitor, with_statistics)?;
+    Ok(Ended { ending, statistics })
 }
 
 /// Prints the text that the code of a source has in a form.
-fn print_code<W: World>(
+fn print_text<W: World>(
     alloc: Global,
     world: &mut W,
     form: Form,
     code: &Code,
 ) -> Result<Ending, Broken>
+    requires ready { IsReady code.now.system }
     requires copies { code.now.in_place ≡ [] }
     requires order { IsLeastPlanOrder code.now.system code.now.order }
     ensures ok { OnOk result (W.faults world.new ≡ W.faults world.old) }
     ensures outside { IsErrOf result Broken.Outside → Rose (W.faults world.old) (W.faults world.new) }
     ensures memory { IsErrOf result Broken.Memory → W.faults world.new ≡ W.faults world.old }
-    ensures calls { (source : List ℕ) → CompilesSomething source code.now.system → Grows W.told W.journal world.old world.new (Prints source form) }
+    ensures calls { (source : List ℕ) → CompilesSomething source code.now.system → Grows W.told W.journal world.old world.new (RunsSource source (print form)) }
     ensures ending { IfOk result (λ ending. (source : List ℕ) → CompilesSomething source code.now.system
         → (ending ≡ Ending.Done) × Grows W.told W.journal world.old world.new (HasPrinted source form)) }
 {
@@ -75,14 +82,14 @@ fn print_code<W: World>(
     Ok(Ending::Done)
 }
 
-/// Does with the code of a source what is asked for.
+/// Does with a compiled source what is asked for.
 fn perform<W: World>(
     alloc: Global,
     world: &mut W,
     code: &Code,
     task: Task<'_>,
     buf: &mut [u8],
-) -> Result<Ending, Broken>
+) -> Result<Ended, Broken>
     requires room { 0 < length buf.old }
     requires short { length buf.old ≤ most_taken }
     requires stands { is_open (W.standing world.old) Slot.Trace ≡ false }
@@ -94,12 +101,16 @@ fn perform<W: World>(
     ensures outside { IsErrOf result Broken.Outside → Rose (W.faults world.old) (W.faults world.new) }
     ensures memory { IsErrOf result Broken.Memory → W.faults world.new ≡ W.faults world.old }
     ensures calls { (source : List ℕ) → CompilesSomething source code.now.system → Grows W.told W.journal world.old world.new (RunsSource source (task_seen task.entry)) }
-    ensures ending { IfOk result (λ ending. (source : List ℕ) → CompilesSomething source code.now.system
-        → Grows W.told W.journal world.old world.new (SourceEnds source (task_seen task.entry) ending)) }
+    ensures ending { IfOk result (λ ended. (source : List ℕ) → CompilesSomething source code.now.system
+        → Grows W.told W.journal world.old world.new (SourceEnds source (task_seen task.entry) ended)) }
 {
     match task {
-        Task::Print(form) => Ok(print_code(alloc, world, form, code)?),
-        Task::Monitor { trace, options } => Ok(run_code(alloc, world, code, trace, options, buf)?),
+        Task::Print(form) => Ok(Ended::alone(alloc, print_text(alloc, world, form, code)?)),
+        Task::Monitor {
+            trace,
+            options,
+            with_statistics,
+        } => Ok(run_code(alloc, world, code, trace, options, with_statistics, buf)?),
     }
 }
 
@@ -110,7 +121,7 @@ fn run_source<W: World>(
     source: &[u8],
     task: Task<'_>,
     buf: &mut [u8],
-) -> Result<Ending, Broken>
+) -> Result<Ended, Broken>
     requires room { 0 < length buf.old }
     requires short { length buf.old ≤ most_taken }
     requires stands { is_open (W.standing world.old) Slot.Trace ≡ false }
@@ -119,11 +130,11 @@ fn run_source<W: World>(
     ensures outside { IsErrOf result Broken.Outside → Rose (W.faults world.old) (W.faults world.new) }
     ensures memory { IsErrOf result Broken.Memory → W.faults world.new ≡ W.faults world.old }
     ensures calls { Grows W.told W.journal world.old world.new (RunsSource source.now (task_seen task.entry)) }
-    ensures ending { IfOk result (λ ending. Grows W.told W.journal world.old world.new (SourceEnds source.now (task_seen task.entry) ending)) }
+    ensures ending { IfOk result (λ ended. Grows W.told W.journal world.old world.new (SourceEnds source.now (task_seen task.entry) ended)) }
 {
     match compile(alloc, source) {
         Ok(compiled) => Ok(perform(alloc, world, &compiled.code, task, buf)?),
-        Err(fault) => Ok(refused(fault)?),
+        Err(fault) => Ok(Ended::alone(alloc, refused(fault)?)),
     }
 }
 
@@ -134,7 +145,7 @@ fn run_spec<W: World>(
     name: &str,
     task: Task<'_>,
     buf: &mut [u8],
-) -> Result<Ending, Broken>
+) -> Result<Ended, Broken>
     requires room { 0 < length buf.old }
     requires short { length buf.old ≤ most_taken }
     requires stands { W.standing world.old ≡ at_first }
@@ -143,7 +154,7 @@ fn run_spec<W: World>(
     ensures outside { IsErrOf result Broken.Outside → Rose (W.faults world.old) (W.faults world.new) }
     ensures memory { IsErrOf result Broken.Memory → W.faults world.new ≡ W.faults world.old }
     ensures calls { Grows W.told W.journal world.old world.new (RunsSpec name.now (task_seen task.entry)) }
-    ensures ending { IfOk result (λ ending. Grows W.told W.journal world.old world.new (SpecEnds name.now (task_seen task.entry) ending)) }
+    ensures ending { IfOk result (λ ended. Grows W.told W.journal world.old world.new (SpecEnds name.now (task_seen task.entry) ended)) }
 {
     world.open(Slot::Spec, name)?;
     let source = read_source(alloc, world, buf)?;
@@ -156,14 +167,14 @@ fn run_in_pieces<W: World>(
     world: &mut W,
     name: &str,
     task: Task<'_>,
-) -> Result<Ending, Broken>
+) -> Result<Ended, Broken>
     requires stands { W.standing world.old ≡ at_first }
     requires limited { IsLimitedTask (task_seen task) }
     ensures ok { OnOk result (W.faults world.new ≡ W.faults world.old) }
     ensures outside { IsErrOf result Broken.Outside → Rose (W.faults world.old) (W.faults world.new) }
     ensures memory { IsErrOf result Broken.Memory → W.faults world.new ≡ W.faults world.old }
     ensures calls { Grows W.told W.journal world.old world.new (RunsSpec name.now (task_seen task.entry)) }
-    ensures ending { IfOk result (λ ending. Grows W.told W.journal world.old world.new (SpecEnds name.now (task_seen task.entry) ending)) }
+    ensures ending { IfOk result (λ ended. Grows W.told W.journal world.old world.new (SpecEnds name.now (task_seen task.entry) ended)) }
 {
     let mut buf = vec![in alloc; 0u8; PIECE]?;
     Ok(run_spec(alloc, world, name, task, &mut buf)?)
@@ -188,17 +199,17 @@ fn write_alone<W: World>(alloc: Global, world: &mut W, alone: Alone) -> Result<E
 }
 
 /// Does what the words ask for.
-pub fn run<W: World>(alloc: Global, words: &Words, world: &mut W) -> Result<Ending, Broken>
+pub fn run<W: World>(alloc: Global, words: &Words, world: &mut W) -> Result<Ended, Broken>
     requires { W.standing world.old ≡ at_first }
     ensures ok { OnOk result (W.faults world.new ≡ W.faults world.old) }
     ensures outside { IsErrOf result Broken.Outside → Rose (W.faults world.old) (W.faults world.new) }
     ensures memory { IsErrOf result Broken.Memory → W.faults world.new ≡ W.faults world.old }
     ensures calls { Grows W.told W.journal world.old world.new (RunsWords words.now) }
-    ensures ending { IfOk result (λ ending. Grows W.told W.journal world.old world.new (WordsEnd words.now ending)) }
+    ensures ending { IfOk result (λ ended. Grows W.told W.journal world.old world.new (WordsEnd words.now ended)) }
 {
     match asked_for(alloc, words)? {
         Some(Request::Over { spec, task }) => Ok(run_in_pieces(alloc, world, spec, task)?),
-        Some(Request::Alone(alone)) => Ok(write_alone(alloc, world, alone)?),
-        None => Ok(Ending::Words),
+        Some(Request::Alone(alone)) => Ok(Ended::alone(alloc, write_alone(alloc, world, alone)?)),
+        None => Ok(Ended::alone(alloc, Ending::Words)),
     }
 }

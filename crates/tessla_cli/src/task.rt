@@ -16,6 +16,8 @@ pub enum Form {
     Check,
     /// The running equations and the outputs.
     Flat,
+    /// Which updates happen in place, and why the others copy.
+    Show,
     /// The register code.
     Code,
 }
@@ -25,8 +27,12 @@ pub enum Form {
 pub enum Task<'a> {
     /// A text is printed.
     Print(Form),
-    /// The trace of this name is monitored.
-    Monitor { trace: &'a str, options: Options },
+    /// The trace of this name is monitored, and the statistics of the run are told where that is asked for.
+    Monitor {
+        trace: &'a str,
+        options: Options,
+        with_statistics: bool,
+    },
 }
 
 /// What is done without a specification of the outside.
@@ -47,14 +53,11 @@ pub enum Request<'a> {
     Alone(Alone),
 }
 
-/// What a run asks for. The statistics are not built yet.
-fn run_asked(run: Run<'_>) -> Option<Request<'_>>
-    ensures asked { option_map request_seen result ≡ request_of_run (run_asked run.entry) }
-    ensures limited { IsLimitedRun (run_asked run.entry) → IfSome result (λ asked. IsLimitedRequest (request_seen asked)) }
+/// What a run asks for.
+fn run_asked(run: Run<'_>) -> Request<'_>
+    ensures asked { request_seen result ≡ request_of_run (run_asked run.entry) }
+    ensures limited { IsLimitedRun (run_asked run.entry) → IsLimitedRequest (request_seen result) }
 {
-    if run.stats {
-        return None;
-    }
     let options = Options {
         until: run.until,
         instants: run.instants,
@@ -64,34 +67,36 @@ fn run_asked(run: Run<'_>) -> Option<Request<'_>>
     let task = Task::Monitor {
         trace: run.trace,
         options,
+        with_statistics: run.stats,
     };
-    Some(Request::Over {
+    Request::Over {
         spec: run.spec,
         task,
-    })
+    }
 }
 
-/// What a command asks for; `None` for the statistics alone.
-fn asked_by(command: Command<'_>) -> Option<Request<'_>>
-    ensures asked { option_map request_seen result ≡ request_of (command_asked command.entry) }
-    ensures limited { IsLimited (command_asked command.entry) → IfSome result (λ asked. IsLimitedRequest (request_seen asked)) }
+/// What a command asks for.
+fn asked_by(command: Command<'_>) -> Request<'_>
+    ensures asked { request_seen result ≡ request_of (command_asked command.entry) }
+    ensures limited { IsLimited (command_asked command.entry) → IsLimitedRequest (request_seen result) }
 {
     let (spec, form) = match command {
         Command::Check { spec } => (spec, Form::Check),
         Command::Flat { spec } => (spec, Form::Flat),
+        Command::Show { spec } => (spec, Form::Show),
         Command::Code { spec } => (spec, Form::Code),
         Command::Run(run) => return run_asked(run),
         Command::Generate { count, .. } => {
-            return Some(Request::Alone(Alone::Made { lines: count }));
+            return Request::Alone(Alone::Made { lines: count });
         }
         Command::Bench { kind, count } => {
-            return Some(Request::Alone(Alone::Benched { kind, lines: count }));
+            return Request::Alone(Alone::Benched { kind, lines: count });
         }
     };
-    Some(Request::Over {
+    Request::Over {
         spec,
         task: Task::Print(form),
-    })
+    }
 }
 
 /// What the words ask for; `None` exactly where they are not accepted.
@@ -100,7 +105,7 @@ pub fn asked_for(alloc: Global, words: &Words) -> Result<Option<Request<'_>>, No
     ensures limited { IfOk result (λ asked. IfSome asked (λ asked. IsLimitedRequest (request_seen asked))) }
 {
     match words.command(alloc)? {
-        Some(command) => Ok(asked_by(command)),
+        Some(command) => Ok(Some(asked_by(command))),
         None => Ok(None),
     }
 }

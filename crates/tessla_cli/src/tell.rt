@@ -5,7 +5,7 @@ ghost use Rattle.tsl_world.specs.Runs.{Runs};
 ghost use Rattle.tsl_world.specs.World.{Rose};
 ghost use Rattle.tessla_cli.specs.Outcome.{TellsBroken, TellsEnding};
 
-use crate::ending::{Broken, Ending};
+use crate::ending::{Broken, Ended};
 use crate::write::write_all;
 use std::alloc::Global;
 use tsl_world::{Channel, World};
@@ -25,18 +25,18 @@ pub fn tell_broken<W: World>(world: &mut W, broken: Broken) -> u8
     }
 }
 
-/// Tells an ending on the standard error. The answer is the status.
-pub fn tell_ending<W: World>(alloc: Global, world: &mut W, ending: &Ending) -> u8
+/// Tells the end of a run on the standard error. The answer is the status.
+pub fn tell_ending<W: World>(alloc: Global, world: &mut W, ended: &Ended) -> u8
     ensures calm { (result ≡ 5 → ⊥) → W.faults world.new ≡ W.faults world.old }
     ensures outside { result ≡ 5 → Rose (W.faults world.old) (W.faults world.new) }
     ensures answers { result ≤ 7 }
-    ensures calls { Runs W.told W.journal W.standing world.old world.new (TellsEnding ending.now result) }
+    ensures calls { Runs W.told W.journal W.standing world.old world.new (TellsEnding ended.now result) }
 {
-    let Ok(line) = ending.line(alloc) else {
+    let Ok(text) = ended.text(alloc) else {
         return tell_broken(world, Broken::Memory);
     };
-    match write_all(world, Channel::Err, line.as_slice()) {
-        Ok(()) => ending.status(),
+    match write_all(world, Channel::Err, text.as_slice()) {
+        Ok(()) => ended.ending.status(),
         Err(_) => 5,
     }
 }

@@ -228,6 +228,19 @@ fn refused_traces_are_told(rt: HostRuntime) -> Result<(), Fail> {
 }
 
 #[test]
+fn statistics_stand_before_the_message(rt: HostRuntime) -> Result<(), Fail> {
+    let words = &["run", "s.tsl", "--stats"];
+    let end = End {
+        status: 4,
+        out: "1: s = false\n2: s = false\n",
+        err: "stats y 4:28 copied 1\ntrace 4: not a trace line\n",
+    };
+    let trace = "1: i = 5\n2: i = 7\n3: i = 5\n4 i = 1\n";
+    assert!(rt; ends(rt.alloc(), words, SEEN, trace, end)?);
+    Ok(())
+}
+
+#[test]
 fn what_is_run_is_printed(rt: HostRuntime) -> Result<(), Fail> {
     let alloc = rt.alloc();
     assert!(rt; ends(alloc, &["check", "s.tsl"], SEEN, "", prints("ok 6 1\n"))?);
@@ -239,6 +252,18 @@ fn what_is_run_is_printed(rt: HostRuntime) -> Result<(), Fail> {
         "%0 i := Input Int\n%1 := Empty Set[Int]\n%3 yl := Last %2 %0\n%8 y := SetAdd %3 %0\n%2 m := Merge %8 %1\n%13 s := Lift contains($0, $1) %3 %0\nprint s %13\nkeep %2\n",
     );
     assert!(rt; ends(alloc, &["code", "s.tsl"], SEEN, "", code)?);
+    Ok(())
+}
+
+#[test]
+fn updates_are_shown(rt: HostRuntime) -> Result<(), Fail> {
+    let alloc = rt.alloc();
+    let words = &["show", "s.tsl"];
+    assert!(rt; ends(alloc, words, SEEN, "", prints("y 4:28 in place\n"))?);
+    let kept =
+        "in i: Events[Int]\ndef m := merge(y, Set.empty[Int])\ndef yl := last(m, i)\ndef y: Events[Set[Int]] := Set.add(yl, i)\ndef p := last(yl, i)\nout p\n";
+    let line = prints("y 4:28 copied: y kept by yl\n");
+    assert!(rt; ends(alloc, words, kept, "", line)?);
     Ok(())
 }
 

@@ -27,7 +27,7 @@ fn conclude<W: World>(alloc: Global, words: &Words, world: &mut W) -> u8
     ensures calls { Grows W.told W.journal world.old world.new (Concludes words.now result) }
 {
     match run(alloc, words, world) {
-        Ok(ending) => tell_ending(alloc, world, &ending),
+        Ok(ended) => tell_ending(alloc, world, &ended),
         Err(broken) => tell_broken(world, broken),
     }
 }
@@ -38,9 +38,11 @@ fn conclude<W: World>(alloc: Global, words: &Words, world: &mut W) -> u8
 /// - `run SPEC TRACE` monitors the trace under it, and writes the output events up to the first fault. `-` names the standard input,
 ///   and a TRACE that is left out is `-`. `--until T` closes the times up to T at the end of the trace, `--instants N` is the limit of
 ///   instants, from 1 to 10^12, `--bytes B` that of the bytes of the trace, from 1 to 2^40, and with `--strict` a line is refused whose
-///   name is no input's. Each stands anywhere behind `run`, at most once, as `--name V` or `--name=V`.
+///   name is no input's. With `--stats` it is told at the end how many elements each update has copied. Each stands anywhere behind `run`,
+///   at most once, as `--name V` or `--name=V`.
 /// - `check SPEC` writes `ok E U`, how many equations and how many updates run.
 /// - `flat SPEC` writes the running equations and the outputs.
+/// - `show SPEC` writes for each running update whether it happens in place, or why it copies.
 /// - `code SPEC` writes the register code.
 /// - `gen KIND N` writes the sample trace with N lines, from 1 to 1,000,000. KIND is `seen` or `copy`.
 /// - `bench KIND N` compiles the specification of that kind and runs it over that trace. It writes the lines `events N`, `instants X`,
@@ -50,7 +52,8 @@ fn conclude<W: World>(alloc: Global, words: &Words, world: &mut W) -> u8
 /// specification is refused, 4 where a line of the trace is, 5 where a call of the outside failed, 6 where memory was wanting, and
 /// 7 where the limit of instants was passed. Words are not accepted, and nothing is opened, where the command is another, SPEC, KIND
 /// or N is left out, KIND is another, a further name stands, an option is unknown, stands twice or has no value, or a number is none
-/// or past its limits. Each status but 0 is told by one line on the standard error.
+/// or past its limits. Each status but 0 is told by one line on the standard error. With `--stats` and status 0, 1, 4 or 7 the line
+/// `stats NAME LINE:COLUMN copied N` of each running update, by number, stands before it.
 ///
 /// The clauses speak of the part of the journal that this call adds, where the world is told at its exit.
 pub fn tessla<W: World>(alloc: Global, words: &Words, world: &mut W) -> u8

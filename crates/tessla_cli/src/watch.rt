@@ -49,7 +49,9 @@ pub fn watch<W: World>(
     ensures outside { IsErrOf result Broken.Outside → Rose (W.faults world.old) (W.faults world.new) }
     ensures memory { IsErrOf result Broken.Memory → W.faults world.new ≡ W.faults world.old }
     ensures calls { Runs W.told W.journal W.standing world.old world.new (Watched monitor.old.system monitor.old.options) }
-    ensures ending { IfOk result (λ ending. Runs W.told W.journal W.standing world.old world.new (WatchEnds monitor.old.system monitor.old.options ending)) }
+    ensures engine { OnOk result (monitor.new.engine.system ≡ monitor.old.system) }
+    ensures ending { IfOk result (λ ending. Runs W.told W.journal W.standing world.old world.new
+        (WatchEnds monitor.old.system monitor.old.options monitor.new.engine ending)) }
 {
     let mut text = Bytes::new(alloc);
     // Each round but the last one takes a byte at least, and no run goes on behind more than the limit.

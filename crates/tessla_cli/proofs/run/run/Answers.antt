@@ -1,4 +1,5 @@
-use Rattle.std.proofs.Common.{◌≡◌, ◌∙◌, ap, option_and_then, option_map, sym, Some}
+use Rattle.std.proofs.Common.{◌≡◌, ◌∙◌, ap, option_and_then, option_map, subst, sym, Some}
+use Rattle.tessla_cli.specs.declared.ending.Ending.{Ending}
 use Rattle.tessla_cli.specs.declared.task.Request.{Request as CodeRequest}
 use Rattle.tessla_cli.specs.Shape.{AloneIsDone, RunsAlone, RunsSpec, SpecEnds, RunsWords, WordsEnd, asked, asked_ends, sampled, samples}
 use Rattle.tessla_cli.specs.Tasks.{alone, alone_seen, over, request_seen, requested, task_seen, with_spec, without_spec}
@@ -48,4 +49,4 @@ returns-in_ok-write_alone-in-Some-Alone-clause-ending g c =
     let what = alone_seen c.in-Some-Alone.alone in
     let found : requested c.args.words.now ≡ Some (alone what) = sym c.in_ok-spec.ensures.asked ∙ ap (option_map request_seen) (c.in-Some-Alone.is ∙ ap (λ (r : CodeRequest). Some r) c.in-Some-Alone.field-0-is) in
     grows_weaker g.W.World.told g.W.World.journal c.args.world.now c.write_alone.new.world (AloneIsDone what _) (WordsEnd c.args.words.now _) c.in_ok-write_alone-in-Some-Alone.ensures.ending
-    (λ p r. sampled what (ap (option_and_then without_spec) found) r)
+    (λ p r. sampled what (ap (option_and_then without_spec) found) c.alone.ensures.statistics (subst (λ (e : Ending). AloneIsDone what e p) (sym c.alone.ensures.ending) r))

@@ -1,7 +1,10 @@
+use Rattle.std.proofs.Common.{◌∙◌, ap, sym}
+use Rattle.flat_core.specs.System.{System}
 use Rattle.tsl_world.specs.declared.outside.Did.TheVariants.{Opened, NotOpened}
 use Rattle.tsl_world.specs.declared.outside.Slot.TheVariants.{Trace}
+use Rattle.tessla_cli.specs.declared.ending.Ended.{Ended}
 use Rattle.tessla_cli.specs.Parts.{Watched, WatchEnds}
-use Rattle.tessla_cli.specs.Shape.{RunsSystem, SystemEnds}
+use Rattle.tessla_cli.specs.Shape.{RunsSystem, SystemEnds, counted_text}
 use Rattle.tessla_cli.specs.Shape.{idle, no_trace, watched, ends}
 use Rattle.tsl_world.proofs.Runs.{grows_none, grows_called, grows_run}
 use Rattle.tessla_cli.proofs.Grown.{grows_behind, grows_both}
@@ -14,8 +17,16 @@ pub returns-in_err-open-clause-calls : goal.returns-in_err-open-clause-calls
 returns-in_err-open-clause-calls g c =
     grows_called g.W.World.told g.W.World.journal c.args.world.now c.open.new.self (NotOpened Trace c.args.trace.now) (RunsSystem c.args.trace.now c.args.code.now.system c.args.options) c.open.ensures.told c.in_err-open.ensures.journal no_trace
 
-pub returns-in_err-watch-clause-calls : goal.returns-in_err-watch-clause-calls
-returns-in_err-watch-clause-calls g c =
+pub returns-in_err-ending-clause-calls : goal.returns-in_err-ending-clause-calls
+returns-in_err-ending-clause-calls g c =
+    let s = c.args.code.now.system in
+    let o = c.args.options in
+    let calls = rw (c.in_ok-monitor.ensures.system, c.in_ok-monitor.ensures.options) at c.watch.ensures.calls in
+    grows_behind g.W.World.told g.W.World.journal c.args.world.now c.open.new.self c.watch.new.world (Opened Trace c.args.trace.now) (Watched s o) (RunsSystem c.args.trace.now s o) c.open.ensures.told
+    c.in_ok-open.ensures.journal (grows_run g.W.World.told g.W.World.journal g.W.World.standing c.open.new.self c.watch.new.world _ calls) (λ q w. watched q w)
+
+pub returns-in_err-statistics-clause-calls : goal.returns-in_err-statistics-clause-calls
+returns-in_err-statistics-clause-calls g c =
     let s = c.args.code.now.system in
     let o = c.args.options in
     let calls = rw (c.in_ok-monitor.ensures.system, c.in_ok-monitor.ensures.options) at c.watch.ensures.calls in
@@ -34,11 +45,17 @@ pub returns-clause-ending : goal.returns-clause-ending
 returns-clause-ending g c =
     let s = c.args.code.now.system in
     let o = c.args.options in
-    let by = c.in_ok-watch.field-0 in
+    let e = c.watch.new.monitor.engine in
+    let by = c.in_ok-ending.ending in
+    let ended : Ended = record { ending = by; statistics = c.in_ok-statistics.statistics } in
     let calls = rw (c.in_ok-monitor.ensures.system, c.in_ok-monitor.ensures.options) at c.watch.ensures.calls in
-    let ending = rw (c.in_ok-monitor.ensures.system, c.in_ok-monitor.ensures.options) at c.in_ok-watch.ensures.ending in
-    let both = grows_both g.W.World.told g.W.World.journal c.open.new.self c.watch.new.world (Watched s o) (WatchEnds s o by)
+    let ending = rw (c.in_ok-monitor.ensures.system, c.in_ok-monitor.ensures.options) at c.in_ok-ending.ensures.ending in
+    let told = c.in_ok-statistics.ensures ∙ ap (λ (t : System). counted_text t e c.args.with_statistics) c.flat.ensures.flat in
+    let both = grows_both g.W.World.told g.W.World.journal c.open.new.self c.watch.new.world (Watched s o) (WatchEnds s o e by)
     (grows_run g.W.World.told g.W.World.journal g.W.World.standing c.open.new.self c.watch.new.world (Watched s o) calls)
-    (grows_run g.W.World.told g.W.World.journal g.W.World.standing c.open.new.self c.watch.new.world (WatchEnds s o by) ending) in
-    grows_behind g.W.World.told g.W.World.journal c.args.world.now c.open.new.self c.watch.new.world (Opened Trace c.args.trace.now) (λ q. Watched s o q × WatchEnds s o by q) (SystemEnds c.args.trace.now s o by)
-    c.open.ensures.told c.in_ok-open.ensures.journal both (λ q w. ends q w.0 w.1)
+    (grows_run g.W.World.told g.W.World.journal g.W.World.standing c.open.new.self c.watch.new.world (WatchEnds s o e by) ending) in
+    grows_behind g.W.World.told g.W.World.journal c.args.world.now c.open.new.self c.watch.new.world (Opened Trace c.args.trace.now) (λ q. Watched s o q × WatchEnds s o e by q)
+    (SystemEnds c.args.trace.now s o c.args.with_statistics ended) c.open.ensures.told c.in_ok-open.ensures.journal both (λ q w. ends e q w.0 w.1 told)
+
+pub statistics_of-requires : goal.statistics_of-requires
+statistics_of-requires g c = c.in_ok-ending.ensures.engine ∙ c.in_ok-monitor.ensures.system ∙ sym c.flat.ensures.flat

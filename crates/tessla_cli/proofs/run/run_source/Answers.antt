@@ -1,4 +1,4 @@
-use Rattle.std.proofs.Common.{refl}
+use Rattle.std.proofs.Common.{refl, ◌∙◌}
 use Rattle.tessla_cli.specs.Shape.{SourceEnds, spec_refused}
 use Rattle.tessla_cli.specs.Tasks.{task_seen}
 use Rattle.tsl_world.proofs.Runs.{grows_none}
@@ -15,6 +15,5 @@ returns-in_ok-perform-in-Ok-clause-ending g c = c.in_ok-perform-in-Ok.ensures.en
 
 pub returns-in_ok-refused-in-Err-clause-ending : goal.returns-in_ok-refused-in-Err-clause-ending
 returns-in_ok-refused-in-Err-clause-ending g c =
-    let by = c.in_ok-refused-in-Err.field-0 in
-    grows_none g.W.World.told g.W.World.journal c.args.world.now (SourceEnds c.args.source.now (task_seen c.args.task) by)
-    (spec_refused {fault = c.in-Err.fault} c.in_ok-refused-in-Err.ensures.ending (c.in_ok-refused-in-Err.ensures.refused, c.in-Err.ensures.fault) refl)
+    grows_none g.W.World.told g.W.World.journal c.args.world.now (SourceEnds c.args.source.now (task_seen c.args.task) _)
+    (spec_refused {fault = c.in-Err.fault} (c.alone.ensures.ending ∙ c.in_ok-refused-in-Err.ensures.ending) c.alone.ensures.statistics (c.in_ok-refused-in-Err.ensures.refused, c.in-Err.ensures.fault) refl)

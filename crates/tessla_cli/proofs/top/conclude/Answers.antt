@@ -5,17 +5,17 @@ use Rattle.tessla_cli.specs.Outcome.{Concludes, TellsBroken, TellsEnding}
 use Rattle.tessla_cli.specs.Shape.{RunsWords, WordsEnd}
 use Rattle.tessla_cli.proofs.Facts.{shows_run}
 use Rattle.tessla_cli.proofs.Grown.{grows_both}
-use Rattle.tessla_cli.proofs.Told.{run_ends, concludes_broken, concludes_ending, calm_broken, rose_broken}
+use Rattle.tessla_cli.proofs.Told.{run_ends, run_told_before, concludes_broken, concludes_ending, calm_broken, rose_broken}
 use Rattle.tessla_cli.proofs.top.conclude.Goals as goal
 
 pub returns-in-Ok-clause-calls : goal.returns-in-Ok-clause-calls
 returns-in-Ok-clause-calls g c =
     let words = c.args.words.now in
-    let by = c.in-Ok.ending in
+    let by = c.in-Ok.ended in
     let both = grows_both g.W.World.told g.W.World.journal c.args.world.now c.run.new.world (RunsWords words) (WordsEnd words by) c.run.ensures.calls c.in-Ok.ensures.ending in
     grows_on g.W.World.told g.W.World.journal c.args.world.now c.run.new.world c.tell_ending.new.world (λ p. RunsWords words p × WordsEnd words by p) (TellsEnding by c.tell_ending.result) (Concludes words c.tell_ending.result) both
     (grows_run g.W.World.told g.W.World.journal g.W.World.standing c.run.new.world c.tell_ending.new.world (TellsEnding by c.tell_ending.result) c.tell_ending.ensures.calls)
-    (λ p q r t. concludes_ending words by c.tell_ending.result p q (shows_run words p r.0) (run_ends words by p r.1) t)
+    (λ p q r t. concludes_ending words by c.tell_ending.result p q (shows_run words p r.0) (run_ends words by p r.1) (run_told_before words by p r.1) t)
 
 pub returns-in-Err-clause-calls : goal.returns-in-Err-clause-calls
 returns-in-Err-clause-calls g c =

@@ -9,7 +9,7 @@ use Rattle.trace_monitor.specs.Next.{EndsBy, IsNext, most_taken, is_nothing}
 use Rattle.trace_monitor.proofs.Within.{kept_within, some_more}
 use Rattle.tessla_cli.specs.Parts.{Watched, WatchEnds}
 use Rattle.tessla_cli.proofs.Dues.{due_at_start, goes_on_at_start}
-use Rattle.tessla_cli.proofs.Watching.{Stands, at_start, read_on, stopped_at_piece, stopped_at_gift, stopped_between, gave_all, ends, due_as, next_as}
+use Rattle.tessla_cli.proofs.Watching.{Stands, at_start, read_on, stopped_at_piece, stopped_at_gift, stopped_between, gave_all, ends, due_as, next_as, counted_as}
 use Rattle.tessla_cli.proofs.watch.watch.Goals as goal
 
 pub loop-init : goal.loop-init
@@ -85,9 +85,15 @@ returns-in-Some-clause-ending g c =
     let gives = rw c.as_slice.ensures at c.in_ok-write_all.ensures.calls in
     let next = next_as c.loop.monitor s o c.loop.invariant.3 c.loop.invariant.4 (fed ++ piece) (is_nothing piece) c.in_ok-next.next (c.in_ok-next.ensures.ending fed kept) in
     let cause : EndsBy s o (fed ++ piece) (is_nothing piece) c.in-Some.ending = subst (λ (e : Option RunEnding). IsNext s o (fed ++ piece) (is_nothing piece) e) c.in-Some.is next in
-    go_on g.W.World.told g.W.World.journal g.W.World.standing _ _ _ _ _ (WatchEnds s o c.ending_of.result) read gives
-    (λ p q at gave. ends s o c.ending_of.result c.in-Some.ending (p ++ q) (fed ++ piece) (written ++ c.advance.new.out) (is_nothing piece) c.ending_of.ensures
-    (gave_all s o p q (fed ++ piece) written c.advance.new.out (is_nothing piece) at gave) brings cause)
+    let state = c.advance.new.self.engine in
+    let counted = counted_as c.loop.monitor s o c.loop.invariant.3 c.loop.invariant.4 (fed ++ piece) (is_nothing piece) state c.in-Some.ending
+    (c.advance.ensures.counted fed c.in-Some.ending kept (c.branch-next.ensures ∙ ap result_from_control_flow c.in_ok-next.is ∙ ap (λ (e : Option RunEnding). Ok e) c.in-Some.is)) in
+    go_on g.W.World.told g.W.World.journal g.W.World.standing _ _ _ _ _ (WatchEnds s o state c.ending_of.result) read gives
+    (λ p q at gave. ends s o state c.ending_of.result c.in-Some.ending (p ++ q) (fed ++ piece) (written ++ c.advance.new.out) (is_nothing piece) c.ending_of.ensures
+    (gave_all s o p q (fed ++ piece) written c.advance.new.out (is_nothing piece) at gave) brings cause counted)
+
+pub returns-in-Some-clause-engine : goal.returns-in-Some-clause-engine
+returns-in-Some-clause-engine g c = let (fed, written, kept, taken, due, goes_on, calls) = c.loop.invariant.5 in c.advance.ensures.engine ∙ kept.system_is ∙ c.loop.invariant.3
 
 pub loop-preserved : goal.loop-preserved
 loop-preserved g c =
