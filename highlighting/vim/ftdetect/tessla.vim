@@ -1,0 +1,1 @@
+autocmd BufRead,BufNewFile *.tsl setfiletype tessla
