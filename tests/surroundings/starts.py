@@ -1,0 +1,245 @@
+"""The cases, how a program is started, and what a check has seen."""
+
+import collections
+import concurrent.futures
+import os
+import re
+import shutil
+import signal
+import subprocess
+import tempfile
+import threading
+
+from due import BEATS, BEATS_PRINTED, DIVIDED, EACH_INSTANT, HEARTBEATS, SEEN, WORDS_SEEN
+
+HERE = os.path.dirname(os.path.abspath(__file__))
+
+# The texts of a trace that grows what is kept: each of so many bytes.
+LONG_TEXTS = [str(k).ljust(2000, "x") for k in range(60)]
+
+PAGE = 4096
+
+# The one line of each status.
+MESSAGES = {
+    0: rb"",
+    1: rb"[0-9]+: fault (Overflow|DivideByZero|MissingKey|NoValue|TextTooLong|DelayNotPositive|EmptyQueue) at [0-9]+:[0-9]+\n",
+    2: rb"words not accepted\n",
+    3: rb"spec [0-9]+:[0-9]+: (WrongType: have [^\n]+, want [^\n]+|cycle [^\n]+ -> [^\n]+|[A-Z][A-Za-z0-9]+)\n",
+    4: rb"trace [0-9]+: (not a trace line|time too large|time [0-9]+ after [0-9]+|[^\n]+ twice at one time|wrong value for [^\n]+"
+    rb"|unknown stream|line too long|trace too long)\n",
+    5: rb"outside: a call failed\n",
+    6: rb"out of memory\n",
+    7: rb"limit: [0-9]+ instants before time [0-9]+\n",
+}
+CALL_FAILED = b"outside: a call failed\n"
+NO_MEMORY = b"out of memory\n"
+
+# A start of the program: its words, the files that it finds, its standard input, and how it has to end. Where no output is wanted by the
+# case itself, it is the one of the plain start; and so is the error, which then has statistics.
+Case = collections.namedtuple("Case", "name words files stdin out status err")
+
+
+def case(name, words, files=(), stdin=b"", out=None, status=0, err=b""):
+    ready = {file: text if isinstance(text, bytes) else text.encode() for file, text in dict(files).items()}
+    return Case(name, words.split(), ready, stdin, out, status, err)
+
+
+def kept_words():
+    """Texts that are kept, so that memory grows from line to line."""
+    trace = "".join(f'{k}: t = "{text}"\n' for k, text in enumerate(LONG_TEXTS, 1))
+    printed = "".join(f"{k}: came = false\n{k}: size = {k}\n" for k in range(1, len(LONG_TEXTS) + 1))
+    return trace.encode(), printed.encode()
+
+
+def all_cases():
+    h, s = {"s.tsl": HEARTBEATS, "t": BEATS}, {"s.tsl": SEEN}
+    trace, printed = kept_words()
+    return [
+        case("heartbeats", "run s.tsl t", h, out=BEATS_PRINTED),
+        case("heartbeats_through_a_pipe", "run s.tsl", h, BEATS, out=BEATS_PRINTED),
+        case("specification_through_a_pipe", "run - t", h, HEARTBEATS.encode(), out=BEATS_PRINTED),
+        case("kept_texts", "run s.tsl t", {"s.tsl": WORDS_SEEN, "t": trace}, out=printed),
+        case("fault", "run s.tsl", {"s.tsl": DIVIDED}, b"1: i = 1\n3: i = 0\n4: i = 1\n", b"1: q = 1\n", 1,
+             b"3: fault DivideByZero at 2:10\n"),
+        case("no_words", "", out=b"", status=2, err=b"words not accepted\n"),
+        case("refused_specification", "run s.tsl", {"s.tsl": "def a: Events[Int] := a + 1\nout a\n"}, out=b"", status=3,
+             err=b"spec 1:23: cycle a -> a\n"),
+        case("refused_line", "run s.tsl", s, b"1: i = 5\n2: i = 7\n2: i = 6\n", b"1: s = false\n", 4, b"trace 3: i twice at one time\n"),
+        case("limit", "run s.tsl --instants 100", {"s.tsl": EACH_INSTANT}, b"1000:\n",
+             "".join(f"{k}: p = ()\n" for k in range(1, 100)).encode(), 7, b"limit: 100 instants before time 100\n"),
+        case("check", "check s.tsl", h),
+        case("flat", "flat s.tsl", h),
+        case("code", "code s.tsl", h),
+        case("gen", "gen seen 5000", out="".join(f"{k}: i = {k % 1000}\n" for k in range(1, 5001)).encode()),
+        case("bench", "bench seen 50"),
+        case("show", "show s.tsl", h, out=b"upd 9:12 in place\n"),
+        case("stats", "run s.tsl t --stats", h, out=BEATS_PRINTED, err=None),
+    ]
+
+
+# Commands that a program may lack. A case of one of them is left out where its words are not accepted.
+MAY_LACK = {"show", "stats"}
+
+
+# Starts
+
+
+class Ended:
+    """How a start ended."""
+
+    def __init__(self, code, hung, out, err):
+        self.hung, self.out, self.err = hung, out, err
+        self.signal = -code if code is not None and code < 0 else None
+        self.status = code if self.signal is None else None
+
+    def label(self):
+        if self.hung:
+            return "hung"
+        if self.signal is not None:
+            return f"signal {signal.Signals(self.signal).name}"
+        return f"status {self.status}"
+
+    def is_not_loaded(self):
+        """The loader or the shell says that the program or the library before it can't be loaded."""
+        said = b"loading shared libraries" in self.err or b"cannot be preloaded" in self.err
+        return said or self.status in (126, 127) or (self.status is not None and self.status > 128)
+
+    def is_as(self, out, status, err):
+        return self.signal is None and not self.hung and (self.out, self.status, self.err) == (out, status, err)
+
+    def begins(self, whole, status, errs):
+        """It ended so, with a beginning of the whole output and one of these messages."""
+        return self.signal is None and not self.hung and self.status == status and whole.startswith(self.out) and self.err in errs
+
+    def shown(self):
+        return f"{self.label()}, output {shortly(self.out)}, error {shortly(self.err)}"
+
+
+def shortly(text):
+    return repr(text) if len(text) <= 300 else f"{text[:120]!r}..{text[-120:]!r} ({len(text)} bytes)"
+
+
+class Room:
+    """The program, where it is started, and how."""
+
+    def __init__(self, words):
+        self.program = os.path.abspath(words.program)
+        self.seconds = words.seconds
+        self.jobs = words.jobs
+        self.folder = tempfile.mkdtemp(prefix="tessla-hostile.")
+        self.strace = shutil.which("strace")
+        self.library = self.compiled()
+        self.lock = threading.Lock()
+        self.count = 0
+        self.pool = concurrent.futures.ThreadPoolExecutor(max_workers=self.jobs)
+
+    def compiled(self):
+        """The library that is put before the C library, or None."""
+        if not shutil.which("gcc"):
+            return None
+        to = os.path.join(self.folder, "loaded.so")
+        ran = subprocess.run(["gcc", "-O1", "-fno-builtin", "-shared", "-fPIC", "-o", to, os.path.join(HERE, "loaded.c")], check=False)
+        return to if ran.returncode == 0 else None
+
+    def next_name(self):
+        with self.lock:
+            self.count += 1
+            return os.path.join(self.folder, f"start{self.count}")
+
+    def place(self, files):
+        """A folder with these files."""
+        folder = self.next_name()
+        os.mkdir(folder)
+        for name, text in dict(files).items():
+            with open(os.path.join(folder, name), "wb") as file:
+                file.write(text)
+        return folder
+
+    def begin(self, words, folder, before=(), environment=None, **how):
+        """A running start."""
+        given = dict(os.environ, **{name: str(value) for name, value in (environment or {}).items()})
+        return subprocess.Popen([*before, self.program, *words], cwd=folder, env=given, start_new_session=True, **how)
+
+    def start(self, words, folder, stdin=b"", before=(), environment=None, out=subprocess.PIPE, err=subprocess.PIPE):
+        running = self.begin(words, folder, before, environment, stdin=subprocess.PIPE, stdout=out, stderr=err)
+        return self.finish(running, stdin)
+
+    def finish(self, running, stdin=None):
+        try:
+            out, err = running.communicate(stdin, timeout=self.seconds)
+        except subprocess.TimeoutExpired:
+            os.killpg(running.pid, signal.SIGKILL)
+            out, err = running.communicate()
+            return Ended(None, True, out or b"", err or b"")
+        return Ended(running.returncode, False, out or b"", err or b"")
+
+    def with_library(self, **values):
+        mark = self.next_name()
+        asked = {f"HOSTILE_{name.upper()}": value for name, value in values.items()}
+        return mark, {"LD_PRELOAD": self.library, "HOSTILE_MARK": mark, **asked}
+
+
+def marks(mark):
+    """What the library said on this file."""
+    try:
+        with open(mark, encoding="ascii") as file:
+            said = file.read()
+        os.remove(mark)
+    except FileNotFoundError:
+        return {}
+    return {line.split()[0]: int(line.split()[1]) for line in said.splitlines()}
+
+
+class Check:
+    """What one check has seen."""
+
+    def __init__(self, name, keep):
+        self.name, self.keep = name, keep
+        self.counts = collections.Counter()
+        self.deviations = 0
+        self.notes = []
+        self.lock = threading.Lock()
+
+    def saw(self, label):
+        with self.lock:
+            self.counts[label] += 1
+
+    def deviates(self, what, **files):
+        with self.lock:
+            self.deviations += 1
+            number = self.deviations
+        if number <= 20:
+            print(f"  {self.name}: {what}", flush=True)
+        if self.keep:
+            folder = os.path.join(self.keep, f"{self.name}-{number}")
+            os.makedirs(folder, exist_ok=True)
+            for name, text in files.items():
+                with open(os.path.join(folder, name), "wb") as file:
+                    file.write(text)
+
+    def judge(self, is_right, ended, what, label=None, **files):
+        self.saw(label or ended.label())
+        if not is_right:
+            self.deviates(f"{what}: {ended.shown()}", **files)
+
+    def starts(self):
+        return sum(self.counts.values())
+
+    def report(self):
+        said = ", ".join(f"{label}: {count}" for label, count in sorted(self.counts.items()))
+        print(f"{self.name}: {self.starts()} starts, {self.deviations} deviations; {said}", flush=True)
+        for note in self.notes:
+            print(f"  {note}", flush=True)
+
+
+def in_turn(room, trial, most):
+    """Makes a trial for the numbers from 1 on, until one says that nothing was there any more. Answers how many there were."""
+    first = 1
+    while first <= most:
+        numbers = range(first, min(first + 4 * room.jobs, most + 1))
+        for number, more in zip(numbers, room.pool.map(trial, numbers)):
+            if not more:
+                return number - 1
+        first = numbers[-1] + 1
+    return most
+
