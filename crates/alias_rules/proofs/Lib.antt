@@ -10,3 +10,4 @@ pub mod TakenPlan
 pub mod Below
 pub mod Acyclic
 pub mod Existing
+pub mod Ranks

@@ -16,10 +16,9 @@ use Rattle.flat_core.specs.System.{System, runs, equation, IsProper}
 use Rattle.flat_core.specs.TypedEvents.{IsOf, AreTypedInputs, HasTypedEvents}
 use Rattle.flat_core.specs.TypedLines.{AreTypedLines}
 use Rattle.flat_core.specs.TypedSystem.{IsTypedSystem}
-use Rattle.flat_core.specs.WellFormed.{IsWellFormed}
+use Rattle.flat_core.specs.WellFormed.{IsRanked}
 use Rattle.flat_core.proofs.TypedCase.{IsTypedAt, IsTypedBefore, is_of_from, is_of_at, merge_typed, case_typed}
 use Rattle.flat_core.proofs.Uniqueness.{all_by, all_used, all_with, used_all}
-use Rattle.flat_core.proofs.WellFormedRank.{rank_of, well_formed_ranked}
 
 -- ---- the inputs of lines
 
@@ -46,10 +45,7 @@ given_typed s inputs given i e is t op_is = is_of_from e.of (inputs i t) (λ v s
 
 -- ---- solutions
 
-module _ (s : System) (inputs : Inputs) (bound : ℕ) (z : Streams) (proper : IsProper s) (well_typed : IsTypedSystem s) (good : IsWellFormed s) (given : AreTypedInputs s inputs) (solves : Solves s inputs bound z) where
-  abbrev rank : ℕ → ℕ
-  rank = rank_of s good
-
+module _ (s : System) (inputs : Inputs) (bound : ℕ) (z : Streams) (proper : IsProper s) (well_typed : IsTypedSystem s) (rank : ℕ → ℕ) (ranked : IsRanked s rank) (given : AreTypedInputs s inputs) (solves : Solves s inputs bound z) where
   abbrev Runs : ℕ → Type 0
   Runs a = IsTrue (runs s a)
 
@@ -60,7 +56,7 @@ module _ (s : System) (inputs : Inputs) (bound : ℕ) (z : Streams) (proper : Is
       let found = proper.runs_all i run in
       let same : found.0 ≡ e = let at = found.1 in cc in
       let running : AllByRecursion Runs e.args = subst (λ (f : Equation). AllByRecursion Runs f.args) same found.2 in
-      let below = all_used (λ a. rank a < rank i) e.op e.args ((well_formed_ranked s good).falls i e run is) in
+      let below = all_used (λ a. rank a < rank i) e.op e.args (ranked.falls i e run is) in
       let now = all_with (λ a. rank a < rank i) Runs (IsTypedAt s z t) (λ a lower run_a. typed_at t lt past k a (omega arith) run_a) (used_of e.op e.args) below (used_all Runs e.op e.args running) in
       let before = all_by Runs (IsTypedBefore s z t) past e.args running in
       subst (λ o. IsOf e.of (event o)) (sym (solves.each i e run is t lt))

@@ -57,7 +57,7 @@ module _ (s u : System) (inputs : Inputs) (bound : ℕ) (z w : Streams) (both : 
   rank = rank_of s both.well_formed
 
   pub up_to : (t : ℕ) → t < bound → IsSoundBefore s inputs z t → IsUpToFault s inputs bound z t
-  up_to t lt sound = record { proper = both.proper; typed = both.typed; well_formed = both.well_formed; solves = both.solves; typed_inputs = both.typed_inputs; below = lt; sound = sound }
+  up_to t lt sound = record { proper = both.proper; typed = both.typed; rank = rank; ranked = well_formed_ranked s both.well_formed; solves = both.solves; typed_inputs = both.typed_inputs; below = lt; sound = sound }
 
   pub fit : IsFit s u
   fit = simplified_fit s u both.proper both.typed both.well_formed both.outputs_run both.simplified

@@ -13,14 +13,15 @@ use Rattle.flat_core.specs.System.{System, runs}
 use Rattle.flat_core.specs.Typed.{is_aggregate}
 use Rattle.flat_core.specs.TypedEvents.{AreTypedInputs, HasTypedEvents}
 use Rattle.flat_core.specs.TypedSystem.{AreOfTypes}
+use Rattle.flat_core.specs.WellFormed.{IsRanked}
 use Rattle.flat_core.proofs.Members.{all_at}
 use Rattle.flat_core.proofs.Silence.{happens_at_instants}
 use Rattle.flat_core.proofs.TypedEvents.{inputs_typed, events_typed}
-use Rattle.flat_core.proofs.WellFormedRank.{rank_of, well_formed_ranked}
 use Rattle.trigger_rules.specs.Firing.{at_time, IsUpToFault}
 use Rattle.trigger_rules.proofs.Times.{exact, implied, all_are_clear}
-use Rattle.alias_rules.specs.Conflict.{StandsBefore}
+use Rattle.alias_rules.specs.Conflict.{StandsBefore, needed}
 use Rattle.alias_rules.specs.Uses.{is_update}
+use Rattle.alias_rules.proofs.Ranks.{order_ranked, place}
 use Rattle.register_machine.specs.Run.{Plan}
 use Rattle.register_machine.specs.Stands.{IsGiven}
 use Rattle.register_machine.proofs.Running.{Running, Prints}
@@ -57,17 +58,24 @@ module _ (s : System) (plan : Plan) (lines : List Line) (bound : ℕ) (z : Strea
   abbrev inputs : Inputs
   inputs = inputs_of lines
 
+  abbrev rank : ℕ → ℕ
+  rank = place plan.order
+
+  ranked : IsRanked s rank
+  ranked = order_ranked s (StandsBefore s plan.in_place) (λ a b must. needed must) plan.order given.fine.ordered
+
   inputs_are_typed : AreTypedInputs s inputs
   inputs_are_typed = inputs_typed s lines given.typed_lines
 
   events_are_typed : HasTypedEvents s bound z
-  events_are_typed = events_typed s inputs bound z given.flat.proper given.flat.complete.typed given.well_formed inputs_are_typed given.solves
+  events_are_typed = events_typed s inputs bound z given.flat.proper given.flat.complete.typed rank ranked inputs_are_typed given.solves
 
   up_to : (t : ℕ) → t < bound → ((w : ℕ) → w < t → is_faulty s inputs z w ≡ false) → IsUpToFault s inputs bound z t
   up_to t lt sound = record {
     proper = given.flat.proper;
     typed = given.flat.complete.typed;
-    well_formed = given.well_formed;
+    rank = rank;
+    ranked = ranked;
     solves = given.solves;
     typed_inputs = inputs_are_typed;
     below = lt;
@@ -116,4 +124,4 @@ module _ (s : System) (plan : Plan) (lines : List Line) (bound : ℕ) (z : Strea
       subst (λ d. IsTrue (is_update d.op)) (some_equation (sym u.is ∙ running.is)) u.updates
 
   pub silence_of : HappensAtInstants s lines bound z
-  silence_of = happens_at_instants s lines z bound given.flat.proper given.flat.complete.typed (rank_of s given.well_formed) (well_formed_ranked s given.well_formed) given.solves
+  silence_of = happens_at_instants s lines z bound given.flat.proper given.flat.complete.typed rank ranked given.solves

@@ -331,7 +331,7 @@ plan_fine = record { updates = updates; fine = fine; ordered = record { once = o
 pub given : (lines : List Line) (bound : ℕ) → AreTypedLines sys lines → bound ≤ 2 ^ 63 → (z : Streams) × IsGiven sys plan lines bound z
 given lines bound typed small =
     let solved = ranked_solution sys (rank_of sys well_formed) is_flat.proper (well_formed_ranked sys well_formed) (inputs_of lines) bound in
-    (solved.0, record { flat = is_flat; well_formed = well_formed; fine = plan_fine; typed_lines = typed; solves = solved.1; small = small })
+    (solved.0, record { flat = is_flat; fine = plan_fine; typed_lines = typed; solves = solved.1; small = small })
 
 -- its code: the print stands before the update, which runs in place
 code_is : body sys plan ≡ Run 0 ∷ Run 1 ∷ Run 3 ∷ Print 0 ∷ RunInPlace 4 ∷ Run 2 ∷ []

@@ -15,7 +15,6 @@ use Rattle.flat_core.specs.Stream.{latest}
 use Rattle.flat_core.specs.System.{System, runs, equation}
 use Rattle.flat_core.specs.Typed.{is_aggregate}
 use Rattle.flat_core.specs.TypedLines.{AreTypedLines}
-use Rattle.flat_core.specs.WellFormed.{IsWellFormed}
 use Rattle.alias_rules.specs.Fine.{IsFinePlan}
 use Rattle.alias_rules.specs.Sharing.{Shares}
 use Rattle.alias_rules.specs.Uses.{IsUpdate}
@@ -23,11 +22,10 @@ use Rattle.register_machine.specs.Copied.{copied}
 use Rattle.register_machine.specs.Machine.{Cell, view_of}
 use Rattle.register_machine.specs.Run.{Plan, State, Runs, kept, nothing_yet}
 
--- A flat system that is well-formed, a plan of it whose updates may happen in place, lines of typed events, and what solves the system
--- for these lines below a bound. All times are below 2^63.
+-- A flat system, a plan of it whose updates may happen in place, lines of typed events, and what solves the system for these lines below
+-- a bound. All times are below 2^63. That there is such a plan puts the running equations in dependency order, so no more is asked of them.
 pub record IsGiven (s : System) (plan : Plan) (lines : List Line) (bound : ℕ) (z : Streams) : Type 0 where
   pub flat : IsFlat s
-  pub well_formed : IsWellFormed s
   pub fine : IsFinePlan s plan.in_place plan.order
   pub typed_lines : AreTypedLines s lines
   pub solves : Solves s (inputs_of lines) bound z

@@ -20,7 +20,6 @@ use Rattle.flat_core.proofs.Members.{none_in}
 use Rattle.flat_core.proofs.TypedCase.{is_of_from}
 use Rattle.flat_core.proofs.TypedEvents.{events_typed}
 use Rattle.flat_core.proofs.Uniqueness.{all_used, all_with, used_all}
-use Rattle.flat_core.proofs.WellFormedRank.{rank_of, well_formed_ranked}
 use Rattle.trigger_rules.specs.declared.atom.Atom.TheVariants.{Start}
 use Rattle.trigger_rules.specs.Formula.{Formula, Never, IfNot, Both, no_atom, through, both}
 use Rattle.trigger_rules.specs.Firing.{at_time, IsUpToFault}
@@ -81,7 +80,7 @@ latest_there h u (suc t) lt some = or_before (event (h t)) (latest h t) (λ is. 
 
 module _ (s : System) (inputs : Inputs) (bound : ℕ) (z : Streams) (t : ℕ) (up : IsUpToFault s inputs bound z t) where
   abbrev rank : ℕ → ℕ
-  rank = rank_of s up.well_formed
+  rank = up.rank
 
   abbrev IsClear : ℕ → Type 0
   IsClear a = is_fault (z a t) ≡ false
@@ -96,7 +95,7 @@ module _ (s : System) (inputs : Inputs) (bound : ℕ) (z : Streams) (t : ℕ) (u
 
   -- ---- values have their types
   typed_events : HasTypedEvents s bound z
-  typed_events = events_typed s inputs bound z up.proper up.typed up.well_formed up.typed_inputs up.solves
+  typed_events = events_typed s inputs bound z up.proper up.typed up.rank up.ranked up.typed_inputs up.solves
 
   values_typed : (args : List ℕ) (types : List ValueType) → AreOfTypes s.equations args types → AllByRecursion (λ a. IsTrue (runs s a)) args → AreOf types (map (λ a. event (z a t)) args)
   values_typed [] [] of run = tt
@@ -111,7 +110,7 @@ module _ (s : System) (inputs : Inputs) (bound : ℕ) (z : Streams) (t : ℕ) (u
   used : (P : ℕ → Type 0) (x : ℕ) (e : Equation) → IsTrue (runs s x) → equation s x ≡ Some e → AllByRecursion (λ a. IsTrue (runs s a)) e.args → ((a : ℕ) → rank a < rank x → IsTrue (runs s a) → P a) → AllByRecursion P (used_of e.op e.args)
   used P x e run is running gives =
       all_with (λ a. rank a < rank x) (λ a. IsTrue (runs s a)) P gives (used_of e.op e.args)
-      (all_used (λ a. rank a < rank x) e.op e.args ((well_formed_ranked s up.well_formed).falls x e run is))
+      (all_used (λ a. rank a < rank x) e.op e.args (up.ranked.falls x e run is))
       (used_all (λ a. IsTrue (runs s a)) e.op e.args running)
 
   -- ---- times without a root fault
@@ -189,7 +188,7 @@ module _ (s : System) (inputs : Inputs) (bound : ℕ) (z : Streams) (t : ℕ) (u
   tabled x e is b met = subst (λ o. Met (formula s) (Starts s) z t (option_map_or (λ f. formula_of f.op x f.args) o Never) ↔ IsTrue b) (sym is) met
 
   at_start : IsUpToFault s inputs bound z 0
-  at_start = record { proper = up.proper; typed = up.typed; well_formed = up.well_formed; solves = up.solves; typed_inputs = up.typed_inputs; below = (let low = up.below in omega arith); sound = λ u lt. absurd (omega arith) }
+  at_start = record { proper = up.proper; typed = up.typed; rank = up.rank; ranked = up.ranked; solves = up.solves; typed_inputs = up.typed_inputs; below = (let low = up.below in omega arith); sound = λ u lt. absurd (omega arith) }
 
   -- what starts was before
   pub was_before : (v : ℕ) → IsTrue (runs s v) → Starts s v → IsFalse (t == 0) → IsTrue (is_some (latest (z v) t))
