@@ -57,10 +57,15 @@ impl Ord for Scalar {
 
     /// Numbers by value, false before true, and texts by their bytes.
     fn cmp(&self, other: &Scalar) -> Ordering {
-        self.kind()
-            .cmp(&other.kind())
-            .then(self.number().cmp(&other.number()))
-            .then(self.bytes().cmp(other.bytes()))
+        match (self, other) {
+            // Most keys are numbers, and numbers alone need no look at kinds and bytes.
+            (Scalar::Int(number), Scalar::Int(other)) => number.cmp(other),
+            _ => self
+                .kind()
+                .cmp(&other.kind())
+                .then(self.number().cmp(&other.number()))
+                .then(self.bytes().cmp(other.bytes())),
+        }
     }
 }
 
