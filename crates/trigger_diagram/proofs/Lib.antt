@@ -7,3 +7,4 @@ pub mod Truths
 pub mod Making
 pub mod Questions
 pub mod Keeping
+pub mod Depth

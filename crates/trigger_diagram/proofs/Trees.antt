@@ -32,10 +32,10 @@ value_with v x b (Fork y low high) behind can =
     ∙ chosen (v y) _ _ _ _ (value_with v x b high (behind_less x y high behind can.1) can.4) (value_with v x b low (behind_less x y low behind can.0) can.3)
 
 -- ---- a fork with one side taken
-low_value : (v : Valuation) (x : ℕ) (low high : Tree) → IsCanonical (Fork x low high) → value (with_value v x false) (Fork x low high) ≡ value v low
+pub low_value : (v : Valuation) (x : ℕ) (low high : Tree) → IsCanonical (Fork x low high) → value (with_value v x false) (Fork x low high) ≡ value v low
 low_value v x low high can = ap (λ c. if c then value (with_value v x false) high else value (with_value v x false) low) (with_same v x false) ∙ value_with v x false low can.0 can.3
 
-high_value : (v : Valuation) (x : ℕ) (low high : Tree) → IsCanonical (Fork x low high) → value (with_value v x true) (Fork x low high) ≡ value v high
+pub high_value : (v : Valuation) (x : ℕ) (low high : Tree) → IsCanonical (Fork x low high) → value (with_value v x true) (Fork x low high) ≡ value v high
 high_value v x low high can = ap (λ c. if c then value (with_value v x true) high else value (with_value v x true) low) (with_same v x true) ∙ value_with v x true high can.1 can.4
 
 agree_low : (x : ℕ) (low high u : Tree) → IsCanonical (Fork x low high) → IsBehind x u → IsCanonical u → Agree (Fork x low high) u → Agree low u

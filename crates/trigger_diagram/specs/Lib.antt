@@ -4,3 +4,4 @@ pub mod Join
 pub mod Truth
 pub mod Made
 pub mod Kept
+pub mod Ways

@@ -5,6 +5,7 @@ pub mod arena;
 pub mod diagrams;
 mod formula;
 pub mod join;
+pub mod laws;
 mod made;
 pub mod search;
 #[cfg(test)]

@@ -9,3 +9,4 @@ pub mod Orders
 pub mod Marking
 pub mod Systems
 pub mod SampleLemmas
+pub mod MergedLemmas

@@ -1,8 +1,8 @@
-// A small system that tests ask about, here and above.
+// Two systems that tests ask about, here and above.
 
 ghost use Rattle.std.specs.Prelude.{◌≡◌, ◌<◌, true, slice_get, IfOk};
 ghost use Rattle.lift_func.specs.Tree.{Argument, Two};
-ghost use Rattle.trigger_starts.specs.Sample.{equation_of, sample_equations};
+ghost use Rattle.trigger_starts.specs.Sample.{equation_of, growing_equations, merged_equations, sample_equations};
 
 use flat_core::builder::FlatBuilder;
 use flat_core::equation::{Equation, Op, Output};
@@ -78,6 +78,40 @@ fn sample_equation(alloc: Global, n: u32) -> Result<Equation, NoMemory>
     })
 }
 
+fn growing_equation(alloc: Global, n: u32) -> Result<Equation, NoMemory>
+    requires { n < 8 }
+    ensures { IfOk result (λ e. slice_get growing_equations n ≡ Some e) }
+{
+    let int = ValueType::Scalar(ScalarType::Int);
+    let ints = ValueType::Set(KeyType::Int);
+    Ok(match n {
+        0 => equation(Op::Empty, args(alloc, &[])?, ints),
+        1 => equation(Op::Merge, args(alloc, &[42, 35])?, ints),
+        2 => equation(Op::Last, args(alloc, &[36, 34])?, ints),
+        3 => equation(Op::Last, args(alloc, &[37, 34])?, ints),
+        4 => equation(Op::Merge, args(alloc, &[37, 38])?, ints),
+        5 => equation(Op::Last, args(alloc, &[34, 37])?, int),
+        6 => equation(Op::Merge, args(alloc, &[34, 40])?, int),
+        _ => equation(Op::SetAdd, args(alloc, &[39, 41])?, ints),
+    })
+}
+
+fn merged_equation(alloc: Global, n: u32) -> Result<Equation, NoMemory>
+    requires { n < 43 }
+    ensures { IfOk result (λ e. slice_get merged_equations n ≡ Some e) }
+{
+    let int = ValueType::Scalar(ScalarType::Int);
+    if n < 18 {
+        let none = args(alloc, &[])?;
+        return Ok(equation(Op::Input, none, int));
+    }
+    if n < 35 {
+        let two = args(alloc, &[34 - n, n - 1])?;
+        return Ok(equation(Op::Merge, two, int));
+    }
+    growing_equation(alloc, n - 35)
+}
+
 /// The system of which `sample_equations` are the equations.
 pub fn sample(alloc: Global) -> Result<Flat, NoMemory>
     ensures { IfOk result (λ f. f.equations ≡ sample_equations) }
@@ -89,6 +123,21 @@ pub fn sample(alloc: Global) -> Result<Flat, NoMemory>
     builder.add_output(Output {
         name: Text::from_str(alloc, "f")?,
         equation: EqId::new(10),
+    })?;
+    builder.finish()
+}
+
+/// The system of which `merged_equations` are the equations.
+pub fn merged(alloc: Global) -> Result<Flat, NoMemory>
+    ensures { IfOk result (λ f. f.equations ≡ merged_equations) }
+{
+    let mut builder = FlatBuilder::new(alloc);
+    for n in 0..43 {
+        builder.add(merged_equation(alloc, n)?)?;
+    }
+    builder.add_output(Output {
+        name: Text::from_str(alloc, "m")?,
+        equation: EqId::new(36),
     })?;
     builder.finish()
 }
