@@ -6,11 +6,13 @@ ghost use Rattle.lift_func.specs.Cells.{held};
 ghost use Rattle.flat_core.specs.Text.{event_line};
 ghost use Rattle.event_writer.specs.Text.{IsPrintable};
 
+use crate::short::{append_short, is_short};
+use itoa::write_digits;
 use lift_func::reader::Reader;
 use lift_func::register::Register;
 use tsl_value::bytes::Bytes;
 use tsl_value::memory::NoMemory;
-use tsl_value::print::{print_number, print_scalar};
+use tsl_value::print::print_scalar;
 use tsl_value::text::Text;
 use tsl_value::time::Time;
 
@@ -29,6 +31,12 @@ pub fn write_event<R: Reader>(
     ensures ok { OnOk result (out.new ≡ out.old ++ event_line time name.now (held (R.cells reader.now) value.now)) }
     ensures err { OnErr result (out.new ≡ out.old) }
 {
+    if let Register::Scalar(scalar) = value {
+        let name = name.as_str().as_bytes();
+        if is_short(name, scalar) {
+            return append_short(time, name, scalar, out);
+        }
+    }
     let before = out.len();
     match append_event(time, name, value, reader, out) {
         Ok(()) => Ok(()),
@@ -64,8 +72,17 @@ fn append_head(time: Time, name: &Text, out: &mut Bytes) -> Result<(), NoMemory>
     ensures ok { OnOk result (out.new ≡ out.old ++ (decimal time ++ (codes ": " ++ (name.now ++ codes " = ")))) }
     ensures err { OnErr result (take (length out.old) out.new ≡ out.old) }
 {
-    print_number(time.get(), out)?;
-    out.append(b": ")?;
+    append_time(time, out)?;
     out.append(name.as_str().as_bytes())?;
     out.append(b" = ")
+}
+
+/// Appends a time and its colon.
+fn append_time(time: Time, out: &mut Bytes) -> Result<(), NoMemory>
+    ensures ok { OnOk result (out.new ≡ out.old ++ (decimal time ++ codes ": ")) }
+    ensures err { OnErr result (out.new ≡ out.old) }
+{
+    let mut text = *b"                    : ";
+    let start = write_digits(time.get(), &mut text, 20);
+    out.append(&text[start..])
 }

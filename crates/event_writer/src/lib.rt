@@ -4,5 +4,6 @@
 pub mod event;
 pub mod fault;
 pub mod place;
+mod short;
 #[cfg(test)]
 mod tests;

@@ -98,7 +98,7 @@ digits_last : (time : List ℕ) → are_digits time ≡ true → LastOf is_ascii
 digits_last [] is = let none = (are_digits-parts [] is).0 in absurd (omega arith)
 digits_last (t ∷ time) is = last_of is_ascii_digit t time (are_digits-parts (t ∷ time) is).1
 
-says_digit : (t : ℕ) (bytes : List ℕ) → is_ascii_digit t ≡ true → says_nothing (t ∷ bytes) ≡ false
+pub says_digit : (t : ℕ) (bytes : List ℕ) → is_ascii_digit t ≡ true → says_nothing (t ∷ bytes) ≡ false
 says_digit t [] is = not_mark is_ascii_digit t 35 is refl
 says_digit t (c ∷ bytes) is = λ k. not_mark is_ascii_digit t 35 is refl k || (not_mark is_ascii_digit t 45 is refl k && (c == 45))
 

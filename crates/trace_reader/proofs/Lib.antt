@@ -11,10 +11,11 @@ pub mod SeenLemmas
 pub mod FormLemmas
 pub mod SpellingLemmas
 pub mod SplitLemmas
-pub mod TimeLemmas
+pub mod IntLemmas
 pub mod PlaceLemmas
 pub mod PlacesLemmas
 pub mod UnreadLemmas
 pub mod GatherLemmas
+pub mod PlainLemmas
 pub mod GatherAll
 pub mod TestSystem

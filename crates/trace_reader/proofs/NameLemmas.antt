@@ -99,22 +99,23 @@ name_read bytes it =
     let none = no_word_found bytes (word_of bytes) refl it.no_word in
     λ k. is_utf8-from_IsUtf8 bytes utf8 k && (are k && none k)
 
--- a byte that is no blank, even at an end, and no `=`
+-- a byte that is no blank, even at an end, no `=` and no line's end
 abbrev pub is_inner : ℕ → Bool
-is_inner b = not (is_end_blank b || (b == 61))
+is_inner b = not ((is_end_blank b || (b == 61)) || (b == 10))
 
-inner_from : (b : ℕ) → (b == 32) ≡ false → (b == 9) ≡ false → (b == 13) ≡ false → (b == 61) ≡ false → is_inner b ≡ true
-inner_from b one two three four = λ k. not (((one k || two k) || three k) || four k)
+inner_from : (b : ℕ) → (b == 32) ≡ false → (b == 9) ≡ false → (b == 13) ≡ false → (b == 61) ≡ false → (b == 10) ≡ false → is_inner b ≡ true
+inner_from b one two three four five = λ k. not ((((one k || two k) || three k) || four k) || five k)
 
 continue_inner : (c : ℕ) → is_xid_continue c ≡ true → is_inner c ≡ true
 continue_inner c is =
     inner_from c (not_mark is_xid_continue c 32 is (is_xid_continue-ascii 32 (lit< tt))) (not_mark is_xid_continue c 9 is (is_xid_continue-ascii 9 (lit< tt)))
     (not_mark is_xid_continue c 13 is (is_xid_continue-ascii 13 (lit< tt))) (not_mark is_xid_continue c 61 is (is_xid_continue-ascii 61 (lit< tt)))
+    (not_mark is_xid_continue c 10 is (is_xid_continue-ascii 10 (lit< tt)))
 
 high_inner : (b : ℕ) → 128 ≤ b → is_inner b ≡ true
 high_inner b high =
     let differs : (m : ℕ) → m < 128 → (b == m) ≡ false = λ m low. (let other : b ≡ m → ⊥ = λ same. omega arith in ne_eqb b m other) in
-    inner_from b (differs 32 (lit< tt)) (differs 9 (lit< tt)) (differs 13 (lit< tt)) (differs 61 (lit< tt))
+    inner_from b (differs 32 (lit< tt)) (differs 9 (lit< tt)) (differs 13 (lit< tt)) (differs 61 (lit< tt)) (differs 10 (lit< tt))
 
 cond_all : (b : Bool) (xs ys : List ℕ) → list_all is_inner xs ≡ true → list_all is_inner ys ≡ true → list_all is_inner (cond b xs ys) ≡ true
 cond_all true xs ys one two = one

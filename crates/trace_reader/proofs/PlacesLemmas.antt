@@ -1,5 +1,5 @@
 -- The table of names, by its entries.
-use Rattle.std.proofs.Common.{◌≡◌, ◌+◌, ◌&&◌, ℕ, Bool, true, false, not, cond, if◌then◌else◌, List, [], ◌∷◌, ◌++◌, drop, Option, Some, None, Result, Ok, Err, OnOk, is_some, is_none, String, refl, sym, ap, ◌∙◌}
+use Rattle.std.proofs.Common.{◌≡◌, ◌+◌, ◌&&◌, ℕ, Bool, true, false, not, cond, if◌then◌else◌, List, [], ◌∷◌, ◌++◌, drop, Option, Some, None, Result, Ok, Err, OnOk, is_some, is_none, String, refl, slice_get, sym, ap, ◌∙◌}
 use Rattle.std.proofs.lemmas.List.{map-append}
 use Rattle.std.proofs.lemmas.Slice.Eq.{bytes_eq-Decides}
 use Rattle.std.specs.List.{position_from}
@@ -22,6 +22,15 @@ place_is name (e ∷ es) = ap (λ o. cond (bytes_eq name (string_bytes e.0)) (So
 
 pub found_in : {A : Type 0} (places : Places) (name : List ℕ) (es : List (String A × ℕ)) (r : Option ℕ) → places_in es ≡ places → r ≡ lookup (λ k. bytes_eq name (string_bytes k)) es → r ≡ place_in places name
 found_in places name es r is h = h ∙ place_is name es ∙ ap (λ ps. place_in ps name) is
+
+-- the first of the entries, where it has the name
+pub first_is : {A : Type 0} (places : Places) (name : List ℕ) (es : List (String A × ℕ)) (key : String A) (i : ℕ) → places_in es ≡ places → slice_get es 0 ≡ Some (key, i) → bytes_eq name (string_bytes key) ≡ true → place_in places name ≡ Some i
+first_is places name [] key i is at same = absurd (cc)
+first_is places name (e ∷ es) key i is at same =
+    let whole : e ≡ (key, i) = cc in
+    ap (λ ps. place_in ps name) (sym is)
+    ∙ ap (λ (p : String _ × ℕ). if bytes_eq name (string_bytes p.0) then Some p.1 else place_in (places_in es) name) whole
+    ∙ ap (λ b. if b then Some i else place_in (places_in es) name) same
 
 -- a key that is not there goes last
 insert_absent : {A : Type 0} (es : List (String A × ℕ)) (k : String A) (i : ℕ) → false ≡ is_some (lookup (λ x. bytes_eq (string_bytes k) (string_bytes x)) es) → insert_entry string_eq es k i ≡ es ++ (k, i) ∷ []

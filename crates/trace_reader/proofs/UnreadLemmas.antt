@@ -39,6 +39,26 @@ splits mark (b ∷ bytes) = split_step (b == mark) mark b bytes (splits mark byt
 pub is_split : (mark : ℕ) (bytes : List ℕ) (p : List ℕ × List ℕ) → split_once mark bytes ≡ Some p → IsSplit bytes p
 is_split mark bytes p is = subst (IfSplit bytes) is (splits mark bytes)
 
+-- no mark stands in what stands before the first one
+abbrev IfBefore : ℕ → Option (List ℕ × List ℕ) → Type 0
+IfBefore mark None = Unit {0}
+IfBefore mark (Some p) = split_once mark p.0 ≡ None
+
+put_before : (mark b : ℕ) (o : Option (List ℕ × List ℕ)) → (b == mark) ≡ false → IfBefore mark o → IfBefore mark (option_map (put_first b) o)
+put_before mark b None differs it = tt
+put_before mark b (Some p) differs it = ap (λ c. if c then Some ([], p.0) else option_map (put_first b) (split_once mark p.0)) differs ∙ ap (option_map (put_first b)) it
+
+before_step : (is_mark : Bool) (mark b : ℕ) (bytes : List ℕ) → (b == mark) ≡ is_mark → IfBefore mark (split_once mark bytes) → IfBefore mark (if is_mark then Some ([], bytes) else option_map (put_first b) (split_once mark bytes))
+before_step true mark b bytes is it = refl
+before_step false mark b bytes is it = put_before mark b (split_once mark bytes) is it
+
+befores : (mark : ℕ) (bytes : List ℕ) → IfBefore mark (split_once mark bytes)
+befores mark [] = tt
+befores mark (b ∷ bytes) = before_step (b == mark) mark b bytes refl (befores mark bytes)
+
+none_before : (mark : ℕ) (bytes : List ℕ) (p : List ℕ × List ℕ) → split_once mark bytes ≡ Some p → split_once mark p.0 ≡ None
+none_before mark bytes p is = subst (IfBefore mark) is (befores mark bytes)
+
 module _ (bytes : List ℕ) (start searched : ℕ) (low : start ≤ searched) (high : searched ≤ length bytes) (none : split_once 10 (take (searched - start) (drop start bytes)) ≡ None) where
   abbrev whole : List ℕ
   whole = drop start bytes
@@ -78,3 +98,6 @@ module _ (bytes : List ℕ) (start searched : ℕ) (low : start ≤ searched) (h
         subst (λ (n : ℕ). n < length whole) len it.within,
         here ∙ λ k. Some ((it.front ∙ ap (λ n. take n whole) len) k, (it.behind ∙ ap (λ n. drop (n + 1) whole) len) k),
       )
+
+  pub none_searched : (more : ℕ) → Some more ≡ position (λ b. b == 10) back → split_once 10 (take (searched + more - start) whole) ≡ None
+  none_searched more is = none_before 10 whole (take (searched + more - start) whole, drop (searched + more - start + 1) whole) (found_behind more is).1

@@ -7,3 +7,4 @@ pub mod Closed
 pub mod Laws
 pub mod Reader
 pub mod Reads
+pub mod Plain

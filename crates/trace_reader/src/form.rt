@@ -1,7 +1,7 @@
 // The form of a trace line.
 
-ghost use Rattle.std.specs.Prelude.{◌≡◌, ◌==◌, ◌<◌, ◌^◌, IfSome, IsTrue, option_map, position};
-ghost use Rattle.std.specs.Char.{is_ascii_digit};
+ghost use Rattle.std.specs.Prelude.{◌≡◌, ◌==◌, ◌<◌, ◌^◌, ◌+◌, ◌*◌, IfSome, IsTrue, option_map, position};
+ghost use Rattle.std.specs.Char.{digit_value, is_ascii_digit};
 ghost use Rattle.std.specs.List.{list_all};
 ghost use Rattle.std.specs.Option.{SomeIff};
 ghost use Rattle.std.specs.Str.Parse.{digits_value};
@@ -10,7 +10,6 @@ ghost use Rattle.trace_reader.specs.Borrowed.{bytes_of};
 ghost use Rattle.trace_reader.specs.Form.{behind_time, called, content, is_blank, is_end_blank, parts_of, says_nothing, split_once, time_of, timed, valued, without_end, without_front};
 
 use crate::name::name_of;
-use std::str;
 use tsl_value::time::Time;
 
 /// The bytes of a line's time, its name and its value, where it has them.
@@ -106,7 +105,7 @@ pub(crate) fn says_nothing(content: &[u8]) -> bool
     }
 }
 
-fn are_digits(bytes: &[u8]) -> bool
+pub(crate) fn are_digits(bytes: &[u8]) -> bool
     ensures { result ≡ are_digits bytes.now }
 {
     !bytes.is_empty() && all_are_digits(bytes)
@@ -193,15 +192,21 @@ pub(crate) fn time_of(digits: &[u8]) -> Option<Time>
 }
 
 /// The number that digits spell, where 64 bits hold it.
-fn number_of(digits: &[u8]) -> Option<u64>
+pub(crate) fn number_of(digits: &[u8]) -> Option<u64>
     requires { IsTrue (are_digits digits.now) }
     ensures { SomeIff result (digits_value 10 digits.now < 2 ^ 64) (digits_value 10 digits.now) }
 {
-    match str::from_utf8(digits) {
-        Ok(text) => match text.parse::<u64>() {
-            Ok(number) => Some(number),
-            Err(_) => None,
-        },
-        Err(_) => None,
+    let mut number = 0;
+    for digit in digits {
+        number = with_digit(number, *digit)?;
     }
+    Some(number)
+}
+
+/// A number with a digit more at its end, where 64 bits hold it.
+fn with_digit(number: u64, digit: u8) -> Option<u64>
+    requires { IsTrue (is_ascii_digit digit) }
+    ensures { SomeIff result (number * 10 + digit_value digit < 2 ^ 64) (number * 10 + digit_value digit) }
+{
+    number.checked_mul(10)?.checked_add(u64::from(digit - b'0'))
 }

@@ -1,11 +1,13 @@
 // The inputs of a system, by their names.
 
-ghost use Rattle.std.specs.Prelude.{◌≡◌, ◌<◌, ℕ, List, [], Some, None, if◌then◌else◌, length, IfOk, OnErr, OnOk};
+ghost use Rattle.std.specs.Prelude.{◌≡◌, ◌<◌, ℕ, List, [], Some, None, if◌then◌else◌, length, IfOk, IfSome, OnErr, OnOk};
 ghost use Rattle.std.specs.Option.{option_or};
 ghost use Rattle.flat_core.specs.System.{equation};
 ghost use Rattle.trace_reader.specs.Places.{noted, place_in};
+ghost use Rattle.trace_reader.specs.Plain.{IsInputOfNumbers, IsNumberInput};
 ghost use Rattle.trace_reader.specs.Reading.{input_called, is_input_called};
 
+use crate::name::name_of;
 use flat_core::equation::{Equation, Op};
 use flat_core::flat::Flat;
 use indexmap::IndexMap;
@@ -13,6 +15,7 @@ use std::alloc::Global;
 use std::marker::Model;
 use tsl_value::ids::EqId;
 use tsl_value::memory::NoMemory;
+use tsl_value::scalar::{ScalarType, ValueType};
 
 /// Names, each with the input that has it.
 #[derive(Drop)]
@@ -44,7 +47,23 @@ impl Places {
     fn find(&self, name: &str) -> Option<EqId>
         ensures { result ≡ place_in self.now name.now }
     {
-        self.entries.get(name).copied()
+        match self.first_called(name) {
+            Some(input) => Some(input),
+            None => self.entries.get(name).copied(),
+        }
+    }
+
+    /// The first input, if it has the name. `None` says nothing of the others. In a trace of one input
+    /// no name's hash is made.
+    fn first_called(&self, name: &str) -> Option<EqId>
+        ensures { IfSome result (λ i. place_in self.now name.now ≡ Some i) }
+    {
+        let (first, input) = self.entries.first()?;
+        if name == first.as_str() {
+            Some(*input)
+        } else {
+            None
+        }
     }
 
     /// Notes a name that is not there.
@@ -76,13 +95,39 @@ impl Places {
 pub(crate) struct Inputs<'f> {
     flat: &'f Flat,
     places: Places,
+    // The name of the first equation, where that is an input of numbers and its name can stand in a trace.
+    number_input: Option<&'f [u8]>,
+}
+
+/// The name of an input of numbers, where it can stand in a trace.
+fn name_of_numbers(equation: &Equation) -> Option<&[u8]>
+    ensures { IfSome result (λ name. IsInputOfNumbers name.now equation.now) }
+{
+    match (&equation.op, equation.of, &equation.name) {
+        (Op::Input, ValueType::Scalar(ScalarType::Int), Some(name)) => {
+            Some(name_of(name.as_str().as_bytes())?.as_bytes())
+        }
+        _ => None,
+    }
+}
+
+/// The name of the first equation, where that is an input of numbers and its name can stand in a trace.
+fn first_of_numbers(flat: &Flat) -> Option<&[u8]>
+    ensures { IfSome result (λ name. IsNumberInput flat.now name.now) }
+{
+    if flat.count() == 0 {
+        return None;
+    }
+    name_of_numbers(flat.equation(EqId::new(0)))
 }
 
 impl<'f> Model for Inputs<'f> {
     ghost use Rattle.lift_func.specs.contracts.body.Body as body;
     ghost use Rattle.std.specs.Coded.{codes};
     ghost use Rattle.flat_core.specs.System.{System};
+    ghost use Rattle.std.specs.Prelude.{IfSome};
     ghost use Rattle.trace_reader.specs.Places.{IsTable};
+    ghost use Rattle.trace_reader.specs.Plain.{IsNumberInput};
 
     ghost Value = { System };
 
@@ -90,7 +135,7 @@ impl<'f> Model for Inputs<'f> {
 
     ghost view = { λ i. i.flat.now };
 
-    ghost invariant = { λ i. IsTable i.places i.flat.now };
+    ghost invariant = { λ i. IsTable i.places i.flat.now × IfSome i.number_input (λ name. IsNumberInput i.flat.now name.now) };
 }
 
 impl<'f> Inputs<'f> {
@@ -103,7 +148,18 @@ impl<'f> Inputs<'f> {
             let id = EqId::new(number);
             places.note_input(flat.equation(id), id)?;
         }
-        Ok(Inputs { flat, places })
+        Ok(Inputs {
+            flat,
+            places,
+            number_input: first_of_numbers(flat),
+        })
+    }
+
+    /// The name of equation 0, if it is an input of numbers. `None` says nothing of it.
+    pub(crate) fn number_input(&self) -> Option<&[u8]>
+        ensures { IfSome result (λ name. IsNumberInput self.now name.now) }
+    {
+        self.number_input
     }
 
     /// The first input of a name.

@@ -4,10 +4,12 @@
 pub mod fault;
 mod form;
 mod inputs;
+mod int;
 pub mod laws;
 mod line;
 mod name;
 pub mod next;
+mod plain;
 pub mod reader;
 mod seen;
 #[cfg(test)]

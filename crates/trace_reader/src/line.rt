@@ -1,6 +1,6 @@
 // What a line says, and whether it may stand where it does.
 
-ghost use Rattle.std.specs.Prelude.{◌≡◌, ◌<◌, IfOk, IsTrue, Some, length, option_map, false};
+ghost use Rattle.std.specs.Prelude.{◌≡◌, ◌<◌, IfOk, IfSome, IsTrue, Ok, Some, length, option_map, false};
 ghost use Rattle.std.specs.Result.{result_ok};
 ghost use Rattle.tsl_value.specs.Literal.{are_digits, literal};
 ghost use Rattle.trace_reader.specs.Borrowed.{bytes_of};
@@ -11,6 +11,7 @@ ghost use Rattle.trace_reader.specs.Reading.{addressed, as_read, formed, input_c
 use crate::fault::TraceFault;
 use crate::form::{Parts, content, parts_of, says_nothing, time_of};
 use crate::inputs::Inputs;
+use crate::int::small_int;
 use flat_core::line::TraceLine;
 use std::alloc::Global;
 use tsl_value::ids::EqId;
@@ -54,10 +55,23 @@ fn value_of(alloc: Global, of: ValueType, value: Option<&[u8]>) -> Result<Option
 fn literal_of(alloc: Global, bytes: &[u8], of: ScalarType) -> Result<Option<Scalar>, NoMemory>
     ensures { IfOk result (λ v. v ≡ result_ok (literal of bytes.now)) }
 {
+    if let Some(value) = small_literal(bytes, of) {
+        return Ok(Some(value));
+    }
     match read_literal(alloc, bytes, of) {
         Ok(value) => Ok(Some(value)),
         Err(LiteralFault::Memory) => Err(NoMemory),
         Err(_) => Ok(None),
+    }
+}
+
+/// The value of bytes that are read without a look at their characters. `None` says nothing of them.
+fn small_literal(bytes: &[u8], of: ScalarType) -> Option<Scalar>
+    ensures { IfSome result (λ v. literal of bytes.now ≡ Ok v) }
+{
+    match of {
+        ScalarType::Int => small_int(bytes),
+        _ => None,
     }
 }
 

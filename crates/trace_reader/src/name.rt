@@ -47,8 +47,11 @@ fn all_go_on(text: &str) -> bool
 fn is_word(name: &str) -> bool
     ensures { result ≡ is_some (word_of name.now) }
 {
-    match name {
-        "in" | "def" | "out" | "as" | "if" | "then" | "else" | "true" | "false" => true,
+    match name.len() {
+        2 => name == "in" || name == "as" || name == "if",
+        3 => name == "def" || name == "out",
+        4 => name == "then" || name == "else" || name == "true",
+        5 => name == "false",
         _ => false,
     }
 }

@@ -1,11 +1,13 @@
 // The reader of a trace.
 
-ghost use Rattle.std.specs.Prelude.{◌≡◌, ◌≤◌, ◌<◌, ◌^◌, [], ◌∷◌, ◌++◌, ℕ, Bool, List, None, false, true, length, slice_get, IfOk, OnOk, OnErr, vec_capacity, vec_len};
+ghost use Rattle.std.specs.Prelude.{◌≡◌, ◌≤◌, ◌<◌, ◌^◌, [], ◌∷◌, ◌++◌, ℕ, Bool, List, None, false, true, length, slice_get, IfOk, IfSome, OnOk, OnErr, vec_capacity, vec_len};
+ghost use Rattle.trace_reader.specs.Form.{is_long};
 
 use crate::fault::TraceFault;
 use crate::inputs::Inputs;
 use crate::line::{Judge, is_long};
 use crate::next::{Next, Rest};
+use crate::plain::{PlainLine, plain_line};
 use crate::seen::note_event;
 use crate::unread::Unread;
 use flat_core::flat::Flat;
@@ -57,9 +59,10 @@ impl<'f> Model for TraceReader<'f> {
 impl<'f> TraceReader<'f> {
     ghost use Rattle.flat_core.specs.System.{System};
     ghost use Rattle.flat_core.specs.Line.{Line};
+    ghost use Rattle.trace_reader.specs.Plain.{StandsPlain};
     ghost use Rattle.trace_reader.specs.Reader.{AwaitsMore, HasLine, at_fault, last_counts};
     ghost use Rattle.trace_reader.specs.Reading.{first_line, reading};
-    ghost use Rattle.trace_reader.specs.Reads.{AnswersAgain, Gathers, IfLine, IfMore, IfRestMore, Reads, Rests, SaysNext, TakesLine, behind_all, lines_in};
+    ghost use Rattle.trace_reader.specs.Reads.{AnswersAgain, Gathers, IfLine, IfMore, IfRestMore, IsPastLine, Reads, Rests, SaysNext, TakesLine, behind_all, lines_in};
 
     /// A reader of the trace of a system's inputs, which was fed nothing. At most `limit` bytes of a
     /// trace are read. A line of a name that no input has only says its time; with `strict` it is
@@ -137,6 +140,9 @@ impl<'f> TraceReader<'f> {
         if let Some(fault) = &self.refused {
             return Err(fault.copy()?);
         }
+        if let Some(line) = self.plain_next() {
+            return self.take_plain(line);
+        }
         let last_counts = self.last_counts();
         match self.unread.line_len(last_counts) {
             Some(len) => self.take_line(len),
@@ -151,6 +157,29 @@ impl<'f> TraceReader<'f> {
         self.ended && self.beyond.is_none()
     }
 
+    /// The first line that stands, where it is of the form in which most are written, and later than the last one. `None` says nothing
+    /// of it.
+    fn plain_next(&self) -> Option<PlainLine>
+        ensures { IfSome result (StandsPlain self.now) }
+    {
+        let name = self.inputs.number_input()?;
+        let line = plain_line(self.unread.as_slice(), name)?;
+        if_later(line, self.last)
+    }
+
+    /// Gives the first line that stands, which is of this form.
+    fn take_plain(&mut self, plain: PlainLine) -> Result<Next, TraceFault>
+        requires { StandsPlain self.old plain }
+        ensures { TakesLine self.old self.new plain.len result }
+    {
+        let line = TraceLine {
+            time: plain.time,
+            event: Some((EqId::new(0), plain.number)),
+        };
+        self.pass_line(plain.len, &line)?;
+        Ok(Next::Line(line))
+    }
+
     /// Gives the first line that stands.
     fn take_line(&mut self, len: usize) -> Result<Next, TraceFault>
         requires line { HasLine self.old len }
@@ -159,7 +188,6 @@ impl<'f> TraceReader<'f> {
         requires accepted { self.old.refused ≡ None }
         ensures { TakesLine self.old self.new len result }
     {
-        let last_counts = self.last_counts();
         let judge = Judge {
             alloc: self.alloc,
             inputs: &self.inputs,
@@ -170,11 +198,7 @@ impl<'f> TraceReader<'f> {
         };
         match judge.judge(&self.unread.as_slice()[..len])? {
             Ok(line) => {
-                note_event(&mut self.seen, self.last, &line)?;
-                self.unread.skip_line(len);
-                self.count += 1;
-                self.count += self.unread.pass_skipped(last_counts);
-                self.last = line.time;
+                self.pass_line(len, &line)?;
                 Ok(Next::Line(line))
             }
             Err(fault) => {
@@ -182,6 +206,22 @@ impl<'f> TraceReader<'f> {
                 Err(fault)
             }
         }
+    }
+
+    /// Takes the first line that stands, which says this, and the lines behind it that say nothing.
+    fn pass_line(&mut self, len: usize, line: &TraceLine) -> Result<(), NoMemory>
+        requires within { len ≤ length self.old.unread }
+        requires some { 0 < length self.old.unread }
+        ensures ok { OnOk result (IsPastLine self.old self.new len line.now) }
+        ensures err { OnErr result (self.new ≡ self.old) }
+    {
+        let last_counts = self.last_counts();
+        note_event(&mut self.seen, self.last, line)?;
+        self.unread.skip_line(len);
+        self.count += 1;
+        self.count += self.unread.pass_skipped(last_counts);
+        self.last = line.time;
+        Ok(())
     }
 
     /// Keeps a fault, which every further call answers.
@@ -241,6 +281,17 @@ impl<'f> TraceReader<'f> {
                 Next::End => return Ok(Rest::End),
             }
         }
+    }
+}
+
+/// A line that is not too long and comes after the last time.
+fn if_later(line: PlainLine, last: Time) -> Option<PlainLine>
+    ensures { IfSome result (λ p. (p ≡ line) × (is_long p.len ≡ false) × (last < p.time)) }
+{
+    if is_long(line.len) || line.time <= last {
+        None
+    } else {
+        Some(line)
     }
 }
 

@@ -1,8 +1,9 @@
 // The bytes of a stream that are not read yet.
 
-ghost use Rattle.std.specs.Prelude.{◌≡◌, ◌≤◌, ◌<◌, ◌^◌, ◌+◌, ◌++◌, [], None, length, take, drop, OnOk, OnErr, IfSome, IfNone, IsTrue};
+ghost use Rattle.std.specs.Prelude.{◌≡◌, ◌≤◌, ◌<◌, ◌^◌, ◌+◌, ◌++◌, [], None, true, length, take, drop, OnOk, OnErr, IfSome, IfNone, IsTrue};
 ghost use Rattle.trace_reader.specs.Form.{split_once};
-ghost use Rattle.trace_reader.specs.Reader.{Passes, StopsAtLine};
+ghost use Rattle.trace_reader.specs.Plain.{begins_with_digit};
+ghost use Rattle.trace_reader.specs.Reader.{IsFirstLine, Passes, StopsAtLine, is_skipped};
 ghost use Rattle.trace_reader.specs.Reading.{first_line};
 
 use crate::form::place_of;
@@ -58,7 +59,9 @@ impl Unread {
         ensures { self.new ≡ self.old }
     {
         if self.start > 0 {
-            self.bytes.drain(..self.start);
+            let len = self.len();
+            self.bytes.copy_within(self.start.., 0);
+            self.bytes.truncate(len);
             self.searched -= self.start;
             self.start = 0;
         }
@@ -87,7 +90,10 @@ impl Unread {
         ensures none { IfNone result (split_once 10 self.old ≡ None) }
     {
         match place_of(&self.bytes[self.searched..], b'\n') {
-            Some(more) => Some(self.searched + more - self.start),
+            Some(more) => {
+                self.searched += more;
+                Some(self.searched - self.start)
+            }
             None => {
                 self.searched = self.bytes.len();
                 None
@@ -103,14 +109,40 @@ impl Unread {
         ensures fewer { result + length self.new ≤ length self.old }
     {
         let mut lines = 0;
-        while let Some(len) = self.line_len(ended) {
-            if !is_skipped(&self.as_slice()[..len]) {
-                break;
-            }
+        while let Some(len) = self.skipped_len(ended) {
             self.skip_line(len);
             lines += 1;
         }
         lines
+    }
+
+    /// The length of the first line, where it is empty or a comment. What begins with a digit is neither.
+    fn skipped_len(&mut self, ended: bool) -> Option<usize>
+        ensures same { self.new ≡ self.old }
+        ensures line { IfSome result (λ n. IsFirstLine self.old ended n) }
+        ensures skipped { IfSome result (λ n. is_skipped (take n self.old) ≡ true) }
+        ensures within { IfSome result (λ n. n ≤ length self.old) }
+        ensures some { IfSome result (λ n. 0 < length self.old) }
+        ensures none { IfNone result (StopsAtLine self.old ended) }
+    {
+        if self.begins_with_digit() {
+            return None;
+        }
+        let len = self.line_len(ended)?;
+        if is_skipped(&self.as_slice()[..len]) {
+            Some(len)
+        } else {
+            None
+        }
+    }
+
+    fn begins_with_digit(&self) -> bool
+        ensures { result ≡ begins_with_digit self.now }
+    {
+        match self.as_slice() {
+            [first, ..] => first.is_ascii_digit(),
+            [] => false,
+        }
     }
 
     /// The number of bytes.

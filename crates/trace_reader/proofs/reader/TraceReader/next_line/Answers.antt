@@ -4,6 +4,22 @@ use Rattle.trace_reader.specs.Reading.{first_line}
 use Rattle.trace_reader.proofs.StepLemmas.{line_fewer, none_from, rests, takes_line}
 use Rattle.trace_reader.proofs.reader.TraceReader.next_line.Goals as goal
 
+pub returns-in-Some-plain_next-clause-says : goal.returns-in-Some-plain_next-clause-says
+returns-in-Some-plain_next-clause-says c =
+    let accepted = sym (ap (λ (r : Reader). r.refused) c.self.view_is) ∙ none_from c.self.inside.refused c.in_default.not-Some in
+    λ s strict limit fed given ended reads.
+    (takes_line c.args.self.now s strict limit fed given ended reads c.take_plain.new.self c.in-Some-plain_next.line.len c.take_plain.result c.in-Some-plain_next.ensures.line accepted c.take_plain.ensures).0
+
+pub returns-in-Some-plain_next-clause-reads : goal.returns-in-Some-plain_next-clause-reads
+returns-in-Some-plain_next-clause-reads c =
+    let accepted = sym (ap (λ (r : Reader). r.refused) c.self.view_is) ∙ none_from c.self.inside.refused c.in_default.not-Some in
+    λ s strict limit fed given ended reads.
+    (takes_line c.args.self.now s strict limit fed given ended reads c.take_plain.new.self c.in-Some-plain_next.line.len c.take_plain.result c.in-Some-plain_next.ensures.line accepted c.take_plain.ensures).1
+
+pub returns-in-Some-plain_next-clause-fewer : goal.returns-in-Some-plain_next-clause-fewer
+returns-in-Some-plain_next-clause-fewer c =
+    line_fewer c.args.self.now c.take_plain.new.self c.in-Some-plain_next.line.len c.take_plain.result c.in-Some-plain_next.ensures.some c.take_plain.ensures
+
 pub returns-in-Some-line_len-clause-says : goal.returns-in-Some-line_len-clause-says
 returns-in-Some-line_len-clause-says c =
     let has = ap (first_line c.self.inside.unread) (ap (λ (r : Reader). last_counts r) c.self.view_is ∙ sym c.last_counts-last_counts.ensures) ∙ c.in-Some-line_len.ensures.line in

@@ -1,4 +1,4 @@
-use Rattle.std.proofs.Common.{◌+◌, arith, length-drop, sym}
+use Rattle.std.proofs.Common.{◌+◌, arith, length-drop}
 use Rattle.trace_reader.specs.Reader.{Passes}
 use Rattle.trace_reader.proofs.unread.Unread.pass_skipped.Goals as goal
 
@@ -12,5 +12,7 @@ loop-len-preserved c =
     let some = c.in-Some.ensures.some in
     let within = c.in-Some.ensures.within in
     let rest = length-drop (c.in-Some.len + 1) c.loop-len.self in
-    let skips = sym (rw (c.as_slice.ensures, c.line_len.ensures.same) at c.if-not-is_skipped.ensures) in
-    rw (c.skip_line.ensures, c.line_len.ensures.same) (Passes.more c.in-Some.len it.0 c.in-Some.ensures.line skips, omega arith)
+    rw (c.skip_line.ensures, c.skipped_len.ensures.same) (Passes.more c.in-Some.len it.0 c.in-Some.ensures.line c.in-Some.ensures.skipped, omega arith)
+
+pub returns-clause-stops : goal.returns-clause-stops
+returns-clause-stops c = rw c.skipped_len.ensures.same c.in_default.ensures.none

@@ -1,0 +1,291 @@
+-- Lines of the form in which most are written say what their parts say.
+use Rattle.std.proofs.Common.{◌≡◌, ◌≢◌, ◌==◌, ◌≤◌, ◌<◌, ◌^◌, ℕ, ◌+◌, ◌-◌, ◌*◌, ℤ, pos, neg_ℤ, Bool, true, false, ◌&&◌, ◌||◌, not, List, [], ◌∷◌, ◌++◌, length, take, drop, nat_le, nat_lt, Option, Some, None, Result, Ok, Err, IfSome, refl, sym, ap, subst, ◌∙◌, arith, append-nil, append_assoc, length-append}
+use Rattle.std.proofs.lemmas.Bool.{and_parts, ltb-false, leb-true, ne_eqb, le-leb, le-ltb, lt-ltb}
+use Rattle.std.proofs.lemmas.List.Folds.{list_all-append}
+use Rattle.std.specs.Prelude.{if◌then◌else◌, codes, slice_get}
+use Rattle.std.specs.Char.{digit_value, is_ascii_digit}
+use Rattle.std.specs.List.{list_all, position_from}
+use Rattle.std.specs.Option.{option_and_then, option_map, option_or}
+use Rattle.std.specs.Result.{result_ok}
+use Rattle.std.specs.Str.Parse.{digits_value}
+use Rattle.std.proofs.lemmas.Int.Digits.{digits_value_push}
+use Rattle.std.proofs.lemmas.Slice.Eq.{bytes_eq-Decides}
+use Rattle.std.proofs.lemmas.Str.{digit_value_digit}
+use Rattle.tsl_value.specs.declared.scalar.Scalar.{Scalar}
+use Rattle.tsl_value.specs.declared.scalar.Scalar.TheVariants as scalar
+use Rattle.tsl_value.specs.declared.scalar.ScalarType.TheVariants as scalar_type
+use Rattle.tsl_value.specs.declared.literal.LiteralFault.{LiteralFault}
+use Rattle.tsl_value.specs.declared.literal.LiteralFault.TheVariants.{BadLiteral, LiteralTooWide}
+use Rattle.tsl_value.specs.Literal.{are_digits, begins_with_minus, int_literal, is_int, literal}
+use Rattle.tsl_value.proofs.Digits.{are_digits-parts, is_int-neg, is_int-pos}
+use Rattle.flat_core.specs.declared.equation.Equation.{Equation}
+use Rattle.flat_core.specs.System.{System, equation}
+use Rattle.flat_core.specs.Line.{Line}
+use Rattle.trace_reader.specs.declared.fault.TraceFault.{TraceFault}
+use Rattle.trace_reader.specs.declared.fault.TraceFault.TheVariants as fault
+use Rattle.trace_reader.specs.declared.plain.PlainLine.{PlainLine}
+use Rattle.trace_reader.specs.Form.{Parts, content, is_blank, is_end_blank, is_long, is_name, parts_of, put_first, says_nothing, split_once, time_of, without_end, without_front}
+use Rattle.trace_reader.specs.Plain.{BeginsWithInt, BeginsWithNumber, IsNumberInput, IsPlain, StandsPlain, begins_with_digit, is_of_int, plain}
+use Rattle.trace_reader.specs.Reader.{IsFirstLine, Reader, StopsAtLine, had_now, is_skipped, last_counts}
+use Rattle.trace_reader.specs.Reading.{addressed, alone, as_read, first_line, formed, had_event, input_called, is_among, is_input, is_called, is_input_called, judged, judged_content, placed, said, said_at, value_at, value_of}
+use Rattle.trace_reader.specs.Spelling.{HasForm, IsWhole}
+use Rattle.trace_reader.proofs.FormLemmas.{form_parts, form_says, says_digit, splits_off}
+use Rattle.trace_reader.proofs.JudgedLemmas.{some_same}
+use Rattle.trace_reader.proofs.NameLemmas.{is_inner, name_inner, name_spelled}
+use Rattle.trace_reader.proofs.TrimLemmas.{all_joined, all_weaker, end_behind, front_kept, not_mark}
+use Rattle.trace_reader.proofs.UnreadLemmas.{is_split}
+
+-- all but a line's end
+abbrev no_end : ℕ → Bool
+no_end b = not (b == 10)
+
+without_mark : (p : ℕ → Bool) (bytes : List ℕ) → p 10 ≡ false → list_all p bytes ≡ true → list_all no_end bytes ≡ true
+without_mark p bytes fails all = all_weaker p no_end bytes (λ b is. ap not (not_mark p b 10 is fails)) all
+
+-- a number, by its bytes
+int_some : (number : List ℕ) (v : Scalar) → int_literal number ≡ Ok v → number ≢ []
+int_some [] v means = absurd (cc)
+int_some (b ∷ number) v means = λ none. cc
+
+of_int_whole : (number : List ℕ) → number ≢ [] → list_all is_of_int number ≡ true → IsWhole number
+of_int_whole number some all = record {
+  front = λ b rest is.
+      let it = (and_parts (is_of_int b) (list_all is_of_int rest) (ap (list_all is_of_int) (sym is) ∙ all)).0 in
+      λ k. not_mark is_of_int b 32 it refl k || not_mark is_of_int b 9 it refl k;
+  end = λ rest b is.
+      let parts = and_parts (list_all is_of_int rest) (list_all is_of_int (b ∷ [])) (sym (list_all-append is_of_int rest (b ∷ [])) ∙ ap (list_all is_of_int) (sym is) ∙ all) in
+      let it = (and_parts (is_of_int b) true parts.1).0 in
+      λ k. (not_mark is_of_int b 32 it refl k || not_mark is_of_int b 9 it refl k) || not_mark is_of_int b 13 it refl k;
+  some = some;
+}
+
+-- the first of a system's equations
+first_called : (name : List ℕ) (es : List Equation) (e : Equation) → slice_get es 0 ≡ Some e → is_input_called name e ≡ true → position_from (is_input_called name) 0 es ≡ Some 0
+first_called name [] e is passes = absurd (cc)
+first_called name (d ∷ es) e is passes =
+    let same : d ≡ e = cc in
+    ap (λ b. if b then Some 0 else position_from (is_input_called name) 1 es) (ap (is_input_called name) same ∙ passes)
+
+module _ (s : System) (name : List ℕ) (it : IsNumberInput s name) where
+  called_first : input_called s name ≡ Some 0
+  called_first =
+      let o = it.input.input in
+      let n = it.input.named in
+      first_called name s.equations it.at it.is ((λ k. is_input (o k) && is_called name (n k)) ∙ (bytes_eq-Decides name name).1 refl)
+
+  value_first : (number : List ℕ) (v : Scalar) → int_literal number ≡ Ok v → value_at s 0 (Some number) ≡ Some v
+  unfolding literal
+  value_first number v means =
+      ap (option_and_then (λ (e : Equation). value_of e.of (Some number))) it.is ∙ ap (λ t. value_of t (Some number)) it.input.of_numbers ∙ ap result_ok means
+
+module _ (name bytes : List ℕ) (p : PlainLine) (it : IsPlain name bytes p) (spelled : is_name name ≡ true) where
+  abbrev line : List ℕ
+  line = plain it.time name it.number
+
+  line_no_end : list_all no_end line ≡ true
+  line_no_end =
+      all_joined no_end it.time _ (without_mark is_ascii_digit it.time refl (are_digits-parts it.time it.digits).1)
+      (all_joined no_end name _ (without_mark is_inner name refl (name_inner name (name_spelled name spelled)))
+      (without_mark is_of_int it.number refl it.all))
+
+  splits : split_once 10 bytes ≡ Some (line, it.rest)
+  splits = ap (split_once 10) it.is ∙ splits_off no_end 10 refl line it.rest line_no_end
+
+  pub taken : take p.len bytes ≡ line
+  taken = let at = is_split 10 bytes (line, it.rest) splits in ap (λ n. take n bytes) it.len ∙ sym at.front
+
+  pub first_plain : (ended : Bool) → IsFirstLine bytes ended p.len
+  first_plain ended =
+      let at = is_split 10 bytes (line, it.rest) splits in
+      ap (λ o. option_or o (if ended then alone bytes else None)) splits
+      ∙ (λ k. Some (sym taken k, (at.behind ∙ ap (λ n. drop (n + 1) bytes) (sym it.len)) k))
+
+  pub plain_within : p.len ≤ length bytes
+  plain_within =
+      let at = is_split 10 bytes (line, it.rest) splits in
+      let lt = at.within in
+      let len = it.len in
+      omega arith
+
+  pub plain_some : 0 < length bytes
+  plain_some = let at = is_split 10 bytes (line, it.rest) splits in let lt = at.within in omega arith
+
+  abbrev parts : Parts
+  parts = record { time = it.time; name = Some name; value = Some it.number }
+
+  form : HasForm line parts
+  form =
+      HasForm.valued [] it.time [] (32 ∷ []) name (32 ∷ []) (32 ∷ []) it.number [] refl it.digits refl refl (name_spelled name spelled) refl refl
+      (of_int_whole it.number (int_some it.number p.number it.means) it.all) refl
+      (ap (λ number. plain it.time name number) (sym (append-nil it.number))) refl
+
+  module _ (s : System) (strict : Bool) (had : ℕ → ℕ → Bool) (last n : ℕ) (input : IsNumberInput s name) (short : p.len ≤ 65536) (later : last ≤ p.time) (new : had p.time 0 ≡ false) where
+    abbrev event : Line
+    event = record { time = p.time; event = Some (0, p.number) }
+
+    time_is : time_of it.time ≡ Some p.time
+    time_is =
+        (λ k. if nat_lt (it.time_is k) 0x8000_0000_0000_0000 then Some (it.time_is k) else None)
+        ∙ ap (λ b. if b then Some p.time else None) (lt-ltb p.time 0x8000_0000_0000_0000 it.small)
+
+    said_is : formed s strict had last n (Some parts) ≡ Ok event
+    said_is =
+        ap (said_at s strict had last n parts) time_is
+        ∙ ap (λ b. if b then Err (fault.TimeBack n last p.time) else said s strict had last n p.time (Some name) (Some it.number)) (le-ltb p.time last later)
+        ∙ ap (addressed s strict had last n p.time name (Some it.number)) (called_first s name input)
+        ∙ ap (placed s strict had last n p.time name 0) (value_first s name input it.number p.number it.means)
+        ∙ ap (λ b. if b then Err (fault.Twice n name) else Ok event) new
+
+    pub judged_plain : judged s strict had last n line ≡ Ok (Some event)
+    judged_plain =
+        let len : length line ≤ 65536 = subst (λ (m : ℕ). m ≤ 65536) it.len short in
+        ap (λ b. if b then Err (fault.LineTooLong n) else judged_content s strict had last n (content line)) (le-ltb 65536 (length line) len)
+        ∙ ap (λ b. if b then Ok None else as_read (formed s strict had last n (parts_of (content line)))) (form_says line parts form)
+        ∙ ap (λ o. as_read (formed s strict had last n o)) (form_parts line parts form)
+        ∙ ap as_read said_is
+
+-- no input had an event at a later time
+none_had : (last : ℕ) (seen : List ℕ) (t i : ℕ) → last < t → had_now last seen t i ≡ false
+none_had last seen t i later = let other : t ≡ last → ⊥ = λ same. omega arith in ap (λ b. b && is_among seen i) (ne_eqb t last other)
+
+stands_plain : (r : Reader) (name : List ℕ) (p : PlainLine) → IsPlain name r.unread p → IsNumberInput r.system name → is_long p.len ≡ false → r.last < p.time → StandsPlain r p
+stands_plain r name p it input short later =
+    let spelled = input.input.spelled in
+    record {
+      line = first_plain name r.unread p it spelled (last_counts r);
+      within = plain_within name r.unread p it spelled;
+      some = plain_some name r.unread p it spelled;
+      judged =
+          ap (judged r.system r.strict (had_now r.last r.seen) r.last (r.count + 1)) (taken name r.unread p it spelled)
+          ∙ judged_plain name r.unread p it spelled r.system r.strict (had_now r.last r.seen) r.last (r.count + 1) input (ltb-false 65536 p.len short) (omega arith)
+          (none_had r.last r.seen p.time 0 later);
+    }
+
+pub if_stands : (r : Reader) (name : List ℕ) (read : PlainLine) (o : Option PlainLine) → IsPlain name r.unread read → IsNumberInput r.system name →
+    IfSome o (λ (p : PlainLine). (p ≡ read) × (is_long p.len ≡ false) × (r.last < p.time)) → IfSome o (StandsPlain r)
+if_stands r name read None it input later = tt
+if_stands r name read (Some p) it input (same, short, later) = stands_plain r name p (subst (IsPlain name r.unread) (sym same) it) input short later
+
+-- what begins with a digit is not skipped
+digit_says : (b : ℕ) (bytes : List ℕ) → is_ascii_digit b ≡ true → says_nothing (content (b ∷ bytes)) ≡ false
+digit_says b bytes is =
+    let no_blank : is_blank b ≡ false = λ k. not_mark is_ascii_digit b 32 is refl k || not_mark is_ascii_digit b 9 is refl k in
+    let no_end_blank : is_end_blank b ≡ false = λ k. no_blank k || not_mark is_ascii_digit b 13 is refl k in
+    ap (λ bs. says_nothing (without_front is_blank bs)) (end_behind is_end_blank [] b bytes no_end_blank)
+    ∙ ap says_nothing (front_kept is_blank b (without_end is_end_blank bytes) no_blank)
+    ∙ says_digit b (without_end is_end_blank bytes) is
+
+digit_kept : (b : ℕ) (bytes first : List ℕ) → is_ascii_digit b ≡ true → b ∷ bytes ≡ first → is_skipped first ≡ false
+digit_kept b bytes first is same = ap is_skipped (sym same) ∙ either (is_long (length (b ∷ bytes))) (digit_says b bytes is)
+  where
+    either : (long : Bool) {says : Bool} → says ≡ false → (if long then false else says) ≡ false
+    either true it = refl
+    either false it = it
+
+pub digit_stops : (bytes : List ℕ) (ended : Bool) → begins_with_digit bytes ≡ true → StopsAtLine bytes ended
+digit_stops [] ended is = absurd (cc)
+digit_stops (b ∷ bytes) ended is = λ front rest first. by (split_once 10 bytes) front rest (sym (ap (λ o. option_or o (if ended then alone (b ∷ bytes) else None)) splits_later) ∙ first)
+  where
+    splits_later : split_once 10 (b ∷ bytes) ≡ option_map (put_first b) (split_once 10 bytes)
+    splits_later = ap (λ t. if t then Some ([], bytes) else option_map (put_first b) (split_once 10 bytes)) (not_mark is_ascii_digit b 10 is refl)
+
+    alone_by : (counts : Bool) (front rest : List ℕ) → (if counts then alone (b ∷ bytes) else None) ≡ Some (front, rest) → b ∷ bytes ≡ front
+    alone_by true front rest same = ap (λ (q : List ℕ × List ℕ). q.0) (some_same (b ∷ bytes, []) (front, rest) same)
+    alone_by false front rest same = absurd (cc)
+
+    by : (o : Option (List ℕ × List ℕ)) (front rest : List ℕ) → option_or (option_map (put_first b) o) (if ended then alone (b ∷ bytes) else None) ≡ Some (front, rest) → is_skipped front ≡ false
+    by None front rest same = digit_kept b bytes front is (alone_by ended front rest same)
+    by (Some q) front rest same = digit_kept b q.0 front is (ap (λ (p : List ℕ × List ℕ). p.0) (some_same (b ∷ q.0, q.1) (front, rest) same))
+
+-- Digits that are read one by one.
+pub record HasRead (bytes : List ℕ) (number : ℕ) (rest : List ℕ) : Type 0 where
+  pub digits : List ℕ
+  pub all : list_all is_ascii_digit digits ≡ true
+  pub value : digits_value 10 digits ≡ number
+  pub is : bytes ≡ digits ++ rest
+
+pub none_read : (bytes : List ℕ) → HasRead bytes 0 bytes
+none_read bytes = record { digits = []; all = refl; value = refl; is = refl }
+
+pub digit_is : (d : ℕ) → is_ascii_digit d ≡ true → (digit_value d ≡ d - 48) × (d ≤ 57)
+digit_is d is =
+    let parts = and_parts (nat_le 48 d) (nat_le d 57) is in
+    let low = leb-true 48 d parts.0 in
+    let high = leb-true d 57 parts.1 in
+    let same = digit_value_digit d (low, high) in
+    (omega arith, high)
+
+pub one_read : (bytes : List ℕ) (number : ℕ) (rest : List ℕ) (digit added : ℕ) (others : List ℕ) → HasRead bytes number rest → rest ≡ digit ∷ others → is_ascii_digit digit ≡ true → added ≡ digit - 48 →
+    HasRead bytes (number * 10 + added) others
+one_read bytes number rest digit added others it is passes value = record {
+  digits = it.digits ++ digit ∷ [];
+  all = all_joined is_ascii_digit it.digits (digit ∷ []) it.all (λ k. passes k && true);
+  value = digits_value_push 10 it.digits digit ∙ λ k. it.value k * 10 + ((digit_is digit passes).0 ∙ sym value) k;
+  is = it.is ∙ ap (λ bs. it.digits ++ bs) is ∙ sym (append_assoc it.digits (digit ∷ []) others);
+}
+
+read_digits : (digits bytes rest : List ℕ) → bytes ≡ digits ++ rest → length rest < length bytes → list_all is_ascii_digit digits ≡ true → are_digits digits ≡ true
+read_digits [] bytes rest is fewer all = let same = ap length is in absurd (omega arith)
+read_digits (d ∷ digits) bytes rest is fewer all = let none : length (d ∷ digits) ≡ 0 → ⊥ = λ same. omega arith in λ k. not (ne_eqb (length (d ∷ digits)) 0 none k) && all k
+
+pub number_read : (bytes : List ℕ) (number : ℕ) (rest : List ℕ) → HasRead bytes number rest → length rest < length bytes → BeginsWithNumber bytes number rest
+number_read bytes number rest it fewer = record { digits = it.digits; are = read_digits it.digits bytes rest it.is fewer it.all; value = it.value; is = it.is }
+
+-- A number with a sign.
+no_minus : (ds : List ℕ) → list_all is_ascii_digit ds ≡ true → begins_with_minus ds ≡ false
+no_minus [] all = refl
+no_minus (d ∷ ds) all = not_mark is_ascii_digit d 45 (and_parts (is_ascii_digit d) (list_all is_ascii_digit ds) all).0 refl
+
+int_means : (ds : List ℕ) → begins_with_minus ds ≡ false → are_digits ds ≡ true → digits_value 10 ds < 2 ^ 63 → int_literal ds ≡ Ok (scalar.Int (pos (digits_value 10 ds)))
+int_means ds plain are small =
+    let n = digits_value 10 ds in
+    (λ k. if not (are_digits (if plain k then drop 1 ds else ds)) then Err BadLiteral
+    else (if is_int (if plain k then neg_ℤ (pos (digits_value 10 (drop 1 ds))) else pos n) then Ok (scalar.Int (if plain k then neg_ℤ (pos (digits_value 10 (drop 1 ds))) else pos n)) else Err LiteralTooWide))
+    ∙ (λ k. if not (are k) then Err BadLiteral else (if (is_int-pos n ∙ lt-ltb n (2 ^ 63) small) k then Ok (scalar.Int (pos n)) else Err LiteralTooWide))
+
+minus_means : (ds : List ℕ) → are_digits ds ≡ true → digits_value 10 ds < 2 ^ 63 → int_literal (45 ∷ ds) ≡ Ok (scalar.Int (neg_ℤ (pos (digits_value 10 ds))))
+minus_means ds are small =
+    let n = digits_value 10 ds in
+    let most : n ≤ 2 ^ 63 = omega arith in
+    λ k. if not (are k) then Err BadLiteral else (if (is_int-neg n ∙ le-leb n (2 ^ 63) most) k then Ok (scalar.Int (neg_ℤ (pos n))) else Err LiteralTooWide)
+
+pub int_read : (bytes : List ℕ) (number : ℕ) (rest : List ℕ) → BeginsWithNumber bytes number rest → number < 2 ^ 63 → BeginsWithInt bytes (scalar.Int (pos number)) rest
+int_read bytes number rest it small = record {
+  written = it.digits;
+  all = all_weaker is_ascii_digit is_of_int it.digits (λ b is. ap (λ t. t || (b == 45)) is) (are_digits-parts it.digits it.are).1;
+  means =
+      let value = it.value in
+      int_means it.digits (no_minus it.digits (are_digits-parts it.digits it.are).1) it.are (omega arith) ∙ ap (λ n. Ok (scalar.Int (pos n))) it.value;
+  is = it.is;
+}
+
+pub minus_read : (bytes : List ℕ) (number : ℕ) (rest : List ℕ) → BeginsWithNumber bytes number rest → number < 2 ^ 63 → BeginsWithInt (45 ∷ bytes) (scalar.Int (neg_ℤ (pos number))) rest
+minus_read bytes number rest it small = record {
+  written = 45 ∷ it.digits;
+  all = all_weaker is_ascii_digit is_of_int it.digits (λ b is. ap (λ t. t || (b == 45)) is) (are_digits-parts it.digits it.are).1;
+  means = let value = it.value in minus_means it.digits it.are (omega arith) ∙ ap (λ n. Ok (scalar.Int (neg_ℤ (pos n)))) it.value;
+  is = ap (λ bs. 45 ∷ bs) it.is;
+}
+
+-- A whole line.
+pub line_read : (name bytes after rest end more : List ℕ) (time : ℕ) (number : Scalar) → BeginsWithNumber bytes time after → after ≡ codes ": " ++ (name ++ (codes " = " ++ rest)) → BeginsWithInt rest number end →
+    end ≡ codes "\n" ++ more → time < 2 ^ 63 → IsPlain name bytes (record { time = time; number = number; len = length bytes - length end })
+line_read name bytes after rest end more time number at named value ends small =
+    let whole : bytes ≡ plain at.digits name value.written ++ 10 ∷ more =
+    at.is ∙ ap (λ bs. at.digits ++ bs) (named ∙ ap (λ bs. codes ": " ++ (name ++ (codes " = " ++ bs))) (value.is ∙ ap (λ bs. value.written ++ bs) ends))
+    ∙ sym (append_assoc at.digits (codes ": " ++ (name ++ (codes " = " ++ value.written))) (10 ∷ more)
+    ∙ ap (λ bs. at.digits ++ (codes ": " ++ bs)) (append_assoc name (codes " = " ++ value.written) (10 ∷ more))) in
+    let both = ap length whole ∙ length-append (plain at.digits name value.written) (10 ∷ more) in
+    let final = ap length ends in
+    record {
+      time = at.digits;
+      number = value.written;
+      rest = more;
+      digits = at.are;
+      time_is = at.value;
+      small = small;
+      all = value.all;
+      means = value.means;
+      is = whole;
+      len = omega arith;
+    }
