@@ -1,17 +1,22 @@
 -- Pairs and marks that are added one after the other.
-use Rattle.std.proofs.Common.{◌≡◌, ◌⊎◌, ℕ, zero, suc, ◌+◌, ◌<◌, ◌≤◌, Bool, true, false, List, [], ◌∷◌, ◌++◌, length, take, replicate, drop, get_or, set, refl, sym, ap, subst, ◌∙◌, inl, inr, arith, get_or-set_same, get_or-set_other, take_at}
-use Rattle.std.specs.Prelude.{IsTrue}
+use Rattle.std.proofs.Common.{◌≡◌, ◌==◌, ◌||◌, ◌⊎◌, ℕ, zero, suc, ◌+◌, ◌<◌, Bool, true, false, List, [], ◌∷◌, ◌++◌, length, take, replicate, get_or, set, refl, sym, ap, subst, ◌∙◌, inl, inr, arith, get_or-set_same, get_or-set_other}
+use Rattle.std.specs.Prelude.{◌↔◌, IsTrue}
 use Rattle.std.specs.List.{Contains}
-use Rattle.std.proofs.lemmas.Bool.{cases_lt, cases_eq, false≢true}
+use Rattle.std.proofs.lemmas.Bool.{cases_lt, cases_eq, false≢true, or_left, or_right, eq-eqb, ne_eqb}
+use Rattle.std.proofs.Math.Bool.{or-false}
+use Rattle.std.proofs.lemmas.List.Folds.{list_any-append}
 use Rattle.std.proofs.lemmas.List.{take_more, length-replicate, length-set}
 use Rattle.std.proofs.Math.Seq.{take-length}
 use Rattle.std.proofs.lemmas.List.Elements.{Contains-append_left, Contains-append_right, Contains-push_cases}
 use Rattle.flat_core.specs.Marks.{has_mark}
+use Rattle.flat_core.specs.Members.{is_in}
 use Rattle.flat_core.proofs.MarkLemmas.{unmarked, mark_within}
+use Rattle.flat_core.proofs.Members.{Contains-in, in-Contains}
 use Rattle.translation_order.specs.Order.{Before, AreOfSteps}
 use Rattle.translation_order.proofs.Lists.{here, none_in_nil}
 use Rattle.alias_analysis.specs.Pairs.{ArePairs, Adds, IsWanted, IsGiven, IsKeyBelow, AreTurned}
-use Rattle.alias_analysis.specs.Marking.{AreJust, AddsMarks, IsChosen, HasMarkedSecond, HasMarkedFirst, IsMarkedBy, IsBelow}
+use Rattle.alias_analysis.specs.Search.{AreMarkedIn}
+use Rattle.alias_analysis.specs.Marking.{AreJust, AddsMarks, IsChosen, HasMarkedSecond, HasMarkedFirst, IsMarkedBy}
 
 -- ---- lists
 
@@ -168,22 +173,6 @@ module _ {X : Type 0} (items : List X) (Marks : X → ℕ → Type 0) where
         | inr last ↦ inr (subst (λ (y : X). Marks y z) (sym last) m.marks)
       ])
 
-module _ (P : ℕ → Type 0) where
-  pub below_none : (old : List Bool) → AddsMarks old (IsBelow 0 P) old
-  below_none old = marks_none old (IsBelow 0 P) (λ x b. let low = b.low in absurd (omega arith))
-
-  -- one more number
-  pub below_next : (k number : ℕ) (wanted : Bool) (old mid new : List Bool) → number ≡ k → (IsTrue wanted → P number) → (P number → IsTrue wanted) → AddsMarks old (IsBelow k P) mid → AddsMarks mid (IsChosen wanted number) new → AddsMarks old (IsBelow (k + 1) P) new
-  below_next k number wanted old mid new same to from first second =
-      marks_then old mid new (IsBelow k P) (IsChosen wanted number) (IsBelow (k + 1) P) first second
-      (λ x b. let low = b.low in record { low = omega arith; has = b.has })
-      (λ x c. let is = c.is in record { low = omega arith; has = subst P (sym c.is) (to c.is_wanted) })
-      (λ x b.
-      elim (cases_lt x k) [
-        | inl less ↦ inl (record { low = less; has = b.has })
-        | inr not_less ↦ let low = b.low in let is : x ≡ number = omega arith in inr (record { is_wanted = from (subst P is b.has); is = is })
-      ])
-
 -- of no marks at first
 pub just_added : (count : ℕ) (P : ℕ → Type 0) (old new : List Bool) → old ≡ replicate count false → length old ≡ count → AddsMarks old P new → AreJust count P new
 just_added count P old new none size h = record {
@@ -248,26 +237,50 @@ turned_more pairs turned new k p lt is before pushed = record {
   );
 }
 
--- ---- marks in a list that was lent whole
+-- ---- marks of the numbers in a list
 
-pub mended : (new old : List Bool) (len : ℕ) → length new ≡ len → take len (new ++ drop (length new) old) ≡ new
-mended new old len size = take_at new (drop (length new) old) len size
+pub none_long : (count : ℕ) (old : List Bool) → old ≡ replicate count false → length old ≡ count
+none_long count old none = ap length none ∙ length-replicate count false
+
+-- x is this number, and has the property
+pub record IsIt (P : ℕ → Type 0) (number x : ℕ) : Type 0 where
+  pub is : x ≡ number
+  pub has : P x
+
+pub listed_low : (marks : List Bool) (listed : List ℕ) (k number : ℕ) → AreMarkedIn marks listed → k < length listed → number ≡ get_or listed k number → IsTrue (has_mark marks number)
+listed_low marks listed k number are lt is = sym (are number) ∙ in-Contains listed number (k, lt, sym is)
+
+-- one more number is marked and listed
+pub listed_pushed : (marks : List Bool) (listed new : List ℕ) (number : ℕ) → number < length marks → new ≡ listed ++ number ∷ [] → AreMarkedIn marks listed → AreMarkedIn (set marks number true) new
+listed_pushed marks listed new number lt pushed are i =
+    ap (λ l. is_in l i) pushed ∙ list_any-append (λ j. j == i) listed (number ∷ []) ∙ elim (cases_eq i number) [
+      | inl same ↦
+          let here : (number == i) ≡ true = eq-eqb number i (sym same) in
+          or_right (is_in listed i) ((number == i) || false) (or_left (number == i) false here) ∙ sym (ap (has_mark (set marks number true)) same ∙ get_or-set_same marks number true false lt)
+      | inr other ↦
+          let away : (number == i) ≡ false = ne_eqb number i (λ same. other (sym same)) in
+          ap (λ b. is_in listed i || (b || false)) away ∙ or-false (is_in listed i) ∙ are i ∙ sym (get_or-set_other marks number i true false other)
+    ]
+
+module _ (P : ℕ → Type 0) (listed : List ℕ) where
+  pub listed_more : (k number : ℕ) (wanted : Bool) (old mid new : List Bool) → k < length listed → number ≡ get_or listed k number → IsTrue wanted ↔ P number → AddsMarks old (IsMarkedBy (take k listed) (IsIt P)) mid → AddsMarks mid (IsChosen wanted number) new → AddsMarks old (IsMarkedBy (take (k + 1) listed) (IsIt P)) new
+  listed_more k number wanted old mid new lt is exact first second =
+      marked_more listed (IsIt P) k number old mid new lt is first
+      (marks_as mid (IsChosen wanted number) (IsIt P number) new second
+      (λ x c. record { is = c.is; has = subst P (sym c.is) (exact.0 c.is_wanted) })
+      (λ x i. record { is_wanted = exact.1 (subst P i.is i.has); is = i.is }))
+
+  pub listed_all : (marks : List Bool) (k count : ℕ) (old new : List Bool) → k ≡ length listed → AreMarkedIn marks listed → ((x : ℕ) → P x → IsTrue (has_mark marks x)) → old ≡ replicate count false → AddsMarks old (IsMarkedBy (take k listed) (IsIt P)) new → AreJust count P new
+  listed_all marks k count old new all are low none h =
+      just_added count P old new none (none_long count old none)
+      (marks_as old (IsMarkedBy (take k listed) (IsIt P)) P new h
+      (λ x m. m.marks.has)
+      (λ x p. record {
+        item = x;
+        among = subst (λ zs. Contains zs x) (sym (all_taken listed k all)) (Contains-in listed x (are x ∙ low x p));
+        marks = record { is = refl; has = p };
+      }))
 
 -- the first marks that are added to none
-pub first_added : (count len : ℕ) (P : ℕ → Type 0) (old lent new : List Bool) → old ≡ replicate count false → lent ≡ old → length lent ≡ len → AddsMarks lent P new → AreJust count P (take len (new ++ drop (length new) old))
-first_added count len P old lent new none same size h =
-    let clear : lent ≡ replicate count false = same ∙ none in
-    let long : length lent ≡ count = ap length clear ∙ length-replicate count false in
-    subst (AreJust count P) (sym (mended new old len (h.one_each ∙ size))) (just_added count P lent new clear long h)
-
--- one more number, in a list that was lent whole
-pub below_lent : (P : ℕ → Type 0) (k : ℕ) (wanted : Bool) (old items lent new : List Bool) (len : ℕ) → lent ≡ items → length lent ≡ len → (IsTrue wanted → P k) → (P k → IsTrue wanted) → AddsMarks old (IsBelow k P) items → AddsMarks lent (IsChosen wanted k) new → AddsMarks old (IsBelow (k + 1) P) (take len (new ++ drop (length new) items))
-below_lent P k wanted old items lent new len same size to from first second =
-    subst (AddsMarks old (IsBelow (k + 1) P)) (sym (mended new items len (second.one_each ∙ size)))
-    (below_next P k k wanted old items new refl to from first (subst (λ m. AddsMarks m (IsChosen wanted k) new) same second))
-
-pub below_all : (P : ℕ → Type 0) (n m k : ℕ) (old new : List Bool) → old ≡ replicate m false → m ≡ n → n ≤ k → ((x : ℕ) → P x → x < n) → AddsMarks old (IsBelow k P) new → AreJust n P new
-below_all P n m k old new none same all low h =
-    let long = length-replicate m false in
-    just_added n P old new (none ∙ ap (λ j. replicate j false) same) (ap length none ∙ long ∙ same)
-    (marks_as old (IsBelow k P) P new h (λ x b. b.has) (λ x p. let lt = low x p in record { low = omega arith; has = p }))
+pub first_added : (count : ℕ) (P : ℕ → Type 0) (old new : List Bool) → old ≡ replicate count false → AddsMarks old P new → AreJust count P new
+first_added count P old new none h = just_added count P old new none (none_long count old none) h

@@ -1,8 +1,6 @@
 -- What bypasses an update, by following edges around it.
-use Rattle.std.proofs.Common.{◌≡◌, ◌↔◌, ℕ, ◌+◌, ◌<◌, Bool, List, [], ◌∷◌, length, take, get_or, Some, refl, sym, ap, subst, ◌∙◌, inl, inr, arith}
+use Rattle.std.proofs.Common.{◌≡◌, ◌↔◌, ℕ, ◌<◌, Bool, List, [], ◌∷◌, length, get_or, Some, refl, sym, ap, subst, ◌∙◌, inl, inr, arith}
 use Rattle.std.specs.Prelude.{IsTrue}
-use Rattle.std.specs.List.{Contains}
-use Rattle.std.proofs.Math.Seq.{take-length}
 use Rattle.std.proofs.lemmas.List.{length-map}
 use Rattle.std.proofs.lemmas.Option.{same_Some, slice_get_within}
 use Rattle.tsl_value.specs.declared.scalar.ValueType.{ValueType}
@@ -11,7 +9,6 @@ use Rattle.flat_core.specs.Complete.{IsFlat}
 use Rattle.flat_core.specs.Marks.{has_mark}
 use Rattle.flat_core.specs.System.{System, equation}
 use Rattle.flat_core.specs.TypedSystem.{AreOfTypes}
-use Rattle.translation_order.specs.Order.{Before}
 use Rattle.trigger_rules.specs.Question.{Implies}
 use Rattle.trigger_starts.specs.declared.rules.Rule.{Rule}
 use Rattle.trigger_formulas.specs.Kept.{AreTriggersOf}
@@ -21,12 +18,12 @@ use Rattle.alias_rules.specs.Roots.{Carries, IsRoot}
 use Rattle.alias_rules.specs.Sharing.{Alias, same, lasts}
 use Rattle.alias_rules.specs.Bypass.{PassesOver, GoesAround, Bypasses}
 use Rattle.alias_analysis.specs.Search.{AreReached}
-use Rattle.alias_analysis.specs.Pairs.{ArePairs, Adds, IsWanted, IsGiven}
+use Rattle.alias_analysis.specs.Pairs.{ArePairs}
 use Rattle.alias_analysis.specs.Marking.{AreJust, AddsMarks, HasMarkedSecond, HasMarkedFirst}
 use Rattle.alias_analysis.specs.Kept.{AreStoredMarks}
 use Rattle.alias_analysis.specs.Flows.{SharesWithOne}
-use Rattle.alias_analysis.specs.Contents.{IsMergeBehind, LeadsAround, IsRootOfSource, SharesWithLast, IsLastOfMarked, AreAliased, IsMarkedBeside}
-use Rattle.alias_analysis.proofs.Adding.{adds_as, given_more, pairs_of, marks_as}
+use Rattle.alias_analysis.specs.Contents.{IsMergeBehind, IsPairAround, IsRootOfSource, SharesWithLast, IsLastOfMarked, AreAliased, IsNear, IsBeside, IsMarkedBeside}
+use Rattle.alias_analysis.proofs.Adding.{marks_as}
 use Rattle.alias_analysis.proofs.Rooting.{just_as, walk_as}
 use Rattle.alias_analysis.proofs.Sharers.{last_origin}
 
@@ -67,36 +64,20 @@ module _ (s : System) (i x : ℕ) (e : Equation) (found : equation s i ≡ Some 
 
 -- ---- edges around an update
 
-pub record GivesAround (s : System) (y : ℕ) (p : ℕ × ℕ) (a i : ℕ) : Type 0 where
-  pub leads : LeadsAround s y p.0 p.1
-  pub first : a ≡ p.0
-  pub second : i ≡ p.1
+-- what is reached along the same edges under another name
+reached_as : (E F : ℕ → ℕ → Type 0) (begins reached : List Bool) → ((a b : ℕ) → E a b → F a b) → ((a b : ℕ) → F a b → E a b) → AreReached E begins reached → AreReached F begins reached
+reached_as E F begins reached to from h = record {
+  each = λ x. (
+    (λ m. let way = (h.each x).0 m in record { start = way.start; is_start = way.is_start; walk = walk_as E F to way.walk }),
+    (λ way. (h.each x).1 (record { start = way.start; is_start = way.is_start; walk = walk_as F E from way.walk })),
+  );
+}
 
-module _ (s : System) (y : ℕ) (carriers : List (ℕ × ℕ)) where
-  pub around_more : (k : ℕ) (p : ℕ × ℕ) (wanted : Bool) (old mid new : List (ℕ × ℕ)) → k < length carriers → p ≡ get_or carriers k p → IsTrue wanted ↔ LeadsAround s y p.0 p.1 → Adds old (IsGiven (take k carriers) (GivesAround s y)) mid → Adds mid (IsWanted wanted p.0 p.1) new → Adds old (IsGiven (take (k + 1) carriers) (GivesAround s y)) new
-  around_more k p wanted old mid new lt is exact before added =
-      given_more carriers (GivesAround s y) k p old mid new lt is before (
-      adds_as mid (IsWanted wanted p.0 p.1) (GivesAround s y p) new added
-      (λ a i w. record { leads = exact.0 w.is_wanted; first = w.first; second = w.second })
-      (λ a i g. record { is_wanted = exact.1 g.leads; first = g.first; second = g.second })
-      )
-
-  pub around_are : (set : List ℕ) (k : ℕ) (old new : List (ℕ × ℕ)) → old ≡ [] → k ≡ length carriers → ArePairs (Carries s set) carriers → Adds old (IsGiven (take k carriers) (GivesAround s y)) new → ArePairs (GoesAround s set y) new
-  around_are set k old new none all are h =
-      let whole : take k carriers ≡ carriers = ap (λ m. take m carriers) all ∙ take-length carriers in
-      pairs_of (GoesAround s set y) new (
-      adds_as [] (IsGiven (take k carriers) (GivesAround s y)) (GoesAround s set y) new (subst (λ l. Adds l (IsGiven (take k carriers) (GivesAround s y)) new) none h)
-      (λ a i g.
-      let among = subst (λ zs. Contains zs g.item) whole g.among in
-      let here : Before carriers a i = subst (Contains carriers) (λ j. (sym g.gives.first j, sym g.gives.second j)) among in
-      let leads = subst (λ (q : ℕ × ℕ). LeadsAround s y q.0 q.1) (λ j. (sym g.gives.first j, sym g.gives.second j)) g.gives.leads in
-      record { carries = (are.each a i).0 here; avoids = leads.avoids; enters = leads.enters })
-      (λ a i g. record {
-        item = (a, i);
-        among = subst (λ zs. Contains zs (a, i)) (sym whole) ((are.each a i).1 g.carries);
-        gives = record { leads = record { avoids = g.avoids; enters = g.enters }; first = refl; second = refl };
-      })
-      )
+pub reached_around : (s : System) (set : List ℕ) (y : ℕ) (carriers : List (ℕ × ℕ)) (begins reached : List Bool) → ArePairs (Carries s set) carriers → AreReached (IsPairAround s y carriers) begins reached → AreReached (GoesAround s set y) begins reached
+reached_around s set y carriers begins reached are h =
+    reached_as (IsPairAround s y carriers) (GoesAround s set y) begins reached
+    (λ a i p. record { carries = (are.each a i).0 p.among; avoids = p.leads.avoids; enters = p.leads.enters })
+    (λ a i g. record { among = (are.each a i).1 g.carries; leads = record { avoids = g.avoids; enters = g.enters } }) h
 
 -- ---- who shares with a last value among the roots
 
@@ -129,20 +110,17 @@ aliased_by s last_pairs sharers old new are h =
 
 -- ---- the whole
 
-module _ (s : System) (flat : IsFlat s) (set : List ℕ) (y : ℕ) (around : List (ℕ × ℕ)) (are : ArePairs (GoesAround s set y) around) (roots sharers begins reached : List Bool) (rooted : AreJust (length s.equations) (IsRootOfSource s set y) roots) (shared : AreJust (length s.equations) (SharesWithLast s set y) sharers) (aliased : AreAliased s roots sharers begins) (ends : AreReached (Before around) begins reached) where
-  bypass_from : (x : ℕ) → IsMarkedBeside s y reached x → Bypasses s set y x
-  bypass_from x b =
-      let way = (ends.each x).0 b.marked in
-      let walk = walk_as (Before around) (GoesAround s set y) (λ a c h. (are.each a c).0 h) way.walk in
+module _ (s : System) (flat : IsFlat s) (set : List ℕ) (y : ℕ) (roots sharers begins reached : List Bool) (rooted : AreJust (length s.equations) (IsRootOfSource s set y) roots) (shared : AreJust (length s.equations) (SharesWithLast s set y) sharers) (aliased : AreAliased s roots sharers begins) (ends : AreReached (GoesAround s set y) begins reached) where
+  near_from : (x : ℕ) → IsTrue (has_mark reached x) → IsNear s set y x
+  near_from x m =
+      let way = (ends.each x).0 m in
       elim (aliased.from way.start way.is_start) [
         | inl at_root ↦
             let r = (rooted.each way.start).0 at_root in
-            record { variable = b.beside.variable; together = b.beside.together; source = r.source; written = r.written; root = way.start; source_root = r.root; origin = way.start; begins = r.root.origin; aliases = same; around = walk }
+            record { source = r.source; written = r.written; root = way.start; source_root = r.root; origin = way.start; begins = r.root.origin; aliases = same; around = way.walk }
         | inr at_last ↦
             let w = (shared.each at_last.variable).0 at_last.marked in
             record {
-              variable = b.beside.variable;
-              together = b.beside.together;
               source = w.source;
               written = w.written;
               root = w.comes.root;
@@ -150,7 +128,7 @@ module _ (s : System) (flat : IsFlat s) (set : List ℕ) (y : ℕ) (around : Lis
               origin = way.start;
               begins = last_origin s flat set at_last.variable way.start at_last.last;
               aliases = lasts at_last.last w.comes.last w.shares;
-              around = walk;
+              around = way.walk;
             }
       ]
 
@@ -163,11 +141,41 @@ module _ (s : System) (flat : IsFlat s) (set : List ℕ) (y : ℕ) (around : Lis
         marked = (shared.each v).1 (record { source = source; written = written; last = w; comes = record { root = root; is_root = at_root; last = second }; shares = h });
       })
 
-  from_bypass : (x : ℕ) → Bypasses s set y x → IsMarkedBeside s y reached x
-  from_bypass x b = record {
-    marked = (ends.each x).1 (record { start = b.origin; is_start = begun b.source b.root b.origin b.written b.source_root b.aliases; walk = walk_as (GoesAround s set y) (Before around) (λ a c h. (are.each a c).1 h) b.around });
-    beside = record { variable = b.variable; together = b.together };
-  }
+  from_near : (x : ℕ) → IsNear s set y x → IsTrue (has_mark reached x)
+  from_near x b = (ends.each x).1 (record { start = b.origin; is_start = begun b.source b.root b.origin b.written b.source_root b.aliases; walk = b.around })
 
-  pub bypassed_are : (marks : List Bool) → AreJust (length s.equations) (IsMarkedBeside s y reached) marks → AreJust (length s.equations) (Bypasses s set y) marks
-  bypassed_are marks h = just_as (length s.equations) (IsMarkedBeside s y reached) (Bypasses s set y) marks h bypass_from from_bypass
+  pub near_are : length reached ≡ length s.equations → AreJust (length s.equations) (IsNear s set y) reached
+  near_are size = record { one_each = size; each = λ x. (near_from x, from_near x) }
+
+-- what is near an update and beside it bypasses it
+pub bypasses_near : (s : System) (set : List ℕ) (y x : ℕ) → IsNear s set y x → IsBeside s y x → Bypasses s set y x
+bypasses_near s set y x n b = record {
+  variable = b.variable;
+  together = b.together;
+  source = n.source;
+  written = n.written;
+  root = n.root;
+  source_root = n.source_root;
+  origin = n.origin;
+  begins = n.begins;
+  aliases = n.aliases;
+  around = n.around;
+}
+
+pub near_bypass : (s : System) (set : List ℕ) (y x : ℕ) → Bypasses s set y x → IsNear s set y x
+near_bypass s set y x b = record {
+  source = b.source;
+  written = b.written;
+  root = b.root;
+  source_root = b.source_root;
+  origin = b.origin;
+  begins = b.begins;
+  aliases = b.aliases;
+  around = b.around;
+}
+
+pub bypassed_are : (s : System) (set : List ℕ) (y : ℕ) (near marks : List Bool) → AreJust (length s.equations) (IsNear s set y) near → AreJust (length s.equations) (IsMarkedBeside s y near) marks → AreJust (length s.equations) (Bypasses s set y) marks
+bypassed_are s set y near marks just h =
+    just_as (length s.equations) (IsMarkedBeside s y near) (Bypasses s set y) marks h
+    (λ x m. bypasses_near s set y x ((just.each x).0 m.marked) m.beside)
+    (λ x b. record { marked = (just.each x).1 (near_bypass s set y x b); beside = record { variable = b.variable; together = b.together } })

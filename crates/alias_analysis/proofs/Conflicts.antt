@@ -3,7 +3,7 @@ use Rattle.std.proofs.Common.{◌≡◌, ℕ, zero, suc, ◌+◌, ◌<◌, ◌�
 use Rattle.std.specs.Prelude.{IsTrue, MatchOption}
 use Rattle.std.specs.List.{Contains}
 use Rattle.std.specs.List.Sorted.{IsStrictlyIncreasing}
-use Rattle.std.proofs.lemmas.Bool.{cases_lt, cases_eq}
+use Rattle.std.proofs.lemmas.Bool.{cases_lt, cases_eq, false≢true}
 use Rattle.std.proofs.lemmas.List.{get_or_read}
 use Rattle.std.proofs.lemmas.List.Kept.{AllPairs-from_increasing}
 use Rattle.std.proofs.lemmas.Option.{slice_get_within}
@@ -13,19 +13,24 @@ use Rattle.flat_core.specs.System.{System}
 use Rattle.flat_core.proofs.Members.{Contains-in, in-Contains}
 use Rattle.translation_order.specs.Order.{IsLeast}
 use Rattle.alias_rules.specs.Uses.{AreUpdates, IsStored}
-use Rattle.alias_rules.specs.Bypass.{Bypasses}
 use Rattle.alias_rules.specs.Conflict.{IsKept, IsNotOverwritten, IsInConflict, IsFirst}
 use Rattle.alias_rules.proofs.Sharing.{both_stored}
 use Rattle.alias_analysis.specs.Marking.{AreJust}
-use Rattle.alias_analysis.specs.Contents.{SharesWithLast, IsMarkedUnimplied, AreMarkedInBoth}
+use Rattle.alias_analysis.specs.Search.{AreMarkedIn}
+use Rattle.alias_analysis.specs.Contents.{SharesWithLast, IsMarkedUnimplied, AreMarkedInBoth, IsNear, IsMarkedBeside}
 use Rattle.alias_analysis.proofs.Rooting.{just_as}
+use Rattle.alias_analysis.proofs.Bypassing.{bypasses_near, near_bypass}
 
-pub kept_are : (s : System) (set : List ℕ) (y n : ℕ) (bypassed stored marks : List Bool) → AreJust n (Bypasses s set y) bypassed → AreJust n (IsStored s) stored → AreJust (length bypassed) (AreMarkedInBoth bypassed stored) marks → AreJust n (IsKept s set y) marks
-kept_are s set y n bypassed stored marks by st h =
-    let found = just_as (length bypassed) (AreMarkedInBoth bypassed stored) (IsKept s set y) marks h
-    (λ x m. record { bypasses = (by.each x).0 m.in_first; stored = (st.each x).0 m.in_second })
-    (λ x k. record { in_first = (by.each x).1 k.bypasses; in_second = (st.each x).1 k.stored }) in
-    record { one_each = found.one_each ∙ by.one_each; each = found.each }
+pub kept_are : (s : System) (set : List ℕ) (y : ℕ) (near stored both marks : List Bool) → AreJust (length s.equations) (IsNear s set y) near → AreJust (length s.equations) (IsStored s) stored → AreJust (length near) (AreMarkedInBoth near stored) both → AreJust (length s.equations) (IsMarkedBeside s y both) marks → AreJust (length s.equations) (IsKept s set y) marks
+kept_are s set y near stored both marks just st found h =
+    just_as (length s.equations) (IsMarkedBeside s y both) (IsKept s set y) marks h
+    (λ x m.
+    let there = (found.each x).0 m.marked in
+    record { bypasses = bypasses_near s set y x ((just.each x).0 there.in_first) m.beside; stored = (st.each x).0 there.in_second })
+    (λ x k. record {
+      marked = (found.each x).1 (record { in_first = (just.each x).1 (near_bypass s set y x k.bypasses); in_second = (st.each x).1 k.stored });
+      beside = record { variable = k.bypasses.variable; together = k.bypasses.together };
+    })
 
 pub not_overwritten_are : (s : System) (set : List ℕ) (y n : ℕ) (sharers marks : List Bool) → AreJust n (SharesWithLast s set y) sharers → AreJust n (IsMarkedUnimplied s y sharers) marks → AreJust n (IsNotOverwritten s set y) marks
 not_overwritten_are s set y n sharers marks shared h =
@@ -104,3 +109,7 @@ module _ (set : List ℕ) (C : ℕ → ℕ → Type 0) where
 pub least_of : (n : ℕ) (P : ℕ → Type 0) (marks read : List Bool) (r : Option ℕ) → read ≡ marks → AreJust n P marks → MatchOption r ((x : ℕ) → IsTrue (has_mark read x) → ⊥) (IsLeast (λ x. IsTrue (has_mark read x))) → MatchOption r ((x : ℕ) → P x → ⊥) (IsLeast P)
 least_of n P marks read None same just h = none_just n P marks read same just h
 least_of n P marks read (Some x) same just h = least_just n P marks read x same just h
+
+pub none_listed : (marks : List Bool) (listed : List ℕ) → AreMarkedIn marks listed → length listed ≡ 0 → (x : ℕ) → IsTrue (has_mark marks x) → ⊥
+none_listed marks [] are none x m = false≢true (are x ∙ m)
+none_listed marks (i ∷ listed) are none x m = absurd (omega arith)

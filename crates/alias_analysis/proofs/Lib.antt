@@ -1,4 +1,5 @@
 pub mod Spreads
+pub mod Chaining
 pub mod Adding
 pub mod Using
 pub mod Rooting
@@ -6,3 +7,4 @@ pub mod Sharers
 pub mod Bypassing
 pub mod Conflicts
 pub mod Constraining
+pub mod Circling

@@ -1,10 +1,8 @@
 -- Sharing is that content of one place went into both stores.
-use Rattle.std.proofs.Common.{◌≡◌, ◌↔◌, ◌⊎◌, ℕ, ◌+◌, ◌-◌, ◌<◌, ◌≤◌, Bool, true, false, List, [], ◌∷◌, ◌++◌, length, drop, take, replicate, length-drop, length-append, Some, refl, sym, ap, subst, ◌∙◌, inl, inr, arith}
+use Rattle.std.proofs.Common.{◌≡◌, ◌↔◌, ◌⊎◌, ℕ, ◌+◌, ◌-◌, ◌<◌, ◌≤◌, Bool, true, false, List, [], ◌∷◌, ◌++◌, length, take, replicate, Some, refl, sym, ap, subst, ◌∙◌, inl, inr, arith}
 use Rattle.std.specs.Prelude.{IsTrue, slice_get}
 use Rattle.std.specs.List.{Contains}
 use Rattle.std.proofs.Math.Seq.{take-length}
-use Rattle.std.proofs.lemmas.Bool.{cases_lt, false≢true}
-use Rattle.std.proofs.lemmas.List.{length-replicate, get_or-replicate, get_or_append_left, get_or-append-add, get_or-drop}
 use Rattle.std.proofs.lemmas.Option.{slice_get_within, same_Some}
 use Rattle.tsl_value.specs.declared.scalar.ValueType.{ValueType}
 use Rattle.flat_core.specs.declared.equation.Equation.{Equation}
@@ -18,6 +16,7 @@ use Rattle.flat_core.specs.System.{System}
 use Rattle.flat_core.specs.Typed.{is_aggregate, IsTyped, last}
 use Rattle.flat_core.specs.TypedSystem.{AreOfTypes}
 use Rattle.flat_core.proofs.MarkLemmas.{mark_within}
+use Rattle.flat_core.proofs.Members.{Contains-in, in-Contains}
 use Rattle.flat_core.proofs.Walks.{walk_on, walk_keeps}
 use Rattle.alias_rules.specs.Uses.{first_of, last_of, IsLast, IsStored}
 use Rattle.alias_rules.specs.Roots.{begins_content, Carries, IsOrigin, ComesFromLast}
@@ -25,12 +24,12 @@ use Rattle.alias_rules.specs.Sharing.{Shares, itself, turned, common_root, last_
 use Rattle.alias_rules.proofs.Sharing.{both_stored}
 use Rattle.translation_order.proofs.Lists.{none_in_nil, cons_cases}
 use Rattle.translation_order.specs.Order.{Before, AreOfSteps}
-use Rattle.alias_analysis.specs.Search.{AreReached}
+use Rattle.alias_analysis.specs.Search.{AreReached, AreMarkedIn}
 use Rattle.alias_analysis.specs.Pairs.{ArePairs, Adds, IsWanted, IsGiven, IsKeyBelow, AreTurned}
-use Rattle.alias_analysis.specs.Marking.{AreJust, IsChosen, HasMarkedSecond}
+use Rattle.alias_analysis.specs.Marking.{AreJust, AddsMarks, IsChosen, IsMarkedBy}
 use Rattle.alias_analysis.specs.Kept.{AreStoredMarks}
-use Rattle.alias_analysis.specs.Flows.{store_of, Flows, carried, kept, taken, IsSource, SharesWithOne, GoesThroughStore, into, out_of, IsMarkedPair}
-use Rattle.alias_analysis.proofs.Adding.{adds_as, adds_then, adds_pushed, keyed_next, keyed_all, pairs_of, of_steps_from}
+use Rattle.alias_analysis.specs.Flows.{store_of, Flows, carried, kept, taken, IsSource, IsStoreOf, HasStoreAt, SharesWithOne, GoesThroughStore, into, out_of, IsMarkedPair}
+use Rattle.alias_analysis.proofs.Adding.{adds_as, adds_then, adds_pushed, keyed_next, keyed_all, pairs_of, of_steps_from, marks_none, marks_as, first_added}
 use Rattle.alias_analysis.proofs.Rooting.{carrier_low, walk_as, walk_back, just_as}
 use Rattle.alias_analysis.proofs.Using.{taken_low, taker_low}
 
@@ -160,22 +159,50 @@ module _ (s : System) (flat : IsFlat s) (set : List ℕ) where
 
 -- ---- marks of stores
 
-pub stored_at : (stored : List Bool) (n u : ℕ) → length stored ≡ n → has_mark (replicate n false ++ stored) (n + u) ≡ has_mark stored u
-stored_at stored n u size =
-    ap (λ m. has_mark (replicate n false ++ stored) (m + u)) (sym (length-replicate n false)) ∙ get_or-append-add (replicate n false) stored u false
+abbrev pub MarksStore : ℕ → ℕ → ℕ → Type 0
+MarksStore count number x = IsChosen true (count + number) x
 
-pub stored_from : (stored : List Bool) (n y : ℕ) → length stored ≡ n → IsTrue (has_mark (replicate n false ++ stored) y) → (u : ℕ) × (y ≡ n + u) × IsTrue (has_mark stored u)
-stored_from stored n y size h = elim (cases_lt y n) [
-  | inl low ↦
-      let none : has_mark (replicate n false ++ stored) y ≡ false =
-      get_or_append_left (replicate n false) stored false y (let long = length-replicate n false in omega arith) ∙ get_or-replicate n y false false low in
-      absurd (false≢true (sym none ∙ h))
-  | inr high ↦
-      let is : y ≡ n + (y - n) = omega arith in
-      (y - n, is, sym (stored_at stored n (y - n) size) ∙ subst (λ z. IsTrue (has_mark (replicate n false ++ stored) z)) is h)
-]
+pub stores_all : (marks : List Bool) (listed : List ℕ) (k count : ℕ) (old new : List Bool) → k ≡ length listed → AreMarkedIn marks listed → count ≡ length marks → old ≡ replicate (count + count) false → AddsMarks old (IsMarkedBy (take k listed) (MarksStore count)) new → AreJust (length marks + length marks) (IsStoreOf marks) new
+stores_all marks listed k count old new all are size none h =
+    let whole : take k listed ≡ listed = ap (λ m. take m listed) all ∙ take-length listed in
+    first_added (length marks + length marks) (IsStoreOf marks) old new (none ∙ ap (λ m. replicate (m + m) false) size)
+    (marks_as old (IsMarkedBy (take k listed) (MarksStore count)) (IsStoreOf marks) new h
+    (λ x m. record {
+      variable = m.item;
+      marked = sym (are m.item) ∙ in-Contains listed m.item (subst (λ zs. Contains zs m.item) whole m.among);
+      is = m.marks.is ∙ ap (λ z. z + m.item) size;
+    })
+    (λ x st. record {
+      item = st.variable;
+      among = subst (λ zs. Contains zs st.variable) (sym whole) (Contains-in listed st.variable (are st.variable ∙ st.marked));
+      marks = record { is_wanted = refl; is = st.is ∙ ap (λ z. z + st.variable) (sym size) };
+    }))
 
-module _ (s : System) (flat : IsFlat s) (set : List ℕ) (pairs back : List (ℕ × ℕ)) (are : ArePairs (Flows s set) pairs) (around : AreTurned pairs back) (stored stores before sources after : List Bool) (size : length stored ≡ length s.equations) (are_stored : AreStoredMarks s stored) (stores_are : stores ≡ replicate (length s.equations) false ++ stored) (reached : AreReached (Before back) stores before) (found : (x : ℕ) → IsTrue (has_mark sources x) ↔ IsSource s set before x) (ends : AreReached (Before pairs) sources after) where
+pub no_store : (count number : ℕ) (old : List Bool) → number < count → AddsMarks old (HasStoreAt count number) old
+no_store count number old low = marks_none old (HasStoreAt count number) (λ v is. absurd (omega arith))
+
+pub one_store : (count number v : ℕ) (old new : List Bool) → count ≤ number → v ≡ number - count → AddsMarks old (IsChosen true v) new → AddsMarks old (HasStoreAt count number) new
+one_store count number v old new high is h =
+    marks_as old (IsChosen true v) (HasStoreAt count number) new h
+    (λ x c. let same = c.is in omega arith)
+    (λ x same. record { is_wanted = refl; is = omega arith })
+
+pub with_stores_all : (marks : List Bool) (listed : List ℕ) (k count : ℕ) (old new : List Bool) → k ≡ length listed → AreMarkedIn marks listed → old ≡ replicate count false → AddsMarks old (IsMarkedBy (take k listed) (HasStoreAt count)) new → AreJust count (λ v. IsTrue (has_mark marks (count + v))) new
+with_stores_all marks listed k count old new all are none h =
+    let whole : take k listed ≡ listed = ap (λ m. take m listed) all ∙ take-length listed in
+    first_added count (λ v. IsTrue (has_mark marks (count + v))) old new none
+    (marks_as old (IsMarkedBy (take k listed) (HasStoreAt count)) (λ v. IsTrue (has_mark marks (count + v))) new h
+    (λ v m. subst (λ z. IsTrue (has_mark marks z)) m.marks (sym (are m.item) ∙ in-Contains listed m.item (subst (λ zs. Contains zs m.item) whole m.among)))
+    (λ v t. record {
+      item = count + v;
+      among = subst (λ zs. Contains zs (count + v)) (sym whole) (Contains-in listed (count + v) (are (count + v) ∙ t));
+      marks = refl;
+    }))
+
+pub both_halves : (m n : ℕ) → m ≡ n → m + m ≡ n + n
+both_halves m n same = ap (λ k. k + k) same
+
+module _ (s : System) (flat : IsFlat s) (set : List ℕ) (pairs back : List (ℕ × ℕ)) (are : ArePairs (Flows s set) pairs) (around : AreTurned pairs back) (stored stores before sources after : List Bool) (size : length stored ≡ length s.equations) (are_stored : AreStoredMarks s stored) (stores_just : AreJust (length stored + length stored) (IsStoreOf stored) stores) (reached : AreReached (Before back) stores before) (found : (x : ℕ) → IsTrue (has_mark sources x) ↔ IsSource s set before x) (ends : AreReached (Before pairs) sources after) where
   abbrev n : ℕ
   n = length s.equations
 
@@ -191,47 +218,23 @@ module _ (s : System) (flat : IsFlat s) (set : List ℕ) (pairs back : List (ℕ
       let z = end.start in
       let source = (found z).0 end.is_start in
       let way = (reached.each z).0 source.marked in
-      let begun = stored_from stored n way.start size (subst (λ m. IsTrue (has_mark m way.start)) stores_are way.is_start) in
-      let u = begun.0 in
+      let begun = (stores_just.each way.start).0 way.is_start in
+      let u = begun.variable in
+      let store : way.start ≡ n + u = begun.is ∙ ap (λ m. m + u) size in
       let to_v = walk_as (Before pairs) (Flows s set) (λ a b c. (are.each a b).0 c) end.walk in
-      let to_u : Walk (Flows s set) z (store_of s u) = subst (Walk (Flows s set) z) begun.1 (walk_back (Before back) (Flows s set) forward way.walk) in
-      record { one = u; marked = begun.2; shares = came_share s flat set z v u source.begins (are_stored u begun.2) to_v to_u }
+      let to_u : Walk (Flows s set) z (store_of s u) = subst (Walk (Flows s set) z) store (walk_back (Before back) (Flows s set) forward way.walk) in
+      record { one = u; marked = begun.marked; shares = came_share s flat set z v u source.begins (are_stored u begun.marked) to_v to_u }
 
   from_shares : (v : ℕ) → SharesWithOne s set stored v → IsTrue (has_mark after (n + v))
   from_shares v h =
       let came = shared_came s flat set v h.one h.shares in
-      let start : IsTrue (has_mark stores (n + h.one)) = ap (λ m. has_mark m (n + h.one)) stores_are ∙ stored_at stored n h.one size ∙ h.marked in
+      let start : IsTrue (has_mark stores (n + h.one)) = (stores_just.each (n + h.one)).1 (record { variable = h.one; marked = h.marked; is = ap (λ m. m + h.one) (sym size) }) in
       let seen = (reached.each came.source).1 (record { start = n + h.one; is_start = start; walk = walk_back (Flows s set) (Before back) backward came.second }) in
       let source = (found came.source).1 (record { marked = seen; begins = came.begins }) in
       (ends.each (n + v)).1 (record { start = came.source; is_start = source; walk = walk_as (Flows s set) (Before pairs) (λ a b c. (are.each a b).1 c) came.first })
 
-  pub sharers_are : length after ≡ n + n → AreJust n (SharesWithOne s set stored) (drop n after)
-  sharers_are long = record {
-    one_each = length-drop n after ∙ omega arith;
-    each = λ v. (
-      (λ h. shares_from v (sym (get_or-drop n after v false) ∙ h)),
-      (λ h. get_or-drop n after v false ∙ from_shares v h),
-    );
-  }
-
-pub sharers_found : (s : System) (flat : IsFlat s) (set : List ℕ) (flows flows_read flows_again back back_read : List (ℕ × ℕ)) (stored stores stores_read before before_read sources sources_read after after_read result : List Bool) (count : ℕ) →
-    ArePairs (Flows s set) flows → flows_read ≡ flows → AreTurned flows_read back → back_read ≡ back → stores_read ≡ stores → length stored ≡ length s.equations → AreStoredMarks s stored → stores ≡ replicate (length stored) false ++ stored →
-    length before ≡ length stores_read → AreReached (Before back_read) stores_read before → before_read ≡ before → AreJust (length before_read) (IsSource s set before_read) sources → flows_again ≡ flows → sources_read ≡ sources →
-    length after ≡ length sources_read → AreReached (Before flows_again) sources_read after → after_read ≡ after → count ≡ length s.equations → result ≡ drop count after_read → AreJust (length s.equations) (SharesWithOne s set stored) result
-sharers_found s flat set flows flows_read flows_again back back_read stored stores stores_read before before_read sources sources_read after after_read result count are f around b st size are_stored stores_are long reached be found f2 so long_after ends af co is =
-    let stores_is : stores ≡ replicate (length s.equations) false ++ stored = stores_are ∙ ap (λ m. replicate m false ++ stored) size in
-    let turned_pairs = subst (λ l. AreTurned l back) f around in
-    let reached_before = subst (λ l. AreReached (Before l) stores before) b (subst (λ m. AreReached (Before back_read) m before) st reached) in
-    let just = subst (λ m. AreJust (length m) (IsSource s set m) sources) be found in
-    let ends_after = subst (λ l. AreReached (Before l) sources after) f2 (subst (λ m. AreReached (Before flows_again) m after) so ends) in
-    let total : length after ≡ length s.equations + length s.equations =
-    long_after ∙ ap length so ∙ just.one_each ∙ long ∙ ap length st ∙ ap length stores_is ∙ length-append (replicate (length s.equations) false) stored
-    ∙ (λ k. length-replicate (length s.equations) false k + size k) in
-    subst (AreJust (length s.equations) (SharesWithOne s set stored)) (sym (is ∙ ap (drop count) af ∙ ap (λ m. drop m after) co))
-    (sharers_are s flat set flows back are turned_pairs stored stores before sources after size are_stored stores_is reached_before just.each ends_after total)
-
-pub stores_long : (stored stores : List Bool) (n : ℕ) → stores ≡ replicate (length stored) false ++ stored → length stored ≡ n → length stores ≡ n + n
-stores_long stored stores n is size = ap length is ∙ length-append (replicate (length stored) false) stored ∙ (λ k. (length-replicate (length stored) false ∙ size) k + size k)
+  pub sharers_are : (result : List Bool) → AreJust n (λ v. IsTrue (has_mark after (n + v))) result → AreJust n (SharesWithOne s set stored) result
+  sharers_are result h = just_as n (λ v. IsTrue (has_mark after (n + v))) (SharesWithOne s set stored) result h shares_from from_shares
 
 -- ---- the edges through variables and stores
 
@@ -271,8 +274,8 @@ store_pushed count p old mid new first second =
       | inr e ↦ inr (record { is_wanted = refl; first = e.0; second = e.1 })
     ])
 
-pub stores_all : (lasts : List (ℕ × ℕ)) (count k : ℕ) (old new : List (ℕ × ℕ)) → k ≡ length lasts → Adds old (IsGiven (take k lasts) (GivesStore count)) new → Adds old (GoesThroughStore lasts count) new
-stores_all lasts count k old new all h =
+pub gone_through : (lasts : List (ℕ × ℕ)) (count k : ℕ) (old new : List (ℕ × ℕ)) → k ≡ length lasts → Adds old (IsGiven (take k lasts) (GivesStore count)) new → Adds old (GoesThroughStore lasts count) new
+gone_through lasts count k old new all h =
     let same : take k lasts ≡ lasts = ap (λ m. take m lasts) all ∙ take-length lasts in
     adds_as old (IsGiven (take k lasts) (GivesStore count)) (GoesThroughStore lasts count) new h
     (λ a b g.
@@ -290,16 +293,22 @@ stores_all lasts count k old new all h =
 
 -- ---- stored variables, and the pairs that share
 
-pub stored_are : (s : System) (n : ℕ) (lasts : List (ℕ × ℕ)) (all marks : List Bool) → n ≡ length s.equations → ArePairs (IsLast s) lasts → all ≡ replicate n true → AreJust (length all) (HasMarkedSecond lasts all) marks → AreJust (length s.equations) (IsStored s) marks
-stored_are s n lasts all marks count are is h = record {
-  one_each = h.one_each ∙ ap length is ∙ length-replicate n true ∙ count;
-  each = λ x. (
-    (λ m. let found = (h.each x).0 m in record { last = found.second; taken = (are.each x found.second).0 found.among }),
-    (λ st.
-        let low = taker_low s last_of x st.last st.taken in
-        (h.each x).1 (record { second = st.last; among = (are.each x st.last).1 st.taken; marked = ap (λ m. has_mark m st.last) is ∙ get_or-replicate n st.last true false (omega arith) })),
-  );
-}
+abbrev pub MarksVariable : ℕ × ℕ → ℕ → Type 0
+MarksVariable p x = IsChosen true p.0 x
+
+pub stored_are : (s : System) (lasts : List (ℕ × ℕ)) (k count : ℕ) (old new : List Bool) → k ≡ length lasts → count ≡ length s.equations → ArePairs (IsLast s) lasts → old ≡ replicate count false → AddsMarks old (IsMarkedBy (take k lasts) MarksVariable) new → AreJust (length s.equations) (IsStored s) new
+stored_are s lasts k count old new all size are none h =
+    let whole : take k lasts ≡ lasts = ap (λ m. take m lasts) all ∙ take-length lasts in
+    first_added (length s.equations) (IsStored s) old new (none ∙ ap (λ m. replicate m false) size)
+    (marks_as old (IsMarkedBy (take k lasts) MarksVariable) (IsStored s) new h
+    (λ x m.
+    let p = m.item in
+    record { last = p.1; taken = (are.each x p.1).0 (subst (λ zs. Contains zs (x, p.1)) whole (subst (λ z. Contains (take k lasts) (z, p.1)) (sym m.marks.is) m.among)) })
+    (λ x st. record {
+      item = (x, st.last);
+      among = subst (λ zs. Contains zs (x, st.last)) (sym whole) ((are.each x st.last).1 st.taken);
+      marks = record { is_wanted = refl; is = refl };
+    }))
 
 pub one_stored : (s : System) (n number : ℕ) (wanted : Bool) (stored one : List Bool) → wanted ≡ has_mark stored number → AreJust (length s.equations) (IsStored s) stored → AreJust n (IsChosen wanted number) one → AreStoredMarks s one
 one_stored s n number wanted stored one is are just x m =

@@ -1,19 +1,17 @@
 -- Marking along edges, step by step.
-use Rattle.std.proofs.Common.{◌≡◌, ◌==◌, ◌||◌, ◌&&◌, ◌<◌, not, ℕ, true, false, cond, List, [], ◌∷◌, ◌++◌, length, get_or, refl, sym, ap, subst, ◌∙◌, inl, inr}
+use Rattle.std.proofs.Common.{◌≡◌, ◌==◌, ◌||◌, ◌&&◌, not, ℕ, true, false, cond, List, [], ◌∷◌, ◌++◌, length, refl, sym, ap, subst, ◌∙◌, inl, inr}
 use Rattle.std.specs.Prelude.{IsTrue, eqb}
 use Rattle.std.specs.List.{Contains}
 use Rattle.std.proofs.lemmas.Bool.{or_cases, or_left, or_right, or_parts, and_parts, cases_Bool, false≢true, eqb-true, eq-eqb}
 use Rattle.std.proofs.Math.Bool.{or-false}
-use Rattle.std.proofs.lemmas.List.Elements.{Contains-get_or}
 use Rattle.std.proofs.lemmas.List.Folds.{list_any-append}
 use Rattle.flat_core.specs.declared.reach.Marks.{Marks}
 use Rattle.flat_core.specs.Graph.{stay}
-use Rattle.flat_core.specs.Marks.{has_mark, is_marked, is_waiting, AreBelow, Marked}
+use Rattle.flat_core.specs.Marks.{has_mark, is_marked, is_waiting, Marked}
 use Rattle.flat_core.specs.Members.{is_in}
-use Rattle.flat_core.proofs.Members.{in-Contains}
 use Rattle.flat_core.proofs.Walks.{walk_on, walk_keeps}
-use Rattle.translation_order.specs.Order.{Before, AreOfSteps}
-use Rattle.translation_order.specs.Taking.{seconds_of, AreSeconds}
+use Rattle.translation_order.specs.Order.{Before}
+use Rattle.translation_order.specs.Taking.{seconds_of}
 use Rattle.translation_order.proofs.Lists.{here, later, none_in_nil, cons_cases}
 use Rattle.alias_analysis.specs.Search.{IsReached, AreReached, Spread, Spreading}
 
@@ -86,6 +84,10 @@ module _ (E : ℕ → ℕ → Type 0) where
       closed = closed_one;
     }
 
+  -- once nothing waits
+  pub spreading_done : (m n : Marks) → n.waiting.items ≡ [] → Spreading E m n → Spread E m n
+  spreading_done m n none h = record { one_each = h.one_each; kept = h.kept; from = h.from; closed = λ i marked. h.closed i marked (ap (λ xs. is_in xs i) none) }
+
   -- what is marked in the end is what is reached
   pub spread_reaches : (m n : Marks) → Spread E m n → AreReached E m.marked.items n.marked.items
   spread_reaches m n spread = record {
@@ -93,7 +95,7 @@ module _ (E : ℕ → ℕ → Type 0) where
   }
 
 -- ---- the seconds of a number
-second_in : (pairs : List (ℕ × ℕ)) (a b : ℕ) → Before pairs a b → is_in (seconds_of pairs a) b ≡ true
+pub second_in : (pairs : List (ℕ × ℕ)) (a b : ℕ) → Before pairs a b → is_in (seconds_of pairs a) b ≡ true
 second_in [] a b c = absurd (none_in_nil (a, b) c)
 second_in (p ∷ pairs) a b c = elim (cons_cases p (a, b) pairs c) [
   | inl same ↦
@@ -108,7 +110,7 @@ second_in (p ∷ pairs) a b c = elim (cons_cases p (a, b) pairs c) [
       ]
 ]
 
-in_second : (pairs : List (ℕ × ℕ)) (a b : ℕ) → is_in (seconds_of pairs a) b ≡ true → Before pairs a b
+pub in_second : (pairs : List (ℕ × ℕ)) (a b : ℕ) → is_in (seconds_of pairs a) b ≡ true → Before pairs a b
 in_second [] a b h = absurd (false≢true h)
 in_second (p ∷ pairs) a b h = elim (cases_Bool (eqb a p.0)) [
   | inl same ↦
@@ -122,15 +124,3 @@ in_second (p ∷ pairs) a b h = elim (cases_Bool (eqb a p.0)) [
       let more : is_in (seconds_of pairs a) b ≡ true = ap (λ t. is_in (cond t (p.1 ∷ seconds_of pairs a) (seconds_of pairs a)) b) (sym other) ∙ h in
       later p (a, b) pairs (in_second pairs a b more)
 ]
-
-module _ (count : ℕ) (pairs : List (ℕ × ℕ)) (seconds : List (List ℕ)) (are : AreSeconds count pairs seconds) (a : ℕ) (low : a < count) (next : List ℕ) (is : next ≡ get_or seconds a []) where
-  pub next_follows : (b : ℕ) → is_in next b ≡ true → Before pairs a b
-  next_follows b h = in_second pairs a b (sym (ap (λ xs. is_in xs b) (is ∙ are.at a low)) ∙ h)
-
-  pub follows_next : (b : ℕ) → Before pairs a b → is_in next b ≡ true
-  follows_next b c = ap (λ xs. is_in xs b) (is ∙ are.at a low) ∙ second_in pairs a b c
-
-  pub next_below : AreOfSteps count pairs → AreBelow count next
-  next_below of_steps k d lt =
-      let found = next_follows (get_or next k d) (in-Contains next (get_or next k d) (Contains-get_or next k d lt)) in
-      subst (λ m. m < count) (ap (λ (q : ℕ × ℕ). q.1) found.2) (of_steps found.0 (a, get_or next k d) found.1).1

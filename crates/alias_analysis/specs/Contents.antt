@@ -2,6 +2,7 @@
 use Rattle.std.specs.Prelude.{◌≡◌, ℕ, Bool, List, [], ◌∷◌, Option, MatchOption, IsTrue}
 use Rattle.flat_core.specs.declared.equation.Equation.{Equation}
 use Rattle.flat_core.specs.declared.equation.Op.TheVariants as op
+use Rattle.flat_core.specs.Graph.{Walk}
 use Rattle.flat_core.specs.Marks.{has_mark}
 use Rattle.flat_core.specs.Members.{is_in}
 use Rattle.flat_core.specs.System.{System}
@@ -9,10 +10,11 @@ use Rattle.translation_order.specs.Order.{Before}
 use Rattle.trigger_rules.specs.Question.{Implies, Together}
 use Rattle.alias_rules.specs.Uses.{IsVariable, IsLast, IsWritten}
 use Rattle.alias_rules.specs.Roots.{Carries, IsOrigin, IsRoot, ComesFromLast}
-use Rattle.alias_rules.specs.Sharing.{Shares}
+use Rattle.alias_rules.specs.Sharing.{Shares, Alias}
 use Rattle.alias_rules.specs.Bypass.{PassesOver, GoesAround}
 use Rattle.alias_analysis.specs.Pairs.{ArePairs}
 use Rattle.alias_analysis.specs.Marking.{AddsMarks}
+use Rattle.alias_analysis.specs.Search.{AreReached}
 
 pub record IsInside (pairs : List (ℕ × ℕ)) (set : List ℕ) (a i : ℕ) : Type 0 where
   pub among : Before pairs a i
@@ -49,9 +51,20 @@ pub record LeadsAround (s : System) (y x i : ℕ) : Type 0 where
   pub avoids : i ≡ y → ⊥
   pub enters : PassesOver s y i x → ⊥
 
--- of the carrier edges of any set those that go around update y
-abbrev pub AreAround : System → ℕ → List (ℕ × ℕ) → List (ℕ × ℕ) → Type 0
-AreAround s y carriers around = (set : List ℕ) → ArePairs (Carries s set) carriers → ArePairs (GoesAround s set y) around
+-- x is the second of this pair, which leads around update y
+pub record IsSecondAround (s : System) (y first second x : ℕ) : Type 0 where
+  pub is : x ≡ second
+  pub leads : LeadsAround s y first second
+
+-- one of these pairs that leads around update y
+pub record IsPairAround (s : System) (y : ℕ) (pairs : List (ℕ × ℕ)) (x i : ℕ) : Type 0 where
+  pub among : Before pairs x i
+  pub leads : LeadsAround s y x i
+
+-- what is reached around update y along the carrier edges of any set
+abbrev pub AreReachedAround : System → ℕ → List (ℕ × ℕ) → List Bool → List Bool → Type 0
+AreReachedAround s y carriers begins reached =
+    (set : List ℕ) → ArePairs (Carries s set) carriers → AreReached (GoesAround s set y) begins reached
 
 -- v shares with one whose last value is a root of what update y writes
 pub record SharesWithLast (s : System) (set : List ℕ) (y v : ℕ) : Type 0 where
@@ -69,6 +82,17 @@ pub record IsLastOfMarked (s : System) (marks : List Bool) (o : ℕ) : Type 0 wh
 
 abbrev pub AreAliased : System → List Bool → List Bool → List Bool → Type 0
 AreAliased s roots sharers begins = AddsMarks roots (IsLastOfMarked s sharers) begins
+
+-- content that begins as that of the source of update y comes to x around y
+pub record IsNear (s : System) (set : List ℕ) (y x : ℕ) : Type 0 where
+  pub source : ℕ
+  pub written : IsWritten s source y
+  pub root : ℕ
+  pub source_root : IsRoot s set root source
+  pub origin : ℕ
+  pub begins : IsOrigin s set origin
+  pub aliases : Alias s set origin root
+  pub around : Walk (GoesAround s set y) origin x
 
 pub record IsBeside (s : System) (y x : ℕ) : Type 0 where
   pub variable : IsVariable s x

@@ -34,6 +34,16 @@ pub data GoesThroughStore (lasts : List (ℕ × ℕ)) (count a b : ℕ) : Type 0
   into : (last : ℕ) → Before lasts a last → b ≡ count + a → GoesThroughStore lasts count a b
   out_of : (variable : ℕ) → Before lasts variable b → a ≡ count + variable → GoesThroughStore lasts count a b
 
+-- z is the store of a marked variable, where there are so many variables as marks
+pub record IsStoreOf (marks : List Bool) (z : ℕ) : Type 0 where
+  pub variable : ℕ
+  pub marked : IsTrue (has_mark marks variable)
+  pub is : z ≡ length marks + variable
+
+-- the number is the store of this variable
+abbrev pub HasStoreAt : ℕ → ℕ → ℕ → Type 0
+HasStoreAt count number variable = number ≡ count + variable
+
 -- a pair of this number and a marked one
 pub record IsMarkedPair (number : ℕ) (marks : List Bool) (a b : ℕ) : Type 0 where
   pub first : a ≡ number

@@ -1,14 +1,18 @@
 -- What is kept of a system: which equations take the content of which variables.
-use Rattle.std.specs.Prelude.{◌≡◌, ℕ, ◌<◌, Bool, List, [], IsTrue}
+use Rattle.std.specs.Prelude.{◌≡◌, ℕ, ◌<◌, Bool, List, [], length, IsTrue}
 use Rattle.std.specs.List.{Contains}
 use Rattle.flat_core.specs.declared.equation.Op.{Op}
 use Rattle.flat_core.specs.Marks.{has_mark}
 use Rattle.flat_core.specs.System.{System}
 use Rattle.alias_rules.specs.Uses.{read_of, passed_of, last_of, written_of, IsVariable, IsStored, Takes}
+use Rattle.alias_rules.specs.Roots.{Carries}
 use Rattle.trigger_starts.specs.declared.rules.Rule.{Rule}
 use Rattle.trigger_formulas.specs.Kept.{AreTriggersOf}
 use Rattle.alias_analysis.specs.declared.uses.Uses.{Uses}
-use Rattle.alias_analysis.specs.Pairs.{ArePairs, Adds}
+use Rattle.alias_analysis.specs.declared.paths.Paths.{Paths}
+use Rattle.alias_analysis.specs.Pairs.{ArePairs, Adds, AreTurned}
+use Rattle.alias_analysis.specs.Marking.{AreJust}
+use Rattle.alias_analysis.specs.Flows.{Flows}
 
 -- a variable among these arguments of an equation
 pub record IsTakenAt (s : System) (arguments : List ℕ) (number a i : ℕ) : Type 0 where
@@ -48,6 +52,14 @@ pub record AreUses (s : System) (uses : Uses) : Type 0 where
 pub record IsGraph (s : System) (rules : List Rule) (uses : Uses) : Type 0 where
   pub triggers : AreTriggersOf rules s
   pub are_uses : AreUses s uses
+
+-- how content goes on where the updates of a set happen in place, and which variables are stored
+pub record ArePaths (s : System) (set : List ℕ) (p : Paths) : Type 0 where
+  pub carriers : ArePairs (Carries s set) p.carriers
+  pub back : AreTurned p.carriers p.back
+  pub flows : ArePairs (Flows s set) p.flows
+  pub flows_back : AreTurned p.flows p.flows_back
+  pub stored : AreJust (length s.equations) (IsStored s) p.stored
 
 -- all marked equations are stored variables
 abbrev pub AreStoredMarks : System → List Bool → Type 0

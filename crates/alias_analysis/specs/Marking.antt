@@ -1,5 +1,5 @@
 -- Marks of numbers.
-use Rattle.std.specs.Prelude.{◌≡◌, ◌↔◌, ◌⊎◌, ℕ, ◌<◌, Bool, List, length, IsTrue}
+use Rattle.std.specs.Prelude.{◌≡◌, ◌↔◌, ◌⊎◌, ℕ, Bool, List, length, IsTrue}
 use Rattle.std.specs.List.{Contains}
 use Rattle.flat_core.specs.Marks.{has_mark}
 use Rattle.translation_order.specs.Order.{Before}
@@ -38,8 +38,3 @@ pub record IsMarkedBy {X : Type 0} (items : List X) (Marks : X → ℕ → Type 
   pub item : X
   pub among : Contains items item
   pub marks : Marks item x
-
--- a number below a bound with a property
-pub record IsBelow (bound : ℕ) (P : ℕ → Type 0) (x : ℕ) : Type 0 where
-  pub low : x < bound
-  pub has : P x

@@ -1,131 +1,24 @@
 // Which variables may have, beside an update in place, the content that it changes.
 
-ghost use Rattle.std.specs.Prelude.{◌≡◌, ◌↔◌, ◌<◌, length, IfOk, IsTrue};
-ghost use Rattle.flat_core.specs.declared.equation.Op.TheVariants as op;
-ghost use Rattle.translation_order.specs.Order.{AreOfSteps};
-ghost use Rattle.alias_rules.specs.Roots.{Carries};
-ghost use Rattle.alias_rules.specs.Bypass.{PassesOver, Bypasses};
+ghost use Rattle.std.specs.Prelude.{◌≡◌, ◌↔◌, ◌<◌, length, IfOk, OnOk, IsTrue};
+ghost use Rattle.alias_rules.specs.Bypass.{Bypasses};
 ghost use Rattle.trigger_formulas.specs.Kept.{AreTriggersOf};
-ghost use Rattle.alias_analysis.specs.Kept.{AreUses};
-ghost use Rattle.alias_analysis.specs.Pairs.{ArePairs};
+ghost use Rattle.alias_analysis.specs.Kept.{AreUses, ArePaths};
 ghost use Rattle.alias_analysis.specs.Marking.{AreJust};
-ghost use Rattle.alias_analysis.specs.Contents.{IsOtherOfMerge, AreAround, LeadsAround, IsRootOfSource, SharesWithLast, AreAliased, IsMarkedBeside};
+ghost use Rattle.alias_analysis.specs.Contents.{IsRootOfSource, SharesWithLast, AreAliased, IsMarkedBeside, IsNear};
 
-use crate::marks::{firsts, mark_if, mark_seconds, unmarked};
-use crate::pairs::push_if;
-use crate::reach::reached;
-use crate::roots::{carriers, source_roots};
+use crate::around::reached_around;
+use crate::numbers::{Numbers, firsts, mark_seconds};
+use crate::paths::Paths;
+use crate::roots::source_roots;
 use crate::sharing::sharers;
 use crate::uses::{Uses, is_variable};
-use flat_core::equation::{Equation, Op};
 use flat_core::flat::Flat;
 use flat_core::lists::EqSet;
-use flat_core::steps::Edges;
 use std::alloc::Global;
 use trigger_formulas::triggers::Triggers;
 use tsl_value::ids::EqId;
 use tsl_value::memory::NoMemory;
-
-fn is_merge(operation: &Op) -> bool
-    ensures { IsTrue result ↔ (operation.now ≡ op.Merge) }
-{
-    match operation {
-        Op::Merge => true,
-        _ => false,
-    }
-}
-
-/// The first of two arguments of a merge of which this is the second, if they differ.
-fn other_of_merge(equation: &Equation, second: EqId) -> Option<EqId>
-    ensures { IsOtherOfMerge equation.now second result }
-{
-    let arguments = equation.args.ids();
-    if !is_merge(&equation.op) || arguments.len() != 2 {
-        return None;
-    }
-    if arguments[1] != second || arguments[0] == second {
-        return None;
-    }
-    Some(arguments[0])
-}
-
-/// Whether an equation merges this one behind another that has an event wherever the update has one.
-pub fn passes_over(
-    alloc: Global,
-    flat: &Flat,
-    triggers: &Triggers,
-    update: EqId,
-    equation: EqId,
-    second: EqId,
-) -> Result<bool, NoMemory>
-    requires triggers { AreTriggersOf triggers.now flat.now }
-    requires update { update < length flat.now.equations }
-    requires equation { equation < length flat.now.equations }
-    ensures { IfOk result (λ r. IsTrue r ↔ PassesOver flat.now update equation second) }
-{
-    // A system has few equations, and is typed, as their count tells.
-    let _ = flat.count();
-    match other_of_merge(flat.equation(equation), second) {
-        Some(other) => {
-            let implied = triggers.implies(alloc, update, other)?;
-            Ok(implied)
-        }
-        None => Ok(false),
-    }
-}
-
-/// Whether a carrier edge goes around the update.
-fn goes_around(
-    alloc: Global,
-    flat: &Flat,
-    triggers: &Triggers,
-    update: EqId,
-    edge: (u32, u32),
-) -> Result<bool, NoMemory>
-    requires triggers { AreTriggersOf triggers.now flat.now }
-    requires update { update < length flat.now.equations }
-    requires there { edge.1 < length flat.now.equations }
-    ensures { IfOk result (λ r. IsTrue r ↔ LeadsAround flat.now update edge.0 edge.1) }
-{
-    let (first, second) = edge;
-    if second == update.get() {
-        return Ok(false);
-    }
-    let over = passes_over(
-        alloc,
-        flat,
-        triggers,
-        update,
-        EqId::new(second),
-        EqId::new(first),
-    )?;
-    Ok(!over)
-}
-
-/// The carrier edges that go around the update.
-fn around(
-    alloc: Global,
-    flat: &Flat,
-    triggers: &Triggers,
-    carriers: &[(u32, u32)],
-    update: EqId,
-) -> Result<Edges, NoMemory>
-    requires triggers { AreTriggersOf triggers.now flat.now }
-    requires update { update < length flat.now.equations }
-    requires there { AreOfSteps (length flat.now.equations) carriers.now }
-    ensures { IfOk result (AreAround flat.now update carriers.now) }
-{
-    let mut around = Edges::new(alloc);
-    for (first, second) in carriers {
-        let edge = (*first, *second);
-        push_if(
-            &mut around,
-            edge,
-            goes_around(alloc, flat, triggers, update, edge)?,
-        )?;
-    }
-    Ok(around)
-}
 
 /// The stored variables that share with one whose last value is a root of the update's source.
 pub fn last_sharers(
@@ -133,28 +26,58 @@ pub fn last_sharers(
     flat: &Flat,
     uses: &Uses,
     set: &EqSet,
-    carriers: &[(u32, u32)],
+    paths: &Paths,
     update: EqId,
-    roots: &[bool],
-) -> Result<Vec<bool>, NoMemory>
+    roots: &Numbers,
+) -> Result<Numbers, NoMemory>
     requires uses { AreUses flat.now uses.now }
-    requires carriers { ArePairs (Carries flat.now set.now) carriers.now }
+    requires paths { ArePaths flat.now set.now paths.now }
     requires roots { AreJust (length flat.now.equations) (IsRootOfSource flat.now set.now update) roots.now }
-    ensures { IfOk result (λ v. AreJust (length flat.now.equations) (SharesWithLast flat.now set.now update) v.items) }
+    ensures { IfOk result (AreJust (length flat.now.equations) (SharesWithLast flat.now set.now update)) }
 {
     let stored = firsts(alloc, uses.lasts.as_slice(), roots)?;
-    sharers(alloc, flat, uses, set, carriers, &stored)
+    sharers(alloc, flat, set, paths, &stored)
 }
 
-/// Where content begins that may be that of the update's source.
-fn aliases(flat: &Flat, uses: &Uses, mut roots: Vec<bool>, sharers: &[bool]) -> Vec<bool>
+/// Marks also the last values of these variables among where content begins that may be that of the update's source.
+fn mark_aliases(
+    flat: &Flat,
+    uses: &Uses,
+    roots: &mut Numbers,
+    sharers: &Numbers,
+) -> Result<(), NoMemory>
     requires uses { AreUses flat.now uses.now }
-    requires one_each { length roots.items ≡ length flat.now.equations }
+    requires one_each { length roots.old ≡ length flat.now.equations }
     requires sharers { length sharers.now ≡ length flat.now.equations }
-    ensures { AreAliased flat.now roots.items sharers.now result.items }
+    ensures { OnOk result (AreAliased flat.now roots.old sharers.now roots.new) }
 {
-    mark_seconds(&mut roots, uses.lasts.as_slice(), sharers);
-    roots
+    mark_seconds(roots, uses.lasts.as_slice(), sharers)?;
+    Ok(())
+}
+
+/// Where content of the update's source comes around the update.
+pub fn near(
+    alloc: Global,
+    flat: &Flat,
+    triggers: &Triggers,
+    uses: &Uses,
+    set: &EqSet,
+    paths: &Paths,
+    update: EqId,
+) -> Result<Numbers, NoMemory>
+    requires triggers { AreTriggersOf triggers.now flat.now }
+    requires uses { AreUses flat.now uses.now }
+    requires paths { ArePaths flat.now set.now paths.now }
+    requires update { update < length flat.now.equations }
+    ensures { IfOk result (AreJust (length flat.now.equations) (IsNear flat.now set.now update)) }
+{
+    // A system has few equations, and is typed, as their count tells.
+    let _ = flat.count();
+    let mut begins = source_roots(alloc, flat, uses, set, paths, update)?;
+    let sharers = last_sharers(alloc, flat, uses, set, paths, update, &begins)?;
+    mark_aliases(flat, uses, &mut begins, &sharers)?;
+    let near = reached_around(alloc, flat, triggers, &paths.carriers, &begins, update)?;
+    Ok(near)
 }
 
 /// Whether an equation is marked, and is a variable that may have an event together with the update.
@@ -163,17 +86,17 @@ fn is_beside(
     flat: &Flat,
     triggers: &Triggers,
     update: EqId,
-    marks: &[bool],
+    marked: &Numbers,
     number: u32,
 ) -> Result<bool, NoMemory>
     requires triggers { AreTriggersOf triggers.now flat.now }
     requires update { update < length flat.now.equations }
     requires there { number < length flat.now.equations }
-    requires one_each { length marks.now ≡ length flat.now.equations }
-    ensures { IfOk result (λ r. IsTrue r ↔ IsMarkedBeside flat.now update marks.now number) }
+    requires one_each { length marked.now ≡ length flat.now.equations }
+    ensures { IfOk result (λ r. IsTrue r ↔ IsMarkedBeside flat.now update marked.now number) }
 {
     let id = EqId::new(number);
-    if !marks[number as usize] {
+    if !marked.has(number) {
         return Ok(false);
     }
     if !is_variable(flat, id) {
@@ -184,22 +107,23 @@ fn is_beside(
 }
 
 /// Those of the marked equations that are beside the update.
-fn beside(
+pub fn beside(
     alloc: Global,
     flat: &Flat,
     triggers: &Triggers,
     update: EqId,
-    marks: &[bool],
-) -> Result<Vec<bool>, NoMemory>
+    marked: &Numbers,
+) -> Result<Numbers, NoMemory>
     requires triggers { AreTriggersOf triggers.now flat.now }
     requires update { update < length flat.now.equations }
-    requires one_each { length marks.now ≡ length flat.now.equations }
-    ensures { IfOk result (λ b. AreJust (length flat.now.equations) (IsMarkedBeside flat.now update marks.now) b.items) }
+    requires one_each { length marked.now ≡ length flat.now.equations }
+    ensures { IfOk result (AreJust (length flat.now.equations) (IsMarkedBeside flat.now update marked.now)) }
 {
-    let mut beside = unmarked(alloc, marks.len())?;
-    for number in 0..flat.count() {
-        let wanted = is_beside(alloc, flat, triggers, update, marks, number)?;
-        mark_if(&mut beside, number, wanted);
+    let mut beside = Numbers::none(alloc, marked.count())?;
+    let listed = marked.listed();
+    for number in listed {
+        let wanted = is_beside(alloc, flat, triggers, update, marked, *number)?;
+        beside.mark_if(*number, wanted)?;
     }
     Ok(beside)
 }
@@ -211,20 +135,15 @@ pub fn bypassed(
     triggers: &Triggers,
     uses: &Uses,
     set: &EqSet,
+    paths: &Paths,
     update: EqId,
-) -> Result<Vec<bool>, NoMemory>
+) -> Result<Numbers, NoMemory>
     requires triggers { AreTriggersOf triggers.now flat.now }
     requires uses { AreUses flat.now uses.now }
+    requires paths { ArePaths flat.now set.now paths.now }
     requires update { update < length flat.now.equations }
-    ensures { IfOk result (λ b. AreJust (length flat.now.equations) (Bypasses flat.now set.now update) b.items) }
+    ensures { IfOk result (AreJust (length flat.now.equations) (Bypasses flat.now set.now update)) }
 {
-    // A system has few equations, and is typed, as their count tells.
-    let _ = flat.count();
-    let carriers = carriers(alloc, flat, uses, set)?;
-    let roots = source_roots(alloc, flat, uses, set, carriers.as_slice(), update)?;
-    let sharers = last_sharers(alloc, flat, uses, set, carriers.as_slice(), update, &roots)?;
-    let begins = aliases(flat, uses, roots, &sharers);
-    let around = around(alloc, flat, triggers, carriers.as_slice(), update)?;
-    let reached = reached(alloc, around.as_slice(), &begins)?;
-    beside(alloc, flat, triggers, update, &reached)
+    let near = near(alloc, flat, triggers, uses, set, paths, update)?;
+    beside(alloc, flat, triggers, update, &near)
 }

@@ -5,16 +5,16 @@ ghost use Rattle.flat_core.specs.Marks.{has_mark};
 ghost use Rattle.alias_rules.specs.Uses.{AreUpdates};
 ghost use Rattle.alias_rules.specs.Conflict.{IsKept, IsNotOverwritten};
 ghost use Rattle.trigger_formulas.specs.Kept.{AreTriggersOf};
-ghost use Rattle.alias_analysis.specs.Kept.{AreUses};
+ghost use Rattle.alias_analysis.specs.Kept.{AreUses, ArePaths};
 ghost use Rattle.alias_analysis.specs.Marking.{AreJust};
 ghost use Rattle.alias_analysis.specs.Answer.{IsLeastOrNone, IsFirstOrNone, IsFirstConflict};
 ghost use Rattle.alias_analysis.specs.Contents.{IsMarkedUnimplied, AreMarkedInBoth};
 
-use crate::bypass::{bypassed, last_sharers};
-use crate::marks::{mark_if, unmarked};
+use crate::bypass::{beside, last_sharers, near};
+use crate::numbers::Numbers;
+use crate::paths::Paths;
 use crate::reason::Reason;
-use crate::roots::{carriers, source_roots};
-use crate::sharing::stored;
+use crate::roots::source_roots;
 use crate::uses::Uses;
 use flat_core::flat::Flat;
 use flat_core::lists::EqSet;
@@ -23,46 +23,46 @@ use trigger_formulas::triggers::Triggers;
 use tsl_value::ids::EqId;
 use tsl_value::memory::NoMemory;
 
-fn are_marked(first: &[bool], second: &[bool], index: usize) -> bool
-    requires first { index < length first.now }
-    requires second { index < length second.now }
-    ensures { IsTrue result ↔ AreMarkedInBoth first.now second.now index }
+fn are_marked(first: &Numbers, second: &Numbers, number: u32) -> bool
+    requires first { number < length first.now }
+    requires second { number < length second.now }
+    ensures { IsTrue result ↔ AreMarkedInBoth first.now second.now number }
 {
-    first[index] && second[index]
+    first.has(number) && second.has(number)
 }
 
 /// What is marked in both.
-fn both(alloc: Global, first: &[bool], second: &[bool]) -> Result<Vec<bool>, NoMemory>
-    requires few { length first.now < 2 ^ 32 }
-    requires one_each { length second.now ≡ length first.now }
-    ensures { IfOk result (λ b. AreJust (length first.now) (AreMarkedInBoth first.now second.now) b.items) }
+fn both(alloc: Global, first: &Numbers, second: &Numbers) -> Result<Numbers, NoMemory>
+    requires { length second.now ≡ length first.now }
+    ensures { IfOk result (AreJust (length first.now) (AreMarkedInBoth first.now second.now)) }
 {
-    let mut both = unmarked(alloc, first.len())?;
-    for index in 0..first.len() {
-        mark_if(&mut both, index as u32, are_marked(first, second, index));
+    let mut both = Numbers::none(alloc, first.count())?;
+    let listed = first.listed();
+    for number in listed {
+        both.mark_if(*number, are_marked(first, second, *number))?;
     }
     Ok(both)
 }
 
-/// The variables that keep the update.
+/// The variables that keep the update. Stored variables are fewer than those near the update, so these alone are asked about.
 fn kept(
     alloc: Global,
     flat: &Flat,
     triggers: &Triggers,
     uses: &Uses,
     set: &EqSet,
+    paths: &Paths,
     update: EqId,
-) -> Result<Vec<bool>, NoMemory>
+) -> Result<Numbers, NoMemory>
     requires triggers { AreTriggersOf triggers.now flat.now }
     requires uses { AreUses flat.now uses.now }
+    requires paths { ArePaths flat.now set.now paths.now }
     requires update { update < length flat.now.equations }
-    ensures { IfOk result (λ k. AreJust (length flat.now.equations) (IsKept flat.now set.now update) k.items) }
+    ensures { IfOk result (AreJust (length flat.now.equations) (IsKept flat.now set.now update)) }
 {
-    // A system has few equations, and is typed, as their count tells.
-    let _ = flat.count();
-    let bypassed = bypassed(alloc, flat, triggers, uses, set, update)?;
-    let stored = stored(alloc, flat, uses)?;
-    both(alloc, &bypassed, &stored)
+    let near = near(alloc, flat, triggers, uses, set, paths, update)?;
+    let stored = both(alloc, &near, &paths.stored)?;
+    beside(alloc, flat, triggers, update, &stored)
 }
 
 /// Whether an equation is marked, and need not have an event wherever the update has one.
@@ -71,16 +71,16 @@ fn is_unimplied(
     flat: &Flat,
     triggers: &Triggers,
     update: EqId,
-    marks: &[bool],
+    marked: &Numbers,
     number: u32,
 ) -> Result<bool, NoMemory>
     requires triggers { AreTriggersOf triggers.now flat.now }
     requires update { update < length flat.now.equations }
     requires there { number < length flat.now.equations }
-    requires one_each { length marks.now ≡ length flat.now.equations }
-    ensures { IfOk result (λ r. IsTrue r ↔ IsMarkedUnimplied flat.now update marks.now number) }
+    requires one_each { length marked.now ≡ length flat.now.equations }
+    ensures { IfOk result (λ r. IsTrue r ↔ IsMarkedUnimplied flat.now update marked.now number) }
 {
-    if !marks[number as usize] {
+    if !marked.has(number) {
         return Ok(false);
     }
     let implied = triggers.implies(alloc, update, EqId::new(number))?;
@@ -93,17 +93,18 @@ fn unimplied(
     flat: &Flat,
     triggers: &Triggers,
     update: EqId,
-    marks: &[bool],
-) -> Result<Vec<bool>, NoMemory>
+    marked: &Numbers,
+) -> Result<Numbers, NoMemory>
     requires triggers { AreTriggersOf triggers.now flat.now }
     requires update { update < length flat.now.equations }
-    requires one_each { length marks.now ≡ length flat.now.equations }
-    ensures { IfOk result (λ b. AreJust (length flat.now.equations) (IsMarkedUnimplied flat.now update marks.now) b.items) }
+    requires one_each { length marked.now ≡ length flat.now.equations }
+    ensures { IfOk result (AreJust (length flat.now.equations) (IsMarkedUnimplied flat.now update marked.now)) }
 {
-    let mut unimplied = unmarked(alloc, marks.len())?;
-    for number in 0..flat.count() {
-        let wanted = is_unimplied(alloc, flat, triggers, update, marks, number)?;
-        mark_if(&mut unimplied, number, wanted);
+    let mut unimplied = Numbers::none(alloc, marked.count())?;
+    let listed = marked.listed();
+    for number in listed {
+        let wanted = is_unimplied(alloc, flat, triggers, update, marked, *number)?;
+        unimplied.mark_if(*number, wanted)?;
     }
     Ok(unimplied)
 }
@@ -115,24 +116,29 @@ fn not_overwritten(
     triggers: &Triggers,
     uses: &Uses,
     set: &EqSet,
+    paths: &Paths,
     update: EqId,
-) -> Result<Vec<bool>, NoMemory>
+) -> Result<Numbers, NoMemory>
     requires triggers { AreTriggersOf triggers.now flat.now }
     requires uses { AreUses flat.now uses.now }
+    requires paths { ArePaths flat.now set.now paths.now }
     requires update { update < length flat.now.equations }
-    ensures { IfOk result (λ v. AreJust (length flat.now.equations) (IsNotOverwritten flat.now set.now update) v.items) }
+    ensures { IfOk result (AreJust (length flat.now.equations) (IsNotOverwritten flat.now set.now update)) }
 {
-    let carriers = carriers(alloc, flat, uses, set)?;
-    let roots = source_roots(alloc, flat, uses, set, carriers.as_slice(), update)?;
-    let sharers = last_sharers(alloc, flat, uses, set, carriers.as_slice(), update, &roots)?;
+    let roots = source_roots(alloc, flat, uses, set, paths, update)?;
+    let sharers = last_sharers(alloc, flat, uses, set, paths, update, &roots)?;
     unimplied(alloc, flat, triggers, update, &sharers)
 }
 
 /// The least marked equation.
-fn least(marks: &[bool]) -> Option<EqId>
-    requires { length marks.now < 2 ^ 32 }
-    ensures { IsLeastOrNone (λ x. IsTrue (has_mark marks.now x)) result }
+fn least(marked: &Numbers) -> Option<EqId>
+    requires { length marked.now < 2 ^ 32 }
+    ensures { IsLeastOrNone (λ x. IsTrue (has_mark marked.now x)) result }
 {
+    if marked.listed().is_empty() {
+        return None;
+    }
+    let marks = marked.marks();
     for index in 0..marks.len() {
         if marks[index] {
             return Some(EqId::new(index as u32));
@@ -159,16 +165,18 @@ fn kept_by(
     triggers: &Triggers,
     uses: &Uses,
     set: &EqSet,
+    paths: &Paths,
     update: EqId,
 ) -> Result<Option<EqId>, NoMemory>
     requires triggers { AreTriggersOf triggers.now flat.now }
     requires uses { AreUses flat.now uses.now }
+    requires paths { ArePaths flat.now set.now paths.now }
     requires update { update < length flat.now.equations }
     ensures { IfOk result (IsLeastOrNone (IsKept flat.now set.now update)) }
 {
     // A system has few equations, and is typed, as their count tells.
     let _ = flat.count();
-    let kept = kept(alloc, flat, triggers, uses, set, update)?;
+    let kept = kept(alloc, flat, triggers, uses, set, paths, update)?;
     Ok(least(&kept))
 }
 
@@ -179,16 +187,18 @@ fn not_overwritten_in(
     triggers: &Triggers,
     uses: &Uses,
     set: &EqSet,
+    paths: &Paths,
     update: EqId,
 ) -> Result<Option<EqId>, NoMemory>
     requires triggers { AreTriggersOf triggers.now flat.now }
     requires uses { AreUses flat.now uses.now }
+    requires paths { ArePaths flat.now set.now paths.now }
     requires update { update < length flat.now.equations }
     ensures { IfOk result (IsLeastOrNone (IsNotOverwritten flat.now set.now update)) }
 {
     // A system has few equations, and is typed, as their count tells.
     let _ = flat.count();
-    let old = not_overwritten(alloc, flat, triggers, uses, set, update)?;
+    let old = not_overwritten(alloc, flat, triggers, uses, set, paths, update)?;
     Ok(least(&old))
 }
 
@@ -199,15 +209,17 @@ fn first_kept(
     triggers: &Triggers,
     uses: &Uses,
     set: &EqSet,
+    paths: &Paths,
 ) -> Result<Option<(EqId, EqId)>, NoMemory>
     requires triggers { AreTriggersOf triggers.now flat.now }
     requires uses { AreUses flat.now uses.now }
+    requires paths { ArePaths flat.now set.now paths.now }
     requires updates { AreUpdates flat.now set.now }
     ensures { IfOk result (IsFirstOrNone set.now (IsKept flat.now set.now)) }
 {
     for place in 0..set.len() {
         let update = update_at(set, place);
-        match kept_by(alloc, flat, triggers, uses, set, update)? {
+        match kept_by(alloc, flat, triggers, uses, set, paths, update)? {
             Some(by) => return Ok(Some((update, by))),
             None => {}
         }
@@ -222,15 +234,17 @@ fn first_not_overwritten(
     triggers: &Triggers,
     uses: &Uses,
     set: &EqSet,
+    paths: &Paths,
 ) -> Result<Option<(EqId, EqId)>, NoMemory>
     requires triggers { AreTriggersOf triggers.now flat.now }
     requires uses { AreUses flat.now uses.now }
+    requires paths { ArePaths flat.now set.now paths.now }
     requires updates { AreUpdates flat.now set.now }
     ensures { IfOk result (IsFirstOrNone set.now (IsNotOverwritten flat.now set.now)) }
 {
     for place in 0..set.len() {
         let update = update_at(set, place);
-        match not_overwritten_in(alloc, flat, triggers, uses, set, update)? {
+        match not_overwritten_in(alloc, flat, triggers, uses, set, paths, update)? {
             Some(last) => return Ok(Some((update, last))),
             None => {}
         }
@@ -251,12 +265,13 @@ pub fn first_conflict(
     requires updates { AreUpdates flat.now set.now }
     ensures { IfOk result (λ r. IsFirstConflict flat.now set.now r) }
 {
-    match first_kept(alloc, flat, triggers, uses, set)? {
+    let paths = Paths::of(alloc, flat, uses, set)?;
+    match first_kept(alloc, flat, triggers, uses, set, &paths)? {
         Some(first) => Ok(Some(Reason::Kept {
             update: first.0,
             by: first.1,
         })),
-        None => match first_not_overwritten(alloc, flat, triggers, uses, set)? {
+        None => match first_not_overwritten(alloc, flat, triggers, uses, set, &paths)? {
             Some(first) => Ok(Some(Reason::NotOverwritten {
                 update: first.0,
                 last: first.1,

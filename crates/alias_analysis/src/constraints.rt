@@ -7,15 +7,17 @@ ghost use Rattle.alias_rules.specs.Uses.{AreUpdates};
 ghost use Rattle.alias_rules.specs.Conflict.{StandsBefore};
 ghost use Rattle.alias_rules.specs.Steps.{step_count};
 ghost use Rattle.trigger_formulas.specs.Kept.{AreTriggersOf};
-ghost use Rattle.alias_analysis.specs.Kept.{AreUses};
+ghost use Rattle.alias_analysis.specs.Kept.{AreUses, ArePaths};
 ghost use Rattle.alias_analysis.specs.Pairs.{Adds, ArePairs};
 ghost use Rattle.alias_analysis.specs.Constraints.{IsArgumentAt, IsNeeded, IsPrintOf, IsMarkedBefore, IsTakenBefore};
 ghost use Rattle.alias_analysis.specs.Constraints.{WritesMarked, IsWrittenBefore, PassesMarked, IsPassedBefore, IsPrintedBefore};
 ghost use Rattle.alias_analysis.specs.Constraints.{StandsBeforeUpdate};
 
-use crate::bypass::{bypassed, passes_over};
+use crate::around::passes_over;
+use crate::bypass::bypassed;
 use crate::conflict::update_at;
 use crate::pairs::push_if;
+use crate::paths::Paths;
 use crate::uses::{Uses, behind_first};
 use flat_core::equation::{Equation, Op};
 use flat_core::flat::Flat;
@@ -223,23 +225,26 @@ fn push_update(
     triggers: &Triggers,
     uses: &Uses,
     set: &EqSet,
+    paths: &Paths,
     update: EqId,
 ) -> Result<(), NoMemory>
     requires triggers { AreTriggersOf triggers.now flat.now }
     requires uses { AreUses flat.now uses.now }
+    requires paths { ArePaths flat.now set.now paths.now }
     requires update { update < length flat.now.equations }
     ensures { OnOk result (Adds pairs.old (StandsBeforeUpdate flat.now set.now update) pairs.new) }
 {
     // A system has few equations, as their count tells.
     let _ = flat.count();
     let number = update.get();
-    let marks = bypassed(alloc, flat, triggers, uses, set, update)?;
+    let bypassed = bypassed(alloc, flat, triggers, uses, set, paths, update)?;
+    let marks = bypassed.marks();
     let passed = uses.passed.as_slice();
-    push_marked(pairs, &marks, number)?;
-    push_readers(pairs, uses.read.as_slice(), &marks, number)?;
-    push_writers(pairs, uses.written.as_slice(), &marks, number)?;
-    push_passers(pairs, alloc, flat, triggers, passed, &marks, update)?;
-    push_printers(pairs, flat, &marks, number)?;
+    push_marked(pairs, marks, number)?;
+    push_readers(pairs, uses.read.as_slice(), marks, number)?;
+    push_writers(pairs, uses.written.as_slice(), marks, number)?;
+    push_passers(pairs, alloc, flat, triggers, passed, marks, update)?;
+    push_printers(pairs, flat, marks, number)?;
     Ok(())
 }
 
@@ -262,9 +267,10 @@ pub fn constraints(
     let mut pairs = Edges::new(alloc);
     push_needed(&mut pairs, flat)?;
     push_prints(&mut pairs, flat)?;
+    let paths = Paths::of(alloc, flat, uses, set)?;
     for place in 0..set.len() {
         let update = update_at(set, place);
-        push_update(&mut pairs, alloc, flat, triggers, uses, set, update)?;
+        push_update(&mut pairs, alloc, flat, triggers, uses, set, &paths, update)?;
     }
     Ok(pairs)
 }

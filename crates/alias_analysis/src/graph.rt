@@ -16,9 +16,10 @@ ghost use Rattle.alias_analysis.specs.Answer.{IsFirstConflict};
 use crate::bypass::bypassed;
 use crate::conflict::first_conflict;
 use crate::constraints::constraints;
-use crate::marks::set_of;
+use crate::numbers::set_of;
+use crate::paths::Paths;
 use crate::reason::Reason;
-use crate::roots::{carriers, roots_of_one};
+use crate::roots::roots_of_one;
 use crate::sharing::sharing;
 use crate::uses::{Uses, uses_of};
 use flat_core::flat::Flat;
@@ -78,8 +79,8 @@ impl<'a> Graph<'a> {
     {
         // A system has few equations, as their count tells.
         let _ = self.flat.count();
-        let carriers = carriers(alloc, self.flat, &self.uses, set)?;
-        let roots = roots_of_one(alloc, self.flat, set, carriers.as_slice(), x)?;
+        let paths = Paths::of(alloc, self.flat, &self.uses, set)?;
+        let roots = roots_of_one(alloc, self.flat, set, &paths, x)?;
         set_of(alloc, &roots)
     }
 
@@ -87,7 +88,8 @@ impl<'a> Graph<'a> {
     pub fn share(&self, alloc: Global, set: &EqSet) -> Result<Edges, NoMemory>
         ensures { IfOk result (λ e. (v w : ℕ) → Before e v w ↔ Shares self.now set.now v w) }
     {
-        sharing(alloc, self.flat, &self.uses, set)
+        let paths = Paths::of(alloc, self.flat, &self.uses, set)?;
+        sharing(alloc, self.flat, set, &paths)
     }
 
     /// The variables that may have, beside an update of the set, the content that it changes.
@@ -99,7 +101,9 @@ impl<'a> Graph<'a> {
     {
         // A system has few equations, as their count tells.
         let _ = self.flat.count();
-        let bypassed = bypassed(alloc, self.flat, self.triggers, &self.uses, set, update)?;
+        let paths = Paths::of(alloc, self.flat, &self.uses, set)?;
+        let uses = &self.uses;
+        let bypassed = bypassed(alloc, self.flat, self.triggers, uses, set, &paths, update)?;
         set_of(alloc, &bypassed)
     }
 

@@ -4,13 +4,14 @@ ghost use Rattle.std.specs.Prelude.{◌≡◌, ◌↔◌, ◌<◌, ℕ, length, 
 ghost use Rattle.flat_core.specs.Members.{is_in};
 ghost use Rattle.alias_rules.specs.Uses.{IsWritten};
 ghost use Rattle.alias_rules.specs.Roots.{begins_content, Carries, IsOrigin, IsRoot};
-ghost use Rattle.alias_analysis.specs.Kept.{AreUses};
+ghost use Rattle.alias_analysis.specs.Kept.{AreUses, ArePaths};
 ghost use Rattle.alias_analysis.specs.Pairs.{Adds, ArePairs};
 ghost use Rattle.alias_analysis.specs.Marking.{AreJust};
 ghost use Rattle.alias_analysis.specs.Contents.{IsInside, IsReachedOrigin, IsRootOfOne, IsRootOfSource};
 
-use crate::marks::{firsts, mark_if, one_mark, unmarked};
-use crate::pairs::{push_all, push_if, turned};
+use crate::numbers::{Numbers, firsts, one_of};
+use crate::pairs::{push_all, push_if};
+use crate::paths::Paths;
 use crate::reach::reached;
 use crate::uses::{Uses, is_variable};
 use flat_core::equation::Op;
@@ -73,45 +74,39 @@ pub fn carriers(alloc: Global, flat: &Flat, uses: &Uses, set: &EqSet) -> Result<
 }
 
 /// Whether an equation is marked and content begins there.
-fn begins_marked(flat: &Flat, set: &EqSet, marks: &[bool], number: u32) -> bool
-    requires { number < length marks.now }
-    ensures { IsTrue result ↔ IsReachedOrigin flat.now set.now marks.now number }
+fn begins_marked(flat: &Flat, set: &EqSet, marked: &Numbers, number: u32) -> bool
+    requires { number < length marked.now }
+    ensures { IsTrue result ↔ IsReachedOrigin flat.now set.now marked.now number }
 {
-    marks[number as usize] && is_origin(flat, set, EqId::new(number))
+    marked.has(number) && is_origin(flat, set, EqId::new(number))
 }
 
 /// Those of the marked equations at which content begins.
-fn origins(alloc: Global, flat: &Flat, set: &EqSet, marks: &[bool]) -> Result<Vec<bool>, NoMemory>
-    requires { length marks.now ≡ length flat.now.equations }
-    ensures { IfOk result (λ o. AreJust (length flat.now.equations) (IsReachedOrigin flat.now set.now marks.now) o.items) }
+fn origins(alloc: Global, flat: &Flat, set: &EqSet, marked: &Numbers) -> Result<Numbers, NoMemory>
+    requires { length marked.now ≡ length flat.now.equations }
+    ensures { IfOk result (AreJust (length flat.now.equations) (IsReachedOrigin flat.now set.now marked.now)) }
 {
-    let mut origins = unmarked(alloc, marks.len())?;
-    for number in 0..flat.count() {
-        mark_if(
-            &mut origins,
-            number,
-            begins_marked(flat, set, marks, number),
-        );
+    let mut origins = Numbers::none(alloc, marked.count())?;
+    let listed = marked.listed();
+    for number in listed {
+        origins.mark_if(*number, begins_marked(flat, set, marked, *number))?;
     }
     Ok(origins)
 }
 
 /// The roots of the marked equations.
-pub fn roots_of(
+fn roots_of(
     alloc: Global,
     flat: &Flat,
     set: &EqSet,
-    carriers: &[(u32, u32)],
-    marks: &[bool],
-) -> Result<Vec<bool>, NoMemory>
-    requires one_each { length marks.now ≡ length flat.now.equations }
-    requires carriers { ArePairs (Carries flat.now set.now) carriers.now }
-    ensures { IfOk result (λ r. AreJust (length flat.now.equations) (IsRootOfOne flat.now set.now marks.now) r.items) }
+    paths: &Paths,
+    marked: &Numbers,
+) -> Result<Numbers, NoMemory>
+    requires one_each { length marked.now ≡ length flat.now.equations }
+    requires paths { ArePaths flat.now set.now paths.now }
+    ensures { IfOk result (AreJust (length flat.now.equations) (IsRootOfOne flat.now set.now marked.now)) }
 {
-    // A system has few equations, and is typed, as their count tells.
-    let _ = flat.count();
-    let back = turned(alloc, carriers)?;
-    let before = reached(alloc, back.as_slice(), marks)?;
+    let before = reached(alloc, &paths.back, marked)?;
     origins(alloc, flat, set, &before)
 }
 
@@ -120,24 +115,24 @@ pub fn roots_of_one(
     alloc: Global,
     flat: &Flat,
     set: &EqSet,
-    carriers: &[(u32, u32)],
+    paths: &Paths,
     id: EqId,
-) -> Result<Vec<bool>, NoMemory>
-    requires carriers { ArePairs (Carries flat.now set.now) carriers.now }
+) -> Result<Numbers, NoMemory>
+    requires paths { ArePaths flat.now set.now paths.now }
     requires there { id < length flat.now.equations }
-    ensures { IfOk result (λ r. AreJust (length flat.now.equations) (λ root. IsRoot flat.now set.now root id) r.items) }
+    ensures { IfOk result (AreJust (length flat.now.equations) (λ root. IsRoot flat.now set.now root id)) }
 {
-    let one = one_mark(alloc, flat.count() as usize, id.get(), true)?;
-    roots_of(alloc, flat, set, carriers, &one)
+    let one = one_of(alloc, flat.count() as usize, id.get(), true)?;
+    roots_of(alloc, flat, set, paths, &one)
 }
 
 /// The sources of an update.
-fn sources(alloc: Global, flat: &Flat, uses: &Uses, update: EqId) -> Result<Vec<bool>, NoMemory>
+fn sources(alloc: Global, flat: &Flat, uses: &Uses, update: EqId) -> Result<Numbers, NoMemory>
     requires uses { AreUses flat.now uses.now }
     requires there { update < length flat.now.equations }
-    ensures { IfOk result (λ m. AreJust (length flat.now.equations) (λ x. IsWritten flat.now x update) m.items) }
+    ensures { IfOk result (AreJust (length flat.now.equations) (λ x. IsWritten flat.now x update)) }
 {
-    let one = one_mark(alloc, flat.count() as usize, update.get(), true)?;
+    let one = one_of(alloc, flat.count() as usize, update.get(), true)?;
     firsts(alloc, uses.written.as_slice(), &one)
 }
 
@@ -147,14 +142,14 @@ pub fn source_roots(
     flat: &Flat,
     uses: &Uses,
     set: &EqSet,
-    carriers: &[(u32, u32)],
+    paths: &Paths,
     update: EqId,
-) -> Result<Vec<bool>, NoMemory>
+) -> Result<Numbers, NoMemory>
     requires uses { AreUses flat.now uses.now }
     requires there { update < length flat.now.equations }
-    requires carriers { ArePairs (Carries flat.now set.now) carriers.now }
-    ensures { IfOk result (λ r. AreJust (length flat.now.equations) (IsRootOfSource flat.now set.now update) r.items) }
+    requires paths { ArePaths flat.now set.now paths.now }
+    ensures { IfOk result (AreJust (length flat.now.equations) (IsRootOfSource flat.now set.now update)) }
 {
     let sources = sources(alloc, flat, uses, update)?;
-    roots_of(alloc, flat, set, carriers, &sources)
+    roots_of(alloc, flat, set, paths, &sources)
 }

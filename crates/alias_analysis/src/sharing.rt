@@ -1,19 +1,21 @@
 // Which stored variables may keep one content.
 
-ghost use Rattle.std.specs.Prelude.{◌≡◌, ◌+◌, ◌<◌, ◌≤◌, ◌^◌, ℕ, List, length, drop, replicate, false, ◌++◌, ◌↔◌, IfOk, OnOk, IsTrue};
+ghost use Rattle.std.specs.Prelude.{◌≡◌, ◌+◌, ◌<◌, ◌≤◌, ◌^◌, ℕ, List, length, ◌↔◌, IfOk, OnOk, IsTrue};
+ghost use Rattle.flat_core.specs.Marks.{has_mark};
 ghost use Rattle.translation_order.specs.Order.{AreOfSteps};
 ghost use Rattle.alias_rules.specs.Uses.{IsStored};
 ghost use Rattle.alias_rules.specs.Roots.{Carries};
 ghost use Rattle.alias_rules.specs.Sharing.{Shares};
-ghost use Rattle.alias_analysis.specs.Kept.{AreUses, AreStoredMarks};
+ghost use Rattle.alias_analysis.specs.Kept.{AreUses, ArePaths, AreStoredMarks};
 ghost use Rattle.alias_analysis.specs.Pairs.{Adds, ArePairs};
-ghost use Rattle.alias_analysis.specs.Marking.{AreJust};
-ghost use Rattle.alias_analysis.specs.Flows.{Flows, GoesThroughStore, IsSource, IsMarkedPair, SharesWithOne};
+ghost use Rattle.alias_analysis.specs.Marking.{AreJust, AddsMarks};
+ghost use Rattle.alias_analysis.specs.Flows.{Flows, GoesThroughStore, IsSource, IsMarkedPair, IsStoreOf, HasStoreAt, SharesWithOne};
 
-use crate::marks::{all_marked, firsts, mark_if, one_mark, unmarked};
-use crate::pairs::{push_all, push_if, turned};
+use crate::numbers::{Numbers, one_of};
+use crate::pairs::{push_all, push_if};
+use crate::paths::Paths;
 use crate::reach::reached;
-use crate::roots::{carriers, is_origin};
+use crate::roots::is_origin;
 use crate::uses::Uses;
 use flat_core::flat::Flat;
 use flat_core::lists::EqSet;
@@ -23,12 +25,16 @@ use tsl_value::ids::EqId;
 use tsl_value::memory::NoMemory;
 
 /// The stored variables.
-pub fn stored(alloc: Global, flat: &Flat, uses: &Uses) -> Result<Vec<bool>, NoMemory>
+pub fn stored(alloc: Global, flat: &Flat, uses: &Uses) -> Result<Numbers, NoMemory>
     requires { AreUses flat.now uses.now }
-    ensures { IfOk result (λ v. AreJust (length flat.now.equations) (IsStored flat.now) v.items) }
+    ensures { IfOk result (AreJust (length flat.now.equations) (IsStored flat.now)) }
 {
-    let all = all_marked(alloc, flat.count() as usize)?;
-    firsts(alloc, uses.lasts.as_slice(), &all)
+    let mut stored = Numbers::none(alloc, flat.count() as usize)?;
+    let lasts = uses.lasts.as_slice();
+    for (variable, _) in lasts {
+        stored.mark_if(*variable, true)?;
+    }
+    Ok(stored)
 }
 
 /// Appends for each pair of a stored variable and its last value that the variable goes into its store, and the store into the last
@@ -46,7 +52,7 @@ fn push_stores(pairs: &mut Edges, lasts: &[(u32, u32)], count: u32) -> Result<()
 }
 
 /// How content goes on through variables and stores.
-fn flows(
+pub fn flows(
     alloc: Global,
     flat: &Flat,
     uses: &Uses,
@@ -61,40 +67,63 @@ fn flows(
     Ok(flows)
 }
 
-/// Marks of stores in place of those of variables.
-fn as_stores(alloc: Global, marks: &[bool]) -> Result<Vec<bool>, NoMemory>
-    ensures { IfOk result (λ s. s.items ≡ replicate (length marks.now) false ++ marks.now) }
+/// The stores of these variables.
+fn stores_of(alloc: Global, variables: &Numbers) -> Result<Numbers, NoMemory>
+    requires { length variables.now ≤ 4096 }
+    ensures { IfOk result (AreJust (length variables.now + length variables.now) (IsStoreOf variables.now)) }
 {
-    let mut stores = unmarked(alloc, marks.len())?;
-    stores.extend_from_slice(marks)?;
+    let count = variables.count();
+    let mut stores = Numbers::none(alloc, count + count)?;
+    let listed = variables.listed();
+    for number in listed {
+        stores.mark_if(count as u32 + *number, true)?;
+    }
     Ok(stores)
 }
 
-/// The marks behind the first.
-fn behind(alloc: Global, marks: &[bool], count: usize) -> Result<Vec<bool>, NoMemory>
-    requires { count ≤ length marks.now }
-    ensures { IfOk result (λ m. m.items ≡ drop count marks.now) }
+/// Marks the variable whose store this is, if it is a store.
+fn mark_stored(variables: &mut Numbers, number: u32, count: u32) -> Result<(), NoMemory>
+    requires number { number < count + count }
+    requires one_each { length variables.old ≡ count }
+    ensures { OnOk result (AddsMarks variables.old (HasStoreAt count number) variables.new) }
 {
-    Ok(Vec::from_slice(alloc, &marks[count..])?)
+    if number < count {
+        return Ok(());
+    }
+    variables.mark_if(number - count, true)?;
+    Ok(())
+}
+
+/// The variables whose stores these are, below a count.
+fn with_stores(alloc: Global, stores: &Numbers, count: u32) -> Result<Numbers, NoMemory>
+    requires { length stores.now ≡ count + count }
+    ensures { IfOk result (AreJust count (λ v. IsTrue (has_mark stores.now (count + v)))) }
+{
+    let mut variables = Numbers::none(alloc, count as usize)?;
+    let listed = stores.listed();
+    for number in listed {
+        mark_stored(&mut variables, *number, count)?;
+    }
+    Ok(variables)
 }
 
 /// Whether a number is marked and is a store, or content begins there.
-fn is_source(flat: &Flat, set: &EqSet, marks: &[bool], number: u32) -> bool
-    requires { number < length marks.now }
-    ensures { IsTrue result ↔ IsSource flat.now set.now marks.now number }
+fn is_source(flat: &Flat, set: &EqSet, marked: &Numbers, number: u32) -> bool
+    requires { number < length marked.now }
+    ensures { IsTrue result ↔ IsSource flat.now set.now marked.now number }
 {
-    marks[number as usize] && (number >= flat.count() || is_origin(flat, set, EqId::new(number)))
+    marked.has(number) && (number >= flat.count() || is_origin(flat, set, EqId::new(number)))
 }
 
 /// Those of the marked numbers at which content begins, and the stores among them.
-fn sources(alloc: Global, flat: &Flat, set: &EqSet, marks: &[bool]) -> Result<Vec<bool>, NoMemory>
-    requires { length marks.now ≡ length flat.now.equations + length flat.now.equations }
-    ensures { IfOk result (λ o. AreJust (length marks.now) (IsSource flat.now set.now marks.now) o.items) }
+fn sources(alloc: Global, flat: &Flat, set: &EqSet, marked: &Numbers) -> Result<Numbers, NoMemory>
+    requires { length marked.now ≡ length flat.now.equations + length flat.now.equations }
+    ensures { IfOk result (AreJust (length marked.now) (IsSource flat.now set.now marked.now)) }
 {
-    let mut sources = unmarked(alloc, marks.len())?;
-    let count = flat.count();
-    for number in 0..count + count {
-        mark_if(&mut sources, number, is_source(flat, set, marks, number));
+    let mut sources = Numbers::none(alloc, marked.count())?;
+    let listed = marked.listed();
+    for number in listed {
+        sources.mark_if(*number, is_source(flat, set, marked, *number))?;
     }
     Ok(sources)
 }
@@ -103,47 +132,39 @@ fn sources(alloc: Global, flat: &Flat, set: &EqSet, marks: &[bool]) -> Result<Ve
 pub fn sharers(
     alloc: Global,
     flat: &Flat,
-    uses: &Uses,
     set: &EqSet,
-    carriers: &[(u32, u32)],
-    stored: &[bool],
-) -> Result<Vec<bool>, NoMemory>
-    requires uses { AreUses flat.now uses.now }
-    requires carriers { ArePairs (Carries flat.now set.now) carriers.now }
+    paths: &Paths,
+    stored: &Numbers,
+) -> Result<Numbers, NoMemory>
+    requires paths { ArePaths flat.now set.now paths.now }
     requires one_each { length stored.now ≡ length flat.now.equations }
     requires stored { AreStoredMarks flat.now stored.now }
-    ensures { IfOk result (λ v. AreJust (length flat.now.equations) (SharesWithOne flat.now set.now stored.now) v.items) }
+    ensures { IfOk result (AreJust (length flat.now.equations) (SharesWithOne flat.now set.now stored.now)) }
 {
-    let count = flat.count() as usize;
-    let flows = flows(alloc, flat, uses, carriers)?;
-    let back = turned(alloc, flows.as_slice())?;
-    let stores = as_stores(alloc, stored)?;
-    let before = reached(alloc, back.as_slice(), &stores)?;
+    // A system has few equations, as their count tells.
+    let count = flat.count();
+    let stores = stores_of(alloc, stored)?;
+    let before = reached(alloc, &paths.flows_back, &stores)?;
     let sources = sources(alloc, flat, set, &before)?;
-    let after = reached(alloc, flows.as_slice(), &sources)?;
-    let shared = behind(alloc, &after, count)?;
-    Ok(shared)
+    let after = reached(alloc, &paths.flows, &sources)?;
+    with_stores(alloc, &after, count)
 }
 
 /// The stored variables that share with a variable, of those that are stored.
 fn sharers_of(
     alloc: Global,
     flat: &Flat,
-    uses: &Uses,
     set: &EqSet,
-    carriers: &[(u32, u32)],
-    stored: &[bool],
+    paths: &Paths,
     number: u32,
-) -> Result<Vec<bool>, NoMemory>
-    requires uses { AreUses flat.now uses.now }
-    requires carriers { ArePairs (Carries flat.now set.now) carriers.now }
-    requires stored { AreJust (length flat.now.equations) (IsStored flat.now) stored.now }
+) -> Result<Numbers, NoMemory>
+    requires paths { ArePaths flat.now set.now paths.now }
     requires there { number < length flat.now.equations }
-    ensures { IfOk result (λ v. AreJust (length flat.now.equations) (Shares flat.now set.now number) v.items) }
+    ensures { IfOk result (AreJust (length flat.now.equations) (Shares flat.now set.now number)) }
 {
-    let wanted = stored[number as usize];
-    let one = one_mark(alloc, stored.len(), number, wanted)?;
-    sharers(alloc, flat, uses, set, carriers, &one)
+    let wanted = paths.stored.has(number);
+    let one = one_of(alloc, paths.stored.count(), number, wanted)?;
+    sharers(alloc, flat, set, paths, &one)
 }
 
 /// Appends a pair of this number and each marked one.
@@ -158,16 +179,14 @@ fn push_marked(pairs: &mut Edges, number: u32, marks: &[bool]) -> Result<(), NoM
 }
 
 /// All pairs of stored variables that share.
-pub fn sharing(alloc: Global, flat: &Flat, uses: &Uses, set: &EqSet) -> Result<Edges, NoMemory>
-    requires { AreUses flat.now uses.now }
-    ensures { IfOk result (λ e. ArePairs (Shares flat.now set.now) e) }
+pub fn sharing(alloc: Global, flat: &Flat, set: &EqSet, paths: &Paths) -> Result<Edges, NoMemory>
+    requires { ArePaths flat.now set.now paths.now }
+    ensures { IfOk result (ArePairs (Shares flat.now set.now)) }
 {
-    let carriers = carriers(alloc, flat, uses, set)?;
-    let stored = stored(alloc, flat, uses)?;
     let mut pairs = Edges::new(alloc);
     for number in 0..flat.count() {
-        let sharers = sharers_of(alloc, flat, uses, set, carriers.as_slice(), &stored, number)?;
-        push_marked(&mut pairs, number, &sharers)?;
+        let sharers = sharers_of(alloc, flat, set, paths, number)?;
+        push_marked(&mut pairs, number, sharers.marks())?;
     }
     Ok(pairs)
 }

@@ -149,84 +149,57 @@ fn is_kept(reason: &Option<Reason>, of: u32, in_variable: u32) -> bool {
     }
 }
 
-/// What the update of the sample is in conflict with.
-fn conflict(alloc: Global) -> Result<Option<Reason>, Fail> {
-    let flat = sample(alloc)?;
-    let triggers = triggers(alloc, &flat)?;
-    let graph = Graph::of(alloc, &flat, &triggers)?;
-    let set = one_update(alloc, &flat, EqId::new(8))?;
-    Ok(graph.conflict(alloc, &set)?)
+/// What is answered about the update of the sample.
+#[derive(Drop)]
+struct Answered {
+    roots: EqSet,
+    share: Edges,
+    bypass: EqSet,
+    conflict: Option<Reason>,
+    pairs: Edges,
 }
 
-/// The steps that have to stand before others.
-fn constraints(alloc: Global) -> Result<Edges, Fail> {
-    let flat = sample(alloc)?;
-    let triggers = triggers(alloc, &flat)?;
-    let graph = Graph::of(alloc, &flat, &triggers)?;
-    let set = one_update(alloc, &flat, EqId::new(8))?;
-    Ok(graph.constraints(alloc, &set)?)
-}
-
-/// The stored variables that share.
-fn share(alloc: Global) -> Result<Edges, Fail> {
-    let flat = sample(alloc)?;
-    let triggers = triggers(alloc, &flat)?;
-    let graph = Graph::of(alloc, &flat, &triggers)?;
-    let set = one_update(alloc, &flat, EqId::new(8))?;
-    Ok(graph.share(alloc, &set)?)
-}
-
-/// What bypasses the update.
-fn bypass(alloc: Global) -> Result<EqSet, Fail> {
-    let flat = sample(alloc)?;
-    let triggers = triggers(alloc, &flat)?;
-    let graph = Graph::of(alloc, &flat, &triggers)?;
+fn answers(alloc: Global, flat: &Flat, triggers: &Triggers) -> Result<Answered, Fail>
+    requires { AreTriggersOf triggers.now flat.now }
+{
+    let graph = Graph::of(alloc, flat, triggers)?;
     let update = EqId::new(8);
-    let set = one_update(alloc, &flat, update)?;
-    Ok(graph.bypass(alloc, &set, update)?)
-}
-
-/// The roots of the update.
-fn roots(alloc: Global) -> Result<EqSet, Fail> {
-    let flat = sample(alloc)?;
-    let triggers = triggers(alloc, &flat)?;
-    let graph = Graph::of(alloc, &flat, &triggers)?;
-    let update = EqId::new(8);
-    let set = one_update(alloc, &flat, update)?;
-    if !is_variable(&flat, update) {
+    let set = one_update(alloc, flat, update)?;
+    if !is_variable(flat, update) {
         return Err(Fail::from("no variable"));
     }
-    Ok(graph.roots(alloc, &set, update)?)
+    Ok(Answered {
+        roots: graph.roots(alloc, &set, update)?,
+        share: graph.share(alloc, &set)?,
+        bypass: graph.bypass(alloc, &set, update)?,
+        conflict: graph.conflict(alloc, &set)?,
+        pairs: graph.constraints(alloc, &set)?,
+    })
 }
 
-#[test]
-fn a_stored_last_value_keeps_the_update(rt: HostRuntime) -> Result<(), Fail> {
-    let conflict = conflict(rt.alloc())?;
-    assert!(rt; is_kept(&conflict, 8, 3));
-    Ok(())
+fn sample_answers(alloc: Global) -> Result<Answered, Fail> {
+    let flat = sample(alloc)?;
+    let triggers = triggers(alloc, &flat)?;
+    answers(alloc, &flat, &triggers)
 }
 
 #[test]
 fn content_begins_at_last_values(rt: HostRuntime) -> Result<(), Fail> {
-    let roots = roots(rt.alloc())?;
-    assert!(rt; has_just(&roots, &[3, 4]));
-    let bypass = bypass(rt.alloc())?;
-    assert!(rt; has_just(&bypass, &[3, 4, 5]));
+    let answers = sample_answers(rt.alloc())?;
+    assert!(rt; has_just(&answers.roots, &[3, 4]));
+    assert!(rt; has_just(&answers.bypass, &[3, 4, 5]));
+    assert!(rt; is_kept(&answers.conflict, 8, 3));
     Ok(())
 }
 
 #[test]
-fn stored_variables_share(rt: HostRuntime) -> Result<(), Fail> {
-    let share = share(rt.alloc())?;
-    assert_eq!(rt; share.len(), 4);
-    assert!(rt; has_pair(&share, 2, 3));
-    Ok(())
-}
-
-#[test]
-fn a_reader_stands_before_the_update(rt: HostRuntime) -> Result<(), Fail> {
-    let pairs = constraints(rt.alloc())?;
-    assert!(rt; has_pair(&pairs, 9, 8));
-    assert!(rt; !has_pair(&pairs, 10, 8));
+fn stored_variables_share_and_a_reader_stands_before_the_update(
+    rt: HostRuntime,
+) -> Result<(), Fail> {
+    let answers = sample_answers(rt.alloc())?;
+    assert_eq!(rt; answers.share.len(), 4);
+    assert!(rt; has_pair(&answers.share, 2, 3));
+    assert!(rt; has_pair(&answers.pairs, 9, 8));
+    assert!(rt; !has_pair(&answers.pairs, 10, 8));
     Ok(())
 }

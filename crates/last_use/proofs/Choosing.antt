@@ -1,12 +1,14 @@
 -- What is chosen, one equation after the other.
-use Rattle.std.proofs.Common.{◌≡◌, ℕ, ◌+◌, ◌<◌, List, [], ◌∷◌, ◌++◌, length, All, Contains, sym, subst, inl, inr, arith}
+use Rattle.std.proofs.Common.{◌≡◌, ℕ, ◌+◌, ◌<◌, ◌≤◌, List, [], ◌∷◌, ◌++◌, length, Contains, sym, subst, inl, inr, arith}
 use Rattle.std.specs.Prelude.{IsTrue}
 use Rattle.std.specs.List.Sorted.{IsStrictlyIncreasing}
 use Rattle.std.proofs.lemmas.Bool.{cases_lt, false≢true}
 use Rattle.std.proofs.lemmas.List.{map-append}
 use Rattle.std.proofs.lemmas.List.Elements.{All-nil, All-push, All-weaker, All-contains, All-contains_itself}
+use Rattle.flat_core.specs.Complete.{IsFlat}
 use Rattle.flat_core.specs.Members.{is_in}
 use Rattle.flat_core.specs.System.{System}
+use Rattle.flat_core.specs.WellFormed.{IsWellFormed}
 use Rattle.flat_core.proofs.Members.{in-Contains, map_contains}
 use Rattle.alias_rules.specs.Fine.{IsFine, with_tried, IsListed}
 use Rattle.alias_rules.specs.Uses.{IsUpdate, AreUpdates}
@@ -14,8 +16,11 @@ use Rattle.alias_rules.proofs.Below.{none_listed, listed_low, tried_is, listed_s
 use Rattle.alias_rules.proofs.Rising.{in_push, push_old, push_new, increasing_push}
 use Rattle.alias_rules.proofs.Tried.{tried_before}
 use Rattle.alias_analysis.specs.declared.reason.Reason.{Reason}
+use Rattle.last_use.specs.Beginning.{NoneIsNil}
+use Rattle.last_use.specs.Blocks.{IsWithBlock}
 use Rattle.last_use.specs.Choosing.{IsOutsideBelow, IsChosenBelow}
 use Rattle.last_use.specs.Reasons.{IsReason, updates_of, AreReasons}
+use Rattle.last_use.proofs.Blocking.{block_old, tried_same, block_listed}
 use Rattle.last_use.proofs.Reasoning.{none_where_fine}
 
 module _ (s : System) where
@@ -122,6 +127,33 @@ module _ (s : System) where
           (λ out. subst (λ l. IsTrue (is_in l y)) (sym longer_is) (longer_out y out)),
         );
         each = All-push (λ p. IsReason s (with_tried set p.0) p.1) reasons (n, r) chosen.each reason;
+      }
+
+    -- several updates happen in place
+    module _ (flat : IsFlat s) (formed : IsWellFormed s) (some : NoneIsNil s) (end : ℕ) (le : n ≤ end) (more : List ℕ) (block : IsWithBlock s set n end more) (fine : IsFine s more) where
+      out_block : (y : ℕ) → IsOutsideBelow s n set y → IsOutsideBelow s end more y
+      out_block y out = let low = out.low in record {
+        low = omega arith;
+        outside = record { update = out.outside.update; outside = λ there. out.outside.outside (block_old s flat formed some set n end le more block chosen.listed y low there) };
+      }
+
+      block_out : (y : ℕ) → IsOutsideBelow s end more y → IsOutsideBelow s n set y
+      block_out y out = record {
+        low = elim (cases_lt y n) [ inl low ↦ low | inr high ↦ absurd (out.outside.outside ((block.each y).1 (inr (record { high = high; low = out.low; update = out.outside.update })))) ];
+        outside = record { update = out.outside.update; outside = λ there. out.outside.outside ((block.each y).1 (inl there)) };
+      }
+
+      same_for_block : (p : ℕ × Reason) → Contains reasons p → IsReason s (with_tried more p.0) p.1
+      same_for_block p c =
+          let low = outside_low p.0 (in-Contains (updates_of reasons) p.0 (map_contains (λ (q : ℕ × Reason). q.0) reasons p c)) in
+          subst (λ l. IsReason s l p.1) (sym (tried_same s flat formed some set n end le more block chosen.listed p.0 (omega arith))) (All-contains (λ q. IsReason s (with_tried set q.0) q.1) reasons p chosen.each c)
+
+      pub block_chosen : IsChosenBelow s end more reasons
+      block_chosen = record {
+        listed = block_listed s flat formed some set n end le more block chosen.listed fine;
+        ascending = chosen.ascending;
+        outside = λ y. ((λ h. out_block y ((chosen.outside y).0 h)), (λ out. (chosen.outside y).1 (block_out y out)));
+        each = All-weaker (Contains reasons) (λ p. IsReason s (with_tried more p.0) p.1) same_for_block reasons (All-contains_itself reasons);
       }
 
   -- ---- all equations

@@ -1,4 +1,8 @@
 pub mod Reasoning
+pub mod Descent
+pub mod Ways
+pub mod Fewer
+pub mod Blocking
 pub mod Choosing
 pub mod Trying
 pub mod Ordering

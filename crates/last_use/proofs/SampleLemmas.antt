@@ -1,5 +1,5 @@
 -- The systems of the tests are complete: the equations of the sample with one output.
-use Rattle.std.proofs.Common.{◌≡◌, ◌<◌, List, [], ◌∷◌, length, refl, sym, ap, subst, arith, lit<}
+use Rattle.std.proofs.Common.{◌≡◌, ◌<◌, [], ◌∷◌, length, refl, sym, ap, subst, arith, lit<}
 use Rattle.std.specs.List.{AllByRecursion}
 use Rattle.flat_core.specs.declared.equation.Output.{Output}
 use Rattle.flat_core.specs.Complete.{HaveDifferentNames, IsComplete}

@@ -1,5 +1,5 @@
 -- What is chosen of the updates below a number.
-use Rattle.std.specs.Prelude.{ℕ, ◌<◌, ◌↔◌, List, IsTrue, Option, MatchOption}
+use Rattle.std.specs.Prelude.{ℕ, ◌<◌, ◌≤◌, ◌↔◌, List, length, IsTrue, Option, MatchOption}
 use Rattle.std.specs.List.{All}
 use Rattle.std.specs.List.Sorted.{IsStrictlyIncreasing}
 use Rattle.flat_core.specs.Members.{is_in}
@@ -8,6 +8,7 @@ use Rattle.alias_rules.specs.Below.{IsListedBelow}
 use Rattle.alias_rules.specs.Fine.{IsFine, with_tried}
 use Rattle.alias_rules.specs.Outside.{IsOutside}
 use Rattle.alias_analysis.specs.declared.reason.Reason.{Reason}
+use Rattle.last_use.specs.declared.choice.Tried.{Tried}
 use Rattle.last_use.specs.Reasons.{IsReason, updates_of}
 
 -- y is below n, and an update outside the set
@@ -24,3 +25,9 @@ pub record IsChosenBelow (s : System) (n : ℕ) (set : List ℕ) (reasons : List
 -- why a set is not fine, if it is not
 abbrev pub IsRefusal : System → List ℕ → Option Reason → Type 0
 IsRefusal s set refusal = MatchOption refusal (IsFine s set) (IsReason s set)
+
+-- what is chosen when more of the equations were tried
+pub record IsTriedFrom (s : System) (from : ℕ) (t : Tried) : Type 0 where
+  pub begun : from < t.end
+  pub within : t.end ≤ length s.equations
+  pub chosen : IsChosenBelow s t.end t.chosen.in_place t.chosen.reasons

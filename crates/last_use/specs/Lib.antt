@@ -1,3 +1,5 @@
 pub mod Reasons
+pub mod Beginning
+pub mod Blocks
 pub mod Choosing
 pub mod Laws

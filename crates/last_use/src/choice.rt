@@ -1,15 +1,17 @@
 // The choice of updates that happen in place.
 
-ghost use Rattle.std.specs.Prelude.{◌≡◌, ◌+◌, ◌<◌, length, IfOk};
+ghost use Rattle.std.specs.Prelude.{◌≡◌, ◌+◌, ◌<◌, length, IfOk, IsTrue};
 ghost use Rattle.flat_core.specs.WellFormed.{IsWellFormed};
 ghost use Rattle.trigger_formulas.specs.Kept.{AreTriggersOf};
 ghost use Rattle.alias_rules.specs.Conflict.{StandsBefore};
 ghost use Rattle.alias_rules.specs.Fine.{IsFine, IsFinePlan, IsTakenPlan};
 ghost use Rattle.alias_rules.specs.Steps.{IsLeastOrderBy};
 ghost use Rattle.alias_rules.specs.Uses.{IsUpdate, AreUpdates};
-ghost use Rattle.last_use.specs.Choosing.{IsChosenBelow};
+ghost use Rattle.last_use.specs.Beginning.{NoneIsNil};
+ghost use Rattle.last_use.specs.Choosing.{IsChosenBelow, IsTriedFrom};
 ghost use Rattle.last_use.specs.Reasons.{AreReasons};
 
+use crate::block::{Block, fine_updates, none_is_nil};
 use crate::reasons::Reasons;
 use crate::trial::{is_running_update, ordered, refusal, tried_set};
 use alias_analysis::graph::Graph;
@@ -34,9 +36,17 @@ pub struct Choice {
 
 /// What is chosen of the equations with the lowest numbers.
 #[derive(Drop)]
-struct Chosen {
+pub struct Chosen {
     in_place: EqSet,
     reasons: Reasons,
+}
+
+/// What is chosen of the equations below a number, and how many updates are tried together next.
+#[derive(Drop)]
+pub struct Tried {
+    chosen: Chosen,
+    end: u32,
+    most: u32,
 }
 
 /// Tries an update with those that are chosen.
@@ -89,19 +99,92 @@ fn with_equation(
     }
 }
 
-/// Tries all equations.
+/// Tries the next equation, if it is an update that runs.
+fn with_one(
+    alloc: Global,
+    flat: &Flat,
+    graph: &Graph,
+    chosen: Chosen,
+    from: u32,
+) -> Result<Tried, NoMemory>
+    requires graph { graph.now ≡ flat.now }
+    requires chosen { IsChosenBelow flat.now from chosen.in_place chosen.reasons }
+    requires there { from < length flat.now.equations }
+    ensures { IfOk result (IsTriedFrom flat.now from) }
+{
+    // A system has few equations, as their count tells.
+    let _ = flat.count();
+    let before = chosen.in_place.len();
+    let chosen = with_equation(alloc, flat, graph, chosen, EqId::new(from))?;
+    let most = if chosen.in_place.len() > before { 2 } else { 1 };
+    Ok(Tried {
+        chosen,
+        end: from + 1,
+        most,
+    })
+}
+
+/// Tries the next updates, at most so many of them together.
+fn with_next(
+    alloc: Global,
+    flat: &Flat,
+    graph: &Graph,
+    chosen: Chosen,
+    from: u32,
+    most: u32,
+) -> Result<Tried, NoMemory>
+    requires graph { graph.now ≡ flat.now }
+    requires well_formed { IsWellFormed flat.now }
+    requires chosen { IsChosenBelow flat.now from chosen.in_place chosen.reasons }
+    requires there { from < length flat.now.equations }
+    requires several { 1 < most → NoneIsNil flat.now }
+    ensures { IfOk result (IsTriedFrom flat.now from) }
+{
+    // A system is typed, as the count of its equations tells.
+    let _ = flat.count();
+    let Chosen { in_place, reasons } = chosen;
+    match fine_updates(alloc, flat, graph, &in_place, from, most)? {
+        Some(
+            Block {
+                in_place,
+                end,
+                updates,
+            },
+        ) => Ok(Tried {
+            chosen: Chosen { in_place, reasons },
+            end,
+            most: updates.saturating_mul(2),
+        }),
+        None => with_one(alloc, flat, graph, Chosen { in_place, reasons }, from),
+    }
+}
+
+fn at_once(several: bool, most: u32) -> u32
+    ensures { 1 < result → IsTrue several }
+{
+    if several { most } else { 1 }
+}
+
+/// Tries all equations. After updates that are fine together twice as many are tried, after one that is not the next alone.
 fn try_all(alloc: Global, flat: &Flat, graph: &Graph) -> Result<Chosen, NoMemory>
-    requires { graph.now ≡ flat.now }
+    requires graph { graph.now ≡ flat.now }
+    requires well_formed { IsWellFormed flat.now }
     ensures { IfOk result (λ c. IsChosenBelow flat.now (length flat.now.equations) c.in_place c.reasons) }
 {
-    let mut chosen = Chosen {
-        in_place: EqSet::new(alloc),
-        reasons: Reasons::new(alloc),
+    let several = none_is_nil(flat);
+    let mut tried = Tried {
+        chosen: Chosen {
+            in_place: EqSet::new(alloc),
+            reasons: Reasons::new(alloc),
+        },
+        end: 0,
+        most: 1,
     };
-    for number in 0..flat.count() {
-        chosen = with_equation(alloc, flat, graph, chosen, EqId::new(number))?;
+    while tried.end < flat.count() {
+        let Tried { chosen, end, most } = tried;
+        tried = with_next(alloc, flat, graph, chosen, end, at_once(several, most))?;
     }
-    Ok(chosen)
+    Ok(tried.chosen)
 }
 
 /// The steps in the least order that lets the updates of a fine set happen in place.

@@ -1,6 +1,7 @@
 //! Which updates of sets and maps happen in place, and why the others copy.
 #![tactic(auto)]
 
+mod block;
 pub mod choice;
 pub mod laws;
 pub mod reasons;

@@ -1,6 +1,7 @@
 // What is found where an update is tried.
 
 ghost use Rattle.std.specs.Prelude.{◌≡◌, ◌↔◌, ◌<◌, ℕ, length, slice_index, IfOk, OnOk, IfErr, IsTrue};
+ghost use Rattle.std.specs.List.Sorted.{IsStrictlyIncreasing};
 ghost use Rattle.flat_core.specs.Graph.{IsAcyclic};
 ghost use Rattle.flat_core.specs.Members.{is_in};
 ghost use Rattle.translation_order.specs.Answer.{OnCycle};
@@ -51,15 +52,24 @@ fn update_at(set: &EqSet, place: usize) -> EqId
     }
 }
 
+/// An equal set.
+pub fn copy(alloc: Global, set: &EqSet) -> Result<EqSet, NoMemory>
+    ensures ascending { IfOk result IsStrictlyIncreasing }
+    ensures same { IfOk result (λ copy. copy ≡ set.now) }
+{
+    let mut copy = EqSet::new(alloc);
+    for place in 0..set.len() {
+        copy.push(update_at(set, place))?;
+    }
+    Ok(copy)
+}
+
 /// The set in which an update is tried: those before it, and itself.
 pub fn tried_set(alloc: Global, set: &EqSet, update: EqId) -> Result<EqSet, NoMemory>
     requires { (x : ℕ) → IsTrue (is_in set.now x) → x < update }
     ensures { IfOk result (λ tried. tried ≡ with_tried set.now update) }
 {
-    let mut tried = EqSet::new(alloc);
-    for place in 0..set.len() {
-        tried.push(update_at(set, place))?;
-    }
+    let mut tried = copy(alloc, set)?;
     tried.push(update)?;
     Ok(tried)
 }

@@ -1,6 +1,8 @@
-use Rattle.alias_analysis.specs.Marking.{AddsMarks, IsBelow}
+use Rattle.std.proofs.Common.{take}
+use Rattle.alias_analysis.specs.Marking.{AddsMarks, IsMarkedBy}
 use Rattle.alias_analysis.specs.Contents.{IsMarkedBeside}
+use Rattle.alias_analysis.proofs.Adding.{IsIt}
 use Rattle.alias_analysis.proofs.bypass.beside.Given as goal
 
 abbrev pub invariant-loop-number : goal.invariant-loop-number
-invariant-loop-number l = AddsMarks l.initial.beside.items (IsBelow l.number (IsMarkedBeside l.flat l.update l.marks)) l.beside.items
+invariant-loop-number l = AddsMarks l.initial.beside (IsMarkedBy (take l.number-index l.listed) (IsIt (IsMarkedBeside l.flat l.update l.marked))) l.beside

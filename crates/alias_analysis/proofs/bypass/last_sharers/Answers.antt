@@ -1,9 +1,9 @@
-use Rattle.std.proofs.Common.{length, sym, subst}
+use Rattle.std.proofs.Common.{length, sym, subst, ◌∙◌}
 use Rattle.std.proofs.lemmas.Result.{IfOk-weaker}
 use Rattle.translation_order.specs.Order.{AreOfSteps}
 use Rattle.alias_rules.specs.Uses.{last_of, IsLast}
 use Rattle.alias_analysis.specs.Pairs.{ArePairs}
-use Rattle.alias_analysis.specs.Marking.{AreJust, HasMarkedSecond}
+use Rattle.alias_analysis.specs.Marking.{AreJust}
 use Rattle.alias_analysis.specs.Flows.{SharesWithOne}
 use Rattle.alias_analysis.specs.Contents.{SharesWithLast}
 use Rattle.alias_analysis.proofs.Bypassing.{all_stored, last_sharers_are}
@@ -15,13 +15,14 @@ firsts-requires c =
     let s = c.args.flat.now in
     subst (λ m. AreOfSteps m c.as_slice.result.now) (sym c.requires.roots.one_each) (subst (AreOfSteps (length s.equations)) (sym c.as_slice.ensures) (uses_of_steps s last_of c.args.uses.now.lasts c.requires.uses.lasts))
 
+pub sharers-requires-clause-one_each : goal.sharers-requires-clause-one_each
+sharers-requires-clause-one_each c = c.in_ok-stored.ensures.one_each ∙ c.requires.roots.one_each
+
 pub sharers-requires-clause-stored : goal.sharers-requires-clause-stored
 sharers-requires-clause-stored c =
     let s = c.args.flat.now in
     let are = subst (ArePairs (IsLast s)) (sym c.as_slice.ensures) c.requires.uses.lasts in
-    let roots = c.args.roots.now in
-    let found = subst (AreJust (length roots) (HasMarkedSecond c.as_slice.result.now roots)) (sym c.deref.ensures.value) c.in_ok-stored.ensures in
-    all_stored s c.args.set.now c.args.update c.as_slice.result.now are roots c.deref.result.now c.requires.roots found
+    all_stored s c.args.set.now c.args.update c.as_slice.result.now are c.args.roots.now c.in_ok-stored.stored c.requires.roots c.in_ok-stored.ensures
 
 pub returns : goal.returns
 returns c =
@@ -30,8 +31,6 @@ returns c =
     let y = c.args.update in
     let n = length s.equations in
     let are = subst (ArePairs (IsLast s)) (sym c.as_slice.ensures) c.requires.uses.lasts in
-    let roots = c.args.roots.now in
-    let stored = c.deref.result.now in
-    let found = subst (AreJust (length roots) (HasMarkedSecond c.as_slice.result.now roots)) (sym c.deref.ensures.value) c.in_ok-stored.ensures in
-    IfOk-weaker c.sharers.result (λ v. AreJust n (SharesWithOne s set stored) v.items) (λ v. AreJust n (SharesWithLast s set y) v.items)
-    (λ v h. last_sharers_are s set y c.as_slice.result.now are roots stored c.requires.roots found v.items h) c.sharers.ensures
+    let stored = c.in_ok-stored.stored in
+    IfOk-weaker c.sharers.result (AreJust n (SharesWithOne s set stored)) (AreJust n (SharesWithLast s set y))
+    (λ v h. last_sharers_are s set y c.as_slice.result.now are c.args.roots.now stored c.requires.roots c.in_ok-stored.ensures v h) c.sharers.ensures

@@ -1,6 +1,8 @@
-use Rattle.alias_analysis.specs.Marking.{AddsMarks, IsBelow}
+use Rattle.std.proofs.Common.{take}
+use Rattle.alias_analysis.specs.Marking.{AddsMarks, IsMarkedBy}
 use Rattle.alias_analysis.specs.Contents.{AreMarkedInBoth}
+use Rattle.alias_analysis.proofs.Adding.{IsIt}
 use Rattle.alias_analysis.proofs.conflict.both.Given as goal
 
-abbrev pub invariant-loop-index : goal.invariant-loop-index
-invariant-loop-index l = AddsMarks l.initial.both.items (IsBelow l.index (AreMarkedInBoth l.first l.second)) l.both.items
+abbrev pub invariant-loop-number : goal.invariant-loop-number
+invariant-loop-number l = AddsMarks l.initial.both (IsMarkedBy (take l.number-index l.listed) (IsIt (AreMarkedInBoth l.first l.second))) l.both

@@ -1,6 +1,8 @@
-use Rattle.alias_analysis.specs.Marking.{AddsMarks, IsBelow}
+use Rattle.std.proofs.Common.{take}
+use Rattle.alias_analysis.specs.Marking.{AddsMarks, IsMarkedBy}
 use Rattle.alias_analysis.specs.Contents.{IsMarkedUnimplied}
+use Rattle.alias_analysis.proofs.Adding.{IsIt}
 use Rattle.alias_analysis.proofs.conflict.unimplied.Given as goal
 
 abbrev pub invariant-loop-number : goal.invariant-loop-number
-invariant-loop-number l = AddsMarks l.initial.unimplied.items (IsBelow l.number (IsMarkedUnimplied l.flat l.update l.marks)) l.unimplied.items
+invariant-loop-number l = AddsMarks l.initial.unimplied (IsMarkedBy (take l.number-index l.listed) (IsIt (IsMarkedUnimplied l.flat l.update l.marked))) l.unimplied

@@ -9,20 +9,20 @@ use Rattle.alias_analysis.proofs.constraints.push_update.Goals as goal
 
 pub push_marked-requires : goal.push_marked-requires
 push_marked-requires c =
-    let size : length c.deref.result.now ≡ length c.args.flat.now.equations = ap length c.deref.ensures.value ∙ c.in_ok-marks.ensures.one_each in
+    let size : length c.marks-marks.result.now ≡ length c.args.flat.now.equations = ap length c.marks-marks.ensures ∙ c.in_ok-bypassed.ensures.one_each in
     let few = c.count.ensures.is_flat.few_equations in
     omega arith
 
 pub push_readers-requires : goal.push_readers-requires
 push_readers-requires c =
     let s = c.args.flat.now in
-    let size : length c.deref-2.result.now ≡ length s.equations = ap length c.deref-2.ensures.value ∙ c.in_ok-marks.ensures.one_each in
+    let size : length c.marks-marks.result.now ≡ length s.equations = ap length c.marks-marks.ensures ∙ c.in_ok-bypassed.ensures.one_each in
     subst (λ m. AreOfSteps m c.as_slice.result.now) (sym size) (subst (AreOfSteps (length s.equations)) (sym c.as_slice.ensures) (uses_of_steps s read_of c.args.uses.now.read c.requires.uses.read))
 
 pub push_writers-requires : goal.push_writers-requires
 push_writers-requires c =
     let s = c.args.flat.now in
-    let size : length c.deref-3.result.now ≡ length s.equations = ap length c.deref-3.ensures.value ∙ c.in_ok-marks.ensures.one_each in
+    let size : length c.marks-marks.result.now ≡ length s.equations = ap length c.marks-marks.ensures ∙ c.in_ok-bypassed.ensures.one_each in
     subst (λ m. AreOfSteps m c.as_slice-2.result.now) (sym size) (subst (AreOfSteps (length s.equations)) (sym c.as_slice-2.ensures) (uses_of_steps s written_of c.args.uses.now.written c.requires.uses.written))
 
 pub push_passers-requires-clause-there : goal.push_passers-requires-clause-there
@@ -35,7 +35,7 @@ returns c =
     let s = c.args.flat.now in
     let uses = c.args.uses.now in
     let y = c.args.update in
-    let marks = c.in_ok-marks.marks.items in
+    let marks = c.in_ok-bypassed.bypassed in
     let same = c.get-number.ensures in
     let old = c.args.pairs.now in
     let one = c.push_marked.new.pairs in
@@ -43,13 +43,13 @@ returns c =
     let three = c.push_writers.new.pairs in
     let four = c.push_passers.new.pairs in
     let new = c.push_printers.new.pairs in
-    let first = subst (λ z. Adds old (IsMarkedBefore marks z) one) same (subst (λ m. Adds old (IsMarkedBefore m c.get-number.result) one) c.deref.ensures.value c.in_ok-push_marked.ensures) in
-    let second_at = subst (λ m. Adds one (IsTakenBefore c.as_slice.result.now m c.get-number.result) two) c.deref-2.ensures.value c.in_ok-push_readers.ensures in
+    let first = subst (λ z. Adds old (IsMarkedBefore marks z) one) same (subst (λ m. Adds old (IsMarkedBefore m c.get-number.result) one) c.marks-marks.ensures c.in_ok-push_marked.ensures) in
+    let second_at = subst (λ m. Adds one (IsTakenBefore c.as_slice.result.now m c.get-number.result) two) c.marks-marks.ensures c.in_ok-push_readers.ensures in
     let second = subst (λ z. Adds one (IsTakenBefore uses.read marks z) two) same (subst (λ l. Adds one (IsTakenBefore l marks c.get-number.result) two) c.as_slice.ensures second_at) in
-    let third_at = subst (λ m. Adds two (IsWrittenBefore c.as_slice-2.result.now m c.get-number.result) three) c.deref-3.ensures.value c.in_ok-push_writers.ensures in
+    let third_at = subst (λ m. Adds two (IsWrittenBefore c.as_slice-2.result.now m c.get-number.result) three) c.marks-marks.ensures c.in_ok-push_writers.ensures in
     let third = subst (λ z. Adds two (IsWrittenBefore uses.written marks z) three) same (subst (λ l. Adds two (IsWrittenBefore l marks c.get-number.result) three) c.as_slice-2.ensures third_at) in
-    let fourth_at = subst (λ m. Adds three (IsPassedBefore s c.as_slice-passed.result.now m y) four) c.deref-4.ensures.value c.in_ok-push_passers.ensures in
+    let fourth_at = subst (λ m. Adds three (IsPassedBefore s c.as_slice-passed.result.now m y) four) c.marks-marks.ensures c.in_ok-push_passers.ensures in
     let fourth = subst (λ l. Adds three (IsPassedBefore s l marks y) four) c.as_slice-passed.ensures fourth_at in
-    let fifth_at = subst (λ m. Adds four (IsPrintedBefore s m c.get-number.result) new) c.deref-5.ensures.value c.in_ok-push_printers.ensures in
+    let fifth_at = subst (λ m. Adds four (IsPrintedBefore s m c.get-number.result) new) c.marks-marks.ensures c.in_ok-push_printers.ensures in
     let fifth = subst (λ z. Adds four (IsPrintedBefore s marks z) new) same fifth_at in
-    update_adds s c.args.set.now uses c.requires.uses y marks c.in_ok-marks.ensures old one two three four new first second third fourth fifth
+    update_adds s c.args.set.now uses c.requires.uses y marks c.in_ok-bypassed.ensures old one two three four new first second third fourth fifth

@@ -1,6 +1,8 @@
-use Rattle.alias_analysis.specs.Marking.{AddsMarks, IsBelow}
+use Rattle.std.proofs.Common.{take}
+use Rattle.alias_analysis.specs.Marking.{AddsMarks, IsMarkedBy}
 use Rattle.alias_analysis.specs.Contents.{IsReachedOrigin}
+use Rattle.alias_analysis.proofs.Adding.{IsIt}
 use Rattle.alias_analysis.proofs.roots.origins.Given as goal
 
 abbrev pub invariant-loop-number : goal.invariant-loop-number
-invariant-loop-number l = AddsMarks l.initial.origins.items (IsBelow l.number (IsReachedOrigin l.flat l.set l.marks)) l.origins.items
+invariant-loop-number l = AddsMarks l.initial.origins (IsMarkedBy (take l.number-index l.listed) (IsIt (IsReachedOrigin l.flat l.set l.marked))) l.origins

@@ -1,6 +1,6 @@
 use Rattle.std.proofs.Common.{get_or, arith}
 use Rattle.alias_analysis.proofs.Adding.{given_more, read_again}
-use Rattle.alias_analysis.proofs.Sharers.{GivesStore, store_pushed, stores_all}
+use Rattle.alias_analysis.proofs.Sharers.{GivesStore, store_pushed, gone_through}
 use Rattle.alias_analysis.proofs.sharing.push_stores.Goals as goal
 
 pub loop-variable-preserved : goal.loop-variable-preserved
@@ -12,4 +12,4 @@ loop-variable-preserved c =
     (store_pushed c.args.count p c.loop-variable.pairs c.push.new.self c.push-in-loop-variable.new.self c.in_ok-push.ensures c.in_ok-push-2.ensures)
 
 pub returns : goal.returns
-returns c = stores_all c.args.lasts.now c.args.count c.loop-variable.variable-index c.args.pairs.now c.loop-variable.pairs (omega arith) c.loop-variable.invariant
+returns c = gone_through c.args.lasts.now c.args.count c.loop-variable.variable-index c.args.pairs.now c.loop-variable.pairs (omega arith) c.loop-variable.invariant

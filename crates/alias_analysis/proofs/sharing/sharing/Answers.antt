@@ -10,8 +10,8 @@ loop-number-preserved c =
     let set = c.args.set.now in
     let n = length s.equations in
     let k = c.loop-number.number in
-    let marks = c.deref-in-loop-number in
-    let just = subst (AreJust n (Shares s set k)) (sym marks.ensures.value) c.in_ok-sharers.ensures in
+    let marks = c.marks in
+    let just = subst (AreJust n (Shares s set k)) (sym marks.ensures) c.in_ok-sharers.ensures in
     shared_next s set k n marks.result.now [] c.loop-number.pairs c.push_marked.new.pairs just c.loop-number.invariant c.in_ok-push_marked.ensures
 
 pub returns : goal.returns

@@ -1,6 +1,8 @@
-use Rattle.alias_analysis.specs.Marking.{AddsMarks, IsBelow}
+use Rattle.std.proofs.Common.{take}
+use Rattle.alias_analysis.specs.Marking.{AddsMarks, IsMarkedBy}
 use Rattle.alias_analysis.specs.Flows.{IsSource}
+use Rattle.alias_analysis.proofs.Adding.{IsIt}
 use Rattle.alias_analysis.proofs.sharing.sources.Given as goal
 
 abbrev pub invariant-loop-number : goal.invariant-loop-number
-invariant-loop-number l = AddsMarks l.initial.sources.items (IsBelow l.number (IsSource l.flat l.set l.marks)) l.sources.items
+invariant-loop-number l = AddsMarks l.initial.sources (IsMarkedBy (take l.number-index l.listed) (IsIt (IsSource l.flat l.set l.marked))) l.sources

@@ -1,24 +1,35 @@
-use Rattle.std.proofs.Common.{◌≡◌, true, length, sym, ap, subst, ◌∙◌}
-use Rattle.std.proofs.lemmas.List.{length-replicate}
-use Rattle.std.proofs.lemmas.Result.{IfOk-weaker}
+use Rattle.std.proofs.Common.{length, get_or, sym, subst, arith}
 use Rattle.translation_order.specs.Order.{AreOfSteps}
-use Rattle.alias_rules.specs.Uses.{last_of, IsLast, IsStored}
+use Rattle.alias_rules.specs.Uses.{last_of, IsLast}
 use Rattle.alias_analysis.specs.Pairs.{ArePairs}
-use Rattle.alias_analysis.specs.Marking.{AreJust, HasMarkedSecond}
-use Rattle.alias_analysis.proofs.Sharers.{stored_are}
+use Rattle.alias_analysis.proofs.Adding.{marked_none, marked_more, read_again, none_long}
+use Rattle.alias_analysis.proofs.Sharers.{MarksVariable, stored_are}
 use Rattle.alias_analysis.proofs.Using.{uses_of_steps}
 use Rattle.alias_analysis.proofs.sharing.stored.Goals as goal
 
-pub firsts-requires : goal.firsts-requires
-firsts-requires c =
+pub loop-variable-init : goal.loop-variable-init
+loop-variable-init c = marked_none c.as_slice-lasts.result.now MarksVariable c.in_ok-stored.stored
+
+pub mark_if-requires : goal.mark_if-requires
+mark_if-requires c =
     let s = c.args.flat.now in
-    let size : length c.deref.result.now ≡ length s.equations = ap length (c.deref.ensures.value ∙ c.in_ok-all.ensures) ∙ length-replicate c.count.result true ∙ c.count.ensures.count in
-    subst (λ m. AreOfSteps m c.as_slice.result.now) (sym size) (subst (AreOfSteps (length s.equations)) (sym c.as_slice.ensures) (uses_of_steps s last_of c.args.uses.now.lasts c.requires.lasts))
+    let lasts = c.as_slice-lasts.result.now in
+    let steps = subst (AreOfSteps (length s.equations)) (sym c.as_slice-lasts.ensures) (uses_of_steps s last_of c.args.uses.now.lasts c.requires.lasts) in
+    let low = (steps c.loop-variable.variable-index (0, 0) c.loop-variable-test.true).0 in
+    let size = c.loop-variable.invariant.one_each in
+    let long = none_long c.count.result c.in_ok-stored.stored c.in_ok-stored.ensures in
+    let count = c.count.ensures.count in
+    omega arith
+
+pub loop-variable-preserved : goal.loop-variable-preserved
+loop-variable-preserved c =
+    let lasts = c.as_slice-lasts.result.now in
+    let k = c.loop-variable.variable-index in
+    marked_more lasts MarksVariable k (get_or lasts k (0, 0)) c.in_ok-stored.stored c.loop-variable.stored c.mark_if.new.self
+    c.loop-variable-test.true (read_again lasts k (0, 0) c.loop-variable-test.true) c.loop-variable.invariant c.in_ok-mark_if.ensures
 
 pub returns : goal.returns
 returns c =
     let s = c.args.flat.now in
-    let all = c.deref.result.now in
-    let lasts = c.as_slice.result.now in
-    IfOk-weaker c.firsts.result (λ m. AreJust (length all) (HasMarkedSecond lasts all) m.items) (λ m. AreJust (length s.equations) (IsStored s) m.items)
-    (λ m h. stored_are s c.count.result lasts all m.items c.count.ensures.count (subst (ArePairs (IsLast s)) (sym c.as_slice.ensures) c.requires.lasts) (c.deref.ensures.value ∙ c.in_ok-all.ensures) h) c.firsts.ensures
+    stored_are s c.as_slice-lasts.result.now c.loop-variable.variable-index c.count.result c.in_ok-stored.stored c.loop-variable.stored
+    (omega arith) c.count.ensures.count (subst (ArePairs (IsLast s)) (sym c.as_slice-lasts.ensures) c.requires.lasts) c.in_ok-stored.ensures c.loop-variable.invariant

@@ -1,5 +1,12 @@
+use Rattle.std.proofs.Common.{◌-◌, ◌≤◌, length}
 use Rattle.last_use.specs.Choosing.{IsChosenBelow}
 use Rattle.last_use.proofs.choice.try_all.Given as goal
 
-abbrev pub invariant-loop-number : goal.invariant-loop-number
-invariant-loop-number l = IsChosenBelow l.flat l.number l.chosen.in_place l.chosen.reasons
+abbrev pub invariant-loop-tried : goal.invariant-loop-tried
+invariant-loop-tried l = record {
+  within : l.tried.end ≤ length l.flat.equations;
+  chosen : IsChosenBelow l.flat l.tried.end l.tried.chosen.in_place l.tried.chosen.reasons;
+}
+
+abbrev pub decreases-loop-tried : goal.decreases-loop-tried
+decreases-loop-tried l = length l.flat.equations - l.tried.end

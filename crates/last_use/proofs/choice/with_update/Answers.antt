@@ -1,5 +1,5 @@
 use Rattle.std.proofs.Common.{ℕ, List, Option, ◌+◌, sym, subst}
-use Rattle.alias_rules.specs.Fine.{IsFine, with_tried}
+use Rattle.alias_rules.specs.Fine.{IsFine}
 use Rattle.alias_rules.specs.Uses.{AreUpdates}
 use Rattle.alias_analysis.specs.declared.reason.Reason.{Reason}
 use Rattle.last_use.specs.Choosing.{IsChosenBelow, IsRefusal}

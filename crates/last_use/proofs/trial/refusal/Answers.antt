@@ -1,4 +1,4 @@
-use Rattle.std.proofs.Common.{List, ℕ, Option, None, subst}
+use Rattle.std.proofs.Common.{Option, None, subst}
 use Rattle.flat_core.specs.System.{System}
 use Rattle.translation_order.specs.Answer.{OnCycle}
 use Rattle.translation_order.specs.Cycle.{IsCycleOfWalk}

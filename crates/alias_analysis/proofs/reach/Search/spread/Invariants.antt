@@ -1,10 +1,13 @@
 use Rattle.flat_core.specs.Marks.{left}
 use Rattle.translation_order.specs.Order.{Before}
-use Rattle.alias_analysis.specs.Search.{marks_of, Spreading}
+use Rattle.alias_analysis.specs.Search.{marks_of, AreListed, Spreading}
 use Rattle.alias_analysis.proofs.reach.Search.spread.Given as goal
 
 abbrev pub invariant-loop-number : goal.invariant-loop-number
-invariant-loop-number l = Spreading (Before l.pairs) (marks_of l.fn.self) (marks_of l.self)
+invariant-loop-number l = record {
+  spreading : Spreading (Before l.links) (marks_of l.fn.self) (marks_of l.self);
+  listed : AreListed l.fn.self → AreListed l.self;
+}
 
 abbrev pub decreases-loop-number : goal.decreases-loop-number
 decreases-loop-number l = left (marks_of l.self)

@@ -1,7 +1,0 @@
-use Rattle.std.proofs.Common.{take}
-use Rattle.alias_analysis.specs.Marking.{AddsMarks, IsMarkedBy}
-use Rattle.alias_analysis.proofs.Adding.{MarksFirst}
-use Rattle.alias_analysis.proofs.marks.mark_firsts.Given as goal
-
-abbrev pub invariant-loop-first : goal.invariant-loop-first
-invariant-loop-first l = AddsMarks l.initial.marks (IsMarkedBy (take l.first-index l.pairs) (MarksFirst l.seconds)) l.marks

@@ -1,0 +1,4 @@
+use Rattle.last_use.proofs.choice.try_all.Goals as goal
+
+pub with_next-requires-clause-several : goal.with_next-requires-clause-several
+with_next-requires-clause-several c several = c.none_is_nil-several.ensures (c.at_once.ensures several)
