@@ -1,10 +1,9 @@
 -- How an instant begins.
-use Rattle.std.proofs.Common.{◌≡◌, ◌==◌, ℕ, ◌+◌, ◌<◌, ◌≤◌, Bool, true, false, ◌&&◌, cond, List, [], ◌∷◌, ◌++◌, length, get_or, set, take, Option, Some, None, refl, sym, ap, subst, ◌∙◌, append_assoc, append-nil, inl, inr, arith}
-use Rattle.std.proofs.lemmas.Bool.{cases_Bool, cases_lt, eq-eqb, eqb-true, eqb-false, ne_eqb, or_cases, false≢true}
+use Rattle.std.proofs.Common.{◌≡◌, ◌==◌, ℕ, ◌<◌, Bool, true, false, ◌&&◌, cond, List, [], ◌∷◌, ◌++◌, length, set, Option, Some, None, refl, sym, ap, subst, ◌∙◌, append_assoc, inl, inr, arith}
+use Rattle.std.proofs.lemmas.Bool.{cases_Bool, cases_lt, eq-eqb, eqb-true, eqb-false, ne_eqb}
 use Rattle.std.proofs.Common.{length-set}
 use Rattle.std.proofs.lemmas.List.{get_or-set_same, get_or-set_other}
-use Rattle.std.proofs.lemmas.List.Folds.{list_any_more}
-use Rattle.std.specs.Prelude.{◌≢◌, ◌⊎◌, ◌-◌, if◌then◌else◌, is_some, IsTrue, slice_get, slice_index_or}
+use Rattle.std.specs.Prelude.{◌≢◌, ◌⊎◌, ◌-◌, if◌then◌else◌, is_some, slice_get}
 use Rattle.std.specs.Option.{option_or}
 use Rattle.std.specs.FinMap as finite_map
 use Rattle.std.specs.Cmp.{Equal-is, eq_by_cmp_equiv, nat_cmp_total}
@@ -12,34 +11,14 @@ use Rattle.std.specs.Ordering.{eq_by_cmp, nat_cmp}
 use Rattle.tsl_value.specs.declared.scalar.Scalar.{Scalar}
 use Rattle.tsl_value.specs.declared.scalar.Scalar.TheVariants as scalar
 use Rattle.tsl_value.specs.View.{View, Plain}
-use Rattle.delay_timers.specs.Pending.{Times, NoneIsDueAt}
+use Rattle.delay_timers.specs.Pending.{Times}
 use Rattle.lift_func.specs.declared.register.Register.{Register}
 use Rattle.lift_func.specs.declared.register.Register.TheVariants as register
 use Rattle.flat_core.specs.Line.{Line, event_in, inputs_of}
-use Rattle.flat_core.specs.Members.{is_in}
 use Rattle.flat_core.specs.Pending.{option_is}
-use Rattle.flat_core.proofs.DueLemmas.{option_is-some}
 use Rattle.monitor_run.specs.Given.{AreAt, AreThere, IsThere}
-use Rattle.monitor_run.specs.Instant.{expired_at, left_at, moved_in, with_event}
+use Rattle.monitor_run.specs.Instant.{moved_in, with_event}
 use Rattle.monitor_run.specs.Registers.{register_at}
-
--- ---- clearing
-
-module _ {A : Type 0} (v : A) (order : List ℕ) (k : ℕ) (lt : k < length order) (xs : List A) (before : (i : ℕ) → IsTrue (is_in (take k order) i) → i < length xs → slice_index_or xs i v ≡ v) where
-  pub cleared-set : (i : ℕ) → IsTrue (is_in (take (k + 1) order) i) → i < length xs → slice_index_or (set xs (get_or order k 0) v) i v ≡ v
-  cleared-set i h there = elim (cases_Bool (get_or order k 0 == i)) [
-    | inl here ↦ let same = eqb-true (get_or order k 0) i here in subst (λ j. slice_index_or (set xs (get_or order k 0) v) j v ≡ v) same (get_or-set_same xs (get_or order k 0) v v (subst (λ j. j < length xs) (sym same) there))
-    | inr other ↦ get_or-set_other xs (get_or order k 0) i v v (λ same. eqb-false (get_or order k 0) i other (sym same)) ∙ elim (or_cases (is_in (take k order) i) (get_or order k 0 == i) (sym (list_any_more (λ j. j == i) order k 0 lt) ∙ h)) [
-      | inl early ↦ before i early there
-      | inr now ↦ absurd (false≢true (sym other ∙ now))
-    ]
-  ]
-
-  pub cleared-skip : length xs ≤ get_or order k 0 → (i : ℕ) → IsTrue (is_in (take (k + 1) order) i) → i < length xs → slice_index_or xs i v ≡ v
-  cleared-skip le i h there = elim (or_cases (is_in (take k order) i) (get_or order k 0 == i) (sym (list_any_more (λ j. j == i) order k 0 lt) ∙ h)) [
-    | inl early ↦ before i early there
-    | inr now ↦ let same = eqb-true (get_or order k 0) i now in absurd (omega arith)
-  ]
 
 -- ---- delays that are due
 
@@ -49,20 +28,14 @@ HasExpired t due r left now = ((left ≡ due) × (now ≡ r)) ⊎ ((option_is t 
 pub record AreExpiring (t : ℕ) (timers mid : Times) (registers now : List Register) : Type 0 where
   pub each : (i : ℕ) → HasExpired t (finite_map.get timers i) (register_at registers i) (finite_map.get mid i) (register_at now i)
 
-pub expiring-none : (t : ℕ) (timers : Times) (registers : List Register) → AreExpiring t timers timers registers registers
-expiring-none t timers registers = record { each = λ i. inl (refl, refl) }
-
-get_removed : (m : Times) (d i : ℕ) → i ≢ d → finite_map.get (finite_map.remove m d) i ≡ finite_map.get m i
-get_removed m d i ne = finite_map.get-remove nat_cmp_total m d i ∙ elim (eq_by_cmp nat_cmp i d) as (λ b. eq_by_cmp nat_cmp i d ≡ b → cond b None (finite_map.get m i) ≡ finite_map.get m i) [
-  | true ↦ λ tied. absurd (ne (finite_map.nat_cmp-IsAntisymmetric i d ((Equal-is (nat_cmp i d)).0 tied)))
-  | false ↦ λ apart. refl
-] refl
-
 pub get_removed-same : (m : Times) (d : ℕ) → finite_map.get (finite_map.remove m d) d ≡ None
 get_removed-same m d = finite_map.get-remove nat_cmp_total m d d ∙ ap (λ b. cond b None (finite_map.get m d)) ((eq_by_cmp_equiv nat_cmp_total).refl d)
 
 pub get_removed-other : (m : Times) (d i : ℕ) → i ≢ d → finite_map.get (finite_map.remove m d) i ≡ finite_map.get m i
-get_removed-other m d i ne = get_removed m d i ne
+get_removed-other m d i ne = finite_map.get-remove nat_cmp_total m d i ∙ elim (eq_by_cmp nat_cmp i d) as (λ b. eq_by_cmp nat_cmp i d ≡ b → cond b None (finite_map.get m i) ≡ finite_map.get m i) [
+  | true ↦ λ tied. absurd (ne (finite_map.nat_cmp-IsAntisymmetric i d ((Equal-is (nat_cmp i d)).0 tied)))
+  | false ↦ λ apart. refl
+] refl
 
 pub get_set-same : (m : Times) (d v : ℕ) → finite_map.get (finite_map.insert m d v) d ≡ Some v
 get_set-same m d v = finite_map.get-insert nat_cmp_total m d v d ∙ ap (λ b. cond b (Some v) (finite_map.get m d)) ((eq_by_cmp_equiv nat_cmp_total).refl d)
@@ -85,7 +58,7 @@ expiring-one t d timers mid new registers now removed due lt e = subst (λ ts. A
         (inr (was_due (e.each d), get_removed-same mid d, get_or-set_same now d (register.Scalar scalar.Unit) register.Empty lt))
     | inr other ↦
         let ne : i ≢ d = λ same. eqb-false d i other (sym same) in
-        subst (λ o. HasExpired t (finite_map.get timers i) (register_at registers i) o (register_at (set now d (register.Scalar scalar.Unit)) i)) (sym (get_removed mid d i ne))
+        subst (λ o. HasExpired t (finite_map.get timers i) (register_at registers i) o (register_at (set now d (register.Scalar scalar.Unit)) i)) (sym (get_removed-other mid d i ne))
         (subst (HasExpired t (finite_map.get timers i) (register_at registers i) (finite_map.get mid i)) (sym (get_or-set_other now d i (register.Scalar scalar.Unit) register.Empty ne)) (e.each i))
   ];
 })
@@ -94,36 +67,12 @@ expiring-one t d timers mid new registers now removed due lt e = subst (λ ts. A
     was_due (inl still) = ap (option_is t) (sym still.0 ∙ due) ∙ eq-eqb t t refl
     was_due (inr gone) = absurd (none_some t (finite_map.get mid d) gone.1 due)
 
-module _ (t : ℕ) (timers mid : Times) (registers now : List Register) (none : NoneIsDueAt mid t) (e : AreExpiring t timers mid registers now) (i : ℕ) where
-  not_due : finite_map.get mid i ≡ finite_map.get timers i → option_is t (finite_map.get timers i) ≡ false
-  not_due same = elim (cases_Bool (option_is t (finite_map.get timers i))) [
-    | inl due ↦ absurd (none i (same ∙ option_is-some t (finite_map.get timers i) due))
-    | inr not_now ↦ not_now
-  ]
-
-  register_by : HasExpired t (finite_map.get timers i) (register_at registers i) (finite_map.get mid i) (register_at now i) → register_at now i ≡ expired_at t (finite_map.get timers i) (register_at registers i)
-  register_by (inl still) = let b = not_due still.0 in still.1 ∙ sym (λ k. if b k then register.Scalar scalar.Unit else register_at registers i)
-  register_by (inr gone) = gone.2 ∙ sym (λ k. if gone.0 k then register.Scalar scalar.Unit else register_at registers i)
-
-  timer_by : HasExpired t (finite_map.get timers i) (register_at registers i) (finite_map.get mid i) (register_at now i) → finite_map.get mid i ≡ left_at t (finite_map.get timers i)
-  timer_by (inl still) = let b = not_due still.0 in still.0 ∙ sym (λ k. if b k then None else finite_map.get timers i)
-  timer_by (inr gone) = gone.1 ∙ sym (λ k. if gone.0 k then None else finite_map.get timers i)
-
-  pub expired-register : register_at now i ≡ expired_at t (finite_map.get timers i) (register_at registers i)
-  expired-register = register_by (e.each i)
-
-  pub expired-timer : finite_map.get mid i ≡ left_at t (finite_map.get timers i)
-  expired-timer = timer_by (e.each i)
-
 -- ---- events of inputs
 
 pub record AreMoving (all given : List Line) (old new : List Register) : Type 0 where
   pub rest : List Line
   pub parts : all ≡ given ++ rest
   pub registers : (time : ℕ) → AreAt time rest → (i : ℕ) → register_at new i ≡ with_event (inputs_of rest i time) (register_at old i)
-
-pub moving-none : (all : List Line) (old : List Register) → AreMoving all all old old
-moving-none all old = record { rest = []; parts = sym (append-nil all); registers = λ time at i. refl }
 
 line_event : (time i told input : ℕ) (value : Scalar) (rest : Option View) (r : Register) → told ≡ time → input ≡ i → with_event (option_or (event_in i time told (Some (input, value))) rest) r ≡ register.Scalar value
 line_event time i told input value rest r at same = λ k. with_event (option_or (if eq-eqb told time at k && eq-eqb input i same k then Some (Plain value) else None) rest) r
@@ -169,11 +118,6 @@ moving-one all given l old new m there = from l.event refl
     from None is = subst (λ e. AreMoving all given old (moved_in e new)) (sym is) (moving-nothing all given l old new m is)
     from (Some e) is = let lt = there e.0 e.1 is in subst (λ e. AreMoving all given old (moved_in e new)) (sym is) (moving-some all given l old new m e.0 e.1 is (omega arith))
 
-pub moving-end : (all given : List Line) (old new : List Register) → given ≡ [] → AreMoving all given old new → (time : ℕ) → AreAt time all → (i : ℕ) → register_at new i ≡ with_event (inputs_of all i time) (register_at old i)
-moving-end all given old new none m time at i =
-    let same : all ≡ m.rest = m.parts ∙ ap (λ ls. ls ++ m.rest) none in
-    m.registers time (subst (AreAt time) same at) i ∙ ap (λ ls. with_event (inputs_of ls i time) (register_at old i)) (sym same)
-
 -- what is popped is there
 pub last_there : (n : ℕ) (given : List Line) (l : Line) → AreThere n (given ++ l ∷ []) → IsThere n l
 last_there n [] l all = all.0
@@ -191,10 +135,6 @@ none_at at time (l ∷ lines) all ne i = let rest = none_at at time lines all.1 
     other : (e : Option (ℕ × Scalar)) → event_in i time l.time e ≡ None
     other None = refl
     other (Some e) = λ k. if ne_eqb l.time time (λ same. ne (sym all.0 ∙ same)) k && (e.0 == i) then Some (Plain e.1) else None
-
-pub last_at : (at : ℕ) (lines : List Line) (l : Line) → AreAt at (lines ++ l ∷ []) → l.time ≡ at
-last_at at [] l all = all.0
-last_at at (x ∷ lines) l all = last_at at lines l all.1
 
 pub moved-length : (e : Option (ℕ × Scalar)) (registers : List Register) → length (moved_in e registers) ≡ length registers
 moved-length None registers = refl

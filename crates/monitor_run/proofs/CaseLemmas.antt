@@ -1,8 +1,11 @@
 -- What equations have by the registers of their arguments.
-use Rattle.std.proofs.Common.{◌≡◌, ◌==◌, ℕ, zero, suc, ◌<◌, Bool, true, false, List, [], ◌∷◌, length, map, Option, Some, None, Ok, refl, sym, ap, subst, ◌∙◌, arith}
-use Rattle.std.proofs.lemmas.Bool.{false≢true, ne_eqb}
-use Rattle.std.specs.Prelude.{IsTrue, is_some, if◌then◌else◌}
-use Rattle.std.specs.List.{All, list_all, list_any}
+use Rattle.std.proofs.Common.{◌≡◌, ◌==◌, ℕ, zero, suc, ◌+◌, ◌-◌, ◌^◌, ◌<◌, Bool, true, false, List, [], ◌∷◌, length, map, Option, Some, None, Ok, Err, inl, inr, refl, sym, ap, subst, ◌∙◌, arith}
+use Rattle.std.proofs.lemmas.Bool.{false≢true, true≢false, ne_eqb}
+use Rattle.std.proofs.lemmas.List.{length-set}
+use Rattle.std.specs.Prelude.{◌⊎◌, IfOk, IsTrue, Result, is_some, min, not, if◌then◌else◌, slice_index}
+use Rattle.std.specs.List.{All, AllByRecursion, list_all, list_any}
+use Rattle.std.specs.Option.{option_and_then, option_or}
+use Rattle.std.proofs.lemmas.List.Elements.{recursion_from_All}
 use Rattle.std.specs.FinMap as finite_map
 use Rattle.tsl_value.specs.declared.scalar.ValueType.{ValueType}
 use Rattle.tsl_value.specs.declared.scalar.ValueType.TheVariants as value_type
@@ -10,20 +13,26 @@ use Rattle.tsl_value.specs.View.{View}
 use Rattle.lift_func.specs.declared.register.Register.{Register}
 use Rattle.lift_func.specs.declared.register.Register.TheVariants as register
 use Rattle.lift_func.specs.Cells.{Cells, HoldsLive, IsLive, held}
-use Rattle.lift_func.specs.Evaluable.{IsEvaluable}
+use Rattle.lift_func.specs.declared.eval.EvalFault.{EvalFault}
+use Rattle.lift_func.specs.declared.eval.EvalFault.TheVariants as eval_fault
+use Rattle.lift_func.specs.Apply.{Answer}
+use Rattle.lift_func.specs.Evaluable.{IsEvaluable, IsHeldValue}
+use Rattle.tsl_value.specs.declared.scalar.Scalar.TheVariants as scalar
 use Rattle.lift_func.specs.Tree.{Tree}
 use Rattle.lift_func.specs.Typing.{AllFit}
-use Rattle.aggregate_store.specs.Stored.{Stored, IsAggregate, counted, empty_view}
-use Rattle.aggregate_store.proofs.Typed.{is_of-empty}
+use Rattle.aggregate_store.specs.Stored.{Stored, IsAggregate, empty_view}
 use Rattle.flat_core.specs.declared.equation.Equation.{Equation}
 use Rattle.flat_core.specs.declared.equation.Op.{Op}
 use Rattle.flat_core.specs.declared.equation.Op.TheVariants as op
-use Rattle.flat_core.specs.Case.{at_zero, empty_of, unit}
+use Rattle.flat_core.specs.Case.{at_once, at_zero, empty_of, unit}
 use Rattle.flat_core.specs.Typed.{IsTyped, empty, is_aggregate, kind_of, lift}
-use Rattle.monitor_run.specs.Copied.{is_update_op, size_in}
-use Rattle.monitor_run.specs.Here.{AreOf, Extends, Gives, HasShape, HasUpdated, TakesTyped, counts, ledger_after, own_here}
+use Rattle.monitor_run.specs.Here.{AreOf, HasEffect, HasMade, HasMadeOne, HasShape, IsBare, TakesTyped, counts, effect_here, lifted, source_of, truth_of}
+use Rattle.alias_rules.specs.Uses.{is_update}
+use Rattle.register_machine.specs.Machine.{Held, Bare, Cell, slot_of, slot_of_answer, Config, view_of, value_in, where_either, Effect, Fill, Make, effect_of}
+use Rattle.register_machine.specs.Copied.{size_at}
 use Rattle.monitor_run.specs.Registers.{register_at, value_at}
-use Rattle.monitor_run.proofs.CellLemmas.{extends-none, extends-new, gives-new}
+use Rattle.monitor_run.specs.Shown.{config_of, held_at, held_by}
+use Rattle.monitor_run.proofs.CellLemmas.{held_slot, seen_is}
 
 pub last_two : (args : List ℕ) → HasShape op.Last args → length args ≡ 2
 last_two [] shape = absurd shape
@@ -48,13 +57,14 @@ empty_same (value_type.Scalar t) is = absurd is
 empty_same (value_type.Set k) is = refl
 empty_same (value_type.Map k t) is = refl
 
-pub empty_gives : (old new : Stored) (handle t : ℕ) (of : ValueType) → IsAggregate of → new ≡ record old { cells = finite_map.insert old.cells handle (empty_view of) } → t ≡ 0 → Gives new.cells (register.Aggregate handle) (at_zero t (empty_of of))
-empty_gives old new handle t of is made at =
-    subst (Gives new.cells (register.Aggregate handle)) (ap Some (empty_same of is) ∙ ap (λ n. at_zero n (empty_of of)) (sym at))
-    (gives-new old.cells new.cells handle (empty_view of) of (ap (λ (s : Stored). s.cells) made) (aggregate_type of is) (is_of-empty of is))
+pub empty_made : (old new : Stored) (handle n t : ℕ) (of : ValueType) → IsAggregate of → ¬ (IsLive old.cells handle) → new ≡ record old { cells = finite_map.insert old.cells handle (empty_view of) } → n ≡ 0 → n ≡ t → HasMadeOne old new (register.Aggregate handle) (at_zero t (empty_of of))
+empty_made old new handle n t of is fresh made at same =
+    subst (HasMadeOne old new (register.Aggregate handle)) (ap Some (empty_same of is) ∙ ap (λ m. at_zero m (empty_of of)) (sym (sym same ∙ at)))
+    (record { handle = handle; is = refl; fresh = fresh; cells = ap (λ (s : Stored). s.cells) made }, ap (λ (s : Stored). s.ledger) made)
 
-pub empty_extends : (old new : Stored) (handle : ℕ) (of : ValueType) → ¬ (IsLive old.cells handle) → new ≡ record old { cells = finite_map.insert old.cells handle (empty_view of) } → Extends old.cells new.cells
-empty_extends old new handle of fresh made = extends-new old.cells new.cells handle (empty_view of) fresh (ap (λ (s : Stored). s.cells) made)
+pub empty_later : (old : Stored) (n t : ℕ) (of : ValueType) → (n ≡ 0 → ⊥) → n ≡ t → HasMadeOne old old register.Empty (at_zero t (empty_of of))
+empty_later old n zero of later same = absurd (later same)
+empty_later old n (suc t) of later same = (refl, refl)
 
 from_empty : (types : List ValueType) (of : ValueType) → IsTyped op.Empty types of → is_aggregate of ≡ true
 from_empty types of (empty aggregate) = aggregate
@@ -64,18 +74,6 @@ empty_typed o types of is typed = from_empty types of (subst (λ p. IsTyped p ty
 
 pub takes_empty : (c : Cells) (registers : List Register) (e : Equation) → TakesTyped c registers e → e.op ≡ op.Empty → IsAggregate e.of
 takes_empty c registers e t is = type_aggregate e.of (empty_typed e.op t.types e.of is t.typed)
-
--- ---- what leaves the store
-
-no_update : (ledger : List ℕ) (i : ℕ) (o : Op) (v source : Option View) → is_update_op o ≡ false → ledger_after ledger i o v source ≡ ledger
-no_update ledger i o None source is = refl
-no_update ledger i o (Some v) source is = ap (λ b. if b then counted ledger i (size_in source) else ledger) is
-
-pub unchanged : (st : Stored) (i : ℕ) (o p : Op) (r : Register) (source : Option View) → o ≡ p → is_update_op p ≡ false → HasUpdated st st i o r source
-unchanged st i o p r source is none = record { extends = extends-none st.cells; ledger = sym (no_update st.ledger i o (held st.cells r) source (ap is_update_op is ∙ none)) }
-
-pub made_empty : (old new : Stored) (i : ℕ) (o : Op) (r : Register) (source : Option View) → o ≡ op.Empty → Extends old.cells new.cells → new.ledger ≡ old.ledger → HasUpdated old new i o r source
-made_empty old new i o r source is extends ledger = record { extends = extends; ledger = ledger ∙ sym (no_update old.ledger i o (held new.cells r) source (ap is_update_op is)) }
 
 -- ---- lifts
 
@@ -118,12 +116,163 @@ no_args : (args : List ℕ) → HasShape op.Unit args → args ≡ []
 no_args [] shape = refl
 no_args (a ∷ args) shape = absurd shape
 
-pub unit_case : (c : Cells) (registers last : List Register) (i t n : ℕ) (o : Op) (args : List ℕ) (of : ValueType) (r : Register) → o ≡ op.Unit → HasShape o args → n ≡ t → Gives c r (if n == 0 then Some unit else None)
-    → (own_here c registers last i t o args of ≡ Ok (held c r)) × HoldsLive c r
-unit_case c registers last i t n o args of r is shape same g =
-    let none = no_args args (subst (λ p. HasShape p args) is shape) in
-    ((λ k. own_here c registers last i t (is k) (none k) of) ∙ ap Ok (sym (g.is ∙ (λ k. if same k == 0 then Some unit else None) ∙ unit_at t)), g.live)
+-- ---- effects
 
-pub any_case : (c : Cells) (registers last : List Register) (i t : ℕ) (o : Op) (args : List ℕ) (of : ValueType) (r : Register) (b : Bool) → o ≡ op.Any → b ≡ list_any is_some (map (value_at c registers) args) → Gives c r (if b then Some unit else None)
-    → (own_here c registers last i t o args of ≡ Ok (held c r)) × HoldsLive c r
-any_case c registers last i t o args of r b is some g = ((λ k. own_here c registers last i t (is k) args of) ∙ ap Ok (sym (g.is ∙ (λ k. if some k then Some unit else None))), g.live)
+-- operations whose answer is a scalar or nothing
+abbrev IsScalarOp : Op → Type 0
+IsScalarOp op.Nil = Unit {0}
+IsScalarOp op.Unit = Unit {0}
+IsScalarOp (op.Lift body strict) = Unit {0}
+IsScalarOp op.Any = Unit {0}
+IsScalarOp op.Time = Unit {0}
+IsScalarOp _ = ⊥
+
+bare_slot : (c : Cells) (r : Register) → IsBare r → slot_of_answer (Ok (held c r)) ≡ slot_of (held_by r)
+bare_slot c register.Empty bare = refl
+bare_slot c (register.Scalar s) bare = refl
+bare_slot c (register.Aggregate h) bare = absurd bare
+
+scalar_effect : (c : Config) (i t : ℕ) (o : Op) (args : List ℕ) (of : ValueType) → IsScalarOp o → effect_of (λ j u. None) t c i o args of ≡ Fill (slot_of_answer (at_once o of (map (value_in c) args) t))
+scalar_effect c i t op.Nil args of is = refl
+scalar_effect c i t op.Unit args of is = refl
+scalar_effect c i t (op.Lift body strict) args of is = refl
+scalar_effect c i t op.Any args of is = refl
+scalar_effect c i t op.Time args of is = refl
+scalar_effect c i t op.Input args of is = absurd is
+scalar_effect c i t op.Last args of is = absurd is
+scalar_effect c i t op.Delay args of is = absurd is
+scalar_effect c i t op.Merge args of is = absurd is
+scalar_effect c i t op.Filter args of is = absurd is
+scalar_effect c i t op.Pick args of is = absurd is
+scalar_effect c i t op.Empty args of is = absurd is
+scalar_effect c i t op.SetAdd args of is = absurd is
+scalar_effect c i t op.SetRemove args of is = absurd is
+scalar_effect c i t op.MapAdd args of is = absurd is
+scalar_effect c i t op.MapRemove args of is = absurd is
+
+-- values as the machine sees them
+pub value_seen : (registers last : List Register) (st : Stored) (a : ℕ) → HoldsLive st.cells (register_at registers a) → value_in (config_of registers last st) a ≡ value_at st.cells registers a
+value_seen registers last st a live = ap (option_and_then (view_of st.cells)) (held_slot (held_at registers a)) ∙ seen_is st.cells (register_at registers a) live
+
+pub values_seen : (registers last : List Register) (st : Stored) (args : List ℕ) → All (λ a. HoldsLive st.cells (register_at registers a)) args → map (value_in (config_of registers last st)) args ≡ map (value_at st.cells registers) args
+values_seen registers last st args live = go args (recursion_from_All (λ a. HoldsLive st.cells (register_at registers a)) args live)
+  where
+    go : (xs : List ℕ) → AllByRecursion (λ a. HoldsLive st.cells (register_at registers a)) xs → map (value_in (config_of registers last st)) xs ≡ map (value_at st.cells registers) xs
+    go [] all = refl
+    go (a ∷ xs) all = let here = value_seen registers last st a all.0 in let rest = go xs all.1 in λ k. here k ∷ rest k
+
+lift_once : (body : Tree) (strict : Bool) (of : ValueType) (values : List (Option View)) (t : ℕ) → at_once (op.Lift body strict) of values t ≡ lifted body strict values
+lift_once body true of values t = refl
+lift_once body false of values t = refl
+
+module _ (in_place : Bool) (i t : ℕ) (e : Equation) (registers last : List Register) (old : Stored) (typed : TakesTyped old.cells registers e) where
+  scalar_answer : (o : Op) → e.op ≡ o → IsScalarOp o → (a : Answer) → at_once o e.of (map (value_at old.cells registers) e.args) t ≡ a → effect_here registers last old i t e ≡ Fill (slot_of_answer a)
+  scalar_answer o is scalar a answer =
+      (λ k. effect_of (λ j u. None) t (config_of registers last old) i (is k) e.args e.of)
+      ∙ scalar_effect (config_of registers last old) i t o e.args e.of scalar
+      ∙ ap (λ vs. Fill (slot_of_answer (at_once o e.of vs t))) (values_seen registers last old e.args typed.live)
+      ∙ ap (λ x. Fill (slot_of_answer x)) answer
+
+  pub bare_effect : (o : Op) → e.op ≡ o → IsScalarOp o → (r : Register) → IsBare r → at_once o e.of (map (value_at old.cells registers) e.args) t ≡ Ok (held old.cells r)
+      → HasEffect in_place i e.op (source_of registers e.args) old old (Ok r) (effect_here registers last old i t e)
+  bare_effect o is scalar r bare answer =
+      subst (HasEffect in_place i e.op (source_of registers e.args) old old (Ok r)) (sym (scalar_answer o is scalar (Ok (held old.cells r)) answer ∙ ap Fill (bare_slot old.cells r bare))) (refl, refl)
+
+  pub unit_effect : (r : Register) (n : ℕ) → e.op ≡ op.Unit → HasShape e.op e.args → n ≡ t → IsBare r → held old.cells r ≡ (if n == 0 then Some unit else None) → HasEffect in_place i e.op (source_of registers e.args) old old (Ok r) (effect_here registers last old i t e)
+  unit_effect r n is shape same bare value =
+      let none = no_args e.args (subst (λ p. HasShape p e.args) is shape) in
+      bare_effect op.Unit is tt r bare ((λ k. at_once op.Unit e.of (map (value_at old.cells registers) (none k)) t) ∙ ap Ok (sym (value ∙ (λ k. if same k == 0 then Some unit else None) ∙ unit_at t)))
+
+  pub any_effect : (r : Register) (b : Bool) → e.op ≡ op.Any → IsBare r → b ≡ list_any is_some (map (value_at old.cells registers) e.args) → held old.cells r ≡ (if b then Some unit else None) → HasEffect in_place i e.op (source_of registers e.args) old old (Ok r) (effect_here registers last old i t e)
+  any_effect r b is bare some value = bare_effect op.Any is tt r bare (ap Ok (sym (value ∙ (λ k. if some k then Some unit else None))))
+
+  pub lift_effect : (result : Result Register EvalFault) (body : Tree) (strict : Bool) → e.op ≡ op.Lift body strict → IfOk result (λ r. IsBare r) → IsHeldValue old.cells result (lifted body strict (map (value_at old.cells registers) e.args))
+      → HasEffect in_place i e.op (source_of registers e.args) old old result (effect_here registers last old i t e)
+  lift_effect (Ok r) body strict is bare value = bare_effect (op.Lift body strict) is tt r bare (lift_once body strict e.of (map (value_at old.cells registers) e.args) t ∙ value.0)
+  lift_effect (Err (eval_fault.Fault kind)) body strict is bare value =
+      subst (HasEffect in_place i e.op (source_of registers e.args) old old (Err (eval_fault.Fault kind))) (sym (scalar_answer (op.Lift body strict) is tt (Err kind) (lift_once body strict e.of (map (value_at old.cells registers) e.args) t ∙ value))) (refl, refl)
+  lift_effect (Err eval_fault.Memory) body strict is bare value = tt
+
+-- ---- what is handed on
+
+pub is_blank : (r : Register) (b : Bool) → ((c : Cells) → is_some (held c r) ≡ not b) → b ≡ true → held_by r ≡ None
+is_blank register.Empty b all so = refl
+is_blank (register.Scalar s) b all so = absurd (true≢false (all finite_map.empty ∙ ap not so))
+is_blank (register.Aggregate h) b all so = absurd (true≢false (all finite_map.empty ∙ ap not so))
+
+pub is_there : (r : Register) (b : Bool) → ((c : Cells) → is_some (held c r) ≡ not b) → b ≡ false → is_some (held_by r) ≡ true
+is_there register.Empty b all fails = absurd (false≢true (all finite_map.empty ∙ ap not fails))
+is_there (register.Scalar s) b all fails = refl
+is_there (register.Aggregate h) b all fails = refl
+
+-- a copy of a register that a choice of what is held gives
+pub copied_is : {E : Type 0} (to : Result Register E) (r : Register) (h : Option Held) → IfOk to (λ x. x ≡ r) → held_by r ≡ h → IfOk to (λ x. held_by x ≡ h)
+copied_is (Ok x) r h is same = ap held_by is ∙ same
+copied_is (Err e) r h is same = tt
+
+or_there : (a b : Option Held) → is_some a ≡ true → a ≡ option_or a b
+or_there None b there = absurd (false≢true there)
+or_there (Some a) b there = refl
+
+pub first_taken : (a b : Register) → is_some (held_by a) ≡ true → held_by a ≡ option_or (held_by a) (held_by b)
+first_taken a b there = or_there (held_by a) (held_by b) there
+
+pub second_taken : (a b : Register) → held_by a ≡ None → held_by b ≡ option_or (held_by a) (held_by b)
+second_taken a b none = sym (ap (λ h. option_or h (held_by b)) none)
+
+none_first : (d b : Option Held) → where_either d None b ≡ None
+none_first None b = refl
+none_first (Some (Bare (scalar.Bool true))) b = refl
+none_first (Some (Bare (scalar.Bool false))) b = refl
+none_first (Some (Bare x)) b = refl
+none_first (Some (Cell h)) b = refl
+
+none_second : (d a : Option Held) → where_either d a None ≡ None
+none_second None a = refl
+none_second (Some (Bare (scalar.Bool true))) None = refl
+none_second (Some (Bare (scalar.Bool true))) (Some a) = refl
+none_second (Some (Bare (scalar.Bool false))) None = refl
+none_second (Some (Bare (scalar.Bool false))) (Some a) = refl
+none_second (Some (Bare x)) a = refl
+none_second (Some (Cell h)) a = refl
+
+pub none_picked : (d a b : Register) → (held_by a ≡ None) ⊎ (held_by b ≡ None) → None ≡ where_either (held_by d) (held_by a) (held_by b)
+none_picked d a b (inl none) = sym (ap (λ h. where_either (held_by d) h (held_by b)) none ∙ none_first (held_by d) (held_by b))
+none_picked d a b (inr none) = sym (ap (λ h. where_either (held_by d) (held_by a) h) none ∙ none_second (held_by d) (held_by a))
+
+picks : (q : Bool) (a b : Option Held) → is_some a ≡ true → is_some b ≡ true → (if q then a else b) ≡ where_either (Some (Bare (scalar.Bool q))) a b
+picks true (Some a) (Some b) p r = refl
+picks false (Some a) (Some b) p r = refl
+picks q None b p r = absurd (false≢true p)
+picks q (Some a) None p r = absurd (false≢true r)
+
+said : (d : Option Held) (q : Bool) → truth_of d ≡ Some q → d ≡ Some (Bare (scalar.Bool q))
+said (Some (Bare (scalar.Bool b))) q is = ap (λ x. Some (Bare (scalar.Bool x))) (some_same b q is)
+  where
+    some_same : (x y : Bool) → Some x ≡ Some y → x ≡ y
+    some_same x y p = cc
+said None q is = absurd (cc)
+said (Some (Bare x)) q is = absurd (cc)
+said (Some (Cell h)) q is = absurd (cc)
+
+pub picked_is : (d : Option Held) (a b : Register) (q : Bool) → truth_of d ≡ Some q → is_some (held_by a) ≡ true → is_some (held_by b) ≡ true → (if q then held_by a else held_by b) ≡ where_either d (held_by a) (held_by b)
+picked_is d a b q is p r = picks q (held_by a) (held_by b) p r ∙ sym (ap (λ x. where_either x (held_by a) (held_by b)) (said d q is))
+
+pub unsaid : (d a b : Option Held) → truth_of d ≡ None → None ≡ where_either d a b
+unsaid (Some (Bare (scalar.Bool q))) a b is = absurd (cc)
+unsaid None a b is = refl
+unsaid (Some (Bare x)) a b is = refl
+unsaid (Some (Cell h)) a b is = refl
+
+-- ---- the ledger
+
+-- an effect leaves the numbers of the ledger in their places
+pub ledger_each : (in_place : Bool) (i : ℕ) (o : Op) (source : Register) (old new : Stored) (r : Register) (effect : Effect) → HasEffect in_place i o source old new (Ok r) effect
+    → length new.ledger ≡ length old.ledger
+ledger_each in_place i o source old new r (Fill slot) does = ap (λ (s : Stored). length s.ledger) does.1
+ledger_each in_place i o source old new r (Make v) does = made_each (is_update o) in_place does
+  where
+    made_each : (update in_place : Bool) → HasMade update in_place i source old new r v → length new.ledger ≡ length old.ledger
+    made_each false in_place does = ap length does.1
+    made_each true false does = ap length does.1 ∙ length-set old.ledger i (min (slice_index old.ledger i + size_at (held old.cells source)) (2 ^ 64 - 1))
+    made_each true true does = ap (λ (s : Stored). length s.ledger) does.3

@@ -1,46 +1,27 @@
--- Cells, where one was made.
-use Rattle.std.proofs.Common.{◌≡◌, ℕ, Option, Some, true, refl, sym, ap, subst, ◌∙◌}
-use Rattle.std.proofs.lemmas.Bool.{false≢true}
-use Rattle.std.specs.Prelude.{IsTrue}
+-- Cells, where one was made or changed.
+use Rattle.std.proofs.Common.{◌≡◌, ℕ, List, Option, Some, None, true, refl, sym, ap, subst, ◌∙◌, inl, inr}
+use Rattle.std.proofs.lemmas.Bool.{cases_eq, false≢true}
+use Rattle.std.specs.Prelude.{IsTrue, is_some, unwrap_or}
+use Rattle.std.specs.Option.{option_and_then}
 use Rattle.std.specs.FinMap as finite_map
 use Rattle.tsl_value.specs.declared.scalar.ValueType.{ValueType}
 use Rattle.tsl_value.specs.declared.scalar.ValueType.TheVariants as value_type
 use Rattle.tsl_value.specs.View.{View, Plain, Keyed, Mapped, is_of}
 use Rattle.lift_func.specs.Cells as cells
-use Rattle.lift_func.specs.Cells.{Cells, IsLive, HoldsLive, held, view_at}
-use Rattle.lift_func.specs.Typing.{Optional, fits}
+use Rattle.lift_func.specs.Cells.{Cells, IsLive, HoldsLive, view_at}
+use Rattle.tsl_value.specs.declared.scalar.Scalar.TheVariants as scalar
+use Rattle.lift_func.specs.Typing.{fits}
 use Rattle.lift_func.specs.declared.register.Register.{Register}
 use Rattle.lift_func.specs.declared.register.Register.TheVariants as register
-use Rattle.aggregate_store.proofs.Live.{is_live, has_view, still_live, still_view}
+use Rattle.aggregate_store.proofs.Live.{has_view, still_live, still_view}
+use Rattle.flat_core.specs.System.{System}
+use Rattle.register_machine.specs.Machine.{Held, Bare, Cell, Slot, slot_of, view_of, with}
+use Rattle.register_machine.specs.Machine as machine
+use Rattle.register_machine.proofs.Cells.{get-there, with-there}
 use Rattle.flat_core.specs.Typed.{is_aggregate}
-use Rattle.monitor_run.specs.Here.{Extends, Gives}
-use Rattle.monitor_run.specs.Registers.{IsHeldOf}
-
-pub extends-none : (c : Cells) → Extends c c
-extends-none c = record { live = λ h live. live; view = λ h live. refl }
-
-pub extends-two : {a b c : Cells} → Extends a b → Extends b c → Extends a c
-extends-two p q = record { live = λ h live. q.live h (p.live h live); view = λ h live. q.view h (p.live h live) ∙ p.view h live }
-
-pub extends-new : (old new : Cells) (handle : ℕ) (view : View) → ¬ (IsLive old handle) → new ≡ finite_map.insert old handle view → Extends old new
-extends-new old new handle view fresh is = record { live = still_live old new handle view is; view = still_view old new handle view is fresh }
-
--- what a register holds stays
-pub held-kept : (old new : Cells) → Extends old new → (r : Register) → HoldsLive old r → held new r ≡ held old r
-held-kept old new e register.Empty live = refl
-held-kept old new e (register.Scalar s) live = refl
-held-kept old new e (register.Aggregate h) live = ap Some (e.view h live.0)
-
-pub live-kept : (old new : Cells) → Extends old new → (r : Register) → HoldsLive old r → HoldsLive new r
-live-kept old new e register.Empty live = tt
-live-kept old new e (register.Scalar s) live = tt
-live-kept old new e (register.Aggregate h) live = (e.live h live.0, subst cells.IsAggregate (sym (e.view h live.0)) live.1)
-
-pub held_of-kept : (old new : Cells) → Extends old new → (of : ValueType) (r : Register) → IsHeldOf old of r → IsHeldOf new of r
-held_of-kept old new e of r is = record {
-  typed = subst (λ v. IsTrue (fits (Optional of) v)) (sym (held-kept old new e r is.live)) is.typed;
-  live = live-kept old new e r is.live;
-}
+use Rattle.monitor_run.specs.Here.{StayTyped}
+use Rattle.monitor_run.specs.Shown.{held_by}
+use Rattle.monitor_run.specs.Registers.{AreHeld, IsHeldOf, register_at}
 
 -- a view of a type of aggregates
 pub aggregate_of : (of : ValueType) (v : View) → is_aggregate of ≡ true → IsTrue (is_of of v) → cells.IsAggregate v
@@ -50,12 +31,72 @@ aggregate_of (value_type.Map k t) (Plain s) is typed = absurd (false≢true type
 aggregate_of of (Keyed s) is typed = tt
 aggregate_of of (Mapped m) is typed = tt
 
--- the register of a cell that was made
-pub gives-new : (old new : Cells) (handle : ℕ) (view : View) (of : ValueType) → new ≡ finite_map.insert old handle view → is_aggregate of ≡ true → IsTrue (is_of of view) → Gives new (register.Aggregate handle) (Some view)
-gives-new old new handle view of is aggregate typed =
-    let same = has_view old new handle view is in
-    record { is = ap Some same; live = (is_live old new handle view is, subst cells.IsAggregate (sym same) (aggregate_of of view aggregate typed)) }
+-- ---- cells stay of their types
 
--- a value of a type in a register
-pub held_of-gives : (c : Cells) (of : ValueType) (r : Register) (v : Option View) → Gives c r v → IsTrue (fits (Optional of) v) → IsHeldOf c of r
-held_of-gives c of r v g fit = record { typed = subst (λ w. IsTrue (fits (Optional of) w)) (sym g.is) fit; live = g.live }
+pub stay-new : (types : ℕ → ValueType) (old new : Cells) (handle : ℕ) (view : View) → ¬ (IsLive old handle) → new ≡ finite_map.insert old handle view → StayTyped types old new
+stay-new types old new handle view fresh is = record {
+  live = still_live old new handle view is;
+  typed = λ h live fit. subst (λ v. IsTrue (is_of (types h) v)) (sym (still_view old new handle view is fresh h live)) fit;
+}
+
+pub stay-changed : (types : ℕ → ValueType) (old new : Cells) (handle : ℕ) (view : View) → IsTrue (is_of (types handle) view) → new ≡ finite_map.insert old handle view → StayTyped types old new
+stay-changed types old new handle view fits is = record {
+  live = still_live old new handle view is;
+  typed = λ h live fit. elim (cases_eq h handle) [
+    | inl same ↦ subst (λ n. IsTrue (is_of (types n) (view_at new n))) (sym same) (subst (λ v. IsTrue (is_of (types handle) v)) (sym (has_view old new handle view is)) fits)
+    | inr other ↦ subst (λ v. IsTrue (is_of (types h) v)) (sym (ap (λ (c : Cells). view_at c h) is ∙ ap (λ o. unwrap_or o (Plain scalar.Unit)) (get-there old handle view h other))) fit
+  ];
+}
+
+-- views of one type are aggregates together
+aggregate_like : (of : ValueType) (v w : View) → IsTrue (is_of of v) → IsTrue (is_of of w) → cells.IsAggregate v → cells.IsAggregate w
+aggregate_like (value_type.Scalar t) (Plain s) w p q a = absurd a
+aggregate_like (value_type.Scalar t) (Keyed s) w p q a = absurd (false≢true p)
+aggregate_like (value_type.Scalar t) (Mapped m) w p q a = absurd (false≢true p)
+aggregate_like (value_type.Set k) v w p q a = aggregate_of (value_type.Set k) w refl q
+aggregate_like (value_type.Map k t) v w p q a = aggregate_of (value_type.Map k t) w refl q
+
+-- what a register holds stays of its type
+pub held_of-stays : (types : ℕ → ValueType) (old new : Cells) → StayTyped types old new → (of : ValueType) (r : Register) → ((h : ℕ) → r ≡ register.Aggregate h → types h ≡ of) → IsHeldOf old of r → IsHeldOf new of r
+held_of-stays types old new stays of register.Empty one is = record { typed = is.typed; live = tt }
+held_of-stays types old new stays of (register.Scalar s) one is = record { typed = is.typed; live = tt }
+held_of-stays types old new stays of (register.Aggregate h) one is =
+    let same = one h refl in
+    let fit : IsTrue (is_of of (view_at new h)) = subst (λ u. IsTrue (is_of u (view_at new h))) same (stays.typed h is.live.0 (subst (λ u. IsTrue (is_of u (view_at old h))) (sym same) is.typed)) in
+    record { typed = fit; live = (stays.live h is.live.0, aggregate_like of (view_at old h) (view_at new h) is.typed fit is.live.1) }
+
+pub held-stays : (s : System) (types : ℕ → ValueType) (old new : Cells) (registers : List Register) → StayTyped types old new → AreHeld s types old registers → AreHeld s types new registers
+held-stays s types old new registers stays held = record {
+  one_each = held.one_each;
+  each = λ i e run is. held_of-stays types old new stays e.of (register_at registers i) (λ h r. held.one_type i h e run is r) (held.each i e run is);
+  one_type = held.one_type;
+}
+
+-- the type of a cell that is not live says nothing
+live_at : (c : Cells) (of : ValueType) (r : Register) (h : ℕ) → r ≡ register.Aggregate h → IsHeldOf c of r → IsLive c h
+live_at c of r h is held = let here : IsHeldOf c of (register.Aggregate h) = subst (IsHeldOf c of) is held in here.live.0
+
+pub held-retyped : (s : System) (types : ℕ → ValueType) (c : Cells) (registers : List Register) (handle : ℕ) (of : ValueType) → ¬ (IsLive c handle) → AreHeld s types c registers → AreHeld s (with types handle of) c registers
+held-retyped s types c registers handle of fresh held = record {
+  one_each = held.one_each;
+  each = held.each;
+  one_type = λ i h e run is r.
+      with-there types handle of h (λ same. fresh (subst (IsLive c) same (live_at c e.of (register_at registers i) h r (held.each i e run is))))
+      ∙ held.one_type i h e run is r;
+}
+
+-- ---- registers and what the machine has
+
+-- what the machine sees in a live register
+pub seen_is : (c : Cells) (r : Register) → HoldsLive c r → option_and_then (view_of c) (held_by r) ≡ cells.held c r
+seen_is c register.Empty live = refl
+seen_is c (register.Scalar s) live = refl
+seen_is c (register.Aggregate h) live = there (finite_map.get c h) refl live.0
+  where
+    there : (o : Option View) → finite_map.get c h ≡ o → IsLive c h → finite_map.get c h ≡ Some (view_at c h)
+    there (Some v) is live = is ∙ ap Some (sym (ap (λ q. unwrap_or q (Plain scalar.Unit)) is))
+    there None is live = absurd (false≢true (sym (ap is_some is) ∙ live))
+
+pub held_slot : (o : Option Held) → machine.held (slot_of o) ≡ o
+held_slot None = refl
+held_slot (Some h) = refl

@@ -22,12 +22,12 @@ use Rattle.flat_core.specs.Pending.{reached}
 use Rattle.flat_core.specs.System.{System, equation, runs}
 use Rattle.register_code.specs.Code.{is_timer}
 use Rattle.monitor_run.specs.declared.run.Root.{Root}
-use Rattle.monitor_run.specs.Due.{in_time}
+use Rattle.register_machine.specs.Stands.{in_time}
 use Rattle.monitor_run.specs.Here.{HasShape, first_of}
 use Rattle.monitor_run.specs.Instant.{IsLeastRoot, refusal_of, second_of, set_at, set_by}
 use Rattle.monitor_run.specs.Registers.{register_at, value_at}
 use Rattle.monitor_run.proofs.PlanLemmas.{shape_of}
-use Rattle.monitor_run.proofs.RunLemmas.{least-one, least-same}
+use Rattle.monitor_run.proofs.RootLemmas.{least-one, least-same}
 
 pub delay_op : (o : Op) → is_delay_op o ≡ true → o ≡ op.Delay
 delay_op op.Delay is = refl

@@ -1,12 +1,15 @@
 -- What is kept of an instant.
-use Rattle.std.proofs.Common.{◌≡◌, ◌==◌, ℕ, ◌+◌, ◌<◌, Bool, true, false, ◌||◌, List, length, get_or, set, take, refl, sym, subst, ◌∙◌, inl, inr}
+use Rattle.std.proofs.Common.{◌≡◌, ◌==◌, ℕ, ◌+◌, ◌<◌, Bool, true, false, ◌||◌, cond, List, Option, None, length, get_or, set, take, refl, sym, ap, subst, ◌∙◌, inl, inr}
 use Rattle.std.proofs.lemmas.Bool.{cases_Bool, eqb-true, eqb-false, eq-eqb, false≢true, true≢false}
 use Rattle.std.specs.FinMap as finite_map
 use Rattle.std.proofs.Math.Bool.{or-false}
 use Rattle.std.proofs.Common.{length-set}
 use Rattle.std.proofs.lemmas.List.{get_or-set_same, get_or-set_other}
 use Rattle.std.proofs.lemmas.List.Folds.{list_any_more}
+use Rattle.std.specs.Cmp.{nat_cmp_total}
+use Rattle.std.specs.Ordering.{nat_cmp}
 use Rattle.std.specs.Prelude.{◌≢◌, if◌then◌else◌, is_some}
+use Rattle.tsl_value.specs.View.{View}
 use Rattle.lift_func.specs.declared.register.Register.{Register}
 use Rattle.lift_func.specs.declared.register.Register.TheVariants as register
 use Rattle.lift_func.specs.Cells.{Cells, HoldsLive, held}
@@ -19,9 +22,6 @@ use Rattle.monitor_run.specs.Registers.{register_at}
 pub record AreKeeping (keeps : List ℕ) (k : ℕ) (registers last now kept : List Register) : Type 0 where
   pub last_is : (i : ℕ) → register_at kept i ≡ (if is_in (take k keeps) i then kept_register (register_at registers i) (register_at last i) else register_at last i)
   pub moved : (i : ℕ) → register_at now i ≡ (if is_in (take k keeps) i then register.Empty else register_at registers i)
-
-pub keeping-none : (keeps : List ℕ) (registers last : List Register) → AreKeeping keeps 0 registers last registers last
-keeping-none keeps registers last = record { last_is = λ i. refl; moved = λ i. refl }
 
 module _ (keeps : List ℕ) (k d : ℕ) (lt : k < length keeps) (is : d ≡ get_or keeps k 0) (registers last now kept : List Register) (a : AreKeeping keeps k registers last now kept) where
   more : (i : ℕ) → is_in (take (k + 1) keeps) i ≡ (is_in (take k keeps) i || (d == i))
@@ -96,3 +96,16 @@ pub is_printable : (cells : Cells) (r : Register) → ((c : Cells) → is_some (
 is_printable cells register.Empty some live = false≢true (some finite_map.empty)
 is_printable cells (register.Scalar s) some live = tt
 is_printable cells (register.Aggregate h) some live = live.0
+
+-- no cell is dropped where there is none
+pub none_dropped : (cells : Cells) (p : ℕ → Bool) → finite_map.len cells ≡ 0 → cells ≡ finite_map.retain_keys cells p
+none_dropped cells p none = finite_map.same_map nat_cmp_total finite_map.nat_cmp-IsAntisymmetric cells (finite_map.retain_keys cells p) (λ h.
+    absent h
+    ∙ sym (finite_map.get-retain_keys cells p h (λ x tied. ap p (sym (finite_map.nat_cmp-IsAntisymmetric h x tied))) ∙ ap (λ w. cond (p h) w None) (absent h) ∙ either (p h)))
+  where
+    absent : (h : ℕ) → finite_map.get cells h ≡ None
+    absent h = ap (λ m. finite_map.get m h) (finite_map.empty_of_len cells none) ∙ finite_map.get-empty nat_cmp h
+
+    either : (b : Bool) → ◌≡◌ {A = Option View} (cond b None None) None
+    either true = refl
+    either false = refl

@@ -3,7 +3,6 @@ use Rattle.std.proofs.Common.{◌≡◌, ◌==◌, ℕ, zero, suc, ◌+◌, ◌<
 use Rattle.std.proofs.lemmas.Bool.{cases_Bool, cases_lt, eq-eqb, eqb-true, ltb-true, or_cases, or_left, or_right, false≢true, true≢false}
 use Rattle.std.proofs.lemmas.List.{length-append}
 use Rattle.std.specs.Prelude.{if◌then◌else◌, ◌≢◌, is_some, nat_eq, nat_lt, unwrap_or, IsTrue}
-use Rattle.std.specs.Option.{option_or}
 use Rattle.std.specs.List.{AllByRecursion, filter}
 use Rattle.std.specs.FinMap as finite_map
 use Rattle.std.specs.Cmp.{eq_by_cmp_equiv, nat_cmp_total}
@@ -20,27 +19,24 @@ use Rattle.lift_func.specs.Cells.{Cells, HoldsLive, IsLive, held, view_at}
 use Rattle.lift_func.specs.Typing.{Optional, fits}
 use Rattle.aggregate_store.specs.Stored.{is_listed}
 use Rattle.flat_core.specs.declared.equation.Equation.{Equation}
-use Rattle.flat_core.specs.Case.{Streams, Inputs, refused}
+use Rattle.flat_core.specs.Case.{refused}
 use Rattle.flat_core.specs.Complete.{IsFlat}
 use Rattle.flat_core.specs.Line.{Line}
 use Rattle.flat_core.specs.Members.{is_in}
 use Rattle.flat_core.specs.Pending.{option_is, reached}
-use Rattle.flat_core.specs.Stream.{event}
 use Rattle.flat_core.specs.System.{System, equation, runs}
 use Rattle.flat_core.specs.Typed.{is_aggregate}
 use Rattle.flat_core.proofs.Members.{all_from, in-Contains}
 use Rattle.register_code.specs.Code.{is_kept, is_timer, keeps_of, timers_of}
 use Rattle.program_text.specs.Text.{numbers}
 use Rattle.monitor_run.specs.declared.machine.Machine.{Machine}
-use Rattle.monitor_run.specs.Due.{in_time}
+use Rattle.register_machine.specs.Stands.{in_time}
+use Rattle.register_machine.specs.Run.{Plan}
 use Rattle.monitor_run.specs.Here.{first_of}
-use Rattle.monitor_run.specs.Instant.{AreTimers, GoesOn, HasEnded, HasRunRegisters, IsKeptOf, IsSound, cell_in, cells_in, due_after, kept_register, left_at, refusal_of, second_of, set_at, set_by}
+use Rattle.monitor_run.specs.Instant.{AreTimers, HasEnded, HasRunRegisters, IsSound, cell_in, cells_in, kept_register, left_at, refusal_of, second_of, set_at}
 use Rattle.monitor_run.specs.Registers.{IsHeldOf, register_at, value_at}
 use Rattle.monitor_run.specs.Stored.{is_stored_type}
-use Rattle.monitor_run.proofs.CellLemmas.{held-kept, held_of-kept}
 use Rattle.monitor_run.proofs.InstantLemmas.{contains_filter, filtered_running, kept_runs, listed_kept, listed_timer}
-use Rattle.monitor_run.proofs.DelayLemmas.{timer_runs}
-use Rattle.monitor_run.proofs.PlanLemmas.{running_args}
 
 -- ---- few cells
 none_pending : (c : Cells) (q : ℕ) (v : View) → c ≡ finite_map.empty → finite_map.get c q ≡ Some v → ⊥
@@ -78,7 +74,7 @@ few_live (h ∷ handles) c listed =
     sized false is le = omega arith
 
 -- ---- the cells of last registers
-listed_append : (xs ys : List ℕ) (h : ℕ) → is_listed (xs ++ ys) h ≡ (is_listed xs h || is_listed ys h)
+pub listed_append : (xs ys : List ℕ) (h : ℕ) → is_listed (xs ++ ys) h ≡ (is_listed xs h || is_listed ys h)
 listed_append [] ys h = refl
 listed_append (x ∷ xs) ys h = ap (λ b. nat_eq x h || b) (listed_append xs ys h) ∙ regroup (nat_eq x h) (is_listed xs h) (is_listed ys h)
   where
@@ -115,7 +111,7 @@ few_cells_in s last (k ∷ keeps) all =
         subst (λ b. length (cell_in (register_at last k) ++ cells_in last keeps) ≤ length (if b then k ∷ filter (λ i. is_stored_type (equation s i)) keeps else filter (λ i. is_stored_type (equation s i)) keeps)) (sym (all.0 h is)) (omega arith)
 
 -- ---- an instant that has ended
-module _ (s : System) (whole : IsFlat s) (t : ℕ) (given : List Line) (old mid new : Machine) (sound : IsSound s t old) (ran : HasRunRegisters s t given old mid None) (ended : HasEnded s t mid new) where
+module _ (s : System) (whole : IsFlat s) (plan : Plan) (t : ℕ) (given : List Line) (old mid new : Machine) (sound : IsSound s t old) (ran : HasRunRegisters s plan t given old mid None) (ended : HasEnded s t mid new) where
   kept_is : (i : ℕ) → IsTrue (runs s i) → is_in (keeps_of s) i ≡ is_kept s i
   kept_is i run = filtered_running s whole (is_kept s) i run
 
@@ -123,7 +119,7 @@ module _ (s : System) (whole : IsFlat s) (t : ℕ) (given : List Line) (old mid 
   last_kept : (i : ℕ) → IsTrue (is_kept s i) → register_at new.last.items i ≡ kept_register (register_at mid.registers.items i) (register_at old.last.items i)
   last_kept i kept =
       ended.last i ∙ (λ k. if (kept_is i (kept_runs s whole i kept) ∙ kept) k then kept_register (register_at mid.registers.items i) (register_at mid.last.items i) else register_at mid.last.items i)
-      ∙ (λ k. kept_register (register_at mid.registers.items i) (register_at (ran.last k) i))
+      ∙ (λ k. kept_register (register_at mid.registers.items i) (register_at (ran.last_same k) i))
 
   unlisted : (i : ℕ) → is_kept s i ≡ false → is_in (keeps_of s) i ≡ false
   unlisted i fails = contains_filter (is_kept s) (numbers s) i ∙ (λ k. fails k && is_in (numbers s) i)
@@ -131,7 +127,7 @@ module _ (s : System) (whole : IsFlat s) (t : ℕ) (given : List Line) (old mid 
   last_unkept : (i : ℕ) → is_kept s i ≡ false → register_at new.last.items i ≡ register.Empty
   last_unkept i fails =
       ended.last i ∙ (λ k. if unlisted i fails k then kept_register (register_at mid.registers.items i) (register_at mid.last.items i) else register_at mid.last.items i)
-      ∙ (λ k. register_at (ran.last k) i) ∙ sound.unkept i fails
+      ∙ (λ k. register_at (ran.last_same k) i) ∙ sound.unkept i fails
 
   kept_held : (of : ValueType) (r q : Register) → IsHeldOf mid.store.cells of r → IsHeldOf mid.store.cells of q → IsHeldOf mid.store.cells of (kept_register r q)
   kept_held of register.Empty q a b = b
@@ -141,7 +137,7 @@ module _ (s : System) (whole : IsFlat s) (t : ℕ) (given : List Line) (old mid 
   held_before : (i : ℕ) (e : Equation) → IsTrue (runs s i) → equation s i ≡ Some e → IsTrue (is_kept s i) → IsHeldOf mid.store.cells e.of (register_at new.last.items i)
   held_before i e run is kept =
       subst (IsHeldOf mid.store.cells e.of) (sym (last_kept i kept))
-      (kept_held e.of (register_at mid.registers.items i) (register_at old.last.items i) (ran.held.each i e run is) (held_of-kept old.store.cells mid.store.cells ran.extends e.of (register_at old.last.items i) (sound.last.each i e run is)))
+      (kept_held e.of (register_at mid.registers.items i) (register_at old.last.items i) (ran.held.each i e run is) (subst (λ l. IsHeldOf mid.store.cells e.of (register_at l i)) ran.last_same (ran.last.each i e run is)))
 
   -- a listed cell stays
   stays : (h : ℕ) → is_listed (cells_in new.last.items (keeps_of s)) h ≡ true → IsLive mid.store.cells h → (IsLive new.store.cells h) × (view_at new.store.cells h ≡ view_at mid.store.cells h)
@@ -167,6 +163,19 @@ module _ (s : System) (whole : IsFlat s) (t : ℕ) (given : List Line) (old mid 
         let still = value_stays i kept before.live in
         record { typed = subst (λ v. IsTrue (fits (Optional e.of) v)) (sym still.0) before.typed; live = still.1 }
     | inr fails ↦ subst (IsHeldOf new.store.cells e.of) (sym (last_unkept i fails)) (record { typed = refl; live = tt })
+  ]
+
+  kept_cell : {P : Type 0} (r q : Register) (h : ℕ) → kept_register r q ≡ register.Aggregate h → (r ≡ register.Aggregate h → P) → (q ≡ register.Aggregate h → P) → P
+  kept_cell register.Empty q h is here before = before is
+  kept_cell (register.Scalar x) q h is here before = here is
+  kept_cell (register.Aggregate k) q h is here before = here is
+
+  one_type_after : (i h : ℕ) (e : Equation) → IsTrue (runs s i) → equation s i ≡ Some e → register_at new.last.items i ≡ register.Aggregate h → ran.types h ≡ e.of
+  one_type_after i h e run is holds = elim (cases_Bool (is_kept s i)) [
+    | inl kept ↦
+        kept_cell (register_at mid.registers.items i) (register_at old.last.items i) h (sym (last_kept i kept) ∙ holds) (λ r. ran.held.one_type i h e run is r)
+        (λ r. ran.last.one_type i h e run is (ap (λ l. register_at l i) ran.last_same ∙ r))
+    | inr fails ↦ let empty = sym (last_unkept i fails) ∙ holds in absurd (cc)
   ]
 
   -- an aggregate is of such a type
@@ -246,7 +255,7 @@ module _ (s : System) (whole : IsFlat s) (t : ℕ) (given : List Line) (old mid 
 
   timers_after : AreTimers s (suc t) new.timers.times
   timers_after = record {
-    each = λ i u is. from i u (is_in (timers_of s) i) refl (sym (ended.timers mid.store.cells ran.held i) ∙ is);
+    each = λ i u is. from i u (is_in (timers_of s) i) refl (sym (ended.timers ran.types mid.store.cells ran.held i) ∙ is);
   }
     where
       from : (i u : ℕ) (b : Bool) → is_in (timers_of s) i ≡ b → (if is_in (timers_of s) i then set_at (equation s i) mid.store.cells mid.registers.items t i (finite_map.get mid.timers.times i) else finite_map.get mid.timers.times i) ≡ Some u → IsTrue (is_timer s i) × (suc t ≤ u) × (u < 2 ^ 63)
@@ -259,7 +268,8 @@ module _ (s : System) (whole : IsFlat s) (t : ℕ) (given : List Line) (old mid 
 
   pub sound_after : length new.last.items ≡ length s.equations → IsSound s (suc t) new
   sound_after size = record {
-    last = record { one_each = size; each = held_after };
+    types = ran.types;
+    last = record { one_each = size; each = held_after; one_type = one_type_after };
     unkept = last_unkept;
     timers = timers_after;
     few_cells =
@@ -267,38 +277,3 @@ module _ (s : System) (whole : IsFlat s) (t : ℕ) (given : List Line) (old mid 
         let stored = few_cells_in s new.last.items (keeps_of s) (all_from (λ i. (h : ℕ) → register_at new.last.items i ≡ register.Aggregate h → is_stored_type (equation s i) ≡ true) (keeps_of s) (λ i there. stored_type i (listed_kept s i (in-Contains (keeps_of s) i there)))) in
         omega arith;
   }
-
-  -- what is kept of streams
-  pub kept_after : (inputs : Inputs) (z : Streams) → GoesOn s inputs z t given old → IsKeptOf s z t old new
-  kept_after inputs z goes = record {
-    last = λ i kept.
-        let run = kept_runs s whole i kept in
-        let f = whole.proper.runs_all i run in
-        let still = value_stays i kept (held_before i f.0 run f.1 kept).live in
-        let value = (ran.means inputs z goes).values i run in
-        let before = held-kept old.store.cells mid.store.cells ran.extends (register_at old.last.items i) (sound.last.each i f.0 run f.1).live ∙ goes.last_are i kept in
-        still.0 ∙ ap (held mid.store.cells) (last_kept i kept) ∙ held_kept (register_at mid.registers.items i) (register_at old.last.items i) ∙ (λ k. option_or (value k) (before k));
-    timers = λ i timer.
-        let run = timer_runs s i timer in
-        let f = whole.proper.runs_all i run in
-        ended.timers mid.store.cells ran.held i
-        ∙ (λ k. if (filtered_running s whole (is_timer s) i run ∙ timer) k then set_at (equation s i) mid.store.cells mid.registers.items t i (finite_map.get mid.timers.times i) else finite_map.get mid.timers.times i)
-        ∙ (λ k. set_at (f.1 k) mid.store.cells mid.registers.items t i (ran.timers i k))
-        ∙ set_same f.0 (running_args s whole.proper i f.0 run f.1) i run
-        ∙ sym (λ k. due_after (f.1 k) z t i (finite_map.get old.timers.times i));
-  }
-    where
-      held_kept : (r q : Register) → held mid.store.cells (kept_register r q) ≡ option_or (held mid.store.cells r) (held mid.store.cells q)
-      held_kept register.Empty q = refl
-      held_kept (register.Scalar x) q = refl
-      held_kept (register.Aggregate h) q = refl
-
-      values : (xs : List ℕ) → AllByRecursion (λ a. IsTrue (runs s a)) xs → map (value_at mid.store.cells mid.registers.items) xs ≡ map (λ a. event (z a t)) xs
-      values [] all = refl
-      values (x ∷ xs) all = let rest = values xs all.1 in let here = (ran.means inputs z goes).values x all.0 in λ k. here k ∷ rest k
-
-      set_same : (e : Equation) → AllByRecursion (λ a. IsTrue (runs s a)) e.args → (i : ℕ) → IsTrue (runs s i) → set_at (Some e) mid.store.cells mid.registers.items t i (left_at t (finite_map.get old.timers.times i)) ≡ due_after (Some e) z t i (finite_map.get old.timers.times i)
-      set_same e all i run =
-          let same = values e.args all in
-          let here = (ran.means inputs z goes).values i run in
-          λ k. set_by t (first_of (same k)) (second_of (same k)) (here k) (left_at t (finite_map.get old.timers.times i))

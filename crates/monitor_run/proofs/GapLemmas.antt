@@ -1,16 +1,15 @@
 -- Between two instants nothing happens, and what is kept goes on to the next.
 use Rattle.std.proofs.Common.{◌≡◌, ◌==◌, ℕ, zero, suc, ◌+◌, ◌<◌, ◌≤◌, ◌^◌, ◌-◌, Bool, true, false, ◌&&◌, ◌||◌, List, [], ◌∷◌, ◌++◌, Option, Some, None, refl, sym, ap, subst, ◌∙◌, append-nil, inl, inr, arith}
-use Rattle.std.proofs.lemmas.Bool.{cases_Bool, cases_lt, eq-eqb, eqb-true, ne_eqb, lt-ltb, or_left, or_right, true≢false}
+use Rattle.std.proofs.lemmas.Bool.{cases_Bool, cases_lt, eq-eqb, ne_eqb, lt-ltb, or_left, or_right, true≢false}
 use Rattle.std.proofs.lemmas.List.Folds.{list_any-append}
-use Rattle.std.proofs.lemmas.Option.{get_or_from_slice_get, slice_get_within}
-use Rattle.std.specs.Prelude.{if◌then◌else◌, is_some, min, nat_lt, IsTrue, slice_get}
+use Rattle.std.specs.Prelude.{if◌then◌else◌, is_some, min, nat_lt, IsTrue}
 use Rattle.std.specs.List.{AllByRecursion, Contains, list_any}
 use Rattle.std.specs.FinMap as finite_map
 use Rattle.delay_timers.specs.Pending.{Times}
 use Rattle.flat_core.specs.declared.equation.Equation.{Equation}
 use Rattle.flat_core.specs.declared.equation.Op.{Op}
 use Rattle.flat_core.specs.declared.equation.Op.TheVariants as op
-use Rattle.flat_core.specs.Case.{Streams, delayed, unit}
+use Rattle.flat_core.specs.Case.{Streams}
 use Rattle.flat_core.specs.Complete.{IsFlat}
 use Rattle.flat_core.specs.BoundLaws.{HappensAtInstants}
 use Rattle.flat_core.specs.Fault.{is_faulty}
@@ -18,82 +17,46 @@ use Rattle.flat_core.specs.Instant.{instants, is_delay, is_delay_op, is_instant}
 use Rattle.flat_core.specs.Line.{Line, inputs_of, is_line_at, is_line_on}
 use Rattle.flat_core.specs.Pending.{option_is, pending}
 use Rattle.flat_core.specs.Solution.{Solves}
-use Rattle.flat_core.specs.Stream.{has_event, latest}
+use Rattle.flat_core.specs.Stream.{event, has_event}
 use Rattle.flat_core.specs.System.{System, equation, runs}
-use Rattle.flat_core.specs.WellFormed.{IsRanked, unguarded_of}
-use Rattle.flat_core.proofs.DueLemmas.{delay_kept, delayed_is-due, expires_is-due, option_is-some, some-option_is}
-use Rattle.flat_core.proofs.Members.{all_from, none_from, some_from}
+use Rattle.flat_core.specs.WellFormed.{IsRanked}
+use Rattle.flat_core.proofs.DueLemmas.{delay_kept, expires_is-due, option_is-some, some-option_is}
+use Rattle.flat_core.proofs.Members.{none_from, some_from}
 use Rattle.flat_core.proofs.Silence.{happens_at_instants}
-use Rattle.flat_core.proofs.StillLemmas.{latest_still, pending_still}
-use Rattle.alias_rules.specs.Steps.{argument}
+use Rattle.flat_core.proofs.StillLemmas.{pending_still}
+use Rattle.alias_rules.specs.Steps.{MustPrecede}
+use Rattle.alias_rules.proofs.Ranks.{order_ranked, place}
 use Rattle.register_code.specs.Plan.{IsPlanOrder}
-use Rattle.monitor_run.specs.Copied.{copied, size_copied, source_size}
-use Rattle.monitor_run.specs.Due.{due_at, due_of, due_time, in_time}
+use Rattle.register_machine.specs.Stands.{in_time}
+use Rattle.flat_core.specs.Members.{is_in}
+use Rattle.register_machine.specs.Copied.{args_of, copied, copied_at, size_at, total_copied}
+use Rattle.monitor_run.proofs.DueTimes.{due_at, due_of, due_time}
 use Rattle.monitor_run.specs.Given.{AreBefore, AreEventLines}
 use Rattle.monitor_run.specs.Here.{HasShape}
-use Rattle.monitor_run.specs.Instant.{unit_if_due}
 use Rattle.monitor_run.specs.Next.{Comes, NothingBefore}
 use Rattle.monitor_run.proofs.DelayLemmas.{delay_op}
-use Rattle.monitor_run.proofs.PlanLemmas.{one_place, running_args, shape_of}
-
--- ---- the place in an order is a rank
-pub place : List ℕ → ℕ → ℕ
-place [] i = 0
-place (x ∷ xs) i = if x == i then 0 else suc (place xs i)
-
-place_le : (xs : List ℕ) (m i : ℕ) → slice_get xs m ≡ Some i → place xs i ≤ m
-unfolding place
-place_le [] m i is = omega arith
-place_le (x ∷ xs) m i is = elim (cases_Bool (x == i)) [
-  | inl here ↦ let first : (if x == i then 0 else suc (place xs i)) ≡ 0 = λ k. if here k then 0 else suc (place xs i) in omega arith
-  | inr other ↦ later (λ k at. place_le xs k i at) m is other
-]
-  where
-    some_same : (a b : ℕ) → Some a ≡ Some b → a ≡ b
-    some_same a b p = cc
-
-    later : ((k : ℕ) → slice_get xs k ≡ Some i → place xs i ≤ k) → (k : ℕ) → slice_get (x ∷ xs) k ≡ Some i → (x == i) ≡ false → (if x == i then 0 else suc (place xs i)) ≤ k
-    later rest zero at other = absurd (true≢false (sym (eq-eqb x i (some_same x i at)) ∙ other))
-    later rest (suc k) at other = let deeper = rest k at in let is_next : (if x == i then 0 else suc (place xs i)) ≡ suc (place xs i) = λ j. if other j then 0 else suc (place xs i) in omega arith
-
-place_there : (xs : List ℕ) (m i : ℕ) → slice_get xs m ≡ Some i → slice_get xs (place xs i) ≡ Some i
-unfolding place
-place_there [] m i is = let within = slice_get_within [] m i is in absurd (omega arith)
-place_there (x ∷ xs) m i is = elim (cases_Bool (x == i)) [
-  | inl here ↦ (λ k. slice_get (x ∷ xs) (if here k then 0 else suc (place xs i))) ∙ ap Some (eqb-true x i here)
-  | inr other ↦ (λ k. slice_get (x ∷ xs) (if other k then 0 else suc (place xs i))) ∙ later (λ k at. place_there xs k i at) m is other
-]
-  where
-    some_same : (a b : ℕ) → Some a ≡ Some b → a ≡ b
-    some_same a b p = cc
-
-    later : ((k : ℕ) → slice_get xs k ≡ Some i → slice_get xs (place xs i) ≡ Some i) → (k : ℕ) → slice_get (x ∷ xs) k ≡ Some i → (x == i) ≡ false → slice_get xs (place xs i) ≡ Some i
-    later rest zero at other = absurd (true≢false (sym (eq-eqb x i (some_same x i at)) ∙ other))
-    later rest (suc k) at other = rest k at
+use Rattle.monitor_run.proofs.PlanLemmas.{running_args, shape_of}
 
 pub plan_ranked : (s : System) (order : List ℕ) → IsPlanOrder s order → IsRanked s (place order)
-plan_ranked s order plan = record {
-  falls = λ i e run is. all_from (λ a. place order a < place order i) (unguarded_of e.op e.args) (λ a c.
-      let p = plan.agrees a i (argument run (record { at = e; is = is; argument = c })) in
-      let within = slice_get_within order p.second i p.second_is in
-      let at_second = get_or_from_slice_get order p.second i 0 p.second_is in
-      let same : place order i ≡ p.second = one_place order p.second (place order i) plan.once within (place_there order p.second i p.second_is ∙ ap Some (sym at_second)) in
-      let low = place_le order p.first a p.first_is in
-      let before = p.is_before in
-      omega arith);
-}
+plan_ranked s order plan = order_ranked s (MustPrecede s) (λ a b must. must) order plan
+
+-- a delay has two arguments
+pub delay_args : (s : System) → IsFlat s → (i : ℕ) (e : Equation) → equation s i ≡ Some e → e.op ≡ op.Delay → (d : ℕ) × (r : ℕ) × (e.args ≡ d ∷ r ∷ [])
+delay_args s whole i e is op_is = from e.args (subst (λ o. HasShape o e.args) op_is (shape_of s whole i e is))
+  where
+    from : (args : List ℕ) → HasShape op.Delay args → (d : ℕ) × (r : ℕ) × (args ≡ d ∷ r ∷ [])
+    from [] shape = absurd shape
+    from (d ∷ []) shape = absurd shape
+    from (d ∷ r ∷ []) shape = (d, r, refl)
+    from (d ∷ r ∷ x ∷ args) shape = absurd shape
 
 -- ---- numbers of the ledger
-pub copied_small : (s : System) (z : Streams) (i t : ℕ) → copied s z i t ≤ 2 ^ 64 - 1
-copied_small s z i zero = omega arith
-copied_small s z i (suc t) = omega arith
-
-pub nothing_copied : (o : Option Equation) (z : Streams) (i t : ℕ) → has_event (z i t) ≡ false → size_copied o z i t ≡ 0
-nothing_copied None z i t none = refl
-nothing_copied (Some e) z i t none = λ k. if none k then source_size z e.args t else 0
-
-pub copied_still : (s : System) (z : Streams) (i t : ℕ) → has_event (z i t) ≡ false → copied s z i (suc t) ≡ copied s z i t
-copied_still s z i t none = let small = copied_small s z i t in (λ k. min (copied s z i t + nothing_copied (equation s i) z i t none k) (2 ^ 64 - 1)) ∙ omega arith
+pub copied_still : (s : System) (set : List ℕ) (z : Streams) (u t : ℕ) → has_event (z u t) ≡ false → copied s set z u (suc t) ≡ copied s set z u t
+copied_still s set z u t none = ap (λ n. if is_in set u then 0 else min n (2 ^ 64 - 1)) (still (args_of (equation s u)))
+  where
+    still : (args : List ℕ) → total_copied s z u t + copied_at z u args t ≡ total_copied s z u t
+    still [] = omega arith
+    still (m ∷ args) = let nothing : copied_at z u (m ∷ args) t ≡ 0 = (λ k. if none k then size_at (event (z m t)) else 0) in omega arith
 
 -- ---- times that come
 pub in_time_is : (t : ℕ) (o : Option ℕ) → t < 2 ^ 63 → option_is t (in_time o) ≡ option_is t o
@@ -139,15 +102,6 @@ module _ (s : System) (whole : IsFlat s) (order : List ℕ) (plan : IsPlanOrder 
         ∙ expires_is-due (z d) (z r) (z i) u (λ w before. delay_kept s (inputs_of lines) z B solves i e run is op_is d r args_are w (omega arith))
         ∙ sym (in_time_is u (pending (z d) (z r) (z i) u) early) ∙ ap (option_is u) (sym (due_is op_is d r args_are))
 
-  pub two_args : (i : ℕ) (e : Equation) → equation s i ≡ Some e → e.op ≡ op.Delay → (d : ℕ) × (r : ℕ) × (e.args ≡ d ∷ r ∷ [])
-  two_args i e is op_is = from e.args (subst (λ o. HasShape o e.args) op_is (shape_of s whole i e is))
-    where
-      from : (args : List ℕ) → HasShape op.Delay args → (d : ℕ) × (r : ℕ) × (args ≡ d ∷ r ∷ [])
-      from [] shape = absurd shape
-      from (d ∷ []) shape = absurd shape
-      from (d ∷ r ∷ []) shape = (d, r, refl)
-      from (d ∷ r ∷ x ∷ args) shape = absurd shape
-
   not_before : (i u : ℕ) → u < t → option_is u (finite_map.get timers i) ≡ false
   not_before i u lt = elim (cases_Bool (option_is u (finite_map.get timers i))) [
     | inl holds ↦ let late = none.delays i u (option_is-some u (finite_map.get timers i) holds) in absurd (omega arith)
@@ -173,7 +127,7 @@ module _ (s : System) (whole : IsFlat s) (order : List ℕ) (plan : IsPlanOrder 
           | inr other ↦ (λ j. (ap is_delay f.1 ∙ other) j && has_event (z i k))
           | inl timer ↦
               let op_is = delay_op f.0.op timer in
-              let two = two_args i f.0 f.1 op_is in
+              let two = delay_args s whole i f.0 f.1 op_is in
               let quiet_delay = event_is_due k from (omega arith) silent i f.0 run f.1 (omega arith) (omega arith) op_is two.0 two.1 two.2 ∙ not_before i k early in
               (λ j. is_delay (equation s i) && quiet_delay j) ∙ and_false (is_delay (equation s i))
         ]
@@ -199,9 +153,6 @@ module _ (s : System) (whole : IsFlat s) (order : List ℕ) (plan : IsPlanOrder 
   pub sound_gap : (u : ℕ) → n ≤ u → u < t → is_faulty s (inputs_of lines) z u ≡ false
   sound_gap u low lt = happens.sound u (omega arith) (quiet u low lt)
 
-  pub latest_gap : n ≤ t → (i : ℕ) → IsTrue (runs s i) → latest (z i) t ≡ latest (z i) n
-  latest_gap le i run = latest_still (z i) n t le (λ u low lt. silent_gap i u run low lt)
-
   instants_to : (k : ℕ) → n ≤ k → k ≤ t → instants s lines z k ≡ instants s lines z n
   instants_to zero low le = let same : zero ≡ n = omega arith in ap (instants s lines z) same
   instants_to (suc k) low le = elim (cases_lt k n) [
@@ -212,29 +163,10 @@ module _ (s : System) (whole : IsFlat s) (order : List ℕ) (plan : IsPlanOrder 
   pub instants_gap : n ≤ t → instants s lines z t ≡ instants s lines z n
   instants_gap le = instants_to t le (omega arith)
 
-  copied_to : (i : ℕ) → IsTrue (runs s i) → (k : ℕ) → n ≤ k → k ≤ t → copied s z i k ≡ copied s z i n
-  copied_to i run zero low le = let same : zero ≡ n = omega arith in ap (copied s z i) same
-  copied_to i run (suc k) low le = elim (cases_lt k n) [
-    | inl end ↦ let same : suc k ≡ n = omega arith in ap (copied s z i) same
-    | inr more ↦ copied_still s z i k (ap has_event (silent_gap i k run more (omega arith))) ∙ copied_to i run k more (omega arith)
-  ]
-
-  pub copied_gap : n ≤ t → (i : ℕ) → IsTrue (runs s i) → copied s z i t ≡ copied s z i n
-  copied_gap le i run = copied_to i run t le (omega arith)
-
-  -- what is pending at t
+  -- whether a delay has an event at t
   module _ (le : n ≤ t) (i : ℕ) (e : Equation) (run : IsTrue (runs s i)) (is : equation s i ≡ Some e) (op_is : e.op ≡ op.Delay) (d r : ℕ) (args_are : e.args ≡ d ∷ r ∷ []) where
-    pub due_at_t : finite_map.get timers i ≡ in_time (pending (z d) (z r) (z i) t)
-    due_at_t = due_is t le (omega arith) (λ j w run_j from to. silent_gap j w run_j from to) i e run is op_is d r args_are
-
     pub event_at_t : t < B → t < 2 ^ 63 → has_event (z i t) ≡ option_is t (finite_map.get timers i)
     event_at_t lt early = event_is_due t le (omega arith) (λ j w run_j from to. silent_gap j w run_j from to) i e run is lt early op_is d r args_are
-
-    pub delayed_at_t : t < B → t < 2 ^ 63 → delayed z i e.args t ≡ unit_if_due t (finite_map.get timers i)
-    delayed_at_t lt early =
-        (λ k. delayed z i (args_are k) t)
-        ∙ delayed_is-due z i t d r (λ w before. delay_kept s (inputs_of lines) z B solves i e run is op_is d r args_are w (omega arith))
-        ∙ (λ k. if (sym (in_time_is t (pending (z d) (z r) (z i) t) early) ∙ ap (option_is t) (sym due_at_t)) k then Some unit else None)
 
   -- an instant comes at t
   given_line : (ls : List Line) → AreEventLines s ls → (l : Line) → Contains ls l → l.time ≡ t → is_line_on t ls ≡ true
@@ -275,4 +207,4 @@ module _ (s : System) (whole : IsFlat s) (order : List ℕ) (plan : IsPlanOrder 
       op_is = delay_op f.0.op delay_is
 
       two : (d : ℕ) × (r : ℕ) × (f.0.args ≡ d ∷ r ∷ [])
-      two = two_args timer.0 f.0 f.1 op_is
+      two = delay_args s whole timer.0 f.0 f.1 op_is

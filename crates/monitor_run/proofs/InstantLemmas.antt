@@ -1,13 +1,13 @@
--- One instant, for streams that go on with what is kept.
-use Rattle.std.proofs.Common.{◌≡◌, ◌==◌, ℕ, ◌<◌, Bool, true, false, ◌&&◌, ◌||◌, not, List, [], ◌∷◌, ◌++◌, length, Option, Some, None, refl, sym, ap, subst, ◌∙◌, inl, inr, arith}
-use Rattle.std.proofs.lemmas.Bool.{cases_Bool, and_parts, eqb-true, or_cases, false≢true, true≢false}
+-- One instant: how it begins, and what it has reached once all steps have run.
+use Rattle.std.proofs.Common.{◌≡◌, ◌==◌, ℕ, ◌<◌, Bool, true, false, ◌&&◌, ◌||◌, not, List, [], ◌∷◌, length, Option, Some, None, Result, Ok, Err, OnOk, refl, sym, ap, subst, ◌∙◌, inl, inr, arith}
+use Rattle.std.proofs.lemmas.Bool.{cases_Bool, and_parts, eqb-true, false≢true, true≢false}
 use Rattle.std.proofs.Common.{zero-add}
 use Rattle.std.proofs.lemmas.List.FromFn.{length-range_with_len, get_or-range_with_len}
 use Rattle.std.proofs.lemmas.Map.Views.{any-filter_same}
 use Rattle.std.proofs.lemmas.Option.{slice_get_within}
 use Rattle.std.specs.Prelude.{if◌then◌else◌, ◌≢◌, ◌⊎◌, unwrap_or, IsTrue, slice_index}
 use Rattle.std.specs.Option.{option_or, option_and_then}
-use Rattle.std.specs.List.{All, AllByRecursion, filter, flat_map}
+use Rattle.std.specs.List.{All, AllByRecursion, filter}
 use Rattle.std.specs.FinMap as finite_map
 use Rattle.tsl_value.specs.View.{View, Plain, is_of}
 use Rattle.tsl_value.specs.declared.scalar.Scalar.{Scalar}
@@ -17,37 +17,39 @@ use Rattle.lift_func.specs.declared.fault.FaultKind.{FaultKind}
 use Rattle.lift_func.specs.declared.register.Register.TheVariants as register
 use Rattle.lift_func.specs.Cells.{Cells, HoldsLive, held}
 use Rattle.lift_func.specs.Typing.{Optional, fits}
+use Rattle.aggregate_store.specs.Stored.{Stored, is_listed}
 use Rattle.flat_core.specs.declared.equation.Equation.{Equation}
 use Rattle.flat_core.specs.declared.equation.Op.{Op}
 use Rattle.flat_core.specs.declared.equation.Op.TheVariants as op
-use Rattle.flat_core.specs.declared.equation.Output.{Output}
-use Rattle.flat_core.specs.Case.{Streams, Inputs, amount_fault, root_fault, root_of, unit}
+use Rattle.flat_core.specs.Case.{Inputs, unit}
 use Rattle.flat_core.specs.Case.{refused as refused_op}
 use Rattle.flat_core.specs.Complete.{IsFlat}
-use Rattle.flat_core.specs.Fault.{root_at}
 use Rattle.flat_core.specs.Instant.{is_delay, is_delay_op}
 use Rattle.flat_core.specs.Line.{Line, event_in, inputs_of}
 use Rattle.flat_core.specs.Members.{is_in}
 use Rattle.flat_core.specs.Pending.{option_is}
-use Rattle.flat_core.specs.Stream.{event}
 use Rattle.flat_core.specs.System.{System, equation, runs}
-use Rattle.flat_core.specs.Text.{event_line, text_at}
 use Rattle.flat_core.specs.Typed.{IsTyped, delay, unit_type}
 use Rattle.std.proofs.lemmas.List.Elements.{All-from_recursion}
 use Rattle.flat_core.proofs.Members.{all_from, in-Contains, some_in}
 use Rattle.register_code.specs.Code.{is_kept, is_number, is_timer, kept_at, kept_by, keeps_of, timers_of}
 use Rattle.program_text.specs.Text.{numbers}
+use Rattle.register_machine.specs.Machine.{Bare, Config, value_in, view_of, slot_of_answer}
+use Rattle.register_machine.specs.Machine as machine
+use Rattle.register_machine.specs.Run as run
+use Rattle.register_machine.specs.Run.{Plan, root_in, root_seen, started}
 use Rattle.monitor_run.specs.declared.machine.Machine.{Machine}
 use Rattle.monitor_run.specs.declared.run.Root.{Root}
-use Rattle.monitor_run.specs.Copied.{is_update}
 use Rattle.monitor_run.specs.Given.{AreEventLines, IsInputOf}
-use Rattle.monitor_run.specs.Here.{Extends, HasShape}
-use Rattle.monitor_run.specs.Instant.{AreTimers, Begins, GoesOn, HasRunAll, HasRunRegisters, IsLeastRoot, IsSound, SameBeside, StartsAs, expired_at, first_value, ledger_at, refusal_of, root_beside, with_event}
-use Rattle.monitor_run.specs.Machine.{AreFresh, HasRoom, is_given_op}
+use Rattle.monitor_run.specs.Here.{HasShape, is_given_op}
+use Rattle.monitor_run.specs.Instant.{AreInputs, AreTimers, Begins, HasEnded, HasRunAll, HasRunBody, HasRunRegisters, IsLeastRoot, IsSound, StartsAs, cells_in, expired_at, first_value, kept_of, kept_register, refusal_of, root_beside, set_at, with_event}
+use Rattle.monitor_run.specs.Machine.{AreFresh, HasRoom}
 use Rattle.monitor_run.specs.Registers.{AreHeld, IsHeldOf, register_at, value_at}
+use Rattle.monitor_run.specs.Shown.{held_at, held_by}
+use Rattle.monitor_run.proofs.CellLemmas.{seen_is}
 use Rattle.monitor_run.proofs.DelayLemmas.{delay_op, timer_runs, timer_shape}
 use Rattle.monitor_run.proofs.PlanLemmas.{running_args}
-use Rattle.monitor_run.proofs.RunLemmas.{least-at, least-same}
+use Rattle.monitor_run.proofs.RootLemmas.{least-at, least-same}
 
 -- ---- given events
 
@@ -155,8 +157,20 @@ module _ (s : System) (whole : IsFlat s) (t : ℕ) (given : List Line) (events :
       let of_unit = delay_type g.types e.of (subst (λ o. IsTyped o g.types e.of) (delay_op e.op (ap is_delay (sym is) ∙ timer.1)) g.typed) in
       subst (λ o. IsTrue (is_of o unit)) (sym of_unit) refl
 
-  pub begins-held : (c : Cells) → length old.registers.items ≡ length s.equations → AreHeld s c mid.registers.items
-  begins-held c each = record {
+  -- no cell is among them
+  no_cell : {P : Type 0} (i h : ℕ) → IsTrue (runs s i) → register_at mid.registers.items i ≡ register.Aggregate h → P
+  no_cell i h run is = given_cell (inputs_of given i t) (option_is t (finite_map.get old.timers.times i)) (sym (begins.registers i run) ∙ is)
+    where
+      given_cell : {P : Type 0} (o : Option View) (b : Bool) → with_event o (if b then register.Scalar scalar.Unit else register.Empty) ≡ register.Aggregate h → P
+      given_cell (Some (Plain x)) b is = absurd (cc)
+      given_cell None true is = absurd (cc)
+      given_cell None false is = absurd (cc)
+      given_cell (Some v) true is = absurd (cc)
+      given_cell (Some v) false is = absurd (cc)
+
+  pub begins-held : (types : ℕ → ValueType) (c : Cells) → length old.registers.items ≡ length s.equations → AreHeld s types c mid.registers.items
+  begins-held types c each = record {
+    one_type = λ i h e run is holds. no_cell i h run holds;
     one_each = begins.registers_each ∙ each;
     each = λ i e run is. elim (op_cases e.op) [
       | inl input ↦ subst (IsHeldOf c e.of) (sym (register_of_input i e run is (input_no_delay e.op input))) (record {
@@ -187,31 +201,40 @@ module _ (s : System) (whole : IsFlat s) (t : ℕ) (given : List Line) (events :
       not_delay op.Delay none = absurd (true≢false none)
       not_delay o none = refl
 
-  -- the streams start so
-  pub begins-starts : (inputs : Inputs) (z : Streams) → GoesOn s inputs z t given old → StartsAs s inputs z t mid
-  begins-starts inputs z goes = record {
-    each = goes.each;
-    inputs_are = λ i e run is input. ap (held mid.store.cells) (register_of_input i e run is (input_no_delay e.op input)) ∙ value_given mid.store.cells i (inputs_of given i t) refl ∙ goes.inputs_are i;
-    delays_are = λ i e run is delayed_is.
-        ap (held mid.store.cells) (register_of_other i e run is (λ input. delay_input (sym delayed_is ∙ input))) ∙ value_due mid.store.cells (option_is t (finite_map.get old.timers.times i))
-        ∙ sym (goes.delays_are i e run is delayed_is);
-    last_are = λ i kept. (λ k. held (cells_same k) (register_at (begins.last k) i)) ∙ goes.last_are i kept;
+  -- the code begins as the machine does
+  pub begins-starts : (inputs : Inputs) → AreInputs given t inputs → StartsAs s inputs t (kept_of old) mid
+  begins-starts inputs are = record {
+    given = λ i e run is. record {
+      input = λ input. ap held_by (register_of_input i e run is (input_no_delay e.op input)) ∙ input_slot (inputs_of given i t) ∙ ap (λ o. machine.held (slot_of_answer (Ok o))) (are i);
+      delay = λ delayed. ap held_by (register_of_other i e run is (λ input. delay_input (sym delayed ∙ input))) ∙ due_slot (option_is t (finite_map.get old.timers.times i));
+    };
+    beside = record {
+      lasts = λ v. ap (λ l. held_at l v) begins.last;
+      cells = ap (λ st. st.cells) begins.store;
+      ledger = λ u. ap (λ st. slice_index st.ledger u) begins.store;
+    };
   }
     where
       delay_input : op.Delay ≡ op.Input → ⊥
       delay_input is = absurd (cc)
 
-      cells_same : mid.store.cells ≡ old.store.cells
-      cells_same = ap (λ st. st.cells) begins.store
+      input_slot : (o : Option View) → held_by (with_event o register.Empty) ≡ machine.held (slot_of_answer (Ok o))
+      input_slot None = refl
+      input_slot (Some (Plain x)) = refl
+      input_slot (Some v) = refl
 
--- ---- the root fault
+      due_slot : (b : Bool) → held_by (if b then register.Scalar scalar.Unit else register.Empty) ≡ (if b then Some (Bare scalar.Unit) else None)
+      due_slot true = refl
+      due_slot false = refl
+
+-- ---- what is listed
 pub contains_filter : (p : ℕ → Bool) (xs : List ℕ) (i : ℕ) → is_in (filter p xs) i ≡ (p i && is_in xs i)
 contains_filter p xs i = any-filter_same (λ j. j == i) p (p i) (λ k h. ap p (eqb-true k i h)) xs
 
 pub in_numbers : (s : System) (i : ℕ) → i < length s.equations → is_in (numbers s) i ≡ true
 in_numbers s i lt = let size = length-range_with_len 0 (length s.equations) in in-Contains (numbers s) i (i, omega arith, get_or-range_with_len 0 (length s.equations) i i lt ∙ zero-add i)
 
-runs_there : (s : System) → IsFlat s → (i : ℕ) → IsTrue (runs s i) → i < length s.equations
+pub runs_there : (s : System) → IsFlat s → (i : ℕ) → IsTrue (runs s i) → i < length s.equations
 runs_there s whole i run = let f = whole.proper.runs_all i run in slice_get_within s.equations i f.0 f.1
 
 -- among running equations
@@ -241,35 +264,39 @@ kept_runs s whole i kept =
     from op.Last (v ∷ args) all h = subst (λ j. IsTrue (runs s j)) (eqb-true v i h) all.0
     from o args all h = absurd (false≢true h)
 
-module _ (s : System) (whole : IsFlat s) (t : ℕ) (mid new : Machine) (found refused root : Option Root) (all : HasRunAll s t mid new found)
-    (refused_is : (cells : Cells) → AreHeld s cells new.registers.items → IsLeastRoot (is_in (timers_of s)) (λ i. refusal_of (equation s i) cells new.registers.items) refused)
-    (least : (among besides : ℕ → Bool) (p : ℕ → Option FaultKind) → IsLeastRoot among p found → IsLeastRoot besides p refused → IsLeastRoot (λ i. among i || besides i) p root)
-    (inputs : Inputs) (z : Streams) (starts : StartsAs s inputs z t mid) where
-  pub ran_value : (i : ℕ) → IsTrue (runs s i) → value_at new.store.cells new.registers.items i ≡ event (z i t)
-  ran_value i run = (all.means inputs z starts).values i refl run
+-- ---- the root fault
+module _ (s : System) (whole : IsFlat s) (plan : Plan) (inputs : Inputs) (t : ℕ) (a : run.State) (new : Machine) (types : ℕ → ValueType) (are_held : AreHeld s types new.store.cells new.registers.items) (found refused root : Option Root) (ran : HasRunBody s plan inputs t a new found)
+    (refused_is : IsLeastRoot (is_in (timers_of s)) (λ i. refusal_of (equation s i) new.store.cells new.registers.items) refused)
+    (least : (among besides : ℕ → Bool) (p : ℕ → Option FaultKind) → IsLeastRoot among p found → IsLeastRoot besides p refused → IsLeastRoot (λ i. among i || besides i) p root) where
+  -- what the machine sees at a running equation
+  value_here : (i : ℕ) → IsTrue (runs s i) → value_at new.store.cells new.registers.items i ≡ value_in ran.reached i
+  value_here i run =
+      let f = whole.proper.runs_all i run in
+      sym (seen_is new.store.cells (register_at new.registers.items i) (are_held.each i f.0 run f.1).live)
+      ∙ (λ k. option_and_then (view_of (ran.shows.beside.cells k)) ((ran.shows.each i run refl).holds k))
 
-  amount_is : (args : List ℕ) → HasShape op.Delay args → AllByRecursion (λ a. IsTrue (runs s a)) args → refused_op (first_value new.store.cells new.registers.items args) ≡ amount_fault z args t
-  amount_is [] shape run = absurd shape
-  amount_is (d ∷ []) shape run = absurd shape
-  amount_is (d ∷ r ∷ []) shape run = ap refused_op (ran_value d run.0)
-  amount_is (d ∷ r ∷ a ∷ args) shape run = absurd shape
+  amount_is : (i : ℕ) (args : List ℕ) → HasShape op.Delay args → AllByRecursion (λ x. IsTrue (runs s x)) args → refused_op (first_value new.store.cells new.registers.items args) ≡ root_in ran.reached i op.Delay args
+  amount_is i [] shape all = absurd shape
+  amount_is i (d ∷ []) shape all = absurd shape
+  amount_is i (d ∷ r ∷ []) shape all = ap refused_op (value_here d all.0)
+  amount_is i (d ∷ r ∷ x ∷ args) shape all = absurd shape
 
-  refusal_same : (i : ℕ) → IsTrue (is_timer s i) → refusal_of (equation s i) new.store.cells new.registers.items ≡ root_at s inputs z t i
+  refusal_same : (i : ℕ) → IsTrue (is_timer s i) → refusal_of (equation s i) new.store.cells new.registers.items ≡ root_seen s ran.reached i
   refusal_same i timer =
       let run = timer_runs s i timer in
       let f = whole.proper.runs_all i run in
       let is_op = delay_op f.0.op (ap is_delay (sym f.1) ∙ (and_parts (runs s i) (is_delay (equation s i)) timer).1) in
-      (λ k. refusal_of (f.1 k) new.store.cells new.registers.items) ∙ amount_is f.0.args (timer_shape s whole i f.0 timer f.1) (running_args s whole.proper i f.0 run f.1)
-      ∙ sym ((λ k. option_and_then (λ e. root_fault inputs z i e t) (f.1 k)) ∙ (λ k. root_of inputs z i f.0 (is_op k) t))
+      (λ k. refusal_of (f.1 k) new.store.cells new.registers.items) ∙ amount_is i f.0.args (timer_shape s whole i f.0 timer f.1) (running_args s whole.proper i f.0 run f.1)
+      ∙ sym ((λ k. option_and_then (λ e. root_in ran.reached i e.op e.args) (f.1 k)) ∙ (λ k. root_in ran.reached i (is_op k) f.0.args))
 
-  beside_same : (i : ℕ) → is_delay (equation s i) ≡ false → root_beside s inputs z t i ≡ root_at s inputs z t i
-  beside_same i none = λ k. if none k then None else root_at s inputs z t i
+  beside_same : (i : ℕ) → is_delay (equation s i) ≡ false → root_beside s ran.reached i ≡ root_seen s ran.reached i
+  beside_same i none = λ k. if none k then None else root_seen s ran.reached i
 
   not_false : (b : Bool) → not b ≡ true → b ≡ false
   not_false true h = absurd (false≢true h)
   not_false false h = refl
 
-  found_from : (r : Option Root) → IsLeastRoot (runs s) (root_beside s inputs z t) r → IsLeastRoot (λ i. runs s i && not (is_delay (equation s i))) (root_at s inputs z t) r
+  found_from : (r : Option Root) → IsLeastRoot (runs s) (root_beside s ran.reached) r → IsLeastRoot (λ i. runs s i && not (is_delay (equation s i))) (root_seen s ran.reached) r
   found_from None h = λ i among. let parts = and_parts (runs s i) (not (is_delay (equation s i))) among in sym (beside_same i (not_false (is_delay (equation s i)) parts.1)) ∙ h i parts.0
   found_from (Some r) h =
       let fails = no_delay (is_delay (equation s r.equation)) refl in (
@@ -280,7 +307,7 @@ module _ (s : System) (whole : IsFlat s) (t : ℕ) (mid new : Machine) (found re
     where
       no_delay : (b : Bool) → is_delay (equation s r.equation) ≡ b → is_delay (equation s r.equation) ≡ false
       no_delay false is = is
-      no_delay true is = let none : None ≡ Some r.kind = sym (λ k. if is k then None else root_at s inputs z t r.equation) ∙ h.1 in absurd (cc)
+      no_delay true is = let none : None ≡ Some r.kind = sym (λ k. if is k then None else root_seen s ran.reached r.equation) ∙ h.1 in absurd (cc)
 
   union_is : (i : ℕ) → ((runs s i && not (is_delay (equation s i))) || is_in (timers_of s) i) ≡ runs s i
   union_is i = elim (cases_Bool (runs s i)) [
@@ -292,43 +319,36 @@ module _ (s : System) (whole : IsFlat s) (t : ℕ) (mid new : Machine) (found re
       either true = refl
       either false = refl
 
-  pub root_least : IsLeastRoot (runs s) (root_at s inputs z t) root
+  pub root_least : IsLeastRoot (runs s) (root_seen s ran.reached) root
   root_least =
-      least-same (λ i. (runs s i && not (is_delay (equation s i))) || is_in (timers_of s) i) (runs s) (root_at s inputs z t) root union_is
-      (least (λ i. runs s i && not (is_delay (equation s i))) (is_in (timers_of s)) (root_at s inputs z t) (found_from found (all.means inputs z starts).root_is)
-      (least-at (is_in (timers_of s)) (λ i. refusal_of (equation s i) new.store.cells new.registers.items) (root_at s inputs z t) refused (λ i h. refusal_same i (listed_timer s i h)) (refused_is new.store.cells all.held)))
+      least-same (λ i. (runs s i && not (is_delay (equation s i))) || is_in (timers_of s) i) (runs s) (root_seen s ran.reached) root union_is
+      (least (λ i. runs s i && not (is_delay (equation s i))) (is_in (timers_of s)) (root_seen s ran.reached) (found_from found ran.root_is)
+      (least-at (is_in (timers_of s)) (λ i. refusal_of (equation s i) new.store.cells new.registers.items) (root_seen s ran.reached) refused (λ i h. refusal_same i (listed_timer s i h)) refused_is))
 
-  text_from : (outputs : List Output) → AllByRecursion (λ o. IsTrue (runs s o.equation)) outputs → flat_map (λ o. event_line t o.name (value_at new.store.cells new.registers.items o.equation)) outputs ≡ flat_map (λ o. event_line t o.name (event (z o.equation t))) outputs
-  text_from [] run = refl
-  text_from (o ∷ outputs) run = let here = ran_value o.equation run.0 in let rest = text_from outputs run.1 in λ k. event_line t o.name (here k) ++ rest k
-
-  pub text_same : flat_map (λ o. event_line t o.name (value_at new.store.cells new.registers.items o.equation)) s.outputs ≡ text_at s z t
-  text_same = text_from s.outputs whole.outputs_run
-
-  pub ran_ledger : (i : ℕ) → IsTrue (runs s i) → IsTrue (is_update (equation s i)) → slice_index new.store.ledger i ≡ ledger_at s z t i (slice_index mid.store.ledger i)
-  ran_ledger i run update = (all.means inputs z starts).ledger i run update
-
--- begin, equations and refused delays together
-pub runs-registers : (s : System) → IsFlat s → (t : ℕ) (given : List Line) → AreEventLines s given → (old mid new : Machine) → Begins s t given old mid → IsSound s t old → (found refused root : Option Root) → HasRunAll s t mid new found
-    → ((cells : Cells) → AreHeld s cells new.registers.items → IsLeastRoot (is_in (timers_of s)) (λ i. refusal_of (equation s i) cells new.registers.items) refused)
+-- begin, steps and refused delays together
+pub runs-registers : (s : System) → IsFlat s → (plan : Plan) (t : ℕ) (given : List Line) → AreEventLines s given → (old mid new : Machine) → Begins s t given old mid → IsSound s t old → (found refused root : Option Root) → HasRunAll s plan t mid new found
+    → ((types : ℕ → ValueType) (cells : Cells) → AreHeld s types cells new.registers.items → IsLeastRoot (is_in (timers_of s)) (λ i. refusal_of (equation s i) cells new.registers.items) refused)
     → ((among besides : ℕ → Bool) (p : ℕ → Option FaultKind) → IsLeastRoot among p found → IsLeastRoot besides p refused → IsLeastRoot (λ i. among i || besides i) p root)
-    → (root ≡ None → refused ≡ None) → HasRunRegisters s t given old new root
-runs-registers s whole t given events old mid new begins sound found refused root all refused_is least none = record {
-  last = all.same.last ∙ begins.last;
-  extends = subst (λ st. Extends st.cells new.store.cells) begins.store all.extends;
+    → (root ≡ None → refused ≡ None) → HasRunRegisters s plan t given old new root
+runs-registers s whole plan t given events old mid new begins sound found refused root all refused_is least none = record {
+  types = all.types;
   held = all.held;
+  last = all.last;
+  last_same = all.same.last ∙ begins.last;
   timers = λ i. ap (λ ts. finite_map.get ts.times i) all.same.timers ∙ begins.timers i;
   positive = λ rootless i timer.
       let run = timer_runs s i timer in
-      subst (IsLeastRoot (is_in (timers_of s)) (λ i. refusal_of (equation s i) new.store.cells new.registers.items)) (none rootless) (refused_is new.store.cells all.held) i (filtered_running s whole (is_timer s) i run ∙ timer);
-  means = λ inputs z goes.
-      let starts = begins-starts s whole t given events old mid begins sound.timers inputs z goes in
+      subst (IsLeastRoot (is_in (timers_of s)) (λ i. refusal_of (equation s i) new.store.cells new.registers.items)) (none rootless) (refused_is all.types new.store.cells all.held) i (filtered_running s whole (is_timer s) i run ∙ timer);
+  means = λ inputs are.
+      let ran = all.means inputs (kept_of old) (begins-starts s whole t given events old mid begins sound.timers inputs are) in
       record {
-        values = ran_value s whole t mid new found refused root all refused_is least inputs z starts;
-        has_root = record {
-          least = root_least s whole t mid new found refused root all refused_is least inputs z starts;
-          ledger = λ i run update. ran_ledger s whole t mid new found refused root all refused_is least inputs z starts i run update ∙ (λ k. ledger_at s z t i (slice_index (begins.store k).ledger i));
-        };
+        reached = ran.reached;
+        ran = ran.ran;
+        shows = ran.shows;
+        pending = ran.pending;
+        delays = ran.delays;
+        least = root_least s whole plan inputs t (kept_of old) new all.types all.held found refused root ran (refused_is all.types new.store.cells all.held) least;
+        printed = ran.printed;
       };
 }
 
@@ -340,19 +360,16 @@ begins-room s t given old mid begins room = record {
   ledger = ap (λ st. length st.ledger) begins.store ∙ room.ledger;
   capacity = begins.capacity ∙ room.capacity;
   last = ap length begins.last ∙ room.last;
+  texts = ap (λ v. length v.items) begins.texts ∙ room.texts;
 }
 
-pub same-room : (s : System) (mid new : Machine) → SameBeside mid new → HasRoom s mid → HasRoom s new
-same-room s mid new same room = record {
-  registers = same.registers_each ∙ room.registers;
-  faulted = same.faulted_each ∙ room.faulted;
-  ledger = same.ledger_each ∙ room.ledger;
-  capacity = ap (λ ts. ts.capacity) same.timers ∙ room.capacity;
-  last = ap length same.last ∙ room.last;
-}
-
-pub begins-kept : (s : System) (t : ℕ) (given : List Line) (old mid : Machine) → Begins s t given old mid → AreHeld s old.store.cells old.last.items → AreHeld s mid.store.cells mid.last.items
-begins-kept s t given old mid begins held = subst (λ st. AreHeld s st.cells mid.last.items) (sym begins.store) (subst (AreHeld s old.store.cells) (sym begins.last) held)
+pub begins-all : (s : System) → IsFlat s → (t : ℕ) (given : List Line) → AreEventLines s given → (old mid : Machine) → Begins s t given old mid → IsSound s t old → length old.registers.items ≡ length s.equations
+    → (types : ℕ → ValueType) × AreHeld s types mid.store.cells mid.registers.items × AreHeld s types mid.store.cells mid.last.items
+begins-all s whole t given events old mid begins sound each = (
+  sound.types,
+  begins-held s whole t given events old mid begins sound.timers sound.types mid.store.cells each,
+  subst (λ st. AreHeld s sound.types st.cells mid.last.items) (sym begins.store) (subst (AreHeld s sound.types old.store.cells) (sym begins.last) sound.last),
+)
 
 -- each listed delay is a running one
 pub all_timers : (s : System) (delays : List ℕ) → delays ≡ timers_of s → All (λ i. IsTrue (is_timer s i)) delays
@@ -362,3 +379,15 @@ pub all_kept : (s : System) → IsFlat s → (n : ℕ) → n ≡ length s.equati
 all_kept s whole n size keeps is =
     subst (All (λ i. i < n)) (sym is) (All-from_recursion (λ i. i < n) (keeps_of s) (all_from (λ i. i < n) (keeps_of s) (λ i there.
     let lt = runs_there s whole i (kept_runs s whole i (listed_kept s i (in-Contains (keeps_of s) i there))) in omega arith)))
+
+-- what is kept, the delays that are set, and the cells that stay
+pub ends : {E : Type 0} (s : System) (t : ℕ) (old new : Machine)
+    → ((i : ℕ) → register_at new.last.items i
+    ≡ (if is_in (keeps_of s) i then kept_register (register_at old.registers.items i) (register_at old.last.items i) else register_at old.last.items i))
+    → ((types : ℕ → ValueType) (cells : Cells) → AreHeld s types cells old.registers.items → (i : ℕ) → finite_map.get new.timers.times i
+    ≡ (if is_in (timers_of s) i then set_at (equation s i) cells old.registers.items t i (finite_map.get old.timers.times i) else finite_map.get old.timers.times i))
+    → (r : Result (Unit {0}) E)
+    → OnOk r (new.store ≡ record old.store { cells = finite_map.retain_keys old.store.cells (is_listed (cells_in new.last.items (keeps_of s))) })
+    → OnOk r (HasEnded s t old new)
+ends s t old new last timers (Ok v) is = record { last = last; timers = timers; cells = ap (λ (st : Stored). st.cells) is; ledger = ap (λ (st : Stored). st.ledger) is }
+ends s t old new last timers (Err e) is = tt

@@ -1,6 +1,6 @@
 -- What the calls of a monitor make of it.
 use Rattle.std.proofs.Common.{◌≡◌, ◌==◌, ℕ, zero, suc, ◌+◌, ◌<◌, ◌≤◌, ◌^◌, Bool, true, false, ◌&&◌, not, List, [], ◌∷◌, ◌++◌, length, replicate, Option, Some, None, refl, sym, ap, subst, ◌∙◌, append_assoc, append-nil, inl, inr, arith}
-use Rattle.std.proofs.lemmas.Bool.{cases_Bool, cases_lt, and_parts, eq-eqb, eqb-true, eqb-false, ne_eqb}
+use Rattle.std.proofs.lemmas.Bool.{cases_Bool, cases_lt, and_parts, eq-eqb, eqb-true, eqb-false}
 use Rattle.std.proofs.lemmas.List.{length-replicate}
 use Rattle.std.specs.Prelude.{◌≢◌, if◌then◌else◌, slice_index}
 use Rattle.std.specs.Option.{option_or}
@@ -10,39 +10,40 @@ use Rattle.tsl_value.specs.declared.scalar.Scalar.{Scalar}
 use Rattle.tsl_value.specs.View.{View, Plain}
 use Rattle.flat_core.specs.Case.{Streams}
 use Rattle.flat_core.specs.Complete.{IsFlat}
+use Rattle.flat_core.specs.Fault.{is_faulty, root_at}
+use Rattle.alias_rules.specs.Fine.{IsFinePlan}
 use Rattle.register_code.specs.Code.{is_kept}
-use Rattle.register_code.specs.Plan.{IsPlanOrder}
+use Rattle.register_machine.specs.Run as run
+use Rattle.register_machine.specs.Run.{Instant, root_seen}
+use Rattle.register_machine.specs.Stands.{RunsTo}
+use Rattle.register_machine.proofs.LaterRuns.{later_leave}
 use Rattle.lift_func.specs.declared.register.Register.TheVariants as register
-use Rattle.lift_func.specs.Cells.{held}
 use Rattle.std.specs.Ordering.{nat_cmp}
 use Rattle.flat_core.specs.BoundLaws.{LeavesEarlier}
-use Rattle.flat_core.specs.Stream.{latest}
-use Rattle.flat_core.specs.declared.equation.Equation.{Equation}
-use Rattle.flat_core.specs.declared.equation.Op.{Op}
-use Rattle.flat_core.specs.declared.equation.Op.TheVariants as op
-use Rattle.monitor_run.specs.Due.{due_at, due_of, due_time, in_time}
+use Rattle.monitor_run.specs.Begun.{IsBegunOf}
+use Rattle.flat_core.specs.Text.{text_at}
 use Rattle.flat_core.specs.Instant.{instants}
 use Rattle.flat_core.specs.Line.{Line, IsSorted, event_in, inputs_of}
 use Rattle.flat_core.specs.Solution.{Solves}
-use Rattle.flat_core.specs.System.{System, equation, runs}
+use Rattle.flat_core.specs.System.{System, runs}
 use Rattle.flat_core.proofs.Members.{all_append, all_at}
 use Rattle.flat_core.proofs.Uniqueness.{all_by}
-use Rattle.flat_core.proofs.SmallerBound.{solves_less}
 use Rattle.flat_core.proofs.LaterLines.{leaves_earlier}
 use Rattle.monitor_run.specs.declared.machine.Machine.{Machine}
 use Rattle.monitor_run.specs.declared.run.Root.{Root}
-use Rattle.monitor_run.specs.Copied.{copied, is_update}
 use Rattle.monitor_run.specs.Given.{AreAt, AreBefore, AreEventLines, AreGiven, AreOnce, IsEventLine, line_of}
-use Rattle.monitor_run.specs.Instant.{AreTimers, GoesOn, HasFaultedAt, HasRunInstant, IsInstantBegun, IsSound, ledger_at}
+use Rattle.monitor_run.specs.Instant.{AreTimers, HasFaultedAt, HasRunInstant, IsInstantBegun, IsInstantText, ReachesFault, kept_of}
 use Rattle.monitor_run.specs.Next.{Comes, NothingBefore}
 use Rattle.monitor_run.specs.Machine.{HasRoom}
 use Rattle.monitor_run.specs.Registers.{AreHeld, IsHeldOf, register_at}
+use Rattle.monitor_run.specs.Shown.{held_at, held_by, state_of}
 use Rattle.monitor_run.specs.Stands.{KeepsOf, Stands}
-use Rattle.monitor_run.specs.State.{State, IsReady}
+use Rattle.monitor_run.specs.State.{State, IsReady, kept_state, plan_of}
 use Rattle.monitor_run.specs.Steps.{AreAsSet, CanTake, HasFaulted, HasRun, IsAtLimit, IsBegun, IsNextOf, NoneIsLeft}
 use Rattle.monitor_run.specs.Stored.{stored_count}
-use Rattle.monitor_run.proofs.GapLemmas.{quiet}
-use Rattle.monitor_run.proofs.StepLemmas.{goes_on, is_first, keeps_on, ledger_behind, sound_before}
+use Rattle.flat_core.specs.Typed.{unit_type}
+use Rattle.monitor_run.proofs.RootLemmas.{least-at}
+use Rattle.monitor_run.proofs.StepLemmas.{append_input, both_none, copied_now, inputs_now, is_first, no_past_input, one_more, quiet_to, run_on_now, shown, sound_before, sound_now, text_now}
 
 -- the state that a machine shows
 pub record Shows (m : State) (machine : Machine) : Type 0 where
@@ -63,63 +64,78 @@ module _ (old : State) (ready : IsReady old) (t : ℕ) (comes_now : Comes old.ne
   early : t < 2 ^ 63
   early = let small = ready.in_time in omega arith
 
-  pub sound_now : (machine : Machine) → Shows old machine → IsSound old.system t machine
-  sound_now machine shows = record {
-    last = subst (λ c. AreHeld old.system c machine.last.items) (sym shows.cells) (subst (AreHeld old.system old.cells) (sym shows.last) ready.last);
-    unkept = λ i no_last. ap (λ rs. register_at rs i) shows.last ∙ ready.unkept i no_last;
-    timers = subst (AreTimers old.system t) (sym shows.timers) (record { each = λ i u is. let was = ready.timers.each i u is in (was.0, none.delays i u is, was.2) });
-    few_cells = subst (λ c. finite_map.len c ≤ stored_count old.system) (sym shows.cells) ready.few_cells;
-  }
+  -- what the machine keeps is what the monitor does
+  kept_same : (machine : Machine) → Shows old machine → kept_of machine ≡ kept_state old
+  kept_same machine shows = λ k. state_of (shows.cells k) (shows.ledger k) (shows.last k) (shows.timers k)
 
   module _ (lines : List Line) (stands : Stands old lines) where
     first_for : (w : Streams) → Solves old.system (inputs_of lines) (suc t) w → IsNextOf old lines w t
-    first_for w solves = is_first old ready lines stands t late early comes_now none w (suc t) (omega arith) solves below
-
-    goes_for : (machine : Machine) → Shows old machine → (w : Streams) → Solves old.system (inputs_of lines) (suc t) w → GoesOn old.system (inputs_of lines) w t old.given machine
-    goes_for machine shows w solves = goes_on old ready lines stands t late early comes_now none w (suc t) (omega arith) solves machine shows.cells shows.last shows.timers
+    first_for w solves = is_first old ready lines stands t late early comes_now none w solves below
 
     pub limit_is : old.ran ≡ old.limit → IsAtLimit old lines old.limit t
     limit_is full = record { early = below; full = full; count_is = refl; each = first_for }
 
-    pub begun_is : (machine : Machine) (before after : List ℕ) → Shows old machine → old.ran < old.limit → IsInstantBegun old.system t old.given machine before after → IsBegun old lines before after
+    pub begun_is : (machine : Machine) (before after : List ℕ) → Shows old machine → old.ran < old.limit → IsInstantBegun old.system (plan_of old) t old.given machine before after → IsBegun old lines before after
     begun_is machine before after shows room begun = record {
       time = t;
       early = below;
       room = room;
-      each = λ w solves. (first_for w solves, begun (inputs_of lines) w (goes_for machine shows w solves));
+      each = λ w solves. (first_for w solves, begun_at w solves begun);
     }
+      where
+        begun_at : (w : Streams) → Solves old.system (inputs_of lines) (suc t) w → IsInstantBegun old.system (plan_of old) t old.given machine before after → IsBegunOf before after (text_at old.system w t)
+        begun_at w solves (inl same) = record { added = []; rest = text_at old.system w t; after_is = same ∙ sym (append-nil before); text_is = refl }
+        begun_at w solves (inr part) =
+            subst (IsBegunOf before after)
+            (text_now old ready lines stands t late early comes_now none w solves part.0 (subst (λ a. IsInstantText old.system (plan_of old) (inputs_of lines) t a part.0) (kept_same machine shows) (part.1 (inputs_of lines) (inputs_now old ready lines stands t late early comes_now none)))) part.2
 
-    pub fault_is : (new : State) (machine after : Machine) (root : Root) (before out : List ℕ) → Shows old machine → new.ledger ≡ after.store.ledger → old.ran < old.limit → HasFaultedAt old.system t old.given machine after root before out → HasFaulted old new lines t root.equation root.kind
+    pub fault_is : (new : State) (machine after : Machine) (root : Root) (before out : List ℕ) → Shows old machine → new.ledger ≡ after.store.ledger → old.ran < old.limit → HasFaultedAt old.system (plan_of old) t old.given machine after root before out → HasFaulted old new lines t root.equation root.kind
     fault_is new machine after root before out shows ledger_is room faulted = record {
       early = below;
       room = room;
       each = λ w solves.
-          let least = (faulted.means (inputs_of lines) w (goes_for machine shows w solves)).least in (
+          let least_in = least-at (runs old.system) (root_seen old.system f.reached) (root_at old.system (inputs_of lines) w t) (Some root) (λ i run. (shown old ready lines stands t late early comes_now none w solves).root_faults f.reached f.ran i run) f.least in (
             first_for w solves,
             record {
-              running = least.0;
-              root = least.1;
-              least = λ j run lt. least.2 j run lt;
-              first = λ u lt. ap not (sound_before old ready lines stands t late early comes_now none w (suc t) (omega arith) solves u lt);
+              running = least_in.0;
+              root = least_in.1;
+              least = λ j run lt. least_in.2 j run lt;
+              first = λ u lt. ap not (sound_before old ready lines stands t late early comes_now none w solves u lt);
             },
           );
-      ledger = λ w solves u update.
-          let parts = and_parts (runs old.system u) (is_update (equation old.system u)) update in
-          ap (λ l. slice_index l u) ledger_is ∙ (faulted.means (inputs_of lines) w (goes_for machine shows w solves)).ledger u parts.0 parts.1
-          ∙ (λ k. ledger_at old.system w t u (slice_index (shows.ledger k) u))
-          ∙ ledger_behind old ready lines stands t late early comes_now none w (suc t) (omega arith) solves u update;
+      reached = f.reached;
+      reaches = f.ran;
+      ledger_is = λ u. ap (λ l. slice_index l u) ledger_is ∙ f.ledger_is u;
+      ledger = λ w solves u update. ap (λ l. slice_index l u) ledger_is ∙ f.ledger_is u ∙ copied_now old ready lines stands t late early comes_now none w solves f.reached f.ran u update;
     }
+      where
+        f : ReachesFault old.system (plan_of old) (inputs_of lines) t (kept_state old) root after.store.ledger
+        f = subst (λ a. ReachesFault old.system (plan_of old) (inputs_of lines) t a root after.store.ledger) (kept_same machine shows) (faulted.means (inputs_of lines) (inputs_now old ready lines stands t late early comes_now none))
+
+    -- the instant of the machine
+    instant_of : (new : State) (machine after : Machine) (before out : List ℕ) → Shows old machine → Shows new after → HasRunInstant old.system (plan_of old) t old.given machine after before out → Instant old.system (plan_of old) (inputs_of lines) t (kept_state old) (kept_state new)
+    instant_of new machine after before out shows shows_new ran =
+        subst (λ a. Instant old.system (plan_of old) (inputs_of lines) t a (kept_state new)) (kept_same machine shows)
+        (subst (Instant old.system (plan_of old) (inputs_of lines) t (kept_of machine)) (λ k. state_of (shows_new.cells k) (shows_new.ledger k) (shows_new.last k) (shows_new.timers k)) (ran.instant (inputs_of lines) (inputs_now old ready lines stands t late early comes_now none)))
 
     -- the lines that have had their instants then
-    stands_on : (new : State) (machine after : Machine) (before out : List ℕ) → Shows old machine → Shows new after → AreAsSet old new → new.next ≡ suc t → new.ran ≡ old.ran + 1 → new.stop ≡ None → new.given ≡ (if ready.time == t then [] else old.given) → HasRunInstant old.system t old.given machine after before out → Stands new lines
+    stands_on : (new : State) (machine after : Machine) (before out : List ℕ) → Shows old machine → Shows new after → AreAsSet old new → new.next ≡ suc t → new.ran ≡ old.ran + 1 → new.stop ≡ None → new.given ≡ (if ready.time == t then [] else old.given) → HasRunInstant old.system (plan_of old) t old.given machine after before out → Stands new lines
     stands_on new machine after before out shows shows_new as_set next_is ran_is going given_is ran = parted (ready.time == t) refl
       where
         keeps_new : (z : Streams) → Solves new.system (inputs_of lines) new.next z → KeepsOf new lines z
         keeps_new z solves =
             let here : Solves old.system (inputs_of lines) (suc t) z = subst (λ n. Solves old.system (inputs_of lines) n z) next_is (subst (λ (q : System). Solves q (inputs_of lines) new.next z) as_set.system solves) in
-            subst (λ (m : State). KeepsOf m lines z) (λ k. record new { system = sym as_set.system k; next = sym next_is k })
-            (keeps_on old new ready lines stands t late early comes_now none as_set.system next_is ran_is (subst (AreTimers old.system (suc t)) shows_new.timers ran.sound.timers) machine after shows.cells shows.last shows.timers shows.ledger (sym shows_new.cells) (sym shows_new.last) (sym shows_new.timers) (sym shows_new.ledger)
-            (λ inputs w goes. let means = ran.means inputs w goes in (means.0, means.1)) z here)
+            let instant = instant_of new machine after before out shows shows_new ran in
+            subst (λ (m : State). KeepsOf m lines z) (λ k. record new { system = sym as_set.system k; in_place = sym as_set.in_place k; order = sym as_set.order k; next = sym next_is k }) (record {
+              run = run_on_now old ready lines stands t late early comes_now none z here (kept_state new) instant;
+              ran = ran_is ∙ one_more old ready lines stands t late early comes_now none z here;
+              sound = λ u lt. elim (cases_lt u t) [
+                | inl earlier ↦ sound_before old ready lines stands t late early comes_now none z here u earlier
+                | inr level ↦
+                    let same : t ≡ u = omega arith in
+                    subst (λ w. is_faulty old.system (inputs_of lines) z w ≡ false) same (sound_now old ready lines stands t late early comes_now none z here (kept_state new) instant)
+              ];
+            })
 
         earlier_past : AreBefore new.next stands.past
         earlier_past = all_by (λ (l : Line). suc l.time ≤ old.next) (λ (l : Line). suc l.time ≤ new.next) (λ l before_next. let le = late in omega arith) stands.past stands.earlier
@@ -144,7 +160,7 @@ module _ (old : State) (ready : IsReady old) (t : ℕ) (comes_now : Comes old.ne
           keeps = keeps_new;
         }
 
-    pub run_is : (new : State) (machine after : Machine) (before out : List ℕ) → Shows old machine → Shows new after → AreAsSet old new → new.next ≡ suc t → new.ran ≡ old.ran + 1 → new.stop ≡ None → new.given ≡ (if ready.time == t then [] else old.given) → HasRunInstant old.system t old.given machine after before out → HasRun old new lines before out
+    pub run_is : (new : State) (machine after : Machine) (before out : List ℕ) → Shows old machine → Shows new after → AreAsSet old new → new.next ≡ suc t → new.ran ≡ old.ran + 1 → new.stop ≡ None → new.given ≡ (if ready.time == t then [] else old.given) → HasRunInstant old.system (plan_of old) t old.given machine after before out → HasRun old new lines before out
     run_is new machine after before out shows shows_new as_set next_is ran_is going given_is ran = record {
       time = t;
       early = below;
@@ -152,11 +168,15 @@ module _ (old : State) (ready : IsReady old) (t : ℕ) (comes_now : Comes old.ne
       ran_is = ran_is;
       as_set = as_set;
       stands = stands_on new machine after before out shows shows_new as_set next_is ran_is going given_is ran;
-      each = λ w solves. (first_for w solves, (ran.means (inputs_of lines) w (goes_for machine shows w solves)).2);
+      instant = instant_of new machine after before out shows shows_new ran;
+      each = λ w solves. (
+        first_for w solves,
+        ran.after_is ∙ ap (λ xs. before ++ xs) (text_now old ready lines stands t late early comes_now none w solves ran.added (subst (λ a. IsInstantText old.system (plan_of old) (inputs_of lines) t a ran.added) (kept_same machine shows) (ran.text (inputs_of lines) (inputs_now old ready lines stands t late early comes_now none)))),
+      );
     }
 
   -- what the monitor has then
-  pub ready_on : (new : State) (machine after : Machine) (before out : List ℕ) → Shows new after → AreAsSet old new → new.next ≡ suc t → new.ran ≡ old.ran + 1 → old.ran < old.limit → new.given ≡ (if ready.time == t then [] else old.given) → HasRunInstant old.system t old.given machine after before out → IsReady new
+  pub ready_on : (new : State) (machine after : Machine) (before out : List ℕ) → Shows new after → AreAsSet old new → new.next ≡ suc t → new.ran ≡ old.ran + 1 → old.ran < old.limit → new.given ≡ (if ready.time == t then [] else old.given) → HasRunInstant old.system (plan_of old) t old.given machine after before out → IsReady new
   ready_on new machine after before out shows_new as_set next_is ran_is room given_is ran = parted (ready.time == t) refl
     where
       of_system : (P : System → Type 0) → P old.system → P new.system
@@ -165,7 +185,7 @@ module _ (old : State) (ready : IsReady old) (t : ℕ) (comes_now : Comes old.ne
       parted : (b : Bool) → (ready.time == t) ≡ b → IsReady new
       parted b same = record {
         whole = of_system IsFlat ready.whole;
-        ordered = subst (λ order. IsPlanOrder new.system order) (sym as_set.order) (of_system (λ (q : System). IsPlanOrder q old.order) ready.ordered);
+        fine = subst (λ set. IsFinePlan new.system set new.order) (sym as_set.in_place) (subst (λ order. IsFinePlan new.system old.in_place order) (sym as_set.order) (of_system (λ (q : System). IsFinePlan q old.in_place old.order) ready.fine));
         room = let l = as_set.limit in omega arith;
         some_room = let l = as_set.limit in let some = ready.some_room in omega arith;
         within = let bound_is = as_set.bound in omega arith;
@@ -175,7 +195,8 @@ module _ (old : State) (ready : IsReady old) (t : ℕ) (comes_now : Comes old.ne
         given_later = (kept_time b same).2;
         events = events_of b same;
         once = once_of b same;
-        last = subst (AreHeld new.system new.cells) shows_new.last (subst (λ c. AreHeld new.system c after.last.items) shows_new.cells (of_system (λ (q : System). AreHeld q after.store.cells after.last.items) ran.sound.last));
+        types = ran.sound.types;
+        last = subst (AreHeld new.system ran.sound.types new.cells) shows_new.last (subst (λ c. AreHeld new.system ran.sound.types c after.last.items) shows_new.cells (of_system (λ (q : System). AreHeld q ran.sound.types after.store.cells after.last.items) ran.sound.last));
         unkept = λ i no_last. ap (λ rs. register_at rs i) (sym shows_new.last) ∙ ran.sound.unkept i (ap (λ (q : System). is_kept q i) (sym as_set.system) ∙ no_last);
         timers = subst (λ n. AreTimers new.system n new.timers) (sym next_is) (of_system (λ (q : System). AreTimers q (suc t) new.timers) (subst (AreTimers old.system (suc t)) shows_new.timers ran.sound.timers));
         few_cells = subst (λ c. finite_map.len c ≤ stored_count new.system) shows_new.cells (of_system (λ (q : System). finite_map.len after.store.cells ≤ stored_count q) ran.sound.few_cells);
@@ -212,9 +233,7 @@ module _ (old : State) (ready : IsReady old) (t : ℕ) (comes_now : Comes old.ne
 
 -- no step is left
 pub none_left : (m : State) → IsReady m → (lines : List Line) → Stands m lines → NothingBefore m.next m.given m.timers m.bound → NoneIsLeft m lines
-none_left m ready lines stands none = λ w solves u low lt.
-    quiet m.system ready.whole m.order ready.ordered lines stands.past m.given stands.parts ready.events m.timers m.next m.bound m.bound stands.earlier none ready.in_time (omega arith) w solves
-    (stands.keeps w (solves_less m.system (inputs_of lines) m.next m.bound w ready.within solves)).timers u low lt
+none_left m ready lines stands none = λ w solves u low lt. quiet_to m ready lines stands m.bound ready.in_time ready.within w solves m.bound (omega arith) none u low lt
 
 -- ---- a new monitor
 value_none : (n i : ℕ) → register_at (replicate n register.Empty) i ≡ register.Empty
@@ -227,37 +246,28 @@ number_none zero i = refl
 number_none (suc n) zero = refl
 number_none (suc n) (suc i) = number_none n i
 
-due_none : (s : System) (z : Streams) (i : ℕ) → due_time s z 0 i ≡ None
-due_none s z i = split (runs s i) (equation s i)
-  where
-    of_op : (o : Op) (args : List ℕ) → due_of z i o args 0 ≡ None
-    of_op op.Delay (d ∷ r ∷ []) = refl
-    of_op op.Delay [] = refl
-    of_op op.Delay (d ∷ []) = refl
-    of_op op.Delay (d ∷ r ∷ x ∷ args) = refl
-    of_op o args = refl
-
-    split : (b : Bool) (e : Option Equation) → (if b then in_time (due_at e z i 0) else None) ≡ None
-    split true None = refl
-    split true (Some e) = ap in_time (of_op e.op e.args)
-    split false e = refl
-
 -- nothing is kept of no events
-pub stands_new : (m : State) → m.stop ≡ None → m.given ≡ [] → m.next ≡ 0 → m.ran ≡ 0 → m.last ≡ replicate (length m.system.equations) register.Empty → m.ledger ≡ replicate (length m.system.equations) 0 → m.timers ≡ finite_map.empty → Stands m []
-stands_new m going given next ran last ledger timers = record {
+pub stands_new : (m : State) → m.stop ≡ None → m.given ≡ [] → m.next ≡ 0 → m.ran ≡ 0 → m.last ≡ replicate (length m.system.equations) register.Empty → m.ledger ≡ replicate (length m.system.equations) 0 → m.cells ≡ finite_map.empty → m.timers ≡ finite_map.empty → Stands m []
+stands_new m going given next ran last ledger cells timers = record {
   going = going;
   events = record { sorted = tt; events = tt; once = tt };
   past = [];
   parts = sym given;
   earlier = tt;
   keeps = λ z solves. record {
-    last = λ i kept. (λ k. held m.cells (register_at (last k) i)) ∙ ap (held m.cells) (value_none (length m.system.equations) i) ∙ sym (ap (latest (z i)) next);
-    timers = λ i. ap (λ ts. finite_map.get ts i) timers ∙ finite_map.get-empty nat_cmp i ∙ sym (ap (λ n. due_time m.system z n i) next ∙ due_none m.system z i);
+    run = subst (λ n. RunsTo m.system (plan_of m) [] z n (kept_state m)) (sym next) kept_none;
     ran = ran ∙ sym (ap (λ n. length (instants m.system [] z n)) next);
     sound = λ t lt. absurd (omega arith);
-    ledger = λ i update. ap (λ l. slice_index l i) ledger ∙ number_none (length m.system.equations) i ∙ sym (ap (copied m.system z i) next);
   };
 }
+  where
+    kept_none : kept_state m ≡ run.nothing_yet
+    kept_none = λ k. record {
+      lasts = λ v. (ap (λ l. held_at l v) last ∙ ap held_by (value_none (length m.system.equations) v)) k;
+      cells = cells k;
+      ledger = λ u. (ap (λ l. slice_index l u) ledger ∙ number_none (length m.system.equations) u) k;
+      pending = λ i. (ap (λ ts. finite_map.get ts i) timers ∙ finite_map.get-empty nat_cmp i) k;
+    }
 
 -- ---- closing
 pub stands_closed : (m : State) (bound : ℕ) (lines : List Line) → Stands m lines → Stands (record m { bound = bound }) lines
@@ -267,7 +277,7 @@ stands_closed m bound lines stands = record {
   past = stands.past;
   parts = stands.parts;
   earlier = stands.earlier;
-  keeps = λ z solves. let k = stands.keeps z solves in record { last = k.last; timers = k.timers; ran = k.ran; sound = k.sound; ledger = k.ledger };
+  keeps = λ z solves. let k = stands.keeps z solves in record { run = k.run; ran = k.ran; sound = k.sound };
 }
 
 -- ---- giving
@@ -284,23 +294,15 @@ input_push [] l i t none = right_none (event_in i t l.time l.event)
     right_none (Some v) = refl
 input_push (x ∷ lines) l i t none = from (λ rest. input_push lines l i t rest)
   where
-    first_none : (a b : Option View) → option_or a b ≡ None → (a ≡ None) × (b ≡ None)
-    first_none None b h = (refl, h)
-    first_none (Some v) b h = absurd (cc)
-
     from : (inputs_of lines i t ≡ None → inputs_of (lines ++ l ∷ []) i t ≡ event_in i t l.time l.event) → option_or (event_in i t x.time x.event) (inputs_of (lines ++ l ∷ []) i t) ≡ event_in i t l.time l.event
-    from rest = let parts = first_none (event_in i t x.time x.event) (inputs_of lines i t) none in (λ k. option_or (parts.0 k) (inputs_of (lines ++ l ∷ []) i t)) ∙ rest parts.1
+    from rest = let parts = both_none (event_in i t x.time x.event) (inputs_of lines i t) none in (λ k. option_or (parts.0 k) (inputs_of (lines ++ l ∷ []) i t)) ∙ rest parts.1
 
 once_push : (lines : List Line) (time i : ℕ) (value : Scalar) → AreOnce lines → inputs_of lines i time ≡ None → AreOnce (lines ++ line_of time i value ∷ [])
 once_push [] time i value once fresh = ((λ j v is. refl), tt)
 once_push (x ∷ lines) time i value once fresh = from (λ rest. once_push lines time i value once.1 rest)
   where
-    first_none : (a b : Option View) → option_or a b ≡ None → (a ≡ None) × (b ≡ None)
-    first_none None b h = (refl, h)
-    first_none (Some v) b h = absurd (cc)
-
     parts : (event_in i time x.time x.event ≡ None) × (inputs_of lines i time ≡ None)
-    parts = first_none (event_in i time x.time x.event) (inputs_of lines i time) fresh
+    parts = both_none (event_in i time x.time x.event) (inputs_of lines i time) fresh
 
     other : (j : ℕ) (v : Scalar) → x.event ≡ Some (j, v) → event_in j x.time time (Some (i, value)) ≡ None
     other j v is = elim (cases_Bool ((time == x.time) && (i == j))) [
@@ -315,32 +317,13 @@ once_push (x ∷ lines) time i value once fresh = from (λ rest. once_push lines
     from : (inputs_of lines i time ≡ None → AreOnce (lines ++ line_of time i value ∷ [])) → AreOnce ((x ∷ lines) ++ line_of time i value ∷ [])
     from rest = ((λ j v is. input_push lines (line_of time i value) j x.time (once.0 j v is) ∙ other j v is), rest parts.1)
 
-no_input_before : (past : List Line) (n i t : ℕ) → n ≤ t → AreBefore n past → inputs_of past i t ≡ None
-no_input_before [] n i t le all = refl
-no_input_before (l ∷ past) n i t le all = let rest = no_input_before past n i t le all.1 in λ k. option_or (none l.event k) (rest k)
-  where
-    none : (e : Option (ℕ × Scalar)) → event_in i t l.time e ≡ None
-    none None = refl
-    none (Some e) = let before = all.0 in λ k. if ne_eqb l.time t (λ same. absurd (omega arith)) k && (e.0 == i) then Some (Plain e.1) else None
-
-input_both : (past given : List Line) (i t : ℕ) → inputs_of past i t ≡ None → inputs_of given i t ≡ None → inputs_of (past ++ given) i t ≡ None
-input_both [] given i t p g = g
-input_both (l ∷ past) given i t p g = from (λ rest. input_both past given i t rest g)
-  where
-    first_none : (a b : Option View) → option_or a b ≡ None → (a ≡ None) × (b ≡ None)
-    first_none None b h = (refl, h)
-    first_none (Some v) b h = absurd (cc)
-
-    from : (inputs_of past i t ≡ None → inputs_of (past ++ given) i t ≡ None) → option_or (event_in i t l.time l.event) (inputs_of (past ++ given) i t) ≡ None
-    from rest = let parts = first_none (event_in i t l.time l.event) (inputs_of past i t) p in (λ k. option_or (parts.0 k) (inputs_of (past ++ given) i t)) ∙ rest parts.1
-
 pub stands_given : (m : State) (ready : IsReady m) (time i : ℕ) (value : Scalar) → CanTake m time i value → (lines : List Line) → Stands m lines → Stands (record m { given = m.given ++ line_of time i value ∷ [] }) (lines ++ line_of time i value ∷ [])
 stands_given m ready time i value can lines stands = record {
   going = stands.going;
   events = record {
     sorted = sorted_push lines (line_of time i value) stands.events.sorted not_later;
     events = all_append (IsEventLine m.system) lines (line_of time i value ∷ []) stands.events.events (record { input = i; value = value; is = refl; fits = can.fits }, tt);
-    once = once_push lines time i value stands.events.once (ap (λ ls. inputs_of ls i time) stands.parts ∙ input_both stands.past m.given i time (no_input_before stands.past m.next i time next_below stands.earlier) can.fresh);
+    once = once_push lines time i value stands.events.once (ap (λ ls. inputs_of ls i time) stands.parts ∙ append_input stands.past m.given i time (no_past_input m.next time i next_below stands.past stands.earlier) ∙ can.fresh);
   };
   past = stands.past;
   parts = ap (λ ls. ls ++ line_of time i value ∷ []) stands.parts ∙ append_assoc stands.past m.given (line_of time i value ∷ []);
@@ -349,11 +332,9 @@ stands_given m ready time i value can lines stands = record {
       let k = stands.keeps z ((leaves.solves_same z).1 solves) in
       let same = leaves.happens z in
       record {
-        last = k.last;
-        timers = k.timers;
+        run = (later_leave m.system (plan_of m) lines (line_of time i value ∷ []) z m.next (kept_state m) (next_below, tt)).0 k.run;
         ran = k.ran ∙ ap length (same.instants_same m.next (omega arith));
         sound = λ t lt. sym (same.faulty_same t lt) ∙ k.sound t lt;
-        ledger = k.ledger;
       };
 }
   where
@@ -372,7 +353,7 @@ stands_given m ready time i value can lines stands = record {
 pub ready_given : (m : State) (time i : ℕ) (value : Scalar) → IsReady m → CanTake m time i value → IsReady (record m { given = m.given ++ line_of time i value ∷ [] })
 ready_given m time i value ready can = record {
   whole = ready.whole;
-  ordered = ready.ordered;
+  fine = ready.fine;
   room = ready.room;
   some_room = ready.some_room;
   within = ready.within;
@@ -382,6 +363,7 @@ ready_given m time i value ready can = record {
   given_later = let within = ready.within in let unclosed = can.unclosed in omega arith;
   events = all_append (IsEventLine m.system) m.given (line_of time i value ∷ []) ready.events (record { input = i; value = value; is = refl; fits = can.fits }, tt);
   once = once_push m.given time i value ready.once can.fresh;
+  types = ready.types;
   last = ready.last;
   unkept = ready.unkept;
   timers = ready.timers;
@@ -391,7 +373,7 @@ ready_given m time i value ready can = record {
 pub ready_closed : (m : State) (bound : ℕ) → IsReady m → m.bound ≤ bound → bound ≤ 2 ^ 63 → IsReady (record m { bound = bound })
 ready_closed m bound ready more small = record {
   whole = ready.whole;
-  ordered = ready.ordered;
+  fine = ready.fine;
   room = ready.room;
   some_room = ready.some_room;
   within = let within = ready.within in omega arith;
@@ -401,6 +383,7 @@ ready_closed m bound ready more small = record {
   given_later = ready.given_later;
   events = ready.events;
   once = ready.once;
+  types = ready.types;
   last = ready.last;
   unkept = ready.unkept;
   timers = ready.timers;
@@ -414,8 +397,9 @@ pub stands_pushed : (m : State) (time i : ℕ) (value : Scalar) (given : List Li
 stands_pushed m time i value given ready can is lines stands = subst (λ ls. Stands (record m { given = ls }) (lines ++ line_of time i value ∷ [])) (sym is) (stands_given m ready time i value can lines stands)
 
 pub room_new : (s : System) (m : Machine) (n : ℕ) → n ≡ length s.equations → m.registers.items ≡ replicate n register.Empty → m.faulted.items ≡ replicate n false → m.last.items ≡ replicate n register.Empty
-    → m.store ≡ record { cells = finite_map.empty; ledger = replicate n 0 } → m.timers ≡ record { capacity = n; times = finite_map.empty } → HasRoom s m
-room_new s m n size registers faulted last store timers = record {
+    → m.store ≡ record { cells = finite_map.empty; ledger = replicate n 0 } → m.timers ≡ record { capacity = n; times = finite_map.empty } → (k : ℕ) → k ≡ length s.outputs → m.texts.items ≡ replicate k [] → HasRoom s m
+room_new s m n size registers faulted last store timers k outputs texts = record {
+  texts = ap length texts ∙ length-replicate k [] ∙ outputs;
   registers = ap length registers ∙ length-replicate n register.Empty ∙ size;
   faulted = ap length faulted ∙ length-replicate n false ∙ size;
   ledger = ap (λ st. length st.ledger) store ∙ length-replicate n 0 ∙ size;
@@ -423,10 +407,10 @@ room_new s m n size registers faulted last store timers = record {
   last = ap length last ∙ length-replicate n register.Empty ∙ size;
 }
 
-pub ready_new : (m : State) (n : ℕ) → n ≡ length m.system.equations → IsFlat m.system → IsPlanOrder m.system m.order → 1 ≤ m.limit → m.ran ≡ 0 → m.next ≡ 0 → m.bound ≡ 0 → m.given ≡ [] → m.last ≡ replicate n register.Empty → m.timers ≡ finite_map.empty → m.cells ≡ finite_map.empty → IsReady m
-ready_new m n size whole ordered some ran next bound given last timers cells = record {
+pub ready_new : (m : State) (n : ℕ) → n ≡ length m.system.equations → IsFlat m.system → IsFinePlan m.system m.in_place m.order → 1 ≤ m.limit → m.ran ≡ 0 → m.next ≡ 0 → m.bound ≡ 0 → m.given ≡ [] → m.last ≡ replicate n register.Empty → m.timers ≡ finite_map.empty → m.cells ≡ finite_map.empty → IsReady m
+ready_new m n size whole fine some ran next bound given last timers cells = record {
   whole = whole;
-  ordered = ordered;
+  fine = fine;
   room = omega arith;
   some_room = omega arith;
   within = omega arith;
@@ -436,8 +420,10 @@ ready_new m n size whole ordered some ran next bound given last timers cells = r
   given_later = omega arith;
   events = subst (AreEventLines m.system) (sym given) tt;
   once = subst AreOnce (sym given) tt;
+  types = λ h. unit_type;
   last = record {
     one_each = ap length last ∙ length-replicate n register.Empty ∙ size;
+    one_type = λ i h e run is holds. let empty = sym (ap (λ rs. register_at rs i) last ∙ value_none n i) ∙ holds in absurd (cc);
     each = λ i e run is. subst (IsHeldOf m.cells e.of) (sym (ap (λ rs. register_at rs i) last ∙ value_none n i)) (record { typed = refl; live = tt });
   };
   unkept = λ i fails. ap (λ rs. register_at rs i) last ∙ value_none n i;

@@ -58,14 +58,6 @@ module _ (next : ℕ) (given : List Line) (timers : Times) where
         | inr high ↦ let no : Some at ≡ None = sym (λ k. if le-ltb u at high k then Some u else Some at) ∙ q in absurd (cc)
       ]
 
-  -- what comes from a time on
-  pub nothing-less : (t u : ℕ) → u ≤ t → NothingBefore next given timers t → NothingBefore next given timers u
-  nothing-less t u le n = record {
-    start = λ zero. let first = n.start zero in omega arith;
-    events = all_by (λ l. t ≤ l.time) (λ l. u ≤ l.time) (λ l from. omega arith) given n.events;
-    delays = λ i v is. let from = n.delays i v is in omega arith;
-  }
-
   pub first_is : next ≢ 0 → (at : ℕ) → AreAt at given → (first : Option ℕ) → IsFirstTimer timers first → (r : Option ℕ) → earliest (time_if at given) first ≡ r → IsFirstTime next given timers r
   first_is later at all first timer None is = λ bound. none_later later at all first timer is bound
   first_is later at all first timer (Some t) is = first_later later at all first timer t is

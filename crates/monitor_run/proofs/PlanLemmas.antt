@@ -1,11 +1,13 @@
 -- What the equations of a system have, and the orders of plans.
-use Rattle.std.proofs.Common.{◌≡◌, ◌==◌, ℕ, zero, suc, ◌+◌, ◌<◌, ◌≤◌, Bool, true, false, ◌||◌, List, [], ◌∷◌, length, get_or, take, Some, refl, sym, ap, subst, ◌∙◌, inl, inr, arith}
-use Rattle.std.proofs.lemmas.Bool.{and_parts, cases_lt, eq-eqb, leb-true, ne_eqb, or_cases, or_left, or_right, false≢true}
+use Rattle.std.proofs.Common.{◌≡◌, ◌==◌, ℕ, zero, suc, ◌+◌, ◌<◌, ◌≤◌, Bool, true, ◌||◌, List, [], ◌∷◌, length, get_or, take, Some, refl, sym, ap, subst, ◌∙◌, inl, inr, arith}
+use Rattle.std.proofs.lemmas.Bool.{and_from, and_parts, le-leb, leb-true, lt-ltb, ltb-true, or_cases, or_left, or_right}
 use Rattle.std.proofs.lemmas.List.Elements.{All-from_recursion}
+use Rattle.std.proofs.lemmas.List.{take_all}
 use Rattle.std.proofs.lemmas.List.Folds.{list_any_more}
 use Rattle.std.proofs.lemmas.Option.{get_or_from_slice_get, slice_get-get_or, slice_get_within}
-use Rattle.std.specs.Prelude.{IsTrue, IsFalse, slice_get, slice_index_or, eqb}
-use Rattle.std.specs.List.{All, AllByRecursion, IsDistinct}
+use Rattle.std.specs.Prelude.{◌-◌, IsTrue, IsFalse, nat_le, nat_lt, slice_get}
+use Rattle.std.specs.Option.{option_map_or}
+use Rattle.std.specs.List.{All, AllByRecursion}
 use Rattle.tsl_value.specs.declared.scalar.ValueType.{ValueType}
 use Rattle.flat_core.specs.declared.equation.Equation.{Equation}
 use Rattle.flat_core.specs.declared.equation.Op.{Op}
@@ -17,11 +19,21 @@ use Rattle.flat_core.specs.System.{System, runs, equation, IsProper}
 use Rattle.flat_core.specs.Typed.{IsTyped, input, nil, unit, empty, time, any, last, delay, merge, filter, pick, set_add, set_remove, map_add, map_remove, lift}
 use Rattle.flat_core.specs.TypedSystem.{AreOfTypes}
 use Rattle.flat_core.specs.WellFormed.{unguarded_of}
-use Rattle.flat_core.proofs.Members.{all_at, all_from, in-Contains}
+use Rattle.flat_core.proofs.Finished.{typed_there}
+use Rattle.flat_core.proofs.Members.{all_from, in-Contains}
 use Rattle.flat_core.proofs.Uniqueness.{all_used}
-use Rattle.alias_rules.specs.Steps.{argument, is_print, is_step}
+use Rattle.flat_core.specs.declared.equation.Output.{Output}
+use Rattle.alias_rules.specs.Fine.{IsFinePlan}
+use Rattle.alias_rules.specs.Steps.{argument, printed, is_print, is_step, step_count}
+use Rattle.alias_rules.specs.Uses.{is_update}
+use Rattle.alias_rules.proofs.Ranks.{in_take, not_in_take, one_place}
+use Rattle.register_machine.specs.Content.{print_of}
 use Rattle.register_code.specs.Plan.{IsPlanOrder}
 use Rattle.monitor_run.specs.Here.{HasShape}
+
+-- an equation stands at its number alone
+pub one_equation : (s : System) (n : ℕ) (e f : Equation) → equation s n ≡ Some e → equation s n ≡ Some f → f ≡ e
+one_equation s n e f is also = cc
 
 -- ---- arguments
 
@@ -29,23 +41,12 @@ use Rattle.monitor_run.specs.Here.{HasShape}
 pub running_args : (s : System) → IsProper s → (i : ℕ) (e : Equation) → IsTrue (runs s i) → equation s i ≡ Some e → AllByRecursion (λ a. IsTrue (runs s a)) e.args
 running_args s proper i e run is =
     let found = proper.runs_all i run in
-    subst (λ (g : Equation). AllByRecursion (λ a. IsTrue (runs s a)) g.args) (one_equation found.0 found.1) found.2
-  where
-    one_equation : (f : Equation) → equation s i ≡ Some f → f ≡ e
-    one_equation f also = cc
-
--- arguments of some types are there
-typed_there : (equations : List Equation) (args : List ℕ) (types : List ValueType) → AreOfTypes equations args types → AllByRecursion (λ a. a < length equations) args
-typed_there equations [] [] typed = tt
-typed_there equations [] (t ∷ types) typed = absurd typed
-typed_there equations (a ∷ args) [] typed = absurd typed
-typed_there equations (a ∷ args) (t ∷ types) typed = (slice_get_within equations a typed.0.at typed.0.is, typed_there equations args types typed.1)
+    subst (λ (g : Equation). AllByRecursion (λ a. IsTrue (runs s a)) g.args) (one_equation s i e found.0 is found.1) found.2
 
 -- the arguments of an equation are there
 pub args_there : (s : System) (i : ℕ) (e : Equation) (n : ℕ) → IsFlat s → equation s i ≡ Some e → n ≡ length s.equations → All (λ a. a < n) e.args
 args_there s i e n flat is same =
-    let typed = flat.complete.typed.each i e is in
-    subst (λ m. All (λ a. a < m) e.args) (sym same) (All-from_recursion (λ a. a < length s.equations) e.args (typed_there s.equations e.args typed.types typed.arguments))
+    subst (λ m. All (λ a. a < m) e.args) (sym same) (All-from_recursion (λ a. a < length s.equations) e.args (typed_there s flat.complete.typed i e is))
 
 -- as many arguments as types
 module _ (equations : List Equation) (P : List ℕ → Type 0) where
@@ -106,41 +107,6 @@ done_by order k i = is_in (take k order) i
 pub done_next : (order : List ℕ) (k i : ℕ) → k < length order → done_by order (k + 1) i ≡ (done_by order k i || (get_or order k 0 == i))
 done_next order k i lt = list_any_more (λ j. j == i) order k 0 lt
 
-some_same : (a b : ℕ) → Some a ≡ Some b → a ≡ b
-some_same a b is = cc
-
-in_take : (xs : List ℕ) (k m x : ℕ) → m < k → slice_get xs m ≡ Some x → is_in (take k xs) x ≡ true
-in_take [] k m x lt is = let within = slice_get_within [] m x is in absurd (omega arith)
-in_take (y ∷ xs) zero m x lt is = absurd (omega arith)
-in_take (y ∷ xs) (suc k) zero x lt is = or_left (y == x) (is_in (take k xs) x) (eq-eqb y x (some_same y x is))
-in_take (y ∷ xs) (suc k) (suc m) x lt is = or_right (y == x) (is_in (take k xs) x) (in_take xs k m x (omega arith) is)
-
-both_false : (a b : Bool) → a ≡ false → b ≡ false → (a || b) ≡ false
-both_false a b p q = λ k. p k || q k
-
-not_in_take : (xs : List ℕ) (k : ℕ) → IsDistinct eqb xs → k < length xs → is_in (take k xs) (get_or xs k 0) ≡ false
-unfolding IsDistinct
-not_in_take [] k apart lt = absurd (omega arith)
-not_in_take (x ∷ xs) zero apart lt = refl
-not_in_take (x ∷ xs) (suc k) apart lt =
-    both_false (x == get_or xs k 0) (is_in (take k xs) (get_or xs k 0)) (all_at (λ y. eqb x y ≡ false) xs apart.0 (get_or xs k 0) (k, omega arith, get_or_default_same xs k (omega arith)))
-    (not_in_take xs k apart.1 (omega arith))
-  where
-    get_or_default_same : (ys : List ℕ) (j : ℕ) → j < length ys → slice_index_or ys j (get_or ys j 0) ≡ get_or ys j 0
-    get_or_default_same ys j within = get_or_from_slice_get ys j (get_or ys j 0) (get_or ys j 0) (slice_get-get_or ys j 0 within)
-
--- a number stands at one place
-pub one_place : (xs : List ℕ) (k m : ℕ) → IsDistinct eqb xs → k < length xs → slice_get xs m ≡ Some (get_or xs k 0) → m ≡ k
-one_place xs k m apart lt is = elim (cases_lt m k) [
-  | inl low ↦ absurd (false≢true (sym (not_in_take xs k apart lt) ∙ in_take xs k m (get_or xs k 0) low is))
-  | inr high ↦ elim (cases_lt k m) [
-    | inl above ↦
-        let there : get_or xs m 0 ≡ get_or xs k 0 = get_or_from_slice_get xs m (get_or xs k 0) 0 is in
-        absurd (false≢true (sym (ap (is_in (take m xs)) (sym there) ∙ not_in_take xs m apart (slice_get_within xs m (get_or xs k 0) is)) ∙ in_take xs m k (get_or xs k 0) above (slice_get-get_or xs k 0 lt)))
-    | inr level ↦ omega arith
-  ]
-]
-
 -- an equation that comes next: it runs and has not, and what it uses has
 pub record ComesNext (s : System) (done : ℕ → Bool) (i : ℕ) : Type 0 where
   pub at : Equation
@@ -178,21 +144,12 @@ module _ (s : System) (order : List ℕ) (plan : IsPlanOrder s order) where
           used = all_used (λ a. IsTrue (done_by order k a)) found.0.op found.0.args (used_done found.0 found.1);
         }
 
-  take_all : (xs : List ℕ) (m : ℕ) → length xs ≤ m → take m xs ≡ xs
-  take_all [] zero le = refl
-  take_all [] (suc m) le = refl
-  take_all (x ∷ xs) zero le = absurd (omega arith)
-  take_all (x ∷ xs) (suc m) le = ap (λ l. x ∷ l) (take_all xs m (omega arith))
-
   -- each running equation stands in the order
   pub in_order : (i : ℕ) → IsTrue (runs s i) → IsTrue (is_in order i)
   in_order i run = in-Contains order i ((plan.steps i).1 (or_left (runs s i) (is_print s i) run))
 
   pub all_done : (k i : ℕ) → length order ≤ k → IsTrue (runs s i) → IsTrue (done_by order k i)
-  all_done k i le run = ap (λ xs. is_in xs i) (take_all order k le) ∙ in_order i run
-
-pub one_equation : (s : System) (n : ℕ) (e f : Equation) → equation s n ≡ Some e → equation s n ≡ Some f → f ≡ e
-one_equation s n e f is also = cc
+  all_done k i le run = ap (λ xs. is_in xs i) (take_all k order le) ∙ in_order i run
 
 -- step k of an order is equation n
 module _ (s : System) (whole : IsFlat s) (order : List ℕ) (plan : IsPlanOrder s order) (k n : ℕ) (lt : k < length order) (is : n ≡ get_or order k 0) where
@@ -211,8 +168,60 @@ module _ (s : System) (whole : IsFlat s) (order : List ℕ) (plan : IsPlanOrder 
   pub done_is : (i : ℕ) → (done_by order k i || (n == i)) ≡ done_by order (k + 1) i
   done_is i = (λ j. done_by order k i || (is j == i)) ∙ sym (done_next order k i lt)
 
-  pub no_equation : length s.equations ≤ n → (i : ℕ) → IsTrue (runs s i) → (n == i) ≡ false
-  no_equation le i run =
-      let found = whole.proper.runs_all i run in
-      let there = slice_get_within s.equations i found.0 found.1 in
-      ne_eqb n i (λ same. absurd (omega arith))
+-- ---- fine plans
+
+-- what happens in place is an update
+pub fine_update : (s : System) (set order : List ℕ) → IsFinePlan s set order → (n : ℕ) (e : Equation) → equation s n ≡ Some e → is_in set n ≡ true → is_update e.op ≡ true
+fine_update s set order fine n e is listed =
+    let update = fine.updates n listed in
+    subst (λ (f : Equation). is_update f.op ≡ true) (one_equation s n e update.at is update.is) update.updates
+
+-- a print that comes next: its output is there, and what it prints has run
+pub record PrintsNext (s : System) (front : List ℕ) (n : ℕ) : Type 0 where
+  pub k : ℕ
+  pub is : n ≡ length s.equations + k
+  pub there : k < length s.outputs
+  pub done : IsTrue (is_in front (print_of s k))
+  pub running : IsTrue (runs s (print_of s k))
+
+module _ (s : System) (whole : IsFlat s) (order : List ℕ) (plan : IsPlanOrder s order) (k : ℕ) (lt : k < length order) (high : length s.equations ≤ get_or order k 0) where
+  print_found : IsTrue (is_print s (get_or order k 0))
+  print_found = elim (or_cases (runs s (get_or order k 0)) (is_print s (get_or order k 0)) ((plan.steps (get_or order k 0)).0 (k, lt, get_or_from_slice_get order k (get_or order k 0) (get_or order k 0) (slice_get-get_or order k 0 lt)))) [
+    | inl run ↦ let found = whole.proper.runs_all (get_or order k 0) run in let within = slice_get_within s.equations (get_or order k 0) found.0 found.1 in absurd (omega arith)
+    | inr print ↦ print
+  ]
+
+  pub prints_next : PrintsNext s (take k order) (get_or order k 0)
+  prints_next =
+      let below = ltb-true (get_or order k 0) (step_count s) (and_parts (nat_le (length s.equations) (get_or order k 0)) (nat_lt (get_or order k 0) (step_count s)) print_found).1 in
+      let there : get_or order k 0 - length s.equations < length s.outputs = omega arith in
+      from (get_or order k 0 - length s.equations) there (omega arith) (get_or s.outputs (get_or order k 0 - length s.equations) unnamed)
+      (slice_get-get_or s.outputs (get_or order k 0 - length s.equations) unnamed there)
+    where
+      unnamed : Output
+      unnamed = record { name = []; equation = 0 }
+
+      from : (j : ℕ) → j < length s.outputs → get_or order k 0 ≡ length s.equations + j → (o : Output) → slice_get s.outputs j ≡ Some o → PrintsNext s (take k order) (get_or order k 0)
+      from j there is o at =
+          let printed_is : print_of s j ≡ o.equation = ap (λ q. option_map_or (λ (x : Output). x.equation) q 0) at in
+          let p = plan.agrees o.equation (get_or order k 0) (printed j o at refl is) in
+          let second = one_place order k p.second plan.once lt p.second_is in
+          let before = p.is_before in
+          record {
+            k = j;
+            is = is;
+            there = there;
+            done = subst (λ x. IsTrue (is_in (take k order) x)) (sym printed_is) (in_take order k p.first o.equation (omega arith) p.first_is);
+            running = subst (λ x. IsTrue (runs s x)) (sym printed_is) (output_runs s.outputs j o at whole.outputs_run);
+          }
+        where
+          output_runs : (os : List Output) (m : ℕ) (o : Output) → slice_get os m ≡ Some o → AllByRecursion (λ (x : Output). IsTrue (runs s x.equation)) os → IsTrue (runs s o.equation)
+          output_runs [] m o is all = absurd (cc)
+          output_runs (x ∷ os) zero o is all = let same : x ≡ o = cc in subst (λ (y : Output). IsTrue (runs s y.equation)) same all.0
+          output_runs (x ∷ os) (suc m) o is all = output_runs os m o is all.1
+
+-- each print stands in the order
+pub prints_in : (s : System) (order : List ℕ) → IsPlanOrder s order → (k : ℕ) → k < length s.outputs → IsTrue (is_in order (length s.equations + k))
+prints_in s order plan k lt =
+    in-Contains order (length s.equations + k) ((plan.steps (length s.equations + k)).1 (or_right (runs s (length s.equations + k)) (is_print s (length s.equations + k))
+    (and_from (nat_le (length s.equations) (length s.equations + k)) (nat_lt (length s.equations + k) (step_count s)) (le-leb (length s.equations) (length s.equations + k) (omega arith)) (lt-ltb (length s.equations + k) (step_count s) (omega arith)))))

@@ -1,380 +1,404 @@
--- The equations of an instant, one after another.
-use Rattle.std.proofs.Common.{◌≡◌, ◌==◌, ℕ, ◌+◌, ◌<◌, ◌^◌, ◌-◌, Bool, true, false, ◌&&◌, ◌||◌, List, [], ◌∷◌, length, map, Option, Some, None, Ok, refl, sym, ap, subst, ◌∙◌, zero-add, inl, inr, arith}
-use Rattle.std.proofs.lemmas.Bool.{cases_Bool, eq-eqb, eqb-true, eqb-false, or_cases, or_left, or_parts, false≢true}
-use Rattle.std.proofs.lemmas.Option.{slice_get_within}
-use Rattle.std.proofs.Math.Bool.{or-false}
-use Rattle.std.proofs.lemmas.List.FromFn.{length-range_with_len, get_or-range_with_len}
+-- One equation: it runs in the code as it does in the register machine.
+use Rattle.std.proofs.Common.{◌≡◌, ◌==◌, ℕ, ◌+◌, ◌<◌, ◌^◌, ◌-◌, Bool, true, false, ◌||◌, List, [], ◌∷◌, length, map, Option, Some, None, Ok, Err, refl, sym, ap, subst, ◌∙◌, inl, inr}
+use Rattle.std.proofs.lemmas.Bool.{cases_eq, or_parts, false≢true, true≢false}
 use Rattle.std.proofs.lemmas.List.{get_or-set_same, get_or-set_other}
-use Rattle.std.specs.Prelude.{if◌then◌else◌, ◌≢◌, is_some, min, IsTrue, IsFalse, slice_index}
-use Rattle.std.specs.Option.{option_map, option_and_then}
-use Rattle.std.specs.List.{AllByRecursion, list_any, range_with_len}
-use Rattle.tsl_value.specs.View.{View}
+use Rattle.std.specs.Prelude.{◌≢◌, if◌then◌else◌, is_some, min, slice_index, slice_set}
+use Rattle.std.specs.Option.{option_and_then, option_map, option_or}
+use Rattle.std.specs.List.{AllByRecursion, list_any}
+use Rattle.std.specs.FinMap as finite_map
+use Rattle.tsl_value.specs.View.{View, Plain}
+use Rattle.tsl_value.specs.declared.scalar.Scalar.TheVariants as scalar
+use Rattle.tsl_value.specs.declared.scalar.ValueType.{ValueType}
+use Rattle.lift_func.specs.declared.eval.EvalFault.TheVariants as eval_fault
 use Rattle.lift_func.specs.declared.fault.FaultKind.{FaultKind}
-use Rattle.lift_func.specs.Cells.{HoldsLive, held}
-use Rattle.lift_func.specs.Typing.{Optional, fits}
-use Rattle.aggregate_store.specs.Stored.{counted}
+use Rattle.lift_func.specs.declared.register.Register.{Register}
+use Rattle.lift_func.specs.declared.register.Register.TheVariants as register
+use Rattle.lift_func.specs.Cells as cells
+use Rattle.lift_func.specs.Cells.{IsLive, HoldsLive}
+use Rattle.aggregate_store.specs.Stored.{Stored, counted}
 use Rattle.flat_core.specs.declared.equation.Equation.{Equation}
 use Rattle.flat_core.specs.declared.equation.Op.{Op}
 use Rattle.flat_core.specs.declared.equation.Op.TheVariants as op
-use Rattle.flat_core.specs.Case.{Streams, Inputs, at_once, case_of, delayed, fault_of, is_blocked, own_of, outcome_of, root_fault, root_of, used_of}
-use Rattle.flat_core.specs.Complete.{IsFlat}
-use Rattle.flat_core.specs.Instant.{is_delay_op, is_delay}
-use Rattle.flat_core.specs.Stream.{Fault, event, has_event, is_fault}
-use Rattle.flat_core.specs.System.{System, runs, equation}
-use Rattle.flat_core.proofs.Members.{some_from, in-Contains}
-use Rattle.flat_core.proofs.Uniqueness.{used_all}
-use Rattle.register_code.specs.Code.{is_kept, is_number, kept_at, kept_by}
-use Rattle.program_text.specs.Text.{numbers}
+use Rattle.flat_core.specs.Case.{Inputs, at_once, used_of}
+use Rattle.flat_core.specs.Pending.{option_is}
+use Rattle.alias_rules.specs.Uses.{is_update}
+use Rattle.register_machine.specs.Copied.{size_at}
+use Rattle.register_machine.specs.Machine.{Held, Bare, Cell, Slot, Blank, Holds, Failed, held, is_failed, slot_of, slot_of_answer, Config, value_in, view_of, with, Effect, Fill, Make, effect_of, effect, is_barred, Ran, RanInPlace}
+use Rattle.register_machine.specs.Machine as machine
+use Rattle.register_machine.specs.Run.{failed_by}
+use Rattle.register_machine.proofs.Cells.{with-here, with-there}
 use Rattle.monitor_run.specs.declared.machine.Machine.{Machine}
 use Rattle.monitor_run.specs.declared.run.Root.{Root}
-use Rattle.monitor_run.specs.Copied.{is_update, is_update_op, size_copied, size_in, source_size}
-use Rattle.monitor_run.specs.Here.{Extends, HasShape, first_of, is_blocked_here, is_marked, ledger_after, own_here}
-use Rattle.monitor_run.specs.Instant.{HasRunAll, HasRunOne, IsLeastRoot, Means, SameBeside, StartsAs, case_here, ledger_at, root_beside, root_here}
-use Rattle.monitor_run.specs.Machine.{AreFresh, IsFresh}
-use Rattle.monitor_run.specs.Registers.{AreHeld, IsHeldOf, register_at, value_at}
-use Rattle.monitor_run.proofs.CellLemmas.{extends-none, extends-two, held-kept, held_of-kept}
-use Rattle.monitor_run.proofs.PlanLemmas.{ComesNext, running_args, shape_of}
-use Rattle.monitor_run.proofs.TypedLemmas.{case_fits}
+use Rattle.monitor_run.specs.Here.{HasEffect, HasMade, HasShape, effect_here, is_blocked_here, is_given_op, is_marked, source_of}
+use Rattle.monitor_run.specs.Instant.{HasRunOne, was_given, was_barred, was_filled, has_failed, IsGivenEvent, IsShownAt, ShowsBeside}
+use Rattle.monitor_run.specs.Machine.{IsFresh}
+use Rattle.monitor_run.specs.Registers.{register_at}
+use Rattle.monitor_run.specs.Shown.{IsShown, config_of, held_at, held_by}
+use Rattle.monitor_run.proofs.CaseLemmas.{value_seen}
 
-pub least-same : (among other : ℕ → Bool) (at : ℕ → Option FaultKind) (r : Option Root) → ((i : ℕ) → among i ≡ other i) → IsLeastRoot among at r → IsLeastRoot other at r
-least-same among other at r same = subst (λ (p : ℕ → Bool). IsLeastRoot p at r) (λ k i. same i k)
+-- ---- registers that stand for one another
 
-pub least-at : (among : ℕ → Bool) (at other : ℕ → Option FaultKind) (r : Option Root) → ((i : ℕ) → IsTrue (among i) → at i ≡ other i) → IsLeastRoot among at r → IsLeastRoot among other r
-least-at among at other None same least = λ i h. sym (same i h) ∙ least i h
-least-at among at other (Some r) same least = (least.0, sym (same r.equation least.0) ∙ least.1, λ i h lt. sym (same i h) ∙ least.2 i h lt)
+-- a register that stands for one that is no fault
+sound_slot : (r : Register) (slot : Slot) → IsShown false r slot → slot ≡ slot_of (held_by r)
+sound_slot r Blank shown = ap slot_of (sym shown.holds)
+sound_slot r (Holds h) shown = ap slot_of (sym shown.holds)
+sound_slot r (Failed kind) shown = absurd (false≢true shown.fails)
 
--- of one number
-pub least-one : (n : ℕ) (at : ℕ → Option FaultKind) (found : Option FaultKind) → at n ≡ found → IsLeastRoot (λ i. n == i) at (option_map (λ kind. record { equation = n; kind = kind }) found)
-least-one n at None is = λ i h. ap at (sym (eqb-true n i h)) ∙ is
-least-one n at (Some kind) is = (eq-eqb n n refl, is, λ i h lt. let same = eqb-true n i h in absurd (omega arith))
+shown_holds : (r : Register) → IsShown false r (slot_of (held_by r))
+shown_holds register.Empty = record { holds = refl; fails = refl }
+shown_holds (register.Scalar s) = record { holds = refl; fails = refl }
+shown_holds (register.Aggregate h) = record { holds = refl; fails = refl }
 
--- Equations that are done have run.
-pub record IsPartly (s : System) (t : ℕ) (done : ℕ → Bool) (old mid : Machine) (root : Option Root) : Type 0 where
-  pub same : SameBeside old mid
-  pub extends : Extends old.store.cells mid.store.cells
-  pub held : AreHeld s mid.store.cells mid.registers.items
-  pub fresh : (i : ℕ) (e : Equation) → IsTrue (runs s i) → equation s i ≡ Some e → IsFalse (done i) → IsFresh mid i e.op
-  pub untouched : (i : ℕ) → IsFalse (done i) → register_at mid.registers.items i ≡ register_at old.registers.items i
-  pub means : (inputs : Inputs) (z : Streams) → StartsAs s inputs z t old → Means s inputs z t done old mid root
+answer_sound : (v : Option View) → is_failed (slot_of_answer (Ok v)) ≡ false
+answer_sound None = refl
+answer_sound (Some (Plain s)) = refl
+answer_sound (Some v) = refl
 
-pub same-none : (m : Machine) → SameBeside m m
-same-none m = record { timers = refl; last = refl; registers_each = refl; faulted_each = refl; ledger_each = refl }
+answer_no_root : (v : Option View) → failed_by (slot_of_answer (Ok v)) ≡ None
+answer_no_root None = refl
+answer_no_root (Some (Plain s)) = refl
+answer_no_root (Some v) = refl
 
-pub same-two : {a b c : Machine} → SameBeside a b → SameBeside b c → SameBeside a c
-same-two p q = record {
-  timers = q.timers ∙ p.timers;
-  last = q.last ∙ p.last;
-  registers_each = q.registers_each ∙ p.registers_each;
-  faulted_each = q.faulted_each ∙ p.faulted_each;
-  ledger_each = q.ledger_each ∙ p.ledger_each;
-}
+no_root : (r : Register) → failed_by (slot_of (held_by r)) ≡ None
+no_root register.Empty = refl
+no_root (register.Scalar s) = refl
+no_root (register.Aggregate h) = refl
 
-pub partly-none : (s : System) (t : ℕ) (old : Machine) → AreHeld s old.store.cells old.registers.items → AreFresh s old → IsPartly s t (λ i. false) old old None
-partly-none s t old held fresh = record {
-  same = same-none old;
-  extends = extends-none old.store.cells;
-  held = held;
-  fresh = λ i e run is h. fresh.each i e run is;
-  untouched = λ i h. refl;
-  means = λ inputs z starts. record {
-    values = λ i h run. absurd (false≢true h);
-    marks = λ i h run. absurd (false≢true h);
-    root_is = λ i h. absurd (false≢true h);
-    ledger = λ i run update. refl;
-  };
-}
+-- a failed equation by itself has this root fault
+abbrev pub root_of_slot : ℕ → Slot → Option Root
+root_of_slot i slot = option_map (λ kind. record { equation = i; kind = kind }) (failed_by slot)
 
-pub partly-done : (s : System) (t : ℕ) (done other : ℕ → Bool) (old mid : Machine) (root : Option Root) → ((i : ℕ) → done i ≡ other i) → IsPartly s t done old mid root → IsPartly s t other old mid root
-partly-done s t done other old mid root same = subst (λ (p : ℕ → Bool). IsPartly s t p old mid root) (λ k i. same i k)
+-- ---- what can run, and what has
 
--- last registers stay as they hold
-pub last_kept : (s : System) (old mid : Machine) → SameBeside old mid → Extends old.store.cells mid.store.cells → AreHeld s old.store.cells old.last.items → AreHeld s mid.store.cells mid.last.items
-last_kept s old mid same extends held = subst (AreHeld s mid.store.cells) (sym same.last) (record {
-  one_each = held.one_each;
-  each = λ i e run is. held_of-kept old.store.cells mid.store.cells extends e.of (register_at old.last.items i) (held.each i e run is);
-})
+-- Equation i can run: the arguments that it uses at the same time, and all that it uses besides, stand for a configuration.
+pub record CanRunOn (inputs : Inputs) (t i : ℕ) (e : Equation) (m : Machine) (c : Config) : Type 0 where
+  pub used : AllByRecursion (IsShownAt m c) (used_of e.op e.args)
+  pub beside : ShowsBeside m c
+  pub given : IsGivenEvent inputs t i e.op m c.pending
 
--- what a running last keeps
-pub kept_first : (s : System) (n : ℕ) (e : Equation) (v r : ℕ) → IsTrue (runs s n) → equation s n ≡ Some e → e.op ≡ op.Last → e.args ≡ v ∷ r ∷ [] → IsTrue (is_kept s v)
-kept_first s n e v r run is op_is args_are =
-    some_from (λ j. runs s j && is_number (kept_at (equation s j)) v) (numbers s) n (in_numbers (length s.equations) n (slice_get_within s.equations n e is))
-    (both (runs s n) (is_number (kept_at (equation s n)) v) run (ap (λ o. is_number (kept_at o) v) is ∙ in_args))
-  where
-    both : (a b : Bool) → a ≡ true → b ≡ true → (a && b) ≡ true
-    both a b p q = λ k. p k && q k
+-- the step of an equation
+abbrev pub RanOne : Bool → ℕ → Equation → Config → Effect → Config → Type 0
+RanOne true i e c does d = RanInPlace i e c does d
+RanOne false i e c does d = Ran i e c does d
 
-    in_args : is_number (kept_by e.op e.args) v ≡ true
-    in_args = (λ k. is_number (kept_by (op_is k) (args_are k)) v) ∙ eq-eqb v v refl
+-- An equation has run as the machine runs it.
+pub record HasRunOn (inputs : Inputs) (in_place : Bool) (t i : ℕ) (e : Equation) (c : Config) (new : Machine) (root : Option Root) : Type 0 where
+  pub next : Config
+  pub ran : RanOne in_place i e c (effect inputs t c i e) next
+  pub shown : IsShownAt new next i
+  pub beside : ShowsBeside new next
+  pub others : (j : ℕ) → j ≢ i → next.slots j ≡ c.slots j
+  pub pending : (j : ℕ) → next.pending j ≡ c.pending j
+  pub root_is : root ≡ root_of_slot i (next.slots i)
 
-    in_numbers : (len i : ℕ) → i < len → list_any (λ y. y == i) (range_with_len 0 len) ≡ true
-    in_numbers len i lt = let size = length-range_with_len 0 len in in-Contains (range_with_len 0 len) i (i, omega arith, get_or-range_with_len 0 len i i lt ∙ zero-add i)
+-- ---- effects depend on what is used
 
--- ---- the equation that comes next
-module _ (s : System) (whole : IsFlat s) (t n : ℕ) (done : ℕ → Bool) (old mid : Machine) (root : Option Root) (next : ComesNext s done n) (p : IsPartly s t done old mid root) (start : AreHeld s old.store.cells old.registers.items) (kept : AreHeld s old.store.cells old.last.items) where
-  abbrev e : Equation
-  e = next.at
+module _ (inputs : Inputs) (t i : ℕ) (c d : Config) (cells : c.cells ≡ d.cells) (lasts : (v : ℕ) → c.lasts v ≡ d.lasts v) where
+  value_same : (a : ℕ) → c.slots a ≡ d.slots a → value_in c a ≡ value_in d a
+  value_same a slot = λ k. option_and_then (view_of (cells k)) (held (slot k))
 
-  args_run : AllByRecursion (λ a. IsTrue (runs s a)) next.at.args
-  args_run = running_args s whole.proper n next.at next.running next.is
+  values_same : (args : List ℕ) → AllByRecursion (λ a. c.slots a ≡ d.slots a) args → map (value_in c) args ≡ map (value_in d) args
+  values_same [] all = refl
+  values_same (a ∷ args) all = let here = value_same a all.0 in let rest = values_same args all.1 in λ k. here k ∷ rest k
 
-  live_of : (i : ℕ) → IsTrue (runs s i) → HoldsLive mid.store.cells (register_at mid.registers.items i)
-  live_of i run = let f = whole.proper.runs_all i run in (p.held.each i f.0 run f.1).live
+  pub effect_same : (o : Op) (args : List ℕ) (of : ValueType) → is_given_op o ≡ false → HasShape o args → AllByRecursion (λ a. c.slots a ≡ d.slots a) (used_of o args) → effect_of inputs t c i o args of ≡ effect_of (λ j u. None) t d i o args of
+  effect_same op.Input args of other shape used = absurd (true≢false other)
+  effect_same op.Delay args of other shape used = absurd (true≢false other)
+  effect_same op.Last [] of other shape used = absurd shape
+  effect_same op.Last (v ∷ []) of other shape used = absurd shape
+  effect_same op.Last (v ∷ r ∷ x ∷ args) of other shape used = absurd shape
+  effect_same op.Last (v ∷ r ∷ []) of other shape used = λ k. Fill (if is_some (held (used.0 k)) then slot_of (lasts v k) else Blank)
+  effect_same op.Merge [] of other shape used = absurd shape
+  effect_same op.Merge (a ∷ []) of other shape used = absurd shape
+  effect_same op.Merge (a ∷ b ∷ x ∷ args) of other shape used = absurd shape
+  effect_same op.Merge (a ∷ b ∷ []) of other shape used = λ k. Fill (slot_of (option_or (held (used.0 k)) (held (used.1.0 k))))
+  effect_same op.Filter [] of other shape used = absurd shape
+  effect_same op.Filter (a ∷ []) of other shape used = absurd shape
+  effect_same op.Filter (a ∷ b ∷ x ∷ args) of other shape used = absurd shape
+  effect_same op.Filter (a ∷ b ∷ []) of other shape used = λ k. Fill (slot_of (machine.where_true (held (used.1.0 k)) (held (used.0 k))))
+  effect_same op.Pick [] of other shape used = absurd shape
+  effect_same op.Pick (a ∷ []) of other shape used = absurd shape
+  effect_same op.Pick (a ∷ b ∷ []) of other shape used = absurd shape
+  effect_same op.Pick (a ∷ b ∷ x ∷ y ∷ args) of other shape used = absurd shape
+  effect_same op.Pick (a ∷ b ∷ x ∷ []) of other shape used = λ k. Fill (slot_of (machine.where_either (held (used.0 k)) (held (used.1.0 k)) (held (used.1.1.0 k))))
+  effect_same op.Empty args of other shape used = ap (λ vs. machine.made (at_once op.Empty of vs t)) (values_same args used)
+  effect_same op.SetAdd args of other shape used = ap (λ vs. machine.made (at_once op.SetAdd of vs t)) (values_same args used)
+  effect_same op.SetRemove args of other shape used = ap (λ vs. machine.made (at_once op.SetRemove of vs t)) (values_same args used)
+  effect_same op.MapAdd args of other shape used = ap (λ vs. machine.made (at_once op.MapAdd of vs t)) (values_same args used)
+  effect_same op.MapRemove args of other shape used = ap (λ vs. machine.made (at_once op.MapRemove of vs t)) (values_same args used)
+  effect_same op.Nil args of other shape used = ap (λ vs. Fill (slot_of_answer (at_once op.Nil of vs t))) (values_same args used)
+  effect_same op.Unit args of other shape used = ap (λ vs. Fill (slot_of_answer (at_once op.Unit of vs t))) (values_same args used)
+  effect_same (op.Lift body strict) args of other shape used = ap (λ vs. Fill (slot_of_answer (at_once (op.Lift body strict) of vs t))) (values_same args used)
+  effect_same op.Any args of other shape used = ap (λ vs. Fill (slot_of_answer (at_once op.Any of vs t))) (values_same args used)
+  effect_same op.Time args of other shape used = ap (λ vs. Fill (slot_of_answer (at_once op.Time of vs t))) (values_same args used)
 
-  last_live : (i : ℕ) → IsTrue (runs s i) → HoldsLive old.store.cells (register_at old.last.items i)
-  last_live i run = let f = whole.proper.runs_all i run in (kept.each i f.0 run f.1).live
+-- the first argument of an update is used
+source_used : (P : ℕ → Type 0) (o : Op) (m : ℕ) (args : List ℕ) → is_update o ≡ true → AllByRecursion P (used_of o (m ∷ args)) → P m
+source_used P op.SetAdd m args is all = all.0
+source_used P op.SetRemove m args is all = all.0
+source_used P op.MapAdd m args is all = all.0
+source_used P op.MapRemove m args is all = all.0
+source_used P _ m args is all = absurd (false≢true is)
 
-  -- the register of the equation itself is as it was
-  old_value : value_at mid.store.cells mid.registers.items n ≡ value_at old.store.cells old.registers.items n
-  old_value = ap (held mid.store.cells) (p.untouched n next.new) ∙ held-kept old.store.cells mid.store.cells p.extends (register_at old.registers.items n) (start.each n next.at next.running next.is).live
+-- ---- numbers of the ledger
+ledger_here : (ledger : List ℕ) (i x u : ℕ) → i < length ledger → slice_index (slice_set ledger i x) u ≡ with (slice_index ledger) i x u
+ledger_here ledger i x u there = elim (cases_eq u i) [
+  | inl same ↦ subst (λ n. slice_index (slice_set ledger i x) n ≡ with (slice_index ledger) i x n) (sym same) (get_or-set_same ledger i x 0 there ∙ sym (with-here (slice_index ledger) i x))
+  | inr other ↦ get_or-set_other ledger i u x 0 other ∙ sym (with-there (slice_index ledger) i x u other)
+]
 
-  last_value : (v : ℕ) → IsTrue (runs s v) → value_at mid.store.cells mid.last.items v ≡ value_at old.store.cells old.last.items v
-  last_value v run = (λ k. held mid.store.cells (register_at (p.same.last k) v)) ∙ held-kept old.store.cells mid.store.cells p.extends (register_at old.last.items v) (last_live v run)
+with_same : (f g : ℕ → ℕ) (i x y u : ℕ) → ((n : ℕ) → f n ≡ g n) → x ≡ y → with f i x u ≡ with g i y u
+with_same f g i x y u same is = λ k. if u == i then is k else same u k
 
-  module _ (inputs : Inputs) (z : Streams) (starts : StartsAs s inputs z t old) where
-    abbrev m : Means s inputs z t done old mid root
-    m = p.means inputs z starts
+-- ---- one equation
+module _ (inputs : Inputs) (in_place : Bool) (t i : ℕ) (e : Equation) (old new : Machine) (c : Config) (can : CanRunOn inputs t i e old c) (shape : HasShape e.op e.args) (last : new.last.items ≡ old.last.items) where
+  barred_is : is_barred c e ≡ is_blocked_here old.faulted.items e.op e.args
+  barred_is = go (used_of e.op e.args) can.used
+    where
+      go : (xs : List ℕ) → AllByRecursion (IsShownAt old c) xs → list_any (λ a. is_failed (c.slots a)) xs ≡ list_any (is_marked old.faulted.items) xs
+      go [] all = refl
+      go (a ∷ xs) all = let here = sym all.0.fails in let rest = go xs all.1 in λ k. here k || rest k
 
-    marks_same : (xs : List ℕ) → AllByRecursion (λ a. IsTrue (done a)) xs → AllByRecursion (λ a. IsTrue (runs s a)) xs → list_any (is_marked mid.faulted.items) xs ≡ list_any (λ a. is_fault (z a t)) xs
-    marks_same [] d r = refl
-    marks_same (a ∷ xs) d r = let rest = marks_same xs d.1 r.1 in let here = (p.means inputs z starts).marks a d.0 r.0 in λ k. here k || rest k
+  effect_is : (b : Bool) → is_blocked_here old.faulted.items e.op e.args ≡ b → effect inputs t c i e ≡ (if b then Fill (Failed None) else effect_of inputs t c i e.op e.args e.of)
+  effect_is b is = let same = barred_is ∙ is in λ k. if same k then Fill (Failed None) else effect_of inputs t c i e.op e.args e.of
 
-    values_same : (xs : List ℕ) → AllByRecursion (λ a. IsTrue (done a)) xs → AllByRecursion (λ a. IsTrue (runs s a)) xs → map (value_at mid.store.cells mid.registers.items) xs ≡ map (λ a. event (z a t)) xs
-    values_same [] d r = refl
-    values_same (a ∷ xs) d r = let rest = values_same xs d.1 r.1 in let here = (p.means inputs z starts).values a d.0 r.0 in λ k. here k ∷ rest k
-
-    blocked_same : is_blocked_here mid.faulted.items next.at.op next.at.args ≡ is_blocked z next.at t
-    blocked_same = marks_same (used_of next.at.op next.at.args) next.used (used_all (λ a. IsTrue (runs s a)) next.at.op next.at.args args_run)
-
-    own_same : (o : Op) (args : List ℕ) → next.at.op ≡ o → next.at.args ≡ args → HasShape o args → AllByRecursion (λ a. IsTrue (done a)) (used_of o args) → AllByRecursion (λ a. IsTrue (runs s a)) args → own_here mid.store.cells mid.registers.items mid.last.items n t o args next.at.of ≡ own_of inputs z n o args next.at.of t
-    own_same op.Input args op_is args_are shape used run = ap Ok (old_value ∙ starts.inputs_are n next.at next.running next.is op_is)
-    own_same op.Delay args op_is args_are shape used run = ap Ok (old_value ∙ starts.delays_are n next.at next.running next.is op_is ∙ (λ k. delayed z n (args_are k) t))
-    own_same op.Last (v ∷ r ∷ []) op_is args_are shape used run =
-        let here = ap is_some ((p.means inputs z starts).values r used.0 run.1.0) in
-        let before = last_value v run.0 ∙ starts.last_are v (kept_first s n next.at v r next.running next.is op_is args_are) in
-        λ k. Ok (if here k then before k else None)
-    own_same op.Last _ op_is args_are shape used run = absurd shape
-    own_same o args op_is args_are shape used run = ap (λ values. at_once o next.at.of values t) (values_same args used run)
-
-    own_is : own_here mid.store.cells mid.registers.items mid.last.items n t next.at.op next.at.args next.at.of ≡ own_of inputs z n next.at.op next.at.args next.at.of t
-    own_is = own_same next.at.op next.at.args refl refl (shape_of s whole n next.at next.is) next.used args_run
-
-    case_same : case_here mid n t next.at ≡ case_of inputs z n next.at t
-    case_same = let blocked = blocked_same in let own = own_is in λ k. if blocked k then Some Fault else outcome_of (own k)
-
-    event_is : event (case_here mid n t next.at) ≡ event (z n t)
-    event_is = ap event (case_same ∙ sym (starts.each n next.at next.running next.is))
-
-    -- its root fault, if it is no delay
-    beside_one : (o : Op) → next.at.op ≡ o → (if is_delay_op o then None else root_of inputs z n next.at o t) ≡ (if is_blocked z next.at t then None else fault_of (own_of inputs z n o next.at.args next.at.of t))
-    beside_one op.Delay is = none (is_blocked z next.at t)
+  -- no argument that is used is a fault: the effect is that of the code's registers
+  module _ (sound : is_blocked_here old.faulted.items e.op e.args ≡ false) (other : is_given_op e.op ≡ false) where
+    slots_are : AllByRecursion (λ a. c.slots a ≡ slot_of (held_at old.registers.items a)) (used_of e.op e.args)
+    slots_are = go (used_of e.op e.args) can.used sound
       where
-        none : (b : Bool) → ◌≡◌ {A = Option FaultKind} None (if b then None else None)
-        none true = refl
-        none false = refl
-    beside_one o is = λ k. if is_blocked z next.at t then None else fault_of (own_of inputs z n (is k) next.at.args next.at.of t)
+        go : (xs : List ℕ) → AllByRecursion (IsShownAt old c) xs → list_any (is_marked old.faulted.items) xs ≡ false → AllByRecursion (λ a. c.slots a ≡ slot_of (held_at old.registers.items a)) xs
+        go [] all none = tt
+        go (a ∷ xs) all none =
+            let two = or_parts (is_marked old.faulted.items a) (list_any (is_marked old.faulted.items) xs) none in
+            (sound_slot (register_at old.registers.items a) (c.slots a) (subst (λ b. IsShown b (register_at old.registers.items a) (c.slots a)) two.0 all.0), go xs all.1 two.1)
 
-    root_same : root_here mid n t next.at ≡ root_beside s inputs z t n
-    root_same =
-        let blocked = blocked_same in
-        let own = own_is in
-        (λ k. if blocked k then None else fault_of (own k)) ∙ sym (beside_one next.at.op refl)
-        ∙ (λ k. if is_delay (sym next.is k) then None else option_and_then (λ f. root_fault inputs z n f t) (sym next.is k))
+    own_effect : effect inputs t c i e ≡ effect_here old.registers.items old.last.items old.store i t e
+    own_effect =
+        effect_is false sound
+        ∙ effect_same inputs t i c (config_of old.registers.items old.last.items old.store) (sym can.beside.cells) (λ v. sym (can.beside.lasts v)) e.op e.args e.of other shape slots_are
 
-  module _ (new : Machine) (found : Option Root) (one : HasRunOne n t next.at mid new found) (beside : SameBeside mid new) where
-    other_value : (i : ℕ) → IsTrue (runs s i) → i ≢ n → value_at new.store.cells new.registers.items i ≡ value_at mid.store.cells mid.registers.items i
-    other_value i run ne = ap (held new.store.cells) (one.others i ne) ∙ held-kept mid.store.cells new.store.cells one.extends (register_at mid.registers.items i) (live_of i run)
+  -- a register is filled
+  ran_fill : (b : Bool) (slot : Slot) (does : Effect) → does ≡ Fill slot → RanOne b i e c does (record c { slots = with c.slots i slot })
+  ran_fill true slot does is = subst (λ x. RanOne true i e c x (record c { slots = with c.slots i slot })) (sym is) refl
+  ran_fill false slot does is = subst (λ x. RanOne false i e c x (record c { slots = with c.slots i slot })) (sym is) refl
 
-    done_other : (i : ℕ) → IsTrue (done i) → i ≢ n
-    done_other i h same = false≢true (sym next.new ∙ ap done (sym same) ∙ h)
+  fill_step : (slot : Slot) → effect inputs t c i e ≡ Fill slot → new.store ≡ old.store → IsShown (is_marked new.faulted.items i) (register_at new.registers.items i) slot → (root : Option Root) → root ≡ root_of_slot i slot → HasRunOn inputs in_place t i e c new root
+  fill_step slot is store shown root root_is = record {
+    next = record c { slots = with c.slots i slot };
+    ran = ran_fill in_place slot (effect inputs t c i e) is;
+    shown = subst (IsShown (is_marked new.faulted.items i) (register_at new.registers.items i)) (sym (with-here c.slots i slot)) shown;
+    beside = record {
+      lasts = λ v. ap (λ l. held_at l v) last ∙ can.beside.lasts v;
+      cells = ap (λ (s : Stored). s.cells) store ∙ can.beside.cells;
+      ledger = λ u. ap (λ (s : Stored). slice_index s.ledger u) store ∙ can.beside.ledger u;
+    };
+    others = λ j ne. with-there c.slots i slot j ne;
+    pending = λ j. refl;
+    root_is = root_is ∙ sym (ap (root_of_slot i) (with-here c.slots i slot));
+  }
 
-    one_equation : (i : ℕ) (f : Equation) → n ≡ i → equation s i ≡ Some f → next.at ≡ f
-    one_equation i f same is = let at : equation s n ≡ Some f = ap (equation s) same ∙ is in let known = next.is in cc
+  -- inputs and delays
+  given_step : is_given_op e.op ≡ true → new ≡ old → IsFresh old i e.op → HasRunOn inputs in_place t i e c new None
+  given_step is same fresh = go e.op refl is
+    where
+      mark : is_marked new.faulted.items i ≡ false
+      mark = ap (λ (m : Machine). is_marked m.faulted.items i) same ∙ fresh.unmarked
 
-    here_held : IsHeldOf new.store.cells next.at.of (register_at new.registers.items n)
-    here_held = record {
-      typed =
-          subst (λ v. IsTrue (fits (Optional next.at.of) v)) (sym one.value)
-          (case_fits s whole mid.store.cells mid.registers.items p.held mid.last.items (last_kept s old mid p.same p.extends kept) n t next.at next.running next.is mid.faulted.items);
-      live = one.live;
-    }
+      holds : (h : Option Held) → held_at old.registers.items i ≡ h → held_at new.registers.items i ≡ h
+      holds h at = ap (λ (m : Machine). held_at m.registers.items i) same ∙ at
 
-    held_new : AreHeld s new.store.cells new.registers.items
-    held_new = record {
-      one_each = beside.registers_each ∙ p.held.one_each;
-      each = λ i f run is. elim (cases_Bool (n == i)) [
-        | inl here ↦
-            let same = eqb-true n i here in
-            subst (λ j. IsHeldOf new.store.cells f.of (register_at new.registers.items j)) same
-            (subst (λ (g : Equation). IsHeldOf new.store.cells g.of (register_at new.registers.items n)) (one_equation i f same is) here_held)
-        | inr other ↦
-            let ne : i ≢ n = λ same. eqb-false n i other (sym same) in
-            subst (IsHeldOf new.store.cells f.of) (sym (one.others i ne)) (held_of-kept mid.store.cells new.store.cells one.extends f.of (register_at mid.registers.items i) (p.held.each i f run is))
-      ];
-    }
+      store : new.store ≡ old.store
+      store = ap (λ (m : Machine). m.store) same
 
-    not_next : (i : ℕ) → (done i || (n == i)) ≡ false → (done i ≡ false) × (i ≢ n)
-    not_next i h = let parts = or_parts (done i) (n == i) h in (parts.0, λ same. eqb-false n i parts.1 (sym same))
+      due_slot : (b : Bool) → (if b then Some (Bare scalar.Unit) else None) ≡ held (if b then Holds (Bare scalar.Unit) else Blank)
+      due_slot true = refl
+      due_slot false = refl
 
-    -- ledgers
-    ledger_here : (ledger : List ℕ) (o : Op) (v source : Option View) → is_update_op o ≡ true → n < length ledger → slice_index (ledger_after ledger n o v source) n ≡ (if is_some v then min (slice_index ledger n + size_in source) (2 ^ 64 - 1) else slice_index ledger n)
-    ledger_here ledger o None source update lt = refl
-    ledger_here ledger o (Some v) source update lt =
-        (λ k. slice_index (if update k then counted ledger n (size_in source) else ledger) n)
-        ∙ get_or-set_same ledger n (min (slice_index ledger n + size_in source) (2 ^ 64 - 1)) 0 lt
+      due_sound : (b : Bool) → is_failed (if b then Holds (Bare scalar.Unit) else Blank) ≡ false
+      due_sound true = refl
+      due_sound false = refl
 
-    ledger_other : (ledger : List ℕ) (o : Op) (v source : Option View) (i : ℕ) → i ≢ n → slice_index (ledger_after ledger n o v source) i ≡ slice_index ledger i
-    ledger_other ledger o None source i ne = refl
-    ledger_other ledger o (Some v) source i ne = split (is_update_op o)
+      due_root : (b : Bool) → failed_by (if b then Holds (Bare scalar.Unit) else Blank) ≡ None
+      due_root true = refl
+      due_root false = refl
+
+      no_args : (args : List ℕ) → HasShape op.Input args → args ≡ []
+      no_args [] s = refl
+      no_args (a ∷ args) s = absurd s
+
+      go : (o : Op) → e.op ≡ o → is_given_op o ≡ true → HasRunOn inputs in_place t i e c new None
+      go op.Input at so =
+          let none = no_args e.args (subst (λ p. HasShape p e.args) at shape) in
+          fill_step (slot_of_answer (Ok (inputs i t)))
+          ((λ k. if list_any (λ a. is_failed (c.slots a)) (used_of (at k) (none k)) then Fill (Failed None) else effect_of inputs t c i (at k) (none k) e.of))
+          store
+          (record { holds = holds (held (slot_of_answer (Ok (inputs i t)))) (can.given.input at); fails = mark ∙ sym (answer_sound (inputs i t)) })
+          None (sym (ap (option_map (λ kind. record { equation = i; kind = kind })) (answer_no_root (inputs i t))))
+      go op.Delay at so =
+          let b = option_is t (c.pending i) in
+          fill_step (if option_is t (c.pending i) then Holds (Bare scalar.Unit) else Blank)
+          (λ k. if list_any (λ a. is_failed (c.slots a)) (used_of (at k) e.args) then Fill (Failed None) else effect_of inputs t c i (at k) e.args e.of)
+          store
+          (record { holds = holds (if option_is t (c.pending i) then Some (Bare scalar.Unit) else None) (can.given.delay at) ∙ due_slot (option_is t (c.pending i)); fails = mark ∙ sym (due_sound (option_is t (c.pending i))) })
+          None (sym (ap (option_map (λ kind. record { equation = i; kind = kind })) (due_root (option_is t (c.pending i)))))
+      go o at so = absurd (false≢true so)
+
+  -- a mark is set
+  marked_now : i < length old.faulted.items → new.faulted.items ≡ slice_set old.faulted.items i true → is_marked new.faulted.items i ≡ true
+  marked_now there is = ap (λ ms. is_marked ms i) is ∙ get_or-set_same old.faulted.items i true false there
+
+  blank_now : new.registers ≡ old.registers → register_at old.registers.items i ≡ register.Empty → held_at new.registers.items i ≡ None
+  blank_now same empty = ap held_by (ap (λ v. register_at v.items i) same ∙ empty)
+
+  barred_step : is_given_op e.op ≡ false → is_blocked_here old.faulted.items e.op e.args ≡ true → IsFresh old i e.op → i < length old.faulted.items → new.registers ≡ old.registers → new.faulted.items ≡ slice_set old.faulted.items i true → new.store ≡ old.store → HasRunOn inputs in_place t i e c new None
+  barred_step other blocked fresh there registers marks store =
+      fill_step (Failed None) (effect_is true blocked) store (record { holds = blank_now registers (fresh.empty other); fails = marked_now there marks }) None refl
+
+  -- the register is filled by the own case
+  module _ (other : is_given_op e.op ≡ false) (sound : is_blocked_here old.faulted.items e.op e.args ≡ false) (fresh : IsFresh old i e.op) where
+    failed_step : (kind : FaultKind) → HasEffect in_place i e.op (source_of old.registers.items e.args) old.store new.store (Err (eval_fault.Fault kind)) (effect_here old.registers.items old.last.items old.store i t e)
+        → i < length old.faulted.items → new.registers ≡ old.registers → new.faulted.items ≡ slice_set old.faulted.items i true → HasRunOn inputs in_place t i e c new (Some (record { equation = i; kind = kind }))
+    failed_step kind has there registers marks = go (effect_here old.registers.items old.last.items old.store i t e) (own_effect sound other) has
       where
-        split : (b : Bool) → slice_index (if b then counted ledger n (size_in source) else ledger) i ≡ slice_index ledger i
-        split true = get_or-set_other ledger n i (min (slice_index ledger n + size_in source) (2 ^ 64 - 1)) 0 ne
-        split false = refl
+        go : (does : Effect) → effect inputs t c i e ≡ does → HasEffect in_place i e.op (source_of old.registers.items e.args) old.store new.store (Err (eval_fault.Fault kind)) does → HasRunOn inputs in_place t i e c new (Some (record { equation = i; kind = kind }))
+        go (Fill slot) is has =
+            fill_step (Failed (Some kind)) (is ∙ ap Fill has.0) has.1 (record { holds = blank_now registers (fresh.empty other); fails = marked_now there marks }) (Some (record { equation = i; kind = kind })) refl
+        go (Make v) is has = absurd has
 
-    updates_use : (o : Op) (args : List ℕ) → is_update_op o ≡ true → used_of o args ≡ args
-    updates_use op.Last args is = absurd (false≢true is)
-    updates_use op.Delay args is = absurd (false≢true is)
-    updates_use o args is = refl
+    module _ (r : Register) (there : i < length old.registers.items) (numbered : i < length old.store.ledger) (update : in_place ≡ true → is_update e.op ≡ true) (registers : new.registers.items ≡ slice_set old.registers.items i r) (marks : new.faulted ≡ old.faulted)
+        (live : AllByRecursion (λ a. HoldsLive old.store.cells (register_at old.registers.items a)) e.args) where
+      here : register_at new.registers.items i ≡ r
+      here = ap (λ rs. register_at rs i) registers ∙ get_or-set_same old.registers.items i r register.Empty there
 
-    source_is : (z : Streams) (args : List ℕ) → size_in (first_of (map (λ a. event (z a t)) args)) ≡ source_size z args t
-    source_is z [] = refl
-    source_is z (a ∷ args) = refl
+      unmarked : is_marked new.faulted.items i ≡ false
+      unmarked = ap (λ v. is_marked v.items i) marks ∙ fresh.unmarked
 
-    if_same : (b : Bool) (x y v : ℕ) → (b ≡ true → x ≡ y) → (if b then x else v) ≡ (if b then y else v)
-    if_same true x y v is = is refl
-    if_same false x y v is = refl
+      shown_now : IsShown (is_marked new.faulted.items i) (register_at new.registers.items i) (slot_of (held_by r))
+      shown_now = subst (λ b. IsShown b (register_at new.registers.items i) (slot_of (held_by r))) (sym unmarked) (subst (λ x. IsShown false x (slot_of (held_by r))) (sym here) (shown_holds r))
 
-    module _ (inputs : Inputs) (z : Streams) (starts : StartsAs s inputs z t old) where
-      ledger_at_n : n < length mid.store.ledger → IsTrue (is_update (equation s n)) → slice_index new.store.ledger n ≡ ledger_at s z t n (slice_index mid.store.ledger n)
-      ledger_at_n lt update =
-          let updating : is_update_op next.at.op ≡ true = ap is_update (sym next.is) ∙ update in
-          let used : AllByRecursion (λ a. IsTrue (done a)) next.at.args = subst (AllByRecursion (λ a. IsTrue (done a))) (updates_use next.at.op next.at.args updating) next.used in
-          let sources = ap first_of (values_same inputs z starts next.at.args used args_run) in
-          let here = event_is inputs z starts in
-          let size = ap size_in sources ∙ source_is z next.at.args in
-          let before = slice_index mid.store.ledger n in
-          ap (λ l. slice_index l n) one.ledger
-          ∙ ledger_here mid.store.ledger next.at.op (event (case_here mid n t next.at)) (first_of (map (value_at mid.store.cells mid.registers.items) next.at.args)) updating lt
-          ∙ (λ k. if is_some (here k) then min (before + size k) (2 ^ 64 - 1) else before)
-          ∙ if_same (has_event (z n t)) (min (before + source_size z next.at.args t) (2 ^ 64 - 1)) (min (before + size_copied (equation s n) z n t) (2 ^ 64 - 1)) before
-          (λ has. λ k. min (before + (sym (λ j. if has j then source_size z next.at.args t else 0) ∙ (λ j. size_copied (sym next.is j) z n t)) k) (2 ^ 64 - 1))
+      -- a cell
+      cell_shown : (h : ℕ) → r ≡ register.Aggregate h → IsShown (is_marked new.faulted.items i) (register_at new.registers.items i) (with c.slots i (Holds (Cell h)) i)
+      cell_shown h is = subst (IsShown (is_marked new.faulted.items i) (register_at new.registers.items i)) (ap (λ x. slot_of (held_by x)) is ∙ sym (with-here c.slots i (Holds (Cell h)))) shown_now
 
-      ledger_new : n < length mid.store.ledger → (i : ℕ) → IsTrue (runs s i) → IsTrue (is_update (equation s i)) → slice_index new.store.ledger i ≡ (if done i || (n == i) then ledger_at s z t i (slice_index old.store.ledger i) else slice_index old.store.ledger i)
-      ledger_new lt i run update = elim (cases_Bool (n == i)) [
-        | inl here ↦
-            let same = eqb-true n i here in
-            let undone : done i ≡ false = ap done (sym same) ∙ next.new in
-            let before : slice_index mid.store.ledger i ≡ slice_index old.store.ledger i = (p.means inputs z starts).ledger i run update ∙ (λ k. if undone k then ledger_at s z t i (slice_index old.store.ledger i) else slice_index old.store.ledger i) in
-            subst (λ j. slice_index new.store.ledger j ≡ ledger_at s z t j (slice_index mid.store.ledger j)) same (ledger_at_n lt (ap (λ j. is_update (equation s j)) same ∙ update))
-            ∙ ap (ledger_at s z t i) before
-            ∙ sym (λ k. if undone k || here k then ledger_at s z t i (slice_index old.store.ledger i) else slice_index old.store.ledger i)
-        | inr other ↦
-            let ne : i ≢ n = λ same. eqb-false n i other (sym same) in
-            ap (λ l. slice_index l i) one.ledger ∙ ledger_other mid.store.ledger next.at.op (event (case_here mid n t next.at)) (first_of (map (value_at mid.store.cells mid.registers.items) next.at.args)) i ne
-            ∙ (p.means inputs z starts).ledger i run update
-            ∙ sym (λ k. if (ap (λ b. done i || b) other ∙ or-false (done i)) k then ledger_at s z t i (slice_index old.store.ledger i) else slice_index old.store.ledger i)
-      ]
+      new_lasts : (v : ℕ) → held_at new.last.items v ≡ c.lasts v
+      new_lasts v = ap (λ l. held_at l v) last ∙ can.beside.lasts v
 
-      value_new : (i : ℕ) → IsTrue (done i || (n == i)) → IsTrue (runs s i) → value_at new.store.cells new.registers.items i ≡ event (z i t)
-      value_new i h run = elim (or_cases (done i) (n == i) h) [
-        | inl before ↦ other_value i run (done_other i before) ∙ (p.means inputs z starts).values i before run
-        | inr here ↦ subst (λ j. value_at new.store.cells new.registers.items j ≡ event (z j t)) (eqb-true n i here) (one.value ∙ event_is inputs z starts)
-      ]
-
-      mark_new : (i : ℕ) → IsTrue (done i || (n == i)) → IsTrue (runs s i) → is_marked new.faulted.items i ≡ is_fault (z i t)
-      mark_new i h run = elim (or_cases (done i) (n == i) h) [
-        | inl before ↦ one.other_marks i (done_other i before) ∙ (p.means inputs z starts).marks i before run
-        | inr here ↦
-            subst (λ j. is_marked new.faulted.items j ≡ is_fault (z j t)) (eqb-true n i here)
-            (one.mark ∙ ap is_fault (case_same inputs z starts ∙ sym (starts.each n next.at next.running next.is)))
-      ]
-
-      root_one : IsLeastRoot (λ i. n == i) (root_beside s inputs z t) found
-      root_one = subst (IsLeastRoot (λ i. n == i) (root_beside s inputs z t)) (sym one.root_is) (least-one n (root_beside s inputs z t) (root_here mid n t next.at) (sym (root_same inputs z starts)))
-
-      among_same : (i : ℕ) → ((done i && runs s i) || (n == i)) ≡ ((done i || (n == i)) && runs s i)
-      among_same i = elim (cases_Bool (n == i)) [
-        | inl here ↦
-            let run : runs s i ≡ true = ap (runs s) (sym (eqb-true n i here)) ∙ next.running in
-            (λ k. (done i && run k) || here k) ∙ all_true (done i) ∙ sym (λ k. (done i || here k) && run k)
-        | inr other ↦ (λ k. (done i && runs s i) || other k) ∙ or-false (done i && runs s i) ∙ sym (λ k. (ap (λ b. done i || b) other ∙ or-false (done i)) k && runs s i)
-      ]
+      free : (h : ℕ) → ¬ (IsLive old.store.cells h) → finite_map.get c.cells h ≡ None
+      free h fresh = subst (λ m. finite_map.get m h ≡ None) can.beside.cells (none_of (finite_map.get old.store.cells h) refl)
         where
-          all_true : (b : Bool) → ((b && true) || true) ≡ ((b || true) && true)
-          all_true true = refl
-          all_true false = refl
+          none_of : (o : Option View) → finite_map.get old.store.cells h ≡ o → o ≡ None
+          none_of None is = refl
+          none_of (Some v) is = absurd (fresh (ap is_some is))
 
-    pub partly-one : n < length mid.store.ledger → (result : Option Root) → ((among besides : ℕ → Bool) (at : ℕ → Option FaultKind) → IsLeastRoot among at root → IsLeastRoot besides at found → IsLeastRoot (λ i. among i || besides i) at result)
-        → IsPartly s t (λ i. done i || (n == i)) old new result
-    partly-one lt result least = record {
-      same = same-two p.same beside;
-      extends = extends-two p.extends one.extends;
-      held = held_new;
-      fresh = λ i f run is h.
-          let apart = not_next i h in
-          let before = p.fresh i f run is apart.0 in
-          record { unmarked = one.other_marks i apart.1 ∙ before.unmarked; empty = λ g. one.others i apart.1 ∙ before.empty g };
-      untouched = λ i h. let apart = not_next i h in one.others i apart.1 ∙ p.untouched i apart.0;
-      means = λ inputs z starts. record {
-        values = value_new inputs z starts;
-        marks = mark_new inputs z starts;
-        root_is =
-            least-same (λ i. (done i && runs s i) || (n == i)) (λ i. (done i || (n == i)) && runs s i) (root_beside s inputs z t) result (among_same inputs z starts)
-            (least (λ i. done i && runs s i) (λ i. n == i) (root_beside s inputs z t) (p.means inputs z starts).root_is (root_one inputs z starts));
-        ledger = ledger_new inputs z starts lt;
-      };
-    }
+      new_cells : (h : ℕ) (v : View) → new.store.cells ≡ finite_map.insert old.store.cells h v → new.store.cells ≡ finite_map.insert c.cells h v
+      new_cells h v is = is ∙ ap (λ m. finite_map.insert m h v) can.beside.cells
 
--- all have run
-pub run-all : (s : System) (t : ℕ) (done : ℕ → Bool) (old new : Machine) (root : Option Root) → ((i : ℕ) → IsTrue (runs s i) → IsTrue (done i)) → IsPartly s t done old new root → HasRunAll s t old new root
-run-all s t done old new root all p = record {
-  same = p.same;
-  extends = p.extends;
-  held = p.held;
-  means = λ inputs z starts.
-      let m = p.means inputs z starts in
-      record {
-        values = λ i h run. m.values i (all i run) run;
-        marks = λ i h run. m.marks i (all i run) run;
-        root_is = least-same (λ i. done i && runs s i) (runs s) (root_beside s inputs z t) root (λ i. both (done i) (runs s i) (all i)) m.root_is;
-        ledger = λ i run update. m.ledger i run update ∙ (λ k. if all i run k then ledger_at s z t i (slice_index old.store.ledger i) else slice_index old.store.ledger i);
-      };
-}
-  where
-    both : (a b : Bool) → (b ≡ true → a ≡ true) → (a && b) ≡ b
-    both a true h = λ k. h refl k && true
-    both true false h = refl
-    both false false h = refl
+      -- made: no update, or an update that copies
+      make_step : (b : Bool) → in_place ≡ b → (v : View) → effect inputs t c i e ≡ Make v → HasMade (is_update e.op) b i (source_of old.registers.items e.args) old.store new.store r v → HasRunOn inputs b t i e c new None
+      make_step b place v is has = go (is_update e.op) refl b place has
+        where
+          counted_here : (n : ℕ) → n ≡ machine.source_size c e.args → is_update e.op ≡ true → (u : ℕ) → slice_index (counted old.store.ledger i n) u ≡ machine.counted c i e u
+          counted_here n size so u =
+              ledger_here old.store.ledger i (min (slice_index old.store.ledger i + n) (2 ^ 64 - 1)) u numbered
+              ∙ with_same (slice_index old.store.ledger) c.ledger i (min (slice_index old.store.ledger i + n) (2 ^ 64 - 1)) (min (c.ledger i + machine.source_size c e.args) (2 ^ 64 - 1)) u can.beside.ledger (λ k. min (can.beside.ledger i k + size k) (2 ^ 64 - 1))
+              ∙ sym (λ k. (if so k then with c.ledger i (min (c.ledger i + machine.source_size c e.args) (2 ^ 64 - 1)) else c.ledger) u)
 
--- a step that is no running equation
-pub partly-skip : (s : System) (t n : ℕ) (done : ℕ → Bool) (old mid : Machine) (root : Option Root) → ((i : ℕ) → IsTrue (runs s i) → (n == i) ≡ false) → IsPartly s t done old mid root → IsPartly s t (λ i. done i || (n == i)) old mid root
-partly-skip s t n done old mid root beside p = record {
-  same = p.same;
-  extends = p.extends;
-  held = p.held;
-  fresh = λ i e run is h. p.fresh i e run is (or_parts (done i) (n == i) h).0;
-  untouched = λ i h. p.untouched i (or_parts (done i) (n == i) h).0;
-  means = λ inputs z starts.
-      let m = p.means inputs z starts in
-      record {
-        values = λ i h run. m.values i (as_before i h run) run;
-        marks = λ i h run. m.marks i (as_before i h run) run;
-        root_is = least-same (λ i. done i && runs s i) (λ i. (done i || (n == i)) && runs s i) (root_beside s inputs z t) root (λ i. both (done i) (n == i) (runs s i) (beside i)) m.root_is;
-        ledger = λ i run update. m.ledger i run update ∙ sym (λ k. if (ap (λ b. done i || b) (beside i run) ∙ or-false (done i)) k then ledger_at s z t i (slice_index old.store.ledger i) else slice_index old.store.ledger i);
-      };
-}
-  where
-    as_before : (i : ℕ) → IsTrue (done i || (n == i)) → IsTrue (runs s i) → IsTrue (done i)
-    as_before i h run = elim (or_cases (done i) (n == i) h) [
-      | inl before ↦ before
-      | inr here ↦ absurd (false≢true (sym (beside i run) ∙ here))
-    ]
+          not_counted : is_update e.op ≡ false → (u : ℕ) → c.ledger u ≡ machine.counted c i e u
+          not_counted fails u = sym (λ k. (if fails k then with c.ledger i (min (c.ledger i + machine.source_size c e.args) (2 ^ 64 - 1)) else c.ledger) u)
 
-    both : (a b c : Bool) → (c ≡ true → b ≡ false) → (a && c) ≡ ((a || b) && c)
-    both a b true h = λ k. (sym (or-false a) ∙ ap (λ x. a || x) (sym (h refl))) k && true
-    both a b false h = ends a (a || b)
-      where
-        ends : (x y : Bool) → (x && false) ≡ (y && false)
-        ends true true = refl
-        ends true false = refl
-        ends false true = refl
-        ends false false = refl
+          used_slots : (args : List ℕ) → e.args ≡ args → AllByRecursion (λ a. c.slots a ≡ slot_of (held_at old.registers.items a)) (used_of e.op args)
+          used_slots args at = subst (λ xs. AllByRecursion (λ a. c.slots a ≡ slot_of (held_at old.registers.items a)) (used_of e.op xs)) at (slots_are sound other)
+
+          live_args : (args : List ℕ) → e.args ≡ args → AllByRecursion (λ a. HoldsLive old.store.cells (register_at old.registers.items a)) args
+          live_args args at = subst (AllByRecursion (λ a. HoldsLive old.store.cells (register_at old.registers.items a))) at live
+
+          source_is : (args : List ℕ) → e.args ≡ args → is_update e.op ≡ true → size_at (cells.held old.store.cells (source_of old.registers.items args)) ≡ machine.source_size c args
+          source_is [] at so = refl
+          source_is (m ∷ args) at so =
+              let slot = source_used (λ a. c.slots a ≡ slot_of (held_at old.registers.items a)) e.op m args so (used_slots (m ∷ args) at) in
+              ap size_at (sym ((λ k. option_and_then (view_of (sym can.beside.cells k)) (held (slot k))) ∙ value_seen old.registers.items old.last.items old.store m (live_args (m ∷ args) at).0))
+
+          source_slot_is : (h : ℕ) (args : List ℕ) → e.args ≡ args → is_update e.op ≡ true → source_of old.registers.items args ≡ register.Aggregate h → machine.source_slot c args ≡ Holds (Cell h)
+          source_slot_is h [] at so is = absurd (cc)
+          source_slot_is h (m ∷ args) at so is = source_used (λ a. c.slots a ≡ slot_of (held_at old.registers.items a)) e.op m args so (used_slots (m ∷ args) at) ∙ ap (λ x. slot_of (held_by x)) is
+
+          go : (q : Bool) → is_update e.op ≡ q → (b : Bool) → in_place ≡ b → HasMade q b i (source_of old.registers.items e.args) old.store new.store r v → HasRunOn inputs b t i e c new None
+          go false fails true so has = absurd (false≢true (sym fails ∙ update so))
+          go false fails false place has = record {
+            next = record c { slots = with c.slots i (Holds (Cell has.0.handle)); cells = finite_map.insert c.cells has.0.handle v; ledger = machine.counted c i e };
+            ran = subst (λ x. RanOne false i e c x (record c { slots = with c.slots i (Holds (Cell has.0.handle)); cells = finite_map.insert c.cells has.0.handle v; ledger = machine.counted c i e })) (sym is) (has.0.handle, free has.0.handle has.0.fresh, refl);
+            shown = cell_shown has.0.handle has.0.is;
+            beside = record { lasts = new_lasts; cells = new_cells has.0.handle v has.0.cells; ledger = λ u. ap (λ l. slice_index l u) has.1 ∙ can.beside.ledger u ∙ not_counted fails u };
+            others = λ j ne. with-there c.slots i (Holds (Cell has.0.handle)) j ne;
+            pending = λ j. refl;
+            root_is = sym (ap (root_of_slot i) (with-here c.slots i (Holds (Cell has.0.handle))));
+          }
+          go true so false place has = record {
+            next = record c { slots = with c.slots i (Holds (Cell has.0.handle)); cells = finite_map.insert c.cells has.0.handle v; ledger = machine.counted c i e };
+            ran = subst (λ x. RanOne false i e c x (record c { slots = with c.slots i (Holds (Cell has.0.handle)); cells = finite_map.insert c.cells has.0.handle v; ledger = machine.counted c i e })) (sym is) (has.0.handle, free has.0.handle has.0.fresh, refl);
+            shown = cell_shown has.0.handle has.0.is;
+            beside = record { lasts = new_lasts; cells = new_cells has.0.handle v has.0.cells; ledger = λ u. ap (λ l. slice_index l u) has.1 ∙ counted_here _ (source_is e.args refl so) so u };
+            others = λ j ne. with-there c.slots i (Holds (Cell has.0.handle)) j ne;
+            pending = λ j. refl;
+            root_is = sym (ap (root_of_slot i) (with-here c.slots i (Holds (Cell has.0.handle))));
+          }
+          go true so true place has = record {
+            next = record c { slots = with c.slots i (Holds (Cell has.0)); cells = finite_map.insert c.cells has.0 v };
+            ran = subst (λ x. RanOne true i e c x (record c { slots = with c.slots i (Holds (Cell has.0)); cells = finite_map.insert c.cells has.0 v })) (sym is) (has.0, source_slot_is has.0 e.args refl so has.1, refl);
+            shown = cell_shown has.0 has.2;
+            beside = record { lasts = new_lasts; cells = new_cells has.0 v (ap (λ (s : Stored). s.cells) has.3); ledger = λ u. ap (λ (s : Stored). slice_index s.ledger u) has.3 ∙ can.beside.ledger u };
+            others = λ j ne. with-there c.slots i (Holds (Cell has.0)) j ne;
+            pending = λ j. refl;
+            root_is = sym (ap (root_of_slot i) (with-here c.slots i (Holds (Cell has.0))));
+          }
+
+      filled_step : HasEffect in_place i e.op (source_of old.registers.items e.args) old.store new.store (Ok r) (effect_here old.registers.items old.last.items old.store i t e) → HasRunOn inputs in_place t i e c new None
+      filled_step has = go (effect_here old.registers.items old.last.items old.store i t e) (own_effect sound other) has
+        where
+          go : (does : Effect) → effect inputs t c i e ≡ does → HasEffect in_place i e.op (source_of old.registers.items e.args) old.store new.store (Ok r) does → HasRunOn inputs in_place t i e c new None
+          go (Fill slot) is has = fill_step (slot_of (held_by r)) (is ∙ ap Fill has.0) has.1 shown_now None (sym (ap (option_map (λ kind. record { equation = i; kind = kind })) (no_root r)))
+          go (Make v) is has = make_step in_place refl v is has
+
+-- an equation has run in one of its ways
+pub run_on : (inputs : Inputs) (in_place : Bool) (t i : ℕ) (e : Equation) (old new : Machine) (root : Option Root) → HasRunOne in_place t i e old new root → (c : Config) → CanRunOn inputs t i e old c → HasShape e.op e.args → new.last.items ≡ old.last.items → IsFresh old i e.op
+    → i < length old.faulted.items → i < length old.registers.items → i < length old.store.ledger → (in_place ≡ true → is_update e.op ≡ true) → AllByRecursion (λ a. HoldsLive old.store.cells (register_at old.registers.items a)) e.args → HasRunOn inputs in_place t i e c new root
+run_on inputs in_place t i e old new root (was_given is same) c can shape last fresh marked there numbered update live = given_step inputs in_place t i e old new c can shape last is same fresh
+run_on inputs in_place t i e old new root (was_barred other blocked registers marks store) c can shape last fresh marked there numbered update live = barred_step inputs in_place t i e old new c can shape last other blocked fresh marked registers marks store
+run_on inputs in_place t i e old new root (was_filled r other sound has registers marks) c can shape last fresh marked there numbered update live = filled_step inputs in_place t i e old new c can shape last other sound fresh r there numbered update registers marks live has
+run_on inputs in_place t i e old new root (has_failed kind other sound has registers marks) c can shape last fresh marked there numbered update live = failed_step inputs in_place t i e old new c can shape last other sound fresh kind has marked registers marks
+
+-- ---- what is left as it was
+module _ (in_place : Bool) (t n : ℕ) (e : Equation) (old new : Machine) where
+  pub others_same : (root : Option Root) → HasRunOne in_place t n e old new root → (j : ℕ) → j ≢ n → register_at new.registers.items j ≡ register_at old.registers.items j
+  others_same root (was_given is same) j ne = ap (λ (m : Machine). register_at m.registers.items j) same
+  others_same root (was_barred other blocked registers marks store) j ne = ap (λ v. register_at v.items j) registers
+  others_same root (was_filled r other sound has registers marks) j ne = ap (λ rs. register_at rs j) registers ∙ get_or-set_other old.registers.items n j r register.Empty ne
+  others_same root (has_failed kind other sound has registers marks) j ne = ap (λ v. register_at v.items j) registers
+
+  pub marks_same : (root : Option Root) → HasRunOne in_place t n e old new root → (j : ℕ) → j ≢ n → is_marked new.faulted.items j ≡ is_marked old.faulted.items j
+  marks_same root (was_given is same) j ne = ap (λ (m : Machine). is_marked m.faulted.items j) same
+  marks_same root (was_barred other blocked registers marks store) j ne = ap (λ ms. is_marked ms j) marks ∙ get_or-set_other old.faulted.items n j true false ne
+  marks_same root (was_filled r other sound has registers marks) j ne = ap (λ v. is_marked v.items j) marks
+  marks_same root (has_failed kind other sound has registers marks) j ne = ap (λ ms. is_marked ms j) marks ∙ get_or-set_other old.faulted.items n j true false ne
+
+  -- an equation without a fault in its arguments is marked where it is a root fault
+  pub mark_none : (root : Option Root) → HasRunOne in_place t n e old new root → is_blocked_here old.faulted.items e.op e.args ≡ false → root ≡ None → is_marked new.faulted.items n ≡ is_marked old.faulted.items n
+  mark_none root (was_given is same) sound none = ap (λ (m : Machine). is_marked m.faulted.items n) same
+  mark_none root (was_barred other blocked registers marks store) sound none = absurd (false≢true (sym sound ∙ blocked))
+  mark_none root (was_filled r other unblocked has registers marks) sound none = ap (λ v. is_marked v.items n) marks
+  mark_none root (has_failed kind other unblocked has registers marks) sound none = absurd (cc)
+
+  -- a delay answers no root fault here
+  pub delay_none : (root : Option Root) → HasRunOne in_place t n e old new root → is_given_op e.op ≡ true → root ≡ None
+  delay_none root (was_given is same) so = refl
+  delay_none root (was_barred other blocked registers marks store) so = absurd (true≢false (sym so ∙ other))
+  delay_none root (was_filled r other sound has registers marks) so = absurd (true≢false (sym so ∙ other))
+  delay_none root (has_failed kind other sound has registers marks) so = absurd (true≢false (sym so ∙ other))
+
+  -- inputs and delays keep their registers
+  pub given_same : (root : Option Root) → HasRunOne in_place t n e old new root → is_given_op e.op ≡ true → register_at new.registers.items n ≡ register_at old.registers.items n
+  given_same root (was_given is same) so = ap (λ (m : Machine). register_at m.registers.items n) same
+  given_same root (was_barred other blocked registers marks store) so = absurd (true≢false (sym so ∙ other))
+  given_same root (was_filled r other sound has registers marks) so = absurd (true≢false (sym so ∙ other))
+  given_same root (has_failed kind other sound has registers marks) so = absurd (true≢false (sym so ∙ other))

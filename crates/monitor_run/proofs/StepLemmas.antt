@@ -1,42 +1,57 @@
--- What a step makes of the events for which a monitor stands.
-use Rattle.std.proofs.Common.{◌≡◌, ◌==◌, ℕ, suc, ◌+◌, ◌<◌, ◌≤◌, ◌^◌, ◌-◌, Bool, true, false, ◌&&◌, ◌||◌, List, [], ◌∷◌, ◌++◌, length, map, Option, Some, None, refl, sym, ap, subst, ◌∙◌, inl, inr, arith}
+-- What a step makes of the events for which a monitor stands, by the laws of the register machine.
+use Rattle.std.proofs.Common.{◌≡◌, ◌==◌, ℕ, suc, ◌+◌, ◌<◌, ◌≤◌, ◌^◌, true, false, ◌&&◌, List, [], ◌∷◌, ◌++◌, length, Option, Some, None, refl, sym, ap, subst, ◌∙◌, inl, inr, arith}
 use Rattle.std.proofs.lemmas.Bool.{cases_Bool, cases_lt, and_parts, ne_eqb, false≢true, true≢false}
 use Rattle.std.proofs.lemmas.List.{length-append}
-use Rattle.std.specs.Prelude.{if◌then◌else◌, is_some, min, IsTrue, slice_index}
-use Rattle.std.specs.Option.{option_or}
+use Rattle.std.specs.Prelude.{if◌then◌else◌, IsTrue, slice_get, slice_index, slice_index_or}
+use Rattle.std.specs.Option.{option_map_or, option_or}
+use Rattle.std.specs.List.{flat_map}
 use Rattle.std.specs.FinMap as finite_map
-use Rattle.tsl_value.specs.View.{View, Plain}
+use Rattle.tsl_value.specs.View.{View, Plain, is_of}
 use Rattle.tsl_value.specs.declared.scalar.Scalar.{Scalar}
 use Rattle.flat_core.specs.declared.equation.Equation.{Equation}
+use Rattle.flat_core.specs.declared.equation.Output.{Output}
 use Rattle.flat_core.specs.declared.equation.Op.{Op}
 use Rattle.flat_core.specs.declared.equation.Op.TheVariants as op
-use Rattle.flat_core.specs.Case.{Streams, Inputs}
-use Rattle.flat_core.specs.Fault.{is_faulty, root_at}
+use Rattle.flat_core.specs.Case.{Streams}
+use Rattle.flat_core.specs.Complete.{IsFlat}
+use Rattle.flat_core.specs.Fault.{is_faulty}
 use Rattle.flat_core.specs.Instant.{instants, is_delay, is_delay_op, is_instant}
 use Rattle.flat_core.specs.Line.{Line, event_in, inputs_of}
-use Rattle.flat_core.specs.Pending.{option_is, pending, reached}
 use Rattle.flat_core.specs.Solution.{Solves}
-use Rattle.flat_core.specs.Stream.{event, has_event}
-use Rattle.flat_core.specs.System.{equation, runs}
-use Rattle.flat_core.proofs.Members.{none_from}
+use Rattle.flat_core.specs.Stream.{event}
+use Rattle.flat_core.specs.System.{System, equation, runs}
+use Rattle.flat_core.specs.Text.{event_line, text_at}
+use Rattle.flat_core.specs.TypedLines.{AreTypedLines}
 use Rattle.flat_core.proofs.SmallerBound.{solves_less}
+use Rattle.alias_rules.specs.Uses.{IsUpdate}
 use Rattle.register_code.specs.Code.{is_timer}
-use Rattle.monitor_run.specs.declared.machine.Machine.{Machine}
-use Rattle.monitor_run.specs.Copied.{copied, is_update, is_running_update, size_copied}
-use Rattle.monitor_run.specs.Due.{due_at, due_of, due_time, in_time}
-use Rattle.monitor_run.specs.Given.{AreBefore}
-use Rattle.monitor_run.specs.Here.{first_of}
-use Rattle.monitor_run.specs.Instant.{AreTimers, GoesOn, HasRoot, IsKeptOf, IsLeastRoot, due_after, left_at, ledger_at, second_of, set_by, unit_if_due}
+use Rattle.register_code.specs.Plan.{IsPlanOrder}
+use Rattle.register_machine.specs.Copied.{copied}
+use Rattle.register_machine.specs.Laws.{Reaches, ShowsInstant}
+use Rattle.register_machine.specs.Machine.{Config}
+use Rattle.register_machine.specs.Run as machine_state
+use Rattle.register_machine.specs.Run.{Instant, Runs, nothing_yet}
+use Rattle.register_machine.specs.Stands.{IsGiven, RunsTo, in_time}
+use Rattle.register_machine.specs.Stands as machine
+use Rattle.register_machine.proofs.LaterRuns.{runs_on}
+use Rattle.register_machine.proofs.Shown as laws
+use Rattle.alias_rules.proofs.Ordered.{needed_order}
+use Rattle.monitor_run.specs.Given.{AreBefore, AreEventLines}
+use Rattle.monitor_run.specs.Instant.{IsInstantText, name_of}
 use Rattle.monitor_run.specs.Next.{Comes, IsFirstInstant, NothingBefore}
-use Rattle.monitor_run.specs.Registers.{value_at}
 use Rattle.monitor_run.specs.Stands.{KeepsOf, Stands}
-use Rattle.monitor_run.specs.State.{State, IsReady}
+use Rattle.monitor_run.specs.State.{State, IsReady, kept_state, plan_of}
+use Rattle.monitor_run.specs.Updates.{is_running_update, is_update}
 use Rattle.monitor_run.proofs.DelayLemmas.{delay_op}
-use Rattle.monitor_run.proofs.GapLemmas.{comes, copied_gap, copied_still, delayed_at_t, due_at_t, event_at_t, instants_gap, latest_gap, quiet, sound_gap, two_args}
-use Rattle.monitor_run.proofs.InstantLemmas.{kept_runs}
+use Rattle.monitor_run.proofs.DueTimes.{due_at, due_of, due_time}
+use Rattle.monitor_run.proofs.GapLemmas.{comes, delay_args, instants_gap, quiet, sound_gap}
+
+pub both_none : (a b : Option View) → option_or a b ≡ None → (a ≡ None) × (b ≡ None)
+both_none None b h = (refl, h)
+both_none (Some v) b h = absurd (cc)
 
 -- lines before a time give nothing at it
-no_past_input : (n t i : ℕ) → n ≤ t → (past : List Line) → AreBefore n past → inputs_of past i t ≡ None
+pub no_past_input : (n t i : ℕ) → n ≤ t → (past : List Line) → AreBefore n past → inputs_of past i t ≡ None
 no_past_input n t i le [] all = refl
 no_past_input n t i le (l ∷ past) all = let before = all.0 in λ k. option_or (none l.event k) (no_past_input n t i le past all.1 k)
   where
@@ -44,158 +59,158 @@ no_past_input n t i le (l ∷ past) all = let before = all.0 in λ k. option_or 
     none None = refl
     none (Some e) = λ k. if ne_eqb l.time t (λ same. let before = all.0 in absurd (omega arith)) k && (e.0 == i) then Some (Plain e.1) else None
 
-append_input : (past given : List Line) (i t : ℕ) → inputs_of past i t ≡ None → inputs_of (past ++ given) i t ≡ inputs_of given i t
+pub append_input : (past given : List Line) (i t : ℕ) → inputs_of past i t ≡ None → inputs_of (past ++ given) i t ≡ inputs_of given i t
 append_input [] given i t none = refl
 append_input (l ∷ past) given i t none = from (λ rest. append_input past given i t rest)
   where
-    first_none : (a b : Option View) → option_or a b ≡ None → (a ≡ None) × (b ≡ None)
-    first_none None b h = (refl, h)
-    first_none (Some v) b h = absurd (cc)
-
     from : (inputs_of past i t ≡ None → inputs_of (past ++ given) i t ≡ inputs_of given i t) → option_or (event_in i t l.time l.event) (inputs_of (past ++ given) i t) ≡ inputs_of given i t
     from later =
-        let parts = first_none (event_in i t l.time l.event) (inputs_of past i t) none in
+        let parts = both_none (event_in i t l.time l.event) (inputs_of past i t) none in
         (λ k. option_or (parts.0 k) (inputs_of (past ++ given) i t)) ∙ later parts.1
 
+-- event lines are typed
+typed_lines : (s : System) (lines : List Line) → AreEventLines s lines → AreTypedLines s lines
+typed_lines s [] all = tt
+typed_lines s (l ∷ lines) all = (record { event = λ i v is e at. typed i v is e at }, typed_lines s lines all.1)
+  where
+    pair_same : (a b : ℕ) (x y : Scalar) → ◌≡◌ {A = Option (ℕ × Scalar)} (Some (a, x)) (Some (b, y)) → (a ≡ b) × (x ≡ y)
+    pair_same a b x y p = (ap (λ (o : Option (ℕ × Scalar)). option_map_or (λ (q : ℕ × Scalar). q.0) o a) p, ap (λ (o : Option (ℕ × Scalar)). option_map_or (λ (q : ℕ × Scalar). q.1) o x) p)
+
+    one_equation : (i : ℕ) (e f : Equation) → equation s i ≡ Some e → equation s i ≡ Some f → f ≡ e
+    one_equation i e f is also = cc
+
+    typed : (i : ℕ) (v : Scalar) → l.event ≡ Some (i, v) → (e : Equation) → equation s i ≡ Some e → IsTrue (is_of e.of (Plain v))
+    typed i v is e at =
+        let same = pair_same all.0.input i all.0.value v (sym all.0.is ∙ is) in
+        let fits = all.0.fits in
+        let here : equation s i ≡ Some fits.at = ap (equation s) (sym same.0) ∙ fits.is in
+        subst (λ x. IsTrue (is_of e.of (Plain x))) same.1 (subst (λ (f : Equation). IsTrue (is_of f.of (Plain all.0.value))) (one_equation i e fits.at at here) fits.typed)
+
+-- texts one behind the other
+concat_is : (f : Option Output → List ℕ) (outputs : List Output) (texts : List (List ℕ)) → length texts ≡ length outputs → ((k : ℕ) → k < length outputs → slice_index_or texts k [] ≡ f (slice_get outputs k)) → flat_map (λ x. x) texts ≡ flat_map (λ o. f (Some o)) outputs
+concat_is f [] [] size each = refl
+concat_is f [] (x ∷ texts) size each = absurd (omega arith)
+concat_is f (o ∷ outputs) [] size each = absurd (omega arith)
+concat_is f (o ∷ outputs) (x ∷ texts) size each =
+    let here = each 0 (omega arith) in
+    let rest = concat_is f outputs texts (omega arith) (λ k lt. each (suc k) (omega arith)) in
+    λ j. here j ++ rest j
+
+update_is : (s : System) → IsFlat s → (u : ℕ) → IsTrue (is_running_update s u) → IsUpdate s u
+update_is s whole u update =
+    let parts = and_parts (runs s u) (is_update (equation s u)) update in
+    let f = whole.proper.runs_all u parts.0 in
+    record { at = f.0; is = f.1; running = parts.0; updates = ap is_update (sym f.1) ∙ parts.1 }
+
+pub ready_order : (m : State) → IsReady m → IsPlanOrder m.system m.order
+ready_order m ready = needed_order m.system m.in_place m.order ready.fine.ordered
+
+module _ (m : State) (ready : IsReady m) (lines : List Line) (stands : Stands m lines) where
+  pub order_is : IsPlanOrder m.system m.order
+  order_is = needed_order m.system m.in_place m.order ready.fine.ordered
+
+  pub given_at : (B : ℕ) → B ≤ 2 ^ 63 → (z : Streams) → Solves m.system (inputs_of lines) B z → IsGiven m.system (plan_of m) lines B z
+  given_at B small z solves = record { flat = ready.whole; fine = ready.fine; typed_lines = typed_lines m.system lines stands.events.events; solves = solves; small = small }
+
+  module _ (B : ℕ) (small : B ≤ 2 ^ 63) (reaches_to : m.next ≤ B) (z : Streams) (solves : Solves m.system (inputs_of lines) B z) where
+    pub keeps : KeepsOf m lines z
+    keeps = stands.keeps z (solves_less m.system (inputs_of lines) m.next B z reaches_to solves)
+
+    standing : machine.Stands m.system (plan_of m) z m.next (kept_state m)
+    standing = laws.stands m.system (plan_of m) lines B z (given_at B small z solves) m.next reaches_to (kept_state m) keeps.run
+
+    -- when delays are due
+    pub due : (i : ℕ) → finite_map.get m.timers i ≡ due_time m.system z m.next i
+    due i = elim (cases_Bool (is_timer m.system i)) [
+      | inl timer ↦
+          let parts = and_parts (runs m.system i) (is_delay (equation m.system i)) timer in
+          let f = ready.whole.proper.runs_all i parts.0 in
+          let op_is = delay_op f.0.op (ap is_delay (sym f.1) ∙ parts.1) in
+          let two = delay_args m.system ready.whole i f.0 f.1 op_is in
+          standing.delays i two.0 two.1 f.0 parts.0 f.1 op_is two.2
+          ∙ sym ((λ k. if parts.0 k then in_time (due_at (f.1 k) z i m.next) else None) ∙ (λ k. in_time (due_of z i (op_is k) (two.2 k) m.next)))
+      | inr fails ↦ no_timer (finite_map.get m.timers i) refl fails ∙ sym (not_timer fails)
+    ]
+      where
+        no_timer : (o : Option ℕ) → finite_map.get m.timers i ≡ o → is_timer m.system i ≡ false → o ≡ None
+        no_timer None is fails = refl
+        no_timer (Some u) is fails = absurd (false≢true (sym fails ∙ (ready.timers.each i u is).0))
+
+        none_due : (o : Op) (args : List ℕ) → is_delay_op o ≡ false → in_time (due_of z i o args m.next) ≡ None
+        none_due op.Delay args other = absurd (true≢false other)
+        none_due o args other = refl
+
+        not_timer : is_timer m.system i ≡ false → due_time m.system z m.next i ≡ None
+        not_timer fails = elim (cases_Bool (runs m.system i)) [
+          | inr idle ↦ λ k. if idle k then in_time (due_at (equation m.system i) z i m.next) else None
+          | inl run ↦
+              let f = ready.whole.proper.runs_all i run in
+              let other : is_delay_op f.0.op ≡ false = ap is_delay (sym f.1) ∙ sym (λ k. run k && is_delay (equation m.system i)) ∙ fails in
+              (λ k. if run k then in_time (due_at (f.1 k) z i m.next) else None) ∙ none_due f.0.op f.0.args other
+        ]
+
+    -- what running updates have copied
+    pub counted : (u : ℕ) → IsTrue (is_running_update m.system u) → slice_index m.ledger u ≡ copied m.system m.in_place z u m.next
+    counted u update = (laws.counts m.system (plan_of m) lines B z (given_at B small z solves) m.next reaches_to (kept_state m) keeps.run).between u (update_is m.system ready.whole u update)
+
+    pub quiet_to : (t : ℕ) → t ≤ B → NothingBefore m.next m.given m.timers t → (u : ℕ) → m.next ≤ u → u < t → is_instant m.system lines z u ≡ false
+    quiet_to t within none u low lt = quiet m.system ready.whole m.order order_is lines stands.past m.given stands.parts ready.events m.timers m.next t B stands.earlier none (omega arith) within z solves due u low lt
+
 -- ---- an instant comes next
-module _ (m : State) (ready : IsReady m) (lines : List Line) (stands : Stands m lines) (t : ℕ) (late_enough : m.next ≤ t) (early : t < 2 ^ 63) (comes_now : Comes m.next m.given m.timers t) (none : NothingBefore m.next m.given m.timers t) (z : Streams) where
-  module _ (B : ℕ) (within : t < B) (solves : Solves m.system (inputs_of lines) B z) where
-    keeps : KeepsOf m lines z
-    keeps = stands.keeps z (solves_less m.system (inputs_of lines) m.next B z (omega arith) solves)
+module _ (m : State) (ready : IsReady m) (lines : List Line) (stands : Stands m lines) (t : ℕ) (late_enough : m.next ≤ t) (early : t < 2 ^ 63) (comes_now : Comes m.next m.given m.timers t) (none : NothingBefore m.next m.given m.timers t) where
+  pub inputs_now : (i : ℕ) → inputs_of m.given i t ≡ inputs_of lines i t
+  inputs_now i = sym (ap (λ ls. inputs_of ls i t) stands.parts ∙ append_input stands.past m.given i t (no_past_input m.next t i late_enough stands.past stands.earlier))
+
+  module _ (z : Streams) (solves : Solves m.system (inputs_of lines) (suc t) z) where
+    due_now : (i : ℕ) → finite_map.get m.timers i ≡ due_time m.system z m.next i
+    due_now = due m ready lines stands (suc t) (omega arith) (omega arith) z solves
+
+    pub here : is_instant m.system lines z t ≡ true
+    here = comes m.system ready.whole m.order (order_is m ready lines stands) lines stands.past m.given stands.parts ready.events m.timers m.next t (suc t) stands.earlier none (omega arith) (omega arith) z solves due_now late_enough (omega arith) early comes_now
 
     -- it is the first that has not run
     pub is_first : t < m.bound → IsFirstInstant m.system lines z m.next m.bound t
-    is_first below = record {
-      late = late_enough;
-      early = below;
-      comes = comes m.system ready.whole m.order ready.ordered lines stands.past m.given stands.parts ready.events m.timers m.next t B stands.earlier none (omega arith) (omega arith) z solves keeps.timers late_enough within early comes_now;
-      first = λ u low lt. quiet m.system ready.whole m.order ready.ordered lines stands.past m.given stands.parts ready.events m.timers m.next t B stands.earlier none (omega arith) (omega arith) z solves keeps.timers u low lt;
-    }
-
-    inputs_now : (i : ℕ) → inputs_of m.given i t ≡ inputs_of lines i t
-    inputs_now i = sym (ap (λ ls. inputs_of ls i t) stands.parts ∙ append_input stands.past m.given i t (no_past_input m.next t i late_enough stands.past stands.earlier))
-
-    pub goes_on : (machine : Machine) → machine.store.cells ≡ m.cells → machine.last.items ≡ m.last → machine.timers.times ≡ m.timers → GoesOn m.system (inputs_of lines) z t m.given machine
-    goes_on machine cells_are last_is timers_are = record {
-      each = λ i e run is. solves.each i e run is t within;
-      inputs_are = inputs_now;
-      delays_are = λ i e run is op_is.
-          let two = two_args m.system ready.whole m.order ready.ordered lines stands.past m.given stands.parts ready.events m.timers m.next t B stands.earlier none (omega arith) (omega arith) z solves keeps.timers i e is op_is in
-          delayed_at_t m.system ready.whole m.order ready.ordered lines stands.past m.given stands.parts ready.events m.timers m.next t B stands.earlier none (omega arith) (omega arith) z solves keeps.timers late_enough i e run is op_is two.0 two.1 two.2 within early
-          ∙ (λ k. unit_if_due t (finite_map.get (sym timers_are k) i));
-      last_are = λ i kept.
-          (λ k. value_at (cells_are k) (last_is k) i) ∙ keeps.last i kept
-          ∙ sym (latest_gap m.system ready.whole m.order ready.ordered lines stands.past m.given stands.parts ready.events m.timers m.next t B stands.earlier none (omega arith) (omega arith) z solves keeps.timers late_enough i (kept_runs m.system ready.whole i kept));
-    }
+    is_first below = record { late = late_enough; early = below; comes = here; first = λ u low lt. quiet_to m ready lines stands (suc t) (omega arith) (omega arith) z solves t (omega arith) none u low lt }
 
     -- what no root fault came before
     pub sound_before : (u : ℕ) → u < t → is_faulty m.system (inputs_of lines) z u ≡ false
     sound_before u lt = elim (cases_lt u m.next) [
-      | inl before ↦ keeps.sound u before
-      | inr here ↦ sound_gap m.system ready.whole m.order ready.ordered lines stands.past m.given stands.parts ready.events m.timers m.next t B stands.earlier none (omega arith) (omega arith) z solves keeps.timers u here lt
+      | inl before ↦ (keeps m ready lines stands (suc t) (omega arith) (omega arith) z solves).sound u before
+      | inr from ↦ sound_gap m.system ready.whole m.order (order_is m ready lines stands) lines stands.past m.given stands.parts ready.events m.timers m.next t (suc t) stands.earlier none (omega arith) (omega arith) z solves due_now u from lt
     ]
 
-    -- the ledger behind t
-    pub ledger_behind : (i : ℕ) → IsTrue (is_running_update m.system i) → ledger_at m.system z t i (slice_index m.ledger i) ≡ copied m.system z i (suc t)
-    ledger_behind i update =
-        let run = (and_parts (runs m.system i) (is_update (equation m.system i)) update).0 in
-        let before = keeps.ledger i update ∙ sym (copied_gap m.system ready.whole m.order ready.ordered lines stands.past m.given stands.parts ready.events m.timers m.next t B stands.earlier none (omega arith) (omega arith) z solves keeps.timers late_enough i run) in
-        ap (ledger_at m.system z t i) before ∙ behind (has_event (z i t)) refl
-      where
-        behind : (b : Bool) → has_event (z i t) ≡ b → ledger_at m.system z t i (copied m.system z i t) ≡ copied m.system z i (suc t)
-        behind true is = λ k. if is k then min (copied m.system z i t + size_copied (equation m.system i) z i t) (2 ^ 64 - 1) else copied m.system z i t
-        behind false is = (λ k. if is k then min (copied m.system z i t + size_copied (equation m.system i) z i t) (2 ^ 64 - 1) else copied m.system z i t) ∙ sym (copied_still m.system z i t is)
+    gap : instants m.system lines z t ≡ instants m.system lines z m.next
+    gap = instants_gap m.system ready.whole m.order (order_is m ready lines stands) lines stands.past m.given stands.parts ready.events m.timers m.next t (suc t) stands.earlier none (omega arith) (omega arith) z solves due_now late_enough
 
-    pub one_more : is_instant m.system lines z t ≡ true → instants m.system lines z (suc t) ≡ instants m.system lines z m.next ++ t ∷ []
-    one_more here =
-        (λ k. instants m.system lines z t ++ (if here k then t ∷ [] else []))
-        ∙ ap (λ ts. ts ++ t ∷ []) (instants_gap m.system ready.whole m.order ready.ordered lines stands.past m.given stands.parts ready.events m.timers m.next t B stands.earlier none (omega arith) (omega arith) z solves keeps.timers late_enough)
+    -- the run of the machine has come to t
+    pub run_now : RunsTo m.system (plan_of m) lines z t (kept_state m)
+    run_now = subst (λ ts. Runs m.system (plan_of m) (inputs_of lines) ts nothing_yet (kept_state m)) (sym gap) (keeps m ready lines stands (suc t) (omega arith) (omega arith) z solves).run
 
-    -- when a delay is due behind t
-    pub due_behind : (i : ℕ) → IsTrue (is_timer m.system i) → due_after (equation m.system i) z t i (finite_map.get m.timers i) ≡ due_time m.system z (suc t) i
-    due_behind i timer =
-        let parts = and_parts (runs m.system i) (is_delay (equation m.system i)) timer in
-        let f = ready.whole.proper.runs_all i parts.0 in
-        let op_is = delay_op f.0.op (ap is_delay (sym f.1) ∙ parts.1) in
-        let two = two_args m.system ready.whole m.order ready.ordered lines stands.past m.given stands.parts ready.events m.timers m.next t B stands.earlier none (omega arith) (omega arith) z solves keeps.timers i f.0 f.1 op_is in
-        (λ k. due_after (f.1 k) z t i (finite_map.get m.timers i))
-        ∙ from f.0 f.1 parts.0 op_is two.0 two.1 two.2
-        ∙ sym ((λ k. if parts.0 k then in_time (due_at (f.1 k) z i (suc t)) else None) ∙ (λ k. in_time (due_of z i (op_is k) (two.2 k) (suc t))))
-      where
-        from : (e : Equation) → equation m.system i ≡ Some e → IsTrue (runs m.system i) → e.op ≡ op.Delay → (d r : ℕ) → e.args ≡ d ∷ r ∷ [] → due_after (Some e) z t i (finite_map.get m.timers i) ≡ in_time (pending (z d) (z r) (z i) (suc t))
-        from e is run op_is d r args_are =
-            let event_is = event_at_t m.system ready.whole m.order ready.ordered lines stands.past m.given stands.parts ready.events m.timers m.next t B stands.earlier none (omega arith) (omega arith) z solves keeps.timers late_enough i e run is op_is d r args_are within early in
-            let due_is = due_at_t m.system ready.whole m.order ready.ordered lines stands.past m.given stands.parts ready.events m.timers m.next t B stands.earlier none (omega arith) (omega arith) z solves keeps.timers late_enough i e run is op_is d r args_are in
-            (λ k. set_by t (first_of (map (λ a. event (z a t)) (args_are k))) (second_of (map (λ a. event (z a t)) (args_are k))) (event (z i t)) (left_at t (finite_map.get m.timers i)))
-            ∙ split (has_event (z r t)) (has_event (z i t)) refl refl event_is due_is
-          where
-            split : (a b : Bool) → has_event (z r t) ≡ a → has_event (z i t) ≡ b → has_event (z i t) ≡ option_is t (finite_map.get m.timers i) → finite_map.get m.timers i ≡ in_time (pending (z d) (z r) (z i) t)
-                → (if has_event (z r t) || has_event (z i t) then in_time (reached t (event (z d t))) else left_at t (finite_map.get m.timers i)) ≡ in_time (if has_event (z r t) || has_event (z i t) then reached t (event (z d t)) else pending (z d) (z r) (z i) t)
-            split true b ra ib event_is due_is = (λ k. if ra k || has_event (z i t) then in_time (reached t (event (z d t))) else left_at t (finite_map.get m.timers i)) ∙ sym (λ k. in_time (if ra k || has_event (z i t) then reached t (event (z d t)) else pending (z d) (z r) (z i) t))
-            split false true ra ib event_is due_is = (λ k. if ra k || ib k then in_time (reached t (event (z d t))) else left_at t (finite_map.get m.timers i)) ∙ sym (λ k. in_time (if ra k || ib k then reached t (event (z d t)) else pending (z d) (z r) (z i) t))
-            split false false ra ib event_is due_is =
-                (λ k. if ra k || ib k then in_time (reached t (event (z d t))) else left_at t (finite_map.get m.timers i))
-                ∙ (λ k. if (sym event_is ∙ ib) k then None else finite_map.get m.timers i) ∙ due_is
-                ∙ sym (λ k. in_time (if ra k || ib k then reached t (event (z d t)) else pending (z d) (z r) (z i) t))
+    pub one_more : m.ran + 1 ≡ length (instants m.system lines z (suc t))
+    one_more =
+        let more : instants m.system lines z (suc t) ≡ instants m.system lines z m.next ++ t ∷ [] = (λ k. instants m.system lines z t ++ (if here k then t ∷ [] else [])) ∙ ap (λ ts. ts ++ t ∷ []) gap in
+        let count = length-append (instants m.system lines z m.next) (t ∷ []) in
+        let kept = (keeps m ready lines stands (suc t) (omega arith) (omega arith) z solves).ran in
+        omega (arith, ap length more)
 
--- ---- the monitor behind it
-module _ (old new : State) (ready : IsReady old) (lines : List Line) (stands : Stands old lines) (t : ℕ) (late_enough : old.next ≤ t) (early : t < 2 ^ 63) (comes_now : Comes old.next old.given old.timers t) (none : NothingBefore old.next old.given old.timers t)
-    (system_is : new.system ≡ old.system) (next_is : new.next ≡ suc t) (ran_is : new.ran ≡ old.ran + 1) (timers : AreTimers old.system (suc t) new.timers) where
-  not_timer : (z : Streams) (n i : ℕ) → is_timer old.system i ≡ false → due_time old.system z n i ≡ None
-  not_timer z n i fails = elim (cases_Bool (runs old.system i)) [
-    | inr idle ↦ λ k. if idle k then in_time (due_at (equation old.system i) z i n) else None
-    | inl run ↦
-        let f = ready.whole.proper.runs_all i run in
-        let other : is_delay_op f.0.op ≡ false = ap is_delay (sym f.1) ∙ sym (λ k. run k && is_delay (equation old.system i)) ∙ fails in
-        (λ k. if run k then in_time (due_at (f.1 k) z i n) else None) ∙ none_due f.0.op f.0.args other
-  ]
-    where
-      none_due : (o : Op) (args : List ℕ) → is_delay_op o ≡ false → in_time (due_of z i o args n) ≡ None
-      none_due op.Delay args other = absurd (true≢false other)
-      none_due o args other = refl
+    pub shown : ShowsInstant m.system (plan_of m) lines z t (kept_state m)
+    shown = laws.shows m.system (plan_of m) lines (suc t) z (given_at m ready lines stands (suc t) (omega arith) z solves) t (omega arith) (kept_state m) run_now
 
-  no_timer : (i : ℕ) → is_timer old.system i ≡ false → finite_map.get new.timers i ≡ None
-  no_timer i fails = from (finite_map.get new.timers i) refl
-    where
-      from : (o : Option ℕ) → finite_map.get new.timers i ≡ o → o ≡ None
-      from None is = refl
-      from (Some u) is = absurd (false≢true (sym fails ∙ (timers.each i u is).0))
+    -- the text of the instant
+    pub text_now : (text : List ℕ) → IsInstantText m.system (plan_of m) (inputs_of lines) t (kept_state m) text → text ≡ text_at m.system z t
+    text_now text is =
+        is.is
+        ∙ concat_is (λ o. event_line t (name_of o) (event (z (option_map_or (λ (q : Output). q.equation) o 0) t))) m.system.outputs is.texts is.each
+        (λ k lt. let p = is.printed k lt in p.text_is ∙ ap (event_line t (name_of (slice_get m.system.outputs k))) (shown.prints p.before p.after k p.mid p.is p.leads))
 
-  faultless : (z : Streams) → IsLeastRoot (runs old.system) (root_at old.system (inputs_of lines) z t) None → is_faulty old.system (inputs_of lines) z t ≡ false
-  faultless z least = none_from (λ i. is_some (root_at old.system (inputs_of lines) z t i)) old.system.running (λ i run. ap is_some (least i run))
+    -- the run goes on over it
+    pub run_on_now : (b : machine_state.State) → Instant m.system (plan_of m) (inputs_of lines) t (kept_state m) b → RunsTo m.system (plan_of m) lines z (suc t) b
+    run_on_now b instant = (runs_on m.system (plan_of m) lines z t (kept_state m) run_now).over_instant here b instant
 
-  module _ (machine after : Machine) (cells_are : machine.store.cells ≡ old.cells) (last_is : machine.last.items ≡ old.last) (timers_are : machine.timers.times ≡ old.timers) (ledger_is : machine.store.ledger ≡ old.ledger)
-      (new_cells : new.cells ≡ after.store.cells) (new_last : new.last ≡ after.last.items) (new_timers : new.timers ≡ after.timers.times) (new_ledger : new.ledger ≡ after.store.ledger)
-      (means : (inputs : Inputs) (z : Streams) → GoesOn old.system inputs z t old.given machine → HasRoot old.system inputs z t machine after None × IsKeptOf old.system z t machine after) where
-    pub keeps_on : (z : Streams) → Solves old.system (inputs_of lines) (suc t) z → KeepsOf (record new { system = old.system; next = suc t }) lines z
-    keeps_on z solves =
-        let goes = goes_on old ready lines stands t late_enough early comes_now none z (suc t) (omega arith) solves machine cells_are last_is timers_are in
-        let both = means (inputs_of lines) z goes in
-        record {
-          last = λ i kept. (λ k. value_at (new_cells k) (new_last k) i) ∙ both.1.last i kept;
-          timers = λ i. elim (cases_Bool (is_timer old.system i)) [
-            | inl timer ↦
-                ap (λ ts. finite_map.get ts i) new_timers ∙ both.1.timers i timer ∙ (λ k. due_after (equation old.system i) z t i (finite_map.get (timers_are k) i))
-                ∙ due_behind old ready lines stands t late_enough early comes_now none z (suc t) (omega arith) solves i timer
-            | inr fails ↦ no_timer i fails ∙ sym (not_timer z (suc t) i fails)
-          ];
-          ran = ran_is ∙ ran_more z solves;
-          sound = λ u lt. elim (cases_lt u t) [
-            | inl before ↦ sound_before old ready lines stands t late_enough early comes_now none z (suc t) (omega arith) solves u before
-            | inr level ↦ let same : t ≡ u = omega arith in subst (λ w. is_faulty old.system (inputs_of lines) z w ≡ false) same (faultless z both.0.least)
-          ];
-          ledger = λ i update.
-              let parts = and_parts (runs old.system i) (is_update (equation old.system i)) update in
-              ap (λ l. slice_index l i) new_ledger ∙ both.0.ledger i parts.0 parts.1 ∙ (λ k. ledger_at old.system z t i (slice_index (ledger_is k) i))
-              ∙ ledger_behind old ready lines stands t late_enough early comes_now none z (suc t) (omega arith) solves i update;
-        }
-      where
-        ran_more : (z : Streams) (solves : Solves old.system (inputs_of lines) (suc t) z) → old.ran + 1 ≡ length (instants old.system lines z (suc t))
-        ran_more z solves =
-            let s = old.system in
-            let keep = stands.keeps z (solves_less s (inputs_of lines) old.next (suc t) z (omega arith) solves) in
-            let here = comes s ready.whole old.order ready.ordered lines stands.past old.given stands.parts ready.events old.timers old.next t (suc t) stands.earlier none (omega arith) (omega arith) z solves keep.timers late_enough (omega arith) early comes_now in
-            let more = one_more old ready lines stands t late_enough early comes_now none z (suc t) (omega arith) solves here in
-            let count = length-append (instants s lines z old.next) (t ∷ []) in
-            let kept = keep.ran in
-            omega (arith, ap length more)
+    pub sound_now : (b : machine_state.State) → Instant m.system (plan_of m) (inputs_of lines) t (kept_state m) b → is_faulty m.system (inputs_of lines) z t ≡ false
+    sound_now b instant = sym (shown.some_root_fault instant.reached instant.ran) ∙ instant.sound
+
+    -- what updates have copied at the last print
+    pub copied_now : (c : Config) → Reaches m.system (plan_of m) lines t (kept_state m) c → (u : ℕ) → IsTrue (is_running_update m.system u) → c.ledger u ≡ copied m.system m.in_place z u (suc t)
+    copied_now c reaches u update =
+        (laws.counts m.system (plan_of m) lines (suc t) z (given_at m ready lines stands (suc t) (omega arith) z solves) t (omega arith) (kept_state m) run_now).within (omega arith) c reaches u (update_is m.system ready.whole u update)

@@ -19,14 +19,13 @@ use Rattle.aggregate_store.proofs.Typed.{is_of-empty, is_of-added, is_of-removed
 use Rattle.flat_core.specs.declared.equation.Equation.{Equation}
 use Rattle.flat_core.specs.declared.equation.Op.{Op}
 use Rattle.flat_core.specs.declared.equation.Op.TheVariants as op
-use Rattle.flat_core.specs.Case.{unit, empty_of, merged, filtered, picked, of_both, of_three, at_once, outcome_of}
+use Rattle.flat_core.specs.Case.{unit, empty_of, merged, filtered, picked, of_both, of_three, at_once}
 use Rattle.flat_core.specs.Complete.{IsFlat}
-use Rattle.flat_core.specs.Stream.{Fault, event}
 use Rattle.flat_core.specs.System.{System, runs, equation}
 use Rattle.flat_core.specs.Typed.{IsTyped, input, nil, empty, time, any, last, delay, merge, filter, pick, set_add, set_remove, map_add, map_remove, lift, is_aggregate, unit_type, kind_of}
 use Rattle.flat_core.specs.Typed as typed
 use Rattle.flat_core.specs.TypedSystem.{AreOfTypes}
-use Rattle.monitor_run.specs.Here.{AreOf, TakesTyped, own_here, is_blocked_here}
+use Rattle.monitor_run.specs.Here.{AreOf, TakesTyped}
 use Rattle.monitor_run.specs.Registers.{AreHeld, register_at, value_at}
 use Rattle.std.proofs.lemmas.List.Elements.{All-from_recursion}
 use Rattle.monitor_run.proofs.PlanLemmas.{running_args}
@@ -104,7 +103,7 @@ unit_where true = refl
 unit_where false = refl
 
 -- what an operation makes of values of its types
-at_once_typed : (o : Op) (ts : List ValueType) (of : ValueType) → IsTyped o ts of → (values : List (Option View)) → AreOf ts values → (t : ℕ) → FitsAnswer (Optional of) (at_once o of values t)
+pub at_once_typed : (o : Op) (ts : List ValueType) (of : ValueType) → IsTyped o ts of → (values : List (Option View)) → AreOf ts values → (t : ℕ) → FitsAnswer (Optional of) (at_once o of values t)
 at_once_typed op.Input ts of input [] fit t = refl
 at_once_typed op.Input ts of input (v ∷ values) fit t = absurd fit
 at_once_typed op.Nil ts of nil [] fit t = refl
@@ -167,21 +166,21 @@ at_once_typed (op.Lift body false) ts of (lift low high kind) values fit t =
 
 -- ---- what equations have at their arguments
 
-module _ (s : System) (whole : IsFlat s) (c : Cells) (registers : List Register) (held : AreHeld s c registers) where
-  values_typed : (args : List ℕ) (types : List ValueType) → AllByRecursion (λ a. IsTrue (runs s a)) args → AreOfTypes s.equations args types → AreOf types (map (value_at c registers) args)
+module _ (s : System) (whole : IsFlat s) (types : ℕ → ValueType) (c : Cells) (registers : List Register) (held : AreHeld s types c registers) where
+  pub values_typed : (args : List ℕ) (kinds : List ValueType) → AllByRecursion (λ a. IsTrue (runs s a)) args → AreOfTypes s.equations args kinds → AreOf kinds (map (value_at c registers) args)
   values_typed [] [] run of = tt
-  values_typed [] (u ∷ types) run of = absurd of
+  values_typed [] (u ∷ kinds) run of = absurd of
   values_typed (a ∷ args) [] run of = absurd of
-  values_typed (a ∷ args) (u ∷ types) run of = (
+  values_typed (a ∷ args) (u ∷ kinds) run of = (
     subst (λ v. IsOf v (value_at c registers a)) of.0.of_is (held.each a of.0.at run.0 of.0.is).typed,
-    values_typed args types run.1 of.1,
+    values_typed args kinds run.1 of.1,
   )
 
-  values_live : (args : List ℕ) (types : List ValueType) → AllByRecursion (λ a. IsTrue (runs s a)) args → AreOfTypes s.equations args types → AllByRecursion (λ a. HoldsLive c (register_at registers a)) args
+  values_live : (args : List ℕ) (kinds : List ValueType) → AllByRecursion (λ a. IsTrue (runs s a)) args → AreOfTypes s.equations args kinds → AllByRecursion (λ a. HoldsLive c (register_at registers a)) args
   values_live [] [] run of = tt
-  values_live [] (u ∷ types) run of = absurd of
+  values_live [] (u ∷ kinds) run of = absurd of
   values_live (a ∷ args) [] run of = absurd of
-  values_live (a ∷ args) (u ∷ types) run of = ((held.each a of.0.at run.0 of.0.is).live, values_live args types run.1 of.1)
+  values_live (a ∷ args) (u ∷ kinds) run of = ((held.each a of.0.at run.0 of.0.is).live, values_live args kinds run.1 of.1)
 
   pub args_live : (i : ℕ) (e : Equation) → IsTrue (runs s i) → equation s i ≡ Some e → All (λ a. HoldsLive c (register_at registers a)) e.args
   args_live i e run is =
@@ -192,32 +191,3 @@ module _ (s : System) (whole : IsFlat s) (c : Cells) (registers : List Register)
   takes_typed i e run is =
       let g = whole.complete.typed.each i e is in
       record { types = g.types; typed = g.typed; values = values_typed e.args g.types (running_args s whole.proper i e run is) g.arguments; live = args_live i e run is }
-
-  -- what comes of an equation is of its type
-  module _ (last_registers : List Register) (kept : AreHeld s c last_registers) (i t : ℕ) (e : Equation) (run : IsTrue (runs s i)) (is : equation s i ≡ Some e) where
-    last_typed : (args : List ℕ) (types : List ValueType) (of : ValueType) → AllByRecursion (λ a. IsTrue (runs s a)) args → IsTyped op.Last types of → AreOfTypes s.equations args types → FitsAnswer (Optional of) (own_here c registers last_registers i t op.Last args of)
-    last_typed [] types of all typed are = refl
-    last_typed (v ∷ []) types of all typed are = refl
-    last_typed (v ∷ r ∷ x ∷ args) types of all typed are = refl
-    last_typed (v ∷ r ∷ []) types of all last are = split (is_some (value_at c registers r)) (subst (λ u. IsOf u (value_at c last_registers v)) are.0.of_is (kept.each v are.0.at all.0 are.0.is).typed)
-      where
-        split : (b : Bool) → IsOf of (value_at c last_registers v) → FitsAnswer (Optional of) (Ok (if b then value_at c last_registers v else None))
-        split true fit = fit
-        split false fit = refl
-
-    own_typed : (o : Op) (types : List ValueType) → IsTyped o types e.of → AreOfTypes s.equations e.args types → FitsAnswer (Optional e.of) (own_here c registers last_registers i t o e.args e.of)
-    own_typed op.Input types typed are = (held.each i e run is).typed
-    own_typed op.Delay types typed are = (held.each i e run is).typed
-    own_typed op.Last types typed are = last_typed e.args types e.of (running_args s whole.proper i e run is) typed are
-    own_typed o types typed are = at_once_typed o types e.of typed (map (value_at c registers) e.args) (values_typed e.args types (running_args s whole.proper i e run is) are) t
-
-    event_fits : (blocked : Bool) (a : Answer) → FitsAnswer (Optional e.of) a → IsOf e.of (event (if blocked then Some Fault else outcome_of a))
-    event_fits true a fit = refl
-    event_fits false (Ok None) fit = refl
-    event_fits false (Ok (Some v)) fit = fit
-    event_fits false (Err kind) fit = refl
-
-    pub case_fits : (faulted : List Bool) → IsTrue (fits (Optional e.of) (event (if is_blocked_here faulted e.op e.args then Some Fault else outcome_of (own_here c registers last_registers i t e.op e.args e.of))))
-    case_fits faulted =
-        let g = whole.complete.typed.each i e is in
-        event_fits (is_blocked_here faulted e.op e.args) (own_here c registers last_registers i t e.op e.args e.of) (own_typed e.op g.types g.typed g.arguments)

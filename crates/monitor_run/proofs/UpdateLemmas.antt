@@ -1,9 +1,7 @@
 -- What updates make of registers.
-use Rattle.std.proofs.Common.{◌≡◌, ℕ, true, List, [], ◌∷◌, map, Some, pos, lit<, refl, sym, ap, subst, ◌∙◌}
-use Rattle.std.proofs.lemmas.Bool.{false≢true}
-use Rattle.std.specs.Prelude.{IsTrue, slice_index, if◌then◌else◌}
+use Rattle.std.proofs.Common.{◌≡◌, ℕ, true, List, [], ◌∷◌, map, pos, lit<, refl, sym, subst}
+use Rattle.std.specs.Prelude.{IsTrue, slice_index}
 use Rattle.std.specs.List.{All}
-use Rattle.std.specs.FinMap as finite_map
 use Rattle.tsl_value.specs.declared.scalar.KeyType.{KeyType}
 use Rattle.tsl_value.specs.declared.scalar.KeyType.TheVariants as key_type
 use Rattle.tsl_value.specs.declared.scalar.Scalar.{Scalar}
@@ -12,43 +10,23 @@ use Rattle.tsl_value.specs.declared.scalar.ScalarType.{ScalarType}
 use Rattle.tsl_value.specs.declared.scalar.ScalarType.TheVariants as scalar_type
 use Rattle.tsl_value.specs.declared.scalar.ValueType.{ValueType}
 use Rattle.tsl_value.specs.declared.scalar.ValueType.TheVariants as value_type
-use Rattle.tsl_value.specs.View.{View, Plain, Keyed, Mapped, is_of, is_of_key}
-use Rattle.lift_func.specs.Cells.{Cells, FitsKey, HoldsLive, IsLive, held, view_at}
+use Rattle.tsl_value.specs.View.{View, Plain, is_of, is_of_key}
+use Rattle.lift_func.specs.Cells.{Cells, FitsKey, HoldsLive, IsLive, view_at}
 use Rattle.lift_func.specs.declared.register.Register.{Register}
 use Rattle.lift_func.specs.declared.register.Register.TheVariants as register
 use Rattle.lift_func.specs.Typing.{Optional, fits, scalar_of}
-use Rattle.lift_func.specs.Update.{size_of, with_key, without_key, with_entry}
-use Rattle.aggregate_store.specs.Stored.{Stored, FitsValue, counted, with_added}
-use Rattle.aggregate_store.proofs.Typed.{fits_key, fits_value, is_of-added, is_of-removed}
+use Rattle.aggregate_store.specs.Stored.{Stored, FitsValue}
+use Rattle.aggregate_store.proofs.Typed.{fits_key, fits_value}
 use Rattle.flat_core.specs.declared.equation.Equation.{Equation}
-use Rattle.flat_core.specs.declared.equation.Op.{Op}
 use Rattle.flat_core.specs.declared.equation.Op.TheVariants as op
-use Rattle.flat_core.specs.Case.{of_both, of_three}
-use Rattle.flat_core.specs.Typed.{IsTyped, set_add, set_remove, map_add, map_remove, is_aggregate}
-use Rattle.monitor_run.specs.Copied.{is_update_op}
-use Rattle.monitor_run.specs.Here.{AreAggregateAndKey, AreMapAndEntry, AreOf, AreSetAndKey, Gives, HasKeys, HasUpdated, TakesTyped}
+use Rattle.flat_core.specs.Typed.{IsTyped, set_add, set_remove, map_add, map_remove}
+use Rattle.monitor_run.specs.Here.{AreAggregateAndKey, AreMapAndEntry, AreOf, AreSetAndKey, HasKeys, TakesTyped}
 use Rattle.monitor_run.specs.Registers.{IsHeldOf, register_at, value_at}
-use Rattle.monitor_run.proofs.CellLemmas.{extends-new, gives-new}
 
 pub key_fits : (k : KeyType) (x : Scalar) → IsTrue (is_of (value_type.Scalar (scalar_of k)) (Plain x)) → IsTrue (is_of_key k x)
 key_fits key_type.Int x fit = fit
 key_fits key_type.Bool x fit = fit
 key_fits key_type.Text x fit = fit
-
-set_added_is : (k : KeyType) (v : View) (key : Scalar) → IsTrue (is_of (value_type.Set k) v) → with_added v key scalar.Unit ≡ with_key v (Plain key)
-set_added_is k (Plain s) key typed = absurd (false≢true typed)
-set_added_is k (Keyed s) key typed = refl
-set_added_is k (Mapped m) key typed = absurd (false≢true typed)
-
-map_added_is : (k : KeyType) (t : ScalarType) (v : View) (key value : Scalar) → IsTrue (is_of (value_type.Map k t) v) → with_added v key value ≡ with_entry v (Plain key) (Plain value)
-map_added_is k t (Plain s) key value typed = absurd (false≢true typed)
-map_added_is k t (Keyed s) key value typed = absurd (false≢true typed)
-map_added_is k t (Mapped m) key value typed = refl
-
-keys_aggregate : (k : KeyType) (of : ValueType) → HasKeys k of → is_aggregate of ≡ true
-keys_aggregate k (value_type.Scalar t) keys = absurd keys
-keys_aggregate k (value_type.Set j) keys = refl
-keys_aggregate k (value_type.Map j t) keys = refl
 
 -- a value that stands beside a key of a type
 key_of_type : (k : KeyType) (of : ValueType) (v : View) (key : Scalar) → HasKeys k of → IsTrue (is_of_key k key) → IsTrue (is_of of v) → FitsKey v key
@@ -58,14 +36,6 @@ key_of_type k (value_type.Map j scalar_type.Unit) v key keys fit typed = fits_ke
 key_of_type k (value_type.Map j scalar_type.Int) v key keys fit typed = fits_key (value_type.Map j scalar_type.Int) v key (scalar.Int (pos 0)) (subst (λ i. IsTrue (is_of_key i key)) (sym keys) fit, refl) typed
 key_of_type k (value_type.Map j scalar_type.Bool) v key keys fit typed = fits_key (value_type.Map j scalar_type.Bool) v key (scalar.Bool true) (subst (λ i. IsTrue (is_of_key i key)) (sym keys) fit, refl) typed
 key_of_type k (value_type.Map j scalar_type.Text) v key keys fit typed = fits_key (value_type.Map j scalar_type.Text) v key (scalar.Text []) (subst (λ i. IsTrue (is_of_key i key)) (sym keys) fit, refl) typed
-
--- a copy was made, of cell h behind r
-module _ (old new : Stored) (i h r : ℕ) (made : View) (fresh : ¬ (IsLive old.cells r)) (is : new.cells ≡ finite_map.insert old.cells r made) (ledger : new.ledger ≡ counted old.ledger i (size_of (view_at old.cells h))) where
-  updated : (o : Op) → is_update_op o ≡ true → HasUpdated old new i o (register.Aggregate r) (Some (view_at old.cells h))
-  updated o update = record {
-    extends = extends-new old.cells new.cells r made fresh is;
-    ledger = ledger ∙ (λ k. if sym update k then counted old.ledger i (size_of (view_at old.cells h)) else old.ledger);
-  }
 
 -- ---- the requirements of the store, and what comes of its calls, where the registers are these
 module _ (old : Stored) (h : ℕ) (k : Scalar) (source key : Register) (source_is : source ≡ register.Aggregate h) (key_is : key ≡ register.Scalar k) where
@@ -81,27 +51,8 @@ module _ (old : Stored) (h : ℕ) (k : Scalar) (source key : Register) (source_i
   pub set_key : AreSetAndKey old.cells source key → FitsKey (view_at old.cells h) k
   set_key a = fits_key (value_type.Set a.of) (view_at old.cells h) k scalar.Unit (key_at a.of a.key_is, refl) (typed_at (value_type.Set a.of) a.set_is)
 
-  pub set_value : AreSetAndKey old.cells source key → FitsValue (view_at old.cells h) scalar.Unit
-  set_value a = fits_value (value_type.Set a.of) (view_at old.cells h) k scalar.Unit (key_at a.of a.key_is, refl) (typed_at (value_type.Set a.of) a.set_is)
-
   pub any_key : AreAggregateAndKey old.cells source key → FitsKey (view_at old.cells h) k
   any_key a = key_of_type a.key_of a.of (view_at old.cells h) k a.keys (key_at a.key_of a.key_is) (typed_at a.of a.aggregate_is)
-
-  module _ (new : Stored) (i r : ℕ) (fresh : ¬ (IsLive old.cells r)) where
-    pub set_gives : new.cells ≡ finite_map.insert old.cells r (with_added (view_at old.cells h) k scalar.Unit) → AreSetAndKey old.cells source key → Gives new.cells (register.Aggregate r) (of_both with_key (held old.cells source) (held old.cells key))
-    set_gives is a =
-        let typed = typed_at (value_type.Set a.of) a.set_is in
-        let base = gives-new old.cells new.cells r (with_added (view_at old.cells h) k scalar.Unit) (value_type.Set a.of) is refl (is_of-added (value_type.Set a.of) (view_at old.cells h) k scalar.Unit (key_at a.of a.key_is, refl) typed) in
-        subst (Gives new.cells (register.Aggregate r)) (ap Some (set_added_is a.of (view_at old.cells h) k typed) ∙ (λ j. of_both with_key (held old.cells (sym source_is j)) (held old.cells (sym key_is j)))) base
-
-    pub removed_gives : new.cells ≡ finite_map.insert old.cells r (without_key (view_at old.cells h) (Plain k)) → AreAggregateAndKey old.cells source key → Gives new.cells (register.Aggregate r) (of_both without_key (held old.cells source) (held old.cells key))
-    removed_gives is a =
-        let typed = typed_at a.of a.aggregate_is in
-        let base = gives-new old.cells new.cells r (without_key (view_at old.cells h) (Plain k)) a.of is (keys_aggregate a.key_of a.of a.keys) (is_of-removed a.of (view_at old.cells h) k typed) in
-        subst (Gives new.cells (register.Aggregate r)) (λ j. of_both without_key (held old.cells (sym source_is j)) (held old.cells (sym key_is j))) base
-
-    pub has_updated : (made : View) → new.cells ≡ finite_map.insert old.cells r made → new.ledger ≡ counted old.ledger i (size_of (view_at old.cells h)) → (o : Op) → is_update_op o ≡ true → HasUpdated old new i o (register.Aggregate r) (held old.cells source)
-    has_updated made is ledger o update = subst (λ (s : Register). HasUpdated old new i o (register.Aggregate r) (held old.cells s)) (sym source_is) (updated old new i h r made fresh is ledger o update)
 
   module _ (x : Scalar) (value : Register) (value_is : value ≡ register.Scalar x) where
     value_at_type : (of : ScalarType) → IsHeldOf old.cells (value_type.Scalar of) value → IsTrue (is_of (value_type.Scalar of) (Plain x))
@@ -112,12 +63,6 @@ module _ (old : Stored) (h : ℕ) (k : Scalar) (source key : Register) (source_i
 
     pub map_value : AreMapAndEntry old.cells source key value → FitsValue (view_at old.cells h) x
     map_value a = fits_value (value_type.Map a.of a.value_of) (view_at old.cells h) k x (key_at a.of a.key_is, value_at_type a.value_of a.value_is) (typed_at (value_type.Map a.of a.value_of) a.map_is)
-
-    pub map_gives : (new : Stored) (r : ℕ) → new.cells ≡ finite_map.insert old.cells r (with_added (view_at old.cells h) k x) → AreMapAndEntry old.cells source key value → Gives new.cells (register.Aggregate r) (of_three with_entry (held old.cells source) (held old.cells key) (held old.cells value))
-    map_gives new r is a =
-        let typed = typed_at (value_type.Map a.of a.value_of) a.map_is in
-        let base = gives-new old.cells new.cells r (with_added (view_at old.cells h) k x) (value_type.Map a.of a.value_of) is refl (is_of-added (value_type.Map a.of a.value_of) (view_at old.cells h) k x (key_at a.of a.key_is, value_at_type a.value_of a.value_is) typed) in
-        subst (Gives new.cells (register.Aggregate r)) (ap Some (map_added_is a.of a.value_of (view_at old.cells h) k x typed) ∙ (λ j. of_three with_entry (held old.cells (sym source_is j)) (held old.cells (sym key_is j)) (held old.cells (sym value_is j)))) base
 
 -- ---- the arguments of updates
 module _ (c : Cells) (registers : List Register) where

@@ -1,14 +1,20 @@
 -- What an equation has by the registers of its arguments.
-use Rattle.std.specs.Prelude.{◌≡◌, ℕ, Bool, true, false, List, [], ◌∷◌, map, Option, Some, None, Ok, is_some, IsTrue, slice_index_or, if◌then◌else◌}
+use Rattle.std.specs.Prelude.{◌≡◌, ℕ, Bool, true, false, List, [], ◌∷◌, map, Option, Some, None, Result, Ok, Err, is_some, IsTrue, slice_index_or, if◌then◌else◌}
 use Rattle.std.specs.List.{All, list_all, list_any}
+use Rattle.std.specs.Option.{option_or}
+use Rattle.std.specs.FinMap as finite_map
 use Rattle.tsl_value.specs.declared.scalar.KeyType.{KeyType}
+use Rattle.tsl_value.specs.declared.scalar.Scalar.TheVariants as scalar
 use Rattle.tsl_value.specs.declared.scalar.ScalarType.{ScalarType}
 use Rattle.tsl_value.specs.declared.scalar.ValueType.{ValueType}
 use Rattle.tsl_value.specs.declared.scalar.ValueType.TheVariants as value_type
-use Rattle.tsl_value.specs.View.{View}
+use Rattle.tsl_value.specs.View.{View, is_of}
 use Rattle.lift_func.specs.Apply.{Answer, apply}
 use Rattle.lift_func.specs.Tree.{Tree}
+use Rattle.lift_func.specs.declared.eval.EvalFault.{EvalFault}
+use Rattle.lift_func.specs.declared.eval.EvalFault.TheVariants as eval_fault
 use Rattle.lift_func.specs.declared.register.Register.{Register}
+use Rattle.lift_func.specs.declared.register.Register.TheVariants as register
 use Rattle.lift_func.specs.Cells.{Cells, IsLive, HoldsLive, held, view_at}
 use Rattle.lift_func.specs.Typing.{Optional, fits, scalar_of}
 use Rattle.lift_func.specs.Update.{with_key, without_key, with_entry}
@@ -16,10 +22,13 @@ use Rattle.aggregate_store.specs.Stored.{Stored, counted}
 use Rattle.flat_core.specs.declared.equation.Equation.{Equation}
 use Rattle.flat_core.specs.declared.equation.Op.{Op}
 use Rattle.flat_core.specs.declared.equation.Op.TheVariants as op
-use Rattle.flat_core.specs.Case.{at_once, filtered, merged, picked, of_both, of_three, used_of}
+use Rattle.flat_core.specs.Case.{of_both, of_three, used_of}
 use Rattle.flat_core.specs.Typed.{IsTyped}
-use Rattle.monitor_run.specs.Copied.{is_update_op, size_in}
+use Rattle.alias_rules.specs.Uses.{is_update}
+use Rattle.register_machine.specs.Copied.{size_at}
+use Rattle.register_machine.specs.Machine.{Held, Bare, Failed, slot_of, where_true, where_either, Effect, Fill, Make, effect_of}
 use Rattle.monitor_run.specs.Registers.{IsHeldOf, register_at, value_at}
+use Rattle.monitor_run.specs.Shown.{config_of, held_by}
 
 -- as many arguments as the operation has
 abbrev pub HasShape : Op → List ℕ → Type 0
@@ -54,14 +63,6 @@ pub record TakesTyped (cells : Cells) (registers : List Register) (e : Equation)
   pub values : AreOf types (map (value_at cells registers) e.args)
   pub live : All (λ a. HoldsLive cells (register_at registers a)) e.args
 
--- the own case of equation i at t. The events of inputs and delays are in their registers from the beginning of the instant.
-abbrev pub own_here : Cells → List Register → List Register → ℕ → ℕ → Op → List ℕ → ValueType → Answer
-own_here cells registers last i t op.Input args of = Ok (value_at cells registers i)
-own_here cells registers last i t op.Delay args of = Ok (value_at cells registers i)
-own_here cells registers last i t op.Last (v ∷ r ∷ []) of = Ok (if is_some (value_at cells registers r) then value_at cells last v else None)
-own_here cells registers last i t op.Last args of = Ok None
-own_here cells registers last i t o args of = at_once o of (map (value_at cells registers) args) t
-
 abbrev pub is_marked : List Bool → ℕ → Bool
 is_marked faulted i = slice_index_or faulted i false
 
@@ -69,19 +70,13 @@ is_marked faulted i = slice_index_or faulted i false
 abbrev pub is_blocked_here : List Bool → Op → List ℕ → Bool
 is_blocked_here faulted o args = list_any (is_marked faulted) (used_of o args)
 
--- the cells that were there are as they were
-pub record Extends (old new : Cells) : Type 0 where
+-- The cells that were there stay, each with a view of its type.
+pub record StayTyped (types : ℕ → ValueType) (old new : Cells) : Type 0 where
   pub live : (handle : ℕ) → IsLive old handle → IsLive new handle
-  pub view : (handle : ℕ) → IsLive old handle → view_at new handle ≡ view_at old handle
-
-abbrev pub first_of : List (Option View) → Option View
-first_of [] = None
-first_of (v ∷ values) = v
-
--- the ledger where an equation has this event, of a source
-abbrev pub ledger_after : List ℕ → ℕ → Op → Option View → Option View → List ℕ
-ledger_after ledger i o None source = ledger
-ledger_after ledger i o (Some v) source = if is_update_op o then counted ledger i (size_in source) else ledger
+  pub typed : (handle : ℕ)
+      → IsLive old handle
+      → IsTrue (is_of (types handle) (view_at old handle))
+      → IsTrue (is_of (types handle) (view_at new handle))
 
 -- the values of a lift count: all of them are there, or one of them is
 abbrev pub counts : Bool → List (Option View) → Bool
@@ -91,14 +86,19 @@ counts false values = list_any is_some values
 abbrev pub lifted : Tree → Bool → List (Option View) → Answer
 lifted body strict values = if counts strict values then apply body values else Ok None
 
--- an event that is passed on
-abbrev pub chosen_of : Op → List (Option View) → Option View
-chosen_of op.Merge (a ∷ b ∷ []) = merged a b
-chosen_of op.Filter (a ∷ c ∷ []) = filtered a c
-chosen_of op.Pick (c ∷ a ∷ b ∷ []) = picked c a b
+-- what a condition says, if it has an event
+abbrev pub truth_of : Option Held → Option Bool
+truth_of (Some (Bare (scalar.Bool b))) = Some b
+truth_of _ = None
+
+-- what a merge, a filter and a choice hand on
+abbrev pub chosen_of : Op → List (Option Held) → Option Held
+chosen_of op.Merge (a ∷ b ∷ []) = option_or a b
+chosen_of op.Filter (a ∷ c ∷ []) = where_true c a
+chosen_of op.Pick (c ∷ a ∷ b ∷ []) = where_either c a b
 chosen_of _ _ = None
 
--- an aggregate that is made of another
+-- what an update makes of what its arguments have, if they are all there
 abbrev pub updated_of : Op → List (Option View) → Option View
 updated_of op.SetAdd (s ∷ k ∷ []) = of_both with_key s k
 updated_of op.SetRemove (s ∷ k ∷ []) = of_both without_key s k
@@ -132,12 +132,61 @@ pub record AreMapAndEntry (cells : Cells) (map key value : Register) : Type 0 wh
   pub key_is : IsHeldOf cells (value_type.Scalar (scalar_of of)) key
   pub value_is : IsHeldOf cells (value_type.Scalar value_of) value
 
--- a register with this value, whose cell is live
-pub record Gives (cells : Cells) (r : Register) (v : Option View) : Type 0 where
-  pub is : held cells r ≡ v
-  pub live : HoldsLive cells r
+-- the register holds no aggregate
+abbrev pub IsBare : Register → Type 0
+IsBare (register.Aggregate handle) = ⊥
+IsBare _ = Unit {0}
 
--- The store has the update's aggregate, and else what it had. The ledger has counted the copy.
-pub record HasUpdated (old new : Stored) (i : ℕ) (o : Op) (r : Register) (source : Option View) : Type 0 where
-  pub extends : Extends old.cells new.cells
-  pub ledger : new.ledger ≡ ledger_after old.ledger i o (held new.cells r) source
+-- A cell was made under a handle that was not live.
+pub record IsMade (old new : Cells) (v : View) (r : Register) : Type 0 where
+  pub handle : ℕ
+  pub is : r ≡ register.Aggregate handle
+  pub fresh : ¬ (IsLive old handle)
+  pub cells : new ≡ finite_map.insert old handle v
+
+-- a cell was made for a view, if there is one, and the ledger is as it was
+abbrev pub HasMadeOne : Stored → Stored → Register → Option View → Type 0
+HasMadeOne old new r None = (r ≡ register.Empty) × (new ≡ old)
+HasMadeOne old new r (Some v) = IsMade old.cells new.cells v r × (new.ledger ≡ old.ledger)
+
+-- An update has run: without an event all is as it was. Its copy is a new cell, and the ledger has counted it. In place the cell of the
+-- source is changed, its handle is handed on, and nothing is counted.
+abbrev pub HasUpdated : Bool → ℕ → Register → Stored → Stored → Register → Option View → Type 0
+HasUpdated in_place i source old new r None = (r ≡ register.Empty) × (new ≡ old)
+HasUpdated false i source old new r (Some v) =
+    IsMade old.cells new.cells v r × (new.ledger ≡ counted old.ledger i (size_at (held old.cells source)))
+HasUpdated true i source old new r (Some v) =
+    (handle : ℕ)
+    × (source ≡ register.Aggregate handle)
+    × (r ≡ register.Aggregate handle)
+    × (new ≡ record old { cells = finite_map.insert old.cells handle v })
+
+abbrev pub first_of : List (Option View) → Option View
+first_of [] = None
+first_of (v ∷ values) = v
+
+abbrev pub source_of : List Register → List ℕ → Register
+source_of registers [] = register.Empty
+source_of registers (m ∷ args) = register_at registers m
+
+-- An effect has come: the register is filled, or it has the cell that was made or changed.
+abbrev pub HasMade : Bool → Bool → ℕ → Register → Stored → Stored → Register → View → Type 0
+HasMade true in_place i source old new r v = HasUpdated in_place i source old new r (Some v)
+HasMade false in_place i source old new r v = HasMadeOne old new r (Some v)
+
+abbrev pub HasEffect : Bool → ℕ → Op → Register → Stored → Stored → Result Register EvalFault → Effect → Type 0
+HasEffect in_place i o source old new (Ok r) (Fill slot) = (slot ≡ slot_of (held_by r)) × (new ≡ old)
+HasEffect in_place i o source old new (Ok r) (Make v) = HasMade (is_update o) in_place i source old new r v
+HasEffect in_place i o source old new (Err (eval_fault.Fault kind)) (Fill slot) = (slot ≡ Failed (Some kind)) × (new ≡ old)
+HasEffect in_place i o source old new (Err (eval_fault.Fault kind)) (Make v) = ⊥
+HasEffect in_place i o source old new (Err eval_fault.Memory) effect = Unit {0}
+
+-- inputs and delays have their events in their registers from the beginning of the instant
+abbrev pub is_given_op : Op → Bool
+is_given_op op.Input = true
+is_given_op op.Delay = true
+is_given_op _ = false
+
+-- what the own case of an equation does by the registers
+abbrev pub effect_here : List Register → List Register → Stored → ℕ → ℕ → Equation → Effect
+effect_here registers last store i t e = effect_of (λ j u. None) t (config_of registers last store) i e.op e.args e.of

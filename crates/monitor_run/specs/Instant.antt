@@ -1,37 +1,42 @@
--- What the parts of an instant make of the registers, the store and the timers.
-use Rattle.std.specs.Prelude.{◌≡◌, ◌≢◌, ℕ, suc, ◌+◌, ◌-◌, ◌<◌, ◌≤◌, ◌^◌, Bool, true, false, ◌||◌, ◌&&◌, List, [], ◌∷◌, ◌++◌, length, map, min, Option, Some, None, is_some, IsTrue, IsFalse, slice_index, slice_set, if◌then◌else◌}
-use Rattle.std.specs.Option.{option_map}
+-- What the parts of an instant make of the registers, the store and the timers, and that they do as the register machine does.
+use Rattle.std.specs.Prelude.{◌≡◌, ◌⊎◌, ℕ, suc, ◌<◌, ◌≤◌, ◌^◌, Bool, true, false, ◌||◌, List, [], ◌∷◌, ◌++◌, length, map, Option, Some, None, Ok, Err, is_some, IsTrue, IsFalse, slice_get, slice_index, slice_index_or, slice_set, if◌then◌else◌}
 use Rattle.std.specs.List.{flat_map}
 use Rattle.std.specs.FinMap as map
 use Rattle.tsl_value.specs.declared.scalar.Scalar.{Scalar}
 use Rattle.tsl_value.specs.declared.scalar.Scalar.TheVariants as scalar
+use Rattle.tsl_value.specs.declared.scalar.ValueType.{ValueType}
 use Rattle.tsl_value.specs.View.{View, Plain}
 use Rattle.delay_timers.specs.Pending.{Times}
+use Rattle.lift_func.specs.declared.eval.EvalFault.TheVariants as eval_fault
 use Rattle.lift_func.specs.declared.fault.FaultKind.{FaultKind}
 use Rattle.lift_func.specs.declared.register.Register.{Register}
 use Rattle.lift_func.specs.declared.register.Register.TheVariants as register
-use Rattle.lift_func.specs.Cells.{Cells, HoldsLive}
+use Rattle.lift_func.specs.Cells.{Cells}
 use Rattle.flat_core.specs.declared.equation.Equation.{Equation}
+use Rattle.flat_core.specs.declared.equation.Output.{Output}
+use Rattle.flat_core.specs.declared.equation.Op.{Op}
 use Rattle.flat_core.specs.declared.equation.Op.TheVariants as op
-use Rattle.flat_core.specs.Case.{Streams, Inputs, case_of, delayed, fault_of, outcome_of, refused, unit}
-use Rattle.flat_core.specs.Fault.{root_at}
+use Rattle.flat_core.specs.Case.{Inputs, refused}
 use Rattle.flat_core.specs.Instant.{is_delay}
 use Rattle.flat_core.specs.Line.{Line, inputs_of}
 use Rattle.flat_core.specs.Members.{is_in}
 use Rattle.flat_core.specs.Pending.{option_is, reached}
-use Rattle.flat_core.specs.Stream.{Outcome, Fault, event, has_event, is_fault, latest}
 use Rattle.flat_core.specs.System.{System, equation, runs}
-use Rattle.flat_core.specs.Text.{text_at}
+use Rattle.flat_core.specs.Text.{event_line}
 use Rattle.register_code.specs.Code.{is_kept, is_timer, keeps_of, timers_of}
+use Rattle.aggregate_store.specs.Stored.{is_listed}
+use Rattle.register_machine.specs.Content.{print_of}
+use Rattle.register_machine.specs.Machine.{Instr, Print, Bare, held, slot_of_answer, Config, value_in, Steps}
+use Rattle.register_machine.specs.Run as run
+use Rattle.register_machine.specs.Run.{Plan, Instant, body, started, root_seen}
+use Rattle.register_machine.specs.Stands.{in_time}
 use Rattle.monitor_run.specs.declared.machine.Machine.{Machine}
 use Rattle.monitor_run.specs.declared.run.Root.{Root}
-use Rattle.aggregate_store.specs.Stored.{is_listed}
 use Rattle.monitor_run.specs.Begun.{IsBegunOf}
 use Rattle.monitor_run.specs.Stored.{stored_count}
-use Rattle.monitor_run.specs.Copied.{is_update, size_copied}
-use Rattle.monitor_run.specs.Due.{in_time}
-use Rattle.monitor_run.specs.Here.{Extends, first_of, is_blocked_here, is_marked, ledger_after, own_here}
+use Rattle.monitor_run.specs.Here.{HasEffect, effect_here, first_of, is_blocked_here, is_given_op, is_marked, source_of}
 use Rattle.monitor_run.specs.Registers.{AreHeld, register_at, value_at}
+use Rattle.monitor_run.specs.Shown.{IsShown, held_at, state_of}
 
 -- ---- the registers with which an instant begins
 
@@ -54,12 +59,14 @@ left_at t due = if option_is t due then None else due
 
 -- the registers of running equations have the events of inputs and delays, and no equation is a fault
 pub record Begins (s : System) (t : ℕ) (given : List Line) (old new : Machine) : Type 0 where
-  pub registers : (i : ℕ) → IsTrue (runs s i) → register_at new.registers.items i ≡ with_event (inputs_of given i t) (expired_at t (map.get old.timers.times i) register.Empty)
+  pub registers : (i : ℕ) → IsTrue (runs s i)
+      → register_at new.registers.items i ≡ with_event (inputs_of given i t) (expired_at t (map.get old.timers.times i) register.Empty)
   pub faulted : (i : ℕ) → IsTrue (runs s i) → is_marked new.faulted.items i ≡ false
   pub timers : (i : ℕ) → map.get new.timers.times i ≡ left_at t (map.get old.timers.times i)
   pub capacity : new.timers.capacity ≡ old.timers.capacity
   pub last : new.last.items ≡ old.last.items
   pub store : new.store ≡ old.store
+  pub texts : new.texts ≡ old.texts
   pub registers_each : length new.registers.items ≡ length old.registers.items
   pub faulted_each : length new.faulted.items ≡ length old.faulted.items
 
@@ -68,17 +75,10 @@ pub record Begins (s : System) (t : ℕ) (given : List Line) (old new : Machine)
 -- the least number of a kind of equations at which there is a fault, with it
 abbrev pub IsLeastRoot : (ℕ → Bool) → (ℕ → Option FaultKind) → Option Root → Type 0
 IsLeastRoot among at None = (i : ℕ) → IsTrue (among i) → at i ≡ None
-IsLeastRoot among at (Some r) = IsTrue (among r.equation) × (at r.equation ≡ Some r.kind) × ((i : ℕ) → IsTrue (among i) → i < r.equation → at i ≡ None)
+IsLeastRoot among at (Some r) =
+    IsTrue (among r.equation) × (at r.equation ≡ Some r.kind) × ((i : ℕ) → IsTrue (among i) → i < r.equation → at i ≡ None)
 
 -- ---- one equation
-
-abbrev pub case_here : Machine → ℕ → ℕ → Equation → Option Outcome
-case_here m i t e =
-    if is_blocked_here m.faulted.items e.op e.args then Some Fault else outcome_of (own_here m.store.cells m.registers.items m.last.items i t e.op e.args e.of)
-
-abbrev pub root_here : Machine → ℕ → ℕ → Equation → Option FaultKind
-root_here m i t e =
-    if is_blocked_here m.faulted.items e.op e.args then None else fault_of (own_here m.store.cells m.registers.items m.last.items i t e.op e.args e.of)
 
 -- what running equations leave as it is
 pub record SameBeside (old new : Machine) : Type 0 where
@@ -87,49 +87,112 @@ pub record SameBeside (old new : Machine) : Type 0 where
   pub registers_each : length new.registers.items ≡ length old.registers.items
   pub faulted_each : length new.faulted.items ≡ length old.faulted.items
   pub ledger_each : length new.store.ledger ≡ length old.store.ledger
+  pub texts_each : length new.texts.items ≡ length old.texts.items
 
--- equation i has run: its register and its mark are those of its case
-pub record HasRunOne (i t : ℕ) (e : Equation) (old new : Machine) (root : Option Root) : Type 0 where
-  pub extends : Extends old.store.cells new.store.cells
-  pub value : value_at new.store.cells new.registers.items i ≡ event (case_here old i t e)
-  pub mark : is_marked new.faulted.items i ≡ is_fault (case_here old i t e)
-  pub live : HoldsLive new.store.cells (register_at new.registers.items i)
-  pub others : (j : ℕ) → j ≢ i → register_at new.registers.items j ≡ register_at old.registers.items j
-  pub other_marks : (j : ℕ) → j ≢ i → is_marked new.faulted.items j ≡ is_marked old.faulted.items j
-  pub ledger : new.store.ledger ≡ ledger_after old.store.ledger i e.op (event (case_here old i t e)) (first_of (map (value_at old.store.cells old.registers.items) e.args))
-  pub root_is : root ≡ option_map (λ kind. record { equation = i; kind = kind }) (root_here old i t e)
+-- The ways in which an equation runs: an input or a delay has its event already; a fault of an argument is passed on; the register is
+-- filled as the own case has it; or the own case faults, which is the root fault that is answered.
+pub data HasRunOne (in_place : Bool) (t i : ℕ) (e : Equation) (old new : Machine) : Option Root → Type 0 where
+  was_given : IsTrue (is_given_op e.op) → new ≡ old → HasRunOne in_place t i e old new None
+  was_barred : IsFalse (is_given_op e.op)
+      → IsTrue (is_blocked_here old.faulted.items e.op e.args)
+      → new.registers ≡ old.registers
+      → new.faulted.items ≡ slice_set old.faulted.items i true
+      → new.store ≡ old.store
+      → HasRunOne in_place t i e old new None
+  was_filled : (r : Register)
+      → IsFalse (is_given_op e.op)
+      → IsFalse (is_blocked_here old.faulted.items e.op e.args)
+      → HasEffect in_place i e.op (source_of old.registers.items e.args) old.store new.store (Ok r)
+      (effect_here old.registers.items old.last.items old.store i t e)
+      → new.registers.items ≡ slice_set old.registers.items i r
+      → new.faulted ≡ old.faulted
+      → HasRunOne in_place t i e old new None
+  has_failed : (kind : FaultKind)
+      → IsFalse (is_given_op e.op)
+      → IsFalse (is_blocked_here old.faulted.items e.op e.args)
+      → HasEffect in_place i e.op (source_of old.registers.items e.args) old.store new.store (Err (eval_fault.Fault kind))
+      (effect_here old.registers.items old.last.items old.store i t e)
+      → new.registers ≡ old.registers
+      → new.faulted.items ≡ slice_set old.faulted.items i true
+      → HasRunOne in_place t i e old new (Some (record { equation = i; kind = kind }))
 
--- ---- all equations
+-- ---- one print
 
--- Streams z go on at t with these registers: each running equation has its case, the registers of inputs and delays have their events,
--- and the last registers have the latest events before.
-pub record StartsAs (s : System) (inputs : Inputs) (z : Streams) (t : ℕ) (m : Machine) : Type 0 where
-  pub each : (i : ℕ) (e : Equation) → IsTrue (runs s i) → equation s i ≡ Some e → z i t ≡ case_of inputs z i e t
-  pub inputs_are : (i : ℕ) (e : Equation) → IsTrue (runs s i) → equation s i ≡ Some e → e.op ≡ op.Input → value_at m.store.cells m.registers.items i ≡ inputs i t
-  pub delays_are : (i : ℕ) (e : Equation) → IsTrue (runs s i) → equation s i ≡ Some e → e.op ≡ op.Delay → value_at m.store.cells m.registers.items i ≡ delayed z i e.args t
-  pub last_are : (i : ℕ) → IsTrue (is_kept s i) → value_at m.store.cells m.last.items i ≡ latest (z i) t
+abbrev pub name_of : Option Output → List ℕ
+name_of None = []
+name_of (Some o) = o.name
+
+-- The text of output k is the line of what its register has. Nothing else has changed.
+pub record HasPrinted (s : System) (t k : ℕ) (old new : Machine) : Type 0 where
+  pub registers : new.registers ≡ old.registers
+  pub faulted : new.faulted ≡ old.faulted
+  pub store : new.store ≡ old.store
+  pub text : new.texts.items
+      ≡ slice_set old.texts.items k
+      (event_line t (name_of (slice_get s.outputs k)) (value_at old.store.cells old.registers.items (print_of s k)))
+
+-- ---- all steps
+
+-- what the code has of equation i stands for the machine's register
+abbrev pub IsShownAt : Machine → Config → ℕ → Type 0
+IsShownAt m c i = IsShown (is_marked m.faulted.items i) (register_at m.registers.items i) (c.slots i)
+
+-- and so does what it has beside the registers
+pub record ShowsBeside (m : Machine) (c : Config) : Type 0 where
+  pub lasts : (v : ℕ) → held_at m.last.items v ≡ c.lasts v
+  pub cells : m.store.cells ≡ c.cells
+  pub ledger : (u : ℕ) → slice_index m.store.ledger u ≡ c.ledger u
+
+-- an input or a delay has its event from the beginning
+pub record IsGivenEvent (inputs : Inputs) (t i : ℕ) (o : Op) (m : Machine) (pending : ℕ → Option ℕ) : Type 0 where
+  pub input : o ≡ op.Input → held_at m.registers.items i ≡ held (slot_of_answer (Ok (inputs i t)))
+  pub delay : o ≡ op.Delay → held_at m.registers.items i ≡ (if option_is t (pending i) then Some (Bare scalar.Unit) else None)
+
+-- The code begins an instant as the machine does from a state: no equation has run, and inputs and delays have their events.
+pub record StartsAs (s : System) (inputs : Inputs) (t : ℕ) (a : run.State) (m : Machine) : Type 0 where
+  pub given : (i : ℕ) (e : Equation) → IsTrue (runs s i) → equation s i ≡ Some e → IsGivenEvent inputs t i e.op m a.pending
+  pub beside : ShowsBeside m (started a)
+
+-- the equations that are done stand for those of a configuration
+pub record Shows (s : System) (done : ℕ → Bool) (m : Machine) (c : Config) : Type 0 where
+  pub each : (i : ℕ) → IsTrue (runs s i) → IsTrue (done i) → IsShownAt m c i
+  pub beside : ShowsBeside m c
 
 -- the root faults other than those of delays
-abbrev pub root_beside : System → Inputs → Streams → ℕ → ℕ → Option FaultKind
-root_beside s inputs z t i = if is_delay (equation s i) then None else root_at s inputs z t i
+abbrev pub root_beside : System → Config → ℕ → Option FaultKind
+root_beside s c i = if is_delay (equation s i) then None else root_seen s c i
 
--- the ledger's number of update i behind t
-abbrev pub ledger_at : System → Streams → ℕ → ℕ → ℕ → ℕ
-ledger_at s z t i before = if has_event (z i t) then min (before + size_copied (equation s i) z i t) (2 ^ 64 - 1) else before
+-- the text of output k is that of what it has when its print is reached
+pub record IsPrinted (s : System) (plan : Plan) (inputs : Inputs) (t : ℕ) (a : run.State) (k : ℕ) (text : List ℕ) : Type 0 where
+  pub before : List Instr
+  pub after : List Instr
+  pub is : body s plan ≡ before ++ Print k ∷ after
+  pub mid : Config
+  pub leads : Steps inputs t s before (started a) mid
+  pub text_is : text ≡ event_line t (name_of (slice_get s.outputs k)) (value_in mid (print_of s k))
 
--- The registers have what happens at t, of the equations that are done. The root is the least.
-pub record Means (s : System) (inputs : Inputs) (z : Streams) (t : ℕ) (done : ℕ → Bool) (old new : Machine) (root : Option Root) : Type 0 where
-  pub values : (i : ℕ) → IsTrue (done i) → IsTrue (runs s i) → value_at new.store.cells new.registers.items i ≡ event (z i t)
-  pub marks : (i : ℕ) → IsTrue (done i) → IsTrue (runs s i) → is_marked new.faulted.items i ≡ is_fault (z i t)
-  pub root_is : IsLeastRoot (λ i. done i && runs s i) (root_beside s inputs z t) root
-  pub ledger : (i : ℕ) → IsTrue (runs s i) → IsTrue (is_update (equation s i)) → slice_index new.store.ledger i ≡ (if done i then ledger_at s z t i (slice_index old.store.ledger i) else slice_index old.store.ledger i)
+-- All steps have run, as the machine's instructions up to the last print: the least root fault of an equation that is no delay is
+-- known, and the text of each output.
+pub record HasRunBody (s : System) (plan : Plan) (inputs : Inputs) (t : ℕ)
+    (a : run.State) (new : Machine) (root : Option Root) : Type 0 where
+  pub reached : Config
+  pub ran : Steps inputs t s (body s plan) (started a) reached
+  pub shows : Shows s (λ i. true) new reached
+  pub pending : (i : ℕ) → reached.pending i ≡ a.pending i
+  pub delays : (i : ℕ) (e : Equation)
+      → IsTrue (runs s i)
+      → equation s i ≡ Some e
+      → e.op ≡ op.Delay
+      → held (reached.slots i) ≡ (if option_is t (a.pending i) then Some (Bare scalar.Unit) else None)
+  pub root_is : IsLeastRoot (runs s) (root_beside s reached) root
+  pub printed : (k : ℕ) → k < length s.outputs → IsPrinted s plan inputs t a k (slice_index_or new.texts.items k [])
 
--- all equations have run
-pub record HasRunAll (s : System) (t : ℕ) (old new : Machine) (root : Option Root) : Type 0 where
+pub record HasRunAll (s : System) (plan : Plan) (t : ℕ) (old new : Machine) (root : Option Root) : Type 0 where
   pub same : SameBeside old new
-  pub extends : Extends old.store.cells new.store.cells
-  pub held : AreHeld s new.store.cells new.registers.items
-  pub means : (inputs : Inputs) (z : Streams) → StartsAs s inputs z t old → Means s inputs z t (λ i. true) old new root
+  pub types : ℕ → ValueType
+  pub held : AreHeld s types new.store.cells new.registers.items
+  pub last : AreHeld s types new.store.cells new.last.items
+  pub means : (inputs : Inputs) (a : run.State) → StartsAs s inputs t a old → HasRunBody s plan inputs t a new root
 
 -- ---- delays
 
@@ -152,7 +215,8 @@ second_of (v ∷ values) = first_of values
 abbrev pub set_at : Option Equation → Cells → List Register → ℕ → ℕ → Option ℕ → Option ℕ
 set_at None cells registers t i due = due
 set_at (Some e) cells registers t i due =
-    set_by t (first_of (map (value_at cells registers) e.args)) (second_of (map (value_at cells registers) e.args)) (value_at cells registers i) due
+    set_by t (first_of (map (value_at cells registers) e.args)) (second_of (map (value_at cells registers) e.args))
+    (value_at cells registers i) due
 
 -- ---- what is kept
 
@@ -184,76 +248,91 @@ pub record AreTimers (s : System) (from : ℕ) (timers : Times) : Type 0 where
 abbrev pub AreUnkept : System → List Register → Type 0
 AreUnkept s last = (i : ℕ) → IsFalse (is_kept s i) → register_at last i ≡ register.Empty
 
-abbrev pub unit_if_due : ℕ → Option ℕ → Option View
-unit_if_due t due = if option_is t due then Some unit else None
+-- what the code keeps, as a state of the machine
+abbrev pub kept_of : Machine → run.State
+kept_of m = state_of m.store.cells m.store.ledger m.last.items m.timers.times
 
--- Streams z go on at t with what is kept: each running equation has its case, the given events are those of the inputs, the delays that are
--- due are those that expire, and the last registers have the latest events before.
-pub record GoesOn (s : System) (inputs : Inputs) (z : Streams) (t : ℕ) (given : List Line) (m : Machine) : Type 0 where
-  pub each : (i : ℕ) (e : Equation) → IsTrue (runs s i) → equation s i ≡ Some e → z i t ≡ case_of inputs z i e t
-  pub inputs_are : (i : ℕ) → inputs_of given i t ≡ inputs i t
-  pub delays_are : (i : ℕ) (e : Equation) → IsTrue (runs s i) → equation s i ≡ Some e → e.op ≡ op.Delay → delayed z i e.args t ≡ unit_if_due t (map.get m.timers.times i)
-  pub last_are : (i : ℕ) → IsTrue (is_kept s i) → value_at m.store.cells m.last.items i ≡ latest (z i) t
-
--- when equation i is due behind t, by what was due before
-abbrev pub due_after : Option Equation → Streams → ℕ → ℕ → Option ℕ → Option ℕ
-due_after None z t i due = due
-due_after (Some e) z t i due =
-    set_by t (first_of (map (λ a. event (z a t)) e.args)) (second_of (map (λ a. event (z a t)) e.args)) (event (z i t)) (left_at t due)
-
--- what such streams have, where the instant has this root fault or none
-pub record HasRoot (s : System) (inputs : Inputs) (z : Streams) (t : ℕ) (old new : Machine) (root : Option Root) : Type 0 where
-  pub least : IsLeastRoot (runs s) (root_at s inputs z t) root
-  pub ledger : (i : ℕ) → IsTrue (runs s i) → IsTrue (is_update (equation s i)) → slice_index new.store.ledger i ≡ ledger_at s z t i (slice_index old.store.ledger i)
-
--- and what is kept of them
-pub record IsKeptOf (s : System) (z : Streams) (t : ℕ) (old new : Machine) : Type 0 where
-  pub last : (i : ℕ) → IsTrue (is_kept s i) → value_at new.store.cells new.last.items i ≡ latest (z i) (suc t)
-  pub timers : (i : ℕ) → IsTrue (is_timer s i) → map.get new.timers.times i ≡ due_after (equation s i) z t i (map.get old.timers.times i)
+-- the events of the inputs at a time are those that were given
+abbrev pub AreInputs : List Line → ℕ → Inputs → Type 0
+AreInputs given t inputs = (i : ℕ) → inputs_of given i t ≡ inputs i t
 
 -- what is kept is sound, and nothing is pending before a time
 pub record IsSound (s : System) (from : ℕ) (m : Machine) : Type 0 where
-  pub last : AreHeld s m.store.cells m.last.items
+  pub types : ℕ → ValueType
+  pub last : AreHeld s types m.store.cells m.last.items
   pub unkept : AreUnkept s m.last.items
   pub timers : AreTimers s from m.timers.times
   pub few_cells : map.len m.store.cells ≤ stored_count s
 
--- all equations have run, in streams that go on so: the registers have their events, and the root fault is the least
-pub record RunsAs (s : System) (inputs : Inputs) (z : Streams) (t : ℕ) (old new : Machine) (root : Option Root) : Type 0 where
-  pub values : (i : ℕ) → IsTrue (runs s i) → value_at new.store.cells new.registers.items i ≡ event (z i t)
-  pub has_root : HasRoot s inputs z t old new root
+-- The instant has been run up to its last print, and the least root fault there is known.
+pub record HasReached (s : System) (plan : Plan) (inputs : Inputs) (t : ℕ) (old new : Machine) (root : Option Root) : Type 0 where
+  pub reached : Config
+  pub ran : Steps inputs t s (body s plan) (started (kept_of old)) reached
+  pub shows : Shows s (λ i. true) new reached
+  pub pending : (i : ℕ) → reached.pending i ≡ map.get old.timers.times i
+  pub delays : (i : ℕ) (e : Equation)
+      → IsTrue (runs s i)
+      → equation s i ≡ Some e
+      → e.op ≡ op.Delay
+      → held (reached.slots i) ≡ (if option_is t (map.get old.timers.times i) then Some (Bare scalar.Unit) else None)
+  pub least : IsLeastRoot (runs s) (root_seen s reached) root
+  pub printed : (k : ℕ) → k < length s.outputs → IsPrinted s plan inputs t (kept_of old) k (slice_index_or new.texts.items k [])
 
-pub record HasRunRegisters (s : System) (t : ℕ) (given : List Line) (old new : Machine) (root : Option Root) : Type 0 where
-  pub last : new.last.items ≡ old.last.items
-  pub extends : Extends old.store.cells new.store.cells
-  pub held : AreHeld s new.store.cells new.registers.items
+pub record HasRunRegisters (s : System) (plan : Plan) (t : ℕ) (given : List Line) (old new : Machine) (root : Option Root) : Type 0 where
+  pub types : ℕ → ValueType
+  pub held : AreHeld s types new.store.cells new.registers.items
+  pub last : AreHeld s types new.store.cells new.last.items
+  pub last_same : new.last.items ≡ old.last.items
   pub timers : (i : ℕ) → map.get new.timers.times i ≡ left_at t (map.get old.timers.times i)
   pub positive : root ≡ None → (i : ℕ) → IsTrue (is_timer s i) → refusal_of (equation s i) new.store.cells new.registers.items ≡ None
-  pub means : (inputs : Inputs) (z : Streams) → GoesOn s inputs z t given old → RunsAs s inputs z t old new root
+  pub means : (inputs : Inputs) → AreInputs given t inputs → HasReached s plan inputs t old new root
 
--- an instant has run without a root fault
-pub record HasRunInstant (s : System) (t : ℕ) (given : List Line) (old new : Machine) (before after : List ℕ) : Type 0 where
+-- a text is the lines of a time, by output, as the machine prints them
+pub record IsInstantText (s : System) (plan : Plan) (inputs : Inputs) (t : ℕ) (a : run.State) (text : List ℕ) : Type 0 where
+  pub texts : List (List ℕ)
+  pub each : length texts ≡ length s.outputs
+  pub printed : (k : ℕ) → k < length s.outputs → IsPrinted s plan inputs t a k (slice_index_or texts k [])
+  pub is : text ≡ flat_map (λ x. x) texts
+
+-- An instant has run without a root fault: it is one of the machine, and what it prints was appended.
+pub record HasRunInstant (s : System) (plan : Plan) (t : ℕ) (given : List Line) (old new : Machine) (before after : List ℕ) : Type 0 where
   pub sound : IsSound s (suc t) new
-  pub means : (inputs : Inputs) (z : Streams) → GoesOn s inputs z t given old → HasRoot s inputs z t old new None × IsKeptOf s z t old new × (after ≡ before ++ text_at s z t)
+  pub added : List ℕ
+  pub after_is : after ≡ before ++ added
+  pub instant : (inputs : Inputs) → AreInputs given t inputs → Instant s plan inputs t (kept_of old) (kept_of new)
+  pub text : (inputs : Inputs) → AreInputs given t inputs → IsInstantText s plan inputs t (kept_of old) added
 
--- or with one
-pub record HasFaultedAt (s : System) (t : ℕ) (given : List Line) (old new : Machine) (root : Root) (before after : List ℕ) : Type 0 where
+-- an instant of the machine reaches its last print with a root fault, of which this one is the least, and with this ledger
+pub record ReachesFault (s : System) (plan : Plan) (inputs : Inputs) (t : ℕ) (a : run.State) (root : Root) (ledger : List ℕ) : Type 0 where
+  pub reached : Config
+  pub ran : Steps inputs t s (body s plan) (started a) reached
+  pub least : IsLeastRoot (runs s) (root_seen s reached) (Some root)
+  pub ledger_is : (u : ℕ) → slice_index ledger u ≡ reached.ledger u
+
+pub record HasFaultedAt (s : System) (plan : Plan) (t : ℕ) (given : List Line)
+    (old new : Machine) (root : Root) (before after : List ℕ) : Type 0 where
   pub unwritten : after ≡ before
-  pub means : (inputs : Inputs) (z : Streams) → GoesOn s inputs z t given old → HasRoot s inputs z t old new (Some root)
+  pub means : (inputs : Inputs) → AreInputs given t inputs → ReachesFault s plan inputs t (kept_of old) root new.store.ledger
 
-abbrev pub IsInstant : System → ℕ → List Line → Machine → Machine → List ℕ → List ℕ → Option Root → Type 0
-IsInstant s t given old new before after None = HasRunInstant s t given old new before after
-IsInstant s t given old new before after (Some root) = HasFaultedAt s t given old new root before after
+abbrev pub IsInstant : System → Plan → ℕ → List Line → Machine → Machine → List ℕ → List ℕ → Option Root → Type 0
+IsInstant s plan t given old new before after None = HasRunInstant s plan t given old new before after
+IsInstant s plan t given old new before after (Some root) = HasFaultedAt s plan t given old new root before after
 
--- its text was begun
-abbrev pub IsInstantBegun : System → ℕ → List Line → Machine → List ℕ → List ℕ → Type 0
-IsInstantBegun s t given old before after = (inputs : Inputs) (z : Streams) → GoesOn s inputs z t given old → IsBegunOf before after (text_at s z t)
+-- nothing was appended, or the beginning of the instant's text
+abbrev pub IsInstantBegun : System → Plan → ℕ → List Line → Machine → List ℕ → List ℕ → Type 0
+IsInstantBegun s plan t given old before after =
+    (after ≡ before)
+    ⊎ ((text : List ℕ)
+    × ((inputs : Inputs) → AreInputs given t inputs → IsInstantText s plan inputs t (kept_of old) text)
+    × IsBegunOf before after text)
 
 -- what is left of an instant that has no root fault
 pub record HasEnded (s : System) (t : ℕ) (old new : Machine) : Type 0 where
   pub last : (i : ℕ) → register_at new.last.items i
-      ≡ (if is_in (keeps_of s) i then kept_register (register_at old.registers.items i) (register_at old.last.items i) else register_at old.last.items i)
-  pub timers : (cells : Cells) → AreHeld s cells old.registers.items → (i : ℕ) → map.get new.timers.times i
-      ≡ (if is_in (timers_of s) i then set_at (equation s i) cells old.registers.items t i (map.get old.timers.times i) else map.get old.timers.times i)
+      ≡ (if is_in (keeps_of s) i then kept_register (register_at old.registers.items i) (register_at old.last.items i)
+      else register_at old.last.items i)
+  pub timers : (types : ℕ → ValueType) (cells : Cells) → AreHeld s types cells old.registers.items → (i : ℕ) → map.get new.timers.times i
+      ≡ (if is_in (timers_of s) i then set_at (equation s i) cells old.registers.items t i (map.get old.timers.times i)
+      else map.get old.timers.times i)
   pub cells : new.store.cells ≡ map.retain_keys old.store.cells (is_listed (cells_in new.last.items (keeps_of s)))
   pub ledger : new.store.ledger ≡ old.store.ledger

@@ -15,20 +15,39 @@ use Rattle.monitor_run.specs.Written.{HasWritten}
 -- a step that ran goes on
 abbrev pub StepsGoOn : Type 0
 StepsGoOn =
-    (old new : State) (lines : List Line) (text before added : List ℕ) → IsReady old → HasWritten old lines text → HasStepped old new lines before (before ++ added) (Ok step.Ran) → HasWritten new lines (text ++ added)
+    (old new : State) (lines : List Line) (text before added : List ℕ)
+    → IsReady old
+    → HasWritten old lines text
+    → HasStepped old new lines before (before ++ added) (Ok step.Ran)
+    → HasWritten new lines (text ++ added)
 
 -- the text so far is the due text, and it ends at the bound, in a fault or at the limit
 abbrev pub IdleEndsAtBound : Type 0
 IdleEndsAtBound =
-    (old new : State) (lines : List Line) (text before after : List ℕ) → IsReady old → HasWritten old lines text → HasStepped old new lines before after (Ok step.Idle)
-    → (w : Streams) → Solves old.system (inputs_of lines) old.bound w → (text ≡ due_text old.system lines w old.bound old.limit) × EndsAtBound old.system lines w old.bound old.limit
+    (old new : State) (lines : List Line) (text before after : List ℕ)
+    → IsReady old
+    → HasWritten old lines text
+    → HasStepped old new lines before after (Ok step.Idle)
+    → (w : Streams)
+    → Solves old.system (inputs_of lines) old.bound w
+    → (text ≡ due_text old.system lines w old.bound old.limit) × EndsAtBound old.system lines w old.bound old.limit
 
 abbrev pub FaultEndsInFault : Type 0
 FaultEndsInFault =
-    (old new : State) (lines : List Line) (text before after : List ℕ) (t i : ℕ) (kind : FaultKind) → IsReady old → HasWritten old lines text → HasStepped old new lines before after (Err (stop.Fault t i kind))
-    → (w : Streams) → Solves old.system (inputs_of lines) old.bound w → (text ≡ due_text old.system lines w old.bound old.limit) × EndsInFault old.system lines w old.bound old.limit t i kind
+    (old new : State) (lines : List Line) (text before after : List ℕ) (t i : ℕ) (kind : FaultKind)
+    → IsReady old
+    → HasWritten old lines text
+    → HasStepped old new lines before after (Err (stop.Fault t i kind))
+    → (w : Streams)
+    → Solves old.system (inputs_of lines) old.bound w
+    → (text ≡ due_text old.system lines w old.bound old.limit) × EndsInFault old.system lines w old.bound old.limit t i kind
 
 abbrev pub LimitEndsAtLimit : Type 0
 LimitEndsAtLimit =
-    (old new : State) (lines : List Line) (text before after : List ℕ) (count t : ℕ) → IsReady old → HasWritten old lines text → HasStepped old new lines before after (Err (stop.Limit count t))
-    → (w : Streams) → Solves old.system (inputs_of lines) old.bound w → (text ≡ due_text old.system lines w old.bound old.limit) × EndsAtLimit old.system lines w old.bound old.limit t
+    (old new : State) (lines : List Line) (text before after : List ℕ) (count t : ℕ)
+    → IsReady old
+    → HasWritten old lines text
+    → HasStepped old new lines before after (Err (stop.Limit count t))
+    → (w : Streams)
+    → Solves old.system (inputs_of lines) old.bound w
+    → (text ≡ due_text old.system lines w old.bound old.limit) × EndsAtLimit old.system lines w old.bound old.limit t

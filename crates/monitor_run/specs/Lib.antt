@@ -2,10 +2,10 @@ pub mod Code
 pub mod Begun
 pub mod Given
 pub mod Registers
+pub mod Shown
 pub mod Here
 pub mod Machine
-pub mod Due
-pub mod Copied
+pub mod Updates
 pub mod Stored
 pub mod Instant
 pub mod State

@@ -1,27 +1,21 @@
 -- What an instant works on.
-use Rattle.std.specs.Prelude.{◌≡◌, ℕ, Bool, true, false, Some, length, IsTrue}
+use Rattle.std.specs.Prelude.{◌≡◌, ℕ, false, Some, length, IsTrue}
 use Rattle.lift_func.specs.declared.register.Register.TheVariants as register
 use Rattle.flat_core.specs.declared.equation.Equation.{Equation}
 use Rattle.flat_core.specs.declared.equation.Op.{Op}
-use Rattle.flat_core.specs.declared.equation.Op.TheVariants as op
 use Rattle.flat_core.specs.System.{System, equation, runs}
-use Rattle.monitor_run.specs.Here.{is_marked}
+use Rattle.monitor_run.specs.Here.{is_given_op, is_marked}
 use Rattle.monitor_run.specs.Registers.{register_at}
 use Rattle.monitor_run.specs.declared.machine.Machine.{Machine}
 
--- there is a register, a mark, a number of the ledger and a timer for each equation
+-- there is a register, a mark, a number of the ledger and a timer for each equation, and a text for each output
 pub record HasRoom (s : System) (m : Machine) : Type 0 where
   pub registers : length m.registers.items ≡ length s.equations
   pub faulted : length m.faulted.items ≡ length s.equations
   pub ledger : length m.store.ledger ≡ length s.equations
   pub capacity : m.timers.capacity ≡ length s.equations
   pub last : length m.last.items ≡ length s.equations
-
--- inputs and delays have their events from the beginning
-abbrev pub is_given_op : Op → Bool
-is_given_op op.Input = true
-is_given_op op.Delay = true
-is_given_op _ = false
+  pub texts : length m.texts.items ≡ length s.outputs
 
 -- equation i has not run: its register is empty, unless it has its event from the beginning, and it is no fault
 pub record IsFresh (m : Machine) (i : ℕ) (o : Op) : Type 0 where

@@ -28,7 +28,10 @@ pub record NothingBefore (next : ℕ) (given : List Line) (timers : Times) (t : 
 
 -- one of them comes at this time
 abbrev pub Comes : ℕ → List Line → Times → ℕ → Type 0
-Comes next given timers t = ((next ≡ 0) × (t ≡ 0)) ⊎ ((l : Line) × Contains given l × (l.time ≡ t)) ⊎ ((i : ℕ) × (map.get timers i ≡ Some t))
+Comes next given timers t =
+    ((next ≡ 0) × (t ≡ 0))
+    ⊎ ((l : Line) × Contains given l × (l.time ≡ t))
+    ⊎ ((i : ℕ) × (map.get timers i ≡ Some t))
 
 -- the first that comes, if anything does
 abbrev pub IsFirstTime : ℕ → List Line → Times → Option ℕ → Type 0

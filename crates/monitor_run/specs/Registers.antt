@@ -21,7 +21,13 @@ pub record IsHeldOf (cells : Cells) (of : ValueType) (r : Register) : Type 0 whe
   pub typed : IsTrue (fits (Optional of) (held cells r))
   pub live : HoldsLive cells r
 
--- each equation has a register, and the values of those that run are of their types
-pub record AreHeld (s : System) (cells : Cells) (registers : List Register) : Type 0 where
+-- Each equation has a register, and the values of those that run are of their types. `types` has a type for each cell: all registers that
+-- hold the cell are of equations of this type.
+pub record AreHeld (s : System) (types : ℕ → ValueType) (cells : Cells) (registers : List Register) : Type 0 where
   pub one_each : length registers ≡ length s.equations
   pub each : (i : ℕ) (e : Equation) → IsTrue (runs s i) → equation s i ≡ Some e → IsHeldOf cells e.of (register_at registers i)
+  pub one_type : (i h : ℕ) (e : Equation)
+      → IsTrue (runs s i)
+      → equation s i ≡ Some e
+      → register_at registers i ≡ register.Aggregate h
+      → types h ≡ e.of

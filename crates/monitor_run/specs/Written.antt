@@ -12,4 +12,6 @@ use Rattle.monitor_run.specs.State.{State}
 -- a monitor stands for some events, and the text is that of all instants that have run
 pub record HasWritten (m : State) (lines : List Line) (text : List ℕ) : Type 0 where
   pub stands : Stands m lines
-  pub text_is : (z : Streams) → Solves m.system (inputs_of lines) m.next z → text ≡ flat_map (text_at m.system z) (instants m.system lines z m.next)
+  pub text_is : (z : Streams)
+      → Solves m.system (inputs_of lines) m.next z
+      → text ≡ flat_map (text_at m.system z) (instants m.system lines z m.next)

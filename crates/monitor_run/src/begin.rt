@@ -48,7 +48,8 @@ pub(crate) fn expire(time: Time, timers: &mut Timers, registers: &mut [Register]
 pub(crate) fn give(time: Time, given: &mut Vec<TraceLine>, registers: &mut [Register])
     requires one { (at : ℕ) × AreAt at given.old.items }
     requires there { AreThere (length registers.old) given.old.items }
-    ensures registers { (i : ℕ) → register_at registers.new i ≡ with_event (inputs_of given.old.items i time) (register_at registers.old i) }
+    ensures registers { (i : ℕ)
+        → register_at registers.new i ≡ with_event (inputs_of given.old.items i time) (register_at registers.old i) }
     ensures given { (at : ℕ) → AreAt at given.old.items → given.new.items ≡ (if at == time then [] else given.old.items) }
 {
     match given.first() {
@@ -64,7 +65,8 @@ pub(crate) fn give(time: Time, given: &mut Vec<TraceLine>, registers: &mut [Regi
 /// Moves the events into the registers of their inputs.
 fn give_all(given: &mut Vec<TraceLine>, registers: &mut [Register])
     requires { AreThere (length registers.old) given.old.items }
-    ensures registers { (time : ℕ) → AreAt time given.old.items → (i : ℕ) → register_at registers.new i ≡ with_event (inputs_of given.old.items i time) (register_at registers.old i) }
+    ensures registers { (time : ℕ) → AreAt time given.old.items → (i : ℕ)
+        → register_at registers.new i ≡ with_event (inputs_of given.old.items i time) (register_at registers.old i) }
     ensures given { given.new.items ≡ [] }
 {
     while let Some(line) = given.pop() {

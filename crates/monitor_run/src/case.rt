@@ -1,25 +1,28 @@
 // What an operation makes of the registers of its arguments.
 
-ghost use Rattle.std.specs.Prelude.{◌≡◌, ◌<◌, ℕ, [], All, IfOk, OnErr, OnOk, IsTrue, None, Some, Ok, pos, if◌then◌else◌, is_some, length, map, slice_index};
+ghost use Rattle.std.specs.Prelude.{◌≡◌, ◌<◌, All, IfOk, OnErr, IsTrue, None, Some, false, pos, if◌then◌else◌, is_some, length, map, slice_index};
 ghost use Rattle.std.specs.List.{list_all, list_any};
-ghost use Rattle.std.specs.Option.{option_map};
+ghost use Rattle.std.specs.Option.{option_map, option_or};
 ghost use Rattle.tsl_value.specs.View.{Plain};
 ghost use Rattle.lift_func.specs.Apply.{apply};
 ghost use Rattle.lift_func.specs.Cells.{Cells, HoldsLive, arguments, held};
 ghost use Rattle.lift_func.specs.Evaluable.{IsEvaluable, IsHeldValue};
-ghost use Rattle.flat_core.specs.Case.{at_zero, empty_of, filtered, merged, picked, unit};
+ghost use Rattle.flat_core.specs.Case.{at_zero, empty_of, unit};
 ghost use Rattle.flat_core.specs.Typed.{is_aggregate};
 ghost use Rattle.aggregate_store.specs.Stored.{IsAggregate};
-ghost use Rattle.monitor_run.specs.Here.{Extends, Gives, HasShape, HasUpdated, TakesTyped, chosen_of, counts, first_of, lifted, own_here};
+ghost use Rattle.register_machine.specs.Machine.{where_either, where_true};
+ghost use Rattle.monitor_run.specs.Here.{HasEffect, HasMadeOne, HasShape, IsBare, TakesTyped, chosen_of, counts, effect_here, is_given_op, lifted, source_of, truth_of};
 ghost use Rattle.monitor_run.specs.Registers.{register_at, value_at};
+ghost use Rattle.monitor_run.specs.Shown.{held_at, held_by};
 
-use crate::update::updated;
+use crate::update::{Update, updated};
 use aggregate_store::store::Store;
 use flat_core::equation::{Equation, Op};
 use flat_core::lists::Args;
 use lift_func::body::Body;
 use lift_func::eval::{EvalFault, eval};
 use lift_func::register::Register;
+use smallvec::SmallVec;
 use std::alloc::Global;
 use tsl_value::ids::EqId;
 use tsl_value::memory::NoMemory;
@@ -73,11 +76,11 @@ fn do_count(strict: bool, ids: &[EqId], registers: &[Register]) -> bool
     }
 }
 
-/// The numbers of equations.
-fn numbers(alloc: Global, ids: &[EqId]) -> Result<Vec<u32>, NoMemory>
+/// The numbers of equations. Up to four lie in line, as arguments do.
+fn numbers(alloc: Global, ids: &[EqId]) -> Result<SmallVec<u32, 4>, NoMemory>
     ensures { IfOk result (λ v. v.items ≡ ids.now) }
 {
-    let mut numbers = Vec::new(alloc);
+    let mut numbers = SmallVec::new(alloc);
     for id in ids {
         numbers.push(id.get())?;
     }
@@ -94,8 +97,10 @@ fn lifted(
     store: &Store,
 ) -> Result<Register, EvalFault>
     requires known { All (λ a. a < length registers.now) args.now }
-    requires typed { IsTrue (counts strict (map (value_at store.now.cells registers.now) args.now)) → IsEvaluable store.now.cells registers.now args.now body.now }
-    ensures { IsHeldValue store.now.cells result (lifted body.now strict (map (value_at store.now.cells registers.now) args.now)) }
+    requires typed { IsTrue (counts strict (map (value_at store.now.cells registers.now) args.now))
+        → IsEvaluable store.now.cells registers.now args.now body.now }
+    ensures value { IsHeldValue store.now.cells result (lifted body.now strict (map (value_at store.now.cells registers.now) args.now)) }
+    ensures bare { IfOk result (λ r. IsBare r) }
 {
     if !do_count(strict, args.ids(), registers) {
         return Ok(Register::Empty);
@@ -109,7 +114,8 @@ fn lifted(
 
 /// The unit event where something holds.
 fn unit_if(holds: bool) -> Register
-    ensures { (cells : Cells) → Gives cells result (if holds then Some unit else None) }
+    ensures value { (cells : Cells) → held cells result ≡ (if holds then Some unit else None) }
+    ensures bare { IsBare result }
 {
     if holds {
         Register::Scalar(Scalar::Unit)
@@ -120,7 +126,8 @@ fn unit_if(holds: bool) -> Register
 
 /// A time where a register has an event.
 fn time_of(register: &Register, time: Time) -> Register
-    ensures { (cells : Cells) → Gives cells result (option_map (λ _. Plain (Scalar.Int (pos time))) (held cells register.now)) }
+    ensures value { (cells : Cells) → held cells result ≡ option_map (λ _. Plain (Scalar.Int (pos time))) (held cells register.now) }
+    ensures bare { IsBare result }
 {
     if register.is_empty() {
         Register::Empty
@@ -132,9 +139,7 @@ fn time_of(register: &Register, time: Time) -> Register
 /// The empty aggregate of a type at time 0.
 fn empty_at(of: ValueType, time: Time, store: &mut Store) -> Result<Register, NoMemory>
     requires { IsAggregate of }
-    ensures gives { IfOk result (λ r. Gives store.new.cells r (at_zero time (empty_of of))) }
-    ensures extends { OnOk result (Extends store.old.cells store.new.cells) }
-    ensures ledger { store.new.ledger ≡ store.old.ledger }
+    ensures made { IfOk result (λ r. HasMadeOne store.old store.new r (at_zero time (empty_of of))) }
     ensures err { OnErr result (store.new ≡ store.old) }
 {
     if time.get() == 0 {
@@ -149,8 +154,8 @@ fn lasting(args: &Args, registers: &[Register], last: &[Register]) -> Result<Reg
     requires shape { HasShape Op.Last args.now }
     requires known { All (λ a. a < length registers.now) args.now }
     requires one_each { length last.now ≡ length registers.now }
-    ensures { IfOk result (λ r. (cells : Cells) → All (λ a. HoldsLive cells (register_at last.now a)) args.now
-        → Gives cells r (if is_some (value_at cells registers.now (slice_index args.now 1)) then value_at cells last.now (slice_index args.now 0) else None)) }
+    ensures { IfOk result (λ r. held_by r
+        ≡ (if is_some (held_at registers.now (slice_index args.now 1)) then held_at last.now (slice_index args.now 0) else None)) }
 {
     if argument(registers, args, 1).is_empty() {
         Ok(Register::Empty)
@@ -161,14 +166,14 @@ fn lasting(args: &Args, registers: &[Register], last: &[Register]) -> Result<Reg
 
 /// The first of two, or else the second.
 fn merged(a: &Register, b: &Register) -> Result<Register, NoMemory>
-    ensures { IfOk result (λ r. (cells : Cells) → HoldsLive cells a.now → HoldsLive cells b.now → Gives cells r (merged (held cells a.now) (held cells b.now))) }
+    ensures { IfOk result (λ r. held_by r ≡ option_or (held_by a.now) (held_by b.now)) }
 {
     if a.is_empty() { b.copy() } else { a.copy() }
 }
 
 /// One where a condition is true.
 fn passed(value: &Register, condition: &Register) -> Result<Register, NoMemory>
-    ensures { IfOk result (λ r. (cells : Cells) → HoldsLive cells value.now → HoldsLive cells condition.now → Gives cells r (filtered (held cells value.now) (held cells condition.now))) }
+    ensures { IfOk result (λ r. held_by r ≡ where_true (held_by condition.now) (held_by value.now)) }
 {
     match condition {
         Register::Scalar(Scalar::Bool(holds)) => {
@@ -182,26 +187,34 @@ fn passed(value: &Register, condition: &Register) -> Result<Register, NoMemory>
     }
 }
 
+/// What a condition says, if it has an event.
+fn truth(condition: &Register) -> Option<bool>
+    ensures { result ≡ truth_of (held_by condition.now) }
+{
+    match condition {
+        Register::Scalar(Scalar::Bool(holds)) => Some(*holds),
+        _ => None,
+    }
+}
+
 /// The first of two where a condition is true and the second where it is false, if all three have events.
 fn picked(condition: &Register, a: &Register, b: &Register) -> Result<Register, NoMemory>
-    ensures { IfOk result (λ r. (cells : Cells) → HoldsLive cells condition.now → HoldsLive cells a.now → HoldsLive cells b.now
-        → Gives cells r (picked (held cells condition.now) (held cells a.now) (held cells b.now))) }
+    ensures { IfOk result (λ r. held_by r ≡ where_either (held_by condition.now) (held_by a.now) (held_by b.now)) }
 {
     if a.is_empty() || b.is_empty() {
         return Ok(Register::Empty);
     }
-    match condition {
-        Register::Scalar(Scalar::Bool(is_first)) => { if *is_first { a.copy() } else { b.copy() } }
-        _ => Ok(Register::Empty),
+    match truth(condition) {
+        Some(is_first) => { if is_first { a.copy() } else { b.copy() } }
+        None => Ok(Register::Empty),
     }
 }
 
-/// The event of an argument that an operation passes on.
+/// The event of an argument that an operation hands on. The register of an aggregate names the same cell.
 fn chosen(e: &Equation, registers: &[Register]) -> Result<Register, NoMemory>
     requires shape { HasShape e.now.op e.now.args }
     requires known { All (λ a. a < length registers.now) e.now.args }
-    ensures { IfOk result (λ r. (cells : Cells) → All (λ a. HoldsLive cells (register_at registers.now a)) e.now.args
-        → Gives cells r (chosen_of e.now.op (map (value_at cells registers.now) e.now.args))) }
+    ensures { IfOk result (λ r. held_by r ≡ chosen_of e.now.op (map (held_at registers.now) e.now.args)) }
 {
     let args = &e.args;
     match &e.op {
@@ -216,12 +229,11 @@ fn chosen(e: &Equation, registers: &[Register]) -> Result<Register, NoMemory>
     }
 }
 
-/// What an equation has by its own case. The events of inputs and delays stand in their registers from the beginning.
-#[tactic(auto, using(crate::proofs::CaseLemmas::unchanged, crate::proofs::CaseLemmas::made_empty))]
+/// What an equation has by its own case. Inputs and delays have their events in their registers already.
 pub(crate) fn own_case(
     alloc: Global,
     e: &Equation,
-    i: EqId,
+    update: Update,
     time: Time,
     registers: &[Register],
     last: &[Register],
@@ -229,19 +241,17 @@ pub(crate) fn own_case(
 ) -> Result<Register, EvalFault>
     requires shape { HasShape e.now.op e.now.args }
     requires known { All (λ a. a < length registers.now) e.now.args }
-    requires there { i < length registers.now }
+    requires other { is_given_op e.now.op ≡ false }
     requires one_each { length last.now ≡ length registers.now }
     requires typed { TakesTyped store.old.cells registers.now e.now }
-    requires live { HoldsLive store.old.cells (register_at registers.now i) }
-    requires kept { All (λ a. HoldsLive store.old.cells (register_at last.now a)) e.now.args }
-    requires ledger { i < length store.old.ledger }
-    ensures case { IsHeldValue store.new.cells result (own_here store.old.cells registers.now last.now i time e.now.op e.now.args e.now.of) }
-    ensures store { IfOk result (λ r. HasUpdated store.old store.new i e.now.op r (first_of (map (value_at store.old.cells registers.now) e.now.args))) }
+    requires ledger { update.id < length store.old.ledger }
+    ensures effect { HasEffect update.in_place update.id e.now.op (source_of registers.now e.now.args) store.old store.new result
+        (effect_here registers.now last.now store.old update.id time e.now) }
     ensures err { OnErr result (store.new ≡ store.old) }
 {
     let args = &e.args;
     match &e.op {
-        Op::Input | Op::Delay => Ok(registers[i.get() as usize].copy()?),
+        Op::Input | Op::Delay => unreachable!(),
         Op::Nil => Ok(Register::Empty),
         Op::Unit => Ok(unit_if(time.get() == 0)),
         Op::Lift { body, strict } => lifted(alloc, body, *strict, args, registers, store),
@@ -251,7 +261,7 @@ pub(crate) fn own_case(
         Op::Empty => Ok(empty_at(e.of, time, store)?),
         Op::Merge | Op::Filter | Op::Pick => Ok(chosen(e, registers)?),
         Op::SetAdd | Op::SetRemove | Op::MapAdd | Op::MapRemove => {
-            Ok(updated(e, i, registers, store)?)
+            Ok(updated(e, update, registers, store)?)
         }
     }
 }

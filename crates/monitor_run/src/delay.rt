@@ -3,6 +3,7 @@
 ghost use Rattle.std.specs.Prelude.{◌≡◌, ◌≢◌, ◌<◌, ◌||◌, ℕ, All, None, Some, if◌then◌else◌, is_some, length, IsTrue};
 ghost use Rattle.std.specs.FinMap as map;
 ghost use Rattle.std.specs.Option.{option_map};
+ghost use Rattle.tsl_value.specs.declared.scalar.ValueType.{ValueType};
 ghost use Rattle.lift_func.specs.Cells.{Cells, HoldsLive, held};
 ghost use Rattle.flat_core.specs.Case.{refused};
 ghost use Rattle.flat_core.specs.Complete.{IsFlat};
@@ -10,7 +11,7 @@ ghost use Rattle.flat_core.specs.Members.{is_in};
 ghost use Rattle.flat_core.specs.Pending.{reached};
 ghost use Rattle.flat_core.specs.System.{equation};
 ghost use Rattle.register_code.specs.Code.{is_timer};
-ghost use Rattle.monitor_run.specs.Due.{in_time};
+ghost use Rattle.register_machine.specs.Stands.{in_time};
 ghost use Rattle.monitor_run.specs.Here.{HasShape};
 ghost use Rattle.monitor_run.specs.Instant.{IsLeastRoot, refusal_of, set_at};
 ghost use Rattle.monitor_run.specs.Registers.{AreHeld, register_at};
@@ -28,7 +29,8 @@ use tsl_value::time::Time;
 
 /// The amount is not positive.
 fn is_refused(amount: &Register) -> bool
-    ensures { (cells : Cells) → HoldsLive cells amount.now → refused (held cells amount.now) ≡ (if result then Some FaultKind.DelayNotPositive else None) }
+    ensures { (cells : Cells) → HoldsLive cells amount.now
+        → refused (held cells amount.now) ≡ (if result then Some FaultKind.DelayNotPositive else None) }
 {
     match amount {
         Register::Scalar(Scalar::Int(n)) => *n <= 0,
@@ -38,7 +40,8 @@ fn is_refused(amount: &Register) -> bool
 
 /// The root fault of a delay with this amount.
 fn refusal(delay: EqId, amount: &Register) -> Option<Root>
-    ensures { (cells : Cells) → HoldsLive cells amount.now → result ≡ option_map (λ kind. record { equation = delay; kind = kind }) (refused (held cells amount.now)) }
+    ensures { (cells : Cells) → HoldsLive cells amount.now
+        → result ≡ option_map (λ kind. record { equation = delay; kind = kind }) (refused (held cells amount.now)) }
 {
     if is_refused(amount) {
         Some(Root {
@@ -55,7 +58,8 @@ pub(crate) fn first_refused(flat: &Flat, delays: &[EqId], registers: &[Register]
     requires whole { IsFlat flat.now }
     requires running { All (λ i. IsTrue (is_timer flat.now i)) delays.now }
     requires one_each { length registers.now ≡ length flat.now.equations }
-    ensures { (cells : Cells) → AreHeld flat.now cells registers.now → IsLeastRoot (is_in delays.now) (λ i. refusal_of (equation flat.now i) cells registers.now) result }
+    ensures { (types : ℕ → ValueType) (cells : Cells) → AreHeld flat.now types cells registers.now
+        → IsLeastRoot (is_in delays.now) (λ i. refusal_of (equation flat.now i) cells registers.now) result }
 {
     let mut root = None;
     for delay in delays {
@@ -117,8 +121,10 @@ pub(crate) fn set_timers(
     requires one_each { length registers.now ≡ length flat.now.equations }
     requires capacity { timers.old.capacity ≡ length flat.now.equations }
     ensures capacity { timers.new.capacity ≡ timers.old.capacity }
-    ensures set { (cells : Cells) → AreHeld flat.now cells registers.now → (i : ℕ) → map.get timers.new.times i
-        ≡ (if is_in delays.now i then set_at (equation flat.now i) cells registers.now time i (map.get timers.old.times i) else map.get timers.old.times i) }
+    ensures set { (types : ℕ → ValueType) (cells : Cells) → AreHeld flat.now types cells registers.now → (i : ℕ)
+        → map.get timers.new.times i
+        ≡ (if is_in delays.now i then set_at (equation flat.now i) cells registers.now time i (map.get timers.old.times i)
+        else map.get timers.old.times i) }
 {
     for delay in delays {
         set_one(flat.equation(*delay), *delay, time, registers, timers);

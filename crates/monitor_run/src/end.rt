@@ -1,6 +1,6 @@
 // What is kept of an instant.
 
-ghost use Rattle.std.specs.Prelude.{◌≡◌, ◌<◌, ℕ, All, if◌then◌else◌, length, slice_set, IfOk, OnOk, OnErr};
+ghost use Rattle.std.specs.Prelude.{◌≡◌, ◌<◌, ℕ, All, if◌then◌else◌, length, slice_set, OnOk, OnErr};
 ghost use Rattle.std.specs.FinMap as map;
 ghost use Rattle.aggregate_store.specs.Stored.{is_listed};
 ghost use Rattle.flat_core.specs.Members.{is_in};
@@ -10,7 +10,6 @@ ghost use Rattle.monitor_run.specs.Registers.{register_at};
 use crate::machine::put;
 use aggregate_store::store::Store;
 use lift_func::register::Register;
-use std::alloc::Global;
 use std::mem;
 use tsl_value::ids::{EqId, Handle};
 use tsl_value::memory::NoMemory;
@@ -41,32 +40,36 @@ fn keep_one(id: EqId, registers: &mut [Register], last: &mut [Register])
     }
 }
 
-/// The cells that the last registers hold.
-fn kept_cells(alloc: Global, keeps: &[EqId], last: &[Register]) -> Result<Vec<Handle>, NoMemory>
+/// Puts the cells that the last registers hold in the place of what was listed.
+fn list_kept(keeps: &[EqId], last: &[Register], cells: &mut Vec<Handle>) -> Result<(), NoMemory>
     requires { All (λ i. i < length last.now) keeps.now }
-    ensures { IfOk result (λ v. v.items ≡ cells_in last.now keeps.now) }
+    ensures { OnOk result (cells.new.items ≡ cells_in last.now keeps.now) }
 {
-    let mut cells = Vec::new(alloc);
+    cells.clear();
     for id in keeps {
         if let Register::Aggregate(cell) = &last[id.get() as usize] {
             cells.push(*cell)?;
         }
     }
-    Ok(cells)
+    Ok(())
 }
 
-/// Drops the cells that no last register holds.
+/// Drops the cells that no last register holds. The list has the others afterwards; its room is used again.
 pub(crate) fn drop_others(
-    alloc: Global,
     keeps: &[EqId],
     last: &[Register],
+    cells: &mut Vec<Handle>,
     store: &mut Store,
 ) -> Result<(), NoMemory>
     requires { All (λ i. i < length last.now) keeps.now }
-    ensures ok { OnOk result (store.new ≡ record store.old { cells = map.retain_keys store.old.cells (is_listed (cells_in last.now keeps.now)) }) }
+    ensures ok { OnOk result
+        (store.new ≡ record store.old { cells = map.retain_keys store.old.cells (is_listed (cells_in last.now keeps.now)) }) }
     ensures err { OnErr result (store.new ≡ store.old) }
 {
-    let cells = kept_cells(alloc, keeps, last)?;
-    store.keep_only(&cells);
+    if store.count() == 0 {
+        return Ok(());
+    }
+    list_kept(keeps, last, cells)?;
+    store.keep_only(cells);
     Ok(())
 }

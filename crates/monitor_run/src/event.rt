@@ -1,6 +1,7 @@
-// The lines of events.
+// The lines of events. Each is taken when its print comes, since a later update may change the cell; all are appended at the end, by
+// output.
 
-ghost use Rattle.std.specs.Prelude.{◌≡◌, ◌<◌, ◌++◌, All, length, OnOk, OnErr};
+ghost use Rattle.std.specs.Prelude.{◌≡◌, ◌<◌, ◌++◌, length, slice_set, IfOk, OnOk, OnErr};
 ghost use Rattle.std.specs.List.{flat_map};
 ghost use Rattle.lift_func.specs.Cells.{HoldsLive};
 ghost use Rattle.flat_core.specs.Text.{event_line};
@@ -15,41 +16,52 @@ use tsl_value::bytes::Bytes;
 use tsl_value::memory::NoMemory;
 use tsl_value::time::Time;
 
-/// Appends the line of an output at a time, where it has an event. Want of memory leaves `out` as it was.
-fn append_output(
+/// Makes a text the line of an output at a time, or nothing where the output has no event.
+fn take_line(
     output: &Output,
     time: Time,
     registers: &[Register],
     store: &Store,
-    out: &mut Bytes,
+    text: &mut Bytes,
 ) -> Result<(), NoMemory>
     requires known { output.now.equation < length registers.now }
     requires live { HoldsLive store.now.cells (register_at registers.now output.now.equation) }
-    ensures ok { OnOk result (out.new ≡ out.old ++ event_line time output.now.name (value_at store.now.cells registers.now output.now.equation)) }
-    ensures err { OnErr result (out.new ≡ out.old) }
+    ensures { OnOk result (text.new ≡ event_line time output.now.name (value_at store.now.cells registers.now output.now.equation)) }
 {
+    text.truncate(0);
     let register = &registers[output.equation.get() as usize];
     if register.is_empty() {
         return Ok(());
     }
-    write_event(time, &output.name, register, store, out)
+    write_event(time, &output.name, register, store, text)
 }
 
-/// Appends the lines of a time, by output.
-pub(crate) fn append_outputs(
-    outputs: &[Output],
+/// Prints an output into its text.
+pub(crate) fn print_output(
+    output: &Output,
+    place: usize,
     time: Time,
     registers: &[Register],
     store: &Store,
-    out: &mut Bytes,
+    texts: &mut [Bytes],
 ) -> Result<(), NoMemory>
-    requires known { All (λ o. o.equation < length registers.now) outputs.now }
-    requires live { All (λ o. HoldsLive store.now.cells (register_at registers.now o.equation)) outputs.now }
-    ensures ok { OnOk result (out.new ≡ out.old ++ flat_map (λ o. event_line time o.name (value_at store.now.cells registers.now o.equation)) outputs.now) }
-    ensures err { OnErr result (IsBegunOf out.old out.new (flat_map (λ o. event_line time o.name (value_at store.now.cells registers.now o.equation)) outputs.now)) }
+    requires known { output.now.equation < length registers.now }
+    requires live { HoldsLive store.now.cells (register_at registers.now output.now.equation) }
+    requires place { place < length texts.old }
+    ensures length { length texts.new ≡ length texts.old }
+    ensures text { OnOk result (texts.new
+        ≡ slice_set texts.old place (event_line time output.now.name (value_at store.now.cells registers.now output.now.equation))) }
 {
-    for output in outputs {
-        append_output(output, time, registers, store, out)?;
+    take_line(output, time, registers, store, &mut texts[place])
+}
+
+/// Appends the texts.
+pub(crate) fn append_texts(texts: &[Bytes], out: &mut Bytes) -> Result<(), NoMemory>
+    ensures ok { OnOk result (out.new ≡ out.old ++ flat_map (λ x. x) texts.now) }
+    ensures err { OnErr result (IsBegunOf out.old out.new (flat_map (λ x. x) texts.now)) }
+{
+    for text in texts {
+        out.append(text.as_slice())?;
     }
     Ok(())
 }

@@ -3,21 +3,22 @@
 ghost use Rattle.std.specs.Prelude.{◌≡◌, ◌==◌, ℕ, [], if◌then◌else◌, IfOk, OnErr, OnOk};
 ghost use Rattle.flat_core.specs.Complete.{IsFlat};
 ghost use Rattle.register_code.specs.Code.{keeps_of, timers_of};
-ghost use Rattle.register_code.specs.Plan.{IsPlanOrder};
+ghost use Rattle.alias_rules.specs.Fine.{IsFinePlan};
 ghost use Rattle.monitor_run.specs.Given.{AreAt, AreEventLines};
 ghost use Rattle.monitor_run.specs.Instant.{Begins, HasEnded, HasRunRegisters, IsInstant, IsInstantBegun, IsSound};
 ghost use Rattle.monitor_run.specs.Machine.{HasRoom};
+ghost use Rattle.monitor_run.specs.Shown.{plan_in};
 
 use crate::begin::{clear, expire, give};
 use crate::delay::{first_refused, set_timers};
 use crate::end::{drop_others, keep};
-use crate::event::append_outputs;
+use crate::event::append_texts;
 use crate::machine::Machine;
-use crate::run::{Root, least_root, run_equations};
+use crate::run::{Root, least_root, run_steps};
 use flat_core::flat::Flat;
 use flat_core::line::TraceLine;
-use flat_core::steps::Steps;
 use register_code::code::Code;
+use register_code::plan::Plan;
 use std::alloc::Global;
 use tsl_value::bytes::Bytes;
 use tsl_value::ids::EqId;
@@ -25,32 +26,32 @@ use tsl_value::memory::NoMemory;
 use tsl_value::time::Time;
 
 /// Begins an instant: the registers have the events of inputs and delays.
-fn begin(flat: &Flat, order: &Steps, time: Time, given: &mut Vec<TraceLine>, machine: &mut Machine)
+fn begin(flat: &Flat, plan: &Plan, time: Time, given: &mut Vec<TraceLine>, machine: &mut Machine)
     requires whole { IsFlat flat.now }
-    requires ordered { IsPlanOrder flat.now order.now }
+    requires fine { IsFinePlan flat.now plan.now.in_place plan.now.order }
     requires room { HasRoom flat.now machine.old }
     requires one { (at : ℕ) × AreAt at given.old.items }
     requires events { AreEventLines flat.now given.old.items }
     ensures begins { Begins flat.now time given.old.items machine.old machine.new }
     ensures given { (at : ℕ) → AreAt at given.old.items → given.new.items ≡ (if at == time then [] else given.old.items) }
 {
-    clear(order, &mut machine.registers, &mut machine.faulted);
+    clear(&plan.order, &mut machine.registers, &mut machine.faulted);
     expire(time, &mut machine.timers, &mut machine.registers);
     give(time, given, &mut machine.registers);
 }
 
-/// Runs the equations at a time. The least root fault is answered.
+/// Runs the steps at a time. The least root fault is answered.
 fn run_registers(
     alloc: Global,
     flat: &Flat,
-    order: &Steps,
+    plan: &Plan,
     delays: &[EqId],
     time: Time,
     given: &mut Vec<TraceLine>,
     machine: &mut Machine,
 ) -> Result<Option<Root>, NoMemory>
     requires whole { IsFlat flat.now }
-    requires ordered { IsPlanOrder flat.now order.now }
+    requires fine { IsFinePlan flat.now plan.now.in_place plan.now.order }
     requires delays { delays.now ≡ timers_of flat.now }
     requires room { HasRoom flat.now machine.old }
     requires one { (at : ℕ) × AreAt at given.old.items }
@@ -58,17 +59,16 @@ fn run_registers(
     requires sound { IsSound flat.now time machine.old }
     ensures room { HasRoom flat.now machine.new }
     ensures given { (at : ℕ) → AreAt at given.old.items → given.new.items ≡ (if at == time then [] else given.old.items) }
-    ensures ran { IfOk result (λ root. HasRunRegisters flat.now time given.old.items machine.old machine.new root) }
+    ensures ran { IfOk result (λ root. HasRunRegisters flat.now (plan_in plan.now) time given.old.items machine.old machine.new root) }
 {
-    begin(flat, order, time, given, machine);
-    let found = run_equations(alloc, flat, order, time, machine)?;
+    begin(flat, plan, time, given, machine);
+    let found = run_steps(alloc, flat, plan, time, machine)?;
     let refused = first_refused(flat, delays, &machine.registers);
     Ok(least_root(found, refused))
 }
 
 /// Ends an instant without a fault: what is to be read later is kept, and all else is dropped.
 fn end(
-    alloc: Global,
     flat: &Flat,
     keeps: &[EqId],
     delays: &[EqId],
@@ -84,7 +84,7 @@ fn end(
 {
     set_timers(flat, delays, time, &machine.registers, &mut machine.timers);
     keep(keeps, &mut machine.registers, &mut machine.last);
-    drop_others(alloc, keeps, &machine.last, &mut machine.store)
+    drop_others(keeps, &machine.last, &mut machine.kept, &mut machine.store)
 }
 
 /// Runs an instant. Where it has a root fault, that is answered and nothing is kept or appended.
@@ -97,41 +97,30 @@ pub(crate) fn run_instant(
     out: &mut Bytes,
 ) -> Result<Option<Root>, NoMemory>
     requires whole { IsFlat code.now.system }
-    requires ordered { IsPlanOrder code.now.system code.now.order }
+    requires fine { IsFinePlan code.now.system code.now.in_place code.now.order }
     requires room { HasRoom code.now.system machine.old }
     requires one { (at : ℕ) × AreAt at given.old.items }
     requires events { AreEventLines code.now.system given.old.items }
     requires sound { IsSound code.now.system time machine.old }
     ensures room { HasRoom code.now.system machine.new }
     ensures given { (at : ℕ) → AreAt at given.old.items → given.new.items ≡ (if at == time then [] else given.old.items) }
-    ensures ran { IfOk result (λ root. IsInstant code.now.system time given.old.items machine.old machine.new out.old out.new root) }
-    ensures err { OnErr result (IsInstantBegun code.now.system time given.old.items machine.old out.old out.new) }
+    ensures ran { IfOk result (λ root. IsInstant code.now.system (record { in_place = code.now.in_place; order = code.now.order })
+        time given.old.items machine.old machine.new out.old out.new root) }
+    ensures err { OnErr result (IsInstantBegun code.now.system (record { in_place = code.now.in_place; order = code.now.order })
+        time given.old.items machine.old out.old out.new) }
 {
     let root = run_registers(
         alloc,
         code.flat(),
-        &code.plan().order,
+        code.plan(),
         code.timers(),
         time,
         given,
         machine,
     )?;
     if root.is_none() {
-        append_outputs(
-            code.flat().outputs(),
-            time,
-            &machine.registers,
-            &machine.store,
-            out,
-        )?;
-        end(
-            alloc,
-            code.flat(),
-            code.keeps(),
-            code.timers(),
-            time,
-            machine,
-        )?;
+        append_texts(&machine.texts, out)?;
+        end(code.flat(), code.keeps(), code.timers(), time, machine)?;
     }
     Ok(root)
 }

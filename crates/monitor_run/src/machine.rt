@@ -1,18 +1,21 @@
 // What an instant works on.
 
-ghost use Rattle.std.specs.Prelude.{◌≡◌, ◌<◌, false, length, replicate, slice_set, IfOk};
+ghost use Rattle.std.specs.Prelude.{◌≡◌, ◌<◌, [], false, length, replicate, slice_set, IfOk};
 ghost use Rattle.std.specs.FinMap as map;
 
 use aggregate_store::store::Store;
 use delay_timers::timers::Timers;
 use lift_func::register::Register;
 use std::alloc::Global;
+use tsl_value::bytes::Bytes;
+use tsl_value::ids::Handle;
 use tsl_value::memory::NoMemory;
 
-/// Registers by the numbers of equations, cells and timers.
+/// Registers by the numbers of equations, cells and timers, and texts by the numbers of outputs.
 ///
-/// `registers` and `faulted` are those of one instant: what stands at each equation, and which are faults. No value of an earlier
-/// instant is read in them. `last` has for each equation that is kept the register of its last event.
+/// `registers`, `faulted` and `texts` are those of one instant: what stands at each equation, which are faults, and the lines that were
+/// printed. `kept` lists cells at its end. Nothing of an earlier instant is read in them; the texts and the list keep their room. `last` has
+/// for each equation that is kept the register of its last event.
 #[derive(Drop)]
 pub(crate) struct Machine {
     pub registers: Vec<Register>,
@@ -20,16 +23,19 @@ pub(crate) struct Machine {
     pub last: Vec<Register>,
     pub store: Store,
     pub timers: Timers,
+    pub texts: Vec<Bytes>,
+    pub kept: Vec<Handle>,
 }
 
 impl Machine {
-    /// Empty registers for so many equations, no cell and no timer.
-    pub(crate) fn new(alloc: Global, count: u32) -> Result<Machine, NoMemory>
+    /// Empty registers for so many equations, no cell and no timer, and empty texts for so many outputs.
+    pub(crate) fn new(alloc: Global, count: u32, outputs: usize) -> Result<Machine, NoMemory>
         ensures registers { IfOk result (λ m. m.registers.items ≡ replicate count Register.Empty) }
         ensures faulted { IfOk result (λ m. m.faulted.items ≡ replicate count false) }
         ensures last { IfOk result (λ m. m.last.items ≡ replicate count Register.Empty) }
         ensures store { IfOk result (λ m. m.store ≡ record { cells = map.empty; ledger = replicate count 0 }) }
         ensures timers { IfOk result (λ m. m.timers ≡ record { capacity = count; times = map.empty }) }
+        ensures texts { IfOk result (λ m. m.texts.items ≡ replicate outputs []) }
     {
         Ok(Machine {
             registers: empty_registers(alloc, count)?,
@@ -37,6 +43,8 @@ impl Machine {
             last: empty_registers(alloc, count)?,
             store: Store::new(alloc, count)?,
             timers: Timers::with_capacity(alloc, count)?,
+            texts: empty_texts(alloc, outputs)?,
+            kept: Vec::new(alloc),
         })
     }
 }
@@ -50,6 +58,17 @@ fn empty_registers(alloc: Global, count: u32) -> Result<Vec<Register>, NoMemory>
         registers.push(Register::Empty)?;
     }
     Ok(registers)
+}
+
+/// So many empty texts.
+fn empty_texts(alloc: Global, count: usize) -> Result<Vec<Bytes>, NoMemory>
+    ensures { IfOk result (λ v. v.items ≡ replicate count []) }
+{
+    let mut texts = Vec::new(alloc);
+    for _n in 0..count {
+        texts.push(Bytes::new(alloc))?;
+    }
+    Ok(texts)
 }
 
 /// Puts a register into a place.

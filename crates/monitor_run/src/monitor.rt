@@ -3,7 +3,7 @@
 ghost use Rattle.std.specs.Prelude.{◌≡◌, ◌≤◌, ◌^◌, [], ◌∷◌, ◌++◌, None, Some, max, is_ok, is_some, slice_index, IfErr, IfOk, OnOk, IsTrue, List, ℕ, Ok};
 ghost use Rattle.std.specs.FinMap as map;
 ghost use Rattle.flat_core.specs.Line.{Line};
-ghost use Rattle.monitor_run.specs.Copied.{is_running_update};
+ghost use Rattle.monitor_run.specs.Updates.{is_running_update};
 ghost use Rattle.monitor_run.specs.Given.{line_of};
 ghost use Rattle.monitor_run.specs.Next.{IsIdle};
 ghost use Rattle.monitor_run.specs.Stands.{Stands};
@@ -89,10 +89,38 @@ impl<'c> Model for Monitor<'c> {
 
     ghost coded = { Prim.hlevel (codes, body.the_row.coded, cells_code, times_code) };
 
-    ghost view = { λ m. record { system = m.code.now.system; order = m.code.now.order; limit = m.limit; ran = m.ran; next = m.next; bound = m.bound; given = m.given.items; cells = m.machine.store.cells; ledger = m.machine.store.ledger; last = m.machine.last.items; timers = m.machine.timers.times; stop = m.stop } };
+    ghost view = { λ m. record {
+      system = m.code.now.system;
+      in_place = m.code.now.in_place;
+      order = m.code.now.order;
+      limit = m.limit;
+      ran = m.ran;
+      next = m.next;
+      bound = m.bound;
+      given = m.given.items;
+      cells = m.machine.store.cells;
+      ledger = m.machine.store.ledger;
+      last = m.machine.last.items;
+      timers = m.machine.timers.times;
+      stop = m.stop;
+    } };
 
     ghost invariant = { λ m. HasRoom m.code.now.system m.machine
-        × (m.stop ≡ None → IsReady (record { system = m.code.now.system; order = m.code.now.order; limit = m.limit; ran = m.ran; next = m.next; bound = m.bound; given = m.given.items; cells = m.machine.store.cells; ledger = m.machine.store.ledger; last = m.machine.last.items; timers = m.machine.timers.times; stop = m.stop })) };
+        × (m.stop ≡ None → IsReady (record {
+          system = m.code.now.system;
+          in_place = m.code.now.in_place;
+          order = m.code.now.order;
+          limit = m.limit;
+          ran = m.ran;
+          next = m.next;
+          bound = m.bound;
+          given = m.given.items;
+          cells = m.machine.store.cells;
+          ledger = m.machine.store.ledger;
+          last = m.machine.last.items;
+          timers = m.machine.timers.times;
+          stop = m.stop;
+        })) };
 }
 
 /// Keeps a stop.
@@ -118,13 +146,11 @@ fn closed_below(upto: Closed) -> u64
 
 impl<'c> Monitor<'c> {
     /// A monitor of a system, which was given no event. No time is closed, and at most `limit` instants may run.
-    ///
-    /// It copies at each update, so it takes only code in which none happens in place.
     pub fn new(alloc: Global, code: &'c Code, limit: u64) -> Result<Monitor<'c>, NoMemory>
         requires limit { 1 ≤ limit }
-        requires copies { code.now.in_place ≡ [] }
         ensures stands { IfOk result (λ m. Stands m []) }
         ensures system { IfOk result (λ m. m.system ≡ code.now.system) }
+        ensures in_place { IfOk result (λ m. m.in_place ≡ code.now.in_place) }
         ensures order { IfOk result (λ m. m.order ≡ code.now.order) }
         ensures limit { IfOk result (λ m. m.limit ≡ limit) }
         ensures unclosed { IfOk result (λ m. m.bound ≡ 0) }
@@ -137,7 +163,7 @@ impl<'c> Monitor<'c> {
             next: 0,
             bound: 0,
             given: Vec::new(alloc),
-            machine: Machine::new(alloc, code.flat().count())?,
+            machine: Machine::new(alloc, code.flat().count(), code.flat().outputs().len())?,
             stop: None,
         })
     }
@@ -146,9 +172,12 @@ impl<'c> Monitor<'c> {
     pub fn event(&mut self, time: Time, input: EqId, value: Scalar) -> Result<(), Stop>
         requires { self.old.stop ≡ None → CanTake self.old time input value }
         ensures given { OnOk result (self.new ≡ record self.old { given = self.old.given ++ line_of time input value ∷ [] }) }
-        ensures stands { OnOk result ((lines : List Line) → Stands self.old lines → Stands self.new (lines ++ line_of time input value ∷ [])) }
+        ensures stands { OnOk result ((lines : List Line)
+            → Stands self.old lines
+            → Stands self.new (lines ++ line_of time input value ∷ [])) }
         ensures again { IsStoppedAgain self.old self.new result }
-        ensures stop { IfErr result (λ stop. self.old.stop ≡ None → (stop ≡ Stop.Memory) × (self.new ≡ stopped self.old Stop.Memory)) }
+        ensures stop { IfErr result (λ stop. self.old.stop ≡ None
+            → (stop ≡ Stop.Memory) × (self.new ≡ stopped self.old Stop.Memory)) }
     {
         if let Some(stop) = self.stop {
             return Err(stop);
@@ -183,7 +212,10 @@ impl<'c> Monitor<'c> {
     /// Runs the first instant at a closed time that has not run, and appends the lines of its events. `Idle` is answered where none
     /// is left.
     pub fn step(&mut self, out: &mut Bytes) -> Result<Step, Stop>
-        ensures steps { self.old.stop ≡ None → (lines : List Line) → Stands self.old lines → HasStepped self.old self.new lines out.old out.new result }
+        ensures steps { self.old.stop ≡ None
+            → (lines : List Line)
+            → Stands self.old lines
+            → HasStepped self.old self.new lines out.old out.new result }
         ensures again { IsStoppedAgain self.old self.new result }
         ensures unwritten { IsTrue (is_some self.old.stop) → out.new ≡ out.old }
         ensures kept { IfErr result (λ stop. self.new.stop ≡ Some stop) }

@@ -1,23 +1,26 @@
-// The equations of an instant, in order.
+// The steps of an instant, in order.
 
-ghost use Rattle.std.specs.Prelude.{◌≡◌, ◌<◌, ◌||◌, ℕ, Bool, All, IfOk, None, Option, length};
+ghost use Rattle.std.specs.Prelude.{◌≡◌, ◌<◌, ◌||◌, ℕ, Bool, All, IfOk, OnOk, IsTrue, None, Option, false, length};
 ghost use Rattle.std.specs.List.{list_any};
-ghost use Rattle.lift_func.specs.Cells.{HoldsLive};
-ghost use Rattle.flat_core.specs.Complete.{IsFlat};
+ghost use Rattle.alias_rules.specs.Fine.{IsFinePlan};
+ghost use Rattle.tsl_value.specs.declared.scalar.ValueType.{ValueType};
 ghost use Rattle.lift_func.specs.declared.fault.FaultKind.{FaultKind};
-ghost use Rattle.monitor_run.specs.Here.{HasShape, TakesTyped, is_blocked_here, is_marked};
-ghost use Rattle.monitor_run.specs.Instant.{HasRunAll, HasRunOne, IsLeastRoot, SameBeside};
-ghost use Rattle.monitor_run.specs.Machine.{AreFresh, HasRoom, IsFresh};
-ghost use Rattle.monitor_run.specs.Registers.{AreHeld, register_at};
-ghost use Rattle.register_code.specs.Plan.{IsPlanOrder};
+ghost use Rattle.flat_core.specs.Complete.{IsFlat};
+ghost use Rattle.monitor_run.specs.Here.{HasShape, TakesTyped, is_blocked_here, is_given_op, is_marked};
+ghost use Rattle.monitor_run.specs.Instant.{HasPrinted, HasRunAll, HasRunOne, IsLeastRoot, SameBeside};
+ghost use Rattle.monitor_run.specs.Machine.{AreFresh, HasRoom};
+ghost use Rattle.monitor_run.specs.Registers.{AreHeld};
+ghost use Rattle.monitor_run.specs.Shown.{plan_in};
 
 use crate::case::own_case;
+use crate::event::print_output;
 use crate::machine::{Machine, put};
+use crate::update::Update;
 use flat_core::equation::{Equation, Op};
 use flat_core::flat::Flat;
-use flat_core::steps::Steps;
 use lift_func::eval::EvalFault;
 use lift_func::fault::FaultKind;
+use register_code::plan::Plan;
 use std::alloc::Global;
 use tsl_value::ids::EqId;
 use tsl_value::memory::NoMemory;
@@ -32,8 +35,12 @@ pub(crate) struct Root {
 
 /// The one of the lower equation.
 pub(crate) fn least_root(a: Option<Root>, b: Option<Root>) -> Option<Root>
+    ensures first { result ≡ None → a ≡ None }
     ensures none { result ≡ None → b ≡ None }
-    ensures least { (among besides : ℕ → Bool) (at : ℕ → Option FaultKind) → IsLeastRoot among at a → IsLeastRoot besides at b → IsLeastRoot (λ i. among i || besides i) at result }
+    ensures least { (among besides : ℕ → Bool) (at : ℕ → Option FaultKind)
+        → IsLeastRoot among at a
+        → IsLeastRoot besides at b
+        → IsLeastRoot (λ i. among i || besides i) at result }
 {
     match (a, b) {
         (Some(x), Some(y)) => {
@@ -61,12 +68,16 @@ fn some_fault(ids: &[EqId], faulted: &[bool]) -> bool
     false
 }
 
-/// An argument that is used at the same time is a fault.
-fn is_blocked(e: &Equation, faulted: &[bool]) -> bool
+/// An argument that is used at the same time is a fault. While no equation is one, none has to be looked at.
+fn is_blocked(e: &Equation, is_sound: bool, faulted: &[bool]) -> bool
     requires shape { HasShape e.now.op e.now.args }
     requires known { All (λ a. a < length faulted.now) e.now.args }
+    requires sound { IsTrue is_sound → is_blocked_here faulted.now e.now.op e.now.args ≡ false }
     ensures { result ≡ is_blocked_here faulted.now e.now.op e.now.args }
 {
+    if is_sound {
+        return false;
+    }
     match &e.op {
         Op::Last => faulted[e.args.ids()[1].get() as usize],
         Op::Delay => false,
@@ -74,37 +85,52 @@ fn is_blocked(e: &Equation, faulted: &[bool]) -> bool
     }
 }
 
-/// Runs an equation: its register gets the event of its case, or it becomes a fault. A root fault is answered.
+/// Inputs and delays have their events from the beginning of an instant.
+fn is_given(o: &Op) -> bool
+    ensures { result ≡ is_given_op o.now }
+{
+    match o {
+        Op::Input | Op::Delay => true,
+        _ => false,
+    }
+}
+
+/// Runs an equation: its register gets the event of its case, or it becomes a fault. A root fault is answered. `is_sound` may be set where
+/// no equation is a fault yet.
 pub(crate) fn run_one(
     alloc: Global,
     e: &Equation,
-    i: EqId,
+    update: Update,
     time: Time,
+    is_sound: bool,
     machine: &mut Machine,
 ) -> Result<Option<Root>, NoMemory>
     requires shape { HasShape e.now.op e.now.args }
     requires registers_known { All (λ a. a < length machine.old.registers.items) e.now.args }
     requires faulted_known { All (λ a. a < length machine.old.faulted.items) e.now.args }
-    requires register_there { i < length machine.old.registers.items }
-    requires mark_there { i < length machine.old.faulted.items }
-    requires number_there { i < length machine.old.store.ledger }
+    requires register_there { update.id < length machine.old.registers.items }
+    requires mark_there { update.id < length machine.old.faulted.items }
+    requires number_there { update.id < length machine.old.store.ledger }
     requires last_each { length machine.old.last.items ≡ length machine.old.registers.items }
     requires typed { TakesTyped machine.old.store.cells machine.old.registers.items e.now }
-    requires live { HoldsLive machine.old.store.cells (register_at machine.old.registers.items i) }
-    requires kept { All (λ a. HoldsLive machine.old.store.cells (register_at machine.old.last.items a)) e.now.args }
-    requires fresh { IsFresh machine.old i e.now.op }
+    requires sound { IsTrue is_sound → is_blocked_here machine.old.faulted.items e.now.op e.now.args ≡ false }
     ensures same { SameBeside machine.old machine.new }
-    ensures ran { IfOk result (λ root. HasRunOne i time e.now machine.old machine.new root) }
+    ensures texts { machine.new.texts ≡ machine.old.texts }
+    ensures ran { IfOk result (λ root. HasRunOne update.in_place time update.id e.now machine.old machine.new root) }
 {
-    let place = i.get() as usize;
-    if is_blocked(e, &machine.faulted) {
+    if is_given(&e.op) {
+        return Ok(None);
+    }
+    let id = update.id;
+    let place = id.get() as usize;
+    if is_blocked(e, is_sound, &machine.faulted) {
         machine.faulted[place] = true;
         return Ok(None);
     }
     match own_case(
         alloc,
         e,
-        i,
+        update,
         time,
         &machine.registers,
         &machine.last,
@@ -116,35 +142,63 @@ pub(crate) fn run_one(
         }
         Err(EvalFault::Fault(kind)) => {
             machine.faulted[place] = true;
-            Ok(Some(Root { equation: i, kind }))
+            Ok(Some(Root { equation: id, kind }))
         }
         Err(EvalFault::Memory) => Err(NoMemory),
     }
 }
 
-/// Runs the equations in an order, and answers the root fault of the least of them.
-pub(crate) fn run_equations(
+/// Prints an output.
+fn print_step(flat: &Flat, place: usize, time: Time, machine: &mut Machine) -> Result<(), NoMemory>
+    requires whole { IsFlat flat.now }
+    requires there { place < length flat.now.outputs }
+    requires registers { length machine.old.registers.items ≡ length flat.now.equations }
+    requires texts { length machine.old.texts.items ≡ length flat.now.outputs }
+    requires held { (types : ℕ → ValueType) × AreHeld flat.now types machine.old.store.cells machine.old.registers.items }
+    ensures same { SameBeside machine.old machine.new }
+    ensures printed { OnOk result (HasPrinted flat.now time place machine.old machine.new) }
+{
+    print_output(
+        &flat.outputs()[place],
+        place,
+        time,
+        &machine.registers,
+        &machine.store,
+        &mut machine.texts,
+    )
+}
+
+/// Runs the steps of a plan in its order, and answers the least root fault of an equation that is no delay.
+pub(crate) fn run_steps(
     alloc: Global,
     flat: &Flat,
-    order: &Steps,
+    plan: &Plan,
     time: Time,
     machine: &mut Machine,
 ) -> Result<Option<Root>, NoMemory>
     requires whole { IsFlat flat.now }
-    requires ordered { IsPlanOrder flat.now order.now }
+    requires fine { IsFinePlan flat.now plan.now.in_place plan.now.order }
     requires room { HasRoom flat.now machine.old }
-    requires held { AreHeld flat.now machine.old.store.cells machine.old.registers.items }
-    requires kept { AreHeld flat.now machine.old.store.cells machine.old.last.items }
+    requires held { (types : ℕ → ValueType)
+        × AreHeld flat.now types machine.old.store.cells machine.old.registers.items
+        × AreHeld flat.now types machine.old.store.cells machine.old.last.items }
     requires fresh { AreFresh flat.now machine.old }
     ensures same { SameBeside machine.old machine.new }
-    ensures ran { IfOk result (λ root. HasRunAll flat.now time machine.old machine.new root) }
+    ensures ran { IfOk result (λ root. HasRunAll flat.now (plan_in plan.now) time machine.old machine.new root) }
 {
     let mut root = None;
-    for step in order.as_slice() {
+    for step in plan.order.as_slice() {
         if *step < flat.count() {
-            let i = EqId::new(*step);
-            let found = run_one(alloc, flat.equation(i), i, time, machine)?;
+            let id = EqId::new(*step);
+            let update = Update {
+                id,
+                in_place: plan.in_place.contains(id),
+            };
+            let is_sound = root.is_none();
+            let found = run_one(alloc, flat.equation(id), update, time, is_sound, machine)?;
             root = least_root(root, found);
+        } else {
+            print_step(flat, (*step - flat.count()) as usize, time, machine)?;
         }
     }
     Ok(root)

@@ -8,6 +8,7 @@ use Rattle.flat_core.specs.Line.{Line, inputs_of, last_time}
 use Rattle.flat_core.specs.Solution.{Solves}
 use Rattle.flat_core.specs.System.{System}
 use Rattle.flat_core.specs.Text.{due_text}
+use Rattle.monitor_run.proofs.StepLemmas.{ready_order}
 use Rattle.monitor_run.specs.declared.monitor.Stop.{Stop}
 use Rattle.monitor_run.specs.declared.monitor.Stop.TheVariants as stop
 use Rattle.monitor_run.specs.State as engine
@@ -107,7 +108,7 @@ module _ (m : State) (bytes : List ℕ) (ended : Bool) (lines : List Line) (text
   flat = subst IsFlat begun.system_is ready.whole
 
   plan : IsPlanOrder m.system m.engine.order
-  plan = subst (λ (s : System). IsPlanOrder s m.engine.order) begun.system_is ready.ordered
+  plan = subst (λ (s : System). IsPlanOrder s m.engine.order) begun.system_is (ready_order m.engine ready)
 
   module _ (by : Halt) (h : Ran by) where
     abbrev taken : List Line

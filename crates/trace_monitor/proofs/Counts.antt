@@ -14,12 +14,15 @@ use Rattle.flat_core.proofs.LaterLines.{leaves_earlier}
 use Rattle.flat_core.proofs.Silence.{happens_at_instants}
 use Rattle.flat_core.proofs.SmallerBound.{solves_less}
 use Rattle.monitor_run.specs.declared.monitor.Stop.TheVariants as stop
-use Rattle.monitor_run.specs.Copied.{copied, is_update}
+use Rattle.register_machine.specs.Copied.{copied}
+use Rattle.monitor_run.specs.Updates.{is_update}
 use Rattle.monitor_run.specs.Next.{NoInstant}
 use Rattle.monitor_run.specs.Stands.{KeepsOf, Stands}
 use Rattle.monitor_run.specs.State as engine
-use Rattle.monitor_run.specs.Steps.{HasFaulted, IsAtLimit, NoneIsLeft, stopped}
-use Rattle.monitor_run.proofs.GapLemmas.{copied_still, place, plan_ranked}
+use Rattle.monitor_run.specs.Steps.{AreAsSet, HasFaulted, IsAtLimit, NoneIsLeft, stopped}
+use Rattle.alias_rules.proofs.Ranks.{place}
+use Rattle.monitor_run.proofs.GapLemmas.{copied_still, plan_ranked}
+use Rattle.monitor_run.proofs.StepLemmas.{counted, ready_order}
 use Rattle.trace_monitor.specs.Kept.{events_of}
 use Rattle.trace_monitor.specs.Run.{HasCopiedTo, HasCountedTo, HasRanTo}
 use Rattle.trace_monitor.proofs.Events.{events_alike, events_solve}
@@ -33,11 +36,11 @@ module _ (s : System) (lines : List Line) (z : Streams) (n : ℕ) where
     | inr more ↦ (λ k. instants s lines z t ++ (if none t more (omega arith) k then t ∷ [] else [])) ∙ append-nil (instants s lines z t) ∙ instants_still t more (λ u low lt. none u low (omega arith))
   ]
 
-  copies_still : (bound : ℕ) → HappensAtInstants s lines bound z → (u : ℕ) → IsTrue (runs s u) → (t : ℕ) → n ≤ t → t ≤ bound → NoInstant s lines z n t → copied s z u t ≡ copied s z u n
-  copies_still bound happens u run zero le within none = let same : zero ≡ n = omega arith in ap (copied s z u) same
-  copies_still bound happens u run (suc t) le within none = elim (cases_lt t n) [
-    | inl end ↦ let same : suc t ≡ n = omega arith in ap (copied s z u) same
-    | inr more ↦ copied_still s z u t (ap has_event (happens.silent t (omega arith) (none t more (omega arith)) u run)) ∙ copies_still bound happens u run t more (omega arith) (λ w low lt. none w low (omega arith))
+  copies_still : (set : List ℕ) (bound : ℕ) → HappensAtInstants s lines bound z → (u : ℕ) → IsTrue (runs s u) → (t : ℕ) → n ≤ t → t ≤ bound → NoInstant s lines z n t → copied s set z u t ≡ copied s set z u n
+  copies_still set bound happens u run zero le within none = let same : zero ≡ n = omega arith in ap (copied s set z u) same
+  copies_still set bound happens u run (suc t) le within none = elim (cases_lt t n) [
+    | inl end ↦ let same : suc t ≡ n = omega arith in ap (copied s set z u) same
+    | inr more ↦ copied_still s set z u t (ap has_event (happens.silent t (omega arith) (none t more (omega arith)) u run)) ∙ copies_still set bound happens u run t more (omega arith) (λ w low lt. none w low (omega arith))
   ]
 
 both_first : (a b : Bool) → IsTrue (a && b) → IsTrue a
@@ -50,7 +53,7 @@ module _ (m : engine.State) (ready : engine.IsReady m) (lines : List Line) (stan
   keeps z zs = stands.keeps z (solves_less m.system (inputs_of lines) m.next m.bound z ready.within zs)
 
   happens : (z : Streams) → Solves m.system (inputs_of lines) m.bound z → HappensAtInstants m.system lines m.bound z
-  happens z zs = happens_at_instants m.system lines z m.bound ready.whole.proper ready.whole.complete.typed (place m.order) (plan_ranked m.system m.order ready.ordered) zs
+  happens z zs = happens_at_instants m.system lines z m.bound ready.whole.proper ready.whole.complete.typed (place m.order) (plan_ranked m.system m.order (ready_order m ready)) zs
 
   counts_still : (t : ℕ) → t ≤ m.bound → ((z : Streams) → Solves m.system (inputs_of lines) m.bound z → (m.next ≤ t) × NoInstant m.system lines z m.next t) → HasCountedTo m m.system lines m.bound t
   counts_still t within none = (
@@ -60,8 +63,8 @@ module _ (m : engine.State) (ready : engine.IsReady m) (lines : List Line) (stan
     },
     record {
       ledger = λ z zs u update.
-          (keeps z zs).ledger u update
-          ∙ sym (copies_still m.system lines z m.next m.bound (happens z zs) u (both_first (runs m.system u) (is_update (equation m.system u)) update) t (none z zs).0 within (none z zs).1);
+          counted m ready lines stands m.bound ready.in_time ready.within z zs u update
+          ∙ sym (copies_still m.system lines z m.next m.in_place m.bound (happens z zs) u (both_first (runs m.system u) (is_update (equation m.system u)) update) t (none z zs).0 within (none z zs).1);
     },
   )
 
@@ -74,9 +77,12 @@ module _ (m : engine.State) (ready : engine.IsReady m) (lines : List Line) (stan
       let counts = counts_still t (omega arith) (λ z zs. let next = full.each z (solves_less m.system (inputs_of lines) (suc t) m.bound z (omega arith) zs) in (next.late, next.first)) in
       subst (λ (e : engine.State). HasCountedTo e m.system lines m.bound t) (sym same) (record { within = counts.0.within; ran = counts.0.ran }, record { ledger = counts.1.ledger })
 
-pub copies_fault : (old new : engine.State) (lines : List Line) (t i : ℕ) (kind : FaultKind) → HasFaulted old new lines t i kind → HasCopiedTo new old.system lines old.bound (suc t)
-copies_fault old new lines t i kind faulted = record {
-  ledger = λ z zs. let early = faulted.early in faulted.ledger z (solves_less old.system (inputs_of lines) (suc t) old.bound z (omega arith) zs);
+pub copies_fault : (old new : engine.State) (lines : List Line) (t i : ℕ) (kind : FaultKind) → AreAsSet old new → HasFaulted old new lines t i kind → HasCopiedTo new old.system lines old.bound (suc t)
+copies_fault old new lines t i kind as_set faulted = record {
+  ledger = λ z zs u update.
+      let early = faulted.early in
+      faulted.ledger z (solves_less old.system (inputs_of lines) (suc t) old.bound z (omega arith) zs) u update
+      ∙ ap (λ (set : List ℕ). copied old.system set z u (suc t)) (sym as_set.in_place);
 }
 
 -- ---- from the events that were given below a bound to all lines below a higher one

@@ -15,6 +15,7 @@ use Rattle.monitor_run.specs.declared.monitor.Stop.TheVariants as stop
 use Rattle.monitor_run.specs.Next.{IsIdle}
 use Rattle.monitor_run.specs.Stands.{Stands}
 use Rattle.monitor_run.specs.State as engine
+use Rattle.monitor_run.proofs.StepLemmas.{ready_order}
 use Rattle.monitor_run.specs.Steps.{AreAsSet, HasRun, HasStepped, NoneIsLeft}
 use Rattle.monitor_run.specs.Written.{HasWritten}
 use Rattle.monitor_run.proofs.LawLemmas.{goes_on_written, idle_ends, limit_below, named_below}
@@ -52,7 +53,7 @@ kept_new m ready system limit last bound stands reads awaits =
       last_is = last;
       bound_is = bound;
       written = record { stands = stands; text_is = λ z zs. sym (ap (λ (n : ℕ). flat_map (text_at m.engine.system z) (instants m.engine.system [] z n)) zero) };
-      due = due_at_start m.system m.options m.engine.order (subst IsFlat system ready.whole) (subst (λ (s : System). IsPlanOrder s m.engine.order) system ready.ordered);
+      due = due_at_start m.system m.options m.engine.order (subst IsFlat system ready.whole) (subst (λ (s : System). IsPlanOrder s m.engine.order) system (ready_order m.engine ready));
     }
 
 -- ---- steps, one behind the other
@@ -66,14 +67,14 @@ pub not_begun : (m : engine.State) (lines : List Line) (text before : List ℕ) 
 not_begun m lines text before written = record {
   added = [];
   after_is = sym (append-nil before);
-  as_set = record { system = refl; order = refl; limit = refl; bound = refl };
+  as_set = record { system = refl; in_place = refl; order = refl; limit = refl; bound = refl };
   written = subst (λ (l : List ℕ). HasWritten m lines l) (sym (append-nil text)) written;
 }
 
 module _ (first old new : engine.State) (lines : List Line) (text before mid after : List ℕ) (ready : engine.IsReady old) (on : HasGoneOn first old lines text before mid) where
   pub ran_on : HasRun old new lines mid after → HasGoneOn first new lines text before after
   ran_on run =
-      let (z, zs) = plan_solution old.system old.order ready.whole ready.ordered (inputs_of lines) (suc run.time) in
+      let (z, zs) = plan_solution old.system old.order ready.whole (ready_order old ready) (inputs_of lines) (suc run.time) in
       let step = run.each z zs in
       let here = text_at old.system z run.time in
       record {
@@ -81,6 +82,7 @@ module _ (first old new : engine.State) (lines : List Line) (text before mid aft
         after_is = step.1 ∙ ap (λ (l : List ℕ). l ++ here) on.after_is ∙ append_assoc before on.added here;
         as_set = record {
           system = run.as_set.system ∙ on.as_set.system;
+          in_place = run.as_set.in_place ∙ on.as_set.in_place;
           order = run.as_set.order ∙ on.as_set.order;
           limit = run.as_set.limit ∙ on.as_set.limit;
           bound = run.as_set.bound ∙ on.as_set.bound;
@@ -91,7 +93,7 @@ module _ (first old new : engine.State) (lines : List Line) (text before mid aft
 
   pub less_left : HasRun old new lines mid after → new.bound - new.next < old.bound - old.next
   less_left run =
-      let (z, zs) = plan_solution old.system old.order ready.whole ready.ordered (inputs_of lines) (suc run.time) in
+      let (z, zs) = plan_solution old.system old.order ready.whole (ready_order old ready) (inputs_of lines) (suc run.time) in
       let late = (run.each z zs).0.late in
       let early = run.early in
       let next_is = run.next_is in
@@ -114,17 +116,17 @@ module _ (first old new : engine.State) (lines : List Line) (text before mid aft
       as_first : (P : System → ℕ → ℕ → Type 0) → P old.system old.bound old.limit → P first.system first.bound first.limit
       as_first P p = subst (λ s. P s first.bound first.limit) on.as_set.system (subst (λ b. P old.system b first.limit) on.as_set.bound (subst (λ n. P old.system old.bound n) on.as_set.limit p))
 
-  pub stopped_so : (why : Stop) → HasStepped old new lines mid after (Err why) → HasStopped first new lines text before after why
-  stopped_so (stop.Fault t i kind) (rest, faulted) = record {
+  pub stopped_so : (why : Stop) → AreAsSet old new → HasStepped old new lines mid after (Err why) → HasStopped first new lines text before after why
+  stopped_so (stop.Fault t i kind) as_set (rest, faulted) = record {
     added = on.added;
     after_is = λ _. rest ∙ on.after_is;
     stops = as_first (λ s b n. StopsSo s lines b n (text ++ on.added) (stop.Fault t i kind)) (λ w ws. named_below old new lines (text ++ on.added) t i kind ready on.written faulted w ws);
-    counts = as_first (λ s b n. CountsSo new s lines b (stop.Fault t i kind)) (copies_fault old new lines t i kind faulted);
+    counts = as_first (λ s b n. CountsSo new s lines b (stop.Fault t i kind)) (copies_fault old new lines t i kind as_set faulted);
   }
     where
       as_first : (P : System → ℕ → ℕ → Type 0) → P old.system old.bound old.limit → P first.system first.bound first.limit
       as_first P p = subst (λ s. P s first.bound first.limit) on.as_set.system (subst (λ b. P old.system b first.limit) on.as_set.bound (subst (λ n. P old.system old.bound n) on.as_set.limit p))
-  stopped_so (stop.Limit count t) (rest, same, full) = record {
+  stopped_so (stop.Limit count t) as_set (rest, same, full) = record {
     added = on.added;
     after_is = λ _. rest ∙ on.after_is;
     stops = as_first (λ s b n. StopsSo s lines b n (text ++ on.added) (stop.Limit count t)) (full.count_is, λ w ws. limit_below old lines (text ++ on.added) count t ready on.written full w ws);
@@ -133,4 +135,4 @@ module _ (first old new : engine.State) (lines : List Line) (text before mid aft
     where
       as_first : (P : System → ℕ → ℕ → Type 0) → P old.system old.bound old.limit → P first.system first.bound first.limit
       as_first P p = subst (λ s. P s first.bound first.limit) on.as_set.system (subst (λ b. P old.system b first.limit) on.as_set.bound (subst (λ n. P old.system old.bound n) on.as_set.limit p))
-  stopped_so stop.Memory begun = record { added = []; after_is = λ some. absurd (some refl); stops = tt; counts = tt }
+  stopped_so stop.Memory as_set begun = record { added = []; after_is = λ some. absurd (some refl); stops = tt; counts = tt }

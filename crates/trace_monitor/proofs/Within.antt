@@ -1,5 +1,5 @@
 -- A trace of which nothing is refused is within its limit of bytes.
-use Rattle.std.proofs.Common.{◌≡◌, ℕ, ◌+◌, ◌≤◌, if◌then◌else◌, [], ◌∷◌, ◌++◌, arith, ◌⊎◌, inl, inr, Bool, true, false, List, length, take, Option, Some, None, slice_get, ap, subst, sym, ◌∙◌}
+use Rattle.std.proofs.Common.{◌≡◌, ℕ, ◌+◌, ◌≤◌, if◌then◌else◌, [], ◌∷◌, ◌++◌, arith, inl, inr, Bool, true, false, List, length, take, Option, Some, None, slice_get, ap, subst}
 use Rattle.std.proofs.lemmas.Option.{slice_get_cases}
 use Rattle.std.proofs.lemmas.List.{length-append}
 use Rattle.std.specs.Option.{option_or}

@@ -3,7 +3,8 @@ use Rattle.std.specs.Prelude.{◌≡◌, ℕ, suc, Bool, List, length, IsTrue, s
 use Rattle.flat_core.specs.Instant.{instants}
 use Rattle.flat_core.specs.Case.{Streams}
 use Rattle.flat_core.specs.System.{System}
-use Rattle.monitor_run.specs.Copied.{copied, is_running_update}
+use Rattle.register_machine.specs.Copied.{copied}
+use Rattle.monitor_run.specs.Updates.{is_running_update}
 use Rattle.monitor_run.specs.State as engine
 use Rattle.trace_monitor.specs.declared.ending.RunEnding.{RunEnding}
 use Rattle.trace_monitor.specs.declared.ending.RunEnding.TheVariants as ending
@@ -34,6 +35,11 @@ module _ (s : System) (o : Options) (bytes : List ℕ) (ended : Bool) where
   -- What the engine has counted where a run ends so, for all streams that solve the system at the closed times: the instants that have run,
   -- and what each running update has copied.
   pub record HasCounted (e : engine.State) (how : RunEnding) : Type 0 where
-    pub ran : (z : Streams) → SolvesClosed s o bytes ended z → AreRan how e.ran (length (instants s (lines_in s o bytes ended) z (run_below how)))
-    pub ledger : (z : Streams) → SolvesClosed s o bytes ended z → (u : ℕ) → IsTrue (is_running_update s u)
-        → slice_index e.ledger u ≡ copied s z u (copied_below how)
+    pub ran : (z : Streams)
+        → SolvesClosed s o bytes ended z
+        → AreRan how e.ran (length (instants s (lines_in s o bytes ended) z (run_below how)))
+    pub ledger : (z : Streams)
+        → SolvesClosed s o bytes ended z
+        → (u : ℕ)
+        → IsTrue (is_running_update s u)
+        → slice_index e.ledger u ≡ copied s e.in_place z u (copied_below how)

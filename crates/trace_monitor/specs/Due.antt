@@ -28,4 +28,6 @@ SolvesClosed s o bytes ended z = Solves s (inputs_of (lines_in s o bytes ended))
 -- output events at the closed times below the fault time and within the limit of instants.
 pub record IsDue (s : System) (o : Options) (bytes : List ℕ) (ended : Bool) (text : List ℕ) : Type 0 where
   pub solved : (z : Streams) × SolvesClosed s o bytes ended z
-  pub is : (z : Streams) → SolvesClosed s o bytes ended z → text ≡ due_text s (lines_in s o bytes ended) z (bound_in s o bytes ended) o.instants
+  pub is : (z : Streams)
+      → SolvesClosed s o bytes ended z
+      → text ≡ due_text s (lines_in s o bytes ended) z (bound_in s o bytes ended) o.instants

@@ -19,7 +19,8 @@ module _ (s : System) (o : Options) (bytes : List ℕ) (ended : Bool) where
 
   -- the fault of equation i at t is closed within the limit, and it is the one that is named
   abbrev pub IsFaulted : ℕ → ℕ → FaultKind → Type 0
-  IsFaulted t i kind = InAll s o bytes ended (λ z. EndsInFault s (lines_in s o bytes ended) z (bound_in s o bytes ended) o.instants t i kind)
+  IsFaulted t i kind =
+      InAll s o bytes ended (λ z. EndsInFault s (lines_in s o bytes ended) z (bound_in s o bytes ended) o.instants t i kind)
 
   -- as many instants as may have run without a fault, and one more at t is closed
   abbrev pub IsLimited : ℕ → Type 0

@@ -42,7 +42,8 @@ Halts r lines ended halt.End = IsAllOf r lines × (ended ≡ true)
 Halts r lines ended (halt.Refused f) = r ≡ record { lines = lines; refused = Some f }
 
 -- further lines were taken
-pub record HasReadOn (r : Reader) (old new : engine.State) (last : ℕ) (x : Fed) (lines : List Line) (text before after : List ℕ) : Type 0 where
+pub record HasReadOn (r : Reader) (old new : engine.State) (last : ℕ)
+    (x : Fed) (lines : List Line) (text before after : List ℕ) : Type 0 where
   pub more : List Line
   pub added : List ℕ
   pub after_is : after ≡ before ++ added
@@ -51,7 +52,8 @@ pub record HasReadOn (r : Reader) (old new : engine.State) (last : ℕ) (x : Fed
   pub read : HasRead r new last x (lines ++ more) (text ++ added)
 
 -- all lines up to a halt
-pub record HasReadAll (r : Reader) (old new : engine.State) (last : ℕ) (x : Fed) (lines : List Line) (text before after : List ℕ) (by : Halt) : Type 0 where
+pub record HasReadAll (r : Reader) (old new : engine.State) (last : ℕ)
+    (x : Fed) (lines : List Line) (text before after : List ℕ) (by : Halt) : Type 0 where
   pub on : HasReadOn r old new last x lines text before after
   pub halts : Halts (reading_of old.system x) (lines ++ on.more) x.ended by
 
@@ -74,7 +76,8 @@ bound_at halt.End last until = max last until + 1
 bound_at _ last until = last
 
 -- no further line is taken, and all instants at closed times have run
-pub record HasRunAll (r : Reader) (old new : engine.State) (last until : ℕ) (x : Fed) (lines : List Line) (text before after : List ℕ) (by : Halt) : Type 0 where
+pub record HasRunAll (r : Reader) (old new : engine.State) (last until : ℕ)
+    (x : Fed) (lines : List Line) (text before after : List ℕ) (by : Halt) : Type 0 where
   pub more : List Line
   pub added : List ℕ
   pub after_is : after ≡ before ++ added

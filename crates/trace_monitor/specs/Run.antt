@@ -11,7 +11,8 @@ use Rattle.flat_core.specs.System.{System}
 use Rattle.flat_core.specs.Text.{due_text}
 use Rattle.monitor_run.specs.declared.monitor.Stop.{Stop}
 use Rattle.monitor_run.specs.declared.monitor.Stop.TheVariants as stop
-use Rattle.monitor_run.specs.Copied.{copied, is_running_update}
+use Rattle.register_machine.specs.Copied.{copied}
+use Rattle.monitor_run.specs.Updates.{is_running_update}
 use Rattle.monitor_run.specs.Given.{IsInputOf}
 use Rattle.monitor_run.specs.Next.{IsIdle}
 use Rattle.monitor_run.specs.State as engine
@@ -22,9 +23,14 @@ use Rattle.trace_monitor.specs.Kept.{events_of}
 -- why no further instant of these lines runs below the bound: the text is due, and the run ends so
 abbrev pub StopsSo : System → List Line → ℕ → ℕ → List ℕ → Stop → Type 0
 StopsSo s lines bound limit text (stop.Fault t i kind) =
-    (w : Streams) → Solves s (inputs_of lines) bound w → (text ≡ due_text s lines w bound limit) × EndsInFault s lines w bound limit t i kind
+    (w : Streams)
+    → Solves s (inputs_of lines) bound w
+    → (text ≡ due_text s lines w bound limit) × EndsInFault s lines w bound limit t i kind
 StopsSo s lines bound limit text (stop.Limit count t) =
-    (count ≡ limit) × ((w : Streams) → Solves s (inputs_of lines) bound w → (text ≡ due_text s lines w bound limit) × EndsAtLimit s lines w bound limit t)
+    (count ≡ limit)
+    × ((w : Streams)
+    → Solves s (inputs_of lines) bound w
+    → (text ≡ due_text s lines w bound limit) × EndsAtLimit s lines w bound limit t)
 StopsSo s lines bound limit text stop.Memory = Unit {0}
 
 -- for all streams that solve the system below the bound, as many instants have run as come before a time
@@ -34,7 +40,11 @@ pub record HasRanTo (e : engine.State) (s : System) (lines : List Line) (bound t
 
 -- and updates have copied what they copy before a time
 pub record HasCopiedTo (e : engine.State) (s : System) (lines : List Line) (bound time : ℕ) : Type 0 where
-  pub ledger : (z : Streams) → Solves s (inputs_of lines) bound z → (u : ℕ) → IsTrue (is_running_update s u) → slice_index e.ledger u ≡ copied s z u time
+  pub ledger : (z : Streams)
+      → Solves s (inputs_of lines) bound z
+      → (u : ℕ)
+      → IsTrue (is_running_update s u)
+      → slice_index e.ledger u ≡ copied s e.in_place z u time
 
 abbrev pub HasCountedTo : engine.State → System → List Line → ℕ → ℕ → Type 0
 HasCountedTo e s lines bound time = HasRanTo e s lines bound time × HasCopiedTo e s lines bound time
@@ -57,7 +67,9 @@ pub record HasRunOut (old new : engine.State) (lines : List Line) (text before a
   pub written : HasWritten new lines (text ++ added)
   pub idle : IsIdle new
   pub counts : HasCountedTo new old.system lines old.bound old.bound
-  pub ends : (w : Streams) → Solves old.system (inputs_of lines) old.bound w → (text ++ added ≡ due_text old.system lines w old.bound old.limit) × EndsAtBound old.system lines w old.bound old.limit
+  pub ends : (w : Streams)
+      → Solves old.system (inputs_of lines) old.bound w
+      → (text ++ added ≡ due_text old.system lines w old.bound old.limit) × EndsAtBound old.system lines w old.bound old.limit
 
 -- the engine stopped before that
 pub record HasStopped (old new : engine.State) (lines : List Line) (text before after : List ℕ) (why : Stop) : Type 0 where

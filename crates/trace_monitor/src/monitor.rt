@@ -5,7 +5,7 @@ ghost use Rattle.lift_func.specs.declared.fault.FaultKind.{FaultKind};
 ghost use Rattle.trace_reader.specs.Reader.{AwaitsMore};
 ghost use Rattle.tsl_value.specs.declared.scalar.Scalar.{Scalar};
 ghost use Rattle.monitor_run.specs.Steps.{AreAsSet, CanTake};
-ghost use Rattle.monitor_run.specs.Copied.{is_running_update};
+ghost use Rattle.monitor_run.specs.Updates.{is_running_update};
 ghost use Rattle.trace_monitor.specs.Counted.{HasCounted};
 ghost use Rattle.trace_monitor.specs.Due.{IsDue};
 ghost use Rattle.trace_monitor.specs.Kept.{Kept, events_of};
@@ -65,8 +65,13 @@ impl<'c> Model for TraceMonitor<'c> {
 fn run(engine: &mut Monitor, out: &mut Bytes) -> Result<(), Stop>
     requires { (lines : List Line) × (text : List ℕ) × HasWritten engine.old lines text }
     ensures system { engine.new.system ≡ engine.old.system }
-    ensures runs { OnOk result ((lines : List Line) (text : List ℕ) → HasWritten engine.old lines text → HasRunOut engine.old engine.new lines text out.old out.new) }
-    ensures stops { IfErr result (λ stop. (lines : List Line) (text : List ℕ) → HasWritten engine.old lines text → HasStopped engine.old engine.new lines text out.old out.new stop) }
+    ensures set { engine.new.in_place ≡ engine.old.in_place }
+    ensures runs { OnOk result ((lines : List Line) (text : List ℕ)
+        → HasWritten engine.old lines text
+        → HasRunOut engine.old engine.new lines text out.old out.new) }
+    ensures stops { IfErr result (λ stop. (lines : List Line) (text : List ℕ)
+        → HasWritten engine.old lines text
+        → HasStopped engine.old engine.new lines text out.old out.new stop) }
 {
     loop {
         // What it answers is not needed: its contract says what every engine has.
@@ -84,8 +89,13 @@ fn run_below(engine: &mut Monitor, time: Time, out: &mut Bytes) -> Result<(), St
     requires written { (lines : List Line) × (text : List ℕ) × HasWritten engine.old lines text }
     requires later { engine.old.bound ≤ time }
     ensures system { engine.new.system ≡ engine.old.system }
-    ensures runs { OnOk result ((lines : List Line) (text : List ℕ) → HasWritten engine.old lines text → HasRunBelow engine.old engine.new lines time text out.old out.new) }
-    ensures stops { IfErr result (λ stop. (lines : List Line) (text : List ℕ) → HasWritten engine.old lines text → HasStoppedAt engine.old engine.new lines time text out.old out.new stop) }
+    ensures set { engine.new.in_place ≡ engine.old.in_place }
+    ensures runs { OnOk result ((lines : List Line) (text : List ℕ)
+        → HasWritten engine.old lines text
+        → HasRunBelow engine.old engine.new lines time text out.old out.new) }
+    ensures stops { IfErr result (λ stop. (lines : List Line) (text : List ℕ)
+        → HasWritten engine.old lines text
+        → HasStoppedAt engine.old engine.new lines time text out.old out.new stop) }
 {
     engine.close(Closed::Below(time))?;
     run(engine, out)
@@ -96,7 +106,10 @@ fn give(engine: &mut Monitor, line: TraceLine) -> Result<(), Stop>
     requires written { (lines : List Line) × (text : List ℕ) × HasWritten engine.old lines text }
     requires takes { (i : ℕ) (value : Scalar) → line.event ≡ Some (i, value) → CanTake engine.old line.time i value }
     ensures system { engine.new.system ≡ engine.old.system }
-    ensures given { OnOk result ((lines : List Line) (text : List ℕ) → HasWritten engine.old lines text → HasWritten engine.new (lines ++ events_of (line ∷ [])) text) }
+    ensures set { engine.new.in_place ≡ engine.old.in_place }
+    ensures given { OnOk result ((lines : List Line) (text : List ℕ)
+        → HasWritten engine.old lines text
+        → HasWritten engine.new (lines ++ events_of (line ∷ [])) text) }
     ensures as_set { OnOk result (AreAsSet engine.old engine.new) }
     ensures stop { IfErr result (λ stop. stop ≡ Stop.Memory) }
 {
@@ -113,10 +126,15 @@ fn give(engine: &mut Monitor, line: TraceLine) -> Result<(), Stop>
 fn take_line(engine: &mut Monitor, line: TraceLine, out: &mut Bytes) -> Result<(), Stop>
     requires { (lines : List Line) × (text : List ℕ) × HasLines engine.old lines text × MayFollow engine.old.system lines line }
     ensures system { engine.new.system ≡ engine.old.system }
-    ensures taken { OnOk result ((lines : List Line) (text : List ℕ) → HasLines engine.old lines text → MayFollow engine.old.system lines line →
-        HasTaken engine.old engine.new lines line text out.old out.new) }
-    ensures stops { IfErr result (λ stop. (lines : List Line) (text : List ℕ) → HasLines engine.old lines text → MayFollow engine.old.system lines line →
-        HasStoppedAt engine.old engine.new (events_of lines) line.time text out.old out.new stop) }
+    ensures set { engine.new.in_place ≡ engine.old.in_place }
+    ensures taken { OnOk result ((lines : List Line) (text : List ℕ)
+        → HasLines engine.old lines text
+        → MayFollow engine.old.system lines line
+        → HasTaken engine.old engine.new lines line text out.old out.new) }
+    ensures stops { IfErr result (λ stop. (lines : List Line) (text : List ℕ)
+        → HasLines engine.old lines text
+        → MayFollow engine.old.system lines line
+        → HasStoppedAt engine.old engine.new (events_of lines) line.time text out.old out.new stop) }
 {
     if let Err(stop) = run_below(engine, line.time, out) {
         return Err(stop);
@@ -145,7 +163,9 @@ fn take_lines(
 ) -> Result<Halt, Stop>
     requires { (x : Fed) × (lines : List Line) × (text : List ℕ) × HasRead reader.old engine.old last.old x lines text }
     ensures system { engine.new.system ≡ engine.old.system }
-    ensures read { IfOk result (λ by. (x : Fed) (lines : List Line) (text : List ℕ) → HasRead reader.old engine.old last.old x lines text
+    ensures set { engine.new.in_place ≡ engine.old.in_place }
+    ensures read { IfOk result (λ by. (x : Fed) (lines : List Line) (text : List ℕ)
+        → HasRead reader.old engine.old last.old x lines text
         → HasReadAll reader.new engine.old engine.new last.new x lines text out.old out.new by) }
     ensures awaits { result ≡ Ok Halt.More → AwaitsMore reader.new }
     ensures stops { IfErr result (λ stop. stop ≢ Stop.Memory → (x : Fed) (lines : List Line) (text : List ℕ) (until : ℕ)
@@ -175,6 +195,7 @@ fn run_to_halt(
     requires written { (lines : List Line) × (text : List ℕ) × HasWritten engine.old lines text }
     requires last { engine.old.bound ≡ last }
     ensures system { engine.new.system ≡ engine.old.system }
+    ensures set { engine.new.in_place ≡ engine.old.in_place }
     ensures runs { OnOk result ((lines : List Line) (text : List ℕ) → HasWritten engine.old lines text
         → HasRunOut (closed_to engine.old (bound_at by.now last until)) engine.new lines text out.old out.new) }
     ensures stops { IfErr result (λ stop. (lines : List Line) (text : List ℕ) → HasWritten engine.old lines text
@@ -197,7 +218,9 @@ fn run_all(
 ) -> Result<Halt, Stop>
     requires { (x : Fed) × (lines : List Line) × (text : List ℕ) × HasRead reader.old engine.old last.old x lines text }
     ensures system { engine.new.system ≡ engine.old.system }
-    ensures run { IfOk result (λ by. (x : Fed) (lines : List Line) (text : List ℕ) → HasRead reader.old engine.old last.old x lines text
+    ensures set { engine.new.in_place ≡ engine.old.in_place }
+    ensures run { IfOk result (λ by. (x : Fed) (lines : List Line) (text : List ℕ)
+        → HasRead reader.old engine.old last.old x lines text
         → HasRunAll reader.new engine.old engine.new last.new until x lines text out.old out.new by) }
     ensures awaits { result ≡ Ok Halt.More → AwaitsMore reader.new }
     ensures stops { IfErr result (λ stop. stop ≢ Stop.Memory → (x : Fed) (lines : List Line) (text : List ℕ)
@@ -229,7 +252,9 @@ fn ending_of(code: &Code, stop: Stop) -> Result<RunEnding, NoMemory>
 
 /// The answer of a monitor that takes no further line for this reason, or whose engine stops.
 fn conclude(code: &Code, halted: Result<Halt, Stop>) -> Result<Option<RunEnding>, NoMemory>
-    requires { (time : ℕ) (i : ℕ) (kind : FaultKind) → halted ≡ Err (Stop.Fault time i kind) → i < length code.now.system.equations }
+    requires { (time : ℕ) (i : ℕ) (kind : FaultKind)
+        → halted ≡ Err (Stop.Fault time i kind)
+        → i < length code.now.system.equations }
     ensures { IfOk result (EndsSo code.now.system halted) }
 {
     match halted {
@@ -241,7 +266,7 @@ fn conclude(code: &Code, halted: Result<Halt, Stop>) -> Result<Option<RunEnding>
 }
 
 impl<'c> TraceMonitor<'c> {
-    /// A monitor of a trace of which nothing was taken. No update of the code happens in place.
+    /// A monitor of a trace of which nothing was taken.
     pub fn new(
         alloc: Global,
         code: &'c Code,
@@ -251,9 +276,9 @@ impl<'c> TraceMonitor<'c> {
         requires few { options.bytes ≤ 2 ^ 40 }
         requires instants { 1 ≤ options.instants }
         requires until { options.until < 2 ^ 63 }
-        requires copies { code.now.in_place ≡ [] }
         ensures kept { IfOk result (λ m. Kept m []) }
         ensures system { IfOk result (λ m. m.system ≡ code.now.system) }
+        ensures in_place { IfOk result (λ m. m.engine.in_place ≡ code.now.in_place) }
         ensures options { IfOk result (λ m. m.options ≡ options) }
     {
         let reader = TraceReader::new(alloc, code.flat(), options.strict, options.bytes)?;
@@ -272,9 +297,10 @@ impl<'c> TraceMonitor<'c> {
     fn feed(&mut self, piece: &[u8]) -> Result<(), NoMemory>
         requires kept { (fed : List ℕ) × Kept self.old fed }
         requires short { length piece.now ≤ most_taken }
-        ensures fed { OnOk result ((fed : List ℕ) (lines : List Line) →
-            Reads self.old.reader self.old.system self.old.options.strict self.old.options.bytes fed lines false →
-            Reads self.new.reader self.old.system self.old.options.strict self.old.options.bytes (fed ++ piece.now) lines (is_nothing piece.now)) }
+        ensures fed { OnOk result ((fed : List ℕ) (lines : List Line)
+            → Reads self.old.reader self.old.system self.old.options.strict self.old.options.bytes fed lines false
+            → Reads self.new.reader self.old.system self.old.options.strict self.old.options.bytes
+            (fed ++ piece.now) lines (is_nothing piece.now)) }
         ensures rest { self.new ≡ record self.old { reader = self.new.reader } }
     {
         if piece.is_empty() {
@@ -293,6 +319,7 @@ impl<'c> TraceMonitor<'c> {
         ensures system { self.new.system ≡ self.old.system }
         ensures options { self.new.options ≡ self.old.options }
         ensures engine { self.new.engine.system ≡ self.old.engine.system }
+        ensures set { self.new.engine.in_place ≡ self.old.engine.in_place }
         ensures kept { (fed : List ℕ) → Kept self.old fed → result ≡ Ok None → Kept self.new (fed ++ piece.now) }
         ensures text { OnOk result ((fed text : List ℕ) → Kept self.old fed → IsDue self.old.system self.old.options fed false text
             → IsDue self.old.system self.old.options (fed ++ piece.now) (is_nothing piece.now) (text ++ out.new)) }

@@ -8,5 +8,5 @@ pub eval-requires : goal.eval-requires
 eval-requires c =
     let cells = c.args.store.now.cells in
     let registers = c.args.registers.now in
-    subst (λ xs. IsEvaluable cells registers xs c.args.body.now) (sym (c.deref.ensures.value ∙ c.in_ok-numbers.ensures ∙ c.ids-2.ensures))
+    subst (λ xs. IsEvaluable cells registers xs c.args.body.now) (sym (c.deref.ensures ∙ c.in_ok-numbers.ensures ∙ c.ids-2.ensures))
     (c.requires.typed (sym (c.do_count.ensures cells ∙ ap (λ xs. counts c.args.strict (map (value_at cells registers) xs)) c.ids.ensures) ∙ c.if-not-do_count.false))

@@ -25,7 +25,7 @@ pub argument-requires-clause-known : goal.argument-requires-clause-known
 argument-requires-clause-known c = args_there c.args.flat.now c.delay-item.result c.equation-e.result.now _ c.requires.whole c.equation-e.ensures c.requires.one_each
 
 pub loop-delay-preserved : goal.loop-delay-preserved
-loop-delay-preserved c = λ cells are_held.
+loop-delay-preserved c = λ types cells are_held.
     let s = c.args.flat.now in
     let d = c.delay-item.result in
     let k = c.loop-delay.delay-index in
@@ -35,13 +35,13 @@ loop-delay-preserved c = λ cells are_held.
     let e = c.equation-e.result.now in
     let shape = timer_shape s c.requires.whole d e timer c.equation-e.ensures in
     let two = delay_two e.args shape in
-    let live : HoldsLive cells c.argument.result.now = subst (HoldsLive cells) (sym c.argument.ensures) (args_live s c.requires.whole cells c.args.registers.now are_held d e (timer_runs s d timer) c.equation-e.ensures 0 0 (omega arith)) in
+    let live : HoldsLive cells c.argument.result.now = subst (HoldsLive cells) (sym c.argument.ensures) (args_live s c.requires.whole types cells c.args.registers.now are_held d e (timer_runs s d timer) c.equation-e.ensures 0 0 (omega arith)) in
     refused-more s cells c.args.registers.now delays k d e lt (c.delay-item.is ∙ get_or_default delays k d 0 lt) c.equation-e.ensures shape c.loop-delay.root c.refusal.result c.least_root-root.result
-    (c.loop-delay.invariant cells are_held)
+    (c.loop-delay.invariant types cells are_held)
     (c.refusal.ensures cells live ∙ ap (λ r. option_map (λ kind. record { equation = d; kind = kind }) (refused (held cells r))) c.argument.ensures)
     c.least_root-root.ensures.least
 
 pub returns : goal.returns
-returns c = λ cells are_held.
+returns c = λ types cells are_held.
     subst (λ xs. IsLeastRoot (is_in xs) (λ i. refusal_of (equation c.args.flat.now i) cells c.args.registers.now) c.loop-delay.root) (take_whole c.args.delays.now c.loop-delay.delay-index c.loop-delay-test.false)
-    (c.loop-delay.invariant cells are_held)
+    (c.loop-delay.invariant types cells are_held)

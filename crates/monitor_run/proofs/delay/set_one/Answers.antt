@@ -5,7 +5,7 @@ use Rattle.std.specs.FinMap as finite_map
 use Rattle.lift_func.specs.Cells.{HoldsLive, held}
 use Rattle.lift_func.specs.declared.register.Register.TheVariants as register
 use Rattle.flat_core.specs.Pending.{reached}
-use Rattle.monitor_run.specs.Due.{in_time}
+use Rattle.register_machine.specs.Stands.{in_time}
 use Rattle.monitor_run.specs.Registers.{register_at}
 use Rattle.monitor_run.proofs.BeginLemmas.{get_removed-other, get_removed-same, get_set-other, get_set-same}
 use Rattle.monitor_run.proofs.DelayLemmas.{delay_two, set_case}

@@ -1,8 +1,12 @@
-use Rattle.std.proofs.Common.{◌<◌, length, sym, subst, ◌∙◌, arith}
+use Rattle.std.proofs.Common.{◌≡◌, ◌<◌, length, sym, subst, ◌∙◌, arith}
 use Rattle.std.proofs.lemmas.List.{get_or_default}
-use Rattle.std.specs.Prelude.{IsTrue}
+use Rattle.std.specs.Prelude.{IsTrue, if◌then◌else◌}
+use Rattle.std.specs.FinMap as finite_map
+use Rattle.flat_core.specs.Members.{is_in}
+use Rattle.flat_core.specs.System.{equation}
 use Rattle.register_code.specs.Code.{is_timer}
-use Rattle.monitor_run.proofs.DelayLemmas.{set-more, timer_runs, timer_shape, timer_there}
+use Rattle.monitor_run.specs.Instant.{set_at}
+use Rattle.monitor_run.proofs.DelayLemmas.{set-more, take_whole, timer_runs, timer_shape, timer_there}
 use Rattle.monitor_run.proofs.PlanLemmas.{args_there}
 use Rattle.monitor_run.proofs.TypedLemmas.{args_live}
 use Rattle.monitor_run.proofs.delay.set_timers.Goals as goal
@@ -38,7 +42,7 @@ set_one-requires-clause-timer c =
 pub loop-delay-preserved : goal.loop-delay-preserved
 loop-delay-preserved c = record {
   capacity = c.set_one.ensures.capacity ∙ c.loop-delay.invariant.capacity;
-  set = λ cells are_held.
+  set = λ types cells are_held.
       let s = c.args.flat.now in
       let d = c.delay-item.result in
       let k = c.loop-delay.delay-index in
@@ -47,7 +51,14 @@ loop-delay-preserved c = record {
       let timer : IsTrue (is_timer s d) = subst (λ n. IsTrue (is_timer s n)) (sym c.delay-item.is) (c.requires.running k d lt) in
       let e = c.equation.result.now in
       set-more s cells c.args.registers.now c.args.time delays k d lt (c.delay-item.is ∙ get_or_default delays k d 0 lt) c.args.timers.now.times c.loop-delay.timers.times c.set_one.new.timers.times e c.equation.ensures
-      (c.loop-delay.invariant.set cells are_held)
-      (c.set_one.ensures.set cells (args_live s c.requires.whole cells c.args.registers.now are_held d e (timer_runs s d timer) c.equation.ensures))
+      (c.loop-delay.invariant.set types cells are_held)
+      (c.set_one.ensures.set cells (args_live s c.requires.whole types cells c.args.registers.now are_held d e (timer_runs s d timer) c.equation.ensures))
       c.set_one.ensures.others;
 }
+
+pub returns-clause-set : goal.returns-clause-set
+returns-clause-set c = λ types cells are_held i.
+    let before = finite_map.get c.args.timers.now.times i in
+    subst (λ xs. finite_map.get c.loop-delay.timers.times i ≡ (if is_in xs i then set_at (equation c.args.flat.now i) cells c.args.registers.now c.args.time i before else before))
+    (take_whole c.args.delays.now c.loop-delay.delay-index c.loop-delay-test.false)
+    (c.loop-delay.invariant.set types cells are_held i)

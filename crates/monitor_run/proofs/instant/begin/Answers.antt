@@ -4,6 +4,7 @@ use Rattle.std.proofs.lemmas.Option.{slice_get_within}
 use Rattle.std.specs.FinMap as finite_map
 use Rattle.std.specs.Vec.{with_items}
 use Rattle.flat_core.specs.Line.{inputs_of}
+use Rattle.alias_rules.proofs.Ordered.{needed_order}
 use Rattle.monitor_run.specs.Here.{is_marked}
 use Rattle.monitor_run.specs.Instant.{expired_at, with_event}
 use Rattle.monitor_run.specs.Registers.{register_at}
@@ -13,7 +14,7 @@ use Rattle.monitor_run.proofs.instant.begin.Goals as goal
 pub returns-clause-begins : goal.returns-clause-begins
 returns-clause-begins c =
     let s = c.args.flat.now in
-    let order = c.args.order.now in
+    let order = c.args.plan.now.order in
     let t = c.args.time in
     let v = c.args.machine.now.registers in
     let f = c.args.machine.now.faulted in
@@ -41,15 +42,16 @@ returns-clause-begins c =
           let there = slice_get_within s.equations i q.0 q.1 in
           ap (λ rs. register_at rs i) w3 ∙ c.give.ensures.registers i
           ∙ ap (with_event (inputs_of c.args.given.now.items i t)) (ap (λ rs. register_at rs i) e4 ∙ c.expire.ensures.registers i
-          ∙ ap (expired_at t (finite_map.get c.args.machine.now.timers.times i)) (ap (λ rs. register_at rs i) e3 ∙ c.clear.ensures.registers i (in_order s order c.requires.ordered i run) (omega (arith, ap length e1))));
+          ∙ ap (expired_at t (finite_map.get c.args.machine.now.timers.times i)) (ap (λ rs. register_at rs i) e3 ∙ c.clear.ensures.registers i (in_order s order (needed_order s c.args.plan.now.in_place order c.requires.fine.ordered) i run) (omega (arith, ap length e1))));
       faulted = λ i run.
           let q = c.requires.whole.proper.runs_all i run in
           let there = slice_get_within s.equations i q.0 q.1 in
-          ap (λ ms. is_marked ms i) fw ∙ c.clear.ensures.faulted i (in_order s order c.requires.ordered i run) (omega (arith, ap length e1));
+          ap (λ ms. is_marked ms i) fw ∙ c.clear.ensures.faulted i (in_order s order (needed_order s c.args.plan.now.in_place order c.requires.fine.ordered) i run) (omega (arith, ap length e1));
       timers = c.expire.ensures.timers;
       capacity = c.expire.ensures.capacity;
       last = refl;
       store = refl;
+      texts = refl;
       registers_each = ap length w3 ∙ omega arith;
       faulted_each = ap length fw ∙ omega arith;
     }

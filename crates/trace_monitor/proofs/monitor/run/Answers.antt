@@ -24,6 +24,7 @@ loop-stop-preserved c = (
       let ran = subst (λ (r : Result Step Stop). HasStepped c.loop-stop.engine c.step.new.self lines c.loop-stop.out c.step.new.out r) is (c.step.ensures.steps going lines on.written.stands) in
       ran_on c.args.engine.now c.loop-stop.engine c.step.new.self lines text c.args.out.now c.loop-stop.out c.step.new.out (c.instants.ensures.ready going) on ran,
   c.step.ensures.as_set.system ∙ c.loop-stop.invariant.1,
+  c.step.ensures.as_set.in_place ∙ c.loop-stop.invariant.2,
 )
 
 pub returns-in-Ok-Idle-clause-runs : goal.returns-in-Ok-Idle-clause-runs
@@ -40,7 +41,7 @@ returns-in-Err-clause-stops c = λ lines text written.
     let going = on.written.stands.going in
     let is : c.step.result ≡ Err c.in-Err.stop = search rules in
     let stopped = subst (λ (r : Result Step Stop). HasStepped c.loop-stop.engine c.step.new.self lines c.loop-stop.out c.step.new.out r) is (c.step.ensures.steps going lines on.written.stands) in
-    stopped_so c.args.engine.now c.loop-stop.engine c.step.new.self lines text c.args.out.now c.loop-stop.out c.step.new.out (c.instants.ensures.ready going) on c.in-Err.stop stopped
+    stopped_so c.args.engine.now c.loop-stop.engine c.step.new.self lines text c.args.out.now c.loop-stop.out c.step.new.out (c.instants.ensures.ready going) on c.in-Err.stop c.step.ensures.as_set stopped
 
 pub loop-stop-init : goal.loop-stop-init
-loop-stop-init c = (λ lines text written. not_begun c.args.engine.now lines text c.args.out.now written, refl)
+loop-stop-init c = (λ lines text written. not_begun c.args.engine.now lines text c.args.out.now written, refl, refl)

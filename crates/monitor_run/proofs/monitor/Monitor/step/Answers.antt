@@ -48,9 +48,9 @@ invariant_of-self-in-Ok-None c = (
       let t = c.in-Some-next_below.time in
       let found = subst (λ gs. IsNextTime inside.next inside.bound gs old.timers.times (Some t)) c.deref.ensures.value c.in-Some-next_below.ensures in
       let after = c.run_instant.new.machine in
-      let ran = subst (λ r. IsInstant inside.code.now.system t inside.given.items old after c.args.out.now c.run_instant.new.out r) c.in-Ok-None.field-0-is c.in-Ok-None.ensures.ran in
-      let new : State = record { system = inside.code.now.system; order = inside.code.now.order; limit = inside.limit; ran = inside.ran + 1; next = c.get.result + 1; bound = inside.bound; given = c.run_instant.new.given.items; cells = after.store.cells; ledger = after.store.ledger; last = after.last.items; timers = after.timers.times; stop = inside.stop } in
-      ready_on _ ready t found.1 found.2 found.0 new old after c.args.out.now c.run_instant.new.out (record { cells = refl; last = refl; timers = refl; ledger = refl }) (record { system = refl; order = refl; limit = refl; bound = refl }) (omega (arith, c.get.ensures.value)) refl (below_limit inside.ran inside.limit ready.room c.if-self.false) (c.run_instant.ensures.given ready.time ready.given_at) ran,
+      let ran = subst (λ r. IsInstant inside.code.now.system (record { in_place = inside.code.now.in_place; order = inside.code.now.order }) t inside.given.items old after c.args.out.now c.run_instant.new.out r) c.in-Ok-None.field-0-is c.in-Ok-None.ensures.ran in
+      let new : State = record { system = inside.code.now.system; in_place = inside.code.now.in_place; order = inside.code.now.order; limit = inside.limit; ran = inside.ran + 1; next = c.get.result + 1; bound = inside.bound; given = c.run_instant.new.given.items; cells = after.store.cells; ledger = after.store.ledger; last = after.last.items; timers = after.timers.times; stop = inside.stop } in
+      ready_on _ ready t found.1 found.2 found.0 new old after c.args.out.now c.run_instant.new.out (record { cells = refl; last = refl; timers = refl; ledger = refl }) (record { system = refl; in_place = refl; order = refl; limit = refl; bound = refl }) (omega (arith, c.get.ensures.value)) refl (below_limit inside.ran inside.limit ready.room c.if-self.false) (c.run_instant.ensures.given ready.time ready.given_at) ran,
 )
 
 pub returns-in-Ok-None-clause-steps : goal.returns-in-Ok-None-clause-steps
@@ -62,9 +62,9 @@ returns-in-Ok-None-clause-steps c = λ going lines stands.
     let t = c.in-Some-next_below.time in
     let found = subst (λ gs. IsNextTime inside.next inside.bound gs old.timers.times (Some t)) c.deref.ensures.value c.in-Some-next_below.ensures in
     let after = c.run_instant.new.machine in
-    let ran = subst (λ r. IsInstant inside.code.now.system t inside.given.items old after c.args.out.now c.run_instant.new.out r) c.in-Ok-None.field-0-is c.in-Ok-None.ensures.ran in
-    let new : State = record { system = inside.code.now.system; order = inside.code.now.order; limit = inside.limit; ran = inside.ran + 1; next = c.get.result + 1; bound = inside.bound; given = c.run_instant.new.given.items; cells = after.store.cells; ledger = after.store.ledger; last = after.last.items; timers = after.timers.times; stop = inside.stop } in
-    subst (λ (m : State). HasRun m new lines c.args.out.now c.run_instant.new.out) c.self.view_is (run_is _ ready t found.1 found.2 found.0 lines stands_in new old after c.args.out.now c.run_instant.new.out (record { cells = refl; last = refl; timers = refl; ledger = refl }) (record { cells = refl; last = refl; timers = refl; ledger = refl }) (record { system = refl; order = refl; limit = refl; bound = refl }) (omega (arith, c.get.ensures.value)) refl (ap (λ (m : State). m.stop) c.self.view_is ∙ going) (c.run_instant.ensures.given ready.time ready.given_at) ran)
+    let ran = subst (λ r. IsInstant inside.code.now.system (record { in_place = inside.code.now.in_place; order = inside.code.now.order }) t inside.given.items old after c.args.out.now c.run_instant.new.out r) c.in-Ok-None.field-0-is c.in-Ok-None.ensures.ran in
+    let new : State = record { system = inside.code.now.system; in_place = inside.code.now.in_place; order = inside.code.now.order; limit = inside.limit; ran = inside.ran + 1; next = c.get.result + 1; bound = inside.bound; given = c.run_instant.new.given.items; cells = after.store.cells; ledger = after.store.ledger; last = after.last.items; timers = after.timers.times; stop = inside.stop } in
+    subst (λ (m : State). HasRun m new lines c.args.out.now c.run_instant.new.out) c.self.view_is (run_is _ ready t found.1 found.2 found.0 lines stands_in new old after c.args.out.now c.run_instant.new.out (record { cells = refl; last = refl; timers = refl; ledger = refl }) (record { cells = refl; last = refl; timers = refl; ledger = refl }) (record { system = refl; in_place = refl; order = refl; limit = refl; bound = refl }) (omega (arith, c.get.ensures.value)) refl (ap (λ (m : State). m.stop) c.self.view_is ∙ going) (c.run_instant.ensures.given ready.time ready.given_at) ran)
 
 pub returns-in-Ok-Some-clause-steps : goal.returns-in-Ok-Some-clause-steps
 returns-in-Ok-Some-clause-steps c = λ going lines stands.
@@ -76,8 +76,8 @@ returns-in-Ok-Some-clause-steps c = λ going lines stands.
     let found = subst (λ gs. IsNextTime inside.next inside.bound gs old.timers.times (Some t)) c.deref.ensures.value c.in-Some-next_below.ensures in
     let after = c.run_instant.new.machine in
     let root = c.in-Ok-Some.field-0-0 in
-    let faulted = subst (λ r. IsInstant inside.code.now.system t inside.given.items old after c.args.out.now c.run_instant.new.out r) c.in-Ok-Some.field-0-is c.in-Ok-Some.ensures.ran in
-    let new : State = record { system = inside.code.now.system; order = inside.code.now.order; limit = inside.limit; ran = inside.ran; next = inside.next; bound = inside.bound; given = c.run_instant.new.given.items; cells = after.store.cells; ledger = after.store.ledger; last = after.last.items; timers = after.timers.times; stop = c.stop_with-in-Ok-Some.new.slot } in
+    let faulted = subst (λ r. IsInstant inside.code.now.system (record { in_place = inside.code.now.in_place; order = inside.code.now.order }) t inside.given.items old after c.args.out.now c.run_instant.new.out r) c.in-Ok-Some.field-0-is c.in-Ok-Some.ensures.ran in
+    let new : State = record { system = inside.code.now.system; in_place = inside.code.now.in_place; order = inside.code.now.order; limit = inside.limit; ran = inside.ran; next = inside.next; bound = inside.bound; given = c.run_instant.new.given.items; cells = after.store.cells; ledger = after.store.ledger; last = after.last.items; timers = after.timers.times; stop = c.stop_with-in-Ok-Some.new.slot } in
     let named = fault_is _ ready t found.1 found.2 found.0 lines stands_in new old after root c.args.out.now c.run_instant.new.out (record { cells = refl; last = refl; timers = refl; ledger = refl }) refl (below_limit inside.ran inside.limit ready.room c.if-self.false) faulted in
     rw c.stop_with-in-Ok-Some.ensures.same
     (faulted.unwritten, subst (λ (m : State). HasFaulted m new lines t root.equation root.kind) c.self.view_is named)

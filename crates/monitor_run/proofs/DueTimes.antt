@@ -1,11 +1,12 @@
 -- The time at which a running delay is due, by what is pending.
-use Rattle.std.specs.Prelude.{ℕ, ◌^◌, List, [], ◌∷◌, Option, Some, None, nat_lt, if◌then◌else◌}
+use Rattle.std.specs.Prelude.{ℕ, List, [], ◌∷◌, Option, Some, None, if◌then◌else◌}
 use Rattle.flat_core.specs.declared.equation.Op.{Op}
 use Rattle.flat_core.specs.declared.equation.Op.TheVariants as op
 use Rattle.flat_core.specs.declared.equation.Equation.{Equation}
 use Rattle.flat_core.specs.Case.{Streams}
 use Rattle.flat_core.specs.Pending.{pending}
 use Rattle.flat_core.specs.System.{System, equation, runs}
+use Rattle.register_machine.specs.Stands.{in_time}
 
 -- what is pending before n, of a delay
 abbrev pub due_of : Streams → ℕ → Op → List ℕ → ℕ → Option ℕ
@@ -15,11 +16,6 @@ due_of z i o args n = None
 abbrev pub due_at : Option Equation → Streams → ℕ → ℕ → Option ℕ
 due_at None z i n = None
 due_at (Some e) z i n = due_of z i e.op e.args n
-
--- a time that comes: there is none after the last
-abbrev pub in_time : Option ℕ → Option ℕ
-in_time None = None
-in_time (Some t) = if nat_lt t (2 ^ 63) then Some t else None
 
 -- when equation i is due, if it is a running delay
 abbrev pub due_time : System → Streams → ℕ → ℕ → Option ℕ
