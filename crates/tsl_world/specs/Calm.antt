@@ -1,6 +1,7 @@
 -- What a `CalmWorld` means, and what it was made with.
 use Rattle.std.specs.Prelude.{ℕ, Bool, List}
 use Rattle.tsl_world.specs.Desk.{standing_in, left_in}
+use Rattle.tsl_world.specs.Sizes.{size_at}
 use Rattle.tsl_world.specs.Standing.{Standing}
 use Rattle.tsl_world.specs.declared.outside.Did.{Did}
 use Rattle.tsl_world.specs.declared.outside.Slot.{Slot}
@@ -25,4 +26,4 @@ files_of w = w.desk.files
 
 -- the most that one call takes or gives
 abbrev pub piece_of : CalmWorld → ℕ
-piece_of w = w.desk.piece
+piece_of w = size_at w.desk.pieces 0

@@ -14,7 +14,7 @@ pub record Kept : Type 0 where
   pub writes_state : Bool
   pub writes_code : Bool
   pub files : List NamedFile
-  pub piece : ℕ
+  pub pieces : List ℕ
   pub out : List ℕ
   pub err : List ℕ
 

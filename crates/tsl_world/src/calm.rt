@@ -2,6 +2,7 @@
 use crate::desk::Desk;
 use crate::files::Files;
 use crate::outside::{Channel, Failed, Slot, World};
+use crate::sizes::Sizes;
 use std::alloc::Global;
 use tsl_value::memory::NoMemory;
 
@@ -28,7 +29,7 @@ impl CalmWorld {
         ensures made { IfOk result (λ w. (files_of w ≡ files) × (piece_of w ≡ piece)) }
     {
         Ok(CalmWorld {
-            desk: Desk::new(alloc, files, piece),
+            desk: Desk::new(alloc, files, Sizes::one(alloc, piece)?),
         })
     }
 
@@ -58,7 +59,7 @@ impl World for CalmWorld {
     ghost use Rattle.tsl_world.specs.Calm.{journal_of, told_of, left_of, standing_of, files_of, piece_of};
     ghost use Rattle.tsl_world.specs.Files.{bytes_named};
     ghost use Rattle.tsl_world.specs.Standing.{is_open, is_writable, with_slot, with_channel};
-    ghost use Rattle.tsl_world.specs.World.{HasCause, WhereTold, SameElsewhere};
+    ghost use Rattle.tsl_world.specs.World.{HasCause, IsHeard, WhereTold, SameElsewhere};
     ghost use Rattle.tsl_world.specs.declared.outside.Did.{Did};
     ghost use Rattle.std.specs.Prelude.{◌≡◌, ◌↔◌, ◌<◌, ◌≤◌, ◌++◌, ◌∷◌, [], true, false, IsTrue, if◌then◌else◌, is_ok, length, take, IsOk, OnErr, IfOk, MatchResult};
 
@@ -71,6 +72,8 @@ impl World for CalmWorld {
     ghost standing = { standing_of };
 
     ghost faults = { λ _. 0 };
+
+    ghost unheard = { λ _. 0 };
 
     // The clauses of the trait, and behind them that no call fails, and what an opening gives.
 
@@ -127,7 +130,7 @@ impl World for CalmWorld {
         ensures piece { IfOk result (λ n. n ≤ piece_of self.old) }
         ensures made { (files_of self.new ≡ files_of self.old) × (piece_of self.new ≡ piece_of self.old) }
     {
-        Ok(self.desk.read(slot, buf))
+        Ok(self.desk.read(0, slot, buf))
     }
 
     fn write(&mut self, channel: Channel, bytes: &[u8]) -> Result<usize, Failed>
@@ -136,6 +139,7 @@ impl World for CalmWorld {
         ensures count { IfOk result (λ n. (0 < n) × (n ≤ length bytes.now)) }
         ensures standing { standing_of self.new ≡ standing_of self.old }
         ensures cause { HasCause 0 0 result }
+        ensures heard { IsHeard channel 0 0 result }
         ensures told { IsTrue (told_of self.new) → IsTrue (told_of self.old) }
         ensures journal { WhereTold (told_of self.new) (MatchResult result
             (λ n. journal_of self.new ≡ journal_of self.old ++ Did.Gave channel (take n bytes.now) ∷ [])
@@ -146,6 +150,6 @@ impl World for CalmWorld {
         ensures piece { IfOk result (λ n. n ≤ piece_of self.old) }
         ensures made { (files_of self.new ≡ files_of self.old) × (piece_of self.new ≡ piece_of self.old) }
     {
-        Ok(self.desk.write(channel, bytes))
+        Ok(self.desk.write(0, channel, bytes))
     }
 }

@@ -1,11 +1,13 @@
 // What a world in memory keeps: its files, what is open, its journal, and what was written.
 ghost use Rattle.std.specs.Prelude.{◌≡◌, ◌<◌, ◌≤◌, ◌↔◌, ◌+◌, ◌^◌, true, false, IsTrue, List, [], ◌∷◌, ◌++◌, length, take, MatchResult, IfOk};
+ghost use Rattle.tsl_world.specs.Sizes.{AreSizes, size_at};
 ghost use Rattle.tsl_world.specs.Sources.{rest_of};
 ghost use Rattle.tsl_world.specs.World.{WhereTold, SameElsewhere};
 ghost use Rattle.tsl_world.specs.Journal.{given};
 
 use crate::files::Files;
 use crate::outside::{Channel, Did, Slot};
+use crate::sizes::Sizes;
 use std::alloc::Global;
 use std::marker::Model;
 use tsl_value::bytes::Bytes;
@@ -152,7 +154,7 @@ fn not_created(alloc: Global, channel: Channel, name: &str) -> Result<Did, NoMem
 pub struct Desk {
     alloc: Global,
     files: Files,
-    piece: usize,
+    pieces: Sizes,
     is_told: bool,
     journal: Vec<Did>,
     sources: Sources,
@@ -166,13 +168,14 @@ impl Model for Desk {
     ghost use Rattle.std.specs.Prelude.{◌≡◌, ◌<◌, IsTrue};
     ghost use Rattle.tsl_world.specs.Journal.{given};
     ghost use Rattle.tsl_world.specs.Desk.{Kept};
+    ghost use Rattle.tsl_world.specs.Sizes.{AreSizes};
     ghost use Rattle.tsl_world.specs.declared.outside.Channel.TheVariants.{Out, Err};
 
     ghost Value = { Kept };
 
-    ghost view = { λ d. record { told = d.is_told; journal = d.journal.items; sources = d.sources; writes_state = d.writes_state; writes_code = d.writes_code; files = d.files; piece = d.piece; out = d.out; err = d.err } };
+    ghost view = { λ d. record { told = d.is_told; journal = d.journal.items; sources = d.sources; writes_state = d.writes_state; writes_code = d.writes_code; files = d.files; pieces = d.pieces; out = d.out; err = d.err } };
 
-    ghost invariant = { λ d. (0 < d.piece) × (IsTrue d.is_told → d.out ≡ given Out d.journal.items) × (IsTrue d.is_told → d.err ≡ given Err d.journal.items) };
+    ghost invariant = { λ d. AreSizes d.pieces × (IsTrue d.is_told → d.out ≡ given Out d.journal.items) × (IsTrue d.is_told → d.err ≡ given Err d.journal.items) };
 }
 
 impl Desk {
@@ -181,12 +184,12 @@ impl Desk {
     ghost use Rattle.tsl_world.specs.Standing.{at_first, is_open, is_writable, with_slot, with_channel};
 
     /// These files, of which nothing is open.
-    pub fn new(alloc: Global, files: Files, piece: usize) -> Desk
-        requires { 0 < piece }
+    pub fn new(alloc: Global, files: Files, pieces: Sizes) -> Desk
+        requires { AreSizes pieces }
         ensures told { result.told ≡ true }
         ensures journal { result.journal ≡ [] }
         ensures standing { standing_in result ≡ at_first }
-        ensures made { (result.files ≡ files) × (result.piece ≡ piece) }
+        ensures made { (result.files ≡ files) × (result.pieces ≡ pieces) }
     {
         let shut = Source {
             is_open: false,
@@ -196,7 +199,7 @@ impl Desk {
         Desk {
             alloc,
             files,
-            piece,
+            pieces,
             is_told: true,
             journal: Vec::new(alloc),
             sources: Sources {
@@ -235,42 +238,42 @@ impl Desk {
         self.err.as_slice()
     }
 
-    /// Reads on in a slot.
+    /// Reads on in a slot, as the call of this number.
     #[tactic(auto, using(crate::proofs::SourceLemmas::at_with, crate::proofs::SourceLemmas::at_with_other))]
-    pub fn read(&mut self, slot: Slot, buf: &mut [u8]) -> usize
+    pub fn read(&mut self, call: u64, slot: Slot, buf: &mut [u8]) -> usize
         requires room { 0 < length buf.old }
         ensures count { result ≤ length buf.new }
-        ensures piece { result ≤ self.old.piece }
+        ensures piece { result ≤ size_at self.old.pieces call }
         ensures standing { standing_in self.new ≡ standing_in self.old }
         ensures told { IsTrue self.new.told → IsTrue self.old.told }
         ensures journal { WhereTold self.new.told (self.new.journal ≡ self.old.journal ++ Did.Took slot (take result buf.new) ∷ []) }
         ensures bytes { left_in self.old slot ≡ take result buf.new ++ left_in self.new slot }
         ensures end { result ≡ 0 ↔ (left_in self.old slot ≡ []) }
         ensures left { SameElsewhere slot (left_in self.old) (left_in self.new) }
-        ensures made { (self.new.files ≡ self.old.files) × (self.new.piece ≡ self.old.piece) }
+        ensures made { (self.new.files ≡ self.old.files) × (self.new.pieces ≡ self.old.pieces) }
     {
         let mut source = self.sources.at(slot);
-        let count = read_on(&self.files, &mut source, self.piece, buf);
+        let count = read_on(&self.files, &mut source, self.pieces.at(call), buf);
         self.sources.set(slot, source);
         let did = took(self.alloc, slot, &buf[..count]);
         note(&mut self.journal, &mut self.is_told, did);
         count
     }
 
-    /// Takes as many bytes as a piece has. What goes to `Out` and to `Err` is kept.
-    pub fn write(&mut self, channel: Channel, bytes: &[u8]) -> usize
+    /// Takes as many bytes as a piece has, as the call of this number. What goes to `Out` and to `Err` is kept.
+    pub fn write(&mut self, call: u64, channel: Channel, bytes: &[u8]) -> usize
         requires { 0 < length bytes.now }
         ensures some { 0 < result }
         ensures count { result ≤ length bytes.now }
-        ensures piece { result ≤ self.old.piece }
+        ensures piece { result ≤ size_at self.old.pieces call }
         ensures standing { standing_in self.new ≡ standing_in self.old }
         ensures told { IsTrue self.new.told → IsTrue self.old.told }
         ensures journal { WhereTold self.new.told (self.new.journal ≡ self.old.journal ++ Did.Gave channel (take result bytes.now) ∷ []) }
         ensures sources { self.new.sources ≡ self.old.sources }
         ensures files { self.new.files ≡ self.old.files }
-        ensures made { self.new.piece ≡ self.old.piece }
+        ensures made { self.new.pieces ≡ self.old.pieces }
     {
-        let count = bytes.len().min(self.piece);
+        let count = bytes.len().min(self.pieces.at(call));
         let piece = &bytes[..count];
         let kept = match channel {
             Channel::Out => self.out.append(piece).is_ok(),
@@ -303,7 +306,7 @@ impl Desk {
         ensures opened { left_in self.new slot ≡ bytes_named self.old.files name.now }
         ensures left { SameElsewhere slot (left_in self.old) (left_in self.new) }
         ensures files { self.new.files ≡ self.old.files }
-        ensures made { self.new.piece ≡ self.old.piece }
+        ensures made { self.new.pieces ≡ self.old.pieces }
     {
         let source = Source {
             is_open: true,
@@ -322,7 +325,7 @@ impl Desk {
         ensures journal { WhereTold self.new.told (self.new.journal ≡ self.old.journal ++ Did.NotOpened slot name.now ∷ []) }
         ensures sources { self.new.sources ≡ self.old.sources }
         ensures files { self.new.files ≡ self.old.files }
-        ensures made { self.new.piece ≡ self.old.piece }
+        ensures made { self.new.pieces ≡ self.old.pieces }
     {
         let did = not_opened(self.alloc, slot, name);
         note(&mut self.journal, &mut self.is_told, did);
@@ -336,7 +339,7 @@ impl Desk {
         ensures journal { WhereTold self.new.told (self.new.journal ≡ self.old.journal ++ Did.Created channel name.now ∷ []) }
         ensures sources { self.new.sources ≡ self.old.sources }
         ensures files { self.new.files ≡ self.old.files }
-        ensures made { self.new.piece ≡ self.old.piece }
+        ensures made { self.new.pieces ≡ self.old.pieces }
     {
         match channel {
             Channel::State => self.writes_state = true,
@@ -354,7 +357,7 @@ impl Desk {
         ensures journal { WhereTold self.new.told (self.new.journal ≡ self.old.journal ++ Did.NotCreated channel name.now ∷ []) }
         ensures sources { self.new.sources ≡ self.old.sources }
         ensures files { self.new.files ≡ self.old.files }
-        ensures made { self.new.piece ≡ self.old.piece }
+        ensures made { self.new.pieces ≡ self.old.pieces }
     {
         let did = not_created(self.alloc, channel, name);
         note(&mut self.journal, &mut self.is_told, did);

@@ -7,10 +7,12 @@
 
 mod calm;
 mod desk;
+mod failures;
 mod files;
 mod memory;
 mod outside;
 mod real;
+mod sizes;
 #[cfg(test)]
 mod tests;
 
@@ -19,3 +21,4 @@ pub use files::{Calls, Files, NamedFile};
 pub use memory::MemoryWorld;
 pub use outside::{Channel, Did, Failed, Slot, World};
 pub use real::RealWorld;
+pub use sizes::Sizes;

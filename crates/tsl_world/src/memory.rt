@@ -2,8 +2,10 @@
 ghost use Rattle.std.specs.Prelude.{◌≡◌, ◌+◌, ◌-◌, ◌^◌, min, ◌↔◌, IsTrue, Contains};
 
 use crate::desk::Desk;
+use crate::failures::count_unheard;
 use crate::files::{Calls, Files};
 use crate::outside::{Channel, Failed, Slot, World};
+use crate::sizes::Sizes;
 use std::alloc::Global;
 use tsl_value::memory::NoMemory;
 
@@ -15,6 +17,7 @@ pub struct MemoryWorld {
     fails: Calls,
     calls: u64,
     faults: u64,
+    unheard: u64,
 }
 
 // Counts a call, and tells whether it is to fail.
@@ -28,9 +31,10 @@ fn is_next_listed(fails: &Calls, calls: &mut u64) -> bool
 }
 
 impl MemoryWorld {
-    ghost use Rattle.std.specs.Prelude.{◌≡◌, ◌<◌, true, [], IsTrue, IfOk};
+    ghost use Rattle.std.specs.Prelude.{◌≡◌, ◌<◌, true, [], ◌∷◌, IsTrue, IfOk};
     ghost use Rattle.tsl_world.specs.Journal.{given};
-    ghost use Rattle.tsl_world.specs.Memory.{journal_of, told_of, standing_of, faults_of, files_of, piece_of, fails_of, next_of};
+    ghost use Rattle.tsl_world.specs.Memory.{journal_of, told_of, standing_of, faults_of, unheard_of, files_of, pieces_of, fails_of, next_of};
+    ghost use Rattle.tsl_world.specs.Sizes.{AreSizes};
     ghost use Rattle.tsl_world.specs.Standing.{at_first};
 
     /// A world with these files, of which nothing is open. A read gives at most `piece` bytes, and a write takes at
@@ -46,14 +50,37 @@ impl MemoryWorld {
         ensures journal { IfOk result (λ w. journal_of w ≡ []) }
         ensures standing { IfOk result (λ w. standing_of w ≡ at_first) }
         ensures faults { IfOk result (λ w. faults_of w ≡ 0) }
+        ensures unheard { IfOk result (λ w. unheard_of w ≡ 0) }
         ensures first { IfOk result (λ w. next_of w ≡ 0) }
-        ensures made { IfOk result (λ w. (files_of w ≡ files) × (piece_of w ≡ piece) × (fails_of w ≡ fails)) }
+        ensures made { IfOk result (λ w. (files_of w ≡ files) × (pieces_of w ≡ piece ∷ []) × (fails_of w ≡ fails)) }
+    {
+        let pieces = Sizes::one(alloc, piece)?;
+        MemoryWorld::with_pieces(alloc, files, pieces, fails)
+    }
+
+    /// The same, where the calls read and write at most as many bytes as `pieces` has for them, in turn: the call with
+    /// the number k at most its size number k modulo how many there are.
+    pub fn with_pieces(
+        alloc: Global,
+        files: Files,
+        pieces: Sizes,
+        fails: Calls,
+    ) -> Result<MemoryWorld, NoMemory>
+        requires { AreSizes pieces }
+        ensures told { IfOk result (λ w. told_of w ≡ true) }
+        ensures journal { IfOk result (λ w. journal_of w ≡ []) }
+        ensures standing { IfOk result (λ w. standing_of w ≡ at_first) }
+        ensures faults { IfOk result (λ w. faults_of w ≡ 0) }
+        ensures unheard { IfOk result (λ w. unheard_of w ≡ 0) }
+        ensures first { IfOk result (λ w. next_of w ≡ 0) }
+        ensures made { IfOk result (λ w. (files_of w ≡ files) × (pieces_of w ≡ pieces) × (fails_of w ≡ fails)) }
     {
         Ok(MemoryWorld {
-            desk: Desk::new(alloc, files, piece),
+            desk: Desk::new(alloc, files, pieces),
             fails,
             calls: 0,
             faults: 0,
+            unheard: 0,
         })
     }
 
@@ -81,9 +108,9 @@ impl MemoryWorld {
 
 impl World for MemoryWorld {
     ghost use Rattle.tsl_world.specs.Files.{bytes_named, IsAbsent};
-    ghost use Rattle.tsl_world.specs.Memory.{journal_of, told_of, left_of, standing_of, faults_of, files_of, piece_of, fails_of, next_of};
+    ghost use Rattle.tsl_world.specs.Memory.{journal_of, told_of, left_of, standing_of, faults_of, unheard_of, files_of, piece_of, pieces_of, fails_of, next_of};
     ghost use Rattle.tsl_world.specs.Standing.{is_open, is_writable, with_slot, with_channel};
-    ghost use Rattle.tsl_world.specs.World.{HasCause, WhereTold, SameElsewhere};
+    ghost use Rattle.tsl_world.specs.World.{HasCause, IsHeard, WhereTold, SameElsewhere};
     ghost use Rattle.tsl_world.specs.declared.outside.Did.{Did};
     ghost use Rattle.std.specs.Prelude.{◌≡◌, ◌⊎◌, ◌↔◌, ◌<◌, ◌≤◌, ◌++◌, ◌∷◌, [], true, false, IsTrue, if◌then◌else◌, is_ok, length, take, OnOk, OnErr, IfOk, IsErr, MatchResult, Contains};
 
@@ -97,12 +124,15 @@ impl World for MemoryWorld {
 
     ghost faults = { faults_of };
 
+    ghost unheard = { unheard_of };
+
     // The clauses of the trait, and behind them which calls fail, and what an opening gives.
 
     fn open(&mut self, slot: Slot, name: &str) -> Result<(), Failed>
         requires { is_open (standing_of self.old) slot ≡ false }
         ensures standing { standing_of self.new ≡ (if is_ok result then with_slot (standing_of self.old) slot else standing_of self.old) }
         ensures cause { HasCause (faults_of self.old) (faults_of self.new) result }
+        ensures heard { unheard_of self.new ≡ unheard_of self.old }
         ensures told { IsTrue (told_of self.new) → IsTrue (told_of self.old) }
         ensures journal { WhereTold (told_of self.new) (journal_of self.new ≡ journal_of self.old
             ++ (if is_ok result then Did.Opened slot name.now else Did.NotOpened slot name.now) ∷ []) }
@@ -112,7 +142,8 @@ impl World for MemoryWorld {
         ensures exactly { IsErr result ↔ (Contains (fails_of self.old) (next_of self.old) ⊎ IsAbsent (files_of self.old) name.now) }
         ensures opened { OnOk result (left_of self.new slot ≡ bytes_named (files_of self.old) name.now) }
         ensures counts { next_of self.new ≡ min (next_of self.old + 1) (2 ^ 64 - 1) }
-        ensures made { (files_of self.new ≡ files_of self.old) × (fails_of self.new ≡ fails_of self.old) × (piece_of self.new ≡ piece_of self.old) }
+        ensures made { (files_of self.new ≡ files_of self.old) × (fails_of self.new ≡ fails_of self.old)
+            × (pieces_of self.new ≡ pieces_of self.old) }
     {
         let is_listed = is_next_listed(&self.fails, &mut self.calls);
         if is_listed || !self.desk.has(name) {
@@ -128,6 +159,7 @@ impl World for MemoryWorld {
         requires { is_writable (standing_of self.old) channel ≡ false }
         ensures standing { standing_of self.new ≡ (if is_ok result then with_channel (standing_of self.old) channel else standing_of self.old) }
         ensures cause { HasCause (faults_of self.old) (faults_of self.new) result }
+        ensures heard { unheard_of self.new ≡ unheard_of self.old }
         ensures told { IsTrue (told_of self.new) → IsTrue (told_of self.old) }
         ensures journal { WhereTold (told_of self.new) (journal_of self.new ≡ journal_of self.old
             ++ (if is_ok result then Did.Created channel name.now else Did.NotCreated channel name.now) ∷ []) }
@@ -135,7 +167,8 @@ impl World for MemoryWorld {
 
         ensures exactly { IsErr result ↔ Contains (fails_of self.old) (next_of self.old) }
         ensures counts { next_of self.new ≡ min (next_of self.old + 1) (2 ^ 64 - 1) }
-        ensures made { (files_of self.new ≡ files_of self.old) × (fails_of self.new ≡ fails_of self.old) × (piece_of self.new ≡ piece_of self.old) }
+        ensures made { (files_of self.new ≡ files_of self.old) × (fails_of self.new ≡ fails_of self.old)
+            × (pieces_of self.new ≡ pieces_of self.old) }
     {
         if is_next_listed(&self.fails, &mut self.calls) {
             self.faults = self.faults.saturating_add(1);
@@ -152,6 +185,7 @@ impl World for MemoryWorld {
         ensures count { IfOk result (λ n. n ≤ length buf.new) }
         ensures standing { standing_of self.new ≡ standing_of self.old }
         ensures cause { HasCause (faults_of self.old) (faults_of self.new) result }
+        ensures heard { unheard_of self.new ≡ unheard_of self.old }
         ensures told { IsTrue (told_of self.new) → IsTrue (told_of self.old) }
         ensures journal { WhereTold (told_of self.new) (MatchResult result
             (λ n. journal_of self.new ≡ journal_of self.old ++ Did.Took slot (take n buf.new) ∷ [])
@@ -164,13 +198,15 @@ impl World for MemoryWorld {
         ensures exactly { IsErr result ↔ Contains (fails_of self.old) (next_of self.old) }
         ensures piece { IfOk result (λ n. n ≤ piece_of self.old) }
         ensures counts { next_of self.new ≡ min (next_of self.old + 1) (2 ^ 64 - 1) }
-        ensures made { (files_of self.new ≡ files_of self.old) × (fails_of self.new ≡ fails_of self.old) × (piece_of self.new ≡ piece_of self.old) }
+        ensures made { (files_of self.new ≡ files_of self.old) × (fails_of self.new ≡ fails_of self.old)
+            × (pieces_of self.new ≡ pieces_of self.old) }
     {
+        let number = self.calls;
         if is_next_listed(&self.fails, &mut self.calls) {
             self.faults = self.faults.saturating_add(1);
             return Err(Failed);
         }
-        Ok(self.desk.read(slot, buf))
+        Ok(self.desk.read(number, slot, buf))
     }
 
     fn write(&mut self, channel: Channel, bytes: &[u8]) -> Result<usize, Failed>
@@ -179,6 +215,7 @@ impl World for MemoryWorld {
         ensures count { IfOk result (λ n. (0 < n) × (n ≤ length bytes.now)) }
         ensures standing { standing_of self.new ≡ standing_of self.old }
         ensures cause { HasCause (faults_of self.old) (faults_of self.new) result }
+        ensures heard { IsHeard channel (unheard_of self.old) (unheard_of self.new) result }
         ensures told { IsTrue (told_of self.new) → IsTrue (told_of self.old) }
         ensures journal { WhereTold (told_of self.new) (MatchResult result
             (λ n. journal_of self.new ≡ journal_of self.old ++ Did.Gave channel (take n bytes.now) ∷ [])
@@ -188,12 +225,15 @@ impl World for MemoryWorld {
         ensures exactly { IsErr result ↔ Contains (fails_of self.old) (next_of self.old) }
         ensures piece { IfOk result (λ n. n ≤ piece_of self.old) }
         ensures counts { next_of self.new ≡ min (next_of self.old + 1) (2 ^ 64 - 1) }
-        ensures made { (files_of self.new ≡ files_of self.old) × (fails_of self.new ≡ fails_of self.old) × (piece_of self.new ≡ piece_of self.old) }
+        ensures made { (files_of self.new ≡ files_of self.old) × (fails_of self.new ≡ fails_of self.old)
+            × (pieces_of self.new ≡ pieces_of self.old) }
     {
+        let number = self.calls;
         if is_next_listed(&self.fails, &mut self.calls) {
             self.faults = self.faults.saturating_add(1);
+            count_unheard(channel, &mut self.unheard);
             return Err(Failed);
         }
-        Ok(self.desk.write(channel, bytes))
+        Ok(self.desk.write(number, channel, bytes))
     }
 }

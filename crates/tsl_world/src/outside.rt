@@ -1,7 +1,7 @@
 // The outside: slots to read, channels to write, and the journal of what was done.
 ghost use Rattle.std.specs.Prelude.{◌≡◌, ◌<◌, ◌≤◌, ◌↔◌, ℕ, Bool, true, false, IsTrue, if◌then◌else◌, List, [], ◌∷◌, ◌++◌, length, take, is_ok, IfOk, OnOk, OnErr, MatchResult};
 ghost use Rattle.tsl_world.specs.Standing.{Standing, is_open, is_writable, with_slot, with_channel};
-ghost use Rattle.tsl_world.specs.World.{HasCause, WhereTold, SameElsewhere};
+ghost use Rattle.tsl_world.specs.World.{HasCause, IsHeard, WhereTold, SameElsewhere};
 ghost use Rattle.tsl_world.specs.declared.outside.Did.{Did};
 ghost use Rattle.tsl_world.specs.declared.outside.Slot.{Slot};
 
@@ -43,7 +43,7 @@ pub enum Did {
 
 /// All contact with the outside.
 ///
-/// A call answers `Failed` only where the count of faults rose in it, or stands at 2^64 - 1, its last value.
+/// A call answers `Failed` only where the count of faults rose in it by just one, or stands at 2^64 - 1, its last value.
 /// Misuse is excluded by the conditions, so it is no failure. What a call says of bytes and of the journal holds
 /// where the world is told when the call returns.
 pub trait World {
@@ -62,11 +62,15 @@ pub trait World {
     /// How often the outside has failed. It never falls.
     ghost faults: { Self → ℕ };
 
+    /// How often a write to `Err` has failed. Each of these is counted among all failures too.
+    ghost unheard: { Self → ℕ };
+
     /// Opens what the name names for reading. The journal says so, and also where the opening failed.
     fn open(&mut self, slot: Slot, name: &str) -> Result<(), Failed>
         requires { is_open (standing self.old) slot ≡ false }
         ensures standing { standing self.new ≡ (if is_ok result then with_slot (standing self.old) slot else standing self.old) }
         ensures cause { HasCause (faults self.old) (faults self.new) result }
+        ensures heard { unheard self.new ≡ unheard self.old }
         ensures told { IsTrue (told self.new) → IsTrue (told self.old) }
         ensures journal { WhereTold (told self.new) (journal self.new ≡ journal self.old
             ++ (if is_ok result then Did.Opened slot name.now else Did.NotOpened slot name.now) ∷ []) }
@@ -78,6 +82,7 @@ pub trait World {
         requires { is_writable (standing self.old) channel ≡ false }
         ensures standing { standing self.new ≡ (if is_ok result then with_channel (standing self.old) channel else standing self.old) }
         ensures cause { HasCause (faults self.old) (faults self.new) result }
+        ensures heard { unheard self.new ≡ unheard self.old }
         ensures told { IsTrue (told self.new) → IsTrue (told self.old) }
         ensures journal { WhereTold (told self.new) (journal self.new ≡ journal self.old
             ++ (if is_ok result then Did.Created channel name.now else Did.NotCreated channel name.now) ∷ []) }
@@ -91,6 +96,7 @@ pub trait World {
         ensures count { IfOk result (λ n. n ≤ length buf.new) }
         ensures standing { standing self.new ≡ standing self.old }
         ensures cause { HasCause (faults self.old) (faults self.new) result }
+        ensures heard { unheard self.new ≡ unheard self.old }
         ensures told { IsTrue (told self.new) → IsTrue (told self.old) }
         ensures journal { WhereTold (told self.new) (MatchResult result
             (λ n. journal self.new ≡ journal self.old ++ Did.Took slot (take n buf.new) ∷ [])
@@ -107,6 +113,7 @@ pub trait World {
         ensures count { IfOk result (λ n. (0 < n) × (n ≤ length bytes.now)) }
         ensures standing { standing self.new ≡ standing self.old }
         ensures cause { HasCause (faults self.old) (faults self.new) result }
+        ensures heard { IsHeard channel (unheard self.old) (unheard self.new) result }
         ensures told { IsTrue (told self.new) → IsTrue (told self.old) }
         ensures journal { WhereTold (told self.new) (MatchResult result
             (λ n. journal self.new ≡ journal self.old ++ Did.Gave channel (take n bytes.now) ∷ [])

@@ -1,9 +1,10 @@
 // Each public call once, with ample memory: no clause says that memory was had.
-ghost use Rattle.std.specs.Prelude.{◌≡◌, false};
+ghost use Rattle.std.specs.Prelude.{◌≡◌, false, IfOk};
+ghost use Rattle.tsl_world.specs.Sizes.{AreSizes};
 ghost use Rattle.tsl_world.specs.Standing.{is_open, is_writable};
 
 use crate::{
-    Calls, CalmWorld, Channel, Failed, Files, MemoryWorld, NamedFile, RealWorld, Slot, World,
+    Calls, CalmWorld, Channel, Failed, Files, MemoryWorld, NamedFile, RealWorld, Sizes, Slot, World,
 };
 use std::alloc::Global;
 use std::test::Fail;
@@ -74,6 +75,31 @@ fn memory_in_pieces_of_two(rt: HostRuntime) -> Result<(), Fail> {
         (world.out(), world.err()),
         (b"ou".as_slice(), b"er".as_slice())
     );
+    Ok(())
+}
+
+// One byte and three, in turn.
+fn one_and_three(alloc: Global) -> Result<Sizes, NoMemory>
+    ensures { IfOk result AreSizes }
+{
+    let mut sizes = Sizes::new(alloc);
+    sizes.push(1)?;
+    sizes.push(3)?;
+    Ok(sizes)
+}
+
+#[test]
+fn memory_in_pieces_by_turns(rt: HostRuntime) -> Result<(), Fail> {
+    let alloc = rt.alloc();
+    let sizes = one_and_three(alloc)?;
+    assert_eq!(rt; (sizes.len(), sizes.get(1).copied()), (2, Some(3)));
+    let mut world = MemoryWorld::with_pieces(alloc, two_files(alloc)?, sizes, Calls::new(alloc))?;
+    assert_eq!(rt; writes(&mut world), Ok((1, 3)));
+    assert!(rt; world.is_told());
+    let sizes = one_and_three(alloc)?;
+    let mut other = MemoryWorld::with_pieces(alloc, two_files(alloc)?, sizes, Calls::new(alloc))?;
+    assert_eq!(rt; reads(&mut other, "a"), Ok((3, 0, b'x')));
+    assert!(rt; other.is_told());
     Ok(())
 }
 
