@@ -1,10 +1,7 @@
--- Which system is run for a source, why its updates copy, and how a source is refused.
+-- Which system is run for a source, and how a source is refused.
 use Rattle.std.specs.Prelude.{◌≢◌, ℕ, List}
 use Rattle.flat_core.specs.System.{System}
 use Rattle.flat_simplify.specs.Simplified.{IsSimplified}
-use Rattle.alias_rules.specs.Fine.{IsListed}
-use Rattle.alias_analysis.specs.declared.reason.Reason.{Reason}
-use Rattle.last_use.specs.Reasons.{AreReasons}
 use Rattle.spec_parser.specs.Tree as tree
 use Rattle.spec_reader.specs.declared.fault.SpecFault.{SpecFault}
 use Rattle.spec_reader.specs.declared.fault.SpecFault.TheVariants.{Memory}
@@ -19,12 +16,6 @@ pub record Compiles (source : List ℕ) (items : List tree.Item) (u : System) : 
 -- it is some specification whose system this is
 abbrev pub CompilesSomething : List ℕ → System → Type 0
 CompilesSomething source u = (items : List tree.Item) × Compiles source items u
-
--- the running updates outside the listed set, each with the reason why it does not happen in place
-pub record AreReasonsListed (s : System) (reasons : List (ℕ × Reason)) : Type 0 where
-  pub set : List ℕ
-  pub listed : IsListed s set
-  pub are : AreReasons s set reasons
 
 -- the source is refused in this way; want of memory refuses none
 abbrev pub IsRefusedBy : List ℕ → SpecFault → Type 0

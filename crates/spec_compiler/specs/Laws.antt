@@ -20,24 +20,38 @@ use Rattle.spec_compiler.specs.Meant.{FaultTimeIsMeant, QuietIsMeant, LimitIsMea
 
 -- a source is one specification at most, and one system at most is run for it
 abbrev pub OneIsCompiled : Type 0
-OneIsCompiled = (source : List ℕ) (items others : List tree.Item) (u v : System) → Compiles source items u → Compiles source others v → (items ≡ others) × (u ≡ v)
+OneIsCompiled =
+    (source : List ℕ) (items others : List tree.Item) (u v : System)
+    → Compiles source items u
+    → Compiles source others v
+    → (items ≡ others) × (u ≡ v)
 
 -- for a source that is refused none is
 abbrev pub RefusedCompilesNone : Type 0
-RefusedCompilesNone = (source : List ℕ) (e : SpecFault) (items : List tree.Item) (u : System) → IsRefusedBy source e → ¬ (Compiles source items u)
+RefusedCompilesNone =
+    (source : List ℕ) (e : SpecFault) (items : List tree.Item) (u : System)
+    → IsRefusedBy source e
+    → ¬ (Compiles source items u)
 
 -- What streams of the system that is run say of a trace, the specification says: the text that is due, and how a run stands.
 pub record SaysWhatIsMeant (items : List tree.Item) (u : System) (lines : List Line) (bound limit : ℕ) (z : Streams) : Type 0 where
   pub text : IsDueText items lines bound limit (due_text u lines z bound limit)
   pub quiet : EndsAtBound u lines z bound limit → QuietIsMeant items lines bound limit
   pub fault : (t i : ℕ) (kind : FaultKind) → EndsInFault u lines z bound limit t i kind → FaultTimeIsMeant items lines bound limit t
-  pub named : (t i : ℕ) (kind : FaultKind) (e : Equation) → equation u i ≡ Some e → EndsInFault u lines z bound limit t i kind → IsFaultNamed u lines bound t e.place kind
+  pub named : (t i : ℕ) (kind : FaultKind) (e : Equation)
+      → equation u i ≡ Some e
+      → EndsInFault u lines z bound limit t i kind
+      → IsFaultNamed u lines bound t e.place kind
   pub limited : (t : ℕ) → EndsAtLimit u lines z bound limit t → LimitIsMeant items lines bound limit t
 
 -- for lines whose events are of their inputs' types
 abbrev pub CompiledSaysWhatIsMeant : Type 0
 CompiledSaysWhatIsMeant =
-    (source : List ℕ) (items : List tree.Item) (u : System) (lines : List Line) (bound limit : ℕ) (z : Streams) → Compiles source items u → AreTypedLines u lines → Solves u (inputs_of lines) bound z → SaysWhatIsMeant items u lines bound limit z
+    (source : List ℕ) (items : List tree.Item) (u : System) (lines : List Line) (bound limit : ℕ) (z : Streams)
+    → Compiles source items u
+    → AreTypedLines u lines
+    → Solves u (inputs_of lines) bound z
+    → SaysWhatIsMeant items u lines bound limit z
 
 -- at an occurrence at a time one thing happens, and nothing else
 pub record OneHappens (items : List tree.Item) (inputs : Inputs) (o : Occurrence) (t : ℕ) : Type 0 where
@@ -49,8 +63,13 @@ pub record OneHappens (items : List tree.Item) (inputs : Inputs) (o : Occurrence
 -- of what is meant leave nothing open there, and it is decided whether a time has a root fault.
 abbrev pub SomethingHappens : Type 0
 SomethingHappens =
-    (source : List ℕ) (items : List tree.Item) (u : System) (lines : List Line) (o : Occurrence) (t : ℕ) → Compiles source items u → IsNeeded items o → OneHappens items (inputs_of lines) o t
+    (source : List ℕ) (items : List tree.Item) (u : System) (lines : List Line) (o : Occurrence) (t : ℕ)
+    → Compiles source items u
+    → IsNeeded items o
+    → OneHappens items (inputs_of lines) o t
 
 abbrev pub FaultsAreDecided : Type 0
 FaultsAreDecided =
-    (source : List ℕ) (items : List tree.Item) (u : System) (lines : List Line) (t : ℕ) → Compiles source items u → IsFaulty items lines t ⊎ ¬ (IsFaulty items lines t)
+    (source : List ℕ) (items : List tree.Item) (u : System) (lines : List Line) (t : ℕ)
+    → Compiles source items u
+    → IsFaulty items lines t ⊎ ¬ (IsFaulty items lines t)

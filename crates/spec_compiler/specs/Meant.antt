@@ -38,9 +38,9 @@ module _ (items : List tree.Item) (lines : List Line) (bound limit : ℕ) where
     pub sound : (u : ℕ) → Contains (take limit instants) u → IsFaulty items lines u → ⊥
     pub next : slice_get instants limit ≡ Some t
 
--- The fault that is named at t, in the system that is run: in all streams that solve it below the bound the least equation with a root fault
--- at t has this place and this kind of fault, and none has one earlier. It can differ from the root faults of the meaning: where a merge
--- gave way to its first argument, it passes on no fault of its second any more, so that equations which use it may fault as well.
+-- The fault that is named at t, in the system that is run: in all streams that solve it below the bound the least equation with a root
+-- fault at t has this place and this kind of fault, and none has one earlier. It can differ from the root faults of the meaning: where a
+-- merge gave way to its first argument, it passes on no fault of its second any more, so that equations which use it may fault as well.
 pub record IsFaultNamed (u : System) (lines : List Line) (bound t : ℕ) (place : Place) (kind : FaultKind) : Type 0 where
   pub number : ℕ
   pub of : Equation

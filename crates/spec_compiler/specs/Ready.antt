@@ -15,4 +15,11 @@ pub record IsReady (s : System) : Type 0 where
   pub proper : IsProper s
   pub outputs_run : AllByRecursion (λ o. IsTrue (runs s o.equation)) s.outputs
   pub exists : (inputs : Inputs) (bound : ℕ) → (z : Streams) × Solves s inputs bound z
-  pub agree : (inputs : Inputs) (bound : ℕ) (z w : Streams) → Solves s inputs bound z → Solves s inputs bound w → (i : ℕ) → IsTrue (runs s i) → (t : ℕ) → t < bound → z i t ≡ w i t
+  pub agree : (inputs : Inputs) (bound : ℕ) (z w : Streams)
+      → Solves s inputs bound z
+      → Solves s inputs bound w
+      → (i : ℕ)
+      → IsTrue (runs s i)
+      → (t : ℕ)
+      → t < bound
+      → z i t ≡ w i t

@@ -1,11 +1,12 @@
 // The compiler.
 
-ghost use Rattle.std.specs.Prelude.{◌≡◌, [], IfOk, IfErr};
+ghost use Rattle.std.specs.Prelude.{◌≡◌, IfOk, IfErr};
 ghost use Rattle.flat_core.specs.Complete.{IsFlat};
 ghost use Rattle.flat_core.specs.WellFormed.{IsWellFormed};
-ghost use Rattle.register_code.specs.Plan.{IsLeastPlanOrder};
+ghost use Rattle.alias_rules.specs.Fine.{IsTakenPlan};
+ghost use Rattle.last_use.specs.Reasons.{AreReasons};
 ghost use Rattle.spec_reader.specs.Source.{IsRefused};
-ghost use Rattle.spec_compiler.specs.Compiled.{AreReasonsListed, CompilesSomething};
+ghost use Rattle.spec_compiler.specs.Compiled.{CompilesSomething};
 ghost use Rattle.spec_compiler.specs.Ready.{IsReady};
 
 use flat_core::flat::Flat;
@@ -13,7 +14,6 @@ use flat_simplify::simplify::simplify;
 use last_use::choice::{Choice, choose};
 use last_use::reasons::Reasons;
 use register_code::code::{Code, generate};
-use register_code::copying::copying_plan;
 use spec_reader::fault::SpecFault;
 use spec_reader::read::{Specification, read_spec};
 use std::alloc::Global;
@@ -23,8 +23,10 @@ use tsl_value::memory::NoMemory;
 /// A specification that is compiled.
 #[derive(Drop)]
 pub struct Compiled {
-    /// The code of its simplified system, in which all updates copy.
+    /// The code of its simplified system, in which the updates of the listed set happen in place.
     pub code: Code,
+    /// Why each other update copies.
+    pub reasons: Reasons,
 }
 
 /// The simplified system of a specification.
@@ -39,41 +41,32 @@ fn simplified(alloc: Global, source: &[u8]) -> Result<Flat, SpecFault>
     Ok(simple)
 }
 
-/// The code of a system in which all updates copy.
-fn copying_code(alloc: Global, flat: Flat) -> Result<Code, NoMemory>
+/// The code of a system by the plan that is taken, and why the updates outside its set copy.
+fn planned(alloc: Global, flat: Flat) -> Result<Compiled, NoMemory>
     requires { IsWellFormed flat }
-    ensures system { IfOk result (λ c. c.system ≡ flat) }
-    ensures is_flat { IfOk result (λ c. IsFlat c.system) }
-    ensures copies { IfOk result (λ c. c.in_place ≡ []) }
-    ensures order { IfOk result (λ c. IsLeastPlanOrder c.system c.order) }
+    ensures system { IfOk result (λ c. c.code.system ≡ flat) }
+    ensures is_flat { IfOk result (λ c. IsFlat c.code.system) }
+    ensures taken { IfOk result (λ c. IsTakenPlan c.code.system c.code.in_place c.code.order) }
+    ensures reasons { IfOk result (λ c. AreReasons c.code.system c.code.in_place c.reasons) }
 {
-    let plan = copying_plan(alloc, &flat)?;
+    let triggers = Triggers::of(alloc, &flat)?;
+    let Choice { plan, reasons } = choose(alloc, &flat, &triggers)?;
     let code = generate(alloc, flat, plan)?;
     // A code's system is whole, as this call tells.
     let _ = code.flat();
-    Ok(code)
+    Ok(Compiled { code, reasons })
 }
 
-/// Why updates of a system don't happen in place, for each that is not chosen to.
-pub fn reasons_of(alloc: Global, flat: &Flat) -> Result<Reasons, NoMemory>
-    requires { IsWellFormed flat.now }
-    ensures { IfOk result (AreReasonsListed flat.now) }
-{
-    let triggers = Triggers::of(alloc, flat)?;
-    let Choice { plan: _, reasons } = choose(alloc, flat, &triggers)?;
-    Ok(reasons)
-}
-
-/// Compiles the bytes of a specification: its flat system is simplified, and the code is made by the plan in which all updates copy.
-/// They are refused exactly where they are none that can be run, but for want of memory.
+/// Compiles the bytes of a specification: its flat system is simplified, and the code is made by the plan that is taken, in which each
+/// update of the listed set happens in place. They are refused exactly where they are none that can be run, but for want of memory.
 pub fn compile(alloc: Global, source: &[u8]) -> Result<Compiled, SpecFault>
     ensures system { IfOk result (λ c. CompilesSomething source.now c.code.system) }
-    ensures copies { IfOk result (λ c. c.code.in_place ≡ []) }
-    ensures order { IfOk result (λ c. IsLeastPlanOrder c.code.system c.code.order) }
+    ensures taken { IfOk result (λ c. IsTakenPlan c.code.system c.code.in_place c.code.order) }
+    ensures reasons { IfOk result (λ c. AreReasons c.code.system c.code.in_place c.reasons) }
     ensures ready { IfOk result (λ c. IsReady c.code.system) }
     ensures fault { IfErr result (IsRefused source.now) }
 {
     let flat = simplified(alloc, source)?;
-    let code = copying_code(alloc, flat)?;
-    Ok(Compiled { code })
+    let compiled = planned(alloc, flat)?;
+    Ok(compiled)
 }

@@ -3,11 +3,13 @@ use Rattle.std.proofs.Common.{◌≡◌, ℕ, Bool, true, List, [], ◌∷◌, �
 use Rattle.std.proofs.lemmas.Bool.{cases_Bool}
 use Rattle.std.specs.Prelude.{IsTrue, if◌then◌else◌, slice_index}
 use Rattle.std.specs.List.{filter, flat_map}
+use Rattle.alias_rules.specs.Fine.{IsTakenPlan}
 use Rattle.flat_core.specs.Case.{Streams}
 use Rattle.flat_core.specs.System.{System}
-use Rattle.monitor_run.specs.Copied.{copied, is_running_update}
 use Rattle.monitor_run.specs.State as engine
+use Rattle.monitor_run.specs.Updates.{is_running_update}
 use Rattle.program_text.specs.Text.{numbers}
+use Rattle.register_machine.specs.Copied.{copied}
 use Rattle.trace_monitor.specs.Counted.{copied_below}
 use Rattle.trace_monitor.specs.declared.options.Options.{Options}
 use Rattle.trace_monitor.specs.Due.{SolvesClosed}
@@ -30,16 +32,19 @@ texts_same P f g same (x ∷ xs) = elim (cases_Bool (P x)) [
 ]
 
 -- what is told of a run that has ended so
-pub statistics_meant : (s : System) (o : Options) (e : engine.State) (by : Ending) (part : List Did) (text : List ℕ) → WatchEnds s o e by part → text ≡ counted_text s e true
+pub statistics_meant : (s : System) (o : Options) (e : engine.State) (order : List ℕ) → IsTakenPlan s e.in_place order → (by : Ending) (part : List Did) (text : List ℕ) → WatchEnds s o e by part → text ≡ counted_text s e true
     → AreStatistics s o (taken Trace part) (ended Trace part) by text
-statistics_meant s o e by part text w is = record {
+statistics_meant s o e order taken_plan by part text w is = record {
+  set = e.in_place;
+  order = order;
+  taken = taken_plan;
   how = w.how;
   by_is = w.by_is;
   is = record { solved = w.due.solved; each = each };
 }
   where
-    each : (z : Streams) → SolvesClosed s o (taken Trace part) (ended Trace part) z → text ≡ statistics_text s (λ u. copied s z u (copied_below s o (taken Trace part) (ended Trace part) w.how))
+    each : (z : Streams) → SolvesClosed s o (taken Trace part) (ended Trace part) z → text ≡ statistics_text s (λ u. copied s e.in_place z u (copied_below s o (taken Trace part) (ended Trace part) w.how))
     each z zs =
         let bound = copied_below s o (taken Trace part) (ended Trace part) w.how in
-        is ∙ texts_same (is_running_update s) (λ u. update_line s u (slice_index e.ledger u)) (λ u. update_line s u (copied s z u bound))
+        is ∙ texts_same (is_running_update s) (λ u. update_line s u (slice_index e.ledger u)) (λ u. update_line s u (copied s e.in_place z u bound))
         (λ u runs k. update_line s u (w.counted.ledger z zs u runs k)) (numbers s)

@@ -27,6 +27,8 @@ use Rattle.tessla_cli.specs.declared.ending.Ending.{Ending}
 use Rattle.tessla_cli.specs.declared.ending.Ending.TheVariants as ending
 use Rattle.tessla_cli.specs.Alone.{AloneStops, IsAloneText}
 use Rattle.tessla_cli.specs.Conduct.{AloneEnds, EndsRun, EndsPrint, EndsAlone, RunEnds, SpecRefused}
+use Rattle.tessla_cli.specs.Failures.{Failures}
+use Rattle.tessla_cli.specs.Headline.{OfRun}
 use Rattle.tessla_cli.specs.Meant.{EndsAsMeant}
 use Rattle.tessla_cli.specs.Messages.{status_of}
 use Rattle.tessla_cli.specs.Outcome.{Concludes, Outcome, IsExact}
@@ -34,7 +36,7 @@ use Rattle.tessla_cli.specs.Parts.{ending_of}
 use Rattle.tessla_cli.specs.Outcome.Outcome.{told, outside, memory}
 use Rattle.tessla_cli.specs.Tasks.{Alone, Request, Task, alone, alone_of, asked_of, benched, made, monitor, over, print, requested, with_spec, without_spec}
 
-nothing_some : {A : Type 0} (x : Option A) (a : A) → x ≡ None → x ≡ Some a → ⊥
+pub nothing_some : {A : Type 0} (x : Option A) (a : A) → x ≡ None → x ≡ Some a → ⊥
 nothing_some x a none some = absurd (let e : false ≡ true = ap is_some (sym none ∙ some) in cc)
 
 module _ (items : List tree.Item) (lines : List Line) (bound limit : ℕ) where
@@ -42,12 +44,12 @@ module _ (items : List tree.Item) (lines : List Line) (bound limit : ℕ) where
   one_list : (xs ys : List ℕ) → AreInstants items lines bound xs → AreInstants items lines bound ys → xs ≡ ys
   one_list xs ys a b = same_rising 0 0 xs ys (rising xs a.rising) (rising ys b.rising) (λ t c. (b.each t).1 ((a.each t).0 c)) (λ t c. (a.each t).1 ((b.each t).0 c))
 
-  loud : (t : ℕ) → QuietIsMeant items lines bound limit → FaultTimeIsMeant items lines bound limit t → ⊥
+  pub loud : (t : ℕ) → QuietIsMeant items lines bound limit → FaultTimeIsMeant items lines bound limit t → ⊥
   loud t quiet fault =
       let same = one_list fault.instants quiet.instants fault.are quiet.are in
       quiet.sound t (subst (λ (l : List ℕ). Contains (take limit l) t) same fault.within) fault.faulty
 
-  long : (t : ℕ) → QuietIsMeant items lines bound limit → LimitIsMeant items lines bound limit t → ⊥
+  pub long : (t : ℕ) → QuietIsMeant items lines bound limit → LimitIsMeant items lines bound limit t → ⊥
   long t quiet limited =
       let same = one_list limited.instants quiet.instants limited.are quiet.are in
       let there : slice_get quiet.instants limit ≡ Some t = subst (λ (l : List ℕ). slice_get l limit ≡ Some t) same limited.next in
@@ -108,12 +110,12 @@ abbrev is_print : Task → Bool
 is_print (print f) = true
 is_print (monitor trace o statistics) = false
 
-abbrev asks_print : Option (List ℕ × Task) → Bool
+abbrev pub asks_print : Option (List ℕ × Task) → Bool
 asks_print None = false
 asks_print (Some asked) = is_print asked.1
 
 -- what is asked for is done with a specification or without one
-apart : (r : Option Request) (asked : List ℕ × Task) (what : Alone) → option_and_then with_spec r ≡ Some asked → option_and_then without_spec r ≡ Some what → ⊥
+pub apart : (r : Option Request) (asked : List ℕ × Task) (what : Alone) → option_and_then with_spec r ≡ Some asked → option_and_then without_spec r ≡ Some what → ⊥
 apart None asked what a m = absurd (cc)
 apart (Some (over name task)) asked what a m = absurd (cc)
 apart (Some (alone b)) asked what a m = absurd (cc)
@@ -138,7 +140,7 @@ kind_status (run.Limit n u) (run.Fault t kind place) same = absurd same
 kind_status (run.Limit n t) (run.Limit m u) same = refl
 
 -- where there is a text there is no ending without one
-text_or_stops : (a : Alone) (text : List ℕ) (by : Ending) → IsAloneText a text → AloneStops a by → ⊥
+pub text_or_stops : (a : Alone) (text : List ℕ) (by : Ending) → IsAloneText a text → AloneStops a by → ⊥
 text_or_stops (made n) text by is stops = stops
 text_or_stops (benched kind n) text by is (inl (fault, refused, same)) = refused_benches_none (source_of kind) fault n (outcome.Whole is.0) refused is.1
 text_or_stops (benched kind n) text by is (inr (how, stopped, same)) = one_ending (source_of kind) n (outcome.Whole is.0) (outcome.Stopped how) is.1 stopped
@@ -154,15 +156,15 @@ one_stop (benched kind n) by other (inr (how, stopped, is)) (inl (fault, refused
 one_stop (benched kind n) by other (inr (how, stopped, is)) (inr (how_2, stopped_2, is_2)) =
     ap status_of is ∙ kind_status how how_2 (one_ending (source_of kind) n (outcome.Stopped how) (outcome.Stopped how_2) stopped stopped_2) ∙ sym (ap status_of is_2)
 
-one_alone : (x : Option Alone) (a b : Alone) → x ≡ Some a → x ≡ Some b → a ≡ b
+pub one_alone : (x : Option Alone) (a b : Alone) → x ≡ Some a → x ≡ Some b → a ≡ b
 one_alone x a b p q = let e : Some a ≡ Some b = sym p ∙ q in cc
 
 module _ (words : List (List ℕ)) (part : List Did) where
   -- words that are not accepted ask for nothing
-  none_asked : requested words ≡ None → asked_of words ≡ None
+  pub none_asked : requested words ≡ None → asked_of words ≡ None
   none_asked none = ap (option_and_then with_spec) none
 
-  none_alone : requested words ≡ None → alone_of words ≡ None
+  pub none_alone : requested words ≡ None → alone_of words ≡ None
   none_alone none = ap (option_and_then without_spec) none
 
   run_or_alone : (by : Ending) → EndsRun words by part → EndsAlone words part → ⊥
@@ -194,16 +196,18 @@ module _ (words : List (List ℕ)) (part : List Did) where
       let same : b.what ≡ a.what = one_alone (alone_of words) b.what a.what b.asked a.asked in
       one_stop a.what by other a.stops (subst (λ (x : Alone). AloneStops x other) same b.stops)
 
-  -- two runs of the same words and of the same system
-  one_run : (by other : Ending) → EndsRun words by part → EndsRun words other part → status_of by ≡ status_of other
-  one_run by other a b =
+  -- a run of the same words and of the same system
+  pub meant_by : (P : List tree.Item → System → Options → Type 0) (other : Ending) (a : OfRun words part P) → EndsRun words other part → EndsAsMeant a.items a.system a.options (taken Trace part) (ended Trace part) other
+  meant_by P other a b =
       let runs : b.options ≡ a.options = ap (options_or a.options) (sym b.asked ∙ a.asked) in
       let one = one_is_compiled (taken Spec part) b.items a.items b.system a.system b.compiled a.compiled in
-      let of : EndsAsMeant a.items a.system a.options (taken Trace part) (ended Trace part) other =
       subst (λ (l : List tree.Item). EndsAsMeant l a.system a.options (taken Trace part) (ended Trace part) other) one.0
       (subst (λ (s : System). EndsAsMeant b.items s a.options (taken Trace part) (ended Trace part) other) one.1
-      (subst (λ (p : Options). EndsAsMeant b.items b.system p (taken Trace part) (ended Trace part) other) runs b.holds.ends)) in
-      same_status a.items a.system a.options (taken Trace part) (ended Trace part) by other a.holds.ends of
+      (subst (λ (p : Options). EndsAsMeant b.items b.system p (taken Trace part) (ended Trace part) other) runs b.holds.ends))
+
+  -- two of these
+  one_run : (by other : Ending) → EndsRun words by part → EndsRun words other part → status_of by ≡ status_of other
+  one_run by other a b = same_status a.items a.system a.options (taken Trace part) (ended Trace part) by other a.holds.ends (meant_by _ other a b)
 
   spec_or_run : (fault : SpecFault) (by : Ending) → SpecRefused words fault part → EndsRun words by part → ⊥
   spec_or_run fault by refused ends = refused_compiles_none (taken Spec part) fault ends.items ends.system refused.refused ends.compiled
@@ -307,10 +311,10 @@ module _ (words : List (List ℕ)) (part : List Did) where
   same_ends (ending.Limit n t) other (inl a) b = from_run (ending.Limit n t) other a b
   same_ends (ending.Limit n t) other (inr a) b = from_stops (ending.Limit n t) other a b
 
-  pub exact : (status : ℕ) → Concludes words status part → IsExact words status part
-  exact status c by has = by_outcome c.outcome
+  pub exact : (before now : Failures) (status : ℕ) → Concludes words before now status part → IsExact words status part
+  exact before now status c by has = by_outcome c.outcome
     where
-      by_outcome : Outcome words status part → (status ≡ status_of by) ⊎ (status ≡ 5) ⊎ (status ≡ 6)
+      by_outcome : Outcome words before now status part → (status ≡ status_of by) ⊎ (status ≡ 5) ⊎ (status ≡ 6)
       by_outcome (told other is ends) = inl (is ∙ same_ends other by ends.ends has)
       by_outcome (outside five some) = inr (inl five)
       by_outcome (memory six line) = inr (inr six)

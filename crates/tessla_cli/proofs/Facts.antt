@@ -1,6 +1,7 @@
 -- What the journal of a run shows, from its parts.
-use Rattle.std.proofs.Common.{◌≡◌, ◌⊎◌, inl, inr, ℕ, ◌≤◌, Bool, true, false, List, [], ◌∷◌, ◌++◌, length, refl, sym, ◌∙◌, ap, subst, Some}
+use Rattle.std.proofs.Common.{◌≡◌, ◌⊎◌, inl, inr, ℕ, ◌<◌, ◌≤◌, Bool, true, false, List, [], ◌∷◌, ◌++◌, length, refl, sym, ◌∙◌, ap, subst, Some}
 use Rattle.std.proofs.lemmas.List.{append-nil}
+use Rattle.alias_rules.specs.Fine.{IsTakenPlan}
 use Rattle.flat_core.specs.System.{System}
 use Rattle.monitor_run.specs.State as engine
 use Rattle.trace_monitor.specs.Counted.{HasCounted}
@@ -13,7 +14,7 @@ use Rattle.tsl_world.specs.declared.outside.Channel.{Channel}
 use Rattle.tsl_world.specs.declared.outside.Channel.TheVariants.{Out, Err}
 use Rattle.tsl_world.specs.Journal.{given, taken, ended, opening, openings, creations, AtReads, StopsAtEnd, IsNoRead, IsNoGift, IsTransfer, IsWithin, Each}
 use Rattle.tsl_world.proofs.Journals.{openings-append, creations-append, Each-append, no_place, place}
-use Rattle.tsl_world.proofs.Parts.{gifts_read_none, gifts_transfer, gifts_within, gifts_elsewhere, taken_before, taken_behind, ended_behind, given_behind, given_none, openings_none, creations_none}
+use Rattle.tsl_world.proofs.Parts.{gifts_read_none, gifts_transfer, gifts_within, gifts_elsewhere, taken_before, taken_behind, ended_before, ended_behind, given_behind, given_none, openings_none, creations_none}
 use Rattle.tsl_world.proofs.Places.{at_none, at_no_read, at_join, at_more, at_behind, at_weaker}
 use Rattle.spec_parser.specs.Tree as tree
 use Rattle.spec_compiler.specs.Compiled.{Compiles}
@@ -22,7 +23,7 @@ use Rattle.trace_monitor.specs.Due.{IsDue}
 use Rattle.trace_monitor.specs.Ending.{GoesOn}
 use Rattle.trace_monitor.specs.Next.{EndsBy, most_taken}
 use Rattle.tessla_cli.specs.declared.ending.Ending.{Ending}
-use Rattle.tessla_cli.specs.Conduct.{HasWhole, IsBeforeOpening, MakesNothing, ReadsSpecFirst, StopsAtLimit, ReadsPieces, OpensAsAsked, OfPrint, GoesOnAtReads, IsPartlyDue}
+use Rattle.tessla_cli.specs.Conduct.{HasWhole, source_limit, IsBeforeOpening, MakesNothing, ReadsSpecFirst, ReadsTraceLast, StopsAtLimit, ReadsPieces, OpensAsAsked, OfPrint, GoesOnAtReads, IsPartlyDue}
 use Rattle.tessla_cli.specs.Headline.{OfRun, IsDueAtReads}
 use Rattle.tessla_cli.specs.Meant.{IsDueAsMeant, GoesOnAsMeant, BeginsAsMeant, WatchEndsAsMeant}
 use Rattle.tessla_cli.specs.Parts.{IsTake, IsTraceWork, MayRead, BeginsDue, Watched, WatchEnds}
@@ -76,11 +77,17 @@ no_opening_in slot (Took a b ∷ part) (x ∷ before) all r =
 no_opening_in slot (Gave a b ∷ part) (x ∷ before) all r =
     no_opening_in slot part before all.1 record { did = r.did; name = r.name; after = r.after; is = r.is; split = (let e = r.split in cc) }
 
+-- The specification stays whole where nothing of it is read.
+pub whole_more : (part more : List Did) → Each (IsNoRead Spec) more → HasWhole part → HasWhole (part ++ more)
+whole_more part more none (inl is) = inl (ended_before Spec part more none ∙ is)
+whole_more part more none (inr beyond) = inr (subst (λ (l : List ℕ). source_limit < length l) (sym (taken_before Spec part more none)) beyond)
+
 -- What every run shows, whatever ends it.
 pub record Shows (words : List (List ℕ)) (part : List Did) : Type 0 where
   pub opens : OpensAsAsked words part
   pub makes : MakesNothing part
   pub spec_first : ReadsSpecFirst part
+  pub trace_last : ReadsTraceLast part
   pub spec_ends : StopsAtEnd Spec part
   pub trace_ends : StopsAtEnd Trace part
   pub limit : StopsAtLimit part
@@ -97,6 +104,7 @@ shows_few words part opens makes no_opening spec trace pieces out err = record {
   opens = opens;
   makes = makes;
   spec_first = λ before r. absurd (no_opening before r);
+  trace_last = at_no_read Trace HasWhole part trace;
   spec_ends = at_no_read Spec _ part spec;
   trace_ends = at_no_read Trace _ part trace;
   limit = at_no_read Spec _ part spec;
@@ -174,10 +182,10 @@ module _ (words : List (List ℕ)) (name : List ℕ) (task : Task) (asked_is : a
     | inr (mid, is, of) ↦ (mid, is, record { did = b.did; name = b.name; after = b.after; is = b.is; split = of })
   ]
 
-  shows_tail : (rest : List Did) → Tail task rest → ((before : List Did) → IsBeforeOpening Trace before rest → HasWhole reads)
+  shows_tail : (rest : List Did) → Tail task rest → ((before : List Did) → IsBeforeOpening Trace before rest → HasWhole reads) → AtReads Trace (λ less. HasWhole (front ++ less)) rest
       → AtReads Trace (λ less. OfRun words (front ++ less) (λ items s o. IsDueAsMeant items s o (taken Trace (front ++ less)) false (given Out (front ++ less)))) rest
       → AtReads Trace (λ less. OfRun words (front ++ less) (λ items s o. GoesOnAsMeant items s o (taken Trace (front ++ less)))) rest → IsPartlyDue words (front ++ rest) → Shows words (front ++ rest)
-  shows_tail rest tail is_whole due goes_on partly = record {
+  shows_tail rest tail is_whole last due goes_on partly = record {
     opens = inr (name, task, asked_is, subst (λ (l : List (Slot × List ℕ)). Begins l (names_of name task)) (sym (front_openings rest)) (opens_so (openings rest) tail.opens));
     makes = front_creations rest ∙ tail.makes;
     spec_first = λ before b.
@@ -185,6 +193,7 @@ module _ (words : List (List ℕ)) (name : List ℕ) (task : Task) (asked_is : a
         let none : before ≡ front = is ∙ ap (λ (l : List Did). front ++ l) (tail.first mid at) ∙ append-nil front in
         let w : HasWhole front = is_whole mid at in
         subst (λ (l : List Did). HasWhole l) (sym none) w;
+    trace_last = at_join Trace HasWhole front rest (at_no_read Trace HasWhole front front_no_trace) last;
     spec_ends = at_more Spec _ front rest (at_weaker Spec MayReadSpec _ front (λ before h. h.unended) front_reads) tail.spec;
     trace_ends = at_behind Trace (λ less. ended Trace less ≡ false) (λ before. ended Trace before ≡ false) front rest front_no_trace (λ less e. ended_behind Trace front less front_no_trace ∙ e) tail.ends;
     limit = at_more Spec _ front rest (at_weaker Spec MayReadSpec _ front (λ before h. h.within) front_reads) tail.spec;
@@ -209,7 +218,7 @@ module _ (words : List (List ℕ)) (name : List ℕ) (task : Task) (asked_is : a
 
   shows_front : Shows words (front ++ [])
   shows_front =
-      shows_tail [] nothing_behind (λ before b. absurd (no_place before b.after b.did b.split)) (at_none Trace _) (at_none Trace _)
+      shows_tail [] nothing_behind (λ before b. absurd (no_place before b.after b.did b.split)) (at_none Trace _) (at_none Trace _) (at_none Trace _)
       (inl (given_none Out (front ++ []) (Each-append (IsNoGift Out) front [] front_no_out tt)))
 
   -- a text is printed
@@ -237,7 +246,7 @@ module _ (words : List (List ℕ)) (name : List ℕ) (task : Task) (asked_is : a
 
     shows_print : Shows words (front ++ part)
     shows_print =
-        shows_tail part print_behind (λ before b. g.whole) (at_no_read Trace _ part (gifts_read_none Out Trace part p.gifts)) (at_no_read Trace _ part (gifts_read_none Out Trace part p.gifts))
+        shows_tail part print_behind (λ before b. g.whole) (at_no_read Trace _ part (gifts_read_none Out Trace part p.gifts)) (at_no_read Trace _ part (gifts_read_none Out Trace part p.gifts)) (at_no_read Trace _ part (gifts_read_none Out Trace part p.gifts))
         (inr (inr (inl (of_print (λ text. Begins (given Out (front ++ part)) text) (subst (λ (l : List ℕ). Begins l p.text) (sym (given_behind Out front part front_no_out)) p.some)))))
 
   -- a trace is asked for
@@ -262,7 +271,7 @@ module _ (words : List (List ℕ)) (name : List ℕ) (task : Task) (asked_is : a
 
     shows_no_trace : (source : List ℕ) → GivesSource source reads → Shows words (front ++ NotOpened Trace trace ∷ [])
     shows_no_trace source g =
-        shows_tail (NotOpened Trace trace ∷ []) no_trace_behind (λ before b. g.whole) (at_no_read Trace _ (NotOpened Trace trace ∷ []) (tt, tt))
+        shows_tail (NotOpened Trace trace ∷ []) no_trace_behind (λ before b. g.whole) (at_no_read Trace _ (NotOpened Trace trace ∷ []) (tt, tt)) (at_no_read Trace _ (NotOpened Trace trace ∷ []) (tt, tt))
         (at_no_read Trace _ (NotOpened Trace trace ∷ []) (tt, tt))
         (inl (given_none Out (front ++ NotOpened Trace trace ∷ []) (Each-append (IsNoGift Out) front (NotOpened Trace trace ∷ []) front_no_out (tt, tt))))
 
@@ -299,9 +308,9 @@ module _ (words : List (List ℕ)) (name : List ℕ) (task : Task) (asked_is : a
       ends_behind state by part w = watch_ends_meant source items s o compiled_so state by (front ++ Opened Trace trace ∷ part) (all_ends state by part w)
 
       -- what is told of the updates
-      pub statistics_behind : (state : engine.State) (by : Ending) (part : List Did) (text : List ℕ) → WatchEnds s o state by part → text ≡ counted_text s state true
+      pub statistics_behind : (state : engine.State) (order : List ℕ) → IsTakenPlan s state.in_place order → (by : Ending) (part : List Did) (text : List ℕ) → WatchEnds s o state by part → text ≡ counted_text s state true
           → AreStatistics s o (taken Trace (front ++ Opened Trace trace ∷ part)) (ended Trace (front ++ Opened Trace trace ∷ part)) by text
-      statistics_behind state by part text w is = statistics_meant s o state by (front ++ Opened Trace trace ∷ part) text (all_ends state by part w) is
+      statistics_behind state order taken_plan by part text w is = statistics_meant s o state order taken_plan by (front ++ Opened Trace trace ∷ part) text (all_ends state by part w) is
 
       module _ (part : List Did) (w : Watched s o part) where
         spec_none : Each (IsNoRead Spec) part
@@ -332,6 +341,8 @@ module _ (words : List (List ℕ)) (name : List ℕ) (task : Task) (asked_is : a
         pub shows_watched : Shows words (front ++ Opened Trace trace ∷ part)
         shows_watched =
             shows_tail (Opened Trace trace ∷ part) watched_behind (λ before b. g.whole)
+            (at_behind Trace (λ less. MayRead s o less × Each (IsNoRead Spec) less) (λ less. HasWhole (front ++ less)) (Opened Trace trace ∷ []) part (tt, tt)
+            (λ less h. whole_more front (Opened Trace trace ∷ less) (tt, h.1) g.whole) before_read)
             (at_behind Trace (λ less. MayRead s o less × Each (IsNoRead Spec) less)
             (λ less. OfRun words (front ++ less) (λ items s o. IsDueAsMeant items s o (taken Trace (front ++ less)) false (given Out (front ++ less)))) (Opened Trace trace ∷ []) part (tt, tt)
             (λ less h. of_run (Opened Trace trace ∷ less) (λ items s o. IsDueAsMeant items s o (taken Trace (front ++ Opened Trace trace ∷ less)) false (given Out (front ++ Opened Trace trace ∷ less))) (tt, h.1)
@@ -379,6 +390,7 @@ shows_alone words a is part p = record {
   spec_first = λ before b. absurd (no_opening_in Trace part before moves b);
   spec_ends = at_no_read Spec _ part (gifts_read_none Out Spec part p.gifts);
   trace_ends = at_no_read Trace _ part (gifts_read_none Out Trace part p.gifts);
+  trace_last = at_no_read Trace HasWhole part (gifts_read_none Out Trace part p.gifts);
   limit = at_no_read Spec _ part (gifts_read_none Out Spec part p.gifts);
   pieces = gifts_within Out most_taken part p.gifts;
   due = at_no_read Trace _ part (gifts_read_none Out Trace part p.gifts);

@@ -8,5 +8,10 @@ pub mod Counted
 pub mod Facts
 pub mod Printing
 pub mod Counting
+pub mod Failing
 pub mod Told
+pub mod Writing
 pub mod Exact
+pub mod Unseen
+pub mod WholeTrace
+pub mod Completeness

@@ -1,6 +1,6 @@
 -- A text that is printed, as far as it comes.
-use Rattle.std.proofs.Common.{◌≡◌, ℕ, List, [], Result, Ok, refl, subst}
-use Rattle.register_code.specs.Plan.{IsLeastPlanOrder}
+use Rattle.std.proofs.Common.{ℕ, List, [], Result, Ok, refl}
+use Rattle.alias_rules.specs.Fine.{IsTakenPlan}
 use Rattle.register_code.specs.Code.{Code}
 use Rattle.spec_compiler.specs.Compiled.{CompilesSomething}
 use Rattle.tsl_world.specs.declared.outside.Channel.TheVariants.{Out}
@@ -21,15 +21,16 @@ module _ (P : List ℕ → Type 0) (text : List ℕ) (is : P text) where
   pub text_all : {E : Type 0} (part : List Did) → Gives {E = E} Out text (Ok tt) part → HasPrintedText P part
   text_all part g = record { text = text; is = is; gifts = g.gifts; whole = g.whole }
 
-module _ (source : List ℕ) (f : Form) (c : Code) (copies : c.in_place ≡ []) (least : IsLeastPlanOrder c.system c.order) (compiles : CompilesSomething source c.system) (text : List ℕ) (is : HasText f c text) where
+module _ (source : List ℕ) (f : Form) (c : Code) (taken : IsTakenPlan c.system c.in_place c.order) (compiles : CompilesSomething source c.system) (text : List ℕ) (is : HasText f c text) where
   pub is_text : IsTextOf source f text
   is_text = record {
     items = compiles.0;
     system = c.system;
+    set = c.in_place;
     order = c.order;
     compiles = compiles.1;
-    least = least;
-    is = subst (λ (set : List ℕ). HasText f (record { system = c.system; in_place = set; order = c.order }) text) copies is;
+    taken = taken;
+    is = is;
   }
 
   pub prints_some : {E : Type 0} (result : Result (Unit {0}) E) (part : List Did) → Gives Out text result part → Prints source f part

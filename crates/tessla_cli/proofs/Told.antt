@@ -1,6 +1,7 @@
 -- What a run shows and how it ends, behind the line that tells it.
-use Rattle.std.proofs.Common.{◌≡◌, ◌≢◌, ◌⊎◌, inl, inr, ℕ, ◌<◌, ◌≤◌, Bool, true, false, List, [], ◌∷◌, ◌++◌, length, refl, sym, ◌∙◌, ap, subst, arith, Option, Some, None, option_and_then}
+use Rattle.std.proofs.Common.{◌≡◌, ◌≢◌, ◌⊎◌, inl, inr, ℕ, Bool, true, false, List, [], ◌∷◌, ◌++◌, refl, sym, ◌∙◌, ap, subst, arith, Option, Some, None, option_and_then}
 use Rattle.std.specs.Option.{option_map_or}
+use Rattle.alias_rules.specs.Fine.{IsTakenPlan}
 use Rattle.flat_core.specs.System.{System}
 use Rattle.monitor_run.specs.State as engine
 use Rattle.spec_parser.specs.Tree as tree
@@ -9,8 +10,7 @@ use Rattle.spec_compiler.specs.Compiled.{Compiles, IsRefusedBy}
 use Rattle.trace_monitor.specs.declared.ending.RunEnding.{RunEnding}
 use Rattle.trace_monitor.specs.declared.ending.RunEnding.TheVariants as run
 use Rattle.trace_monitor.specs.declared.options.Options.{Options}
-use Rattle.tsl_world.specs.Begins.{Begins}
-use Rattle.tsl_world.specs.World.{Rose}
+use Rattle.tsl_world.specs.Begins.{Begins, BeginsStrictly}
 use Rattle.tsl_world.specs.declared.outside.Did.{Did}
 use Rattle.tsl_world.specs.declared.outside.Did.TheVariants.{Opened}
 use Rattle.tsl_world.specs.declared.outside.Slot.{Slot}
@@ -26,17 +26,20 @@ use Rattle.tessla_cli.specs.declared.ending.Ending.TheVariants as ending
 use Rattle.tessla_cli.specs.declared.ending.Broken.{Broken}
 use Rattle.tessla_cli.specs.declared.ending.Broken.TheVariants as broken
 use Rattle.tessla_cli.specs.Alone.{AloneStops}
-use Rattle.tessla_cli.specs.Conduct.{HasWhole, IsBeforeOpening, OfPrint, OfAlone, EndsRun, AloneEnds, SpecRefused, IsPartlyDue, RunEnds, source_limit}
+use Rattle.tessla_cli.specs.Conduct.{HasWhole, IsBeforeOpening, OfPrint, OfAlone, EndsRun, AloneEnds, SpecRefused, IsPartlyDue, RunEnds}
+use Rattle.tessla_cli.specs.Failures.{Failures, NoneFailed, CallFailed, WriteFailed, SomeFailed}
 use Rattle.tessla_cli.specs.Headline.{OfRun}
 use Rattle.tessla_cli.specs.Meant.{IsDueAsMeant, EndsAsMeant, BeginsAsMeant, WatchEndsAsMeant}
-use Rattle.tessla_cli.specs.Messages.{ended_text, ending_line, broken_line, broken_status, status_of}
-use Rattle.tessla_cli.specs.Outcome.{Ends, Faulted, IsToldBefore, unasked, refused_before, counted, Limited, LineRefused, Refused, TellsSome, cut_short, unfinished, Outcome, told, outside, memory, ShowsAlways, Concludes, Tells, TellsBroken, all_of_broken, some_of_broken, TellsEnding, all_of_ending, some_of_ending, no_text}
+use Rattle.tessla_cli.specs.Messages.{ended_text, broken_line, status_of}
+use Rattle.tessla_cli.specs.Outcome.{Ends, Faulted, IsToldBefore, unasked, refused_before, counted, Limited, LineRefused, Refused, TellsFailure, told_failure, untold_ending, untold_memory, untold_failure, Outcome, told, outside, memory, ShowsAlways, Concludes, TellsBroken, all_of_broken, some_of_broken, TellsEnding, all_of_ending, some_of_ending, no_text}
 use Rattle.tessla_cli.specs.Parts.{ending_of, Watched, WatchEnds}
 use Rattle.tessla_cli.specs.Shape.{ReadsSpec, GivesSource, counted_text, ends, SourceEnds, spec_refused, compiled_ends, printed, whole_ends, WordsEnd, words_refused, asked_ends, sampled, AloneIsDone, written, stopped}
 use Rattle.tessla_cli.specs.Printed.{IsTextOf}
 use Rattle.tessla_cli.specs.Statistics.{AreStatistics}
 use Rattle.tessla_cli.specs.Tasks.{Alone, Request, Task, alone, alone_of, asked_of, asks_statistics, benched, has_statistics, made, monitor, names_of, over, requested, with_spec, without_spec}
-use Rattle.tessla_cli.proofs.Facts.{Shows, no_opening_in, of_run, of_print, ends_behind, statistics_behind, each_take, each_work}
+use Rattle.tessla_cli.proofs.Failing.{call_and_none, call_and_write, none_and_write}
+use Rattle.tessla_cli.proofs.Unseen.{no_update_is_seen}
+use Rattle.tessla_cli.proofs.Facts.{Shows, no_opening_in, whole_more, of_run, of_print, ends_behind, statistics_behind, each_take, each_work}
 use Rattle.std.proofs.lemmas.List.{append-nil}
 
 -- a run that ends before the end of its trace is not done
@@ -125,7 +128,7 @@ module _ (words : List (List ℕ)) where
     source_ends by rest (spec_refused {fault} same nothing refused none) =
         subst (λ (b : Ending). RunEnds words b (Opened Spec name ∷ (reads ++ rest))) (sym same)
         (inl (subst (λ (l : List Did). SpecRefused words fault (Opened Spec name ∷ l)) (sym (ap (λ (l : List Did). reads ++ l) none ∙ append-nil reads)) (refused_front fault refused)))
-    source_ends by _ (compiled_ends trace o statistics monitors items s c (ends state part w e is_told)) =
+    source_ends by _ (compiled_ends trace o statistics monitors items s c (ends state order part taken_plan w e is_told)) =
         of_watch by.ending (Opened Spec name ∷ (reads ++ Opened Trace trace ∷ part))
         (of_run words name task is reads r trace o statistics monitors source g items s c (Opened Trace trace ∷ part) (λ items s o. WatchEndsAsMeant items s o by.ending (Opened Spec name ∷ (reads ++ Opened Trace trace ∷ part)))
         (tt, each_work (IsNoRead Spec) (λ bytes short. refl) (λ bytes. tt) part w.work) (ends_behind words name task is reads r trace o statistics monitors source g items s c state by.ending part e))
@@ -137,19 +140,19 @@ module _ (words : List (List ℕ)) where
         (inr (inl (of_print words name task is reads r source g f printing rest record { text = p.text; is = p.is; gifts = p.gifts; some = begins } (λ text. given Out part ≡ text) given_is)))
 
     -- what is told of the updates of a run, with statistics or without
-    run_before : (trace : List ℕ) (o : Options) (statistics : Bool) → task ≡ monitor trace o statistics → (items : List tree.Item) (s : System) → Compiles source items s → (state : engine.State)
-        (by : Ended) (part : List Did) → Watched s o part → WatchEnds s o state by.ending part → by.statistics ≡ counted_text s state statistics
+    run_before : (trace : List ℕ) (o : Options) (statistics : Bool) → task ≡ monitor trace o statistics → (items : List tree.Item) (s : System) → Compiles source items s → (state : engine.State) (order : List ℕ) → IsTakenPlan s state.in_place order
+        → (by : Ended) (part : List Did) → Watched s o part → WatchEnds s o state by.ending part → by.statistics ≡ counted_text s state statistics
         → IsToldBefore words by.ending (Opened Spec name ∷ (reads ++ Opened Trace trace ∷ part)) by.statistics
-    run_before trace o false monitors items s c state by part w e is_told = unasked (asks_as words name task is ∙ ap has_statistics monitors) is_told
-    run_before trace o true monitors items s c state by part w e is_told =
+    run_before trace o false monitors items s c state order taken_plan by part w e is_told = unasked (asks_as words name task is ∙ ap has_statistics monitors) is_told
+    run_before trace o true monitors items s c state order taken_plan by part w e is_told =
         let whole = Opened Spec name ∷ (reads ++ Opened Trace trace ∷ part) in
         counted (asks_as words name task is ∙ ap has_statistics monitors)
         (of_run words name task is reads r trace o true monitors source g items s c (Opened Trace trace ∷ part) (λ items s o. AreStatistics s o (taken Trace whole) (ended Trace whole) by.ending by.statistics)
-        (tt, each_work (IsNoRead Spec) (λ bytes short. refl) (λ bytes. tt) part w.work) (statistics_behind words name task is reads r trace o true monitors source g items s c state by.ending part by.statistics e is_told))
+        (tt, each_work (IsNoRead Spec) (λ bytes short. refl) (λ bytes. tt) part w.work) (statistics_behind words name task is reads r trace o true monitors source g items s c state order taken_plan by.ending part by.statistics e is_told))
 
     source_before : (by : Ended) (rest : List Did) → SourceEnds source task by rest → IsToldBefore words by.ending (Opened Spec name ∷ (reads ++ rest)) by.statistics
     source_before by rest (spec_refused {fault} same nothing refused none) = refused_before fault same nothing
-    source_before by _ (compiled_ends trace o statistics monitors items s c (ends state part w e is_told)) = run_before trace o statistics monitors items s c state by part w e is_told
+    source_before by _ (compiled_ends trace o statistics monitors items s c (ends state order part taken_plan w e is_told)) = run_before trace o statistics monitors items s c state order taken_plan by part w e is_told
     source_before by rest (printed f printing done nothing p) = unasked (asks_as words name task is ∙ ap has_statistics printing) nothing
 
   -- how a run ends, from its parts
@@ -233,6 +236,7 @@ module _ (words : List (List ℕ)) where
       opens = subst (λ (l : List (Slot × List ℕ)). (l ≡ []) ⊎ ((name : List ℕ) × (task : Task) × (asked_of words ≡ Some (name, task)) × Begins l (names_of name task))) (sym (openings_before part more moves)) s.opens;
       makes = creations_before part more moves ∙ s.makes;
       spec_first = λ before b. s.spec_first before (opening_told before b);
+      trace_last = at_more Trace HasWhole part more s.trace_last (no_reads Trace);
       spec_ends = at_more Spec _ part more s.spec_ends (no_reads Spec);
       trace_ends = at_more Trace _ part more s.trace_ends (no_reads Trace);
       limit = at_more Spec _ part more s.limit (no_reads Spec);
@@ -240,6 +244,7 @@ module _ (words : List (List ℕ)) where
       due = at_more Trace _ part more s.due (no_reads Trace);
       goes_on = at_more Trace _ part more s.goes_on (no_reads Trace);
       partly = partly_told s.partly;
+      unseen = no_update_is_seen words (part ++ more);
     }
 
     -- the ending stays
@@ -279,14 +284,10 @@ module _ (words : List (List ℕ)) where
       task = f.task;
       asked = f.asked;
       opens = openings_before part more moves ∙ f.opens;
-      whole = whole_told f.whole;
+      whole = whole_more part more (no_reads Spec) f.whole;
       refused = subst (λ (l : List ℕ). IsRefusedBy l fault) (sym (taken_before Spec part more (no_reads Spec))) f.refused;
       nothing = given_before Out part more no_out ∙ f.nothing;
     }
-      where
-        whole_told : HasWhole part → HasWhole (part ++ more)
-        whole_told (inl is) = inl (ended_before Spec part more (no_reads Spec) ∙ is)
-        whole_told (inr beyond) = inr (subst (λ (l : List ℕ). source_limit < length l) (sym (taken_before Spec part more (no_reads Spec))) beyond)
     run_ends_told (ending.Trace fault) (inl f) = inl (ends_told (ending.Trace fault) f)
     run_ends_told (ending.Trace fault) (inr f) = inr (stops_told (ending.Trace fault) f)
     run_ends_told (ending.Fault t k p) (inl f) = inl (ends_told (ending.Fault t k p) f)
@@ -308,54 +309,64 @@ module _ (words : List (List ℕ)) where
     err_told none = given-append Err part more ∙ ap (λ (l : List ℕ). l ++ given Err more) none
 
     module _ (shows : Shows words part) where
-      with_outcome : (status : ℕ) → Outcome words status (part ++ more) → Concludes words status (part ++ more)
-      with_outcome status outcome = record { shows = shows_told shows; outcome = outcome }
+      with_outcome : (before now : Failures) (status : ℕ) → Outcome words before now status (part ++ more) → Concludes words before now status (part ++ more)
+      with_outcome before now status outcome = record { shows = shows_told shows; outcome = outcome }
 
-  -- a run that was cut short is told
-  pub concludes_broken : (by : Broken) (status : ℕ) (part more : List Did) → Shows words part → TellsBroken by status more → Concludes words status (part ++ more)
-  concludes_broken by status part more shows (all_of_broken is gifts whole) = with_outcome part more gifts shows status (of_broken by status is (err_told part more gifts shows.silent ∙ whole))
-    where
-      of_broken : (by : Broken) (status : ℕ) → status ≡ broken_status by → Tells (broken_line by) (part ++ more) → Outcome words status (part ++ more)
-      of_broken broken.Outside status is tells = outside is (cut_short broken.Outside record { rest = []; is = sym tells ∙ sym (append-nil (given Err (part ++ more))) })
-      of_broken broken.Memory status is tells = memory is tells
-  concludes_broken by status part more shows (some_of_broken is gifts some) =
-      with_outcome part more gifts shows status (outside is (cut_short by (subst (λ (l : List ℕ). Begins l (broken_line by)) (sym (err_told part more gifts shows.silent)) some)))
+    -- less of a text
+    less_told : (text : List ℕ) → given Err part ≡ [] → BeginsStrictly (given Err more) text → BeginsStrictly (given Err (part ++ more)) text
+    less_told text none less = subst (λ (l : List ℕ). BeginsStrictly l text) (sym (err_told none)) less
 
-  -- an ending is told
-  pub concludes_ending : (by : Ended) (status : ℕ) (part more : List Did) → Shows words part → RunEnds words by.ending part → IsToldBefore words by.ending part by.statistics → TellsEnding by status more
-      → Concludes words status (part ++ more)
-  concludes_ending by status part more shows held before (all_of_ending is gifts whole) =
-      with_outcome part more gifts shows status (told by.ending is record {
-        ends = run_ends_told part more gifts by.ending held;
-        before = by.statistics;
-        is_before = before_told part more gifts by.ending by.statistics before;
-        told = err_told part more gifts shows.silent ∙ whole;
-      })
-  concludes_ending by status part more shows held before (some_of_ending is gifts some) =
-      with_outcome part more gifts shows status (outside is (unfinished by.ending (run_ends_told part more gifts by.ending held) by.statistics (before_told part more gifts by.ending by.statistics before)
-      (subst (λ (l : List ℕ). Begins l (ended_text by)) (sym (err_told part more gifts shows.silent)) some)))
-  concludes_ending by status part more shows held before (no_text tells) = concludes_broken broken.Memory status part more shows tells
+  -- A run that was cut short is told: by a failure of the outside, or by a want of memory.
+  module _ (before mid now : Failures) (status : ℕ) (part more : List Did) (shows : Shows words part) where
+    pub concludes_failure : CallFailed before mid → TellsBroken broken.Outside mid now status more → Concludes words before now status (part ++ more)
+    concludes_failure call (all_of_broken is same gifts whole) =
+        with_outcome part more gifts shows before now status (outside is (told_failure (call_and_none before mid now call same) (err_told part more gifts shows.silent ∙ whole)))
+    concludes_failure call (some_of_broken is write gifts less) =
+        with_outcome part more gifts shows before now status (outside is (untold_failure (call_and_write before mid now call write) (less_told part more gifts (broken_line broken.Outside) shows.silent less)))
+
+    pub concludes_memory : NoneFailed before mid → TellsBroken broken.Memory mid now status more → Concludes words before now status (part ++ more)
+    concludes_memory none (all_of_broken is same gifts whole) = with_outcome part more gifts shows before now status (memory is (err_told part more gifts shows.silent ∙ whole))
+    concludes_memory none (some_of_broken is write gifts less) =
+        with_outcome part more gifts shows before now status (outside is (untold_memory (none_and_write before mid now none write) (less_told part more gifts (broken_line broken.Memory) shows.silent less)))
+
+    -- An ending is told.
+    pub concludes_ending : (by : Ended) → NoneFailed before mid → RunEnds words by.ending part → IsToldBefore words by.ending part by.statistics → TellsEnding by mid now status more
+        → Concludes words before now status (part ++ more)
+    concludes_ending by none held first (all_of_ending is gifts whole) =
+        with_outcome part more gifts shows before now status (told by.ending is record {
+          ends = run_ends_told part more gifts by.ending held;
+          before = by.statistics;
+          is_before = before_told part more gifts by.ending by.statistics first;
+          told = err_told part more gifts shows.silent ∙ whole;
+        })
+    concludes_ending by none held first (some_of_ending is write gifts less) =
+        with_outcome part more gifts shows before now status (outside is (untold_ending (none_and_write before mid now none write) by.ending (run_ends_told part more gifts by.ending held) by.statistics
+        (before_told part more gifts by.ending by.statistics first) (less_told part more gifts (ended_text by) shows.silent less)))
+    concludes_ending by none held first (no_text tells) = concludes_memory none tells
+
+  pub concludes_broken : (by : Broken) (before mid now : Failures) (status : ℕ) (part more : List Did) → (by ≡ broken.Outside → CallFailed before mid) → (by ≡ broken.Memory → NoneFailed before mid) → Shows words part
+      → TellsBroken by mid now status more → Concludes words before now status (part ++ more)
+  concludes_broken broken.Outside before mid now status part more call none shows tells = concludes_failure before mid now status part more shows (call refl) tells
+  concludes_broken broken.Memory before mid now status part more call none shows tells = concludes_memory before mid now status part more shows (none refl) tells
 
 is_which : (by : Broken) → (by ≡ broken.Outside) ⊎ (by ≡ broken.Memory)
 is_which broken.Outside = inl refl
 is_which broken.Memory = inr refl
 
--- The count of faults where a run was cut short, and its line was written or not.
-module _ (by : Broken) (old mid new : ℕ) (same : by ≡ broken.Memory → mid ≡ old) where
-  pub calm_broken : (result : ℕ) → (by ≡ broken.Outside → result ≡ 5) → ((result ≡ 5 → ⊥) → new ≡ mid) → (result ≡ 5 → ⊥) → new ≡ old
-  calm_broken result five calm other = elim (is_which by) [
-    | inl is ↦ absurd (other (five is))
-    | inr is ↦ calm other ∙ same is
-  ]
+-- The count of failures where a run was cut short, and its line was written or not.
+pub calm_broken : (by : Broken) (old mid new : ℕ) → (by ≡ broken.Memory → mid ≡ old) → (result : ℕ) → (by ≡ broken.Outside → result ≡ 5) → ((result ≡ 5 → ⊥) → new ≡ mid) → (result ≡ 5 → ⊥) → new ≡ old
+calm_broken by old mid new same result five calm other = elim (is_which by) [
+  | inl is ↦ absurd (other (five is))
+  | inr is ↦ calm other ∙ same is
+]
 
-  pub rose_broken : (by ≡ broken.Outside → Rose old mid) → mid ≤ new → (by ≡ broken.Outside) ⊎ Rose mid new → Rose old new
-  rose_broken rose later why = elim (is_which by) [
-    | inl is ↦ let r = rose is in omega arith
-    | inr is ↦ elim why [
-      | inl is ↦ let r = rose is in omega arith
-      | inr r ↦ subst (λ (n : ℕ). Rose n new) (same is) r
-    ]
-  ]
+pub failed_broken : (by : Broken) (old mid new : Failures) → (by ≡ broken.Outside → CallFailed old mid) → (by ≡ broken.Memory → NoneFailed old mid)
+    → ((by ≡ broken.Outside) × NoneFailed mid new) ⊎ WriteFailed mid new → SomeFailed old new
+failed_broken by old mid new call none (inl (is, kept)) = inl (call_and_none old mid new (call is) kept)
+failed_broken by old mid new call none (inr write) = elim (is_which by) [
+  | inl is ↦ inr (inr (call_and_write old mid new (call is) write))
+  | inr is ↦ inr (inl (none_and_write old mid new (none is) write))
+]
 
 -- status 5 is that of a failure of the outside alone
 no_five : (by : Ending) → 5 ≡ status_of by → ⊥
@@ -366,13 +377,13 @@ no_five (ending.Trace fault) is = absurd (omega arith)
 no_five (ending.Fault t k p) is = absurd (omega arith)
 no_five (ending.Limit n t) is = absurd (omega arith)
 
-five_of : (words : List (List ℕ)) (status : ℕ) (part : List Did) → status ≡ 5 → Outcome words status part → TellsSome words part
-five_of words status part five (told by is held) = absurd (no_five by (sym five ∙ is))
-five_of words status part five (outside is some) = some
-five_of words status part five (memory is tells) = absurd (omega arith)
+five_of : (words : List (List ℕ)) (before now : Failures) (status : ℕ) (part : List Did) → status ≡ 5 → Outcome words before now status part → TellsFailure words before now part
+five_of words before now status part five (told by is held) = absurd (no_five by (sym five ∙ is))
+five_of words before now status part five (outside is some) = some
+five_of words before now status part five (memory is tells) = absurd (omega arith)
 
-pub tells_some : (words : List (List ℕ)) (status : ℕ) (part : List Did) → status ≡ 5 → Concludes words status part → TellsSome words part
-tells_some words status part five c = five_of words status part five c.outcome
+pub tells_failure : (words : List (List ℕ)) (before now : Failures) (status : ℕ) (part : List Did) → status ≡ 5 → Concludes words before now status part → TellsFailure words before now part
+tells_failure words before now status part five c = five_of words before now status part five c.outcome
 
 -- status 1 is that of a fault alone
 fault_of : (words : List (List ℕ)) (by : Ending) (part : List Did) → 1 ≡ status_of by → Ends words by part → Faulted words part
@@ -383,13 +394,13 @@ fault_of words (ending.Spec fault) part is held = absurd (omega arith)
 fault_of words (ending.Trace fault) part is held = absurd (omega arith)
 fault_of words (ending.Limit n t) part is held = absurd (omega arith)
 
-one_of : (words : List (List ℕ)) (status : ℕ) (part : List Did) → status ≡ 1 → Outcome words status part → Faulted words part
-one_of words status part one (told by is held) = fault_of words by part (sym one ∙ is) held
-one_of words status part one (outside is some) = absurd (omega arith)
-one_of words status part one (memory is tells) = absurd (omega arith)
+one_of : (words : List (List ℕ)) (before now : Failures) (status : ℕ) (part : List Did) → status ≡ 1 → Outcome words before now status part → Faulted words part
+one_of words before now status part one (told by is held) = fault_of words by part (sym one ∙ is) held
+one_of words before now status part one (outside is some) = absurd (omega arith)
+one_of words before now status part one (memory is tells) = absurd (omega arith)
 
-pub is_faulted : (words : List (List ℕ)) (status : ℕ) (part : List Did) → status ≡ 1 → Concludes words status part → Faulted words part
-is_faulted words status part one c = one_of words status part one c.outcome
+pub is_faulted : (words : List (List ℕ)) (before now : Failures) (status : ℕ) (part : List Did) → status ≡ 1 → Concludes words before now status part → Faulted words part
+is_faulted words before now status part one c = one_of words before now status part one c.outcome
 
 -- status 0 is that of a run to its end alone
 done_of : (words : List (List ℕ)) (by : Ending) (part : List Did) → 0 ≡ status_of by → Ends words by part → Ends words ending.Done part
@@ -400,10 +411,10 @@ done_of words (ending.Trace fault) part is held = absurd (omega arith)
 done_of words (ending.Fault t k p) part is held = absurd (omega arith)
 done_of words (ending.Limit n t) part is held = absurd (omega arith)
 
-pub is_done : (words : List (List ℕ)) (status : ℕ) (part : List Did) → status ≡ 0 → Concludes words status part → Ends words ending.Done part
-is_done words status part none c = go c.outcome
+pub is_done : (words : List (List ℕ)) (before now : Failures) (status : ℕ) (part : List Did) → status ≡ 0 → Concludes words before now status part → Ends words ending.Done part
+is_done words before now status part none c = go c.outcome
   where
-    go : Outcome words status part → Ends words ending.Done part
+    go : Outcome words before now status part → Ends words ending.Done part
     go (told by is held) = done_of words by part (sym none ∙ is) held
     go (outside is some) = absurd (omega arith)
     go (memory is tells) = absurd (omega arith)
@@ -417,10 +428,10 @@ line_of words (ending.Spec fault) part is held = absurd (omega arith)
 line_of words (ending.Fault t k p) part is held = absurd (omega arith)
 line_of words (ending.Limit n t) part is held = absurd (omega arith)
 
-pub is_line : (words : List (List ℕ)) (status : ℕ) (part : List Did) → status ≡ 4 → Concludes words status part → LineRefused words part
-is_line words status part same c = go c.outcome
+pub is_line : (words : List (List ℕ)) (before now : Failures) (status : ℕ) (part : List Did) → status ≡ 4 → Concludes words before now status part → LineRefused words part
+is_line words before now status part same c = go c.outcome
   where
-    go : Outcome words status part → LineRefused words part
+    go : Outcome words before now status part → LineRefused words part
     go (told by is held) = line_of words by part (sym same ∙ is) held
     go (outside is some) = absurd (omega arith)
     go (memory is tells) = absurd (omega arith)
@@ -434,10 +445,10 @@ limit_of words (ending.Spec fault) part is held = absurd (omega arith)
 limit_of words (ending.Trace fault) part is held = absurd (omega arith)
 limit_of words (ending.Fault t k p) part is held = absurd (omega arith)
 
-pub is_limit : (words : List (List ℕ)) (status : ℕ) (part : List Did) → status ≡ 7 → Concludes words status part → Limited words part
-is_limit words status part same c = go c.outcome
+pub is_limit : (words : List (List ℕ)) (before now : Failures) (status : ℕ) (part : List Did) → status ≡ 7 → Concludes words before now status part → Limited words part
+is_limit words before now status part same c = go c.outcome
   where
-    go : Outcome words status part → Limited words part
+    go : Outcome words before now status part → Limited words part
     go (told by is held) = limit_of words by part (sym same ∙ is) held
     go (outside is some) = absurd (omega arith)
     go (memory is tells) = absurd (omega arith)
@@ -451,10 +462,10 @@ refused_of words (ending.Trace fault) part is held = absurd (omega arith)
 refused_of words (ending.Fault t k p) part is held = absurd (omega arith)
 refused_of words (ending.Limit n t) part is held = absurd (omega arith)
 
-pub is_refused : (words : List (List ℕ)) (status : ℕ) (part : List Did) → status ≡ 3 → Concludes words status part → Refused words part
-is_refused words status part same c = go c.outcome
+pub is_refused : (words : List (List ℕ)) (before now : Failures) (status : ℕ) (part : List Did) → status ≡ 3 → Concludes words before now status part → Refused words part
+is_refused words before now status part same c = go c.outcome
   where
-    go : Outcome words status part → Refused words part
+    go : Outcome words before now status part → Refused words part
     go (told by is held) = refused_of words by part (sym same ∙ is) held
     go (outside is some) = absurd (omega arith)
     go (memory is tells) = absurd (omega arith)

@@ -42,6 +42,10 @@ MakesNothing part = creations part ≡ []
 abbrev pub ReadsSpecFirst : List Did → Type 0
 ReadsSpecFirst part = (before : List Did) → IsBeforeOpening Trace before part → HasWhole before
 
+-- So is the trace read: each read of it stands after the whole of the specification, or so much of it.
+abbrev pub ReadsTraceLast : List Did → Type 0
+ReadsTraceLast part = AtReads Trace HasWhole part
+
 -- No read of the specification follows once more of it was taken than it may have.
 abbrev pub StopsAtLimit : List Did → Type 0
 StopsAtLimit part = AtReads Spec (λ before. length (taken Spec before) ≤ source_limit) part
@@ -51,7 +55,8 @@ abbrev pub ReadsPieces : List Did → Type 0
 ReadsPieces part = Each (IsWithin most_taken) part
 
 module _ (words : List (List ℕ)) where
-  -- Nothing is opened but what the words ask for, the specification and then the trace, each once and each whether it could be opened or not.
+  -- Nothing is opened but what the words ask for, the specification and then the trace, each once and each whether it could be opened or
+  -- not.
   abbrev pub OpensAsAsked : List Did → Type 0
   OpensAsAsked part = (openings part ≡ [])
       ⊎ ((name : List ℕ) × (task : Task) × (asked_of words ≡ Some (name, task)) × Begins (openings part) (names_of name task))
@@ -81,7 +86,9 @@ module _ (words : List (List ℕ)) where
   -- the words ask to print, of a specification or without one.
   abbrev pub IsPartlyDue : List Did → Type 0
   IsPartlyDue part =
-      (given Out part ≡ []) ⊎ OfRun words part (λ items s o. BeginsAsMeant items s o part) ⊎ OfPrint part (λ text. Begins (given Out part) text)
+      (given Out part ≡ [])
+      ⊎ OfRun words part (λ items s o. BeginsAsMeant items s o part)
+      ⊎ OfPrint part (λ text. Begins (given Out part) text)
       ⊎ OfAlone (λ text. Begins (given Out part) text)
 
   -- All the text that is due of what was taken was given to Out, and this is the cause of the ending.

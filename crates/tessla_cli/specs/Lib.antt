@@ -6,6 +6,9 @@ pub mod Statistics
 pub mod Alone
 pub mod Meant
 pub mod Headline
+pub mod Failures
 pub mod Conduct
 pub mod Outcome
+pub mod Completeness
 pub mod Shape
+pub mod Unseen

@@ -17,10 +17,10 @@ use Rattle.tessla_cli.specs.declared.ending.Ending.TheVariants as ending
 -- For the items of a specification and their flat system once it is simplified. Of the system, what is due takes the inputs alone: by them
 -- the lines of the trace are read, and so the bound below which times are closed.
 --
--- The time of a fault is that of the meaning, and its place and kind are those that the system names. These can differ. Take `in i: Events[Int]`,
--- `def c := 5 / m`, `def m := merge(i, b)`, `def b := 1 / i` and `out c`, and the line `1: i = 0`. In the meaning `m` is a fault at 1,
--- so `c` passes it on, and `1 / i` alone has a root fault. In the simplified system `m` gives way to `i`, so that `5 / m` has one too, and
--- it is named, since its number is less.
+-- The time of a fault is that of the meaning, and its place and kind are those that the system names. These can differ. Take
+-- `in i: Events[Int]`, `def c := 5 / m`, `def m := merge(i, b)`, `def b := 1 / i` and `out c`, and the line `1: i = 0`. In the meaning
+-- `m` is a fault at 1, so `c` passes it on, and `1 / i` alone has a root fault. In the simplified system `m` gives way to `i`, so that
+-- `5 / m` has one too, and it is named, since its number is less.
 module _ (items : List tree.Item) (s : System) (o : Options) where
   -- the text is due of these bytes of the trace
   abbrev pub IsDueAsMeant : List ℕ → Bool → List ℕ → Type 0

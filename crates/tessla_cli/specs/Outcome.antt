@@ -4,7 +4,7 @@ use Rattle.lift_func.specs.declared.fault.FaultKind.{FaultKind}
 use Rattle.trace_reader.specs.declared.fault.TraceFault.{TraceFault}
 use Rattle.spec_reader.specs.declared.fault.SpecFault.{SpecFault}
 use Rattle.tsl_value.specs.declared.place.Place.{Place}
-use Rattle.tsl_world.specs.Begins.{Begins}
+use Rattle.tsl_world.specs.Begins.{BeginsStrictly}
 use Rattle.tsl_world.specs.declared.outside.Did.{Did}
 use Rattle.tsl_world.specs.declared.outside.Slot.TheVariants.{Spec, Trace}
 use Rattle.tsl_world.specs.declared.outside.Channel.TheVariants.{Err}
@@ -14,30 +14,35 @@ use Rattle.tessla_cli.specs.declared.ending.Ending.{Ending}
 use Rattle.tessla_cli.specs.declared.ending.Ending.TheVariants as ending
 use Rattle.tessla_cli.specs.declared.ending.Broken.{Broken}
 use Rattle.tessla_cli.specs.declared.ending.Broken.TheVariants as broken
-use Rattle.tessla_cli.specs.Conduct.{OpensAsAsked, MakesNothing, ReadsSpecFirst, StopsAtLimit, ReadsPieces, GoesOnAtReads, IsPartlyDue, RunEnds}
+use Rattle.tessla_cli.specs.Conduct.{OpensAsAsked, MakesNothing, ReadsSpecFirst, ReadsTraceLast, StopsAtLimit, ReadsPieces, GoesOnAtReads, IsPartlyDue, RunEnds}
+use Rattle.tessla_cli.specs.Failures.{Failures, NoneFailed, CallFailed, WriteFailed, BothFailed}
 use Rattle.tessla_cli.specs.Headline.{IsDueAtReads, OfRun}
 use Rattle.tessla_cli.specs.Messages.{ended_text, ending_line, broken_line, broken_status, status_of}
 use Rattle.tessla_cli.specs.Statistics.{AreStatistics}
 use Rattle.tessla_cli.specs.Tasks.{asks_statistics}
+use Rattle.tessla_cli.specs.Unseen.{NoUpdateIsSeen}
 
 -- this is what was given to Err
 abbrev pub Tells : List ℕ → List Did → Type 0
 Tells line part = given Err part ≡ line
 
--- A run that was cut short is told by its line, or by its beginning where the writing failed.
-pub data TellsBroken (by : Broken) (status : ℕ) (part : List Did) : Type 0 where
-  all_of_broken : status ≡ broken_status by → Each (IsGift Err) part → Tells (broken_line by) part → TellsBroken by status part
-  some_of_broken : status ≡ 5 → Each (IsGift Err) part → Begins (given Err part) (broken_line by) → TellsBroken by status part
+-- A run that was cut short is told by its line. Where a write of that fails, which is counted, nothing more is written.
+pub data TellsBroken (by : Broken) (before now : Failures) (status : ℕ) (part : List Did) : Type 0 where
+  all_of_broken : status ≡ broken_status by → NoneFailed before now → Each (IsGift Err) part → Tells (broken_line by) part
+      → TellsBroken by before now status part
+  some_of_broken : status ≡ 5 → WriteFailed before now → Each (IsGift Err) part → BeginsStrictly (given Err part) (broken_line by)
+      → TellsBroken by before now status part
 
--- An ending is told by its text, or by the beginning of that where the writing failed, or the want of memory for the text is told.
-pub data TellsEnding (by : Ended) (status : ℕ) (part : List Did) : Type 0 where
-  all_of_ending : status ≡ status_of by.ending → Each (IsGift Err) part → Tells (ended_text by) part → TellsEnding by status part
-  some_of_ending : status ≡ 5 → Each (IsGift Err) part → Begins (given Err part) (ended_text by) → TellsEnding by status part
-  no_text : TellsBroken broken.Memory status part → TellsEnding by status part
+-- An ending is told by its text in the same way, or else the want of memory for the text is told.
+pub data TellsEnding (by : Ended) (before now : Failures) (status : ℕ) (part : List Did) : Type 0 where
+  all_of_ending : status ≡ status_of by.ending → Each (IsGift Err) part → Tells (ended_text by) part → TellsEnding by before now status part
+  some_of_ending : status ≡ 5 → WriteFailed before now → Each (IsGift Err) part → BeginsStrictly (given Err part) (ended_text by)
+      → TellsEnding by before now status part
+  no_text : TellsBroken broken.Memory before now status part → TellsEnding by before now status part
 
 module _ (words : List (List ℕ)) where
-  -- This is told before the line of an ending: the statistics of a run that was asked for them. Nothing is told where they are not asked for, and
-  -- of a specification that is refused.
+  -- This is told before the line of an ending: the statistics of a run that was asked for them. Nothing is told where they are not asked
+  -- for, and of a specification that is refused.
   pub data IsToldBefore (by : Ending) (part : List Did) (text : List ℕ) : Type 0 where
     unasked : asks_statistics words ≡ false → text ≡ [] → IsToldBefore by part text
     refused_before : (fault : SpecFault) → by ≡ ending.Spec fault → text ≡ [] → IsToldBefore by part text
@@ -74,17 +79,21 @@ module _ (words : List (List ℕ)) where
     pub time : ℕ
     pub ends : Ends (ending.Limit count time) part
 
-  -- Status 5: what was given to Err begins the line of a failure of the outside, or what tells another ending, whose own writing failed.
-  pub data TellsSome (part : List Did) : Type 0 where
-    cut_short : (by : Broken) → Begins (given Err part) (broken_line by) → TellsSome part
-    unfinished : (by : Ending) → RunEnds words by part → (before : List ℕ) → IsToldBefore by part before
-        → Begins (given Err part) (before ++ ending_line by) → TellsSome part
+  -- Status 5. A call failed, and Err was given the whole line that tells it. Or a write to Err failed, and Err was given less than the
+  -- text of which it was: of what tells an ending, or of the line that tells a want of memory, or of that line, where a call had failed
+  -- before.
+  pub data TellsFailure (before now : Failures) (part : List Did) : Type 0 where
+    told_failure : CallFailed before now → Tells (broken_line broken.Outside) part → TellsFailure before now part
+    untold_ending : WriteFailed before now → (by : Ending) → RunEnds words by part → (text : List ℕ) → IsToldBefore by part text
+        → BeginsStrictly (given Err part) (text ++ ending_line by) → TellsFailure before now part
+    untold_memory : WriteFailed before now → BeginsStrictly (given Err part) (broken_line broken.Memory) → TellsFailure before now part
+    untold_failure : BothFailed before now → BeginsStrictly (given Err part) (broken_line broken.Outside) → TellsFailure before now part
 
   -- one of these, by the status
-  pub data Outcome (status : ℕ) (part : List Did) : Type 0 where
-    told : (by : Ending) → status ≡ status_of by → Ends by part → Outcome status part
-    outside : status ≡ 5 → TellsSome part → Outcome status part
-    memory : status ≡ 6 → Tells (broken_line broken.Memory) part → Outcome status part
+  pub data Outcome (before now : Failures) (status : ℕ) (part : List Did) : Type 0 where
+    told : (by : Ending) → status ≡ status_of by → Ends by part → Outcome before now status part
+    outside : status ≡ 5 → TellsFailure before now part → Outcome before now status part
+    memory : status ≡ 6 → Tells (broken_line broken.Memory) part → Outcome before now status part
 
   -- Exactly where: where an ending has its cause, the status is its own, unless the outside failed or memory was wanting.
   abbrev pub IsExact : ℕ → List Did → Type 0
@@ -95,6 +104,7 @@ module _ (words : List (List ℕ)) where
     pub opens : OpensAsAsked words part
     pub makes : MakesNothing part
     pub spec_first : ReadsSpecFirst part
+    pub trace_last : ReadsTraceLast part
     pub spec_ends : StopsAtEnd Spec part
     pub trace_ends : StopsAtEnd Trace part
     pub limit : StopsAtLimit part
@@ -102,7 +112,8 @@ module _ (words : List (List ℕ)) where
     pub due : IsDueAtReads words part
     pub goes_on : GoesOnAtReads words part
     pub partly : IsPartlyDue words part
+    pub unseen : NoUpdateIsSeen words part
 
-  pub record Concludes (status : ℕ) (part : List Did) : Type 0 where
+  pub record Concludes (before now : Failures) (status : ℕ) (part : List Did) : Type 0 where
     pub shows : ShowsAlways part
-    pub outcome : Outcome status part
+    pub outcome : Outcome before now status part

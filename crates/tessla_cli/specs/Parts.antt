@@ -1,5 +1,5 @@
 -- What single functions do to the outside.
-use Rattle.std.specs.Prelude.{◌≡◌, ℕ, ◌≤◌, false, List, length, Result, OnOk}
+use Rattle.std.specs.Prelude.{◌≡◌, ℕ, ◌≤◌, false, List, length, Result, OnOk, OnErr}
 use Rattle.flat_core.specs.System.{System}
 use Rattle.monitor_run.specs.State as engine
 use Rattle.trace_monitor.specs.Counted.{HasCounted}
@@ -9,7 +9,7 @@ use Rattle.trace_monitor.specs.declared.options.Options.{Options}
 use Rattle.trace_monitor.specs.Due.{IsDue}
 use Rattle.trace_monitor.specs.Ending.{GoesOn}
 use Rattle.trace_monitor.specs.Next.{EndsBy, most_taken}
-use Rattle.tsl_world.specs.Begins.{Begins}
+use Rattle.tsl_world.specs.Begins.{Begins, BeginsStrictly}
 use Rattle.tsl_world.specs.declared.outside.Channel.{Channel}
 use Rattle.tsl_world.specs.declared.outside.Did.{Did}
 use Rattle.tsl_world.specs.declared.outside.Did.TheVariants.{Took, Gave}
@@ -20,11 +20,12 @@ use Rattle.tsl_world.specs.Journal.{given, taken, ended, AtReads, IsGift, Each}
 use Rattle.tessla_cli.specs.declared.ending.Ending.{Ending}
 use Rattle.tessla_cli.specs.declared.ending.Ending.TheVariants as ending
 
--- These bytes are given to the channel, all of them at Ok, and else a beginning.
+-- These bytes are given to the channel, all of them at Ok, and else a beginning that is not all.
 pub record Gives {E : Type 0} (to : Channel) (bytes : List ℕ) (result : Result (Unit {0}) E) (part : List Did) : Type 0 where
   pub gifts : Each (IsGift to) part
   pub some : Begins (given to part) bytes
   pub whole : OnOk result (given to part ≡ bytes)
+  pub less : OnErr result (BeginsStrictly (given to part) bytes)
 
 -- a read of the slot that takes no more than one may
 abbrev pub IsTake : Slot → Did → Type 0
@@ -45,7 +46,8 @@ ending_of (run.Fault time kind place) = ending.Fault time kind place
 ending_of (run.Limit count time) = ending.Limit count time
 
 module _ (s : System) (o : Options) where
-  -- the trace may be read behind this much of the journal: its end was not read, the output text that is due was written, and nothing ends the run
+  -- the trace may be read after this much of the journal: its end was not read, the output text that is due was written, and nothing ends
+  -- the run
   pub record MayRead (before : List Did) : Type 0 where
     pub unended : ended Trace before ≡ false
     pub due : IsDue s o (taken Trace before) false (given Out before)

@@ -1,14 +1,15 @@
 -- What is printed of a specification that is compiled.
-use Rattle.std.specs.Prelude.{◌≡◌, ℕ, List, [], ◌++◌, codes, length}
+use Rattle.std.specs.Prelude.{◌≡◌, ℕ, List, ◌++◌, codes, length}
 use Rattle.std.specs.Fmt.{decimal}
 use Rattle.alias_analysis.specs.declared.reason.Reason.{Reason}
+use Rattle.alias_rules.specs.Fine.{IsTakenPlan}
 use Rattle.choice_text.specs.Text.{show_text}
 use Rattle.flat_core.specs.System.{System}
 use Rattle.program_text.specs.Text.{flat_text, running}
 use Rattle.register_code.specs.Code.{Code}
-use Rattle.register_code.specs.Plan.{IsLeastPlanOrder}
 use Rattle.register_code.specs.Text.{code_text}
-use Rattle.spec_compiler.specs.Compiled.{AreReasonsListed, Compiles}
+use Rattle.last_use.specs.Reasons.{AreReasons}
+use Rattle.spec_compiler.specs.Compiled.{Compiles}
 use Rattle.spec_parser.specs.Tree as tree
 use Rattle.trace_bench.specs.Ran.{running_updates}
 use Rattle.tessla_cli.specs.declared.task.Form.{Form}
@@ -24,25 +25,25 @@ counts_text equations updates = codes "ok " ++ (decimal equations ++ updates_tex
 abbrev pub check_text : System → List ℕ
 check_text s = counts_text (length (running s)) (length (running_updates s))
 
--- this text tells of each update whether it happens in place, or why it copies: those copy that are outside the listed set
-pub record ShowsReasons (s : System) (text : List ℕ) : Type 0 where
+-- this text tells of each update whether it happens in place, or why it copies: those copy that are outside the set
+pub record ShowsReasons (s : System) (set : List ℕ) (text : List ℕ) : Type 0 where
   pub reasons : List (ℕ × Reason)
-  pub listed : AreReasonsListed s reasons
+  pub are : AreReasons s set reasons
   pub is : text ≡ show_text s reasons
 
 -- the text that code has in a form
 abbrev pub HasText : Form → Code → List ℕ → Type 0
 HasText form.Check c text = text ≡ check_text c.system
 HasText form.Flat c text = text ≡ flat_text c.system
-HasText form.Show c text = ShowsReasons c.system text
+HasText form.Show c text = ShowsReasons c.system c.in_place text
 HasText form.Code c text = text ≡ code_text c
 
--- The text of a form that the source has: that of its simplified system, or of the code in which all updates copy and each step is the least
--- one that can follow.
+-- The text of a form that the source has: that of its simplified system, of its listed set, or of the code by the plan that is taken.
 pub record IsTextOf (source : List ℕ) (f : Form) (text : List ℕ) : Type 0 where
   pub items : List tree.Item
   pub system : System
+  pub set : List ℕ
   pub order : List ℕ
   pub compiles : Compiles source items system
-  pub least : IsLeastPlanOrder system order
-  pub is : HasText f (record { system = system; in_place = []; order = order }) text
+  pub taken : IsTakenPlan system set order
+  pub is : HasText f (record { system = system; in_place = set; order = order }) text

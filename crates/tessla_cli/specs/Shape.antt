@@ -1,5 +1,6 @@
 -- The parts of a run's journal, one behind another.
 use Rattle.std.specs.Prelude.{◌≡◌, ℕ, ◌≤◌, Bool, true, false, List, [], ◌∷◌, ◌++◌, length, slice_index, Some, None}
+use Rattle.alias_rules.specs.Fine.{IsTakenPlan}
 use Rattle.flat_core.specs.System.{System}
 use Rattle.monitor_run.specs.State as engine
 use Rattle.spec_compiler.specs.Compiled.{Compiles, IsRefusedBy}
@@ -49,9 +50,13 @@ abbrev pub counted_text : System → engine.State → Bool → List ℕ
 counted_text s e true = statistics_text s (λ u. slice_index e.ledger u)
 counted_text s e false = []
 
--- and it ends so
+-- and it ends so, by the plan that is taken
 pub data SystemEnds (trace : List ℕ) (s : System) (o : Options) (statistics : Bool) (by : Ended) : List Did → Type 0 where
-  ends : (e : engine.State) (part : List Did) → Watched s o part → WatchEnds s o e by.ending part → by.statistics ≡ counted_text s e statistics
+  ends : (e : engine.State) (order : List ℕ) (part : List Did)
+      → IsTakenPlan s e.in_place order
+      → Watched s o part
+      → WatchEnds s o e by.ending part
+      → by.statistics ≡ counted_text s e statistics
       → SystemEnds trace s o statistics by (Opened Trace trace ∷ part)
 
 -- a text of which this holds is given to Out, as far as it comes
@@ -95,19 +100,36 @@ pub data RunsSource (source : List ℕ) (task : Task) (part : List Did) : Type 0
 pub data SourceEnds (source : List ℕ) (task : Task) (by : Ended) (part : List Did) : Type 0 where
   spec_refused : {fault : SpecFault} → by.ending ≡ ending.Spec fault → by.statistics ≡ [] → IsRefusedBy source fault → part ≡ []
       → SourceEnds source task by part
-  compiled_ends : (trace : List ℕ) (o : Options) (statistics : Bool) → task ≡ monitor trace o statistics → (items : List tree.Item) (s : System)
-      → Compiles source items s → SystemEnds trace s o statistics by part → SourceEnds source task by part
-  printed : (f : Form) → task ≡ print f → by.ending ≡ ending.Done → by.statistics ≡ [] → HasPrinted source f part → SourceEnds source task by part
+  compiled_ends : (trace : List ℕ) (o : Options) (statistics : Bool)
+      → task ≡ monitor trace o statistics
+      → (items : List tree.Item) (s : System)
+      → Compiles source items s
+      → SystemEnds trace s o statistics by part
+      → SourceEnds source task by part
+  printed : (f : Form)
+      → task ≡ print f
+      → by.ending ≡ ending.Done
+      → by.statistics ≡ []
+      → HasPrinted source f part
+      → SourceEnds source task by part
 
 -- a specification is read by its name and something is done with it
 pub data RunsSpec (name : List ℕ) (task : Task) : List Did → Type 0 where
   unopened : RunsSpec name task []
   no_spec : RunsSpec name task (NotOpened Spec name ∷ [])
   reading : (reads : List Did) → ReadsSpec reads → RunsSpec name task (Opened Spec name ∷ reads)
-  whole : (reads rest : List Did) (source : List ℕ) → ReadsSpec reads → GivesSource source reads → RunsSource source task rest → RunsSpec name task (Opened Spec name ∷ (reads ++ rest))
+  whole : (reads rest : List Did) (source : List ℕ)
+      → ReadsSpec reads
+      → GivesSource source reads
+      → RunsSource source task rest
+      → RunsSpec name task (Opened Spec name ∷ (reads ++ rest))
 
 pub data SpecEnds (name : List ℕ) (task : Task) (by : Ended) : List Did → Type 0 where
-  whole_ends : (reads rest : List Did) (source : List ℕ) → ReadsSpec reads → GivesSource source reads → SourceEnds source task by rest → SpecEnds name task by (Opened Spec name ∷ (reads ++ rest))
+  whole_ends : (reads rest : List Did) (source : List ℕ)
+      → ReadsSpec reads
+      → GivesSource source reads
+      → SourceEnds source task by rest
+      → SpecEnds name task by (Opened Spec name ∷ (reads ++ rest))
 
 -- what the words ask for
 pub data RunsWords (words : List (List ℕ)) (part : List Did) : Type 0 where

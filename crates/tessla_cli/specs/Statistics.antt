@@ -3,9 +3,10 @@ use Rattle.std.specs.Prelude.{◌≡◌, ℕ, Bool, List, [], ◌++◌, Option, 
 use Rattle.std.specs.Fmt.{decimal}
 use Rattle.std.specs.List.{flat_map}
 use Rattle.event_writer.specs.Text.{place_text}
+use Rattle.alias_rules.specs.Fine.{IsTakenPlan}
 use Rattle.flat_core.specs.declared.equation.Equation.{Equation}
 use Rattle.flat_core.specs.System.{System, equation}
-use Rattle.monitor_run.specs.Copied.{copied}
+use Rattle.register_machine.specs.Copied.{copied}
 use Rattle.spec_reader.specs.Source.{called}
 use Rattle.trace_bench.specs.Ran.{running_updates}
 use Rattle.trace_monitor.specs.Counted.{copied_below}
@@ -32,9 +33,13 @@ update_line s u count = codes "stats " ++ (called s u ++ (codes " " ++ (place_of
 abbrev pub statistics_text : System → (ℕ → ℕ) → List ℕ
 statistics_text s counts = flat_map (λ u. update_line s u (counts u)) (running_updates s)
 
--- The text is that of the statistics where a run of the system ends so, at these bytes of the trace: for all streams that solve the system at
--- the closed times, each running update has copied what it copies at its events up to the last instant that was run, that of a fault included.
+-- The text is that of the statistics where a run of the system by the plan that is taken ends so, at these bytes of the trace: for all
+-- streams that solve the system at the closed times, each running update has copied what it copies at its events up to the last instant
+-- that was run, that of a fault included. An update of the listed set copies nothing.
 pub record AreStatistics (s : System) (o : Options) (bytes : List ℕ) (ended : Bool) (by : Ending) (text : List ℕ) : Type 0 where
+  pub set : List ℕ
+  pub order : List ℕ
+  pub taken : IsTakenPlan s set order
   pub how : RunEnding
   pub by_is : by ≡ ending_of how
-  pub is : InAll s o bytes ended (λ z. text ≡ statistics_text s (λ u. copied s z u (copied_below s o bytes ended how)))
+  pub is : InAll s o bytes ended (λ z. text ≡ statistics_text s (λ u. copied s set z u (copied_below s o bytes ended how)))

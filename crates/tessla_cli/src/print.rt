@@ -1,19 +1,21 @@
 // What is printed of a compiled specification.
 
 ghost use Rattle.std.specs.Prelude.{◌≡◌, ◌++◌, length, IfOk, OnOk};
-ghost use Rattle.flat_core.specs.WellFormed.{IsWellFormed};
+ghost use Rattle.choice_text.specs.Text.{show_text};
+ghost use Rattle.last_use.specs.Reasons.{AreReasons};
 ghost use Rattle.program_text.specs.Text.{flat_text, running};
 ghost use Rattle.register_code.specs.Text.{code_text};
-ghost use Rattle.tessla_cli.specs.Printed.{HasText, ShowsReasons, check_text, counts_text, updates_text};
+ghost use Rattle.tessla_cli.specs.Printed.{HasText, check_text, counts_text, updates_text};
 ghost use Rattle.trace_bench.specs.Ran.{running_updates};
 
 use crate::task::Form;
 use choice_text::print::print_choice;
 use flat_core::flat::Flat;
+use last_use::reasons::Reasons;
 use program_text::print::print_flat;
 use register_code::code::Code;
 use register_code::print::print_code;
-use spec_compiler::compile::reasons_of;
+use spec_compiler::compile::Compiled;
 use std::alloc::Global;
 use trace_bench::updates::is_running_update;
 use tsl_value::bytes::Bytes;
@@ -83,11 +85,9 @@ fn listed(alloc: Global, flat: &Flat) -> Result<Bytes, NoMemory>
 }
 
 /// Which updates of a system happen in place, and why the others copy.
-fn shown(alloc: Global, flat: &Flat) -> Result<Bytes, NoMemory>
-    requires { IsWellFormed flat.now }
-    ensures { IfOk result (ShowsReasons flat.now) }
+fn shown(alloc: Global, flat: &Flat, reasons: &Reasons) -> Result<Bytes, NoMemory>
+    ensures { IfOk result (λ text. text ≡ show_text flat.now reasons.now) }
 {
-    let reasons = reasons_of(alloc, flat)?;
     let mut text = Bytes::new(alloc);
     print_choice(flat, reasons.as_slice(), &mut text)?;
     Ok(text)
@@ -102,16 +102,17 @@ fn coded(alloc: Global, code: &Code) -> Result<Bytes, NoMemory>
     Ok(text)
 }
 
-/// The text that code has in a form.
-pub fn text_of(alloc: Global, form: Form, code: &Code) -> Result<Bytes, NoMemory>
-    requires { IsWellFormed code.now.system }
-    ensures { IfOk result (HasText form code.now) }
+/// The text that a compiled specification has in a form.
+pub fn text_of(alloc: Global, form: Form, compiled: &Compiled) -> Result<Bytes, NoMemory>
+    requires { AreReasons compiled.now.code.system compiled.now.code.in_place compiled.now.reasons }
+    ensures { IfOk result (HasText form compiled.now.code) }
 {
+    let Compiled { code, reasons } = compiled;
     let flat = code.flat();
     match form {
         Form::Check => counted(alloc, flat),
         Form::Flat => listed(alloc, flat),
-        Form::Show => shown(alloc, flat),
+        Form::Show => shown(alloc, flat, reasons),
         Form::Code => coded(alloc, code),
     }
 }

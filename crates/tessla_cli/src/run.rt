@@ -1,13 +1,14 @@
 // A run, from the words to its end.
 
-ghost use Rattle.std.specs.Prelude.{◌≡◌, ◌<◌, ◌≤◌, ℕ, List, true, false, [], length, IfOk, OnOk, IsErrOf};
-ghost use Rattle.register_code.specs.Plan.{IsLeastPlanOrder};
+ghost use Rattle.std.specs.Prelude.{◌≡◌, ◌<◌, ◌≤◌, ℕ, List, false, length, IfOk, OnOk, IsErrOf};
+ghost use Rattle.alias_rules.specs.Fine.{IsTakenPlan};
+ghost use Rattle.last_use.specs.Reasons.{AreReasons};
 ghost use Rattle.spec_compiler.specs.Compiled.{CompilesSomething};
 ghost use Rattle.spec_compiler.specs.Ready.{IsReady};
 ghost use Rattle.trace_monitor.specs.Next.{most_taken};
 ghost use Rattle.tsl_world.specs.Standing.{at_first, is_open};
 ghost use Rattle.tsl_world.specs.Runs.{Grows};
-ghost use Rattle.tsl_world.specs.World.{Rose};
+ghost use Rattle.tsl_world.specs.World.{RoseBy};
 ghost use Rattle.tessla_cli.specs.Shape.{AloneIsDone, HasPrinted, RunsAlone, RunsSystem, SystemEnds, RunsSource, SourceEnds, RunsSpec, SpecEnds, RunsWords, WordsEnd};
 ghost use Rattle.tessla_cli.specs.Tasks.{AreLimited, IsLimitedAlone, IsLimitedTask, alone_seen, print, task_seen};
 
@@ -21,7 +22,7 @@ use crate::watch::watch;
 use crate::write::write_all;
 use command_words::words::Words;
 use register_code::code::Code;
-use spec_compiler::compile::compile;
+use spec_compiler::compile::{Compiled, compile};
 use std::alloc::Global;
 use trace_monitor::monitor::TraceMonitor;
 use trace_monitor::options::Options;
@@ -44,11 +45,12 @@ fn run_code<W: World>(
     requires short { length buf.old ≤ most_taken }
     requires stands { is_open (W.standing world.old) Slot.Trace ≡ false }
     requires ready { IsReady code.now.system }
-    requires copies { code.now.in_place ≡ [] }
+    requires taken { IsTakenPlan code.now.system code.now.in_place code.now.order }
     requires limited { AreLimited options }
     ensures ok { OnOk result (W.faults world.new ≡ W.faults world.old) }
-    ensures outside { IsErrOf result Broken.Outside → Rose (W.faults world.old) (W.faults world.new) }
+    ensures outside { IsErrOf result Broken.Outside → RoseBy 1 (W.faults world.old) (W.faults world.new) }
     ensures memory { IsErrOf result Broken.Memory → W.faults world.new ≡ W.faults world.old }
+    ensures heard { W.unheard world.new ≡ W.unheard world.old }
     ensures calls { Grows W.told W.journal world.old world.new (RunsSystem trace.now code.now.system options) }
     ensures ending { IfOk result (λ ended. Grows W.told W.journal world.old world.new
         (SystemEnds trace.now code.now.system options with_statistics ended)) }
@@ -65,19 +67,20 @@ fn print_text<W: World>(
     alloc: Global,
     world: &mut W,
     form: Form,
-    code: &Code,
+    compiled: &Compiled,
 ) -> Result<Ending, Broken>
-    requires ready { IsReady code.now.system }
-    requires copies { code.now.in_place ≡ [] }
-    requires order { IsLeastPlanOrder code.now.system code.now.order }
+    requires taken { IsTakenPlan compiled.now.code.system compiled.now.code.in_place compiled.now.code.order }
+    requires reasons { AreReasons compiled.now.code.system compiled.now.code.in_place compiled.now.reasons }
     ensures ok { OnOk result (W.faults world.new ≡ W.faults world.old) }
-    ensures outside { IsErrOf result Broken.Outside → Rose (W.faults world.old) (W.faults world.new) }
+    ensures outside { IsErrOf result Broken.Outside → RoseBy 1 (W.faults world.old) (W.faults world.new) }
     ensures memory { IsErrOf result Broken.Memory → W.faults world.new ≡ W.faults world.old }
-    ensures calls { (source : List ℕ) → CompilesSomething source code.now.system → Grows W.told W.journal world.old world.new (RunsSource source (print form)) }
-    ensures ending { IfOk result (λ ending. (source : List ℕ) → CompilesSomething source code.now.system
+    ensures heard { W.unheard world.new ≡ W.unheard world.old }
+    ensures calls { (source : List ℕ) → CompilesSomething source compiled.now.code.system
+        → Grows W.told W.journal world.old world.new (RunsSource source (print form)) }
+    ensures ending { IfOk result (λ ending. (source : List ℕ) → CompilesSomething source compiled.now.code.system
         → (ending ≡ Ending.Done) × Grows W.told W.journal world.old world.new (HasPrinted source form)) }
 {
-    let text = text_of(alloc, form, code)?;
+    let text = text_of(alloc, form, compiled)?;
     write_all(world, Channel::Out, text.as_slice())?;
     Ok(Ending::Done)
 }
@@ -86,7 +89,7 @@ fn print_text<W: World>(
 fn perform<W: World>(
     alloc: Global,
     world: &mut W,
-    code: &Code,
+    compiled: &Compiled,
     task: Task<'_>,
     buf: &mut [u8],
 ) -> Result<Ended, Broken>
@@ -94,23 +97,33 @@ fn perform<W: World>(
     requires short { length buf.old ≤ most_taken }
     requires stands { is_open (W.standing world.old) Slot.Trace ≡ false }
     requires limited { IsLimitedTask (task_seen task) }
-    requires ready { IsReady code.now.system }
-    requires copies { code.now.in_place ≡ [] }
-    requires order { IsLeastPlanOrder code.now.system code.now.order }
+    requires ready { IsReady compiled.now.code.system }
+    requires taken { IsTakenPlan compiled.now.code.system compiled.now.code.in_place compiled.now.code.order }
+    requires reasons { AreReasons compiled.now.code.system compiled.now.code.in_place compiled.now.reasons }
     ensures ok { OnOk result (W.faults world.new ≡ W.faults world.old) }
-    ensures outside { IsErrOf result Broken.Outside → Rose (W.faults world.old) (W.faults world.new) }
+    ensures outside { IsErrOf result Broken.Outside → RoseBy 1 (W.faults world.old) (W.faults world.new) }
     ensures memory { IsErrOf result Broken.Memory → W.faults world.new ≡ W.faults world.old }
-    ensures calls { (source : List ℕ) → CompilesSomething source code.now.system → Grows W.told W.journal world.old world.new (RunsSource source (task_seen task.entry)) }
-    ensures ending { IfOk result (λ ended. (source : List ℕ) → CompilesSomething source code.now.system
+    ensures heard { W.unheard world.new ≡ W.unheard world.old }
+    ensures calls { (source : List ℕ) → CompilesSomething source compiled.now.code.system
+        → Grows W.told W.journal world.old world.new (RunsSource source (task_seen task.entry)) }
+    ensures ending { IfOk result (λ ended. (source : List ℕ) → CompilesSomething source compiled.now.code.system
         → Grows W.told W.journal world.old world.new (SourceEnds source (task_seen task.entry) ended)) }
 {
     match task {
-        Task::Print(form) => Ok(Ended::alone(alloc, print_text(alloc, world, form, code)?)),
+        Task::Print(form) => { Ok(Ended::alone(alloc, print_text(alloc, world, form, compiled)?)) },
         Task::Monitor {
             trace,
             options,
             with_statistics,
-        } => Ok(run_code(alloc, world, code, trace, options, with_statistics, buf)?),
+        } => Ok(run_code(
+            alloc,
+            world,
+            &compiled.code,
+            trace,
+            options,
+            with_statistics,
+            buf,
+        )?),
     }
 }
 
@@ -127,13 +140,15 @@ fn run_source<W: World>(
     requires stands { is_open (W.standing world.old) Slot.Trace ≡ false }
     requires limited { IsLimitedTask (task_seen task) }
     ensures ok { OnOk result (W.faults world.new ≡ W.faults world.old) }
-    ensures outside { IsErrOf result Broken.Outside → Rose (W.faults world.old) (W.faults world.new) }
+    ensures outside { IsErrOf result Broken.Outside → RoseBy 1 (W.faults world.old) (W.faults world.new) }
     ensures memory { IsErrOf result Broken.Memory → W.faults world.new ≡ W.faults world.old }
+    ensures heard { W.unheard world.new ≡ W.unheard world.old }
     ensures calls { Grows W.told W.journal world.old world.new (RunsSource source.now (task_seen task.entry)) }
-    ensures ending { IfOk result (λ ended. Grows W.told W.journal world.old world.new (SourceEnds source.now (task_seen task.entry) ended)) }
+    ensures ending { IfOk result (λ ended. Grows W.told W.journal world.old world.new
+        (SourceEnds source.now (task_seen task.entry) ended)) }
 {
     match compile(alloc, source) {
-        Ok(compiled) => Ok(perform(alloc, world, &compiled.code, task, buf)?),
+        Ok(compiled) => Ok(perform(alloc, world, &compiled, task, buf)?),
         Err(fault) => Ok(Ended::alone(alloc, refused(fault)?)),
     }
 }
@@ -151,8 +166,9 @@ fn run_spec<W: World>(
     requires stands { W.standing world.old ≡ at_first }
     requires limited { IsLimitedTask (task_seen task) }
     ensures ok { OnOk result (W.faults world.new ≡ W.faults world.old) }
-    ensures outside { IsErrOf result Broken.Outside → Rose (W.faults world.old) (W.faults world.new) }
+    ensures outside { IsErrOf result Broken.Outside → RoseBy 1 (W.faults world.old) (W.faults world.new) }
     ensures memory { IsErrOf result Broken.Memory → W.faults world.new ≡ W.faults world.old }
+    ensures heard { W.unheard world.new ≡ W.unheard world.old }
     ensures calls { Grows W.told W.journal world.old world.new (RunsSpec name.now (task_seen task.entry)) }
     ensures ending { IfOk result (λ ended. Grows W.told W.journal world.old world.new (SpecEnds name.now (task_seen task.entry) ended)) }
 {
@@ -171,8 +187,9 @@ fn run_in_pieces<W: World>(
     requires stands { W.standing world.old ≡ at_first }
     requires limited { IsLimitedTask (task_seen task) }
     ensures ok { OnOk result (W.faults world.new ≡ W.faults world.old) }
-    ensures outside { IsErrOf result Broken.Outside → Rose (W.faults world.old) (W.faults world.new) }
+    ensures outside { IsErrOf result Broken.Outside → RoseBy 1 (W.faults world.old) (W.faults world.new) }
     ensures memory { IsErrOf result Broken.Memory → W.faults world.new ≡ W.faults world.old }
+    ensures heard { W.unheard world.new ≡ W.unheard world.old }
     ensures calls { Grows W.told W.journal world.old world.new (RunsSpec name.now (task_seen task.entry)) }
     ensures ending { IfOk result (λ ended. Grows W.told W.journal world.old world.new (SpecEnds name.now (task_seen task.entry) ended)) }
 {
@@ -184,8 +201,9 @@ fn run_in_pieces<W: World>(
 fn write_alone<W: World>(alloc: Global, world: &mut W, alone: Alone) -> Result<Ending, Broken>
     requires { IsLimitedAlone (alone_seen alone) }
     ensures ok { OnOk result (W.faults world.new ≡ W.faults world.old) }
-    ensures outside { IsErrOf result Broken.Outside → Rose (W.faults world.old) (W.faults world.new) }
+    ensures outside { IsErrOf result Broken.Outside → RoseBy 1 (W.faults world.old) (W.faults world.new) }
     ensures memory { IsErrOf result Broken.Memory → W.faults world.new ≡ W.faults world.old }
+    ensures heard { W.unheard world.new ≡ W.unheard world.old }
     ensures calls { Grows W.told W.journal world.old world.new (RunsAlone (alone_seen alone)) }
     ensures ending { IfOk result (λ ending. Grows W.told W.journal world.old world.new (AloneIsDone (alone_seen alone) ending)) }
 {
@@ -202,8 +220,9 @@ fn write_alone<W: World>(alloc: Global, world: &mut W, alone: Alone) -> Result<E
 pub fn run<W: World>(alloc: Global, words: &Words, world: &mut W) -> Result<Ended, Broken>
     requires { W.standing world.old ≡ at_first }
     ensures ok { OnOk result (W.faults world.new ≡ W.faults world.old) }
-    ensures outside { IsErrOf result Broken.Outside → Rose (W.faults world.old) (W.faults world.new) }
+    ensures outside { IsErrOf result Broken.Outside → RoseBy 1 (W.faults world.old) (W.faults world.new) }
     ensures memory { IsErrOf result Broken.Memory → W.faults world.new ≡ W.faults world.old }
+    ensures heard { W.unheard world.new ≡ W.unheard world.old }
     ensures calls { Grows W.told W.journal world.old world.new (RunsWords words.now) }
     ensures ending { IfOk result (λ ended. Grows W.told W.journal world.old world.new (WordsEnd words.now ended)) }
 {

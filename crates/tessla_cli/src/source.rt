@@ -3,7 +3,7 @@
 ghost use Rattle.std.specs.Prelude.{◌≡◌, ◌<◌, ◌≤◌, true, length, IfOk, OnOk, IsErrOf};
 ghost use Rattle.trace_monitor.specs.Next.{most_taken};
 ghost use Rattle.tsl_world.specs.Standing.{is_open};
-ghost use Rattle.tsl_world.specs.World.{Rose};
+ghost use Rattle.tsl_world.specs.World.{RoseBy};
 ghost use Rattle.tsl_world.specs.Runs.{Runs};
 ghost use Rattle.tessla_cli.specs.Shape.{ReadsSpec, GivesSource};
 
@@ -21,8 +21,9 @@ pub fn read_source<W: World>(alloc: Global, world: &mut W, buf: &mut [u8]) -> Re
     requires short { length buf.old ≤ most_taken }
     requires stands { is_open (W.standing world.old) Slot.Spec ≡ true }
     ensures ok { OnOk result (W.faults world.new ≡ W.faults world.old) }
-    ensures outside { IsErrOf result Broken.Outside → Rose (W.faults world.old) (W.faults world.new) }
+    ensures outside { IsErrOf result Broken.Outside → RoseBy 1 (W.faults world.old) (W.faults world.new) }
     ensures memory { IsErrOf result Broken.Memory → W.faults world.new ≡ W.faults world.old }
+    ensures heard { W.unheard world.new ≡ W.unheard world.old }
     ensures calls { Runs W.told W.journal W.standing world.old world.new ReadsSpec }
     ensures source { IfOk result (λ source. Runs W.told W.journal W.standing world.old world.new (GivesSource source)) }
 {

@@ -2,7 +2,7 @@
 
 ghost use Rattle.std.specs.Prelude.{◌≡◌, ◌⊎◌, ◌≤◌};
 ghost use Rattle.tsl_world.specs.Runs.{Runs};
-ghost use Rattle.tsl_world.specs.World.{Rose};
+ghost use Rattle.tessla_cli.specs.Failures.{NoneFailed, WriteFailed, failures};
 ghost use Rattle.tessla_cli.specs.Outcome.{TellsBroken, TellsEnding};
 
 use crate::ending::{Broken, Ended};
@@ -12,12 +12,14 @@ use tsl_world::{Channel, World};
 
 /// Tells on the standard error what cut a run short. The answer is the status.
 pub fn tell_broken<W: World>(world: &mut W, broken: Broken) -> u8
-    ensures later { W.faults world.old ≤ W.faults world.new }
     ensures calm { (result ≡ 5 → ⊥) → W.faults world.new ≡ W.faults world.old }
-    ensures outside { result ≡ 5 → (broken ≡ Broken.Outside) ⊎ Rose (W.faults world.old) (W.faults world.new) }
+    ensures outside { result ≡ 5
+        → ((broken ≡ Broken.Outside) × NoneFailed (failures W.faults W.unheard world.old) (failures W.faults W.unheard world.new))
+        ⊎ WriteFailed (failures W.faults W.unheard world.old) (failures W.faults W.unheard world.new) }
     ensures failed { broken ≡ Broken.Outside → result ≡ 5 }
     ensures answers { result ≤ 7 }
-    ensures calls { Runs W.told W.journal W.standing world.old world.new (TellsBroken broken result) }
+    ensures calls { Runs W.told W.journal W.standing world.old world.new
+        (TellsBroken broken (failures W.faults W.unheard world.old) (failures W.faults W.unheard world.new) result) }
 {
     match write_all(world, Channel::Err, broken.line()) {
         Ok(()) => broken.status(),
@@ -28,9 +30,10 @@ pub fn tell_broken<W: World>(world: &mut W, broken: Broken) -> u8
 /// Tells the end of a run on the standard error. The answer is the status.
 pub fn tell_ending<W: World>(alloc: Global, world: &mut W, ended: &Ended) -> u8
     ensures calm { (result ≡ 5 → ⊥) → W.faults world.new ≡ W.faults world.old }
-    ensures outside { result ≡ 5 → Rose (W.faults world.old) (W.faults world.new) }
+    ensures outside { result ≡ 5 → WriteFailed (failures W.faults W.unheard world.old) (failures W.faults W.unheard world.new) }
     ensures answers { result ≤ 7 }
-    ensures calls { Runs W.told W.journal W.standing world.old world.new (TellsEnding ended.now result) }
+    ensures calls { Runs W.told W.journal W.standing world.old world.new
+        (TellsEnding ended.now (failures W.faults W.unheard world.old) (failures W.faults W.unheard world.new) result) }
 {
     let Ok(text) = ended.text(alloc) else {
         return tell_broken(world, Broken::Memory);

@@ -1,15 +1,17 @@
 // The top call.
 
-ghost use Rattle.std.specs.Prelude.{◌≡◌, ◌⊎◌, ◌≤◌, List, [], None};
+ghost use Rattle.std.specs.Prelude.{◌≡◌, ◌⊎◌, ◌<◌, ◌≤◌, ◌-◌, ◌^◌, List, [], None};
 ghost use Rattle.tsl_world.specs.Journal.{StopsAtEnd, given};
 ghost use Rattle.tsl_world.specs.Runs.{Grows};
 ghost use Rattle.tsl_world.specs.Standing.{at_first};
-ghost use Rattle.tsl_world.specs.World.{Rose};
 ghost use Rattle.tsl_world.specs.declared.outside.Did.{Did};
-ghost use Rattle.tessla_cli.specs.Conduct.{OpensAsAsked, MakesNothing, ReadsSpecFirst, StopsAtLimit, ReadsPieces, GoesOnAtReads, IsPartlyDue};
+ghost use Rattle.tessla_cli.specs.Completeness.{IsComplete};
+ghost use Rattle.tessla_cli.specs.Conduct.{OpensAsAsked, MakesNothing, ReadsSpecFirst, ReadsTraceLast, StopsAtLimit, ReadsPieces, GoesOnAtReads, IsPartlyDue};
+ghost use Rattle.tessla_cli.specs.Failures.{SomeFailed, failures};
 ghost use Rattle.tessla_cli.specs.Headline.{IsDueAtReads};
 ghost use Rattle.tessla_cli.specs.Messages.{broken_line};
-ghost use Rattle.tessla_cli.specs.Outcome.{Concludes, Ends, Faulted, Limited, IsExact, LineRefused, Refused, Tells, TellsSome};
+ghost use Rattle.tessla_cli.specs.Outcome.{Concludes, Ends, Faulted, Limited, IsExact, LineRefused, Refused, Tells, TellsFailure};
+ghost use Rattle.tessla_cli.specs.Unseen.{NoUpdateIsSeen};
 
 use crate::ending::{Broken, Ending};
 use crate::run::run;
@@ -22,9 +24,10 @@ use tsl_world::{Slot, World};
 fn conclude<W: World>(alloc: Global, words: &Words, world: &mut W) -> u8
     requires { W.standing world.old ≡ at_first }
     ensures calm { (result ≡ 5 → ⊥) → W.faults world.new ≡ W.faults world.old }
-    ensures outside { result ≡ 5 → Rose (W.faults world.old) (W.faults world.new) }
+    ensures outside { result ≡ 5 → SomeFailed (failures W.faults W.unheard world.old) (failures W.faults W.unheard world.new) }
     ensures answers { result ≤ 7 }
-    ensures calls { Grows W.told W.journal world.old world.new (Concludes words.now result) }
+    ensures calls { Grows W.told W.journal world.old world.new
+        (Concludes words.now (failures W.faults W.unheard world.old) (failures W.faults W.unheard world.new) result) }
 {
     match run(alloc, words, world) {
         Ok(ended) => tell_ending(alloc, world, &ended),
@@ -63,6 +66,7 @@ pub fn tessla<W: World>(alloc: Global, words: &Words, world: &mut W) -> u8
     ensures opens { Grows W.told W.journal world.old world.new (OpensAsAsked words.now) }
     ensures makes { Grows W.told W.journal world.old world.new MakesNothing }
     ensures spec_first { Grows W.told W.journal world.old world.new ReadsSpecFirst }
+    ensures trace_last { Grows W.told W.journal world.old world.new ReadsTraceLast }
     ensures spec_ends { Grows W.told W.journal world.old world.new (StopsAtEnd Slot.Spec) }
     ensures spec_limit { Grows W.told W.journal world.old world.new StopsAtLimit }
     ensures trace_ends { Grows W.told W.journal world.old world.new (StopsAtEnd Slot.Trace) }
@@ -75,18 +79,26 @@ pub fn tessla<W: World>(alloc: Global, words: &Words, world: &mut W) -> u8
     // Whatever the status, what was given to Out begins the text that is due of all that was taken, or that the words ask to print.
     ensures partly { Grows W.told W.journal world.old world.new (IsPartlyDue words.now) }
 
+    // Over all of the trace that was taken, no update that is listed in place copies an element or changes a register that is still read.
+    ensures unseen { Grows W.told W.journal world.old world.new (NoUpdateIsSeen words.now) }
+
     // The cause of each status, and what it leaves on Out and Err.
     ensures done { result ≡ 0 → Grows W.told W.journal world.old world.new (Ends words.now Ending.Done) }
     ensures faulted { result ≡ 1 → Grows W.told W.journal world.old world.new (Faulted words.now) }
     ensures words_refused { result ≡ 2 → Grows W.told W.journal world.old world.new (Ends words.now Ending.Words) }
     ensures refused { result ≡ 3 → Grows W.told W.journal world.old world.new (Refused words.now) }
     ensures line_refused { result ≡ 4 → Grows W.told W.journal world.old world.new (LineRefused words.now) }
-    ensures failed { result ≡ 5 → Rose (W.faults world.old) (W.faults world.new) }
-    ensures failed_told { result ≡ 5 → Grows W.told W.journal world.old world.new (TellsSome words.now) }
+    ensures failed { result ≡ 5 → SomeFailed (failures W.faults W.unheard world.old) (failures W.faults W.unheard world.new) }
+    ensures failed_told { result ≡ 5 → Grows W.told W.journal world.old world.new
+        (TellsFailure words.now (failures W.faults W.unheard world.old) (failures W.faults W.unheard world.new)) }
     ensures memory { result ≡ 6 → Grows W.told W.journal world.old world.new (Tells (broken_line Broken.Memory)) }
     ensures limited { result ≡ 7 → Grows W.told W.journal world.old world.new (Limited words.now) }
     ensures calm { (result ≡ 5 → ⊥) → W.faults world.new ≡ W.faults world.old }
     ensures exact { Grows W.told W.journal world.old world.new (IsExact words.now result) }
+
+    // Where the outside did not fail, what nothing stands against is done whole, or memory was wanting.
+    ensures complete { W.faults world.new ≡ W.faults world.old → W.faults world.old < 2 ^ 64 - 1
+        → Grows W.told W.journal world.old world.new (IsComplete words.now result) }
     ensures answers { result ≤ 7 }
 {
     conclude(alloc, words, world)

@@ -5,7 +5,7 @@ ghost use Rattle.spec_compiler.specs.Ready.{IsReady};
 ghost use Rattle.trace_monitor.specs.Kept.{Kept};
 ghost use Rattle.trace_monitor.specs.Next.{most_taken};
 ghost use Rattle.tsl_world.specs.Standing.{is_open};
-ghost use Rattle.tsl_world.specs.World.{Rose};
+ghost use Rattle.tsl_world.specs.World.{RoseBy};
 ghost use Rattle.tsl_world.specs.Runs.{Runs};
 ghost use Rattle.tessla_cli.specs.Parts.{Watched, WatchEnds, ending_of};
 
@@ -46,10 +46,12 @@ pub fn watch<W: World>(
     requires limit { limit ≡ monitor.old.options.bytes }
     requires few { limit ≤ 2 ^ 40 }
     ensures ok { OnOk result (W.faults world.new ≡ W.faults world.old) }
-    ensures outside { IsErrOf result Broken.Outside → Rose (W.faults world.old) (W.faults world.new) }
+    ensures outside { IsErrOf result Broken.Outside → RoseBy 1 (W.faults world.old) (W.faults world.new) }
     ensures memory { IsErrOf result Broken.Memory → W.faults world.new ≡ W.faults world.old }
+    ensures heard { W.unheard world.new ≡ W.unheard world.old }
     ensures calls { Runs W.told W.journal W.standing world.old world.new (Watched monitor.old.system monitor.old.options) }
     ensures engine { OnOk result (monitor.new.engine.system ≡ monitor.old.system) }
+    ensures set { OnOk result (monitor.new.engine.in_place ≡ monitor.old.engine.in_place) }
     ensures ending { IfOk result (λ ending. Runs W.told W.journal W.standing world.old world.new
         (WatchEnds monitor.old.system monitor.old.options monitor.new.engine ending)) }
 {

@@ -159,8 +159,8 @@ module _ (s : System) (count : ℕ) (z : Streams) (zs : SolvesClosed s options (
   stopped_says : (how : RunEnding) → IsStopped s count how → Says s options (trace_text count) z how
   stopped_says how stop = said s options (trace_text count) stop.front stop.rest stop.is z zs how stop.ended stop.ended_is stop.cause
 
-  whole_says : (tally : Tally) → IsTallied s count tally → Says s options (trace_text count) z ending.Done
-  whole_says tally tallied = said_at_end s options (trace_text count) z zs ending.Done tallied.cause
+  whole_says : (set : List ℕ) (tally : Tally) → IsTallied s set count tally → Says s options (trace_text count) z ending.Done
+  whole_says set tally tallied = said_at_end s options (trace_text count) z zs ending.Done tallied.cause
 
   early_or_done : (how : RunEnding) → how ≢ ending.Done → AreOfOneKind ending.Done how → ⊥
   early_or_done ending.Done early same = early refl
@@ -168,17 +168,17 @@ module _ (s : System) (count : ℕ) (z : Streams) (zs : SolvesClosed s options (
   early_or_done (ending.Fault time kind place) early same = same
   early_or_done (ending.Limit count time) early same = same
 
-  pub ends_alike : (a b : Outcome) → IsOutcomeOf s count a → IsOutcomeOf s count b → EndsAlike a b
-  ends_alike (outcome.Whole tally) (outcome.Whole other) a b = tt
-  ends_alike (outcome.Whole tally) (outcome.Stopped how) a b =
-      early_or_done how b.early (one_kind s options (trace_text count) z ending.Done how (whole_says tally a) (stopped_says how b))
-  ends_alike (outcome.Stopped how) (outcome.Whole tally) a b =
-      early_or_done how a.early (one_kind s options (trace_text count) z ending.Done how (whole_says tally b) (stopped_says how a))
-  ends_alike (outcome.Stopped how) (outcome.Stopped other) a b = one_kind s options (trace_text count) z how other (stopped_says how a) (stopped_says other b)
+  pub ends_alike : (p q : List ℕ) (a b : Outcome) → IsOutcomeOf s p count a → IsOutcomeOf s q count b → EndsAlike a b
+  ends_alike p q (outcome.Whole tally) (outcome.Whole other) a b = tt
+  ends_alike p q (outcome.Whole tally) (outcome.Stopped how) a b =
+      early_or_done how b.early (one_kind s options (trace_text count) z ending.Done how (whole_says p tally a) (stopped_says how b))
+  ends_alike p q (outcome.Stopped how) (outcome.Whole tally) a b =
+      early_or_done how a.early (one_kind s options (trace_text count) z ending.Done how (whole_says q tally b) (stopped_says how a))
+  ends_alike p q (outcome.Stopped how) (outcome.Stopped other) a b = one_kind s options (trace_text count) z how other (stopped_says how a) (stopped_says other b)
 
 pub one_ending : OneEnding
 one_ending source count a b here there =
     let s = here.system in
     let same : there.system ≡ s = one_system source there.system s there.compiles here.compiles in
     let solves = solution source s here.compiles (inputs_of (lines_in s options (trace_text count) true)) (bound_in s options (trace_text count) true) in
-    ends_alike s count solves.0 solves.1 a b here.is (subst (λ (u : System). IsOutcomeOf u count b) same there.is)
+    ends_alike s count solves.0 solves.1 here.set there.set a b here.is (subst (λ (u : System). IsOutcomeOf u there.set count b) same there.is)

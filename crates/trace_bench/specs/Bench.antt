@@ -2,6 +2,7 @@
 use Rattle.std.specs.Prelude.{ℕ, List}
 use Rattle.command_words.specs.declared.words.Kind.{Kind}
 use Rattle.command_words.specs.declared.words.Kind.TheVariants as kind
+use Rattle.alias_rules.specs.Fine.{IsTakenPlan}
 use Rattle.flat_core.specs.System.{System}
 use Rattle.sample_trace.specs.Source.{copy_source, seen_source}
 use Rattle.spec_compiler.specs.Compiled.{CompilesSomething}
@@ -13,8 +14,11 @@ abbrev pub source_of : Kind → List ℕ
 source_of kind.Seen = seen_source
 source_of kind.Copy = copy_source
 
--- This comes of the system that is run for the source, over the trace with so many lines.
+-- This comes of the system that is run for the source by the plan that is taken, over the trace with so many lines.
 pub record IsBenched (source : List ℕ) (count : ℕ) (outcome : Outcome) : Type 0 where
   pub system : System
   pub compiles : CompilesSomething source system
-  pub is : IsOutcomeOf system count outcome
+  pub set : List ℕ
+  pub order : List ℕ
+  pub taken : IsTakenPlan system set order
+  pub is : IsOutcomeOf system set count outcome

@@ -24,8 +24,15 @@ EndsAlike _ _ = ⊥
 
 -- What comes of a source over the trace with so many lines ends in one way.
 abbrev pub OneEnding : Type 0
-OneEnding = (source : List ℕ) (count : ℕ) (a b : Outcome) → IsBenched source count a → IsBenched source count b → EndsAlike a b
+OneEnding =
+    (source : List ℕ) (count : ℕ) (a b : Outcome)
+    → IsBenched source count a
+    → IsBenched source count b
+    → EndsAlike a b
 
 -- Of a source that is refused nothing comes.
 abbrev pub RefusedBenchesNone : Type 0
-RefusedBenchesNone = (source : List ℕ) (fault : SpecFault) (count : ℕ) (a : Outcome) → IsRefusedBy source fault → ¬ (IsBenched source count a)
+RefusedBenchesNone =
+    (source : List ℕ) (fault : SpecFault) (count : ℕ) (a : Outcome)
+    → IsRefusedBy source fault
+    → ¬ (IsBenched source count a)

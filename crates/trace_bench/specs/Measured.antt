@@ -3,7 +3,7 @@ use Rattle.std.specs.Prelude.{◌≡◌, ◌≢◌, ℕ, ◌^◌, Bool, true, fa
 use Rattle.flat_core.specs.Case.{Streams}
 use Rattle.flat_core.specs.Instant.{instants}
 use Rattle.flat_core.specs.System.{System}
-use Rattle.monitor_run.specs.Copied.{copied}
+use Rattle.register_machine.specs.Copied.{copied}
 use Rattle.sample_trace.specs.Trace.{trace_text}
 use Rattle.trace_bench.specs.Ran.{up_to_most, updates_sum}
 use Rattle.trace_bench.specs.declared.tally.Tally.{Tally}
@@ -17,9 +17,10 @@ use Rattle.trace_monitor.specs.Next.{EndsBy}
 abbrev pub options : Options
 options = record { until = 0; instants = 10 ^ 12; bytes = 2 ^ 40; strict = false }
 
--- The tally of a system over the whole trace with so many lines, by which no line is refused, no fault is closed, and the limit of instants is
--- not passed: the lines, the instants, the bytes of the text that is due, and what all running updates have copied together.
-pub record IsTallied (s : System) (count : ℕ) (tally : Tally) : Type 0 where
+-- The tally of a system, of which the updates of a set happen in place, over the whole trace with so many lines, by which no line is
+-- refused, no fault is closed, and the limit of instants is not passed: the lines, the instants, the bytes of the text that is due, and
+-- what all running updates have copied together.
+pub record IsTallied (s : System) (set : List ℕ) (count : ℕ) (tally : Tally) : Type 0 where
   pub cause : EndsBy s options (trace_text count) true ending.Done
   pub events_are : tally.events ≡ count
   pub instants_are : (z : Streams) → SolvesClosed s options (trace_text count) true z
@@ -28,7 +29,7 @@ pub record IsTallied (s : System) (count : ℕ) (tally : Tally) : Type 0 where
   pub due : IsDue s options (trace_text count) true text
   pub bytes_are : tally.bytes ≡ up_to_most (length text)
   pub copied_are : (z : Streams) → SolvesClosed s options (trace_text count) true z
-      → tally.copied ≡ up_to_most (updates_sum s (λ u. copied s z u (bound_in s options (trace_text count) true)))
+      → tally.copied ≡ up_to_most (updates_sum s (λ u. copied s set z u (bound_in s options (trace_text count) true)))
 
 -- The run of a system over the trace ends before that, behind a front of the trace.
 pub record IsStopped (s : System) (count : ℕ) (how : RunEnding) : Type 0 where

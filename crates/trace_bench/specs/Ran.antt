@@ -2,8 +2,8 @@
 use Rattle.std.specs.Prelude.{◌≡◌, ℕ, ◌-◌, ◌^◌, Bool, true, List, [], ◌++◌, length, min}
 use Rattle.std.specs.List.{filter, sum_by}
 use Rattle.flat_core.specs.System.{System}
-use Rattle.monitor_run.specs.Copied.{is_running_update}
 use Rattle.monitor_run.specs.State as engine
+use Rattle.monitor_run.specs.Updates.{is_running_update}
 use Rattle.program_text.specs.Text.{numbers}
 use Rattle.sample_trace.specs.Trace.{trace_text}
 use Rattle.trace_monitor.specs.Counted.{HasCounted}
@@ -24,8 +24,8 @@ running_updates s = filter (is_running_update s) (numbers s)
 abbrev pub updates_sum : System → (ℕ → ℕ) → ℕ
 updates_sum s amount = sum_by amount (running_updates s)
 
--- The run ended so behind a front of the trace with so many lines, all of it where its end was taken. So many bytes of text are due there, and
--- the engine has counted what it has run.
+-- The run ended so after a front of the trace with so many lines, all of it where its end was taken. So many bytes of text are due there,
+-- and the engine has counted what it has run.
 pub record HasRanOver (s : System) (o : Options) (e : engine.State) (count : ℕ) (how : RunEnding) (bytes : ℕ) : Type 0 where
   pub front : List ℕ
   pub rest : List ℕ

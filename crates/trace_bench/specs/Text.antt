@@ -9,4 +9,7 @@ count_line name number = name ++ (codes " " ++ (decimal number ++ codes "\n"))
 
 abbrev pub tally_text : Tally → List ℕ
 tally_text t =
-    count_line (codes "events") t.events ++ (count_line (codes "instants") t.instants ++ (count_line (codes "bytes") t.bytes ++ count_line (codes "copied") t.copied))
+    count_line (codes "events") t.events
+    ++ (count_line (codes "instants") t.instants
+    ++ (count_line (codes "bytes") t.bytes
+    ++ count_line (codes "copied") t.copied))

@@ -1,6 +1,6 @@
 // The measure of code over the sample trace.
 
-ghost use Rattle.std.specs.Prelude.{◌≡◌, ◌<◌, ◌^◌, [], IfOk};
+ghost use Rattle.std.specs.Prelude.{◌<◌, ◌^◌, IfOk};
 ghost use Rattle.trace_bench.specs.Outcome.{IsOutcomeOf};
 
 use crate::outcome::Outcome;
@@ -23,11 +23,10 @@ const OPTIONS: Options = Options {
     strict: false,
 };
 
-/// Runs code, in which no update happens in place, over the sample trace with so many lines, and tells what the run did.
+/// Runs code over the sample trace with so many lines, and tells what the run did.
 pub fn measure(alloc: Global, code: &Code, lines: u64) -> Result<Outcome, NoMemory>
-    requires few { lines < 2 ^ 63 }
-    requires copies { code.now.in_place ≡ [] }
-    ensures { IfOk result (IsOutcomeOf code.now.system lines) }
+    requires { lines < 2 ^ 63 }
+    ensures { IfOk result (IsOutcomeOf code.now.system code.now.in_place lines) }
 {
     let mut monitor = TraceMonitor::new(alloc, code, OPTIONS)?;
     let (ending, bytes) = run_over(alloc, &mut monitor, lines)?;

@@ -1,6 +1,6 @@
 // The run over the sample trace.
 
-ghost use Rattle.std.specs.Prelude.{◌≡◌, ◌<◌, ◌^◌, [], IfOk};
+ghost use Rattle.std.specs.Prelude.{◌≡◌, ◌<◌, ◌^◌, [], IfOk, OnOk};
 ghost use Rattle.trace_bench.specs.Ran.{HasRanOver};
 ghost use Rattle.trace_monitor.specs.Kept.{Kept};
 
@@ -22,7 +22,8 @@ pub fn run_over(
 ) -> Result<(RunEnding, u64), NoMemory>
     requires few { lines < 2 ^ 63 }
     requires kept { Kept monitor.old [] }
-    ensures { IfOk result (λ r. HasRanOver monitor.old.system monitor.old.options monitor.new.engine lines r.0 r.1) }
+    ensures set { OnOk result (monitor.new.engine.in_place ≡ monitor.old.engine.in_place) }
+    ensures ran { IfOk result (λ r. HasRanOver monitor.old.system monitor.old.options monitor.new.engine lines r.0 r.1) }
 {
     let mut piece = Bytes::new(alloc);
     let mut text = Bytes::new(alloc);

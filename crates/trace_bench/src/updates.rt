@@ -2,7 +2,8 @@
 
 ghost use Rattle.std.specs.Prelude.{◌≡◌, ◌<◌, length, slice_index};
 ghost use Rattle.flat_core.specs.declared.equation.Op.{Op};
-ghost use Rattle.monitor_run.specs.Copied.{is_running_update, is_update_op};
+ghost use Rattle.alias_rules.specs.Uses.{is_update};
+ghost use Rattle.monitor_run.specs.Updates.{is_running_update};
 ghost use Rattle.trace_bench.specs.Ran.{up_to_most, updates_sum};
 
 use flat_core::equation::Op;
@@ -12,7 +13,7 @@ use tsl_value::ids::EqId;
 
 /// Whether an operation changes an aggregate.
 fn is_update(op: &Op) -> bool
-    ensures { result ≡ is_update_op op.now }
+    ensures { result ≡ is_update op.now }
 {
     match op {
         Op::SetAdd => true,

@@ -25,7 +25,7 @@ returns-in_ok-print_text-in-Print-clause-ending g c = λ source compiles.
 
 pub returns-in_err-run_code-in-Monitor-clause-calls : goal.returns-in_err-run_code-in-Monitor-clause-calls
 returns-in_err-run_code-in-Monitor-clause-calls g c = λ source compiles.
-    let s = c.args.code.now.system in
+    let s = c.args.compiled.now.code.system in
     let trace = c.in-Monitor.trace.now in
     let o = c.in-Monitor.options in
     grows_weaker g.W.World.told g.W.World.journal c.args.world.now c.run_code.new.world (RunsSystem trace s o) (RunsSource source (task_seen c.args.task)) c.run_code.ensures.calls
@@ -33,7 +33,7 @@ returns-in_err-run_code-in-Monitor-clause-calls g c = λ source compiles.
 
 pub returns-in_ok-run_code-in-Monitor-clause-calls : goal.returns-in_ok-run_code-in-Monitor-clause-calls
 returns-in_ok-run_code-in-Monitor-clause-calls g c = λ source compiles.
-    let s = c.args.code.now.system in
+    let s = c.args.compiled.now.code.system in
     let trace = c.in-Monitor.trace.now in
     let o = c.in-Monitor.options in
     grows_weaker g.W.World.told g.W.World.journal c.args.world.now c.run_code.new.world (RunsSystem trace s o) (RunsSource source (task_seen c.args.task)) c.run_code.ensures.calls
@@ -41,7 +41,7 @@ returns-in_ok-run_code-in-Monitor-clause-calls g c = λ source compiles.
 
 pub returns-in_ok-run_code-in-Monitor-clause-ending : goal.returns-in_ok-run_code-in-Monitor-clause-ending
 returns-in_ok-run_code-in-Monitor-clause-ending g c = λ source compiles.
-    let s = c.args.code.now.system in
+    let s = c.args.compiled.now.code.system in
     let trace = c.in-Monitor.trace.now in
     let o = c.in-Monitor.options in
     grows_weaker g.W.World.told g.W.World.journal c.args.world.now c.run_code.new.world (SystemEnds trace s o c.in-Monitor.with_statistics _) (SourceEnds source (task_seen c.args.task) _) c.in_ok-run_code-in-Monitor.ensures.ending

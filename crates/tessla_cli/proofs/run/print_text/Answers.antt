@@ -14,14 +14,14 @@ returns-in_err-write_all-clause-calls g c = λ source compiles.
     let gives = rw c.as_slice.ensures at c.in_err-write_all.ensures.calls in
     grows_weaker g.W.World.told g.W.World.journal c.args.world.now c.write_all.new.world _ (RunsSource source (print c.args.form))
     (grows_run g.W.World.told g.W.World.journal g.W.World.standing c.args.world.now c.write_all.new.world _ gives)
-    (λ p r. prints c.args.form refl (prints_some source c.args.form c.args.code.now c.requires.copies c.requires.order compiles c.in_ok-text.text c.in_ok-text.ensures _ p r))
+    (λ p r. prints c.args.form refl (prints_some source c.args.form c.args.compiled.now.code c.requires.taken compiles c.in_ok-text.text c.in_ok-text.ensures _ p r))
 
 pub returns-clause-calls : goal.returns-clause-calls
 returns-clause-calls g c = λ source compiles.
     let gives = rw c.as_slice.ensures at c.in_ok-write_all.ensures.calls in
     grows_weaker g.W.World.told g.W.World.journal c.args.world.now c.write_all.new.world _ (RunsSource source (print c.args.form))
     (grows_run g.W.World.told g.W.World.journal g.W.World.standing c.args.world.now c.write_all.new.world _ gives)
-    (λ p r. prints c.args.form refl (prints_some source c.args.form c.args.code.now c.requires.copies c.requires.order compiles c.in_ok-text.text c.in_ok-text.ensures _ p r))
+    (λ p r. prints c.args.form refl (prints_some source c.args.form c.args.compiled.now.code c.requires.taken compiles c.in_ok-text.text c.in_ok-text.ensures _ p r))
 
 pub returns-clause-ending : goal.returns-clause-ending
 returns-clause-ending g c = λ source compiles.
@@ -29,5 +29,5 @@ returns-clause-ending g c = λ source compiles.
       refl,
       grows_weaker g.W.World.told g.W.World.journal c.args.world.now c.write_all.new.world _ (HasPrinted source c.args.form)
           (grows_run g.W.World.told g.W.World.journal g.W.World.standing c.args.world.now c.write_all.new.world _ gives)
-          (λ p r. prints_all source c.args.form c.args.code.now c.requires.copies c.requires.order compiles c.in_ok-text.text c.in_ok-text.ensures p r),
+          (λ p r. prints_all source c.args.form c.args.compiled.now.code c.requires.taken compiles c.in_ok-text.text c.in_ok-text.ensures p r),
     )

@@ -13,6 +13,7 @@ loop-world-init g c = record {
   room = c.requires.room;
   short = c.requires.short;
   faults = refl;
+  unheard = refl;
   calls = subst (λ (l : List ℕ). Runs g.W.World.told g.W.World.journal g.W.World.standing c.args.world.now c.args.world.now (HasRead l)) (sym c.new-source.ensures)
       (none g.W.World.told g.W.World.journal g.W.World.standing c.args.world.now (HasRead []) has_read_none);
 }
@@ -44,6 +45,7 @@ loop-world-preserved g c =
       room = search rules;
       short = search rules;
       faults = search rules;
+      unheard = search rules;
       calls = subst (λ (l : List ℕ). Runs g.W.World.told g.W.World.journal g.W.World.standing c.args.world.now c.read.new.self (HasRead l)) (sym c.in_ok-append.ensures.ok)
           (spec_read_on g.W.World.told g.W.World.journal g.W.World.standing c.args.world.now c.loop-world.world c.read.new.self c.loop-world.source piece (HasRead (c.loop-world.source ++ piece)) c.loop-world.invariant.calls
           (λ p at. has_read_more c.loop-world.source piece p at within short some) c.read.ensures.told c.read.ensures.standing c.in_ok-count.ensures.journal);

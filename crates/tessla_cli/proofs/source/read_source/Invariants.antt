@@ -10,6 +10,7 @@ invariant-loop-world g l = record {
   room : 0 < length l.buf;
   short : length l.buf ≤ most_taken;
   faults : g.W.World.faults l.world ≡ g.W.World.faults l.fn.world;
+  unheard : g.W.World.unheard l.world ≡ g.W.World.unheard l.fn.world;
   calls : Runs g.W.World.told g.W.World.journal g.W.World.standing l.fn.world l.world (HasRead l.source);
 }
 

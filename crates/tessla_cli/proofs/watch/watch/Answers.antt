@@ -21,6 +21,8 @@ loop-init g c =
       refl,
       refl,
       refl,
+      refl,
+      refl,
       (
         [],
         [],
@@ -33,13 +35,13 @@ loop-init g c =
     )
 
 pub advance-requires-clause-kept : goal.advance-requires-clause-kept
-advance-requires-clause-kept g c = let (fed, written, kept, taken, due, goes_on, calls) = c.loop.invariant.5 in (fed, kept)
+advance-requires-clause-kept g c = let (fed, written, kept, taken, due, goes_on, calls) = c.loop.invariant.7 in (fed, kept)
 
 pub returns-in_err-next-clause-calls : goal.returns-in_err-next-clause-calls
 returns-in_err-next-clause-calls g c =
     let s = c.args.monitor.now.system in
     let o = c.args.monitor.now.options in
-    let (fed, written, kept, taken, due, goes_on, calls) = c.loop.invariant.5 in
+    let (fed, written, kept, taken, due, goes_on, calls) = c.loop.invariant.7 in
     let piece = take c.in_ok-count.count c.read.new.buf in
     let short : length piece ≤ most_taken = read_within c.read.new.buf c.in_ok-count.count most_taken c.in_ok-count.ensures.count (search rules) in
     let read = read_on g.W.World.told g.W.World.journal g.W.World.standing s o c.args.world.now c.loop.world c.read.new.self fed written piece calls due goes_on short c.read.ensures.told c.read.ensures.standing c.in_ok-count.ensures.journal in
@@ -50,11 +52,11 @@ pub returns-in_err-write_all-clause-calls : goal.returns-in_err-write_all-clause
 returns-in_err-write_all-clause-calls g c =
     let s = c.args.monitor.now.system in
     let o = c.args.monitor.now.options in
-    let (fed, written, kept, taken, due, goes_on, calls) = c.loop.invariant.5 in
+    let (fed, written, kept, taken, due, goes_on, calls) = c.loop.invariant.7 in
     let piece = take c.in_ok-count.count c.read.new.buf in
     let short : length piece ≤ most_taken = read_within c.read.new.buf c.in_ok-count.count most_taken c.in_ok-count.ensures.count (search rules) in
     let read = read_on g.W.World.told g.W.World.journal g.W.World.standing s o c.args.world.now c.loop.world c.read.new.self fed written piece calls due goes_on short c.read.ensures.told c.read.ensures.standing c.in_ok-count.ensures.journal in
-    let brings = due_as c.loop.monitor s o c.loop.invariant.3 c.loop.invariant.4 fed written piece c.advance.new.out due (c.in_ok-next.ensures.text fed written kept) in
+    let brings = due_as c.loop.monitor s o c.loop.invariant.4 c.loop.invariant.5 fed written piece c.advance.new.out due (c.in_ok-next.ensures.text fed written kept) in
     let gives = rw c.as_slice.ensures at c.in_err-write_all.ensures.calls in
     go_on g.W.World.told g.W.World.journal g.W.World.standing _ _ _ _ _ (Watched s o) read gives
     (λ p q at. stopped_at_gift s o p q (fed ++ piece) written c.advance.new.out (is_nothing piece) _ at brings)
@@ -63,11 +65,11 @@ pub returns-in-Some-clause-calls : goal.returns-in-Some-clause-calls
 returns-in-Some-clause-calls g c =
     let s = c.args.monitor.now.system in
     let o = c.args.monitor.now.options in
-    let (fed, written, kept, taken, due, goes_on, calls) = c.loop.invariant.5 in
+    let (fed, written, kept, taken, due, goes_on, calls) = c.loop.invariant.7 in
     let piece = take c.in_ok-count.count c.read.new.buf in
     let short : length piece ≤ most_taken = read_within c.read.new.buf c.in_ok-count.count most_taken c.in_ok-count.ensures.count (search rules) in
     let read = read_on g.W.World.told g.W.World.journal g.W.World.standing s o c.args.world.now c.loop.world c.read.new.self fed written piece calls due goes_on short c.read.ensures.told c.read.ensures.standing c.in_ok-count.ensures.journal in
-    let brings = due_as c.loop.monitor s o c.loop.invariant.3 c.loop.invariant.4 fed written piece c.advance.new.out due (c.in_ok-next.ensures.text fed written kept) in
+    let brings = due_as c.loop.monitor s o c.loop.invariant.4 c.loop.invariant.5 fed written piece c.advance.new.out due (c.in_ok-next.ensures.text fed written kept) in
     let gives = rw c.as_slice.ensures at c.in_ok-write_all.ensures.calls in
     go_on g.W.World.told g.W.World.journal g.W.World.standing _ _ _ _ _ (Watched s o) read gives
     (λ p q at gave. stopped_between s o (p ++ q) (fed ++ piece) (written ++ c.advance.new.out) (is_nothing piece)
@@ -77,42 +79,47 @@ pub returns-in-Some-clause-ending : goal.returns-in-Some-clause-ending
 returns-in-Some-clause-ending g c =
     let s = c.args.monitor.now.system in
     let o = c.args.monitor.now.options in
-    let (fed, written, kept, taken, due, goes_on, calls) = c.loop.invariant.5 in
+    let (fed, written, kept, taken, due, goes_on, calls) = c.loop.invariant.7 in
     let piece = take c.in_ok-count.count c.read.new.buf in
     let short : length piece ≤ most_taken = read_within c.read.new.buf c.in_ok-count.count most_taken c.in_ok-count.ensures.count (search rules) in
     let read = read_on g.W.World.told g.W.World.journal g.W.World.standing s o c.args.world.now c.loop.world c.read.new.self fed written piece calls due goes_on short c.read.ensures.told c.read.ensures.standing c.in_ok-count.ensures.journal in
-    let brings = due_as c.loop.monitor s o c.loop.invariant.3 c.loop.invariant.4 fed written piece c.advance.new.out due (c.in_ok-next.ensures.text fed written kept) in
+    let brings = due_as c.loop.monitor s o c.loop.invariant.4 c.loop.invariant.5 fed written piece c.advance.new.out due (c.in_ok-next.ensures.text fed written kept) in
     let gives = rw c.as_slice.ensures at c.in_ok-write_all.ensures.calls in
-    let next = next_as c.loop.monitor s o c.loop.invariant.3 c.loop.invariant.4 (fed ++ piece) (is_nothing piece) c.in_ok-next.next (c.in_ok-next.ensures.ending fed kept) in
+    let next = next_as c.loop.monitor s o c.loop.invariant.4 c.loop.invariant.5 (fed ++ piece) (is_nothing piece) c.in_ok-next.next (c.in_ok-next.ensures.ending fed kept) in
     let cause : EndsBy s o (fed ++ piece) (is_nothing piece) c.in-Some.ending = subst (λ (e : Option RunEnding). IsNext s o (fed ++ piece) (is_nothing piece) e) c.in-Some.is next in
     let state = c.advance.new.self.engine in
-    let counted = counted_as c.loop.monitor s o c.loop.invariant.3 c.loop.invariant.4 (fed ++ piece) (is_nothing piece) state c.in-Some.ending
+    let counted = counted_as c.loop.monitor s o c.loop.invariant.4 c.loop.invariant.5 (fed ++ piece) (is_nothing piece) state c.in-Some.ending
     (c.advance.ensures.counted fed c.in-Some.ending kept (c.branch-next.ensures ∙ ap result_from_control_flow c.in_ok-next.is ∙ ap (λ (e : Option RunEnding). Ok e) c.in-Some.is)) in
     go_on g.W.World.told g.W.World.journal g.W.World.standing _ _ _ _ _ (WatchEnds s o state c.ending_of.result) read gives
     (λ p q at gave. ends s o state c.ending_of.result c.in-Some.ending (p ++ q) (fed ++ piece) (written ++ c.advance.new.out) (is_nothing piece) c.ending_of.ensures
     (gave_all s o p q (fed ++ piece) written c.advance.new.out (is_nothing piece) at gave) brings cause counted)
 
 pub returns-in-Some-clause-engine : goal.returns-in-Some-clause-engine
-returns-in-Some-clause-engine g c = let (fed, written, kept, taken, due, goes_on, calls) = c.loop.invariant.5 in c.advance.ensures.engine ∙ kept.system_is ∙ c.loop.invariant.3
+returns-in-Some-clause-engine g c = let (fed, written, kept, taken, due, goes_on, calls) = c.loop.invariant.7 in c.advance.ensures.engine ∙ kept.system_is ∙ c.loop.invariant.4
+
+pub returns-in-Some-clause-set : goal.returns-in-Some-clause-set
+returns-in-Some-clause-set g c = c.advance.ensures.set ∙ c.loop.invariant.6
 
 pub loop-preserved : goal.loop-preserved
 loop-preserved g c =
     let s = c.args.monitor.now.system in
     let o = c.args.monitor.now.options in
-    let (fed, written, kept, taken, due, goes_on, calls) = c.loop.invariant.5 in
+    let (fed, written, kept, taken, due, goes_on, calls) = c.loop.invariant.7 in
     let piece = take c.in_ok-count.count c.read.new.buf in
     let short : length piece ≤ most_taken = read_within c.read.new.buf c.in_ok-count.count most_taken c.in_ok-count.ensures.count (search rules) in
     let read = read_on g.W.World.told g.W.World.journal g.W.World.standing s o c.args.world.now c.loop.world c.read.new.self fed written piece calls due goes_on short c.read.ensures.told c.read.ensures.standing c.in_ok-count.ensures.journal in
-    let brings = due_as c.loop.monitor s o c.loop.invariant.3 c.loop.invariant.4 fed written piece c.advance.new.out due (c.in_ok-next.ensures.text fed written kept) in
+    let brings = due_as c.loop.monitor s o c.loop.invariant.4 c.loop.invariant.5 fed written piece c.advance.new.out due (c.in_ok-next.ensures.text fed written kept) in
     let gives = rw c.as_slice.ensures at c.in_ok-write_all.ensures.calls in
-    let all = next_as c.loop.monitor s o c.loop.invariant.3 c.loop.invariant.4 (fed ++ piece) (is_nothing piece) c.in_ok-next.next (c.in_ok-next.ensures.ending fed kept) in
+    let all = next_as c.loop.monitor s o c.loop.invariant.4 c.loop.invariant.5 (fed ++ piece) (is_nothing piece) c.in_ok-next.next (c.in_ok-next.ensures.ending fed kept) in
     let next = subst (λ (e : Option RunEnding). IsNext s o (fed ++ piece) (is_nothing piece) e) c.in_default.is all in
     let e = next.0 in (
       search rules,
       search rules,
       c.in_ok-write_all.ensures.ok ∙ c.in_ok-count.ensures.cause.ok ∙ c.loop.invariant.2,
-      c.advance.ensures.system ∙ c.loop.invariant.3,
-      c.advance.ensures.options ∙ c.loop.invariant.4,
+      c.in_ok-write_all.ensures.heard.ok ∙ c.read.ensures.heard ∙ c.loop.invariant.3,
+      c.advance.ensures.system ∙ c.loop.invariant.4,
+      c.advance.ensures.options ∙ c.loop.invariant.5,
+      c.advance.ensures.set ∙ c.loop.invariant.6,
       (
         fed ++ piece,
         written ++ c.advance.new.out,
@@ -128,9 +135,9 @@ loop-preserved g c =
 
 pub unreachable-requires : goal.unreachable-requires
 unreachable-requires g c =
-    let (fed, written, kept, taken, due, goes_on, calls) = c.loop.invariant.5 in
+    let (fed, written, kept, taken, due, goes_on, calls) = c.loop.invariant.7 in
     let most = kept_within c.loop.monitor fed kept in
-    let options = c.loop.invariant.4 in
+    let options = c.loop.invariant.5 in
     let limit = c.requires.limit in
     let same : c.loop.monitor.options.bytes ≡ c.args.monitor.now.options.bytes = ap (λ (o : Options). o.bytes) options in
     let past = c.loop-test.false in

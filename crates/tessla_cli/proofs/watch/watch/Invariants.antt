@@ -10,6 +10,7 @@ use Rattle.tessla_cli.proofs.watch.watch.Given as goal
 -- for some bytes of the trace and some text that was written, told or not
 abbrev pub invariant-loop : goal.invariant-loop
 invariant-loop g l = (0 < length l.buf) × (length l.buf ≤ most_taken) × (g.W.World.faults l.world ≡ g.W.World.faults l.fn.world)
-    × (l.monitor.system ≡ l.fn.monitor.system) × (l.monitor.options ≡ l.fn.monitor.options) × ((fed : List ℕ) × (written : List ℕ)
+    × (g.W.World.unheard l.world ≡ g.W.World.unheard l.fn.world)
+    × (l.monitor.system ≡ l.fn.monitor.system) × (l.monitor.options ≡ l.fn.monitor.options) × (l.monitor.engine.in_place ≡ l.fn.monitor.engine.in_place) × ((fed : List ℕ) × (written : List ℕ)
     × Kept l.monitor fed × (l.counter ≤ length fed) × IsDue l.fn.monitor.system l.fn.monitor.options fed false written × GoesOn l.fn.monitor.system l.fn.monitor.options fed
     × Runs g.W.World.told g.W.World.journal g.W.World.standing l.fn.world l.world (λ part. Stands l.fn.monitor.system l.fn.monitor.options part fed written false))

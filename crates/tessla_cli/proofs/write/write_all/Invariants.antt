@@ -7,6 +7,7 @@ use Rattle.tessla_cli.proofs.write.write_all.Given as goal
 abbrev pub invariant-loop-rest : goal.invariant-loop-rest
 invariant-loop-rest g l = record {
   faults : g.W.World.faults l.world ≡ g.W.World.faults l.fn.world;
+  unheard : g.W.World.unheard l.world ≡ g.W.World.unheard l.fn.world;
   stands : is_writable (g.W.World.standing l.world) l.to ≡ true;
   calls : Runs g.W.World.told g.W.World.journal g.W.World.standing l.fn.world l.world (λ part. Each (IsGift l.to) part × (l.fn.bytes ≡ given l.to part ++ l.rest));
 }

@@ -16,11 +16,15 @@ loop-text-init c = record {
   kept = c.requires.kept;
   text = [];
   due = begun c.args.monitor.now c.requires.kept;
+  set = refl;
   bytes = refl;
 }
 
-pub returns-in-Some : goal.returns-in-Some
-returns-in-Some c =
+pub returns-in-Some-clause-set : goal.returns-in-Some-clause-set
+returns-in-Some-clause-set c = c.advance.ensures.set ∙ c.loop-text.invariant.set
+
+pub returns-in-Some-clause-ran : goal.returns-in-Some-clause-ran
+returns-in-Some-clause-ran c =
     let m = c.loop-text.monitor in
     let before = c.loop-text.invariant in
     let taken = c.loop-text.taken in
@@ -63,5 +67,6 @@ loop-text-preserved c =
       text = before.text ++ c.advance.new.out;
       due = due_as m.system c.advance.new.self.system m.options c.advance.new.self.options (sym c.advance.ensures.system) (sym c.advance.ensures.options) (lines_text 1 more) false (before.text ++ c.advance.new.out)
           (subst (λ l. IsDue m.system m.options l false (before.text ++ c.advance.new.out)) all going);
+      set = c.advance.ensures.set ∙ before.set;
       bytes = bytes_more before.text c.advance.new.out c.loop-text.bytes c.saturating_add-bytes.result before.bytes (search rules);
     }

@@ -14,6 +14,7 @@ invariant-loop-text l = record {
   kept : Kept l.monitor (lines_text 1 l.taken);
   text : List ℕ;
   due : IsDue l.monitor.system l.monitor.options (lines_text 1 l.taken) false text;
+  set : l.monitor.engine.in_place ≡ l.fn.monitor.engine.in_place;
   bytes : l.bytes ≡ up_to_most (length text);
 }
 

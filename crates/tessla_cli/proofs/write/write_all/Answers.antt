@@ -1,0 +1,20 @@
+use Rattle.std.proofs.Common.{◌≡◌, ◌<◌, ◌++◌, [], List, length, refl, ap, sym, ◌∙◌, subst, rules}
+use Rattle.std.proofs.lemmas.List.{append-nil}
+use Rattle.std.proofs.lemmas.Result.{err_from_is_err_and}
+use Rattle.tsl_world.specs.declared.outside.Did.{Did}
+use Rattle.tsl_world.proofs.Runs.{go_on, quiet}
+use Rattle.tessla_cli.specs.Parts.{Gives}
+use Rattle.tessla_cli.proofs.Writing.{gave_less}
+use Rattle.tessla_cli.proofs.write.write_all.Goals as goal
+
+pub returns-in_err-count-clause-calls : goal.returns-in_err-count-clause-calls
+returns-in_err-count-clause-calls g c =
+    let to = c.args.to in
+    let bytes = c.args.bytes.now in
+    let rest = c.loop-rest.rest.now in
+    let some : 0 < length rest = search rules in
+    let (error, failed, same) = err_from_is_err_and c.from_residual.result c.from_residual.ensures.1 in
+    go_on g.W.World.told g.W.World.journal g.W.World.standing c.args.world.now c.loop-rest.world c.write.new.self _ (λ q. q ≡ []) (Gives to bytes c.from_residual.result) c.loop-rest.invariant.calls
+    (quiet g.W.World.told g.W.World.journal g.W.World.standing c.loop-rest.world c.write.new.self (λ q. q ≡ []) c.write.ensures.told c.write.ensures.standing c.in_err-count.ensures.journal refl)
+    (λ p q at none. subst (λ (l : List Did). Gives to bytes c.from_residual.result l) (sym (ap (λ (l : List Did). p ++ l) none ∙ append-nil p))
+    (gave_less to bytes rest c.from_residual.result error p failed some at.0 at.1))
