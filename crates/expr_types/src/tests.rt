@@ -104,52 +104,30 @@ fn is_part(alloc: Global, source: &[u8], line: u32, column: u32, clash: Clash) -
 }
 
 #[test]
-fn parts_that_do_not_fit(rt: HostRuntime) {
-    let sources: [(&[u8], u32, u32, ExprType, ExprType); 3] = [
-        (b"in i: Int\ndef b := i + true\nout b", 2, 10, BOOLS, INTS),
-        (
-            b"def f(a: Bool): Int := a + 1",
-            1,
-            24,
-            ExprType::Value(BOOL),
-            NUMBER,
-        ),
-        (
-            b"out isSome(None[Int]) as a",
-            1,
-            5,
-            ExprType::Value(BOOL),
-            BOOLS,
-        ),
-    ];
-    for (source, line, column, have, want) in sources {
-        let want = Asked::Exactly(want);
-        assert!(rt; is_part(rt.alloc(), source, line, column, Clash { have, want }));
-    }
+fn a_part_that_does_not_fit(rt: HostRuntime) {
+    let source = b"def f(a: Bool): Int := a + 1";
+    let clash = Clash {
+        have: ExprType::Value(BOOL),
+        want: Asked::Exactly(NUMBER),
+    };
+    assert!(rt; is_part(rt.alloc(), source.as_slice(), 1, 24, clash));
 }
 
 #[test]
 fn braces_where_no_macro_is(rt: HostRuntime) {
-    let sources: [(&[u8], u32, Option<ExprType>); 2] = [
-        (b"def a := { def b := 1 + true b }", 16, None),
-        (b"def a: Int := { def b := 1 b }", 21, Some(INTS)),
-    ];
-    for (source, column, written) in sources {
-        let place = Place { line: 1, column };
-        let braces = Wrong::Braces { place, written };
-        assert!(rt; wrong(rt.alloc(), source) == Some(braces));
-    }
+    let source = b"def a: Int := { def b := 1 b }";
+    let place = Place {
+        line: 1,
+        column: 21,
+    };
+    let written = Some(INTS);
+    assert!(rt; wrong(rt.alloc(), source.as_slice()) == Some(Wrong::Braces { place, written }));
 }
 
 #[test]
 fn nothing_is_wrong(rt: HostRuntime) {
-    let sources: [&[u8]; 2] = [
-        b"in i: Int\ndef a := const(-5, i)\nout time(unit) as t",
-        b"def f(a: Int, b: Int): Int := a + b\nout f(1, 2) as c\nout Set.size(Set.add(Set.empty[Int], 1)) as d",
-    ];
-    for source in sources {
-        assert!(rt; wrong(rt.alloc(), source).is_none());
-    }
+    let source = b"def f(a: Int, b: Int): Int := a + b\nout f(1, 2) as c";
+    assert!(rt; wrong(rt.alloc(), source.as_slice()).is_none());
 }
 
 #[test]
