@@ -17,8 +17,8 @@ use Rattle.lift_func.specs.declared.body.Binary.TheVariants as binary
 use Rattle.lift_func.specs.declared.register.Register.{Register}
 use Rattle.lift_func.specs.declared.register.Register.TheVariants as register
 use Rattle.lift_func.specs.Apply.{int, bool, found, of_one, contained, at_key}
-use Rattle.lift_func.specs.Cells.{Cells, FitsKey, HoldsLive, IsAggregate, IsMap, has_key, held, register_of, scalar_in, value_at, view_at}
-use Rattle.lift_func.specs.Evaluable.{CanRead, IsScalarKind, is_read}
+use Rattle.lift_func.specs.inner.Cells.{Cells, FitsKey, HoldsLive, IsAggregate, IsMap, has_key, held, register_of, scalar_in, value_at, view_at}
+use Rattle.lift_func.specs.inner.Evaluable.{CanRead, IsScalarKind, is_read}
 use Rattle.lift_func.specs.Typing as typing
 use Rattle.lift_func.specs.Typing.{Kind, Value, Optional, TypesTwo, fits, plain, scalar_of, is_arithmetic, is_order, is_equality, is_logic}
 use Rattle.lift_func.specs.Update.{size_of}

@@ -14,10 +14,10 @@ use Rattle.lift_func.specs.declared.eval.EvalFault.{EvalFault}
 use Rattle.lift_func.specs.declared.eval.EvalFault.TheVariants as eval_fault
 use Rattle.lift_func.specs.declared.register.Register.{Register}
 use Rattle.lift_func.specs.declared.register.Register.TheVariants as register
-use Rattle.lift_func.specs.Answered.{Decides, IsValue, NeedsSecond}
+use Rattle.lift_func.specs.inner.Answered.{Decides, IsValue, NeedsSecond}
 use Rattle.lift_func.specs.Apply.{Answer, and_then, of_one, of_two, apply}
-use Rattle.lift_func.specs.Cells.{Cells, HoldsLive, arguments, held, register_of, scalar_in}
-use Rattle.lift_func.specs.Evaluable.{CanRead, FitsOperand, IsEvaluable, IsHeld, IsHeldValue, IsTypedAt, is_read}
+use Rattle.lift_func.specs.inner.Cells.{Cells, HoldsLive, arguments, held, register_of, scalar_in}
+use Rattle.lift_func.specs.inner.Evaluable.{CanRead, FitsOperand, IsEvaluable, IsHeld, IsHeldValue, IsTypedAt, is_read}
 use Rattle.lift_func.specs.Tree.{Tree, Argument, One, Two, Choice}
 use Rattle.lift_func.specs.Typing as typing
 use Rattle.lift_func.specs.Typing.{Kind, plain, HasKind, TypesOne, TypesTwo, AllFit, FitsAnswer, fits}

@@ -15,6 +15,7 @@ use Rattle.tsl_value.specs.declared.scalar.Scalar.TheVariants as scalar
 use Rattle.tsl_value.specs.declared.scalar.ScalarType.{ScalarType}
 use Rattle.tsl_value.specs.declared.scalar.ScalarType.TheVariants as scalar_type
 use Rattle.tsl_value.specs.declared.scalar.ValueType.TheVariants as value_type
+use Rattle.tsl_value.specs.declared.limits.TheConstants.{MOST_TEXT_BYTES}
 use Rattle.lift_func.specs.declared.fault.FaultKind.TheVariants.{Overflow, TextTooLong}
 use Rattle.lift_func.specs.declared.body.Unary.{Unary}
 use Rattle.lift_func.specs.declared.body.Unary.TheVariants as unary
@@ -67,7 +68,7 @@ int_fits z =
 
 text_fits : (s : List ℕ) → FitsAnswer text_kind (text s)
 text_fits s =
-    elim (nat_lt 65536 (length s)) as (λ b. FitsAnswer text_kind (if b then Err TextTooLong else Ok (Some (Plain (scalar.Text s))))) [ true ↦ tt | false ↦ refl ]
+    elim (nat_lt MOST_TEXT_BYTES (length s)) as (λ b. FitsAnswer text_kind (if b then Err TextTooLong else Ok (Some (Plain (scalar.Text s))))) [ true ↦ tt | false ↦ refl ]
 
 then_fits : (f : Option View → Answer) (j k : Kind) → ((v : Option View) → IsTrue (fits j v) → FitsAnswer k (f v)) → (x : Answer) → FitsAnswer j x → FitsAnswer k (and_then x f)
 then_fits f j k h (Ok v) fit = h v fit

@@ -3,11 +3,11 @@ use Rattle.std.proofs.Common.{◌≡◌, ℕ, zero, suc, ◌<◌, ◌≤◌, tru
 use Rattle.std.specs.Prelude.{slice_index_or}
 use Rattle.std.proofs.lemmas.Bool.{le-leb, lt-leb, leb-false}
 use Rattle.tsl_value.specs.declared.scalar.Scalar.TheVariants as scalar
-use Rattle.lift_func.specs.declared.body.TheConstants.{MOST_NODES}
+use Rattle.lift_func.specs.declared.limits.TheConstants.{MOST_NODES}
 use Rattle.lift_func.specs.declared.body.Unary.{Unary}
 use Rattle.lift_func.specs.declared.body.Binary.{Binary}
 use Rattle.lift_func.specs.Tree.{Tree, Literal, Argument, Absent, One, Two, Choice, node_count}
-use Rattle.lift_func.specs.Placed.{placed, within, one_within, two_within, choice_within, placed_within}
+use Rattle.lift_func.specs.inner.Placed.{placed, within, one_within, two_within, choice_within, placed_within}
 
 pub within_small : (t : Tree) → node_count t ≤ MOST_NODES → within t ≡ Some t
 within_small t h = ap (λ b. if b then Some t else None) (le-leb (node_count t) MOST_NODES h)

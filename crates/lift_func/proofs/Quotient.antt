@@ -8,8 +8,8 @@ use Rattle.lift_func.specs.declared.body.Unary.TheVariants as unary
 use Rattle.lift_func.specs.declared.body.Binary.TheVariants as binary
 use Rattle.lift_func.specs.declared.register.Register.{Register}
 use Rattle.lift_func.specs.declared.register.Register.TheVariants as register
-use Rattle.lift_func.specs.Cells.{Cells, HoldsLive}
-use Rattle.lift_func.specs.Evaluable.{IsEvaluable}
+use Rattle.lift_func.specs.inner.Cells.{Cells, HoldsLive}
+use Rattle.lift_func.specs.inner.Evaluable.{IsEvaluable}
 use Rattle.lift_func.specs.Tree.{Tree, Literal, Argument, One, Two}
 use Rattle.lift_func.specs.Typing.{plain, neg, literal, argument, arithmetic, one, two}
 

@@ -1,6 +1,7 @@
 // The body of a value function.
 
 ghost use Rattle.std.specs.Prelude.{◌≡◌, ◌+◌, ◌≤◌, IfOk};
+ghost use Rattle.lift_func.specs.declared.limits.TheConstants.{MOST_NODES};
 
 use std::alloc::Global;
 use std::marker::Model;
@@ -42,9 +43,6 @@ pub enum Binary {
     Concat,
 }
 
-/// The most nodes that a body has.
-pub const MOST_NODES: u32 = 1024;
-
 /// The tree of a value function, of at most 1,024 nodes.
 #[cycle(body)]
 #[derive(Drop)]
@@ -59,7 +57,7 @@ pub struct Body {
 #[derive(Drop)]
 pub enum Node {
     Literal(Scalar),
-    Argument(u32),
+    Argument(usize),
     Absent(ValueType),
     One(Unary, Box<Body>),
     Two(Binary, Box<Body>, Box<Body>),
@@ -73,7 +71,7 @@ impl Model for Body {
 
     ghost coded = { tree_code };
 
-    ghost use Rattle.lift_func.specs.Shape.{tree_of};
+    ghost use Rattle.lift_func.specs.inner.Shape.{tree_of};
 
     ghost view = { λ b. tree_of b.node };
 
@@ -88,7 +86,7 @@ impl Model for Body {
 
 impl Body {
     ghost use Rattle.lift_func.specs.Tree.{Absent, Argument, Choice, Literal, One, Two, node_count};
-    ghost use Rattle.lift_func.specs.Shape.{tree_of};
+    ghost use Rattle.lift_func.specs.inner.Shape.{tree_of};
 
     /// A literal.
     pub fn literal(s: Scalar) -> Body
@@ -101,7 +99,7 @@ impl Body {
     }
 
     /// The argument of this number, counted from 0.
-    pub fn argument(n: u32) -> Body
+    pub fn argument(n: usize) -> Body
         ensures { result ≡ Argument n }
     {
         Body {
@@ -120,7 +118,7 @@ impl Body {
         }
     }
 
-    /// An operation at one operand. Where memory is wanting the operand is gone.
+    /// An operation at one operand. Out of memory the operand is gone.
     pub fn one(alloc: Global, o: Unary, a: Body) -> Result<Body, NoMemory>
         requires { 1 + node_count a ≤ MOST_NODES }
         ensures { IfOk result (λ t. t ≡ One o a) }
@@ -133,7 +131,7 @@ impl Body {
         })
     }
 
-    /// An operation at two operands. Where memory is wanting the operands are gone.
+    /// An operation at two operands. Out of memory the operands are gone.
     pub fn two(alloc: Global, o: Binary, a: Body, b: Body) -> Result<Body, NoMemory>
         requires { 1 + node_count a + node_count b ≤ MOST_NODES }
         ensures { IfOk result (λ t. t ≡ Two o a b) }
@@ -147,7 +145,7 @@ impl Body {
         })
     }
 
-    /// `a` where the condition is true, and else `b`. Where memory is wanting all three are gone.
+    /// `a` where the condition is true, and else `b`. Out of memory all three are gone.
     pub fn choice(alloc: Global, condition: Body, a: Body, b: Body) -> Result<Body, NoMemory>
         requires { 1 + node_count condition + node_count a + node_count b ≤ MOST_NODES }
         ensures { IfOk result (λ t. t ≡ Choice condition a b) }

@@ -4,9 +4,9 @@ ghost use Rattle.std.specs.Prelude.{◌≡◌, All, IfOk, None, slice_index_or};
 ghost use Rattle.std.specs.Option.{option_map};
 ghost use Rattle.tsl_value.specs.View.{Plain};
 ghost use Rattle.lift_func.specs.Apply.{apply};
-ghost use Rattle.lift_func.specs.Cells.{Cells, HoldsLive, arguments, held};
-ghost use Rattle.lift_func.specs.Evaluable.{IsEvaluable, IsHeldValue, IsTypedAt};
-ghost use Rattle.lift_func.specs.Answered.{IsValue, views};
+ghost use Rattle.lift_func.specs.inner.Cells.{Cells, HoldsLive, arguments, held};
+ghost use Rattle.lift_func.specs.inner.Evaluable.{IsEvaluable, IsHeldValue, IsTypedAt};
+ghost use Rattle.lift_func.specs.inner.Answered.{IsValue, views};
 
 use crate::body::{Body, Node};
 use crate::fault::FaultKind;
@@ -55,10 +55,10 @@ fn copied(value: &Option<Scalar>) -> Result<Option<Scalar>, NoMemory>
 }
 
 /// The value of an argument. One that is not there is absent.
-fn argument_at(args: &[Option<Scalar>], k: u32) -> Result<Option<Scalar>, NoMemory>
+fn argument_at(args: &[Option<Scalar>], k: usize) -> Result<Option<Scalar>, NoMemory>
     ensures { IfOk result (λ v. slice_index_or (views args.now) k None ≡ option_map Plain v) }
 {
-    match args.get(k as usize) {
+    match args.get(k) {
         Some(value) => copied(value),
         None => Ok(None),
     }
@@ -113,11 +113,13 @@ fn register_at(registers: &[Register], a: u32) -> Result<Register, NoMemory>
 }
 
 /// The register that an argument names. One that is not there holds nothing.
-fn named_at(registers: &[Register], args: &[u32], k: u32) -> Result<Register, NoMemory>
+fn named_at(registers: &[Register], args: &[u32], k: usize) -> Result<Register, NoMemory>
     ensures held { IfOk result (λ r. (cells : Cells) → slice_index_or (arguments cells registers.now args.now) k None ≡ held cells r) }
-    ensures live { IfOk result (λ r. (cells : Cells) → All (λ a. HoldsLive cells (slice_index_or registers.now a Register.Empty)) args.now → HoldsLive cells r) }
+    ensures live { IfOk result (λ r. (cells : Cells)
+        → All (λ a. HoldsLive cells (slice_index_or registers.now a Register.Empty)) args.now
+        → HoldsLive cells r) }
 {
-    match args.get(k as usize) {
+    match args.get(k) {
         Some(a) => register_at(registers, *a),
         None => Ok(Register::Empty),
     }

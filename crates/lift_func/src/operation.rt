@@ -8,18 +8,16 @@ ghost use Rattle.std.specs.Ordering.{is_eq};
 ghost use Rattle.tsl_value.specs.View.{Plain, scalar_cmp};
 ghost use Rattle.lift_func.specs.Apply.{int, bool, text, apply, divided, remainder, on_ints, on_scalars, on_texts, of_one, of_two};
 ghost use Rattle.lift_func.specs.declared.body.Unary.TheVariants as unary;
-ghost use Rattle.lift_func.specs.Answered.{Decides, IsAnswer, IsInt, IsValue, NeedsSecond};
+ghost use Rattle.lift_func.specs.inner.Answered.{Decides, IsAnswer, IsInt, IsValue, NeedsSecond};
 
 use crate::body::{Binary, Unary};
 use crate::eval::EvalFault;
 use crate::fault::FaultKind;
 use std::alloc::Global;
+use tsl_value::limits::MOST_TEXT_BYTES;
 use tsl_value::memory::NoMemory;
 use tsl_value::scalar::Scalar;
 use tsl_value::text::Text;
-
-/// The most bytes of a text.
-const MOST_BYTES: usize = 65_536;
 
 fn negated(a: &Option<Scalar>) -> Result<Option<Scalar>, FaultKind>
     ensures { IsAnswer result (of_one unary.Neg (option_map Plain a.now)) }
@@ -208,7 +206,8 @@ fn is_same(a: &Scalar, b: &Scalar) -> bool
 }
 
 fn is_equal(a: &Option<Scalar>, b: &Option<Scalar>) -> Option<Scalar>
-    ensures { on_scalars (λ x y. bool (is_eq (scalar_cmp x y))) (option_map Plain a.now) (option_map Plain b.now) ≡ Ok (option_map Plain result) }
+    ensures { on_scalars (λ x y. bool (is_eq (scalar_cmp x y))) (option_map Plain a.now) (option_map Plain b.now)
+        ≡ Ok (option_map Plain result) }
 {
     match (a, b) {
         (Some(a), Some(b)) => Some(Scalar::Bool(is_same(a, b))),
@@ -217,7 +216,8 @@ fn is_equal(a: &Option<Scalar>, b: &Option<Scalar>) -> Option<Scalar>
 }
 
 fn is_different(a: &Option<Scalar>, b: &Option<Scalar>) -> Option<Scalar>
-    ensures { on_scalars (λ x y. bool (not (is_eq (scalar_cmp x y)))) (option_map Plain a.now) (option_map Plain b.now) ≡ Ok (option_map Plain result) }
+    ensures { on_scalars (λ x y. bool (not (is_eq (scalar_cmp x y)))) (option_map Plain a.now) (option_map Plain b.now)
+        ≡ Ok (option_map Plain result) }
 {
     match (a, b) {
         (Some(a), Some(b)) => Some(Scalar::Bool(!is_same(a, b))),
@@ -225,7 +225,7 @@ fn is_different(a: &Option<Scalar>, b: &Option<Scalar>) -> Option<Scalar>
     }
 }
 
-/// One text behind another.
+/// One text after another.
 fn concatenated(alloc: Global, a: &str, b: &str) -> Result<Text, NoMemory>
     ensures { IfOk result (λ t. t ≡ a.now ++ b.now) }
 {
@@ -234,7 +234,7 @@ fn concatenated(alloc: Global, a: &str, b: &str) -> Result<Text, NoMemory>
     Text::from_str(alloc, text.as_str())
 }
 
-/// One text behind another, or why there is none.
+/// One text after another, or why there is none.
 fn joined(
     alloc: Global,
     a: &Option<Scalar>,
@@ -246,7 +246,7 @@ fn joined(
         (Some(Scalar::Text(a)), Some(Scalar::Text(b))) => {
             let a = a.as_str();
             let b = b.as_str();
-            if a.len() + b.len() > MOST_BYTES {
+            if a.len() + b.len() > MOST_TEXT_BYTES {
                 Err(EvalFault::Fault(FaultKind::TextTooLong))
             } else {
                 Ok(Some(Scalar::Text(concatenated(alloc, a, b)?)))

@@ -3,9 +3,10 @@
 ghost use Rattle.std.specs.Prelude.{◌≡◌, ◌≤◌, List, map, IfOk, IfSome, slice_index_or};
 ghost use Rattle.std.specs.Option.{option_map};
 ghost use Rattle.lift_func.specs.Tree.{Tree, Literal, node_count};
-ghost use Rattle.lift_func.specs.Placed.{placed, within, limited, one_within, two_within, choice_within, placed_within};
+ghost use Rattle.lift_func.specs.inner.Placed.{placed, within, limited, one_within, two_within, choice_within, placed_within};
 
-use crate::body::{Binary, Body, MOST_NODES, Node, Unary};
+use crate::body::{Binary, Body, Node, Unary};
+use crate::limits::MOST_NODES;
 use std::alloc::Global;
 use tsl_value::memory::NoMemory;
 use tsl_value::scalar::Scalar;
@@ -22,11 +23,11 @@ fn limited(nodes: u32) -> Option<u32>
 }
 
 /// How many nodes an operand has, if it is there. Past the end stands unit.
-fn operand_nodes(operands: &[Option<Body>], number: u32) -> Option<u32>
+fn operand_nodes(operands: &[Option<Body>], number: usize) -> Option<u32>
     ensures exact { result ≡ option_map node_count (slice_index_or operands.now number (Some (Literal Scalar.Unit))) }
     ensures few { IfSome result (λ n. n ≤ MOST_NODES) }
 {
-    match operands.get(number as usize) {
+    match operands.get(number) {
         Some(Some(operand)) => Some(operand.nodes()),
         Some(None) => None,
         None => Some(1),
@@ -55,10 +56,10 @@ fn placed_nodes(body: &Body, operands: &[Option<Body>]) -> Option<u32>
 }
 
 /// An operand, if it is there. Past the end stands unit.
-fn operand_at(operands: &[Option<Body>], number: u32) -> Result<Option<Body>, NoMemory>
+fn operand_at(operands: &[Option<Body>], number: usize) -> Result<Option<Body>, NoMemory>
     ensures { IfOk result (λ b. b ≡ slice_index_or operands.now number (Some (Literal Scalar.Unit))) }
 {
-    match operands.get(number as usize) {
+    match operands.get(number) {
         Some(Some(operand)) => Ok(Some(operand.copy()?)),
         Some(None) => Ok(None),
         None => Ok(Some(Body::literal(Scalar::Unit))),

@@ -4,10 +4,11 @@ ghost use Rattle.std.specs.Prelude.{◌≡◌, pos};
 ghost use Rattle.std.specs.Option.{option_map};
 ghost use Rattle.tsl_value.specs.View.{Plain};
 ghost use Rattle.lift_func.specs.declared.body.Unary.TheVariants as unary;
-ghost use Rattle.lift_func.specs.Answered.{IsInt};
+ghost use Rattle.lift_func.specs.inner.Answered.{IsInt};
 ghost use Rattle.lift_func.specs.Apply.{int, found, of_one, of_two};
-ghost use Rattle.lift_func.specs.Cells.{Cells, FitsKey, HoldsLive, IsLive, IsMap, has_key, held, register_of, scalar_in, value_at, view_at};
-ghost use Rattle.lift_func.specs.Evaluable.{CanRead, FitsOperand, IsHeldAnswer, IsHeldValue, is_read};
+ghost use Rattle.lift_func.specs.inner.Cells.{Cells, FitsKey, HoldsLive, IsLive, IsMap, has_key, held, register_of, scalar_in, value_at};
+ghost use Rattle.lift_func.specs.inner.Cells.{view_at};
+ghost use Rattle.lift_func.specs.inner.Evaluable.{CanRead, FitsOperand, IsHeldAnswer, IsHeldValue, is_read};
 
 use crate::body::{Binary, Unary};
 use crate::eval::EvalFault;
@@ -128,7 +129,8 @@ pub(crate) fn read<R: Reader>(
 ) -> Result<Register, EvalFault>
     requires live { HoldsLive (R.cells reader.now) a.now }
     requires typed { CanRead (R.cells reader.now) o a.now key.now }
-    ensures { IsHeldValue (R.cells reader.now) result (of_two o (Ok (held (R.cells reader.now) a.now)) (Ok (held (R.cells reader.now) key.now))) }
+    ensures { IsHeldValue (R.cells reader.now) result
+        (of_two o (Ok (held (R.cells reader.now) a.now)) (Ok (held (R.cells reader.now) key.now))) }
 {
     match (a, key) {
         (Register::Aggregate(cell), Register::Scalar(key)) => match o {

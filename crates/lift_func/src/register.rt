@@ -1,7 +1,7 @@
 // Registers.
 
 ghost use Rattle.std.specs.Prelude.{◌≡◌, IfOk, is_some, not};
-ghost use Rattle.lift_func.specs.Cells.{Cells, held};
+ghost use Rattle.lift_func.specs.inner.Cells.{Cells, held};
 
 use tsl_value::ids::Handle;
 use tsl_value::memory::NoMemory;

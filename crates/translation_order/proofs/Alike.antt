@@ -1,6 +1,6 @@
 -- Relations that hold alike have the same cycles.
 use Rattle.std.proofs.Common.{ℕ, List}
-use Rattle.flat_core.specs.Graph.{Path, edge, step}
+use Rattle.translation_order.specs.Graph.{Path, edge, step}
 use Rattle.translation_order.specs.Order.{IsLeast}
 use Rattle.translation_order.specs.Cycle.{IsCycle, CanBeTaken, taken, Remains, RemainsBefore, IsCycleOfWalk}
 use Rattle.translation_order.proofs.Circles.{through_weaker}

@@ -8,7 +8,8 @@ use Rattle.std.proofs.lemmas.List.Elements.{Contains-append_left, Contains-appen
 use Rattle.std.specs.List.{IsDistinct}
 use Rattle.translation_order.specs.Order.{IsLeast}
 use Rattle.translation_order.specs.Cycle.{Through, IsTurned}
-use Rattle.translation_order.proofs.Lists.{here, later, cons_cases, middle, same_split}
+use Rattle.tsl_value.proofs.Lists.{here, later, cons_cases}
+use Rattle.translation_order.proofs.Lists.{middle, same_split}
 
 -- E holds from a to the first of xs, and from each to the next
 abbrev pub Along : (ℕ → ℕ → Type 0) → ℕ → List ℕ → Type 0
@@ -19,9 +20,9 @@ abbrev pub last_of : ℕ → List ℕ → ℕ
 last_of a [] = a
 last_of a (x ∷ xs) = last_of x xs
 
-last_behind : (a : ℕ) (p : List ℕ) (x : ℕ) (q : List ℕ) → last_of a (p ++ x ∷ q) ≡ last_of x q
-last_behind a [] x q = refl
-last_behind a (y ∷ p) x q = last_behind y p x q
+last_after : (a : ℕ) (p : List ℕ) (x : ℕ) (q : List ℕ) → last_of a (p ++ x ∷ q) ≡ last_of x q
+last_after a [] x q = refl
+last_after a (y ∷ p) x q = last_after y p x q
 
 along_join : (E : ℕ → ℕ → Type 0) (a : ℕ) (p q : List ℕ) → Along E a p → Along E (last_of a p) q → Along E a (p ++ q)
 along_join E a [] q h g = g
@@ -47,9 +48,9 @@ pub through_join : (E : ℕ → ℕ → Type 0) (a : ℕ) (xs : List ℕ) (b : �
 through_join E a [] b ys c h g = (h, g)
 through_join E a (x ∷ xs) b ys c h g = (h.0, through_join E x xs b ys c h.1 g)
 
-pub through_behind : (E : ℕ → ℕ → Type 0) (a : ℕ) (xs : List ℕ) (b : ℕ) (ys : List ℕ) (c : ℕ) → Through E a (xs ++ b ∷ ys) c → Through E b ys c
-through_behind E a [] b ys c h = h.1
-through_behind E a (x ∷ xs) b ys c h = through_behind E x xs b ys c h.1
+pub through_after : (E : ℕ → ℕ → Type 0) (a : ℕ) (xs : List ℕ) (b : ℕ) (ys : List ℕ) (c : ℕ) → Through E a (xs ++ b ∷ ys) c → Through E b ys c
+through_after E a [] b ys c h = h.1
+through_after E a (x ∷ xs) b ys c h = through_after E x xs b ys c h.1
 
 -- the other way around
 pub through_back : (E : ℕ → ℕ → Type 0) (a : ℕ) (xs : List ℕ) (b : ℕ) → Through (λ u v. E v u) a xs b → Through E b (reverse xs) a
@@ -64,13 +65,13 @@ closes E first rest again [] back is h =
     subst (λ l. Through E again l again) tail (subst (λ a. Through E a rest again) start h)
 closes E first rest again (f ∷ front) back is h =
     let tail : rest ≡ front ++ again ∷ back = cc in
-    through_behind E first front again back again (subst (λ l. Through E first l again) tail h)
+    through_after E first front again back again (subst (λ l. Through E first l again) tail h)
 
 -- a circle from another of its members on
 circle : (E : ℕ → ℕ → Type 0) (again : ℕ) (xs before : List ℕ) (least : ℕ) (behind : List ℕ) → xs ++ again ∷ [] ≡ before ++ least ∷ behind → Through E again xs again → Through E least (behind ++ before) least
 circle E again xs before least behind is h =
     let all : Along E again (before ++ least ∷ behind) = subst (Along E again) is (along_through E again xs again h) in
-    let ends : last_of least behind ≡ again = sym (last_behind again before least behind) ∙ ap (last_of again) (sym is) ∙ last_behind again xs again [] in
+    let ends : last_of least behind ≡ again = sym (last_after again before least behind) ∙ ap (last_of again) (sym is) ∙ last_after again xs again [] in
     let parts = along_split E again before least behind all in
     let joined : Along E least (behind ++ (before ++ least ∷ [])) = along_join E least behind (before ++ least ∷ []) parts.1 (subst (λ a. Along E a (before ++ least ∷ [])) (sym ends) parts.0) in
     through_along E least (behind ++ before) least (subst (Along E least) (sym (append_assoc behind before (least ∷ []))) joined)

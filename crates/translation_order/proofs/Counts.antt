@@ -5,8 +5,8 @@ use Rattle.std.proofs.lemmas.List.{take_more, drop_more, get_or_read}
 use Rattle.std.proofs.lemmas.List.Folds.{list_any-append}
 use Rattle.std.specs.List.{list_any}
 use Rattle.translation_order.specs.Order.{Before, AreOfSteps}
-use Rattle.translation_order.specs.Taking.{one_if, is_one_of, times, seconds_of, waiting, AreSeconds, AreWaits}
-use Rattle.translation_order.proofs.Lists.{here, cons_cases, later, none_in_nil}
+use Rattle.translation_order.specs.inner.Taking.{one_if, is_one_of, times, seconds_of, waiting, AreSeconds, AreWaits}
+use Rattle.tsl_value.proofs.Lists.{here, later, none_in_nil, cons_cases}
 
 pub or_none : (b : Bool) → (b || false) ≡ b
 or_none true = refl

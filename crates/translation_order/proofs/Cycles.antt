@@ -1,10 +1,10 @@
 -- The cycle at the end of the walk.
 use Rattle.std.proofs.Common.{◌≡◌, ℕ, List, [], ◌∷◌, ◌++◌, eqb, Contains, refl, sym, ap, subst, ◌∙◌, append_assoc}
 use Rattle.std.specs.List.{IsDistinct}
-use Rattle.flat_core.specs.Graph.{Path, edge, step}
+use Rattle.translation_order.specs.Graph.{Path, edge, step}
 use Rattle.translation_order.specs.Order.{IsLeast}
 use Rattle.translation_order.specs.Cycle.{Through, IsCycle, IsTurned, Remains, RemainsBefore, IsWalk, IsCycleOfWalk}
-use Rattle.translation_order.proofs.Lists.{once_split, once_behind, same_split, middle}
+use Rattle.translation_order.proofs.Lists.{once_split, once_after, same_split, middle}
 use Rattle.translation_order.proofs.Circles.{through_weaker, closes, turned_around, once_turned, turned_same, least_same}
 
 -- ---- two walks
@@ -42,7 +42,7 @@ module _ (steps : ℕ) (E : ℕ → ℕ → Type 0) where
   comes_again xs front again back is = subst (λ l. Contains l again) (sym is) (middle front back again)
 
   ending_once : (first : ℕ) (rest front : List ℕ) (again : ℕ) (back : List ℕ) → first ∷ rest ≡ front ++ again ∷ back → IsDistinct eqb (first ∷ rest) → IsDistinct eqb (again ∷ back)
-  ending_once first rest front again back is once = once_behind front (again ∷ back) (subst (IsDistinct eqb) is once)
+  ending_once first rest front again back is once = once_after front (again ∷ back) (subst (IsDistinct eqb) is once)
 
   -- at most one list is the cycle
   pub one_cycle : (xs ys : List ℕ) → IsCycleOfWalk steps E xs → IsCycleOfWalk steps E ys → xs ≡ ys

@@ -1,3 +1,4 @@
+pub mod PathLemmas
 pub mod Lists
 pub mod Circles
 pub mod Orders
@@ -7,3 +8,14 @@ pub mod Takes
 pub mod Walks
 pub mod Turned
 pub mod Alike
+pub mod Descent
+pub mod SearchLists
+pub mod Paths
+pub mod Visits
+pub mod Enter
+pub mod Join
+pub mod Pass
+pub mod Leave
+pub mod Ends
+pub mod Successors
+pub mod Marks

@@ -1,22 +1,10 @@
 -- Members of lists, and lists without repeats.
-use Rattle.std.proofs.Common.{◌≡◌, ℕ, zero, suc, ◌<◌, ◌≤◌, true, false, List, [], ◌∷◌, ◌++◌, length, eqb, Contains, refl, sym, ap, subst, ◌∙◌, ◌⊎◌, inl, inr, arith}
+use Rattle.std.proofs.Common.{◌≡◌, ℕ, ◌<◌, ◌≤◌, true, false, List, [], ◌∷◌, ◌++◌, length, eqb, Contains, refl, sym, ap, subst, ◌∙◌, ◌⊎◌, inl, inr, arith}
 use Rattle.std.proofs.lemmas.Bool.{or_cases, or_left, or_right, false≢true, eqb-true, eqb-false, eq-eqb, ne_eqb}
 use Rattle.std.proofs.lemmas.List.Elements.{Contains-append_right, Contains-push_cases}
 use Rattle.std.proofs.lemmas.Map.Steps.{length-le_from_distinct_below}
 use Rattle.std.specs.List.{AllByRecursion, IsDistinct, list_any}
-
-pub here : {X : Type 0} (x : X) (xs : List X) → Contains (x ∷ xs) x
-here x xs = (0, omega arith, refl)
-
-pub later : {X : Type 0} (y x : X) (xs : List X) → Contains xs x → Contains (y ∷ xs) x
-later y x xs (k, lt, is) = (suc k, omega arith, is)
-
-pub none_in_nil : {X : Type 0} (x : X) → Contains [] x → ⊥
-none_in_nil x (k, lt, is) = omega arith
-
-pub cons_cases : {X : Type 0} (y x : X) (xs : List X) → Contains (y ∷ xs) x → (y ≡ x) ⊎ Contains xs x
-cons_cases y x xs (zero, lt, is) = inl is
-cons_cases y x xs (suc k, lt, is) = inr (k, omega arith, is)
+use Rattle.tsl_value.proofs.Lists.{here, later, none_in_nil, cons_cases}
 
 pub any_from_contains : (xs : List ℕ) (x : ℕ) → Contains xs x → list_any (eqb x) xs ≡ true
 any_from_contains [] x c = absurd (none_in_nil x c)
@@ -81,10 +69,10 @@ once_split (y ∷ front) back x once =
       rest.1,
     )
 
-pub once_behind : (front xs : List ℕ) → IsDistinct eqb (front ++ xs) → IsDistinct eqb xs
+pub once_after : (front xs : List ℕ) → IsDistinct eqb (front ++ xs) → IsDistinct eqb xs
 unfolding IsDistinct
-once_behind [] xs once = once
-once_behind (y ∷ front) xs once = once_behind front xs once.1
+once_after [] xs once = once
+once_after (y ∷ front) xs once = once_after front xs once.1
 
 pub once_push : (xs : List ℕ) (y : ℕ) → IsDistinct eqb xs → (Contains xs y → ⊥) → IsDistinct eqb (xs ++ y ∷ [])
 unfolding IsDistinct

@@ -8,8 +8,9 @@ use Rattle.std.specs.Cmp.{nat_cmp_is}
 use Rattle.std.specs.BTreeSet as tree
 use Rattle.translation_order.specs.Order.{Before, AreOfSteps, IsLeast, MayFollow, TakesLeast, IsLeastOrder}
 use Rattle.translation_order.specs.Cycle.{CanBeTaken, taken, Remains}
-use Rattle.translation_order.specs.Taking.{one_if, is_one_of, times, seconds_of, waiting, AreSeconds, AreWaits, AreReleased, IsTaking, IsTaken}
-use Rattle.translation_order.proofs.Lists.{any_from_contains, contains_from_any, split_at, here, later}
+use Rattle.translation_order.specs.inner.Taking.{one_if, is_one_of, times, seconds_of, waiting, AreSeconds, AreWaits, AreReleased, IsTaking, IsTaken}
+use Rattle.tsl_value.proofs.Lists.{here, later}
+use Rattle.translation_order.proofs.Lists.{any_from_contains, contains_from_any, split_at}
 use Rattle.translation_order.proofs.Orders.{takes_push, room_for, can_be_taken}
 use Rattle.translation_order.proofs.Counts.{or_none, times_some, times_none, times_push, times_room, listed_push, listed_last, waiting_listed, waiting_zero, waiting_none}
 
@@ -178,7 +179,7 @@ module _ (steps : ℕ) (pairs : List (ℕ × ℕ)) (of_steps : AreOfSteps steps 
       not_second : (x : ℕ) → steps ≤ x → is_one_of (seconds_of pairs a) x ≡ false
       not_second x high = false_from_ne_true (is_one_of (seconds_of pairs a) x) (λ h. let low = second_low a x (seconds_before pairs a x h) in absurd (omega arith))
 
-      -- each step behind this one waits for it
+      -- each step after this one waits for it
       pub enough : (x : ℕ) → times x (seconds_of pairs a) ≤ get_or counts x 0
       enough x = elim (cases_lt x steps) [
         | inl low ↦ let was = t.waits.at x low in let now = waiting_listed listed a new pairs x in omega arith
@@ -196,27 +197,27 @@ module _ (steps : ℕ) (pairs : List (ℕ × ℕ)) (of_steps : AreOfSteps steps 
         freed_self x same =
             let waits : get_or counts x 0 ≡ 0 = ap (λ j. get_or counts j 0) (sym same) ∙ a_waits in
             let was = r.waits x in
-            let not_behind : is_one_of (seconds_of pairs a) x ≡ false = false_from_ne_true (is_one_of (seconds_of pairs a) x) (λ h. let some = times_some x (seconds_of pairs a) h in absurd (omega arith)) in
+            let not_after : is_one_of (seconds_of pairs a) x ≡ false = false_from_ne_true (is_one_of (seconds_of pairs a) x) (λ h. let some = times_some x (seconds_of pairs a) h in absurd (omega arith)) in
             let gone : tree.contains nat_cmp rest x ≡ false = updated free rest a false out x same in
             let listed_now : is_one_of on x ≡ true = ap (is_one_of on) (sym same) ∙ listed_last listed a in
-            r.freed x ∙ or_from (tree.contains nat_cmp rest x) (is_one_of (seconds_of pairs a) x && (get_or less x 0 == 0)) gone (and_left (is_one_of (seconds_of pairs a) x) (get_or less x 0 == 0) not_behind)
+            r.freed x ∙ or_from (tree.contains nat_cmp rest x) (is_one_of (seconds_of pairs a) x && (get_or less x 0 == 0)) gone (and_left (is_one_of (seconds_of pairs a) x) (get_or less x 0 == 0) not_after)
             ∙ sym (and_right (nat_lt x steps) (not (is_one_of on x) && (get_or less x 0 == 0)) (and_left (not (is_one_of on x)) (get_or less x 0 == 0) (not_from_true (is_one_of on x) listed_now)))
 
         freed_apart : (x : ℕ) → (a ≡ x → ⊥) → is_one_of (seconds_of pairs a) x ≡ false → tree.contains nat_cmp after x ≡ test x
-        freed_apart x other not_behind =
+        freed_apart x other not_after =
             let was = r.waits x in
-            let none = times_none x (seconds_of pairs a) not_behind in
+            let none = times_none x (seconds_of pairs a) not_after in
             let same : get_or counts x 0 ≡ get_or less x 0 = omega arith in
             r.freed x
-            ∙ ap (λ b. tree.contains nat_cmp rest x || b) (and_left (is_one_of (seconds_of pairs a) x) (get_or less x 0 == 0) not_behind)
+            ∙ ap (λ b. tree.contains nat_cmp rest x || b) (and_left (is_one_of (seconds_of pairs a) x) (get_or less x 0 == 0) not_after)
             ∙ or_none (tree.contains nat_cmp rest x)
             ∙ kept free rest a false out x other
             ∙ t.are_free x
             ∙ ap (λ n. nat_lt x steps && (not (is_one_of listed x) && (n == 0))) same
             ∙ ap (λ b. nat_lt x steps && (not b && (get_or less x 0 == 0))) (sym (listed_push listed a x other))
 
-        freed_behind : (x : ℕ) → (a ≡ x → ⊥) → is_one_of (seconds_of pairs a) x ≡ true → tree.contains nat_cmp after x ≡ test x
-        freed_behind x other behind =
+        freed_after : (x : ℕ) → (a ≡ x → ⊥) → is_one_of (seconds_of pairs a) x ≡ true → tree.contains nat_cmp after x ≡ test x
+        freed_after x other behind =
             let low = second_low a x (seconds_before pairs a x behind) in
             let was = r.waits x in
             let some = times_some x (seconds_of pairs a) behind in
@@ -240,8 +241,8 @@ module _ (steps : ℕ) (pairs : List (ℕ × ℕ)) (of_steps : AreOfSteps steps 
           are_free = λ x. elim (cases_eq a x) [
             | inl same ↦ freed_self x same
             | inr other ↦ elim (cases_Bool (is_one_of (seconds_of pairs a) x)) [
-              | inl behind ↦ freed_behind x other behind
-              | inr not_behind ↦ freed_apart x other not_behind
+              | inl behind ↦ freed_after x other behind
+              | inr not_after ↦ freed_apart x other not_after
             ]
           ];
         }
@@ -267,23 +268,23 @@ module _ (steps : ℕ) (pairs : List (ℕ × ℕ)) (of_steps : AreOfSteps steps 
 -- ---- what the code has at hand
 module _ (steps : ℕ) (pairs : List (ℕ × ℕ)) (of_steps : AreOfSteps steps pairs) (listed counts : List ℕ) (free : BTreeSet ℕ) (t : IsTaking steps pairs listed counts free) (a : ℕ) (there : tree.contains nat_cmp free a ≡ true) (bound : tree.IsLowerBound nat_cmp free a) where
   -- the list that was read has the seconds of the step
-  pub behind_is : (seconds : List (List ℕ)) (read now : List ℕ) → AreSeconds steps pairs seconds → read ≡ get_or seconds a read → now ≡ read → now ≡ seconds_of pairs a
-  behind_is seconds read now s is same =
+  pub what_follows_is : (seconds : List (List ℕ)) (read now : List ℕ) → AreSeconds steps pairs seconds → read ≡ get_or seconds a read → now ≡ read → now ≡ seconds_of pairs a
+  what_follows_is seconds read now s is same =
       let low = next_low steps pairs of_steps listed counts free t a there bound in
       let long = s.one_each in
       same ∙ get_or_read seconds a read (omega arith) is [] ∙ s.at a low
 
   module _ (now left : List ℕ) (is : now ≡ seconds_of pairs a) (whole : left ≡ counts) where
-    pub behind_there : (k d : ℕ) → k < length now → get_or now k d < length left
-    behind_there k d lt =
+    pub after_there : (k d : ℕ) → k < length now → get_or now k d < length left
+    after_there k d lt =
         let x = get_or now k d in
         let in_seconds : Contains (seconds_of pairs a) x = subst (λ v. Contains v x) is (Contains-get_or now k d lt) in
         let low = second_low steps pairs of_steps a x (seconds_before pairs a x (any_from_contains (seconds_of pairs a) x in_seconds)) in
         let long : length left ≡ steps = ap length whole ∙ t.waits.one_each in
         omega arith
 
-    pub behind_wait : (x : ℕ) → times x now ≤ get_or left x 0
-    behind_wait x =
+    pub after_wait : (x : ℕ) → times x now ≤ get_or left x 0
+    after_wait x =
         let all = enough steps pairs of_steps listed counts free t a there bound x in
         let same : times x now ≡ times x (seconds_of pairs a) = ap (times x) is in
         let value : get_or left x 0 ≡ get_or counts x 0 = ap (λ v. get_or v x 0) whole in

@@ -5,7 +5,7 @@ use Rattle.std.proofs.lemmas.List.{drop_more, get_or_default}
 use Rattle.std.proofs.lemmas.List.Elements.{Contains-append_left, Contains-append_right, Contains-append_cases}
 use Rattle.std.specs.List.{IsFirstBest}
 use Rattle.translation_order.specs.Cycle.{IsTurned}
-use Rattle.translation_order.proofs.Lists.{here}
+use Rattle.tsl_value.proofs.Lists.{here}
 
 none_less : (xs : List ℕ) (place : ℕ) → IsFirstBest nat_lt xs (length xs) place → (y : ℕ) → Contains xs y → get_or xs place 0 ≤ y
 none_less xs place best y (k, lt, is) =

@@ -6,8 +6,8 @@ use Rattle.std.proofs.lemmas.List.Elements.{Contains-push, Contains-push_cases, 
 use Rattle.std.specs.List.{IsDistinct}
 use Rattle.translation_order.specs.Order.{Before, AreOfSteps, IsLeast, IsLeastOrder}
 use Rattle.translation_order.specs.Cycle.{Through, IsTurned, Remains, RemainsBefore, IsCycleOfWalk}
-use Rattle.translation_order.specs.Taking.{is_one_of, IsTaken}
-use Rattle.translation_order.specs.Walking.{WaitsBefore, IsLeastBefore, AreLeastBefore, next_of, AreInside, HasWalked, Walked, lesser_of, Follows, IsWalkedCycle, IsWalking}
+use Rattle.translation_order.specs.inner.Taking.{is_one_of, IsTaken}
+use Rattle.translation_order.specs.inner.Walking.{WaitsBefore, IsLeastBefore, AreLeastBefore, next_of, AreInside, HasWalked, Walked, lesser_of, Follows, IsWalkedCycle, IsWalking}
 use Rattle.translation_order.proofs.Lists.{any_from_contains, contains_from_any, once_push, few_below}
 use Rattle.translation_order.proofs.Circles.{through_join}
 use Rattle.translation_order.proofs.Counts.{waiting_some, listed_push, listed_last}

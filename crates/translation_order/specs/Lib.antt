@@ -1,6 +1,5 @@
+pub mod Graph
 pub mod Order
 pub mod Cycle
-pub mod Laws
-pub mod Answer
-pub mod Taking
-pub mod Walking
+pub mod OnCycle
+pub mod inner

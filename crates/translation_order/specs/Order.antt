@@ -26,7 +26,7 @@ pub record MayFollow (steps : ℕ) (E : ℕ → ℕ → Type 0) (front : List �
 abbrev pub TakesLeast : ℕ → (ℕ → ℕ → Type 0) → List ℕ → Type 0
 TakesLeast steps E order = (front rest : List ℕ) (x : ℕ) → order ≡ front ++ x ∷ rest → IsLeast (MayFollow steps E front) x
 
--- all steps, each once and behind those that have to stand before it, at each place the least that may stand there
+-- all steps, each once and after those that have to stand before it, at each place the least that may stand there
 pub record IsLeastOrder (steps : ℕ) (E : ℕ → ℕ → Type 0) (order : List ℕ) : Type 0 where
   pub takes_least : TakesLeast steps E order
   pub all : (x : ℕ) → x < steps → Contains order x

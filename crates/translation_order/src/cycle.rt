@@ -4,9 +4,9 @@ ghost use Rattle.std.specs.Prelude.{◌≡◌, ◌<◌, ◌++◌, length, nat_lt
 ghost use Rattle.std.specs.List.{Contains, IsFirstBest};
 ghost use Rattle.translation_order.specs.Order.{AreOfSteps};
 ghost use Rattle.translation_order.specs.Cycle.{IsTurned};
-ghost use Rattle.translation_order.specs.Walking.{lesser_of, AreLeastBefore, AreInside, Walked, IsWalkedCycle};
+ghost use Rattle.translation_order.specs.inner.Walking.{lesser_of, AreLeastBefore, AreInside, Walked, IsWalkedCycle};
 
-use flat_core::steps::Steps;
+use crate::steps::Steps;
 use std::alloc::Global;
 use tsl_value::memory::NoMemory;
 

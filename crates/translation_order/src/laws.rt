@@ -1,6 +1,6 @@
 // Laws of orders and cycles, as the contracts of functions that do nothing.
 
-ghost use Rattle.translation_order.specs.Laws.{OneOrder, OneCycle, CycleOfWalkIsCycle};
+ghost use Rattle.translation_order.specs.inner.Laws.{OneOrder, OneCycle, CycleOfWalkIsCycle};
 
 /// At most one list is the order of steps.
 pub fn one_order()

@@ -1,9 +1,11 @@
-// Orders of steps, and cycles where there are none.
+//! Orders of steps, and cycles where there are none.
 #![tactic(auto)]
 
 mod cycle;
 pub mod laws;
+mod nodes;
+pub mod on_cycle;
 pub mod order;
+mod search;
+pub mod steps;
 mod taking;
-#[cfg(test)]
-mod tests;

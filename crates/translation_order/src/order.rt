@@ -1,14 +1,14 @@
 // Steps in an order that pairs ask for.
 
 ghost use Rattle.std.specs.Prelude.{⊤, IfOk, OnOk, IfErr};
-ghost use Rattle.flat_core.specs.Graph.{IsAcyclic};
+ghost use Rattle.translation_order.specs.Graph.{IsAcyclic};
 ghost use Rattle.translation_order.specs.Order.{Before, AreOfSteps, IsLeastOrder};
 ghost use Rattle.translation_order.specs.Cycle.{IsCycle, IsCycleOfWalk};
-ghost use Rattle.translation_order.specs.Answer.{OnCycle};
+ghost use Rattle.translation_order.specs.inner.Answer.{OnCycle};
 
 use crate::cycle::cycle_from;
+use crate::steps::{Edges, Steps};
 use crate::taking::{first_waiting, take_all};
-use flat_core::steps::{Edges, Steps};
 use std::alloc::Global;
 use tsl_value::memory::NoMemory;
 

@@ -2,9 +2,9 @@
 
 ghost use Rattle.std.specs.Prelude.{◌≡◌, ◌<◌, ◌≤◌, ◌^◌, ℕ, [], length, slice_index, replicate, IfOk, OnOk, MatchOption, All};
 ghost use Rattle.translation_order.specs.Order.{AreOfSteps, IsLeast};
-ghost use Rattle.translation_order.specs.Taking.{times, AreSeconds, AreWaits, AreFree, AreReleased, IsTaken};
+ghost use Rattle.translation_order.specs.inner.Taking.{times, AreSeconds, AreWaits, AreFree, AreReleased, IsTaken};
 
-use flat_core::steps::Steps;
+use crate::steps::Steps;
 use std::alloc::Global;
 use std::collections::BTreeSet;
 use tsl_value::memory::NoMemory;

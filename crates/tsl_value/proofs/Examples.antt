@@ -42,8 +42,8 @@ other_escape = refl
 open_text : unquoted (codes "\"a\\\"") ≡ None
 open_text = refl
 
-bytes_behind : unquoted (codes "\"a\"b") ≡ None
-bytes_behind = refl
+bytes_after : unquoted (codes "\"a\"b") ≡ None
+bytes_after = refl
 
 line_end : unquoted (codes "\"\n\"") ≡ None
 line_end = refl

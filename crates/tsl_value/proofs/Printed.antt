@@ -9,7 +9,7 @@ use Rattle.std.proofs.Math.Utf8.{encode, encodes, scalar, scalars}
 use Rattle.std.proofs.lemmas.Bool.{and_from, and_parts, cases_eq, cases_lt, le-ltb, le-leb, lt-ltb, leb-true, ne_eqb}
 use Rattle.std.proofs.lemmas.Bool.Decides.{nat_tests}
 use Rattle.tsl_value.specs.declared.scalar.Scalar.TheVariants as scalar
-use Rattle.tsl_value.specs.Laws.{ReadsPrinted}
+use Rattle.tsl_value.specs.inner.Laws.{ReadsPrinted}
 use Rattle.tsl_value.specs.Literal.{are_digits, begins_with_minus, int_literal, is_int, literal, put_before, quoted, signed_value, text_literal, unescaped, without_minus}
 use Rattle.tsl_value.specs.Print.{escaped, quoted_text}
 use Rattle.std.proofs.lemmas.Fmt.{decimal_is_IsNumeral}
@@ -18,6 +18,7 @@ use Rattle.std.proofs.lemmas.Str.{IsUtf8-append, IsUtf8-encode, IsUtf8-nil, enco
 use Rattle.tsl_value.proofs.Digits.{is_int-pos, is_int-neg, own}
 use Rattle.tsl_value.proofs.Quotes.{quoted-plain}
 use Rattle.tsl_value.proofs.Utf8.{IsUtf8-one, are_high, are_high-encode}
+use Rattle.tsl_value.specs.declared.limits.TheConstants.{MOST_TEXT_BYTES}
 
 -- a byte that stands for itself
 pub record IsPlain (b : ℕ) : Type 0 where
@@ -112,12 +113,12 @@ IsUtf8-quoted_text bytes text =
     let inner : IsUtf8 (flat_map escaped bytes) = rw text.1.1 at (IsUtf8-printed text.0 text.1.0) in
     IsUtf8-append (34 ∷ []) (flat_map escaped bytes ++ 34 ∷ []) quote (IsUtf8-append (flat_map escaped bytes) (34 ∷ []) inner quote)
 
-text_read : (bytes : List ℕ) → IsUtf8 bytes → length bytes ≤ 65536 → text_literal (quoted_text bytes) ≡ Ok (scalar.Text bytes)
+text_read : (bytes : List ℕ) → IsUtf8 bytes → length bytes ≤ MOST_TEXT_BYTES → text_literal (quoted_text bytes) ≡ Ok (scalar.Text bytes)
 text_read bytes text short =
     rw (is_utf8-from_IsUtf8 (quoted_text bytes) (IsUtf8-quoted_text bytes text))
-    (rw (quoted-printed bytes) (rw (le-ltb 65536 (length bytes) short) refl))
+    (rw (quoted-printed bytes) (rw (le-ltb MOST_TEXT_BYTES (length bytes) short) refl))
 
-begins_with_minus-digits : (ds : List ℕ) → list_all is_ascii_digit ds ≡ true → begins_with_minus ds ≡ false
+pub begins_with_minus-digits : (ds : List ℕ) → list_all is_ascii_digit ds ≡ true → begins_with_minus ds ≡ false
 begins_with_minus-digits [] h = refl
 begins_with_minus-digits (d ∷ ds) h = let digit = (and_parts (is_ascii_digit d) (list_all is_ascii_digit ds) h).0 in grind (arith, nat_tests)
 

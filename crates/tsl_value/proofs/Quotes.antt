@@ -52,7 +52,7 @@ pub record IsEscape (c : ℕ) (byte : ℕ) : Type 0 where
 escapes : (c byte : ℕ) → unescaped c ≡ Some byte → IsEscape c byte
 escapes c byte h = record { from = grind (arith, nat_tests); to = grind (arith, nat_tests) }
 
--- a text that begins with a byte, and what comes behind it
+-- a text that begins with a byte, and what comes after it
 pub record SplitsOff (b : Option ℕ) (rest : Option (List ℕ)) (out : List ℕ) : Type 0 where
   pub byte : ℕ
   pub more : List ℕ

@@ -1,5 +1,6 @@
 -- Literals of scalars: `()`, a number, `true` or `false`, and a text between quotes.
-use Rattle.std.specs.Prelude.{◌≡◌, ◌≢◌, ◌<◌, ◌==◌, ℕ, Bool, true, false, not, ◌&&◌, ◌||◌, if◌then◌else◌, nat_lt, ℤ, pos, negsuc, neg_ℤ, int_le, int_lt, List, [], ◌∷◌, length, drop, Option, Some, None, Result, Ok, Err, codes}
+use Rattle.std.specs.Prelude.{◌≡◌, ◌≢◌, ◌<◌, ◌==◌, ℕ, Bool, true, false, not, ◌&&◌, ◌||◌, if◌then◌else◌, nat_lt, ℤ, pos, negsuc, neg_ℤ}
+use Rattle.std.specs.Prelude.{int_le, int_lt, List, [], ◌∷◌, length, drop, Option, Some, None, Result, Ok, Err, codes}
 use Rattle.std.specs.List.{list_all}
 use Rattle.std.specs.Char.{is_ascii_digit}
 use Rattle.std.specs.Str.{bytes_eq, is_utf8}
@@ -10,6 +11,7 @@ use Rattle.tsl_value.specs.declared.scalar.ScalarType.{ScalarType}
 use Rattle.tsl_value.specs.declared.scalar.ScalarType.TheVariants as scalar_type
 use Rattle.tsl_value.specs.declared.literal.LiteralFault.{LiteralFault}
 use Rattle.tsl_value.specs.declared.literal.LiteralFault.TheVariants.{BadLiteral, LiteralTooWide, TextTooLong, Memory}
+use Rattle.tsl_value.specs.declared.limits.TheConstants.{MOST_TEXT_BYTES}
 
 -- one digit or more, and nothing else
 abbrev pub are_digits : List ℕ → Bool
@@ -44,16 +46,17 @@ bool_literal bytes =
 abbrev pub unit_literal : List ℕ → Result Scalar LiteralFault
 unit_literal bytes = if bytes_eq bytes (codes "()") then Ok scalar.Unit else Err BadLiteral
 
--- the byte that an escape stands for, by the byte behind its backslash
+-- the byte that an escape stands for, by the byte after its backslash
 abbrev pub unescaped : ℕ → Option ℕ
 unescaped b =
-    if b == 34 then Some 34 else (if b == 92 then Some 92 else (if b == 110 then Some 10 else (if b == 116 then Some 9 else (if b == 114 then Some 13 else None))))
+    if b == 34 then Some 34
+    else (if b == 92 then Some 92 else (if b == 110 then Some 10 else (if b == 116 then Some 9 else (if b == 114 then Some 13 else None))))
 
 abbrev pub put_before : Option ℕ → Option (List ℕ) → Option (List ℕ)
 put_before (Some b) (Some bytes) = Some (b ∷ bytes)
 put_before _ _ = None
 
--- The text of the bytes behind a first quote. A second quote ends them, a backslash begins an escape, and no line ends within.
+-- The text of the bytes after a first quote. A second quote ends them, a backslash begins an escape, and no line ends within.
 abbrev pub quoted : List ℕ → Option (List ℕ)
 quoted [] = None
 quoted (b ∷ []) = if b == 34 then Some [] else None
@@ -64,7 +67,7 @@ quoted (b ∷ c ∷ rest) =
 -- a text of at most 65,536 bytes
 abbrev pub short_text : Option (List ℕ) → Result Scalar LiteralFault
 short_text None = Err BadLiteral
-short_text (Some bytes) = if nat_lt 65536 (length bytes) then Err TextTooLong else Ok (scalar.Text bytes)
+short_text (Some bytes) = if nat_lt MOST_TEXT_BYTES (length bytes) then Err TextTooLong else Ok (scalar.Text bytes)
 
 abbrev pub unquoted : List ℕ → Option (List ℕ)
 unquoted [] = None
@@ -80,13 +83,13 @@ literal scalar_type.Int bytes = int_literal bytes
 literal scalar_type.Bool bytes = bool_literal bytes
 literal scalar_type.Text bytes = text_literal bytes
 
--- what is answered is what the bytes spell, unless memory was wanting
+-- what is answered is what the bytes spell, unless out of memory
 abbrev pub IsAnswer : Result Scalar LiteralFault → Result Scalar LiteralFault → Type 0
 IsAnswer spelled (Ok value) = spelled ≡ Ok value
 IsAnswer spelled (Err Memory) = Unit {0}
 IsAnswer spelled (Err fault) = spelled ≡ Err fault
 
--- the bytes that a text within quotes has, as they are read: they, a grammar's refusal, or want of memory
+-- the bytes that a text within quotes has, as they are read: they, a grammar's refusal, or out of memory
 abbrev pub IsContent : Option (List ℕ) → Result (List ℕ) LiteralFault → Type 0
 IsContent content (Ok bytes) = content ≡ Some bytes
 IsContent content (Err Memory) = Unit {0}

@@ -1,16 +1,15 @@
-// Times, places, texts and values, and what a value is to a contract.
+//! Times, places, texts and values, and what a value is to a contract.
 #![tactic(auto)]
 
 pub mod bytes;
 pub mod ids;
 pub mod laws;
+pub mod limits;
 pub mod literal;
 pub mod memory;
 mod order;
 pub mod place;
 pub mod print;
 pub mod scalar;
-#[cfg(test)]
-mod tests;
 pub mod text;
 pub mod time;

@@ -5,9 +5,12 @@ ghost use Rattle.std.specs.Char.{is_ascii_digit};
 ghost use Rattle.std.specs.List.{list_all};
 ghost use Rattle.std.specs.Option.{SomeIff};
 ghost use Rattle.std.specs.Str.{IsUtf8, is_utf8};
-ghost use Rattle.tsl_value.specs.Literal.{BeginsWith, HasNoByte, IsAnswer, IsContent, are_digits, bool_literal, int_literal, is_int, literal, quoted, short_text, signed_value, text_literal, unescaped, unit_literal, unquoted, without_minus};
+ghost use Rattle.tsl_value.specs.Literal.{BeginsWith, HasNoByte, IsAnswer, IsContent, are_digits, bool_literal, int_literal, is_int};
+ghost use Rattle.tsl_value.specs.Literal.{literal, quoted, short_text, signed_value, text_literal, unescaped, unit_literal, unquoted};
+ghost use Rattle.tsl_value.specs.Literal.{without_minus};
 
 use crate::bytes::Bytes;
+use crate::limits::MOST_TEXT_BYTES;
 use crate::memory::NoMemory;
 use crate::scalar::{Scalar, ScalarType};
 use crate::text::Text;
@@ -23,7 +26,7 @@ pub enum LiteralFault {
     LiteralTooWide,
     /// They spell a text of more than 65,536 bytes.
     TextTooLong,
-    /// Memory was wanting.
+    /// Out of memory.
     Memory,
 }
 
@@ -144,7 +147,7 @@ fn short_text_of(content: Bytes) -> Result<Scalar, LiteralFault>
     requires { IsUtf8 content }
     ensures { IsAnswer (short_text (Some content)) result }
 {
-    if content.len() > 65_536 {
+    if content.len() > MOST_TEXT_BYTES {
         return Err(LiteralFault::TextTooLong);
     }
     match Text::from_utf8(content) {
@@ -163,7 +166,7 @@ fn unquote(alloc: Global, bytes: &[u8]) -> Result<Bytes, LiteralFault>
     }
 }
 
-/// The text of the bytes behind a first quote.
+/// The text of the bytes after a first quote.
 fn read_content(alloc: Global, bytes: &[u8]) -> Result<Bytes, LiteralFault>
     ensures { IsContent (quoted bytes.now) result }
 {
@@ -179,7 +182,7 @@ fn read_content(alloc: Global, bytes: &[u8]) -> Result<Bytes, LiteralFault>
     }
 }
 
-/// The first byte of a text within quotes, its escape read, and the bytes behind it.
+/// The first byte of a text within quotes, its escape read, and the bytes after it.
 fn next_byte(bytes: &[u8]) -> Option<(u8, &[u8])>
     ensures more { IfSome result (λ p. BeginsWith p.0 p.1.now bytes.now) }
     ensures ended { IfNone result (HasNoByte bytes.now) }
@@ -192,7 +195,7 @@ fn next_byte(bytes: &[u8]) -> Option<(u8, &[u8])>
     }
 }
 
-/// The byte that an escape stands for, by the byte behind its backslash.
+/// The byte that an escape stands for, by the byte after its backslash.
 fn unescape(escape: u8) -> Option<u8>
     ensures { result ≡ unescaped escape }
 {

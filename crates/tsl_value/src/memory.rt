@@ -1,10 +1,10 @@
-// The one answer for want of memory.
+// The one answer where memory runs out.
 
 ghost use Rattle.std.specs.Prelude.{⊤};
 
 use std::alloc::{AllocError, AllocFailed};
 
-/// Memory was wanting.
+/// Out of memory.
 #[derive(Clone, Copy, PartialEq, Eq, Debug)]
 pub struct NoMemory;
 

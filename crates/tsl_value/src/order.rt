@@ -5,7 +5,7 @@ ghost use Rattle.std.specs.Ordering.{as_partial_cmp, eq_by_cmp};
 ghost use Rattle.std.specs.Cmp.{eq_by_cmp_equiv, partial_equiv_from_equiv, po};
 ghost use Rattle.std.proofs.Common.{refl};
 ghost use Rattle.tsl_value.specs.View.{bytes_of, kind_of, number_of, scalar_cmp};
-ghost use Rattle.tsl_value.specs.ScalarOrder.{scalar_cmp_total};
+ghost use Rattle.tsl_value.specs.inner.ScalarOrder.{scalar_cmp_total};
 
 use crate::scalar::Scalar;
 use std::cmp::Ordering;
@@ -44,6 +44,17 @@ impl Scalar {
             Scalar::Text(text) => text.as_str().as_bytes(),
         }
     }
+
+    /// Their order by kind, number and bytes.
+    #[inline(never)]
+    fn cmp_by_kind(&self, other: &Scalar) -> Ordering
+        ensures { result ≡ scalar_cmp self.now other.now }
+    {
+        self.kind()
+            .cmp(&other.kind())
+            .then(self.number().cmp(&other.number()))
+            .then(self.bytes().cmp(other.bytes()))
+    }
 }
 
 impl Ord for Scalar {
@@ -56,15 +67,12 @@ impl Ord for Scalar {
     ghost matches_eq = { λ _ _. refl };
 
     /// Numbers by value, false before true, and texts by their bytes.
+    #[inline(always)]
     fn cmp(&self, other: &Scalar) -> Ordering {
         match (self, other) {
             // Most keys are numbers, and numbers alone need no look at kinds and bytes.
             (Scalar::Int(number), Scalar::Int(other)) => number.cmp(other),
-            _ => self
-                .kind()
-                .cmp(&other.kind())
-                .then(self.number().cmp(&other.number()))
-                .then(self.bytes().cmp(other.bytes())),
+            _ => self.cmp_by_kind(other),
         }
     }
 }

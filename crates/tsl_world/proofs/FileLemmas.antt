@@ -7,7 +7,7 @@ use Rattle.std.proofs.lemmas.List.Folds.{find_at}
 use Rattle.std.proofs.lemmas.List.Sums.{prefix_len-le-length}
 use Rattle.std.proofs.lemmas.Option.{slice_get_cases}
 use Rattle.tsl_world.specs.declared.files.NamedFile.{NamedFile}
-use Rattle.tsl_world.specs.Files.{bytes_or_none, file_named, place_named, bytes_named, bytes_at}
+use Rattle.tsl_world.specs.inner.Files.{bytes_or_none, file_named, place_named, bytes_named, bytes_at}
 
 is_some-cond : (inside : Bool) (place : ℕ) → is_some (cond inside (Some place) None) ≡ inside
 is_some-cond true place = refl

@@ -6,7 +6,7 @@ use Rattle.tsl_world.specs.declared.outside.Did.{Did}
 use Rattle.tsl_world.specs.declared.outside.Did.TheVariants.{Took}
 use Rattle.tsl_world.specs.Journal.{ended, IsNoRead, AtReads, StopsAtEnd, Each}
 use Rattle.tsl_world.proofs.Journals.{no_place, place}
-use Rattle.tsl_world.proofs.Parts.{ended_behind, no_read_in, place_before}
+use Rattle.tsl_world.proofs.Parts.{ended_after, no_read_in, place_before}
 
 module _ (from : Slot) where
   -- before any call
@@ -29,8 +29,8 @@ module _ (from : Slot) where
   at_more P p q first none before r = first before (place_before from p q before none r)
 
   -- a part in front that reads nothing of the slot
-  pub at_behind : (P Q : List Did → Type 0) (p q : List Did) → Each (IsNoRead from) p → ((less : List Did) → P less → Q (p ++ less)) → AtReads from P q → AtReads from Q (p ++ q)
-  at_behind P Q p q none says then = at_join Q p q (at_no_read Q p none) (λ less r. says less (then less r))
+  pub at_after : (P Q : List Did → Type 0) (p q : List Did) → Each (IsNoRead from) p → ((less : List Did) → P less → Q (p ++ less)) → AtReads from P q → AtReads from Q (p ++ q)
+  at_after P Q p q none says then = at_join Q p q (at_no_read Q p none) (λ less r. says less (then less r))
 
   one_place : (before after : List Did) (did it : Did) → did ∷ [] ≡ before ++ it ∷ after → before ≡ []
   one_place [] after did it is = refl
@@ -46,5 +46,5 @@ module _ (from : Slot) where
   at_weaker P Q p says first before r = says before (first before r)
 
   -- a part in front that reads nothing of the slot
-  pub stops_behind : (p q : List Did) → Each (IsNoRead from) p → StopsAtEnd from q → StopsAtEnd from (p ++ q)
-  stops_behind p q none = at_behind (λ less. ended from less ≡ false) (λ before. ended from before ≡ false) p q none (λ less not_yet. ended_behind from p less none ∙ not_yet)
+  pub stops_after : (p q : List Did) → Each (IsNoRead from) p → StopsAtEnd from q → StopsAtEnd from (p ++ q)
+  stops_after p q none = at_after (λ less. ended from less ≡ false) (λ before. ended from before ≡ false) p q none (λ less not_yet. ended_after from p less none ∙ not_yet)

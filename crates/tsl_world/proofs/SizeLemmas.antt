@@ -2,7 +2,7 @@
 use Rattle.std.proofs.Common.{◌≡◌, ℕ, ◌<◌, ◌%◌, List, [], ◌∷◌, length, get_or, ap}
 use Rattle.std.proofs.Math.Nat.{mod-lt, mod-one}
 use Rattle.std.proofs.lemmas.List.Elements.{All-get_or}
-use Rattle.tsl_world.specs.Sizes.{AreSizes, size_at}
+use Rattle.tsl_world.specs.inner.Sizes.{AreSizes, size_at}
 
 -- each is one byte at least
 pub size_some : (sizes : List ℕ) (call : ℕ) → AreSizes sizes → 0 < size_at sizes call

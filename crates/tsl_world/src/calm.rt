@@ -15,7 +15,7 @@ pub struct CalmWorld {
 
 impl CalmWorld {
     ghost use Rattle.std.specs.Prelude.{◌≡◌, ◌<◌, true, [], IsTrue, IfOk};
-    ghost use Rattle.tsl_world.specs.Calm.{journal_of, told_of, standing_of, files_of, piece_of};
+    ghost use Rattle.tsl_world.specs.inner.Calm.{journal_of, told_of, standing_of, files_of, piece_of};
     ghost use Rattle.tsl_world.specs.Journal.{given};
     ghost use Rattle.tsl_world.specs.Standing.{at_first};
 
@@ -56,12 +56,13 @@ impl CalmWorld {
 }
 
 impl World for CalmWorld {
-    ghost use Rattle.tsl_world.specs.Calm.{journal_of, told_of, left_of, standing_of, files_of, piece_of};
-    ghost use Rattle.tsl_world.specs.Files.{bytes_named};
+    ghost use Rattle.tsl_world.specs.inner.Calm.{journal_of, told_of, left_of, standing_of, files_of, piece_of};
+    ghost use Rattle.tsl_world.specs.inner.Files.{bytes_named};
     ghost use Rattle.tsl_world.specs.Standing.{is_open, is_writable, with_slot, with_channel};
     ghost use Rattle.tsl_world.specs.World.{HasCause, IsHeard, WhereTold, SameElsewhere};
     ghost use Rattle.tsl_world.specs.declared.outside.Did.{Did};
-    ghost use Rattle.std.specs.Prelude.{◌≡◌, ◌↔◌, ◌<◌, ◌≤◌, ◌++◌, ◌∷◌, [], true, false, IsTrue, if◌then◌else◌, is_ok, length, take, IsOk, OnErr, IfOk, MatchResult};
+    ghost use Rattle.std.specs.Prelude.{◌≡◌, ◌↔◌, ◌<◌, ◌≤◌, ◌++◌, ◌∷◌, [], true, false, IsTrue, if◌then◌else◌, is_ok, length, take, IsOk};
+    ghost use Rattle.std.specs.Prelude.{OnErr, IfOk, MatchResult};
 
     ghost journal = { journal_of };
 
@@ -75,7 +76,7 @@ impl World for CalmWorld {
 
     ghost unheard = { λ _. 0 };
 
-    // The clauses of the trait, and behind them that no call fails, and what an opening gives.
+    // The clauses of the trait, and after them that no call fails, and what an opening gives.
 
     fn open(&mut self, slot: Slot, name: &str) -> Result<(), Failed>
         requires { is_open (standing_of self.old) slot ≡ false }
@@ -97,7 +98,8 @@ impl World for CalmWorld {
 
     fn create(&mut self, channel: Channel, name: &str) -> Result<(), Failed>
         requires { is_writable (standing_of self.old) channel ≡ false }
-        ensures standing { standing_of self.new ≡ (if is_ok result then with_channel (standing_of self.old) channel else standing_of self.old) }
+        ensures standing { standing_of self.new
+            ≡ (if is_ok result then with_channel (standing_of self.old) channel else standing_of self.old) }
         ensures cause { HasCause 0 0 result }
         ensures told { IsTrue (told_of self.new) → IsTrue (told_of self.old) }
         ensures journal { WhereTold (told_of self.new) (journal_of self.new ≡ journal_of self.old

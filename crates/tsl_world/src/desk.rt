@@ -1,7 +1,8 @@
 // What a world in memory keeps: its files, what is open, its journal, and what was written.
-ghost use Rattle.std.specs.Prelude.{◌≡◌, ◌<◌, ◌≤◌, ◌↔◌, ◌+◌, ◌^◌, true, false, IsTrue, List, [], ◌∷◌, ◌++◌, length, take, MatchResult, IfOk};
-ghost use Rattle.tsl_world.specs.Sizes.{AreSizes, size_at};
-ghost use Rattle.tsl_world.specs.Sources.{rest_of};
+ghost use Rattle.std.specs.Prelude.{◌≡◌, ◌<◌, ◌≤◌, ◌↔◌, ◌+◌, ◌^◌, true, false, IsTrue, List, [], ◌∷◌, ◌++◌, length, take, MatchResult};
+ghost use Rattle.std.specs.Prelude.{IfOk};
+ghost use Rattle.tsl_world.specs.inner.Sizes.{AreSizes, size_at};
+ghost use Rattle.tsl_world.specs.inner.Sources.{rest_of};
 ghost use Rattle.tsl_world.specs.World.{WhereTold, SameElsewhere};
 ghost use Rattle.tsl_world.specs.Journal.{given};
 
@@ -32,7 +33,7 @@ pub struct Sources {
 }
 
 impl Sources {
-    ghost use Rattle.tsl_world.specs.Sources.{source_at, with_source};
+    ghost use Rattle.tsl_world.specs.inner.Sources.{source_at, with_source};
 
     pub fn at(&self, slot: Slot) -> Source
         ensures { result ≡ source_at self.now slot }
@@ -167,20 +168,32 @@ pub struct Desk {
 impl Model for Desk {
     ghost use Rattle.std.specs.Prelude.{◌≡◌, ◌<◌, IsTrue};
     ghost use Rattle.tsl_world.specs.Journal.{given};
-    ghost use Rattle.tsl_world.specs.Desk.{Kept};
-    ghost use Rattle.tsl_world.specs.Sizes.{AreSizes};
+    ghost use Rattle.tsl_world.specs.inner.Desk.{Kept};
+    ghost use Rattle.tsl_world.specs.inner.Sizes.{AreSizes};
     ghost use Rattle.tsl_world.specs.declared.outside.Channel.TheVariants.{Out, Err};
 
     ghost Value = { Kept };
 
-    ghost view = { λ d. record { told = d.is_told; journal = d.journal.items; sources = d.sources; writes_state = d.writes_state; writes_code = d.writes_code; files = d.files; pieces = d.pieces; out = d.out; err = d.err } };
+    ghost view = { λ d. record {
+      told = d.is_told;
+      journal = d.journal.items;
+      sources = d.sources;
+      writes_state = d.writes_state;
+      writes_code = d.writes_code;
+      files = d.files;
+      pieces = d.pieces;
+      out = d.out;
+      err = d.err;
+    } };
 
-    ghost invariant = { λ d. AreSizes d.pieces × (IsTrue d.is_told → d.out ≡ given Out d.journal.items) × (IsTrue d.is_told → d.err ≡ given Err d.journal.items) };
+    ghost invariant = { λ d. AreSizes d.pieces
+        × (IsTrue d.is_told → d.out ≡ given Out d.journal.items)
+        × (IsTrue d.is_told → d.err ≡ given Err d.journal.items) };
 }
 
 impl Desk {
-    ghost use Rattle.tsl_world.specs.Desk.{standing_in, left_in};
-    ghost use Rattle.tsl_world.specs.Files.{bytes_named, IsAbsent};
+    ghost use Rattle.tsl_world.specs.inner.Desk.{standing_in, left_in};
+    ghost use Rattle.tsl_world.specs.inner.Files.{bytes_named, IsAbsent};
     ghost use Rattle.tsl_world.specs.Standing.{at_first, is_open, is_writable, with_slot, with_channel};
 
     /// These files, of which nothing is open.

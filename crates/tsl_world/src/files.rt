@@ -1,6 +1,6 @@
 // The files of a world in memory, and the numbers of the calls that fail there.
 ghost use Rattle.std.specs.Prelude.{◌≡◌, [], ◌∷◌, ◌++◌, length, OnOk, OnErr, slice_get, option_map, IsTrue, ◌↔◌, Contains};
-ghost use Rattle.tsl_world.specs.Files.{place_named};
+ghost use Rattle.tsl_world.specs.inner.Files.{place_named};
 
 use std::alloc::Global;
 use std::marker::Model;

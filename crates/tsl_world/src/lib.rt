@@ -13,8 +13,6 @@ mod memory;
 mod outside;
 mod real;
 mod sizes;
-#[cfg(test)]
-mod tests;
 
 pub use calm::CalmWorld;
 pub use files::{Calls, Files, NamedFile};

@@ -33,8 +33,9 @@ fn is_next_listed(fails: &Calls, calls: &mut u64) -> bool
 impl MemoryWorld {
     ghost use Rattle.std.specs.Prelude.{◌≡◌, ◌<◌, true, [], ◌∷◌, IsTrue, IfOk};
     ghost use Rattle.tsl_world.specs.Journal.{given};
-    ghost use Rattle.tsl_world.specs.Memory.{journal_of, told_of, standing_of, faults_of, unheard_of, files_of, pieces_of, fails_of, next_of};
-    ghost use Rattle.tsl_world.specs.Sizes.{AreSizes};
+    ghost use Rattle.tsl_world.specs.inner.Memory.{journal_of, told_of, standing_of, faults_of, unheard_of, files_of, pieces_of, fails_of};
+    ghost use Rattle.tsl_world.specs.inner.Memory.{next_of};
+    ghost use Rattle.tsl_world.specs.inner.Sizes.{AreSizes};
     ghost use Rattle.tsl_world.specs.Standing.{at_first};
 
     /// A world with these files, of which nothing is open. A read gives at most `piece` bytes, and a write takes at
@@ -107,12 +108,14 @@ impl MemoryWorld {
 }
 
 impl World for MemoryWorld {
-    ghost use Rattle.tsl_world.specs.Files.{bytes_named, IsAbsent};
-    ghost use Rattle.tsl_world.specs.Memory.{journal_of, told_of, left_of, standing_of, faults_of, unheard_of, files_of, piece_of, pieces_of, fails_of, next_of};
+    ghost use Rattle.tsl_world.specs.inner.Files.{bytes_named, IsAbsent};
+    ghost use Rattle.tsl_world.specs.inner.Memory.{journal_of, told_of, left_of, standing_of, faults_of, unheard_of, files_of, piece_of};
+    ghost use Rattle.tsl_world.specs.inner.Memory.{pieces_of, fails_of, next_of};
     ghost use Rattle.tsl_world.specs.Standing.{is_open, is_writable, with_slot, with_channel};
     ghost use Rattle.tsl_world.specs.World.{HasCause, IsHeard, WhereTold, SameElsewhere};
     ghost use Rattle.tsl_world.specs.declared.outside.Did.{Did};
-    ghost use Rattle.std.specs.Prelude.{◌≡◌, ◌⊎◌, ◌↔◌, ◌<◌, ◌≤◌, ◌++◌, ◌∷◌, [], true, false, IsTrue, if◌then◌else◌, is_ok, length, take, OnOk, OnErr, IfOk, IsErr, MatchResult, Contains};
+    ghost use Rattle.std.specs.Prelude.{◌≡◌, ◌⊎◌, ◌↔◌, ◌<◌, ◌≤◌, ◌++◌, ◌∷◌, [], true, false, IsTrue, if◌then◌else◌, is_ok, length, take};
+    ghost use Rattle.std.specs.Prelude.{OnOk, OnErr, IfOk, IsErr, MatchResult, Contains};
 
     ghost journal = { journal_of };
 
@@ -126,7 +129,7 @@ impl World for MemoryWorld {
 
     ghost unheard = { unheard_of };
 
-    // The clauses of the trait, and behind them which calls fail, and what an opening gives.
+    // The clauses of the trait, and after them which calls fail, and what an opening gives.
 
     fn open(&mut self, slot: Slot, name: &str) -> Result<(), Failed>
         requires { is_open (standing_of self.old) slot ≡ false }
@@ -157,7 +160,8 @@ impl World for MemoryWorld {
 
     fn create(&mut self, channel: Channel, name: &str) -> Result<(), Failed>
         requires { is_writable (standing_of self.old) channel ≡ false }
-        ensures standing { standing_of self.new ≡ (if is_ok result then with_channel (standing_of self.old) channel else standing_of self.old) }
+        ensures standing { standing_of self.new
+            ≡ (if is_ok result then with_channel (standing_of self.old) channel else standing_of self.old) }
         ensures cause { HasCause (faults_of self.old) (faults_of self.new) result }
         ensures heard { unheard_of self.new ≡ unheard_of self.old }
         ensures told { IsTrue (told_of self.new) → IsTrue (told_of self.old) }
@@ -196,6 +200,7 @@ impl World for MemoryWorld {
         ensures failed { WhereTold (told_of self.new) (OnErr result (left_of self.new ≡ left_of self.old)) }
 
         ensures exactly { IsErr result ↔ Contains (fails_of self.old) (next_of self.old) }
+        ensures buffer { OnErr result (buf.new ≡ buf.old) }
         ensures piece { IfOk result (λ n. n ≤ piece_of self.old) }
         ensures counts { next_of self.new ≡ min (next_of self.old + 1) (2 ^ 64 - 1) }
         ensures made { (files_of self.new ≡ files_of self.old) × (fails_of self.new ≡ fails_of self.old)

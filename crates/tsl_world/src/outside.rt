@@ -1,5 +1,6 @@
 // The outside: slots to read, channels to write, and the journal of what was done.
-ghost use Rattle.std.specs.Prelude.{◌≡◌, ◌<◌, ◌≤◌, ◌↔◌, ℕ, Bool, true, false, IsTrue, if◌then◌else◌, List, [], ◌∷◌, ◌++◌, length, take, is_ok, IfOk, OnOk, OnErr, MatchResult};
+ghost use Rattle.std.specs.Prelude.{◌≡◌, ◌<◌, ◌≤◌, ◌↔◌, ℕ, Bool, true, false, IsTrue, if◌then◌else◌, List, [], ◌∷◌, ◌++◌, length, take};
+ghost use Rattle.std.specs.Prelude.{is_ok, IfOk, OnOk, OnErr, MatchResult};
 ghost use Rattle.tsl_world.specs.Standing.{Standing, is_open, is_writable, with_slot, with_channel};
 ghost use Rattle.tsl_world.specs.World.{HasCause, IsHeard, WhereTold, SameElsewhere};
 ghost use Rattle.tsl_world.specs.declared.outside.Did.{Did};

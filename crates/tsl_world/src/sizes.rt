@@ -1,6 +1,6 @@
 // How much the calls of a world in memory read or write at most.
 ghost use Rattle.std.specs.Prelude.{◌≡◌, ◌<◌, [], ◌∷◌, ◌++◌, length, OnOk, OnErr, IfOk, slice_get, option_map};
-ghost use Rattle.tsl_world.specs.Sizes.{AreSizes, size_at};
+ghost use Rattle.tsl_world.specs.inner.Sizes.{AreSizes, size_at};
 
 use std::alloc::Global;
 use std::marker::Model;

@@ -1,5 +1,5 @@
 use Rattle.std.proofs.Common.{◌-◌, length}
-use Rattle.translation_order.specs.Walking.{IsWalking}
+use Rattle.translation_order.specs.inner.Walking.{IsWalking}
 use Rattle.translation_order.proofs.cycle.walk_from.Given as goal
 
 abbrev pub invariant-loop-seen : goal.invariant-loop-seen

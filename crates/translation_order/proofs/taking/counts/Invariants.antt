@@ -1,5 +1,5 @@
 use Rattle.std.proofs.Common.{[], take}
-use Rattle.translation_order.specs.Taking.{AreWaits}
+use Rattle.translation_order.specs.inner.Taking.{AreWaits}
 use Rattle.translation_order.proofs.taking.counts.Given as goal
 
 abbrev pub invariant-loop-second : goal.invariant-loop-second

@@ -1,5 +1,5 @@
 use Rattle.std.proofs.Common.{[]}
-use Rattle.translation_order.specs.Taking.{AreFree}
+use Rattle.translation_order.specs.inner.Taking.{AreFree}
 use Rattle.translation_order.proofs.taking.free_steps.Given as goal
 
 abbrev pub invariant-loop-step : goal.invariant-loop-step

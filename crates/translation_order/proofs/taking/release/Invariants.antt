@@ -1,5 +1,5 @@
 use Rattle.std.proofs.Common.{take}
-use Rattle.translation_order.specs.Taking.{AreReleased}
+use Rattle.translation_order.specs.inner.Taking.{AreReleased}
 use Rattle.translation_order.proofs.taking.release.Given as goal
 
 abbrev pub invariant-loop-step : goal.invariant-loop-step

@@ -1,5 +1,5 @@
 use Rattle.std.proofs.Common.{take}
-use Rattle.translation_order.specs.Taking.{AreSeconds}
+use Rattle.translation_order.specs.inner.Taking.{AreSeconds}
 use Rattle.translation_order.proofs.taking.seconds.Given as goal
 
 abbrev pub invariant-loop-first : goal.invariant-loop-first

@@ -1,5 +1,5 @@
 use Rattle.std.proofs.Common.{◌-◌, length}
-use Rattle.translation_order.specs.Taking.{IsTaking}
+use Rattle.translation_order.specs.inner.Taking.{IsTaking}
 use Rattle.translation_order.proofs.taking.take_all.Given as goal
 
 abbrev pub invariant-loop-step : goal.invariant-loop-step

@@ -1,3 +1,0 @@
-pub mod Cycle
-pub mod Joined
-pub mod Searching

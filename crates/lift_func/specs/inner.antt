@@ -1,0 +1,5 @@
+pub mod Shape
+pub mod Answered
+pub mod Cells
+pub mod Evaluable
+pub mod Placed

@@ -1,0 +1,6 @@
+use Rattle.std.proofs.Common.{take}
+use Rattle.translation_order.specs.inner.Searching.{AreSuccessors}
+use Rattle.translation_order.proofs.on_cycle.successors.Given as goal
+
+abbrev pub invariant-loop-from : goal.invariant-loop-from
+invariant-loop-from l = AreSuccessors l.nodes (take l.from-index l.edges) l.successors.items

@@ -1,0 +1,3 @@
+pub mod ViewCode
+pub mod Laws
+pub mod ScalarOrder
