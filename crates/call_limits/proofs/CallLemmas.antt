@@ -1,35 +1,36 @@
 -- Calls that are kept, and the relation of them.
-use Rattle.std.proofs.Common.{◌≡◌, ℕ, zero, suc, ◌+◌, ◌<◌, ◌≤◌, Bool, true, false, if◌then◌else◌, List, [], ◌∷◌, ◌++◌, map, length, get_or, drop, Option, Some, None, refl, sym, ap, subst, ◌∙◌, inl, inr, append_assoc, add-one, arith}
+use Rattle.std.proofs.Common.{◌≡◌, ℕ, zero, suc, ◌+◌, ◌^◌, ◌<◌, ◌≤◌, Bool, true, false, if◌then◌else◌, List, [], ◌∷◌, ◌++◌, map, length, get_or, drop, Option, Some, None, refl, sym, ap, subst, ◌∙◌, inl, inr, append_assoc, add-one, arith}
 use Rattle.std.specs.Prelude.{slice_get}
 use Rattle.std.specs.Option.{option_map}
-use Rattle.std.specs.List.{Contains, filter_map}
+use Rattle.std.specs.List.{All, Contains, filter_map}
 use Rattle.std.proofs.lemmas.List.{append-nil, drop_all}
-use Rattle.std.proofs.lemmas.List.Elements.{Contains-append_left, Contains-append_right, Contains-append_cases, filter_map-append}
+use Rattle.std.proofs.lemmas.List.Elements.{Contains-append_left, Contains-append_right, Contains-append_cases, filter_map-append, All-contains_itself, All-weaker, All-same}
 use Rattle.std.proofs.lemmas.Option.{some_pair_parts}
 use Rattle.tsl_value.specs.declared.place.Place.{Place}
 use Rattle.spec_parser.specs.Tree as tree
 use Rattle.spec_parser.specs.declared.tree.Item.{Item}
-use Rattle.spec_parser.specs.Shape.{item_of}
-use Rattle.graph_cycles.proofs.Lists.{none_in_nil, cons_cases}
+use Rattle.spec_parser.specs.inner.Shape.{item_of}
+use Rattle.tsl_value.proofs.Lists.{none_in_nil, cons_cases, left_at}
 use Rattle.name_check.specs.declared.declaration.Declaration.{Declaration}
 use Rattle.name_check.specs.declared.declaration.Declaration.TheVariants as declaration
 use Rattle.name_check.specs.Scope.{Scope, Agree, seen, top}
 use Rattle.name_check.specs.Parts.{Part, Operand, parts}
 use Rattle.name_check.specs.Bodies.{Seen, item_bodies}
 use Rattle.name_check.proofs.AgreeLemmas.{agree_same, agree_trans}
-use Rattle.name_check.proofs.FirstLemmas.{left_at}
 use Rattle.definition_cycles.specs.declared.mention.Mention.{Mention}
-use Rattle.definition_cycles.specs.Nodes.{nodes}
+use Rattle.definition_cycles.specs.Nodes.{HasFewNodes, nodes}
 use Rattle.definition_cycles.specs.Mentions.{declared}
 use Rattle.definition_cycles.specs.Calls.{is_call}
-use Rattle.definition_cycles.specs.Walk.{mention_in, mentions_from, Kept, with_nodes, nothing_kept}
-use Rattle.definition_cycles.specs.Edges.{AreEdges}
+use Rattle.definition_cycles.specs.inner.Walk.{mention_in, mentions_from, Kept, with_nodes, nothing_kept}
+use Rattle.definition_cycles.specs.inner.Edges.{AreEdges, IsOfSmall}
 use Rattle.definition_cycles.proofs.FoundLemmas.{same_among}
 use Rattle.definition_cycles.proofs.ListLemmas.{at_contains, in_filtered, from_filtered}
 use Rattle.definition_cycles.proofs.MentionLemmas.{all_kept, is_kept, mention_facts}
-use Rattle.definition_cycles.proofs.CallLemmas.{IsMentionOf, node_in_items, mention_of}
+use Rattle.definition_cycles.proofs.CallLemmas.{IsMentionOf, node_in_items, mention_of, small_pair}
+use Rattle.definition_cycles.proofs.CountLemmas.{fewer_items}
 use Rattle.call_limits.specs.Nesting.{CallsDeclared, CallsMacro, CallsFunction}
-use Rattle.call_limits.specs.Edges.{macro_of, function_of, call_to, macro_call, function_call, mentions_in_output, mentions_in_outputs}
+use Rattle.call_limits.specs.inner.Edges.{macro_of, function_of, call_to, macro_call, function_call, IsSmallCall, mentions_in_output, mentions_in_outputs}
+use Rattle.call_limits.proofs.GraphLemmas.{macro_within, function_within}
 
 -- ---- mentions in outputs
 pub record InOutput (items : List tree.Item) (scope : Scope) (i : ℕ) (m : Mention) : Type 0 where
@@ -192,6 +193,12 @@ module _ (variant : ℕ → Declaration) (number : Declaration → Option ℕ) (
   are_edges : (edges : List (ℕ × ℕ)) → edges ≡ filter_map (call_to number) (all_mentions items) → AreEdges (λ i j. CallsDeclared items i (variant j)) edges
   are_edges edges made = let P : List (ℕ × ℕ) → Type 0 = λ e. AreEdges (λ i j. CallsDeclared items i (variant j)) e in subst P (sym made) (record { means = edge_means; has = is_edge })
 
+  -- where there are few items, the numbers of a call are small
+  small_among : ((a b : ℕ) → CallsDeclared items a (variant b) → (a < length items) × (b < length items)) → HasFewNodes items → (m : Mention) → Contains (all_mentions items) m → IsOfSmall (call_to number m)
+  small_among within few m c = small_pair (call_to number m) (λ a b e.
+      let low = within a b (edge_means a b (in_filtered (call_to number) (all_mentions items) m (a, b) c e)) in
+      let count = fewer_items items few in (omega (arith, count, low.0), omega (arith, count, low.1)))
+
 only_macro : (d : Declaration) (j : ℕ) → macro_of d ≡ Some j → d ≡ declaration.Macro j
 only_macro (declaration.Macro i) j h = let same : i ≡ j = cc in ap declaration.Macro same
 only_macro (declaration.Input i) j h = absurd (cc)
@@ -210,7 +217,7 @@ only_function (declaration.Mixed i) j h = absurd (cc)
 only_function (declaration.Parameter i) j h = absurd (cc)
 only_function (declaration.Local i) j h = absurd (cc)
 
--- the pairs of both lists of mentions, one behind the other
+-- the pairs of both lists of mentions, one after the other
 joined : (h : Mention → Option (ℕ × ℕ)) (items : List tree.Item) (k : Kept) (first outputs : List Mention) (none some all : List (ℕ × ℕ)) → k ≡ with_nodes nothing_kept (nodes items) → first ≡ k.mentions → outputs ≡ mentions_in_outputs 0 (top items) items → none ≡ [] → some ≡ none ++ filter_map h first → all ≡ some ++ filter_map h outputs → all ≡ filter_map h (all_mentions items)
 joined h items k first outputs none some all kept is_first is_outputs is_none one two =
     two
@@ -227,7 +234,33 @@ pub functions_are : (items : List tree.Item) (k : Kept) (first outputs : List Me
 functions_are items k first outputs none some all kept is_first is_outputs is_none one two =
     are_edges declaration.Function function_of (λ j. refl) only_function items all (joined function_call items k first outputs none some all kept is_first is_outputs is_none one two)
 
--- ---- outputs, one behind the other
+-- ---- the numbers of calls
+pub small_call : (number : Declaration → Option ℕ) (m : Mention) (j : ℕ) → m.calls ≡ true → number m.is ≡ Some j → IsOfSmall (call_to number m) → (m.item < 2 ^ 32) × (j < 2 ^ 32)
+small_call number m j calls is small =
+    let edge : call_to number m ≡ Some (m.item, j) =
+    ap (λ b. if b then option_map {U = ℕ × ℕ} (λ k. (m.item, k)) (number m.is) else None) calls ∙ ap (option_map {U = ℕ × ℕ} (λ k. (m.item, k))) is in
+    subst IsOfSmall edge small
+
+small_in : (items : List tree.Item) → HasFewNodes items → (ms : List Mention) → ((m : Mention) → Contains ms m → Contains (all_mentions items) m) → All IsSmallCall ms
+small_in items few ms inside =
+    All-weaker (Contains ms) IsSmallCall
+    (λ m c. (
+      small_among declaration.Macro macro_of (λ j. refl) only_macro items (macro_within items) few m (inside m c),
+      small_among declaration.Function function_of (λ j. refl) only_function items (function_within items) few m (inside m c),
+    ))
+    ms (All-contains_itself ms)
+
+pub small_kept : (items : List tree.Item) (k : Kept) (first : List Mention) → HasFewNodes items → k ≡ with_nodes nothing_kept (nodes items) → first ≡ k.mentions → All IsSmallCall first
+small_kept items k first few kept is =
+    let all = mentions_from 0 (nodes items) in
+    All-same IsSmallCall first all (is ∙ (all_kept (nodes items) k kept).1) (small_in items few all (λ m c. Contains-append_left all (mentions_in_outputs 0 (top items) items) m c))
+
+pub small_outputs : (items : List tree.Item) (outputs : List Mention) → HasFewNodes items → outputs ≡ mentions_in_outputs 0 (top items) items → All IsSmallCall outputs
+small_outputs items outputs few is =
+    let all = mentions_in_outputs 0 (top items) items in
+    All-same IsSmallCall outputs all is (small_in items few all (λ m c. Contains-append_right (mentions_from 0 (nodes items)) all m c))
+
+-- ---- outputs, one after the other
 same_output : (i : ℕ) (s t : Scope) → Agree s t → (x : tree.Item) → mentions_in_output i s x ≡ mentions_in_output i t x
 same_output i s t h (tree.Input p q n y) = refl
 same_output i s t h (tree.Defined p d) = refl

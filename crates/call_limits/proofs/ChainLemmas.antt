@@ -1,16 +1,17 @@
 -- Chains of calls, and what nests by them.
 use Rattle.std.proofs.Common.{◌≡◌, ℕ, zero, suc, ◌<◌, ◌≤◌, List, None, refl, sym, subst, inl, inr, arith}
 use Rattle.spec_parser.specs.Tree as tree
-use Rattle.call_limits.specs.Nesting.{CallsMacro, CallsFunction, Chain, none, link, most_calls, IsFirstTooDeep}
-use Rattle.call_limits.specs.Depths.{Nests, ends, counts, passes}
+use Rattle.call_limits.specs.Nesting.{CallsMacro, CallsFunction, Chain, none, link, IsFirstTooDeep}
+use Rattle.call_limits.specs.inner.Depths.{Nests, ends, counts, passes}
+use Rattle.definition_cycles.specs.declared.limits.TheConstants.{MOST_CALLS}
 
 -- ---- chains of calls of macros
 -- where nothing is too deep, no chain of macros is longer than may be
-pub macros_limited : (items : List tree.Item) → IsFirstTooDeep items None → (i to : ℕ) → Chain (CallsMacro items) (suc most_calls) i to → ⊥
+pub macros_limited : (items : List tree.Item) → IsFirstTooDeep items None → (i to : ℕ) → Chain (CallsMacro items) (suc MOST_CALLS) i to → ⊥
 macros_limited items first i to c = first i (inl (record { to = to; chain = c }))
 
--- nor one of value functions, behind any chain of macros
-pub functions_limited : (items : List tree.Item) → IsFirstTooDeep items None → (i depth through to : ℕ) → Chain (CallsMacro items) depth i through → Chain (CallsFunction items) (suc most_calls) through to → ⊥
+-- nor one of value functions, after any chain of macros
+pub functions_limited : (items : List tree.Item) → IsFirstTooDeep items None → (i depth through to : ℕ) → Chain (CallsMacro items) depth i through → Chain (CallsFunction items) (suc MOST_CALLS) through to → ⊥
 functions_limited items first i depth through to m f = first i (inr (record { through = through; depth = depth; macros = m; to = to; functions = f }))
 
 -- a chain grows at its front
@@ -48,12 +49,12 @@ chain_nests : (C P : ℕ → ℕ → Type 0) (n a b : ℕ) → Chain C n a b →
 chain_nests C P _ a _ none = ends
 chain_nests C P _ a c (link {n = n} {b = b} e r) = counts e (chain_nests C P n b c r)
 
-behind_chain : (C P : ℕ → ℕ → Type 0) (n k a b : ℕ) → Chain P k a b → Nests C P n b → Nests C P n a
-behind_chain C P n _ a _ none r = r
-behind_chain C P n _ a c (link {n = k} {b = b} e l) r = passes e (behind_chain C P n k b c l r)
+after_chain : (C P : ℕ → ℕ → Type 0) (n k a b : ℕ) → Chain P k a b → Nests C P n b → Nests C P n a
+after_chain C P n _ a _ none r = r
+after_chain C P n _ a c (link {n = k} {b = b} e l) r = passes e (after_chain C P n k b c l r)
 
--- a chain of macros, and one of value functions behind it
-pub record FunctionsBehind (M F : ℕ → ℕ → Type 0) (n a : ℕ) : Type 0 where
+-- a chain of macros, and one of value functions after it
+pub record FunctionsAfter (M F : ℕ → ℕ → Type 0) (n a : ℕ) : Type 0 where
   pub through : ℕ
   pub depth : ℕ
   pub macros : Chain M depth a through
@@ -63,8 +64,8 @@ pub record FunctionsBehind (M F : ℕ → ℕ → Type 0) (n a : ℕ) : Type 0 w
 pub macros_nest : (M F : ℕ → ℕ → Type 0) (n a to : ℕ) → Chain M n a to → Nests M F n a
 macros_nest M F n a to c = chain_nests M F n a to c
 
-pub functions_nest : (M F : ℕ → ℕ → Type 0) (n a : ℕ) → FunctionsBehind M F n a → Nests F M n a
-functions_nest M F n a c = behind_chain F M n c.depth a c.through c.macros (chain_nests F M n c.through c.to c.functions)
+pub functions_nest : (M F : ℕ → ℕ → Type 0) (n a : ℕ) → FunctionsAfter M F n a → Nests F M n a
+functions_nest M F n a c = after_chain F M n c.depth a c.through c.macros (chain_nests F M n c.through c.to c.functions)
 
 -- value functions call no macros
 module _ (M F : ℕ → ℕ → Type 0) (apart : (a b c : ℕ) → F a b → M b c → ⊥) where
@@ -85,7 +86,7 @@ module _ (M F : ℕ → ℕ → Type 0) (apart : (a b c : ℕ) → F a b → M b
       let c = functions_alone n b (λ c m. apart a b c e m) r in (c.0, link e c.1)
   functions_alone n a free (passes {b = b} e r) = absurd (free b e)
 
-  pub functions_chain : (n a : ℕ) → Nests F M n a → FunctionsBehind M F n a
+  pub functions_chain : (n a : ℕ) → Nests F M n a → FunctionsAfter M F n a
   functions_chain _ a ends = record { through = a; depth = 0; macros = none; to = a; functions = none }
   functions_chain _ a (counts {n = n} {b = b} e r) =
       let c = functions_alone n b (λ c m. apart a b c e m) r in

@@ -1,21 +1,21 @@
--- The depths of items, one behind the other.
+-- The depths of items, one after the other.
 use Rattle.std.proofs.Common.{◌≡◌, ℕ, suc, ◌+◌, ◌<◌, ◌≤◌, List, [], ◌∷◌, ◌++◌, length, get_or, set, take, drop, Option, Some, None, Contains, refl, sym, ap, subst, ◌∙◌, inl, inr, get_or-set_same, get_or-set_other, length-set, drop-cons, take_all, arith}
 use Rattle.std.specs.Prelude.{slice_index, max, unwrap_or, ◌↔◌, IsNone, IfSome, MatchOption}
 use Rattle.std.specs.List.{All}
 use Rattle.std.proofs.lemmas.Bool.{cases_eq, cases_lt}
 use Rattle.std.proofs.lemmas.List.{take_more, get_or_past, get_or_read, take-append-drop}
 use Rattle.std.proofs.lemmas.List.Elements.{Contains-push_cases, Contains-append_left, All-contains, All-contains_itself, All-weaker}
-use Rattle.graph_cycles.specs.Cycle.{Edge, AreBetween}
-use Rattle.graph_cycles.specs.Searching.{AreSuccessors, Leads}
-use Rattle.graph_cycles.proofs.Lists.{none_in}
+use Rattle.translation_order.specs.OnCycle.{Edge, AreBetween}
+use Rattle.translation_order.specs.inner.Searching.{AreSuccessors, Leads}
+use Rattle.translation_order.proofs.SearchLists.{none_in}
 use Rattle.translation_order.proofs.Lists.{split_at}
-use Rattle.call_limits.specs.Nesting.{most_calls}
-use Rattle.call_limits.specs.Depths.{Nests, ends, counts, passes, IsDepth, AreDepths, StandsBehind, AreBehind, one_deeper, IsDepthBy, IsDeep, NestsTooDeep, IsFirst}
+use Rattle.call_limits.specs.inner.Depths.{Nests, ends, counts, passes, IsDepth, AreDepths, StandsAfter, AreAfter, one_deeper, IsDepthBy, IsDeep, NestsTooDeep, IsFirst}
 use Rattle.call_limits.proofs.ChainLemmas.{nests_alike, nests_fewer, nests_at}
+use Rattle.definition_cycles.specs.declared.limits.TheConstants.{MOST_CALLS}
 
 -- ---- one item, where the depths of those to which its edges lead are known
 module _ (C P : ℕ → ℕ → Type 0) (depths : List ℕ) (x d : ℕ) (counted passed : List ℕ) (by : IsDepthBy depths counted passed d) where
-  no_deeper : ((y : ℕ) → C x y → Contains counted y × IsDepth C P y (slice_index depths y)) → ((y : ℕ) → P x y → Contains passed y × IsDepth C P y (slice_index depths y)) → (n : ℕ) → Nests C P n x → n ≤ suc most_calls → n ≤ d
+  no_deeper : ((y : ℕ) → C x y → Contains counted y × IsDepth C P y (slice_index depths y)) → ((y : ℕ) → P x y → Contains passed y × IsDepth C P y (slice_index depths y)) → (n : ℕ) → Nests C P n x → n ≤ suc MOST_CALLS → n ≤ d
   no_deeper of_counted of_passed _ ends few = omega arith
   no_deeper of_counted of_passed _ (counts {n = n} {b = y} e r) few =
       let to = of_counted y e in
@@ -29,7 +29,7 @@ module _ (C P : ℕ → ℕ → Type 0) (depths : List ℕ) (x d : ℕ) (counted
   one_more : (y : ℕ) → C x y → IsDepth C P y (slice_index depths y) → d ≡ one_deeper (slice_index depths y) → Nests C P d x
   one_more y e of is = nests_fewer C P (suc (slice_index depths y)) x (counts e of.nests) d (omega arith)
 
-  limited : ((y : ℕ) → Contains passed y → slice_index depths y ≤ suc most_calls) → d ≤ suc most_calls
+  limited : ((y : ℕ) → Contains passed y → slice_index depths y ≤ suc MOST_CALLS) → d ≤ suc MOST_CALLS
   limited small = elim by.reached [
     | inl is ↦ omega arith
     | inr (inl (y, c, is)) ↦ omega arith
@@ -106,11 +106,11 @@ read_is table x was list low read is = is ∙ get_or_read table x was low read [
 split_here : (order : List ℕ) (k : ℕ) → k < length order → order ≡ take k order ++ get_or order k 0 ∷ drop (suc k) order
 split_here order k low = sym (take-append-drop k order) ∙ ap (λ l. take k order ++ l) (drop-cons order k 0 low)
 
-module _ (counted passed : List (List ℕ)) (count : ℕ) (order : List ℕ) (behind : AreBehind (Leads counted) (Leads passed) count order) where
+module _ (counted passed : List (List ℕ)) (count : ℕ) (order : List ℕ) (behind : AreAfter (Leads counted) (Leads passed) count order) where
   pub is_below : (x : ℕ) → Contains order x → x < count
   is_below x c = let parts = split_at order x c in (behind.each parts.0 parts.1 x parts.2).is_item
 
-  stands_at : (k : ℕ) → k < length order → StandsBehind (Leads counted) (Leads passed) count (take k order) (get_or order k 0)
+  stands_at : (k : ℕ) → k < length order → StandsAfter (Leads counted) (Leads passed) count (take k order) (get_or order k 0)
   stands_at k low = behind.each (take k order) (drop (suc k) order) (get_or order k 0) (split_here order k low)
 
   pub is_item : (k : ℕ) → k < length order → get_or order k 0 < count
@@ -168,36 +168,36 @@ same_depths count counted passed xs ys depths slice is_counted is_passed long is
 
 -- ---- what is too deep
 -- a relation the other way round, and relations that hold alike
-pub behind_alike : (C D P Q : ℕ → ℕ → Type 0) (count : ℕ) (order : List ℕ) → ((a b : ℕ) → D a b → C a b) → ((a b : ℕ) → Q a b → P a b) → AreBehind C P count order → AreBehind D Q count order
-behind_alike C D P Q count order counted passed b = record {
+pub after_alike : (C D P Q : ℕ → ℕ → Type 0) (count : ℕ) (order : List ℕ) → ((a b : ℕ) → D a b → C a b) → ((a b : ℕ) → Q a b → P a b) → AreAfter C P count order → AreAfter D Q count order
+after_alike C D P Q count order counted passed b = record {
   each = λ front rest x is.
       let s = b.each front rest x is in
       record { is_item = s.is_item; counted = λ y e. s.counted y (counted x y e); passed = λ y e. s.passed y (passed x y e) };
   all = b.all;
 }
 
-pub behind_swapped : (C P : ℕ → ℕ → Type 0) (count : ℕ) (order : List ℕ) → AreBehind C P count order → AreBehind P C count order
-behind_swapped C P count order b = record {
+pub after_swapped : (C P : ℕ → ℕ → Type 0) (count : ℕ) (order : List ℕ) → AreAfter C P count order → AreAfter P C count order
+after_swapped C P count order b = record {
   each = λ front rest x is. let s = b.each front rest x is in record { is_item = s.is_item; counted = s.passed; passed = s.counted };
   all = b.all;
 }
 
 -- what is beyond the last depth is not deep
-deep_below : (depths : List ℕ) (x : ℕ) → most_calls < slice_index depths x → x < length depths
+deep_below : (depths : List ℕ) (x : ℕ) → MOST_CALLS < slice_index depths x → x < length depths
 deep_below depths x deep = elim (cases_lt x (length depths)) [
   | inl low ↦ low
   | inr past ↦ let none = get_or_past depths x 0 past in absurd (omega arith)
 ]
 
 module _ (C P : ℕ → ℕ → Type 0) (count : ℕ) (depths : List ℕ) (are : AreDepths C P count depths) where
-  deep_nests : (x : ℕ) → most_calls < slice_index depths x → Nests C P (suc most_calls) x
+  deep_nests : (x : ℕ) → MOST_CALLS < slice_index depths x → Nests C P (suc MOST_CALLS) x
   deep_nests x deep =
       let low = deep_below depths x deep in
       let long = are.one_each in
-      nests_fewer C P (slice_index depths x) x (are.at x (omega arith)).nests (suc most_calls) (omega arith)
+      nests_fewer C P (slice_index depths x) x (are.at x (omega arith)).nests (suc MOST_CALLS) (omega arith)
 
-  nests_deep : (x : ℕ) → x < count → Nests C P (suc most_calls) x → most_calls < slice_index depths x
-  nests_deep x low r = let most = (are.at x low).greatest (suc most_calls) (omega arith) r in omega arith
+  nests_deep : (x : ℕ) → x < count → Nests C P (suc MOST_CALLS) x → MOST_CALLS < slice_index depths x
+  nests_deep x low r = let most = (are.at x low).greatest (suc MOST_CALLS) (omega arith) r in omega arith
 
 pub first_alike : (P Q : ℕ → Type 0) → ((x : ℕ) → P x → Q x) → ((x : ℕ) → Q x → P x) → (found : Option ℕ) → IsFirst P found → IsFirst Q found
 first_alike P Q go back None f = λ x q. f x (back x q)
@@ -208,33 +208,33 @@ first_below count edges between x y e = (All-contains (λ p. (p.0 < count) × (p
 
 module _ (count : ℕ) (macros functions : List (ℕ × ℕ)) (of_macros of_functions : List (List ℕ)) (m : AreSuccessors count macros of_macros) (f : AreSuccessors count functions of_functions) where
   -- the order of the code
-  pub order_leads : (order : List ℕ) → AreBehind (Edge macros) (Edge functions) count order → AreBehind (Leads of_macros) (Leads of_functions) (length of_macros) order
+  pub order_leads : (order : List ℕ) → AreAfter (Edge macros) (Edge functions) count order → AreAfter (Leads of_macros) (Leads of_functions) (length of_macros) order
   order_leads order b =
-      subst (λ n. AreBehind (Leads of_macros) (Leads of_functions) n order) (sym m.one_each)
-      (behind_alike (Edge macros) (Leads of_macros) (Edge functions) (Leads of_functions) count order m.from_edges f.from_edges b)
+      subst (λ n. AreAfter (Leads of_macros) (Leads of_functions) n order) (sym m.one_each)
+      (after_alike (Edge macros) (Leads of_macros) (Edge functions) (Leads of_functions) count order m.from_edges f.from_edges b)
 
-  pub order_swapped : (order : List ℕ) → AreBehind (Edge macros) (Edge functions) count order → AreBehind (Leads of_functions) (Leads of_macros) (length of_functions) order
+  pub order_swapped : (order : List ℕ) → AreAfter (Edge macros) (Edge functions) count order → AreAfter (Leads of_functions) (Leads of_macros) (length of_functions) order
   order_swapped order b =
-      subst (λ n. AreBehind (Leads of_functions) (Leads of_macros) n order) (sym f.one_each)
-      (behind_swapped (Leads of_macros) (Leads of_functions) count order
-      (behind_alike (Edge macros) (Leads of_macros) (Edge functions) (Leads of_functions) count order m.from_edges f.from_edges b))
+      subst (λ n. AreAfter (Leads of_functions) (Leads of_macros) n order) (sym f.one_each)
+      (after_swapped (Leads of_macros) (Leads of_functions) count order
+      (after_alike (Edge macros) (Leads of_macros) (Edge functions) (Leads of_functions) count order m.from_edges f.from_edges b))
 
   module _ (macro_depths function_depths : List ℕ) (between_macros : AreBetween count macros) (between_functions : AreBetween count functions) (ms : AreDepths (Leads of_macros) (Leads of_functions) count macro_depths) (fs : AreDepths (Leads of_functions) (Leads of_macros) count function_depths) where
     deep_means : (x : ℕ) → IsDeep macro_depths function_depths x → NestsTooDeep macros functions x
     deep_means x (inl deep) =
-        inl (nests_alike (Leads of_macros) (Edge macros) (Leads of_functions) (Edge functions) m.from_edges f.from_edges (suc most_calls) x (deep_nests (Leads of_macros) (Leads of_functions) count macro_depths ms x deep))
+        inl (nests_alike (Leads of_macros) (Edge macros) (Leads of_functions) (Edge functions) m.from_edges f.from_edges (suc MOST_CALLS) x (deep_nests (Leads of_macros) (Leads of_functions) count macro_depths ms x deep))
     deep_means x (inr deep) =
-        inr (nests_alike (Leads of_functions) (Edge functions) (Leads of_macros) (Edge macros) f.from_edges m.from_edges (suc most_calls) x (deep_nests (Leads of_functions) (Leads of_macros) count function_depths fs x deep))
+        inr (nests_alike (Leads of_functions) (Edge functions) (Leads of_macros) (Edge macros) f.from_edges m.from_edges (suc MOST_CALLS) x (deep_nests (Leads of_functions) (Leads of_macros) count function_depths fs x deep))
 
     means_deep : (x : ℕ) → NestsTooDeep macros functions x → IsDeep macro_depths function_depths x
     means_deep x (inl r) =
         inl (nests_deep (Leads of_macros) (Leads of_functions) count macro_depths ms x
-        (nests_at (Edge macros) (Edge functions) (x < count) (suc most_calls) x (first_below count macros between_macros x) (first_below count functions between_functions x) r (omega arith))
-        (nests_alike (Edge macros) (Leads of_macros) (Edge functions) (Leads of_functions) m.of_edges f.of_edges (suc most_calls) x r))
+        (nests_at (Edge macros) (Edge functions) (x < count) (suc MOST_CALLS) x (first_below count macros between_macros x) (first_below count functions between_functions x) r (omega arith))
+        (nests_alike (Edge macros) (Leads of_macros) (Edge functions) (Leads of_functions) m.of_edges f.of_edges (suc MOST_CALLS) x r))
     means_deep x (inr r) =
         inr (nests_deep (Leads of_functions) (Leads of_macros) count function_depths fs x
-        (nests_at (Edge functions) (Edge macros) (x < count) (suc most_calls) x (first_below count functions between_functions x) (first_below count macros between_macros x) r (omega arith))
-        (nests_alike (Edge functions) (Leads of_functions) (Edge macros) (Leads of_macros) f.of_edges m.of_edges (suc most_calls) x r))
+        (nests_at (Edge functions) (Edge macros) (x < count) (suc MOST_CALLS) x (first_below count functions between_functions x) (first_below count macros between_macros x) r (omega arith))
+        (nests_alike (Edge functions) (Leads of_functions) (Edge macros) (Leads of_macros) f.of_edges m.of_edges (suc MOST_CALLS) x r))
 
     pub first_too_deep : (found : Option ℕ) → IsFirst (IsDeep macro_depths function_depths) found → IsFirst (NestsTooDeep macros functions) found
     first_too_deep found = first_alike (IsDeep macro_depths function_depths) (NestsTooDeep macros functions) deep_means means_deep found

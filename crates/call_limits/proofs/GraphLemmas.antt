@@ -4,9 +4,9 @@ use Rattle.std.specs.List.{Contains}
 use Rattle.std.proofs.lemmas.List.Elements.{Contains-append_left, Contains-append_right, Contains-append_cases, All-contains}
 use Rattle.std.proofs.lemmas.Option.{slice_get_within}
 use Rattle.spec_parser.specs.Tree as tree
-use Rattle.flat_core.specs.Graph.{IsAcyclic}
-use Rattle.graph_cycles.specs.Cycle.{Edge, AreBetween, Path, one, more}
-use Rattle.graph_cycles.proofs.Paths.{path_alike, along_from}
+use Rattle.translation_order.specs.Graph.{IsAcyclic}
+use Rattle.translation_order.specs.OnCycle.{Edge, AreBetween, Path, one, more}
+use Rattle.translation_order.proofs.Paths.{path_alike, along_from}
 use Rattle.translation_order.specs.Order.{Before, AreOfSteps, IsLeastOrder}
 use Rattle.translation_order.proofs.Alike as steps
 use Rattle.name_check.specs.declared.declaration.Declaration.{Declaration}
@@ -15,12 +15,12 @@ use Rattle.name_check.specs.Scope.{top}
 use Rattle.name_check.specs.Bodies.{item_bodies}
 use Rattle.definition_cycles.specs.Calls.{Calls}
 use Rattle.definition_cycles.specs.Cycles.{IsFirstFunctionCycle}
-use Rattle.definition_cycles.specs.Edges.{AreEdges}
+use Rattle.definition_cycles.specs.inner.Edges.{AreEdges}
 use Rattle.definition_cycles.proofs.CycleLemmas.{are_between}
 use Rattle.definition_cycles.proofs.OrderLemmas.{turned_has, turned_means, way_round}
 use Rattle.call_limits.specs.Nesting.{CallsDeclared, CallsMacro, CallsFunction, IsFirstMacroCycle}
-use Rattle.call_limits.specs.Edges.{IsCallGraph, turned}
-use Rattle.call_limits.specs.Depths.{AreBehind}
+use Rattle.call_limits.specs.inner.Edges.{IsCallGraph, turned}
+use Rattle.call_limits.specs.inner.Depths.{AreAfter}
 use Rattle.call_limits.proofs.ScopeLemmas.{IsDefinition, called_there, function_calls_no_macro}
 
 -- ---- a cycle of both kinds of calls is one of either
@@ -83,8 +83,8 @@ module _ (count : ℕ) (macros functions : List (ℕ × ℕ)) (g : IsCallGraph c
       no_cycle (Edge macros) (Edge functions) g.apart g.macros_end g.functions_end x
       (way_round E x x (steps.path_alike (Before (turned macros ++ turned functions)) (λ a b. E b a) from_pairs x x p))
 
-  pub behind_called : (order : List ℕ) → IsLeastOrder count (Before (turned macros ++ turned functions)) order → AreBehind (Edge macros) (Edge functions) count order
-  behind_called order o = record {
+  pub after_called : (order : List ℕ) → IsLeastOrder count (Before (turned macros ++ turned functions)) order → AreAfter (Edge macros) (Edge functions) count order
+  after_called order o = record {
     each = λ front rest x is.
         let may = (o.takes_least front rest x is).holds in
         record { is_item = may.is_step; counted = λ y e. may.is_free y (of_macro y x e); passed = λ y e. may.is_free y (of_function y x e) };
@@ -122,10 +122,10 @@ module _ (items : List tree.Item) where
   caller_within : (i : ℕ) (d : Declaration) → CallsDeclared items i d → i < length items
   caller_within i d c = slice_get_within items i c.item c.is_item
 
-  macro_within : (a b : ℕ) → CallsMacro items a b → (a < length items) × (b < length items)
+  pub macro_within : (a b : ℕ) → CallsMacro items a b → (a < length items) × (b < length items)
   macro_within a b c = let to = called_there items a (declaration.Macro b) c in (caller_within a (declaration.Macro b) c, slice_get_within items b (tree.Defined to.place to.definition) to.is_item)
 
-  function_within : (a b : ℕ) → CallsFunction items a b → (a < length items) × (b < length items)
+  pub function_within : (a b : ℕ) → CallsFunction items a b → (a < length items) × (b < length items)
   function_within a b c = let to = (called_there items a (declaration.Function b) c).is in (caller_within a (declaration.Function b) c, slice_get_within items b (tree.Defined to.place to.definition) to.is_item)
 
   between : (E : ℕ → ℕ → Type 0) (count : ℕ) (edges : List (ℕ × ℕ)) → count ≡ length items → ((a b : ℕ) → E a b → (a < length items) × (b < length items)) → AreEdges E edges → AreBetween count edges

@@ -4,7 +4,7 @@ use Rattle.std.specs.Prelude.{slice_get}
 use Rattle.tsl_value.specs.declared.place.Place.{Place}
 use Rattle.definition_cycles.specs.Cycles.{IsFirstPlace}
 use Rattle.call_limits.specs.Nesting.{MacroCycle, IsTooDeep}
-use Rattle.call_limits.specs.Laws.{OneMacroCycle, OneTooDeep}
+use Rattle.call_limits.specs.inner.Laws.{OneMacroCycle, OneTooDeep}
 
 pub one_place : (P : ℕ → Type 0) (places : List Place) (a b : Option Place) → IsFirstPlace P places a → IsFirstPlace P places b → a ≡ b
 one_place P places None None f g = refl

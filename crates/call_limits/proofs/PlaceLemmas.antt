@@ -6,16 +6,17 @@ use Rattle.std.proofs.lemmas.Option.{slice_get-map, slice_get-get_or, slice_get_
 use Rattle.tsl_value.specs.declared.place.Place.{Place}
 use Rattle.spec_parser.specs.Tree as tree
 use Rattle.spec_parser.specs.declared.tree.Item.{Item}
-use Rattle.spec_parser.specs.Shape.{item_of}
-use Rattle.graph_cycles.specs.Cycle.{Edge, IsLeast, OnCycle}
-use Rattle.graph_cycles.proofs.Paths.{along_from}
+use Rattle.spec_parser.specs.inner.Shape.{item_of}
+use Rattle.translation_order.specs.OnCycle.{Edge, IsLeast, OnCycle}
+use Rattle.translation_order.proofs.Paths.{along_from}
 use Rattle.name_check.specs.declared.declaration.Declaration.TheVariants as declaration
 use Rattle.definition_cycles.specs.Calls.{name_place}
 use Rattle.definition_cycles.specs.Cycles.{IsPlaceOfLeast}
-use Rattle.definition_cycles.specs.Edges.{AreEdges}
+use Rattle.definition_cycles.specs.inner.Edges.{AreEdges}
 use Rattle.definition_cycles.proofs.CycleLemmas.{least_on_cycle}
-use Rattle.call_limits.specs.Nesting.{CallsMacro, CallsFunction, MacroCycle, most_calls, IsTooDeep, deep_place}
-use Rattle.call_limits.specs.Depths.{NestsTooDeep, IsFirst}
+use Rattle.definition_cycles.specs.declared.limits.TheConstants.{MOST_CALLS}
+use Rattle.call_limits.specs.Nesting.{CallsMacro, CallsFunction, MacroCycle, IsTooDeep, deep_place}
+use Rattle.call_limits.specs.inner.Depths.{NestsTooDeep, IsFirst}
 use Rattle.call_limits.proofs.ChainLemmas.{nests_alike, nests_at, macros_nest, functions_nest, macros_chain, functions_chain}
 use Rattle.call_limits.proofs.DepthLemmas.{first_alike}
 use Rattle.call_limits.proofs.ScopeLemmas.{IsDefinition, called_there}
@@ -60,28 +61,28 @@ first_on_cycle items edges x it p e is at l =
 module _ (items : List tree.Item) where
   deep_within : (x : ℕ) → IsTooDeep items x → x < length items
   deep_within x (inl m) =
-      nests_at (CallsMacro items) (CallsFunction items) (x < length items) (suc most_calls) x (λ y c. slice_get_within items x c.item c.is_item) (λ y c. slice_get_within items x c.item c.is_item)
-      (macros_nest (CallsMacro items) (CallsFunction items) (suc most_calls) x m.to m.chain) (omega arith)
+      nests_at (CallsMacro items) (CallsFunction items) (x < length items) (suc MOST_CALLS) x (λ y c. slice_get_within items x c.item c.is_item) (λ y c. slice_get_within items x c.item c.is_item)
+      (macros_nest (CallsMacro items) (CallsFunction items) (suc MOST_CALLS) x m.to m.chain) (omega arith)
   deep_within x (inr f) =
-      nests_at (CallsFunction items) (CallsMacro items) (x < length items) (suc most_calls) x (λ y c. slice_get_within items x c.item c.is_item) (λ y c. slice_get_within items x c.item c.is_item)
-      (functions_nest (CallsMacro items) (CallsFunction items) (suc most_calls) x (record { through = f.through; depth = f.depth; macros = f.macros; to = f.to; functions = f.functions })) (omega arith)
+      nests_at (CallsFunction items) (CallsMacro items) (x < length items) (suc MOST_CALLS) x (λ y c. slice_get_within items x c.item c.is_item) (λ y c. slice_get_within items x c.item c.is_item)
+      (functions_nest (CallsMacro items) (CallsFunction items) (suc MOST_CALLS) x (record { through = f.through; depth = f.depth; macros = f.macros; to = f.to; functions = f.functions })) (omega arith)
 
   module _ (macros functions : List (ℕ × ℕ)) (m : AreEdges (CallsMacro items) macros) (f : AreEdges (CallsFunction items) functions) where
     deep_of : (x : ℕ) → NestsTooDeep macros functions x → IsTooDeep items x
     deep_of x (inl r) =
-        let c = macros_chain (CallsMacro items) (CallsFunction items) (calls_apart items) (suc most_calls) x (nests_alike (Edge macros) (CallsMacro items) (Edge functions) (CallsFunction items) m.means f.means (suc most_calls) x r) in
+        let c = macros_chain (CallsMacro items) (CallsFunction items) (calls_apart items) (suc MOST_CALLS) x (nests_alike (Edge macros) (CallsMacro items) (Edge functions) (CallsFunction items) m.means f.means (suc MOST_CALLS) x r) in
         inl (record { to = c.0; chain = c.1 })
     deep_of x (inr r) =
-        let c = functions_chain (CallsMacro items) (CallsFunction items) (calls_apart items) (suc most_calls) x (nests_alike (Edge functions) (CallsFunction items) (Edge macros) (CallsMacro items) f.means m.means (suc most_calls) x r) in
+        let c = functions_chain (CallsMacro items) (CallsFunction items) (calls_apart items) (suc MOST_CALLS) x (nests_alike (Edge functions) (CallsFunction items) (Edge macros) (CallsMacro items) f.means m.means (suc MOST_CALLS) x r) in
         inr (record { through = c.through; depth = c.depth; macros = c.macros; to = c.to; functions = c.functions })
 
     of_deep : (x : ℕ) → IsTooDeep items x → NestsTooDeep macros functions x
     of_deep x (inl n) =
-        inl (nests_alike (CallsMacro items) (Edge macros) (CallsFunction items) (Edge functions) m.has f.has (suc most_calls) x
-        (macros_nest (CallsMacro items) (CallsFunction items) (suc most_calls) x n.to n.chain))
+        inl (nests_alike (CallsMacro items) (Edge macros) (CallsFunction items) (Edge functions) m.has f.has (suc MOST_CALLS) x
+        (macros_nest (CallsMacro items) (CallsFunction items) (suc MOST_CALLS) x n.to n.chain))
     of_deep x (inr n) =
-        inr (nests_alike (CallsFunction items) (Edge functions) (CallsMacro items) (Edge macros) f.has m.has (suc most_calls) x
-        (functions_nest (CallsMacro items) (CallsFunction items) (suc most_calls) x (record { through = n.through; depth = n.depth; macros = n.macros; to = n.to; functions = n.functions })))
+        inr (nests_alike (CallsFunction items) (Edge functions) (CallsMacro items) (Edge macros) f.has m.has (suc MOST_CALLS) x
+        (functions_nest (CallsMacro items) (CallsFunction items) (suc MOST_CALLS) x (record { through = n.through; depth = n.depth; macros = n.macros; to = n.to; functions = n.functions })))
 
     pub deep_first : (found : Option ℕ) → IsFirst (NestsTooDeep macros functions) found → IsFirst (IsTooDeep items) found
     deep_first found = first_alike (NestsTooDeep macros functions) (IsTooDeep items) deep_of of_deep found

@@ -1,11 +1,11 @@
 -- What is called is a macro or a value function among the items, and value functions call no macros.
-use Rattle.std.proofs.Common.{◌≡◌, ℕ, suc, ◌+◌, Bool, true, false, ◌&&◌, ◌||◌, cond, if◌then◌else◌, List, [], ◌∷◌, Option, Some, refl, sym, ap, subst, ◌∙◌, inl, inr, arith}
+use Rattle.std.proofs.Common.{◌≡◌, ℕ, suc, ◌+◌, Bool, true, false, cond, if◌then◌else◌, List, [], ◌∷◌, Option, Some, refl, sym, ap, subst, ◌∙◌, inl, inr, arith}
 use Rattle.std.specs.Prelude.{slice_get}
 use Rattle.std.specs.List.{Contains, list_all, list_any}
 use Rattle.std.proofs.lemmas.List.Elements.{All-nil, All-cons}
 use Rattle.tsl_value.specs.declared.place.Place.{Place}
 use Rattle.spec_parser.specs.Tree as tree
-use Rattle.graph_cycles.proofs.Lists.{none_in_nil, cons_cases}
+use Rattle.tsl_value.proofs.Lists.{none_in_nil, cons_cases, none_all}
 use Rattle.name_check.specs.declared.declaration.Declaration.{Declaration}
 use Rattle.name_check.specs.declared.declaration.Declaration.TheVariants as declaration
 use Rattle.name_check.specs.Scope.{Scope, is_events, declared_as, declared_from, is_function, functions_of, are_values, top}
@@ -32,17 +32,9 @@ IsThere items (declaration.Function i) = IsValueFunction items i
 IsThere items d = Unit {0}
 
 -- ---- the names of the top
-values_from : (ps : List tree.Param) → list_any (λ q. is_events q.of) ps ≡ false → list_all (λ q. if is_events q.of then false else true) ps ≡ true
-values_from [] h = refl
-values_from (p ∷ ps) h = by (is_events p.of) h (values_from ps)
-  where
-    by : (b : Bool) → (b || list_any (λ q. is_events q.of) ps) ≡ false → (list_any (λ q. is_events q.of) ps ≡ false → list_all (λ q. if is_events q.of then false else true) ps ≡ true) → ((if b then false else true) && list_all (λ q. if is_events q.of then false else true) ps) ≡ true
-    by true k rest = absurd (cc)
-    by false k rest = rest k
-
 there_as : (items : List tree.Item) (i : ℕ) (p q : Place) (x : List ℕ) (ps : List tree.Param) (w : Option tree.TypeName) (b : tree.Body) → slice_get items i ≡ Some (tree.Defined p (tree.Define q x ps w b)) → IsThere items (declared_as i ps)
 there_as items i p q x [] w b at = tt
-there_as items i p q x (y ∷ ps) w b at = by (list_all (λ q. is_events q.of) (y ∷ ps)) (list_any (λ q. is_events q.of) (y ∷ ps)) (values_from (y ∷ ps))
+there_as items i p q x (y ∷ ps) w b at = by (list_all (λ q. is_events q.of) (y ∷ ps)) (list_any (λ q. is_events q.of) (y ∷ ps)) (none_all (λ q. is_events q.of) (y ∷ ps))
   where
     definition : IsDefinition items i
     definition = record { place = p; definition = tree.Define q x (y ∷ ps) w b; is_item = at }

@@ -1,4 +1,2 @@
 pub mod Nesting
-pub mod Laws
-pub mod Edges
-pub mod Depths
+pub mod inner

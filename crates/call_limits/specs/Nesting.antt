@@ -3,7 +3,7 @@ use Rattle.std.specs.Prelude.{◌≡◌, ℕ, suc, ◌⊎◌, true, List, map, O
 use Rattle.std.specs.List.{Contains}
 use Rattle.tsl_value.specs.declared.place.Place.{Place}
 use Rattle.spec_parser.specs.Tree as tree
-use Rattle.graph_cycles.specs.Cycle.{Path}
+use Rattle.translation_order.specs.OnCycle.{Path}
 use Rattle.name_check.specs.declared.declaration.Declaration.{Declaration}
 use Rattle.name_check.specs.declared.declaration.Declaration.TheVariants as declaration
 use Rattle.name_check.specs.Scope.{top}
@@ -12,6 +12,7 @@ use Rattle.name_check.specs.Bodies.{Seen, item_bodies}
 use Rattle.definition_cycles.specs.Mentions.{declared}
 use Rattle.definition_cycles.specs.Calls.{is_call, name_place}
 use Rattle.definition_cycles.specs.Cycles.{IsFirstPlace}
+use Rattle.definition_cycles.specs.declared.limits.TheConstants.{MOST_CALLS}
 
 -- an expression in item i, which may be an output, calls what is declared as d
 pub record CallsDeclared (items : List tree.Item) (i : ℕ) (d : Declaration) : Type 0 where
@@ -40,18 +41,15 @@ abbrev pub IsFirstMacroCycle : List tree.Item → Option Place → Type 0
 IsFirstMacroCycle items found = IsFirstPlace (MacroCycle items) (map name_place items) found
 
 -- ---- calls that nest
--- so many edges lead from a to c, one behind the other
+-- so many edges lead from a to c, one after the other
 pub data Chain (E : ℕ → ℕ → Type 0) : ℕ → ℕ → ℕ → Type 0 where
   none : {a : ℕ} → Chain E 0 a a
   link : {n a b c : ℕ} → E a b → Chain E n b c → Chain E (suc n) a c
 
-abbrev pub most_calls : ℕ
-most_calls = 64
-
 -- more macros are called in each other than may be
 pub record NestsMacros (items : List tree.Item) (i : ℕ) : Type 0 where
   pub to : ℕ
-  pub chain : Chain (CallsMacro items) (suc most_calls) i to
+  pub chain : Chain (CallsMacro items) (suc MOST_CALLS) i to
 
 -- More value functions are called in each other than may be. Those that are called in a macro count for its caller, but macros
 -- and value functions are counted apart.
@@ -60,7 +58,7 @@ pub record NestsFunctions (items : List tree.Item) (i : ℕ) : Type 0 where
   pub depth : ℕ
   pub macros : Chain (CallsMacro items) depth i through
   pub to : ℕ
-  pub functions : Chain (CallsFunction items) (suc most_calls) through to
+  pub functions : Chain (CallsFunction items) (suc MOST_CALLS) through to
 
 abbrev pub IsTooDeep : List tree.Item → ℕ → Type 0
 IsTooDeep items i = NestsMacros items i ⊎ NestsFunctions items i

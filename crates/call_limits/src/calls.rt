@@ -2,12 +2,13 @@
 
 ghost use Rattle.std.specs.Prelude.{◌≡◌, ◌++◌, map, IfOk, OnOk};
 ghost use Rattle.std.specs.Option.{option_to_list};
-ghost use Rattle.std.specs.List.{filter_map};
-ghost use Rattle.spec_parser.specs.Shape.{item_of};
+ghost use Rattle.std.specs.List.{All, filter_map};
+ghost use Rattle.spec_parser.specs.inner.Shape.{item_of};
 ghost use Rattle.name_check.specs.Scope.{seen, top};
-ghost use Rattle.definition_cycles.specs.Edges.{AreEdges};
+ghost use Rattle.definition_cycles.specs.inner.Edges.{AreEdges};
+ghost use Rattle.definition_cycles.specs.Nodes.{HasFewNodes};
 ghost use Rattle.call_limits.specs.Nesting.{CallsFunction, CallsMacro};
-ghost use Rattle.call_limits.specs.Edges.{function_call, macro_call, mentions_in_output, mentions_in_outputs};
+ghost use Rattle.call_limits.specs.inner.Edges.{IsSmallCall, function_call, macro_call, mentions_in_output, mentions_in_outputs};
 
 use definition_cycles::graph::{Graph, to_node};
 use definition_cycles::mention::{Mention, add_mentions};
@@ -28,6 +29,7 @@ pub struct Calls {
 impl Calls {
     /// Those in the definitions and outputs among these items.
     pub fn of_items(alloc: Global, items: &[Item]) -> Result<Calls, NoMemory>
+        requires { HasFewNodes (map item_of items.now) }
         ensures macros { IfOk result (λ c. AreEdges (CallsMacro (map item_of items.now)) c.macros.items) }
         ensures functions { IfOk result (λ c. AreEdges (CallsFunction (map item_of items.now)) c.functions.items) }
     {
@@ -44,6 +46,7 @@ impl Calls {
 
     /// Adds the calls among mentions.
     fn add_all(&mut self, mentions: &[Mention]) -> Result<(), NoMemory>
+        requires { All IsSmallCall mentions.now }
         ensures macros { OnOk result (self.new.macros.items ≡ self.old.macros.items ++ filter_map macro_call mentions.now) }
         ensures functions { OnOk result (self.new.functions.items ≡ self.old.functions.items ++ filter_map function_call mentions.now) }
     {
@@ -55,16 +58,22 @@ impl Calls {
 
     /// Adds a mention, if it is a call.
     fn add(&mut self, mention: &Mention) -> Result<(), NoMemory>
+        requires { IsSmallCall mention.now }
         ensures macros { OnOk result (self.new.macros.items ≡ self.old.macros.items ++ option_to_list (macro_call mention.now)) }
-        ensures functions { OnOk result (self.new.functions.items ≡ self.old.functions.items ++ option_to_list (function_call mention.now)) }
+        ensures functions { OnOk result (self.new.functions.items
+            ≡ self.old.functions.items ++ option_to_list (function_call mention.now)) }
     {
         if !mention.calls {
             return Ok(());
         }
-        let caller = to_node(mention.item)?;
         match mention.is {
-            Declaration::Macro(called) => self.macros.push((caller, to_node(called)?))?,
-            Declaration::Function(called) => self.functions.push((caller, to_node(called)?))?,
+            Declaration::Macro(called) => {
+                self.macros.push((to_node(mention.item), to_node(called)))?
+            }
+            Declaration::Function(called) => {
+                self.functions
+                    .push((to_node(mention.item), to_node(called)))?
+            }
             _ => {}
         }
         Ok(())

@@ -1,15 +1,16 @@
 // Cycles of macros.
 
 ghost use Rattle.std.specs.Prelude.{map, IfOk};
-ghost use Rattle.spec_parser.specs.Shape.{item_of};
+ghost use Rattle.spec_parser.specs.inner.Shape.{item_of};
+ghost use Rattle.definition_cycles.specs.Nodes.{HasFewNodes};
 ghost use Rattle.call_limits.specs.Nesting.{IsFirstMacroCycle};
 
 use crate::calls::Calls;
 use crate::deep::deep_place;
 use definition_cycles::graph::to_node;
-use graph_cycles::cycle::first_on_cycle;
 use spec_parser::tree::Item;
 use std::alloc::Global;
+use translation_order::on_cycle::first_on_cycle;
 use tsl_value::memory::NoMemory;
 use tsl_value::place::Place;
 
@@ -18,9 +19,10 @@ use tsl_value::place::Place;
 ///
 /// The time is nearly linear in the size of the source, whatever calls what.
 pub fn find_macro_cycle(alloc: Global, items: &[Item]) -> Result<Option<Place>, NoMemory>
+    requires { HasFewNodes (map item_of items.now) }
     ensures { IfOk result (IsFirstMacroCycle (map item_of items.now)) }
 {
-    let count = to_node(items.len())?;
+    let count = to_node(items.len());
     let calls = Calls::of_items(alloc, items)?;
     match first_on_cycle(alloc, count, &calls.macros)? {
         Some(item) => Ok(Some(deep_place(&items[item as usize]))),

@@ -1,20 +1,21 @@
 // Calls that nest too deep.
 
 ghost use Rattle.std.specs.Prelude.{◌≡◌, ◌++◌, None, length, map, IfOk, OnOk};
-ghost use Rattle.spec_parser.specs.Shape.{item_of};
-ghost use Rattle.graph_cycles.specs.Cycle.{Edge};
+ghost use Rattle.spec_parser.specs.inner.Shape.{item_of};
+ghost use Rattle.translation_order.specs.OnCycle.{Edge};
 ghost use Rattle.definition_cycles.specs.Cycles.{IsFirstFunctionCycle};
+ghost use Rattle.definition_cycles.specs.Nodes.{HasFewNodes};
 ghost use Rattle.call_limits.specs.Nesting.{IsFirstMacroCycle, IsFirstTooDeep, deep_place};
-ghost use Rattle.call_limits.specs.Edges.{IsCallGraph, turned};
-ghost use Rattle.call_limits.specs.Depths.{AreBehind, IsFirst, NestsTooDeep};
+ghost use Rattle.call_limits.specs.inner.Edges.{IsCallGraph, turned};
+ghost use Rattle.call_limits.specs.inner.Depths.{AreAfter, IsFirst, NestsTooDeep};
 
 use crate::calls::Calls;
 use crate::depth::{depths, first_deep, successors};
 use definition_cycles::graph::to_node;
-use flat_core::steps::{Edges, Steps};
 use spec_parser::tree::Item;
 use std::alloc::Global;
 use translation_order::order::{OrderFault, order};
+use translation_order::steps::{Edges, Steps};
 use tsl_value::memory::NoMemory;
 use tsl_value::place::Place;
 
@@ -24,11 +25,12 @@ use tsl_value::place::Place;
 ///
 /// The time is nearly linear in the size of the source, whatever calls what.
 pub fn find_too_deep(alloc: Global, items: &[Item]) -> Result<Option<Place>, NoMemory>
+    requires few { HasFewNodes (map item_of items.now) }
     requires macros { IsFirstMacroCycle (map item_of items.now) None }
     requires functions { IsFirstFunctionCycle (map item_of items.now) None }
     ensures { IfOk result (IsFirstTooDeep (map item_of items.now)) }
 {
-    let count = to_node(items.len())?;
+    let count = to_node(items.len());
     let calls = Calls::of_items(alloc, items)?;
     match first_too_deep(alloc, count, &calls)? {
         Some(item) => Ok(Some(deep_place(&items[item]))),
@@ -61,10 +63,10 @@ fn first_too_deep(alloc: Global, count: u32, calls: &Calls) -> Result<Option<usi
     Ok(first_deep(&of_macros, &of_functions))
 }
 
-/// All items, each behind those that are called in it.
+/// All items, each after those that are called in it.
 fn call_order(alloc: Global, count: u32, calls: &Calls) -> Result<Steps, NoMemory>
     requires { IsCallGraph count calls.now.macros.items calls.now.functions.items }
-    ensures { IfOk result (AreBehind (Edge calls.now.macros.items) (Edge calls.now.functions.items) count) }
+    ensures { IfOk result (AreAfter (Edge calls.now.macros.items) (Edge calls.now.functions.items) count) }
 {
     let mut pairs = Edges::new(alloc);
     add_turned(&mut pairs, &calls.macros)?;

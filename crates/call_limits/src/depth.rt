@@ -2,17 +2,14 @@
 
 ghost use Rattle.std.specs.Prelude.{◌≡◌, ◌<◌, ◌≤◌, ◌↔◌, ℕ, [], length, replicate, slice_index, IfOk, IfSome, IsNone, All};
 ghost use Rattle.std.specs.List.{Contains};
-ghost use Rattle.graph_cycles.specs.Cycle.{AreBetween};
-ghost use Rattle.graph_cycles.specs.Searching.{AreSuccessors, Leads};
-ghost use Rattle.call_limits.specs.Nesting.{most_calls};
-ghost use Rattle.call_limits.specs.Depths.{AreBehind, AreDepths, IsDeep, IsDepthBy, IsFirst, one_deeper};
+ghost use Rattle.translation_order.specs.OnCycle.{AreBetween};
+ghost use Rattle.translation_order.specs.inner.Searching.{AreSuccessors, Leads};
+ghost use Rattle.call_limits.specs.inner.Depths.{AreAfter, AreDepths, IsDeep, IsDepthBy, IsFirst, one_deeper};
 
-use flat_core::steps::Steps;
+use definition_cycles::limits::MOST_CALLS;
 use std::alloc::Global;
+use translation_order::steps::Steps;
 use tsl_value::memory::NoMemory;
-
-/// How many calls may stand in each other.
-const MOST_CALLS: u32 = 64;
 
 /// For each item those to which its edges lead.
 pub fn successors(alloc: Global, count: u32, edges: &[(u32, u32)]) -> Result<Vec<Steps>, NoMemory>
@@ -39,7 +36,7 @@ fn no_successors(alloc: Global, count: u32) -> Result<Vec<Steps>, NoMemory>
 }
 
 /// How many edges that count lie at most on a path from each item, up to one more than may be: those of `counted` count, and those
-/// of `passed` only lead on. The order has each item behind those to which its edges lead.
+/// of `passed` only lead on. The order has each item after those to which its edges lead.
 pub fn depths(
     alloc: Global,
     order: &[u32],
@@ -47,7 +44,7 @@ pub fn depths(
     passed: &[Steps],
 ) -> Result<Vec<u32>, NoMemory>
     requires same { length passed.now ≡ length counted.now }
-    requires behind { AreBehind (Leads counted.now) (Leads passed.now) (length counted.now) order.now }
+    requires behind { AreAfter (Leads counted.now) (Leads passed.now) (length counted.now) order.now }
     ensures { IfOk result (λ d. AreDepths (Leads counted.now) (Leads passed.now) (length counted.now) d.items) }
 {
     let mut depths = vec![in alloc; 0u32; counted.len()]?;

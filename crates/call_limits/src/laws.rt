@@ -1,6 +1,6 @@
 // Laws of the two refusals, as the contracts of functions that do nothing.
 
-ghost use Rattle.call_limits.specs.Laws.{OneMacroCycle, OneTooDeep};
+ghost use Rattle.call_limits.specs.inner.Laws.{OneMacroCycle, OneTooDeep};
 
 /// At most one place is that of the first cycle of macros.
 #[tactic(auto, using(crate::proofs::LawLemmas::one_macro_cycle))]

@@ -6,5 +6,3 @@ pub mod cycle;
 pub mod deep;
 mod depth;
 pub mod laws;
-#[cfg(test)]
-mod tests;

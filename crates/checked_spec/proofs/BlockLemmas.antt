@@ -4,20 +4,19 @@ use Rattle.std.specs.Prelude.{slice_get, is_some}
 use Rattle.std.specs.Option.{option_map, option_and_then}
 use Rattle.std.proofs.lemmas.Bool.{ne_eqb, eq-eqb}
 use Rattle.std.proofs.lemmas.List.Elements.{Contains-append_right}
-use Rattle.graph_cycles.proofs.Lists.{here}
+use Rattle.tsl_value.proofs.Lists.{here, append_empty}
 use Rattle.tsl_value.specs.declared.place.Place.{Place}
 use Rattle.spec_parser.specs.Tree as tree
 use Rattle.spec_parser.specs.Tree.{Expr, TypeName}
 use Rattle.name_check.specs.Scope.{Scope, count_in}
 use Rattle.name_check.specs.Bodies.{Seen, bodies, block_bodies}
-use Rattle.name_check.specs.Steps.{local_body}
+use Rattle.name_check.specs.inner.Steps.{local_body}
 use Rattle.form_check.specs.Types.{bad_stream, bad_in_body, bad_in_locals}
 use Rattle.expr_types.specs.Around.{Around}
 use Rattle.expr_types.specs.Bodies.{written_of, definition_kind, local_from, expr_wrongs, plain_wrongs, local_wrongs}
-use Rattle.expr_types.specs.BodySteps.{kind_of_local}
+use Rattle.expr_types.specs.inner.BodySteps.{kind_of_local}
 use Rattle.definition_cycles.specs.Nodes.{Node, block_nodes}
 use Rattle.spec_meaning.specs.Occurrence.{local}
-use Rattle.checked_spec.proofs.ListLemmas.{append_empty}
 
 -- a definition of a block, by its number among all
 abbrev pub nth : ℕ → tree.Definitions → Option tree.Definition

@@ -5,14 +5,14 @@ use Rattle.std.specs.Option.{option_map}
 use Rattle.std.specs.List.{list_all}
 use Rattle.std.proofs.lemmas.Bool.{and_parts}
 use Rattle.std.proofs.lemmas.Option.{same_Some}
-use Rattle.graph_cycles.proofs.Lists.{here}
+use Rattle.tsl_value.proofs.Lists.{here, contains_at}
 use Rattle.tsl_value.specs.declared.place.Place.{Place}
 use Rattle.tsl_value.specs.declared.scalar.ValueType.{ValueType}
 use Rattle.spec_parser.specs.Tree as tree
 use Rattle.spec_parser.specs.Tree.{Expr, TypeName}
 use Rattle.name_check.specs.Scope.{top, is_events, are_values}
 use Rattle.name_check.specs.Parts.{Operand}
-use Rattle.name_check.specs.Steps.{local_body}
+use Rattle.name_check.specs.inner.Steps.{local_body}
 use Rattle.form_check.specs.Types.{bad_in_params, bad_written}
 use Rattle.type_rules.specs.declared.rule.ExprType.{ExprType}
 use Rattle.type_rules.specs.declared.rule.ExprType.TheVariants as expr_type
@@ -24,9 +24,9 @@ use Rattle.expr_types.specs.Around.{Around, Kinds, params_of}
 use Rattle.expr_types.specs.Judge.{type_of}
 use Rattle.expr_types.specs.Bodies.{in_definition, setting_of, may_have_braces, written_of, definition_kind, expr_kind, item_kind, body_wrongs}
 use Rattle.spec_meaning.specs.Occurrence.{body_of, block_of, result_of, local}
-use Rattle.checked_spec.specs.Checked.{IsChecked, IsTyped}
+use Rattle.checked_spec.specs.inner.Checked.{IsChecked, IsTyped}
 use Rattle.checked_spec.specs.Laws.{IsStreamBody, StreamsAreTyped, MacrosAreTyped, OutputsAreTyped, NamedOutputsAreTyped, FunctionBodiesAreTyped}
-use Rattle.checked_spec.proofs.ListLemmas.{flat_empty, contains_at}
+use Rattle.checked_spec.proofs.ListLemmas.{flat_empty}
 use Rattle.checked_spec.proofs.WrittenLemmas.{Has, written_there}
 use Rattle.checked_spec.proofs.SameLemmas.{as_asked, without_written, is_stream}
 use Rattle.checked_spec.proofs.BlockLemmas.{nth, PlainAt, plain_at, local_is}

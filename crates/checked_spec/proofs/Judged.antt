@@ -7,7 +7,7 @@ use Rattle.std.specs.Str.{bytes_eq}
 use Rattle.std.proofs.lemmas.Bool.{and_parts, or_from, not-false, eqb-true, leb-true}
 use Rattle.std.proofs.lemmas.Option.{same_Some}
 use Rattle.std.proofs.lemmas.Slice.Eq.{bytes_eq-Decides}
-use Rattle.graph_cycles.proofs.Lists.{none_in_nil, cons_cases}
+use Rattle.tsl_value.proofs.Lists.{none_in_nil, cons_cases, append_empty}
 use Rattle.tsl_value.specs.declared.scalar.KeyType.{KeyType}
 use Rattle.tsl_value.specs.declared.scalar.ValueType.TheVariants as value_type
 use Rattle.spec_parser.specs.Tree as tree
@@ -32,7 +32,7 @@ use Rattle.type_rules.specs.Written.{key_of, scalar_of, value_of, bad_key, bad_s
 use Rattle.expr_types.specs.Around.{Around, Callee, callee_at, declared_type, cons}
 use Rattle.expr_types.specs.Judge.{judge, type_of, types_of, judge_links, streams_of, last_of, function_of, function_at, of_verdict, with_two, with_three, is_just, continued, next_link, lifted_by, const_call, own_call, named_call, call_rule, is_const, builtins, builtin_of, broken, own_wrong}
 use Rattle.definition_cycles.specs.Mentions.{declared}
-use Rattle.checked_spec.proofs.ListLemmas.{append_empty, all_split}
+use Rattle.checked_spec.proofs.ListLemmas.{all_split}
 use Rattle.checked_spec.proofs.WrittenLemmas.{Has, has_map, has_then, key_there, scalar_there, value_there}
 
 -- ---- what is known of the parts

@@ -18,24 +18,25 @@ use Rattle.type_rules.specs.Asked.{Check}
 use Rattle.type_rules.specs.Rules.{body_rule}
 use Rattle.type_rules.specs.Written.{as_written, bad_as_written}
 use Rattle.expr_types.specs.Around.{Around, Kinds, params_of, param_types, cons, callee_of}
-use Rattle.expr_types.specs.Alike.{known}
+use Rattle.expr_types.specs.inner.Alike.{known}
 use Rattle.expr_types.specs.Judge.{type_of, own_wrong, wrongs}
 use Rattle.expr_types.specs.Bodies.{may_have_braces, written_of, fitting, expr_kind, local_from, item_kind, block_kind, asked_of, asked_wrong}
-use Rattle.expr_types.specs.BodySteps.{kind_of_local}
+use Rattle.expr_types.specs.inner.BodySteps.{kind_of_local}
 use Rattle.definition_cycles.specs.Nodes.{Node, nodes, node_of, first_node}
 use Rattle.definition_cycles.specs.Mentions.{MentionsUntyped, declared}
 use Rattle.spec_meaning.specs.Occurrence.{body_of, block_of, result_of}
-use Rattle.checked_spec.specs.Formed.{is_input, is_stream}
-use Rattle.checked_spec.specs.Checked.{IsChecked}
+use Rattle.checked_spec.specs.inner.Formed.{is_input, is_stream}
+use Rattle.checked_spec.specs.inner.Checked.{IsChecked}
 use Rattle.flat_core.proofs.Members.{all_from}
-use Rattle.checked_spec.proofs.ListLemmas.{append_empty, flat_empty, contains_at}
-use Rattle.checked_spec.proofs.Acyclic.{holds}
+use Rattle.tsl_value.proofs.Lists.{append_empty, contains_at}
+use Rattle.checked_spec.proofs.ListLemmas.{flat_empty}
+use Rattle.definition_cycles.proofs.Acyclic.{holds}
 use Rattle.checked_spec.proofs.WrittenLemmas.{Has, stream_there, written_there}
 use Rattle.checked_spec.proofs.Judged.{IsThere, AreThere, IsFine, typed}
 use Rattle.checked_spec.proofs.BlockLemmas.{nth, ArePlain, PlainAt, plain_at, nth_kind, plain_node, nth_node}
 use Rattle.checked_spec.proofs.ScopeLemmas.{IsSeen, scope_in, mentioned_seen}
 use Rattle.checked_spec.proofs.NodeLemmas.{node_at}
-use Rattle.checked_spec.proofs.SoundLemmas.{around, IsSound, result_node, nodes_behind, types_at, params_written, type_written, block_plain, result_sound, result_kind, local_sound, local_written, local_kind_is}
+use Rattle.checked_spec.proofs.SoundLemmas.{around, IsSound, result_node, nodes_after, types_at, params_written, type_written, block_plain, result_sound, result_kind, local_sound, local_written, local_kind_is}
 
 -- ---- an expression in which nothing is wrong
 -- it is of this type, and this is what is asked of it
@@ -44,7 +45,7 @@ pub record Fits (at : Around) (w : Option ExprType) (e : Expr) : Type 0 where
   pub is : type_of at e ≡ Some of
   pub asked : body_rule at.setting w of ≡ Ok tt
 
-allowed_body : (e : Expr) (c : Check) → asked_wrong e c ≡ [] → c ≡ Ok tt
+pub allowed_body : (e : Expr) (c : Check) → asked_wrong e c ≡ [] → c ≡ Ok tt
 allowed_body e (Ok u) h = refl
 allowed_body e (Err clash) h = absurd (cc)
 
@@ -169,7 +170,7 @@ module _ (items : List tree.Item) (kinds : Kinds) (checked : IsChecked items kin
         sound = local_sound items kinds checked i p q n ps w b is k (record { place = r; name = m; params = os; written = None; expr = e; is = at });
         is_kind = local_kind_at i k p q n ps w b is (tree.Define r m os None (tree.Plain e)) at;
         node = node;
-        is_node = ap (slice_get (nodes items)) here ∙ node_at items i x is (suc k) node (nodes_behind i (inside (top items) ps) q n ps w b k ∙ nth_node i 0 scope (block_of (Some b)) k (block_plain items kinds checked i p q n ps w b is) ∙ ap (option_and_then (plain_node i scope)) at);
+        is_node = ap (slice_get (nodes items)) here ∙ node_at items i x is (suc k) node (nodes_after i (inside (top items) ps) q n ps w b k ∙ nth_node i 0 scope (block_of (Some b)) k (block_plain items kinds checked i p q n ps w b is) ∙ ap (option_and_then (plain_node i scope)) at);
         same_item = refl;
         is_body = refl;
         not_written = refl;

@@ -6,7 +6,7 @@ use Rattle.spec_parser.specs.Tree as tree
 use Rattle.name_check.specs.Scope.{Scope, top}
 use Rattle.definition_cycles.specs.Nodes.{Node, item_nodes, nodes_from, nodes, first_node, count_of}
 use Rattle.definition_cycles.proofs.FoundLemmas.{length_item}
-use Rattle.checked_spec.proofs.ListLemmas.{get_left, get_right}
+use Rattle.tsl_value.proofs.Lists.{get_left, get_right}
 
 node_from : (scope : Scope) (j : ℕ) (xs : List tree.Item) (i : ℕ) (x : tree.Item) → slice_get xs i ≡ Some x → (k : ℕ) (n : Node) → slice_get (item_nodes (j + i) scope x) k ≡ Some n → slice_get (nodes_from j scope xs) (first_node xs i + k) ≡ Some n
 node_from scope j [] i x is k n h = absurd (cc)

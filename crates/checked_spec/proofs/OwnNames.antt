@@ -12,12 +12,12 @@ use Rattle.name_check.specs.Builtin.{is_built_in, lift_name}
 use Rattle.name_check.specs.Scope.{Scope, meaning, declared_from, top, is_function, functions_of}
 use Rattle.name_check.specs.Faults.{again, twice_in_params, twice_in_body, twice_from}
 use Rattle.checked_spec.specs.Laws.{LiftIsNoFunction}
-use Rattle.checked_spec.proofs.ListLemmas.{append_empty}
+use Rattle.tsl_value.proofs.Lists.{append_empty}
 
 abbrev AreOwn : Scope → Type 0
 AreOwn scope = AllByRecursion (λ e. is_built_in e.name ≡ false) scope
 
-not_again : (before : List (List ℕ)) (p : Place) (n : List ℕ) → again before p n ≡ [] → is_built_in n ≡ false
+pub not_again : (before : List (List ℕ)) (p : Place) (n : List ℕ) → again before p n ≡ [] → is_built_in n ≡ false
 not_again before p n h = by (is_built_in n) h
   where
     by : (b : Bool) → (if b || list_any (bytes_eq n) before then p ∷ [] else []) ≡ [] → b ≡ false

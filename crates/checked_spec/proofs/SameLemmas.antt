@@ -46,7 +46,7 @@ type_same a b h = absurd (cc)
 abbrev found : ExprType → ExprType → Bool → Check
 found t u b = if b then Ok tt else Err (record { have = u; want = asked.Exactly t })
 
-exactly : (t u : ExprType) → ask (asked.Exactly t) u ≡ Ok tt → u ≡ t
+pub exactly : (t u : ExprType) → ask (asked.Exactly t) u ≡ Ok tt → u ≡ t
 exactly t u h = by (same_type u t) refl h
   where
     by : (b : Bool) → same_type u t ≡ b → found t u b ≡ Ok tt → u ≡ t

@@ -5,10 +5,10 @@ use Rattle.std.specs.Option.{option_map}
 use Rattle.std.specs.List.{AllByRecursion, find, list_any, list_all, flat_map}
 use Rattle.std.specs.Str.{bytes_eq}
 use Rattle.std.proofs.lemmas.Option.{same_Some}
-use Rattle.std.proofs.lemmas.Bool.{and_cases, and_from, or_parts, or_left, or_right, not_from_false}
+use Rattle.std.proofs.lemmas.Bool.{and_cases, and_from, or_left, or_right, not_from_false}
 use Rattle.tsl_value.specs.declared.place.Place.{Place}
 use Rattle.spec_parser.specs.Tree as tree
-use Rattle.spec_parser.specs.Tree.{Expr, TypeName}
+use Rattle.spec_parser.specs.Tree.{TypeName}
 use Rattle.name_check.specs.declared.declaration.Declaration.{Declaration}
 use Rattle.name_check.specs.declared.declaration.Declaration.TheVariants as declaration
 use Rattle.name_check.specs.Scope.{Scope, meaning, is_events, declared_as, declared_from, top, parameters_from, locals_from, is_function, are_values, functions_of, inside, in_block}
@@ -18,9 +18,9 @@ use Rattle.expr_types.specs.Around.{params_of}
 use Rattle.expr_types.specs.Bodies.{may_have_braces}
 use Rattle.definition_cycles.specs.Mentions.{declared}
 use Rattle.spec_meaning.specs.Occurrence.{body_of, block_of}
-use Rattle.checked_spec.specs.Formed.{is_input, is_stream, IsDeclared}
+use Rattle.checked_spec.specs.inner.Formed.{is_input, is_stream, IsDeclared}
 use Rattle.flat_core.proofs.Members.{all_append}
-use Rattle.checked_spec.proofs.ListLemmas.{append_empty}
+use Rattle.tsl_value.proofs.Lists.{append_empty, none_all}
 use Rattle.checked_spec.proofs.WrittenLemmas.{Has}
 use Rattle.checked_spec.proofs.BlockLemmas.{nth, ArePlain}
 
@@ -32,14 +32,6 @@ one_is_none (p ∷ ps) h = elim (and_cases (is_events p.of) (list_all (λ q. is_
   | inl this ↦ or_left (not (is_events p.of)) (list_any (λ q. not (is_events q.of)) ps) (not_from_false (is_events p.of) this)
   | inr rest ↦ or_right (not (is_events p.of)) (list_any (λ q. not (is_events q.of)) ps) (one_is_none ps rest)
 ]
-
--- where none is a stream, all are values
-all_are_values : (ps : List tree.Param) → list_any (λ q. is_events q.of) ps ≡ false → list_all (λ q. if is_events q.of then false else true) ps ≡ true
-all_are_values [] h = refl
-all_are_values (p ∷ ps) h =
-    let both = or_parts (is_events p.of) (list_any (λ q. is_events q.of) ps) h in
-    and_from (if is_events p.of then false else true) (list_all (λ q. if is_events q.of then false else true) ps)
-    (ap (λ b. if b then false else true) both.0) (all_are_values ps both.1)
 
 -- ---- what is seen in an item
 module _ (items : List tree.Item) where
@@ -58,7 +50,7 @@ module _ (items : List tree.Item) where
   several_seen o i p q n a ps w b is unmixed false true h k =
       let e : (list_any (λ (v : tree.Param). is_events v.of) (a ∷ ps) && list_any (λ (v : tree.Param). not (is_events v.of)) (a ∷ ps)) ≡ true = and_from (list_any (λ v. is_events v.of) (a ∷ ps)) (list_any (λ v. not (is_events v.of)) (a ∷ ps)) k (one_is_none (a ∷ ps) h) in
       absurd (cc)
-  several_seen o i p q n a ps w b is unmixed false false h k = ap (λ x. are_values (params_of x)) is ∙ all_are_values (a ∷ ps) k
+  several_seen o i p q n a ps w b is unmixed false false h k = ap (λ x. are_values (params_of x)) is ∙ none_all (λ q. is_events q.of) (a ∷ ps) k
 
   definition_seen : (o : Option tree.Item) (i : ℕ) (p q : Place) (n : List ℕ) (ps : List tree.Param) (w : Option TypeName) (b : tree.Body) → slice_get items i ≡ Some (tree.Defined p (tree.Define q n ps w b)) → (if are_mixed ps then q ∷ [] else []) ≡ [] → IsSeen o (declared_as i ps)
   definition_seen o i p q n [] w b is none = ap is_stream is

@@ -3,7 +3,7 @@ use Rattle.std.proofs.Common.{◌≡◌, ℕ, zero, suc, ◌+◌, Bool, true, fa
 use Rattle.std.specs.Prelude.{slice_get, is_some}
 use Rattle.std.specs.List.{flat_map}
 use Rattle.std.proofs.lemmas.List.Elements.{Contains-append_left, Contains-push}
-use Rattle.graph_cycles.proofs.Lists.{here}
+use Rattle.tsl_value.proofs.Lists.{here, append_empty, contains_at}
 use Rattle.tsl_value.specs.declared.place.Place.{Place}
 use Rattle.spec_parser.specs.Tree as tree
 use Rattle.spec_parser.specs.Tree.{Expr, TypeName}
@@ -18,9 +18,9 @@ use Rattle.expr_types.specs.Around.{Around, Kinds, params_of}
 use Rattle.expr_types.specs.Bodies.{in_definition, within_block, may_have_braces, written_of, expr_kind, body_kind, local_kind, block_kind, expr_wrongs, local_wrongs, body_wrongs, item_wrongs, wrongs_from}
 use Rattle.definition_cycles.specs.Nodes.{definition_nodes, block_nodes}
 use Rattle.spec_meaning.specs.Occurrence.{body_of, block_of, result_of}
-use Rattle.checked_spec.specs.Formed.{HasItsOperators}
-use Rattle.checked_spec.specs.Checked.{IsChecked}
-use Rattle.checked_spec.proofs.ListLemmas.{append_empty, flat_empty, none_passes, contains_at}
+use Rattle.checked_spec.specs.inner.Formed.{HasItsOperators}
+use Rattle.checked_spec.specs.inner.Checked.{IsChecked}
+use Rattle.checked_spec.proofs.ListLemmas.{flat_empty, none_passes}
 use Rattle.checked_spec.proofs.BlockLemmas.{ArePlain, PlainAt, are_plain, nth_wrongs, nth_types, nth_body}
 use Rattle.checked_spec.proofs.ScopeLemmas.{scope_in}
 
@@ -72,14 +72,14 @@ local_in_body scope (tree.Block ds e) k l =
     Contains-append_left (block_bodies 0 (in_block 0 scope ds) ds) (last ∷ []) (record { scope = in_block 0 scope ds; expr = l.expr })
     (nth_body (in_block 0 scope ds) 0 ds k l.place l.name l.params l.written l.expr l.is)
 
--- the node of a definition, and those of its block behind it
+-- the node of a definition, and those of its block after it
 pub result_node : (i : ℕ) (scope : Scope) (q : Place) (n : List ℕ) (ps : List tree.Param) (w : Option TypeName) (b : tree.Body) → slice_get (definition_nodes i 0 scope (tree.Define q n ps w b)) 0 ≡ Some (record { item = i; place = q; is_written = is_some w; body = Some (record { scope = in_block 0 scope (block_of (Some b)); expr = result_of b }) })
 result_node i scope q n ps w (tree.Plain e) = refl
 result_node i scope q n ps w (tree.Block ds e) = refl
 
-pub nodes_behind : (i : ℕ) (scope : Scope) (q : Place) (n : List ℕ) (ps : List tree.Param) (w : Option TypeName) (b : tree.Body) (k : ℕ) → slice_get (definition_nodes i 0 scope (tree.Define q n ps w b)) (suc k) ≡ slice_get (block_nodes i 0 (in_block 0 scope (block_of (Some b))) (block_of (Some b))) k
-nodes_behind i scope q n ps w (tree.Plain e) k = refl
-nodes_behind i scope q n ps w (tree.Block ds e) k = refl
+pub nodes_after : (i : ℕ) (scope : Scope) (q : Place) (n : List ℕ) (ps : List tree.Param) (w : Option TypeName) (b : tree.Body) (k : ℕ) → slice_get (definition_nodes i 0 scope (tree.Define q n ps w b)) (suc k) ≡ slice_get (block_nodes i 0 (in_block 0 scope (block_of (Some b))) (block_of (Some b))) k
+nodes_after i scope q n ps w (tree.Plain e) k = refl
+nodes_after i scope q n ps w (tree.Block ds e) k = refl
 
 -- ---- a checked specification
 module _ (items : List tree.Item) (kinds : Kinds) (checked : IsChecked items kinds) where
@@ -106,18 +106,18 @@ module _ (items : List tree.Item) (kinds : Kinds) (checked : IsChecked items kin
   pub types_at : (i : ℕ) (x : tree.Item) → slice_get items i ≡ Some x → bad_in_item x ≡ []
   types_at i x is = flat_empty bad_in_item items checked.good_types x (contains_at items i x is)
 
-  wrongs_behind : (j : ℕ) (xs : List tree.Item) → wrongs_from items kinds j xs ≡ [] → (i : ℕ) (x : tree.Item) → slice_get xs i ≡ Some x → item_wrongs items kinds (j + i) x ≡ []
-  wrongs_behind j [] h i x is = absurd (cc)
-  wrongs_behind j (y ∷ ys) h zero x is =
+  wrongs_after : (j : ℕ) (xs : List tree.Item) → wrongs_from items kinds j xs ≡ [] → (i : ℕ) (x : tree.Item) → slice_get xs i ≡ Some x → item_wrongs items kinds (j + i) x ≡ []
+  wrongs_after j [] h i x is = absurd (cc)
+  wrongs_after j (y ∷ ys) h zero x is =
       let same : y ≡ x = cc in
       let e : j + 0 ≡ j = omega arith in
       ap (λ k. item_wrongs items kinds k x) e ∙ ap (item_wrongs items kinds j) (sym same) ∙ (append_empty (item_wrongs items kinds j y) (wrongs_from items kinds (suc j) ys) h).0
-  wrongs_behind j (y ∷ ys) h (suc i) x is =
+  wrongs_after j (y ∷ ys) h (suc i) x is =
       let e : j + suc i ≡ suc j + i = omega arith in
-      ap (λ k. item_wrongs items kinds k x) e ∙ wrongs_behind (suc j) ys (append_empty (item_wrongs items kinds j y) (wrongs_from items kinds (suc j) ys) h).1 i x is
+      ap (λ k. item_wrongs items kinds k x) e ∙ wrongs_after (suc j) ys (append_empty (item_wrongs items kinds j y) (wrongs_from items kinds (suc j) ys) h).1 i x is
 
   pub wrongs_at : (i : ℕ) (x : tree.Item) → slice_get items i ≡ Some x → item_wrongs items kinds i x ≡ []
-  wrongs_at i x is = let e : i ≡ 0 + i = omega arith in ap (λ k. item_wrongs items kinds k x) e ∙ wrongs_behind 0 items checked.fit i x is
+  wrongs_at i x is = let e : i ≡ 0 + i = omega arith in ap (λ k. item_wrongs items kinds k x) e ∙ wrongs_after 0 items checked.fit i x is
 
   -- ---- the definition of an item
   module _ (i : ℕ) (p q : Place) (n : List ℕ) (ps : List tree.Param) (w : Option TypeName) (b : tree.Body) (is : slice_get items i ≡ Some (tree.Defined p (tree.Define q n ps w b))) where

@@ -8,7 +8,7 @@ use Rattle.spec_parser.specs.Tree as tree
 use Rattle.spec_parser.specs.Tree.{TypeName}
 use Rattle.type_rules.specs.Written.{key_of, scalar_of, value_of, as_written, as_stream, bad_key, bad_scalar, bad_inside, bad_as_written, bad_as_stream}
 use Rattle.type_rules.proofs.WrittenLemmas.{written_or_bad, stream_or_bad}
-use Rattle.checked_spec.proofs.ListLemmas.{append_empty}
+use Rattle.tsl_value.proofs.Lists.{append_empty}
 
 -- an option is something
 pub record Has {A : Type 0} (o : Option A) : Type 0 where

@@ -1,3 +1,2 @@
-pub mod Formed
-pub mod Checked
 pub mod Laws
+pub mod inner

@@ -1,6 +1,7 @@
 // What holds of the bodies of a checked specification, as the contracts of functions that do nothing.
 
-ghost use Rattle.checked_spec.specs.Laws.{StreamsAreTyped, MacrosAreTyped, OutputsAreTyped, NamedOutputsAreTyped, FunctionBodiesAreTyped, LiftIsNoFunction};
+ghost use Rattle.checked_spec.specs.Laws.{StreamsAreTyped, MacrosAreTyped, OutputsAreTyped, NamedOutputsAreTyped, FunctionBodiesAreTyped};
+ghost use Rattle.checked_spec.specs.Laws.{LiftIsNoFunction};
 
 /// The body of a definition without parameters is a stream of the type of the definition.
 #[tactic(auto, using(crate::proofs::BodyLaws::streams_are_typed))]

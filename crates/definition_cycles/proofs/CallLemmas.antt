@@ -1,35 +1,36 @@
 -- Calls of value functions that are kept, and the relation of them.
-use Rattle.std.proofs.Common.{◌≡◌, ℕ, zero, suc, ◌+◌, ◌<◌, Bool, true, false, if◌then◌else◌, List, [], ◌∷◌, ◌++◌, map, length, get_or, Option, Some, None, is_some, refl, sym, ap, subst, ◌∙◌, inl, inr, arith}
+use Rattle.std.proofs.Common.{◌≡◌, ℕ, zero, suc, ◌+◌, ◌^◌, ◌<◌, Bool, true, false, if◌then◌else◌, List, [], ◌∷◌, ◌++◌, map, length, get_or, Option, Some, None, is_some, refl, sym, ap, subst, ◌∙◌, inl, inr, arith}
 use Rattle.std.specs.Prelude.{slice_get}
 use Rattle.std.specs.Option.{option_map}
-use Rattle.std.specs.List.{Contains, filter_map}
+use Rattle.std.specs.List.{All, Contains, filter_map}
 use Rattle.std.proofs.lemmas.List.{length-map}
-use Rattle.std.proofs.lemmas.List.Elements.{Contains-append_left, Contains-append_right, Contains-append_cases}
+use Rattle.std.proofs.lemmas.List.Elements.{Contains-append_left, Contains-append_right, Contains-append_cases, All-contains_itself, All-weaker, All-same}
 use Rattle.std.proofs.lemmas.Option.{slice_get-map, slice_get-get_or, slice_get_within, some_pair_parts}
 use Rattle.tsl_value.specs.declared.place.Place.{Place}
 use Rattle.spec_parser.specs.Tree as tree
 use Rattle.spec_parser.specs.declared.tree.Item.{Item}
-use Rattle.spec_parser.specs.Shape.{item_of}
-use Rattle.graph_cycles.specs.Cycle.{AreBetween, IsLeast, OnCycle}
-use Rattle.graph_cycles.proofs.Lists.{here, later, none_in_nil, cons_cases}
-use Rattle.graph_cycles.proofs.Paths.{first_edge}
+use Rattle.spec_parser.specs.inner.Shape.{item_of}
+use Rattle.translation_order.specs.OnCycle.{AreBetween, IsLeast, OnCycle}
+use Rattle.tsl_value.proofs.Lists.{here, later, none_in_nil, cons_cases}
+use Rattle.translation_order.proofs.Paths.{first_edge}
 use Rattle.name_check.specs.declared.declaration.Declaration.{Declaration}
 use Rattle.name_check.specs.declared.declaration.Declaration.TheVariants as declaration
 use Rattle.name_check.specs.Scope.{Scope, count_in, in_block, inside, top}
 use Rattle.name_check.specs.Parts.{Part, parts}
 use Rattle.definition_cycles.specs.Mentions.{declared}
 use Rattle.name_check.specs.Bodies.{Seen, bodies, block_bodies, item_bodies}
-use Rattle.name_check.specs.Steps.{local_body}
+use Rattle.name_check.specs.inner.Steps.{local_body}
 use Rattle.definition_cycles.specs.declared.mention.Mention.{Mention}
-use Rattle.definition_cycles.specs.Nodes.{Node, definition_nodes, block_nodes, item_nodes, nodes_from, nodes, parameters_of}
+use Rattle.definition_cycles.specs.Nodes.{HasFewNodes, Node, definition_nodes, block_nodes, item_nodes, nodes_from, nodes, parameters_of}
 use Rattle.definition_cycles.specs.Calls.{is_call, Calls, name_place}
 use Rattle.definition_cycles.specs.Cycles.{FunctionCycle, IsPlaceOfLeast}
-use Rattle.definition_cycles.specs.Walk.{mentions_from, Kept, with_nodes, nothing_kept}
-use Rattle.definition_cycles.specs.Edges.{AreEdges, edge_of_call, call_edge}
+use Rattle.definition_cycles.specs.inner.Walk.{mentions_from, Kept, with_nodes, nothing_kept}
+use Rattle.definition_cycles.specs.inner.Edges.{AreEdges, IsOfSmall, edge_of_call, call_edge}
 use Rattle.definition_cycles.proofs.ListLemmas.{contains_at, at_contains, in_filtered, from_filtered}
 use Rattle.definition_cycles.proofs.MentionLemmas.{all_kept, mentioned, is_kept}
 use Rattle.definition_cycles.proofs.RangeLemmas.{called_below}
 use Rattle.definition_cycles.proofs.CycleLemmas.{are_between, least_on_cycle}
+use Rattle.definition_cycles.proofs.CountLemmas.{fewer_items}
 
 -- ---- the bodies of nodes are those of items
 same_in : {X : Type 0} (P : X → Type 0) (x y : X) → x ≡ y → P y → P x
@@ -248,6 +249,35 @@ pub call_edges : (items : List tree.Item) (k : Kept) (edges : List (ℕ × ℕ))
 call_edges items k edges kept made =
     let same : edges ≡ edges_of items = made ∙ ap (filter_map call_edge) (all_kept (nodes items) k kept).1 in
     let P : List (ℕ × ℕ) → Type 0 = λ e. AreEdges (Calls items) e in subst P (sym same) (record { means = edge_means items; has = is_edge items })
+
+-- ---- the numbers of a call
+pub small_call : (m : Mention) (j : ℕ) → m.calls ≡ true → m.is ≡ declaration.Function j → IsOfSmall (call_edge m) → (m.item < 2 ^ 32) × (j < 2 ^ 32)
+small_call m j calls is small =
+    let edge : call_edge m ≡ Some (m.item, j) = ap (λ b. if b then edge_of_call m.item m.is else None) calls ∙ ap (edge_of_call m.item) is in
+    subst IsOfSmall edge small
+
+pub small_pair : (o : Option (ℕ × ℕ)) → ((a b : ℕ) → o ≡ Some (a, b) → (a < 2 ^ 32) × (b < 2 ^ 32)) → IsOfSmall o
+small_pair None h = tt
+small_pair (Some e) h = h e.0 e.1 refl
+
+-- those of all mentions
+pub small_calls : (items : List tree.Item) (k : Kept) (mentions : List Mention) → HasFewNodes items → k ≡ with_nodes nothing_kept (nodes items) → mentions ≡ k.mentions → All (λ m. IsOfSmall (call_edge m)) mentions
+small_calls items k mentions few kept is = All-same P mentions all (is ∙ (all_kept (nodes items) k kept).1) (All-weaker (Contains all) P small all (All-contains_itself all))
+  where
+    all : List Mention
+    all = mentions_from 0 (nodes items)
+
+    P : Mention → Type 0
+    P m = IsOfSmall (call_edge m)
+
+    within : (a b : ℕ) → Calls items a b → (a < 2 ^ 32) × (b < 2 ^ 32)
+    within a b u =
+        let count = fewer_items items few in
+        let from = slice_get_within items a (tree.Defined u.place u.definition) u.is_item in
+        let to = called_below items u.place u.definition u.seen u.part b u.is_body u.stands_for in (omega (arith, count, from), omega (arith, count, to))
+
+    small : (m : Mention) → Contains all m → P m
+    small m c = small_pair (call_edge m) (λ a b e. within a b (edge_means items a b (in_filtered call_edge all m (a, b) c e)))
 
 pub calls_between : (items : List tree.Item) (n : ℕ) (edges : List (ℕ × ℕ)) → n ≡ length items → AreEdges (Calls items) edges → AreBetween n edges
 calls_between items n edges is e =

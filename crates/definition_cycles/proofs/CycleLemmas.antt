@@ -2,9 +2,9 @@
 use Rattle.std.proofs.Common.{◌≡◌, ℕ, ◌<◌, List, Option, Some, None, sym, subst}
 use Rattle.std.specs.List.{Contains}
 use Rattle.std.proofs.lemmas.List.Elements.{All-contains_itself, All-weaker}
-use Rattle.graph_cycles.specs.Cycle.{Edge, AreBetween, Path, IsLeast, IsFirstOnCycle, OnCycle}
-use Rattle.graph_cycles.proofs.Paths.{path_alike}
-use Rattle.definition_cycles.specs.Edges.{AreEdges}
+use Rattle.translation_order.specs.OnCycle.{Edge, AreBetween, Path, IsLeast, IsFirstOnCycle, OnCycle}
+use Rattle.translation_order.proofs.Paths.{path_alike}
+use Rattle.definition_cycles.specs.inner.Edges.{AreEdges}
 
 -- edges lie below a number where each of them does
 pub are_between : (n : ℕ) (edges : List (ℕ × ℕ)) → ((a b : ℕ) → Contains edges (a, b) → (a < n) × (b < n)) → AreBetween n edges

@@ -1,29 +1,45 @@
 -- Edges between nodes without a written type, and the relation of them.
-use Rattle.std.proofs.Common.{◌≡◌, ℕ, ◌+◌, ◌<◌, Bool, true, false, not, ◌&&◌, if◌then◌else◌, List, map, length, get_or, Option, Some, None, refl, sym, ap, subst, ◌∙◌, arith}
+use Rattle.std.proofs.Common.{◌≡◌, ℕ, ◌+◌, ◌^◌, ◌<◌, Bool, true, false, not, ◌&&◌, if◌then◌else◌, List, map, length, get_or, Option, Some, None, refl, sym, ap, subst, ◌∙◌, arith}
 use Rattle.std.specs.Prelude.{slice_get}
 use Rattle.std.specs.Option.{option_map}
 use Rattle.std.specs.List.{Contains, filter_map}
 use Rattle.std.proofs.lemmas.List.{length-map}
-use Rattle.std.proofs.lemmas.Option.{slice_get-map, slice_get-get_or, slice_get_within, cond_some}
+use Rattle.std.proofs.lemmas.Option.{slice_get-map, slice_get-get_or, slice_get_within, slice_get_past, cond_some}
+use Rattle.std.proofs.lemmas.Bool.{and_parts}
+use Rattle.std.proofs.Math.Bool.{and-false}
 use Rattle.spec_parser.specs.Tree as tree
-use Rattle.graph_cycles.specs.Cycle.{Edge, AreBetween, IsLeast, OnCycle}
-use Rattle.graph_cycles.proofs.Paths.{first_edge}
+use Rattle.translation_order.specs.OnCycle.{Edge, AreBetween, IsLeast, OnCycle}
+use Rattle.translation_order.proofs.Paths.{first_edge}
 use Rattle.definition_cycles.specs.declared.mention.Mention.{Mention}
 use Rattle.definition_cycles.specs.declared.found.Head.{Head}
 use Rattle.definition_cycles.specs.Nodes.{Node, nodes, node_of}
 use Rattle.definition_cycles.specs.Mentions.{IsUntyped, MentionsUntyped}
 use Rattle.definition_cycles.specs.Cycles.{NeedsType, IsPlaceOfLeast}
 use Rattle.definition_cycles.specs.Calls.{is_call}
-use Rattle.definition_cycles.specs.Walk.{head_of, mentions_from, Kept, with_nodes, nothing_kept, firsts_from}
-use Rattle.definition_cycles.specs.Edges.{AreEdges, is_unwritten, is_untyped, known_node, untyped_pair, untyped_edge}
+use Rattle.definition_cycles.specs.inner.Walk.{head_of, mentions_from, Kept, with_nodes, nothing_kept, firsts_from}
+use Rattle.definition_cycles.specs.inner.Edges.{AreEdges, IsKnown, is_unwritten, is_untyped, known_node, untyped_pair, untyped_edge}
 use Rattle.definition_cycles.proofs.CycleLemmas.{are_between, least_on_cycle}
 use Rattle.definition_cycles.proofs.ListLemmas.{in_filtered, from_filtered}
 use Rattle.definition_cycles.proofs.MentionLemmas.{all_kept, mentioned, is_kept}
 use Rattle.definition_cycles.proofs.NumberLemmas.{known_is, node_known}
 
-both_true : (a b : Bool) → (a && b) ≡ true → (a ≡ true) × (b ≡ true)
-both_true true b h = (refl, h)
-both_true false b h = absurd (cc)
+-- a node that is past all numbers of the machine has no head
+past_all : (heads : List Head) (a : ℕ) (o : Option ℕ) → length heads < 2 ^ 32 → IsKnown o None → None ≡ untyped_pair heads a o
+past_all heads a None few h = refl
+past_all heads a (Some n) few h =
+    let past : is_untyped heads n ≡ false = ap is_unwritten (slice_get_past heads n (omega arith)) in
+    sym (ap (λ t. if t then Some (a, n) else None) (ap (λ t. is_untyped heads a && t) past ∙ and-false (is_untyped heads a)))
+
+pub unknown_edge : (firsts : List ℕ) (heads : List Head) (m : Mention) → length heads < 2 ^ 32 → IsKnown (known_node firsts m.item m.is) None → None ≡ untyped_edge firsts heads m
+unknown_edge firsts heads m few h = past_all heads m.node (known_node firsts m.item m.is) few h
+
+-- a node without a written type has a head
+pub untyped_within : (heads : List Head) (a : ℕ) → is_untyped heads a ≡ true → a < length heads
+untyped_within heads a h = by (slice_get heads a) refl h
+  where
+    by : (o : Option Head) → slice_get heads a ≡ o → is_unwritten o ≡ true → a < length heads
+    by None e k = absurd (cc)
+    by (Some x) e k = slice_get_within heads a x e
 
 -- ---- one edge
 record IsUntypedPair (heads : List Head) (a : ℕ) (o : Option ℕ) (x y : ℕ) : Type 0 where
@@ -36,7 +52,7 @@ pair_facts : (heads : List Head) (a : ℕ) (o : Option ℕ) (x y : ℕ) → unty
 pair_facts heads a None x y h = absurd (cc)
 pair_facts heads a (Some b) x y h =
     let both = cond_some (is_untyped heads a && is_untyped heads b) (a, b) (x, y) h in
-    let tests = both_true (is_untyped heads a) (is_untyped heads b) both.0 in
+    let tests = and_parts (is_untyped heads a) (is_untyped heads b) both.0 in
     let second : b ≡ y = ap (λ (p : ℕ × ℕ). p.1) both.1 in record {
       to = ap Some second;
       from = ap (λ (p : ℕ × ℕ). p.0) both.1;

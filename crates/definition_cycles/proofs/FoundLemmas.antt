@@ -1,4 +1,4 @@
--- Nodes, one behind the other, and those of scopes in which each name stands for the same.
+-- Nodes, one after the other, and those of scopes in which each name stands for the same.
 use Rattle.std.proofs.Common.{◌≡◌, ℕ, suc, ◌+◌, ◌<◌, ◌≤◌, List, [], ◌∷◌, ◌++◌, map, length, get_or, drop, Option, Some, None, is_some, if◌then◌else◌, Bool, true, false, length-append, refl, sym, ap, subst, ◌∙◌, append_assoc, add-one, arith}
 use Rattle.std.specs.List.{cons_option}
 use Rattle.std.specs.Option.{option_map}
@@ -7,19 +7,19 @@ use Rattle.tsl_value.specs.declared.place.Place.{Place}
 use Rattle.spec_parser.specs.Tree as tree
 use Rattle.spec_parser.specs.declared.tree.Item.{Item}
 use Rattle.spec_parser.specs.declared.tree.Param.{Param}
-use Rattle.spec_parser.specs.Shape.{params_in, definitions_of, item_of}
+use Rattle.spec_parser.specs.inner.Shape.{params_in, definitions_of, item_of}
 use Rattle.name_check.specs.Scope.{Scope, Agree, seen, count_in, counts, locals_from, parameters_from, are_values, functions_of, inside, in_block}
 use Rattle.name_check.specs.Parts.{Part, Operand, Function, parts}
 use Rattle.name_check.specs.Bodies.{Seen}
-use Rattle.name_check.specs.Steps.{local_body}
+use Rattle.name_check.specs.inner.Steps.{local_body}
 use Rattle.name_check.proofs.AgreeLemmas.{agree_same, agree_trans, agree_append}
-use Rattle.name_check.proofs.FirstLemmas.{left_at}
+use Rattle.tsl_value.proofs.Lists.{left_at}
 use Rattle.definition_cycles.specs.Nodes.{Node, definition_nodes, block_nodes, item_nodes, nodes_from, count_of}
 use Rattle.definition_cycles.specs.Mentions.{declared}
 use Rattle.definition_cycles.specs.Calls.{is_call}
 use Rattle.definition_cycles.specs.declared.top.Top.{Top}
-use Rattle.definition_cycles.specs.Seen.{IsTop}
-use Rattle.definition_cycles.specs.Walk.{head_of, mention_in, mentions_among, mentions_at, mentions_of, Kept, with_node, with_nodes, firsts_from}
+use Rattle.definition_cycles.specs.inner.Seen.{IsTop}
+use Rattle.definition_cycles.specs.inner.Walk.{head_of, mention_in, mentions_among, mentions_at, mentions_of, Kept, with_node, with_nodes, firsts_from}
 
 pub with_nodes-append : (k : Kept) (xs ys : List Node) → with_nodes k (xs ++ ys) ≡ with_nodes (with_nodes k xs) ys
 with_nodes-append k [] ys = refl
@@ -96,7 +96,7 @@ mutual
       (same_definition i (suc k) s t h (tree.Define q n ps w b))
       (same_block i (suc k + count_in b) s t h ds)
 
--- ---- the definition of a block, and those behind it
+-- ---- the definition of a block, and those after it
 pub block_turn : (ds : List tree.Definition) (i : ℕ) (d e : tree.Definition) (item n m : ℕ) (s : Scope) (k t all : Kept) → i < length ds → d ≡ get_or ds i d → e ≡ d → m ≡ suc n + count_in (local_body e) → with_nodes k (block_nodes item n s (definitions_of (drop i ds))) ≡ all → t ≡ with_nodes k (definition_nodes item (n + 1) s e) → with_nodes t (block_nodes item m s (definitions_of (drop (i + 1) ds))) ≡ all
 block_turn ds i d e item n m s k t all h is same behind done more =
     ap (λ l. with_nodes l (block_nodes item m s (definitions_of (drop (i + 1) ds)))) (more ∙ ap (λ j. with_nodes k (definition_nodes item j s e)) (add-one n))

@@ -5,7 +5,7 @@ use Rattle.std.specs.Option.{option_map}
 use Rattle.std.specs.List.{Contains}
 use Rattle.std.proofs.lemmas.List.{append-nil, length_push}
 use Rattle.std.proofs.lemmas.List.Elements.{Contains-append_left, Contains-append_right, Contains-append_cases}
-use Rattle.graph_cycles.proofs.Lists.{none_in_nil}
+use Rattle.tsl_value.proofs.Lists.{none_in_nil}
 use Rattle.name_check.specs.declared.declaration.Declaration.{Declaration}
 use Rattle.name_check.specs.Scope.{Scope}
 use Rattle.name_check.specs.Parts.{Part, parts}
@@ -15,7 +15,7 @@ use Rattle.definition_cycles.specs.declared.found.Head.{Head}
 use Rattle.definition_cycles.specs.Nodes.{Node}
 use Rattle.definition_cycles.specs.Mentions.{declared}
 use Rattle.definition_cycles.specs.Calls.{is_call}
-use Rattle.definition_cycles.specs.Walk.{head_of, mention_in, mentions_at, mentions_of, mentions_from, Kept, with_node, with_nodes, nothing_kept}
+use Rattle.definition_cycles.specs.inner.Walk.{head_of, mention_in, mentions_at, mentions_of, mentions_from, Kept, with_node, with_nodes, nothing_kept}
 use Rattle.definition_cycles.proofs.ListLemmas.{in_filtered, from_filtered}
 
 -- ---- all that is kept

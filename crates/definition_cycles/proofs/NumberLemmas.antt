@@ -11,8 +11,8 @@ use Rattle.name_check.specs.declared.declaration.Declaration.{Declaration}
 use Rattle.name_check.specs.declared.declaration.Declaration.TheVariants as declaration
 use Rattle.name_check.specs.Scope.{Scope, top}
 use Rattle.definition_cycles.specs.Nodes.{nodes, nodes_from, item_nodes, node_of, first_node, count_of}
-use Rattle.definition_cycles.specs.Walk.{firsts_from}
-use Rattle.definition_cycles.specs.Edges.{known_node}
+use Rattle.definition_cycles.specs.inner.Walk.{firsts_from}
+use Rattle.definition_cycles.specs.inner.Edges.{known_node}
 use Rattle.definition_cycles.proofs.FoundLemmas.{length_item}
 
 pub nodes_length : (i : ℕ) (s : Scope) (items : List tree.Item) → length (nodes_from i s items) ≡ sum_by count_of items
@@ -29,7 +29,7 @@ first_there a [] j h = absurd (omega arith)
 first_there a (x ∷ items) zero h = let e : a ≡ a + 0 = omega arith in ap Some e
 first_there a (x ∷ items) (suc j) h = let e : a + count_of x + first_node items j ≡ a + first_node (x ∷ items) (suc j) = omega (arith, sum_by-cons count_of x (take j items)) in first_there (a + count_of x) items j (omega arith) ∙ ap Some e
 
--- there is no node behind the last item
+-- there is no node after the last item
 first_past : (items : List tree.Item) (j b : ℕ) → b < length (nodes items) → first_node items j ≤ b → j < length items
 first_past items j b h k = elim (cases_lt j (length items)) [ inl l ↦ l | inr l ↦ absurd (let all = ap (sum_by count_of) (take_all j items l) in let many = nodes_length 0 (top items) items in omega arith) ]
 

@@ -1,22 +1,22 @@
 -- The order of edges that are turned round, and their cycles.
 use Rattle.std.proofs.Common.{◌≡◌, ℕ, List, map, length, sym, ap, subst}
 use Rattle.spec_parser.specs.Tree as tree
-use Rattle.flat_core.specs.Graph as flat
-use Rattle.flat_core.specs.Graph.{IsAcyclic}
+use Rattle.translation_order.specs.Graph as flat
+use Rattle.translation_order.specs.Graph.{IsAcyclic}
 use Rattle.flat_core.proofs.Members.{contains_map, map_contains}
-use Rattle.graph_cycles.specs.Cycle.{Path, one, more}
-use Rattle.graph_cycles.proofs.Paths.{path_join}
+use Rattle.translation_order.specs.OnCycle.{Path, one, more}
+use Rattle.translation_order.proofs.Paths.{path_join}
 use Rattle.translation_order.specs.Order.{Before, AreOfSteps, MayFollow, IsLeastOrder}
 use Rattle.translation_order.specs.Cycle.{IsCycle}
-use Rattle.translation_order.specs.Answer.{OnCycle}
+use Rattle.translation_order.specs.inner.Answer.{OnCycle}
 use Rattle.translation_order.specs.declared.order.OrderFault.{OrderFault}
 use Rattle.translation_order.specs.declared.order.OrderFault.TheVariants.{CycleOf, Memory}
 use Rattle.translation_order.proofs.Alike.{cycle_alike, least_alike}
 use Rattle.translation_order.proofs.Cycles.{cycle_path}
 use Rattle.definition_cycles.specs.Nodes.{nodes}
 use Rattle.definition_cycles.specs.Mentions.{MentionsUntyped}
-use Rattle.definition_cycles.specs.Order.{Precedes, IsKindOrder, NoneNeedsType, SomeNeedsType}
-use Rattle.definition_cycles.specs.Edges.{AreEdges}
+use Rattle.definition_cycles.specs.inner.Order.{Precedes, IsKindOrder, NoneNeedsType, SomeNeedsType}
+use Rattle.definition_cycles.specs.inner.Edges.{AreEdges}
 use Rattle.definition_cycles.proofs.CycleLemmas.{are_between}
 use Rattle.definition_cycles.proofs.EdgeLemmas.{mention_between}
 

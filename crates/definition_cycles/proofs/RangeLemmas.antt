@@ -6,7 +6,7 @@ use Rattle.std.specs.Str.{bytes_eq}
 use Rattle.std.proofs.lemmas.List.Elements.{All-nil, All-cons, All-head, All-tail, All-append, All-filter, Contains-append_cases}
 use Rattle.tsl_value.specs.declared.place.Place.{Place}
 use Rattle.spec_parser.specs.Tree as tree
-use Rattle.graph_cycles.proofs.Lists.{none_in_nil, cons_cases}
+use Rattle.tsl_value.proofs.Lists.{none_in_nil, cons_cases}
 use Rattle.name_check.specs.declared.declaration.Declaration.{Declaration}
 use Rattle.name_check.specs.declared.declaration.Declaration.TheVariants as declaration
 use Rattle.name_check.specs.Scope.{Scope, meaning, is_events, declared_as, declared_from, parameters_from, count_in, locals_from, is_function, functions_of, are_values, inside, in_block, top}

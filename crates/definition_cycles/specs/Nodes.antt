@@ -1,6 +1,6 @@
 -- The definitions of a specification as nodes of a graph. They are numbered in the order of the source: each item has one number,
--- inputs and outputs too, and behind an item come the definitions in its blocks, each before those in its body.
-use Rattle.std.specs.Prelude.{ℕ, suc, ◌+◌, Bool, true, List, [], ◌∷◌, ◌++◌, take, Option, Some, None, is_some}
+-- inputs and outputs too, and after an item come the definitions in its blocks, each before those in its body.
+use Rattle.std.specs.Prelude.{ℕ, suc, ◌+◌, ◌^◌, ◌<◌, Bool, true, List, [], ◌∷◌, ◌++◌, length, take, Option, Some, None, is_some}
 use Rattle.std.specs.List.{sum_by}
 use Rattle.tsl_value.specs.declared.place.Place.{Place}
 use Rattle.spec_parser.specs.Tree as tree
@@ -23,7 +23,8 @@ abbrev mutual
   definition_nodes i k scope (tree.Define q n ps w (tree.Plain e)) =
       record { item = i; place = q; is_written = is_some w; body = Some (record { scope = scope; expr = e }) } ∷ []
   definition_nodes i k scope (tree.Define q n ps w (tree.Block ds e)) =
-      record { item = i; place = q; is_written = is_some w; body = Some (record { scope = in_block k scope ds; expr = e }) } ∷ block_nodes i k (in_block k scope ds) ds
+      record { item = i; place = q; is_written = is_some w; body = Some (record { scope = in_block k scope ds; expr = e }) }
+      ∷ block_nodes i k (in_block k scope ds) ds
 
   pub block_nodes : ℕ → ℕ → Scope → tree.Definitions → List Node
   block_nodes i k scope tree.no_definitions = []
@@ -47,6 +48,10 @@ nodes_from i scope (x ∷ items) = item_nodes i scope x ++ nodes_from (suc i) sc
 
 abbrev pub nodes : List tree.Item → List Node
 nodes items = nodes_from 0 (top items) items
+
+-- so few that 32 bits number them
+abbrev pub HasFewNodes : List tree.Item → Type 0
+HasFewNodes items = length (nodes items) < 2 ^ 32
 
 -- ---- the numbers of nodes
 abbrev pub count_of : tree.Item → ℕ

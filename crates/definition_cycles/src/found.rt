@@ -1,15 +1,15 @@
-// The nodes of a specification, one behind the other.
+// The nodes of a specification, one after the other.
 
 ghost use Rattle.std.specs.Prelude.{◌≡◌, ◌∷◌, [], ◌++◌, true, OnOk, Some};
-ghost use Rattle.spec_parser.specs.Shape.{definition_of, definitions_of, item_of};
+ghost use Rattle.spec_parser.specs.inner.Shape.{definition_of, definitions_of, item_of};
 ghost use Rattle.name_check.specs.Scope.{Scope as Entries, seen, inside};
 ghost use Rattle.definition_cycles.specs.Nodes.{definition_nodes, block_nodes, item_nodes, parameters_of};
-ghost use Rattle.definition_cycles.specs.Seen.{IsTop};
-ghost use Rattle.definition_cycles.specs.Walk.{with_node, with_nodes, nothing_kept};
+ghost use Rattle.definition_cycles.specs.inner.Seen.{IsTop};
+ghost use Rattle.definition_cycles.specs.inner.Walk.{with_node, with_nodes, nothing_kept};
 
 use crate::mention::{Mention, add_mentions};
 use crate::top::Top;
-use name_check::count::number_behind;
+use name_check::count::number_after;
 use name_check::scope::{Scope, locals, parameters};
 use spec_parser::tree::{Body, Definition, DefinitionParts, Expr, Item};
 use std::alloc::Global;
@@ -32,7 +32,7 @@ pub struct Found {
 }
 
 impl Model for Found {
-    ghost use Rattle.definition_cycles.specs.Walk.{Kept};
+    ghost use Rattle.definition_cycles.specs.inner.Walk.{Kept};
 
     ghost Value = { Kept };
 
@@ -57,7 +57,7 @@ impl Found {
         self.heads.as_slice()
     }
 
-    /// All mentions, those of a node behind those of the nodes before it.
+    /// All mentions, those of a node after those of the nodes before it.
     pub fn mentions(&self) -> &[Mention]
         ensures { result.now ≡ self.now.mentions }
     {
@@ -66,7 +66,8 @@ impl Found {
 
     /// Adds a node without an expression. It counts as written.
     fn add_written(&mut self, place: Place) -> Result<(), NoMemory>
-        ensures { OnOk result (self.new ≡ record { heads = self.old.heads ++ record { place = place; is_written = true } ∷ []; mentions = self.old.mentions }) }
+        ensures { OnOk result (self.new
+            ≡ record { heads = self.old.heads ++ record { place = place; is_written = true } ∷ []; mentions = self.old.mentions }) }
     {
         self.heads.push(Head {
             place,
@@ -84,7 +85,12 @@ impl Found {
         expression: &Expr,
         scope: &Scope<'_>,
     ) -> Result<(), NoMemory>
-        ensures { OnOk result (self.new ≡ with_node self.old (record { item = item; place = head.place; is_written = head.is_written; body = Some (record { scope = seen scope.now; expr = expression.now }) })) }
+        ensures { OnOk result (self.new ≡ with_node self.old (record {
+          item = item;
+          place = head.place;
+          is_written = head.is_written;
+          body = Some (record { scope = seen scope.now; expr = expression.now });
+        })) }
     {
         let node = self.heads.len();
         add_mentions(&mut self.mentions, alloc, item, node, expression, scope)?;
@@ -133,7 +139,7 @@ impl Found {
         let mut number = first;
         for definition in definitions {
             let parts = definition.parts();
-            let behind = number_behind(number, &parts.body)?;
+            let behind = number_after(number, &parts.body)?;
             self.add_definition(alloc, item, number + 1, parts, scope)?;
             number = behind;
         }
@@ -148,7 +154,10 @@ impl Found {
         item: usize,
         parts: &DefinitionParts,
     ) -> Result<(), NoMemory>
-        ensures { OnOk result ((names : Entries) → IsTop names top.now → self.new ≡ with_nodes self.old (definition_nodes item 0 (inside names (parameters_of (definition_of parts.now))) (definition_of parts.now))) }
+        ensures { OnOk result ((names : Entries)
+            → IsTop names top.now
+            → self.new ≡ with_nodes self.old
+            (definition_nodes item 0 (inside names (parameters_of (definition_of parts.now))) (definition_of parts.now))) }
     {
         let outer = top.around(&parts.params);
         let scope = Scope::inner(parameters(alloc, &parts.params)?, &outer);
@@ -156,14 +165,16 @@ impl Found {
     }
 
     /// Adds the nodes of an item.
-    pub fn add_item(
+    pub(crate) fn add_item(
         &mut self,
         alloc: Global,
         top: &Top,
         number: usize,
         item: &Item,
     ) -> Result<(), NoMemory>
-        ensures { OnOk result ((names : Entries) → IsTop names top.now → self.new ≡ with_nodes self.old (item_nodes number names (item_of item.now))) }
+        ensures { OnOk result ((names : Entries)
+            → IsTop names top.now
+            → self.new ≡ with_nodes self.old (item_nodes number names (item_of item.now))) }
     {
         match item {
             Item::Input(_, place, _, _) => self.add_written(*place),

@@ -1,15 +1,16 @@
 // Cycles of value functions.
 
 ghost use Rattle.std.specs.Prelude.{◌≡◌, IfOk};
-ghost use Rattle.spec_parser.specs.Shape.{item_of, items_of};
+ghost use Rattle.spec_parser.specs.inner.Shape.{item_of, items_of};
 ghost use Rattle.definition_cycles.specs.Calls.{name_place};
 ghost use Rattle.definition_cycles.specs.Cycles.{IsFirstFunctionCycle};
+ghost use Rattle.definition_cycles.specs.Nodes.{HasFewNodes};
 
 use crate::calls::calls;
 use crate::graph::to_node;
-use graph_cycles::cycle::first_on_cycle;
 use spec_parser::tree::{Item, Tree};
 use std::alloc::Global;
+use translation_order::on_cycle::first_on_cycle;
 use tsl_value::memory::NoMemory;
 use tsl_value::place::Place;
 
@@ -28,10 +29,11 @@ fn name_place(item: &Item) -> Place
 /// The place of the name of the first value function that lies on a cycle of calls of value functions, if one does. A function is
 /// called where a call of it stands in a definition, or its name as the last argument of a `lift`, in blocks too.
 pub fn find_function_cycle(alloc: Global, tree: &Tree) -> Result<Option<Place>, NoMemory>
+    requires { HasFewNodes (items_of tree.now) }
     ensures { IfOk result (IsFirstFunctionCycle (items_of tree.now)) }
 {
     let items = tree.items();
-    let count = to_node(items.len())?;
+    let count = to_node(items.len());
     let edges = calls(alloc, items)?;
     match first_on_cycle(alloc, count, &edges)? {
         Some(item) => Ok(Some(name_place(&items[item as usize]))),

@@ -1,9 +1,9 @@
 // The nodes of a specification, with the numbers of items.
 
-ghost use Rattle.std.specs.Prelude.{◌≡◌, map, IfOk};
-ghost use Rattle.spec_parser.specs.Shape.{item_of};
+ghost use Rattle.std.specs.Prelude.{◌≡◌, ◌^◌, ◌<◌, map, IfOk};
+ghost use Rattle.spec_parser.specs.inner.Shape.{item_of};
 ghost use Rattle.definition_cycles.specs.Nodes.{nodes};
-ghost use Rattle.definition_cycles.specs.Walk.{with_nodes, nothing_kept, firsts_from};
+ghost use Rattle.definition_cycles.specs.inner.Walk.{with_nodes, nothing_kept, firsts_from};
 
 use crate::found::Found;
 use crate::top::Top;
@@ -36,12 +36,10 @@ impl Graph {
     }
 }
 
-/// The number of a node, where there are few enough.
-pub fn to_node(number: usize) -> Result<u32, NoMemory>
-    ensures { IfOk result (λ n. n ≡ number) }
+/// The number of a node. There are so few of them that 32 bits hold it.
+pub fn to_node(number: usize) -> u32
+    requires { number < 2 ^ 32 }
+    ensures { result ≡ number }
 {
-    match u32::try_from(number) {
-        Ok(node) => Ok(node),
-        Err(_) => Err(NoMemory),
-    }
+    number as u32
 }

@@ -1,24 +1,26 @@
 // Definitions without a written type: their cycles, and an order.
 
 ghost use Rattle.std.specs.Prelude.{◌≡◌, map, IfOk, OnOk, IfErr};
-ghost use Rattle.spec_parser.specs.Shape.{items_of};
+ghost use Rattle.spec_parser.specs.inner.Shape.{items_of};
 ghost use Rattle.translation_order.specs.Cycle.{IsCycle};
-ghost use Rattle.translation_order.specs.Answer.{OnCycle};
+ghost use Rattle.translation_order.specs.inner.Answer.{OnCycle};
 ghost use Rattle.definition_cycles.specs.Cycles.{IsFirstUntypedCycle};
-ghost use Rattle.definition_cycles.specs.Order.{IsKindOrder, Precedes, NoneNeedsType, SomeNeedsType};
+ghost use Rattle.definition_cycles.specs.Nodes.{HasFewNodes};
+ghost use Rattle.definition_cycles.specs.inner.Order.{IsKindOrder, Precedes, NoneNeedsType, SomeNeedsType};
 
 use crate::untyped::Untyped;
-use flat_core::steps::{Edges, Steps};
-use graph_cycles::cycle::first_on_cycle;
 use spec_parser::tree::Tree;
 use std::alloc::Global;
+use translation_order::on_cycle::first_on_cycle;
 use translation_order::order::{OrderFault, order};
+use translation_order::steps::{Edges, Steps};
 use tsl_value::memory::NoMemory;
 use tsl_value::place::Place;
 
 /// The place of the name of the first definition without a written type that needs one, if one does: it lies on a cycle of
 /// mentions among definitions without a written type.
 pub fn find_untyped_cycle(alloc: Global, tree: &Tree) -> Result<Option<Place>, NoMemory>
+    requires { HasFewNodes (items_of tree.now) }
     ensures { IfOk result (IsFirstUntypedCycle (items_of tree.now)) }
 {
     let untyped = Untyped::of_items(alloc, tree.items())?;
@@ -40,10 +42,11 @@ pub fn turned(alloc: Global, edges: &[(u32, u32)]) -> Result<Edges, NoMemory>
 }
 
 /// Lists all definitions, inputs and outputs among them, by their numbers in the order of the source, where each item comes before
-/// the definitions in its blocks. Each is listed once, and a definition without a written type behind those without one that it
+/// the definitions in its blocks. Each is listed once, and a definition without a written type after those without one that it
 /// mentions; at each place the least that may stand there. It is refused exactly where `find_untyped_cycle` finds one, with a cycle
 /// each of which is mentioned by the next.
 pub fn kind_order(alloc: Global, tree: &Tree) -> Result<Steps, OrderFault>
+    requires { HasFewNodes (items_of tree.now) }
     ensures listed { IfOk result (IsKindOrder (items_of tree.now)) }
     ensures none { OnOk result (NoneNeedsType (items_of tree.now)) }
     ensures cycle { IfErr result (OnCycle (IsCycle (Precedes (items_of tree.now)))) }

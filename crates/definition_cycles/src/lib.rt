@@ -6,9 +6,8 @@ pub mod found;
 pub mod functions;
 pub mod graph;
 pub mod kinds;
-pub mod list;
+pub mod limits;
+mod list;
 pub mod mention;
-#[cfg(test)]
-mod tests;
 pub mod top;
 mod untyped;

@@ -1,12 +1,12 @@
 // The names that stand in an expression.
 
-ghost use Rattle.std.specs.Prelude.{◌≡◌, ◌++◌, OnOk};
+ghost use Rattle.std.specs.Prelude.{◌≡◌, ◌++◌, length, take, OnOk, OnErr};
 ghost use Rattle.name_check.specs.Scope.{seen};
 ghost use Rattle.name_check.specs.Parts.{parts};
-ghost use Rattle.name_check.specs.Shown.{part_of};
+ghost use Rattle.name_check.specs.inner.Shown.{part_of};
 ghost use Rattle.definition_cycles.specs.Mentions.{declared, declared_in};
 ghost use Rattle.definition_cycles.specs.Calls.{is_call};
-ghost use Rattle.definition_cycles.specs.Walk.{mention_in, mentions_among};
+ghost use Rattle.definition_cycles.specs.inner.Walk.{mention_in, mentions_among};
 
 use crate::list::push_some;
 use name_check::declaration::Declaration;
@@ -77,7 +77,7 @@ fn mention_in(item: usize, node: usize, scope: &Scope<'_>, part: &Part<'_>) -> O
     }
 }
 
-/// Appends the mentions in the expression of a node of an item.
+/// Appends the mentions in the expression of a node of an item, or leaves the list as it was.
 pub fn add_mentions(
     mentions: &mut Vec<Mention>,
     alloc: Global,
@@ -86,7 +86,32 @@ pub fn add_mentions(
     expression: &Expr,
     scope: &Scope<'_>,
 ) -> Result<(), NoMemory>
-    ensures { OnOk result (mentions.new.items ≡ mentions.old.items ++ mentions_among item node (seen scope.now) (parts expression.now)) }
+    ensures added { OnOk result (mentions.new.items
+        ≡ mentions.old.items ++ mentions_among item node (seen scope.now) (parts expression.now)) }
+    ensures err { OnErr result (mentions.new.items ≡ mentions.old.items) }
+{
+    let before = mentions.len();
+    match append_mentions(mentions, alloc, item, node, expression, scope) {
+        Ok(()) => Ok(()),
+        Err(none) => {
+            mentions.truncate(before);
+            Err(none)
+        }
+    }
+}
+
+/// Appends the mentions. After out of memory some of them may stand there.
+fn append_mentions(
+    mentions: &mut Vec<Mention>,
+    alloc: Global,
+    item: usize,
+    node: usize,
+    expression: &Expr,
+    scope: &Scope<'_>,
+) -> Result<(), NoMemory>
+    ensures added { OnOk result (mentions.new.items
+        ≡ mentions.old.items ++ mentions_among item node (seen scope.now) (parts expression.now)) }
+    ensures err { OnErr result (take (length mentions.old.items) mentions.new.items ≡ mentions.old.items) }
 {
     let parts = parts(alloc, expression)?;
     for part in &parts {

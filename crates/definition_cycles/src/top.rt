@@ -1,9 +1,9 @@
 // What is seen at the top of a specification.
 
 ghost use Rattle.std.specs.Prelude.{◌≡◌, [], ◌∷◌, map, if◌then◌else◌, IfOk};
-ghost use Rattle.spec_parser.specs.Shape.{params_in, item_of};
+ghost use Rattle.spec_parser.specs.inner.Shape.{params_in, item_of};
 ghost use Rattle.name_check.specs.Scope.{are_values, top};
-ghost use Rattle.definition_cycles.specs.Seen.{IsTop};
+ghost use Rattle.definition_cycles.specs.inner.Seen.{IsTop};
 
 use name_check::names::Names;
 use name_check::scope::{Scope, are_values};

@@ -1,9 +1,9 @@
--- The arguments of a call, one behind the other.
-use Rattle.std.proofs.Common.{◌≡◌, ℕ, suc, ◌+◌, ◌<◌, ◌≤◌, List, [], ◌∷◌, ◌++◌, length, get_or, drop, Option, Some, None, refl, sym, ap, ◌∙◌, append_assoc, add-one, drop-cons, arith}
+-- The arguments of a call, one after the other.
+use Rattle.std.proofs.Common.{◌≡◌, ℕ, ◌+◌, ◌<◌, ◌≤◌, List, [], ◌∷◌, ◌++◌, length, get_or, drop, Option, Some, None, refl, sym, ap, ◌∙◌, append_assoc, arith}
 use Rattle.std.proofs.lemmas.List.{append-nil, drop_all}
 use Rattle.spec_parser.specs.Tree.{Expr}
 use Rattle.spec_parser.specs.declared.tree.Param.{Param}
-use Rattle.spec_parser.specs.Shape.{exprs_of, params_in}
+use Rattle.spec_parser.specs.inner.Shape.{exprs_of, params_in}
 use Rattle.type_rules.specs.declared.rule.ExprType.{ExprType}
 use Rattle.type_rules.specs.Asked.{Verdict}
 use Rattle.type_rules.specs.Written.{as_written}
@@ -11,14 +11,10 @@ use Rattle.expr_types.specs.declared.wrong.Wrong.{Wrong}
 use Rattle.expr_types.specs.declared.stop.Stop.{Stop}
 use Rattle.expr_types.specs.Around.{Around, Callee, cons, param_types}
 use Rattle.expr_types.specs.Judge.{type_of, types_of, streams_of, last_of, function_of, lifted_by, wrongs}
-use Rattle.expr_types.specs.Steps.{argument_wrongs, stream_wrongs, joined, one_more}
-use Rattle.expr_types.specs.Answers.{Stops, IsWhole}
+use Rattle.expr_types.specs.inner.Steps.{argument_wrongs, stream_wrongs, joined, one_more}
+use Rattle.expr_types.specs.inner.Answers.{Stops, IsWhole}
 use Rattle.expr_types.proofs.StopLemmas.{stops_front, stops_same, is_whole}
-
--- what is left of a list at an item
-pub left_at : {A : Type 0} (xs : List A) (i : ℕ) (x : A) → i < length xs → x ≡ get_or xs i x → drop i xs ≡ x ∷ drop (i + 1) xs
-left_at xs i x h is =
-    drop-cons xs i x h ∙ ap (λ y. y ∷ drop (suc i) xs) (sym is) ∙ ap (λ j. x ∷ drop j xs) (sym (add-one i))
+use Rattle.tsl_value.proofs.Lists.{left_at}
 
 joined_none : (ts : Option (List ExprType)) → joined ts None ≡ None
 joined_none None = refl

@@ -11,7 +11,7 @@ use Rattle.spec_parser.specs.declared.tree.Body.TheVariants as body
 use Rattle.spec_parser.specs.declared.tree.Item.{Item}
 use Rattle.spec_parser.specs.declared.tree.Item.TheVariants as item
 use Rattle.spec_parser.specs.declared.tree.Param.{Param}
-use Rattle.spec_parser.specs.Shape.{body_of, definitions_of, item_of, params_in}
+use Rattle.spec_parser.specs.inner.Shape.{body_of, definitions_of, item_of, params_in}
 use Rattle.name_check.specs.Builtin.{is_unit}
 use Rattle.name_check.specs.Scope.{Scope, meaning, is_events, top, inside, seen, are_values, functions_of, parameters_from, locals_from, Agree}
 use Rattle.name_check.proofs.AgreeLemmas.{agree_same, agree_append, agree_trans}
@@ -27,11 +27,11 @@ use Rattle.expr_types.specs.declared.wrong.Wrong.{Wrong}
 use Rattle.expr_types.specs.declared.wrong.Wrong.TheVariants as wrong
 use Rattle.expr_types.specs.Around.{Around, Kinds, declared_type}
 use Rattle.expr_types.specs.Judge.{type_of, wrongs, broken, judge, of_verdict, is_just}
-use Rattle.expr_types.specs.Bodies.{setting_of, written_of, may_have_braces, asked_wrong, asked_of, expr_wrongs, local_wrongs, macro_wrongs, body_wrongs, item_wrongs, in_definition, within_block, expr_kind, body_kind, definition_kind, local_kind}
-use Rattle.expr_types.specs.BodySteps.{refusal, asked_clash, kind_in_block, local_in_definition}
-use Rattle.expr_types.specs.Answers.{first}
-use Rattle.expr_types.proofs.StopLemmas.{first_behind, first_of_front}
-use Rattle.expr_types.proofs.SameLemmas.{moved, same_body, block_same, same_kind, block_kind_same, block_local_same, same_in_block}
+use Rattle.expr_types.specs.Bodies.{setting_of, written_of, may_have_braces, asked_wrong, asked_of, expr_wrongs, local_wrongs, macro_wrongs, body_wrongs, item_wrongs, in_definition, expr_kind, body_kind, definition_kind}
+use Rattle.expr_types.specs.inner.BodySteps.{refusal, asked_clash}
+use Rattle.expr_types.specs.inner.Answers.{first}
+use Rattle.expr_types.proofs.StopLemmas.{first_after, first_of_front}
+use Rattle.expr_types.proofs.SameLemmas.{moved, same_body, block_same, same_kind, block_kind_same}
 
 -- ---- what is asked of an expression
 refused : (e : Expr) (r : Check) → first (asked_wrong e r) ≡ option_map (wrong.Part (place_of e)) (refusal r)
@@ -47,7 +47,7 @@ expr_found at w e t p clash r h k here is =
     is ∙ ap (λ x. option_map (wrong.Part x) clash) here
     ∙ ap (option_map (wrong.Part (place_of e))) (k ∙ ap (asked_clash at.setting w) h.1)
     ∙ sym (asked_is at w e (type_of at e))
-    ∙ sym (first_behind (wrongs at e) (asked_of at w e (type_of at e)) _ h.0 refl)
+    ∙ sym (first_after (wrongs at e) (asked_of at w e (type_of at e)) _ h.0 refl)
 
 pub expr_stopped : (at : Around) (w : Option ExprType) (e : Expr) (x : Wrong) → (first (wrongs at e) ≡ Some x) × (type_of at e ≡ None) → Some x ≡ first (expr_wrongs at w e)
 expr_stopped at w e x h = sym (first_of_front (wrongs at e) (asked_of at w e (type_of at e)) x h.0)
@@ -98,10 +98,6 @@ kind_inside r at inner level levels m ds b xs e h is same here block braces =
     ∙ ap (λ x. body_kind at true (body_of x)) (sym block)
     ∙ ap (λ x. body_kind at x (body_of b)) (sym braces))
 
-pub local_inside : {E : Type 0} (r : Result (Option ExprType) E) (at inner : Around) (level : Scope) (levels : List Scope) (k : ℕ) (ds : tree.Definitions) → Agree level (locals_from 0 ds) → inner ≡ moved at (seen levels) → seen levels ≡ level ++ at.scope → IfOk r (λ kind. kind ≡ local_kind inner k ds) → IfOk r (λ kind. kind ≡ local_kind (within_block at ds) k ds)
-local_inside r at inner level levels k ds h is same =
-    ok_same r _ _ (ap (λ a. local_kind a k ds) (is ∙ ap (moved at) same) ∙ block_local_same at level k ds h)
-
 -- ---- the definition of an item
 pub inside_agrees : (items : List tree.Item) (names level : Scope) (outers levels : List Scope) (qs ps : List tree.Param) → names ≡ top items → Agree level (parameters_from 0 qs) → outers ≡ (if are_values qs then functions_of names else names) ∷ [] → levels ≡ level ∷ outers → qs ≡ ps → Agree (seen levels) (inside (top items) ps)
 inside_agrees items names level outers levels qs ps known agrees around is same =
@@ -131,12 +127,6 @@ definition_is r items kinds i levels s qs ps w b h known same =
     ok_same r _ _
     (ap (λ a. definition_kind a ps w b) (is_seen items kinds i levels s qs ps known same)
     ∙ same_kind (seen_in items kinds i levels (setting_of ps) ps) (inside (top items) ps) h ps w b)
-
-pub block_is : {E : Type 0} (r : Result (Option ExprType) E) (items : List tree.Item) (kinds : Kinds) (i : ℕ) (levels : List Scope) (s : Setting) (qs : List tree.Param) (k : ℕ) (q : Place) (n : List ℕ) (ps : List tree.Param) (w : Option tree.TypeName) (b : tree.Body) → Agree (seen levels) (inside (top items) ps) → s ≡ setting_of qs → qs ≡ ps → IfOk r (λ kind. kind ≡ kind_in_block (seen_in items kinds i levels s qs) k (tree.Define q n ps w b)) → IfOk r (λ kind. kind ≡ local_in_definition items kinds i k (tree.Define q n ps w b))
-block_is r items kinds i levels s qs k q n ps w b h known same =
-    ok_same r _ _
-    (ap (λ a. kind_in_block a k (tree.Define q n ps w b)) (is_seen items kinds i levels s qs ps known same)
-    ∙ same_in_block (seen_in items kinds i levels (setting_of ps) ps) (inside (top items) ps) h k (tree.Define q n ps w b))
 
 -- ---- outputs
 pub output_found : {E : Type 0} (r : Result (Option Wrong) E) (items : List tree.Item) (kinds : Kinds) (i : ℕ) (names : Scope) (levels : List Scope) (at : Around) (x : Item) (p q : Place) (e : Expr) (n : List ℕ) → names ≡ top items → levels ≡ names ∷ [] → at ≡ seen_in items kinds i levels setting.Streams [] → x ≡ item.OutputAs p e q n → IfOk r (λ found. found ≡ first (expr_wrongs at None e)) → IfOk r (λ found. found ≡ first (item_wrongs items kinds i (item_of x)))

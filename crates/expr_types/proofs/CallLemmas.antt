@@ -3,15 +3,15 @@ use Rattle.std.proofs.Common.{◌≡◌, ℕ, Bool, true, false, if◌then◌els
 use Rattle.spec_parser.specs.Tree as tree
 use Rattle.spec_parser.specs.Tree.{Exprs, no_exprs, more_exprs}
 use Rattle.name_check.specs.Builtin.{is_lift}
-use Rattle.name_check.specs.Shown.{nowhere}
+use Rattle.name_check.specs.inner.Shown.{nowhere}
 use Rattle.type_rules.specs.declared.rule.ExprType.{ExprType}
 use Rattle.type_rules.specs.declared.rule.Builtin.{Builtin}
 use Rattle.type_rules.specs.Asked.{Verdict}
 use Rattle.expr_types.specs.declared.stop.Stop.{Stop}
 use Rattle.expr_types.specs.Around.{Around}
 use Rattle.expr_types.specs.Judge.{judge, types_of, streams_of, last_of, lifted_by, const_call, own_call, named_call, is_const, builtin_of}
-use Rattle.expr_types.specs.Steps.{argument_wrongs, stream_wrongs, inner_wrongs}
-use Rattle.expr_types.specs.Answers.{Stops, IsWhole}
+use Rattle.expr_types.specs.inner.Steps.{argument_wrongs, stream_wrongs, inner_wrongs}
+use Rattle.expr_types.specs.inner.Answers.{Stops, IsWhole}
 use Rattle.expr_types.proofs.StopLemmas.{stops_value, is_whole}
 
 const_none : (es : Exprs) → const_call es None ≡ None

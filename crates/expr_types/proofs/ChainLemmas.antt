@@ -1,11 +1,11 @@
--- The links of a chain, one behind the other.
+-- The links of a chain, one after the other.
 use Rattle.std.proofs.Common.{◌≡◌, ℕ, ◌+◌, ◌<◌, ◌≤◌, List, [], ◌++◌, length, get_or, drop, Option, Some, None, Result, Ok, Err, refl, sym, ap, subst, ◌∙◌}
 use Rattle.std.proofs.lemmas.List.{drop_all}
 use Rattle.spec_parser.specs.Tree.{Expr, Links, no_links, more_links}
 use Rattle.spec_parser.specs.declared.tree.Level.{Level}
 use Rattle.spec_parser.specs.declared.tree.Operator.{Operator}
 use Rattle.spec_parser.specs.declared.tree.Link.{Link}
-use Rattle.spec_parser.specs.Shape.{links_in}
+use Rattle.spec_parser.specs.inner.Shape.{links_in}
 use Rattle.type_rules.specs.declared.rule.ExprType.{ExprType}
 use Rattle.type_rules.specs.declared.rule.Clash.{Clash}
 use Rattle.type_rules.specs.Asked.{Verdict}
@@ -14,13 +14,13 @@ use Rattle.expr_types.specs.declared.wrong.Wrong.{Wrong}
 use Rattle.expr_types.specs.declared.stop.Stop.{Stop}
 use Rattle.expr_types.specs.Around.{Around}
 use Rattle.expr_types.specs.Judge.{type_of, judge_links, next_link, continued, with_two, is_just, of_verdict, wrongs}
-use Rattle.expr_types.specs.Steps.{link_wrongs, chain_verdict, clash_in}
-use Rattle.expr_types.specs.Answers.{Stops, IsWhole, IsJudged}
-use Rattle.expr_types.proofs.StopLemmas.{stops_front, stops_behind, stops_same, is_whole}
-use Rattle.expr_types.proofs.ArgumentLemmas.{left_at}
+use Rattle.expr_types.specs.inner.Steps.{link_wrongs, chain_verdict, clash_in}
+use Rattle.expr_types.specs.inner.Answers.{Stops, IsWhole, IsJudged}
+use Rattle.expr_types.proofs.StopLemmas.{stops_front, stops_after, stops_same, is_whole}
+use Rattle.tsl_value.proofs.Lists.{left_at}
 use Rattle.expr_types.proofs.WrongLemmas.{clash_is}
 
--- the rest of a chain behind a link of this verdict
+-- the rest of a chain after a link of this verdict
 abbrev behind : Around → Level → Option Verdict → Links → Option Verdict
 behind at l None ls = None
 behind at l (Some (Err clash)) ls = Some (Err clash)
@@ -60,14 +60,14 @@ turned at l ls i k t u v all h is done found here =
     ∙ sym (rest_judged at l t ls i k h is) ∙ done
 
 -- a link that is not refused
-allowed_behind : (at : Around) (l : Level) (v : Option Verdict) (ls : Links) → None ≡ clash_in v → chain_verdict at l (of_verdict v) ls ≡ behind at l v ls
-allowed_behind at l None ls h = refl
-allowed_behind at l (Some (Ok t)) ls h = refl
-allowed_behind at l (Some (Err clash)) ls h = absurd (cc h)
+allowed_after : (at : Around) (l : Level) (v : Option Verdict) (ls : Links) → None ≡ clash_in v → chain_verdict at l (of_verdict v) ls ≡ behind at l v ls
+allowed_after at l None ls h = refl
+allowed_after at l (Some (Ok t)) ls h = refl
+allowed_after at l (Some (Err clash)) ls h = absurd (cc h)
 
 pub links_more : (at : Around) (l : Level) (ls : List Link) (i : ℕ) (k : Link) (t u r : Option ExprType) (v all : Option Verdict) → i < length ls → k ≡ get_or ls i k → chain_verdict at l t (links_in (drop i ls)) ≡ all → (wrongs at k.operand ≡ []) × (u ≡ type_of at k.operand) → v ≡ with_two (link_rule at.setting l) t u → None ≡ clash_in v → r ≡ of_verdict v → chain_verdict at l r (links_in (drop (i + 1) ls)) ≡ all
 links_more at l ls i k t u r v all h is done found here none more =
-    ap (λ x. chain_verdict at l x (links_in (drop (i + 1) ls))) more ∙ allowed_behind at l v (links_in (drop (i + 1) ls)) none
+    ap (λ x. chain_verdict at l x (links_in (drop (i + 1) ls))) more ∙ allowed_after at l v (links_in (drop (i + 1) ls)) none
     ∙ turned at l ls i k t u v all h is done found here
 
 pub links_clash : (at : Around) (l : Level) (ls : List Link) (i : ℕ) (k : Link) (t u : Option ExprType) (v all : Option Verdict) (clash : Clash) → i < length ls → k ≡ get_or ls i k → chain_verdict at l t (links_in (drop i ls)) ≡ all → (wrongs at k.operand ≡ []) × (u ≡ type_of at k.operand) → v ≡ with_two (link_rule at.setting l) t u → Some clash ≡ clash_in v → Some (Err clash) ≡ all
@@ -100,7 +100,7 @@ chain_first at l ls s xs t h =
 
 pub chain_rest : (at : Around) (l : Level) (ls : Links) (s : Stop) (xs : List Wrong) (t u : Option ExprType) → (xs ≡ []) × (u ≡ t) → Stops (link_wrongs at ls) (chain_verdict at l u ls) s → Stops (xs ++ link_wrongs at ls) (chain_verdict at l t ls) s
 chain_rest at l ls s xs t u h k =
-    stops_behind s xs (link_wrongs at ls) (chain_verdict at l u ls) (chain_verdict at l t ls) h.0 (λ none. ap (λ x. chain_verdict at l x ls) (sym h.1) ∙ none) k
+    stops_after s xs (link_wrongs at ls) (chain_verdict at l u ls) (chain_verdict at l t ls) h.0 (λ none. ap (λ x. chain_verdict at l x ls) (sym h.1) ∙ none) k
 
 -- the same operands
 pub same_chain : (at : Around) (l : Level) (e f : Expr) (ls ms : List Link) (r : Result (Option Verdict) Stop) → e ≡ f → ls ≡ ms → IsJudged (wrongs at e ++ link_wrongs at (links_in ls)) (chain_verdict at l (type_of at e) (links_in ls)) r → IsJudged (wrongs at f ++ link_wrongs at (links_in ms)) (chain_verdict at l (type_of at f) (links_in ms)) r

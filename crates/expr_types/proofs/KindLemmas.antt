@@ -1,7 +1,7 @@
 -- Tables of kinds that change.
-use Rattle.std.proofs.Common.{◌≡◌, ℕ, zero, suc, List, [], ◌∷◌, get_or, slice_set, Option, Vec, Global, refl, sym, ap, ◌∙◌}
+use Rattle.std.proofs.Common.{◌≡◌, ℕ, zero, suc, List, [], ◌∷◌, get_or, slice_set, Option, Vec, Global, refl, sym, ap, ◌∙◌, arith}
 use Rattle.type_rules.specs.declared.rule.ExprType.{ExprType}
-use Rattle.expr_types.specs.Shown.{kind_at, kinds_at}
+use Rattle.expr_types.specs.inner.Shown.{kind_at, kinds_at}
 
 abbrev pub Row : Type 0
 Row = Vec (Option ExprType) Global
@@ -13,3 +13,7 @@ row_kept (x ∷ xs) zero k v w d is h zero j other = h j (other refl) ∙ ap (λ
 row_kept (x ∷ xs) zero k v w d is h (suc i) j other = refl
 row_kept (x ∷ xs) (suc n) k v w d is h zero j other = refl
 row_kept (x ∷ xs) (suc n) k v w d is h (suc i) j other = row_kept xs n k v w d is h i j (λ e. other (ap suc e))
+
+-- where it changes at no number, nothing changes
+pub row_same : (xs : List Row) (n : ℕ) (v w d : Row) → get_or xs n d ≡ w → ((j : ℕ) → kind_at v.items j ≡ kind_at w.items j) → (i j : ℕ) → kinds_at (slice_set xs n v) i j ≡ kinds_at xs i j
+row_same xs n v w d is h i j = row_kept xs n (suc j) v w d is (λ l _. h l) i j (λ e f. absurd (omega (arith, f)))

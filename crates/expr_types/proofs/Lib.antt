@@ -1,5 +1,6 @@
 pub mod AlikeLemmas
 mod ArgumentLemmas
+mod BlockLemmas
 mod BodyLemmas
 mod CallLemmas
 mod ChainLemmas

@@ -1,19 +1,18 @@
 -- Where each name stands for the same, bodies are the same.
-use Rattle.std.proofs.Common.{◌≡◌, ℕ, suc, ◌+◌, ◌==◌, Bool, true, false, if◌then◌else◌, List, [], ◌++◌, Option, Some, None, refl, ap}
+use Rattle.std.proofs.Common.{◌≡◌, ℕ, Bool, true, false, List, [], ◌++◌, Option, Some, None, refl, ap}
 use Rattle.std.specs.Option.{option_and_then}
 use Rattle.std.specs.List.{flat_map}
 use Rattle.spec_parser.specs.Tree as tree
 use Rattle.spec_parser.specs.Tree.{Expr}
-use Rattle.name_check.specs.Scope.{Scope, Agree, in_block, locals_from, count_in}
+use Rattle.name_check.specs.Scope.{Scope, Agree, in_block, locals_from}
 use Rattle.name_check.specs.Parts.{Part, Operand, Function, parts}
 use Rattle.name_check.proofs.AgreeLemmas.{agree_same, agree_append}
 use Rattle.type_rules.specs.declared.rule.ExprType.{ExprType}
 use Rattle.type_rules.specs.Rules.{body_rule}
 use Rattle.expr_types.specs.Around.{Around}
 use Rattle.expr_types.specs.Judge.{judge, of_verdict, wrongs, own_wrong, broken}
-use Rattle.expr_types.specs.Bodies.{expr_wrongs, asked_of, plain_wrongs, local_wrongs, macro_wrongs, body_wrongs, written_of, within_block, fitting, expr_kind, body_kind, definition_kind, local_from, local_kind, may_have_braces}
-use Rattle.expr_types.specs.BodySteps.{kind_in_block}
-use Rattle.expr_types.specs.Alike.{IsAlike}
+use Rattle.expr_types.specs.Bodies.{expr_wrongs, asked_of, plain_wrongs, local_wrongs, macro_wrongs, body_wrongs, written_of, within_block, fitting, expr_kind, body_kind, definition_kind, may_have_braces}
+use Rattle.expr_types.specs.inner.Alike.{IsAlike}
 use Rattle.expr_types.proofs.AlikeLemmas.{judged_alike, names_alike}
 
 abbrev pub moved : Around → Scope → Around
@@ -78,21 +77,5 @@ pub same_kind : (at : Around) (t : Scope) → Agree at.scope t → (ps : List tr
 same_kind at t h ps (Some w) b = refl
 same_kind at t h ps None b = same_body_kind at t h (may_have_braces ps) b
 
-same_from : (at : Around) (t : Scope) → Agree at.scope t → (k i : ℕ) (ds : tree.Definitions) → local_from at k i ds ≡ local_from (moved at t) k i ds
-same_from at t h k i tree.no_definitions = refl
-same_from at t h k i (tree.more_definitions (tree.Define q n ps w b) ds) =
-    λ j. if i == k then same_kind at t h [] w b j else same_from at t h k (suc i + count_in b) ds j
-
-pub same_local_kind : (at : Around) (t : Scope) → Agree at.scope t → (k : ℕ) (ds : tree.Definitions) → local_kind at k ds ≡ local_kind (moved at t) k ds
-same_local_kind at t h k ds = same_from at t h k 0 ds
-
-pub same_in_block : (at : Around) (t : Scope) → Agree at.scope t → (k : ℕ) (d : tree.Definition) → kind_in_block at k d ≡ kind_in_block (moved at t) k d
-same_in_block at t h k (tree.Define q n ps w (tree.Plain e)) = refl
-same_in_block at t h k (tree.Define q n ps w (tree.Block ds e)) =
-    ap (λ x. if may_have_braces ps then x else None) (same_local_kind (within_block at ds) (in_block 0 t ds) (agree_block at.scope t ds h) k ds)
-
 pub block_kind_same : (at : Around) (level : Scope) (ds : tree.Definitions) (e : Expr) → Agree level (locals_from 0 ds) → expr_kind (moved at (level ++ at.scope)) e ≡ expr_kind (within_block at ds) e
 block_kind_same at level ds e h = same_expr_kind (moved at (level ++ at.scope)) (in_block 0 at.scope ds) (block_agrees at level ds h) e
-
-pub block_local_same : (at : Around) (level : Scope) (k : ℕ) (ds : tree.Definitions) → Agree level (locals_from 0 ds) → local_kind (moved at (level ++ at.scope)) k ds ≡ local_kind (within_block at ds) k ds
-block_local_same at level k ds h = same_local_kind (moved at (level ++ at.scope)) (in_block 0 at.scope ds) (block_agrees at level ds h) k ds

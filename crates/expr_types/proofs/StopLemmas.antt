@@ -1,4 +1,4 @@
--- Walks over parts, one behind the other, that end at the first that is wrong.
+-- Walks over parts, one after the other, that end at the first that is wrong.
 use Rattle.std.proofs.Common.{◌≡◌, List, [], ◌∷◌, ◌++◌, Option, Some, None, Ok, Err, refl, sym, ap, subst, ◌∙◌}
 use Rattle.spec_parser.specs.Tree.{Expr}
 use Rattle.type_rules.specs.declared.rule.ExprType.{ExprType}
@@ -7,10 +7,10 @@ use Rattle.expr_types.specs.declared.wrong.Wrong.{Wrong}
 use Rattle.expr_types.specs.declared.stop.Stop.{Stop}
 use Rattle.expr_types.specs.declared.stop.Stop.TheVariants as stop
 use Rattle.expr_types.specs.Judge.{with_two, with_three, of_verdict, broken}
-use Rattle.expr_types.specs.Answers.{first, Stops, IsWhole}
+use Rattle.expr_types.specs.inner.Answers.{first, Stops, IsWhole}
 
-pub first_behind : {A : Type 0} (xs ys : List A) (w : Option A) → xs ≡ [] → first ys ≡ w → first (xs ++ ys) ≡ w
-first_behind xs ys w e h = ap (λ l. first (l ++ ys)) e ∙ h
+pub first_after : {A : Type 0} (xs ys : List A) (w : Option A) → xs ≡ [] → first ys ≡ w → first (xs ++ ys) ≡ w
+first_after xs ys w e h = ap (λ l. first (l ++ ys)) e ∙ h
 
 pub first_of_front : {A : Type 0} (xs ys : List A) (w : A) → first xs ≡ Some w → first (xs ++ ys) ≡ Some w
 first_of_front [] ys w h = cc
@@ -23,9 +23,9 @@ pub stops_front : {A B : Type 0} (s : Stop) (xs ys : List Wrong) (t : Option A) 
 stops_front (stop.Wrong w) xs ys t v f h = (first_of_front xs ys w h.0, f h.1)
 stops_front stop.Memory xs ys t v f h = tt
 
-pub stops_behind : {A B : Type 0} (s : Stop) (xs ys : List Wrong) (t : Option A) (v : Option B) → xs ≡ [] → (t ≡ None → v ≡ None) → Stops ys t s → Stops (xs ++ ys) v s
-stops_behind (stop.Wrong w) xs ys t v e f h = (first_behind xs ys (Some w) e h.0, f h.1)
-stops_behind stop.Memory xs ys t v e f h = tt
+pub stops_after : {A B : Type 0} (s : Stop) (xs ys : List Wrong) (t : Option A) (v : Option B) → xs ≡ [] → (t ≡ None → v ≡ None) → Stops ys t s → Stops (xs ++ ys) v s
+stops_after (stop.Wrong w) xs ys t v e f h = (first_after xs ys (Some w) e h.0, f h.1)
+stops_after stop.Memory xs ys t v e f h = tt
 
 -- the same list and the same value
 pub stops_same : {A : Type 0} (s : Stop) (xs ys : List Wrong) (t u : Option A) → xs ≡ ys → t ≡ u → Stops xs t s → Stops ys u s
@@ -37,7 +37,7 @@ pub stops_value : {A B : Type 0} (s : Stop) (xs : List Wrong) (t : Option A) (v 
 stops_value (stop.Wrong w) xs t v f h = (h.0, f h.1)
 stops_value stop.Memory xs t v f h = tt
 
--- want of memory says nothing
+-- out of memory says nothing
 pub stops_memory : {A : Type 0} (s : Stop) (xs : List Wrong) (t : Option A) → s ≡ stop.Memory → Stops xs t s
 stops_memory (stop.Wrong w) xs t h = cc
 stops_memory stop.Memory xs t h = tt
@@ -59,7 +59,7 @@ pub two_first : (f : ExprType → ExprType → Verdict) (s : Stop) (xs ys : List
 two_first f s xs ys t u h = stops_front s xs ys t (with_two f t u) (λ e. ap (λ x. with_two f x u) e) h
 
 pub two_second : (f : ExprType → ExprType → Verdict) (s : Stop) (xs ys : List Wrong) (t u : Option ExprType) → xs ≡ [] → Stops ys u s → Stops (xs ++ ys) (with_two f t u) s
-two_second f s xs ys t u e h = stops_behind s xs ys u (with_two f t u) e (λ k. ap (λ x. with_two f t x) k ∙ two_none f t) h
+two_second f s xs ys t u e h = stops_after s xs ys u (with_two f t u) e (λ k. ap (λ x. with_two f t x) k ∙ two_none f t) h
 
 pub two_done : (f : ExprType → ExprType → Verdict) (xs ys : List Wrong) (a b t u : Option ExprType) (v : Option Verdict) → (xs ≡ []) × (a ≡ t) → (ys ≡ []) × (b ≡ u) → v ≡ with_two f a b → IsWhole (xs ++ ys) v × (v ≡ with_two f t u)
 two_done f xs ys a b t u v h k is =
@@ -81,11 +81,11 @@ three_first f s xs ys zs t u r h =
 
 pub three_second : (f : ExprType → ExprType → ExprType → Verdict) (s : Stop) (xs ys zs : List Wrong) (t u r : Option ExprType) → xs ≡ [] → Stops ys u s → Stops ((xs ++ ys) ++ zs) (with_three f t u r) s
 three_second f s xs ys zs t u r e h =
-    stops_front s (xs ++ ys) zs u (with_three f t u r) (λ k. ap (λ x. with_three f t x r) k ∙ three_second_none f t r) (stops_behind s xs ys u u e (λ k. k) h)
+    stops_front s (xs ++ ys) zs u (with_three f t u r) (λ k. ap (λ x. with_three f t x r) k ∙ three_second_none f t r) (stops_after s xs ys u u e (λ k. k) h)
 
 pub three_third : (f : ExprType → ExprType → ExprType → Verdict) (s : Stop) (xs ys zs : List Wrong) (t u r : Option ExprType) → xs ≡ [] → ys ≡ [] → Stops zs r s → Stops ((xs ++ ys) ++ zs) (with_three f t u r) s
 three_third f s xs ys zs t u r e d h =
-    stops_behind s (xs ++ ys) zs r (with_three f t u r) (both_empty xs ys e d) (λ k. ap (λ x. with_three f t u x) k ∙ three_third_none f t u) h
+    stops_after s (xs ++ ys) zs r (with_three f t u r) (both_empty xs ys e d) (λ k. ap (λ x. with_three f t u x) k ∙ three_third_none f t u) h
 
 pub three_done : (f : ExprType → ExprType → ExprType → Verdict) (xs ys zs : List Wrong) (a b c t u r : Option ExprType) (v : Option Verdict) → (xs ≡ []) × (a ≡ t) → (ys ≡ []) × (b ≡ u) → (zs ≡ []) × (c ≡ r) → v ≡ with_three f a b c → IsWhole ((xs ++ ys) ++ zs) v × (v ≡ with_three f t u r)
 three_done f xs ys zs a b c t u r v h k l is = (

@@ -7,10 +7,10 @@ use Rattle.spec_parser.specs.Tree as tree
 use Rattle.spec_parser.specs.Tree.{Expr, Exprs, no_exprs, more_exprs, Links, no_links, more_links, place_of}
 use Rattle.spec_parser.specs.declared.tree.Node.{Node}
 use Rattle.spec_parser.specs.declared.tree.Node.TheVariants as node
-use Rattle.spec_parser.specs.Shape.{expr_of}
+use Rattle.spec_parser.specs.inner.Shape.{expr_of}
 use Rattle.name_check.specs.Builtin.{is_lift}
 use Rattle.name_check.specs.Parts.{parts, argument_parts, lift_parts, link_parts}
-use Rattle.name_check.specs.Shown.{nowhere}
+use Rattle.name_check.specs.inner.Shown.{nowhere}
 use Rattle.type_rules.specs.declared.rule.ExprType.{ExprType}
 use Rattle.type_rules.specs.declared.rule.Clash.{Clash}
 use Rattle.type_rules.specs.Asked.{Verdict}
@@ -19,8 +19,8 @@ use Rattle.expr_types.specs.declared.wrong.Wrong.TheVariants as wrong
 use Rattle.expr_types.specs.declared.stop.Stop.{Stop}
 use Rattle.expr_types.specs.Around.{Around}
 use Rattle.expr_types.specs.Judge.{judge, type_of, of_verdict, broken, own_wrong, wrongs}
-use Rattle.expr_types.specs.Steps.{argument_wrongs, stream_wrongs, link_wrongs, inner_wrongs, clash_in}
-use Rattle.expr_types.specs.Answers.{first, Stops, IsWhole, IsJudged}
+use Rattle.expr_types.specs.inner.Steps.{argument_wrongs, stream_wrongs, link_wrongs, inner_wrongs, clash_in}
+use Rattle.expr_types.specs.inner.Answers.{first, Stops, IsWhole, IsJudged}
 use Rattle.expr_types.proofs.StopLemmas.{stop_of, stops_same}
 
 arguments_are : (at : Around) (es : Exprs) → flat_map (own_wrong at) (argument_parts es) ≡ argument_wrongs at es

@@ -1,5 +1,6 @@
 -- What bodies are, what is asked of them, and what the declared names are.
-use Rattle.std.specs.Prelude.{◌≡◌, ℕ, suc, ◌+◌, ◌==◌, Bool, true, false, ◌&&◌, if◌then◌else◌, List, [], ◌∷◌, ◌++◌, Option, Some, None, Ok, Err, slice_get}
+use Rattle.std.specs.Prelude.{◌≡◌, ℕ, suc, ◌+◌, ◌==◌, Bool, true, false, ◌&&◌, if◌then◌else◌, List, [], ◌∷◌, ◌++◌, Option, Some, None, Ok}
+use Rattle.std.specs.Prelude.{Err, slice_get}
 use Rattle.std.specs.Option.{option_and_then}
 use Rattle.std.specs.List.{list_all}
 use Rattle.tsl_value.specs.declared.place.Place.{Place}
@@ -66,7 +67,7 @@ definition_kind at ps (Some w) b = written_of ps (Some w)
 definition_kind at ps None b = body_kind at (may_have_braces ps) b
 
 -- The definition of number k in a block, the first definition of which has number i. Those in the body of a definition have the
--- numbers behind its own, and are nothing: braces may not stand there.
+-- numbers after its own, and are nothing: braces may not stand there.
 abbrev pub local_from : Around → ℕ → ℕ → tree.Definitions → Option ExprType
 local_from at k i tree.no_definitions = None
 local_from at k i (tree.more_definitions (tree.Define q n ps w b) ds) =
@@ -129,7 +130,8 @@ body_wrongs at false written b = plain_wrongs at written b
 
 abbrev pub item_wrongs : List tree.Item → Kinds → ℕ → tree.Item → List Wrong
 item_wrongs items kinds i (tree.Input p q n y) = []
-item_wrongs items kinds i (tree.Defined p (tree.Define q n ps w b)) = body_wrongs (in_definition items kinds i ps) (may_have_braces ps) (written_of ps w) b
+item_wrongs items kinds i (tree.Defined p (tree.Define q n ps w b)) =
+    body_wrongs (in_definition items kinds i ps) (may_have_braces ps) (written_of ps w) b
 item_wrongs items kinds i (tree.Output p q n) = expr_wrongs (at_top items kinds i) None (tree.Name q n)
 item_wrongs items kinds i (tree.OutputAs p e q n) = expr_wrongs (at_top items kinds i) None e
 

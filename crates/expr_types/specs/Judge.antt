@@ -19,7 +19,8 @@ use Rattle.type_rules.specs.declared.rule.Setting.{Setting}
 use Rattle.type_rules.specs.declared.rule.Builtin.{Builtin}
 use Rattle.type_rules.specs.declared.rule.Builtin.TheVariants as builtin
 use Rattle.type_rules.specs.Asked.{Verdict, lifted, unit, int, bool, text}
-use Rattle.type_rules.specs.Rules.{link_rule, compare_rule, negate_rule, not_rule, if_rule, dotted_rule, const_rule, builtin_rule, macro_rule, function_rule, lift_rule}
+use Rattle.type_rules.specs.Rules.{link_rule, compare_rule, negate_rule, not_rule, if_rule, dotted_rule, const_rule, builtin_rule}
+use Rattle.type_rules.specs.Rules.{macro_rule, function_rule, lift_rule}
 use Rattle.type_rules.specs.Written.{value_of, key_of, scalar_of}
 use Rattle.expr_types.specs.declared.wrong.Wrong.{Wrong}
 use Rattle.expr_types.specs.declared.wrong.Wrong.TheVariants as wrong
@@ -56,7 +57,9 @@ is_literal e = false
 -- the names of the language that are called, but for `lift` and `const`
 abbrev pub builtins : List (List ℕ × Builtin)
 builtins =
-    (codes "time", builtin.Time) ∷ (codes "last", builtin.Last) ∷ (codes "delay", builtin.Delay) ∷ (codes "merge", builtin.Merge) ∷ (codes "default", builtin.Merge) ∷ (codes "filter", builtin.Filter) ∷ (codes "isSome", builtin.IsSome) ∷ (codes "isNone", builtin.IsNone) ∷ (codes "getSome", builtin.GetSome) ∷ (codes "Some", builtin.Some) ∷ []
+    (codes "time", builtin.Time) ∷ (codes "last", builtin.Last) ∷ (codes "delay", builtin.Delay) ∷ (codes "merge", builtin.Merge)
+    ∷ (codes "default", builtin.Merge) ∷ (codes "filter", builtin.Filter) ∷ (codes "isSome", builtin.IsSome)
+    ∷ (codes "isNone", builtin.IsNone) ∷ (codes "getSome", builtin.GetSome) ∷ (codes "Some", builtin.Some) ∷ []
 
 unfoldable pub builtin_of : List ℕ → Option Builtin
 builtin_of n = option_map (λ b. b.1) (find (λ b. bytes_eq n b.0) builtins)
@@ -105,7 +108,7 @@ abbrev pub continued : Verdict → (ExprType → Option Verdict) → Option Verd
 continued (Ok t) rest = rest t
 continued (Err clash) rest = Some (Err clash)
 
--- the rest of a chain behind operands that make an expression of this type
+-- the rest of a chain after operands that make an expression of this type
 abbrev pub next_link : Setting → Level → ExprType → Option ExprType → (ExprType → Option Verdict) → Option Verdict
 next_link at l t None rest = None
 next_link at l t (Some u) rest = continued (link_rule at l t u) rest
@@ -126,7 +129,8 @@ abbrev mutual
   judge at (tree.Text p t) = Some (Ok (lifted at.setting text))
   judge at (tree.Boolean p b) = Some (Ok (lifted at.setting bool))
   judge at (tree.Unit p) = Some (Ok (lifted at.setting unit))
-  judge at (tree.Name p n) = if is_unit n then Some (Ok (expr_type.Stream unit)) else is_just (option_and_then (declared_type at) (meaning at.scope n))
+  judge at (tree.Name p n) =
+      if is_unit n then Some (Ok (expr_type.Stream unit)) else is_just (option_and_then (declared_type at) (meaning at.scope n))
   judge at (tree.Call p n es) = if is_lift n then lifted_by (streams_of at es) (last_of at es) else named_call at n es (types_of at es)
   judge at (tree.CallDotted p d es) = option_map (dotted_rule at.setting d) (types_of at es)
   judge at (tree.Nil p y) = is_just (option_map expr_type.Stream (value_of y))

@@ -2,12 +2,12 @@
 
 ghost use Rattle.std.specs.Prelude.{◌≡◌, IfOk, map, slice_get};
 ghost use Rattle.std.specs.Option.{option_map};
-ghost use Rattle.spec_parser.specs.Shape.{item_of, params_in};
+ghost use Rattle.spec_parser.specs.inner.Shape.{item_of, params_in};
 ghost use Rattle.name_check.specs.Scope.{seen};
 ghost use Rattle.expr_types.specs.Around.{declared_type, callee_at, callee_of, param_types, params_of};
 ghost use Rattle.expr_types.specs.Judge.{function_at, function_of};
-ghost use Rattle.expr_types.specs.Shown.{around_of, callee_in};
-ghost use Rattle.expr_types.specs.Answers.{types_in};
+ghost use Rattle.expr_types.specs.inner.Shown.{around_of, callee_in};
+ghost use Rattle.expr_types.specs.inner.Answers.{types_in};
 
 use crate::kinds::KindTable;
 use name_check::declaration::Declaration;

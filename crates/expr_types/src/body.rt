@@ -3,14 +3,15 @@
 ghost use Rattle.std.specs.Prelude.{◌≡◌, ◌++◌, IfOk, None};
 ghost use Rattle.std.specs.List.{list_all};
 ghost use Rattle.std.specs.Option.{option_and_then, option_map};
-ghost use Rattle.spec_parser.specs.Shape.{body_of, definition_of, definitions_of, params_in};
+ghost use Rattle.spec_parser.specs.inner.Shape.{body_of, definition_of, definitions_of, params_in};
 ghost use Rattle.spec_parser.specs.Tree as tree;
 ghost use Rattle.name_check.specs.Scope.{is_events as has_events};
 ghost use Rattle.type_rules.specs.Written.{as_stream as stream_that_is, as_written as just_what_is};
-ghost use Rattle.expr_types.specs.Bodies.{setting_of, may_have_braces, written_of, expr_wrongs, braces_place, plain_wrongs, local_wrongs, macro_wrongs};
-ghost use Rattle.expr_types.specs.BodySteps.{asked_clash, local_plain_wrongs, definition_wrongs};
-ghost use Rattle.expr_types.specs.Shown.{around_of};
-ghost use Rattle.expr_types.specs.Answers.{first};
+ghost use Rattle.expr_types.specs.Bodies.{setting_of, may_have_braces, written_of, expr_wrongs, braces_place, plain_wrongs, local_wrongs};
+ghost use Rattle.expr_types.specs.Bodies.{macro_wrongs};
+ghost use Rattle.expr_types.specs.inner.BodySteps.{asked_clash, local_plain_wrongs, definition_wrongs};
+ghost use Rattle.expr_types.specs.inner.Shown.{around_of};
+ghost use Rattle.expr_types.specs.inner.Answers.{first};
 ghost use Rattle.expr_types.specs.declared.wrong.Wrong.TheVariants as wrong;
 
 use crate::around::Around;
@@ -187,7 +188,8 @@ fn find_in_block(
     definitions: &[Definition],
     last: &Expr,
 ) -> Result<Option<Wrong>, NoMemory>
-    ensures { IfOk result (λ found. found ≡ first (local_wrongs (around_of at.now) (definitions_of definitions.now) ++ expr_wrongs (around_of at.now) written last.now)) }
+    ensures { IfOk result (λ found. found
+        ≡ first (local_wrongs (around_of at.now) (definitions_of definitions.now) ++ expr_wrongs (around_of at.now) written last.now)) }
 {
     if let Some(wrong) = find_in_locals(alloc, at, definitions)? {
         return Ok(Some(wrong));

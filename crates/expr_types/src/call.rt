@@ -2,11 +2,11 @@
 
 ghost use Rattle.std.specs.Prelude.{◌≡◌, IfOk};
 ghost use Rattle.std.specs.Option.{option_map, option_and_then};
-ghost use Rattle.spec_parser.specs.Shape.{exprs_of};
+ghost use Rattle.spec_parser.specs.inner.Shape.{exprs_of};
 ghost use Rattle.name_check.specs.Scope.{meaning};
 ghost use Rattle.expr_types.specs.Judge.{is_literal, builtin_of, is_const, call_rule, lifted_by, const_call, own_call, named_call};
-ghost use Rattle.expr_types.specs.Shown.{around_of, callee_in};
-ghost use Rattle.expr_types.specs.Answers.{types_in};
+ghost use Rattle.expr_types.specs.inner.Shown.{around_of, callee_in};
+ghost use Rattle.expr_types.specs.inner.Answers.{types_in};
 
 use crate::around::{Around, Callee};
 use crate::judge::Verdict;

@@ -2,21 +2,22 @@
 
 ghost use Rattle.std.specs.Prelude.{◌≡◌, IfOk, None, map, slice_get};
 ghost use Rattle.std.specs.Option.{option_and_then};
-ghost use Rattle.spec_parser.specs.Shape.{body_of, definition_of, definitions_of, item_of};
+ghost use Rattle.spec_parser.specs.inner.Shape.{body_of, definition_of, item_of};
 ghost use Rattle.name_check.specs.Scope.{top};
 ghost use Rattle.type_rules.specs.Rules.{body_rule as what_is_asked};
-ghost use Rattle.expr_types.specs.Bodies.{fitting, expr_kind, body_kind, within_block, local_kind, item_kind, block_kind};
-ghost use Rattle.expr_types.specs.BodySteps.{kind_of_local, kind_of_definition, kind_in_block, kind_in_definition, local_in_definition};
-ghost use Rattle.expr_types.specs.Shown.{around_of, kinds_of};
+ghost use Rattle.expr_types.specs.Bodies.{fitting, expr_kind, body_kind, item_kind, block_kind};
+ghost use Rattle.expr_types.specs.inner.BodySteps.{kind_of_local, kind_of_definition, kind_in_definition};
+ghost use Rattle.expr_types.specs.inner.Blocks.{AreBlocks, kind_within};
+ghost use Rattle.expr_types.specs.inner.Shown.{around_of, kinds_of};
 
 use crate::around::Around;
+use crate::block::{Block, Blocks};
 use crate::body::{may_have_braces, setting_of, written_of, written_stream};
 use crate::judge::expression;
 use crate::kinds::KindTable;
-use name_check::count::number_behind;
 use name_check::names::Names;
 use name_check::scope::{Scope, locals, parameters};
-use spec_parser::tree::{Body, Definition, DefinitionParts, Expr, Item};
+use spec_parser::tree::{Body, DefinitionParts, Expr, Item};
 use std::alloc::Global;
 use tsl_value::memory::NoMemory;
 use type_rules::call::body_rule;
@@ -104,57 +105,34 @@ pub fn local_definition_kind(
     }
 }
 
-/// The definition of this number in a block, at what is seen in the block.
-fn local_kind(
-    alloc: Global,
-    at: &Around<'_>,
-    local: usize,
-    definitions: &[Definition],
-) -> Result<Option<ExprType>, NoMemory>
-    ensures { IfOk result (λ kind. kind ≡ local_kind (around_of at.now) local (definitions_of definitions.now)) }
-{
-    let mut number = 0;
-    for definition in definitions {
-        let parts = definition.parts();
-        if number == local {
-            return local_definition_kind(alloc, at, parts);
-        }
-        number = number_behind(number, &parts.body)?;
-    }
-    Ok(None)
-}
-
-/// A definition of a block, at what is seen around the block.
+/// The definition of a number in the block of an item.
 fn kind_within(
     alloc: Global,
-    at: &Around<'_>,
+    items: &[Item],
+    names: &Names,
+    kinds: &KindTable,
+    block: &Block<'_>,
+    number: usize,
     local: usize,
-    definitions: &[Definition],
 ) -> Result<Option<ExprType>, NoMemory>
-    ensures { IfOk result (λ kind. kind ≡ local_kind (within_block (around_of at.now) (definitions_of definitions.now)) local (definitions_of definitions.now)) }
+    requires { names.now ≡ top (map item_of items.now) }
+    ensures { IfOk result (λ kind. kind ≡ kind_within (map item_of items.now) (kinds_of kinds.now) number local block.now) }
 {
-    let scope = Scope::inner(locals(alloc, 0, definitions)?, at.scope);
-    local_kind(alloc, &at.within(&scope), local, definitions)
-}
-
-/// A definition of the block of a definition.
-fn kind_in_block(
-    alloc: Global,
-    at: &Around<'_>,
-    local: usize,
-    parts: &DefinitionParts,
-) -> Result<Option<ExprType>, NoMemory>
-    ensures { IfOk result (λ kind. kind ≡ kind_in_block (around_of at.now) local (definition_of parts.now)) }
-{
-    match &parts.body {
-        Body::Plain(_) => Ok(None),
-        Body::Block(definitions, _) => {
-            if may_have_braces(&parts.params) {
-                kind_within(alloc, at, local, definitions)
-            } else {
-                Ok(None)
-            }
-        }
+    // A macro's parameters are streams, so all names are seen around it.
+    let outer = Scope::all(names);
+    let around = Scope::within(&block.around, &outer);
+    let scope = Scope::within(&block.inside, &around);
+    let at = Around {
+        items,
+        kinds,
+        scope: &scope,
+        setting: Setting::Streams,
+        number,
+        params: block.params,
+    };
+    match block.definition(local) {
+        Some(definition) => local_definition_kind(alloc, &at, definition.parts()),
+        None => Ok(None),
     }
 }
 
@@ -167,7 +145,8 @@ fn kind_in_definition(
     parts: &DefinitionParts,
 ) -> Result<Option<ExprType>, NoMemory>
     requires { names.now ≡ top (map item_of items.now) }
-    ensures { IfOk result (λ kind. kind ≡ kind_in_definition (map item_of items.now) (kinds_of kinds.now) number (definition_of parts.now)) }
+    ensures { IfOk result (λ kind. kind ≡ kind_in_definition (map item_of items.now) (kinds_of kinds.now) number
+        (definition_of parts.now)) }
 {
     let params = parts.params.as_slice();
     let outer = Scope::around(names, params);
@@ -193,7 +172,8 @@ pub fn item_kind(
     number: usize,
 ) -> Result<Option<ExprType>, NoMemory>
     requires { names.now ≡ top (map item_of items.now) }
-    ensures { IfOk result (λ kind. kind ≡ item_kind (map item_of items.now) (kinds_of kinds.now) number (slice_get (map item_of items.now) number)) }
+    ensures { IfOk result (λ kind. kind ≡ item_kind (map item_of items.now) (kinds_of kinds.now) number
+        (slice_get (map item_of items.now) number)) }
 {
     match items.get(number) {
         Some(Item::Input(_, _, _, of)) => Ok(as_stream(of)),
@@ -206,59 +186,23 @@ pub fn item_kind(
     }
 }
 
-fn local_in_definition(
-    alloc: Global,
-    items: &[Item],
-    names: &Names,
-    kinds: &KindTable,
-    number: usize,
-    local: usize,
-    parts: &DefinitionParts,
-) -> Result<Option<ExprType>, NoMemory>
-    requires { names.now ≡ top (map item_of items.now) }
-    ensures { IfOk result (λ kind. kind ≡ local_in_definition (map item_of items.now) (kinds_of kinds.now) number local (definition_of parts.now)) }
-{
-    let params = parts.params.as_slice();
-    let outer = Scope::around(names, params);
-    let scope = Scope::inner(parameters(alloc, params)?, &outer);
-    let at = Around {
-        items,
-        kinds,
-        scope: &scope,
-        setting: setting_of(params),
-        number,
-        params,
-    };
-    kind_in_block(alloc, &at, local, parts)
-}
-
-/// What a definition of an item's block is, as `item_kind` says it of an item.
+/// What a definition of an item's block is, as `item_kind` says it of an item, where these are the blocks of the items.
 pub fn block_kind(
     alloc: Global,
     items: &[Item],
     names: &Names,
     kinds: &KindTable,
+    blocks: &Blocks<'_>,
     number: usize,
     local: usize,
 ) -> Result<Option<ExprType>, NoMemory>
-    requires { names.now ≡ top (map item_of items.now) }
-    ensures { IfOk result (λ kind. kind ≡ block_kind (map item_of items.now) (kinds_of kinds.now) number local (slice_get (map item_of items.now) number)) }
+    requires names { names.now ≡ top (map item_of items.now) }
+    requires blocks { AreBlocks blocks.now (map item_of items.now) }
+    ensures { IfOk result (λ kind. kind ≡ block_kind (map item_of items.now) (kinds_of kinds.now) number local
+        (slice_get (map item_of items.now) number)) }
 {
-    match items.get(number) {
-        Some(Item::Defined(_, definition)) => {
-            local_in_definition(
-                alloc,
-                items,
-                names,
-                kinds,
-                number,
-                local,
-                definition.parts(),
-            )
-        }
-        Some(Item::Input(_, _, _, _)) => Ok(None),
-        Some(Item::Output(_, _, _)) => Ok(None),
-        Some(Item::OutputAs(_, _, _, _)) => Ok(None),
+    match blocks.at(number) {
+        Some(block) => kind_within(alloc, items, names, kinds, block, number, local),
         None => Ok(None),
     }
 }

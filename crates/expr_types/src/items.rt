@@ -1,13 +1,13 @@
 // What is wrong in a specification, and what its items are.
 
 ghost use Rattle.std.specs.Prelude.{◌≡◌, [], IfOk, map};
-ghost use Rattle.spec_parser.specs.Shape.{definition_of, item_of};
+ghost use Rattle.spec_parser.specs.inner.Shape.{definition_of, item_of};
 ghost use Rattle.name_check.specs.Scope.{seen, top};
 ghost use Rattle.type_rules.specs.declared.rule.Setting.TheVariants as setting;
 ghost use Rattle.expr_types.specs.Bodies.{item_wrongs, all_wrongs, aggregate_results_from, is_aggregate, holds_aggregate};
-ghost use Rattle.expr_types.specs.BodySteps.{wrongs_in_definition, aggregate_result};
-ghost use Rattle.expr_types.specs.Shown.{around_of, kinds_of};
-ghost use Rattle.expr_types.specs.Answers.{first};
+ghost use Rattle.expr_types.specs.inner.BodySteps.{wrongs_in_definition, aggregate_result};
+ghost use Rattle.expr_types.specs.inner.Shown.{around_of, kinds_of};
+ghost use Rattle.expr_types.specs.inner.Answers.{first};
 
 use crate::around::Around;
 use crate::body::{find_in_body, find_in_expression, find_in_mention, setting_of};
@@ -31,7 +31,8 @@ fn find_in_definition(
     parts: &DefinitionParts,
 ) -> Result<Option<Wrong>, NoMemory>
     requires { names.now ≡ top (map item_of items.now) }
-    ensures { IfOk result (λ found. found ≡ first (wrongs_in_definition (map item_of items.now) (kinds_of kinds.now) number (definition_of parts.now))) }
+    ensures { IfOk result (λ found. found
+        ≡ first (wrongs_in_definition (map item_of items.now) (kinds_of kinds.now) number (definition_of parts.now))) }
 {
     let params = parts.params.as_slice();
     let outer = Scope::around(names, params);
@@ -54,7 +55,14 @@ fn at_top<'a>(
     kinds: &'a KindTable,
     number: usize,
 ) -> Around<'a>
-    ensures { around_of result ≡ record { items = map item_of items.now; kinds = kinds_of kinds.now; scope = seen scope.now; setting = setting.Streams; number = number; params = [] } }
+    ensures { around_of result ≡ record {
+      items = map item_of items.now;
+      kinds = kinds_of kinds.now;
+      scope = seen scope.now;
+      setting = setting.Streams;
+      number = number;
+      params = [];
+    } }
 {
     Around {
         items,

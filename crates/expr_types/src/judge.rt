@@ -2,15 +2,16 @@
 
 ghost use Rattle.std.specs.Prelude.{◌≡◌, IfOk, ◌++◌};
 ghost use Rattle.std.specs.Option.{option_map};
-ghost use Rattle.spec_parser.specs.Shape.{exprs_of, links_in, expr_of};
+ghost use Rattle.spec_parser.specs.inner.Shape.{exprs_of, links_in, expr_of};
 ghost use Rattle.spec_parser.specs.Tree as tree;
-ghost use Rattle.name_check.specs.Shown.{nowhere};
+ghost use Rattle.name_check.specs.inner.Shown.{nowhere};
 ghost use Rattle.type_rules.specs.Rules.{if_rule, compare_rule};
 ghost use Rattle.expr_types.specs.Around.{cons};
-ghost use Rattle.expr_types.specs.Judge.{judge, type_of, types_of, judge_links, streams_of, last_of, lifted_by, wrongs, with_two, with_three};
-ghost use Rattle.expr_types.specs.Shown.{around_of, callee_in};
-ghost use Rattle.expr_types.specs.Steps.{argument_wrongs, stream_wrongs, link_wrongs, inner_wrongs, chain_verdict, one_more};
-ghost use Rattle.expr_types.specs.Answers.{types_in, IsFound, AreFound, IsJudged};
+ghost use Rattle.expr_types.specs.Judge.{judge, type_of, types_of, judge_links, streams_of, last_of, lifted_by, wrongs, with_two};
+ghost use Rattle.expr_types.specs.Judge.{with_three};
+ghost use Rattle.expr_types.specs.inner.Shown.{around_of, callee_in};
+ghost use Rattle.expr_types.specs.inner.Steps.{argument_wrongs, stream_wrongs, link_wrongs, inner_wrongs, chain_verdict, one_more};
+ghost use Rattle.expr_types.specs.inner.Answers.{types_in, IsFound, AreFound, IsJudged};
 
 use crate::around::Around;
 use crate::call::{lifted_by, named_call};
@@ -51,7 +52,8 @@ pub fn expression(
 /// One level, and what is inside.
 #[cycle(judge)]
 fn inner(alloc: Global, at: &Around<'_>, node: &Node) -> Result<Option<Verdict>, Stop>
-    ensures { IsJudged (inner_wrongs (around_of at.now) (expr_of nowhere node.now)) (judge (around_of at.now) (expr_of nowhere node.now)) result }
+    ensures { IsJudged (inner_wrongs (around_of at.now) (expr_of nowhere node.now))
+        (judge (around_of at.now) (expr_of nowhere node.now)) result }
 {
     match node {
         Node::If(condition, yes, no) => choice(alloc, at, condition, yes, no),
@@ -93,7 +95,9 @@ fn choice(
     yes: &Expr,
     no: &Expr,
 ) -> Result<Option<Verdict>, Stop>
-    ensures { IsJudged (wrongs (around_of at.now) condition.now ++ wrongs (around_of at.now) yes.now ++ wrongs (around_of at.now) no.now) (with_three (if_rule at.now.setting) (type_of (around_of at.now) condition.now) (type_of (around_of at.now) yes.now) (type_of (around_of at.now) no.now)) result }
+    ensures { IsJudged (wrongs (around_of at.now) condition.now ++ wrongs (around_of at.now) yes.now ++ wrongs (around_of at.now) no.now)
+        (with_three (if_rule at.now.setting) (type_of (around_of at.now) condition.now) (type_of (around_of at.now) yes.now)
+        (type_of (around_of at.now) no.now)) result }
 {
     let condition = expression(alloc, at, condition)?;
     let yes = expression(alloc, at, yes)?;
@@ -109,7 +113,9 @@ fn comparison_of(
     left: &Expr,
     right: &Expr,
 ) -> Result<Option<Verdict>, Stop>
-    ensures { IsJudged (wrongs (around_of at.now) left.now ++ wrongs (around_of at.now) right.now) (with_two (compare_rule at.now.setting comparison) (type_of (around_of at.now) left.now) (type_of (around_of at.now) right.now)) result }
+    ensures { IsJudged (wrongs (around_of at.now) left.now ++ wrongs (around_of at.now) right.now)
+        (with_two (compare_rule at.now.setting comparison) (type_of (around_of at.now) left.now) (type_of (around_of at.now) right.now))
+        result }
 {
     let left = expression(alloc, at, left)?;
     let right = expression(alloc, at, right)?;
@@ -124,7 +130,8 @@ fn chain(
     first: &Expr,
     rest: &[Link],
 ) -> Result<Option<Verdict>, Stop>
-    ensures { IsJudged (wrongs (around_of at.now) first.now ++ link_wrongs (around_of at.now) (links_in rest.now)) (chain_verdict (around_of at.now) level (type_of (around_of at.now) first.now) (links_in rest.now)) result }
+    ensures { IsJudged (wrongs (around_of at.now) first.now ++ link_wrongs (around_of at.now) (links_in rest.now))
+        (chain_verdict (around_of at.now) level (type_of (around_of at.now) first.now) (links_in rest.now)) result }
 {
     let first = expression(alloc, at, first)?;
     links(alloc, at, level, first, rest)
@@ -139,7 +146,8 @@ fn links(
     first: Option<ExprType>,
     links: &[Link],
 ) -> Result<Option<Verdict>, Stop>
-    ensures { IsJudged (link_wrongs (around_of at.now) (links_in links.now)) (chain_verdict (around_of at.now) level first (links_in links.now)) result }
+    ensures { IsJudged (link_wrongs (around_of at.now) (links_in links.now))
+        (chain_verdict (around_of at.now) level first (links_in links.now)) result }
 {
     let mut chained = first;
     for link in links {
@@ -155,7 +163,8 @@ fn links(
 
 #[cycle(judge)]
 fn call(alloc: Global, at: &Around<'_>, name: &str, parts: &[Expr]) -> Result<Option<Verdict>, Stop>
-    ensures { IsJudged (inner_wrongs (around_of at.now) (tree.Call nowhere name.now (exprs_of parts.now))) (judge (around_of at.now) (tree.Call nowhere name.now (exprs_of parts.now))) result }
+    ensures { IsJudged (inner_wrongs (around_of at.now) (tree.Call nowhere name.now (exprs_of parts.now)))
+        (judge (around_of at.now) (tree.Call nowhere name.now (exprs_of parts.now))) result }
 {
     if is_lift(name) {
         lift(alloc, at, parts)
@@ -167,7 +176,8 @@ fn call(alloc: Global, at: &Around<'_>, name: &str, parts: &[Expr]) -> Result<Op
 
 #[cycle(judge)]
 fn lift(alloc: Global, at: &Around<'_>, parts: &[Expr]) -> Result<Option<Verdict>, Stop>
-    ensures { IsJudged (stream_wrongs (around_of at.now) (exprs_of parts.now)) (lifted_by (streams_of (around_of at.now) (exprs_of parts.now)) (last_of (around_of at.now) (exprs_of parts.now))) result }
+    ensures { IsJudged (stream_wrongs (around_of at.now) (exprs_of parts.now))
+        (lifted_by (streams_of (around_of at.now) (exprs_of parts.now)) (last_of (around_of at.now) (exprs_of parts.now))) result }
 {
     match parts.split_last() {
         Some((function, streams)) => {

@@ -1,7 +1,7 @@
 // What the declared names are.
 
-ghost use Rattle.std.specs.Prelude.{◌≡◌, ℕ, ◌<◌, None, OnOk, vec_len};
-ghost use Rattle.expr_types.specs.Shown.{kind_at, kinds_at, kinds_of};
+ghost use Rattle.std.specs.Prelude.{◌≡◌, ℕ, ◌<◌, None, OnOk, OnErr, vec_len};
+ghost use Rattle.expr_types.specs.inner.Shown.{kind_at, kinds_at, kinds_of};
 
 use std::alloc::Global;
 use tsl_value::memory::NoMemory;
@@ -34,6 +34,7 @@ fn set_kind(
 ) -> Result<(), NoMemory>
     ensures set { OnOk result (kind_at kinds.new.items number ≡ kind) }
     ensures others { (i : ℕ) → (i ≡ number → ⊥) → kind_at kinds.new.items i ≡ kind_at kinds.old.items i }
+    ensures err { OnErr result ((i : ℕ) → kind_at kinds.new.items i ≡ kind_at kinds.old.items i) }
 {
     make_room(kinds, number)?;
     kinds[number] = kind;
@@ -67,16 +68,17 @@ impl KindTable {
         }
     }
 
-    /// Sets what an item is. Nothing else changes.
+    /// Sets what an item is. Nothing else changes, and after out of memory nothing at all.
     pub fn set_item(&mut self, number: usize, kind: Option<ExprType>) -> Result<(), NoMemory>
         ensures set { OnOk result ((kinds_of self.new).item number ≡ kind) }
         ensures others { (i : ℕ) → (i ≡ number → ⊥) → (kinds_of self.new).item i ≡ (kinds_of self.old).item i }
         ensures locals { (i k : ℕ) → (kinds_of self.new).local i k ≡ (kinds_of self.old).local i k }
+        ensures err { OnErr result ((i : ℕ) → (kinds_of self.new).item i ≡ (kinds_of self.old).item i) }
     {
         set_kind(&mut self.items, number, kind)
     }
 
-    /// Sets what a definition of an item's block is. Nothing else changes.
+    /// Sets what a definition of an item's block is. Nothing else changes, and after out of memory nothing at all.
     pub fn set_local(
         &mut self,
         alloc: Global,
@@ -87,6 +89,7 @@ impl KindTable {
         ensures set { OnOk result ((kinds_of self.new).local number local ≡ kind) }
         ensures others { (i k : ℕ) → (i ≡ number → k ≡ local → ⊥) → (kinds_of self.new).local i k ≡ (kinds_of self.old).local i k }
         ensures items { (i : ℕ) → (kinds_of self.new).item i ≡ (kinds_of self.old).item i }
+        ensures err { OnErr result ((i k : ℕ) → (kinds_of self.new).local i k ≡ (kinds_of self.old).local i k) }
     {
         make_block_room(&mut self.locals, alloc, number)?;
         set_kind(&mut self.locals[number], local, kind)

@@ -11,19 +11,20 @@ ghost use Rattle.name_check.specs.Builtin.{is_unit as is_unit_name};
 ghost use Rattle.name_check.specs.Scope.{meaning};
 ghost use Rattle.expr_types.specs.Around.{declared_type};
 ghost use Rattle.expr_types.specs.Judge.{is_just, of_verdict, with_one, with_two, with_three};
-ghost use Rattle.expr_types.specs.Shown.{around_of};
-ghost use Rattle.expr_types.specs.Steps.{clash_in};
-ghost use Rattle.expr_types.specs.Answers.{types_in};
+ghost use Rattle.expr_types.specs.inner.Shown.{around_of};
+ghost use Rattle.expr_types.specs.inner.Steps.{clash_in};
+ghost use Rattle.expr_types.specs.inner.Answers.{types_in};
 
 use crate::around::Around;
 use crate::judge::Verdict;
 use name_check::builtin::is_unit;
-use spec_parser::tree::{Comparison, Dotted, Level, TypeName};
+use spec_parser::tree::{Comparison, Level, TypeName};
 use tsl_value::scalar::ValueType;
 use type_rules::asked::UNIT;
 use type_rules::operation::{compare_rule, dotted_rule, if_rule, link_rule, negate_rule, not_rule};
 use type_rules::rule::{Clash, ExprType, Setting};
 use type_rules::written::{key_of, scalar_of, value_of};
+use vocabulary::dotted::Dotted;
 
 /// What an expression is that is judged so.
 pub(crate) fn allowed(verdict: Option<Verdict>) -> Option<ExprType>
@@ -59,7 +60,8 @@ pub(crate) fn just(of: Option<ExprType>) -> Option<Verdict>
 
 /// What a name is that is mentioned.
 pub(crate) fn mentioned(at: &Around<'_>, name: &str) -> Option<ExprType>
-    ensures { result ≡ (if is_unit_name name.now then Some (expr_type.Stream unit) else option_and_then (declared_type (around_of at.now)) (meaning (around_of at.now).scope name.now)) }
+    ensures { result ≡ (if is_unit_name name.now then Some (expr_type.Stream unit)
+        else option_and_then (declared_type (around_of at.now)) (meaning (around_of at.now).scope name.now)) }
 {
     if is_unit(name) {
         return Some(ExprType::Stream(UNIT));
@@ -72,7 +74,8 @@ pub(crate) fn mentioned(at: &Around<'_>, name: &str) -> Option<ExprType>
 
 /// The mention of a name.
 pub(crate) fn mention(at: &Around<'_>, name: &str) -> Option<Verdict>
-    ensures { result ≡ (if is_unit_name name.now then Some (Ok (expr_type.Stream unit)) else is_just (option_and_then (declared_type (around_of at.now)) (meaning (around_of at.now).scope name.now))) }
+    ensures { result ≡ (if is_unit_name name.now then Some (Ok (expr_type.Stream unit))
+        else is_just (option_and_then (declared_type (around_of at.now)) (meaning (around_of at.now).scope name.now))) }
 {
     just(mentioned(at, name))
 }
@@ -105,7 +108,8 @@ pub(crate) fn empty_set(key: &TypeName) -> Option<Verdict>
 }
 
 pub(crate) fn empty_map(key: &TypeName, of: &TypeName) -> Option<Verdict>
-    ensures { result ≡ is_just (option_and_then (λ key. option_map (λ of. expr_type.Stream (value_type.Map key of)) (scalar_that_is of.now)) (key_that_is key.now)) }
+    ensures { result ≡ is_just (option_and_then (λ key. option_map (λ of. expr_type.Stream (value_type.Map key of)) (scalar_that_is of.now))
+        (key_that_is key.now)) }
 {
     match key_of(key) {
         None => None,

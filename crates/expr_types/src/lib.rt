@@ -2,6 +2,7 @@
 #![tactic(auto)]
 
 pub mod around;
+pub mod block;
 mod body;
 mod call;
 pub mod define;
@@ -11,6 +12,4 @@ pub mod kinds;
 pub mod law;
 mod leaf;
 pub mod stop;
-#[cfg(test)]
-mod tests;
 pub mod wrong;

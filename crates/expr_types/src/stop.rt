@@ -11,12 +11,12 @@ use tsl_value::memory::NoMemory;
 pub enum Stop {
     /// The first that does not fit.
     Wrong(Wrong),
-    /// Memory was wanting.
+    /// Out of memory.
     Memory,
 }
 
 impl Stop {
-    /// What does not fit, if memory was not wanting.
+    /// What does not fit, unless out of memory.
     pub(crate) fn wrong(self) -> Result<Wrong, NoMemory>
         ensures { IfOk result (λ wrong. self ≡ stop.Wrong wrong) }
     {

@@ -5,7 +5,7 @@ use Rattle.tsl_value.specs.declared.place.Place.{Place}
 use Rattle.spec_parser.specs.Tree as tree
 use Rattle.spec_parser.specs.declared.tree.Param.{Param}
 use Rattle.spec_parser.specs.declared.tree.Item.{Item}
-use Rattle.spec_parser.specs.Shape.{param_of, params_in, item_of}
+use Rattle.spec_parser.specs.inner.Shape.{param_of, params_in, item_of}
 use Rattle.name_check.specs.Scope.{is_events}
 use Rattle.name_check.specs.Faults.{first}
 use Rattle.name_check.proofs.FirstLemmas.{list_any-map}

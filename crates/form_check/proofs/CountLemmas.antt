@@ -6,7 +6,7 @@ use Rattle.spec_parser.specs.Tree as tree
 use Rattle.spec_parser.specs.Tree.{Expr}
 use Rattle.spec_parser.specs.declared.tree.Node.{Node}
 use Rattle.spec_parser.specs.declared.tree.Node.TheVariants as node
-use Rattle.spec_parser.specs.Shape.{exprs_of, expr_of}
+use Rattle.spec_parser.specs.inner.Shape.{exprs_of, expr_of}
 use Rattle.name_check.specs.declared.declaration.Declaration.{Declaration}
 use Rattle.name_check.specs.Scope.{Scope, meaning}
 use Rattle.form_check.specs.Arity.{count, last_of, function_takes, lifted_takes}
@@ -15,14 +15,14 @@ pub count_length : (es : List Expr) → count (exprs_of es) ≡ length es
 count_length [] = refl
 count_length (e ∷ es) = ap suc (count_length es)
 
-last_behind : (es : List Expr) (e : Expr) → last_of (exprs_of (es ++ e ∷ [])) ≡ Some e
-last_behind [] e = refl
-last_behind (x ∷ []) e = refl
-last_behind (x ∷ y ∷ ys) e = last_behind (y ∷ ys) e
+last_after : (es : List Expr) (e : Expr) → last_of (exprs_of (es ++ e ∷ [])) ≡ Some e
+last_after [] e = refl
+last_after (x ∷ []) e = refl
+last_after (x ∷ y ∷ ys) e = last_after (y ∷ ys) e
 
 -- the last argument, where the others are split off
 last_argument : (all es : List Expr) (e : Expr) → all ≡ es ++ e ∷ [] → last_of (exprs_of all) ≡ Some e
-last_argument all es e h = ap (λ l. last_of (exprs_of l)) h ∙ last_behind es e
+last_argument all es e h = ap (λ l. last_of (exprs_of l)) h ∙ last_after es e
 
 -- ---- the function of a `lift`
 pub named : (items : List tree.Item) (s : Scope) (all es : List Expr) (e : Expr) (p : Place) (n : List ℕ) (o : Option Declaration) (r : Option ℕ) → all ≡ es ++ e ∷ [] → tree.Name p n ≡ e → o ≡ meaning s n → r ≡ function_takes items o → r ≡ lifted_takes items s (last_of (exprs_of all))

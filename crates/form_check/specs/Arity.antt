@@ -1,13 +1,13 @@
 -- Calls with another number of arguments than they take, and value functions of too many parameters: their places, in the order
 -- of the source.
-use Rattle.std.specs.Prelude.{ℕ, suc, Bool, false, not, ◌&&◌, nat_lt, nat_le, ◌==◌, if◌then◌else◌, List, [], ◌∷◌, ◌++◌, map, filter, length, codes, slice_get, Option, Some, None}
+use Rattle.std.specs.Prelude.{ℕ, suc, Bool, false, not, ◌&&◌, nat_lt, nat_le, ◌==◌, if◌then◌else◌, List, [], ◌∷◌, ◌++◌, map, filter, length}
+use Rattle.std.specs.Prelude.{codes, slice_get, Option, Some, None}
 use Rattle.std.specs.List.{list_any, flat_map}
 use Rattle.std.specs.Str.{bytes_eq}
 use Rattle.tsl_value.specs.declared.place.Place.{Place}
 use Rattle.spec_parser.specs.Tree as tree
 use Rattle.spec_parser.specs.Tree.{Expr, Exprs, no_exprs, more_exprs}
-use Rattle.spec_parser.specs.declared.tree.Dotted.{Dotted}
-use Rattle.spec_parser.specs.declared.tree.Dotted.TheVariants as dotted
+use Rattle.vocabulary.specs.Table.{takes_of}
 use Rattle.name_check.specs.declared.declaration.Declaration.{Declaration}
 use Rattle.name_check.specs.declared.declaration.Declaration.TheVariants as declaration
 use Rattle.name_check.specs.Builtin.{is_unit, is_lift}
@@ -38,19 +38,6 @@ takes_one n = list_any (bytes_eq n) names_of_one
 
 unfoldable pub takes_two : List ℕ → Bool
 takes_two n = list_any (bytes_eq n) names_of_two
-
-abbrev pub dotted_takes : Dotted → ℕ
-dotted_takes dotted.SetAdd = 2
-dotted_takes dotted.SetRemove = 2
-dotted_takes dotted.SetContains = 2
-dotted_takes dotted.SetSize = 1
-dotted_takes dotted.MapAdd = 3
-dotted_takes dotted.MapRemove = 2
-dotted_takes dotted.MapContains = 2
-dotted_takes dotted.MapGet = 2
-dotted_takes dotted.MapSize = 1
-dotted_takes dotted.StringConcat = 2
-dotted_takes dotted.StringSize = 1
 
 -- ---- declared names
 -- how many parameters the definition of an item has; another item has none
@@ -113,7 +100,7 @@ is_wrong_call items scope n es = if is_lift n then is_wrong_lift items scope es 
 -- a call with another number of arguments than it takes
 abbrev pub is_wrong : List tree.Item → Scope → Part → Bool
 is_wrong items scope (Operand (tree.Call p n es)) = is_wrong_call items scope n es
-is_wrong items scope (Operand (tree.CallDotted p d es)) = not (dotted_takes d == count es)
+is_wrong items scope (Operand (tree.CallDotted p d es)) = not (takes_of d == count es)
 is_wrong items scope (Operand e) = false
 is_wrong items scope (Function e) = false
 

@@ -2,4 +2,4 @@ pub mod Types
 pub mod Declared
 pub mod Arity
 pub mod Outputs
-pub mod Steps
+pub mod inner

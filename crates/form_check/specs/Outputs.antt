@@ -23,14 +23,14 @@ printed_again_by before (tree.Defined p d) = []
 printed_again_by before (tree.Output p q n) = printed_again before p n
 printed_again_by before (tree.OutputAs p e q n) = printed_again before p n
 
--- behind outputs that print these names
-abbrev pub twice_behind : List (List ℕ) → List tree.Item → List Place
-twice_behind before [] = []
-twice_behind before (i ∷ items) = printed_again_by before i ++ twice_behind (before ++ printed_name i) items
+-- after outputs that print these names
+abbrev pub twice_after : List (List ℕ) → List tree.Item → List Place
+twice_after before [] = []
+twice_after before (i ∷ items) = printed_again_by before i ++ twice_after (before ++ printed_name i) items
 
 -- the word `out` of each output whose printed name an earlier output has
 abbrev pub outputs_twice : List tree.Item → List Place
-outputs_twice items = twice_behind [] items
+outputs_twice items = twice_after [] items
 
 abbrev pub is_output : tree.Item → Bool
 is_output (tree.Input p q n y) = false

@@ -3,13 +3,13 @@
 ghost use Rattle.std.specs.Prelude.{◌≡◌, map, IfOk};
 ghost use Rattle.std.specs.List.{flat_map};
 ghost use Rattle.spec_parser.specs.Tree as tree;
-ghost use Rattle.spec_parser.specs.Shape.{body_of, definition_of, definitions_of, item_of};
+ghost use Rattle.spec_parser.specs.inner.Shape.{body_of, definition_of, definitions_of, item_of};
 ghost use Rattle.name_check.specs.Scope.{seen};
 ghost use Rattle.name_check.specs.Bodies.{item_bodies};
 ghost use Rattle.name_check.specs.Faults.{first};
-ghost use Rattle.name_check.specs.Steps.{local_body};
+ghost use Rattle.name_check.specs.inner.Steps.{local_body};
 ghost use Rattle.form_check.specs.Arity.{wrong_in, too_many_in_definition, too_many_in_item, wrong_in_item, wrong_where};
-ghost use Rattle.form_check.specs.Steps.{wrong_in_body, wrong_in_locals, wrong_in_definition};
+ghost use Rattle.form_check.specs.inner.Steps.{wrong_in_body, wrong_in_locals, wrong_in_definition};
 
 use crate::call::is_wrong;
 use name_check::names::Names;
@@ -26,7 +26,8 @@ fn find_in_expression(
     expression: &Expr,
     scope: &Scope<'_>,
 ) -> Result<Option<Place>, NoMemory>
-    ensures { IfOk result (λ found. found ≡ first (wrong_in (map item_of items.now) (record { scope = seen scope.now; expr = expression.now }))) }
+    ensures { IfOk result (λ found. found
+        ≡ first (wrong_in (map item_of items.now) (record { scope = seen scope.now; expr = expression.now }))) }
 {
     let parts = parts(alloc, expression)?;
     for part in &parts {
@@ -60,7 +61,8 @@ fn find_in_block(
     last: &Expr,
     scope: &Scope<'_>,
 ) -> Result<Option<Place>, NoMemory>
-    ensures { IfOk result (λ found. found ≡ first (wrong_in_body (map item_of items.now) (seen scope.now) (tree.Block (definitions_of definitions.now) last.now))) }
+    ensures { IfOk result (λ found. found
+        ≡ first (wrong_in_body (map item_of items.now) (seen scope.now) (tree.Block (definitions_of definitions.now) last.now))) }
 {
     // Which numbers the definitions have does not matter here.
     let inner = Scope::inner(locals(alloc, 0, definitions)?, scope);
@@ -77,7 +79,8 @@ fn find_in_locals(
     definitions: &[Definition],
     scope: &Scope<'_>,
 ) -> Result<Option<Place>, NoMemory>
-    ensures { IfOk result (λ found. found ≡ first (wrong_in_locals (map item_of items.now) (seen scope.now) (definitions_of definitions.now))) }
+    ensures { IfOk result (λ found. found
+        ≡ first (wrong_in_locals (map item_of items.now) (seen scope.now) (definitions_of definitions.now))) }
 {
     for definition in definitions {
         if let Some(place) = find_in_local(alloc, items, definition.parts(), scope)? {
@@ -95,7 +98,8 @@ fn find_in_local(
     parts: &DefinitionParts,
     scope: &Scope<'_>,
 ) -> Result<Option<Place>, NoMemory>
-    ensures { IfOk result (λ found. found ≡ first (wrong_in_body (map item_of items.now) (seen scope.now) (local_body (definition_of parts.now)))) }
+    ensures { IfOk result (λ found. found
+        ≡ first (wrong_in_body (map item_of items.now) (seen scope.now) (local_body (definition_of parts.now)))) }
 {
     find_in_body(alloc, items, &parts.body, scope)
 }
@@ -143,7 +147,8 @@ fn find_calls_in_item(
     item: &Item,
     names: &Names,
 ) -> Result<Option<Place>, NoMemory>
-    ensures { IfOk result (λ found. found ≡ first (flat_map (wrong_in (map item_of items.now)) (item_bodies names.now (item_of item.now)))) }
+    ensures { IfOk result (λ found. found
+        ≡ first (flat_map (wrong_in (map item_of items.now)) (item_bodies names.now (item_of item.now)))) }
 {
     match item {
         Item::Input(_, _, _, _) => Ok(None),

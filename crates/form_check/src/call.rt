@@ -1,16 +1,18 @@
 // How many arguments a call takes.
 
 ghost use Rattle.std.specs.Prelude.{◌≡◌, not, map};
-ghost use Rattle.spec_parser.specs.Shape.{exprs_of, definition_of, item_of};
+ghost use Rattle.spec_parser.specs.inner.Shape.{exprs_of, definition_of, item_of};
 ghost use Rattle.name_check.specs.Scope.{meaning, seen};
-ghost use Rattle.name_check.specs.Shown.{part_of};
-ghost use Rattle.form_check.specs.Arity.{last_of, takes_one, takes_two, dotted_takes, definition_params, item_params, params_at, declared_takes, function_takes, takes, call_fits, lifted_takes, lift_may_have, lift_fits, is_wrong_lift, is_wrong_call, is_wrong};
+ghost use Rattle.name_check.specs.inner.Shown.{part_of};
+ghost use Rattle.form_check.specs.Arity.{last_of, takes_one, takes_two, definition_params, item_params, params_at};
+ghost use Rattle.form_check.specs.Arity.{declared_takes, function_takes, takes, call_fits, lifted_takes, lift_may_have, lift_fits};
+ghost use Rattle.form_check.specs.Arity.{is_wrong_lift, is_wrong_call, is_wrong};
 
 use name_check::builtin::{is_lift, is_unit};
 use name_check::declaration::Declaration;
 use name_check::parts::Part;
 use name_check::scope::Scope;
-use spec_parser::tree::{DefinitionParts, Dotted, Expr, Item, Node};
+use spec_parser::tree::{DefinitionParts, Expr, Item, Node};
 
 /// A name of the language that takes one argument.
 #[tactic(auto, unfolding(crate::specs::Arity::takes_one))]
@@ -29,18 +31,6 @@ fn takes_two(name: &str) -> bool
         name,
         "last" | "delay" | "merge" | "default" | "const" | "filter"
     )
-}
-
-fn dotted_takes(function: Dotted) -> usize
-    ensures { result ≡ dotted_takes function }
-{
-    match function {
-        Dotted::SetSize | Dotted::MapSize | Dotted::StringSize => 1,
-        Dotted::SetAdd | Dotted::SetRemove | Dotted::SetContains => 2,
-        Dotted::MapRemove | Dotted::MapContains | Dotted::MapGet => 2,
-        Dotted::StringConcat => 2,
-        Dotted::MapAdd => 3,
-    }
 }
 
 fn definition_params(parts: &DefinitionParts) -> usize
@@ -182,7 +172,7 @@ pub(crate) fn is_wrong(items: &[Item], scope: &Scope<'_>, part: &Part<'_>) -> bo
     match part {
         Part::Operand(expression) => match expression.node() {
             Node::Call(name, arguments) => is_wrong_call(items, scope, name.as_str(), arguments),
-            Node::CallDotted(function, arguments) => dotted_takes(*function) != arguments.len(),
+            Node::CallDotted(function, arguments) => function.takes() != arguments.len(),
             _ => false,
         },
         Part::Function(_) => false,

@@ -6,6 +6,4 @@ pub mod arity;
 mod call;
 pub mod declared;
 pub mod output;
-#[cfg(test)]
-mod tests;
 pub mod written;

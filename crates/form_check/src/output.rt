@@ -3,7 +3,7 @@
 ghost use Rattle.std.specs.Prelude.{◌≡◌, ◌∷◌, [], ◌++◌, map, IfOk, IfNone};
 ghost use Rattle.std.specs.List.{list_any};
 ghost use Rattle.std.specs.String.{string_bytes};
-ghost use Rattle.spec_parser.specs.Shape.{item_of, items_of};
+ghost use Rattle.spec_parser.specs.inner.Shape.{item_of, items_of};
 ghost use Rattle.name_check.specs.Faults.{first};
 ghost use Rattle.form_check.specs.Outputs.{printed_again, printed_name, printed_again_by, outputs_twice, is_output, without_output};
 
@@ -16,7 +16,8 @@ use tsl_value::place::Place;
 /// Adds the name under which an output is printed, or answers the output's place where an earlier one has that name.
 fn print(names: &mut IndexSet<String>, name: &str, place: Place) -> Result<Option<Place>, NoMemory>
     ensures found { IfOk result (λ found. found ≡ first (printed_again (map string_bytes names.old.keys) place name.now)) }
-    ensures printed { IfOk result (λ found. IfNone found (map string_bytes names.new.keys ≡ map string_bytes names.old.keys ++ name.now ∷ [])) }
+    ensures printed { IfOk result (λ found. IfNone found (map string_bytes names.new.keys
+        ≡ map string_bytes names.old.keys ++ name.now ∷ [])) }
 {
     if names.contains(name) {
         return Ok(Some(place));
@@ -28,7 +29,8 @@ fn print(names: &mut IndexSet<String>, name: &str, place: Place) -> Result<Optio
 
 fn find_in_item(item: &Item, names: &mut IndexSet<String>) -> Result<Option<Place>, NoMemory>
     ensures found { IfOk result (λ found. found ≡ first (printed_again_by (map string_bytes names.old.keys) (item_of item.now))) }
-    ensures printed { IfOk result (λ found. IfNone found (map string_bytes names.new.keys ≡ map string_bytes names.old.keys ++ printed_name (item_of item.now))) }
+    ensures printed { IfOk result (λ found. IfNone found (map string_bytes names.new.keys
+        ≡ map string_bytes names.old.keys ++ printed_name (item_of item.now))) }
 {
     match item {
         Item::Input(_, _, _, _) => Ok(None),

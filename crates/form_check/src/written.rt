@@ -3,10 +3,11 @@
 ghost use Rattle.std.specs.Prelude.{◌≡◌, map, IfOk};
 ghost use Rattle.std.specs.List.{flat_map};
 ghost use Rattle.spec_parser.specs.Tree as tree;
-ghost use Rattle.spec_parser.specs.Shape.{params_in, body_of, definition_of, definitions_of, item_of};
+ghost use Rattle.spec_parser.specs.inner.Shape.{params_in, body_of, definition_of, definitions_of, item_of};
 ghost use Rattle.name_check.specs.Faults.{first};
-ghost use Rattle.name_check.specs.Shown.{part_of};
-ghost use Rattle.form_check.specs.Types.{bad_in_part, bad_in_expression, bad_stream, bad_written, bad_in_body, bad_in_locals, bad_in_local, bad_in_params, bad_in_definition, bad_in_item, bad_types};
+ghost use Rattle.name_check.specs.inner.Shown.{part_of};
+ghost use Rattle.form_check.specs.Types.{bad_in_part, bad_in_expression, bad_stream, bad_written, bad_in_body, bad_in_locals, bad_in_local};
+ghost use Rattle.form_check.specs.Types.{bad_in_params, bad_in_definition, bad_in_item, bad_types};
 
 use name_check::parts::{Part, parts};
 use spec_parser::tree::{Body, Definition, DefinitionParts, Expr, Item, Node, Param, TypeName};

@@ -8,12 +8,12 @@ use Rattle.std.proofs.lemmas.List.Folds.{find-append}
 use Rattle.std.proofs.lemmas.Slice.Eq.{bytes_eq-Decides}
 use Rattle.spec_parser.specs.Tree as tree
 use Rattle.spec_parser.specs.declared.tree.Param.{Param}
-use Rattle.spec_parser.specs.Shape.{params_in, definitions_of}
+use Rattle.spec_parser.specs.inner.Shape.{params_in, definitions_of}
 use Rattle.name_check.specs.declared.declaration.Declaration.{Declaration}
 use Rattle.name_check.specs.declared.declaration.Declaration.TheVariants as declaration
 use Rattle.name_check.specs.Scope.{Scope, Entry, meaning, parameters_from, count_in, locals_from, Agree}
-use Rattle.name_check.specs.Steps.{local_name, local_body}
-use Rattle.name_check.proofs.FirstLemmas.{left_at}
+use Rattle.name_check.specs.inner.Steps.{local_name, local_body}
+use Rattle.tsl_value.proofs.Lists.{left_at}
 
 map_of_or : {A B : Type 0} (f : A → B) (a b : Option A) → option_map f (option_or a b) ≡ option_or (option_map f a) (option_map f b)
 map_of_or f None b = refl

@@ -1,13 +1,13 @@
 -- The first of some places, tests of lists, and lists that are walked through.
-use Rattle.std.proofs.Common.{◌≡◌, ℕ, suc, ◌+◌, ◌<◌, Bool, ◌||◌, List, [], ◌∷◌, ◌++◌, map, length, get_or, drop, Some, None, refl, sym, ap, ◌∙◌, add-one, drop-cons}
+use Rattle.std.proofs.Common.{◌≡◌, ◌+◌, Bool, ◌||◌, List, [], ◌∷◌, ◌++◌, map, Some, None, refl, ap}
 use Rattle.std.specs.List.{list_any}
 use Rattle.tsl_value.specs.declared.place.Place.{Place}
 use Rattle.name_check.specs.Faults.{first}
 
 -- where the front has no place, the first is that of the rest
-pub first_behind : (xs ys : List Place) → first xs ≡ None → first (xs ++ ys) ≡ first ys
-first_behind [] ys h = refl
-first_behind (x ∷ xs) ys h = cc
+pub first_after : (xs ys : List Place) → first xs ≡ None → first (xs ++ ys) ≡ first ys
+first_after [] ys h = refl
+first_after (x ∷ xs) ys h = cc
 
 -- the first place of the front is the first of all
 pub first_of_front : (xs ys : List Place) (p : Place) → first xs ≡ Some p → first (xs ++ ys) ≡ Some p
@@ -22,8 +22,3 @@ empty_without_first (x ∷ xs) h = cc
 pub list_any-map : {A B : Type 0} (p : B → Bool) (f : A → B) (xs : List A) → list_any p (map f xs) ≡ list_any (λ x. p (f x)) xs
 list_any-map p f [] = refl
 list_any-map p f (x ∷ xs) = ap (λ b. p (f x) || b) (list_any-map p f xs)
-
--- what is left of a list at an item
-pub left_at : {A : Type 0} (xs : List A) (i : ℕ) (x : A) → i < length xs → x ≡ get_or xs i x → drop i xs ≡ x ∷ drop (i + 1) xs
-left_at xs i x h is =
-    drop-cons xs i x h ∙ ap (λ y. y ∷ drop (suc i) xs) (sym is) ∙ ap (λ j. x ∷ drop j xs) (sym (add-one i))

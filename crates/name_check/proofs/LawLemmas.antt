@@ -1,14 +1,14 @@
--- No tree has two answers, other than for want of memory.
+-- No tree has two answers, other than out of memory.
 use Rattle.std.proofs.Common.{◌≡◌, List, [], ◌∷◌, Some, Result, Ok, Err, sym, ap, ◌∙◌}
 use Rattle.tsl_value.specs.declared.place.Place.{Place}
 use Rattle.spec_parser.specs.Tree as tree
-use Rattle.spec_parser.specs.Shape.{items_of}
+use Rattle.spec_parser.specs.inner.Shape.{items_of}
 use Rattle.name_check.specs.declared.check.NameFault.{NameFault}
 use Rattle.name_check.specs.declared.check.NameFault.TheVariants as fault
 use Rattle.name_check.specs.Scope.{Scope}
 use Rattle.name_check.specs.Faults.{first}
-use Rattle.name_check.specs.Answer.{IsAnswerOf}
-use Rattle.name_check.specs.Laws.{IsNotMemory, HasOneAnswer}
+use Rattle.name_check.specs.inner.Answer.{IsAnswerOf}
+use Rattle.name_check.specs.inner.Laws.{IsNotMemory, HasOneAnswer}
 
 -- a list with a first place is not empty
 not_empty : {A : Type 0} (xs : List Place) (p : Place) → first xs ≡ Some p → xs ≡ [] → A

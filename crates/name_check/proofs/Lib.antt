@@ -2,7 +2,6 @@ pub mod AgreeLemmas
 pub mod FirstLemmas
 mod LawLemmas
 mod PartsLemmas
-pub mod SizeLemmas
 mod TableLemmas
 mod TopLemmas
 mod TwiceLemmas

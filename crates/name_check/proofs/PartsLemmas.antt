@@ -1,4 +1,4 @@
--- The parts of an expression, one behind the other.
+-- The parts of an expression, one after the other.
 use Rattle.std.proofs.Common.{◌≡◌, ℕ, ◌+◌, ◌<◌, ◌≤◌, List, [], ◌∷◌, ◌++◌, length, get_or, drop, refl, sym, ap, ◌∙◌, append_assoc, arith}
 use Rattle.std.proofs.lemmas.List.{append-nil, map-append, drop_all}
 use Rattle.tsl_value.specs.declared.place.Place.{Place}
@@ -6,12 +6,12 @@ use Rattle.spec_parser.specs.Tree.{Expr, place_of}
 use Rattle.spec_parser.specs.declared.tree.Link.{Link}
 use Rattle.spec_parser.specs.declared.tree.Node.{Node}
 use Rattle.spec_parser.specs.declared.tree.Node.TheVariants as node
-use Rattle.spec_parser.specs.Shape.{exprs_of, links_in, expr_of}
+use Rattle.spec_parser.specs.inner.Shape.{exprs_of, links_in, expr_of}
 use Rattle.name_check.specs.Parts as spec
 use Rattle.name_check.specs.Parts.{parts, argument_parts, lift_parts, link_parts}
 use Rattle.name_check.specs.declared.parts.Part.{Part}
-use Rattle.name_check.specs.Shown.{part_of, parts_in, nowhere, inner_parts}
-use Rattle.name_check.proofs.FirstLemmas.{left_at}
+use Rattle.name_check.specs.inner.Shown.{part_of, parts_in, nowhere, inner_parts}
+use Rattle.tsl_value.proofs.Lists.{left_at}
 
 -- one more part
 pub parts_more : (ps : List Part) (p : Part) → parts_in (ps ++ p ∷ []) ≡ parts_in ps ++ part_of p ∷ []
@@ -49,7 +49,7 @@ with_inner e n a b c is h k =
     ∙ append_assoc a (spec.Operand e ∷ []) (inner_parts (expr_of nowhere n))
     ∙ ap (λ l. a ++ l) (sym (parts_of_node e n is))
 
--- two and three lists, one behind the other
+-- two and three lists, one after the other
 pub both_added : {A : Type 0} (a b c x y : List A) → b ≡ a ++ x → c ≡ b ++ y → c ≡ a ++ (x ++ y)
 both_added a b c x y h k = k ∙ ap (λ l. l ++ y) h ∙ append_assoc a x y
 

@@ -1,4 +1,4 @@
--- Names that are declared twice, one item behind the other.
+-- Names that are declared twice, one item after the other.
 use Rattle.std.proofs.Common.{◌≡◌, ℕ, suc, ◌+◌, ◌<◌, ◌≤◌, Bool, true, false, not, ◌||◌, ◌&&◌, cond, if◌then◌else◌, List, [], ◌∷◌, ◌++◌, map, length, get_or, drop, Option, Some, None, is_some, is_none, Result, Ok, Err, IfOk, refl, sym, ap, ◌∙◌, append_assoc, add-one, arith}
 use Rattle.std.specs.Prelude.{IfNone}
 use Rattle.std.specs.Option.{option_map}
@@ -11,14 +11,15 @@ use Rattle.tsl_value.specs.declared.place.Place.{Place}
 use Rattle.spec_parser.specs.Tree as tree
 use Rattle.spec_parser.specs.declared.tree.Param.{Param}
 use Rattle.spec_parser.specs.declared.tree.Item.{Item}
-use Rattle.spec_parser.specs.Shape.{param_of, params_in, definitions_of, item_of}
+use Rattle.spec_parser.specs.inner.Shape.{param_of, params_in, definitions_of, item_of}
 use Rattle.name_check.specs.declared.declaration.Declaration.{Declaration}
 use Rattle.name_check.specs.declared.declaration.Declaration.TheVariants as declaration
 use Rattle.name_check.specs.Builtin.{is_built_in}
 use Rattle.name_check.specs.Scope.{Scope, Entry, meaning, declared_from, declared_as, is_events, are_values}
 use Rattle.name_check.specs.Faults.{first, again, twice_in_params, twice_in_block, twice_from, declared_twice}
-use Rattle.name_check.specs.Steps.{names_onto, names_of, local_name, twice_in_local, declared_by, twice_in_item}
-use Rattle.name_check.proofs.FirstLemmas.{list_any-map, first_behind, first_of_front, empty_without_first, left_at}
+use Rattle.name_check.specs.inner.Steps.{names_onto, names_of, local_name, twice_in_local, declared_by, twice_in_item}
+use Rattle.tsl_value.proofs.Lists.{left_at}
+use Rattle.name_check.proofs.FirstLemmas.{list_any-map, first_after, first_of_front, empty_without_first}
 
 -- ---- names so far
 names_onto-append : (before : List (List ℕ)) (a b : Scope) → names_onto before (a ++ b) ≡ names_onto (names_onto before a) b
@@ -67,7 +68,7 @@ added s t e new h is = h ∙ ap (λ b. if b then s ++ e ∷ [] else s) is
 
 -- ---- a turn of a loop: what is left begins with the faults of one item
 turn : (left one rest : List Place) (all : Option Place) → left ≡ one ++ rest → first left ≡ all → first one ≡ None → first rest ≡ all
-turn left one rest all step done none = sym (ap first step ∙ first_behind one rest none) ∙ done
+turn left one rest all step done none = sym (ap first step ∙ first_after one rest none) ∙ done
 
 hit : (left one rest : List Place) (all : Option Place) (p : Place) → left ≡ one ++ rest → first left ≡ all → first one ≡ Some p → Some p ≡ all
 hit left one rest all p step done found = sym (ap first step ∙ first_of_front one rest p found) ∙ done
@@ -115,7 +116,7 @@ pub two_hit : (a b : List Place) (p : Place) → Some p ≡ first a → Some p �
 two_hit a b p h = sym (first_of_front a b p (sym h))
 
 pub two_rest : (a b : List Place) (r : Option Place) → None ≡ first a → r ≡ first b → r ≡ first (a ++ b)
-two_rest a b r none h = h ∙ sym (first_behind a b (sym none))
+two_rest a b r none h = h ∙ sym (first_after a b (sym none))
 
 pub two_none : (a b : List Place) → None ≡ first a → None ≡ first b → None ≡ first (a ++ b)
 two_none a b h k = two_rest a b None h k

@@ -11,7 +11,7 @@ use Rattle.name_check.specs.Scope.{Scope, meaning}
 use Rattle.name_check.specs.Parts as spec
 use Rattle.name_check.specs.Parts.{parts, part_place}
 use Rattle.name_check.specs.declared.parts.Part.{Part}
-use Rattle.name_check.specs.Shown.{parts_in}
+use Rattle.name_check.specs.inner.Shown.{parts_in}
 use Rattle.name_check.specs.Faults.{is_mentionable, is_declared, is_a_function, is_unknown, unknown_in}
 use Rattle.name_check.proofs.AgreeLemmas.{without_number, Alike, alike_by}
 use Rattle.name_check.proofs.WalkLemmas.{IsSame}

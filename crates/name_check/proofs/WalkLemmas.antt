@@ -1,4 +1,4 @@
--- What is found in the bodies of items, one body behind the other, where it hangs on what the names that are seen stand for alone,
+-- What is found in the bodies of items, one body after the other, where it hangs on what the names that are seen stand for alone,
 -- whatever numbers the definitions of blocks have.
 use Rattle.std.proofs.Common.{◌≡◌, ℕ, suc, ◌+◌, ◌<◌, if◌then◌else◌, List, [], ◌∷◌, ◌++◌, length, get_or, drop, Option, Some, None, Result, Ok, Err, IfOk, refl, sym, ap, ◌∙◌}
 use Rattle.std.specs.List.{flat_map}
@@ -7,12 +7,13 @@ use Rattle.std.proofs.lemmas.List.Concat.{flat_map-append}
 use Rattle.tsl_value.specs.declared.place.Place.{Place}
 use Rattle.spec_parser.specs.Tree as tree
 use Rattle.spec_parser.specs.Tree.{Expr}
-use Rattle.spec_parser.specs.Shape.{definitions_of}
+use Rattle.spec_parser.specs.inner.Shape.{definitions_of}
 use Rattle.name_check.specs.Scope.{Scope, are_values, functions_of, parameters_from, count_in, locals_from, inside, in_block, Agree}
 use Rattle.name_check.specs.Bodies.{Seen, bodies, block_bodies}
 use Rattle.name_check.specs.Faults.{first}
-use Rattle.name_check.specs.Steps.{local_body}
-use Rattle.name_check.proofs.FirstLemmas.{first_behind, first_of_front, left_at}
+use Rattle.name_check.specs.inner.Steps.{local_body}
+use Rattle.tsl_value.proofs.Lists.{left_at}
+use Rattle.name_check.proofs.FirstLemmas.{first_after, first_of_front}
 use Rattle.name_check.proofs.AgreeLemmas.{agree_same, agree_append, Alike, agree_alike, alike_append, locals_alike}
 
 abbrev pub IsSame : (Seen → List Place) → Type 0
@@ -69,9 +70,9 @@ block_hit f same level s ds e p h found =
 
 pub block_rest : (f : Seen → List Place) → IsSame f → (level s : Scope) (ds : tree.Definitions) (e : Expr) → Agree level (locals_from 0 ds) → None ≡ first (flat_map f (block_bodies 0 (level ++ s) ds)) → first (f (record { scope = level ++ s; expr = e })) ≡ first (flat_map f (bodies 0 s (tree.Block ds e)))
 block_rest f same level s ds e h none =
-    sym (ap first (inner_split f same level s ds e h) ∙ first_behind (in_locals f 0 (level ++ s) ds) (at f (level ++ s) e) (sym none))
+    sym (ap first (inner_split f same level s ds e h) ∙ first_after (in_locals f 0 (level ++ s) ds) (at f (level ++ s) e) (sym none))
 
--- ---- the definitions of a block, one behind the other
+-- ---- the definitions of a block, one after the other
 locals-cons : (f : Seen → List Place) → IsSame f → (s : Scope) (d : tree.Definition) (ds : tree.Definitions) → in_locals f 0 s (tree.more_definitions d ds) ≡ in_body f 0 s (local_body d) ++ in_locals f 0 s ds
 locals-cons f same s (tree.Define q n ps w b) ds =
     flat_map-append f (bodies 1 s b) (block_bodies (1 + count_in b) s ds)
@@ -88,7 +89,7 @@ pub locals_turn : (f : Seen → List Place) → IsSame f → (s : Scope) (ds : L
 locals_turn f same s ds i d e all h is as_d done none =
     sym
     (ap first (locals_left f same s ds i d e h is as_d)
-    ∙ first_behind (in_body f 0 s (local_body e)) (in_locals f 0 s (definitions_of (drop (i + 1) ds))) (sym none))
+    ∙ first_after (in_body f 0 s (local_body e)) (in_locals f 0 s (definitions_of (drop (i + 1) ds))) (sym none))
     ∙ done
 
 pub locals_hit : (f : Seen → List Place) → IsSame f → (s : Scope) (ds : List tree.Definition) (i : ℕ) (d e : tree.Definition) (p : Place) (all : Option Place) → i < length ds → d ≡ get_or ds i d → e ≡ d → first (flat_map f (block_bodies 0 s (definitions_of (drop i ds)))) ≡ all → Some p ≡ first (flat_map f (bodies 0 s (local_body e))) → Some p ≡ all

@@ -16,7 +16,8 @@ abbrev mutual
 
   pub block_bodies : ℕ → Scope → tree.Definitions → List Seen
   block_bodies k scope tree.no_definitions = []
-  block_bodies k scope (tree.more_definitions (tree.Define q n ps w b) ds) = bodies (suc k) scope b ++ block_bodies (suc k + count_in b) scope ds
+  block_bodies k scope (tree.more_definitions (tree.Define q n ps w b) ds) =
+      bodies (suc k) scope b ++ block_bodies (suc k + count_in b) scope ds
 
 -- The definitions in the blocks of an item are numbered from 0. An output without a name of its own is the mention of a name.
 abbrev pub item_bodies : Scope → tree.Item → List Seen

@@ -6,7 +6,8 @@ use Rattle.std.specs.Str.{bytes_eq}
 -- those that are called with arguments
 abbrev pub called : List (List ℕ)
 called =
-    codes "time" ∷ codes "last" ∷ codes "delay" ∷ codes "merge" ∷ codes "default" ∷ codes "lift" ∷ codes "const" ∷ codes "filter" ∷ codes "isSome" ∷ codes "isNone" ∷ codes "getSome" ∷ codes "Some" ∷ []
+    codes "time" ∷ codes "last" ∷ codes "delay" ∷ codes "merge" ∷ codes "default" ∷ codes "lift" ∷ codes "const" ∷ codes "filter"
+    ∷ codes "isSome" ∷ codes "isNone" ∷ codes "getSome" ∷ codes "Some" ∷ []
 
 -- those that stand before a bracket or a dot alone
 abbrev pub prefixes : List (List ℕ)

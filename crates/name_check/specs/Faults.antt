@@ -32,7 +32,8 @@ abbrev mutual
   -- each name of a block before what is in its body
   pub twice_in_block : List (List ℕ) → tree.Definitions → List Place
   twice_in_block before tree.no_definitions = []
-  twice_in_block before (tree.more_definitions (tree.Define q n ps w b) ds) = again before q n ++ twice_in_body b ++ twice_in_block (n ∷ before) ds
+  twice_in_block before (tree.more_definitions (tree.Define q n ps w b) ds) =
+      again before q n ++ twice_in_body b ++ twice_in_block (n ∷ before) ds
 
 abbrev pub twice_from : List (List ℕ) → List tree.Item → List Place
 twice_from before [] = []

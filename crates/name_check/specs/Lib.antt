@@ -3,9 +3,4 @@ pub mod Scope
 pub mod Parts
 pub mod Bodies
 pub mod Faults
-pub mod Tables
-pub mod Levels
-pub mod Shown
-pub mod Steps
-pub mod Answer
-pub mod Laws
+pub mod inner

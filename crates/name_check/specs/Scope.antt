@@ -60,10 +60,11 @@ abbrev mutual
   counts tree.no_definitions = 0
   counts (tree.more_definitions (tree.Define q n ps w b) ds) = suc (count_in b + counts ds)
 
--- The definitions of a block, the first of which has number k. Those in the body of a definition have the numbers behind its own.
+-- The definitions of a block, the first of which has number k. Those in the body of a definition have the numbers after its own.
 abbrev pub locals_from : ℕ → tree.Definitions → Scope
 locals_from k tree.no_definitions = []
-locals_from k (tree.more_definitions (tree.Define q n ps w b) ds) = record { name = n; is = declaration.Local k } ∷ locals_from (suc k + count_in b) ds
+locals_from k (tree.more_definitions (tree.Define q n ps w b) ds) =
+    record { name = n; is = declaration.Local k } ∷ locals_from (suc k + count_in b) ds
 
 -- a value function, by what its name stands for
 abbrev pub is_function : Declaration → Bool

@@ -1,6 +1,6 @@
 // The check of the names of a specification.
 
-ghost use Rattle.name_check.specs.Answer.{IsAnswer};
+ghost use Rattle.name_check.specs.inner.Answer.{IsAnswer};
 
 use crate::names::Names;
 use crate::twice::declare_items;
@@ -18,7 +18,7 @@ pub enum NameFault {
     /// The name at the place is not declared there, or is a function that is not called. Or `lift` has no value function
     /// there.
     UnknownName { place: Place },
-    /// Memory was wanting.
+    /// Out of memory.
     Memory,
 }
 

@@ -1,7 +1,7 @@
 // How many definitions stand in blocks.
 
 ghost use Rattle.std.specs.Prelude.{◌≡◌, ℕ, suc, ◌+◌, IfOk};
-ghost use Rattle.spec_parser.specs.Shape.{body_of, definitions_of};
+ghost use Rattle.spec_parser.specs.inner.Shape.{body_of, definitions_of};
 ghost use Rattle.name_check.specs.Scope.{count_in, counts};
 
 use spec_parser::tree::{Body, Definition};
@@ -25,14 +25,14 @@ fn counts(definitions: &[Definition]) -> Result<usize, NoMemory>
 {
     let mut count = 0;
     for definition in definitions {
-        count = number_behind(count, &definition.parts().body)?;
+        count = number_after(count, &definition.parts().body)?;
     }
     Ok(count)
 }
 
-/// The number behind a definition that has this number and this body, and behind those in its body.
+/// The number after a definition that has this number and this body, and after those in its body.
 #[cycle(count)]
-pub fn number_behind(number: usize, body: &Body) -> Result<usize, NoMemory>
+pub fn number_after(number: usize, body: &Body) -> Result<usize, NoMemory>
     ensures { IfOk result (λ n. n ≡ suc number + count_in (body_of body.now)) }
 {
     let inner = count_in(body)?;

@@ -1,8 +1,8 @@
 // What holds of all answers.
 
-ghost use Rattle.name_check.specs.Laws.{HasOneAnswer};
+ghost use Rattle.name_check.specs.inner.Laws.{HasOneAnswer};
 
-/// No specification has two answers, other than for want of memory.
+/// No specification has two answers, other than out of memory.
 #[tactic(auto, using(crate::proofs::LawLemmas::one_answer))]
 pub fn one_answer()
     ensures { HasOneAnswer }

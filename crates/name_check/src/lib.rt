@@ -10,8 +10,6 @@ pub mod law;
 pub mod names;
 pub mod parts;
 pub mod scope;
-#[cfg(test)]
-mod tests;
 pub mod top;
 mod twice;
 mod unknown;

@@ -17,7 +17,7 @@ pub struct Names {
 
 impl Model for Names {
     ghost use Rattle.name_check.specs.Scope.{Scope};
-    ghost use Rattle.name_check.specs.Tables.{entries_in};
+    ghost use Rattle.name_check.specs.inner.Tables.{entries_in};
     ghost use Rattle.std.specs.String.{string_eq};
     ghost use Rattle.indexmap.specs.IndexMap.{IsUnique};
 

@@ -1,10 +1,10 @@
 // The expressions that stand in an expression.
 
 ghost use Rattle.std.specs.Prelude.{◌≡◌, ◌++◌, [], ◌∷◌, IfOk, OnOk, if◌then◌else◌};
-ghost use Rattle.spec_parser.specs.Shape.{exprs_of, links_in, expr_of};
+ghost use Rattle.spec_parser.specs.inner.Shape.{exprs_of, links_in, expr_of};
 ghost use Rattle.name_check.specs.Builtin.{is_lift as is_lift_name};
 ghost use Rattle.name_check.specs.Parts.{parts, part_place, argument_parts, lift_parts, link_parts};
-ghost use Rattle.name_check.specs.Shown.{part_of, parts_in, nowhere, inner_parts};
+ghost use Rattle.name_check.specs.inner.Shown.{part_of, parts_in, nowhere, inner_parts};
 
 use crate::builtin::is_lift;
 use spec_parser::tree::{Expr, Link, Node};
@@ -88,7 +88,8 @@ fn add_inner<'a>(node: &'a Node, out: &mut Vec<Part<'a>>) -> Result<(), NoMemory
 /// What stands in the arguments of a call.
 #[cycle(parts)]
 fn add_call<'a>(name: &str, arguments: &'a [Expr], out: &mut Vec<Part<'a>>) -> Result<(), NoMemory>
-    ensures { OnOk result (parts_in out.new.items ≡ parts_in out.old.items ++ (if is_lift_name name.now then lift_parts (exprs_of arguments.now) else argument_parts (exprs_of arguments.now))) }
+    ensures { OnOk result (parts_in out.new.items ≡ parts_in out.old.items
+        ++ (if is_lift_name name.now then lift_parts (exprs_of arguments.now) else argument_parts (exprs_of arguments.now))) }
 {
     if is_lift(name) {
         add_lift(arguments, out)

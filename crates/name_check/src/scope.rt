@@ -2,10 +2,10 @@
 
 ghost use Rattle.std.specs.Prelude.{◌≡◌, [], ◌∷◌, if◌then◌else◌, IfOk};
 ghost use Rattle.std.specs.List.{list_all, list_any};
-ghost use Rattle.spec_parser.specs.Shape.{params_in, definitions_of};
+ghost use Rattle.spec_parser.specs.inner.Shape.{params_in, definitions_of};
 ghost use Rattle.name_check.specs.Scope.{meaning, seen, functions_of, is_events, are_values, parameters_from, locals_from, Agree};
 
-use crate::count::number_behind;
+use crate::count::number_after;
 use crate::declaration::Declaration;
 use crate::names::Names;
 use spec_parser::tree::{Definition, Param, TypeName, TypeShape};
@@ -27,6 +27,7 @@ enum Seen<'a> {
     All(&'a Names),
     Functions(&'a Names),
     Inner(Names, &'a Scope<'a>),
+    Within(&'a Names, &'a Scope<'a>),
 }
 
 impl<'a> Model for Scope<'a> {
@@ -35,7 +36,7 @@ impl<'a> Model for Scope<'a> {
 
     ghost Value = { List Entries };
 
-    ghost use Rattle.name_check.specs.Levels.{levels_of};
+    ghost use Rattle.name_check.specs.inner.Levels.{levels_of};
 
     ghost view = { λ s. levels_of s.seen };
 
@@ -86,6 +87,15 @@ impl<'a> Scope<'a> {
         }
     }
 
+    /// One more level inside, which is lent: it is made once for several scopes.
+    pub fn within(level: &'a Names, outer: &'a Scope<'a>) -> Scope<'a>
+        ensures { result ≡ level.now ∷ outer.now }
+    {
+        Scope {
+            seen: Seen::Within(level, outer),
+        }
+    }
+
     /// What a name stands for, if it is seen.
     pub fn find(&self, name: &str) -> Option<Declaration>
         ensures { result ≡ meaning (seen self.now) name.now }
@@ -94,6 +104,10 @@ impl<'a> Scope<'a> {
             Seen::All(names) => names.find(name),
             Seen::Functions(names) => names.find_function(name),
             Seen::Inner(level, outer) => match level.find(name) {
+                Some(declaration) => Some(declaration),
+                None => outer.find(name),
+            },
+            Seen::Within(level, outer) => match level.find(name) {
                 Some(declaration) => Some(declaration),
                 None => outer.find(name),
             },
@@ -151,7 +165,7 @@ pub fn locals(alloc: Global, first: usize, definitions: &[Definition]) -> Result
     for definition in definitions {
         let parts = definition.parts();
         let _new = names.declare(parts.name.as_str(), Declaration::Local(number))?;
-        number = number_behind(number, &parts.body)?;
+        number = number_after(number, &parts.body)?;
     }
     Ok(names)
 }

@@ -1,9 +1,9 @@
 // The names of the top of any specification, where names may be declared twice.
 
 ghost use Rattle.std.specs.Prelude.{◌≡◌, [], ◌∷◌, ◌++◌, map, IfOk, OnOk};
-ghost use Rattle.spec_parser.specs.Shape.{definition_of, item_of};
+ghost use Rattle.spec_parser.specs.inner.Shape.{definition_of, item_of};
 ghost use Rattle.name_check.specs.Scope.{Agree, functions_of, top};
-ghost use Rattle.name_check.specs.Steps.{declared_by, declared_by_definition};
+ghost use Rattle.name_check.specs.inner.Steps.{declared_by, declared_by_definition};
 
 use crate::declaration::Declaration;
 use crate::names::Names;

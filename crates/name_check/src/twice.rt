@@ -1,11 +1,13 @@
 // Names that are declared twice.
 
 ghost use Rattle.std.specs.Prelude.{◌≡◌, [], ◌∷◌, ◌++◌, map, IfOk, IfNone};
-ghost use Rattle.spec_parser.specs.Shape.{params_in, body_of, definition_of, definitions_of, item_of};
+ghost use Rattle.spec_parser.specs.inner.Shape.{params_in, body_of, definition_of, definitions_of, item_of};
 ghost use Rattle.name_check.specs.Scope.{declared_as};
 ghost use Rattle.name_check.specs.Faults.{first, again, twice_in_params, twice_in_body, twice_in_block};
-ghost use Rattle.name_check.specs.Steps.{names_of, local_name, twice_in_local, declared_by_definition, declared_by, twice_in_definition, twice_in_item};
-ghost use Rattle.name_check.specs.Answer.{AreDeclared};
+ghost use Rattle.name_check.specs.inner.Steps.{names_of, local_name, twice_in_local, declared_by_definition, declared_by};
+ghost use Rattle.name_check.specs.inner.Steps.{twice_in_definition};
+ghost use Rattle.name_check.specs.inner.Steps.{twice_in_item};
+ghost use Rattle.name_check.specs.inner.Answer.{AreDeclared};
 
 use crate::builtin::is_built_in;
 use crate::check::NameFault;
@@ -82,7 +84,8 @@ fn find_in_local(
     before: &mut Names,
 ) -> Result<Option<Place>, NoMemory>
     ensures found { IfOk result (λ found. found ≡ first (twice_in_local (names_of before.old) (definition_of parts.now))) }
-    ensures declared { IfOk result (λ found. IfNone found (names_of before.new ≡ local_name (definition_of parts.now) ∷ names_of before.old)) }
+    ensures declared { IfOk result (λ found. IfNone found (names_of before.new
+        ≡ local_name (definition_of parts.now) ∷ names_of before.old)) }
 {
     let is = Declaration::Local(0);
     if let Some(place) = declare(before, parts.name.as_str(), is, parts.place)? {
@@ -114,7 +117,8 @@ fn find_in_definition(
     names: &mut Names,
 ) -> Result<Option<Place>, NoMemory>
     ensures found { IfOk result (λ found. found ≡ first (twice_in_definition (names_of names.old) (definition_of parts.now))) }
-    ensures declared { IfOk result (λ found. IfNone found (names.new ≡ names.old ++ declared_by_definition number (definition_of parts.now))) }
+    ensures declared { IfOk result (λ found. IfNone found (names.new
+        ≡ names.old ++ declared_by_definition number (definition_of parts.now))) }
 {
     let is = declared_as(number, &parts.params);
     if let Some(place) = declare(names, parts.name.as_str(), is, parts.place)? {

@@ -3,12 +3,12 @@
 ghost use Rattle.std.specs.Prelude.{◌≡◌, map, not, ◌||◌, IfOk};
 ghost use Rattle.std.specs.List.{flat_map};
 ghost use Rattle.spec_parser.specs.Tree as tree;
-ghost use Rattle.spec_parser.specs.Shape.{body_of, definition_of, definitions_of, item_of};
+ghost use Rattle.spec_parser.specs.inner.Shape.{body_of, definition_of, definitions_of, item_of};
 ghost use Rattle.name_check.specs.Builtin.{is_called as is_called_name, is_unit as is_unit_name};
 ghost use Rattle.name_check.specs.Scope.{meaning, seen};
-ghost use Rattle.name_check.specs.Shown.{part_of};
+ghost use Rattle.name_check.specs.inner.Shown.{part_of};
 ghost use Rattle.name_check.specs.Faults.{first, is_mentionable, is_declared, is_a_function, is_unknown, unknown_in};
-ghost use Rattle.name_check.specs.Steps.{local_body, unknown_in_body, unknown_in_locals, unknown_in_definition, unknown_in_item};
+ghost use Rattle.name_check.specs.inner.Steps.{local_body, unknown_in_body, unknown_in_locals, unknown_in_definition, unknown_in_item};
 
 use crate::builtin::{is_called, is_unit};
 use crate::names::Names;
@@ -99,7 +99,8 @@ fn find_in_block(
     last: &Expr,
     scope: &Scope<'_>,
 ) -> Result<Option<Place>, NoMemory>
-    ensures { IfOk result (λ found. found ≡ first (unknown_in_body (seen scope.now) (tree.Block (definitions_of definitions.now) last.now))) }
+    ensures { IfOk result (λ found. found
+        ≡ first (unknown_in_body (seen scope.now) (tree.Block (definitions_of definitions.now) last.now))) }
 {
     // Which numbers the definitions have does not matter here.
     let inner = Scope::inner(locals(alloc, 0, definitions)?, scope);

@@ -11,10 +11,6 @@ pub one_passes : (a b : Bool) → (a || b) ≡ true → (a ≡ true) ⊎ (b ≡ 
 one_passes true b h = inl refl
 one_passes false b h = inr h
 
-pub both_fail : (a b : Bool) → (a || b) ≡ false → (a ≡ false) × (b ≡ false)
-both_fail true b h = cc
-both_fail false b h = (refl, h)
-
 pub not_true : (b : Bool) → (b ≡ true → ⊥) → b ≡ false
 not_true true h = absurd (h refl)
 not_true false h = refl

@@ -6,12 +6,13 @@ use Rattle.std.specs.Char.{is_ascii_digit, is_ascii_alphabetic}
 use Rattle.std.specs.Cmp.Derive.{both_true}
 use Rattle.std.specs.Prelude.{◌==◌, nat_lt, encode_utf8, encode_utf8_all, if◌then◌else◌}
 use Rattle.std.specs.Str.Parse.{digits_value}
-use Rattle.std.proofs.lemmas.Bool.{eqb-true, lt-ltb, le-ltb}
+use Rattle.std.proofs.lemmas.Bool.{eqb-true, lt-ltb, le-ltb, and_parts}
 use Rattle.std.proofs.lemmas.List.{append-nil}
 use Rattle.std.proofs.Math.Seq.{take-append_seam}
 use Rattle.unicode_ident.specs.Ident.{is_xid_continue}
 use Rattle.unicode_ident.proofs.IdentLemmas.{is_xid_start-ascii}
 use Rattle.tsl_value.specs.declared.place.Place.{Place}
+use Rattle.tsl_value.specs.declared.limits.TheConstants.{MOST_TEXT_BYTES}
 use Rattle.spec_lexer.specs.declared.fault.LexFault.{LexFault}
 use Rattle.spec_lexer.specs.declared.fault.LexFault.TheVariants.{BadCharacter, OpenText, BadEscape}
 use Rattle.spec_lexer.specs.declared.piece.Piece.{Piece}
@@ -26,10 +27,11 @@ use Rattle.spec_lexer.specs.Pieces.{IsRun, IsSkipped, blank, line_end, hash, das
 use Rattle.spec_lexer.specs.Found.{word_of, name_as, name_found, number_as, number_found, text_as, text_found, pair_of, single_of, symbol_as, symbol_found, next_of, begins_comment, found}
 use Rattle.spec_lexer.proofs.Choices.{not_true, no_such, one_passes}
 use Rattle.spec_lexer.proofs.Places.{place_after-within}
-use Rattle.spec_lexer.proofs.Runs.{both_pass, prefix_len-run}
+use Rattle.spec_lexer.proofs.Runs.{prefix_len-run}
 use Rattle.spec_lexer.proofs.Sound.{means_within}
 use Rattle.spec_lexer.proofs.Symbols.{pair_of-spells, single_of-spells, Shape, shape, double, single, symbol_character, symbol_characters, no_nul}
 use Rattle.spec_lexer.proofs.Words.{word_of-spells, word_of-word_spelling, words_are_short}
+use Rattle.spec_lexer.specs.declared.limits.TheConstants.{MOST_NAME_BYTES}
 
 -- a piece of so many characters is found, a token of this kind or none
 abbrev pub Reads : Result Piece LexFault → ℕ → Option Kind → Type 0
@@ -168,7 +170,7 @@ no_words name none = at_most (word_of name) refl
     at_most None is = is
     at_most (Some w) is = absurd (none w (word_of-spells name w is))
 
-long_no_word : (name : List ℕ) → 255 < length name → (w : Word) → name ≢ word_spelling w
+long_no_word : (name : List ℕ) → MOST_NAME_BYTES < length name → (w : Word) → name ≢ word_spelling w
 long_no_word name long w is = let size = ap length is in absurd (omega (arith, size, words_are_short w))
 
 -- ---- texts
@@ -203,7 +205,7 @@ closed_reads at {written = written} {meant = meant} m rest =
 comment_needs : (c next : ℕ) → symbol_character c ≡ true → (c ≡ 45 → next ≡ 45 → ⊥) → begins_comment c next ≡ false
 comment_needs c next h never = not_true (begins_comment c next) (λ is. elim (one_passes (c == 35) (c == 45 && next == 45) is) [
   | inl a ↦ let clash = sym a ∙ no_such symbol_character 35 refl c h in cc
-  | inr b ↦ let parts = both_pass (c == 45) (next == 45) b in never (eqb-true c 45 parts.0) (eqb-true next 45 parts.1)
+  | inr b ↦ let parts = and_parts (c == 45) (next == 45) b in never (eqb-true c 45 parts.0) (eqb-true next 45 parts.1)
 ])
 
 -- a symbol of two characters in front, where the second is what follows the first
@@ -233,28 +235,28 @@ symbol_reads : (at : Place) (s : Symbol) (rest : List ℕ) → IsSymbol s rest �
 unfolding symbol_found
 symbol_reads at s rest symbol (double {k = k} {l = l} spelled is) =
     let passes = sym (ap (list_all symbol_character) spelled) ∙ symbol_characters s in
-    let quiet = comment_needs k l (both_pass (symbol_character k) _ passes).0 (λ a b. symbol.no_comment rest (ap (λ f. f ++ rest) spelled ∙ (λ i. a i ∷ b i ∷ rest))) in
+    let quiet = comment_needs k l (and_parts (symbol_character k) _ passes).0 (λ a b. symbol.no_comment rest (ap (λ f. f ++ rest) spelled ∙ (λ i. a i ∷ b i ∷ rest))) in
     subst (λ f. ReadsFront at (f ++ rest) (length f) (Some (kind.Symbol s))) (sym spelled)
-    (reads_by 2 (Some (kind.Symbol s)) (found-symbol at k (l ∷ rest) (both_pass (symbol_character k) _ passes).0 quiet ∙ ap (λ o. symbol_as at o (single_of k)) is) (refl, refl))
+    (reads_by 2 (Some (kind.Symbol s)) (found-symbol at k (l ∷ rest) (and_parts (symbol_character k) _ passes).0 quiet ∙ ap (λ o. symbol_as at o (single_of k)) is) (refl, refl))
 symbol_reads at s rest symbol (single {k = k} spelled is) =
     let passes = sym (ap (list_all symbol_character) spelled) ∙ symbol_characters s in
-    let quiet = comment_needs k (next_of rest) (both_pass (symbol_character k) _ passes).0 (λ a b. let n = next_is rest b in symbol.no_comment n.0 (ap (λ f. f ++ rest) spelled ∙ (λ i. a i ∷ n.1 i))) in
+    let quiet = comment_needs k (next_of rest) (and_parts (symbol_character k) _ passes).0 (λ a b. let n = next_is rest b in symbol.no_comment n.0 (ap (λ f. f ++ rest) spelled ∙ (λ i. a i ∷ n.1 i))) in
     let no_pairs = no_pair_where k rest (λ t more same two. let one = ap length spelled in absurd (omega (arith, one, two, symbol.longest t more (ap (λ f. f ++ rest) spelled ∙ same)))) in
     subst (λ f. ReadsFront at (f ++ rest) (length f) (Some (kind.Symbol s))) (sym spelled)
-    (reads_by 1 (Some (kind.Symbol s)) (found-symbol at k rest (both_pass (symbol_character k) _ passes).0 quiet ∙ (λ i. symbol_as at (no_pairs i) (is i))) (refl, refl))
+    (reads_by 1 (Some (kind.Symbol s)) (found-symbol at k rest (and_parts (symbol_character k) _ passes).0 quiet ∙ (λ i. symbol_as at (no_pairs i) (is i))) (refl, refl))
 
 pub make_reads : (at : Place) {front rest : List ℕ} {k : Kind} → Makes front rest k → ReadsFront at (front ++ rest) (length front) (Some k)
 make_reads at (a_word {first = first} {more = more} {rest = rest} {w = w} named is) =
     reads_by (length (first ∷ more)) (Some (kind.Word w)) (name_reads at first more rest named ∙ ap (λ o. name_as at o (encode_utf8_all (first ∷ more)) (length (first ∷ more))) (ap word_of is ∙ word_of-word_spelling w)) (refl, refl)
 make_reads at (a_name {first = first} {more = more} {rest = rest} named none short) =
     reads_by (length (first ∷ more)) (Some (kind.Name (encode_utf8_all (first ∷ more))))
-    (name_reads at first more rest named ∙ ap (λ o. name_as at o (encode_utf8_all (first ∷ more)) (length (first ∷ more))) (no_words (encode_utf8_all (first ∷ more)) none) ∙ second_choice (nat_lt 255 (length (encode_utf8_all (first ∷ more)))) _ _ (le-ltb 255 (length (encode_utf8_all (first ∷ more))) short)) (refl, refl)
+    (name_reads at first more rest named ∙ ap (λ o. name_as at o (encode_utf8_all (first ∷ more)) (length (first ∷ more))) (no_words (encode_utf8_all (first ∷ more)) none) ∙ second_choice (nat_lt MOST_NAME_BYTES (length (encode_utf8_all (first ∷ more)))) _ _ (le-ltb MOST_NAME_BYTES (length (encode_utf8_all (first ∷ more))) short)) (refl, refl)
 make_reads at (a_number {first = first} {more = more} {rest = rest} number low) =
     reads_by (length (first ∷ more)) (Some (kind.Number (digits_value 10 (first ∷ more))))
     (number_reads at first more rest number ∙ first_choice (nat_lt (digits_value 10 (first ∷ more)) (2 ^ 63)) _ _ (lt-ltb (digits_value 10 (first ∷ more)) (2 ^ 63) low)) (refl, refl)
 make_reads at (a_text {written = written} {meant = meant} {rest = rest} means short) =
     reads_by (length (quoted written)) (Some (kind.Text (encode_utf8_all meant)))
-    (closed_reads at means rest ∙ second_choice (nat_lt 65536 (length (encode_utf8_all meant))) _ _ (le-ltb 65536 (length (encode_utf8_all meant)) short)) (refl, refl)
+    (closed_reads at means rest ∙ second_choice (nat_lt MOST_TEXT_BYTES (length (encode_utf8_all meant))) _ _ (le-ltb MOST_TEXT_BYTES (length (encode_utf8_all meant)) short)) (refl, refl)
 make_reads at (a_symbol {s = s} {rest = rest} symbol) = symbol_reads at s rest symbol (shape s)
 
 -- ---- faults
@@ -274,7 +276,7 @@ bad_reads at c rest none =
     let no_dash : c ≡ 45 → ⊥ = λ is. none.no_symbol symbol.Minus rest (ap (λ c. c ∷ rest) is) in
     let quiet = not_true (begins_comment c (next_of rest)) (λ h. elim (one_passes (c == 35) (c == 45 && next_of rest == 45) h) [
       | inl a ↦ none.no_hash (eqb-true c 35 a)
-      | inr b ↦ no_dash (eqb-true c 45 (both_pass (c == 45) (next_of rest == 45) b).0)
+      | inr b ↦ no_dash (eqb-true c 45 (and_parts (c == 45) (next_of rest == 45) b).0)
     ]) in
     found-else at c rest (not_true (c == 10) (λ h. none.no_line_end (eqb-true c 10 h))) none.no_blank quiet none.no_name none.no_number (not_true (c == 34) (λ h. none.no_text (eqb-true c 34 h)))
     ∙ (λ i. symbol_as at (no_pair_where c rest (λ t more same two. none.no_symbol t more same) i) (no_single_where c rest none.no_symbol i))
@@ -284,7 +286,7 @@ wrong_reads at (bad_character {c = c} {rest = rest} none) = bad_reads at c rest 
 wrong_reads at (name_too_long {first = first} {more = more} {rest = rest} named long) =
     name_reads at first more rest named
     ∙ ap (λ o. name_as at o (encode_utf8_all (first ∷ more)) (length (first ∷ more))) (no_words (encode_utf8_all (first ∷ more)) (long_no_word (encode_utf8_all (first ∷ more)) long))
-    ∙ first_choice (nat_lt 255 (length (encode_utf8_all (first ∷ more)))) _ _ (lt-ltb 255 (length (encode_utf8_all (first ∷ more))) long)
+    ∙ first_choice (nat_lt MOST_NAME_BYTES (length (encode_utf8_all (first ∷ more)))) _ _ (lt-ltb MOST_NAME_BYTES (length (encode_utf8_all (first ∷ more))) long)
 wrong_reads at (literal_too_wide {first = first} {more = more} {rest = rest} number high) =
     number_reads at first more rest number ∙ second_choice (nat_lt (digits_value 10 (first ∷ more)) (2 ^ 63)) _ _ (le-ltb (digits_value 10 (first ∷ more)) (2 ^ 63) high)
 wrong_reads at (open_text {written = written} {meant = meant} {rest = rest} means ends) = open_reads at means rest ∙ ends_reads at (1 + length written) (encode_utf8_all meant) rest ends
@@ -294,4 +296,4 @@ wrong_reads at (bad_escape {written = written} {meant = meant} {rest = rest} {c 
     ∙ (λ i. Err (BadEscape (record { line = at.line; column = moved i })))
     ∙ ap (λ p. Err (BadEscape p)) (sym (place_after-within at (34 ∷ written) (both_true {s = true} refl (means_within means))))
 wrong_reads at (text_too_long {written = written} {meant = meant} {rest = rest} means long) =
-    closed_reads at means rest ∙ first_choice (nat_lt 65536 (length (encode_utf8_all meant))) _ _ (lt-ltb 65536 (length (encode_utf8_all meant)) long)
+    closed_reads at means rest ∙ first_choice (nat_lt MOST_TEXT_BYTES (length (encode_utf8_all meant))) _ _ (lt-ltb MOST_TEXT_BYTES (length (encode_utf8_all meant)) long)

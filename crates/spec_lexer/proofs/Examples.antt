@@ -57,7 +57,7 @@ comment : found start 45 (codes "- x\n") ≡ Ok (Blank 4)
 unfolding found
 comment = refl
 
--- a character that begins nothing, behind a number
+-- a character that begins nothing, after a number
 fault : Fails start (codes "1 ? 2") (BadCharacter (record { line = 1; column = 3 }))
 unfolding found number_found symbol_found pair_of single_of unicode_ident
 fault =

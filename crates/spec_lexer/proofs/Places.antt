@@ -1,11 +1,11 @@
--- Places behind characters of one line.
+-- Places after characters of one line.
 use Rattle.std.proofs.Common.{◌≡◌, ℕ, ◌+◌, Bool, true, false, List, [], ◌∷◌, ◌++◌, length, refl, ap, ◌∙◌, arith}
 use Rattle.std.specs.List.{list_all}
 use Rattle.std.specs.Prelude.{◌==◌, not, if◌then◌else◌}
 use Rattle.tsl_value.specs.declared.place.Place.{Place}
 use Rattle.spec_lexer.specs.Spelling.{is_within_line}
 use Rattle.spec_lexer.specs.Pieces.{place_past, place_after}
-use Rattle.spec_lexer.proofs.Runs.{both_pass}
+use Rattle.std.proofs.lemmas.Bool.{and_parts}
 
 fails_of_not : (b : Bool) → not b ≡ true → b ≡ false
 fails_of_not true h = cc
@@ -14,7 +14,7 @@ fails_of_not false h = refl
 pub place_after-within : (at : Place) (front : List ℕ) → list_all is_within_line front ≡ true → place_after at front ≡ record { line = at.line; column = at.column + length front }
 place_after-within at [] h = let same : at.column ≡ at.column + 0 = omega arith in λ i. record { line = at.line; column = same i }
 place_after-within at (c ∷ cs) h =
-    let parts = both_pass (is_within_line c) (list_all is_within_line cs) h in
+    let parts = and_parts (is_within_line c) (list_all is_within_line cs) h in
     let stays : place_past at c ≡ record { line = at.line; column = at.column + 1 } = ap (λ b. if b then (let p : Place = record { line = at.line + 1; column = 1 } in p) else record { line = at.line; column = at.column + 1 }) (fails_of_not (c == 10) parts.0) in
     let moved : (at.column + 1) + length cs ≡ at.column + length (c ∷ cs) = omega arith in
     ap (λ p. place_after p cs) stays

@@ -1,11 +1,8 @@
 -- The front of a list that passes a test.
-use Rattle.std.proofs.Common.{◌≡◌, ℕ, suc, ◌+◌, ◌&&◌, Bool, true, false, List, [], ◌∷◌, ◌++◌, length, take, drop, cond, refl, ap, subst, ◌∙◌, arith}
+use Rattle.std.proofs.Common.{◌≡◌, ℕ, suc, ◌+◌, Bool, true, false, List, [], ◌∷◌, ◌++◌, length, take, drop, cond, refl, ap, subst, ◌∙◌, arith}
 use Rattle.std.specs.List.{list_all, prefix_len}
+use Rattle.std.proofs.lemmas.Bool.{and_parts}
 use Rattle.spec_lexer.specs.Pieces.{StopsBefore, IsRun}
-
-pub both_pass : (a b : Bool) → (a && b) ≡ true → (a ≡ true) × (b ≡ true)
-both_pass true b h = (refl, h)
-both_pass false b h = cc
 
 -- the front that passes is all that does
 pub run_of : (p : ℕ → Bool) (cs : List ℕ) → IsRun p (take (prefix_len p cs) cs) (drop (prefix_len p cs) cs)
@@ -23,6 +20,6 @@ stopped p (c ∷ cs) h = ap (λ b. cond b (1 + prefix_len p cs) 0) h
 pub prefix_len-run : (p : ℕ → Bool) (front rest : List ℕ) → list_all p front ≡ true → StopsBefore p rest → prefix_len p (front ++ rest) ≡ length front
 prefix_len-run p [] rest passes stops = stopped p rest stops
 prefix_len-run p (c ∷ cs) rest passes stops =
-    let parts = both_pass (p c) (list_all p cs) passes in
+    let parts = and_parts (p c) (list_all p cs) passes in
     let others = prefix_len-run p cs rest parts.1 stops in
     ap (λ b. cond b (1 + prefix_len p (cs ++ rest)) 0) parts.0 ∙ omega (arith, others)

@@ -9,12 +9,13 @@ use Rattle.spec_lexer.specs.declared.token.Kind.{Kind}
 use Rattle.spec_lexer.specs.declared.token.Token.{Token}
 use Rattle.spec_lexer.specs.Found.{found}
 use Rattle.spec_lexer.specs.Pieces.{place_after, IsSkipped, line_end, Makes}
-use Rattle.spec_lexer.specs.Source.{Lexes, end, skip, token, Fails, here, past_skip, past_token, start, most_bytes, IsText, HasTokens, lexed, HasFault, too_long, fails}
-use Rattle.spec_lexer.specs.Laws.{SomeAnswer}
+use Rattle.spec_lexer.specs.Source.{Lexes, end, skip, token, Fails, here, past_skip, past_token, start, IsText, HasTokens, lexed, HasFault, too_long, fails}
+use Rattle.spec_lexer.specs.inner.Laws.{SomeAnswer}
 use Rattle.spec_lexer.specs.Tokens.{Spelled}
 use Rattle.std.proofs.lemmas.Bool.{cases_lt}
 use Rattle.spec_lexer.proofs.Sound.{Stands, sound}
 use Rattle.spec_lexer.proofs.Utf8.{text_or_front, no_text}
+use Rattle.spec_lexer.specs.declared.limits.TheConstants.{MOST_SOURCE_BYTES}
 
 abbrev Answer : Place → ℕ → List ℕ → Type 0
 Answer at last cs = ((tokens : List Token) × Lexes at last cs tokens) ⊎ ((fault : LexFault) × Fails at cs fault)
@@ -42,12 +43,12 @@ answers zero at last (c ∷ cs) h = absurd (omega arith)
 answers (suc n) at last (c ∷ cs) h = step n at last c cs (omega arith) (answers n) (found at c cs) (sound at c cs)
 
 -- a text of at most so many bytes
-text_answers : (bytes characters : List ℕ) → length bytes ≤ most_bytes → IsText characters bytes → Answer start 0 characters → ((spelled : Spelled) × HasTokens bytes spelled) ⊎ ((fault : LexFault) × HasFault bytes fault)
+text_answers : (bytes characters : List ℕ) → length bytes ≤ MOST_SOURCE_BYTES → IsText characters bytes → Answer start 0 characters → ((spelled : Spelled) × HasTokens bytes spelled) ⊎ ((fault : LexFault) × HasFault bytes fault)
 text_answers bytes characters short text (inl l) = inl (record { tokens = l.0; end = place_after start characters }, lexed short text l.1 refl)
 text_answers bytes characters short text (inr f) = inr (f.0, fails short text f.1)
 
 pub some_answer : SomeAnswer
-some_answer bytes = elim (cases_lt most_bytes (length bytes)) [
+some_answer bytes = elim (cases_lt MOST_SOURCE_BYTES (length bytes)) [
   | inl long ↦ inr (SpecTooLong start, too_long long)
   | inr short ↦ elim (text_or_front bytes) [
     | inl text ↦ text_answers bytes text.0 short (record { scalars = text.1.0; encoded = text.1.1 }) (answers (length text.0) start 0 text.0 (omega arith))

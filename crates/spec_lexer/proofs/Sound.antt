@@ -6,12 +6,13 @@ use Rattle.std.specs.Cmp.Derive.{both_true}
 use Rattle.std.specs.Char.{is_ascii_digit}
 use Rattle.std.specs.Prelude.{◌==◌, not, nat_lt, encode_utf8, encode_utf8_all}
 use Rattle.std.specs.Str.Parse.{digits_value}
-use Rattle.std.proofs.lemmas.Bool.{eqb-true, eq-eqb, ltb-true, ltb-false}
+use Rattle.std.proofs.lemmas.Bool.{eqb-true, eq-eqb, ltb-true, ltb-false, and_parts, or_parts}
 use Rattle.std.proofs.lemmas.List.{take-append-drop}
 use Rattle.std.proofs.lemmas.List.Folds.{length-prefix_len, list_all-append}
 use Rattle.unicode_ident.specs.Ident.{is_xid_continue}
 use Rattle.unicode_ident.proofs.IdentLemmas.{is_xid_continue-ascii}
 use Rattle.tsl_value.specs.declared.place.Place.{Place}
+use Rattle.tsl_value.specs.declared.limits.TheConstants.{MOST_TEXT_BYTES}
 use Rattle.spec_lexer.specs.declared.fault.LexFault.{LexFault}
 use Rattle.spec_lexer.specs.declared.fault.LexFault.TheVariants.{BadEscape}
 use Rattle.spec_lexer.specs.declared.piece.Piece.{Piece}
@@ -22,12 +23,13 @@ use Rattle.spec_lexer.specs.declared.token.Symbol.{Symbol}
 use Rattle.spec_lexer.specs.Spelling.{is_blank, is_within_line, begins_name, symbol_spelling, is_plain, escaped}
 use Rattle.spec_lexer.specs.Pieces.{place_after, IsSkipped, blank, hash, dashes, IsName, IsNumber, Means, nothing, plain, escape, quoted, Makes, word as a_word, name as a_name, number as a_number, text as a_text, symbol as a_symbol, at_end, at_line_end, at_last_backslash, IsWrong, bad_character, name_too_long, literal_too_wide, open_text, bad_escape, text_too_long}
 use Rattle.spec_lexer.specs.Found.{word_of, name_as, name_found, number_as, number_found, text_as, text_found, pair_of, single_of, symbol_as, symbol_found, next_of, begins_comment, found}
-use Rattle.spec_lexer.proofs.Choices.{by_test, one_passes, both_fail, not_true, no_such}
+use Rattle.spec_lexer.proofs.Choices.{by_test, one_passes, not_true, no_such}
 use Rattle.spec_lexer.proofs.Symbols.{pair_of-spells, single_of-spells, shape, double, single, spelled_within, no_nul, at_most_two, no_pair, no_single}
 use Rattle.spec_lexer.proofs.Places.{place_after-within}
 use Rattle.spec_lexer.proofs.Utf8.{encode-snoc}
 use Rattle.spec_lexer.proofs.Words.{word_of-spells, no_word}
-use Rattle.spec_lexer.proofs.Runs.{both_pass, run_of}
+use Rattle.spec_lexer.proofs.Runs.{run_of}
+use Rattle.spec_lexer.specs.declared.limits.TheConstants.{MOST_NAME_BYTES}
 
 -- a front of so many characters, within one line
 pub record Fronts (c : ℕ) (cs : List ℕ) (size : ℕ) (P : List ℕ → List ℕ → Type 0) : Type 0 where
@@ -68,25 +70,25 @@ after_dash (d ∷ ds) next = subst (λ d. Fronts 45 (d ∷ ds) (1 + prefix_len i
 comment_after : (c : ℕ) (cs : List ℕ) → begins_comment c (next_of cs) ≡ true → Fronts c cs (1 + prefix_len is_within_line cs) IsSkipped
 comment_after c cs begins = elim (one_passes (c == 35) (c == 45 && next_of cs == 45) begins) [
   | inl h ↦ subst (λ c. Fronts c cs (1 + prefix_len is_within_line cs) IsSkipped) (sym (eqb-true c 35 h)) (after_hash cs)
-  | inr h ↦ let parts = both_pass (c == 45) (next_of cs == 45) h in subst (λ c. Fronts c cs (1 + prefix_len is_within_line cs) IsSkipped) (sym (eqb-true c 45 parts.0)) (after_dash cs parts.1)
+  | inr h ↦ let parts = and_parts (c == 45) (next_of cs == 45) h in subst (λ c. Fronts c cs (1 + prefix_len is_within_line cs) IsSkipped) (sym (eqb-true c 45 parts.0)) (after_dash cs parts.1)
 ]
 
 -- ---- names and numbers
--- a run within a line, behind a first character
+-- a run within a line, after a first character
 front_of : (p : ℕ → Bool) (c : ℕ) (cs : List ℕ) → take (1 + prefix_len p cs) (c ∷ cs) ≡ c ∷ take (prefix_len p cs) cs
 front_of p c cs = let one : 1 + prefix_len p cs ≡ suc (prefix_len p cs) = omega arith in ap (λ n. take n (c ∷ cs)) one
 
-all_within : (p : ℕ → Bool) → p 10 ≡ false → (cs : List ℕ) → list_all p cs ≡ true → list_all is_within_line cs ≡ true
+pub all_within : (p : ℕ → Bool) → p 10 ≡ false → (cs : List ℕ) → list_all p cs ≡ true → list_all is_within_line cs ≡ true
 all_within p no_end [] h = refl
 all_within p no_end (c ∷ cs) h =
-    let parts = both_pass (p c) (list_all p cs) h in
+    let parts = and_parts (p c) (list_all p cs) h in
     both_true (ap not (no_such p 10 no_end c parts.0)) (all_within p no_end cs parts.1)
 
 module _ (at : Place) (c : ℕ) (cs more rest : List ℕ) (n : ℕ) (whole : cs ≡ more ++ rest) (counted : n ≡ 1 + length more) (within : list_all is_within_line (c ∷ more) ≡ true) where
   name_stands : IsName c more rest → (o : Option Word) → word_of (encode_utf8_all (c ∷ more)) ≡ o → Stands at c cs (name_as at o (encode_utf8_all (c ∷ more)) n)
   name_stands named (Some w) is = record { more = more; rest = rest; whole = whole; counted = counted; within = within; holds = a_word named (word_of-spells (encode_utf8_all (c ∷ more)) w is) }
   name_stands named None is =
-      by_test (Stands at c cs) (nat_lt 255 (length (encode_utf8_all (c ∷ more)))) _ _
+      by_test (Stands at c cs) (nat_lt MOST_NAME_BYTES (length (encode_utf8_all (c ∷ more)))) _ _
       (λ long. (c ∷ more, rest, ap (λ l. c ∷ l) whole, name_too_long named (ltb-true _ _ long)))
       (λ short. record { more = more; rest = rest; whole = whole; counted = counted; within = within; holds = a_name named (no_word (encode_utf8_all (c ∷ more)) is) (ltb-false _ _ short) })
 
@@ -128,7 +130,7 @@ one_escape_more c d is (plain h m) = plain h (one_escape_more c d is m)
 one_escape_more c d is (escape h m) = escape h (one_escape_more c d is m)
 
 plain_within : (c : ℕ) → is_plain c ≡ true → is_within_line c ≡ true
-plain_within c h = (both_pass (not (c == 92)) (not (c == 10)) (both_pass (not (c == 34)) (not (c == 92) && not (c == 10)) h).1).1
+plain_within c h = (and_parts (not (c == 92)) (not (c == 10)) (and_parts (not (c == 34)) (not (c == 92) && not (c == 10)) h).1).1
 
 escaped_within : (c d : ℕ) → escaped c ≡ Some d → is_within_line c ≡ true
 escaped_within c d h = ap not (not_true (c == 10) (λ is. let same = ap escaped (sym (eqb-true c 10 is)) ∙ h in cc))
@@ -142,15 +144,15 @@ module _ (at : Place) (cs : List ℕ) where
   text_stands : (written meant rest bytes : List ℕ) (n : ℕ) → Means written meant → bytes ≡ encode_utf8_all meant → n ≡ 1 + length written → cs ≡ written ++ 34 ∷ rest → Stands at 34 cs (text_as at bytes (n + 1))
   text_stands written meant rest bytes n means is counted whole =
       let closed : cs ≡ (written ++ 34 ∷ []) ++ rest = whole ∙ sym (append_assoc written (34 ∷ []) rest) in
-      by_test (Stands at 34 cs) (nat_lt 65536 (length bytes)) _ _
-      (λ long. (quoted written, rest, ap (λ l. 34 ∷ l) closed, text_too_long means (subst (λ b. 65536 < length b) is (ltb-true _ _ long))))
+      by_test (Stands at 34 cs) (nat_lt MOST_TEXT_BYTES (length bytes)) _ _
+      (λ long. (quoted written, rest, ap (λ l. 34 ∷ l) closed, text_too_long means (subst (λ b. MOST_TEXT_BYTES < length b) is (ltb-true _ _ long))))
       (λ short. record {
         more = written ++ 34 ∷ [];
         rest = rest;
         whole = closed;
         counted = omega (arith, counted, length-append written (34 ∷ []));
         within = both_true {s = true} refl (list_all-append is_within_line written (34 ∷ []) ∙ both_true (means_within means) refl);
-        holds = subst (λ b. Makes (quoted written) rest (kind.Text b)) (sym is) (a_text means (subst (λ b. length b ≤ 65536) is (ltb-false _ _ short)));
+        holds = subst (λ b. Makes (quoted written) rest (kind.Text b)) (sym is) (a_text means (subst (λ b. length b ≤ MOST_TEXT_BYTES) is (ltb-false _ _ short)));
       })
 
   mutual
@@ -255,7 +257,7 @@ sound_symbol at c cs no_end no_blank no_comment no_name no_digit no_quote =
           bad_character (record {
             no_blank = no_blank;
             no_line_end = λ is. let same = sym no_end ∙ eq-eqb c 10 is in cc;
-            no_hash = λ is. let same = sym ((both_fail (c == 35) (c == 45 && next_of cs == 45) no_comment).0) ∙ eq-eqb c 35 is in cc;
+            no_hash = λ is. let same = sym ((or_parts (c == 35) (c == 45 && next_of cs == 45) no_comment).0) ∙ eq-eqb c 35 is in cc;
             no_name = no_name;
             no_number = no_digit;
             no_text = λ is. let same = sym no_quote ∙ eq-eqb c 34 is in cc;

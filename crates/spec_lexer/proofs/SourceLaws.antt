@@ -14,9 +14,9 @@ use Rattle.spec_lexer.specs.declared.fault.LexFault.TheVariants.{BadUtf8}
 use Rattle.spec_lexer.specs.Tokens.{Spelled}
 use Rattle.spec_lexer.specs.Pieces.{place_after, Makes, word as a_word, name as a_name, number as a_number, text as a_text, symbol as a_symbol}
 use Rattle.spec_lexer.specs.Source.{Lexes, end, skip, token, Fails, IsFaultAnd, IfFault, IsUnlessMemory, start, IsText, HasTokens, lexed, HasFault, too_long, bad_utf8, fails}
-use Rattle.spec_lexer.specs.Laws.{OneList, OneFault, FaultExcludesTokens}
+use Rattle.spec_lexer.specs.inner.Laws.{OneList, OneFault, FaultExcludesTokens}
 use Rattle.spec_lexer.proofs.OneAnswer.{one_lexing, one_fault, never_both}
-use Rattle.spec_lexer.proofs.Runs.{both_pass}
+use Rattle.std.proofs.lemmas.Bool.{and_parts}
 use Rattle.spec_lexer.proofs.Symbols.{shape, double, single}
 use Rattle.spec_lexer.proofs.Utf8.{text_length}
 
@@ -24,7 +24,7 @@ some_bytes : (c : ℕ) (bs : List ℕ) → [] ≡ encode_utf8 c ++ bs → ⊥
 some_bytes c bs is = let size = ap length is ∙ length-append (encode_utf8 c) bs in omega (arith, size, length-encode c, len_utf8_bounds c)
 
 scalar_parts : (c : ℕ) (cs : List ℕ) → all_scalars (c ∷ cs) ≡ true → IsScalar c × (all_scalars cs ≡ true)
-scalar_parts c cs h = both_pass _ _ h
+scalar_parts c cs h = and_parts _ _ h
 
 -- whole characters, up to what begins with none
 same_characters : (cs ds r s : List ℕ) → all_scalars cs ≡ true → all_scalars ds ≡ true → encode_utf8_all cs ++ r ≡ encode_utf8_all ds ++ s → StartsWithNoChar r → StartsWithNoChar s → cs ≡ ds

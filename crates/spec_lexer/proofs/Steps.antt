@@ -14,7 +14,7 @@ use Rattle.spec_lexer.specs.Found.{found}
 use Rattle.spec_lexer.proofs.Places.{place_after-within, place_after-append}
 use Rattle.spec_lexer.proofs.Sound.{Fronts, Stands, sound}
 
--- the place behind so many characters of one line
+-- the place after so many characters of one line
 abbrev pub moved : Place → ℕ → Place
 moved at n = record { line = at.line; column = at.column + n }
 

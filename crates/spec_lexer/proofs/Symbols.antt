@@ -4,19 +4,18 @@ use Rattle.std.specs.List.{list_all}
 use Rattle.std.specs.Prelude.{◌==◌, not, nat_lt}
 use Rattle.std.specs.Char.{is_ascii_alphabetic, is_ascii_digit}
 use Rattle.std.specs.Cmp.Derive.{both_true}
-use Rattle.std.proofs.lemmas.Bool.{eqb-true}
+use Rattle.std.proofs.lemmas.Bool.{eqb-true, and_parts}
 use Rattle.spec_lexer.specs.declared.token.Symbol.{Symbol}
 use Rattle.spec_lexer.specs.declared.token.Symbol.TheVariants as symbol
 use Rattle.spec_lexer.specs.Spelling.{is_within_line, symbol_spelling}
 use Rattle.spec_lexer.specs.Found.{pair_of, single_of, next_of}
 use Rattle.spec_lexer.proofs.Choices.{Tells, tell_next, no_such}
-use Rattle.spec_lexer.proofs.Runs.{both_pass}
 
 one : (c k : ℕ) → (c == k) ≡ true → k ∷ [] ≡ c ∷ []
 one c k h = ap (λ x. x ∷ []) (sym (eqb-true c k h))
 
 two : (c d k l : ℕ) → (c == k && d == l) ≡ true → k ∷ l ∷ [] ≡ c ∷ d ∷ []
-two c d k l h = let parts = both_pass (c == k) (d == l) h in λ i. sym (eqb-true c k parts.0) i ∷ sym (eqb-true d l parts.1) i ∷ []
+two c d k l h = let parts = and_parts (c == k) (d == l) h in λ i. sym (eqb-true c k parts.0) i ∷ sym (eqb-true d l parts.1) i ∷ []
 
 pub pair_of-spells : (c d : ℕ) → Tells (λ s. symbol_spelling s ≡ c ∷ d ∷ []) (pair_of c d)
 unfolding pair_of
@@ -120,14 +119,14 @@ character_within c h = ap not (no_such symbol_character 10 refl c h)
 
 all_within : (cs : List ℕ) → list_all symbol_character cs ≡ true → list_all is_within_line cs ≡ true
 all_within [] h = refl
-all_within (c ∷ cs) h = let parts = both_pass (symbol_character c) (list_all symbol_character cs) h in both_true (character_within c parts.0) (all_within cs parts.1)
+all_within (c ∷ cs) h = let parts = and_parts (symbol_character c) (list_all symbol_character cs) h in both_true (character_within c parts.0) (all_within cs parts.1)
 
 pub spelled_within : (s : Symbol) → list_all is_within_line (symbol_spelling s) ≡ true
 spelled_within s = all_within (symbol_spelling s) (symbol_characters s)
 
 -- no second character is NUL
 pub no_nul : (s : Symbol) (c : ℕ) → symbol_spelling s ≡ c ∷ 0 ∷ [] → ⊥
-no_nul s c is = let passes = sym (symbol_characters s) ∙ ap (list_all symbol_character) is in let second = both_pass (symbol_character c) false (sym passes) in cc (second.1)
+no_nul s c is = let passes = sym (symbol_characters s) ∙ ap (list_all symbol_character) is in let second = and_parts (symbol_character c) false (sym passes) in cc (second.1)
 
 pub at_most_two : (s : Symbol) → length (symbol_spelling s) ≤ 2
 at_most_two s = elim (shape s) [

@@ -10,7 +10,8 @@ use Rattle.spec_lexer.specs.declared.fault.LexFault.{LexFault}
 use Rattle.spec_lexer.specs.declared.fault.LexFault.TheVariants.{BadUtf8}
 use Rattle.spec_lexer.specs.Tokens.{Spelled}
 use Rattle.spec_lexer.specs.Pieces.{place_after}
-use Rattle.spec_lexer.specs.Source.{start, most_bytes, IsText, Lexes, HasTokens, lexed, HasFault, bad_utf8}
+use Rattle.spec_lexer.specs.Source.{start, IsText, Lexes, HasTokens, lexed, HasFault, bad_utf8}
+use Rattle.spec_lexer.specs.declared.limits.TheConstants.{MOST_SOURCE_BYTES}
 
 -- one character more
 pub encode-snoc : (meant : List ℕ) (d : ℕ) (bytes : List ℕ) → bytes ≡ encode_utf8_all meant → bytes ++ encode_utf8 d ≡ encode_utf8_all (meant ++ d ∷ [])
@@ -30,7 +31,7 @@ no_character bs n valid c rest scalar is =
     let longer : n < m = omega (arith, length-append (take n bs) (encode_utf8 c), length-take-le n bs held, length-encode c, len_utf8_bounds c) in
     valid.longest m longer (subst IsUtf8 (sym front) (IsUtf8-append (take n bs) (encode_utf8 c) valid.front (IsUtf8-encode c scalar)))
 
-pub no_text : (bs cs : List ℕ) (n : ℕ) → length bs ≤ most_bytes → IsText cs (take n bs) → IsValidUpTo bs n → HasFault bs (BadUtf8 (place_after start cs))
+pub no_text : (bs cs : List ℕ) (n : ℕ) → length bs ≤ MOST_SOURCE_BYTES → IsText cs (take n bs) → IsValidUpTo bs n → HasFault bs (BadUtf8 (place_after start cs))
 no_text bs cs n short text valid =
     let size = length-drop n bs in
     bad_utf8 short (sym (take-append-drop n bs)) text (omega (arith, valid.short, size)) (no_character bs n valid)
@@ -76,6 +77,6 @@ text_or_front bs =
       | inr whole ↦ inl (subst IsUtf8 (take_all f.size bs whole) f.front)
     ]
 
-pub text_lexed : (bs cs : List ℕ) (r : Result Spelled LexFault) → length bs ≤ most_bytes → IsText cs bs → IfOk r (λ t. Lexes start 0 cs t.tokens) → IfOk r (λ t. t.end ≡ place_after start cs) → IfOk r (HasTokens bs)
+pub text_lexed : (bs cs : List ℕ) (r : Result Spelled LexFault) → length bs ≤ MOST_SOURCE_BYTES → IsText cs bs → IfOk r (λ t. Lexes start 0 cs t.tokens) → IfOk r (λ t. t.end ≡ place_after start cs) → IfOk r (HasTokens bs)
 text_lexed bs cs (Ok t) short text lexes ends = lexed short text lexes ends
 text_lexed bs cs (Err e) short text lexes ends = tt

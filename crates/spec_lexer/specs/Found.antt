@@ -1,6 +1,7 @@
 -- What the search for the piece in front finds, by computation. Contracts of private functions alone cite it. That it
 -- finds what the relations of `Pieces` allow, and all of it, is proved in proofs/Sound.antt and proofs/Complete.antt.
-use Rattle.std.specs.Prelude.{◌+◌, ◌^◌, ◌==◌, ◌||◌, ◌&&◌, ℕ, Bool, true, false, nat_lt, if◌then◌else◌, List, [], ◌∷◌, ◌++◌, length, take, codes, encode_utf8, encode_utf8_all, Option, Some, None, Result, Ok, Err}
+use Rattle.std.specs.Prelude.{◌+◌, ◌^◌, ◌==◌, ◌||◌, ◌&&◌, ℕ, Bool, true, false, nat_lt, if◌then◌else◌, List, [], ◌∷◌, ◌++◌, length, take}
+use Rattle.std.specs.Prelude.{codes, encode_utf8, encode_utf8_all, Option, Some, None, Result, Ok, Err}
 use Rattle.std.specs.Option.{option_map_or}
 use Rattle.std.specs.List.{prefix_len}
 use Rattle.std.specs.Str.{bytes_eq}
@@ -8,16 +9,19 @@ use Rattle.std.specs.Char.{is_ascii_digit}
 use Rattle.std.specs.Str.Parse.{digits_value}
 use Rattle.unicode_ident.specs.Ident.{is_xid_continue}
 use Rattle.tsl_value.specs.declared.place.Place.{Place}
+use Rattle.tsl_value.specs.declared.limits.TheConstants.{MOST_TEXT_BYTES}
 use Rattle.spec_lexer.specs.declared.token.Word.{Word}
 use Rattle.spec_lexer.specs.declared.token.Word.TheVariants as word
 use Rattle.spec_lexer.specs.declared.token.Symbol.{Symbol}
 use Rattle.spec_lexer.specs.declared.token.Symbol.TheVariants as symbol
 use Rattle.spec_lexer.specs.declared.token.Kind.TheVariants as kind
 use Rattle.spec_lexer.specs.declared.fault.LexFault.{LexFault}
-use Rattle.spec_lexer.specs.declared.fault.LexFault.TheVariants.{BadCharacter, OpenText, BadEscape, LiteralTooWide, TextTooLong, NameTooLong}
+use Rattle.spec_lexer.specs.declared.fault.LexFault.TheVariants.{BadCharacter, OpenText, BadEscape, LiteralTooWide, TextTooLong}
+use Rattle.spec_lexer.specs.declared.fault.LexFault.TheVariants.{NameTooLong}
 use Rattle.spec_lexer.specs.declared.piece.Piece.{Piece}
 use Rattle.spec_lexer.specs.declared.piece.Piece.TheVariants.{Blank, LineEnd, Made}
 use Rattle.spec_lexer.specs.Spelling.{is_blank, is_within_line, begins_name, escaped}
+use Rattle.spec_lexer.specs.declared.limits.TheConstants.{MOST_NAME_BYTES}
 
 abbrev pub word_of : List ℕ → Option Word
 word_of name =
@@ -34,11 +38,12 @@ word_of name =
 
 abbrev pub name_as : Place → Option Word → List ℕ → ℕ → Result Piece LexFault
 name_as at (Some w) name count = Ok (Made (kind.Word w) count)
-name_as at None name count = if nat_lt 255 (length name) then Err (NameTooLong at) else Ok (Made (kind.Name name) count)
+name_as at None name count = if nat_lt MOST_NAME_BYTES (length name) then Err (NameTooLong at) else Ok (Made (kind.Name name) count)
 
 -- a name or a word of so many characters
 unfoldable pub name_found : Place → List ℕ → ℕ → Result Piece LexFault
-name_found at characters count = name_as at (word_of (encode_utf8_all (take count characters))) (encode_utf8_all (take count characters)) count
+name_found at characters count =
+    name_as at (word_of (encode_utf8_all (take count characters))) (encode_utf8_all (take count characters)) count
 
 -- a number of so many digits
 abbrev pub number_as : Place → ℕ → ℕ → Result Piece LexFault
@@ -49,13 +54,14 @@ number_found at characters count = number_as at (digits_value 10 (take count cha
 
 -- a text whose bytes are read, of so many characters
 abbrev pub text_as : Place → List ℕ → ℕ → Result Piece LexFault
-text_as at bytes count = if nat_lt 65536 (length bytes) then Err (TextTooLong at) else Ok (Made (kind.Text bytes) count)
+text_as at bytes count = if nat_lt MOST_TEXT_BYTES (length bytes) then Err (TextTooLong at) else Ok (Made (kind.Text bytes) count)
 
--- the rest of a text, behind so many characters, which mean the bytes, and perhaps a backslash
+-- the rest of a text, after so many characters, which mean the bytes, and perhaps a backslash
 unfoldable pub text_found : Place → ℕ → List ℕ → Bool → List ℕ → Result Piece LexFault
 text_found at count bytes backslash [] = Err (OpenText at)
 text_found at count bytes true (c ∷ cs) =
-    option_map_or (λ d. text_found at (count + 2) (bytes ++ encode_utf8 d) false cs) (escaped c) (Err (BadEscape (record at { column = at.column + count })))
+    option_map_or (λ d. text_found at (count + 2) (bytes ++ encode_utf8 d) false cs) (escaped c)
+    (Err (BadEscape (record at { column = at.column + count })))
 text_found at count bytes false (c ∷ cs) =
     if c == 34 then text_as at bytes (count + 1)
     else if c == 10 then Err (OpenText at)

@@ -1,19 +1,23 @@
 -- The pieces of a source. Each is a front of some characters, and what follows it is the rest.
-use Rattle.std.specs.Prelude.{◌≡◌, ◌≢◌, ◌≤◌, ◌<◌, ◌+◌, ◌^◌, ◌==◌, ℕ, Bool, true, false, if◌then◌else◌, List, [], ◌∷◌, ◌++◌, length, encode_utf8_all, Some, None}
+use Rattle.std.specs.Prelude.{◌≡◌, ◌≢◌, ◌≤◌, ◌<◌, ◌+◌, ◌^◌, ◌==◌, ℕ, Bool, true, false, if◌then◌else◌, List, [], ◌∷◌, ◌++◌, length}
+use Rattle.std.specs.Prelude.{encode_utf8_all, Some, None}
 use Rattle.std.specs.List.{list_all}
 use Rattle.std.specs.Char.{is_ascii_digit}
 use Rattle.std.specs.Str.Parse.{digits_value}
 use Rattle.unicode_ident.specs.Ident.{is_xid_continue}
 use Rattle.tsl_value.specs.declared.place.Place.{Place}
+use Rattle.tsl_value.specs.declared.limits.TheConstants.{MOST_TEXT_BYTES}
 use Rattle.spec_lexer.specs.declared.token.Word.{Word}
 use Rattle.spec_lexer.specs.declared.token.Symbol.{Symbol}
 use Rattle.spec_lexer.specs.declared.token.Kind.{Kind}
 use Rattle.spec_lexer.specs.declared.token.Kind.TheVariants as kind
 use Rattle.spec_lexer.specs.declared.fault.LexFault.{LexFault}
-use Rattle.spec_lexer.specs.declared.fault.LexFault.TheVariants.{BadCharacter, OpenText, BadEscape, LiteralTooWide, TextTooLong, NameTooLong}
+use Rattle.spec_lexer.specs.declared.fault.LexFault.TheVariants.{BadCharacter, OpenText, BadEscape, LiteralTooWide, TextTooLong}
+use Rattle.spec_lexer.specs.declared.fault.LexFault.TheVariants.{NameTooLong}
 use Rattle.spec_lexer.specs.Spelling.{is_blank, is_within_line, begins_name, word_spelling, symbol_spelling, is_plain, escaped}
+use Rattle.spec_lexer.specs.declared.limits.TheConstants.{MOST_NAME_BYTES}
 
--- the place behind characters: LF begins a line, and each other character takes a column
+-- the place after characters: LF begins a line, and each other character takes a column
 abbrev pub place_past : Place → ℕ → Place
 place_past at c = if c == 10 then record { line = at.line + 1; column = 1 } else record { line = at.line; column = at.column + 1 }
 
@@ -50,7 +54,10 @@ pub record IsNumber (first : ℕ) (more rest : List ℕ) : Type 0 where
 
 -- a symbol is spelled, none with a longer spelling is, and no comment begins
 pub record IsSymbol (symbol : Symbol) (rest : List ℕ) : Type 0 where
-  pub longest : (other : Symbol) (more : List ℕ) → symbol_spelling symbol ++ rest ≡ symbol_spelling other ++ more → length (symbol_spelling other) ≤ length (symbol_spelling symbol)
+  pub longest :
+      (other : Symbol) (more : List ℕ) →
+      symbol_spelling symbol ++ rest ≡ symbol_spelling other ++ more →
+      length (symbol_spelling other) ≤ length (symbol_spelling symbol)
   pub no_comment : (more : List ℕ) → symbol_spelling symbol ++ rest ≢ 45 ∷ 45 ∷ more
 
 -- characters between quotes, and those that they mean
@@ -81,7 +88,7 @@ pub data Makes : List ℕ → List ℕ → Kind → Type 0 where
       {first : ℕ} {more rest : List ℕ} →
       IsName first more rest →
       ((w : Word) → encode_utf8_all (first ∷ more) ≢ word_spelling w) →
-      length (encode_utf8_all (first ∷ more)) ≤ 255 →
+      length (encode_utf8_all (first ∷ more)) ≤ MOST_NAME_BYTES →
       Makes (first ∷ more) rest (kind.Name (encode_utf8_all (first ∷ more)))
   number :
       {first : ℕ} {more rest : List ℕ} →
@@ -91,7 +98,7 @@ pub data Makes : List ℕ → List ℕ → Kind → Type 0 where
   text :
       {written meant rest : List ℕ} →
       Means written meant →
-      length (encode_utf8_all meant) ≤ 65536 →
+      length (encode_utf8_all meant) ≤ MOST_TEXT_BYTES →
       Makes (quoted written) rest (kind.Text (encode_utf8_all meant))
   symbol : {s : Symbol} {rest : List ℕ} → IsSymbol s rest → Makes (symbol_spelling s) rest (kind.Symbol s)
 
@@ -117,7 +124,7 @@ pub data IsWrong (at : Place) : List ℕ → List ℕ → LexFault → Type 0 wh
   name_too_long :
       {first : ℕ} {more rest : List ℕ} →
       IsName first more rest →
-      255 < length (encode_utf8_all (first ∷ more)) →
+      MOST_NAME_BYTES < length (encode_utf8_all (first ∷ more)) →
       IsWrong at (first ∷ more) rest (NameTooLong at)
   literal_too_wide :
       {first : ℕ} {more rest : List ℕ} →
@@ -137,5 +144,5 @@ pub data IsWrong (at : Place) : List ℕ → List ℕ → LexFault → Type 0 wh
   text_too_long :
       {written meant rest : List ℕ} →
       Means written meant →
-      65536 < length (encode_utf8_all meant) →
+      MOST_TEXT_BYTES < length (encode_utf8_all meant) →
       IsWrong at (quoted written) rest (TextTooLong at)

@@ -8,6 +8,7 @@ use Rattle.spec_lexer.specs.declared.fault.LexFault.{LexFault}
 use Rattle.spec_lexer.specs.declared.fault.LexFault.TheVariants.{SpecTooLong, BadUtf8, Memory}
 use Rattle.spec_lexer.specs.Tokens.{Spelled}
 use Rattle.spec_lexer.specs.Pieces.{place_after, IsSkipped, Makes, IsWrong}
+use Rattle.spec_lexer.specs.declared.limits.TheConstants.{MOST_SOURCE_BYTES}
 
 -- Characters have these tokens where the first stands at a place, and the last token before them in a line,
 -- 0 where there is none. A token is the first of its line where the last one before it is in another.
@@ -49,10 +50,6 @@ pub data Fails : Place → List ℕ → LexFault → Type 0 where
 abbrev pub start : Place
 start = record { line = 1; column = 1 }
 
--- the most bytes that a source has
-abbrev pub most_bytes : ℕ
-most_bytes = 1048576
-
 -- the bytes are the characters in UTF-8
 pub record IsText (characters bytes : List ℕ) : Type 0 where
   pub scalars : all_scalars characters ≡ true
@@ -61,17 +58,17 @@ pub record IsText (characters bytes : List ℕ) : Type 0 where
 pub data HasTokens : List ℕ → Spelled → Type 0 where
   lexed :
       {bytes characters : List ℕ} {spelled : Spelled} →
-      length bytes ≤ most_bytes →
+      length bytes ≤ MOST_SOURCE_BYTES →
       IsText characters bytes →
       Lexes start 0 characters spelled.tokens →
       spelled.end ≡ place_after start characters →
       HasTokens bytes spelled
 
 pub data HasFault : List ℕ → LexFault → Type 0 where
-  too_long : {bytes : List ℕ} → most_bytes < length bytes → HasFault bytes (SpecTooLong start)
+  too_long : {bytes : List ℕ} → MOST_SOURCE_BYTES < length bytes → HasFault bytes (SpecTooLong start)
   bad_utf8 :
       {bytes characters front rest : List ℕ} →
-      length bytes ≤ most_bytes →
+      length bytes ≤ MOST_SOURCE_BYTES →
       bytes ≡ front ++ rest →
       IsText characters front →
       0 < length rest →
@@ -79,13 +76,13 @@ pub data HasFault : List ℕ → LexFault → Type 0 where
       HasFault bytes (BadUtf8 (place_after start characters))
   fails :
       {bytes characters : List ℕ} {fault : LexFault} →
-      length bytes ≤ most_bytes →
+      length bytes ≤ MOST_SOURCE_BYTES →
       IsText characters bytes →
       Fails start characters fault →
       HasFault bytes fault
 
 -- ---- answers
--- what holds of a fault; want of memory is free
+-- what holds of a fault; out of memory is free
 abbrev pub IsFaultAnd : LexFault → (LexFault → Type 0) → Type 0
 IsFaultAnd Memory P = Unit {0}
 IsFaultAnd e P = P e
@@ -94,6 +91,6 @@ abbrev pub IfFault : {X : Type 0} → Result X LexFault → (LexFault → Type 0
 IfFault (Ok x) P = Unit {0}
 IfFault (Err e) P = IsFaultAnd e P
 
--- the result, where memory is not wanting
+-- the result, unless out of memory
 abbrev pub IsUnlessMemory : {X : Type 0} → Result X LexFault → Result X LexFault → Type 0
 IsUnlessMemory result expected = (result ≡ expected) ⊎ (result ≡ Err Memory)

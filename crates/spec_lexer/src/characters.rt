@@ -1,4 +1,4 @@
-// Runs of characters, their bytes, and the places behind them.
+// Runs of characters, their bytes, and the places after them.
 
 ghost use Rattle.std.specs.Prelude.{◌≡◌, ◌≤◌, ◌<◌, ◌^◌, length, drop, IfOk, encode_utf8_all};
 ghost use Rattle.spec_lexer.specs.Pieces.{place_after};
@@ -38,8 +38,8 @@ pub(crate) fn skip(characters: &[char], count: usize) -> &[char]
     &characters[count..]
 }
 
-/// The place behind characters that begin at the start of a source.
-pub(crate) fn place_behind(characters: &[char]) -> Place
+/// The place after characters that begin at the start of a source.
+pub(crate) fn place_following(characters: &[char]) -> Place
     requires { length characters.now < 2 ^ 31 }
     ensures { result ≡ place_after start characters.now }
 {

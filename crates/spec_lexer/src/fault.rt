@@ -26,7 +26,7 @@ pub enum LexFault {
     TextTooLong { place: Place },
     /// A name of over 255 bytes.
     NameTooLong { place: Place },
-    /// Memory was wanting.
+    /// Out of memory.
     Memory,
 }
 

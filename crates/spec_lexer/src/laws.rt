@@ -1,6 +1,6 @@
 // Laws of sources, as the contracts of functions that do nothing.
 
-ghost use Rattle.spec_lexer.specs.Laws.{OneList, OneFault, FaultExcludesTokens, SomeAnswer};
+ghost use Rattle.spec_lexer.specs.inner.Laws.{OneList, OneFault, FaultExcludesTokens, SomeAnswer};
 
 /// A source has one list of tokens at most.
 pub fn one_list()

@@ -7,16 +7,14 @@ ghost use Rattle.spec_lexer.specs.declared.fault.LexFault.{LexFault as Fault};
 ghost use Rattle.spec_lexer.specs.Tokens.{Spelled};
 ghost use Rattle.spec_lexer.specs.Source.{Lexes, Fails, IsText, HasTokens, HasFault, IfFault, IsUnlessMemory, start};
 
-use crate::characters::{START, characters_of, place_behind, skip};
+use crate::characters::{START, characters_of, place_following, skip};
 use crate::fault::LexFault;
+use crate::limits::MOST_SOURCE_BYTES;
 use crate::piece::{Piece, piece_at};
 use crate::token::Token;
 use crate::tokens::Tokens;
 use std::alloc::Global;
 use tsl_value::place::Place;
-
-/// The most bytes that a source has.
-const MAX_SOURCE: usize = 1_048_576;
 
 /// The tokens of characters that begin at the start of a source, or their first fault.
 fn lex_characters(alloc: Global, characters: &[char]) -> Result<Tokens, LexFault>
@@ -72,7 +70,7 @@ fn valid_front(source: &[u8], count: usize) -> &str
 
 /// The characters of a source that is not too long.
 fn decode(alloc: Global, source: &[u8]) -> Result<Vec<char>, LexFault>
-    requires { length source.now ≤ MAX_SOURCE }
+    requires { length source.now ≤ MOST_SOURCE_BYTES }
     ensures text { IfOk result (λ v. IsText v.items source.now) }
     ensures fault { IfFault result (HasFault source.now) }
 {
@@ -81,7 +79,7 @@ fn decode(alloc: Global, source: &[u8]) -> Result<Vec<char>, LexFault>
         Err(error) => {
             let front = characters_of(alloc, valid_front(source, error.valid_up_to()))?;
             Err(LexFault::BadUtf8 {
-                place: place_behind(front.as_slice()),
+                place: place_following(front.as_slice()),
             })
         }
     }
@@ -97,12 +95,12 @@ pub fn lex(alloc: Global, source: &[u8]) -> Result<Tokens, LexFault>
     ensures few { IfOk result (λ t. length t.tokens ≤ length source.now) }
     ensures fault { IfFault result (HasFault source.now) }
 
-    // Where memory is not wanting, the tokens come wherever a source has them, and so does each
+    // Unless out of memory, the tokens come wherever a source has them, and so does each
     // fault.
     ensures tokens_exactly { (spelled : Spelled) → HasTokens source.now spelled → IsUnlessMemory result (Ok spelled) }
     ensures fault_exactly { (e : Fault) → HasFault source.now e → IsUnlessMemory result (Err e) }
 {
-    if source.len() > MAX_SOURCE {
+    if source.len() > MOST_SOURCE_BYTES {
         return Err(LexFault::SpecTooLong { place: START });
     }
     let characters = decode(alloc, source)?;

@@ -16,12 +16,12 @@ mod characters;
 pub mod fault;
 pub mod laws;
 pub mod lex;
+pub mod limits;
 mod name;
+pub mod natural;
 mod number;
 mod piece;
 mod quoted;
 mod symbol;
-#[cfg(test)]
-mod tests;
 pub mod token;
 pub mod tokens;

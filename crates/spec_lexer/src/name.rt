@@ -8,13 +8,11 @@ ghost use Rattle.spec_lexer.specs.Source.{IfFault};
 
 use crate::characters::text_of;
 use crate::fault::LexFault;
+use crate::limits::MOST_NAME_BYTES;
 use crate::piece::Piece;
 use crate::token::{Kind, Word};
 use std::alloc::Global;
 use tsl_value::place::Place;
-
-/// The most bytes that a name has.
-const MAX_NAME: usize = 255;
 
 /// The word that is spelled so.
 fn word(name: &str) -> Option<Word>
@@ -64,7 +62,7 @@ pub(crate) fn name_at(
     if let Some(word) = word(name.as_str()) {
         return Ok(Piece::Made(Kind::Word(word), count));
     }
-    if name.len() > MAX_NAME {
+    if name.len() > MOST_NAME_BYTES {
         return Err(LexFault::NameTooLong { place: at });
     }
     Ok(Piece::Made(Kind::Name(name), count))

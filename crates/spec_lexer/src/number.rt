@@ -8,6 +8,7 @@ ghost use Rattle.spec_lexer.specs.Source.{IfFault};
 
 use crate::characters::text_of;
 use crate::fault::LexFault;
+use crate::natural::Natural;
 use crate::piece::Piece;
 use crate::token::Kind;
 use std::alloc::Global;
@@ -42,7 +43,10 @@ pub(crate) fn number_at(
     let count = 1 + digits(after);
     let digits = text_of(alloc, &characters[..count])?;
     match digits.as_str().parse::<u64>() {
-        Ok(number) if number <= MAX_NUMBER => Ok(Piece::Made(Kind::Number(number), count)),
+        Ok(number) if number <= MAX_NUMBER => {
+            let kind = Kind::Number(Natural::new(number));
+            Ok(Piece::Made(kind, count))
+        }
         _ => Err(LexFault::LiteralTooWide { place: at }),
     }
 }

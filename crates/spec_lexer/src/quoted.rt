@@ -9,11 +9,9 @@ use crate::fault::LexFault;
 use crate::piece::Piece;
 use crate::token::Kind;
 use std::alloc::Global;
+use tsl_value::limits::MOST_TEXT_BYTES;
 use tsl_value::place::Place;
 use tsl_value::text::Text;
-
-/// The most bytes that a text has once its escapes are read.
-const MAX_TEXT: usize = 65_536;
 
 /// The character that a backslash and this one stand for.
 fn escaped(c: char) -> Option<char>
@@ -74,7 +72,7 @@ fn made(at: Place, text: Text, count: usize) -> Result<Piece, LexFault>
     ensures ok { IfOk result (λ p. Ok p ≡ text_as at text count) }
     ensures fault { IfFault result (λ e. Err e ≡ text_as at text count) }
 {
-    if text.len() > MAX_TEXT {
+    if text.len() > MOST_TEXT_BYTES {
         Err(LexFault::TextTooLong { place: at })
     } else {
         Ok(Piece::Made(Kind::Text(text), count))

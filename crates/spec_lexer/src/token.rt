@@ -1,5 +1,6 @@
 // Tokens.
 
+use crate::natural::Natural;
 use tsl_value::place::Place;
 use tsl_value::text::Text;
 
@@ -78,7 +79,7 @@ pub enum Kind {
     /// A name as it is written, of at most 255 bytes.
     Name(Text),
     /// The number that the digits spell, at most 9,223,372,036,854,775,807.
-    Number(u64),
+    Number(Natural),
     /// What a text means once its escapes are read, without its quotes: at most 65,536 bytes.
     Text(Text),
     Word(Word),

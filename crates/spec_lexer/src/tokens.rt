@@ -9,7 +9,7 @@ use std::marker::Model;
 use tsl_value::memory::NoMemory;
 use tsl_value::place::Place;
 
-/// The tokens of a source in order, and the place behind its last character.
+/// The tokens of a source in order, and the place after its last character.
 #[derive(Drop)]
 pub struct Tokens {
     items: Vec<Token>,
@@ -38,7 +38,7 @@ impl Tokens {
         }
     }
 
-    /// Appends a token. Where memory is wanting, nothing changes.
+    /// Appends a token. Out of memory, nothing changes.
     pub fn push(&mut self, item: Token) -> Result<(), NoMemory>
         ensures ok { OnOk result (self.new.tokens ≡ self.old.tokens ++ item ∷ []) }
         ensures err { OnErr result (self.new.tokens ≡ self.old.tokens) }
@@ -48,7 +48,7 @@ impl Tokens {
         Ok(())
     }
 
-    /// Sets the place behind the last character of the source.
+    /// Sets the place after the last character of the source.
     pub fn set_end(&mut self, end: Place)
         ensures tokens { self.new.tokens ≡ self.old.tokens }
         ensures end { self.new.end ≡ end }
@@ -77,7 +77,7 @@ impl Tokens {
         self.items.as_slice()
     }
 
-    /// The place behind the last character of the source.
+    /// The place after the last character of the source.
     pub fn end(&self) -> Place
         ensures { result ≡ self.now.end }
     {

@@ -8,27 +8,28 @@ use Rattle.spec_lexer.specs.declared.token.Kind.{Kind}
 use Rattle.spec_lexer.specs.declared.token.Kind.TheVariants as kind
 use Rattle.spec_lexer.specs.declared.token.Word.TheVariants as word
 use Rattle.spec_lexer.specs.declared.token.Symbol.TheVariants as symbol
-use Rattle.token_reader.specs.Reader.{Unexpected, Outcome, Read, Stopped, Turn, Lister, give, and_then, ◌>>=◌, when, taken, take_by, expect, tried, if_next, chosen, or_else, opened, many}
+use Rattle.token_reader.specs.inner.Reader.{Unexpected, Outcome, Read, Stopped, Turn, Lister, give, and_then, ◌>>=◌, when, taken, take_by, expect, tried, if_next, chosen, or_else, opened, many}
 use Rattle.token_reader.proofs.ManyLaws.{many_none}
 use Rattle.token_reader.proofs.Meets.{expect_is, passes_by, taken_by, tried_by, not_tried, many_stop, many_go}
 use Rattle.spec_parser.specs.declared.tree.Level.{Level}
 use Rattle.spec_parser.specs.declared.tree.Level.TheVariants as level
 use Rattle.spec_parser.specs.declared.tree.Operator.{Operator}
 use Rattle.spec_parser.specs.declared.tree.Comparison.{Comparison}
-use Rattle.spec_parser.specs.declared.tree.Dotted.{Dotted}
+use Rattle.vocabulary.specs.declared.dotted.Dotted.{Dotted}
 use Rattle.spec_parser.specs.declared.words.TypedWord.{TypedWord}
-use Rattle.spec_parser.specs.declared.words.Family.{Family}
+use Rattle.vocabulary.specs.declared.dotted.Family.{Family}
 use Rattle.spec_parser.specs.declared.words.Member.{Member}
 use Rattle.spec_parser.specs.declared.words.Member.TheVariants as member
-use Rattle.spec_parser.specs.declared.words.Family.TheVariants as family
+use Rattle.vocabulary.specs.declared.dotted.Family.TheVariants as family
 use Rattle.spec_parser.specs.Tree as tree
 use Rattle.spec_parser.specs.Tree.{TypeName, Expr, Exprs, no_exprs, more_exprs, Links, no_links, more_links, place_of}
-use Rattle.spec_parser.specs.Words.{operator_at, comparison_at, opens_call, is_number, is_close, is_open_bracket, is_close_bracket, is_open_brace, is_comma, is_if, is_then, is_else, typed_word_of, family_of, family_name, family_in, member_name, goes_on}
+use Rattle.vocabulary.specs.Table.{family_of, family_name, family_in, member_name}
+use Rattle.spec_parser.specs.Words.{operator_at, comparison_at, opens_call, is_number, is_close, is_open_bracket, is_close_bracket, is_open_brace, is_comma, is_if, is_then, is_else, typed_word_of, goes_on}
 use Rattle.spec_parser.specs.Grammar.{Is, IsNamed, IsPast, IsPastLevel, IsPastComparison, IsPastName, IsType, unit, int, bool, string, set, map, option, events, chained, IsExpr, choice, chain, IsLevel, operands, AreLinks, no_link, one_link, IsOperand, conjunction, no_comparison, comparison, product, unary, IsUnary, negative, negate, negation, primary, IsPrimary, number, text, truth, falsity, parens, nothing, name, call, call_dotted, nil, none, empty_set, empty_map, AreOthers, no_other, one_other}
-use Rattle.spec_parser.specs.Reading as read
-use Rattle.spec_parser.specs.Reading.{Reader, must, in_brackets, two_in_brackets, type_behind, at_type, a_type, type_in, link, links_of, behind_operand, others_of, behind_argument, arguments, typed, member_of, must_call, member_behind, at_member, a_member, behind_name, called, at_number, negated, in_parens, at_unary, second_sum, compared, if_false, if_true, all_levels, expression, within, prefixed, unary_at, operand_at}
+use Rattle.spec_parser.specs.inner.Reading as read
+use Rattle.spec_parser.specs.inner.Reading.{Reader, must, in_brackets, two_in_brackets, type_after, at_type, a_type, type_in, link, links_of, after_operand, others_of, after_argument, arguments, typed, member_of, must_call, member_after, at_member, a_member, after_name, called, at_number, negated, in_parens, at_unary, second_sum, compared, if_false, if_true, all_levels, expression, within, prefixed, unary_at, operand_at}
 use Rattle.spec_parser.proofs.Ends.{signs, if_is, close_is, open_brace_is}
-use Rattle.spec_parser.proofs.Names.{family_again, member_again}
+use Rattle.spec_parser.proofs.Names.{family_again, member_again, empty_set_again, empty_map_again}
 use Rattle.spec_parser.proofs.ExprLaws.{turn_others}
 use Rattle.spec_parser.proofs.LevelLaws.{within_known}
 use Rattle.spec_parser.proofs.Levels.{links_local, others_local}
@@ -72,7 +73,7 @@ others_stop room (t ∷ ts) h = many_stop signs (others_of (within room)) (other
 
 arguments_is : {A : Type 0} (room : ℕ) (f : Exprs → A) (ts us rest : List Token) (v : Token) (e : Expr) (es : Exprs) → within room ts ≡ Read e us → many (others_of (within room)) us ≡ Read es (v ∷ rest) → Is v symbol.Close → arguments (within room) f ts ≡ Read (f (more_exprs e es)) rest
 arguments_is room f ts us rest v e es h k closes =
-    passes_by (within room) (behind_argument (within room) f) ts us e h
+    passes_by (within room) (after_argument (within room) f) ts us e h
     ∙ passes_by (many (others_of (within room))) (λ es. must is_close (give (f (more_exprs e es)))) us (v ∷ rest) es k
     ∙ must_is is_close (give (f (more_exprs e es))) (kind.Symbol symbol.Close) v rest closes refl
 
@@ -84,7 +85,7 @@ some_none : {A : Type 0} (o : Option A) → is_some o ≡ false → o ≡ None
 some_none None h = refl
 some_none (Some a) h = cc
 
-nothing_on : (room : ℕ) (place : Place) (n : List ℕ) (k : Kind) (first : Bool) → goes_on n k first ≡ false → behind_name room (type_in room) (within room) place n k first ≡ None
+nothing_on : (room : ℕ) (place : Place) (n : List ℕ) (k : Kind) (first : Bool) → goes_on n k first ≡ false → after_name room (type_in room) (within room) place n k first ≡ None
 nothing_on room place n (kind.Symbol symbol.Open) first h = λ i. when (h i) (opened room (arguments (within room) (tree.Call place n)))
 nothing_on room place n (kind.Symbol symbol.OpenBracket) first h = ap (option_map (typed room (type_in room) place)) (some_none (typed_word_of n) h)
 nothing_on room place n (kind.Symbol symbol.Dot) first h = ap (option_map (a_member room (type_in room) (within room) place)) (some_none (family_of n) h)
@@ -96,9 +97,9 @@ nothing_on room place n (kind.Text m) first h = refl
 
 name_alone : (room : ℕ) (place : Place) (n : List ℕ) (ts : List Token) → IsPastName n ts → called room (type_in room) (within room) place n ts ≡ Read (tree.Name place n) ts
 name_alone room place n [] h = refl
-name_alone room place n (u ∷ ts) h = not_tried (λ t. behind_name room (type_in room) (within room) place n t.kind t.first) (tree.Name place n) u ts (nothing_on room place n u.kind u.first h)
+name_alone room place n (u ∷ ts) h = not_tried (λ t. after_name room (type_in room) (within room) place n t.kind t.first) (tree.Name place n) u ts (nothing_on room place n u.kind u.first h)
 
-call_turn : (room : ℕ) (place : Place) (n : List ℕ) (k : Kind) (first : Bool) → opens_call k first ≡ true → behind_name room (type_in room) (within room) place n k first ≡ Some (opened room (arguments (within room) (tree.Call place n)))
+call_turn : (room : ℕ) (place : Place) (n : List ℕ) (k : Kind) (first : Bool) → opens_call k first ≡ true → after_name room (type_in room) (within room) place n k first ≡ Some (opened room (arguments (within room) (tree.Call place n)))
 call_turn room place n (kind.Symbol symbol.Open) first h = λ i. when (h i) (opened room (arguments (within room) (tree.Call place n)))
 call_turn room place n (kind.Symbol _) first h = cc
 call_turn room place n (kind.Word w) first h = cc
@@ -106,17 +107,17 @@ call_turn room place n (kind.Name m) first h = cc
 call_turn room place n (kind.Number m) first h = cc
 call_turn room place n (kind.Text m) first h = cc
 
--- a dot behind the name of a family, and the name behind it
-dot_is : (room : ℕ) (t d m : Token) (f : Family) (n : List ℕ) (w : Member) (us : List Token) → IsNamed t (family_name f) → Is d symbol.Dot → IsNamed m n → member_of f n ≡ Some w → unary_at room (t ∷ d ∷ m ∷ us) ≡ member_behind room (type_in room) (within room) t.place w us
+-- a dot after the name of a family, and the name after it
+dot_is : (room : ℕ) (t d m : Token) (f : Family) (n : List ℕ) (w : Member) (us : List Token) → IsNamed t (family_name f) → Is d symbol.Dot → IsNamed m n → member_of f n ≡ Some w → unary_at room (t ∷ d ∷ m ∷ us) ≡ member_after room (type_in room) (within room) t.place w us
 dot_is room t d m f n w us is dot named h =
     unary_name room t (family_name f) (d ∷ m ∷ us) is
-    ∙ tried_by (λ u. behind_name room (type_in room) (within room) t.place (family_name f) u.kind u.first) (tree.Name t.place (family_name f)) (a_member room (type_in room) (within room) t.place f) d (m ∷ us) (ap (λ k. behind_name room (type_in room) (within room) t.place (family_name f) k d.first) dot ∙ ap (option_map (a_member room (type_in room) (within room) t.place)) (family_again f))
-    ∙ taken_by (λ u. at_member room (type_in room) (within room) t.place f u.kind) (member_behind room (type_in room) (within room) t.place w) m us (ap (at_member room (type_in room) (within room) t.place f) named ∙ ap (option_map (member_behind room (type_in room) (within room) t.place)) h)
+    ∙ tried_by (λ u. after_name room (type_in room) (within room) t.place (family_name f) u.kind u.first) (tree.Name t.place (family_name f)) (a_member room (type_in room) (within room) t.place f) d (m ∷ us) (ap (λ k. after_name room (type_in room) (within room) t.place (family_name f) k d.first) dot ∙ ap (option_map (a_member room (type_in room) (within room) t.place)) (family_again f))
+    ∙ taken_by (λ u. at_member room (type_in room) (within room) t.place f u.kind) (member_after room (type_in room) (within room) t.place w) m us (ap (at_member room (type_in room) (within room) t.place f) named ∙ ap (option_map (member_after room (type_in room) (within room) t.place)) h)
 
 typed_turn : (room : ℕ) (t u : Token) (n : List ℕ) (w : TypedWord) (ts : List Token) → IsNamed t n → Is u symbol.OpenBracket → typed_word_of n ≡ Some w → unary_at room (t ∷ u ∷ ts) ≡ typed room (type_in room) t.place w ts
 typed_turn room t u n w ts is opens h =
     unary_name room t n (u ∷ ts) is
-    ∙ tried_by (λ u. behind_name room (type_in room) (within room) t.place n u.kind u.first) (tree.Name t.place n) (typed room (type_in room) t.place w) u ts (ap (λ k. behind_name room (type_in room) (within room) t.place n k u.first) opens ∙ ap (option_map (typed room (type_in room) t.place)) h)
+    ∙ tried_by (λ u. after_name room (type_in room) (within room) t.place n u.kind u.first) (tree.Name t.place n) (typed room (type_in room) t.place w) u ts (ap (λ k. after_name room (type_in room) (within room) t.place n k u.first) opens ∙ ap (option_map (typed room (type_in room) t.place)) h)
 
 unary_open : (room : ℕ) (t : Token) (ts : List Token) → Is t symbol.Open → unary_at room (t ∷ ts) ≡ opened room (in_parens (within room) t.place) ts
 unary_open room t ts is = λ k. taken (at_unary room (type_in room) (within room) (prefixed room) (is k) t.place) t ts
@@ -124,7 +125,7 @@ unary_open room t ts is = λ k. taken (at_unary room (type_in room) (within room
 -- a level stops where its first operand does
 abbrev levels_of : ℕ → Outcome Token Expr → Outcome Token Expr
 levels_of room o =
-    and_then (and_then (and_then (and_then (and_then o (behind_operand level.Product (operand_at level.Product room))) (behind_operand level.Sum (operand_at level.Sum room))) (λ a. if_next (λ t. option_map (second_sum (read.chain level.Sum (operand_at level.Sum room)) a) (comparison_at t.kind)) a)) (behind_operand level.Conjunction (operand_at level.Conjunction room))) (behind_operand level.Disjunction (operand_at level.Disjunction room))
+    and_then (and_then (and_then (and_then (and_then o (after_operand level.Product (operand_at level.Product room))) (after_operand level.Sum (operand_at level.Sum room))) (λ a. if_next (λ t. option_map (second_sum (read.chain level.Sum (operand_at level.Sum room)) a) (comparison_at t.kind)) a)) (after_operand level.Conjunction (operand_at level.Conjunction room))) (after_operand level.Disjunction (operand_at level.Disjunction room))
 
 levels_stop : (room : ℕ) (t : Token) (ts : List Token) → unary_at room (t ∷ ts) ≡ Stopped Unexpected (t ∷ ts) → all_levels (unary_at room) (t ∷ ts) ≡ Stopped Unexpected (t ∷ ts)
 levels_stop room t ts h = ap (levels_of room) h
@@ -179,7 +180,7 @@ links_go : (l : Level) (room : ℕ) (t : Token) (o : Operator) (ts us rest : Lis
 links_go l room t o ts us rest e ls is a b = many_go signs (links_of l (operand_at l room)) (links_local l room) t (link (operand_at l room) o) ts us rest (o, e) ls (ap (option_map (link (operand_at l room))) is) (ap (λ (q : Outcome Token Expr). and_then {T = Token} {A = Expr} {B = Operator × Expr} q (λ e. give (o, e))) a) b
 
 level_is : (l : Level) (room : ℕ) (ts us rest : List Token) (e : Expr) (ls : Links) → operand_at l room ts ≡ Read e us → many (links_of l (operand_at l room)) us ≡ Read ls rest → read.chain l (operand_at l room) ts ≡ Read (chained l e ls) rest
-level_is l room ts us rest e ls a b = passes_by (operand_at l room) (behind_operand l (operand_at l room)) ts us e a ∙ passes_by (many (links_of l (operand_at l room))) (λ ls. give (chained l e ls)) us rest ls b
+level_is l room ts us rest e ls a b = passes_by (operand_at l room) (after_operand l (operand_at l room)) ts us e a ∙ passes_by (many (links_of l (operand_at l room))) (λ ls. give (chained l e ls)) us rest ls b
 
 abbrev sums : ℕ → Reader Expr
 sums room = read.chain level.Sum (operand_at level.Sum room)
@@ -260,7 +261,7 @@ mutual
   primary_complete {room} (name {t = t} {ts = ts} {n = n} is h) = unary_name room t n ts is ∙ name_alone room t.place n ts h
   primary_complete (call {room = room} {t = t} {u = u} {v = v} {ts = ts} {us = us} {rest = rest} {n = n} {e = e} {es = es} is opens d others closes) =
       unary_name (suc room) t n (u ∷ ts) is
-      ∙ tried_by (λ u. behind_name (suc room) (type_in (suc room)) (within (suc room)) t.place n u.kind u.first) (tree.Name t.place n) (arguments (within (suc room)) (tree.Call t.place n)) u ts (call_turn (suc room) t.place n u.kind u.first opens)
+      ∙ tried_by (λ u. after_name (suc room) (type_in (suc room)) (within (suc room)) t.place n u.kind u.first) (tree.Name t.place n) (arguments (within (suc room)) (tree.Call t.place n)) u ts (call_turn (suc room) t.place n u.kind u.first opens)
       ∙ arguments_is (suc room) (tree.Call t.place n) ts us rest v e es (expr_complete d) (others_complete others) closes
   primary_complete (call_dotted {room = room} {t = t} {d = d} {m = m} {u = u} {v = v} {ts = ts} {us = us} {rest = rest} {o = o} {e = e} {es = es} is dot named opens x others closes) =
       dot_is (suc room) t d m (family_in o) (member_name o) (member.Called o) (u ∷ ts) is dot named (member_again o)
@@ -268,8 +269,8 @@ mutual
       ∙ arguments_is (suc room) (tree.CallDotted t.place o) ts us rest v e es (expr_complete x) (others_complete others) closes
   primary_complete (nil {room = room} {t = t} {u = u} {v = v} {ts = ts} {rest = rest} {y = y} is opens d closes) = typed_turn (suc room) t u (codes "nil") _ ts is opens refl ∙ in_brackets_is (type_in (suc room)) (tree.Nil t.place) ts rest v y (type_complete d) closes
   primary_complete (none {room = room} {t = t} {u = u} {v = v} {ts = ts} {rest = rest} {y = y} is opens d closes) = typed_turn (suc room) t u (codes "None") _ ts is opens refl ∙ in_brackets_is (type_in (suc room)) (tree.None t.place) ts rest v y (type_complete d) closes
-  primary_complete (empty_set {room = room} {t = t} {d = d} {m = m} {u = u} {v = v} {ts = ts} {rest = rest} {y = y} is dot named opens x closes) = dot_is (suc room) t d m family.Set (codes "empty") member.EmptySet (u ∷ ts) is dot named refl ∙ bracketed_is (type_in (suc room)) room (tree.EmptySet t.place) u ts rest v y opens (type_complete x) closes
-  primary_complete (empty_map {room = room} {t = t} {d = d} {m = m} {u = u} {v = v} {w = w} {ts = ts} {us = us} {rest = rest} {x = x} {y = y} is dot named opens a comma b closes) = dot_is (suc room) t d m family.Map (codes "empty") member.EmptyMap (u ∷ ts) is dot named refl ∙ bracketed_two_is (type_in (suc room)) room (tree.EmptyMap t.place) u ts us rest v w x y opens (type_complete a) comma (type_complete b) closes
+  primary_complete (empty_set {room = room} {t = t} {d = d} {m = m} {u = u} {v = v} {ts = ts} {rest = rest} {y = y} is dot named opens x closes) = dot_is (suc room) t d m family.Set (codes "empty") member.EmptySet (u ∷ ts) is dot named empty_set_again ∙ bracketed_is (type_in (suc room)) room (tree.EmptySet t.place) u ts rest v y opens (type_complete x) closes
+  primary_complete (empty_map {room = room} {t = t} {d = d} {m = m} {u = u} {v = v} {w = w} {ts = ts} {us = us} {rest = rest} {x = x} {y = y} is dot named opens a comma b closes) = dot_is (suc room) t d m family.Map (codes "empty") member.EmptyMap (u ∷ ts) is dot named empty_map_again ∙ bracketed_two_is (type_in (suc room)) room (tree.EmptyMap t.place) u ts us rest v w x y opens (type_complete a) comma (type_complete b) closes
 
   others_complete : {room : ℕ} {ts rest : List Token} {es : Exprs} → AreOthers room ts es rest → many (others_of (within (suc room))) ts ≡ Read es rest
   others_complete {room} (no_other {ts = ts} h) = others_stop (suc room) ts h

@@ -9,7 +9,7 @@ use Rattle.spec_lexer.specs.declared.token.Word.{Word}
 use Rattle.spec_lexer.specs.declared.token.Word.TheVariants as word
 use Rattle.spec_lexer.specs.declared.token.Symbol.{Symbol}
 use Rattle.spec_lexer.specs.declared.token.Symbol.TheVariants as symbol
-use Rattle.token_reader.specs.Reader.{Signs}
+use Rattle.token_reader.specs.inner.Reader.{Signs}
 use Rattle.spec_parser.specs.declared.tree.Level.{Level}
 use Rattle.spec_parser.specs.declared.tree.Level.TheVariants as level
 use Rattle.spec_parser.specs.Words.{operator_at, comparison_at, opens_call, is_number, is_open, is_close, is_open_bracket, is_close_bracket, is_open_brace, is_close_brace, is_comma, is_colon, is_if, is_then, is_else, is_as, is_def, may_open, opens_level, is_minus, is_number_next}

@@ -8,7 +8,7 @@ use Rattle.spec_lexer.specs.declared.token.Kind.{Kind}
 use Rattle.spec_lexer.specs.declared.token.Kind.TheVariants as kind
 use Rattle.spec_lexer.specs.declared.token.Word.TheVariants as word
 use Rattle.spec_lexer.specs.declared.token.Symbol.TheVariants as symbol
-use Rattle.token_reader.specs.Reader.{TooDeep, Lister, give, refuse, and_then, ◌>>=◌, when, taken, take_by, expect, if_next, chosen, or_else, opened, many}
+use Rattle.token_reader.specs.inner.Reader.{TooDeep, Lister, give, refuse, and_then, ◌>>=◌, when, taken, take_by, expect, if_next, chosen, or_else, opened, many}
 use Rattle.token_reader.proofs.LocalLaws.{CarefulAt, IsCareful, IsLocal, IsLocalTurn, IsEager, Declines, Stays, eagerly, declining, calmly, local-give, local-take_by, local-bind, local-expect, local-or_else, local_when, declines_when, eager-take_by, eager-bind, eager-or_else, eager-refuse}
 use Rattle.token_reader.proofs.ManyLaws.{many_end, careful-many, local-many}
 use Rattle.token_reader.proofs.CarefulLaws.{careful-give, careful-test, careful-take_by, careful-bind, careful-if_next, careful-or_else, local-closed, local-mapped}
@@ -18,19 +18,20 @@ use Rattle.spec_parser.specs.declared.tree.Level.{Level}
 use Rattle.spec_parser.specs.declared.tree.Level.TheVariants as level
 use Rattle.spec_parser.specs.declared.tree.Operator.{Operator}
 use Rattle.spec_parser.specs.declared.tree.Comparison.{Comparison}
-use Rattle.spec_parser.specs.declared.tree.Dotted.{Dotted}
-use Rattle.spec_parser.specs.declared.tree.Dotted.TheVariants as dotted
+use Rattle.vocabulary.specs.declared.dotted.Dotted.{Dotted}
+use Rattle.vocabulary.specs.declared.dotted.Dotted.TheVariants as dotted
 use Rattle.spec_parser.specs.declared.words.TypedWord.{TypedWord}
 use Rattle.spec_parser.specs.declared.words.TypedWord.TheVariants as typed_word
-use Rattle.spec_parser.specs.declared.words.Family.{Family}
-use Rattle.spec_parser.specs.declared.words.Family.TheVariants as family
+use Rattle.vocabulary.specs.declared.dotted.Family.{Family}
+use Rattle.vocabulary.specs.declared.dotted.Family.TheVariants as family
 use Rattle.spec_parser.specs.declared.words.Member.{Member}
 use Rattle.spec_parser.specs.declared.words.Member.TheVariants as member
 use Rattle.spec_parser.specs.Tree as tree
 use Rattle.spec_parser.specs.Tree.{TypeName, Expr, Exprs, no_exprs, more_exprs, Links, no_links, more_links, place_of}
-use Rattle.spec_parser.specs.Words.{operator_at, comparison_at, opens_call, is_number, is_close, is_open_bracket, is_comma, is_if, is_then, is_else, may_open, is_minus, is_number_next, opens_level, typed_word_of, family_of}
+use Rattle.vocabulary.specs.Table.{family_of, dotted_of}
+use Rattle.spec_parser.specs.Words.{operator_at, comparison_at, opens_call, is_number, is_close, is_open_bracket, is_comma, is_if, is_then, is_else, may_open, is_minus, is_number_next, opens_level, typed_word_of}
 use Rattle.spec_parser.specs.Grammar.{chained}
-use Rattle.spec_parser.specs.Reading.{Reader, must, in_brackets, two_in_brackets, type_in, link, links_of, behind_operand, chain, others_of, behind_argument, arguments, typed, member_of, must_call, member_behind, at_member, a_member, behind_name, called, at_number, negated, in_parens, at_unary, unary, second_sum, compared, if_false, if_true, choice, all_levels, expression, within, prefixed}
+use Rattle.spec_parser.specs.inner.Reading.{Reader, must, in_brackets, two_in_brackets, type_in, link, links_of, after_operand, chain, others_of, after_argument, arguments, typed, member_of, must_call, member_after, at_member, a_member, after_name, called, at_number, negated, in_parens, at_unary, unary, second_sum, compared, if_false, if_true, choice, all_levels, expression, within, prefixed}
 use Rattle.spec_parser.proofs.Ends.{ends, signs, start, sample, a_name, a_truth, comma_goes_on, if_goes_on, operator_goes_on, comparison_goes_on, close_is, comma_is, else_is, if_is, then_is, open_bracket_is, call_is}
 use Rattle.spec_parser.proofs.TypeLaws.{Opens, opens_as, any_token, type_brackets, type_brackets_pass, must_type, must_types, must_type_careful, must_types_careful, type_completes, no_room}
 
@@ -61,16 +62,16 @@ module _ (j : Reader Expr) (lj : IsLocal signs j) where
   skips_others r h = many_end signs (others_of j) turn_others declines_others r h
 
   module _ {A : Type 0} (f : Exprs → A) where
-    behind_argument_careful : (e : Expr) → IsCareful signs (behind_argument j f e)
-    behind_argument_careful e = careful-bind signs (many (others_of j)) (λ es. must is_close (give (f (more_exprs e es)))) local_others careful_others (λ es. careful-test signs closes (give (f (more_exprs e es))) (local-give signs (f (more_exprs e es))))
+    after_argument_careful : (e : Expr) → IsCareful signs (after_argument j f e)
+    after_argument_careful e = careful-bind signs (many (others_of j)) (λ es. must is_close (give (f (more_exprs e es)))) local_others careful_others (λ es. careful-test signs closes (give (f (more_exprs e es))) (local-give signs (f (more_exprs e es))))
 
     arguments_local : IsLocal signs (arguments j f)
-    arguments_local = local-bind signs j (behind_argument j f) lj
+    arguments_local = local-bind signs j (after_argument j f) lj
         (λ e. careful-bind signs (many (others_of j)) (λ es. must is_close (give (f (more_exprs e es)))) local_others careful_others (λ es. careful-test signs closes (give (f (more_exprs e es))) (local-give signs (f (more_exprs e es)))))
         (λ e. local-closed signs closes (many (others_of j)) (λ es. f (more_exprs e es)) local_others)
 
     arguments_complete : Completes signs j → Completes signs (arguments j f)
-    arguments_complete cj = completes-bind signs j (behind_argument j f) (all-skips signs (many (others_of j)) (λ e es. must is_close (give (f (more_exprs e es)))) (all-expect signs closes a_close refl (λ (x : Expr × Exprs). give (f (more_exprs x.0 x.1))) (each-give signs (λ (x : Expr × Exprs). f (more_exprs x.0 x.1))) refl) no_exprs skips_others) cj
+    arguments_complete cj = completes-bind signs j (after_argument j f) (all-skips signs (many (others_of j)) (λ e es. must is_close (give (f (more_exprs e es)))) (all-expect signs closes a_close refl (λ (x : Expr × Exprs). give (f (more_exprs x.0 x.1))) (each-give signs (λ (x : Expr × Exprs). f (more_exprs x.0 x.1))) refl) no_exprs skips_others) cj
 
   module _ (place : Place) where
     false_each : (c : Expr) → Completes signs j → CompletesEach signs (λ a. j >>= λ b. give (tree.If place c a b))
@@ -109,7 +110,7 @@ module _ (i j : Reader Expr) (ij : IsFine signs i j) (ci : Completes signs i) (c
   comma_turn t = fine_when signs t i j ij (is_comma t.kind) (λ h. plainly (ap may_open (comma_is t.kind h)) di)
 
   arguments_fine : {A : Type 0} (f : Exprs → A) → IsFine signs (arguments i f) (arguments j f)
-  arguments_fine f = fine-bind signs i j (behind_argument i f) (behind_argument j f) ij
+  arguments_fine f = fine-bind signs i j (after_argument i f) (after_argument j f) ij
       (on-skips signs (many (others_of i)) (many (others_of j)) (fine-many signs no_exprs more_exprs (others_of i).turn (others_of j).turn comma_turn (declines_others i ij.local) (declines_others j ij.deeper)) (careful_others i ij.local) (careful_others j ij.deeper)
       (λ e es. must is_close (give (f (more_exprs e es)))) (λ e es. must is_close (give (f (more_exprs e es)))) (on-close signs closes a_close refl refl close_plain (λ (x : Expr × Exprs). f (more_exprs x.0 x.1))) no_exprs (skips_others i ij.local) (skips_others j ij.deeper))
 
@@ -148,7 +149,7 @@ module _ (room : ℕ) (i j : Reader Expr) (inner : Known room i j) where
   opened_arguments f = fine_opened signs room (arguments i f) (arguments j f) (λ r e. arguments_fine i j inner.fine (inner.completes r e) inner.deeper (inner.careful r e) inner.deeper_careful f) (arguments_local j inner.fine.deeper f) (arguments_complete j inner.fine.deeper f inner.deeper)
 
   arguments_pass : {A : Type 0} (f : Exprs → A) (t : Token) → Opens t → Passes signs t (opened room (arguments i f))
-  arguments_pass f t o = passes_opened signs t room (arguments i f) o.0 o.1 (λ r e. careful-bind signs i (behind_argument i f) inner.fine.local (inner.careful r e) (λ x. behind_argument_careful i inner.fine.local f x)) (λ r e. arguments_complete i inner.fine.local f (inner.completes r e))
+  arguments_pass f t o = passes_opened signs t room (arguments i f) o.0 o.1 (λ r e. careful-bind signs i (after_argument i f) inner.fine.local (inner.careful r e) (λ x. after_argument_careful i inner.fine.local f x)) (λ r e. arguments_complete i inner.fine.local f (inner.completes r e))
 
   pub opened_choice : (place : Place) → IsFine signs (opened room (choice i place)) (choice j place)
   opened_choice place = fine_opened signs room (choice i place) (choice j place) (λ r e. choice_fine i j inner.fine (inner.completes r e) inner.deeper (inner.careful r e) inner.deeper_careful place) (choice_local j inner.fine.deeper place) (choice_complete j inner.fine.deeper place inner.deeper)
@@ -174,17 +175,17 @@ module _ (room : ℕ) (i j : Reader Expr) (inner : Known room i j) where
   abbrev opening_at : Token → Bool
   opening_at t = opens_call t.kind t.first
 
-  member_fine : (place : Place) (m : Member) → IsFine signs (member_behind room (type_in room) i place m) (member_behind (suc room) (type_in (suc room)) j place m)
+  member_fine : (place : Place) (m : Member) → IsFine signs (member_after room (type_in room) i place m) (member_after (suc room) (type_in (suc room)) j place m)
   member_fine place (member.Called o) = fine-expect signs opening_at (sample (kind.Symbol symbol.Open)) refl (opened room (arguments i (tree.CallDotted place o))) (arguments j (tree.CallDotted place o)) (opened_arguments (tree.CallDotted place o)) (λ t h. arguments_pass (tree.CallDotted place o) t (call_opens t h)) (arguments_complete j inner.fine.deeper (tree.CallDotted place o) inner.deeper)
   member_fine place member.EmptySet = must_type room (tree.EmptySet place)
   member_fine place member.EmptyMap = must_types room (tree.EmptyMap place)
 
-  member_careful : (place : Place) (m : Member) → IsCareful signs (member_behind room (type_in room) i place m)
+  member_careful : (place : Place) (m : Member) → IsCareful signs (member_after room (type_in room) i place m)
   member_careful place (member.Called o) = careful-test signs opening_at (opened room (arguments i (tree.CallDotted place o))) (opened_arguments (tree.CallDotted place o)).local
   member_careful place member.EmptySet = must_type_careful room (tree.EmptySet place)
   member_careful place member.EmptyMap = must_types_careful room (tree.EmptyMap place)
 
-  member_turn : (t : Token) (place : Place) → may_open t.kind ≡ false → (o : Option Member) → IsFineTurn signs t (option_map (member_behind room (type_in room) i place) o) (option_map (member_behind (suc room) (type_in (suc room)) j place) o)
+  member_turn : (t : Token) (place : Place) → may_open t.kind ≡ false → (o : Option Member) → IsFineTurn signs t (option_map (member_after room (type_in room) i place) o) (option_map (member_after (suc room) (type_in (suc room)) j place) o)
   member_turn t place plain None = tt
   member_turn t place plain (Some m) = (member_fine place m, plainly plain (member_careful place m))
 
@@ -197,6 +198,7 @@ module _ (room : ℕ) (i j : Reader Expr) (inner : Known room i j) where
 
   -- each family has a function of this name
   a_member_complete : (place : Place) (f : Family) → Completes signs (a_member (suc room) (type_in (suc room)) j place f)
+  unfolding member_of dotted_of
   a_member_complete place family.Set r h = let c = arguments_complete j inner.fine.deeper (tree.CallDotted place dotted.SetSize) inner.deeper r h in (sample (kind.Name (codes "size")) ∷ sample (kind.Symbol symbol.Open) ∷ c.0, c.1, c.2)
   a_member_complete place family.Map r h = let c = arguments_complete j inner.fine.deeper (tree.CallDotted place dotted.MapSize) inner.deeper r h in (sample (kind.Name (codes "size")) ∷ sample (kind.Symbol symbol.Open) ∷ c.0, c.1, c.2)
   a_member_complete place family.Text r h = let c = arguments_complete j inner.fine.deeper (tree.CallDotted place dotted.StringSize) inner.deeper r h in (sample (kind.Name (codes "size")) ∷ sample (kind.Symbol symbol.Open) ∷ c.0, c.1, c.2)
@@ -211,13 +213,13 @@ module _ (room : ℕ) (i j : Reader Expr) (inner : Known room i j) where
   dot_turn t place plain None = tt
   dot_turn t place plain (Some f) = (a_member_fine place f, plainly plain (a_member_careful place f))
 
-  name_turn : (t : Token) (place : Place) (n : List ℕ) (k : Kind) → t.kind ≡ k → IsFineTurn signs t (behind_name room (type_in room) i place n k t.first) (behind_name (suc room) (type_in (suc room)) j place n k t.first)
+  name_turn : (t : Token) (place : Place) (n : List ℕ) (k : Kind) → t.kind ≡ k → IsFineTurn signs t (after_name room (type_in room) i place n k t.first) (after_name (suc room) (type_in (suc room)) j place n k t.first)
   name_turn t place n (kind.Symbol symbol.Open) e = fine_when signs t (opened room (arguments i (tree.Call place n))) (arguments j (tree.Call place n)) (opened_arguments (tree.Call place n)) (not t.first) (λ h. arguments_pass (tree.Call place n) t (opens_as t (kind.Symbol symbol.Open) e refl refl))
   name_turn t place n (kind.Symbol symbol.OpenBracket) e = typed_turn t place (opens_as t (kind.Symbol symbol.OpenBracket) e refl refl) (typed_word_of n)
   name_turn t place n (kind.Symbol symbol.Dot) e = dot_turn t place (ap may_open e) (family_of n)
   name_turn t place n _ e = tt
 
-  name_declines : (types : Reader TypeName) (x : Reader Expr) (room : ℕ) (place : Place) (n : List ℕ) (k : Kind) (first : Bool) → ends k ≡ true → behind_name room types x place n k first ≡ None
+  name_declines : (types : Reader TypeName) (x : Reader Expr) (room : ℕ) (place : Place) (n : List ℕ) (k : Kind) (first : Bool) → ends k ≡ true → after_name room types x place n k first ≡ None
   name_declines types x room place n (kind.Symbol symbol.Open) first h = cc
   name_declines types x room place n (kind.Symbol symbol.OpenBracket) first h = cc
   name_declines types x room place n (kind.Symbol symbol.Dot) first h = cc
@@ -228,10 +230,10 @@ module _ (room : ℕ) (i j : Reader Expr) (inner : Known room i j) where
   name_declines types x room place n (kind.Text m) first h = refl
 
   called_fine : (place : Place) (n : List ℕ) → IsFine signs (called room (type_in room) i place n) (called (suc room) (type_in (suc room)) j place n)
-  called_fine place n = fine-if_next signs (λ t. behind_name room (type_in room) i place n t.kind t.first) (λ t. behind_name (suc room) (type_in (suc room)) j place n t.kind t.first) (λ t. name_turn t place n t.kind refl) (λ t h. name_declines (type_in room) i room place n t.kind t.first h) (λ t h. name_declines (type_in (suc room)) j (suc room) place n t.kind t.first h) (tree.Name place n)
+  called_fine place n = fine-if_next signs (λ t. after_name room (type_in room) i place n t.kind t.first) (λ t. after_name (suc room) (type_in (suc room)) j place n t.kind t.first) (λ t. name_turn t place n t.kind refl) (λ t h. name_declines (type_in room) i room place n t.kind t.first h) (λ t h. name_declines (type_in (suc room)) j (suc room) place n t.kind t.first h) (tree.Name place n)
 
   called_careful : (place : Place) (n : List ℕ) → IsCareful signs (called room (type_in room) i place n)
-  called_careful place n = careful-may signs (λ t. behind_name room (type_in room) i place n t.kind t.first) (λ t. behind_name (suc room) (type_in (suc room)) j place n t.kind t.first) (λ t. name_turn t place n t.kind refl) (tree.Name place n)
+  called_careful place n = careful-may signs (λ t. after_name room (type_in room) i place n t.kind t.first) (λ t. after_name (suc room) (type_in (suc room)) j place n t.kind t.first) (λ t. name_turn t place n t.kind refl) (tree.Name place n)
 
 -- prefix operators
 module _ (room : ℕ) (p q : Reader Expr) (operand : Known room p q) where
@@ -314,7 +316,7 @@ module _ (room : ℕ) (p q : Reader Expr) (operand : Known room p q) where
     not_false true h = refl
     not_false false h = cc
 
-    -- a word may stand behind a minus that opens a level
+    -- a word may stand after a minus that opens a level
     negated_begun : (r : ℕ) → Begins signs a_truth p → CompletesAt signs t (negated (suc r) p t.place)
     negated_begun r b k h = let x = b k h in (a_truth ∷ [], tree.Negate t.place x.0, ap (λ q. and_then q (λ e. give (tree.Negate t.place e))) x.1, inr refl)
 

@@ -7,17 +7,17 @@ use Rattle.spec_lexer.specs.declared.token.Kind.{Kind}
 use Rattle.spec_lexer.specs.declared.token.Kind.TheVariants as kind
 use Rattle.spec_lexer.specs.declared.token.Word.TheVariants as word
 use Rattle.spec_lexer.specs.declared.token.Symbol.TheVariants as symbol
-use Rattle.token_reader.specs.Reader.{Signs, TooDeep, Read, give, refuse, and_then, ◌>>=◌, when, take_by, if_next, or_else, or_given, alone, opened, many}
+use Rattle.token_reader.specs.inner.Reader.{Signs, TooDeep, Read, give, refuse, and_then, ◌>>=◌, when, take_by, if_next, or_else, or_given, alone, opened, many}
 use Rattle.token_reader.proofs.LocalLaws.{IsEnd, IsCareful, IsLocal, IsLocalTurn, Declines, Stays, declining, local-give, local-take_by, local-bind, local-expect, local_when, declines_when}
 use Rattle.token_reader.proofs.ManyLaws.{many_end, careful-many, local-many}
 use Rattle.token_reader.proofs.CarefulLaws.{careful-give, careful-test, careful-take_by, careful-bind, careful-or_else, careful-alone, local-closed, local-mapped}
 use Rattle.token_reader.proofs.ViableLaws.{Passes, plainly, opening, at_once, Completes, CompletesAll, CompletesEach, Begins, Skips, completes-give, completes-bind, completes-begins, begins-bind, begins-or_else, each-give, each-one, each-bind, all-expect, all-skips, skips-if_next}
 use Rattle.token_reader.proofs.Fine.{IsFine, IsFineTurn, GoesOn, fine-give, fine-too_deep, fine-bind, fine-take_by, fine-if_next, fine-or_else, fine-many, fine-expect, fine_when, fine-alone, fine_opened, mapped, careful-turns, careful-deeper, careful-may, careful-may_deeper, careful-all, careful-all_deeper, skips-many, skips-deeper, on-give, on-expect, on-close, on-skips, on-begins, closed, passes_opened, turn_local}
-use Rattle.token_reader.proofs.Fewer.{fine_fewer, fine_behind}
+use Rattle.token_reader.proofs.Fewer.{fine_fewer, fine_after}
 use Rattle.spec_parser.specs.Tree as tree
 use Rattle.spec_parser.specs.Tree.{TypeName, Expr, Param, Body, Definition, Definitions, no_definitions, more_definitions, Item}
 use Rattle.spec_parser.specs.Words.{is_open, is_close, is_comma, is_colon, defines, is_as, is_def, is_open_brace, is_close_brace, is_number, may_open, opens_level}
-use Rattle.spec_parser.specs.Reading.{Reader, must, at_name, named, type_in, within, param_by, a_param, other_params_of, behind_param, params, may_have_params, may_have_type, defined_as, behind_params, inner_definition, definitions_of, behind_definitions, a_body, block, input_behind, whole_definition, definition_behind, plain_output, printed_as, behind_output, output_behind, at_item, items_at}
+use Rattle.spec_parser.specs.inner.Reading.{Reader, must, at_name, named, type_in, within, param_by, a_param, other_params_of, after_param, params, may_have_params, may_have_type, defined_as, after_params, inner_definition, definitions_of, after_definitions, a_body, block, input_after, whole_definition, definition_after, plain_output, printed_as, after_output, output_after, at_item, items_at}
 use Rattle.spec_parser.proofs.Ends.{ends, ends_quiet, signs, signs_by, as_is, close_is, close_brace_is, comma_is, start, sample, a_name, a_truth, comma_goes_on, open_goes_on, colon_goes_on, open_brace_goes_on, def_goes_on, open_is, colon_is, open_brace_is, def_is}
 use Rattle.spec_parser.proofs.TypeLaws.{Opens, opens_as, any_token, no_room, type_fine, type_completes, type_careful}
 use Rattle.spec_parser.proofs.LevelLaws.{Operand, within_operand}
@@ -108,16 +108,16 @@ module _ (j : Reader TypeName) (lj : IsLocal signs j) where
   skips_params : Skips signs [] (many (other_params_of j))
   skips_params r h = many_end signs (other_params_of j) turn_params declines_params r h
 
-  behind_param_careful : (p : Param) → IsCareful signs (behind_param j p)
-  behind_param_careful p = careful-bind signs (many (other_params_of j)) (λ ps. must is_close (give (p ∷ ps))) local_params careful_params (λ ps. careful-test signs (λ t. is_close t.kind) (give (p ∷ ps)) (local-give signs (p ∷ ps)))
+  after_param_careful : (p : Param) → IsCareful signs (after_param j p)
+  after_param_careful p = careful-bind signs (many (other_params_of j)) (λ ps. must is_close (give (p ∷ ps))) local_params careful_params (λ ps. careful-test signs (λ t. is_close t.kind) (give (p ∷ ps)) (local-give signs (p ∷ ps)))
 
   params_local : IsLocal signs (params j)
-  params_local = local-bind signs (a_param j) (behind_param j) param_local
+  params_local = local-bind signs (a_param j) (after_param j) param_local
       (λ p. careful-bind signs (many (other_params_of j)) (λ ps. must is_close (give (p ∷ ps))) local_params careful_params (λ ps. careful-test signs (λ t. is_close t.kind) (give (p ∷ ps)) (local-give signs (p ∷ ps))))
       (λ p. local-closed signs (λ t. is_close t.kind) (many (other_params_of j)) (λ ps. p ∷ ps) local_params)
 
   params_complete : Completes signs j → Completes signs (params j)
-  params_complete cj = completes-bind signs (a_param j) (behind_param j) (all-skips signs (many (other_params_of j)) (λ p ps. must is_close (give (p ∷ ps))) (all-expect signs (λ t. is_close t.kind) a_close refl (λ (x : Param × List Param). give (x.0 ∷ x.1)) (each-give signs (λ (x : Param × List Param). x.0 ∷ x.1)) refl) [] skips_params) (param_complete cj)
+  params_complete cj = completes-bind signs (a_param j) (after_param j) (all-skips signs (many (other_params_of j)) (λ p ps. must is_close (give (p ∷ ps))) (all-expect signs (λ t. is_close t.kind) a_close refl (λ (x : Param × List Param). give (x.0 ∷ x.1)) (each-give signs (λ (x : Param × List Param). x.0 ∷ x.1)) refl) [] skips_params) (param_complete cj)
 
 module _ (i j : Reader TypeName) (ij : IsFine signs i j) (ci : Completes signs i) (cj : Completes signs j) (di : IsCareful signs i) where
   param_fine : IsFine signs (a_param i) (a_param j)
@@ -127,7 +127,7 @@ module _ (i j : Reader TypeName) (ij : IsFine signs i j) (ci : Completes signs i
   params_turn t = fine_when signs t (a_param i) (a_param j) param_fine (is_comma t.kind) (λ h. plainly (ap may_open (comma_is t.kind h)) (param_careful i ij.local))
 
   params_fine : IsFine signs (params i) (params j)
-  params_fine = fine-bind signs (a_param i) (a_param j) (behind_param i) (behind_param j) param_fine
+  params_fine = fine-bind signs (a_param i) (a_param j) (after_param i) (after_param j) param_fine
       (on-skips signs (many (other_params_of i)) (many (other_params_of j)) (fine-many signs [] (λ p ps. p ∷ ps) (other_params_of i).turn (other_params_of j).turn params_turn (declines_params i ij.local) (declines_params j ij.deeper)) (careful_params i ij.local) (careful_params j ij.deeper)
       (λ p ps. must is_close (give (p ∷ ps))) (λ p ps. must is_close (give (p ∷ ps))) (on-close signs (λ t. is_close t.kind) a_close refl refl (λ t h. ap may_open (close_is t.kind h)) (λ (x : Param × List Param). x.0 ∷ x.1)) [] (skips_params i ij.local) (skips_params j ij.deeper))
 
@@ -150,7 +150,7 @@ module _ (room : ℕ) where
   open_turn_deep t = when (is_open t.kind) (params (type_in (suc room)))
 
   open_params_turn : (t : Token) → IsFineTurn signs t (open_turn t) (open_turn_deep t)
-  open_params_turn t = fine_when signs t (opened room (params (type_in room))) (params (type_in (suc room))) opened_params (is_open t.kind) (λ h. passes_opened signs t room (params (type_in room)) (open_opens t h).0 (open_opens t h).1 (λ r e. careful-bind signs (a_param (type_in room)) (behind_param (type_in room)) (param_local (type_in room) (type_fine room).local) (param_careful (type_in room) (type_fine room).local) (λ p. behind_param_careful (type_in room) (type_fine room).local p)) (λ r e. params_complete (type_in room) (type_fine room).local (complete_at room r e)))
+  open_params_turn t = fine_when signs t (opened room (params (type_in room))) (params (type_in (suc room))) opened_params (is_open t.kind) (λ h. passes_opened signs t room (params (type_in room)) (open_opens t h).0 (open_opens t h).1 (λ r e. careful-bind signs (a_param (type_in room)) (after_param (type_in room)) (param_local (type_in room) (type_fine room).local) (param_careful (type_in room) (type_fine room).local) (λ p. after_param_careful (type_in room) (type_fine room).local p)) (λ r e. params_complete (type_in room) (type_fine room).local (complete_at room r e)))
 
   params_decline : Declines signs open_turn
   params_decline t h = λ k. when (open_goes_on t.kind h k) (opened room (params (type_in room)))
@@ -196,7 +196,7 @@ module _ (room : ℕ) where
     on_defined : GoesOn signs (λ (v : List Param × Option TypeName). defined_as x (with_body v.0 v.1)) (λ (v : List Param × Option TypeName). defined_as y (with_body v.0 v.1))
     on_defined = on-expect signs (λ t. defines t.kind) (sample (kind.Symbol symbol.Define)) refl refl (λ (v : List Param × Option TypeName). x >>= λ b. give (with_body v.0 v.1 b)) (λ (v : List Param × Option TypeName). y >>= λ b. give (with_body v.0 v.1 b)) (λ v. mapped signs x y (with_body v.0 v.1) xy) (λ v t h. plainly (defines_plain t.kind h) (careful-bind signs x (λ b. give (with_body v.0 v.1 b)) xy.local dx (λ b. careful-give signs (with_body v.0 v.1 b)))) (defined_each x cx) (defined_each y cy)
 
-    pub on_params : GoesOn signs (behind_params types x place n) (behind_params types_deep y place n)
+    pub on_params : GoesOn signs (after_params types x place n) (after_params types_deep y place n)
     on_params = on-skips signs (may_have_type types) (may_have_type types_deep) may_type_fine
         (careful-may signs (colon_turn types) (colon_turn types_deep) colon_type_turn None)
         (careful-may_deeper signs (colon_turn types) (colon_turn types_deep) colon_type_turn None)
@@ -266,12 +266,12 @@ module _ (room : ℕ) (x y : Reader Body) (known : KnownBlock room x y) where
 
   -- definitions in braces
   abbrev def_at : Place → List ℕ → Reader Definition
-  def_at place n = behind_params (type_in (suc room)) (a_body x inner) place n []
+  def_at place n = after_params (type_in (suc room)) (a_body x inner) place n []
 
   abbrev def_at_deep : Place → List ℕ → Reader Definition
-  def_at_deep place n = behind_params (type_in (suc (suc room))) (a_body y inner_deep) place n []
+  def_at_deep place n = after_params (type_in (suc (suc room))) (a_body y inner_deep) place n []
 
-  on_def : (place : Place) (n : List ℕ) → GoesOn signs (behind_params (type_in (suc room)) (a_body x inner) place n) (behind_params (type_in (suc (suc room))) (a_body y inner_deep) place n)
+  on_def : (place : Place) (n : List ℕ) → GoesOn signs (after_params (type_in (suc room)) (a_body x inner) place n) (after_params (type_in (suc (suc room))) (a_body y inner_deep) place n)
   on_def place n = on_params room (a_body x inner) (a_body y inner_deep) body_fine body_complete body_deeper body_careful place n
 
   def_complete : (place : Place) (n : List ℕ) → Completes signs (def_at place n)
@@ -304,7 +304,7 @@ module _ (room : ℕ) (x y : Reader Body) (known : KnownBlock room x y) where
   defs_decline_deep : Declines signs def_turn_deep
   defs_decline_deep t h = λ k. when (def_goes_on t.kind h k) (inner_definition (type_in (suc (suc room))) (a_body y inner_deep))
 
-  on_definitions : GoesOn signs (behind_definitions inner) (behind_definitions inner_deep)
+  on_definitions : GoesOn signs (after_definitions inner) (after_definitions inner_deep)
   on_definitions = on-begins signs inner inner_deep o.fine o.careful o.deeper_careful (λ ds e. must is_close_brace (give (tree.Block ds e))) (λ ds e. must is_close_brace (give (tree.Block ds e))) (on-close signs (λ t. is_close_brace t.kind) (sample (kind.Symbol symbol.CloseBrace)) refl refl (λ t h. ap may_open (close_brace_is t.kind h)) (λ (v : Definitions × Expr). tree.Block v.0 v.1)) a_truth refl o.begins o.deeper
 
   abbrev defs : Reader Definitions
@@ -313,17 +313,17 @@ module _ (room : ℕ) (x y : Reader Body) (known : KnownBlock room x y) where
   abbrev defs_deep : Reader Definitions
   defs_deep = many (definitions_of (type_in (suc (suc room))) (a_body y inner_deep))
 
-  block_fine : IsFine signs (defs >>= behind_definitions inner) (defs_deep >>= behind_definitions inner_deep)
-  block_fine = fine-bind signs defs defs_deep (behind_definitions inner) (behind_definitions inner_deep) (fine-many signs no_definitions more_definitions def_turn def_turn_deep defs_turn defs_decline defs_decline_deep) on_definitions
+  block_fine : IsFine signs (defs >>= after_definitions inner) (defs_deep >>= after_definitions inner_deep)
+  block_fine = fine-bind signs defs defs_deep (after_definitions inner) (after_definitions inner_deep) (fine-many signs no_definitions more_definitions def_turn def_turn_deep defs_turn defs_decline defs_decline_deep) on_definitions
 
-  block_complete : Completes signs (defs >>= behind_definitions inner)
-  block_complete = completes-bind signs defs (behind_definitions inner) on_definitions.completes (λ r h. ([], no_definitions, skips-many signs no_definitions more_definitions def_turn def_turn_deep defs_turn defs_decline defs_decline_deep r h))
+  block_complete : Completes signs (defs >>= after_definitions inner)
+  block_complete = completes-bind signs defs (after_definitions inner) on_definitions.completes (λ r h. ([], no_definitions, skips-many signs no_definitions more_definitions def_turn def_turn_deep defs_turn defs_decline defs_decline_deep r h))
 
-  block_deeper : Completes signs (defs_deep >>= behind_definitions inner_deep)
-  block_deeper = completes-bind signs defs_deep (behind_definitions inner_deep) on_definitions.deeper (λ r h. ([], no_definitions, skips-deeper signs no_definitions more_definitions def_turn def_turn_deep defs_turn defs_decline defs_decline_deep r h))
+  block_deeper : Completes signs (defs_deep >>= after_definitions inner_deep)
+  block_deeper = completes-bind signs defs_deep (after_definitions inner_deep) on_definitions.deeper (λ r h. ([], no_definitions, skips-deeper signs no_definitions more_definitions def_turn def_turn_deep defs_turn defs_decline defs_decline_deep r h))
 
-  block_careful : IsCareful signs (defs >>= behind_definitions inner)
-  block_careful = careful-bind signs defs (behind_definitions inner) (fine-many signs no_definitions more_definitions def_turn def_turn_deep defs_turn defs_decline defs_decline_deep).local (careful-all signs no_definitions more_definitions def_turn def_turn_deep defs_turn defs_decline defs_decline_deep) on_definitions.careful
+  block_careful : IsCareful signs (defs >>= after_definitions inner)
+  block_careful = careful-bind signs defs (after_definitions inner) (fine-many signs no_definitions more_definitions def_turn def_turn_deep defs_turn defs_decline defs_decline_deep).local (careful-all signs no_definitions more_definitions def_turn def_turn_deep defs_turn defs_decline defs_decline_deep) on_definitions.careful
 
 none_zero : (r : ℕ) → suc r ≡ 0 → ⊥
 none_zero r e = cc
@@ -380,37 +380,37 @@ module _ (room : ℕ) where
   abbrev body_at_deep : Reader Body
   body_at_deep = a_body (block (suc room)) (within (suc (suc room)))
 
-  input_item : (at : Place) → IsFine signs (input_behind room at) (input_behind (suc room) at)
+  input_item : (at : Place) → IsFine signs (input_after room at) (input_after (suc room) at)
   input_item at = named_fine ends ends_quiet (λ place n. must is_colon (type_in (suc room) >>= λ y. give (tree.Input at place n y))) (λ place n. must is_colon (type_in (suc (suc room)) >>= λ y. give (tree.Input at place n y))) (λ place n. typed_fine (tree.Input at place n) (type_in (suc room)) (type_in (suc (suc room))) (type_fine (suc room)) (type_completes room) (type_completes (suc room)) (type_careful room)) (λ place n. typed_careful (tree.Input at place n) (type_in (suc room)) (type_fine (suc room)).local) (typed_complete (tree.Input at start (codes "Int")) (type_in (suc (suc room))) (type_completes (suc room)))
 
-  input_careful : (at : Place) → IsCareful signs (input_behind room at)
+  input_careful : (at : Place) → IsCareful signs (input_after room at)
   input_careful at = named_careful (λ place n. must is_colon (type_in (suc room) >>= λ y. give (tree.Input at place n y))) signs (λ place n. typed_local (tree.Input at place n) (type_in (suc room)) (type_fine (suc room)).local)
 
   abbrev whole : Place → List ℕ → Reader Definition
-  whole place n = may_have_params room (type_in room) >>= behind_params (type_in (suc room)) body place n
+  whole place n = may_have_params room (type_in room) >>= after_params (type_in (suc room)) body place n
 
   abbrev whole_deep : Place → List ℕ → Reader Definition
-  whole_deep place n = may_have_params (suc room) (type_in (suc room)) >>= behind_params (type_in (suc (suc room))) body_at_deep place n
+  whole_deep place n = may_have_params (suc room) (type_in (suc room)) >>= after_params (type_in (suc (suc room))) body_at_deep place n
 
-  on_whole : (place : Place) (n : List ℕ) → GoesOn signs (behind_params (type_in (suc room)) body place n) (behind_params (type_in (suc (suc room))) body_at_deep place n)
+  on_whole : (place : Place) (n : List ℕ) → GoesOn signs (after_params (type_in (suc room)) body place n) (after_params (type_in (suc (suc room))) body_at_deep place n)
   on_whole place n = on_params room body body_at_deep (body_fine room (block room) (block (suc room)) (block_known room)) (body_complete room (block room) (block (suc room)) (block_known room)) (body_deeper room (block room) (block (suc room)) (block_known room)) (body_careful room (block room) (block (suc room)) (block_known room)) place n
 
   whole_fine : (place : Place) (n : List ℕ) → IsFine signs (whole place n) (whole_deep place n)
-  whole_fine place n = fine-bind signs (may_have_params room (type_in room)) (may_have_params (suc room) (type_in (suc room))) (behind_params (type_in (suc room)) body place n) (behind_params (type_in (suc (suc room))) body_at_deep place n) (may_params_fine room) (on_whole place n)
+  whole_fine place n = fine-bind signs (may_have_params room (type_in room)) (may_have_params (suc room) (type_in (suc room))) (after_params (type_in (suc room)) body place n) (after_params (type_in (suc (suc room))) body_at_deep place n) (may_params_fine room) (on_whole place n)
 
   whole_careful : (place : Place) (n : List ℕ) → IsCareful signs (whole place n)
-  whole_careful place n = careful-bind signs (may_have_params room (type_in room)) (behind_params (type_in (suc room)) body place n) (may_params_fine room).local (careful-may signs (open_turn room) (open_turn_deep room) (open_params_turn room) []) (on_whole place n).careful
+  whole_careful place n = careful-bind signs (may_have_params room (type_in room)) (after_params (type_in (suc room)) body place n) (may_params_fine room).local (careful-may signs (open_turn room) (open_turn_deep room) (open_params_turn room) []) (on_whole place n).careful
 
   whole_deeper : (place : Place) (n : List ℕ) → Completes signs (whole_deep place n)
-  whole_deeper place n = completes-bind signs (may_have_params (suc room) (type_in (suc room))) (behind_params (type_in (suc (suc room))) body_at_deep place n) (on_whole place n).deeper (λ r h. ([], [], skips-if_next signs (open_turn_deep room) (params_decline_deep room) [] r h))
+  whole_deeper place n = completes-bind signs (may_have_params (suc room) (type_in (suc room))) (after_params (type_in (suc (suc room))) body_at_deep place n) (on_whole place n).deeper (λ r h. ([], [], skips-if_next signs (open_turn_deep room) (params_decline_deep room) [] r h))
 
   whole_item : IsFine signs (whole_definition room) (whole_definition (suc room))
   whole_item = named_fine ends ends_quiet whole whole_deep whole_fine whole_careful (whole_deeper start (codes "Int"))
 
-  definition_item : (at : Place) → IsFine signs (definition_behind room at) (definition_behind (suc room) at)
+  definition_item : (at : Place) → IsFine signs (definition_after room at) (definition_after (suc room) at)
   definition_item at = mapped signs (whole_definition room) (whole_definition (suc room)) (tree.Defined at) whole_item
 
-  definition_item_careful : (at : Place) → IsCareful signs (definition_behind room at)
+  definition_item_careful : (at : Place) → IsCareful signs (definition_after room at)
   definition_item_careful at = careful-bind signs (whole_definition room) (λ d. give (tree.Defined at d)) whole_item.local (named_careful whole signs (λ place n. (whole_fine place n).local)) (λ d. careful-give signs (tree.Defined at d))
 
   -- outputs
@@ -454,19 +454,19 @@ module _ (room : ℕ) where
     abbrev expr_alone : Reader (Expr × Bool)
     expr_alone = alone (within (suc room))
 
-    output_item : IsFine item_signs (output_behind room place) (output_behind (suc room) place)
-    output_item = fine_behind (λ t. false) (λ t. ends t.kind) (λ t. may_open t.kind) (λ t. is_number t.kind) opens_level no_end (λ t. none_quiet t.kind) (λ t. ends_quiet t.kind) (alone (within (suc room))) (alone (within (suc (suc room)))) (behind_output place) (behind_output place)
+    output_item : IsFine item_signs (output_after room place) (output_after (suc room) place)
+    output_item = fine_after (λ t. false) (λ t. ends t.kind) (λ t. may_open t.kind) (λ t. is_number t.kind) opens_level no_end (λ t. none_quiet t.kind) (λ t. ends_quiet t.kind) (alone (within (suc room))) (alone (within (suc (suc room)))) (after_output place) (after_output place)
         (λ r h. (an_as ∷ a_name ∷ [], refl, λ x. (tree.OutputAs place x.0 start (codes "Int"), given_reads x.0 (plain_output place x) r)))
         (λ r h. (an_as ∷ a_name ∷ [], refl, λ x. (tree.OutputAs place x.0 start (codes "Int"), given_reads x.0 (plain_output place x) r)))
         (fine-alone signs (within (suc room)) (within (suc (suc room))) (within_operand room).fine)
         (λ x. given_fine x.0 (plain_output place x)) (λ x. given_careful x.0 (plain_output place x)) (λ x. given_careful x.0 (plain_output place x))
 
-    output_careful : IsCareful item_signs (output_behind room place)
-    output_careful = careful-bind item_signs (alone (within (suc room))) (behind_output place) (fine_item (alone (within (suc room))) (alone (within (suc (suc room)))) (fine-alone signs (within (suc room)) (within (suc (suc room))) (within_operand room).fine)).local (careful-alone signs (within (suc room)) (within_operand room).careful) (λ x. given_careful x.0 (plain_output place x))
+    output_careful : IsCareful item_signs (output_after room place)
+    output_careful = careful-bind item_signs (alone (within (suc room))) (after_output place) (fine_item (alone (within (suc room))) (alone (within (suc (suc room)))) (fine-alone signs (within (suc room)) (within (suc (suc room))) (within_operand room).fine)).local (careful-alone signs (within (suc room)) (within_operand room).careful) (λ x. given_careful x.0 (plain_output place x))
 
   item_turn : (t : Token) (k : Kind) → t.kind ≡ k → IsFineTurn item_signs t (at_item room t.place k) (at_item (suc room) t.place k)
-  item_turn t (kind.Word word.In) e = (fine_item (input_behind room t.place) (input_behind (suc room) t.place) (input_item t.place), plainly (ap may_open e) (input_careful t.place))
-  item_turn t (kind.Word word.Def) e = (fine_item (definition_behind room t.place) (definition_behind (suc room) t.place) (definition_item t.place), plainly (ap may_open e) (definition_item_careful t.place))
+  item_turn t (kind.Word word.In) e = (fine_item (input_after room t.place) (input_after (suc room) t.place) (input_item t.place), plainly (ap may_open e) (input_careful t.place))
+  item_turn t (kind.Word word.Def) e = (fine_item (definition_after room t.place) (definition_after (suc room) t.place) (definition_item t.place), plainly (ap may_open e) (definition_item_careful t.place))
   item_turn t (kind.Word word.Out) e = (output_item t.place, plainly (ap may_open e) (output_careful t.place))
   item_turn t _ e = tt
 

@@ -3,7 +3,7 @@ use Rattle.std.proofs.Common.{◌≡◌, ℕ, zero, suc, ◌+◌, ◌==◌, ◌<
 use Rattle.std.proofs.lemmas.List.{append-nil, map_push}
 use Rattle.std.specs.Borrow.{Bor}
 use Rattle.spec_lexer.specs.declared.token.Token.{Token}
-use Rattle.token_reader.specs.Reader.{Unexpected, TooDeep, Outcome, Read, Stopped, give, and_then, when, many, with_list}
+use Rattle.token_reader.specs.inner.Reader.{Unexpected, TooDeep, Outcome, Read, Stopped, give, and_then, when, many, with_list}
 use Rattle.token_reader.proofs.LocalLaws.{Leads, IsLocal, IsLocalTurn, shorter}
 use Rattle.token_reader.proofs.Loop.{loop_passes, loop_fails, loop_ends, loop_empty}
 use Rattle.spec_parser.specs.declared.tree.Param.{Param}
@@ -12,11 +12,11 @@ use Rattle.spec_parser.specs.declared.stop.Stop.{Stop}
 use Rattle.spec_parser.specs.declared.stop.Stop.TheVariants as stop
 use Rattle.spec_parser.specs.Tree as tree
 use Rattle.spec_parser.specs.Tree.{Definition, Definitions, no_definitions, more_definitions}
-use Rattle.spec_parser.specs.Shape.{param_of, params_in, definitions_of, item_of}
+use Rattle.spec_parser.specs.inner.Shape.{param_of, params_in, definitions_of, item_of}
 use Rattle.spec_parser.specs.Words.{is_comma, is_def}
-use Rattle.spec_parser.specs.Reading as read
-use Rattle.spec_parser.specs.Reading.{Reader, type_in, within, a_param, other_params_of, inner_definition, a_body, at_item, items_at, ended}
-use Rattle.spec_parser.specs.Gives.{Fails, TurnGives, join_params, join_definitions}
+use Rattle.spec_parser.specs.inner.Reading as read
+use Rattle.spec_parser.specs.inner.Reading.{Reader, type_in, within, a_param, other_params_of, inner_definition, a_body, at_item, items_at, ended}
+use Rattle.spec_parser.specs.inner.Gives.{Fails, TurnGives, join_params, join_definitions}
 use Rattle.spec_parser.proofs.Ends.{signs}
 use Rattle.spec_parser.proofs.TypeLaws.{type_fine}
 use Rattle.spec_parser.proofs.ItemLaws.{turn_params, param_local, defs_local, definition_local, item_signs, local_items}

@@ -6,7 +6,7 @@ use Rattle.spec_lexer.specs.declared.token.Kind.{Kind}
 use Rattle.spec_lexer.specs.declared.token.Kind.TheVariants as kind
 use Rattle.spec_lexer.specs.declared.token.Word.TheVariants as word
 use Rattle.spec_lexer.specs.declared.token.Symbol.TheVariants as symbol
-use Rattle.token_reader.specs.Reader.{Unexpected, Outcome, Read, Stopped, Lister, give, and_then, ◌>>=◌, when, taken, take_by, expect, tried, if_next, chosen, or_else, or_given, noted, alone, opened, looped, many, rest_of}
+use Rattle.token_reader.specs.inner.Reader.{Unexpected, Outcome, Read, Stopped, Lister, give, and_then, ◌>>=◌, when, taken, take_by, expect, tried, if_next, chosen, or_else, or_given, noted, alone, opened, looped, many, rest_of}
 use Rattle.token_reader.proofs.LocalLaws.{Leads, IsLocalTurn}
 use Rattle.token_reader.proofs.ManyLaws.{many_again, many_none}
 use Rattle.token_reader.proofs.Meets.{Meets, meets_bind, weaker, meets_expect, meets-many, expect_is, passes_by, taken_by, tried_by, not_tried, chosen_by, not_chosen, many_stop, many_go}
@@ -14,8 +14,8 @@ use Rattle.spec_parser.specs.Tree as tree
 use Rattle.spec_parser.specs.Tree.{TypeName, Expr, Param, Body, Definition, Definitions, no_definitions, more_definitions, Item}
 use Rattle.spec_parser.specs.Words.{is_open, is_close, is_comma, is_colon, defines, is_as, is_def, is_open_brace, is_close_brace}
 use Rattle.spec_parser.specs.Grammar.{Is, IsNamed, IsPast, IsType, IsExpr, IsParam, param, AreOtherParams, no_param, one_param, MayHaveParams, without_params, with_params, MayHaveType, without_type, with_type, IsBody, plain, block, AreDefinitions, no_definition, one_definition, IsItem, input, definition, output, output_as, Spells, empty, item}
-use Rattle.spec_parser.specs.Reading as read
-use Rattle.spec_parser.specs.Reading.{Reader, must, at_name, named, type_in, within, a_param, other_params_of, behind_param, params, may_have_params, may_have_type, defined_as, behind_params, inner_definition, definitions_of, behind_definitions, a_body, param_by, input_behind, whole_definition, definition_behind, plain_output, printed_as, behind_output, output_behind, at_item, items_at, ended, specification}
+use Rattle.spec_parser.specs.inner.Reading as read
+use Rattle.spec_parser.specs.inner.Reading.{Reader, must, at_name, named, type_in, within, a_param, other_params_of, after_param, params, may_have_params, may_have_type, defined_as, after_params, inner_definition, definitions_of, after_definitions, a_body, param_by, input_after, whole_definition, definition_after, plain_output, printed_as, after_output, output_after, at_item, items_at, ended, specification}
 use Rattle.spec_parser.proofs.Ends.{signs, open_is, close_is, comma_is, colon_is, open_brace_is, close_brace_is, def_is, as_is}
 use Rattle.spec_parser.proofs.TypeLaws.{type_fine}
 use Rattle.spec_parser.proofs.LevelLaws.{within_operand}
@@ -87,7 +87,7 @@ module _ (room : ℕ) where
 params_sound : (room : ℕ) (t : Token) → Is t symbol.Open → (ts : List Token) → Meets (MayHaveParams room (t ∷ ts)) (opened room (params (type_in room)) ts)
 params_sound zero t is ts = tt
 params_sound (suc room) t is ts =
-    meets_bind (IsParam room ts) (MayHaveParams (suc room) (t ∷ ts)) (a_param (type_in (suc room)) ts) (behind_param (type_in (suc room))) (param_sound room ts) (λ p us d.
+    meets_bind (IsParam room ts) (MayHaveParams (suc room) (t ∷ ts)) (a_param (type_in (suc room)) ts) (after_param (type_in (suc room))) (param_sound room ts) (λ p us d.
     meets_bind (AreOtherParams room us) (MayHaveParams (suc room) (t ∷ ts)) (many (other_params_of (type_in (suc room))) us) (λ ps. must is_close (give (p ∷ ps))) (other_params_sound room us) (λ ps vs o.
     meets_expect (λ t. is_close t.kind) (give (p ∷ ps)) (AreOtherParams room us ps) (MayHaveParams (suc room) (t ∷ ts)) vs o (λ v rest o closes. with_params is d o (close_is v.kind closes))))
 
@@ -104,7 +104,7 @@ may_params_complete (without_params {ts = []} h) = refl
 may_params_complete {room} (without_params {ts = t ∷ ts} h) = λ k. tried (when (h k) (opened room (params (type_in room)))) [] t ts
 may_params_complete (with_params {room = room} {t = t} {v = v} {ts = ts} {us = us} {rest = rest} {p = p} {ps = ps} is d others closes) =
     (λ k. tried (when (is_open (is k)) (params (type_in (suc room)))) [] t ts)
-    ∙ passes_by (a_param (type_in (suc room))) (behind_param (type_in (suc room))) ts us p (param_complete room d)
+    ∙ passes_by (a_param (type_in (suc room))) (after_param (type_in (suc room))) ts us p (param_complete room d)
     ∙ passes_by (many (other_params_of (type_in (suc room)))) (λ ps. must is_close (give (p ∷ ps))) us (v ∷ rest) ps (other_params_complete room others)
     ∙ must_is is_close (give (p ∷ ps)) (kind.Symbol symbol.Close) v rest closes refl
 
@@ -126,18 +126,18 @@ may_type_complete {room} (with_type {t = t} {ts = ts} {rest = rest} {y = y} is d
 
 -- from the written type on, given what bodies are
 module _ (room : ℕ) (x : Reader Body) (sound : (ts : List Token) → Meets (IsBody room ts) (x ts)) (place : Place) (n : List ℕ) (Q : Definition → List Token → Type 0) where
-  params_behind_sound : (ps : List Param) (us : List Token) → ((w : Option TypeName) (b : Body) (a : Token) (vs rest : List Token) → MayHaveType room us w (a ∷ vs) → defines a.kind ≡ true → IsBody room vs b rest → Q (tree.Define place n ps w b) rest) → Meets Q (behind_params (type_in (suc room)) x place n ps us)
-  params_behind_sound ps us k = meets_bind (MayHaveType room us) Q (may_have_type (type_in (suc room)) us) (λ w. defined_as x (tree.Define place n ps w)) (may_type_sound room us) (λ w vs dw.
+  params_after_sound : (ps : List Param) (us : List Token) → ((w : Option TypeName) (b : Body) (a : Token) (vs rest : List Token) → MayHaveType room us w (a ∷ vs) → defines a.kind ≡ true → IsBody room vs b rest → Q (tree.Define place n ps w b) rest) → Meets Q (after_params (type_in (suc room)) x place n ps us)
+  params_after_sound ps us k = meets_bind (MayHaveType room us) Q (may_have_type (type_in (suc room)) us) (λ w. defined_as x (tree.Define place n ps w)) (may_type_sound room us) (λ w vs dw.
       meets_expect (λ t. defines t.kind) (x >>= λ b. give (tree.Define place n ps w b)) (MayHaveType room us w) Q vs dw (λ a vs dw h.
       meets_bind (IsBody room vs) Q (x vs) (λ b. give (tree.Define place n ps w b)) (sound vs) (λ b rest db. k w b a vs rest dw h db)))
 
-params_behind_is : (room : ℕ) (x : Reader Body) (place : Place) (n : List ℕ) (ps : List Param) (us vs rest : List Token) (w : Option TypeName) (b : Body) (a : Token) → MayHaveType room us w (a ∷ vs) → defines a.kind ≡ true → x vs ≡ Read b rest → behind_params (type_in (suc room)) x place n ps us ≡ Read (tree.Define place n ps w b) rest
-params_behind_is room x place n ps us vs rest w b a dw h body =
+params_after_is : (room : ℕ) (x : Reader Body) (place : Place) (n : List ℕ) (ps : List Param) (us vs rest : List Token) (w : Option TypeName) (b : Body) (a : Token) → MayHaveType room us w (a ∷ vs) → defines a.kind ≡ true → x vs ≡ Read b rest → after_params (type_in (suc room)) x place n ps us ≡ Read (tree.Define place n ps w b) rest
+params_after_is room x place n ps us vs rest w b a dw h body =
     passes_by (may_have_type (type_in (suc room))) (λ w. defined_as x (tree.Define place n ps w)) us (a ∷ vs) w (may_type_complete dw)
     ∙ expect_is (λ t. defines t.kind) (x >>= λ b. give (tree.Define place n ps w b)) a vs h
     ∙ passes_by x (λ b. give (tree.Define place n ps w b)) vs rest b body
 
--- a block behind its brace
+-- a block after its brace
 abbrev IsBlock : ℕ → List Token → Body → List Token → Type 0
 IsBlock room ts b rest = (t : Token) → Is t symbol.OpenBrace → IsBody room (t ∷ ts) b rest
 
@@ -165,8 +165,8 @@ module _ (room : ℕ) where
     definition_go d true is p h ts =
         let Q : Definition → List Token → Type 0 = λ e us. (es : Definitions) (rest : List Token) → AreDefinitions room us es rest → AreDefinitions room (d ∷ ts) (more_definitions e es) rest in
         subst (λ (q : Reader Definition). Meets Q (q ts)) (some_reader a_definition p h)
-        (meets_named (λ place n. behind_params (type_in (suc room)) body_in place n []) (λ us. ts ≡ us) Q ts refl (λ t n us e named_so.
-        params_behind_sound room body_in (body_sound sound) t.place n Q [] us (λ w b a vs rest dw h db es left others.
+        (meets_named (λ place n. after_params (type_in (suc room)) body_in place n []) (λ us. ts ≡ us) Q ts refl (λ t n us e named_so.
+        params_after_sound room body_in (body_sound sound) t.place n Q [] us (λ w b a vs rest dw h db es left others.
         subst (λ ws. AreDefinitions room (d ∷ ws) (more_definitions (tree.Define t.place n [] w b) es) left) (sym e) (one_definition (def_is d.kind is) named_so dw h db others))))
 
     definitions_sound : (ts : List Token) → Meets (AreDefinitions room ts) (many defs ts)
@@ -177,7 +177,7 @@ unfolding read.block
 block_sound zero ts = tt
 block_sound (suc room) ts =
     let Q : Body → List Token → Type 0 = IsBlock (suc room) ts in
-    meets_bind (AreDefinitions room ts) Q (many (defs room) ts) (behind_definitions (within (suc room))) (definitions_sound room (block_sound room) ts) (λ ds us d.
+    meets_bind (AreDefinitions room ts) Q (many (defs room) ts) (after_definitions (within (suc room))) (definitions_sound room (block_sound room) ts) (λ ds us d.
     meets_bind (IsExpr room us) Q (within (suc room) us) (λ e. must is_close_brace (give (tree.Block ds e))) (expr_sound room us) (λ e vs x.
     meets_expect (λ t. is_close_brace t.kind) (give (tree.Block ds e)) (IsExpr room us e) Q vs x (λ v rest x closes t opens. block opens d x (close_brace_is v.kind closes))))
 
@@ -203,7 +203,7 @@ mutual
   body_complete {room} (plain {ts = ts} {rest = rest} {e = e} d) = plain_is room ts rest e (expr_complete d)
   body_complete (block {room = room} {t = t} {v = v} {ts = ts} {us = us} {rest = rest} {ds = ds} {e = e} is d x closes) =
       (λ k. chosen (when (is_open_brace (is k)) (read.block (suc room))) (within (suc (suc room)) >>= λ e. give (tree.Plain e)) t ts)
-      ∙ passes_by (many (defs room)) (behind_definitions (within (suc room))) ts us ds (definitions_complete d)
+      ∙ passes_by (many (defs room)) (after_definitions (within (suc room))) ts us ds (definitions_complete d)
       ∙ passes_by (within (suc room)) (λ e. must is_close_brace (give (tree.Block ds e))) us (v ∷ rest) e (expr_complete x)
       ∙ must_is is_close_brace (give (tree.Block ds e)) (kind.Symbol symbol.CloseBrace) v rest closes refl
 
@@ -212,7 +212,7 @@ mutual
   definitions_complete {room} (no_definition {ts = t ∷ ts} h) = many_stop signs (defs room) (defs_local room) t ts (λ k. when (h k) (a_definition room))
   definitions_complete {room} (one_definition {d = d} {t = t} {a = a} {ts = ts} {us = us} {vs = vs} {rest = rest} {n = n} {w = w} {b = b} {ds = ds} is named_so dw h db others) =
       many_go signs (defs room) (defs_local room) d (a_definition room) (t ∷ ts) vs rest (tree.Define t.place n [] w b) ds (λ k. when (is_def (is k)) (a_definition room))
-      (named_is (λ place n. behind_params (type_in (suc room)) (body_in room) place n []) t n ts named_so ∙ params_behind_is room (body_in room) t.place n [] ts us vs w b a dw h (body_complete db))
+      (named_is (λ place n. after_params (type_in (suc room)) (body_in room) place n []) t n ts named_so ∙ params_after_is room (body_in room) t.place n [] ts us vs w b a dw h (body_complete db))
       (definitions_complete others)
 
 -- outputs
@@ -265,13 +265,13 @@ module _ (room : ℕ) where
         by true h = as_sound e (a ∷ us) d a us refl h
         by false h = tt
 
-    given_sound : (x : Expr × Bool) (us : List Token) → Alone ts x us → Meets Out (behind_output t.place x us)
+    given_sound : (x : Expr × Bool) (us : List Token) → Alone ts x us → Meets Out (after_output t.place x us)
     given_sound (tree.Name p n, true) us d = may_sound p n us d
     given_sound (tree.Name p n, false) us d = must_sound (tree.Name p n) us d.0
     given_sound (e, b) us d = must_sound e us d.0
 
-    output_sound : Meets Out (output_behind room t.place ts)
-    output_sound = meets_bind (Alone ts) Out (alone expr ts) (behind_output t.place) (alone_sound ts) (λ x us d. given_sound x us d)
+    output_sound : Meets Out (output_after room t.place ts)
+    output_sound = meets_bind (Alone ts) Out (alone expr ts) (after_output t.place) (alone_sound ts) (λ x us d. given_sound x us d)
 
   alone_is : (ts rest : List Token) (e : Expr) → expr ts ≡ Read e rest → alone expr ts ≡ Read (e, length ts == 1 + length rest) rest
   alone_is ts rest e h = ap (noted (length ts)) h
@@ -279,10 +279,10 @@ module _ (room : ℕ) where
   counts_one : (u : Token) (ts : List Token) → (length (u ∷ ts) == 1 + length ts) ≡ true
   counts_one u ts = grind arith
 
-  output_is : (place : Place) (u : Token) (ts : List Token) (p : Place) (n : List ℕ) → IsExpr room (u ∷ ts) (tree.Name p n) ts → IsPast is_as ts → output_behind room place (u ∷ ts) ≡ Read (tree.Output place p n) ts
+  output_is : (place : Place) (u : Token) (ts : List Token) (p : Place) (n : List ℕ) → IsExpr room (u ∷ ts) (tree.Name p n) ts → IsPast is_as ts → output_after room place (u ∷ ts) ≡ Read (tree.Output place p n) ts
   output_is place u ts p n d h =
-      passes_by (alone expr) (behind_output place) (u ∷ ts) ts (tree.Name p n, length (u ∷ ts) == 1 + length ts) (alone_is (u ∷ ts) ts (tree.Name p n) (expr_complete d))
-      ∙ (λ k. behind_output place (tree.Name p n, counts_one u ts k) ts)
+      passes_by (alone expr) (after_output place) (u ∷ ts) ts (tree.Name p n, length (u ∷ ts) == 1 + length ts) (alone_is (u ∷ ts) ts (tree.Name p n) (expr_complete d))
+      ∙ (λ k. after_output place (tree.Name p n, counts_one u ts k) ts)
       ∙ last ts h
     where
       last : (ts : List Token) → IsPast is_as ts → if_next (λ t. when (is_as t.kind) (printed_as place (tree.Name p n))) (tree.Output place p n) ts ≡ Read (tree.Output place p n) ts
@@ -293,16 +293,16 @@ module _ (room : ℕ) where
   as_is_read place e (Some i) a u n rest is named_so = (λ k. tried (when (is_as (is k)) (printed_as place e)) i a (u ∷ rest)) ∙ named_is (λ p n. give (tree.OutputAs place e p n)) u n rest named_so
   as_is_read place e None a u n rest is named_so = (λ k. taken (when (is_as (is k)) (printed_as place e)) a (u ∷ rest)) ∙ named_is (λ p n. give (tree.OutputAs place e p n)) u n rest named_so
 
-  output_as_is : (place : Place) (ts rest : List Token) (e : Expr) (a u : Token) (n : List ℕ) → IsExpr room ts e (a ∷ u ∷ rest) → a.kind ≡ kind.Word word.As → IsNamed u n → output_behind room place ts ≡ Read (tree.OutputAs place e u.place n) rest
+  output_as_is : (place : Place) (ts rest : List Token) (e : Expr) (a u : Token) (n : List ℕ) → IsExpr room ts e (a ∷ u ∷ rest) → a.kind ≡ kind.Word word.As → IsNamed u n → output_after room place ts ≡ Read (tree.OutputAs place e u.place n) rest
   output_as_is place ts rest e a u n d is named_so =
-      passes_by (alone expr) (behind_output place) ts (a ∷ u ∷ rest) (e, length ts == 1 + length (a ∷ u ∷ rest)) (alone_is ts (a ∷ u ∷ rest) e (expr_complete d))
+      passes_by (alone expr) (after_output place) ts (a ∷ u ∷ rest) (e, length ts == 1 + length (a ∷ u ∷ rest)) (alone_is ts (a ∷ u ∷ rest) e (expr_complete d))
       ∙ as_is_read place e (plain_output place (e, length ts == 1 + length (a ∷ u ∷ rest))) a u n rest is named_so
 
   whole_sound : (t : Token) → t.kind ≡ kind.Word word.Def → (ts : List Token) → Meets (λ d rest. IsItem room (t ∷ ts) (tree.Defined t.place d) rest) (whole_definition room ts)
-  whole_sound t is ts = meets_named (λ place n. may_have_params room (type_in room) >>= behind_params (type_in (suc room)) (body_in room) place n) (λ us. ts ≡ us) (λ d rest. IsItem room (t ∷ ts) (tree.Defined t.place d) rest) ts refl (λ u n us e named_so.
-      subst (λ ws. Meets (λ d rest. IsItem room (t ∷ ws) (tree.Defined t.place d) rest) (and_then (may_have_params room (type_in room) us) (behind_params (type_in (suc room)) (body_in room) u.place n))) (sym e)
-      (meets_bind (MayHaveParams room us) (λ d rest. IsItem room (t ∷ u ∷ us) (tree.Defined t.place d) rest) (may_have_params room (type_in room) us) (behind_params (type_in (suc room)) (body_in room) u.place n) (may_params_sound room us) (λ ps vs dp.
-      params_behind_sound room (body_in room) (body_sound room (block_sound room)) u.place n (λ d rest. IsItem room (t ∷ u ∷ us) (tree.Defined t.place d) rest) ps vs (λ w b a ws rest dw h db. definition is named_so dp dw h db))))
+  whole_sound t is ts = meets_named (λ place n. may_have_params room (type_in room) >>= after_params (type_in (suc room)) (body_in room) place n) (λ us. ts ≡ us) (λ d rest. IsItem room (t ∷ ts) (tree.Defined t.place d) rest) ts refl (λ u n us e named_so.
+      subst (λ ws. Meets (λ d rest. IsItem room (t ∷ ws) (tree.Defined t.place d) rest) (and_then (may_have_params room (type_in room) us) (after_params (type_in (suc room)) (body_in room) u.place n))) (sym e)
+      (meets_bind (MayHaveParams room us) (λ d rest. IsItem room (t ∷ u ∷ us) (tree.Defined t.place d) rest) (may_have_params room (type_in room) us) (after_params (type_in (suc room)) (body_in room) u.place n) (may_params_sound room us) (λ ps vs dp.
+      params_after_sound room (body_in room) (body_sound room (block_sound room)) u.place n (λ d rest. IsItem room (t ∷ u ∷ us) (tree.Defined t.place d) rest) ps vs (λ w b a ws rest dw h db. definition is named_so dp dw h db))))
 
   -- items
   item_sound : (t : Token) (k : Kind) → t.kind ≡ k → (ts : List Token) → Meets (IsItem room (t ∷ ts)) (taken (at_item room t.place k) t ts)
@@ -321,9 +321,9 @@ module _ (room : ℕ) where
   item_is t ts rest i (definition {t = u} {a = a} {ts = us} {us = vs} {vs = ws} {n = n} {ps = ps} {w = w} {b = b} is named_so dp dw h db) = (
     _,
     ap (at_item room t.place) is,
-    ap (λ q. and_then q (λ d. give (tree.Defined t.place d))) (named_is (λ place n. may_have_params room (type_in room) >>= behind_params (type_in (suc room)) (body_in room) place n) u n us named_so
-        ∙ passes_by (may_have_params room (type_in room)) (behind_params (type_in (suc room)) (body_in room) u.place n) us vs ps (may_params_complete dp)
-        ∙ params_behind_is room (body_in room) u.place n ps vs ws rest w b a dw h (body_complete db)),
+    ap (λ q. and_then q (λ d. give (tree.Defined t.place d))) (named_is (λ place n. may_have_params room (type_in room) >>= after_params (type_in (suc room)) (body_in room) place n) u n us named_so
+        ∙ passes_by (may_have_params room (type_in room)) (after_params (type_in (suc room)) (body_in room) u.place n) us vs ps (may_params_complete dp)
+        ∙ params_after_is room (body_in room) u.place n ps vs ws rest w b a dw h (body_complete db)),
   )
   item_is t ts rest i (output {u = u} {p = p} {n = n} is d h) = (_, ap (at_item room t.place) is, output_is t.place u rest p n d h)
   item_is t ts rest i (output_as {a = a} {u = u} {n = n} {e = e} is d as_so named_so) = (_, ap (at_item room t.place) is, output_as_is t.place ts rest e a u n d as_so named_so)

@@ -6,7 +6,7 @@ use Rattle.spec_lexer.specs.declared.token.Token.{Token}
 use Rattle.spec_lexer.specs.declared.token.Kind.{Kind}
 use Rattle.spec_lexer.specs.declared.token.Kind.TheVariants as kind
 use Rattle.spec_lexer.specs.declared.token.Word.TheVariants as word
-use Rattle.token_reader.specs.Reader.{TooDeep, Read, give, refuse, and_then, ◌>>=◌, when, take_by, if_next, or_else, opened, many}
+use Rattle.token_reader.specs.inner.Reader.{TooDeep, Read, give, refuse, and_then, ◌>>=◌, when, take_by, if_next, or_else, opened, many}
 use Rattle.token_reader.proofs.LocalLaws.{IsEnd, IsCareful, IsLocal, IsLocalTurn, IsEager, Declines, Stays, declining, local-give, local-take_by, declines_when, eager-take_by, eager-bind, eager-or_else, eager-refuse}
 use Rattle.token_reader.proofs.ManyLaws.{many_end, careful-many, local-many}
 use Rattle.token_reader.proofs.CarefulLaws.{careful-give, careful-take_by, careful-bind, careful-or_else, local-mapped}
@@ -20,7 +20,7 @@ use Rattle.spec_parser.specs.Tree as tree
 use Rattle.spec_parser.specs.Tree.{Expr, Links, no_links, more_links, place_of}
 use Rattle.spec_parser.specs.Words.{operator_at, comparison_at, is_if, may_open}
 use Rattle.spec_parser.specs.Grammar.{chained}
-use Rattle.spec_parser.specs.Reading.{Reader, type_in, link, links_of, behind_operand, chain, unary, second_sum, compared, choice, all_levels, expression, within, prefixed}
+use Rattle.spec_parser.specs.inner.Reading.{Reader, type_in, link, links_of, after_operand, chain, unary, second_sum, compared, choice, all_levels, expression, within, prefixed}
 use Rattle.spec_parser.proofs.Ends.{ends, signs, start, a_name, a_truth, if_goes_on, operator_goes_on, comparison_goes_on, if_is}
 use Rattle.spec_parser.proofs.TypeLaws.{opens_as, any_token, no_room}
 use Rattle.spec_parser.proofs.ExprLaws.{Known, opened_choice, choice_pass, unary_fine, unary_begins, unary_deeper, unary_careful, unary_deeper_careful, unary_eager, unary_deeper_eager}
@@ -67,7 +67,7 @@ module _ (l : Level) (p q : Reader Expr) (o : Operand p q) where
   dq : Declines signs (links_of l q).turn
   dq = declines_links l q o.fine.deeper
 
-  on_links : GoesOn signs (behind_operand l p) (behind_operand l q)
+  on_links : GoesOn signs (after_operand l p) (after_operand l q)
   on_links = on-skips signs (many (links_of l p)) (many (links_of l q))
       (fine-many signs no_links more (links_of l p).turn (links_of l q).turn links_turn dp dq)
       (careful-all signs no_links more (links_of l p).turn (links_of l q).turn links_turn dp dq)
@@ -76,18 +76,18 @@ module _ (l : Level) (p q : Reader Expr) (o : Operand p q) where
       (skips-many signs no_links more (links_of l p).turn (links_of l q).turn links_turn dp dq)
       (skips-deeper signs no_links more (links_of l p).turn (links_of l q).turn links_turn dp dq)
 
-  none_behind : (x : Reader Expr) → IsLocal signs x → (e : Expr) (r : List Token) → IsEnd signs r → (b : Expr) × (behind_operand l x e r ≡ Read b r)
-  none_behind x lx e r h = (e, ap (λ y. and_then y (λ ls. give (chained l e ls))) (many_end signs (links_of l x) (turn_links l x lx) (declines_links l x lx) r h))
+  none_after : (x : Reader Expr) → IsLocal signs x → (e : Expr) (r : List Token) → IsEnd signs r → (b : Expr) × (after_operand l x e r ≡ Read b r)
+  none_after x lx e r h = (e, ap (λ y. and_then y (λ ls. give (chained l e ls))) (many_end signs (links_of l x) (turn_links l x lx) (declines_links l x lx) r h))
 
   pub chain_operand : Operand (chain l p) (chain l q)
   chain_operand = record {
-    fine = fine-bind signs p q (behind_operand l p) (behind_operand l q) o.fine on_links;
-    begins = begins-bind signs a_truth p (behind_operand l p) o.begins (none_behind p o.fine.local);
-    deeper = begins-bind signs a_truth q (behind_operand l q) o.deeper (none_behind q o.fine.deeper);
-    careful = careful-bind signs p (behind_operand l p) o.fine.local o.careful on_links.careful;
-    deeper_careful = careful-bind signs q (behind_operand l q) o.fine.deeper o.deeper_careful on_links.deeper_careful;
-    eager = eager-bind signs p (behind_operand l p) o.eager (λ e. (on_links.each e).local);
-    deeper_eager = eager-bind signs q (behind_operand l q) o.deeper_eager (λ e. (on_links.each e).deeper);
+    fine = fine-bind signs p q (after_operand l p) (after_operand l q) o.fine on_links;
+    begins = begins-bind signs a_truth p (after_operand l p) o.begins (none_after p o.fine.local);
+    deeper = begins-bind signs a_truth q (after_operand l q) o.deeper (none_after q o.fine.deeper);
+    careful = careful-bind signs p (after_operand l p) o.fine.local o.careful on_links.careful;
+    deeper_careful = careful-bind signs q (after_operand l q) o.fine.deeper o.deeper_careful on_links.deeper_careful;
+    eager = eager-bind signs p (after_operand l p) o.eager (λ e. (on_links.each e).local);
+    deeper_eager = eager-bind signs q (after_operand l q) o.deeper_eager (λ e. (on_links.each e).deeper);
   }
 
 -- comparisons

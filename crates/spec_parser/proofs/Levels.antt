@@ -2,10 +2,10 @@
 use Rattle.std.proofs.Common.{ℕ, suc}
 use Rattle.spec_parser.specs.declared.tree.Level.{Level}
 use Rattle.spec_parser.specs.declared.tree.Level.TheVariants as level
-use Rattle.spec_parser.specs.Reading.{type_in, chain, compared, within, prefixed, unary_at, operand_at}
+use Rattle.spec_parser.specs.inner.Reading.{type_in, chain, compared, within, prefixed, unary_at, operand_at}
 use Rattle.token_reader.proofs.LocalLaws.{IsLocal, IsLocalTurn}
 use Rattle.spec_lexer.specs.declared.token.Token.{Token}
-use Rattle.spec_parser.specs.Reading.{links_of, others_of}
+use Rattle.spec_parser.specs.inner.Reading.{links_of, others_of}
 use Rattle.spec_parser.proofs.Ends.{signs}
 use Rattle.spec_parser.proofs.ExprLaws.{turn_others}
 use Rattle.spec_parser.proofs.LevelLaws.{Operand, chain_operand, compared_operand, unary_operand, within_known, prefixed_known, turn_links}

@@ -17,3 +17,5 @@ pub mod ParseLaws
 pub mod AnswerLaws
 pub mod OneRefusal
 pub mod ExactLaws
+pub mod Sizes
+pub mod Operators

@@ -4,7 +4,7 @@ use Rattle.std.proofs.lemmas.List.{append-nil, map_push}
 use Rattle.std.specs.Option.{option_map}
 use Rattle.std.specs.Borrow.{Bor}
 use Rattle.spec_lexer.specs.declared.token.Token.{Token}
-use Rattle.token_reader.specs.Reader.{Unexpected, TooDeep, Outcome, Read, Stopped, give, and_then, when, many, with_list}
+use Rattle.token_reader.specs.inner.Reader.{Unexpected, TooDeep, Outcome, Read, Stopped, give, and_then, when, many, with_list}
 use Rattle.token_reader.proofs.LocalLaws.{Leads, IsLocal, IsLocalTurn, shorter}
 use Rattle.token_reader.proofs.Loop.{loop_passes, loop_fails, loop_ends, loop_empty}
 use Rattle.spec_parser.specs.declared.tree.Level.{Level}
@@ -14,11 +14,11 @@ use Rattle.spec_parser.specs.declared.stop.Stop.{Stop}
 use Rattle.spec_parser.specs.declared.stop.Stop.TheVariants as stop
 use Rattle.spec_parser.specs.Tree as tree
 use Rattle.spec_parser.specs.Tree.{Expr, Exprs, no_exprs, more_exprs, Links, no_links, more_links, place_of}
-use Rattle.spec_parser.specs.Shape.{exprs_of, links_in}
+use Rattle.spec_parser.specs.inner.Shape.{exprs_of, links_in}
 use Rattle.spec_parser.specs.Words.{operator_at, is_comma}
 use Rattle.spec_parser.specs.Grammar.{chained}
-use Rattle.spec_parser.specs.Reading.{Reader, link, links_of, others_of, within, operand_at}
-use Rattle.spec_parser.specs.Gives.{Fails, join_exprs, join_links}
+use Rattle.spec_parser.specs.inner.Reading.{Reader, link, links_of, others_of, within, operand_at}
+use Rattle.spec_parser.specs.inner.Gives.{Fails, join_exprs, join_links}
 use Rattle.spec_parser.proofs.Ends.{signs}
 use Rattle.spec_parser.proofs.LevelLaws.{Operand, within_known}
 use Rattle.spec_parser.proofs.Levels.{operand_known, links_local, others_local}

@@ -4,18 +4,19 @@ use Rattle.std.specs.Prelude.{codes}
 use Rattle.std.specs.Option.{option_map}
 use Rattle.std.specs.Str.{bytes_eq}
 use Rattle.std.proofs.lemmas.Slice.Eq.{bytes_eq-Decides}
-use Rattle.spec_parser.specs.declared.tree.Dotted.{Dotted}
-use Rattle.spec_parser.specs.declared.tree.Dotted.TheVariants as dotted
+use Rattle.vocabulary.specs.declared.dotted.Dotted.{Dotted}
 use Rattle.spec_parser.specs.declared.words.TypeWord.{TypeWord}
 use Rattle.spec_parser.specs.declared.words.TypeWord.TheVariants as type_word
 use Rattle.spec_parser.specs.declared.words.TypedWord.{TypedWord}
 use Rattle.spec_parser.specs.declared.words.TypedWord.TheVariants as typed_word
-use Rattle.spec_parser.specs.declared.words.Family.{Family}
-use Rattle.spec_parser.specs.declared.words.Family.TheVariants as family
+use Rattle.vocabulary.specs.declared.dotted.Family.{Family}
+use Rattle.vocabulary.specs.declared.dotted.Family.TheVariants as family
 use Rattle.spec_parser.specs.declared.words.Member.{Member}
 use Rattle.spec_parser.specs.declared.words.Member.TheVariants as member
-use Rattle.spec_parser.specs.Words.{type_word_of, typed_word_of, family_of, family_name, family_in, member_name}
-use Rattle.spec_parser.specs.Reading.{set_member, map_member, text_member, member_of}
+use Rattle.vocabulary.specs.Table.{family_of, family_name, family_in, member_name, dotted_of}
+use Rattle.spec_parser.specs.Words.{type_word_of, typed_word_of}
+use Rattle.vocabulary.proofs.Listed.{dotted_is, dotted_again}
+use Rattle.spec_parser.specs.inner.Reading.{empty_of, empty_member, called_or, member_of}
 
 bytes_are : (n a : List ℕ) → bytes_eq n a ≡ true → n ≡ a
 bytes_are n a h = grind (arith, h, bytes_eq-Decides n a)
@@ -84,26 +85,22 @@ member_family (member.Called o) = family_in o
 member_family member.EmptySet = family.Set
 member_family member.EmptyMap = family.Map
 
+no_empty : (b : Bool) (w : Member) → (if b then empty_of family.Text else None) ≡ Some w → ⊥
+no_empty true w h = none_some w h
+no_empty false w h = none_some w h
+
+empty_is : (f : Family) (n : List ℕ) (w : Member) → empty_member f n ≡ Some w → (f ≡ member_family w) × (n ≡ member_spelling w)
+empty_is family.Set n w = step n w (λ w. (family.Set ≡ member_family w) × (n ≡ member_spelling w)) (codes "empty") member.EmptySet None (λ e. (refl, e)) (λ h. absurd (none_some w h))
+empty_is family.Map n w = step n w (λ w. (family.Map ≡ member_family w) × (n ≡ member_spelling w)) (codes "empty") member.EmptyMap None (λ e. (refl, e)) (λ h. absurd (none_some w h))
+empty_is family.Text n w = λ h. absurd (no_empty (bytes_eq n (codes "empty")) w h)
+
 pub member_is : (f : Family) (n : List ℕ) (w : Member) → member_of f n ≡ Some w → (f ≡ member_family w) × (n ≡ member_spelling w)
-member_is family.Set n w =
-    let Q : Member → Type 0 = λ w. (family.Set ≡ member_family w) × (n ≡ member_spelling w) in
-    step n w Q (codes "add") (member.Called dotted.SetAdd) _ (λ e. (refl, e))
-    (step n w Q (codes "remove") (member.Called dotted.SetRemove) _ (λ e. (refl, e))
-    (step n w Q (codes "contains") (member.Called dotted.SetContains) _ (λ e. (refl, e))
-    (step n w Q (codes "size") (member.Called dotted.SetSize) _ (λ e. (refl, e))
-    (step n w Q (codes "empty") member.EmptySet _ (λ e. (refl, e)) (λ h. absurd (none_some w h))))))
-member_is family.Map n w =
-    let Q : Member → Type 0 = λ w. (family.Map ≡ member_family w) × (n ≡ member_spelling w) in
-    step n w Q (codes "add") (member.Called dotted.MapAdd) _ (λ e. (refl, e))
-    (step n w Q (codes "remove") (member.Called dotted.MapRemove) _ (λ e. (refl, e))
-    (step n w Q (codes "contains") (member.Called dotted.MapContains) _ (λ e. (refl, e))
-    (step n w Q (codes "get") (member.Called dotted.MapGet) _ (λ e. (refl, e))
-    (step n w Q (codes "size") (member.Called dotted.MapSize) _ (λ e. (refl, e))
-    (step n w Q (codes "empty") member.EmptyMap _ (λ e. (refl, e)) (λ h. absurd (none_some w h)))))))
-member_is family.Text n w =
-    let Q : Member → Type 0 = λ w. (family.Text ≡ member_family w) × (n ≡ member_spelling w) in
-    step n w Q (codes "concat") (member.Called dotted.StringConcat) _ (λ e. (refl, e))
-    (step n w Q (codes "size") (member.Called dotted.StringSize) _ (λ e. (refl, e)) (λ h. absurd (none_some w h)))
+unfolding member_of
+member_is f n w = by (dotted_of f n) refl
+  where
+    by : (o : Option Dotted) → dotted_of f n ≡ o → called_or (empty_member f n) o ≡ Some w → (f ≡ member_family w) × (n ≡ member_spelling w)
+    by (Some d) is h = subst (λ w. (f ≡ member_family w) × (n ≡ member_spelling w)) (some_same (member.Called d) w h) (dotted_is f n d is)
+    by None is h = empty_is f n w h
 
 -- and back
 pub family_again : (f : Family) → family_of (family_name f) ≡ Some f
@@ -112,14 +109,13 @@ family_again family.Map = refl
 family_again family.Text = refl
 
 pub member_again : (o : Dotted) → member_of (family_in o) (member_name o) ≡ Some (member.Called o)
-member_again dotted.SetAdd = refl
-member_again dotted.SetRemove = refl
-member_again dotted.SetContains = refl
-member_again dotted.SetSize = refl
-member_again dotted.MapAdd = refl
-member_again dotted.MapRemove = refl
-member_again dotted.MapContains = refl
-member_again dotted.MapGet = refl
-member_again dotted.MapSize = refl
-member_again dotted.StringConcat = refl
-member_again dotted.StringSize = refl
+unfolding member_of
+member_again o = ap (called_or (empty_member (family_in o) (member_name o))) (dotted_again o)
+
+pub empty_set_again : member_of family.Set (codes "empty") ≡ Some member.EmptySet
+unfolding member_of dotted_of
+empty_set_again = refl
+
+pub empty_map_again : member_of family.Map (codes "empty") ≡ Some member.EmptyMap
+unfolding member_of dotted_of
+empty_map_again = refl

@@ -40,7 +40,7 @@ last_alike (x ∷ y ∷ front) t left more h = last_alike (y ∷ front) t left m
 different : true ≡ false → ⊥
 different e = cc
 
--- no later token is within the room behind one that is too deep
+-- no later token is within the room after one that is too deep
 module _ (room : ℕ) (ts front : List Token) (t : Token) (left : List Token) (d : IsTooDeep room ts front t left) where
   opens_on : (n f last rest more : List Token) → f ≡ front ++ t ∷ n → left ≡ (n ++ last) ++ rest → OpensAlike f (last ++ rest) more → opens_level t (n ++ more) ≡ true
   opens_on [] f last rest more p e alike = last_alike front t (last ++ rest) more (subst (λ l. OpensAlike l (last ++ rest) more) p alike) (subst (λ l. opens_level t l ≡ true) e d.opens)
@@ -58,7 +58,7 @@ module _ (room : ℕ) (ts front : List Token) (t : Token) (left : List Token) (d
   not_within : (m rest : List Token) → left ≡ m ++ rest → IsWithin room (front ++ t ∷ m) rest → ⊥
   not_within m rest e w = no_front m rest w.0 w.1 e w.3 w.4 (parted w.0 w.1 front (t ∷ m) (sym w.2))
 
-  -- a front that goes on behind the token is none
+  -- a front that goes on after the token is none
   no_later : (f : List Token) (x : Token) (m rest : List Token) → f ≡ front ++ x ∷ m → t ∷ left ≡ x ∷ (m ++ rest) → IsWithin room f rest → ⊥
   no_later f x m rest p q w =
       let same : t ≡ x = first_is t x left (m ++ rest) q in
@@ -70,7 +70,7 @@ begins_shorter deeper front x m more items s = (m ++ more, items, subst (λ l. S
     regroup : (front : List Token) (x : Token) (m more : List Token) → (front ++ x ∷ m) ++ more ≡ (front ++ x ∷ []) ++ (m ++ more)
     regroup front x m more = append_assoc front (x ∷ m) more ∙ sym (append_assoc front (x ∷ []) (m ++ more))
 
--- tokens that can't go on at one don't go on behind it
+-- tokens that can't go on at one don't go on after it
 module _ (room : ℕ) (ts front rest : List Token) (u : IsUnexpected room ts front rest) where
   not_begun : (f m others : List Token) (x : Token) → f ≡ front ++ x ∷ m → rest ≡ x ∷ others → (deeper : ℕ) → Begins deeper f → ⊥
   not_begun f m others x p q deeper b = u.refused x others q deeper (begins_shorter deeper front x m b.0 b.1 (subst (λ l. Spells deeper (l ++ b.0) b.1) p b.2))

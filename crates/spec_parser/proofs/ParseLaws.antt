@@ -2,22 +2,23 @@
 use Rattle.std.proofs.Common.{◌≡◌, ℕ, zero, suc, ◌+◌, ◌-◌, ◌<◌, ◌≤◌, Some, List, [], ◌∷◌, ◌++◌, length, get_or, refl, ap, subst, ◌∙◌, arith, length-append}
 use Rattle.tsl_value.specs.declared.place.Place.{Place}
 use Rattle.spec_lexer.specs.declared.token.Token.{Token}
-use Rattle.token_reader.specs.Reader.{Unexpected, TooDeep, Outcome, Read, Stopped, many, rest_of}
+use Rattle.token_reader.specs.inner.Reader.{Unexpected, TooDeep, Outcome, Read, Stopped, many, rest_of}
 use Rattle.token_reader.proofs.LocalLaws.{IsLocal, IsLocalTurn, shorter}
 use Rattle.token_reader.proofs.Meets.{Meets, meets_bind, meets-many}
 use Rattle.spec_parser.specs.declared.parse.ParseFault.TheVariants as fault
 use Rattle.spec_parser.specs.Tree.{Item}
-use Rattle.spec_parser.specs.Reading.{Reader, at_item, items_at, ended, specification}
+use Rattle.spec_parser.specs.inner.Reading.{Reader, at_item, items_at, ended, specification}
 use Rattle.spec_parser.specs.Grammar.{Spells}
 use Rattle.spec_parser.specs.Answers.{place_at, IsFaultOf}
 use Rattle.spec_parser.proofs.RefusalLaws.{Refuses, refused_rightly, spelled}
 use Rattle.spec_parser.proofs.ItemLaws.{local_items, item_signs}
+use Rattle.spec_parser.specs.declared.limits.TheConstants.{MOST_LEVELS}
 
 pub tree_is : (room : ℕ) (ts : List Token) (items : List Item) → specification room ts ≡ Read items [] → Spells room ts items
 tree_is = spelled
 
-pub unexpected_is : (ts rest : List Token) (p end : Place) → specification 64 ts ≡ Stopped Unexpected rest → p ≡ place_at rest end → IsFaultOf (fault.Unexpected p) ts end
-unexpected_is ts rest p end h at = let r = subst (Refuses 64 ts) h (refused_rightly 64 ts) in (r.0, rest, r.1, at)
+pub unexpected_is : (ts rest : List Token) (p end : Place) → specification MOST_LEVELS ts ≡ Stopped Unexpected rest → p ≡ place_at rest end → IsFaultOf (fault.Unexpected p) ts end
+unexpected_is ts rest p end h at = let r = subst (Refuses MOST_LEVELS ts) h (refused_rightly MOST_LEVELS ts) in (r.0, rest, r.1, at)
 
 pub too_deep_shorter : (room : ℕ) (ts rest : List Token) → specification room ts ≡ Stopped TooDeep rest → length rest < length ts
 too_deep_shorter room ts rest h =
@@ -28,9 +29,9 @@ get_at : (front rest : List Token) (t d : Token) → get_or (front ++ t ∷ rest
 get_at [] rest t d = refl
 get_at (x ∷ front) rest t d = get_at front rest t d
 
-pub too_deep_is : (ts rest : List Token) (p end : Place) → specification 64 ts ≡ Stopped TooDeep rest → ((t : Token) → p ≡ (get_or ts (length ts - length rest - 1) t).place) → IsFaultOf (fault.TooDeep p) ts end
+pub too_deep_is : (ts rest : List Token) (p end : Place) → specification MOST_LEVELS ts ≡ Stopped TooDeep rest → ((t : Token) → p ≡ (get_or ts (length ts - length rest - 1) t).place) → IsFaultOf (fault.TooDeep p) ts end
 too_deep_is ts rest p end h at =
-    let r = subst (Refuses 64 ts) h (refused_rightly 64 ts) in
+    let r = subst (Refuses MOST_LEVELS ts) h (refused_rightly MOST_LEVELS ts) in
     let t = r.1 in
     let index : length ts - length rest - 1 ≡ length r.0 = omega (arith, ap length r.2.whole, length-append r.0 (r.1 ∷ rest)) in
     (r.0, r.1, rest, r.2, at r.1 ∙ (λ k. (get_or (r.2.whole k) (index k) r.1).place) ∙ ap (λ x. x.place) (get_at r.0 rest r.1 r.1))

@@ -4,14 +4,14 @@ use Rattle.std.specs.Prelude.{◌⊎◌}
 use Rattle.std.proofs.lemmas.Bool.{cases_lt}
 use Rattle.std.proofs.lemmas.List.{append_cancel_right, append-nil}
 use Rattle.spec_lexer.specs.declared.token.Token.{Token}
-use Rattle.token_reader.specs.Reader.{Refusal, Unexpected, TooDeep, Outcome, Read, Stopped, and_then, many, head}
+use Rattle.token_reader.specs.inner.Reader.{Refusal, Unexpected, TooDeep, Outcome, Read, Stopped, and_then, many, head}
 use Rattle.token_reader.proofs.LocalLaws.{CarefulAt, Leads, is_calm}
 use Rattle.token_reader.proofs.ViableLaws.{ArePlain as reader_plain, Alike, alike_end, ViableAt, Goes, Reaches, near, far, Barred}
 use Rattle.token_reader.proofs.RoomLaws.{RisesTo, DeepAt}
 use Rattle.token_reader.proofs.Meets.{Meets}
 use Rattle.spec_parser.specs.Tree.{Item}
 use Rattle.spec_parser.specs.Words.{is_minus, is_number_next, may_open, opens_level}
-use Rattle.spec_parser.specs.Reading.{Reader, items_at, ended, specification}
+use Rattle.spec_parser.specs.inner.Reading.{Reader, items_at, ended, specification}
 use Rattle.spec_parser.specs.Grammar.{Spells, empty}
 use Rattle.spec_parser.specs.Refusals.{Begins, ArePlain, OpensAlike, IsWithin, IsUnexpected, IsTooDeep}
 use Rattle.spec_parser.proofs.RoomLaws.{rises_above}

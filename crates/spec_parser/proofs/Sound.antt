@@ -8,27 +8,28 @@ use Rattle.spec_lexer.specs.declared.token.Kind.{Kind}
 use Rattle.spec_lexer.specs.declared.token.Kind.TheVariants as kind
 use Rattle.spec_lexer.specs.declared.token.Word.TheVariants as word
 use Rattle.spec_lexer.specs.declared.token.Symbol.TheVariants as symbol
-use Rattle.token_reader.specs.Reader.{Outcome, Read, Stopped, Turn, Lister, give, and_then, ◌>>=◌, when, taken, take_by, expect, tried, if_next, chosen, or_else, opened, many}
+use Rattle.token_reader.specs.inner.Reader.{Outcome, Read, Stopped, Turn, Lister, give, and_then, ◌>>=◌, when, taken, take_by, expect, tried, if_next, chosen, or_else, opened, many}
 use Rattle.token_reader.proofs.LocalLaws.{IsLocalTurn}
 use Rattle.token_reader.proofs.Meets.{Meets, meets_bind, weaker, meets_opened, meets_expect, meets-many}
 use Rattle.spec_parser.specs.declared.tree.Level.{Level}
 use Rattle.spec_parser.specs.declared.tree.Level.TheVariants as level
 use Rattle.spec_parser.specs.declared.tree.Operator.{Operator}
 use Rattle.spec_parser.specs.declared.tree.Comparison.{Comparison}
-use Rattle.spec_parser.specs.declared.tree.Dotted.{Dotted}
+use Rattle.vocabulary.specs.declared.dotted.Dotted.{Dotted}
 use Rattle.spec_parser.specs.declared.words.TypeWord.{TypeWord}
 use Rattle.spec_parser.specs.declared.words.TypeWord.TheVariants as type_word
 use Rattle.spec_parser.specs.declared.words.TypedWord.{TypedWord}
 use Rattle.spec_parser.specs.declared.words.TypedWord.TheVariants as typed_word
-use Rattle.spec_parser.specs.declared.words.Family.{Family}
+use Rattle.vocabulary.specs.declared.dotted.Family.{Family}
 use Rattle.spec_parser.specs.declared.words.Member.{Member}
 use Rattle.spec_parser.specs.declared.words.Member.TheVariants as member
 use Rattle.spec_parser.specs.Tree as tree
 use Rattle.spec_parser.specs.Tree.{TypeName, Expr, Exprs, no_exprs, more_exprs, Links, no_links, more_links, place_of}
-use Rattle.spec_parser.specs.Words.{operator_at, comparison_at, opens_call, is_number, is_close, is_open_bracket, is_close_bracket, is_comma, is_if, is_then, is_else, type_word_of, typed_word_of, family_of, family_name, family_in, member_name, goes_on}
+use Rattle.vocabulary.specs.Table.{family_of, family_name, family_in, member_name}
+use Rattle.spec_parser.specs.Words.{operator_at, comparison_at, opens_call, is_number, is_close, is_open_bracket, is_close_bracket, is_comma, is_if, is_then, is_else, type_word_of, typed_word_of, goes_on}
 use Rattle.spec_parser.specs.Grammar.{Is, IsNamed, IsPast, IsPastLevel, IsPastComparison, IsPastName, IsType, unit, int, bool, string, set, map, option, events, chained, IsExpr, choice, chain, IsLevel, operands, AreLinks, no_link, one_link, IsOperand, conjunction, no_comparison, comparison, product, unary, IsUnary, negative, negate, negation, primary, IsPrimary, number, text, truth, falsity, parens, nothing, name, call, call_dotted, nil, none, empty_set, empty_map, AreOthers, no_other, one_other}
-use Rattle.spec_parser.specs.Reading as read
-use Rattle.spec_parser.specs.Reading.{Reader, must, in_brackets, two_in_brackets, type_behind, at_type, a_type, type_in, link, links_of, behind_operand, others_of, behind_argument, arguments, typed, member_of, member_behind, at_member, a_member, behind_name, called, at_number, negated, in_parens, at_unary, second_sum, compared, if_false, if_true, all_levels, expression, within, prefixed, unary_at, operand_at}
+use Rattle.spec_parser.specs.inner.Reading as read
+use Rattle.spec_parser.specs.inner.Reading.{Reader, must, in_brackets, two_in_brackets, type_after, at_type, a_type, type_in, link, links_of, after_operand, others_of, after_argument, arguments, typed, member_of, member_after, at_member, a_member, after_name, called, at_number, negated, in_parens, at_unary, second_sum, compared, if_false, if_true, all_levels, expression, within, prefixed, unary_at, operand_at}
 use Rattle.spec_parser.proofs.Ends.{signs, close_is, open_bracket_is, close_bracket_is, comma_is, if_is, call_is, then_is, else_is}
 use Rattle.spec_parser.proofs.Names.{type_name, type_word_is, typed_name, typed_word_is, family_is, member_spelling, member_family, member_is}
 use Rattle.spec_parser.proofs.ExprLaws.{turn_others}
@@ -71,7 +72,7 @@ module _ {A : Type 0} (Q : A → List Token → Type 0) where
   must_two_sound room sound f us k = meets_expect (λ t. is_open_bracket t.kind) (opened room (two_in_brackets (type_in room) f)) (λ vs. us ≡ vs) Q us refl (λ u ts e opens. opened_two_sound room sound f ts (k u ts e (open_bracket_is u.kind opens)))
 
 module _ (room : ℕ) (sound : (ts : List Token) → Meets (IsIn room ts) (type_in room ts)) (t : Token) where
-  of_word : (w : TypeWord) → IsNamed t (type_name w) → (us : List Token) → Meets (IsType room (t ∷ us)) (type_behind room (type_in room) t.place w us)
+  of_word : (w : TypeWord) → IsNamed t (type_name w) → (us : List Token) → Meets (IsType room (t ∷ us)) (type_after room (type_in room) t.place w us)
   of_word type_word.Unit is us = unit is
   of_word type_word.Int is us = int is
   of_word type_word.Bool is us = bool is
@@ -81,7 +82,7 @@ module _ (room : ℕ) (sound : (ts : List Token) → Meets (IsIn room ts) (type_
   of_word type_word.Events is us = must_sound (IsType room (t ∷ us)) room sound (tree.EventsType t.place) us (λ u ts e opens r s y v rest d closes. subst (λ vs. IsType room (t ∷ vs) (tree.EventsType t.place y) rest) (sym e) (subst (λ n. IsType n (t ∷ u ∷ ts) (tree.EventsType t.place y) rest) (sym s) (events is opens d closes)))
   of_word type_word.Map is us = must_two_sound (IsType room (t ∷ us)) room sound (tree.MapType t.place) us (λ u ts e opens r s x y v w vs rest d comma d2 closes. subst (λ vs. IsType room (t ∷ vs) (tree.MapType t.place x y) rest) (sym e) (subst (λ n. IsType n (t ∷ u ∷ ts) (tree.MapType t.place x y) rest) (sym s) (map is opens d comma d2 closes)))
 
-  of_option : (n : List ℕ) → t.kind ≡ kind.Name n → (o : Option TypeWord) → type_word_of n ≡ o → (us : List Token) → Meets (IsType room (t ∷ us)) (taken (option_map (type_behind room (type_in room) t.place) o) t us)
+  of_option : (n : List ℕ) → t.kind ≡ kind.Name n → (o : Option TypeWord) → type_word_of n ≡ o → (us : List Token) → Meets (IsType room (t ∷ us)) (taken (option_map (type_after room (type_in room) t.place) o) t us)
   of_option n is None h us = tt
   of_option n is (Some w) h us = of_word w (is ∙ ap kind.Name (type_word_is n w h)) us
 
@@ -129,7 +130,7 @@ module _ (r : ℕ) (sound : (ts : List Token) → Meets (IsExpr r ts) (within (s
   others_sound = meets-many signs (others_of inner) (turn_others inner (within_known (suc r)).fine.local) (AreOthers r) (no_other tt) (λ t ts h. no_other (comma_none (is_comma t.kind) h)) (λ t p is ts. comma_go t (is_comma t.kind) refl p is ts)
 
   arguments_sound : {A : Type 0} (f : Exprs → A) (Q : A → List Token → Type 0) (ts : List Token) → ((e : Expr) (es : Exprs) (us : List Token) (v : Token) (rest : List Token) → IsExpr r ts e us → AreOthers r us es (v ∷ rest) → Is v symbol.Close → Q (f (more_exprs e es)) rest) → Meets Q (arguments inner f ts)
-  arguments_sound f Q ts k = meets_bind (IsExpr r ts) Q (within (suc r) ts) (behind_argument inner f) (sound ts) (λ e us d.
+  arguments_sound f Q ts k = meets_bind (IsExpr r ts) Q (within (suc r) ts) (after_argument inner f) (sound ts) (λ e us d.
       meets_bind (AreOthers r us) Q (many (others_of inner) us) (λ es. must is_close (give (f (more_exprs e es)))) (others_sound us) (λ es vs o.
       meets_expect (λ t. is_close t.kind) (give (f (more_exprs e es))) (AreOthers r us es) Q vs o (λ v rest o closes. k e es us v rest d o (close_is v.kind closes))))
 
@@ -168,12 +169,12 @@ module _ (room : ℕ) (sound : Sound room) (t : Token) where
   Here us e rest = IsPrimary room (t ∷ us) e rest
 
   -- a name that knows a dot
-  member_sound : (d m : Token) (w : Member) → IsNamed t (family_name (member_family w)) → Is d symbol.Dot → IsNamed m (member_spelling w) → (us : List Token) → Meets (Here (d ∷ m ∷ us)) (member_behind room (type_in room) (within room) t.place w us)
+  member_sound : (d m : Token) (w : Member) → IsNamed t (family_name (member_family w)) → Is d symbol.Dot → IsNamed m (member_spelling w) → (us : List Token) → Meets (Here (d ∷ m ∷ us)) (member_after room (type_in room) (within room) t.place w us)
   member_sound d m (member.Called o) is dot named us = meets_expect (λ t. opens_call t.kind t.first) (opened room (arguments (within room) (tree.CallDotted t.place o))) (λ vs. us ≡ vs) (Here (d ∷ m ∷ us)) us refl (λ u ts e opens. subst (λ vs. Meets (Here (d ∷ m ∷ vs)) (opened room (arguments (within room) (tree.CallDotted t.place o)) ts)) (sym e) (dotted_sound room sound t d m u o is dot named opens ts))
   member_sound d m member.EmptySet is dot named us = must_sound (Here (d ∷ m ∷ us)) room (type_in_sound room) (tree.EmptySet t.place) us (λ u ts e opens r s y v rest x closes. subst (λ vs. Here (d ∷ m ∷ vs) (tree.EmptySet t.place y) rest) (sym e) (subst (λ n. IsPrimary n (t ∷ d ∷ m ∷ u ∷ ts) (tree.EmptySet t.place y) rest) (sym s) (empty_set is dot named opens x closes)))
   member_sound d m member.EmptyMap is dot named us = must_two_sound (Here (d ∷ m ∷ us)) room (type_in_sound room) (tree.EmptyMap t.place) us (λ u ts e opens r s x y v w vs rest a comma b closes. subst (λ vs. Here (d ∷ m ∷ vs) (tree.EmptyMap t.place x y) rest) (sym e) (subst (λ n. IsPrimary n (t ∷ d ∷ m ∷ u ∷ ts) (tree.EmptyMap t.place x y) rest) (sym s) (empty_map is dot named opens a comma b closes)))
 
-  member_option : (d m : Token) (f : Family) (n : List ℕ) → IsNamed t (family_name f) → Is d symbol.Dot → m.kind ≡ kind.Name n → (o : Option Member) → member_of f n ≡ o → (us : List Token) → Meets (Here (d ∷ m ∷ us)) (taken (option_map (member_behind room (type_in room) (within room) t.place) o) m us)
+  member_option : (d m : Token) (f : Family) (n : List ℕ) → IsNamed t (family_name f) → Is d symbol.Dot → m.kind ≡ kind.Name n → (o : Option Member) → member_of f n ≡ o → (us : List Token) → Meets (Here (d ∷ m ∷ us)) (taken (option_map (member_after room (type_in room) (within room) t.place) o) m us)
   member_option d m f n is dot named None h us = tt
   member_option d m f n is dot named (Some w) h us = let k = member_is f n w h in member_sound d m w (is ∙ ap (λ g. kind.Name (family_name g)) k.0) dot (named ∙ ap kind.Name k.1) us
 
@@ -211,7 +212,7 @@ module _ (room : ℕ) (sound : Sound room) (t : Token) where
     at_dot u us dot None h = alone u us (ap (λ k. goes_on n k u.first) dot ∙ ap is_some h)
     at_dot u us dot (Some f) h = a_member_sound u f (is ∙ ap kind.Name (family_is n f h)) dot us
 
-    next_sound : (u : Token) (us : List Token) (k : Kind) → u.kind ≡ k → Answer u us (behind_name room (type_in room) (within room) t.place n k u.first)
+    next_sound : (u : Token) (us : List Token) (k : Kind) → u.kind ≡ k → Answer u us (after_name room (type_in room) (within room) t.place n k u.first)
     next_sound u us (kind.Symbol symbol.Open) e = at_open u us e (not u.first) refl
     next_sound u us (kind.Symbol symbol.OpenBracket) e = at_bracket u us e (typed_word_of n) refl
     next_sound u us (kind.Symbol symbol.Dot) e = at_dot u us e (family_of n) refl
@@ -297,7 +298,7 @@ module _ (room : ℕ) (sound : Sound room) (prefix_sound : SoundPrefix room) whe
     links_sound = meets-many signs (links_of l operand) (links_local l room) (AreLinks l room) (no_link tt) (λ t ts h. no_link (link_none (operator_at l t.kind t.first) h)) (λ t p is ts. link_meets t (operator_at l t.kind t.first) refl p is ts)
 
     level_sound : (ts : List Token) → Meets (IsLevel l room ts) (read.chain l operand ts)
-    level_sound ts = meets_bind (IsOperand l room ts) (IsLevel l room ts) (operand ts) (behind_operand l operand) (operand_sound ts) (λ e us first.
+    level_sound ts = meets_bind (IsOperand l room ts) (IsLevel l room ts) (operand ts) (after_operand l operand) (operand_sound ts) (λ e us first.
         meets_bind (AreLinks l room us) (IsLevel l room ts) (many (links_of l operand) us) (λ ls. give (chained l e ls)) (links_sound us) (λ ls rest others. operands first others))
 
   product_sound : (ts : List Token) → Meets (IsOperand level.Product room ts) (unary_at room ts)

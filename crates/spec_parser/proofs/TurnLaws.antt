@@ -2,13 +2,13 @@
 use Rattle.std.proofs.Common.{◌≡◌, ℕ, zero, suc, ◌+◌, ◌==◌, ◌<◌, Bool, true, false, List, [], ◌∷◌, length, Option, Some, None, refl, sym, ap, ◌∙◌, arith}
 use Rattle.tsl_value.specs.declared.place.Place.{Place}
 use Rattle.spec_lexer.specs.declared.token.Token.{Token}
-use Rattle.token_reader.specs.Reader.{Outcome, Read, and_then, chosen, give, noted, or_given, opened, taken, tried, when}
+use Rattle.token_reader.specs.inner.Reader.{Outcome, Read, and_then, chosen, give, noted, or_given, opened, taken, tried, when}
 use Rattle.spec_parser.specs.declared.tree.Level.TheVariants as level
 use Rattle.spec_parser.specs.Tree as tree
 use Rattle.spec_parser.specs.Tree.{Expr, Item, Param, TypeName}
 use Rattle.spec_parser.specs.Words.{is_as, is_close, is_if}
-use Rattle.spec_parser.specs.Reading.{Reader, type_in, chain, operand_at, unary_at, all_levels, choice, expression, closed, in_parens, within, prefixed, may_have_type, behind_params, defined_as, a_body, block, plain_output, printed_as, behind_output, output_behind}
-use Rattle.spec_parser.specs.Parts.{given}
+use Rattle.spec_parser.specs.inner.Reading.{Reader, type_in, chain, operand_at, unary_at, all_levels, choice, expression, closed, in_parens, within, prefixed, may_have_type, after_params, defined_as, a_body, block, plain_output, printed_as, after_output, output_after}
+use Rattle.spec_parser.specs.inner.Parts.{given}
 
 pub within_is : (room below : ℕ) (ts : List Token) → room ≡ suc below → within room ts ≡ expression below (type_in below) (within below) (prefixed below) ts
 unfolding within prefixed
@@ -49,7 +49,7 @@ module _ (room : ℕ) (place : Place) (ts : List Token) (h : 0 < room) where
     pub inside_read : false ≡ is_close t.kind → what ts ≡ closed (within room) ts
     inside_read other = opened_at ∙ (λ k. then (sym other k) t after) ∙ ap (closed (within room)) (sym e)
 
--- behind the expression of an output
+-- after the expression of an output
 module _ (place : Place) (x : Expr × Bool) where
   abbrev at_as : Token → Option (Reader Item)
   at_as t = when (is_as t.kind) (printed_as place x.0)
@@ -58,9 +58,9 @@ module _ (place : Place) (x : Expr × Bool) where
   at_end (Some i) = refl
   at_end None = refl
 
-  pub nothing_behind : (ts : List Token) → length ts ≡ 0 → behind_output place x ts ≡ given (plain_output place x) ts
-  nothing_behind [] e = at_end (plain_output place x)
-  nothing_behind (t ∷ ts) e = absurd (omega arith)
+  pub nothing_after : (ts : List Token) → length ts ≡ 0 → after_output place x ts ≡ given (plain_output place x) ts
+  nothing_after [] e = at_end (plain_output place x)
+  nothing_after (t ∷ ts) e = absurd (omega arith)
 
   module _ (t : Token) (after : List Token) where
     no_as : (o : Option Item) → false ≡ is_as t.kind → or_given at_as o (t ∷ after) ≡ given o (t ∷ after)
@@ -71,14 +71,14 @@ module _ (place : Place) (x : Expr × Bool) where
     an_as (Some i) is = λ k. tried (when (sym is k) (printed_as place x.0)) i t after
     an_as None is = λ k. taken (when (sym is k) (printed_as place x.0)) t after
 
-    pub not_printed : (ts : List Token) → ts ≡ t ∷ after → false ≡ is_as t.kind → behind_output place x ts ≡ given (plain_output place x) ts
-    not_printed ts e other = ap (behind_output place x) e ∙ no_as (plain_output place x) other ∙ ap (given (plain_output place x)) (sym e)
+    pub not_printed : (ts : List Token) → ts ≡ t ∷ after → false ≡ is_as t.kind → after_output place x ts ≡ given (plain_output place x) ts
+    not_printed ts e other = ap (after_output place x) e ∙ no_as (plain_output place x) other ∙ ap (given (plain_output place x)) (sym e)
 
-    pub printed_read : (ts : List Token) → ts ≡ t ∷ after → true ≡ is_as t.kind → behind_output place x ts ≡ printed_as place x.0 after
-    printed_read ts e is = ap (behind_output place x) e ∙ an_as (plain_output place x) is
+    pub printed_read : (ts : List Token) → ts ≡ t ∷ after → true ≡ is_as t.kind → after_output place x ts ≡ printed_as place x.0 after
+    printed_read ts e is = ap (after_output place x) e ∙ an_as (plain_output place x) is
 
-pub output_is : (room above : ℕ) (place : Place) (ts : List Token) (e : Expr) (rest : List Token) → above ≡ suc room → within above ts ≡ Read e rest → output_behind room place ts ≡ behind_output place (e, length ts == 1 + length rest) rest
-output_is room above place ts e rest same reads = ap (λ o. and_then (noted (length ts) o) (behind_output place)) (ap (λ n. within n ts) (sym same) ∙ reads)
+pub output_is : (room above : ℕ) (place : Place) (ts : List Token) (e : Expr) (rest : List Token) → above ≡ suc room → within above ts ≡ Read e rest → output_after room place ts ≡ after_output place (e, length ts == 1 + length rest) rest
+output_is room above place ts e rest same reads = ap (λ o. and_then (noted (length ts) o) (after_output place)) (ap (λ n. within n ts) (sym same) ∙ reads)
 
-pub behind_is : (room above : ℕ) (place : Place) (n : List ℕ) (ps : List Param) (ts : List Token) (w : Option TypeName) (rest : List Token) → above ≡ suc room → may_have_type (type_in above) ts ≡ Read w rest → behind_params (type_in (suc room)) (a_body (block room) (within (suc room))) place n ps ts ≡ defined_as (a_body (block room) (within (suc room))) (tree.Define place n ps w) rest
-behind_is room above place n ps ts w rest same reads = ap (λ o. and_then o (λ w. defined_as (a_body (block room) (within (suc room))) (tree.Define place n ps w))) (ap (λ k. may_have_type (type_in k) ts) (sym same) ∙ reads)
+pub what_follows_is : (room above : ℕ) (place : Place) (n : List ℕ) (ps : List Param) (ts : List Token) (w : Option TypeName) (rest : List Token) → above ≡ suc room → may_have_type (type_in above) ts ≡ Read w rest → after_params (type_in (suc room)) (a_body (block room) (within (suc room))) place n ps ts ≡ defined_as (a_body (block room) (within (suc room))) (tree.Define place n ps w) rest
+what_follows_is room above place n ps ts w rest same reads = ap (λ o. and_then o (λ w. defined_as (a_body (block room) (within (suc room))) (tree.Define place n ps w))) (ap (λ k. may_have_type (type_in k) ts) (sym same) ∙ reads)

@@ -7,7 +7,7 @@ use Rattle.spec_lexer.specs.declared.token.Kind.{Kind}
 use Rattle.spec_lexer.specs.declared.token.Kind.TheVariants as kind
 use Rattle.spec_lexer.specs.declared.token.Word.TheVariants as word
 use Rattle.spec_lexer.specs.declared.token.Symbol.TheVariants as symbol
-use Rattle.token_reader.specs.Reader.{TooDeep, give, refuse, and_then, ◌>>=◌, when, taken, take_by, expect, opened}
+use Rattle.token_reader.specs.inner.Reader.{TooDeep, give, refuse, and_then, ◌>>=◌, when, taken, take_by, expect, opened}
 use Rattle.token_reader.proofs.LocalLaws.{IsCareful, IsLocal, IsEager, local-give, local-take_by, local-bind, local-expect, eager-take_by}
 use Rattle.token_reader.proofs.CarefulLaws.{careful-give, careful-test, careful-take_by, careful-bind, local-closed}
 use Rattle.token_reader.proofs.ViableLaws.{Passes, plainly, opening, at_once, unless, Completes, CompletesAll, completes-bind, completes-each, each-give, each-one, each-bind, each-expect, all-expect, each-all}
@@ -18,7 +18,7 @@ use Rattle.spec_parser.specs.declared.words.TypeWord.TheVariants as type_word
 use Rattle.spec_parser.specs.Tree as tree
 use Rattle.spec_parser.specs.Tree.{TypeName}
 use Rattle.spec_parser.specs.Words.{is_open_bracket, is_close_bracket, is_comma, is_number, may_open, opens_level, is_minus, type_word_of}
-use Rattle.spec_parser.specs.Reading.{Reader, must, in_brackets, two_in_brackets, type_behind, at_type, a_type, type_in}
+use Rattle.spec_parser.specs.inner.Reading.{Reader, must, in_brackets, two_in_brackets, type_after, at_type, a_type, type_in}
 use Rattle.spec_parser.proofs.Ends.{ends, ends_type, ends_fewer, ends_quiet, type_quiet, close_bracket_is, comma_is, signs, type_signs, start, sample, a_name, open_bracket_is, opens_by}
 
 -- a token that opens a level before whatever stands there
@@ -99,29 +99,29 @@ module _ (room : ℕ) (i j : Reader TypeName) (ij : IsFine type_signs i j) (ci :
     pub must_careful : (p : Reader A) → IsLocal type_signs p → IsCareful type_signs (must is_open_bracket p)
     must_careful p lp = careful-test type_signs (λ t. is_open_bracket t.kind) p lp
 
-  type_behind_fine : (place : Place) (w : TypeWord) → IsFine type_signs (type_behind room i place w) (type_behind (suc room) j place w)
-  type_behind_fine place type_word.Unit = fine-give type_signs (tree.UnitType place)
-  type_behind_fine place type_word.Int = fine-give type_signs (tree.IntType place)
-  type_behind_fine place type_word.Bool = fine-give type_signs (tree.BoolType place)
-  type_behind_fine place type_word.Text = fine-give type_signs (tree.TextType place)
-  type_behind_fine place type_word.Set = must_brackets (tree.SetType place)
-  type_behind_fine place type_word.Map = must_two (tree.MapType place)
-  type_behind_fine place type_word.Option = must_brackets (tree.OptionType place)
-  type_behind_fine place type_word.Events = must_brackets (tree.EventsType place)
+  type_after_fine : (place : Place) (w : TypeWord) → IsFine type_signs (type_after room i place w) (type_after (suc room) j place w)
+  type_after_fine place type_word.Unit = fine-give type_signs (tree.UnitType place)
+  type_after_fine place type_word.Int = fine-give type_signs (tree.IntType place)
+  type_after_fine place type_word.Bool = fine-give type_signs (tree.BoolType place)
+  type_after_fine place type_word.Text = fine-give type_signs (tree.TextType place)
+  type_after_fine place type_word.Set = must_brackets (tree.SetType place)
+  type_after_fine place type_word.Map = must_two (tree.MapType place)
+  type_after_fine place type_word.Option = must_brackets (tree.OptionType place)
+  type_after_fine place type_word.Events = must_brackets (tree.EventsType place)
 
-  type_behind_careful : (place : Place) (w : TypeWord) → IsCareful type_signs (type_behind room i place w)
-  type_behind_careful place type_word.Unit = careful-give type_signs (tree.UnitType place)
-  type_behind_careful place type_word.Int = careful-give type_signs (tree.IntType place)
-  type_behind_careful place type_word.Bool = careful-give type_signs (tree.BoolType place)
-  type_behind_careful place type_word.Text = careful-give type_signs (tree.TextType place)
-  type_behind_careful place type_word.Set = must_careful _ (opened_brackets (tree.SetType place)).local
-  type_behind_careful place type_word.Map = must_careful _ (opened_two (tree.MapType place)).local
-  type_behind_careful place type_word.Option = must_careful _ (opened_brackets (tree.OptionType place)).local
-  type_behind_careful place type_word.Events = must_careful _ (opened_brackets (tree.EventsType place)).local
+  type_after_careful : (place : Place) (w : TypeWord) → IsCareful type_signs (type_after room i place w)
+  type_after_careful place type_word.Unit = careful-give type_signs (tree.UnitType place)
+  type_after_careful place type_word.Int = careful-give type_signs (tree.IntType place)
+  type_after_careful place type_word.Bool = careful-give type_signs (tree.BoolType place)
+  type_after_careful place type_word.Text = careful-give type_signs (tree.TextType place)
+  type_after_careful place type_word.Set = must_careful _ (opened_brackets (tree.SetType place)).local
+  type_after_careful place type_word.Map = must_careful _ (opened_two (tree.MapType place)).local
+  type_after_careful place type_word.Option = must_careful _ (opened_brackets (tree.OptionType place)).local
+  type_after_careful place type_word.Events = must_careful _ (opened_brackets (tree.EventsType place)).local
 
-  type_turn : (t : Token) → may_open t.kind ≡ false → (o : Option TypeWord) → IsFineTurn type_signs t (option_map (type_behind room i t.place) o) (option_map (type_behind (suc room) j t.place) o)
+  type_turn : (t : Token) → may_open t.kind ≡ false → (o : Option TypeWord) → IsFineTurn type_signs t (option_map (type_after room i t.place) o) (option_map (type_after (suc room) j t.place) o)
   type_turn t plain None = tt
-  type_turn t plain (Some w) = (type_behind_fine t.place w, plainly plain (type_behind_careful t.place w))
+  type_turn t plain (Some w) = (type_after_fine t.place w, plainly plain (type_after_careful t.place w))
 
   at_type_turn : (t : Token) (k : Kind) → t.kind ≡ k → IsFineTurn type_signs t (at_type room i t.place k) (at_type (suc room) j t.place k)
   at_type_turn t (kind.Name n) e = type_turn t (ap may_open e) (type_word_of n)

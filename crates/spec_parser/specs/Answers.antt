@@ -6,18 +6,21 @@ use Rattle.spec_parser.specs.declared.tree.Tree.{Tree}
 use Rattle.spec_parser.specs.declared.parse.ParseFault.{ParseFault}
 use Rattle.spec_parser.specs.declared.parse.ParseFault.TheVariants as fault
 use Rattle.spec_parser.specs.Tree.{Item}
-use Rattle.spec_parser.specs.Shape.{items_of}
+use Rattle.spec_parser.specs.inner.Shape.{items_of}
 use Rattle.spec_parser.specs.Refusals.{IsUnexpected, IsTooDeep}
+use Rattle.spec_parser.specs.declared.limits.TheConstants.{MOST_LEVELS}
 
 -- the first token's place, or the end of the source
 abbrev pub place_at : List Token → Place → Place
 place_at [] end = end
 place_at (t ∷ ts) end = t.place
 
--- the fault is that of the tokens; want of memory is one of all tokens
+-- the fault is that of the tokens; out of memory is one of all tokens
 abbrev pub IsFaultOf : ParseFault → List Token → Place → Type 0
-IsFaultOf (fault.Unexpected p) ts end = (front : List Token) × (rest : List Token) × IsUnexpected 64 ts front rest × (p ≡ place_at rest end)
-IsFaultOf (fault.TooDeep p) ts end = (front : List Token) × (t : Token) × (rest : List Token) × IsTooDeep 64 ts front t rest × (p ≡ t.place)
+IsFaultOf (fault.Unexpected p) ts end =
+    (front : List Token) × (rest : List Token) × IsUnexpected MOST_LEVELS ts front rest × (p ≡ place_at rest end)
+IsFaultOf (fault.TooDeep p) ts end =
+    (front : List Token) × (t : Token) × (rest : List Token) × IsTooDeep MOST_LEVELS ts front t rest × (p ≡ t.place)
 IsFaultOf fault.Memory ts end = Unit {0}
 
 -- the answer is the tree of these items, that a token there is unexpected, or that it is too deep, unless memory ran out

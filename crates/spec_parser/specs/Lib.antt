@@ -1,13 +1,7 @@
 pub mod Tree
-pub mod Code
-pub mod Shape
 pub mod Places
-pub mod Falls
 pub mod Words
 pub mod Grammar
-pub mod Reading
-pub mod Parts
 pub mod Refusals
 pub mod Answers
-pub mod Gives
-pub mod Marks
+pub mod inner

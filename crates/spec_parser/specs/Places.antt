@@ -3,7 +3,7 @@ use Rattle.std.specs.Prelude.{◌≡◌, refl}
 use Rattle.tsl_value.specs.declared.place.Place.{Place}
 use Rattle.spec_parser.specs.Tree as tree
 use Rattle.spec_parser.specs.Tree.{TypeName}
-use Rattle.spec_parser.specs.Shape.{type_of}
+use Rattle.spec_parser.specs.inner.Shape.{type_of}
 use Rattle.spec_parser.specs.declared.tree.TypeShape.{TypeShape}
 use Rattle.spec_parser.specs.declared.tree.TypeShape.TheVariants as shape
 

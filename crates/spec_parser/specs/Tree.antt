@@ -4,7 +4,7 @@ use Rattle.tsl_value.specs.declared.place.Place.{Place}
 use Rattle.spec_parser.specs.declared.tree.Level.{Level}
 use Rattle.spec_parser.specs.declared.tree.Operator.{Operator}
 use Rattle.spec_parser.specs.declared.tree.Comparison.{Comparison}
-use Rattle.spec_parser.specs.declared.tree.Dotted.{Dotted}
+use Rattle.vocabulary.specs.declared.dotted.Dotted.{Dotted}
 
 pub data TypeName : Type 0 where
   UnitType : Place → TypeName

@@ -7,20 +7,27 @@ use Rattle.spec_lexer.specs.declared.token.Kind.TheVariants as kind
 use Rattle.spec_lexer.specs.declared.token.Word.TheVariants as word
 use Rattle.spec_lexer.specs.declared.token.Symbol.{Symbol}
 use Rattle.spec_lexer.specs.declared.token.Symbol.TheVariants as symbol
+use Rattle.vocabulary.specs.Table.{family_of}
 use Rattle.spec_parser.specs.declared.tree.Level.{Level}
 use Rattle.spec_parser.specs.declared.tree.Level.TheVariants as level
 use Rattle.spec_parser.specs.declared.tree.Operator.{Operator}
 use Rattle.spec_parser.specs.declared.tree.Operator.TheVariants as operator
 use Rattle.spec_parser.specs.declared.tree.Comparison.{Comparison}
 use Rattle.spec_parser.specs.declared.tree.Comparison.TheVariants as comparison
-use Rattle.spec_parser.specs.declared.tree.Dotted.{Dotted}
-use Rattle.spec_parser.specs.declared.tree.Dotted.TheVariants as dotted
 use Rattle.spec_parser.specs.declared.words.TypeWord.{TypeWord}
 use Rattle.spec_parser.specs.declared.words.TypeWord.TheVariants as type_word
 use Rattle.spec_parser.specs.declared.words.TypedWord.{TypedWord}
 use Rattle.spec_parser.specs.declared.words.TypedWord.TheVariants as typed_word
-use Rattle.spec_parser.specs.declared.words.Family.{Family}
-use Rattle.spec_parser.specs.declared.words.Family.TheVariants as family
+
+-- the level of an operator
+abbrev pub level_of : Operator → Level
+level_of operator.Or = level.Disjunction
+level_of operator.And = level.Conjunction
+level_of operator.Add = level.Sum
+level_of operator.Subtract = level.Sum
+level_of operator.Multiply = level.Product
+level_of operator.Divide = level.Product
+level_of operator.Remainder = level.Product
 
 -- the binary operators of each level; a minus that is the first of its line is none
 abbrev pub symbol_at : Level → Symbol → Bool → Option Operator
@@ -129,52 +136,12 @@ type_word_of n =
     else if bytes_eq n (codes "Events") then Some type_word.Events
     else None
 
--- the names behind which a type may stand in brackets
+-- the names after which a type may stand in brackets
 abbrev pub typed_word_of : List ℕ → Option TypedWord
 typed_word_of n =
     if bytes_eq n (codes "nil") then Some typed_word.Nil
     else if bytes_eq n (codes "None") then Some typed_word.None
     else None
-
--- the names behind which a dot may stand
-abbrev pub family_of : List ℕ → Option Family
-family_of n =
-    if bytes_eq n (codes "Set") then Some family.Set
-    else if bytes_eq n (codes "Map") then Some family.Map
-    else if bytes_eq n (codes "String") then Some family.Text
-    else None
-
-abbrev pub family_name : Family → List ℕ
-family_name family.Set = codes "Set"
-family_name family.Map = codes "Map"
-family_name family.Text = codes "String"
-
--- the two names of a built-in function with a dot
-abbrev pub family_in : Dotted → Family
-family_in dotted.SetAdd = family.Set
-family_in dotted.SetRemove = family.Set
-family_in dotted.SetContains = family.Set
-family_in dotted.SetSize = family.Set
-family_in dotted.MapAdd = family.Map
-family_in dotted.MapRemove = family.Map
-family_in dotted.MapContains = family.Map
-family_in dotted.MapGet = family.Map
-family_in dotted.MapSize = family.Map
-family_in dotted.StringConcat = family.Text
-family_in dotted.StringSize = family.Text
-
-abbrev pub member_name : Dotted → List ℕ
-member_name dotted.SetAdd = codes "add"
-member_name dotted.SetRemove = codes "remove"
-member_name dotted.SetContains = codes "contains"
-member_name dotted.SetSize = codes "size"
-member_name dotted.MapAdd = codes "add"
-member_name dotted.MapRemove = codes "remove"
-member_name dotted.MapContains = codes "contains"
-member_name dotted.MapGet = codes "get"
-member_name dotted.MapSize = codes "size"
-member_name dotted.StringConcat = codes "concat"
-member_name dotted.StringSize = codes "size"
 
 -- the token goes on with a name before it
 abbrev pub goes_on : List ℕ → Kind → Bool → Bool

@@ -1,13 +1,16 @@
 // Definitions, their parameters and their bodies.
 
 ghost use Rattle.std.specs.Prelude.{◌≡◌, ◌<◌, ◌^◌, suc};
-ghost use Rattle.token_reader.specs.Reader.{opened, many, with_list};
+ghost use Rattle.token_reader.specs.inner.Reader.{opened, many, with_list};
 ghost use Rattle.spec_parser.specs.Tree as tree;
-ghost use Rattle.spec_parser.specs.Shape.{param_of, params_in, body_of, definitions_of as definitions_in};
-ghost use Rattle.spec_parser.specs.Reading.{type_in, within, a_param, behind_param, other_params_of, params as reading_params, may_have_params, may_have_type, behind_params, defined_as, inner_definition as reading_definition, definitions_of, a_body, a_block, block as reading_block, whole_definition};
-ghost use Rattle.spec_parser.specs.Parts.{plain_body};
+ghost use Rattle.spec_parser.specs.inner.Shape.{param_of, params_in, body_of, definitions_of as definitions_in};
+ghost use Rattle.spec_parser.specs.inner.Reading.{type_in, within, a_param, after_param, other_params_of, params as reading_params};
+ghost use Rattle.spec_parser.specs.inner.Reading.{may_have_params, may_have_type, after_params, defined_as};
+ghost use Rattle.spec_parser.specs.inner.Reading.{inner_definition as reading_definition, definitions_of, a_body, a_block};
+ghost use Rattle.spec_parser.specs.inner.Reading.{block as reading_block, whole_definition};
+ghost use Rattle.spec_parser.specs.inner.Parts.{plain_body};
 ghost use Rattle.spec_parser.specs.Words.{is_def};
-ghost use Rattle.spec_parser.specs.Gives.{Gives, join_definitions, join_params};
+ghost use Rattle.spec_parser.specs.inner.Gives.{Gives, join_definitions, join_params};
 
 use crate::expression::within_room;
 use crate::mark::{Mark, fits, pass};
@@ -46,14 +49,15 @@ fn param(alloc: Global, room: u32, tokens: &[Token]) -> Result<(Param, &[Token])
     }
 }
 
-/// The parameters behind the first.
+/// The parameters after the first.
 fn more_params<'a>(
     alloc: Global,
     room: u32,
     tokens: &'a [Token],
     all: &mut Vec<Param>,
 ) -> Result<&'a [Token], Stop<'a>>
-    ensures { Gives (λ x. (params_in all.new.items, x.now)) result (with_list (join_params all.old.items) (many (other_params_of (type_in room)) tokens.now)) }
+    ensures { Gives (λ x. (params_in all.new.items, x.now)) result
+        (with_list (join_params all.old.items) (many (other_params_of (type_in room)) tokens.now)) }
 {
     let mut rest = tokens;
     'params: while let Some((token, after)) = rest.split_first() {
@@ -67,7 +71,7 @@ fn more_params<'a>(
     Ok(rest)
 }
 
-/// Parameters and the closing parenthesis, behind the opening one.
+/// Parameters and the closing parenthesis, after the opening one.
 fn opened_params(
     alloc: Global,
     room: u32,
@@ -79,17 +83,17 @@ fn opened_params(
         return Err(Stop::TooDeep(tokens));
     }
     let (first, rest) = param(alloc, room, tokens)?;
-    behind_first(alloc, room, first, rest)
+    after_the_first(alloc, room, first, rest)
 }
 
-/// Parameters behind the first.
-fn behind_first(
+/// Parameters after the first.
+fn after_the_first(
     alloc: Global,
     room: u32,
     first: Param,
     tokens: &[Token],
 ) -> Result<(Vec<Param>, &[Token]), Stop<'_>>
-    ensures { Gives (λ x. (params_in x.0.items, x.1.now)) result (behind_param (type_in room) (param_of first) tokens.now) }
+    ensures { Gives (λ x. (params_in x.0.items, x.1.now)) result (after_param (type_in room) (param_of first) tokens.now) }
 {
     let mut all = Vec::new(alloc);
     all.push(first)?;
@@ -165,9 +169,9 @@ fn body(alloc: Global, room: u32, tokens: &[Token]) -> Result<(Body, &[Token]), 
     }
 }
 
-/// A block behind its brace.
+/// A block after its brace.
 #[cycle(body)]
-#[tactic(auto, unfolding(crate::specs::Reading::block))]
+#[tactic(auto, unfolding(crate::specs::inner::Reading::block))]
 fn block(alloc: Global, room: u32, tokens: &[Token]) -> Result<(Body, &[Token]), Stop<'_>>
     requires { room < 2 ^ 31 }
     ensures { Gives (λ x. (body_of x.0, x.1.now)) result (reading_block room tokens.now) }
@@ -197,7 +201,8 @@ fn definitions(
     tokens: &[Token],
 ) -> Result<(Vec<Definition>, &[Token]), Stop<'_>>
     requires { room < 2 ^ 31 }
-    ensures { Gives (λ x. (definitions_in x.0.items, x.1.now)) result (many (definitions_of (type_in (suc room)) (a_body (reading_block room) (within (suc room)))) tokens.now) }
+    ensures { Gives (λ x. (definitions_in x.0.items, x.1.now)) result
+        (many (definitions_of (type_in (suc room)) (a_body (reading_block room) (within (suc room)))) tokens.now) }
 {
     let mut definitions = Vec::new(alloc);
     let mut rest = tokens;
@@ -212,7 +217,7 @@ fn definitions(
     Ok((definitions, rest))
 }
 
-/// A definition of a block, behind the word `def`.
+/// A definition of a block, after the word `def`.
 #[cycle(body)]
 fn inner_definition(
     alloc: Global,
@@ -220,14 +225,15 @@ fn inner_definition(
     tokens: &[Token],
 ) -> Result<(Definition, &[Token]), Stop<'_>>
     requires { room < 2 ^ 31 }
-    ensures { Gives (λ x. (x.0, x.1.now)) result (reading_definition (type_in (suc room)) (a_body (reading_block room) (within (suc room))) tokens.now) }
+    ensures { Gives (λ x. (x.0, x.1.now)) result
+        (reading_definition (type_in (suc room)) (a_body (reading_block room) (within (suc room))) tokens.now) }
 {
     match tokens {
         [] => Err(Stop::Unexpected(tokens)),
         [token, rest @ ..] => match &token.kind {
             Kind::Name(name) => {
                 let params = Vec::new(alloc);
-                behind_head(alloc, room, token.place, name, params, rest)
+                after_head(alloc, room, token.place, name, params, rest)
             }
             _ => Err(Stop::Unexpected(tokens)),
         },
@@ -236,7 +242,7 @@ fn inner_definition(
 
 /// A definition from its written type on.
 #[cycle(body)]
-fn behind_head<'a>(
+fn after_head<'a>(
     alloc: Global,
     room: u32,
     place: Place,
@@ -245,7 +251,8 @@ fn behind_head<'a>(
     tokens: &'a [Token],
 ) -> Result<(Definition, &'a [Token]), Stop<'a>>
     requires { room < 2 ^ 31 }
-    ensures { Gives (λ x. (x.0, x.1.now)) result (behind_params (type_in (suc room)) (a_body (reading_block room) (within (suc room))) place name.now (params_in params.items) tokens.now) }
+    ensures { Gives (λ x. (x.0, x.1.now)) result (after_params (type_in (suc room)) (a_body (reading_block room) (within (suc room))) place
+        name.now (params_in params.items) tokens.now) }
 {
     let (written, rest) = may_be_type(alloc, room + 1, tokens)?;
     let head = Head {
@@ -266,7 +273,8 @@ fn defined<'a>(
     tokens: &'a [Token],
 ) -> Result<(Definition, &'a [Token]), Stop<'a>>
     requires { room < 2 ^ 31 }
-    ensures { Gives (λ x. (x.0, x.1.now)) result (defined_as (a_body (reading_block room) (within (suc room))) (tree.Define head.place name.now (params_in head.params.items) head.written) tokens.now) }
+    ensures { Gives (λ x. (x.0, x.1.now)) result (defined_as (a_body (reading_block room) (within (suc room)))
+        (tree.Define head.place name.now (params_in head.params.items) head.written) tokens.now) }
 {
     let rest = pass(Mark::Defines, tokens)?;
     let (body, rest) = body(alloc, room, rest)?;
@@ -280,7 +288,7 @@ fn defined<'a>(
     Ok((Definition { parts }, rest))
 }
 
-/// A definition of a specification, behind the word `def`.
+/// A definition of a specification, after the word `def`.
 pub(crate) fn definition(
     alloc: Global,
     room: u32,
@@ -294,7 +302,7 @@ pub(crate) fn definition(
         [token, rest @ ..] => match &token.kind {
             Kind::Name(name) => {
                 let (params, rest) = may_be_params(alloc, room, rest)?;
-                behind_head(alloc, room, token.place, name, params, rest)
+                after_head(alloc, room, token.place, name, params, rest)
             }
             _ => Err(Stop::Unexpected(tokens)),
         },

@@ -1,24 +1,29 @@
 // Expressions, by recursive descent.
 
 ghost use Rattle.std.specs.Prelude.{◌≡◌};
-ghost use Rattle.token_reader.specs.Reader.{opened, many, with_list};
+ghost use Rattle.token_reader.specs.inner.Reader.{opened, many, with_list};
 ghost use Rattle.spec_parser.specs.Tree as tree;
 ghost use Rattle.spec_parser.specs.Tree.{place_of};
-ghost use Rattle.spec_parser.specs.Shape.{exprs_of, links_in};
+ghost use Rattle.spec_parser.specs.inner.Shape.{exprs_of, links_in};
 ghost use Rattle.spec_parser.specs.Words.{operator_at, comparison_at, opens_call, is_if, is_open_bracket};
 ghost use Rattle.spec_parser.specs.Grammar.{chained};
-ghost use Rattle.spec_parser.specs.Reading.{must, in_brackets, two_in_brackets, type_in, typed_as, called_as, links_of, chain as reading_chain, others_of, arguments, a_member, must_call, called, negated, opposed, denied, in_parens, closed, unary_at, operand_at, behind_sum, behind_argument, if_false, if_true, choice as reading_choice, expression, within, prefixed};
-ghost use Rattle.spec_parser.specs.Gives.{Gives, IfOkOrMemory, join_exprs};
+ghost use Rattle.spec_parser.specs.inner.Reading.{must, in_brackets, two_in_brackets, type_in, typed_as, called_as, links_of};
+ghost use Rattle.spec_parser.specs.inner.Reading.{chain as reading_chain, others_of, arguments, a_member, must_call, called, negated};
+ghost use Rattle.spec_parser.specs.inner.Reading.{opposed};
+ghost use Rattle.spec_parser.specs.inner.Reading.{denied, in_parens, closed, unary_at, operand_at, after_sum, after_argument, if_false};
+ghost use Rattle.spec_parser.specs.inner.Reading.{if_true, choice as reading_choice, expression, within, prefixed};
+ghost use Rattle.spec_parser.specs.inner.Gives.{Gives, IfOkOrMemory, join_exprs};
 
 use crate::mark::{Mark, fits, pass};
 use crate::stop::Stop;
-use crate::tree::{Comparison, Dotted, Expr, Level, Link, Node, Operator, TypeName};
+use crate::tree::{Comparison, Expr, Level, Link, Node, Operator, TypeName};
 use crate::type_name::type_in_room;
-use crate::words::{Callee, Family, Member, TypedWord, family_named, member_named, typed_word};
+use crate::words::{Callee, Member, TypedWord, member_named, typed_word};
 use spec_lexer::token::{Kind, Symbol, Token, Word};
 use std::alloc::Global;
 use tsl_value::place::Place;
 use tsl_value::text::Text;
+use vocabulary::dotted::{Dotted, Family, family_named};
 
 /// The operator of a level; a minus that is the first of its line is none.
 fn operator(level: Level, token: &Token) -> Option<Operator>
@@ -118,7 +123,7 @@ fn named(place: Place, name: &Text) -> Result<Expr, Stop<'static>>
     Ok(Expr { place, node })
 }
 
-/// A name with a type in brackets behind it.
+/// A name with a type in brackets after it.
 fn with_type(
     alloc: Global,
     room: u32,
@@ -146,7 +151,8 @@ fn empty_set(
     place: Place,
     tokens: &[Token],
 ) -> Result<(Expr, &[Token]), Stop<'_>>
-    ensures { Gives (λ x. (x.0, x.1.now)) result (must is_open_bracket (opened room (in_brackets (type_in room) (tree.EmptySet place))) tokens.now) }
+    ensures { Gives (λ x. (x.0, x.1.now)) result
+        (must is_open_bracket (opened room (in_brackets (type_in room) (tree.EmptySet place))) tokens.now) }
 {
     let rest = pass(Mark::OpenBracket, tokens)?;
     if room == 0 {
@@ -164,7 +170,8 @@ fn empty_map(
     place: Place,
     tokens: &[Token],
 ) -> Result<(Expr, &[Token]), Stop<'_>>
-    ensures { Gives (λ x. (x.0, x.1.now)) result (must is_open_bracket (opened room (two_in_brackets (type_in room) (tree.EmptyMap place))) tokens.now) }
+    ensures { Gives (λ x. (x.0, x.1.now)) result
+        (must is_open_bracket (opened room (two_in_brackets (type_in room) (tree.EmptyMap place))) tokens.now) }
 {
     let rest = pass(Mark::OpenBracket, tokens)?;
     if room == 0 {
@@ -172,10 +179,10 @@ fn empty_map(
     }
     let (key, rest) = type_in_room(alloc, room, rest)?;
     let rest = pass(Mark::Comma, rest)?;
-    map_behind_key(alloc, room, place, key, rest)
+    map_after_key(alloc, room, place, key, rest)
 }
 
-fn map_behind_key(
+fn map_after_key(
     alloc: Global,
     room: u32,
     place: Place,
@@ -202,7 +209,7 @@ fn call_of(place: Place, callee: Callee, all: Vec<Expr>) -> Expr
 
 /// An expression inside a level that was opened.
 #[cycle(parser)]
-#[tactic(auto, unfolding(crate::specs::Reading::within))]
+#[tactic(auto, unfolding(crate::specs::inner::Reading::within))]
 pub(crate) fn within_room(
     alloc: Global,
     room: u32,
@@ -232,7 +239,7 @@ fn any_expression(alloc: Global, room: u32, tokens: &[Token]) -> Result<(Expr, &
     }
 }
 
-/// A choice behind the word `if`.
+/// A choice after the word `if`.
 #[cycle(parser)]
 fn choice(
     alloc: Global,
@@ -345,18 +352,18 @@ fn one_comparison(alloc: Global, room: u32, tokens: &[Token]) -> Result<(Expr, &
     ensures { Gives (λ x. (x.0, x.1.now)) result (operand_at Level.Conjunction room tokens.now) }
 {
     let (left, rest) = chain(alloc, Level::Sum, room, tokens)?;
-    behind_left(alloc, room, left, rest)
+    after_left(alloc, room, left, rest)
 }
 
-/// A comparison behind its left side, or that side.
+/// A comparison after its left side, or that side.
 #[cycle(parser)]
-fn behind_left(
+fn after_left(
     alloc: Global,
     room: u32,
     left: Expr,
     tokens: &[Token],
 ) -> Result<(Expr, &[Token]), Stop<'_>>
-    ensures { Gives (λ x. (x.0, x.1.now)) result (behind_sum (reading_chain Level.Sum (operand_at Level.Sum room)) left tokens.now) }
+    ensures { Gives (λ x. (x.0, x.1.now)) result (after_sum (reading_chain Level.Sum (operand_at Level.Sum room)) left tokens.now) }
 {
     match tokens {
         [] => Ok((left, tokens)),
@@ -381,7 +388,7 @@ fn unary(alloc: Global, room: u32, tokens: &[Token]) -> Result<(Expr, &[Token]),
             Kind::Symbol(Symbol::Open) => parens(alloc, room, token.place, rest),
             Kind::Symbol(Symbol::Minus) => minus(alloc, room, token.place, rest),
             Kind::Symbol(Symbol::Not) => negation(alloc, room, token.place, rest),
-            Kind::Name(name) => name_behind(alloc, room, token.place, name, rest),
+            Kind::Name(name) => name_after(alloc, room, token.place, name, rest),
             Kind::Number(n) => Ok((
                 Expr {
                     place: token.place,
@@ -415,7 +422,7 @@ fn unary(alloc: Global, room: u32, tokens: &[Token]) -> Result<(Expr, &[Token]),
     }
 }
 
-/// What stands behind a parenthesis that begins an expression.
+/// What stands after a parenthesis that begins an expression.
 #[cycle(parser)]
 fn parens(
     alloc: Global,
@@ -451,7 +458,7 @@ fn inside(alloc: Global, room: u32, tokens: &[Token]) -> Result<(Expr, &[Token])
     Ok((inner, rest))
 }
 
-/// What stands behind a prefix minus.
+/// What stands after a prefix minus.
 #[cycle(parser)]
 fn minus(
     alloc: Global,
@@ -473,9 +480,9 @@ fn minus(
     }
 }
 
-/// What stands behind a minus that opens a level.
+/// What stands after a minus that opens a level.
 #[cycle(parser)]
-#[tactic(auto, unfolding(crate::specs::Reading::prefixed))]
+#[tactic(auto, unfolding(crate::specs::inner::Reading::prefixed))]
 fn opposite(
     alloc: Global,
     room: u32,
@@ -492,9 +499,9 @@ fn opposite(
     Ok((Expr { place, node }, rest))
 }
 
-/// What stands behind the operator `!`.
+/// What stands after the operator `!`.
 #[cycle(parser)]
-#[tactic(auto, unfolding(crate::specs::Reading::prefixed))]
+#[tactic(auto, unfolding(crate::specs::inner::Reading::prefixed))]
 fn negation(
     alloc: Global,
     room: u32,
@@ -513,7 +520,7 @@ fn negation(
 
 /// An expression that begins with a name.
 #[cycle(parser)]
-fn name_behind<'a>(
+fn name_after<'a>(
     alloc: Global,
     room: u32,
     place: Place,
@@ -537,7 +544,7 @@ fn name_behind<'a>(
                 None => Ok((named(place, name)?, tokens)),
             },
             Kind::Symbol(Symbol::Dot) => match family_named(name.as_str()) {
-                Some(family) => member_behind_dot(alloc, room, place, family, rest),
+                Some(family) => member_after_dot(alloc, room, place, family, rest),
                 None => Ok((named(place, name)?, tokens)),
             },
             _ => Ok((named(place, name)?, tokens)),
@@ -545,9 +552,9 @@ fn name_behind<'a>(
     }
 }
 
-/// What stands behind the dot.
+/// What stands after the dot.
 #[cycle(parser)]
-fn member_behind_dot(
+fn member_after_dot(
     alloc: Global,
     room: u32,
     place: Place,
@@ -578,7 +585,8 @@ fn call_dotted(
     function: Dotted,
     tokens: &[Token],
 ) -> Result<(Expr, &[Token]), Stop<'_>>
-    ensures { Gives (λ x. (x.0, x.1.now)) result (must_call (opened room (arguments (within room) (tree.CallDotted place function))) tokens.now) }
+    ensures { Gives (λ x. (x.0, x.1.now)) result
+        (must_call (opened room (arguments (within room) (tree.CallDotted place function))) tokens.now) }
 {
     match tokens {
         [token, rest @ ..] if begins_arguments(token) => {
@@ -588,7 +596,7 @@ fn call_dotted(
     }
 }
 
-/// A call, behind its opening parenthesis.
+/// A call, after its opening parenthesis.
 #[cycle(parser)]
 fn call(
     alloc: Global,
@@ -603,12 +611,12 @@ fn call(
         return Err(Stop::TooDeep(tokens));
     }
     let (first, rest) = within_room(alloc, room, tokens)?;
-    behind_first(alloc, room, place, callee, first, rest)
+    after_the_first(alloc, room, place, callee, first, rest)
 }
 
-/// A call behind its first argument.
+/// A call after its first argument.
 #[cycle(parser)]
-fn behind_first(
+fn after_the_first(
     alloc: Global,
     room: u32,
     place: Place,
@@ -616,7 +624,7 @@ fn behind_first(
     first: Expr,
     tokens: &[Token],
 ) -> Result<(Expr, &[Token]), Stop<'_>>
-    ensures { Gives (λ x. (x.0, x.1.now)) result (behind_argument (within room) (called_as place callee) first tokens.now) }
+    ensures { Gives (λ x. (x.0, x.1.now)) result (after_argument (within room) (called_as place callee) first tokens.now) }
 {
     let mut all = Vec::new(alloc);
     all.push(first)?;
@@ -632,7 +640,8 @@ fn more_arguments<'a>(
     tokens: &'a [Token],
     all: &mut Vec<Expr>,
 ) -> Result<&'a [Token], Stop<'a>>
-    ensures { Gives (λ x. (exprs_of all.new.items, x.now)) result (with_list (join_exprs all.old.items) (many (others_of (within room)) tokens.now)) }
+    ensures { Gives (λ x. (exprs_of all.new.items, x.now)) result
+        (with_list (join_exprs all.old.items) (many (others_of (within room)) tokens.now)) }
 {
     let mut rest = tokens;
     'others: while let Some((token, after)) = rest.split_first() {

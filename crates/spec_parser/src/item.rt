@@ -1,11 +1,12 @@
 // Items, and all of them.
 
 ghost use Rattle.std.specs.Prelude.{◌≡◌, ◌<◌, ◌^◌, [], map, option_map};
-ghost use Rattle.spec_parser.specs.Shape.{item_of};
-ghost use Rattle.spec_parser.specs.Reading.{input_behind, plain_output, printed_as as reading_printed, behind_output, output_behind, at_item, specification};
-ghost use Rattle.spec_parser.specs.Parts.{given};
+ghost use Rattle.spec_parser.specs.inner.Shape.{item_of};
+ghost use Rattle.spec_parser.specs.inner.Reading.{input_after, plain_output, printed_as as reading_printed, after_output, output_after};
+ghost use Rattle.spec_parser.specs.inner.Reading.{at_item, specification};
+ghost use Rattle.spec_parser.specs.inner.Parts.{given};
 ghost use Rattle.spec_parser.specs.Words.{is_as};
-ghost use Rattle.spec_parser.specs.Gives.{Gives, TurnGives};
+ghost use Rattle.spec_parser.specs.inner.Gives.{Gives, TurnGives};
 
 use crate::definition::definition;
 use crate::expression::within_room;
@@ -24,7 +25,7 @@ fn input(
     tokens: &[Token],
 ) -> Result<(Item, &[Token]), Stop<'_>>
     requires { room < 2 ^ 31 }
-    ensures { Gives (λ x. (item_of x.0, x.1.now)) result (input_behind room place tokens.now) }
+    ensures { Gives (λ x. (item_of x.0, x.1.now)) result (input_after room place tokens.now) }
 {
     match tokens {
         [] => Err(Stop::Unexpected(tokens)),
@@ -53,7 +54,7 @@ fn plain(place: Place, expression: Expr, alone: bool) -> Option<Item>
     }
 }
 
-/// The name behind `as`.
+/// The name after `as`.
 fn printed(place: Place, expression: Expr, tokens: &[Token]) -> Result<(Item, &[Token]), Stop<'_>>
     ensures { Gives (λ x. (item_of x.0, x.1.now)) result (reading_printed place expression tokens.now) }
 {
@@ -90,14 +91,14 @@ fn unprinted(
     }
 }
 
-/// What stands behind the expression of an output.
-fn behind_expression(
+/// What stands after the expression of an output.
+fn after_expression(
     place: Place,
     expression: Expr,
     alone: bool,
     tokens: &[Token],
 ) -> Result<(Item, &[Token]), Stop<'_>>
-    ensures { Gives (λ x. (item_of x.0, x.1.now)) result (behind_output place (expression, alone) tokens.now) }
+    ensures { Gives (λ x. (item_of x.0, x.1.now)) result (after_output place (expression, alone) tokens.now) }
 {
     match tokens.split_first() {
         None => unprinted(place, expression, alone, tokens),
@@ -118,11 +119,11 @@ fn output(
     tokens: &[Token],
 ) -> Result<(Item, &[Token]), Stop<'_>>
     requires { room < 2 ^ 31 }
-    ensures { Gives (λ x. (item_of x.0, x.1.now)) result (output_behind room place tokens.now) }
+    ensures { Gives (λ x. (item_of x.0, x.1.now)) result (output_after room place tokens.now) }
 {
     let (expression, rest) = within_room(alloc, room + 1, tokens)?;
     let alone = tokens.len() == 1 + rest.len();
-    behind_expression(place, expression, alone, rest)
+    after_expression(place, expression, alone, rest)
 }
 
 /// The item that begins at a token, if one does.

@@ -19,13 +19,28 @@ pub fn has_answer()
 
 /// Tokens that spell a tree are refused nowhere.
 pub fn one_answer()
-    ensures unexpected { (room : ℕ) (tokens : List Token) (items : List tree.Item) (front rest : List Token) → Spells room tokens items → IsUnexpected room tokens front rest → ⊥ }
-    ensures too_deep { (room : ℕ) (tokens : List Token) (items : List tree.Item) (front : List Token) (t : Token) (rest : List Token) → Spells room tokens items → IsTooDeep room tokens front t rest → ⊥ }
+    ensures unexpected { (room : ℕ) (tokens : List Token) (items : List tree.Item) (front rest : List Token)
+        → Spells room tokens items
+        → IsUnexpected room tokens front rest
+        → ⊥ }
+    ensures too_deep { (room : ℕ) (tokens : List Token) (items : List tree.Item) (front : List Token) (t : Token) (rest : List Token)
+        → Spells room tokens items
+        → IsTooDeep room tokens front t rest
+        → ⊥ }
 {}
 
 /// Tokens are refused at one place alone, and for one reason.
 pub fn one_refusal()
-    ensures both { (room : ℕ) (tokens front rest before left : List Token) (t : Token) → IsUnexpected room tokens front rest → IsTooDeep room tokens before t left → ⊥ }
-    ensures unexpected { (room : ℕ) (tokens front rest other_front other_rest : List Token) → IsUnexpected room tokens front rest → IsUnexpected room tokens other_front other_rest → rest ≡ other_rest }
-    ensures too_deep { (room : ℕ) (tokens front left other_front other_left : List Token) (t other : Token) → IsTooDeep room tokens front t left → IsTooDeep room tokens other_front other other_left → t ∷ left ≡ other ∷ other_left }
+    ensures both { (room : ℕ) (tokens front rest before left : List Token) (t : Token)
+        → IsUnexpected room tokens front rest
+        → IsTooDeep room tokens before t left
+        → ⊥ }
+    ensures unexpected { (room : ℕ) (tokens front rest other_front other_rest : List Token)
+        → IsUnexpected room tokens front rest
+        → IsUnexpected room tokens other_front other_rest
+        → rest ≡ other_rest }
+    ensures too_deep { (room : ℕ) (tokens front left other_front other_left : List Token) (t other : Token)
+        → IsTooDeep room tokens front t left
+        → IsTooDeep room tokens other_front other other_left
+        → t ∷ left ≡ other ∷ other_left }
 {}

@@ -5,11 +5,10 @@ mod definition;
 mod expression;
 mod item;
 pub mod law;
+pub mod limits;
 mod mark;
 pub mod parse;
 mod stop;
-#[cfg(test)]
-mod tests;
 pub mod tree;
 mod type_name;
 mod words;

@@ -1,10 +1,10 @@
 // Tokens that have to come inside a construct.
 
 ghost use Rattle.std.specs.Prelude.{◌≡◌, true};
-ghost use Rattle.token_reader.specs.Reader.{Read};
-ghost use Rattle.spec_parser.specs.Reading.{must};
-ghost use Rattle.spec_parser.specs.Gives.{Gives};
-ghost use Rattle.spec_parser.specs.Marks.{test_of};
+ghost use Rattle.token_reader.specs.inner.Reader.{Read};
+ghost use Rattle.spec_parser.specs.inner.Reading.{must};
+ghost use Rattle.spec_parser.specs.inner.Gives.{Gives};
+ghost use Rattle.spec_parser.specs.inner.Marks.{test_of};
 
 use crate::stop::Stop;
 use spec_lexer::token::{Kind, Symbol, Token, Word};
@@ -41,7 +41,7 @@ pub(crate) fn fits(mark: Mark, token: &Token) -> bool
     }
 }
 
-/// The tokens behind the mark.
+/// The tokens after the mark.
 pub(crate) fn pass(mark: Mark, tokens: &[Token]) -> Result<&[Token], Stop<'_>>
     ensures { Gives (λ x. (true, x.now)) result (must (test_of mark) (Read true) tokens.now) }
 {

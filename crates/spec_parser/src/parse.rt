@@ -4,11 +4,12 @@ ghost use Rattle.std.specs.Prelude.{◌≡◌, List, ◌-◌, ◌<◌, ◌≤◌
 ghost use Rattle.spec_lexer.specs.declared.token.Token.{Token as Spot};
 ghost use Rattle.spec_parser.specs.Tree.{Item};
 ghost use Rattle.spec_parser.specs.Grammar.{Spells};
-ghost use Rattle.spec_parser.specs.Shape.{items_of};
+ghost use Rattle.spec_parser.specs.inner.Shape.{items_of};
 ghost use Rattle.spec_parser.specs.Refusals.{IsUnexpected, IsTooDeep};
 ghost use Rattle.spec_parser.specs.Answers.{place_at, IsFaultOf, IsTreeUnlessMemory, IsUnexpectedUnlessMemory, IsTooDeepUnlessMemory};
 
 use crate::item::items;
+use crate::limits::MOST_LEVELS;
 use crate::stop::Stop;
 use crate::tree::Tree;
 use spec_lexer::token::Token;
@@ -24,7 +25,7 @@ pub enum ParseFault {
     Unexpected { place: Place },
     /// The token at the place opens the 65th level.
     TooDeep { place: Place },
-    /// Memory was wanting.
+    /// Out of memory.
     Memory,
 }
 
@@ -44,21 +45,25 @@ fn place_before(tokens: &[Token], left: usize) -> Place
     tokens[tokens.len() - left - 1].place
 }
 
-/// The tree that the tokens spell, of at most 64 levels, or the first token where they spell none.
+/// The tree that the tokens spell, of at most `MOST_LEVELS` levels, or the first token where they spell none.
 pub fn parse(alloc: Global, tokens: &Tokens) -> Result<Tree, ParseFault>
-    ensures tree { IfOk result (λ t. Spells 64 tokens.now.tokens (items_of t)) }
+    ensures tree { IfOk result (λ t. Spells MOST_LEVELS tokens.now.tokens (items_of t)) }
     ensures end { IfOk result (λ t. t.end ≡ tokens.now.end) }
     ensures size { IfOk result (λ t. length (items_of t) ≤ length tokens.now.tokens) }
     ensures fault { IfErr result (λ e. IsFaultOf e tokens.now.tokens tokens.now.end) }
 
-    // Where memory is not wanting, the tree comes wherever the tokens spell one, and so does each
+    // Unless out of memory, the tree comes wherever the tokens spell one, and so does each
     // fault.
-    ensures tree_exactly { (items : List Item) → Spells 64 tokens.now.tokens items → IsTreeUnlessMemory result items }
-    ensures unexpected_exactly { (front rest : List Spot) → IsUnexpected 64 tokens.now.tokens front rest → IsUnexpectedUnlessMemory result (place_at rest tokens.now.end) }
-    ensures too_deep_exactly { (front : List Spot) (t : Spot) (rest : List Spot) → IsTooDeep 64 tokens.now.tokens front t rest → IsTooDeepUnlessMemory result t.place }
+    ensures tree_exactly { (items : List Item) → Spells MOST_LEVELS tokens.now.tokens items → IsTreeUnlessMemory result items }
+    ensures unexpected_exactly { (front rest : List Spot)
+        → IsUnexpected MOST_LEVELS tokens.now.tokens front rest
+        → IsUnexpectedUnlessMemory result (place_at rest tokens.now.end) }
+    ensures too_deep_exactly { (front : List Spot) (t : Spot) (rest : List Spot)
+        → IsTooDeep MOST_LEVELS tokens.now.tokens front t rest
+        → IsTooDeepUnlessMemory result t.place }
 {
     let all = tokens.as_slice();
-    match items(alloc, 64, all) {
+    match items(alloc, MOST_LEVELS, all) {
         Ok(items) => Ok(Tree {
             items,
             end: tokens.end(),

@@ -3,11 +3,13 @@
 ghost use Rattle.std.specs.Prelude.{◌≡◌, map};
 ghost use Rattle.spec_parser.specs.Tree.{place_of};
 ghost use Rattle.spec_parser.specs.Places.{type_place};
-ghost use Rattle.spec_parser.specs.Shape.{type_of, expr_of, definition_of, item_of, items_of};
+ghost use Rattle.spec_parser.specs.inner.Shape.{type_of, expr_of, definition_of, item_of, items_of};
 
+use spec_lexer::natural::Natural;
 use std::marker::Model;
 use tsl_value::place::Place;
 use tsl_value::text::Text;
+use vocabulary::dotted::Dotted;
 
 /// The levels of a chain whose operands stand in one list.
 #[derive(Clone, Copy, PartialEq, Eq, Debug)]
@@ -39,22 +41,6 @@ pub enum Comparison {
     Above,
 }
 
-/// The built-in functions whose names have a dot.
-#[derive(Clone, Copy, PartialEq, Eq, Debug)]
-pub enum Dotted {
-    SetAdd,
-    SetRemove,
-    SetContains,
-    SetSize,
-    MapAdd,
-    MapRemove,
-    MapContains,
-    MapGet,
-    MapSize,
-    StringConcat,
-    StringSize,
-}
-
 /// A written type, and the place of its first token.
 #[cycle(types)]
 #[derive(Drop)]
@@ -78,20 +64,20 @@ pub enum TypeShape {
 
 impl Model for TypeName {
     ghost use Rattle.spec_parser.specs.Tree.{TypeName as Tree};
-    ghost use Rattle.spec_parser.specs.Code.{type_code};
+    ghost use Rattle.spec_parser.specs.inner.Code.{type_code};
 
     ghost Value = { Tree };
 
     ghost coded = { type_code };
 
-    ghost use Rattle.spec_parser.specs.Shape.{type_of, size_of_type};
+    ghost use Rattle.spec_parser.specs.inner.Shape.{type_of, size_of_type};
 
     ghost view = { λ t. type_of t.place t.shape };
 
     ghost size = { size_of_type };
 
     ghost use Rattle.std.proofs.Common.{arith};
-    ghost use Rattle.spec_parser.specs.Falls.{type_falls};
+    ghost use Rattle.spec_parser.specs.inner.Falls.{type_falls};
 
     ghost size_decreases = { λ a h. Prim.grind (arith, type_falls a.place a.shape) };
 }
@@ -130,9 +116,9 @@ pub enum Node {
     Compare(Comparison, Box<Expr>, Box<Expr>),
     Negate(Box<Expr>),
     Not(Box<Expr>),
-    Number(u64),
+    Number(Natural),
     /// A number with a minus before it.
-    Negative(u64),
+    Negative(Natural),
     Text(Text),
     Boolean(bool),
     Unit,
@@ -145,7 +131,7 @@ pub enum Node {
     EmptyMap(TypeName, TypeName),
 }
 
-/// An operator and the operand behind it.
+/// An operator and the operand after it.
 #[cycle(tree)]
 #[derive(Drop)]
 pub struct Link {
@@ -155,25 +141,25 @@ pub struct Link {
 
 impl Model for Expr {
     ghost use Rattle.spec_parser.specs.Tree.{Expr as Tree};
-    ghost use Rattle.spec_parser.specs.Code.{expr_code};
+    ghost use Rattle.spec_parser.specs.inner.Code.{expr_code};
 
     ghost Value = { Tree };
 
     ghost coded = { expr_code };
 
-    ghost use Rattle.spec_parser.specs.Shape.{expr_of, size_of};
+    ghost use Rattle.spec_parser.specs.inner.Shape.{expr_of, size_of};
 
     ghost view = { λ e. expr_of e.place e.node };
 
     ghost size = { size_of };
 
     ghost use Rattle.std.proofs.Common.{arith};
-    ghost use Rattle.spec_parser.specs.Falls.{node_falls};
+    ghost use Rattle.spec_parser.specs.inner.Falls.{node_falls};
 
     ghost size_decreases = { λ a h. Prim.grind (arith, node_falls a.place a.node) };
 }
 
-#[tactic(auto, using(crate::specs::Shape::place_again))]
+#[tactic(auto, using(crate::specs::inner::Shape::place_again))]
 impl Expr {
     /// The place of the first token.
     pub fn place(&self) -> Place
@@ -225,20 +211,20 @@ pub enum Body {
 
 impl Model for Definition {
     ghost use Rattle.spec_parser.specs.Tree.{Definition as Tree};
-    ghost use Rattle.spec_parser.specs.Code.{definition_code};
+    ghost use Rattle.spec_parser.specs.inner.Code.{definition_code};
 
     ghost Value = { Tree };
 
     ghost coded = { definition_code };
 
-    ghost use Rattle.spec_parser.specs.Shape.{definition_of, size_of_definition};
+    ghost use Rattle.spec_parser.specs.inner.Shape.{definition_of, size_of_definition};
 
     ghost view = { λ d. definition_of d.parts };
 
     ghost size = { size_of_definition };
 
     ghost use Rattle.std.proofs.Common.{arith};
-    ghost use Rattle.spec_parser.specs.Falls.{definition_falls};
+    ghost use Rattle.spec_parser.specs.inner.Falls.{definition_falls};
 
     ghost size_decreases = { λ a h. Prim.grind (arith, definition_falls a.parts) };
 }
@@ -294,7 +280,7 @@ impl Tree {
         self.items.as_slice()
     }
 
-    /// The place behind the source's last character.
+    /// The place after the source's last character.
     pub fn end(&self) -> Place
         ensures { result ≡ self.now.end }
     {

@@ -1,11 +1,11 @@
 // Types.
 
 ghost use Rattle.std.specs.Prelude.{◌≡◌};
-ghost use Rattle.token_reader.specs.Reader.{opened};
+ghost use Rattle.token_reader.specs.inner.Reader.{opened};
 ghost use Rattle.spec_parser.specs.Tree as tree;
 ghost use Rattle.spec_parser.specs.Words.{is_open_bracket};
-ghost use Rattle.spec_parser.specs.Reading.{must, in_brackets, two_in_brackets, a_type, type_behind, type_in, wrapped};
-ghost use Rattle.spec_parser.specs.Gives.{Gives, IfOkOrMemory};
+ghost use Rattle.spec_parser.specs.inner.Reading.{must, in_brackets, two_in_brackets, a_type, type_after, type_in, wrapped};
+ghost use Rattle.spec_parser.specs.inner.Gives.{Gives, IfOkOrMemory};
 
 use crate::mark::{Mark, pass};
 use crate::stop::Stop;
@@ -16,7 +16,7 @@ use std::alloc::Global;
 use tsl_value::place::Place;
 
 #[cycle(type_name)]
-#[tactic(auto, unfolding(crate::specs::Reading::type_in))]
+#[tactic(auto, unfolding(crate::specs::inner::Reading::type_in))]
 pub(crate) fn type_in_room(
     alloc: Global,
     room: u32,
@@ -38,7 +38,7 @@ fn any_type(alloc: Global, room: u32, tokens: &[Token]) -> Result<(TypeName, &[T
         [] => Err(Stop::Unexpected(tokens)),
         [token, rest @ ..] => match &token.kind {
             Kind::Name(name) => match type_word(name.as_str()) {
-                Some(word) => behind_word(alloc, room, token.place, word, rest),
+                Some(word) => after_word(alloc, room, token.place, word, rest),
                 None => Err(Stop::Unexpected(tokens)),
             },
             _ => Err(Stop::Unexpected(tokens)),
@@ -46,16 +46,16 @@ fn any_type(alloc: Global, room: u32, tokens: &[Token]) -> Result<(TypeName, &[T
     }
 }
 
-/// What stands behind the word that a type begins with.
+/// What stands after the word that a type begins with.
 #[cycle(type_name)]
-fn behind_word(
+fn after_word(
     alloc: Global,
     room: u32,
     place: Place,
     word: TypeWord,
     tokens: &[Token],
 ) -> Result<(TypeName, &[Token]), Stop<'_>>
-    ensures { Gives (λ x. (x.0, x.1.now)) result (type_behind room (type_in room) place word tokens.now) }
+    ensures { Gives (λ x. (x.0, x.1.now)) result (type_after room (type_in room) place word tokens.now) }
 {
     match word {
         TypeWord::Unit => Ok((
@@ -122,7 +122,7 @@ fn map(
     Ok(TypeName { place, shape })
 }
 
-/// A type with one type in brackets, behind its word.
+/// A type with one type in brackets, after its word.
 #[cycle(type_name)]
 fn with_one(
     alloc: Global,
@@ -131,7 +131,8 @@ fn with_one(
     wrapper: Wrapper,
     tokens: &[Token],
 ) -> Result<(TypeName, &[Token]), Stop<'_>>
-    ensures { Gives (λ x. (x.0, x.1.now)) result (must is_open_bracket (opened room (in_brackets (type_in room) (wrapped place wrapper))) tokens.now) }
+    ensures { Gives (λ x. (x.0, x.1.now)) result
+        (must is_open_bracket (opened room (in_brackets (type_in room) (wrapped place wrapper))) tokens.now) }
 {
     let rest = pass(Mark::OpenBracket, tokens)?;
     one_inside(alloc, room, place, wrapper, rest)
@@ -156,7 +157,7 @@ fn one_inside(
     Ok((whole, rest))
 }
 
-/// A map's type behind its word.
+/// A map's type after its word.
 #[cycle(type_name)]
 fn map_of(
     alloc: Global,
@@ -164,7 +165,8 @@ fn map_of(
     place: Place,
     tokens: &[Token],
 ) -> Result<(TypeName, &[Token]), Stop<'_>>
-    ensures { Gives (λ x. (x.0, x.1.now)) result (must is_open_bracket (opened room (two_in_brackets (type_in room) (tree.MapType place))) tokens.now) }
+    ensures { Gives (λ x. (x.0, x.1.now)) result
+        (must is_open_bracket (opened room (two_in_brackets (type_in room) (tree.MapType place))) tokens.now) }
 {
     let rest = pass(Mark::OpenBracket, tokens)?;
     key_inside(alloc, room, place, rest)

@@ -1,11 +1,11 @@
 // Names that the grammar knows.
 
 ghost use Rattle.std.specs.Prelude.{◌≡◌};
-ghost use Rattle.spec_parser.specs.Words.{type_word_of, typed_word_of, family_of};
-ghost use Rattle.spec_parser.specs.Reading.{set_member, map_member, text_member, member_of};
+ghost use Rattle.spec_parser.specs.Words.{type_word_of, typed_word_of};
+ghost use Rattle.spec_parser.specs.inner.Reading.{empty_member, member_of};
 
-use crate::tree::Dotted;
 use tsl_value::text::Text;
+use vocabulary::dotted::{Dotted, Family, dotted_named};
 
 /// The names of types.
 #[derive(Clone, Copy, PartialEq, Eq, Debug)]
@@ -20,19 +20,11 @@ pub(crate) enum TypeWord {
     Events,
 }
 
-/// The names behind which a type may stand in brackets.
+/// The names after which a type may stand in brackets.
 #[derive(Clone, Copy, PartialEq, Eq, Debug)]
 pub(crate) enum TypedWord {
     Nil,
     None,
-}
-
-/// The names behind which a dot may stand.
-#[derive(Clone, Copy, PartialEq, Eq, Debug)]
-pub(crate) enum Family {
-    Set,
-    Map,
-    Text,
 }
 
 /// The types with one type in their brackets.
@@ -50,7 +42,7 @@ pub(crate) enum Callee {
     Dotted(Dotted),
 }
 
-/// What the name behind a dot stands for.
+/// What the name after a dot stands for.
 #[derive(Clone, Copy, PartialEq, Eq, Debug)]
 pub(crate) enum Member {
     EmptySet,
@@ -94,77 +86,28 @@ pub(crate) fn typed_word(name: &str) -> Option<TypedWord>
     }
 }
 
-pub(crate) fn family_named(name: &str) -> Option<Family>
-    ensures { result ≡ family_of name.now }
+/// An empty set or an empty map.
+fn empty_member(family: Family, name: &str) -> Option<Member>
+    ensures { result ≡ empty_member family name.now }
 {
-    if name == "Set" {
-        Some(Family::Set)
-    } else if name == "Map" {
-        Some(Family::Map)
-    } else if name == "String" {
-        Some(Family::Text)
+    if name == "empty" {
+        match family {
+            Family::Set => Some(Member::EmptySet),
+            Family::Map => Some(Member::EmptyMap),
+            Family::Text => None,
+        }
     } else {
         None
     }
 }
 
-fn in_sets(name: &str) -> Option<Member>
-    ensures { result ≡ set_member name.now }
-{
-    if name == "add" {
-        Some(Member::Called(Dotted::SetAdd))
-    } else if name == "remove" {
-        Some(Member::Called(Dotted::SetRemove))
-    } else if name == "contains" {
-        Some(Member::Called(Dotted::SetContains))
-    } else if name == "size" {
-        Some(Member::Called(Dotted::SetSize))
-    } else if name == "empty" {
-        Some(Member::EmptySet)
-    } else {
-        None
-    }
-}
-
-fn in_maps(name: &str) -> Option<Member>
-    ensures { result ≡ map_member name.now }
-{
-    if name == "add" {
-        Some(Member::Called(Dotted::MapAdd))
-    } else if name == "remove" {
-        Some(Member::Called(Dotted::MapRemove))
-    } else if name == "contains" {
-        Some(Member::Called(Dotted::MapContains))
-    } else if name == "get" {
-        Some(Member::Called(Dotted::MapGet))
-    } else if name == "size" {
-        Some(Member::Called(Dotted::MapSize))
-    } else if name == "empty" {
-        Some(Member::EmptyMap)
-    } else {
-        None
-    }
-}
-
-fn in_texts(name: &str) -> Option<Member>
-    ensures { result ≡ text_member name.now }
-{
-    if name == "concat" {
-        Some(Member::Called(Dotted::StringConcat))
-    } else if name == "size" {
-        Some(Member::Called(Dotted::StringSize))
-    } else {
-        None
-    }
-}
-
-/// What the name behind the dot stands for.
+/// What the name after the dot stands for.
+#[tactic(auto, unfolding(crate::specs::inner::Reading::member_of))]
 pub(crate) fn member_named(family: Family, name: &str) -> Option<Member>
     ensures { result ≡ member_of family name.now }
 {
-    match family {
-        Family::Set => in_sets(name),
-        Family::Map => in_maps(name),
-        Family::Text => in_texts(name),
+    match dotted_named(family, name) {
+        Some(function) => Some(Member::Called(function)),
+        None => empty_member(family, name),
     }
 }

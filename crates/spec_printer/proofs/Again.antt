@@ -12,17 +12,17 @@ use Rattle.spec_parser.specs.declared.tree.Operator.{Operator}
 use Rattle.spec_parser.specs.declared.tree.Comparison.{Comparison}
 use Rattle.spec_parser.specs.Tree as tree
 use Rattle.spec_parser.specs.Tree.{TypeName, Expr, Exprs, no_exprs, more_exprs, Links, no_links, more_links, place_of}
-use Rattle.spec_parser.specs.Words.{operator_at, comparison_at, opens_call, is_number, is_comma}
+use Rattle.spec_parser.specs.Words.{operator_at, comparison_at, opens_call, is_number, is_comma, level_of}
 use Rattle.spec_parser.specs.Grammar as grammar
 use Rattle.spec_parser.specs.Grammar.{Is, IsPast, IsType, IsExpr, IsLevel, AreLinks, IsOperand, IsUnary, IsPrimary, AreOthers}
-use Rattle.spec_printer.specs.Same.{nowhere, bare_type, bare, bare_exprs, bare_links}
-use Rattle.spec_printer.specs.Marks as mark
-use Rattle.spec_printer.specs.Marks.{Mark, token, line_end}
-use Rattle.spec_printer.specs.Follow.{Follow, next_token, next_line}
-use Rattle.spec_printer.specs.Print.{type_marks, bracketed, both_bracketed, level_strength, strength, least_operand, least_negated, operator_symbol, comparison_symbol, holds, enclosed, operand_marks, expr_marks, expr_marks_behind, link_marks}
+use Rattle.spec_printer.specs.inner.Same.{nowhere, bare_type, bare, bare_exprs, bare_links}
+use Rattle.spec_printer.specs.inner.Marks as mark
+use Rattle.spec_printer.specs.inner.Marks.{Mark, token, line_end}
+use Rattle.spec_printer.specs.inner.Follow.{Follow, next_token, next_line}
+use Rattle.spec_printer.specs.inner.Print.{type_marks, bracketed, both_bracketed, level_strength, strength, least_operand, least_negated, operator_symbol, comparison_symbol, holds, enclosed, operand_marks, expr_marks, expr_marks_after, link_marks}
 use Rattle.spec_printer.proofs.Fits as fits
-use Rattle.spec_printer.proofs.Fits.{level_of, FitsType, Fits, FitsAt, FitExprs, FitLinks}
-use Rattle.spec_printer.proofs.Behind.{strength_behind, next_strength, follow_strength, past_level, past_comparison, past_name, operator_again, operator_symbol_strength, comparison_again, comparison_symbol_strength}
+use Rattle.spec_printer.proofs.Fits.{FitsType, Fits, FitsAt, FitExprs, FitLinks}
+use Rattle.spec_printer.proofs.Behind.{strength_after, next_strength, follow_strength, past_level, past_comparison, past_name, operator_again, operator_symbol_strength, comparison_again, comparison_symbol_strength}
 
 pub regroup : {first : Bool} (a b c : List Mark) {ts : List Token} → Follow first ((a ++ b) ++ c) ts → Follow first (a ++ (b ++ c)) ts
 regroup {first = first} a b c {ts = ts} h = subst (λ m. Follow first m ts) (append_assoc a b c) h
@@ -31,7 +31,7 @@ regroup {first = first} a b c {ts = ts} h = subst (λ m. Follow first m ts) (app
 pub with_token : {k : Kind} {first : Bool} {ms : List Mark} (P : List Token → Type 0) → ((t : Token) (rest : List Token) → t.kind ≡ k → t.first ≡ first → Follow false ms rest → P (t ∷ rest)) → (ts : List Token) → Follow first (token k ∷ ms) ts → P ts
 with_token P f ts (next_token {t = t} {ts = rest} is first h) = f t rest is first h
 
--- the tokens behind an end of a line
+-- the tokens after an end of a line
 pub past_line : {first : Bool} {ms : List Mark} {ts : List Token} → Follow first (line_end ∷ ms) ts → Follow true ms ts
 past_line (next_line h) = h
 
@@ -94,7 +94,7 @@ Reads (suc (suc (suc (suc (suc zero))))) = IsOperand level.Sum
 Reads (suc (suc (suc (suc (suc (suc zero)))))) = IsUnary
 Reads (suc (suc (suc (suc (suc (suc (suc n))))))) = IsPrimary
 
--- what may stand behind an expression of a place: nothing that goes on with it
+-- what may stand after an expression of a place: nothing that goes on with it
 abbrev pub limit : ℕ → ℕ
 limit zero = 1
 limit (suc n) = suc n
@@ -132,9 +132,9 @@ Comes R ts e ms = (again : Expr) × (rest : List Token) × R ts again rest × (b
 
 -- marks of an expression, at a place of this strength, come back
 abbrev pub Returns : ℕ → ℕ → List Mark → Expr → Type 0
-Returns least room marks e = (first : Bool) (ms : List Mark) (ts : List Token) → strength_behind false ms < limit least → Follow first (marks ++ ms) ts → Comes (Reads least room) ts e ms
+Returns least room marks e = (first : Bool) (ms : List Mark) (ts : List Token) → strength_after false ms < limit least → Follow first (marks ++ ms) ts → Comes (Reads least room) ts e ms
 
-comes_weaker : (least strong room : ℕ) (ts : List Token) (e : Expr) (ms : List Mark) → least ≤ strong → strength_behind false ms < limit least → Comes (Reads strong room) ts e ms → Comes (Reads least room) ts e ms
+comes_weaker : (least strong room : ℕ) (ts : List Token) (e : Expr) (ms : List Mark) → least ≤ strong → strength_after false ms < limit least → Comes (Reads strong room) ts e ms → Comes (Reads least room) ts e ms
 comes_weaker least strong room ts e ms h k c =
     let behind = follow_strength c.4 in
     (c.0, c.1, weaker_by least strong room ts c.1 c.0 h (omega arith) c.2, c.3, c.4)
@@ -186,23 +186,23 @@ abbrev LinksCome : Level → ℕ → List Token → Links → List Mark → Type
 LinksCome l room ts ls ms = (again : Links) × (rest : List Token) × AreLinks l room ts again rest × (bare_links again ≡ bare_links ls) × Follow false ms rest
 
 abbrev LinksReturn : Level → ℕ → Links → Type 0
-LinksReturn l room ls = (ms : List Mark) (ts : List Token) → strength_behind false ms < level_strength l → Follow false (link_marks (least_operand l) ls ++ ms) ts → LinksCome l room ts ls ms
+LinksReturn l room ls = (ms : List Mark) (ts : List Token) → strength_after false ms < level_strength l → Follow false (link_marks (least_operand l) ls ++ ms) ts → LinksCome l room ts ls ms
 
 no_link_again : (l : Level) {room : ℕ} → LinksReturn l room no_links
 no_link_again l ms ts k h =
     let behind = follow_strength h in
     (no_links, ts, grammar.no_link (past_level l ts (omega arith)), refl, h)
 
-operator_strength_is : (o : Operator) (l : Level) → level_of o ≡ l → strength_behind false (mark.symbol (operator_symbol o) ∷ []) ≡ level_strength l
+operator_strength_is : (o : Operator) (l : Level) → level_of o ≡ l → strength_after false (mark.symbol (operator_symbol o) ∷ []) ≡ level_strength l
 operator_strength_is o l is = operator_symbol_strength o ∙ ap level_strength is
 
-behind_links : (l : Level) {room : ℕ} (ls : Links) (ms : List Mark) → FitLinks l room ls → strength_behind false ms < level_strength l → strength_behind false (link_marks (least_operand l) ls ++ ms) < limit (least_operand l)
-behind_links l no_links ms fits.no_link k = omega arith
-behind_links l (more_links o e ls) ms (fits.one_link is f g) k = let strong = operator_strength_is o l is in omega arith
+after_links : (l : Level) {room : ℕ} (ls : Links) (ms : List Mark) → FitLinks l room ls → strength_after false ms < level_strength l → strength_after false (link_marks (least_operand l) ls ++ ms) < limit (least_operand l)
+after_links l no_links ms fits.no_link k = omega arith
+after_links l (more_links o e ls) ms (fits.one_link is f g) k = let strong = operator_strength_is o l is in omega arith
 
 one_link_again : (l : Level) {room : ℕ} (o : Operator) (e : Expr) (ls : Links) → level_of o ≡ l → Returns (least_operand l) room (operand_marks (least_operand l) e) e → FitLinks l room ls → LinksReturn l room ls → LinksReturn l room (more_links o e ls)
 one_link_again l {room = room} o e ls is back links back_links ms ts k h = with_token (λ ts. LinksCome l room ts (more_links o e ls) ms) (λ t ts kind_is first h.
-    let x = back false (link_marks (least_operand l) ls ++ ms) ts (behind_links l ls ms links k) (regroup (operand_marks (least_operand l) e) (link_marks (least_operand l) ls) ms h) in
+    let x = back false (link_marks (least_operand l) ls ++ ms) ts (after_links l ls ms links k) (regroup (operand_marks (least_operand l) e) (link_marks (least_operand l) ls) ms h) in
     let y = back_links ms x.1 k x.4 in
     let op : operator_at l t.kind t.first ≡ Some o = (λ i. operator_at (sym is i) (kind_is i) (first i)) ∙ operator_again o in
     (more_links o x.0 y.0, y.1, grammar.one_link op (operand_read l x.2) y.2, (λ i. more_links o (x.3 i) (y.3 i)), y.4)) ts h
@@ -214,8 +214,8 @@ chained_bare l x (more_links a b y) e o f ls h k = λ i. tree.Chain nowhere l (h
 chain_again : {room : ℕ} (p : _) (l : Level) (e : Expr) (o : Operator) (f : Expr) (ls : Links) → Returns (least_operand l) room (operand_marks (least_operand l) e) e → FitLinks l room (more_links o f ls) → LinksReturn l room (more_links o f ls) → Returns (level_strength l) room (expr_marks (tree.Chain p l e (more_links o f ls))) (tree.Chain p l e (more_links o f ls))
 chain_again {room = room} p l e o f ls back links back_links first ms ts k h =
     let same_limit = limit_level l in
-    let small : strength_behind false ms < level_strength l = omega arith in
-    let x = back first (link_marks (least_operand l) (more_links o f ls) ++ ms) ts (behind_links l (more_links o f ls) ms links small) (regroup (operand_marks (least_operand l) e) (link_marks (least_operand l) (more_links o f ls)) ms h) in
+    let small : strength_after false ms < level_strength l = omega arith in
+    let x = back first (link_marks (least_operand l) (more_links o f ls) ++ ms) ts (after_links l (more_links o f ls) ms links small) (regroup (operand_marks (least_operand l) e) (link_marks (least_operand l) (more_links o f ls)) ms h) in
     let y = back_links ms x.1 small x.4 in
     (grammar.chained l x.0 y.0, y.1, level_read l (grammar.operands (operand_read l x.2) y.2), chained_bare l x.0 y.0 e o f ls x.3 y.3, y.4)
 
@@ -349,18 +349,18 @@ OthersCome room ts es ms = (again : Exprs) × (rest : List Token) × AreOthers r
 
 -- before a closing parenthesis
 abbrev OthersReturn : ℕ → Exprs → Type 0
-OthersReturn room es = (ms : List Mark) (ts : List Token) → Follow false (expr_marks_behind symbol.Comma es ++ (mark.symbol symbol.Close ∷ ms)) ts → OthersCome room ts es (mark.symbol symbol.Close ∷ ms)
+OthersReturn room es = (ms : List Mark) (ts : List Token) → Follow false (expr_marks_after symbol.Comma es ++ (mark.symbol symbol.Close ∷ ms)) ts → OthersCome room ts es (mark.symbol symbol.Close ∷ ms)
 
 no_other_again : {room : ℕ} → OthersReturn room no_exprs
 no_other_again ms ts h = (no_exprs, ts, grammar.no_other (with_token (IsPast is_comma) (λ t rest is first h. ap is_comma is) ts h), refl, h)
 
-behind_others : (es : Exprs) (ms : List Mark) → strength_behind false (expr_marks_behind symbol.Comma es ++ (mark.symbol symbol.Close ∷ ms)) < 1
-behind_others no_exprs ms = omega arith
-behind_others (more_exprs e es) ms = omega arith
+after_others : (es : Exprs) (ms : List Mark) → strength_after false (expr_marks_after symbol.Comma es ++ (mark.symbol symbol.Close ∷ ms)) < 1
+after_others no_exprs ms = omega arith
+after_others (more_exprs e es) ms = omega arith
 
 one_other_again : {room : ℕ} (e : Expr) (es : Exprs) → Returns 0 room (expr_marks e) e → OthersReturn room es → OthersReturn room (more_exprs e es)
 one_other_again {room = room} e es back others ms ts h = with_token (λ ts. OthersCome room ts (more_exprs e es) (mark.symbol symbol.Close ∷ ms)) (λ t ts is first h.
-    let x = back false (expr_marks_behind symbol.Comma es ++ (mark.symbol symbol.Close ∷ ms)) ts (behind_others es ms) (regroup (expr_marks e) (expr_marks_behind symbol.Comma es) (mark.symbol symbol.Close ∷ ms) h) in
+    let x = back false (expr_marks_after symbol.Comma es ++ (mark.symbol symbol.Close ∷ ms)) ts (after_others es ms) (regroup (expr_marks e) (expr_marks_after symbol.Comma es) (mark.symbol symbol.Close ∷ ms) h) in
     let y = others ms x.1 x.4 in
     (more_exprs x.0 y.0, y.1, grammar.one_other is x.2 y.2, (λ i. more_exprs (x.3 i) (y.3 i)), y.4)) ts h
 
@@ -368,10 +368,10 @@ one_other_again {room = room} e es back others ms ts h = with_token (λ ts. Othe
 with_arguments :
     {room : ℕ} (e : Expr) (es : Exprs) → Returns 0 room (expr_marks e) e → OthersReturn room es → (ms : List Mark) (P : List Token → Type 0) →
     ((u v : Token) (ts us rest : List Token) (a : Expr) (bs : Exprs) → opens_call u.kind u.first ≡ true → IsExpr room ts a us → AreOthers room us bs (v ∷ rest) → Is v symbol.Close → bare a ≡ bare e → bare_exprs bs ≡ bare_exprs es → Follow false ms rest → P (u ∷ ts)) →
-    (ts : List Token) → Follow false ((expr_marks_behind symbol.Open (more_exprs e es) ++ (mark.symbol symbol.Close ∷ [])) ++ ms) ts → P ts
+    (ts : List Token) → Follow false ((expr_marks_after symbol.Open (more_exprs e es) ++ (mark.symbol symbol.Close ∷ [])) ++ ms) ts → P ts
 with_arguments {room = room} e es back others ms P f = with_token P (λ u ts opening first h.
-    let grouped = regroup (expr_marks e) (expr_marks_behind symbol.Comma es) (mark.symbol symbol.Close ∷ ms) (regroup (expr_marks e ++ expr_marks_behind symbol.Comma es) (mark.symbol symbol.Close ∷ []) ms h) in
-    let x = back false (expr_marks_behind symbol.Comma es ++ (mark.symbol symbol.Close ∷ ms)) ts (behind_others es ms) grouped in
+    let grouped = regroup (expr_marks e) (expr_marks_after symbol.Comma es) (mark.symbol symbol.Close ∷ ms) (regroup (expr_marks e ++ expr_marks_after symbol.Comma es) (mark.symbol symbol.Close ∷ []) ms h) in
+    let x = back false (expr_marks_after symbol.Comma es ++ (mark.symbol symbol.Close ∷ ms)) ts (after_others es ms) grouped in
     let y = others ms x.1 x.4 in
     with_token (λ rest. AreOthers room x.1 y.0 rest → P (u ∷ ts)) (λ v rest close q h reads.
     f u v ts x.1 rest x.0 y.0 (λ i. opens_call (opening i) (first i)) x.2 reads close x.3 y.3 h)

@@ -5,11 +5,12 @@ use Rattle.spec_parser.specs.declared.tree.TypeShape.{TypeShape}
 use Rattle.spec_parser.specs.declared.tree.TypeShape.TheVariants as shape
 use Rattle.spec_parser.specs.declared.tree.Node.{Node}
 use Rattle.spec_parser.specs.declared.tree.Node.TheVariants as node
-use Rattle.spec_parser.specs.Shape.{type_of, size_of_type, expr_of, size_of}
+use Rattle.spec_parser.specs.inner.Shape.{type_of, size_of_type, expr_of, size_of}
 use Rattle.spec_parser.specs.Tree.{TypeName, Expr, place_of}
 use Rattle.spec_parser.specs.Places.{type_place}
-use Rattle.spec_printer.specs.Same.{nowhere}
-use Rattle.spec_printer.specs.Print.{type_marks, expr_marks, shape_marks, node_marks}
+use Rattle.spec_parser.proofs.Sizes as sizes
+use Rattle.spec_printer.specs.inner.Same.{nowhere}
+use Rattle.spec_printer.specs.inner.Print.{type_marks, expr_marks, shape_marks, node_marks}
 
 pub type_marks_anywhere : (p q : Place) (s : TypeShape) → type_marks (type_of p s) ≡ type_marks (type_of q s)
 type_marks_anywhere p q shape.Unit = refl
@@ -20,16 +21,6 @@ type_marks_anywhere p q (shape.Set y) = refl
 type_marks_anywhere p q (shape.Map x y) = refl
 type_marks_anywhere p q (shape.Option y) = refl
 type_marks_anywhere p q (shape.Events y) = refl
-
-pub type_size_anywhere : (p q : Place) (s : TypeShape) → size_of_type (type_of p s) ≡ size_of_type (type_of q s)
-type_size_anywhere p q shape.Unit = refl
-type_size_anywhere p q shape.Int = refl
-type_size_anywhere p q shape.Bool = refl
-type_size_anywhere p q shape.Text = refl
-type_size_anywhere p q (shape.Set y) = refl
-type_size_anywhere p q (shape.Map x y) = refl
-type_size_anywhere p q (shape.Option y) = refl
-type_size_anywhere p q (shape.Events y) = refl
 
 pub expr_marks_anywhere : (p q : Place) (n : Node) → expr_marks (expr_of p n) ≡ expr_marks (expr_of q n)
 expr_marks_anywhere p q (node.If a b c) = refl
@@ -50,34 +41,26 @@ expr_marks_anywhere p q (node.None a) = refl
 expr_marks_anywhere p q (node.EmptySet a) = refl
 expr_marks_anywhere p q (node.EmptyMap a b) = refl
 
-pub size_anywhere : (p q : Place) (n : Node) → size_of (expr_of p n) ≡ size_of (expr_of q n)
-size_anywhere p q (node.If a b c) = refl
-size_anywhere p q (node.Chain a b c) = refl
-size_anywhere p q (node.Compare a b c) = refl
-size_anywhere p q (node.Negate a) = refl
-size_anywhere p q (node.Not a) = refl
-size_anywhere p q (node.Number a) = refl
-size_anywhere p q (node.Negative a) = refl
-size_anywhere p q (node.Text a) = refl
-size_anywhere p q (node.Boolean a) = refl
-size_anywhere p q node.Unit = refl
-size_anywhere p q (node.Name a) = refl
-size_anywhere p q (node.Call a b) = refl
-size_anywhere p q (node.CallDotted a b) = refl
-size_anywhere p q (node.Nil a) = refl
-size_anywhere p q (node.None a) = refl
-size_anywhere p q (node.EmptySet a) = refl
-size_anywhere p q (node.EmptyMap a b) = refl
-
 -- what is printed of the one level of a type, and of an expression
 pub marks_of_shape : (y : TypeName) (s : TypeShape) → type_of (type_place y) s ≡ y → type_marks y ≡ shape_marks s
 marks_of_shape y s is = ap type_marks (sym is) ∙ type_marks_anywhere (type_place y) nowhere s
 
-pub size_of_shape : (y : TypeName) (s : TypeShape) → type_of (type_place y) s ≡ y → size_of_type y ≡ size_of_type (type_of nowhere s)
-size_of_shape y s is = ap size_of_type (sym is) ∙ type_size_anywhere (type_place y) nowhere s
-
 pub marks_of_node : (e : Expr) (n : Node) → expr_of (place_of e) n ≡ e → expr_marks e ≡ node_marks n
 marks_of_node e n is = ap expr_marks (sym is) ∙ expr_marks_anywhere (place_of e) nowhere n
 
+-- ---- sizes
+pub type_size_anywhere : (p q : Place) (s : TypeShape) → size_of_type (type_of p s) ≡ size_of_type (type_of q s)
+type_size_anywhere p q shape.Unit = refl
+type_size_anywhere p q shape.Int = refl
+type_size_anywhere p q shape.Bool = refl
+type_size_anywhere p q shape.Text = refl
+type_size_anywhere p q (shape.Set y) = refl
+type_size_anywhere p q (shape.Map x y) = refl
+type_size_anywhere p q (shape.Option y) = refl
+type_size_anywhere p q (shape.Events y) = refl
+
+pub size_of_shape : (y : TypeName) (s : TypeShape) → type_of (type_place y) s ≡ y → size_of_type y ≡ size_of_type (type_of nowhere s)
+size_of_shape y s is = ap size_of_type (sym is) ∙ type_size_anywhere (type_place y) nowhere s
+
 pub size_of_node : (e : Expr) (n : Node) → expr_of (place_of e) n ≡ e → size_of e ≡ size_of (expr_of nowhere n)
-size_of_node e n is = ap size_of (sym is) ∙ size_anywhere (place_of e) nowhere n
+size_of_node e n is = sizes.size_of_node e n nowhere is

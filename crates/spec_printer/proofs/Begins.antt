@@ -8,10 +8,10 @@ use Rattle.spec_parser.specs.Tree as tree
 use Rattle.spec_parser.specs.Tree.{Expr}
 use Rattle.spec_parser.specs.Words.{is_def}
 use Rattle.spec_parser.specs.Grammar.{IsPast}
-use Rattle.spec_printer.specs.Marks.{Mark, token}
-use Rattle.spec_printer.specs.Follow.{Follow}
-use Rattle.spec_printer.specs.Print.{enclosed, holds, least_operand, expr_marks}
-use Rattle.spec_printer.proofs.Behind.{kind_strength, strength_behind}
+use Rattle.spec_printer.specs.inner.Marks.{Mark, token}
+use Rattle.spec_printer.specs.inner.Follow.{Follow}
+use Rattle.spec_printer.specs.inner.Print.{enclosed, holds, least_operand, expr_marks}
+use Rattle.spec_printer.proofs.Behind.{kind_strength, strength_after}
 use Rattle.spec_printer.proofs.Again.{with_token}
 
 -- a token that begins an expression, and goes on with nothing where it is the first of its line
@@ -52,8 +52,8 @@ begins (tree.None p y) = begins_as _ _ refl refl
 begins (tree.EmptySet p y) = begins_as _ _ refl refl
 begins (tree.EmptyMap p x y) = begins_as _ _ refl refl
 
-pub begins_weak : (ms ns : List Mark) → Begins ms → strength_behind true (ms ++ ns) < 1
-begins_weak ms ns h = let none : strength_behind true (ms ++ ns) ≡ 0 = ap (λ l. strength_behind true (l ++ ns)) h.is ∙ h.weak in omega (arith, none)
+pub begins_weak : (ms ns : List Mark) → Begins ms → strength_after true (ms ++ ns) < 1
+begins_weak ms ns h = let none : strength_after true (ms ++ ns) ≡ 0 = ap (λ l. strength_after true (l ++ ns)) h.is ∙ h.weak in omega (arith, none)
 
 pub begins_no_def : {first : Bool} (ms ns : List Mark) → Begins ms → (ts : List Token) → Follow first (ms ++ ns) ts → IsPast is_def ts
 begins_no_def {first = first} ms ns b ts h =

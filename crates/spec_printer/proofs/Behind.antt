@@ -12,12 +12,11 @@ use Rattle.spec_parser.specs.declared.tree.Operator.{Operator}
 use Rattle.spec_parser.specs.declared.tree.Operator.TheVariants as operator
 use Rattle.spec_parser.specs.declared.tree.Comparison.{Comparison}
 use Rattle.spec_parser.specs.declared.tree.Comparison.TheVariants as comparison
-use Rattle.spec_parser.specs.Words.{operator_at, symbol_at, comparison_at, compares, goes_on}
+use Rattle.spec_parser.specs.Words.{operator_at, symbol_at, comparison_at, compares, goes_on, level_of}
 use Rattle.spec_parser.specs.Grammar.{IsPastLevel, IsPastComparison, IsPastName}
-use Rattle.spec_printer.specs.Marks.{Mark, token, line_end}
-use Rattle.spec_printer.specs.Follow.{Follow, nothing, next_line, next_token}
-use Rattle.spec_printer.specs.Print.{level_strength, operator_symbol, comparison_symbol}
-use Rattle.spec_printer.proofs.Fits.{level_of}
+use Rattle.spec_printer.specs.inner.Marks.{Mark, token, line_end}
+use Rattle.spec_printer.specs.inner.Follow.{Follow, nothing, next_line, next_token}
+use Rattle.spec_printer.specs.inner.Print.{level_strength, operator_symbol, comparison_symbol}
 
 abbrev pub symbol_strength : Symbol → Bool → ℕ
 symbol_strength symbol.Or first = 1
@@ -44,16 +43,16 @@ abbrev pub kind_strength : Kind → Bool → ℕ
 kind_strength (kind.Symbol s) first = symbol_strength s first
 kind_strength _ first = 0
 
-abbrev pub strength_behind : Bool → List Mark → ℕ
-strength_behind first [] = 0
-strength_behind first (line_end ∷ ms) = strength_behind true ms
-strength_behind first (token k ∷ ms) = kind_strength k first
+abbrev pub strength_after : Bool → List Mark → ℕ
+strength_after first [] = 0
+strength_after first (line_end ∷ ms) = strength_after true ms
+strength_after first (token k ∷ ms) = kind_strength k first
 
 abbrev pub next_strength : List Token → ℕ
 next_strength [] = 0
 next_strength (t ∷ ts) = kind_strength t.kind t.first
 
-pub follow_strength : {first : Bool} {ms : List Mark} {ts : List Token} → Follow first ms ts → next_strength ts ≡ strength_behind first ms
+pub follow_strength : {first : Bool} {ms : List Mark} {ts : List Token} → Follow first ms ts → next_strength ts ≡ strength_after first ms
 follow_strength nothing = refl
 follow_strength (next_line h) = follow_strength h
 follow_strength (next_token is first h) = λ i. kind_strength (is i) (first i)

@@ -2,8 +2,8 @@
 use Rattle.std.proofs.Common.{refl, arith}
 use Rattle.spec_lexer.specs.Source.{start, lexed}
 use Rattle.spec_lexer.specs.Pieces.{place_after}
-use Rattle.spec_printer.specs.Print.{items_marks}
-use Rattle.spec_printer.specs.Back.{EachComesBack, EachIsReadAgain}
+use Rattle.spec_printer.specs.inner.Print.{items_marks}
+use Rattle.spec_printer.specs.inner.Back.{EachComesBack, EachIsReadAgain}
 use Rattle.spec_printer.proofs.Lexing.{marks_lexed, lexed_printable}
 use Rattle.spec_printer.proofs.Found.{items_fit}
 use Rattle.spec_printer.proofs.Marked.{items_printable}

@@ -3,25 +3,15 @@
 use Rattle.std.proofs.Common.{◌≡◌, ℕ, suc, Bool, true, false, List, [], ◌∷◌, Option, Some, None}
 use Rattle.spec_lexer.specs.declared.token.Kind.TheVariants as kind
 use Rattle.spec_parser.specs.declared.tree.Level.{Level}
-use Rattle.spec_parser.specs.declared.tree.Level.TheVariants as level
 use Rattle.spec_parser.specs.declared.tree.Operator.{Operator}
-use Rattle.spec_parser.specs.declared.tree.Operator.TheVariants as operator
 use Rattle.spec_parser.specs.declared.tree.Comparison.{Comparison}
-use Rattle.spec_parser.specs.declared.tree.Dotted.{Dotted}
+use Rattle.vocabulary.specs.declared.dotted.Dotted.{Dotted}
 use Rattle.tsl_value.specs.declared.place.Place.{Place}
 use Rattle.spec_parser.specs.Tree as tree
-use Rattle.spec_parser.specs.Tree.{TypeName, Expr, Exprs, no_exprs, more_exprs, Links, no_links, more_links, Param, Body, Definition, Definitions, no_definitions, more_definitions, Item}
-use Rattle.spec_printer.specs.Print.{least_operand, least_negated, holds}
+use Rattle.spec_parser.specs.Tree.{TypeName, Expr, Exprs, no_exprs, more_exprs, Links, no_links, more_links, Param, Body, Definitions, no_definitions, more_definitions, Item}
+use Rattle.spec_parser.specs.Words.{level_of}
+use Rattle.spec_printer.specs.inner.Print.{least_operand, least_negated, holds}
 use Rattle.spec_printer.proofs.Printable.{Printable}
-
-abbrev pub level_of : Operator → Level
-level_of operator.Or = level.Disjunction
-level_of operator.And = level.Conjunction
-level_of operator.Add = level.Sum
-level_of operator.Subtract = level.Sum
-level_of operator.Multiply = level.Product
-level_of operator.Divide = level.Product
-level_of operator.Remainder = level.Product
 
 pub data FitsType : ℕ → TypeName → Type 0 where
   unit : {room : ℕ} {p : Place} → FitsType room (tree.UnitType p)

@@ -1,25 +1,20 @@
 -- What printable tokens spell fits.
-use Rattle.std.proofs.Common.{◌≡◌, ℕ, suc, ◌≤◌, Bool, true, false, List, Option, Some, refl, sym, ap, subst, ◌∙◌, inl, inr, arith}
+use Rattle.std.proofs.Common.{ℕ, suc, ◌≤◌, List, Option, refl, sym, ap, subst, ◌∙◌, inl, inr, arith}
 use Rattle.std.proofs.lemmas.Bool.{cases_Bool, le-leb, leb-true}
 use Rattle.spec_lexer.specs.declared.token.Token.{Token}
-use Rattle.spec_lexer.specs.declared.token.Kind.{Kind}
 use Rattle.spec_lexer.specs.declared.token.Kind.TheVariants as kind
-use Rattle.spec_lexer.specs.declared.token.Symbol.{Symbol}
-use Rattle.spec_lexer.specs.declared.token.Symbol.TheVariants as symbol
 use Rattle.spec_parser.specs.declared.tree.Level.{Level}
-use Rattle.spec_parser.specs.declared.tree.Level.TheVariants as level
-use Rattle.spec_parser.specs.declared.tree.Operator.{Operator}
-use Rattle.spec_parser.specs.declared.tree.Operator.TheVariants as operator
 use Rattle.spec_parser.specs.Tree as tree
-use Rattle.spec_parser.specs.Tree.{TypeName, Expr, Exprs, no_exprs, more_exprs, Links, no_links, more_links, Param, Body, Definition, Definitions, Item}
-use Rattle.spec_parser.specs.Words.{operator_at, symbol_at, is_number}
+use Rattle.spec_parser.specs.Tree.{TypeName, Expr, Exprs, Links, no_links, more_links, Param, Body, Definitions, Item}
+use Rattle.spec_parser.specs.Words.{is_number}
 use Rattle.spec_parser.specs.Grammar as grammar
 use Rattle.spec_parser.specs.Grammar.{IsPast, IsType, chained, IsExpr, IsLevel, AreLinks, IsOperand, IsUnary, IsPrimary, AreOthers, IsParam, AreOtherParams, MayHaveParams, MayHaveType, IsBody, AreDefinitions, IsItem, Spells}
-use Rattle.spec_printer.specs.Print.{level_strength, strength, least_operand, least_negated, holds}
+use Rattle.spec_parser.proofs.Operators.{operator_level}
+use Rattle.spec_printer.specs.inner.Print.{level_strength, strength, least_operand, least_negated, holds}
 use Rattle.spec_printer.proofs.Printable.{Printable}
 use Rattle.spec_printer.proofs.Lexing.{TokensPrintable}
 use Rattle.spec_printer.proofs.Fits as fits
-use Rattle.spec_printer.proofs.Fits.{level_of, FitsType, Fits, FitsAt, FitExprs, FitLinks, FitsParam, FitParams, MayFitParams, MayFitType, FitsBody, FitDefinitions, FitsItem, FitItems}
+use Rattle.spec_printer.proofs.Fits.{FitsType, Fits, FitsAt, FitExprs, FitLinks, FitsParam, FitParams, MayFitParams, MayFitType, FitsBody, FitDefinitions, FitsItem, FitItems}
 
 -- ---- more levels
 more_room_type : {room : ℕ} {y : TypeName} → FitsType room y → FitsType (suc room) y
@@ -81,28 +76,7 @@ alone : {least room : ℕ} {e : Expr} → FitsAt least room e → Fits room e
 alone (fits.as_it_is h f) = f
 alone (fits.enclosed h f) = more_room f
 
--- ---- operators
-level_as : {o : Operator} (x : Operator) → Some x ≡ Some o → level_of o ≡ level_of x
-level_as {o = o} x h = let same : x ≡ o = cc in sym (ap level_of same)
-
-symbol_found : (l : Level) (s : Symbol) (first : Bool) (o : Operator) → symbol_at l s first ≡ Some o → level_of o ≡ l
-symbol_found level.Disjunction symbol.Or first o h = level_as operator.Or h
-symbol_found level.Conjunction symbol.And first o h = level_as operator.And h
-symbol_found level.Sum symbol.Plus first o h = level_as operator.Add h
-symbol_found level.Sum symbol.Minus false o h = level_as operator.Subtract h
-symbol_found level.Sum symbol.Minus true o h = cc
-symbol_found level.Product symbol.Times first o h = level_as operator.Multiply h
-symbol_found level.Product symbol.Divide first o h = level_as operator.Divide h
-symbol_found level.Product symbol.Remainder first o h = level_as operator.Remainder h
-symbol_found _ _ first o h = cc
-
-level_found : (l : Level) (k : Kind) (first : Bool) (o : Operator) → operator_at l k first ≡ Some o → level_of o ≡ l
-level_found l (kind.Symbol s) first o h = symbol_found l s first o h
-level_found l (kind.Word w) first o h = cc
-level_found l (kind.Name n) first o h = cc
-level_found l (kind.Number n) first o h = cc
-level_found l (kind.Text t) first o h = cc
-
+-- ---- chains
 chained_fits : (l : Level) {room : ℕ} (e : Expr) (ls : Links) → FitsAt (least_operand l) room e → FitLinks l room ls → FitsAt (level_strength l) room (chained l e ls)
 chained_fits l e no_links f links = weaker (least_operand l) (level_strength l) e (omega arith) f
 chained_fits l e (more_links o g ls) f links = fits.as_it_is (le-leb (level_strength l) (level_strength l) (omega arith)) (fits.chain f links)
@@ -138,7 +112,7 @@ mutual
   links_fit (grammar.one_link {l = l} {t = t} {o = o} is e links) h =
       let f = operand_fits e h.1 in
       let g = links_fit links f.1 in
-      (fits.one_link (level_found l t.kind t.first o is) f.0 g.0, g.1)
+      (fits.one_link (operator_level l t.kind t.first o is) f.0 g.0, g.1)
 
   operand_fits : {l : Level} {room : ℕ} {ts rest : List Token} {e : Expr} → IsOperand l room ts e rest → TokensPrintable ts → FitsAt (least_operand l) room e × TokensPrintable rest
   operand_fits (grammar.conjunction l) h = level_fits l h
@@ -156,7 +130,7 @@ mutual
   unary_fits (grammar.negation t u) h = let f = unary_fits u h.1 in (fits.as_it_is refl (fits.negation f.0), f.1)
   unary_fits (grammar.primary {e = e} p) h = let f = primary_fits p h in (weaker 7 6 e (omega arith) f.0, f.1)
 
-  -- a number behind a prefix minus stands in parentheses
+  -- a number after a prefix minus stands in parentheses
   negated_fits : {room : ℕ} {ts rest : List Token} {e : Expr} → IsUnary room ts e rest → IsPast is_number ts → TokensPrintable ts → FitsAt 6 room e → FitsAt (least_negated e) room e
   negated_fits (grammar.negative t is) past h f = f
   negated_fits (grammar.negate t q u) past h f = f

@@ -8,14 +8,14 @@ use Rattle.spec_parser.specs.Tree.{TypeName, Expr, Param, Body, Definition, Defi
 use Rattle.spec_parser.specs.Words.{is_open, is_colon, is_comma, is_def, is_as, defines}
 use Rattle.spec_parser.specs.Grammar as grammar
 use Rattle.spec_parser.specs.Grammar.{IsPast, IsExpr, IsParam, AreOtherParams, MayHaveParams, MayHaveType, IsBody, AreDefinitions, IsItem, Spells}
-use Rattle.spec_printer.specs.Same.{nowhere, bare_param, bare_written, bare_body, bare_definitions, bare_item}
-use Rattle.spec_printer.specs.Marks as mark
-use Rattle.spec_printer.specs.Marks.{Mark, line_end}
-use Rattle.spec_printer.specs.Follow.{Follow, nothing}
-use Rattle.spec_printer.specs.Print.{expr_marks, param_marks, param_marks_behind, params_marks, written_marks, body_marks, definition_marks, definitions_marks, item_marks, items_marks}
+use Rattle.spec_printer.specs.inner.Same.{nowhere, bare_param, bare_written, bare_body, bare_definitions, bare_item}
+use Rattle.spec_printer.specs.inner.Marks as mark
+use Rattle.spec_printer.specs.inner.Marks.{Mark, line_end}
+use Rattle.spec_printer.specs.inner.Follow.{Follow, nothing}
+use Rattle.spec_printer.specs.inner.Print.{expr_marks, param_marks, param_marks_after, params_marks, written_marks, body_marks, definition_marks, definitions_marks, item_marks, items_marks}
 use Rattle.spec_printer.proofs.Fits as fits
 use Rattle.spec_printer.proofs.Fits.{Fits, FitsParam, FitParams, MayFitParams, MayFitType, FitsBody, FitDefinitions, FitsItem, FitItems}
-use Rattle.spec_printer.proofs.Behind.{strength_behind, follow_strength, past_name}
+use Rattle.spec_printer.proofs.Behind.{strength_after, follow_strength, past_name}
 use Rattle.spec_printer.proofs.Again.{regroup, with_token, past_line, type_again, expr_again, weaker_by}
 use Rattle.spec_printer.proofs.Begins.{begins, begins_append, begins_weak, begins_no_def}
 
@@ -33,11 +33,11 @@ param_again {room = room} p (fits.param n f) ms ts h =
 abbrev OtherParamsCome : ℕ → List Token → List Param → List Mark → Type 0
 OtherParamsCome room ts ps ms = (again : List Param) × (rest : List Token) × AreOtherParams room ts again rest × (map bare_param again ≡ map bare_param ps) × Follow false ms rest
 
-other_params_again : {room : ℕ} {ps : List Param} → FitParams room ps → (ms : List Mark) (ts : List Token) → Follow false (param_marks_behind symbol.Comma ps ++ (mark.symbol symbol.Close ∷ ms)) ts → OtherParamsCome room ts ps (mark.symbol symbol.Close ∷ ms)
+other_params_again : {room : ℕ} {ps : List Param} → FitParams room ps → (ms : List Mark) (ts : List Token) → Follow false (param_marks_after symbol.Comma ps ++ (mark.symbol symbol.Close ∷ ms)) ts → OtherParamsCome room ts ps (mark.symbol symbol.Close ∷ ms)
 other_params_again fits.no_param ms ts h = ([], ts, grammar.no_param (with_token (IsPast is_comma) (λ t rest is first h. ap is_comma is) ts h), refl, h)
 other_params_again (fits.one_param {room = room} {p = p} {ps = ps} f g) ms ts h =
     with_token (λ ts. OtherParamsCome room ts (p ∷ ps) (mark.symbol symbol.Close ∷ ms)) (λ t ts is first h.
-    let x = param_again p f (param_marks_behind symbol.Comma ps ++ (mark.symbol symbol.Close ∷ ms)) ts (regroup (param_marks p) (param_marks_behind symbol.Comma ps) (mark.symbol symbol.Close ∷ ms) h) in
+    let x = param_again p f (param_marks_after symbol.Comma ps ++ (mark.symbol symbol.Close ∷ ms)) ts (regroup (param_marks p) (param_marks_after symbol.Comma ps) (mark.symbol symbol.Close ∷ ms) h) in
     let y = other_params_again g ms x.1 x.4 in
     (x.0 ∷ y.0, y.1, grammar.one_param is x.2 y.2, (λ i. x.3 i ∷ y.3 i), y.4)) ts h
 
@@ -48,8 +48,8 @@ params_again : {room : ℕ} {ps : List Param} → MayFitParams room ps → (ms :
 params_again fits.without_params ms past ts h = ([], ts, grammar.without_params (past ts h), refl, h)
 params_again (fits.with_params {room = room} {p = p} {ps = ps} f g) ms past ts h =
     with_token (λ ts. ParamsCome (suc room) ts (p ∷ ps) ms) (λ t ts is first h.
-    let grouped = regroup (param_marks p) (param_marks_behind symbol.Comma ps) (mark.symbol symbol.Close ∷ ms) (regroup (param_marks p ++ param_marks_behind symbol.Comma ps) (mark.symbol symbol.Close ∷ []) ms h) in
-    let x = param_again p f (param_marks_behind symbol.Comma ps ++ (mark.symbol symbol.Close ∷ ms)) ts grouped in
+    let grouped = regroup (param_marks p) (param_marks_after symbol.Comma ps) (mark.symbol symbol.Close ∷ ms) (regroup (param_marks p ++ param_marks_after symbol.Comma ps) (mark.symbol symbol.Close ∷ []) ms h) in
+    let x = param_again p f (param_marks_after symbol.Comma ps ++ (mark.symbol symbol.Close ∷ ms)) ts grouped in
     let y = other_params_again g ms x.1 x.4 in
     with_token (λ rest. AreOtherParams room x.1 y.0 rest → ParamsCome (suc room) (t ∷ ts) (p ∷ ps) ms) (λ v rest close first h reads.
     (x.0 ∷ y.0, rest, grammar.with_params is x.2 reads close, (λ i. x.3 i ∷ y.3 i), h))
@@ -77,7 +77,7 @@ abbrev BodyComes : ℕ → List Token → Body → List Mark → Type 0
 BodyComes room ts b ms = (again : Body) × (rest : List Token) × IsBody room ts again rest × (bare_body again ≡ bare_body b) × Follow false ms rest
 
 abbrev BodyReturns : ℕ → Body → Type 0
-BodyReturns room b = (ms : List Mark) (ts : List Token) → strength_behind false ms < 1 → Follow false (body_marks b ++ ms) ts → BodyComes room ts b ms
+BodyReturns room b = (ms : List Mark) (ts : List Token) → strength_after false ms < 1 → Follow false (body_marks b ++ ms) ts → BodyComes room ts b ms
 
 -- a written type or none, and the body
 abbrev TypedComes : ℕ → List Token → Option TypeName → Body → List Mark → Type 0
@@ -85,7 +85,7 @@ TypedComes room ts w b ms =
     (written : Option TypeName) × (a : Token) × (vs : List Token) × (body : Body) × (rest : List Token) × MayHaveType room ts written (a ∷ vs) × (defines a.kind ≡ true) × IsBody room vs body rest ×
     (bare_written written ≡ bare_written w) × (bare_body body ≡ bare_body b) × Follow false ms rest
 
-typed_again : {room : ℕ} (w : Option TypeName) (b : Body) → MayFitType room w → BodyReturns room b → (ms : List Mark) (ts : List Token) → strength_behind false ms < 1 → Follow false (written_marks w ++ (mark.symbol symbol.Define ∷ (body_marks b ++ ms))) ts → TypedComes room ts w b ms
+typed_again : {room : ℕ} (w : Option TypeName) (b : Body) → MayFitType room w → BodyReturns room b → (ms : List Mark) (ts : List Token) → strength_after false ms < 1 → Follow false (written_marks w ++ (mark.symbol symbol.Define ∷ (body_marks b ++ ms))) ts → TypedComes room ts w b ms
 typed_again {room = room} w b g back ms ts k h =
     let y = written_again g (mark.symbol symbol.Define ∷ (body_marks b ++ ms)) (no_colon (body_marks b ++ ms)) ts h in
     with_token (λ us. MayHaveType room ts y.0 us → TypedComes room ts w b ms) (λ a vs is first h reads.
@@ -97,9 +97,9 @@ abbrev DefinitionsCome : ℕ → List Token → Definitions → List Mark → Ty
 DefinitionsCome room ts ds ms = (again : Definitions) × (rest : List Token) × AreDefinitions room ts again rest × (bare_definitions again ≡ bare_definitions ds) × Follow true ms rest
 
 abbrev DefinitionsReturn : ℕ → Definitions → Type 0
-DefinitionsReturn room ds = (ms : List Mark) (ts : List Token) → strength_behind true ms < 1 → ((ts : List Token) → Follow true ms ts → IsPast is_def ts) → Follow true (definitions_marks ds ++ ms) ts → DefinitionsCome room ts ds ms
+DefinitionsReturn room ds = (ms : List Mark) (ts : List Token) → strength_after true ms < 1 → ((ts : List Token) → Follow true ms ts → IsPast is_def ts) → Follow true (definitions_marks ds ++ ms) ts → DefinitionsCome room ts ds ms
 
-definitions_weak : (ds : Definitions) (ms : List Mark) → strength_behind true ms < 1 → strength_behind true (definitions_marks ds ++ ms) < 1
+definitions_weak : (ds : Definitions) (ms : List Mark) → strength_after true ms < 1 → strength_after true (definitions_marks ds ++ ms) < 1
 definitions_weak no_definitions ms k = k
 definitions_weak (more_definitions (tree.Define p n ps w b) ds) ms k = omega arith
 
@@ -138,7 +138,7 @@ mutual
 abbrev ItemComes : ℕ → List Token → Item → List Mark → Type 0
 ItemComes room ts i ms = (again : Item) × (rest : List Token) × IsItem room ts again rest × (bare_item again ≡ bare_item i) × Follow true ms rest
 
-item_again : {room : ℕ} {i : Item} → FitsItem room i → (ms : List Mark) (ts : List Token) → strength_behind true ms < 1 → ((ts : List Token) → Follow true ms ts → IsPast is_as ts) → Follow true (item_marks i ++ (line_end ∷ ms)) ts → ItemComes room ts i ms
+item_again : {room : ℕ} {i : Item} → FitsItem room i → (ms : List Mark) (ts : List Token) → strength_after true ms < 1 → ((ts : List Token) → Follow true ms ts → IsPast is_as ts) → Follow true (item_marks i ++ (line_end ∷ ms)) ts → ItemComes room ts i ms
 item_again (fits.input {room = room} {p = p} {q = q} {n = n} {y = y} named f) ms ts k past h =
     with_token (λ ts. ItemComes room ts (tree.Input p q n y) ms) (λ t ts is first h.
     with_token (λ ts. ItemComes room (t ∷ ts) (tree.Input p q n y) ms) (λ u ts u_is first h.
@@ -171,7 +171,7 @@ item_again (fits.output_as {room = room} {p = p} {q = q} {n = n} {e = e} named f
     x.1 x.4 x.2) ts h
 
 -- no item begins with what goes on
-items_weak : (items : List Item) → strength_behind true (items_marks items) < 1
+items_weak : (items : List Item) → strength_after true (items_marks items) < 1
 items_weak [] = omega arith
 items_weak (tree.Input p q n y ∷ items) = omega arith
 items_weak (tree.Defined p (tree.Define q n ps w b) ∷ items) = omega arith

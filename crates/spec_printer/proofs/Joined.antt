@@ -1,9 +1,9 @@
--- Texts that are printed one behind the other.
+-- Texts that are printed one after the other.
 use Rattle.std.proofs.Common.{◌≡◌, ℕ, List, ◌++◌, length, take, drop, sym, ap, ◌∙◌, append_assoc, Result, Ok, Err, OnErr}
 use Rattle.std.proofs.lemmas.Grind.{flat_map-append}
 use Rattle.std.proofs.lemmas.List.{take-append-drop}
 use Rattle.std.proofs.Math.Seq.{take-append_seam}
-use Rattle.spec_printer.specs.Marks.{Mark, mark_text, text_of}
+use Rattle.spec_printer.specs.inner.Marks.{Mark, mark_text, text_of}
 
 pub text-append : (ms ns : List Mark) → text_of (ms ++ ns) ≡ text_of ms ++ text_of ns
 text-append ms ns = flat_map-append mark_text ms ns

@@ -1,8 +1,8 @@
 -- What is printed of a tree that a source's tokens spell is lexed again.
 use Rattle.std.proofs.Common.{arith}
 use Rattle.spec_lexer.specs.Source.{start, lexed}
-use Rattle.spec_printer.specs.Print.{items_marks}
-use Rattle.spec_printer.specs.Back.{EachIsLexedAgain}
+use Rattle.spec_printer.specs.inner.Print.{items_marks}
+use Rattle.spec_printer.specs.inner.Back.{EachIsLexedAgain}
 use Rattle.spec_printer.proofs.Lexing.{marks_lexed, lexed_printable}
 use Rattle.spec_printer.proofs.Found.{items_fit}
 use Rattle.spec_printer.proofs.Marked.{items_printable}

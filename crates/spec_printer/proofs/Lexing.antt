@@ -3,17 +3,16 @@ use Rattle.std.proofs.Common.{◌≡◌, ℕ, ◌+◌, ◌≤◌, true, List, []
 use Rattle.std.specs.Prelude.{nat_lt, encode_utf8_all}
 use Rattle.std.specs.Cmp.Derive.{both_true}
 use Rattle.std.specs.Str.{all_scalars}
-use Rattle.std.proofs.lemmas.Bool.{lt-ltb, le-ltb}
+use Rattle.std.proofs.lemmas.Bool.{lt-ltb, le-ltb, and_parts}
 use Rattle.std.proofs.lemmas.Str.{encode_ascii, encodes-append}
 use Rattle.tsl_value.specs.declared.place.Place.{Place}
 use Rattle.spec_lexer.specs.declared.token.Token.{Token}
 use Rattle.spec_lexer.specs.declared.token.Kind.{Kind}
 use Rattle.spec_lexer.specs.Pieces.{place_after, blank, line_end as lf}
 use Rattle.spec_lexer.specs.Source.{Lexes, end, skip, token as one_token}
-use Rattle.spec_lexer.proofs.Runs.{both_pass}
 use Rattle.spec_lexer.proofs.Places.{place_after-within}
-use Rattle.spec_printer.specs.Marks.{Mark, token, line_end, kind_text, text_of}
-use Rattle.spec_printer.specs.Follow.{Follow, nothing, next_line, next_token}
+use Rattle.spec_printer.specs.inner.Marks.{Mark, token, line_end, kind_text, text_of}
+use Rattle.spec_printer.specs.inner.Follow.{Follow, nothing, next_line, next_token}
 use Rattle.spec_printer.proofs.Printable.{Printable, made_printable, scalars-append}
 
 abbrev pub ArePrintable : List Mark → Type 0
@@ -74,7 +73,7 @@ TokensPrintable (t ∷ ts) = Printable t.kind × TokensPrintable ts
 scalars_front : (a b : List ℕ) → all_scalars (a ++ b) ≡ true → (all_scalars a ≡ true) × (all_scalars b ≡ true)
 scalars_front [] b h = (refl, h)
 scalars_front (c ∷ cs) b h =
-    let parts = both_pass _ (all_scalars (cs ++ b)) h in
+    let parts = and_parts _ (all_scalars (cs ++ b)) h in
     let others = scalars_front cs b parts.1 in
     (both_true parts.0 others.0, others.1)
 

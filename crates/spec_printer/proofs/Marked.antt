@@ -1,48 +1,55 @@
 -- The marks of what fits are printable.
-use Rattle.std.proofs.Common.{ℕ, List, [], ◌∷◌, ◌++◌, Option, Some, None, refl, sym, subst, lit≤}
+use Rattle.std.proofs.Common.{◌≡◌, ℕ, Bool, true, false, ◌&&◌, List, [], ◌∷◌, ◌++◌, length, Option, Some, None, is_none, refl, sym, subst, lit≤}
+use Rattle.std.specs.Prelude.{leb}
+use Rattle.std.specs.List.{list_all}
+use Rattle.std.specs.Char.{is_ascii_alphabetic}
+use Rattle.std.proofs.lemmas.Bool.{and_parts, false≢true, leb-true}
+use Rattle.spec_lexer.specs.declared.limits.TheConstants.{MOST_NAME_BYTES}
 use Rattle.spec_lexer.specs.declared.token.Kind.TheVariants as kind
+use Rattle.spec_lexer.specs.declared.token.Word.{Word}
 use Rattle.spec_lexer.specs.declared.token.Word.TheVariants as word
 use Rattle.spec_lexer.specs.declared.token.Symbol.{Symbol}
 use Rattle.spec_lexer.specs.declared.token.Symbol.TheVariants as symbol
 use Rattle.spec_parser.specs.declared.tree.Level.{Level}
-use Rattle.spec_parser.specs.declared.tree.Dotted.{Dotted}
-use Rattle.spec_parser.specs.declared.tree.Dotted.TheVariants as dotted
+use Rattle.spec_lexer.specs.Found.{word_of}
+use Rattle.vocabulary.specs.declared.dotted.Family.{Family}
+use Rattle.vocabulary.specs.declared.dotted.Family.TheVariants as family
+use Rattle.vocabulary.specs.declared.dotted.Dotted.{Dotted}
+use Rattle.vocabulary.specs.Table.{family_name, family_in, member_name}
+use Rattle.vocabulary.proofs.Listed.{all_true}
 use Rattle.spec_parser.specs.Tree as tree
 use Rattle.spec_parser.specs.Tree.{TypeName, Expr, Exprs, Links, Param, Body, Definition, Definitions, Item}
-use Rattle.spec_parser.specs.Words.{family_name, family_in, member_name}
-use Rattle.spec_printer.specs.Marks as mark
-use Rattle.spec_printer.specs.Marks.{Mark, line_end}
-use Rattle.spec_printer.specs.Print.{truth_word, type_marks, bracketed, both_bracketed, enclosed, operand_marks, expr_marks, expr_marks_behind, link_marks, least_operand, param_marks, param_marks_behind, params_marks, written_marks, head_marks, body_marks, definition_marks, definitions_marks, item_marks, items_marks}
+use Rattle.spec_printer.specs.inner.Marks as mark
+use Rattle.spec_printer.specs.inner.Marks.{Mark, line_end}
+use Rattle.spec_printer.specs.inner.Print.{truth_word, type_marks, bracketed, both_bracketed, enclosed, operand_marks, expr_marks, expr_marks_after, link_marks, least_operand, param_marks, param_marks_after, params_marks, written_marks, head_marks, body_marks, definition_marks, definitions_marks, item_marks, items_marks}
 use Rattle.spec_printer.proofs.Printable.{Printable, word_printable, symbol_printable, known_printable}
 use Rattle.spec_printer.proofs.Lexing.{ArePrintable, printable-append}
 use Rattle.spec_printer.proofs.Fits as fits
 use Rattle.spec_printer.proofs.Fits.{Fits, FitsAt, FitExprs, FitLinks, FitsParam, FitParams, MayFitParams, MayFitType, FitsBody, FitDefinitions, FitsItem, FitItems}
 
-family_printable : (d : Dotted) → Printable (kind.Name (family_name (family_in d)))
-family_printable dotted.SetAdd = known_printable _ _ refl refl (lit≤ tt)
-family_printable dotted.SetRemove = known_printable _ _ refl refl (lit≤ tt)
-family_printable dotted.SetContains = known_printable _ _ refl refl (lit≤ tt)
-family_printable dotted.SetSize = known_printable _ _ refl refl (lit≤ tt)
-family_printable dotted.MapAdd = known_printable _ _ refl refl (lit≤ tt)
-family_printable dotted.MapRemove = known_printable _ _ refl refl (lit≤ tt)
-family_printable dotted.MapContains = known_printable _ _ refl refl (lit≤ tt)
-family_printable dotted.MapGet = known_printable _ _ refl refl (lit≤ tt)
-family_printable dotted.MapSize = known_printable _ _ refl refl (lit≤ tt)
-family_printable dotted.StringConcat = known_printable _ _ refl refl (lit≤ tt)
-family_printable dotted.StringSize = known_printable _ _ refl refl (lit≤ tt)
+family_printable : (f : Family) → Printable (kind.Name (family_name f))
+family_printable family.Set = known_printable _ _ refl refl (lit≤ tt)
+family_printable family.Map = known_printable _ _ refl refl (lit≤ tt)
+family_printable family.Text = known_printable _ _ refl refl (lit≤ tt)
+
+-- a name of some letters that is no word
+abbrev is_known : List ℕ → Bool
+is_known [] = false
+is_known (c ∷ cs) = list_all is_ascii_alphabetic (c ∷ cs) && (is_none (word_of (c ∷ cs)) && leb (length (c ∷ cs)) MOST_NAME_BYTES)
+
+no_word : (o : Option Word) → is_none o ≡ true → o ≡ None
+no_word None h = refl
+no_word (Some w) h = absurd (false≢true h)
+
+known : (n : List ℕ) → is_known n ≡ true → Printable (kind.Name n)
+known [] h = absurd (false≢true h)
+known (c ∷ cs) h =
+    let letters = and_parts (list_all is_ascii_alphabetic (c ∷ cs)) (is_none (word_of (c ∷ cs)) && leb (length (c ∷ cs)) MOST_NAME_BYTES) h in
+    let others = and_parts (is_none (word_of (c ∷ cs))) (leb (length (c ∷ cs)) MOST_NAME_BYTES) letters.1 in
+    known_printable c cs letters.0 (no_word (word_of (c ∷ cs)) others.0) (leb-true (length (c ∷ cs)) MOST_NAME_BYTES others.1)
 
 member_printable : (d : Dotted) → Printable (kind.Name (member_name d))
-member_printable dotted.SetAdd = known_printable _ _ refl refl (lit≤ tt)
-member_printable dotted.SetRemove = known_printable _ _ refl refl (lit≤ tt)
-member_printable dotted.SetContains = known_printable _ _ refl refl (lit≤ tt)
-member_printable dotted.SetSize = known_printable _ _ refl refl (lit≤ tt)
-member_printable dotted.MapAdd = known_printable _ _ refl refl (lit≤ tt)
-member_printable dotted.MapRemove = known_printable _ _ refl refl (lit≤ tt)
-member_printable dotted.MapContains = known_printable _ _ refl refl (lit≤ tt)
-member_printable dotted.MapGet = known_printable _ _ refl refl (lit≤ tt)
-member_printable dotted.MapSize = known_printable _ _ refl refl (lit≤ tt)
-member_printable dotted.StringConcat = known_printable _ _ refl refl (lit≤ tt)
-member_printable dotted.StringSize = known_printable _ _ refl refl (lit≤ tt)
+member_printable d = known (member_name d) (all_true (λ d. is_known (member_name d)) refl d)
 
 before_symbol : (ms : List Mark) (s : Symbol) → ArePrintable ms → ArePrintable (ms ++ (mark.symbol s ∷ []))
 before_symbol ms s h = printable-append ms (mark.symbol s ∷ []) h (symbol_printable s, tt)
@@ -91,17 +98,17 @@ mutual
   expr_printable (fits.name p) = (p, tt)
   expr_printable (fits.call {e = e} {es = es} p f g) = (
     p,
-    before_symbol (expr_marks_behind symbol.Open (tree.more_exprs e es)) symbol.Close
-        (symbol_printable symbol.Open, printable-append (expr_marks e) (expr_marks_behind symbol.Comma es) (expr_printable f) (others_printable g)),
+    before_symbol (expr_marks_after symbol.Open (tree.more_exprs e es)) symbol.Close
+        (symbol_printable symbol.Open, printable-append (expr_marks e) (expr_marks_after symbol.Comma es) (expr_printable f) (others_printable g)),
   )
   expr_printable (fits.call_dotted {d = d} {e = e} {es = es} f g) = (
-    family_printable d,
+    family_printable (family_in d),
     (
       symbol_printable symbol.Dot,
       (
         member_printable d,
-        before_symbol (expr_marks_behind symbol.Open (tree.more_exprs e es)) symbol.Close
-            (symbol_printable symbol.Open, printable-append (expr_marks e) (expr_marks_behind symbol.Comma es) (expr_printable f) (others_printable g)),
+        before_symbol (expr_marks_after symbol.Open (tree.more_exprs e es)) symbol.Close
+            (symbol_printable symbol.Open, printable-append (expr_marks e) (expr_marks_after symbol.Comma es) (expr_printable f) (others_printable g)),
       ),
     ),
   )
@@ -115,10 +122,10 @@ mutual
   operand_printable (fits.enclosed {e = e} h f) =
       subst (λ b. ArePrintable (enclosed b (expr_marks e))) (sym h) (symbol_printable symbol.Open, before_symbol (expr_marks e) symbol.Close (expr_printable f))
 
-  others_printable : {room : ℕ} {es : Exprs} → FitExprs room es → ArePrintable (expr_marks_behind symbol.Comma es)
+  others_printable : {room : ℕ} {es : Exprs} → FitExprs room es → ArePrintable (expr_marks_after symbol.Comma es)
   others_printable fits.no_expr = tt
   others_printable (fits.one_expr {e = e} {es = es} f g) =
-      (symbol_printable symbol.Comma, printable-append (expr_marks e) (expr_marks_behind symbol.Comma es) (expr_printable f) (others_printable g))
+      (symbol_printable symbol.Comma, printable-append (expr_marks e) (expr_marks_after symbol.Comma es) (expr_printable f) (others_printable g))
 
   links_printable : {l : Level} {room : ℕ} {ls : Links} → FitLinks l room ls → ArePrintable (link_marks (least_operand l) ls)
   links_printable fits.no_link = tt
@@ -128,16 +135,16 @@ mutual
 param_printable : {room : ℕ} {p : Param} → FitsParam room p → ArePrintable (param_marks p)
 param_printable (fits.param {p = p} h y) = (h, (symbol_printable symbol.Colon, type_printable p.of))
 
-other_params_printable : {room : ℕ} {ps : List Param} → FitParams room ps → ArePrintable (param_marks_behind symbol.Comma ps)
+other_params_printable : {room : ℕ} {ps : List Param} → FitParams room ps → ArePrintable (param_marks_after symbol.Comma ps)
 other_params_printable fits.no_param = tt
 other_params_printable (fits.one_param {p = p} {ps = ps} f g) =
-    (symbol_printable symbol.Comma, printable-append (param_marks p) (param_marks_behind symbol.Comma ps) (param_printable f) (other_params_printable g))
+    (symbol_printable symbol.Comma, printable-append (param_marks p) (param_marks_after symbol.Comma ps) (param_printable f) (other_params_printable g))
 
 params_printable : {room : ℕ} {ps : List Param} → MayFitParams room ps → ArePrintable (params_marks ps)
 params_printable fits.without_params = tt
 params_printable (fits.with_params {p = p} {ps = ps} f g) =
-    before_symbol (param_marks_behind symbol.Open (p ∷ ps)) symbol.Close
-    (symbol_printable symbol.Open, printable-append (param_marks p) (param_marks_behind symbol.Comma ps) (param_printable f) (other_params_printable g))
+    before_symbol (param_marks_after symbol.Open (p ∷ ps)) symbol.Close
+    (symbol_printable symbol.Open, printable-append (param_marks p) (param_marks_after symbol.Comma ps) (param_printable f) (other_params_printable g))
 
 written_printable : (w : Option TypeName) → ArePrintable (written_marks w)
 written_printable None = tt

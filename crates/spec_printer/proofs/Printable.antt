@@ -1,4 +1,4 @@
--- Each token of a source is lexed again where it is printed, with a blank behind it.
+-- Each token of a source is lexed again where it is printed, with a blank after it.
 use Rattle.std.proofs.Common.{◌≡◌, ◌⊎◌, ℕ, ◌<◌, ◌≤◌, ◌^◌, ◌||◌, ◌&&◌, Bool, true, false, true≢false, List, [], ◌∷◌, ◌++◌, length, refl, sym, ap, subst, ◌∙◌, arith, Some, None, inl, inr, lit<}
 use Rattle.std.specs.Prelude.{◌==◌, not, encode_utf8, encode_utf8_all}
 use Rattle.std.specs.List.{list_all, flat_map}
@@ -7,7 +7,7 @@ use Rattle.std.specs.Cmp.Derive.{both_true}
 use Rattle.std.specs.Fmt.{decimal}
 use Rattle.std.specs.Str.{all_scalars}
 use Rattle.std.specs.Str.Parse.{digits_value}
-use Rattle.std.proofs.lemmas.Bool.{cases_eq, cases_lt, ne_eqb, leb-true}
+use Rattle.std.proofs.lemmas.Bool.{cases_eq, cases_lt, ne_eqb, leb-true, and_parts}
 use Rattle.std.proofs.lemmas.Fmt.{decimal_is_IsNumeral}
 use Rattle.std.proofs.lemmas.List.{append-nil}
 use Rattle.std.proofs.lemmas.Str.{encode_ascii, encodes-append}
@@ -17,6 +17,7 @@ use Rattle.unicode_ident.proofs.IdentLemmas.{is_xid_start-ascii, is_xid_continue
 use Rattle.tsl_value.specs.Print.{escaped as printed, quoted_text}
 use Rattle.tsl_value.proofs.Digits.{own}
 use Rattle.tsl_value.proofs.Utf8.{are_high, are_high-encode}
+use Rattle.tsl_value.specs.declared.limits.TheConstants.{MOST_TEXT_BYTES}
 use Rattle.spec_lexer.specs.declared.token.Kind.{Kind}
 use Rattle.spec_lexer.specs.declared.token.Kind.TheVariants as kind
 use Rattle.spec_lexer.specs.declared.token.Word.{Word}
@@ -27,11 +28,11 @@ use Rattle.spec_lexer.specs.Spelling.{is_within_line, begins_name, word_spelling
 use Rattle.spec_lexer.specs.Pieces.{IsName, Means, nothing, plain, escape, quoted, Makes, word as a_word, name as a_name, number as a_number, text as a_text, symbol as a_symbol}
 use Rattle.spec_lexer.specs.Found.{word_of}
 use Rattle.spec_lexer.proofs.Choices.{no_such, tell_next}
-use Rattle.spec_lexer.proofs.Runs.{both_pass}
-use Rattle.spec_lexer.proofs.Sound.{means_within}
+use Rattle.spec_lexer.proofs.Sound.{means_within, all_within}
 use Rattle.spec_lexer.proofs.Symbols.{shape, double, single, symbol_character, symbol_characters, spelled_within, at_most_two}
 use Rattle.spec_lexer.proofs.Words.{word_of-word_spelling}
-use Rattle.spec_printer.specs.Marks.{kind_text}
+use Rattle.spec_lexer.specs.declared.limits.TheConstants.{MOST_NAME_BYTES}
+use Rattle.spec_printer.specs.inner.Marks.{kind_text}
 use lib.Utf8.{scalar, low_scalar}
 
 pub record Printable (k : Kind) : Type 0 where
@@ -45,21 +46,15 @@ pub record Printable (k : Kind) : Type 0 where
 pub low_encoded : (p : ℕ → Bool) → ((c : ℕ) → p c ≡ true → c < 128) → (cs : List ℕ) → list_all p cs ≡ true → encode_utf8_all cs ≡ cs
 low_encoded p low [] h = refl
 low_encoded p low (c ∷ cs) h =
-    let parts = both_pass (p c) (list_all p cs) h in
+    let parts = and_parts (p c) (list_all p cs) h in
     ap (λ e. e ++ encode_utf8_all cs) (encode_ascii c (low c parts.0)) ∙ ap (λ l. c ∷ l) (low_encoded p low cs parts.1)
 
 pub low_scalars : (p : ℕ → Bool) → ((c : ℕ) → p c ≡ true → c < 128) → (cs : List ℕ) → list_all p cs ≡ true → all_scalars cs ≡ true
 low_scalars p low [] h = refl
 low_scalars p low (c ∷ cs) h =
-    let parts = both_pass (p c) (list_all p cs) h in
+    let parts = and_parts (p c) (list_all p cs) h in
     let small = low c parts.0 in
     both_true (low_scalar c (omega arith)) (low_scalars p low cs parts.1)
-
-pub passes_within : (p : ℕ → Bool) → p 10 ≡ false → (cs : List ℕ) → list_all p cs ≡ true → list_all is_within_line cs ≡ true
-passes_within p fails [] h = refl
-passes_within p fails (c ∷ cs) h =
-    let parts = both_pass (p c) (list_all p cs) h in
-    both_true (ap not (no_such p 10 fails c parts.0)) (passes_within p fails cs parts.1)
 
 letter_low : (c : ℕ) → is_ascii_alphabetic c ≡ true → c < 128
 letter_low c h = grind arith
@@ -79,17 +74,17 @@ named_before_blank n next = record { begins = n.begins; run = record { all_pass 
 
 name_within : {first : ℕ} {more rest : List ℕ} → IsName first more rest → list_all is_within_line (first ∷ more) ≡ true
 name_within {first = first} {more = more} n =
-    both_true (ap not (no_such begins_name 10 no_line_end first n.begins)) (passes_within is_xid_continue (is_xid_continue-ascii 10 (lit< tt)) more n.run.all_pass)
+    both_true (ap not (no_such begins_name 10 no_line_end first n.begins)) (all_within is_xid_continue (is_xid_continue-ascii 10 (lit< tt)) more n.run.all_pass)
 
 letters_continue : (cs : List ℕ) → list_all is_ascii_alphabetic cs ≡ true → list_all is_xid_continue cs ≡ true
 letters_continue [] h = refl
 letters_continue (c ∷ cs) h =
-    let parts = both_pass (is_ascii_alphabetic c) (list_all is_ascii_alphabetic cs) h in
+    let parts = and_parts (is_ascii_alphabetic c) (list_all is_ascii_alphabetic cs) h in
     both_true (is_xid_start-is_xid_continue c (is_xid_start-ascii c (letter_low c parts.0) ∙ parts.0)) (letters_continue cs parts.1)
 
 letters_named : (c : ℕ) (cs : List ℕ) → list_all is_ascii_alphabetic (c ∷ cs) ≡ true → (rest : List ℕ) → IsName c cs (32 ∷ rest)
 letters_named c cs h rest =
-    let parts = both_pass (is_ascii_alphabetic c) (list_all is_ascii_alphabetic cs) h in
+    let parts = and_parts (is_ascii_alphabetic c) (list_all is_ascii_alphabetic cs) h in
     record {
       begins = λ i. (is_xid_start-ascii c (letter_low c parts.0) ∙ parts.0) i || (c == 95);
       run = record { all_pass = letters_continue cs parts.1; stops = is_xid_continue-ascii 32 (lit< tt) };
@@ -102,7 +97,7 @@ word_by w c cs is h =
       characters = c ∷ cs;
       scalars = low_scalars is_ascii_alphabetic letter_low (c ∷ cs) h;
       encoded = encoded;
-      within = passes_within is_ascii_alphabetic refl (c ∷ cs) h;
+      within = all_within is_ascii_alphabetic refl (c ∷ cs) h;
       makes = λ rest. a_word (letters_named c cs h rest) encoded;
     }
 
@@ -118,30 +113,30 @@ word_printable word.True = word_by word.True _ _ refl refl
 word_printable word.False = word_by word.False _ _ refl refl
 
 -- names of letters that are no words
-pub known_printable : (c : ℕ) (cs : List ℕ) → list_all is_ascii_alphabetic (c ∷ cs) ≡ true → word_of (c ∷ cs) ≡ None → length (c ∷ cs) ≤ 255 → Printable (kind.Name (c ∷ cs))
+pub known_printable : (c : ℕ) (cs : List ℕ) → list_all is_ascii_alphabetic (c ∷ cs) ≡ true → word_of (c ∷ cs) ≡ None → length (c ∷ cs) ≤ MOST_NAME_BYTES → Printable (kind.Name (c ∷ cs))
 known_printable c cs h none short =
     let encoded = low_encoded is_ascii_alphabetic letter_low (c ∷ cs) h in
     record {
       characters = c ∷ cs;
       scalars = low_scalars is_ascii_alphabetic letter_low (c ∷ cs) h;
       encoded = encoded;
-      within = passes_within is_ascii_alphabetic refl (c ∷ cs) h;
+      within = all_within is_ascii_alphabetic refl (c ∷ cs) h;
       makes = λ rest. subst (λ n. Makes (c ∷ cs) (32 ∷ rest) (kind.Name n)) encoded
           (a_name (letters_named c cs h rest)
           (λ w is. let clash = sym none ∙ ap word_of (sym encoded ∙ is) ∙ word_of-word_spelling w in cc)
-          (subst (λ n. length n ≤ 255) (sym encoded) short));
+          (subst (λ n. length n ≤ MOST_NAME_BYTES) (sym encoded) short));
     }
 
 -- ---- numbers
 number_by : (n : ℕ) → n < 2 ^ 63 → (ds : List ℕ) → decimal n ≡ ds → 0 < length ds → list_all is_ascii_digit ds ≡ true → digits_value 10 ds ≡ n → Printable (kind.Number n)
 number_by n small [] is some digits value = absurd (omega arith)
 number_by n small (d ∷ ds) is some digits value =
-    let parts = both_pass (is_ascii_digit d) (list_all is_ascii_digit ds) digits in
+    let parts = and_parts (is_ascii_digit d) (list_all is_ascii_digit ds) digits in
     record {
       characters = d ∷ ds;
       scalars = low_scalars is_ascii_digit digit_low (d ∷ ds) digits;
       encoded = low_encoded is_ascii_digit digit_low (d ∷ ds) digits ∙ sym is;
-      within = passes_within is_ascii_digit refl (d ∷ ds) digits;
+      within = all_within is_ascii_digit refl (d ∷ ds) digits;
       makes = λ rest. subst (λ v. Makes (d ∷ ds) (32 ∷ rest) (kind.Number v)) value
           (a_number (record { begins = parts.0; run = record { all_pass = parts.1; stops = refl } }) (subst (λ v. v < 2 ^ 63) (sym value) small));
     }
@@ -198,7 +193,7 @@ means_printed (c ∷ cs) = elim (either c) [
 
 pub scalars-append : (a b : List ℕ) → all_scalars a ≡ true → all_scalars b ≡ true → all_scalars (a ++ b) ≡ true
 scalars-append [] b h k = k
-scalars-append (c ∷ cs) b h k = let parts = both_pass _ (all_scalars cs) h in both_true parts.0 (scalars-append cs b parts.1 k)
+scalars-append (c ∷ cs) b h k = let parts = and_parts _ (all_scalars cs) h in both_true parts.0 (scalars-append cs b parts.1 k)
 
 low_one : (c : ℕ) → c < 128 → all_scalars (c ∷ []) ≡ true
 low_one c h = both_true (low_scalar c (omega arith)) refl
@@ -206,7 +201,7 @@ low_one c h = both_true (low_scalar c (omega arith)) refl
 scalars_printed : (meant : List ℕ) → all_scalars meant ≡ true → all_scalars (flat_map printed meant) ≡ true
 scalars_printed [] h = refl
 scalars_printed (c ∷ cs) h =
-    let parts = both_pass _ (all_scalars cs) h in
+    let parts = and_parts _ (all_scalars cs) h in
     scalars-append (printed c) (flat_map printed cs)
     (elim (either c) [
       | inl p ↦ subst (λ w. all_scalars w ≡ true) (sym p.0) (both_true parts.0 refl)
@@ -217,7 +212,7 @@ scalars_printed (c ∷ cs) h =
 high_printed : (bs : List ℕ) → are_high bs ≡ true → flat_map printed bs ≡ bs
 high_printed [] h = refl
 high_printed (b ∷ bs) h =
-    let both = both_pass _ (are_high bs) h in
+    let both = and_parts _ (are_high bs) h in
     let high = leb-true 128 b both.0 in
     elim (either b) [
       | inl p ↦ ap (λ w. w ++ flat_map printed bs) p.0 ∙ ap (λ l. b ∷ l) (high_printed bs both.1)
@@ -253,7 +248,7 @@ quoted_encoded meant =
     ap (λ x. x ++ encode_utf8_all (flat_map printed meant ++ 34 ∷ [])) (encode_ascii 34 (lit< tt))
     ∙ ap (λ l. 34 ∷ l) (encodes-append (flat_map printed meant) (34 ∷ []) ∙ (λ i. text_encoded meant i ++ (append-nil (encode_utf8 34) ∙ encode_ascii 34 (lit< tt)) i))
 
-pub text_printable : (meant : List ℕ) → all_scalars meant ≡ true → length (encode_utf8_all meant) ≤ 65536 → Printable (kind.Text (encode_utf8_all meant))
+pub text_printable : (meant : List ℕ) → all_scalars meant ≡ true → length (encode_utf8_all meant) ≤ MOST_TEXT_BYTES → Printable (kind.Text (encode_utf8_all meant))
 text_printable meant scalars short = record {
   characters = quoted (flat_map printed meant);
   scalars = scalars-append (34 ∷ []) (flat_map printed meant ++ 34 ∷ []) (low_one 34 (lit< tt)) (scalars-append (flat_map printed meant) (34 ∷ []) (scalars_printed meant scalars) (low_one 34 (lit< tt)));
@@ -264,14 +259,14 @@ text_printable meant scalars short = record {
   where
     within_end : (w : List ℕ) → list_all is_within_line w ≡ true → list_all is_within_line (w ++ 34 ∷ []) ≡ true
     within_end [] h = refl
-    within_end (c ∷ cs) h = let parts = both_pass (is_within_line c) (list_all is_within_line cs) h in both_true parts.0 (within_end cs parts.1)
+    within_end (c ∷ cs) h = let parts = and_parts (is_within_line c) (list_all is_within_line cs) h in both_true parts.0 (within_end cs parts.1)
 
     within_quotes : (w : List ℕ) → list_all is_within_line w ≡ true → list_all is_within_line (quoted w) ≡ true
     within_quotes w h = both_true {s = true} refl (within_end w h)
 
 -- ---- symbols
 no_blank_second : (s : Symbol) (c : ℕ) → symbol_spelling s ≡ c ∷ 32 ∷ [] → ⊥
-no_blank_second s c is = let passes = sym (symbol_characters s) ∙ ap (list_all symbol_character) is in let second = both_pass (symbol_character c) false (sym passes) in cc (second.1)
+no_blank_second s c is = let passes = sym (symbol_characters s) ∙ ap (list_all symbol_character) is in let second = and_parts (symbol_character c) false (sym passes) in cc (second.1)
 
 -- a longer symbol would have the blank
 longest : (s : Symbol) (rest : List ℕ) (other : Symbol) (more : List ℕ) → symbol_spelling s ++ 32 ∷ rest ≡ symbol_spelling other ++ more → length (symbol_spelling other) ≤ length (symbol_spelling s)
@@ -359,14 +354,14 @@ escape_low c d e =
 
 meant_scalars : {written meant : List ℕ} → Means written meant → all_scalars written ≡ true → all_scalars meant ≡ true
 meant_scalars nothing h = refl
-meant_scalars (plain {c = c} {written = written} p m) h = let parts = both_pass (scalar c) (all_scalars written) h in both_true parts.0 (meant_scalars m parts.1)
+meant_scalars (plain {c = c} {written = written} p m) h = let parts = and_parts (scalar c) (all_scalars written) h in both_true parts.0 (meant_scalars m parts.1)
 meant_scalars (escape {c = c} {d = d} {written = written} e m) h =
-    let behind = both_pass (scalar c) (all_scalars written) (both_pass (scalar 92) (scalar c && all_scalars written) h).1 in
+    let behind = and_parts (scalar c) (all_scalars written) (and_parts (scalar 92) (scalar c && all_scalars written) h).1 in
     both_true (low_scalar d (escape_low c d e)) (meant_scalars m behind.1)
 
 front_scalars : (a b : List ℕ) → all_scalars (a ++ b) ≡ true → all_scalars a ≡ true
 front_scalars [] b h = refl
-front_scalars (c ∷ cs) b h = let parts = both_pass _ (all_scalars (cs ++ b)) h in both_true parts.0 (front_scalars cs b parts.1)
+front_scalars (c ∷ cs) b h = let parts = and_parts _ (all_scalars (cs ++ b)) h in both_true parts.0 (front_scalars cs b parts.1)
 
 pub made_printable : {front rest : List ℕ} {k : Kind} → Makes front rest k → all_scalars front ≡ true → Printable k
 made_printable (a_word {w = w} n is) h = word_printable w
@@ -379,5 +374,5 @@ made_printable (a_name {first = first} {more = more} n none short) h = record {
 }
 made_printable (a_number {first = first} {more = more} n small) h = number_printable (digits_value 10 (first ∷ more)) small
 made_printable (a_text {written = written} {meant = meant} m short) h =
-    text_printable meant (meant_scalars m (front_scalars written (34 ∷ []) (both_pass (scalar 34) (all_scalars (written ++ 34 ∷ [])) h).1)) short
+    text_printable meant (meant_scalars m (front_scalars written (34 ∷ []) (and_parts (scalar 34) (all_scalars (written ++ 34 ∷ [])) h).1)) short
 made_printable (a_symbol {s = s} n) h = symbol_printable s

@@ -1,5 +1,1 @@
-pub mod Marks
-pub mod Follow
-pub mod Same
-pub mod Print
-pub mod Back
+pub mod inner

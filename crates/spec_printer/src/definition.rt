@@ -2,9 +2,10 @@
 
 ghost use Rattle.std.specs.Prelude.{◌≡◌, ◌++◌, length, take, OnOk, OnErr};
 ghost use Rattle.spec_parser.specs.Tree as tree;
-ghost use Rattle.spec_parser.specs.Shape.{body_of, param_of, params_in, definition_of, definitions_of};
-ghost use Rattle.spec_printer.specs.Marks.{text_of};
-ghost use Rattle.spec_printer.specs.Print.{param_marks, params_marks, written_marks, head_marks, body_marks, definition_marks, definitions_marks};
+ghost use Rattle.spec_parser.specs.inner.Shape.{body_of, param_of, params_in, definition_of, definitions_of};
+ghost use Rattle.spec_printer.specs.inner.Marks.{text_of};
+ghost use Rattle.spec_printer.specs.inner.Print.{param_marks, params_marks, written_marks, head_marks, body_marks, definition_marks};
+ghost use Rattle.spec_printer.specs.inner.Print.{definitions_marks};
 
 use crate::expression::put_expression;
 use crate::mark::{end_line, put_name, put_symbol, put_word};
@@ -55,7 +56,8 @@ fn put_written(written: &Option<TypeName>, out: &mut Bytes) -> Result<(), NoMemo
 
 /// What stands before the body.
 fn put_head(parts: &DefinitionParts, out: &mut Bytes) -> Result<(), NoMemory>
-    ensures ok { OnOk result (out.new ≡ out.old ++ text_of (head_marks parts.now.name (params_in parts.now.params.items) parts.now.written)) }
+    ensures ok { OnOk result (out.new
+        ≡ out.old ++ text_of (head_marks parts.now.name (params_in parts.now.params.items) parts.now.written)) }
     ensures err { OnErr result (take (length out.old) out.new ≡ out.old) }
 {
     put_word(Word::Def, out)?;

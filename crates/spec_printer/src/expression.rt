@@ -5,18 +5,21 @@ ghost use Rattle.spec_lexer.specs.declared.token.Word.TheVariants as word;
 ghost use Rattle.spec_lexer.specs.declared.token.Symbol.TheVariants as symbol;
 ghost use Rattle.spec_lexer.specs.declared.token.Kind.TheVariants as kind;
 ghost use Rattle.spec_parser.specs.Tree as tree;
-ghost use Rattle.spec_parser.specs.Shape.{exprs_of, links_in};
-ghost use Rattle.spec_parser.specs.Words.{family_name, family_in, member_name};
-ghost use Rattle.spec_printer.specs.Same.{nowhere};
-ghost use Rattle.spec_printer.specs.Marks.{token, symbol as a_symbol, named, text_of};
-ghost use Rattle.spec_printer.specs.Print.{operator_symbol, comparison_symbol, level_strength, strength, least_negated, expr_marks, node_marks, operand_marks, link_marks, argument_marks};
+ghost use Rattle.spec_parser.specs.inner.Shape.{exprs_of, links_in};
+ghost use Rattle.vocabulary.specs.Table.{family_name, family_in, member_name};
+ghost use Rattle.spec_printer.specs.inner.Same.{nowhere};
+ghost use Rattle.spec_printer.specs.inner.Marks.{token, symbol as a_symbol, named, text_of};
+ghost use Rattle.spec_printer.specs.inner.Print.{operator_symbol, comparison_symbol, level_strength, strength, least_negated, expr_marks};
+ghost use Rattle.spec_printer.specs.inner.Print.{node_marks, operand_marks, link_marks, argument_marks};
 
 use crate::mark::{put_name, put_number, put_symbol, put_text, put_word};
 use crate::type_name::{put_one, put_two};
+use spec_lexer::natural::Natural;
 use spec_lexer::token::{Symbol, Word};
-use spec_parser::tree::{Comparison, Dotted, Expr, Level, Link, Node, Operator, TypeName};
+use spec_parser::tree::{Comparison, Expr, Level, Link, Node, Operator, TypeName};
 use tsl_value::bytes::Bytes;
 use tsl_value::memory::NoMemory;
+use vocabulary::dotted::Dotted;
 
 fn symbol_of_operator(operator: Operator) -> Symbol
     ensures { result ≡ operator_symbol operator }
@@ -72,7 +75,7 @@ fn strength(expression: &Expr) -> u32
     }
 }
 
-/// The least strength of what stands behind a prefix minus: a number there would make one literal with it.
+/// The least strength of what stands after a prefix minus: a number there would make one literal with it.
 fn least_negated(operand: &Expr) -> u32
     ensures { result ≡ least_negated operand.now }
 {
@@ -163,7 +166,7 @@ fn put_chain(level: Level, first: &Expr, links: &[Link], out: &mut Bytes) -> Res
     put_links(links, least, out)
 }
 
-/// Each operator and the operand behind it.
+/// Each operator and the operand after it.
 #[cycle(printer)]
 fn put_links(links: &[Link], least: u32, out: &mut Bytes) -> Result<(), NoMemory>
     ensures ok { OnOk result (out.new ≡ out.old ++ text_of (link_marks least (links_in links.now))) }
@@ -216,7 +219,7 @@ fn put_arguments(arguments: &[Expr], out: &mut Bytes) -> Result<(), NoMemory>
     put_symbol(Symbol::Close, out)
 }
 
-fn put_negative(number: u64, out: &mut Bytes) -> Result<(), NoMemory>
+fn put_negative(number: Natural, out: &mut Bytes) -> Result<(), NoMemory>
     ensures ok { OnOk result (out.new ≡ out.old ++ text_of (a_symbol symbol.Minus ∷ (token (kind.Number number) ∷ []))) }
     ensures err { OnErr result (take (length out.old) out.new ≡ out.old) }
 {
@@ -250,35 +253,12 @@ fn put_empty_map(key: &TypeName, value: &TypeName, out: &mut Bytes) -> Result<()
     put_two("empty", key, value, out)
 }
 
-fn family(function: Dotted) -> &'static str
-    ensures { result.now ≡ family_name (family_in function) }
-{
-    match function {
-        Dotted::SetAdd | Dotted::SetRemove | Dotted::SetContains | Dotted::SetSize => "Set",
-        Dotted::MapAdd | Dotted::MapRemove | Dotted::MapContains => "Map",
-        Dotted::MapGet | Dotted::MapSize => "Map",
-        Dotted::StringConcat | Dotted::StringSize => "String",
-    }
-}
-
-fn member(function: Dotted) -> &'static str
-    ensures { result.now ≡ member_name function }
-{
-    match function {
-        Dotted::SetAdd | Dotted::MapAdd => "add",
-        Dotted::SetRemove | Dotted::MapRemove => "remove",
-        Dotted::SetContains | Dotted::MapContains => "contains",
-        Dotted::SetSize | Dotted::MapSize | Dotted::StringSize => "size",
-        Dotted::MapGet => "get",
-        Dotted::StringConcat => "concat",
-    }
-}
-
 fn put_dotted(function: Dotted, out: &mut Bytes) -> Result<(), NoMemory>
-    ensures ok { OnOk result (out.new ≡ out.old ++ text_of (named (family_name (family_in function)) ∷ (a_symbol symbol.Dot ∷ (named (member_name function) ∷ [])))) }
+    ensures ok { OnOk result (out.new
+        ≡ out.old ++ text_of (named (family_name (family_in function)) ∷ (a_symbol symbol.Dot ∷ (named (member_name function) ∷ [])))) }
     ensures err { OnErr result (take (length out.old) out.new ≡ out.old) }
 {
-    put_name(family(function), out)?;
+    put_name(function.family().name(), out)?;
     put_symbol(Symbol::Dot, out)?;
-    put_name(member(function), out)
+    put_name(function.member(), out)
 }

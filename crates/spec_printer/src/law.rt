@@ -1,6 +1,6 @@
 // What holds of all trees.
 
-ghost use Rattle.spec_printer.specs.Back.{EachComesBack, EachIsLexedAgain, EachIsReadAgain};
+ghost use Rattle.spec_printer.specs.inner.Back.{EachComesBack, EachIsLexedAgain, EachIsReadAgain};
 
 /// Where the tokens of some source spell a tree, what is printed of it has just the tokens that were to be printed, each of
 /// them the first of its line where a line was to begin there.

@@ -1,6 +1,6 @@
 //! The printer of specifications: of a tree, a source that is lexed and parsed to the same tree, places aside.
 //!
-//! Each token has a blank behind it. Each item, each definition of a block and the result of a block begins a line.
+//! Each token has a blank after it. Each item, each definition of a block and the result of a block begins a line.
 //! Parentheses stand only where the tree would be another without them.
 #![tactic(auto)]
 
@@ -9,6 +9,4 @@ mod expression;
 pub mod law;
 mod mark;
 pub mod print;
-#[cfg(test)]
-mod tests;
 mod type_name;

@@ -1,10 +1,11 @@
-// Tokens, each with a blank behind it, and ends of lines.
+// Tokens, each with a blank after it, and ends of lines.
 
 ghost use Rattle.std.specs.Prelude.{◌≡◌, [], ◌∷◌, ◌++◌, length, take, OnOk, OnErr};
 ghost use Rattle.spec_lexer.specs.declared.token.Kind.TheVariants as kind;
 ghost use Rattle.spec_lexer.specs.Spelling.{word_spelling, symbol_spelling};
-ghost use Rattle.spec_printer.specs.Marks.{token, line_end, word as a_word, symbol as a_symbol, named, text_of};
+ghost use Rattle.spec_printer.specs.inner.Marks.{token, line_end, word as a_word, symbol as a_symbol, named, text_of};
 
+use spec_lexer::natural::Natural;
 use spec_lexer::token::{Symbol, Word};
 use tsl_value::bytes::Bytes;
 use tsl_value::memory::NoMemory;
@@ -82,11 +83,11 @@ pub(crate) fn put_symbol(symbol: Symbol, out: &mut Bytes) -> Result<(), NoMemory
     put_name(spelled_symbol(symbol), out)
 }
 
-pub(crate) fn put_number(number: u64, out: &mut Bytes) -> Result<(), NoMemory>
+pub(crate) fn put_number(number: Natural, out: &mut Bytes) -> Result<(), NoMemory>
     ensures ok { OnOk result (out.new ≡ out.old ++ text_of (token (kind.Number number) ∷ [])) }
     ensures err { OnErr result (take (length out.old) out.new ≡ out.old) }
 {
-    print_number(number, out)?;
+    print_number(number.get(), out)?;
     out.push(b' ')
 }
 

@@ -2,10 +2,10 @@
 
 ghost use Rattle.std.specs.Prelude.{◌≡◌, ◌++◌, length, map, take, OnOk, OnErr};
 ghost use Rattle.spec_parser.specs.Tree as tree;
-ghost use Rattle.spec_parser.specs.Shape.{item_of, items_of};
-ghost use Rattle.spec_printer.specs.Same.{nowhere};
-ghost use Rattle.spec_printer.specs.Marks.{text_of};
-ghost use Rattle.spec_printer.specs.Print.{item_marks, line_marks, source_of};
+ghost use Rattle.spec_parser.specs.inner.Shape.{item_of, items_of};
+ghost use Rattle.spec_printer.specs.inner.Same.{nowhere};
+ghost use Rattle.spec_printer.specs.inner.Marks.{text_of};
+ghost use Rattle.spec_printer.specs.inner.Print.{item_marks, line_marks, source_of};
 
 use crate::definition::put_definition;
 use crate::expression::put_expression;

@@ -1,8 +1,8 @@
 // Types.
 
 ghost use Rattle.std.specs.Prelude.{◌≡◌, ◌∷◌, ◌++◌, length, take, OnOk, OnErr};
-ghost use Rattle.spec_printer.specs.Marks.{named, text_of};
-ghost use Rattle.spec_printer.specs.Print.{type_marks, shape_marks, bracketed, both_bracketed, second_bracketed};
+ghost use Rattle.spec_printer.specs.inner.Marks.{named, text_of};
+ghost use Rattle.spec_printer.specs.inner.Print.{type_marks, shape_marks, bracketed, both_bracketed, second_bracketed};
 
 use crate::mark::{put_name, put_symbol};
 use spec_lexer::token::Symbol;
@@ -36,7 +36,7 @@ fn put_shape(shape: &TypeShape, out: &mut Bytes) -> Result<(), NoMemory>
     }
 }
 
-/// A name and the type behind it, in brackets.
+/// A name and the type after it, in brackets.
 #[cycle(types)]
 pub(crate) fn put_one(name: &str, of: &TypeName, out: &mut Bytes) -> Result<(), NoMemory>
     ensures ok { OnOk result (out.new ≡ out.old ++ text_of (named name.now ∷ bracketed of.now)) }
@@ -48,7 +48,7 @@ pub(crate) fn put_one(name: &str, of: &TypeName, out: &mut Bytes) -> Result<(), 
     put_symbol(Symbol::CloseBracket, out)
 }
 
-/// A name and the two types behind it, in brackets.
+/// A name and the two types after it, in brackets.
 #[cycle(types)]
 pub(crate) fn put_two(
     name: &str,

@@ -1,6 +1,6 @@
 -- A reader that stops at a level too deep has passed a token.
 use Rattle.std.proofs.Common.{ℕ, ◌≤◌, Bool, List, [], ◌∷◌, length, Option, Some, None, arith}
-use Rattle.token_reader.specs.Reader.{Signs, Unexpected, TooDeep, Outcome, Read, Stopped, Reader, Turn, give, and_then, ◌>>=◌, when, taken, take_by, expect, tried, if_next, chosen, or_else, noted, alone, rest_of}
+use Rattle.token_reader.specs.inner.Reader.{Signs, Unexpected, TooDeep, Outcome, Read, Stopped, Reader, Turn, give, and_then, ◌>>=◌, when, taken, take_by, expect, tried, if_next, chosen, or_else, noted, alone, rest_of}
 use Rattle.token_reader.proofs.LocalLaws.{CarefulAt, IsCareful, IsLocal, IsLocalTurn, shorter, local_when, local-give, local-bind, local-expect}
 
 module _ {T : Type 0} (s : Signs T) where
@@ -8,10 +8,10 @@ module _ {T : Type 0} (s : Signs T) where
   careful-give a ts = tt
 
   -- it has passed a token already
-  careful_behind : {A : Type 0} (t : T) (ts : List T) (o : Outcome T A) → length (rest_of o) ≤ length ts → CarefulAt s (t ∷ ts) o
-  careful_behind t ts (Read a rest) h = tt
-  careful_behind t ts (Stopped Unexpected rest) h = tt
-  careful_behind t ts (Stopped TooDeep rest) h = omega arith
+  careful_after : {A : Type 0} (t : T) (ts : List T) (o : Outcome T A) → length (rest_of o) ≤ length ts → CarefulAt s (t ∷ ts) o
+  careful_after t ts (Read a rest) h = tt
+  careful_after t ts (Stopped Unexpected rest) h = tt
+  careful_after t ts (Stopped TooDeep rest) h = omega arith
 
   careful_later : {A : Type 0} (ts us : List T) (o : Outcome T A) → length us ≤ length ts → CarefulAt s us o → CarefulAt s ts o
   careful_later ts us (Read a rest) h c = tt
@@ -29,7 +29,7 @@ module _ {T : Type 0} (s : Signs T) where
 
   module _ {A : Type 0} (f : Turn T A) (local : (t : T) → IsLocalTurn s (f t)) where
     taken_careful : (t : T) (o : Option (Reader T A)) → IsLocalTurn s o → (ts : List T) → CarefulAt s (t ∷ ts) (taken o t ts)
-    taken_careful t (Some p) lo ts = careful_behind t ts (p ts) (shorter s p ts (p ts) (lo ts))
+    taken_careful t (Some p) lo ts = careful_after t ts (p ts) (shorter s p ts (p ts) (lo ts))
     taken_careful t None lo ts = tt
 
     pub careful-take_by : IsCareful s (take_by f)
@@ -38,7 +38,7 @@ module _ {T : Type 0} (s : Signs T) where
 
     module _ (a : A) where
       tried_careful : (t : T) (o : Option (Reader T A)) → IsLocalTurn s o → (ts : List T) → CarefulAt s (t ∷ ts) (tried o a t ts)
-      tried_careful t (Some p) lo ts = careful_behind t ts (p ts) (shorter s p ts (p ts) (lo ts))
+      tried_careful t (Some p) lo ts = careful_after t ts (p ts) (shorter s p ts (p ts) (lo ts))
       tried_careful t None lo ts = tt
 
       pub careful-if_next : IsCareful s (if_next f a)
@@ -47,7 +47,7 @@ module _ {T : Type 0} (s : Signs T) where
 
   module _ {A : Type 0} (f : Turn T A) (local : (t : T) → IsLocalTurn s (f t)) (q : Reader T A) (careful : IsCareful s q) where
     chosen_careful : (t : T) (o : Option (Reader T A)) → IsLocalTurn s o → (ts : List T) → CarefulAt s (t ∷ ts) (chosen o q t ts)
-    chosen_careful t (Some p) lo ts = careful_behind t ts (p ts) (shorter s p ts (p ts) (lo ts))
+    chosen_careful t (Some p) lo ts = careful_after t ts (p ts) (shorter s p ts (p ts) (lo ts))
     chosen_careful t None lo ts = careful (t ∷ ts)
 
     pub careful-or_else : IsCareful s (or_else f q)
@@ -65,7 +65,7 @@ module _ {T : Type 0} (s : Signs T) where
   pub careful-test : {A : Type 0} (test : T → Bool) (p : Reader T A) → IsLocal s p → IsCareful s (expect test p)
   careful-test test p lp = careful-take_by (λ t. when (test t) p) (λ t. local_when s p lp (test t))
 
-  -- behind what was read, a closing token
+  -- after what was read, a closing token
   pub local-closed : {A B : Type 0} (test : T → Bool) (p : Reader T A) (h : A → B) → IsLocal s p → IsLocal s (p >>= λ a. expect test (give (h a)))
   local-closed test p h lp = local-bind s p (λ a. expect test (give (h a))) lp (λ a. careful-test test (give (h a)) (local-give s (h a))) (λ a. local-expect s test (give (h a)) (local-give s (h a)))
 

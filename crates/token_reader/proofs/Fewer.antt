@@ -1,8 +1,8 @@
 -- The laws hold at fewer ending tokens, and a reader may be followed by one that goes on at some of them.
 use Rattle.std.proofs.Common.{◌≡◌, Bool, true, false, List, [], ◌∷◌, ◌++◌, length, refl, sym, ap, subst, ◌∙◌, inl, inr, arith, append_assoc}
-use Rattle.token_reader.specs.Reader.{Signs, Unexpected, TooDeep, Outcome, Read, Stopped, Reader, and_then, ◌>>=◌, head}
+use Rattle.token_reader.specs.inner.Reader.{Signs, Unexpected, TooDeep, Outcome, Read, Stopped, Reader, and_then, ◌>>=◌, head}
 use Rattle.token_reader.proofs.LocalLaws.{IsEnd, CarefulAt, IsCareful, Leads, IsLocal, Follows, local-bind}
-use Rattle.token_reader.proofs.ViableLaws.{Completion, Completes, CompletesAt, Goes, Reached, CompletionAlike, Alike, alike_end, alike_behind, Reaches, near, far, Barred, ViableAt, IsViable}
+use Rattle.token_reader.proofs.ViableLaws.{Completion, Completes, CompletesAt, Goes, Reached, CompletionAlike, Alike, alike_end, alike_after, Reaches, near, far, Barred, ViableAt, IsViable}
 use Rattle.token_reader.proofs.RoomLaws.{RisesTo, below-bind, DeepAt, Deepens}
 use Rattle.token_reader.proofs.Fine.{IsFine}
 
@@ -70,12 +70,12 @@ module _ {T : Type 0} (few many opens calms : T → Bool) (bars : T → List T �
   }
 
   -- one reader and then another that goes on at more tokens than the first
-  abbrev pub CompletesBehind : {A B : Type 0} → (A → Reader T B) → Type 0
-  CompletesBehind {A} {B} f = (r : List T) → IsEnd small r → (more : List T) × IsEnd large (more ++ r) × ((a : A) → (b : B) × (f a (more ++ r) ≡ Read b r))
+  abbrev pub CompletesAfter : {A B : Type 0} → (A → Reader T B) → Type 0
+  CompletesAfter {A} {B} f = (r : List T) → IsEnd small r → (more : List T) × IsEnd large (more ++ r) × ((a : A) → (b : B) × (f a (more ++ r) ≡ Read b r))
 
-  module _ {A B : Type 0} (p : Reader T A) (f : A → Reader T B) (completes : CompletesBehind f) where
-    first_behind : (ts rest : List T) → Goes large p ts rest → Goes small (p >>= f) ts rest
-    first_behind ts rest v = record {
+  module _ {A B : Type 0} (p : Reader T A) (f : A → Reader T B) (completes : CompletesAfter f) where
+    first_after : (ts rest : List T) → Goes large p ts rest → Goes small (p >>= f) ts rest
+    first_after ts rest v = record {
       front = v.front;
       whole = v.whole;
       goes = λ r h.
@@ -85,8 +85,8 @@ module _ {T : Type 0} (few many opens calms : T → Bool) (bars : T → List T �
           (d.0 ++ c.0, b.0, ap (λ l. (p >>= f) (v.front ++ l)) (append_assoc d.0 c.0 r) ∙ ap (λ q. and_then q f) d.2 ∙ b.1);
     }
 
-    ends_behind : (ts : List T) (a : A) (rest left : List T) → Leads large p ts (Read a rest) → rest ≡ left → Goes small (p >>= f) ts left
-    ends_behind ts a rest left first same = record {
+    ends_after : (ts : List T) (a : A) (rest left : List T) → Leads large p ts (Read a rest) → rest ≡ left → Goes small (p >>= f) ts left
+    ends_after ts a rest left first same = record {
       front = first.front;
       whole = first.whole ∙ ap (λ l. first.front ++ l) same;
       goes = λ r h.
@@ -95,9 +95,9 @@ module _ {T : Type 0} (few many opens calms : T → Bool) (bars : T → List T �
           (c.0, b.0, ap (λ q. and_then q f) (first.again (c.0 ++ r) (inr c.1)) ∙ b.1);
     }
 
-    second_behind : (ts : List T) (a : A) (rest left : List T) → Leads large p ts (Read a rest) → (front : List T) → rest ≡ front ++ left → ((r : List T) → IsEnd small r → Completion small (f a) front r) → Goes small (p >>= f) ts left
-    second_behind ts a rest left first [] whole goes = ends_behind ts a rest left first whole
-    second_behind ts a rest left first (x ∷ xs) whole goes = record {
+    second_after : (ts : List T) (a : A) (rest left : List T) → Leads large p ts (Read a rest) → (front : List T) → rest ≡ front ++ left → ((r : List T) → IsEnd small r → Completion small (f a) front r) → Goes small (p >>= f) ts left
+    second_after ts a rest left first [] whole goes = ends_after ts a rest left first whole
+    second_after ts a rest left first (x ∷ xs) whole goes = record {
       front = first.front ++ (x ∷ xs);
       whole = first.whole ∙ ap (λ l. first.front ++ l) whole ∙ sym (append_assoc first.front (x ∷ xs) left);
       goes = λ r h.
@@ -133,12 +133,12 @@ module _ {T : Type 0} (few many opens calms : T → Bool) (bars : T → List T �
       whole = first.whole ∙ ap (λ l. first.front ++ l) whole ∙ sym (append_assoc first.front (x ∷ xs) left);
       goes = λ r h.
           let c = goes r h in
-          (c.0, c.1, ap (p >>= f) (append_assoc first.front (x ∷ xs) (c.0 ++ r)) ∙ ap (λ q. and_then q f) (first.again ((x ∷ xs) ++ (c.0 ++ r)) (inl (sym (ap head whole)))) ∙ c.2, alike_behind small first.front x xs left (c.0 ++ r) c.3);
+          (c.0, c.1, ap (p >>= f) (append_assoc first.front (x ∷ xs) (c.0 ++ r)) ∙ ap (λ q. and_then q f) (first.again ((x ∷ xs) ++ (c.0 ++ r)) (inl (sym (ap head whole)))) ∙ c.2, alike_after small first.front x xs left (c.0 ++ r) c.3);
     }
 
-    reaches_behind : (ts : List T) (a : A) (rest left : List T) → Leads large p ts (Read a rest) → Reaches small (f a) rest left → Reaches small (p >>= f) ts left
-    reaches_behind ts a rest left first (near b e plain) = far b plain (ends_reached ts a rest (b ++ left) first e)
-    reaches_behind ts a rest left first (far b plain g) = far b plain (second_reached ts a rest (b ++ left) first g.front g.whole g.goes)
+    reaches_after : (ts : List T) (a : A) (rest left : List T) → Leads large p ts (Read a rest) → Reaches small (f a) rest left → Reaches small (p >>= f) ts left
+    reaches_after ts a rest left first (near b e plain) = far b plain (ends_reached ts a rest (b ++ left) first e)
+    reaches_after ts a rest left first (far b plain g) = far b plain (second_reached ts a rest (b ++ left) first g.front g.whole g.goes)
 
     reaches_first : (ts left : List T) → Reaches large p ts left → Reaches small (p >>= f) ts left
     reaches_first ts left (near b e plain) = near b e plain
@@ -148,22 +148,22 @@ module _ {T : Type 0} (few many opens calms : T → Bool) (bars : T → List T �
     same_head [] more left t = refl
     same_head (x ∷ front) more left t = refl
 
-    barred_behind : (ts : List T) (a : A) (rest left : List T) (t : T) → Leads large p ts (Read a rest) → Barred small (f a) rest t left → Barred small (p >>= f) ts t left
-    barred_behind ts a rest left t first b = record {
+    barred_after : (ts : List T) (a : A) (rest left : List T) (t : T) → Leads large p ts (Read a rest) → Barred small (f a) rest t left → Barred small (p >>= f) ts t left
+    barred_after ts a rest left t first b = record {
       front = first.front ++ b.front;
       whole = first.whole ∙ ap (λ l. first.front ++ l) b.whole ∙ sym (append_assoc first.front b.front (t ∷ left));
       opened = b.opened;
       again = λ more h. ap (p >>= f) (append_assoc first.front b.front (t ∷ more)) ∙ ap (λ q. and_then q f) (first.again (b.front ++ t ∷ more) (inl (same_head b.front more left t ∙ sym (ap head b.whole)))) ∙ b.again more h;
     }
 
-    viable_behind : (ts : List T) (a : A) (rest : List T) (o : Outcome T B) → Leads large p ts (Read a rest) → CarefulAt small rest o → ViableAt small (f a) rest o → ViableAt small (p >>= f) ts o
-    viable_behind ts a rest (Read b left) first c second = tt
-    viable_behind ts a rest (Stopped TooDeep left) first c (inl same) = absurd (omega (arith, ap length same))
-    viable_behind ts a rest (Stopped TooDeep left) first c (inr (t, o, second)) = inr (t, barred_behind ts a rest left t first o, reaches_behind ts a rest (t ∷ left) first second)
-    viable_behind ts a rest (Stopped Unexpected left) first c second = reaches_behind ts a rest left first second
+    viable_after : (ts : List T) (a : A) (rest : List T) (o : Outcome T B) → Leads large p ts (Read a rest) → CarefulAt small rest o → ViableAt small (f a) rest o → ViableAt small (p >>= f) ts o
+    viable_after ts a rest (Read b left) first c second = tt
+    viable_after ts a rest (Stopped TooDeep left) first c (inl same) = absurd (omega (arith, ap length same))
+    viable_after ts a rest (Stopped TooDeep left) first c (inr (t, o, second)) = inr (t, barred_after ts a rest left t first o, reaches_after ts a rest (t ∷ left) first second)
+    viable_after ts a rest (Stopped Unexpected left) first c second = reaches_after ts a rest left first second
 
     viable_bind : ((a : A) → IsCareful small (f a)) → ((a : A) → IsViable small (f a)) → (ts : List T) (o : Outcome T A) → Leads large p ts o → ViableAt large p ts o → ViableAt small (p >>= f) ts (and_then o f)
-    viable_bind cf vf ts (Read a rest) first v = viable_behind ts a rest (f a rest) first (cf a rest) (vf a rest)
+    viable_bind cf vf ts (Read a rest) first v = viable_after ts a rest (f a rest) first (cf a rest) (vf a rest)
     viable_bind cf vf ts (Stopped TooDeep rest) first (inl same) = inl same
     viable_bind cf vf ts (Stopped TooDeep rest) first (inr (t, o, v)) = inr (t, record { front = o.front; whole = o.whole; opened = o.opened; again = λ more h. ap (λ q. and_then q f) (o.again more h) }, reaches_first ts (t ∷ rest) v)
     viable_bind cf vf ts (Stopped Unexpected rest) first v = reaches_first ts rest v
@@ -171,15 +171,15 @@ module _ {T : Type 0} (few many opens calms : T → Bool) (bars : T → List T �
     -- what is read by f in one room, and by its own reader in another
     deep_second : (ts : List T) (a : A) (rest : List T) (o : Outcome T B) → Leads large p ts (Read a rest) → DeepAt small (f a) rest o → DeepAt small (p >>= f) ts o
     deep_second ts a rest (Read b left) l d = tt
-    deep_second ts a rest (Stopped r left) l d = second_behind ts a rest left l d.front d.whole d.goes
+    deep_second ts a rest (Stopped r left) l d = second_after ts a rest left l d.front d.whole d.goes
 
-  module _ {A B : Type 0} (p q : Reader T A) (f g : A → Reader T B) (cf : CompletesBehind f) (cg : CompletesBehind g) where
+  module _ {A B : Type 0} (p q : Reader T A) (f g : A → Reader T B) (cf : CompletesAfter f) (cg : CompletesAfter g) where
     deep_bind : IsLocal large q → ((a : A) → Deepens small (f a) (g a)) → (ts : List T) (o : Outcome T A) → RisesTo o (q ts) → DeepAt large q ts o → DeepAt small (q >>= g) ts (and_then o f)
     deep_bind lq fg ts (Read a rest) up d = deep_second q g cg ts a rest (f a rest) (subst (Leads large q ts) up (lq ts)) (fg a rest)
-    deep_bind lq fg ts (Stopped r rest) up d = first_behind q g cg ts rest d
+    deep_bind lq fg ts (Stopped r rest) up d = first_after q g cg ts rest d
 
-    pub fine_behind : IsFine large p q → ((a : A) → IsFine small (f a) (g a)) → ((a : A) → IsCareful small (f a)) → ((a : A) → IsCareful small (g a)) → IsFine small (p >>= f) (q >>= g)
-    fine_behind pq fg df dg = record {
+    pub fine_after : IsFine large p q → ((a : A) → IsFine small (f a) (g a)) → ((a : A) → IsCareful small (f a)) → ((a : A) → IsCareful small (g a)) → IsFine small (p >>= f) (q >>= g)
+    fine_after pq fg df dg = record {
       local = local-bind small p f (local_fewer p pq.local) df (λ a. (fg a).local);
       deeper = local-bind small q g (local_fewer q pq.deeper) dg (λ a. (fg a).deeper);
       viable = λ ts. viable_bind p f cf df (λ a. (fg a).viable) ts (p ts) (pq.local ts) (pq.viable ts);

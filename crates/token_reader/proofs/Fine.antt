@@ -2,7 +2,7 @@
 -- reader with one level more.
 use Rattle.std.proofs.Common.{◌≡◌, ℕ, zero, suc, Bool, true, false, List, [], ◌∷◌, ◌++◌, Option, Some, None, refl, inl, inr}
 use Rattle.std.specs.Prelude.{IsTrue}
-use Rattle.token_reader.specs.Reader.{Signs, TooDeep, Read, Reader, Turn, Lister, give, refuse, ◌>>=◌, when, take_by, expect, if_next, or_else, alone, opened, many}
+use Rattle.token_reader.specs.inner.Reader.{Signs, TooDeep, Read, Reader, Turn, Lister, give, refuse, ◌>>=◌, when, take_by, expect, if_next, or_else, alone, opened, many}
 use Rattle.token_reader.proofs.LocalLaws.{IsEnd, IsCareful, IsLocal, IsLocalTurn, Declines, Stays, local-give, local-refuse, local-bind, local-take_by, local-if_next, local-or_else, local-alone}
 use Rattle.token_reader.proofs.ManyLaws.{many_end, careful-many, local-many}
 use Rattle.token_reader.proofs.CarefulLaws.{careful-give, careful-bind, careful-take_by, careful-if_next, careful-or_else}
@@ -23,7 +23,7 @@ module _ {T : Type 0} (s : Signs T) where
   IsFineTurn t None (Some q) = ⊥
   IsFineTurn t None None = Unit {0}
 
-  -- what may stand behind something that was read
+  -- what may stand after something that was read
   pub record GoesOn {A B : Type 0} (f g : A → Reader T B) : Type 0 where
     pub each : (a : A) → IsFine (f a) (g a)
     pub careful : (a : A) → IsCareful s (f a)
@@ -156,7 +156,7 @@ module _ {T : Type 0} (s : Signs T) where
   fine_when t p q pq true c = (pq, c refl)
   fine_when t p q pq false c = tt
 
-  -- what is read behind a token that opens a level, if it may open one, whatever stands there
+  -- what is read after a token that opens a level, if it may open one, whatever stands there
   pub passes_both : {A : Type 0} (t : T) (p : Reader T A) → (s.opens t ≡ true → (more : List T) → s.bars t more ≡ true) → IsCareful s p → Completes s p → Passes s t p
   passes_both t p always careful c = by (s.opens t) refl
     where

@@ -1,8 +1,8 @@
--- A reader looks at one token beyond what it passes. Behind what it read the next token may also be changed to one that
+-- A reader looks at one token beyond what it passes. After what it read the next token may also be changed to one that
 -- ends each construct: no reader goes on at such a token.
 use Rattle.std.proofs.Common.{◌≡◌, ◌+◌, ◌==◌, ◌<◌, ◌≤◌, Bool, true, false, List, [], ◌∷◌, ◌++◌, length, Option, Some, None, refl, sym, ap, ◌∙◌, inl, inr, arith, append_assoc, length-append}
 use Rattle.std.specs.Prelude.{◌⊎◌, IsTrue}
-use Rattle.token_reader.specs.Reader.{Signs, Refusal, Unexpected, TooDeep, Outcome, Read, Stopped, Reader, Turn, give, refuse, and_then, ◌>>=◌, when, taken, take_by, expect, tried, if_next, chosen, or_else, noted, alone, head, rest_of, with_rest}
+use Rattle.token_reader.specs.inner.Reader.{Signs, Refusal, Unexpected, TooDeep, Outcome, Read, Stopped, Reader, Turn, give, refuse, and_then, ◌>>=◌, when, taken, take_by, expect, tried, if_next, chosen, or_else, noted, alone, head, rest_of, with_rest}
 
 pub some_is : {T : Type 0} (x t : T) → Some x ≡ Some t → x ≡ t
 some_is x t e = cc
@@ -148,9 +148,9 @@ module _ {T : Type 0} (s : Signs T) where
   abbrev pub IsEager : {A : Type 0} → Reader T A → Type 0
   IsEager p = (ts : List T) → EagerAt ts (p ts)
 
-  eager_behind : {A : Type 0} (t : T) (ts : List T) (o : Outcome T A) → length (rest_of o) ≤ length ts → EagerAt (t ∷ ts) o
-  eager_behind t ts (Read a rest) h = omega arith
-  eager_behind t ts (Stopped r rest) h = tt
+  eager_after : {A : Type 0} (t : T) (ts : List T) (o : Outcome T A) → length (rest_of o) ≤ length ts → EagerAt (t ∷ ts) o
+  eager_after t ts (Read a rest) h = omega arith
+  eager_after t ts (Stopped r rest) h = tt
 
   pub eager-refuse : (A : Type 0) (r : Refusal) → IsEager (refuse {A = A} r)
   eager-refuse A r ts = tt
@@ -169,7 +169,7 @@ module _ {T : Type 0} (s : Signs T) where
 
   module _ {A : Type 0} (f : Turn T A) (local : (t : T) → IsLocalTurn (f t)) where
     taken_eager : (t : T) (o : Option (Reader T A)) → IsLocalTurn o → (ts : List T) → EagerAt (t ∷ ts) (taken o t ts)
-    taken_eager t (Some p) lo ts = eager_behind t ts (p ts) (shorter p ts (p ts) (lo ts))
+    taken_eager t (Some p) lo ts = eager_after t ts (p ts) (shorter p ts (p ts) (lo ts))
     taken_eager t None lo ts = tt
 
     pub eager-take_by : IsEager (take_by f)
@@ -178,7 +178,7 @@ module _ {T : Type 0} (s : Signs T) where
 
     module _ (q : Reader T A) (eager : IsEager q) where
       chosen_eager : (t : T) (o : Option (Reader T A)) → IsLocalTurn o → (ts : List T) → EagerAt (t ∷ ts) (chosen o q t ts)
-      chosen_eager t (Some p) lo ts = eager_behind t ts (p ts) (shorter p ts (p ts) (lo ts))
+      chosen_eager t (Some p) lo ts = eager_after t ts (p ts) (shorter p ts (p ts) (lo ts))
       chosen_eager t None lo ts = eager (t ∷ ts)
 
       pub eager-or_else : IsEager (or_else f q)

@@ -1,6 +1,6 @@
 -- Items that are read one after the other, as a loop does: what was read so far, before all that is left.
 use Rattle.std.proofs.Common.{◌≡◌, List, [], ◌∷◌, Some, None, refl, sym, ap, ◌∙◌}
-use Rattle.token_reader.specs.Reader.{Signs, Refusal, Outcome, Read, Stopped, Reader, Lister, give, and_then, ◌>>=◌, looped, many, with_list}
+use Rattle.token_reader.specs.inner.Reader.{Signs, Refusal, Outcome, Read, Stopped, Reader, Lister, give, and_then, ◌>>=◌, looped, many, with_list}
 use Rattle.token_reader.proofs.LocalLaws.{IsLocalTurn}
 use Rattle.token_reader.proofs.ManyLaws.{many_again, many_none}
 

@@ -1,7 +1,7 @@
 -- Laws of reading as many items as come.
 use Rattle.std.proofs.Common.{◌≡◌, ℕ, zero, suc, ◌≤◌, List, [], ◌∷◌, ◌++◌, length, Option, Some, None, refl, sym, ap, subst, ◌∙◌, inl, inr, arith, append_assoc}
 use Rattle.std.specs.Prelude.{◌⊎◌}
-use Rattle.token_reader.specs.Reader.{Signs, Unexpected, TooDeep, Outcome, Read, Stopped, Reader, Lister, give, and_then, ◌>>=◌, loop, looped, many, head, rest_of}
+use Rattle.token_reader.specs.inner.Reader.{Signs, Unexpected, TooDeep, Outcome, Read, Stopped, Reader, Lister, give, and_then, ◌>>=◌, loop, looped, many, head, rest_of}
 use Rattle.token_reader.proofs.LocalLaws.{IsEnd, CarefulAt, IsCareful, Leads, IsLocal, IsLocalTurn, Declines, follows_front, some_is, shorter}
 
 module _ {T : Type 0} (s : Signs T) where

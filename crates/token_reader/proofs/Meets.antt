@@ -1,6 +1,6 @@
 -- What is read fits a relation, and what fits it is read.
 use Rattle.std.proofs.Common.{◌≡◌, ℕ, zero, suc, ◌≤◌, Bool, true, false, List, [], ◌∷◌, length, Option, Some, None, refl, sym, ap, subst, ◌∙◌, arith}
-use Rattle.token_reader.specs.Reader.{Signs, Outcome, Read, Stopped, Reader, Turn, Lister, give, and_then, ◌>>=◌, when, taken, take_by, expect, tried, if_next, chosen, or_else, opened, looped, many, rest_of}
+use Rattle.token_reader.specs.inner.Reader.{Signs, Outcome, Read, Stopped, Reader, Turn, Lister, give, and_then, ◌>>=◌, when, taken, take_by, expect, tried, if_next, chosen, or_else, opened, looped, many, rest_of}
 use Rattle.token_reader.proofs.LocalLaws.{IsLocalTurn, shorter}
 use Rattle.token_reader.proofs.ManyLaws.{many_again, many_none}
 
@@ -22,7 +22,7 @@ module _ {T : Type 0} where
   meets_opened Q zero p ts m = tt
   meets_opened Q (suc room) p ts m = m
 
-  -- a token that has to come, behind what fits
+  -- a token that has to come, after what fits
   pub meets_expect : {A : Type 0} (test : T → Bool) (p : Reader T A) (P : List T → Type 0) (Q : A → List T → Type 0) (us : List T) → P us → ((v : T) (vs : List T) → P (v ∷ vs) → test v ≡ true → Meets Q (p vs)) → Meets Q (expect test p us)
   meets_expect test p P Q [] h m = tt
   meets_expect test p P Q (v ∷ vs) h m = by (test v) refl

@@ -1,6 +1,6 @@
 -- More room changes no outcome but that of a level too deep, which one level more completes.
 use Rattle.std.proofs.Common.{◌≡◌, ℕ, zero, suc, ◌≤◌, Bool, true, false, List, [], ◌∷◌, ◌++◌, length, Option, Some, None, refl, sym, ap, subst, ◌∙◌, arith}
-use Rattle.token_reader.specs.Reader.{Signs, Unexpected, TooDeep, Outcome, Read, Stopped, Reader, Turn, Lister, give, refuse, and_then, ◌>>=◌, when, taken, take_by, tried, if_next, chosen, or_else, noted, alone, looped, loop, many, head, rest_of}
+use Rattle.token_reader.specs.inner.Reader.{Signs, Unexpected, TooDeep, Outcome, Read, Stopped, Reader, Turn, Lister, give, refuse, and_then, ◌>>=◌, when, taken, take_by, tried, if_next, chosen, or_else, noted, alone, looped, loop, many, head, rest_of}
 use Rattle.token_reader.proofs.LocalLaws.{IsEnd, Leads, IsLocal, IsLocalTurn, Declines, some_is, shorter}
 use Rattle.token_reader.proofs.ManyLaws.{many_again, many_none, many_end}
 use Rattle.token_reader.proofs.ViableLaws.{Completion, Goes, Completes, CompletesAll, goes_alone, second_goes_on, first_viable, goes_on}
@@ -105,7 +105,7 @@ module _ {T : Type 0} where
   below-alone p q pq ts = alone_rises (length ts) (p ts) (q ts) (pq ts)
 
 module _ {T : Type 0} (s : Signs T) where
-  -- where p stops, q can be completed; at a level too deep behind the token that opens it
+  -- where p stops, q can be completed; at a level too deep after the token that opens it
   abbrev pub DeepAt : {A : Type 0} → Reader T A → List T → Outcome T A → Type 0
   DeepAt q ts (Read a rest) = Unit {0}
   DeepAt q ts (Stopped r rest) = Goes s q ts rest
@@ -137,14 +137,14 @@ module _ {T : Type 0} (s : Signs T) where
     pub deepens-bind : IsLocal s q → IsBelow p q → Deepens p q → ((a : A) → Deepens (f a) (g a)) → Deepens (p >>= f) (q >>= g)
     deepens-bind lq up pq fg ts = bind_deep lq fg ts (p ts) (up ts) (pq ts)
 
-  deep_behind : {A : Type 0} (p q : Reader T A) (t : T) → ((ts : List T) → q (t ∷ ts) ≡ p ts) → (ts : List T) (o : Outcome T A) → DeepAt p ts o → DeepAt q (t ∷ ts) o
-  deep_behind p q t is ts (Read a rest) d = tt
-  deep_behind p q t is ts (Stopped r rest) d = goes_on s p q t is ts rest d
+  deep_after : {A : Type 0} (p q : Reader T A) (t : T) → ((ts : List T) → q (t ∷ ts) ≡ p ts) → (ts : List T) (o : Outcome T A) → DeepAt p ts o → DeepAt q (t ∷ ts) o
+  deep_after p q t is ts (Read a rest) d = tt
+  deep_after p q t is ts (Stopped r rest) d = goes_on s p q t is ts rest d
 
   module _ {A : Type 0} (f g : Turn T A) (fg : (t : T) → TurnDeepens (f t) (g t)) where
     module _ (completes : Completes s (take_by g)) where
       taken_deep : (t : T) (o p : Option (Reader T A)) → g t ≡ p → TurnDeepens o p → (ts : List T) → DeepAt (take_by g) (t ∷ ts) (taken o t ts)
-      taken_deep t (Some p) (Some q) is d ts = deep_behind q (take_by g) t (λ us. ap (λ o. taken o t us) is) ts (p ts) (d ts)
+      taken_deep t (Some p) (Some q) is d ts = deep_after q (take_by g) t (λ us. ap (λ o. taken o t us) is) ts (p ts) (d ts)
       taken_deep t (Some p) None is d ts = absurd d
       taken_deep t None (Some q) is d ts = absurd d
       taken_deep t None None is d ts = record { front = []; whole = refl; goes = completes }
@@ -154,7 +154,7 @@ module _ {T : Type 0} (s : Signs T) where
       deepens-take_by (t ∷ ts) = taken_deep t (f t) (g t) refl (fg t) ts
 
     tried_deep : (a : A) (t : T) (o p : Option (Reader T A)) → g t ≡ p → TurnDeepens o p → (ts : List T) → DeepAt (if_next g a) (t ∷ ts) (tried o a t ts)
-    tried_deep a t (Some p) (Some q) is d ts = deep_behind q (if_next g a) t (λ us. ap (λ o. tried o a t us) is) ts (p ts) (d ts)
+    tried_deep a t (Some p) (Some q) is d ts = deep_after q (if_next g a) t (λ us. ap (λ o. tried o a t us) is) ts (p ts) (d ts)
     tried_deep a t (Some p) None is d ts = absurd d
     tried_deep a t None (Some q) is d ts = absurd d
     tried_deep a t None None is d ts = tt
@@ -176,7 +176,7 @@ module _ {T : Type 0} (s : Signs T) where
       other_deep us (Stopped why rest) passes d = other_deep_goes us rest passes d
 
       chosen_deep : (t : T) (o p : Option (Reader T A)) → g t ≡ p → TurnDeepens o p → (ts : List T) → DeepAt (or_else g q) (t ∷ ts) (chosen o r t ts)
-      chosen_deep t (Some p) (Some w) is d ts = deep_behind w (or_else g q) t (λ us. ap (λ o. chosen o q t us) is) ts (p ts) (d ts)
+      chosen_deep t (Some p) (Some w) is d ts = deep_after w (or_else g q) t (λ us. ap (λ o. chosen o q t us) is) ts (p ts) (d ts)
       chosen_deep t (Some p) None is d ts = absurd d
       chosen_deep t None (Some w) is d ts = absurd d
       chosen_deep t None None is d ts = other_deep (t ∷ ts) (r (t ∷ ts)) passes (rq (t ∷ ts))
@@ -225,7 +225,7 @@ module _ {T : Type 0} (s : Signs T) where
     item_deep n others q lq ts h (Stopped r rest) short up d = first_viable s q after after_completes ts rest d
 
     turn_deep : (n : ℕ) → ((ts : List T) → length ts ≤ n → DeepAt (many m) ts (many l ts)) → (t : T) (o p : Option (Reader T A)) → m.turn t ≡ p → IsLocalTurn s o → IsLocalTurn s p → IsTurnBelow o p → TurnDeepens o p → (ts : List T) → length ts ≤ n → DeepAt (many m) (t ∷ ts) (looped l (many l) o t ts)
-    turn_deep n others t (Some p) (Some q) is lp lq up d ts h = deep_behind (q >>= after) (many m) t (λ us. many_again s m local t us ∙ ap (λ o. looped m (many m) o t us) is) ts (and_then (p ts) before) (item_deep n others q lq ts h (p ts) (shorter s p ts (p ts) (lp ts)) (up ts) (d ts))
+    turn_deep n others t (Some p) (Some q) is lp lq up d ts h = deep_after (q >>= after) (many m) t (λ us. many_again s m local t us ∙ ap (λ o. looped m (many m) o t us) is) ts (and_then (p ts) before) (item_deep n others q lq ts h (p ts) (shorter s p ts (p ts) (lp ts)) (up ts) (d ts))
     turn_deep n others t (Some p) None is lp lq up d ts h = absurd d
     turn_deep n others t None (Some q) is lp lq up d ts h = absurd d
     turn_deep n others t None None is lp lq up d ts h = tt

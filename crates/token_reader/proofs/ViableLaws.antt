@@ -1,7 +1,7 @@
 -- Where a reader stops for want of a fitting token, what it passed can be completed.
 use Rattle.std.proofs.Common.{◌≡◌, ℕ, zero, suc, ◌≤◌, Bool, true, false, List, [], ◌∷◌, ◌++◌, length, Option, Some, None, refl, sym, ap, subst, ◌∙◌, inl, inr, arith, append_assoc, length-append}
 use Rattle.std.specs.Prelude.{◌⊎◌, IsTrue}
-use Rattle.token_reader.specs.Reader.{Signs, Unexpected, TooDeep, Outcome, Read, Stopped, Reader, Turn, Lister, give, refuse, and_then, ◌>>=◌, when, taken, take_by, expect, tried, if_next, chosen, or_else, noted, alone, looped, many, head, rest_of}
+use Rattle.token_reader.specs.inner.Reader.{Signs, Unexpected, TooDeep, Outcome, Read, Stopped, Reader, Turn, Lister, give, refuse, and_then, ◌>>=◌, when, taken, take_by, expect, tried, if_next, chosen, or_else, noted, alone, looped, many, head, rest_of}
 use Rattle.token_reader.proofs.LocalLaws.{IsEnd, is_calm, CarefulAt, IsCareful, Leads, IsLocal, IsLocalTurn, Declines, some_is, shorter}
 use Rattle.token_reader.proofs.CarefulLaws.{bind_careful, careful-bind, careful-give}
 use Rattle.token_reader.proofs.ManyLaws.{many_again, many_none, many_end, careful-many, local-many}
@@ -15,7 +15,7 @@ module _ {T : Type 0} (s : Signs T) where
     pub whole : ts ≡ front ++ rest
     pub goes : (r : List T) → IsEnd s r → Completion p front r
 
-  -- what is put behind the last token of a front, so that it opens a level where it does before what is left
+  -- what is put after the last token of a front, so that it opens a level where it does before what is left
   abbrev pub Alike : List T → List T → List T → Type 0
   Alike [] left more = Unit {0}
   Alike (t ∷ []) left more = s.opens t ≡ true → s.bars t left ≡ true → (s.bars t more ≡ true) ⊎ (is_calm s more ≡ false)
@@ -31,10 +31,10 @@ module _ {T : Type 0} (s : Signs T) where
   alike_end (t ∷ []) left more h = λ o b. inr (end_calm more h)
   alike_end (t ∷ u ∷ front) left more h = alike_end (u ∷ front) left more h
 
-  pub alike_behind : (before : List T) (x : T) (xs left more : List T) → Alike (x ∷ xs) left more → Alike (before ++ (x ∷ xs)) left more
-  alike_behind [] x xs left more h = h
-  alike_behind (t ∷ []) x xs left more h = h
-  alike_behind (t ∷ u ∷ before) x xs left more h = alike_behind (u ∷ before) x xs left more h
+  pub alike_after : (before : List T) (x : T) (xs left more : List T) → Alike (x ∷ xs) left more → Alike (before ++ (x ∷ xs)) left more
+  alike_after [] x xs left more h = h
+  alike_after (t ∷ []) x xs left more h = h
+  alike_after (t ∷ u ∷ before) x xs left more h = alike_after (u ∷ before) x xs left more h
 
   abbrev pub CompletionAlike : {A : Type 0} → Reader T A → List T → List T → List T → Type 0
   CompletionAlike {A} p front left r = (more : List T) × (a : A) × (p (front ++ (more ++ r)) ≡ Read a r) × Alike front left (more ++ r)
@@ -49,12 +49,12 @@ module _ {T : Type 0} (s : Signs T) where
   ArePlain (t ∷ ts) = (s.opens t ≡ false) × ArePlain ts
 
   -- the tokens before the last ones are passed, and some of them, up to tokens that open no level, can be completed: all of
-  -- them open no level, or the reader can be completed behind a front of them
+  -- them open no level, or the reader can be completed after a front of them
   pub data Reaches {A : Type 0} (p : Reader T A) (ts left : List T) : Type 0 where
     near : (b : List T) → ts ≡ b ++ left → ArePlain b → Reaches p ts left
     far : (b : List T) → ArePlain b → Reached p ts (b ++ left) → Reaches p ts left
 
-  -- it stops behind a token that opens a level too deep, whatever stands there, as long as the token opens one
+  -- it stops after a token that opens a level too deep, whatever stands there, as long as the token opens one
   pub record Barred {A : Type 0} (p : Reader T A) (ts : List T) (t : T) (rest : List T) : Type 0 where
     pub front : List T
     pub whole : ts ≡ front ++ t ∷ rest
@@ -77,7 +77,7 @@ module _ {T : Type 0} (s : Signs T) where
   abbrev pub CompletesAt : {A : Type 0} → T → Reader T A → Type 0
   CompletesAt {A} t p = (r : List T) → IsEnd s r → (more : List T) × (a : A) × (p (more ++ r) ≡ Read a r) × ((s.bars t (more ++ r) ≡ true) ⊎ (is_calm s (more ++ r) ≡ false))
 
-  -- what is read behind a token may stand there: the token opens no level; or it may, and then something can be read, or it
+  -- what is read after a token may stand there: the token opens no level; or it may, and then something can be read, or it
   -- is too deep, where it opens one
   pub data Passes {A : Type 0} (t : T) (p : Reader T A) : Type 0 where
     plainly : s.opens t ≡ false → IsCareful s p → Passes t p
@@ -149,7 +149,7 @@ module _ {T : Type 0} (s : Signs T) where
       first.whole ∙ ap (λ l. first.front ++ l) whole ∙ sym (append_assoc first.front (x ∷ xs) left),
       λ r h.
           let c = goes r h in
-          (c.0, c.1, ap (p >>= f) (append_assoc first.front (x ∷ xs) (c.0 ++ r)) ∙ ap (λ q. and_then q f) (first.again ((x ∷ xs) ++ (c.0 ++ r)) (inl (sym (ap head whole)))) ∙ c.2, alike_behind first.front x xs left (c.0 ++ r) c.3),
+          (c.0, c.1, ap (p >>= f) (append_assoc first.front (x ∷ xs) (c.0 ++ r)) ∙ ap (λ q. and_then q f) (first.again ((x ∷ xs) ++ (c.0 ++ r)) (inl (sym (ap head whole)))) ∙ c.2, alike_after first.front x xs left (c.0 ++ r) c.3),
     )
 
     second_reached : (ts : List T) (a : A) (rest left : List T) → Leads s p ts (Read a rest) → Reached (f a) rest left → Reached (p >>= f) ts left
@@ -231,7 +231,7 @@ module _ {T : Type 0} (s : Signs T) where
         let b = c.2 d.1 in
         (d.0 ++ c.0, b.0, ap (p >>= f) (append_assoc d.0 c.0 r) ∙ ap (λ q. and_then q f) d.2 ∙ b.1, subst (λ l. (s.bars t l ≡ true) ⊎ (is_calm s l ≡ false)) (sym (append_assoc d.0 c.0 r)) d.3)
 
-  -- behind a token
+  -- after a token
   pub goes_on : {A : Type 0} (p q : Reader T A) (t : T) → ((ts : List T) → q (t ∷ ts) ≡ p ts) → (ts rest : List T) → Goes p ts rest → Goes q (t ∷ ts) rest
   goes_on p q t is ts rest v = record {
     front = t ∷ v.front;
@@ -252,7 +252,7 @@ module _ {T : Type 0} (s : Signs T) where
     differs : (ts rest : List T) → too_deep ts ≡ unexpected rest → ⊥
     differs ts rest e = cc
 
-    -- what may be put behind the token and lets it open a level where it does before what stands there
+    -- what may be put after the token and lets it open a level where it does before what stands there
     abbrev Behind : List T → Type 0
     Behind ts = (r : List T) → IsEnd s r → (more : List T) × (a : A) × (p (more ++ r) ≡ Read a r) × (s.bars t ts ≡ true → (s.bars t (more ++ r) ≡ true) ⊎ (is_calm s (more ++ r) ≡ false))
 
@@ -272,34 +272,34 @@ module _ {T : Type 0} (s : Signs T) where
       goes = λ r h. let d = c r h in (d.0, d.1, is (d.0 ++ r) ∙ d.2, λ o b. d.3 (ap (s.bars t) e ∙ b));
     }
 
-    reached_behind : (ts left : List T) → May ts → (front : List T) → ts ≡ front ++ left → ((r : List T) → IsEnd s r → CompletionAlike p front left r) → Reached q (t ∷ ts) left
-    reached_behind ts left (inl plain) [] whole goes = record {
+    reached_after : (ts left : List T) → May ts → (front : List T) → ts ≡ front ++ left → ((r : List T) → IsEnd s r → CompletionAlike p front left r) → Reached q (t ∷ ts) left
+    reached_after ts left (inl plain) [] whole goes = record {
       front = t ∷ [];
       whole = ap (λ r. t ∷ r) whole;
       goes = λ r h. let c = goes r h in (c.0, c.1, is (c.0 ++ r) ∙ c.2, λ o b. no_opener plain o);
     }
-    reached_behind ts left (inr c) [] whole goes = at_token ts left whole c
-    reached_behind ts left o (x ∷ xs) whole goes = record {
+    reached_after ts left (inr c) [] whole goes = at_token ts left whole c
+    reached_after ts left o (x ∷ xs) whole goes = record {
       front = t ∷ x ∷ xs;
       whole = ap (λ r. t ∷ r) whole;
       goes = λ r h. let c = goes r h in (c.0, c.1, is ((x ∷ xs) ++ (c.0 ++ r)) ∙ c.2, c.3);
     }
 
-    reaches_behind : (ts left : List T) → May ts → Reaches p ts left → Reaches q (t ∷ ts) left
-    reaches_behind ts left (inl plain) (near b e others) = near (t ∷ b) (ap (λ r. t ∷ r) e) (plain, others)
-    reaches_behind ts left (inr c) (near b e others) = far b others (at_token ts (b ++ left) e c)
-    reaches_behind ts left o (far b plain g) = far b plain (reached_behind ts (b ++ left) o g.front g.whole g.goes)
+    reaches_after : (ts left : List T) → May ts → Reaches p ts left → Reaches q (t ∷ ts) left
+    reaches_after ts left (inl plain) (near b e others) = near (t ∷ b) (ap (λ r. t ∷ r) e) (plain, others)
+    reaches_after ts left (inr c) (near b e others) = far b others (at_token ts (b ++ left) e c)
+    reaches_after ts left o (far b plain g) = far b plain (reached_after ts (b ++ left) o g.front g.whole g.goes)
 
-    behind_opening : CompletesAt t p → (ts : List T) → Behind ts
-    behind_opening c ts r h = let d = c r h in (d.0, d.1, d.2, λ b. d.3)
+    after_opening : CompletesAt t p → (ts : List T) → Behind ts
+    after_opening c ts r h = let d = c r h in (d.0, d.1, d.2, λ b. d.3)
 
-    behind_unless : Completes p → (ts : List T) → s.bars t ts ≡ false → Behind ts
-    behind_unless c ts no_bar r h = let d = c r h in (d.0, d.1, d.2, λ b. absurd (different (sym no_bar ∙ b)))
+    after_unless : Completes p → (ts : List T) → s.bars t ts ≡ false → Behind ts
+    after_unless c ts no_bar r h = let d = c r h in (d.0, d.1, d.2, λ b. absurd (different (sym no_bar ∙ b)))
       where
         different : false ≡ true → ⊥
         different e = cc
 
-    -- at once behind the token
+    -- at once after the token
     here : (ts rest : List T) → rest ≡ ts → s.bars t ts ≡ true → ((more : List T) → s.bars t more ≡ true → p more ≡ Stopped TooDeep more) → (u : T) × Barred q (t ∷ ts) u rest × Reaches q (t ∷ ts) (u ∷ rest)
     here ts rest same o k = (
       t,
@@ -322,23 +322,23 @@ module _ {T : Type 0} (s : Signs T) where
     further : (ts rest : List T) (u : T) → Barred p ts u rest → too_deep ts ≡ too_deep rest → ⊥
     further ts rest u b e = let same = ap rest_of e in omega (arith, ap length same, ap length b.whole, length-append b.front (u ∷ rest))
 
-    pub viable_behind : Passes t p → (ts : List T) (o : Outcome T A) → p ts ≡ o → ViableAt p ts o → ViableAt q (t ∷ ts) o
-    viable_behind c ts (Read a rest) e v = tt
-    viable_behind (plainly plain careful) ts (Stopped TooDeep rest) e (inl same) = let short : CarefulAt s ts (too_deep rest) = subst (CarefulAt s ts) e (careful ts) in absurd (omega (arith, ap length same))
-    viable_behind (plainly plain careful) ts (Stopped TooDeep rest) e (inr (u, o, v)) = inr (u, later ts rest u o, reaches_behind ts (u ∷ rest) (inl plain) v)
-    viable_behind (plainly plain careful) ts (Stopped Unexpected rest) e v = reaches_behind ts rest (inl plain) v
-    viable_behind (opening o careful c) ts (Stopped TooDeep rest) e (inl same) = let short : CarefulAt s ts (too_deep rest) = subst (CarefulAt s ts) e (careful ts) in absurd (omega (arith, ap length same))
-    viable_behind (opening o careful c) ts (Stopped TooDeep rest) e (inr (u, k, v)) = inr (u, later ts rest u k, reaches_behind ts (u ∷ rest) (inr (behind_opening c ts)) v)
-    viable_behind (opening o careful c) ts (Stopped Unexpected rest) e v = reaches_behind ts rest (inr (behind_opening c ts)) v
-    viable_behind (at_once o b h) ts (Stopped TooDeep rest) e v = inr (here ts rest (once_is ts rest (sym (h ts) ∙ e)) (b ts) (λ more k. h more))
-    viable_behind (at_once o b h) ts (Stopped Unexpected rest) e v = absurd (differs ts rest (sym (h ts) ∙ e))
-    viable_behind (unless o c k careful) ts (Stopped TooDeep rest) e (inl same) = inr (unless_here k careful ts rest e same (s.bars t ts) refl)
-    viable_behind (unless o c k careful) ts (Stopped TooDeep rest) e (inr (u, b, v)) = inr (u, later ts rest u b, reaches_behind ts (u ∷ rest) (inr (behind_unless c ts (no_bar k ts (too_deep rest) e (further ts rest u b) (s.bars t ts) refl))) v)
-    viable_behind (unless o c k careful) ts (Stopped Unexpected rest) e v = reaches_behind ts rest (inr (behind_unless c ts (no_bar k ts (unexpected rest) e (λ f. differs ts rest f) (s.bars t ts) refl))) v
+    pub viable_after : Passes t p → (ts : List T) (o : Outcome T A) → p ts ≡ o → ViableAt p ts o → ViableAt q (t ∷ ts) o
+    viable_after c ts (Read a rest) e v = tt
+    viable_after (plainly plain careful) ts (Stopped TooDeep rest) e (inl same) = let short : CarefulAt s ts (too_deep rest) = subst (CarefulAt s ts) e (careful ts) in absurd (omega (arith, ap length same))
+    viable_after (plainly plain careful) ts (Stopped TooDeep rest) e (inr (u, o, v)) = inr (u, later ts rest u o, reaches_after ts (u ∷ rest) (inl plain) v)
+    viable_after (plainly plain careful) ts (Stopped Unexpected rest) e v = reaches_after ts rest (inl plain) v
+    viable_after (opening o careful c) ts (Stopped TooDeep rest) e (inl same) = let short : CarefulAt s ts (too_deep rest) = subst (CarefulAt s ts) e (careful ts) in absurd (omega (arith, ap length same))
+    viable_after (opening o careful c) ts (Stopped TooDeep rest) e (inr (u, k, v)) = inr (u, later ts rest u k, reaches_after ts (u ∷ rest) (inr (after_opening c ts)) v)
+    viable_after (opening o careful c) ts (Stopped Unexpected rest) e v = reaches_after ts rest (inr (after_opening c ts)) v
+    viable_after (at_once o b h) ts (Stopped TooDeep rest) e v = inr (here ts rest (once_is ts rest (sym (h ts) ∙ e)) (b ts) (λ more k. h more))
+    viable_after (at_once o b h) ts (Stopped Unexpected rest) e v = absurd (differs ts rest (sym (h ts) ∙ e))
+    viable_after (unless o c k careful) ts (Stopped TooDeep rest) e (inl same) = inr (unless_here k careful ts rest e same (s.bars t ts) refl)
+    viable_after (unless o c k careful) ts (Stopped TooDeep rest) e (inr (u, b, v)) = inr (u, later ts rest u b, reaches_after ts (u ∷ rest) (inr (after_unless c ts (no_bar k ts (too_deep rest) e (further ts rest u b) (s.bars t ts) refl))) v)
+    viable_after (unless o c k careful) ts (Stopped Unexpected rest) e v = reaches_after ts rest (inr (after_unless c ts (no_bar k ts (unexpected rest) e (λ f. differs ts rest f) (s.bars t ts) refl))) v
 
   module _ {A : Type 0} (f : Turn T A) where
     taken_viable : (t : T) (o : Option (Reader T A)) → f t ≡ o → IsViableTurn t o → (ts : List T) → ViableAt (take_by f) (t ∷ ts) (taken o t ts)
-    taken_viable t (Some p) is (v, c) ts = viable_behind p (take_by f) t (λ us. ap (λ o. taken o t us) is) c ts (p ts) refl (v ts)
+    taken_viable t (Some p) is (v, c) ts = viable_after p (take_by f) t (λ us. ap (λ o. taken o t us) is) c ts (p ts) refl (v ts)
     taken_viable t None is v ts = near [] refl tt
 
     pub viable-take_by : ((t : T) → IsViableTurn t (f t)) → IsViable (take_by f)
@@ -346,7 +346,7 @@ module _ {T : Type 0} (s : Signs T) where
     viable-take_by v (t ∷ ts) = taken_viable t (f t) refl (v t) ts
 
     tried_viable : (a : A) (t : T) (o : Option (Reader T A)) → f t ≡ o → IsViableTurn t o → (ts : List T) → ViableAt (if_next f a) (t ∷ ts) (tried o a t ts)
-    tried_viable a t (Some p) is (v, c) ts = viable_behind p (if_next f a) t (λ us. ap (λ o. tried o a t us) is) c ts (p ts) refl (v ts)
+    tried_viable a t (Some p) is (v, c) ts = viable_after p (if_next f a) t (λ us. ap (λ o. tried o a t us) is) c ts (p ts) refl (v ts)
     tried_viable a t None is v ts = tt
 
     pub viable-if_next : (a : A) → ((t : T) → IsViableTurn t (f t)) → IsViable (if_next f a)
@@ -379,7 +379,7 @@ module _ {T : Type 0} (s : Signs T) where
       other_viable us (Stopped Unexpected rest) passes v = other_reaches us rest passes v
 
       chosen_viable : (t : T) (o : Option (Reader T A)) → f t ≡ o → IsViableTurn t o → (ts : List T) → ViableAt (or_else f q) (t ∷ ts) (chosen o q t ts)
-      chosen_viable t (Some p) is (v, c) ts = viable_behind p (or_else f q) t (λ us. ap (λ o. chosen o q t us) is) c ts (p ts) refl (v ts)
+      chosen_viable t (Some p) is (v, c) ts = viable_after p (or_else f q) t (λ us. ap (λ o. chosen o q t us) is) c ts (p ts) refl (v ts)
       chosen_viable t None is v ts = other_viable (t ∷ ts) (q (t ∷ ts)) passes (vq (t ∷ ts))
         where
           passes : (vs : List T) → head vs ≡ Some t → or_else f q vs ≡ q vs
@@ -398,30 +398,30 @@ module _ {T : Type 0} (s : Signs T) where
     abbrev behind : A → Reader T L
     behind a = many l >>= λ others. give (l.more a others)
 
-    behind_completes : CompletesAll behind
-    behind_completes r h = ([], h, λ a. (l.more a l.none, ap (λ q. and_then q (λ others. give (l.more a others))) (many_end s l local declines r h)))
+    what_follows_completes : CompletesAll behind
+    what_follows_completes r h = ([], h, λ a. (l.more a l.none, ap (λ q. and_then q (λ others. give (l.more a others))) (many_end s l local declines r h)))
 
-    behind_careful : (a : A) → IsCareful s (behind a)
-    behind_careful a = careful-bind s (many l) (λ us. give (l.more a us)) (local-many s l local declines) (careful-many s l local) (λ us. careful-give s (l.more a us))
+    after_careful : (a : A) → IsCareful s (behind a)
+    after_careful a = careful-bind s (many l) (λ us. give (l.more a us)) (local-many s l local declines) (careful-many s l local) (λ us. careful-give s (l.more a us))
 
-    -- what stands behind an item, where that is short enough
-    behind_viable : (n : ℕ) → ((ts : List T) → length ts ≤ n → ViableAt (many l) ts (many l ts)) → (a : A) (rest : List T) → length rest ≤ n → ViableAt (behind a) rest (behind a rest)
-    behind_viable n others a rest h = bind_viable (many l) (λ us. give (l.more a us)) (completes-give (l.more a)) (λ us. careful-give s (l.more a us)) (λ us. viable-give (l.more a us)) rest (many l rest) (local-many s l local declines rest) (others rest h)
+    -- what stands after an item, where that is short enough
+    after_viable : (n : ℕ) → ((ts : List T) → length ts ≤ n → ViableAt (many l) ts (many l ts)) → (a : A) (rest : List T) → length rest ≤ n → ViableAt (behind a) rest (behind a rest)
+    after_viable n others a rest h = bind_viable (many l) (λ us. give (l.more a us)) (completes-give (l.more a)) (λ us. careful-give s (l.more a us)) (λ us. viable-give (l.more a us)) rest (many l rest) (local-many s l local declines rest) (others rest h)
 
     item_viable : (n : ℕ) → ((ts : List T) → length ts ≤ n → ViableAt (many l) ts (many l ts)) → (p : Reader T A) (ts : List T) → length ts ≤ n → (o : Outcome T A) → Leads s p ts o → ViableAt p ts o → ViableAt (p >>= behind) ts (and_then o behind)
-    item_viable n others p ts h (Read a rest) first v = let k = shorter s p ts (Read a rest) first in second_viable p behind behind_completes ts a rest (behind a rest) first (behind_careful a rest) (behind_viable n others a rest (omega arith))
+    item_viable n others p ts h (Read a rest) first v = let k = shorter s p ts (Read a rest) first in second_viable p behind what_follows_completes ts a rest (behind a rest) first (after_careful a rest) (after_viable n others a rest (omega arith))
     item_viable n others p ts h (Stopped TooDeep rest) first (inl same) = inl same
-    item_viable n others p ts h (Stopped TooDeep rest) first (inr (t, o, v)) = inr (t, first_barred p behind behind_completes ts rest t o, first_reaches p behind behind_completes ts (t ∷ rest) v)
-    item_viable n others p ts h (Stopped Unexpected rest) first v = first_reaches p behind behind_completes ts rest v
+    item_viable n others p ts h (Stopped TooDeep rest) first (inr (t, o, v)) = inr (t, first_barred p behind what_follows_completes ts rest t o, first_reaches p behind what_follows_completes ts (t ∷ rest) v)
+    item_viable n others p ts h (Stopped Unexpected rest) first v = first_reaches p behind what_follows_completes ts rest v
 
     item_passes : (t : T) (p : Reader T A) → IsLocal s p → Passes t p → Passes t (p >>= behind)
-    item_passes t p lp (plainly plain careful) = plainly plain (careful-bind s p behind lp careful behind_careful)
-    item_passes t p lp (opening o careful c) = opening o (careful-bind s p behind lp careful behind_careful) (behind-bind p behind behind_completes t c)
+    item_passes t p lp (plainly plain careful) = plainly plain (careful-bind s p behind lp careful after_careful)
+    item_passes t p lp (opening o careful c) = opening o (careful-bind s p behind lp careful after_careful) (behind-bind p behind what_follows_completes t c)
     item_passes t p lp (at_once o b h) = at_once o b (λ ts. ap (λ q. and_then q behind) (h ts))
-    item_passes t p lp (unless o c k careful) = unless o (completes-bind p behind behind_completes c) (λ ts h. ap (λ q. and_then q behind) (k ts h)) (λ ts h. bind_careful s p behind behind_careful ts (p ts) (shorter s p ts (p ts) (lp ts)) (careful ts h))
+    item_passes t p lp (unless o c k careful) = unless o (completes-bind p behind what_follows_completes c) (λ ts h. ap (λ q. and_then q behind) (k ts h)) (λ ts h. bind_careful s p behind after_careful ts (p ts) (shorter s p ts (p ts) (lp ts)) (careful ts h))
 
     turn_viable : (n : ℕ) → ((ts : List T) → length ts ≤ n → ViableAt (many l) ts (many l ts)) → (t : T) (o : Option (Reader T A)) → l.turn t ≡ o → IsLocalTurn s o → IsViableTurn t o → (ts : List T) → length ts ≤ n → ViableAt (many l) (t ∷ ts) (looped l (many l) o t ts)
-    turn_viable n others t (Some p) is lo (v, c) ts h = viable_behind (p >>= behind) (many l) t (λ us. many_again s l local t us ∙ ap (λ o. looped l (many l) o t us) is) (item_passes t p lo c) ts (and_then (p ts) behind) refl (item_viable n others p ts h (p ts) (lo ts) (v ts))
+    turn_viable n others t (Some p) is lo (v, c) ts h = viable_after (p >>= behind) (many l) t (λ us. many_again s l local t us ∙ ap (λ o. looped l (many l) o t us) is) (item_passes t p lo c) ts (and_then (p ts) behind) refl (item_viable n others p ts h (p ts) (lo ts) (v ts))
     turn_viable n others t None is lo vo ts h = tt
 
     many_viable : (n : ℕ) (ts : List T) → length ts ≤ n → ViableAt (many l) ts (many l ts)
@@ -469,7 +469,7 @@ module _ {T : Type 0} (s : Signs T) where
   pub completes-alone : {A : Type 0} (p : Reader T A) → Completes p → Completes (alone p)
   completes-alone p c r h = alone_completion p [] r (c r h)
 
-  -- a token that is enough, behind which only ending tokens need stand
+  -- a token that is enough, after which only ending tokens need stand
   abbrev pub Begins : {A : Type 0} → T → Reader T A → Type 0
   Begins {A} t p = (r : List T) → IsEnd s r → (a : A) × (p (t ∷ r) ≡ Read a r)
 

@@ -42,7 +42,7 @@ rest_empty : {A : Type 0} (xs ys : List A) → xs ++ ys ≡ [] → ys ≡ []
 rest_empty [] ys h = h
 rest_empty (x ∷ xs) ys h = cc
 
--- the faults of one kind, which stand behind others
+-- the faults of one kind, which stand after others
 last_none : {A : Type 0} (before : List TypeFault) (f : A → TypeFault) (xs : List A) → before ++ map f xs ≡ [] → xs ≡ []
 last_none before f xs h = none_mapped f xs (rest_empty before (map f xs) h)
 

@@ -7,11 +7,11 @@ use Rattle.expr_types.specs.Around.{Kinds}
 use Rattle.expr_types.specs.Bodies.{AreKinds}
 use Rattle.type_check.specs.declared.fault.TypeFault.{TypeFault}
 use Rattle.type_check.specs.declared.fault.TypeFault.TheVariants as fault
-use Rattle.type_check.specs.Answer.{IsFaultOf}
-use Rattle.type_check.specs.Faults.{first_fault, name_faults, form_faults, early, late, HasNoCycle, IsFirstFault, before_cycles, cycle, behind_cycles}
-use Rattle.type_check.specs.Parts.{IsFirstOf, IsCycleOf}
+use Rattle.type_check.specs.inner.Answer.{IsFaultOf}
+use Rattle.type_check.specs.Faults.{first_fault, name_faults, form_faults, early, late, HasNoCycle, IsFirstFault, before_cycles, cycle, after_cycles}
+use Rattle.type_check.specs.inner.Parts.{IsFirstOf, IsCycleOf}
 
--- the first of some faults is that of them and of others behind them, and where there are none it is that of the others
+-- the first of some faults is that of them and of others after them, and where there are none it is that of the others
 first_in_front : (xs ys : List TypeFault) (f : TypeFault) → first_fault xs ≡ Some f → first_fault (xs ++ ys) ≡ Some f
 first_in_front [] ys f h = cc
 first_in_front (x ∷ xs) ys f h = h
@@ -40,4 +40,4 @@ module _ (items : List tree.Item) (end : Place) where
       from_cycle f h = cycle no_early h
 
       pub from_late : (kinds : Kinds) (f : TypeFault) → HasNoCycle items → AreKinds items kinds → IsFirstOf (late items end kinds) f → IsFaultOf items end f
-      from_late kinds f none are h = from_first (late items end kinds) f (λ e. behind_cycles kinds no_early none are e) h
+      from_late kinds f none are h = from_first (late items end kinds) f (λ e. after_cycles kinds no_early none are e) h

@@ -4,16 +4,16 @@ use Rattle.std.specs.Prelude.{slice_get}
 use Rattle.std.proofs.lemmas.Bool.{cases_lt}
 use Rattle.std.proofs.lemmas.List.{take_all}
 use Rattle.std.proofs.lemmas.Option.{slice_get-get_or, slice_get_within}
-use Rattle.graph_cycles.proofs.Lists.{none_in_nil}
+use Rattle.tsl_value.proofs.Lists.{none_in_nil}
 use Rattle.spec_parser.specs.Tree as tree
 use Rattle.type_rules.specs.declared.rule.ExprType.{ExprType}
 use Rattle.definition_cycles.specs.Nodes.{nodes}
-use Rattle.definition_cycles.specs.Order.{IsKindOrder}
+use Rattle.definition_cycles.specs.inner.Order.{IsKindOrder}
 use Rattle.expr_types.specs.Around.{Kinds}
 use Rattle.expr_types.specs.Bodies.{AreKinds, item_kind, block_kind, local_kind, may_have_braces, in_definition, within_block}
 use Rattle.type_check.specs.declared.slot.Slot.{Slot}
 use Rattle.type_check.specs.declared.slot.Slot.TheVariants as slot
-use Rattle.type_check.specs.Slots.{block_count, slots, kind_in, kind_by, IsRight, IsSet, NothingElse, FixedAreRight, AllAreRight}
+use Rattle.type_check.specs.inner.Slots.{block_count, slots, kind_in, kind_by, IsRight, IsSet, NothingElse, FixedAreRight, AllAreRight}
 use Rattle.type_check.proofs.SlotLemmas.{item_slot, local_slot}
 use Rattle.type_check.proofs.NodeLemmas.{slots_length, local_late}
 use Rattle.type_check.proofs.StepLemmas.{WrittenDone, AllDone, nothing_step, written_step, all_step}
@@ -97,12 +97,12 @@ pub settled_all : (items : List tree.Item) (order : List ℕ) (i : ℕ) (before 
 settled_all items order i before now o past h right a s at = (at_end items order i before now past h).all right a s at (inr (in_order items order o a s at))
 
 -- ---- a full table
-none_behind : (items : List tree.Item) (kinds : Kinds) (i k : ℕ) (x : tree.Item) → block_count x ≤ k → block_kind items kinds i k (Some x) ≡ None
-none_behind items kinds i k (tree.Input p q n y) h = refl
-none_behind items kinds i k (tree.Output p q n) h = refl
-none_behind items kinds i k (tree.OutputAs p e q n) h = refl
-none_behind items kinds i k (tree.Defined p (tree.Define q n ps w (tree.Plain e))) h = refl
-none_behind items kinds i k (tree.Defined p (tree.Define q n ps w (tree.Block ds e))) h = by (may_have_braces ps)
+none_after : (items : List tree.Item) (kinds : Kinds) (i k : ℕ) (x : tree.Item) → block_count x ≤ k → block_kind items kinds i k (Some x) ≡ None
+none_after items kinds i k (tree.Input p q n y) h = refl
+none_after items kinds i k (tree.Output p q n) h = refl
+none_after items kinds i k (tree.OutputAs p e q n) h = refl
+none_after items kinds i k (tree.Defined p (tree.Define q n ps w (tree.Plain e))) h = refl
+none_after items kinds i k (tree.Defined p (tree.Define q n ps w (tree.Block ds e))) h = by (may_have_braces ps)
   where
     by : (b : Bool) → (if b then local_kind (within_block (in_definition items kinds i ps) ds) k ds else None) ≡ None
     by true = local_late (within_block (in_definition items kinds i ps) ds) k 0 ds (omega arith)
@@ -124,7 +124,7 @@ place_cases items (slot.Local i k) = by (slice_get items i) refl
     by None is = inr (λ any. ap (block_kind items any i k) is)
     by (Some x) is = elim (cases_lt k (block_count x)) [
       | inl l ↦ inl (local_slot items i k x is l)
-      | inr l ↦ inr (λ any. ap (block_kind items any i k) is ∙ none_behind items any i k x l)
+      | inr l ↦ inr (λ any. ap (block_kind items any i k) is ∙ none_after items any i k x l)
     ]
 
 pub are_kinds : (items : List tree.Item) (kinds : Kinds) → NothingElse items kinds → AllAreRight items kinds → AreKinds items kinds

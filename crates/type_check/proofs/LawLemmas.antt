@@ -1,29 +1,24 @@
 -- Where there is no cycle the declared names are one thing, and so is the first fault.
-use Rattle.std.proofs.Common.{◌≡◌, ℕ, zero, suc, ◌+◌, ◌<◌, List, [], ◌∷◌, ◌++◌, length, eqb, true, Option, Some, None, Result, Ok, Err, refl, sym, ap, subst, ◌∙◌, inl, inr, arith, Contains}
+use Rattle.std.proofs.Common.{◌≡◌, ℕ, List, [], length, true, Option, Some, None, Result, Ok, Err, refl, sym, ap, subst, ◌∙◌, inl, inr, arith}
 use Rattle.std.specs.Prelude.{slice_get, IfOk, IfErr}
-use Rattle.std.specs.List.{IsDistinct}
-use Rattle.std.proofs.lemmas.List.{length_push}
-use Rattle.std.proofs.lemmas.List.Elements.{Contains-push_cases}
 use Rattle.std.proofs.lemmas.Option.{slice_get-get_or, slice_get_within}
 use Rattle.tsl_value.specs.declared.place.Place.{Place}
 use Rattle.spec_parser.specs.Tree as tree
-use Rattle.graph_cycles.specs.Cycle.{Path, one}
-use Rattle.graph_cycles.proofs.Paths.{path_join}
-use Rattle.graph_cycles.proofs.Lists.{none_in_nil}
-use Rattle.translation_order.proofs.Lists.{once_push, few_below}
+use Rattle.translation_order.specs.OnCycle.{Path}
 use Rattle.definition_cycles.specs.Nodes.{Node, nodes}
 use Rattle.definition_cycles.specs.Mentions.{Mentions, MentionsUntyped}
 use Rattle.definition_cycles.specs.Cycles.{IsPlaceOfLeast}
+use Rattle.definition_cycles.proofs.Acyclic.{holds}
 use Rattle.expr_types.specs.Around.{Kinds}
 use Rattle.expr_types.specs.Bodies.{AreKinds, item_kind}
 use Rattle.type_check.specs.declared.slot.Slot.{Slot}
 use Rattle.type_check.specs.declared.slot.Slot.TheVariants as slot
 use Rattle.type_check.specs.declared.fault.TypeFault.{TypeFault}
 use Rattle.type_check.specs.declared.fault.TypeFault.TheVariants as fault
-use Rattle.type_check.specs.Slots.{slots, kind_in, kind_by, IsRight}
-use Rattle.type_check.specs.Answer.{IsAcceptedUnlessMemory, IsFaultOf, IsRefusedUnlessMemory}
-use Rattle.type_check.specs.Faults.{first_fault, early, late, HasNoCycle, IsAccepted, IsCycleFault, IsFirstFault, before_cycles, cycle, behind_cycles}
-use Rattle.type_check.specs.Laws.{SameKinds}
+use Rattle.type_check.specs.inner.Slots.{slots, kind_in, kind_by, IsRight}
+use Rattle.type_check.specs.inner.Answer.{IsAcceptedUnlessMemory, IsFaultOf, IsRefusedUnlessMemory}
+use Rattle.type_check.specs.Faults.{first_fault, early, late, HasNoCycle, IsAccepted, IsCycleFault, IsFirstFault, before_cycles, cycle, after_cycles}
+use Rattle.type_check.specs.inner.Laws.{SameKinds}
 use Rattle.type_check.proofs.SlotLemmas.{number_of, slot_number}
 use Rattle.type_check.proofs.NodeLemmas.{IsView, IsInput, is_input, view_at, same_body}
 use Rattle.type_check.proofs.StepLemmas.{IsPlace}
@@ -33,12 +28,7 @@ are_right : (items : List tree.Item) (kinds : Kinds) → AreKinds items kinds �
 are_right items kinds are (slot.Item i) = are.items_are i
 are_right items kinds are (slot.Local i k) = are.locals_are i k
 
-once_none : IsDistinct eqb []
-unfolding IsDistinct
-once_none = tt
-
--- ---- two tables say the same of a node, since they do of what it mentions: by the nodes from which it is reached, of which none
--- is met twice
+-- ---- two tables say the same of a node, since they do of what it mentions
 module _ (items : List tree.Item) (none : (x : ℕ) → Path (MentionsUntyped items) x x → ⊥) (a b : Kinds) (is_a : AreKinds items a) (is_b : AreKinds items b) where
   by_equation : (s : Slot) → kind_by items a s ≡ kind_by items b s → kind_in a s ≡ kind_in b s
   by_equation s e = are_right items a is_a s ∙ e ∙ sym (are_right items b is_b s)
@@ -52,22 +42,6 @@ module _ (items : List tree.Item) (none : (x : ℕ) → Path (MentionsUntyped it
       by (Some (tree.Output p q n)) is t = absurd (cc)
       by (Some (tree.OutputAs p e q n)) is t = absurd (cc)
       by None is t = absurd (cc)
-
-  abbrev Met : List ℕ → ℕ → Type 0
-  Met met n = IsDistinct eqb met × ((x : ℕ) → Contains met x → x < length (nodes items)) × ((x : ℕ) → Contains met x → Path (MentionsUntyped items) x n)
-
-  -- those that were met, and this one
-  met_first : (met : List ℕ) (n : ℕ) → n < length (nodes items) → Met met n → IsDistinct eqb (met ++ n ∷ []) × ((x : ℕ) → Contains (met ++ n ∷ []) x → x < length (nodes items))
-  met_first met n low m = (
-    once_push met n m.0 (λ c. none n (m.2 n c)),
-    λ x c. elim (Contains-push_cases met n x c) [ inl old ↦ m.1 x old | inr same ↦ subst (λ y. y < length (nodes items)) same low ],
-  )
-
-  met_next : (met : List ℕ) (n m : ℕ) → MentionsUntyped items n m → Met met n → (x : ℕ) → Contains (met ++ n ∷ []) x → Path (MentionsUntyped items) x m
-  met_next met n m e h x c = elim (Contains-push_cases met n x c) [
-    | inl old ↦ path_join (MentionsUntyped items) x n m (h.2 x old) (one e)
-    | inr same ↦ one (subst (λ y. MentionsUntyped items y m) same e)
-  ]
 
   same_view : (n : ℕ) (s : Slot) (node : Node) → slice_get (nodes items) n ≡ Some node → IsView items s node → ((m : ℕ) (t : Slot) → MentionsUntyped items n m → IsPlace items m t → kind_in a t ≡ kind_in b t) → kind_in a s ≡ kind_in b s
   same_view n s node is (inl fixed) deeper = by_equation s (fixed a b)
@@ -87,20 +61,14 @@ module _ (items : List tree.Item) (none : (x : ℕ) → Path (MentionsUntyped it
         | inr nothing ↦ by_equation t (nothing a ∙ sym (nothing b))
       ]
 
-  same_at : (fuel : ℕ) (met : List ℕ) (n : ℕ) → length met + fuel ≡ length (nodes items) → Met met n → (s : Slot) → IsPlace items n s → kind_in a s ≡ kind_in b s
-  same_at zero met n room h s at =
-      let v = view_at items n s at in
-      let first = met_first met n (slice_get_within (nodes items) n v.node v.is_node) h in
-      absurd (omega (arith, room, few_below (met ++ n ∷ []) (length (nodes items)) first.0 first.1, length_push met n))
-  same_at (suc fuel) met n room h s at =
-      let v = view_at items n s at in
-      let first = met_first met n (slice_get_within (nodes items) n v.node v.is_node) h in
-      let less : length (met ++ n ∷ []) + fuel ≡ length (nodes items) = omega (arith, room, length_push met n) in
-      same_view n s v.node v.is_node v.fits (λ m t e there. same_at fuel (met ++ n ∷ []) m less (first.0, first.1, met_next met n m e h) t there)
+  same_at : (n : ℕ) (s : Slot) → IsPlace items n s → kind_in a s ≡ kind_in b s
+  same_at = holds (length (nodes items)) (MentionsUntyped items) none (λ n m e. slice_get_within (nodes items) n e.from.node e.from.is_node)
+      (λ n. (s : Slot) → IsPlace items n s → kind_in a s ≡ kind_in b s)
+      (λ n deeper s at. let v = view_at items n s at in same_view n s v.node v.is_node v.fits (λ m t e there. deeper m e t there))
 
   same_slots : (s : Slot) → kind_in a s ≡ kind_in b s
   same_slots s = elim (place_cases items s) [
-    | inl c ↦ same_at (length (nodes items)) [] c.0 (omega arith) (once_none, (λ x m. absurd (none_in_nil x m)), (λ x m. absurd (none_in_nil x m))) s (slice_get-get_or (slots items) c.0 s c.1 ∙ ap Some c.2)
+    | inl c ↦ same_at c.0 s (slice_get-get_or (slots items) c.0 s c.1 ∙ ap Some c.2)
     | inr nothing ↦ by_equation s (nothing a ∙ sym (nothing b))
   ]
 
@@ -147,18 +115,18 @@ one_cycle items f g h k = absurd h
 pub one_fault : (items : List tree.Item) (end : Place) (f g : TypeFault) → IsFirstFault items end f → IsFirstFault items end g → f ≡ g
 one_fault items end f g (before_cycles h) (before_cycles k) = one_first (early items) (early items) f g refl h k
 one_fault items end f g (before_cycles h) (cycle none k) = absurd (no_first (early items) f none h)
-one_fault items end f g (before_cycles h) (behind_cycles kinds none clear are k) = absurd (no_first (early items) f none h)
+one_fault items end f g (before_cycles h) (after_cycles kinds none clear are k) = absurd (no_first (early items) f none h)
 one_fault items end f g (cycle none h) (before_cycles k) = absurd (no_first (early items) g none k)
 one_fault items end f g (cycle none h) (cycle none_too k) = one_cycle items f g h k
-one_fault items end f g (cycle none h) (behind_cycles kinds none_too clear are k) = absurd (no_cycle_fault items f clear h)
-one_fault items end f g (behind_cycles kinds none clear are h) (before_cycles k) = absurd (no_first (early items) g none k)
-one_fault items end f g (behind_cycles kinds none clear are h) (cycle none_too k) = absurd (no_cycle_fault items g clear k)
-one_fault items end f g (behind_cycles a none clear are h) (behind_cycles b none_too no_too are_too k) = one_first (late items end a) (late items end b) f g (late_same items end a b clear are are_too) h k
+one_fault items end f g (cycle none h) (after_cycles kinds none_too clear are k) = absurd (no_cycle_fault items f clear h)
+one_fault items end f g (after_cycles kinds none clear are h) (before_cycles k) = absurd (no_first (early items) g none k)
+one_fault items end f g (after_cycles kinds none clear are h) (cycle none_too k) = absurd (no_cycle_fault items g clear k)
+one_fault items end f g (after_cycles a none clear are h) (after_cycles b none_too no_too are_too k) = one_first (late items end a) (late items end b) f g (late_same items end a b clear are are_too) h k
 
 pub accepted_has_no_fault : (items : List tree.Item) (end : Place) (kinds : Kinds) (f : TypeFault) → IsAccepted items end kinds → IsFirstFault items end f → ⊥
 accepted_has_no_fault items end kinds f is (before_cycles h) = no_first (early items) f is.no_early h
 accepted_has_no_fault items end kinds f is (cycle none h) = no_cycle_fault items f is.no_cycle h
-accepted_has_no_fault items end kinds f is (behind_cycles other none clear are h) = no_first (late items end other) f (late_same items end other kinds clear are is.are_kinds ∙ is.no_late) h
+accepted_has_no_fault items end kinds f is (after_cycles other none clear are h) = no_first (late items end other) f (late_same items end other kinds clear are is.are_kinds ∙ is.no_late) h
 
 -- ---- what the check answers is the only answer
 pub only_accepted : {X : Type 0} (r : Result X TypeFault) (items : List tree.Item) (end : Place) (kinds : Kinds) → IfErr r (IsFaultOf items end) → IsAccepted items end kinds → IsAcceptedUnlessMemory r

@@ -5,7 +5,7 @@ use Rattle.std.specs.Option.{option_map}
 use Rattle.std.specs.List.{AllByRecursion, find, list_all, list_any}
 use Rattle.std.specs.Str.{bytes_eq}
 use Rattle.std.proofs.lemmas.Bool.{ne_eqb, eq-eqb}
-use Rattle.graph_cycles.proofs.Lists.{here, later}
+use Rattle.tsl_value.proofs.Lists.{here, later}
 use Rattle.tsl_value.specs.declared.place.Place.{Place}
 use Rattle.spec_parser.specs.Tree as tree
 use Rattle.spec_parser.specs.Tree.{Expr, TypeName}
@@ -19,12 +19,12 @@ use Rattle.definition_cycles.specs.Nodes.{Node, definition_nodes, block_nodes, i
 use Rattle.definition_cycles.specs.Mentions.{Mentions, declared}
 use Rattle.definition_cycles.proofs.FoundLemmas.{length_block}
 use Rattle.expr_types.specs.Around.{Around, Kinds}
-use Rattle.expr_types.specs.Alike.{known, IsKnownAlike, IsPartKnownAlike}
+use Rattle.expr_types.specs.inner.Alike.{known, IsKnownAlike, IsPartKnownAlike}
 use Rattle.expr_types.specs.Bodies.{in_definition, within_block, may_have_braces, written_of, expr_kind, body_kind, definition_kind, local_from, local_kind, item_kind, block_kind}
 use Rattle.expr_types.proofs.AlikeLemmas.{knowing, kind_by_kinds}
 use Rattle.type_check.specs.declared.slot.Slot.{Slot}
 use Rattle.type_check.specs.declared.slot.Slot.TheVariants as slot
-use Rattle.type_check.specs.Slots.{local_slots, block_count, slots_from, slots, kind_in, kind_by, IsFixed}
+use Rattle.type_check.specs.inner.Slots.{local_slots, block_count, slots_from, slots, kind_in, kind_by, IsFixed}
 use Rattle.type_check.proofs.SlotLemmas.{number_of, locals_split}
 
 -- ---- two lists, one beside the other
@@ -84,31 +84,31 @@ no_input i (p ∷ ps) j h = by (list_all (λ q. is_events q.of) (p ∷ ps)) (lis
     by false true h = cc
     by false false h = cc
 
--- the items behind number i
+-- the items after number i
 abbrev Behind : List tree.Item → ℕ → List tree.Item → Type 0
 Behind items i xs = (m : ℕ) → slice_get items (i + m) ≡ slice_get xs m
 
-behind_first : (items : List tree.Item) (i : ℕ) (x : tree.Item) (xs : List tree.Item) → Behind items i (x ∷ xs) → slice_get items i ≡ Some x
-behind_first items i x xs h = let e : i ≡ i + 0 = omega arith in ap (slice_get items) e ∙ h 0
+after_the_first : (items : List tree.Item) (i : ℕ) (x : tree.Item) (xs : List tree.Item) → Behind items i (x ∷ xs) → slice_get items i ≡ Some x
+after_the_first items i x xs h = let e : i ≡ i + 0 = omega arith in ap (slice_get items) e ∙ h 0
 
-behind_next : (items : List tree.Item) (i : ℕ) (x : tree.Item) (xs : List tree.Item) → Behind items i (x ∷ xs) → Behind items (suc i) xs
-behind_next items i x xs h m = let e : suc i + m ≡ i + suc m = omega arith in ap (slice_get items) e ∙ h (suc m)
+after_next : (items : List tree.Item) (i : ℕ) (x : tree.Item) (xs : List tree.Item) → Behind items i (x ∷ xs) → Behind items (suc i) xs
+after_next items i x xs h m = let e : suc i + m ≡ i + suc m = omega arith in ap (slice_get items) e ∙ h (suc m)
 
-behind_none : (items : List tree.Item) → Behind items 0 items
-behind_none items m = let e : 0 + m ≡ m = omega arith in ap (slice_get items) e
+after_none : (items : List tree.Item) → Behind items 0 items
+after_none items m = let e : 0 + m ≡ m = omega arith in ap (slice_get items) e
 
 declared_inputs : (items : List tree.Item) (i : ℕ) (xs : List tree.Item) → Behind items i xs → HasInputs items (declared_from i xs)
 declared_inputs items i [] h = λ n j is. absurd (cc)
 declared_inputs items i (tree.Input p q x y ∷ xs) h =
     inputs_cons items (record { name = x; is = declaration.Input i }) (declared_from (suc i) xs)
-    (λ j e. let same : i ≡ j = cc in subst (IsInput items) same (ap is_input (behind_first items i (tree.Input p q x y) xs h)))
-    (declared_inputs items (suc i) xs (behind_next items i (tree.Input p q x y) xs h))
+    (λ j e. let same : i ≡ j = cc in subst (IsInput items) same (ap is_input (after_the_first items i (tree.Input p q x y) xs h)))
+    (declared_inputs items (suc i) xs (after_next items i (tree.Input p q x y) xs h))
 declared_inputs items i (tree.Defined p (tree.Define q x ps w b) ∷ xs) h =
     inputs_cons items (record { name = x; is = declared_as i ps }) (declared_from (suc i) xs)
     (λ j e. absurd (no_input i ps j e))
-    (declared_inputs items (suc i) xs (behind_next items i (tree.Defined p (tree.Define q x ps w b)) xs h))
-declared_inputs items i (tree.Output p q x ∷ xs) h = declared_inputs items (suc i) xs (behind_next items i (tree.Output p q x) xs h)
-declared_inputs items i (tree.OutputAs p e q x ∷ xs) h = declared_inputs items (suc i) xs (behind_next items i (tree.OutputAs p e q x) xs h)
+    (declared_inputs items (suc i) xs (after_next items i (tree.Defined p (tree.Define q x ps w b)) xs h))
+declared_inputs items i (tree.Output p q x ∷ xs) h = declared_inputs items (suc i) xs (after_next items i (tree.Output p q x) xs h)
+declared_inputs items i (tree.OutputAs p e q x ∷ xs) h = declared_inputs items (suc i) xs (after_next items i (tree.OutputAs p e q x) xs h)
 
 function_inputs : (items : List tree.Item) (scope : Scope) → HasInputs items (functions_of scope)
 function_inputs items [] = λ n j h. absurd (cc)
@@ -131,7 +131,7 @@ definition_inputs items ps = inside_inputs items 0 ps (if are_values ps then fun
   where
     by : (b : Bool) → HasInputs items (if b then functions_of (top items) else top items)
     by true = function_inputs items (top items)
-    by false = declared_inputs items 0 items (behind_none items)
+    by false = declared_inputs items 0 items (after_none items)
 
 -- ---- what stands at a place
 abbrev pub NotInput : List tree.Item → Slot → Type 0
@@ -240,12 +240,12 @@ pub each_of : (items : List tree.Item) (i : ℕ) (xs : List tree.Item) → Behin
 each_of items i [] h = tt
 each_of items i (x ∷ xs) h =
     each_join (IsView items) (slot.Item i ∷ local_slots i 0 (block_count x)) (slots_from (suc i) xs) (item_nodes i (top items) x) (nodes_from (suc i) (top items) xs)
-    (each_item items i x (behind_first items i x xs h))
-    (each_of items (suc i) xs (behind_next items i x xs h))
+    (each_item items i x (after_the_first items i x xs h))
+    (each_of items (suc i) xs (after_next items i x xs h))
 
 -- what stands at a place is that of the node with its number
 pub view_at : (items : List tree.Item) (a : ℕ) (s : Slot) → slice_get (slots items) a ≡ Some s → Beside (IsView items) (nodes items) a s
-view_at items a s h = each_at (IsView items) (slots items) (nodes items) (each_of items 0 items (behind_none items)) a s h
+view_at items a s h = each_at (IsView items) (slots items) (nodes items) (each_of items 0 items (after_none items)) a s h
 
 -- ---- tables that say the same of what is mentioned
 module _ (items : List tree.Item) (a : ℕ) (s : Slot) (node : Node) (is_node : slice_get (nodes items) a ≡ Some node) (body : IsBody items s node) (old new : Kinds) (mentioned : (t : Slot) → Mentions items a (number_of items t) → kind_in old t ≡ kind_in new t) (input : (j : ℕ) → IsInput items j → old.item j ≡ new.item j) where
@@ -282,4 +282,4 @@ each_length P (s ∷ ss) (n ∷ ns) h = ap suc (each_length P ss ns h.1)
 
 -- there are as many places as nodes
 pub slots_length : (items : List tree.Item) → length (slots items) ≡ length (nodes items)
-slots_length items = each_length (IsView items) (slots items) (nodes items) (each_of items 0 items (behind_none items))
+slots_length items = each_length (IsView items) (slots items) (nodes items) (each_of items 0 items (after_none items))

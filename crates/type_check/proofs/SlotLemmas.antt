@@ -4,15 +4,14 @@ use Rattle.std.specs.Prelude.{slice_get}
 use Rattle.std.proofs.lemmas.List.Sums.{sum_by-cons}
 use Rattle.std.proofs.lemmas.List.Elements.{Contains-append_left, Contains-append_right}
 use Rattle.std.proofs.lemmas.Bool.{cases_eq}
-use Rattle.graph_cycles.proofs.Lists.{here, later}
+use Rattle.tsl_value.proofs.Lists.{here, later, left_at}
 use Rattle.spec_parser.specs.Tree as tree
-use Rattle.spec_parser.specs.Shape.{item_of}
+use Rattle.spec_parser.specs.inner.Shape.{item_of}
 use Rattle.spec_parser.specs.declared.tree.Item.{Item}
-use Rattle.name_check.proofs.FirstLemmas.{left_at}
 use Rattle.definition_cycles.specs.Nodes.{first_node, count_of}
 use Rattle.type_check.specs.declared.slot.Slot.{Slot}
 use Rattle.type_check.specs.declared.slot.Slot.TheVariants as slot
-use Rattle.type_check.specs.Slots.{local_slots, block_count, slots_from, slots}
+use Rattle.type_check.specs.inner.Slots.{local_slots, block_count, slots_from, slots}
 
 -- two places are the same or not
 pub same_slot : (t s : Slot) → (t ≡ s) ⊎ (t ≡ s → ⊥)

@@ -1,4 +1,4 @@
--- A table of which one place more is set, in an order in which each node stands behind those that it mentions.
+-- A table of which one place more is set, in an order in which each node stands after those that it mentions.
 use Rattle.std.proofs.Common.{◌≡◌, ℕ, ◌⊎◌, false, List, [], ◌∷◌, ◌++◌, Some, sym, ap, subst, ◌∙◌, inl, inr, append_assoc, Contains}
 use Rattle.std.specs.Prelude.{slice_get}
 use Rattle.std.proofs.lemmas.Bool.{cases_eq}
@@ -7,11 +7,11 @@ use Rattle.spec_parser.specs.Tree as tree
 use Rattle.translation_order.proofs.Lists.{split_at}
 use Rattle.definition_cycles.specs.Nodes.{Node, nodes}
 use Rattle.definition_cycles.specs.Mentions.{Mentions, MentionsUntyped}
-use Rattle.definition_cycles.specs.Order.{IsKindOrder}
+use Rattle.definition_cycles.specs.inner.Order.{IsKindOrder}
 use Rattle.expr_types.specs.Around.{Kinds}
 use Rattle.type_check.specs.declared.slot.Slot.{Slot}
 use Rattle.type_check.specs.declared.slot.Slot.TheVariants as slot
-use Rattle.type_check.specs.Slots.{slots, kind_in, kind_by, IsRight, IsFixed, IsSet, NothingElse}
+use Rattle.type_check.specs.inner.Slots.{slots, kind_in, kind_by, IsRight, IsFixed, IsSet, NothingElse}
 use Rattle.type_check.proofs.SlotLemmas.{number_of, same_slot, slot_number}
 use Rattle.type_check.proofs.NodeLemmas.{IsBody, IsView, IsInput, NotInput, is_input, view_at, same_body}
 

@@ -24,7 +24,9 @@ abbrev pub name_faults : List tree.Item → List TypeFault
 name_faults items = map fault.DefinedTwice (declared_twice items) ++ map fault.UnknownName (unknown_names items)
 
 abbrev pub form_faults : List tree.Item → List TypeFault
-form_faults items = map fault.BadType (bad_types items) ++ map fault.MixedParameters (mixed_parameters items) ++ map fault.AggregateInput (aggregate_inputs items)
+form_faults items =
+    map fault.BadType (bad_types items) ++ map fault.MixedParameters (mixed_parameters items)
+    ++ map fault.AggregateInput (aggregate_inputs items)
 
 abbrev pub early : List tree.Item → List TypeFault
 early items = name_faults items ++ form_faults items
@@ -32,7 +34,9 @@ early items = name_faults items ++ form_faults items
 -- those that are checked after cycles
 abbrev pub late : List tree.Item → Place → Kinds → List TypeFault
 late items end kinds =
-    map fault.WrongArity (wrong_arities items) ++ map wrong_type (all_wrongs items kinds) ++ map fault.AggregateResult (aggregate_results_from kinds 0 items) ++ map fault.OutputTwice (outputs_twice items) ++ map fault.NoOutput (without_output items end)
+    map fault.WrongArity (wrong_arities items) ++ map wrong_type (all_wrongs items kinds)
+    ++ map fault.AggregateResult (aggregate_results_from kinds 0 items) ++ map fault.OutputTwice (outputs_twice items)
+    ++ map fault.NoOutput (without_output items end)
 
 -- no cycle of value functions, and of definitions without a written type
 pub record HasNoCycle (items : List tree.Item) : Type 0 where
@@ -57,4 +61,11 @@ IsCycleFault items f = ⊥
 pub data IsFirstFault (items : List tree.Item) (end : Place) : TypeFault → Type 0 where
   before_cycles : {f : TypeFault} → first_fault (early items) ≡ Some f → IsFirstFault items end f
   cycle : {f : TypeFault} → early items ≡ [] → IsCycleFault items f → IsFirstFault items end f
-  behind_cycles : {f : TypeFault} (kinds : Kinds) → early items ≡ [] → HasNoCycle items → AreKinds items kinds → first_fault (late items end kinds) ≡ Some f → IsFirstFault items end f
+  -- neither one before cycles nor a cycle: the first of those that are checked after them
+  after_cycles :
+      {f : TypeFault} (kinds : Kinds) →
+      early items ≡ [] →
+      HasNoCycle items →
+      AreKinds items kinds →
+      first_fault (late items end kinds) ≡ Some f →
+      IsFirstFault items end f

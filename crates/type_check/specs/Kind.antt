@@ -43,11 +43,13 @@ wrong_type (wrong.Braces place written) = fault.WrongType place kind.Function (w
 -- the types of a family, in the order of the rules; a set or a map of any type is named with the key Int, and for maps the value Int
 abbrev pub scalars : List ValueType
 scalars =
-    value_type.Scalar scalar_type.Unit ∷ value_type.Scalar scalar_type.Int ∷ value_type.Scalar scalar_type.Bool ∷ value_type.Scalar scalar_type.Text ∷ []
+    value_type.Scalar scalar_type.Unit ∷ value_type.Scalar scalar_type.Int ∷ value_type.Scalar scalar_type.Bool
+    ∷ value_type.Scalar scalar_type.Text ∷ []
 
 abbrev pub types_of : Family → List ValueType
 types_of family.Any =
-    value_type.Scalar scalar_type.Unit ∷ value_type.Scalar scalar_type.Int ∷ value_type.Scalar scalar_type.Bool ∷ value_type.Scalar scalar_type.Text ∷ value_type.Set key_type.Int ∷ value_type.Map key_type.Int scalar_type.Int ∷ []
+    value_type.Scalar scalar_type.Unit ∷ value_type.Scalar scalar_type.Int ∷ value_type.Scalar scalar_type.Bool
+    ∷ value_type.Scalar scalar_type.Text ∷ value_type.Set key_type.Int ∷ value_type.Map key_type.Int scalar_type.Int ∷ []
 types_of family.Scalars = scalars
 types_of family.Sets = value_type.Set key_type.Int ∷ []
 types_of family.Maps = value_type.Map key_type.Int scalar_type.Int ∷ []

@@ -1,14 +1,15 @@
 // The check.
 
 ghost use Rattle.std.specs.Prelude.{◌≡◌, [], map, IfOk, IfErr, OnOk};
-ghost use Rattle.spec_parser.specs.Shape.{item_of, items_of};
+ghost use Rattle.spec_parser.specs.inner.Shape.{item_of, items_of};
 ghost use Rattle.name_check.specs.Scope.{top};
-ghost use Rattle.definition_cycles.specs.Order.{IsKindOrder};
+ghost use Rattle.definition_cycles.specs.Nodes.{HasFewNodes};
+ghost use Rattle.definition_cycles.specs.inner.Order.{IsKindOrder};
 ghost use Rattle.expr_types.specs.Around.{Kinds};
-ghost use Rattle.expr_types.specs.Shown.{kinds_of};
-ghost use Rattle.type_check.specs.Answer.{IsAcceptedUnlessMemory, IsFaultOf, IsRefusedUnlessMemory};
+ghost use Rattle.expr_types.specs.inner.Shown.{kinds_of};
+ghost use Rattle.type_check.specs.inner.Answer.{IsAcceptedUnlessMemory, IsFaultOf, IsRefusedUnlessMemory};
 ghost use Rattle.type_check.specs.Faults.{HasNoCycle, IsAccepted, IsCycleFault, IsFirstFault, form_faults, late, name_faults};
-ghost use Rattle.type_check.specs.Parts.{IsCycleOf, IsFirstOf};
+ghost use Rattle.type_check.specs.inner.Parts.{IsCycleOf, IsFirstOf};
 ghost use Rattle.type_check.specs.declared.fault.TypeFault.{TypeFault as Fault};
 
 use crate::fault::{TypeFault, wrong_type};
@@ -18,7 +19,6 @@ use definition_cycles::functions::find_function_cycle;
 use definition_cycles::kinds::{find_untyped_cycle, kind_order};
 use expr_types::items::{find_aggregate_result, find_wrong_type};
 use expr_types::kinds::KindTable;
-use flat_core::steps::Steps;
 use form_check::arity::find_wrong_arity;
 use form_check::declared::{find_aggregate_input, find_mixed_parameters};
 use form_check::output::{find_missing_output, find_output_twice};
@@ -28,6 +28,7 @@ use name_check::names::Names;
 use spec_parser::tree::{Item, Tree};
 use std::alloc::Global;
 use translation_order::order::OrderFault;
+use translation_order::steps::Steps;
 
 /// What the names of the top stand for, where all names are declared once and known.
 fn names_of(alloc: Global, tree: &Tree) -> Result<Names, TypeFault>
@@ -62,6 +63,7 @@ fn check_forms(alloc: Global, items: &[Item]) -> Result<(), TypeFault>
 
 /// The order in which the declared names are found, where no cycle hinders it.
 fn order_of(alloc: Global, tree: &Tree) -> Result<Steps, TypeFault>
+    requires { HasFewNodes (items_of tree.now) }
     ensures order { IfOk result (IsKindOrder (items_of tree.now)) }
     ensures ok { OnOk result (HasNoCycle (items_of tree.now)) }
     ensures err { IfErr result (IsCycleOf (items_of tree.now)) }
@@ -111,6 +113,7 @@ fn check_expressions(
 
 /// Checks the names and types of a specification, phase by phase.
 fn checked<'t>(alloc: Global, tree: &'t Tree) -> Result<Typed<'t>, TypeFault>
+    requires { HasFewNodes (items_of tree.now) }
     ensures tree { IfOk result (λ typed. typed.tree.now ≡ tree.now) }
     ensures names { IfOk result (λ typed. typed.names ≡ top (items_of tree.now)) }
     ensures accepted { IfOk result (λ typed. IsAccepted (items_of tree.now) tree.now.end (kinds_of typed.kinds)) }
@@ -127,12 +130,13 @@ fn checked<'t>(alloc: Global, tree: &'t Tree) -> Result<Typed<'t>, TypeFault>
 /// Checks the names and types of a specification. It is accepted exactly where it has none of the faults of `TypeFault`. The first
 /// kind that occurs is answered, in the order in which they are listed there, at its first place in the source.
 pub fn check<'t>(alloc: Global, tree: &'t Tree) -> Result<Typed<'t>, TypeFault>
+    requires { HasFewNodes (items_of tree.now) }
     ensures tree { IfOk result (λ typed. typed.tree.now ≡ tree.now) }
     ensures names { IfOk result (λ typed. typed.names ≡ top (items_of tree.now)) }
     ensures accepted { IfOk result (λ typed. IsAccepted (items_of tree.now) tree.now.end (kinds_of typed.kinds)) }
     ensures fault { IfErr result (IsFaultOf (items_of tree.now) tree.now.end) }
 
-    // Where memory is not wanting, a specification is accepted wherever it has no fault, and so does each fault come.
+    // Unless out of memory, a specification is accepted wherever it has no fault, and so does each fault come.
     ensures accepted_exactly { (kinds : Kinds) → IsAccepted (items_of tree.now) tree.now.end kinds → IsAcceptedUnlessMemory result }
     ensures fault_exactly { (f : Fault) → IsFirstFault (items_of tree.now) tree.now.end f → IsRefusedUnlessMemory result f }
 {

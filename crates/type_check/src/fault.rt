@@ -77,7 +77,7 @@ pub enum TypeFault {
     NoOutput {
         place: Place,
     },
-    /// Memory was wanting.
+    /// Out of memory.
     Memory,
 }
 

@@ -1,20 +1,22 @@
 // What the declared names are.
 
 ghost use Rattle.std.specs.Prelude.{◌≡◌, map, IfOk, OnOk};
-ghost use Rattle.spec_parser.specs.Shape.{item_of};
+ghost use Rattle.spec_parser.specs.inner.Shape.{item_of};
 ghost use Rattle.name_check.specs.Scope.{top};
-ghost use Rattle.definition_cycles.specs.Order.{IsKindOrder};
+ghost use Rattle.definition_cycles.specs.inner.Order.{IsKindOrder};
+ghost use Rattle.expr_types.specs.inner.Blocks.{AreBlocks};
 ghost use Rattle.expr_types.specs.Bodies.{AreKinds};
-ghost use Rattle.expr_types.specs.Shown.{kinds_of};
-ghost use Rattle.type_check.specs.Slots.{slots, kind_by, IsSet, NothingElse, FixedAreRight, AllAreRight};
+ghost use Rattle.expr_types.specs.inner.Shown.{kinds_of};
+ghost use Rattle.type_check.specs.inner.Slots.{slots, kind_by, IsSet, NothingElse, FixedAreRight, AllAreRight};
 
 use crate::slot::{Slot, slots_of};
+use expr_types::block::Blocks;
 use expr_types::define::{block_kind, item_kind};
 use expr_types::kinds::KindTable;
-use flat_core::steps::Steps;
 use name_check::names::Names;
 use spec_parser::tree::Item;
 use std::alloc::Global;
+use translation_order::steps::Steps;
 use tsl_value::memory::NoMemory;
 use type_rules::rule::ExprType;
 
@@ -39,14 +41,18 @@ fn kind_of(
     items: &[Item],
     names: &Names,
     kinds: &KindTable,
+    blocks: &Blocks<'_>,
     slot: Slot,
 ) -> Result<Option<ExprType>, NoMemory>
-    requires { names.now ≡ top (map item_of items.now) }
+    requires names { names.now ≡ top (map item_of items.now) }
+    requires blocks { AreBlocks blocks.now (map item_of items.now) }
     ensures { IfOk result (λ kind. kind ≡ kind_by (map item_of items.now) (kinds_of kinds.now) slot) }
 {
     match slot {
         Slot::Item(number) => item_kind(alloc, items, names, kinds, number),
-        Slot::Local(number, local) => block_kind(alloc, items, names, kinds, number, local),
+        Slot::Local(number, local) => {
+            block_kind(alloc, items, names, kinds, blocks, number, local)
+        }
     }
 }
 
@@ -57,19 +63,23 @@ fn settle(
     alloc: Global,
     items: &[Item],
     names: &Names,
+    blocks: &Blocks<'_>,
     places: &[Slot],
     order: &[u32],
 ) -> Result<(), NoMemory>
     requires names { names.now ≡ top (map item_of items.now) }
+    requires blocks { AreBlocks blocks.now (map item_of items.now) }
     requires places { places.now ≡ slots (map item_of items.now) }
     requires order { IsKindOrder (map item_of items.now) order.now }
-    ensures nothing { NothingElse (map item_of items.now) (kinds_of kinds.old) → OnOk result (NothingElse (map item_of items.now) (kinds_of kinds.new)) }
+    ensures nothing { NothingElse (map item_of items.now) (kinds_of kinds.old)
+        → OnOk result (NothingElse (map item_of items.now) (kinds_of kinds.new)) }
     ensures written { OnOk result (FixedAreRight (map item_of items.now) (kinds_of kinds.new)) }
-    ensures all { FixedAreRight (map item_of items.now) (kinds_of kinds.old) → OnOk result (AllAreRight (map item_of items.now) (kinds_of kinds.new)) }
+    ensures all { FixedAreRight (map item_of items.now) (kinds_of kinds.old)
+        → OnOk result (AllAreRight (map item_of items.now) (kinds_of kinds.new)) }
 {
     for node in order {
         let slot = places[*node as usize];
-        let kind = kind_of(alloc, items, names, kinds, slot)?;
+        let kind = kind_of(alloc, items, names, kinds, blocks, slot)?;
         set(kinds, alloc, slot, kind)?;
     }
     Ok(())
@@ -88,8 +98,10 @@ pub fn find_kinds(
     ensures { IfOk result (λ kinds. AreKinds (map item_of items.now) (kinds_of kinds)) }
 {
     let slots = slots_of(alloc, items)?;
+    let blocks = Blocks::of_items(alloc, items)?;
     let mut kinds = KindTable::new(alloc);
-    settle(&mut kinds, alloc, items, names, &slots, order.as_slice())?;
-    settle(&mut kinds, alloc, items, names, &slots, order.as_slice())?;
+    let order = order.as_slice();
+    settle(&mut kinds, alloc, items, names, &blocks, &slots, order)?;
+    settle(&mut kinds, alloc, items, names, &blocks, &slots, order)?;
     Ok(kinds)
 }

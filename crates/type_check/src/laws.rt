@@ -1,6 +1,6 @@
 // Laws of the check.
 
-ghost use Rattle.type_check.specs.Laws.{AcceptedHasNoFault, OneFault, OneKinds};
+ghost use Rattle.type_check.specs.inner.Laws.{AcceptedHasNoFault, OneFault, OneKinds};
 
 /// Where there is no cycle the declared names are one thing.
 #[tactic(auto, using(crate::proofs::LawLemmas::one_kinds))]

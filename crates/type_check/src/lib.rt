@@ -1,4 +1,4 @@
-// The check of types: the first refusal of a specification, or what its declared names are.
+//! The check of types: the first refusal of a specification, or what its declared names are.
 #![tactic(auto)]
 
 pub mod check;
@@ -9,6 +9,4 @@ pub mod print;
 #[cfg(test)]
 mod print_tests;
 mod slot;
-#[cfg(test)]
-mod tests;
 pub mod typed;

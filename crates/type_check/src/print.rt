@@ -1,6 +1,6 @@
 // Types and kinds as they are printed.
 
-ghost use Rattle.std.specs.Prelude.{◌≡◌, ◌++◌, map, OnOk};
+ghost use Rattle.std.specs.Prelude.{◌≡◌, ◌++◌, length, map, take, OnOk, OnErr};
 ghost use Rattle.tsl_value.specs.Print.{listed};
 ghost use Rattle.type_check.specs.Kind.{types_of};
 ghost use Rattle.type_check.specs.Text.{key_type_text, kind_text, scalar_type_text, type_text};
@@ -44,9 +44,10 @@ fn family_types(family: Family) -> &'static [u8]
     }
 }
 
-/// Appends a type as it is written in a specification.
-pub fn print_type(of: ValueType, out: &mut Bytes) -> Result<(), NoMemory>
-    ensures { OnOk result (out.new ≡ out.old ++ type_text of) }
+/// Appends a type as it is written in a specification. After out of memory some of it may stand there.
+fn put_type(of: ValueType, out: &mut Bytes) -> Result<(), NoMemory>
+    ensures ok { OnOk result (out.new ≡ out.old ++ type_text of) }
+    ensures err { OnErr result (take (length out.old) out.new ≡ out.old) }
 {
     match of {
         ValueType::Scalar(scalar) => out.append(scalar_name(scalar)),
@@ -65,21 +66,21 @@ pub fn print_type(of: ValueType, out: &mut Bytes) -> Result<(), NoMemory>
     }
 }
 
-/// Appends a kind as a message has it: `Events[Int]` for a stream, `Option[Int]` for an option, `Int` for a value, `function`,
-/// `literal`, or `one of` and the types of a family.
-pub fn print_kind(kind: &Kind, out: &mut Bytes) -> Result<(), NoMemory>
-    ensures { OnOk result (out.new ≡ out.old ++ kind_text kind.now) }
+/// Appends a kind. After out of memory some of it may stand there.
+fn put_kind(kind: &Kind, out: &mut Bytes) -> Result<(), NoMemory>
+    ensures ok { OnOk result (out.new ≡ out.old ++ kind_text kind.now) }
+    ensures err { OnErr result (take (length out.old) out.new ≡ out.old) }
 {
     match kind {
         Kind::Stream(of) => {
             out.append(b"Events[")?;
-            print_type(*of, out)?;
+            put_type(*of, out)?;
             out.append(b"]")
         }
-        Kind::Value(of) => print_type(*of, out),
+        Kind::Value(of) => put_type(*of, out),
         Kind::Optional(of) => {
             out.append(b"Option[")?;
-            print_type(*of, out)?;
+            put_type(*of, out)?;
             out.append(b"]")
         }
         Kind::Function => out.append(b"function"),
@@ -87,6 +88,22 @@ pub fn print_kind(kind: &Kind, out: &mut Bytes) -> Result<(), NoMemory>
         Kind::OneOf(family) => {
             out.append(b"one of ")?;
             out.append(family_types(*family))
+        }
+    }
+}
+
+/// Appends a kind as a message has it, or leaves `out` as it was: `Events[Int]` for a stream, `Option[Int]` for an option, `Int` for a
+/// value, `function`, `literal`, or `one of` and the types of a family.
+pub fn print_kind(kind: &Kind, out: &mut Bytes) -> Result<(), NoMemory>
+    ensures ok { OnOk result (out.new ≡ out.old ++ kind_text kind.now) }
+    ensures err { OnErr result (out.new ≡ out.old) }
+{
+    let before = out.len();
+    match put_kind(kind, out) {
+        Ok(()) => Ok(()),
+        Err(none) => {
+            out.truncate(before);
+            Err(none)
         }
     }
 }

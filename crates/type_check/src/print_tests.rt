@@ -1,7 +1,7 @@
 // Kinds as they are printed.
 
 use crate::fault::Kind;
-use crate::print::{print_kind, print_type};
+use crate::print::print_kind;
 use std::test::Fail;
 use tsl_value::bytes::Bytes;
 use tsl_value::scalar::{KeyType, ScalarType, ValueType};
@@ -11,7 +11,7 @@ use type_rules::rule::Family;
 fn kinds_are_printed(rt: HostRuntime) -> Result<(), Fail> {
     let mut out = Bytes::new(rt.alloc());
     let map = ValueType::Map(KeyType::Text, ScalarType::Bool);
-    print_type(map, &mut out)?;
+    print_kind(&Kind::Value(map), &mut out)?;
     out.append(b"; ")?;
     print_kind(&Kind::Stream(ValueType::Set(KeyType::Int)), &mut out)?;
     out.append(b"; ")?;

@@ -1,8 +1,8 @@
 // The places of a table of kinds.
 
 ghost use Rattle.std.specs.Prelude.{◌≡◌, ◌++◌, IfOk, OnOk, map, vec_len};
-ghost use Rattle.spec_parser.specs.Shape.{item_of};
-ghost use Rattle.type_check.specs.Slots.{block_count, local_slots, slots};
+ghost use Rattle.spec_parser.specs.inner.Shape.{item_of};
+ghost use Rattle.type_check.specs.inner.Slots.{block_count, local_slots, slots};
 
 use name_check::count::count_in;
 use spec_parser::tree::Item;

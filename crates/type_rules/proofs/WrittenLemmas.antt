@@ -10,7 +10,7 @@ use Rattle.spec_parser.specs.Tree.{TypeName}
 use Rattle.type_rules.specs.declared.rule.ExprType.{ExprType}
 use Rattle.type_rules.specs.declared.rule.ExprType.TheVariants as expr_type
 use Rattle.type_rules.specs.Written.{key_of, scalar_of, value_of, as_written, as_stream, bad_key, bad_scalar, bad_inside, bad_as_written, bad_as_stream}
-use Rattle.type_rules.specs.Laws.{WrittenOrBad, StreamOrBad}
+use Rattle.type_rules.specs.inner.Laws.{WrittenOrBad, StreamOrBad}
 
 -- the type around makes a type of another kind of it
 of_set : (f : ValueType → ExprType) (k : TypeName) → is_some (option_map f (option_map value_type.Set (key_of k))) ≡ is_none (slice_get (bad_key k) 0)

@@ -1,4 +1,4 @@
 pub mod Asked
 pub mod Rules
 pub mod Written
-pub mod Laws
+pub mod inner

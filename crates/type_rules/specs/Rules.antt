@@ -3,12 +3,19 @@
 use Rattle.std.specs.Prelude.{Bool, true, false, ◌||◌, List, [], ◌∷◌, map, if◌then◌else◌, Option, Some, None, Ok, Err}
 use Rattle.std.specs.List.{list_any}
 use Rattle.tsl_value.specs.declared.scalar.ValueType.{ValueType}
+use Rattle.tsl_value.specs.declared.scalar.ValueType.TheVariants as value_type
 use Rattle.spec_parser.specs.declared.tree.Level.{Level}
 use Rattle.spec_parser.specs.declared.tree.Level.TheVariants as level
 use Rattle.spec_parser.specs.declared.tree.Comparison.{Comparison}
 use Rattle.spec_parser.specs.declared.tree.Comparison.TheVariants as comparison
-use Rattle.spec_parser.specs.declared.tree.Dotted.{Dotted}
-use Rattle.spec_parser.specs.declared.tree.Dotted.TheVariants as dotted
+use Rattle.vocabulary.specs.declared.dotted.Dotted.{Dotted}
+use Rattle.vocabulary.specs.declared.signature.Term.{Term}
+use Rattle.vocabulary.specs.declared.signature.Term.TheVariants as term
+use Rattle.vocabulary.specs.declared.signature.Parameters.{Parameters}
+use Rattle.vocabulary.specs.declared.signature.Parameters.TheVariants as parameters
+use Rattle.vocabulary.specs.declared.signature.Role.{Role}
+use Rattle.vocabulary.specs.declared.signature.Role.TheVariants as role
+use Rattle.vocabulary.specs.Table.{parameters_of, gives_of, role_of}
 use Rattle.type_rules.specs.declared.rule.ExprType.{ExprType}
 use Rattle.type_rules.specs.declared.rule.ExprType.TheVariants as expr_type
 use Rattle.type_rules.specs.declared.rule.Family.TheVariants as family
@@ -18,7 +25,7 @@ use Rattle.type_rules.specs.declared.rule.Asked.{Asked}
 use Rattle.type_rules.specs.declared.rule.Asked.TheVariants as asked
 use Rattle.type_rules.specs.declared.rule.Builtin.{Builtin}
 use Rattle.type_rules.specs.declared.rule.Builtin.TheVariants as builtin
-use Rattle.type_rules.specs.Asked.{Verdict, Check, ask, and_then, lifted, lifted_of, inner, unit, int, bool, text, key_of, entry_of}
+use Rattle.type_rules.specs.Asked.{Verdict, Check, ask, and_then, lifted, lifted_of, inner, unit, int, bool, key_of, entry_of}
 
 abbrev pub any_stream : Asked
 any_stream = asked.StreamOf family.Any
@@ -76,37 +83,64 @@ chosen_from setting.Values = asked.NoStream
 abbrev pub if_rule : Setting → ExprType → ExprType → ExprType → Verdict
 if_rule at c a b = and_then (ask (asked.Exactly (lifted at bool)) c) (and_then (ask_two (chosen_from at) a b) (Ok a))
 
--- ---- functions with a dot, by the number of their parts
+-- ---- functions with a dot: their signatures, of which the first part fixes the types of keys and of entries
+-- what a type of a signature is, where the first part is this
+abbrev pub of_term : Setting → ExprType → Term → ExprType
+of_term at first term.Set = first
+of_term at first term.Map = first
+of_term at first term.Key = lifted at (key_of (inner first))
+of_term at first term.Entry = lifted at (entry_of (inner first))
+of_term at first (term.Scalar t) = lifted at (value_type.Scalar t)
+
+-- The first part is a set, a map or a scalar. Each other part is just what its type says.
+abbrev pub first_asked : Setting → ExprType → Term → Asked
+first_asked at first term.Set = lifted_of at family.Sets
+first_asked at first term.Map = lifted_of at family.Maps
+first_asked at first t = asked.Exactly (of_term at first t)
+
+abbrev pub ask_first : Setting → Term → ExprType → Check
+ask_first at p a = ask (first_asked at a p) a
+
+abbrev pub ask_other : Setting → ExprType → Term → ExprType → Check
+ask_other at first t part = ask (asked.Exactly (of_term at first t)) part
+
+abbrev pub ask_terms : Setting → Term → Term → ExprType → ExprType → Check
+ask_terms at p q a b = and_then (ask_first at p a) (ask_other at a q b)
+
 -- what such a function is of other parts than its own; no call has them
 abbrev pub nothing : Verdict
 nothing = Ok (stream unit)
 
-abbrev pub dotted_one : Setting → Dotted → ExprType → Verdict
-dotted_one at dotted.SetSize s = and_then (ask (lifted_of at family.Sets) s) (Ok (lifted at int))
-dotted_one at dotted.MapSize m = and_then (ask (lifted_of at family.Maps) m) (Ok (lifted at int))
-dotted_one at dotted.StringSize a = and_then (ask (asked.Exactly (lifted at text)) a) (Ok (lifted at int))
-dotted_one at d a = nothing
+abbrev pub rule_of_one : Setting → Parameters → Term → ExprType → Verdict
+rule_of_one at (parameters.One p) t a = and_then (ask_first at p a) (Ok (of_term at a t))
+rule_of_one at ps t a = nothing
+
+abbrev pub rule_of_two : Setting → Parameters → Term → ExprType → ExprType → Verdict
+rule_of_two at (parameters.Two p q) t a b = and_then (ask_terms at p q a b) (Ok (of_term at a t))
+rule_of_two at ps t a b = nothing
+
+abbrev pub rule_of_three : Setting → Parameters → Term → ExprType → ExprType → ExprType → Verdict
+rule_of_three at (parameters.Three p q r) t a b c = and_then (ask_terms at p q a b) (and_then (ask_other at a r c) (Ok (of_term at a t)))
+rule_of_three at ps t a b c = nothing
 
 -- updates take streams everywhere
-abbrev pub dotted_two : Setting → Dotted → ExprType → ExprType → Verdict
-dotted_two at dotted.SetAdd s k = and_then (ask_key setting.Streams (asked.StreamOf family.Sets) s k) (Ok s)
-dotted_two at dotted.SetRemove s k = and_then (ask_key setting.Streams (asked.StreamOf family.Sets) s k) (Ok s)
-dotted_two at dotted.MapRemove m k = and_then (ask_key setting.Streams (asked.StreamOf family.Maps) m k) (Ok m)
-dotted_two at dotted.SetContains s k = and_then (ask_key at (lifted_of at family.Sets) s k) (Ok (lifted at bool))
-dotted_two at dotted.MapContains m k = and_then (ask_key at (lifted_of at family.Maps) m k) (Ok (lifted at bool))
-dotted_two at dotted.MapGet m k = and_then (ask_key at (lifted_of at family.Maps) m k) (Ok (lifted at (entry_of (inner m))))
-dotted_two at dotted.StringConcat a b = and_then (ask_both (lifted at text) a b) (Ok (lifted at text))
-dotted_two at d a b = nothing
+abbrev pub setting_of : Role → Setting → Setting
+setting_of (role.Update o) at = setting.Streams
+setting_of r at = at
 
-abbrev pub dotted_three : Dotted → ExprType → ExprType → ExprType → Verdict
-dotted_three dotted.MapAdd m k v =
-    and_then (ask_key setting.Streams (asked.StreamOf family.Maps) m k) (and_then (ask (asked.Exactly (stream (entry_of (inner m)))) v) (Ok m))
-dotted_three d a b c = nothing
+abbrev pub dotted_one : Setting → Dotted → ExprType → Verdict
+dotted_one at d a = rule_of_one (setting_of (role_of d) at) (parameters_of d) (gives_of d) a
+
+abbrev pub dotted_two : Setting → Dotted → ExprType → ExprType → Verdict
+dotted_two at d a b = rule_of_two (setting_of (role_of d) at) (parameters_of d) (gives_of d) a b
+
+abbrev pub dotted_three : Setting → Dotted → ExprType → ExprType → ExprType → Verdict
+dotted_three at d a b c = rule_of_three (setting_of (role_of d) at) (parameters_of d) (gives_of d) a b c
 
 abbrev pub dotted_rule : Setting → Dotted → List ExprType → Verdict
 dotted_rule at d (a ∷ []) = dotted_one at d a
 dotted_rule at d (a ∷ b ∷ []) = dotted_two at d a b
-dotted_rule at d (a ∷ b ∷ c ∷ []) = dotted_three d a b c
+dotted_rule at d (a ∷ b ∷ c ∷ []) = dotted_three at d a b c
 dotted_rule at d ts = nothing
 
 -- ---- the language's own names: streams everywhere, and the four of options values everywhere
@@ -174,8 +208,8 @@ ask_options _ _ = Ok tt
 
 abbrev pub lift_rule : List ExprType → List ExprType → ExprType → Verdict
 lift_rule streams params result =
-    and_then (ask_streams streams)
-    (and_then (ask_options streams params) (and_then (ask (asked.Exactly (expr_type.Optional (inner result))) result) (Ok (stream (inner result)))))
+    and_then (ask_streams streams) (and_then (ask_options streams params)
+    (and_then (ask (asked.Exactly (expr_type.Optional (inner result))) result) (Ok (stream (inner result)))))
 
 -- ---- bodies
 -- a stream is asked for

@@ -2,7 +2,9 @@
 
 ghost use Rattle.std.specs.Prelude.{◌≡◌, map};
 ghost use Rattle.std.specs.List.{list_any};
-ghost use Rattle.type_rules.specs.Rules.{const_rule, builtin_one, builtin_two, builtin_rule, ask_each, macro_rule, is_optional, lifted_type, has_options, function_rule, ask_streams, ask_options, lift_rule, stream_asked, value_asked, written_asked, body_asked, body_rule};
+ghost use Rattle.type_rules.specs.Rules.{const_rule, builtin_one, builtin_two, builtin_rule, ask_each, macro_rule, is_optional};
+ghost use Rattle.type_rules.specs.Rules.{lifted_type, has_options, function_rule, ask_streams, ask_options, lift_rule, stream_asked};
+ghost use Rattle.type_rules.specs.Rules.{value_asked, written_asked, body_asked, body_rule};
 
 use crate::asked::{BOOL, INT, UNIT, ask};
 use crate::operation::ask_two;

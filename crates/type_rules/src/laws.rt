@@ -1,6 +1,6 @@
 // What holds of all written types.
 
-ghost use Rattle.type_rules.specs.Laws.{StreamOrBad, WrittenOrBad};
+ghost use Rattle.type_rules.specs.inner.Laws.{StreamOrBad, WrittenOrBad};
 
 /// The type of a parameter, a macro or a value function stands for something just where nothing in it may not stand.
 #[tactic(auto, using(crate::proofs::WrittenLemmas::written_or_bad))]

@@ -7,6 +7,4 @@ pub mod laws;
 pub mod operation;
 pub mod rule;
 pub mod same;
-#[cfg(test)]
-mod tests;
 pub mod written;

@@ -1,12 +1,18 @@
 // Operators, choices, and functions whose names have a dot.
 
 ghost use Rattle.std.specs.Prelude.{◌≡◌};
-ghost use Rattle.type_rules.specs.Rules.{ask_both, ask_two, ask_key, ask_compared, operand_type, link_rule, is_equality, compare_rule, negate_rule, not_rule, chosen_from, if_rule, dotted_one, dotted_two, dotted_three, dotted_rule};
+ghost use Rattle.type_rules.specs.Rules.{ask_both, ask_two, ask_compared, operand_type, link_rule, is_equality, compare_rule};
+ghost use Rattle.type_rules.specs.Rules.{negate_rule, not_rule, chosen_from, if_rule, of_term, first_asked, ask_first, ask_other};
+ghost use Rattle.type_rules.specs.Rules.{ask_terms};
+ghost use Rattle.type_rules.specs.Rules.{rule_of_one, rule_of_two, rule_of_three, setting_of, dotted_one, dotted_two, dotted_three};
+ghost use Rattle.type_rules.specs.Rules.{dotted_rule};
 
-use crate::asked::{BOOL, INT, TEXT, UNIT, ask, entry_of, key_of};
+use crate::asked::{BOOL, INT, UNIT, ask, entry_of, key_of};
 use crate::rule::{Asked, Clash, ExprType, Family, Setting};
-use spec_parser::tree::{Comparison, Dotted, Level};
+use spec_parser::tree::{Comparison, Level};
 use tsl_value::scalar::ValueType;
+use vocabulary::dotted::Dotted;
+use vocabulary::signature::{Parameters, Role, Term};
 
 /// Two parts of a type that is given.
 fn ask_both(of: ExprType, a: ExprType, b: ExprType) -> Result<(), Clash>
@@ -22,14 +28,6 @@ pub fn ask_two(wanted: Asked, a: ExprType, b: ExprType) -> Result<(), Clash>
 {
     ask(wanted, a)?;
     ask(Asked::Exactly(a), b)
-}
-
-/// An aggregate and a key of its type.
-fn ask_key(at: Setting, wanted: Asked, aggregate: ExprType, key: ExprType) -> Result<(), Clash>
-    ensures { result ≡ ask_key at wanted aggregate key }
-{
-    ask(wanted, aggregate)?;
-    ask(Asked::Exactly(at.lifted(key_of(aggregate.inner()))), key)
 }
 
 fn operand_type(level: Level) -> ValueType
@@ -121,78 +119,141 @@ pub fn if_rule(
 /// What a function is of other parts than its own. No call that is checked has them.
 const NOTHING: ExprType = ExprType::Stream(UNIT);
 
-fn dotted_one(at: Setting, function: Dotted, a: ExprType) -> Result<ExprType, Clash>
-    ensures { result ≡ dotted_one at function a }
+/// What a type of a signature is, where the first part is this.
+fn of_term(at: Setting, first: ExprType, term: Term) -> ExprType
+    ensures { result ≡ of_term at first term }
 {
-    match function {
-        Dotted::SetSize => ask(at.lifted_of(Family::Sets), a)?,
-        Dotted::MapSize => ask(at.lifted_of(Family::Maps), a)?,
-        Dotted::StringSize => ask(Asked::Exactly(at.lifted(TEXT)), a)?,
-        Dotted::SetAdd
-        | Dotted::SetRemove
-        | Dotted::SetContains
-        | Dotted::MapAdd
-        | Dotted::MapRemove
-        | Dotted::MapContains
-        | Dotted::MapGet
-        | Dotted::StringConcat => return Ok(NOTHING),
+    match term {
+        Term::Set => first,
+        Term::Map => first,
+        Term::Key => at.lifted(key_of(first.inner())),
+        Term::Entry => at.lifted(entry_of(first.inner())),
+        Term::Scalar(of) => at.lifted(ValueType::Scalar(of)),
     }
-    Ok(at.lifted(INT))
+}
+
+/// The first part is a set, a map or a scalar.
+fn first_asked(at: Setting, first: ExprType, term: Term) -> Asked
+    ensures { result ≡ first_asked at first term }
+{
+    match term {
+        Term::Set => at.lifted_of(Family::Sets),
+        Term::Map => at.lifted_of(Family::Maps),
+        Term::Key => Asked::Exactly(of_term(at, first, term)),
+        Term::Entry => Asked::Exactly(of_term(at, first, term)),
+        Term::Scalar(_) => Asked::Exactly(of_term(at, first, term)),
+    }
+}
+
+fn ask_first(at: Setting, term: Term, first: ExprType) -> Result<(), Clash>
+    ensures { result ≡ ask_first at term first }
+{
+    ask(first_asked(at, first, term), first)
+}
+
+/// Each other part is just what its type says.
+fn ask_other(at: Setting, first: ExprType, term: Term, part: ExprType) -> Result<(), Clash>
+    ensures { result ≡ ask_other at first term part }
+{
+    ask(Asked::Exactly(of_term(at, first, term)), part)
+}
+
+fn ask_terms(at: Setting, p: Term, q: Term, a: ExprType, b: ExprType) -> Result<(), Clash>
+    ensures { result ≡ ask_terms at p q a b }
+{
+    ask_first(at, p, a)?;
+    ask_other(at, a, q, b)
+}
+
+fn rule_of_one(at: Setting, takes: Parameters, gives: Term, a: ExprType) -> Result<ExprType, Clash>
+    ensures { result ≡ rule_of_one at takes gives a }
+{
+    match takes {
+        Parameters::One(p) => {
+            ask_first(at, p, a)?;
+            Ok(of_term(at, a, gives))
+        }
+        Parameters::Two(_, _) => Ok(NOTHING),
+        Parameters::Three(_, _, _) => Ok(NOTHING),
+    }
+}
+
+fn rule_of_two(
+    at: Setting,
+    takes: Parameters,
+    gives: Term,
+    a: ExprType,
+    b: ExprType,
+) -> Result<ExprType, Clash>
+    ensures { result ≡ rule_of_two at takes gives a b }
+{
+    match takes {
+        Parameters::Two(p, q) => {
+            ask_terms(at, p, q, a, b)?;
+            Ok(of_term(at, a, gives))
+        }
+        Parameters::One(_) => Ok(NOTHING),
+        Parameters::Three(_, _, _) => Ok(NOTHING),
+    }
+}
+
+fn rule_of_three(
+    at: Setting,
+    takes: Parameters,
+    gives: Term,
+    a: ExprType,
+    b: ExprType,
+    c: ExprType,
+) -> Result<ExprType, Clash>
+    ensures { result ≡ rule_of_three at takes gives a b c }
+{
+    match takes {
+        Parameters::Three(p, q, r) => {
+            ask_terms(at, p, q, a, b)?;
+            ask_other(at, a, r, c)?;
+            Ok(of_term(at, a, gives))
+        }
+        Parameters::One(_) => Ok(NOTHING),
+        Parameters::Two(_, _) => Ok(NOTHING),
+    }
 }
 
 /// Updates take streams everywhere.
-fn dotted_two(at: Setting, function: Dotted, a: ExprType, b: ExprType) -> Result<ExprType, Clash>
-    ensures { result ≡ dotted_two at function a b }
+fn setting_of(role: Role, at: Setting) -> Setting
+    ensures { result ≡ setting_of role at }
 {
-    match function {
-        Dotted::SetAdd | Dotted::SetRemove => {
-            ask_key(Setting::Streams, Asked::StreamOf(Family::Sets), a, b)?;
-            Ok(a)
-        }
-        Dotted::MapRemove => {
-            ask_key(Setting::Streams, Asked::StreamOf(Family::Maps), a, b)?;
-            Ok(a)
-        }
-        Dotted::SetContains => {
-            ask_key(at, at.lifted_of(Family::Sets), a, b)?;
-            Ok(at.lifted(BOOL))
-        }
-        Dotted::MapContains => {
-            ask_key(at, at.lifted_of(Family::Maps), a, b)?;
-            Ok(at.lifted(BOOL))
-        }
-        Dotted::MapGet => {
-            ask_key(at, at.lifted_of(Family::Maps), a, b)?;
-            Ok(at.lifted(entry_of(a.inner())))
-        }
-        Dotted::StringConcat => {
-            ask_both(at.lifted(TEXT), a, b)?;
-            Ok(at.lifted(TEXT))
-        }
-        Dotted::SetSize | Dotted::MapAdd | Dotted::MapSize | Dotted::StringSize => Ok(NOTHING),
+    match role {
+        Role::Update(_) => Setting::Streams,
+        Role::Unary(_) => at,
+        Role::Binary(_) => at,
     }
 }
 
-fn dotted_three(function: Dotted, a: ExprType, b: ExprType, c: ExprType) -> Result<ExprType, Clash>
-    ensures { result ≡ dotted_three function a b c }
+fn dotted_one(at: Setting, function: Dotted, a: ExprType) -> Result<ExprType, Clash>
+    ensures { result ≡ dotted_one at function a }
 {
-    match function {
-        Dotted::MapAdd => {
-            ask_key(Setting::Streams, Asked::StreamOf(Family::Maps), a, b)?;
-            ask(Asked::Exactly(ExprType::Stream(entry_of(a.inner()))), c)?;
-            Ok(a)
-        }
-        Dotted::SetAdd
-        | Dotted::SetRemove
-        | Dotted::SetContains
-        | Dotted::SetSize
-        | Dotted::MapRemove
-        | Dotted::MapContains
-        | Dotted::MapGet
-        | Dotted::MapSize
-        | Dotted::StringConcat
-        | Dotted::StringSize => Ok(NOTHING),
-    }
+    let setting = setting_of(function.role(), at);
+    rule_of_one(setting, function.parameters(), function.gives(), a)
+}
+
+fn dotted_two(at: Setting, function: Dotted, a: ExprType, b: ExprType) -> Result<ExprType, Clash>
+    ensures { result ≡ dotted_two at function a b }
+{
+    let setting = setting_of(function.role(), at);
+    rule_of_two(setting, function.parameters(), function.gives(), a, b)
+}
+
+fn dotted_three(
+    at: Setting,
+    function: Dotted,
+    a: ExprType,
+    b: ExprType,
+    c: ExprType,
+) -> Result<ExprType, Clash>
+    ensures { result ≡ dotted_three at function a b c }
+{
+    let setting = setting_of(function.role(), at);
+    rule_of_three(setting, function.parameters(), function.gives(), a, b, c)
 }
 
 /// A function whose name has a dot, at its parts.
@@ -203,7 +264,7 @@ pub fn dotted_rule(at: Setting, function: Dotted, parts: &[ExprType]) -> Result<
         [] => Ok(NOTHING),
         [a] => dotted_one(at, function, *a),
         [a, b] => dotted_two(at, function, *a, *b),
-        [a, b, c] => dotted_three(function, *a, *b, *c),
+        [a, b, c] => dotted_three(at, function, *a, *b, *c),
         [_, _, _, _, ..] => Ok(NOTHING),
     }
 }

@@ -3,7 +3,8 @@
 ghost use Rattle.std.specs.Prelude.{◌≡◌, slice_get};
 ghost use Rattle.std.specs.Option.{option_map};
 ghost use Rattle.type_rules.specs.declared.rule.ExprType.TheVariants as expr_type;
-ghost use Rattle.type_rules.specs.Written.{scalar_of, key_of, value_of, as_written, as_stream, bad_key, bad_scalar, bad_inside, bad_as_written, bad_as_stream};
+ghost use Rattle.type_rules.specs.Written.{scalar_of, key_of, value_of, as_written, as_stream, bad_key, bad_scalar, bad_inside};
+ghost use Rattle.type_rules.specs.Written.{bad_as_written, bad_as_stream};
 
 use crate::rule::ExprType;
 use spec_parser::tree::{TypeName, TypeShape};

@@ -1,7 +1,7 @@
 use Rattle.std.proofs.Common.{◌≡◌, ◌++◌, map, drop}
-use Rattle.spec_parser.specs.Shape.{item_of}
+use Rattle.spec_parser.specs.inner.Shape.{item_of}
 use Rattle.name_check.specs.Scope.{top}
-use Rattle.call_limits.specs.Edges.{mentions_in_outputs}
+use Rattle.call_limits.specs.inner.Edges.{mentions_in_outputs}
 use Rattle.call_limits.proofs.calls.output_mentions.Given as goal
 
 abbrev pub invariant-loop-number : goal.invariant-loop-number

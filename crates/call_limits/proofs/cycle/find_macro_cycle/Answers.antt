@@ -1,17 +1,21 @@
-use Rattle.std.proofs.Common.{map, sym, subst, ◌∙◌}
+use Rattle.std.proofs.Common.{map, sym, subst, ◌∙◌, arith}
 use Rattle.std.proofs.lemmas.List.{length-map}
-use Rattle.spec_parser.specs.Shape.{item_of}
-use Rattle.graph_cycles.specs.Cycle.{IsFirstOnCycle}
+use Rattle.spec_parser.specs.inner.Shape.{item_of}
+use Rattle.translation_order.specs.OnCycle.{IsFirstOnCycle}
+use Rattle.definition_cycles.proofs.CountLemmas.{fewer_items}
 use Rattle.definition_cycles.proofs.CycleLemmas.{none_on_cycle, found_least, same_edges}
 use Rattle.call_limits.specs.Nesting.{CallsMacro}
 use Rattle.call_limits.proofs.GraphLemmas.{macros_between}
 use Rattle.call_limits.proofs.PlaceLemmas.{cycle_within, first_on_cycle}
 use Rattle.call_limits.proofs.cycle.find_macro_cycle.Goals as goal
 
+pub to_node-count-requires : goal.to_node-count-requires
+to_node-count-requires c = let few = fewer_items (map item_of c.args.items.now) c.requires in omega (arith, few, length-map c.args.items.now item_of)
+
 pub first_on_cycle-requires : goal.first_on_cycle-requires
 first_on_cycle-requires c =
     let items = map item_of c.args.items.now in
-    macros_between items c.in_ok-count.count c.deref.result.now (c.in_ok-count.ensures ∙ sym (length-map c.args.items.now item_of))
+    macros_between items c.to_node-count.result c.deref.result.now (c.to_node-count.ensures ∙ sym (length-map c.args.items.now item_of))
     (same_edges (CallsMacro items) c.deref.result.now c.in_ok-calls.calls.macros.items c.deref.ensures.value c.in_ok-calls.ensures.macros)
 
 pub bounds-items-item : goal.bounds-items-item

@@ -1,8 +1,8 @@
 use Rattle.std.proofs.Common.{ℕ, List, sym, subst}
-use Rattle.flat_core.specs.Graph.{IsAcyclic}
+use Rattle.translation_order.specs.Graph.{IsAcyclic}
 use Rattle.translation_order.specs.Order.{Before, AreOfSteps, IsLeastOrder}
-use Rattle.translation_order.specs.Answer.{OnCycle}
-use Rattle.call_limits.proofs.GraphLemmas.{both_turned, pairs_of_items, pairs_acyclic, behind_called}
+use Rattle.translation_order.specs.inner.Answer.{OnCycle}
+use Rattle.call_limits.proofs.GraphLemmas.{both_turned, pairs_of_items, pairs_acyclic, after_called}
 use Rattle.call_limits.proofs.deep.call_order.Goals as goal
 
 pub order-requires : goal.order-requires
@@ -15,7 +15,7 @@ pub returns-in-Ok : goal.returns-in-Ok
 returns-in-Ok c =
     let pairs = both_turned c.args.calls.now.macros.items c.args.calls.now.functions.items c.deref.result.now c.deref-2.result.now c.new-pairs.result c.add_turned.new.pairs c.add_turned-2.new.pairs c.deref.ensures.value c.deref-2.ensures.value c.new-pairs.ensures c.in_ok-add_turned.ensures c.in_ok-add_turned-2.ensures in
     let P : List (ℕ × ℕ) → Type 0 = λ l. IsLeastOrder c.args.count (Before l) c.in-Ok.steps in
-    behind_called c.args.count c.args.calls.now.macros.items c.args.calls.now.functions.items c.requires c.in-Ok.steps (subst P pairs c.in-Ok.ensures.listed)
+    after_called c.args.count c.args.calls.now.macros.items c.args.calls.now.functions.items c.requires c.in-Ok.steps (subst P pairs c.in-Ok.ensures.listed)
 
 pub unreachable-requires : goal.unreachable-requires
 unreachable-requires c =

@@ -1,6 +1,6 @@
 use Rattle.std.proofs.Common.{refl, sym, subst}
-use Rattle.graph_cycles.specs.Cycle.{Edge}
-use Rattle.call_limits.specs.Depths.{AreBehind}
+use Rattle.translation_order.specs.OnCycle.{Edge}
+use Rattle.call_limits.specs.inner.Depths.{AreAfter}
 use Rattle.call_limits.proofs.DepthLemmas.{same_successors, same_depths, order_leads, order_swapped, first_too_deep}
 use Rattle.call_limits.proofs.deep.first_too_deep.Goals as goal
 
@@ -11,7 +11,7 @@ depths-requires-clause-behind c =
     order_leads c.args.count macros functions c.deref-3.result.now c.deref-4.result.now
     (same_successors c.args.count macros c.deref.result.now c.deref-3.result.now c.in_ok-macros.macros.items c.deref.ensures.value c.deref-3.ensures.value c.in_ok-macros.ensures)
     (same_successors c.args.count functions c.deref-2.result.now c.deref-4.result.now c.in_ok-functions.functions.items c.deref-2.ensures.value c.deref-4.ensures.value c.in_ok-functions.ensures)
-    c.as_slice.result.now (subst (AreBehind (Edge macros) (Edge functions) c.args.count) (sym c.as_slice.ensures) c.in_ok-order.ensures)
+    c.as_slice.result.now (subst (AreAfter (Edge macros) (Edge functions) c.args.count) (sym c.as_slice.ensures) c.in_ok-order.ensures)
 
 pub depths-requires-2-clause-behind : goal.depths-requires-2-clause-behind
 depths-requires-2-clause-behind c =
@@ -20,7 +20,7 @@ depths-requires-2-clause-behind c =
     order_swapped c.args.count macros functions c.deref-6.result.now c.deref-5.result.now
     (same_successors c.args.count macros c.deref.result.now c.deref-6.result.now c.in_ok-macros.macros.items c.deref.ensures.value c.deref-6.ensures.value c.in_ok-macros.ensures)
     (same_successors c.args.count functions c.deref-2.result.now c.deref-5.result.now c.in_ok-functions.functions.items c.deref-2.ensures.value c.deref-5.ensures.value c.in_ok-functions.ensures)
-    c.as_slice-2.result.now (subst (AreBehind (Edge macros) (Edge functions) c.args.count) (sym c.as_slice-2.ensures) c.in_ok-order.ensures)
+    c.as_slice-2.result.now (subst (AreAfter (Edge macros) (Edge functions) c.args.count) (sym c.as_slice-2.ensures) c.in_ok-order.ensures)
 
 pub returns : goal.returns
 returns c =

@@ -1,5 +1,5 @@
 use Rattle.std.proofs.Common.{List, ℕ, ◌<◌, [], length, get_or, All, sym, ap, subst, ◌∙◌, arith}
-use Rattle.call_limits.specs.Depths.{IsDepthBy}
+use Rattle.call_limits.specs.inner.Depths.{IsDepthBy}
 use Rattle.call_limits.proofs.DepthLemmas.{read_is, is_item, counted_below, passed_below, known_turn, all_known}
 use Rattle.call_limits.proofs.depth.depths.Goals as goal
 

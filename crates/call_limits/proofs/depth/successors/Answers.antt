@@ -1,4 +1,4 @@
-use Rattle.graph_cycles.proofs.Successors.{successors_at}
+use Rattle.translation_order.proofs.Successors.{successors_at}
 use Rattle.call_limits.proofs.depth.successors.Goals as goal
 
 pub loop-from-preserved : goal.loop-from-preserved

@@ -1,5 +1,5 @@
 use Rattle.std.proofs.Common.{take}
-use Rattle.graph_cycles.specs.Searching.{AreSuccessors}
+use Rattle.translation_order.specs.inner.Searching.{AreSuccessors}
 use Rattle.call_limits.proofs.depth.successors.Given as goal
 
 abbrev pub invariant-loop-from : goal.invariant-loop-from

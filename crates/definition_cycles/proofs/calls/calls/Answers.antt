@@ -1,11 +1,14 @@
 use Rattle.std.proofs.Common.{◌≡◌, map, ap, ◌∙◌}
 use Rattle.std.specs.List.{filter_map}
 use Rattle.std.proofs.lemmas.Result.{IfOk-weaker}
-use Rattle.spec_parser.specs.Shape.{item_of}
+use Rattle.spec_parser.specs.inner.Shape.{item_of}
 use Rattle.definition_cycles.specs.Calls.{Calls}
-use Rattle.definition_cycles.specs.Edges.{AreEdges, call_edge}
-use Rattle.definition_cycles.proofs.CallLemmas.{call_edges}
+use Rattle.definition_cycles.specs.inner.Edges.{AreEdges, call_edge}
+use Rattle.definition_cycles.proofs.CallLemmas.{call_edges, small_calls}
 use Rattle.definition_cycles.proofs.calls.calls.Goals as goal
+
+pub call_edges-requires : goal.call_edges-requires
+call_edges-requires c = small_calls (map item_of c.args.items.now) c.in_ok-graph.graph.found c.mentions.result.now c.requires c.in_ok-graph.ensures.found c.mentions.ensures
 
 pub returns : goal.returns
 returns c =

@@ -1,14 +1,17 @@
 use Rattle.std.proofs.Common.{ℕ, ◌<◌, false, List, length, get_or, map, sym, subst}
 use Rattle.spec_parser.specs.Tree as tree
-use Rattle.spec_parser.specs.Shape.{item_of}
-use Rattle.graph_cycles.specs.Cycle.{IsFirstOnCycle}
+use Rattle.spec_parser.specs.inner.Shape.{item_of}
+use Rattle.translation_order.specs.OnCycle.{IsFirstOnCycle}
 use Rattle.definition_cycles.specs.declared.found.Head.{Head}
-use Rattle.definition_cycles.specs.Nodes.{nodes}
+use Rattle.definition_cycles.specs.Nodes.{HasFewNodes, nodes}
 use Rattle.definition_cycles.specs.Mentions.{MentionsUntyped}
 use Rattle.definition_cycles.specs.Cycles.{NeedsType, IsPlaceOfLeast}
 use Rattle.definition_cycles.proofs.EdgeLemmas.{untyped_between, within_heads, first_untyped}
 use Rattle.definition_cycles.proofs.CycleLemmas.{none_on_cycle, found_least, same_edges}
 use Rattle.definition_cycles.proofs.kinds.find_untyped_cycle.Goals as goal
+
+pub of_items-requires : goal.of_items-requires
+of_items-requires c = subst HasFewNodes (sym c.items.ensures) c.requires
 
 pub first_on_cycle-requires : goal.first_on_cycle-requires
 first_on_cycle-requires c =

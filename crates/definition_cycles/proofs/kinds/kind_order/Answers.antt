@@ -1,15 +1,19 @@
-use Rattle.std.proofs.Common.{List, map, IfOk, OnOk, IfErr, subst}
+use Rattle.std.proofs.Common.{List, map, IfOk, OnOk, IfErr, sym, subst}
 use Rattle.std.proofs.lemmas.Result.{IfOk-weaker, IfErr-weaker, on_ok_weaker}
 use Rattle.spec_parser.specs.Tree as tree
-use Rattle.spec_parser.specs.Shape.{item_of}
+use Rattle.spec_parser.specs.inner.Shape.{item_of}
 use Rattle.translation_order.specs.Order.{Before, IsLeastOrder}
 use Rattle.translation_order.specs.Cycle.{IsCycle}
-use Rattle.translation_order.specs.Answer.{OnCycle}
+use Rattle.translation_order.specs.inner.Answer.{OnCycle}
+use Rattle.definition_cycles.specs.Nodes.{HasFewNodes}
 use Rattle.definition_cycles.specs.Mentions.{MentionsUntyped}
-use Rattle.definition_cycles.specs.Order.{IsKindOrder, Precedes, NoneNeedsType, SomeNeedsType}
+use Rattle.definition_cycles.specs.inner.Order.{IsKindOrder, Precedes, NoneNeedsType, SomeNeedsType}
 use Rattle.definition_cycles.proofs.CycleLemmas.{same_edges}
 use Rattle.definition_cycles.proofs.OrderLemmas.{pairs_of_steps, kind_order, kind_cycle, none_needs, some_needs, on_cycle}
 use Rattle.definition_cycles.proofs.kinds.kind_order.Goals as goal
+
+pub of_items-requires : goal.of_items-requires
+of_items-requires c = subst HasFewNodes (sym c.items.ensures) c.requires
 
 pub order-requires : goal.order-requires
 order-requires c =

@@ -1,7 +1,7 @@
 use Rattle.std.proofs.Common.{◌≡◌, Some, drop}
-use Rattle.spec_parser.specs.Shape.{params_in}
+use Rattle.spec_parser.specs.inner.Shape.{params_in}
 use Rattle.expr_types.specs.Around.{param_types}
-use Rattle.expr_types.specs.Steps.{joined}
+use Rattle.expr_types.specs.inner.Steps.{joined}
 use Rattle.expr_types.proofs.around.param_types.Given as goal
 
 abbrev pub invariant-loop-param : goal.invariant-loop-param

@@ -1,8 +1,8 @@
 use Rattle.std.proofs.Common.{◌≡◌, drop}
-use Rattle.spec_parser.specs.Shape.{definitions_of}
+use Rattle.spec_parser.specs.inner.Shape.{definitions_of}
 use Rattle.expr_types.specs.Bodies.{local_wrongs}
-use Rattle.expr_types.specs.Shown.{around_of}
-use Rattle.expr_types.specs.Answers.{first}
+use Rattle.expr_types.specs.inner.Shown.{around_of}
+use Rattle.expr_types.specs.inner.Answers.{first}
 use Rattle.expr_types.proofs.body.find_in_locals.Given as goal
 
 abbrev pub invariant-loop-definition : goal.invariant-loop-definition

@@ -1,4 +1,4 @@
-use Rattle.expr_types.specs.Shown.{around_of}
+use Rattle.expr_types.specs.inner.Shown.{around_of}
 use Rattle.expr_types.proofs.BodyLemmas.{mention_found}
 use Rattle.expr_types.proofs.body.find_in_mention.Goals as goal
 

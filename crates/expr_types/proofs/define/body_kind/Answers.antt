@@ -1,6 +1,6 @@
 use Rattle.std.proofs.Common.{ap}
 use Rattle.name_check.specs.Scope.{seen}
-use Rattle.expr_types.specs.Shown.{around_of}
+use Rattle.expr_types.specs.inner.Shown.{around_of}
 use Rattle.expr_types.proofs.BodyLemmas.{kind_inside}
 use Rattle.expr_types.proofs.define.body_kind.Goals as goal
 

@@ -1,6 +1,6 @@
 use Rattle.std.proofs.Common.{map, ap}
-use Rattle.spec_parser.specs.Shape.{body_of, item_of, params_in}
-use Rattle.expr_types.specs.Shown.{kinds_of}
+use Rattle.spec_parser.specs.inner.Shape.{body_of, item_of, params_in}
+use Rattle.expr_types.specs.inner.Shown.{kinds_of}
 use Rattle.expr_types.proofs.BodyLemmas.{inside_agrees, definition_is}
 use Rattle.expr_types.proofs.define.kind_in_definition.Goals as goal
 

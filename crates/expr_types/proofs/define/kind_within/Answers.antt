@@ -1,10 +1,13 @@
-use Rattle.std.proofs.Common.{ap}
-use Rattle.spec_parser.specs.Shape.{definitions_of}
-use Rattle.name_check.specs.Scope.{seen}
-use Rattle.expr_types.specs.Shown.{around_of}
-use Rattle.expr_types.proofs.BodyLemmas.{local_inside}
+use Rattle.std.proofs.Common.{map}
+use Rattle.spec_parser.specs.inner.Shape.{definition_of, item_of}
+use Rattle.expr_types.specs.inner.Shown.{kinds_of}
+use Rattle.expr_types.proofs.BlockLemmas.{within_is, none_within}
 use Rattle.expr_types.proofs.define.kind_within.Goals as goal
+
+pub returns-in-Some : goal.returns-in-Some
+returns-in-Some c =
+    within_is c.local_definition_kind.result (map item_of c.args.items.now) (kinds_of c.args.kinds.now) c.args.number c.args.local c.args.block.now c.args.names.now c.all-outer.result c.within-around.result c.within-scope.result c.definition.result c.in-Some.definition (definition_of c.parts.result.now) c.requires c.all-outer.ensures c.within-around.ensures c.within-scope.ensures c.in-Some.is c.definition.ensures c.parts.ensures c.local_definition_kind.ensures
 
 pub returns : goal.returns
 returns c =
-    local_inside c.local_kind.result (around_of c.args.at.now) (around_of c.within.result) c.in_ok-locals.field-0 c.inner-scope.result c.args.local (definitions_of c.args.definitions.now) c.in_ok-locals.ensures c.within.ensures (ap seen c.inner-scope.ensures) c.local_kind.ensures
+    none_within (map item_of c.args.items.now) (kinds_of c.args.kinds.now) c.args.number c.args.local c.args.block.now c.definition.result c.in-None.is c.definition.ensures

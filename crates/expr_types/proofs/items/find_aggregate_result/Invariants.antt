@@ -1,8 +1,8 @@
 use Rattle.std.proofs.Common.{◌≡◌, map, drop}
-use Rattle.spec_parser.specs.Shape.{item_of}
+use Rattle.spec_parser.specs.inner.Shape.{item_of}
 use Rattle.expr_types.specs.Bodies.{aggregate_results_from}
-use Rattle.expr_types.specs.Shown.{kinds_of}
-use Rattle.expr_types.specs.Answers.{first}
+use Rattle.expr_types.specs.inner.Shown.{kinds_of}
+use Rattle.expr_types.specs.inner.Answers.{first}
 use Rattle.expr_types.proofs.items.find_aggregate_result.Given as goal
 
 abbrev pub invariant-loop-number : goal.invariant-loop-number

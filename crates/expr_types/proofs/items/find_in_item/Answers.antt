@@ -1,6 +1,6 @@
 use Rattle.std.proofs.Common.{map}
-use Rattle.spec_parser.specs.Shape.{item_of}
-use Rattle.expr_types.specs.Shown.{around_of, kinds_of}
+use Rattle.spec_parser.specs.inner.Shape.{item_of}
+use Rattle.expr_types.specs.inner.Shown.{around_of, kinds_of}
 use Rattle.expr_types.proofs.BodyLemmas.{output_found}
 use Rattle.expr_types.proofs.items.find_in_item.Goals as goal
 

@@ -1,14 +1,15 @@
 use Rattle.std.proofs.Common.{◌≡◌, false, [], ◌∷◌, ◌++◌, None, rules, sym, ◌∙◌}
 use Rattle.std.specs.Option.{option_map}
 use Rattle.std.proofs.lemmas.Result.{err_from_is_err_and}
-use Rattle.spec_parser.specs.Shape.{exprs_of, links_in}
+use Rattle.spec_parser.specs.inner.Shape.{exprs_of, links_in}
 use Rattle.spec_parser.specs.declared.tree.Node.TheVariants as node
 use Rattle.name_check.specs.Builtin.{is_lift}
-use Rattle.name_check.proofs.SizeLemmas.{argument_smaller, link_smaller, front_within, size_of_node}
+use Rattle.name_check.specs.inner.Shown.{nowhere}
+use Rattle.spec_parser.proofs.Sizes.{argument_smaller, link_smaller, front_within, size_of_node}
 use Rattle.expr_types.specs.Judge.{types_of}
-use Rattle.expr_types.specs.Shown.{around_of, callee_in}
-use Rattle.expr_types.specs.Steps.{argument_wrongs, link_wrongs, chain_verdict}
-use Rattle.expr_types.specs.Answers.{types_in}
+use Rattle.expr_types.specs.inner.Shown.{around_of, callee_in}
+use Rattle.expr_types.specs.inner.Steps.{argument_wrongs, link_wrongs, chain_verdict}
+use Rattle.expr_types.specs.inner.Answers.{types_in}
 use Rattle.expr_types.proofs.ArgumentLemmas.{arguments_fine, arguments_more, arguments_stop, arguments_end, lift_stop, lift_done}
 use Rattle.expr_types.proofs.CallLemmas.{call_stop}
 use Rattle.expr_types.proofs.ChainLemmas.{links_fine, links_more, links_clash, links_stop, links_end, same_chain}
@@ -34,7 +35,7 @@ lift-arguments-requires t c =
 
 pub expression-inner-requires : goal.expression-inner-requires
 expression-inner-requires t c =
-    let smaller = size_of_node c.args.expression.now c.node.result.now c.node.ensures in
+    let smaller = size_of_node c.args.expression.now c.node.result.now nowhere c.node.ensures in
     search rules
 
 -- ---- an expression

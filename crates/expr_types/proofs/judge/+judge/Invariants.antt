@@ -1,10 +1,10 @@
 use Rattle.std.proofs.Common.{◌≡◌, ◌+◌, ◌*◌, drop}
-use Rattle.spec_parser.specs.Shape.{exprs_of, links_in, expr_of, size_of, size_of_exprs, size_of_links}
-use Rattle.name_check.specs.Shown.{nowhere}
+use Rattle.spec_parser.specs.inner.Shape.{exprs_of, links_in, expr_of, size_of, size_of_exprs, size_of_links}
+use Rattle.name_check.specs.inner.Shown.{nowhere}
 use Rattle.expr_types.specs.Judge.{types_of}
-use Rattle.expr_types.specs.Shown.{around_of}
-use Rattle.expr_types.specs.Steps.{argument_wrongs, link_wrongs, chain_verdict, joined}
-use Rattle.expr_types.specs.Answers.{types_in}
+use Rattle.expr_types.specs.inner.Shown.{around_of}
+use Rattle.expr_types.specs.inner.Steps.{argument_wrongs, link_wrongs, chain_verdict, joined}
+use Rattle.expr_types.specs.inner.Answers.{types_in}
 use Rattle.expr_types.proofs.judge.+judge.Given as goal
 
 abbrev pub decreases-expression : goal.decreases-expression

@@ -1,5 +1,5 @@
 use Rattle.std.proofs.Common.{◌≡◌, ℕ, vec_len, ◌+◌, ◌-◌}
-use Rattle.expr_types.specs.Shown.{kinds_at}
+use Rattle.expr_types.specs.inner.Shown.{kinds_at}
 use Rattle.expr_types.proofs.kinds.make_block_room.Given as goal
 
 abbrev pub invariant-loop-alloc : goal.invariant-loop-alloc

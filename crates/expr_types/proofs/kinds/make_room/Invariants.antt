@@ -1,5 +1,5 @@
 use Rattle.std.proofs.Common.{◌≡◌, ℕ, vec_len, ◌+◌, ◌-◌}
-use Rattle.expr_types.specs.Shown.{kind_at}
+use Rattle.expr_types.specs.inner.Shown.{kind_at}
 use Rattle.expr_types.proofs.kinds.make_room.Given as goal
 
 abbrev pub invariant-loop-kinds : goal.invariant-loop-kinds

@@ -1,10 +1,10 @@
 use Rattle.std.proofs.Common.{◌≡◌, None, rules, map, sym, ap, ◌∙◌}
-use Rattle.spec_parser.specs.Shape.{definition_of, definitions_of, item_of}
+use Rattle.spec_parser.specs.inner.Shape.{definition_of, definitions_of, item_of}
 use Rattle.name_check.specs.Scope.{seen}
 use Rattle.name_check.specs.Faults.{first}
-use Rattle.name_check.proofs.SizeLemmas.{definition_smaller}
+use Rattle.spec_parser.proofs.Sizes.{definition_smaller}
 use Rattle.form_check.specs.Arity.{wrong_in}
-use Rattle.form_check.specs.Steps.{wrong_in_locals}
+use Rattle.form_check.specs.inner.Steps.{wrong_in_locals}
 use Rattle.name_check.proofs.WalkLemmas.{block_hit, block_rest, locals_hit, locals_turn, ok_same}
 use Rattle.form_check.proofs.ArityLemmas.{wrong_same}
 use Rattle.form_check.proofs.arity.+arity.Goals as goal

@@ -1,8 +1,8 @@
 use Rattle.std.proofs.Common.{◌≡◌, ◌+◌, ◌*◌, map, drop}
-use Rattle.spec_parser.specs.Shape.{body_of, definition_of, definitions_of, item_of, size_of_definition, size_of_body, size_of_definitions}
+use Rattle.spec_parser.specs.inner.Shape.{body_of, definition_of, definitions_of, item_of, size_of_definition, size_of_body, size_of_definitions}
 use Rattle.name_check.specs.Scope.{seen}
 use Rattle.name_check.specs.Faults.{first}
-use Rattle.form_check.specs.Steps.{wrong_in_locals}
+use Rattle.form_check.specs.inner.Steps.{wrong_in_locals}
 use Rattle.form_check.proofs.arity.+arity.Given as goal
 
 abbrev pub decreases-find_in_body : goal.decreases-find_in_body

@@ -1,11 +1,11 @@
 use Rattle.std.proofs.Common.{◌≡◌, [], ◌∷◌, if◌then◌else◌, map, refl, ap, subst, ◌∙◌}
-use Rattle.spec_parser.specs.Shape.{params_in, body_of, item_of}
+use Rattle.spec_parser.specs.inner.Shape.{params_in, body_of, item_of}
 use Rattle.spec_parser.specs.declared.tree.Param.{Param}
 use Rattle.std.specs.Prelude.{List}
 use Rattle.name_check.specs.Scope.{seen, are_values, functions_of, parameters_from, Agree}
 use Rattle.name_check.specs.Faults.{first}
 use Rattle.form_check.specs.Arity.{wrong_in}
-use Rattle.form_check.specs.Steps.{wrong_in_body}
+use Rattle.form_check.specs.inner.Steps.{wrong_in_body}
 use Rattle.name_check.proofs.WalkLemmas.{definition_same, ok_same}
 use Rattle.form_check.proofs.ArityLemmas.{wrong_same}
 use Rattle.form_check.proofs.arity.find_in_definition.Goals as goal

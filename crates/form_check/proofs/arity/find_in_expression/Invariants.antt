@@ -1,8 +1,8 @@
 use Rattle.std.proofs.Common.{◌≡◌, map, filter, drop}
-use Rattle.spec_parser.specs.Shape.{item_of}
+use Rattle.spec_parser.specs.inner.Shape.{item_of}
 use Rattle.name_check.specs.Scope.{seen}
 use Rattle.name_check.specs.Parts.{part_place}
-use Rattle.name_check.specs.Shown.{parts_in}
+use Rattle.name_check.specs.inner.Shown.{parts_in}
 use Rattle.name_check.specs.Faults.{first}
 use Rattle.form_check.specs.Arity.{is_wrong, wrong_in}
 use Rattle.form_check.proofs.arity.find_in_expression.Given as goal

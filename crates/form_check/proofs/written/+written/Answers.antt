@@ -1,6 +1,6 @@
 use Rattle.std.proofs.Common.{rules}
-use Rattle.spec_parser.specs.Shape.{definition_of}
-use Rattle.name_check.proofs.SizeLemmas.{definition_smaller}
+use Rattle.spec_parser.specs.inner.Shape.{definition_of}
+use Rattle.spec_parser.proofs.Sizes.{definition_smaller}
 use Rattle.form_check.proofs.written.+written.Goals as goal
 
 pub find_in_locals-find_in_local-requires : goal.find_in_locals-find_in_local-requires

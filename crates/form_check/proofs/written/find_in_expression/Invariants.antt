@@ -1,6 +1,6 @@
 use Rattle.std.proofs.Common.{◌≡◌, drop}
 use Rattle.std.specs.List.{flat_map}
-use Rattle.name_check.specs.Shown.{parts_in}
+use Rattle.name_check.specs.inner.Shown.{parts_in}
 use Rattle.name_check.specs.Faults.{first}
 use Rattle.form_check.specs.Types.{bad_in_part, bad_in_expression}
 use Rattle.form_check.proofs.written.find_in_expression.Given as goal

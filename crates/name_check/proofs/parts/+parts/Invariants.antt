@@ -1,7 +1,7 @@
 use Rattle.std.proofs.Common.{◌≡◌, ◌+◌, ◌*◌, ◌++◌, drop}
-use Rattle.spec_parser.specs.Shape.{exprs_of, links_in, expr_of, size_of, size_of_exprs, size_of_links}
+use Rattle.spec_parser.specs.inner.Shape.{exprs_of, links_in, expr_of, size_of, size_of_exprs, size_of_links}
 use Rattle.name_check.specs.Parts.{argument_parts, link_parts}
-use Rattle.name_check.specs.Shown.{parts_in, nowhere}
+use Rattle.name_check.specs.inner.Shown.{parts_in, nowhere}
 use Rattle.name_check.proofs.parts.+parts.Given as goal
 
 abbrev pub decreases-add_parts : goal.decreases-add_parts

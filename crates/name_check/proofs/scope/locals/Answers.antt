@@ -1,6 +1,6 @@
 use Rattle.std.proofs.Common.{◌+◌, suc, ap, ◌∙◌}
 use Rattle.name_check.specs.Scope.{count_in}
-use Rattle.name_check.specs.Steps.{local_name, local_body}
+use Rattle.name_check.specs.inner.Steps.{local_name, local_body}
 use Rattle.name_check.proofs.AgreeLemmas.{locals_turn}
 use Rattle.name_check.proofs.scope.locals.Goals as goal
 

@@ -1,5 +1,5 @@
 use Rattle.std.proofs.Common.{◌++◌, drop}
-use Rattle.spec_parser.specs.Shape.{definitions_of}
+use Rattle.spec_parser.specs.inner.Shape.{definitions_of}
 use Rattle.name_check.specs.Scope.{locals_from, Agree}
 use Rattle.name_check.proofs.scope.locals.Given as goal
 

@@ -1,5 +1,5 @@
 use Rattle.std.proofs.Common.{◌++◌, drop}
-use Rattle.spec_parser.specs.Shape.{params_in}
+use Rattle.spec_parser.specs.inner.Shape.{params_in}
 use Rattle.name_check.specs.Scope.{parameters_from, Agree}
 use Rattle.name_check.proofs.scope.parameters.Given as goal
 

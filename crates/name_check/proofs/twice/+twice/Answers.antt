@@ -1,8 +1,8 @@
 use Rattle.std.proofs.Common.{◌≡◌, ◌∷◌, None, rules, sym, ap, ◌∙◌}
-use Rattle.spec_parser.specs.Shape.{definition_of}
+use Rattle.spec_parser.specs.inner.Shape.{definition_of}
 use Rattle.name_check.specs.declared.declaration.Declaration.TheVariants as declaration
-use Rattle.name_check.specs.Steps.{names_of}
-use Rattle.name_check.proofs.SizeLemmas.{definition_smaller}
+use Rattle.name_check.specs.inner.Steps.{names_of}
+use Rattle.spec_parser.proofs.Sizes.{definition_smaller}
 use Rattle.name_check.proofs.TwiceLemmas.{block_turn, block_hit, one_more_name, whatever, if_none}
 use Rattle.name_check.proofs.twice.+twice.Goals as goal
 

@@ -1,8 +1,8 @@
 use Rattle.std.proofs.Common.{◌≡◌, ◌++◌, map, drop}
-use Rattle.spec_parser.specs.Shape.{item_of}
+use Rattle.spec_parser.specs.inner.Shape.{item_of}
 use Rattle.name_check.specs.Scope.{top, declared_from}
 use Rattle.name_check.specs.Faults.{first, twice_from, declared_twice}
-use Rattle.name_check.specs.Steps.{names_of}
+use Rattle.name_check.specs.inner.Steps.{names_of}
 use Rattle.name_check.proofs.twice.declare_items.Given as goal
 
 abbrev pub invariant-loop-number : goal.invariant-loop-number

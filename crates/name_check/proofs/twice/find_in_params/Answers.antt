@@ -1,7 +1,7 @@
 use Rattle.std.proofs.Common.{◌≡◌, [], ◌∷◌, ◌++◌, None, rules, sym, ap, ◌∙◌}
 use Rattle.name_check.specs.declared.declaration.Declaration.TheVariants as declaration
 use Rattle.name_check.specs.Faults.{first, again}
-use Rattle.name_check.specs.Steps.{names_of}
+use Rattle.name_check.specs.inner.Steps.{names_of}
 use Rattle.name_check.proofs.TwiceLemmas.{params_turn, if_none}
 use Rattle.name_check.proofs.twice.find_in_params.Goals as goal
 

@@ -1,7 +1,7 @@
 use Rattle.std.proofs.Common.{◌≡◌, [], drop}
-use Rattle.spec_parser.specs.Shape.{params_in}
+use Rattle.spec_parser.specs.inner.Shape.{params_in}
 use Rattle.name_check.specs.Faults.{first, twice_in_params}
-use Rattle.name_check.specs.Steps.{names_of}
+use Rattle.name_check.specs.inner.Steps.{names_of}
 use Rattle.name_check.proofs.twice.find_in_params.Given as goal
 
 abbrev pub invariant-loop-param : goal.invariant-loop-param

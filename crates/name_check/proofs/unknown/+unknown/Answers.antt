@@ -1,9 +1,9 @@
 use Rattle.std.proofs.Common.{rules, sym, ap, ◌∙◌}
-use Rattle.spec_parser.specs.Shape.{definition_of, definitions_of}
+use Rattle.spec_parser.specs.inner.Shape.{definition_of, definitions_of}
 use Rattle.name_check.specs.Scope.{seen}
 use Rattle.name_check.specs.Faults.{first, unknown_in}
-use Rattle.name_check.specs.Steps.{unknown_in_locals}
-use Rattle.name_check.proofs.SizeLemmas.{definition_smaller}
+use Rattle.name_check.specs.inner.Steps.{unknown_in_locals}
+use Rattle.spec_parser.proofs.Sizes.{definition_smaller}
 use Rattle.name_check.proofs.UnknownLemmas.{unknown_same}
 use Rattle.name_check.proofs.WalkLemmas.{block_hit, block_rest, locals_hit, locals_turn, ok_same}
 use Rattle.name_check.proofs.unknown.+unknown.Goals as goal

@@ -1,10 +1,10 @@
 use Rattle.std.proofs.Common.{◌≡◌, [], ◌∷◌, if◌then◌else◌, refl, ap, subst, ◌∙◌}
-use Rattle.spec_parser.specs.Shape.{params_in, body_of}
+use Rattle.spec_parser.specs.inner.Shape.{params_in, body_of}
 use Rattle.spec_parser.specs.declared.tree.Param.{Param}
 use Rattle.std.specs.Prelude.{List}
 use Rattle.name_check.specs.Scope.{seen, are_values, functions_of, parameters_from, Agree}
 use Rattle.name_check.specs.Faults.{first, unknown_in}
-use Rattle.name_check.specs.Steps.{unknown_in_body}
+use Rattle.name_check.specs.inner.Steps.{unknown_in_body}
 use Rattle.name_check.proofs.UnknownLemmas.{unknown_same}
 use Rattle.name_check.proofs.WalkLemmas.{definition_same, ok_same}
 use Rattle.name_check.proofs.unknown.find_in_definition.Goals as goal

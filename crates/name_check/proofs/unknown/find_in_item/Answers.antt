@@ -1,8 +1,8 @@
 use Rattle.std.proofs.Common.{sym, ap, ◌∙◌}
-use Rattle.spec_parser.specs.Shape.{item_of}
+use Rattle.spec_parser.specs.inner.Shape.{item_of}
 use Rattle.name_check.specs.Scope.{seen}
 use Rattle.name_check.specs.Faults.{first, unknown_in}
-use Rattle.name_check.specs.Steps.{unknown_in_item}
+use Rattle.name_check.specs.inner.Steps.{unknown_in_item}
 use Rattle.name_check.proofs.WalkLemmas.{alone_same, ok_same}
 use Rattle.name_check.proofs.unknown.find_in_item.Goals as goal
 

@@ -17,7 +17,8 @@ returns-in-Ok-clause-ok c =
     let digits = front_of_digits c.args.c c.args.after.now c.args.characters.now c.requires.characters c.requires.digit in
     let text = c.as_str.ensures ∙ c.in_ok-digits.ensures ∙ ap (λ n. encode_utf8_all (take (1 + n) c.args.characters.now)) c.digits-count.ensures.length ∙ encode-digits (take count c.args.characters.now) digits.0 in
     let parsed = subst (λ t. ParsesUnsigned 64 10 t c.parse.result) text c.parse.ensures.value.0 in
-    ap (λ n. Ok (Made (Number c.in-Ok.number) (1 + n))) c.digits-count.ensures.length
+    ap (λ m. Ok (Made (Number m) (1 + c.digits-count.result))) c.new.ensures
+    ∙ ap (λ n. Ok (Made (Number c.in-Ok.number) (1 + n))) c.digits-count.ensures.length
     ∙ number_read c.args.at (take count c.args.characters.now) c.parse.result c.in-Ok.number count digits.0 parsed c.in-Ok.is c.if-number-le-MAX_NUMBER.true
 
 pub returns-clause-fault : goal.returns-clause-fault

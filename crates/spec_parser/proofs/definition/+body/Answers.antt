@@ -1,7 +1,7 @@
 use Rattle.std.proofs.Common.{◌+◌, arith}
 use Rattle.std.proofs.lemmas.Result.{err_from_is_err_and}
-use Rattle.spec_parser.specs.Shape.{params_in}
-use Rattle.spec_parser.proofs.TurnLaws.{behind_is}
+use Rattle.spec_parser.specs.inner.Shape.{params_in}
+use Rattle.spec_parser.proofs.TurnLaws.{what_follows_is}
 use Rattle.spec_parser.proofs.ItemLoops.{definition_shorter, definition_passes, definition_fails, definitions_end, definitions_empty}
 use Rattle.spec_parser.proofs.definition.+body.Goals as goal
 use Rattle.spec_parser.proofs.definition.+body.Goals.{definitions-in-Some+then-not-begins_definition, definitions-in_default}
@@ -26,5 +26,5 @@ definitions-returns t c = elim c.match-split_first.branch [
   | definitions-in_default w ↦ definitions_empty c.args.room c.definitions.definitions.items c.definitions.rest.now _ w.in_default.ensures.cases c.definitions.invariant
 ]
 
-pub behind_head-returns : goal.behind_head-returns
-behind_head-returns t c = rw (behind_is c.args.room (c.args.room + 1) c.args.place c.args.name.now (params_in c.args.params.items) c.args.tokens.now c.in_ok-written.written c.in_ok-written.rest.now (omega arith) c.in_ok-written.ensures) c.defined.ensures
+pub after_head-returns : goal.after_head-returns
+after_head-returns t c = rw (what_follows_is c.args.room (c.args.room + 1) c.args.place c.args.name.now (params_in c.args.params.items) c.args.tokens.now c.in_ok-written.written c.in_ok-written.rest.now (omega arith) c.in_ok-written.ensures) c.defined.ensures

@@ -1,7 +1,7 @@
 use Rattle.std.proofs.Common.{◌≡◌, suc, ◌+◌, ◌*◌, length}
-use Rattle.token_reader.specs.Reader.{many, with_list}
-use Rattle.spec_parser.specs.Reading.{type_in, within, definitions_of, a_body, block}
-use Rattle.spec_parser.specs.Gives.{join_definitions}
+use Rattle.token_reader.specs.inner.Reader.{many, with_list}
+use Rattle.spec_parser.specs.inner.Reading.{type_in, within, definitions_of, a_body, block}
+use Rattle.spec_parser.specs.inner.Gives.{join_definitions}
 use Rattle.spec_parser.proofs.definition.+body.Given as goal
 
 abbrev pub decreases-body : goal.decreases-body
@@ -19,8 +19,8 @@ decreases-definitions l = 8 * l.room + 5
 abbrev pub decreases-inner_definition : goal.decreases-inner_definition
 decreases-inner_definition l = 8 * l.room + 4
 
-abbrev pub decreases-behind_head : goal.decreases-behind_head
-decreases-behind_head l = 8 * l.room + 3
+abbrev pub decreases-after_head : goal.decreases-after_head
+decreases-after_head l = 8 * l.room + 3
 
 abbrev pub decreases-defined : goal.decreases-defined
 decreases-defined l = 8 * l.room + 2

@@ -1,10 +1,10 @@
 use Rattle.std.proofs.Common.{◌≡◌, ℕ, ◌+◌, ◌*◌, length}
-use Rattle.token_reader.specs.Reader.{many, with_list}
+use Rattle.token_reader.specs.inner.Reader.{many, with_list}
 use Rattle.spec_parser.specs.declared.tree.Level.{Level}
 use Rattle.spec_parser.specs.declared.tree.Level.TheVariants as level
-use Rattle.spec_parser.specs.Shape.{links_in}
-use Rattle.spec_parser.specs.Reading.{links_of, others_of, within, operand_at}
-use Rattle.spec_parser.specs.Gives.{join_exprs, join_links}
+use Rattle.spec_parser.specs.inner.Shape.{links_in}
+use Rattle.spec_parser.specs.inner.Reading.{links_of, others_of, within, operand_at}
+use Rattle.spec_parser.specs.inner.Gives.{join_exprs, join_links}
 use Rattle.spec_parser.proofs.expression.+parser.Given as goal
 
 -- weaker levels call stronger ones
@@ -41,8 +41,8 @@ decreases-operand l = 32 * l.room + rank l.level
 abbrev pub decreases-one_comparison : goal.decreases-one_comparison
 decreases-one_comparison l = 32 * l.room + 15
 
-abbrev pub decreases-behind_left : goal.decreases-behind_left
-decreases-behind_left l = 32 * l.room + 14
+abbrev pub decreases-after_left : goal.decreases-after_left
+decreases-after_left l = 32 * l.room + 14
 
 abbrev pub decreases-unary : goal.decreases-unary
 decreases-unary l = 32 * l.room + 7
@@ -62,11 +62,11 @@ decreases-inside l = 32 * l.room + 1
 abbrev pub decreases-opposite : goal.decreases-opposite
 decreases-opposite l = 32 * l.room
 
-abbrev pub decreases-name_behind : goal.decreases-name_behind
-decreases-name_behind l = 32 * l.room + 6
+abbrev pub decreases-name_after : goal.decreases-name_after
+decreases-name_after l = 32 * l.room + 6
 
-abbrev pub decreases-member_behind_dot : goal.decreases-member_behind_dot
-decreases-member_behind_dot l = 32 * l.room + 5
+abbrev pub decreases-member_after_dot : goal.decreases-member_after_dot
+decreases-member_after_dot l = 32 * l.room + 5
 
 abbrev pub decreases-call_dotted : goal.decreases-call_dotted
 decreases-call_dotted l = 32 * l.room + 4
@@ -74,8 +74,8 @@ decreases-call_dotted l = 32 * l.room + 4
 abbrev pub decreases-call : goal.decreases-call
 decreases-call l = 32 * l.room + 3
 
-abbrev pub decreases-behind_first : goal.decreases-behind_first
-decreases-behind_first l = 32 * l.room + 2
+abbrev pub decreases-after_the_first : goal.decreases-after_the_first
+decreases-after_the_first l = 32 * l.room + 2
 
 abbrev pub decreases-more_arguments : goal.decreases-more_arguments
 decreases-more_arguments l = 32 * l.room + 1

@@ -1,6 +1,6 @@
 use Rattle.std.proofs.Common.{◌≡◌, length}
-use Rattle.token_reader.specs.Reader.{many, with_list}
-use Rattle.spec_parser.specs.Reading.{items_at}
+use Rattle.token_reader.specs.inner.Reader.{many, with_list}
+use Rattle.spec_parser.specs.inner.Reading.{items_at}
 use Rattle.spec_parser.proofs.ItemLoops.{join_items}
 use Rattle.spec_parser.proofs.item.items.Given as goal
 

@@ -7,8 +7,8 @@ decreases-type_in_room l = 8 * l.room
 abbrev pub decreases-any_type : goal.decreases-any_type
 decreases-any_type l = 8 * l.room + 5
 
-abbrev pub decreases-behind_word : goal.decreases-behind_word
-decreases-behind_word l = 8 * l.room + 4
+abbrev pub decreases-after_word : goal.decreases-after_word
+decreases-after_word l = 8 * l.room + 4
 
 abbrev pub decreases-with_one : goal.decreases-with_one
 decreases-with_one l = 8 * l.room + 3

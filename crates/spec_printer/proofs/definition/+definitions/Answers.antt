@@ -1,8 +1,9 @@
-use Rattle.std.proofs.Common.{rules, take}
-use Rattle.spec_parser.specs.Shape.{definitions_of}
-use Rattle.spec_printer.specs.Print.{definition_marks, definitions_marks}
+use Rattle.std.proofs.Common.{rules, refl, take}
+use Rattle.spec_parser.specs.inner.Shape.{definitions_of}
+use Rattle.spec_printer.specs.inner.Print.{definition_marks, definitions_marks}
 use Rattle.spec_printer.proofs.Joined.{kept, on_err}
-use Rattle.spec_printer.proofs.Turns.{definitions_turn, definition_smaller}
+use Rattle.spec_parser.proofs.Sizes.{definition_smaller}
+use Rattle.spec_printer.proofs.Turns.{definitions_turn}
 use Rattle.spec_printer.proofs.definition.+definitions.Goals as goal
 
 pub put_definitions-loop-definition-preserved : goal.put_definitions-loop-definition-preserved
@@ -11,7 +12,7 @@ put_definitions-loop-definition-preserved t c =
 
 pub put_definitions-put_definition-requires : goal.put_definitions-put_definition-requires
 put_definitions-put_definition-requires t c =
-    let smaller = definition_smaller c.args.definitions.now c.loop-definition.definition-index c.definition-item.result c.loop-definition-test.true c.definition-item.is in
+    let smaller = definition_smaller c.args.definitions.now c.loop-definition.definition-index c.definition-item.result c.definition-item.result c.loop-definition-test.true c.definition-item.is refl in
     search rules
 
 pub put_definitions-returns-in_err-put_definition-clause-err : goal.put_definitions-returns-in_err-put_definition-clause-err

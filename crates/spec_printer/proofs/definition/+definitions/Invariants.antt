@@ -1,7 +1,7 @@
 use Rattle.std.proofs.Common.{◌≡◌, ◌+◌, ◌*◌, ◌++◌, take}
-use Rattle.spec_parser.specs.Shape.{body_of, definition_of, definitions_of, size_of_definition, size_of_body, size_of_definitions}
-use Rattle.spec_printer.specs.Marks.{text_of}
-use Rattle.spec_printer.specs.Print.{definitions_marks}
+use Rattle.spec_parser.specs.inner.Shape.{body_of, definition_of, definitions_of, size_of_definition, size_of_body, size_of_definitions}
+use Rattle.spec_printer.specs.inner.Marks.{text_of}
+use Rattle.spec_printer.specs.inner.Print.{definitions_marks}
 use Rattle.spec_printer.proofs.definition.+definitions.Given as goal
 
 abbrev pub decreases-put_definition : goal.decreases-put_definition

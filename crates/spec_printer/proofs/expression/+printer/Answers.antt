@@ -1,12 +1,13 @@
 use Rattle.std.proofs.Common.{rules, [], ◌∷◌, take}
 use Rattle.std.proofs.lemmas.Result.{on_err_weaker}
 use Rattle.spec_lexer.specs.declared.token.Symbol.TheVariants as symbol
-use Rattle.spec_parser.specs.Shape.{exprs_of, links_in}
-use Rattle.spec_printer.specs.Marks as mark
-use Rattle.spec_printer.specs.Print.{link_marks, expr_marks_behind}
+use Rattle.spec_parser.specs.inner.Shape.{exprs_of, links_in}
+use Rattle.spec_printer.specs.inner.Marks as mark
+use Rattle.spec_printer.specs.inner.Print.{link_marks, expr_marks_after}
 use Rattle.spec_printer.proofs.Anywhere.{marks_of_node}
 use Rattle.spec_printer.proofs.Joined.{kept, on_err}
-use Rattle.spec_printer.proofs.Turns.{arguments_turn, links_turn, argument_smaller, link_smaller}
+use Rattle.spec_parser.proofs.Sizes.{argument_smaller, link_smaller}
+use Rattle.spec_printer.proofs.Turns.{arguments_turn, links_turn}
 use Rattle.spec_printer.proofs.expression.+printer.Goals as goal
 
 pub put_arguments-loop-argument-preserved : goal.put_arguments-loop-argument-preserved
@@ -16,13 +17,13 @@ put_arguments-loop-argument-preserved t c =
 pub put_arguments-returns-in_err-put_expression-clause-err : goal.put_arguments-returns-in_err-put_expression-clause-err
 put_arguments-returns-in_err-put_expression-clause-err t c =
     on_err c.from_residual-in_err-put_expression.result
-    (kept c.args.out.now c.loop-argument.out c.put_expression.new.out (expr_marks_behind symbol.Open (exprs_of (take c.loop-argument.argument-index c.args.arguments.now))) c.loop-argument.invariant.1
+    (kept c.args.out.now c.loop-argument.out c.put_expression.new.out (expr_marks_after symbol.Open (exprs_of (take c.loop-argument.argument-index c.args.arguments.now))) c.loop-argument.invariant.1
     (kept c.loop-argument.out c.put_symbol.new.out c.put_expression.new.out (mark.symbol c.loop-argument.before ∷ []) c.in_ok-put_symbol.ensures.ok c.in_err-put_expression.ensures.err))
 
 pub put_arguments-returns-clause-err : goal.put_arguments-returns-clause-err
 put_arguments-returns-clause-err t c =
     on_err_weaker c.put_symbol-2.result
-    (kept c.args.out.now c.loop-argument.out c.put_symbol-2.new.out (expr_marks_behind symbol.Open (exprs_of (take c.loop-argument.argument-index c.args.arguments.now))) c.loop-argument.invariant.1)
+    (kept c.args.out.now c.loop-argument.out c.put_symbol-2.new.out (expr_marks_after symbol.Open (exprs_of (take c.loop-argument.argument-index c.args.arguments.now))) c.loop-argument.invariant.1)
     c.put_symbol-2.ensures.err
 
 pub put_links-loop-link-preserved : goal.put_links-loop-link-preserved

@@ -1,9 +1,9 @@
 use Rattle.std.proofs.Common.{◌≡◌, ◌+◌, ◌*◌, ◌++◌, take}
 use Rattle.spec_lexer.specs.declared.token.Symbol.TheVariants as symbol
-use Rattle.spec_parser.specs.Shape.{exprs_of, links_in, expr_of, size_of, size_of_exprs, size_of_links}
-use Rattle.spec_printer.specs.Same.{nowhere}
-use Rattle.spec_printer.specs.Marks.{text_of}
-use Rattle.spec_printer.specs.Print.{link_marks, expr_marks_behind}
+use Rattle.spec_parser.specs.inner.Shape.{exprs_of, links_in, expr_of, size_of, size_of_exprs, size_of_links}
+use Rattle.spec_printer.specs.inner.Same.{nowhere}
+use Rattle.spec_printer.specs.inner.Marks.{text_of}
+use Rattle.spec_printer.specs.inner.Print.{link_marks, expr_marks_after}
 use Rattle.spec_printer.proofs.Turns.{separator}
 use Rattle.spec_printer.proofs.expression.+printer.Given as goal
 
@@ -35,7 +35,7 @@ abbrev pub decreases-put_arguments : goal.decreases-put_arguments
 decreases-put_arguments l = 8 * size_of_exprs (exprs_of l.arguments.now) + 3
 
 abbrev pub invariant-put_arguments-loop-argument : goal.invariant-put_arguments-loop-argument
-invariant-put_arguments-loop-argument l = (l.before ≡ separator symbol.Open (take l.argument-index l.arguments)) × (l.out ≡ l.initial.out ++ text_of (expr_marks_behind symbol.Open (exprs_of (take l.argument-index l.arguments))))
+invariant-put_arguments-loop-argument l = (l.before ≡ separator symbol.Open (take l.argument-index l.arguments)) × (l.out ≡ l.initial.out ++ text_of (expr_marks_after symbol.Open (exprs_of (take l.argument-index l.arguments))))
 
 abbrev pub invariant-put_links-loop-link : goal.invariant-put_links-loop-link
 invariant-put_links-loop-link l = l.out ≡ l.initial.out ++ text_of (link_marks l.least (links_in (take l.link-index l.links)))

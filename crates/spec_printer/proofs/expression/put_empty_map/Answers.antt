@@ -1,9 +1,9 @@
 use Rattle.std.specs.Prelude.{[], ◌∷◌, codes}
 use Rattle.std.proofs.lemmas.Result.{on_ok_weaker}
 use Rattle.spec_lexer.specs.declared.token.Symbol.TheVariants as symbol
-use Rattle.spec_printer.specs.Marks.{named}
-use Rattle.spec_printer.specs.Marks as mark
-use Rattle.spec_printer.specs.Print.{both_bracketed}
+use Rattle.spec_printer.specs.inner.Marks.{named}
+use Rattle.spec_printer.specs.inner.Marks as mark
+use Rattle.spec_printer.specs.inner.Print.{both_bracketed}
 use Rattle.spec_printer.proofs.Joined.{behind}
 use Rattle.spec_printer.proofs.expression.put_empty_map.Goals as goal
 

@@ -1,6 +1,6 @@
 use Rattle.std.proofs.Common.{◌≡◌, ◌++◌, map, take}
-use Rattle.spec_parser.specs.Shape.{item_of}
-use Rattle.spec_printer.specs.Print.{source_of}
+use Rattle.spec_parser.specs.inner.Shape.{item_of}
+use Rattle.spec_printer.specs.inner.Print.{source_of}
 use Rattle.spec_printer.proofs.print.put_items.Given as goal
 
 abbrev pub invariant-loop-item : goal.invariant-loop-item

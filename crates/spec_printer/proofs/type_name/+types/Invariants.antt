@@ -1,6 +1,6 @@
 use Rattle.std.proofs.Common.{◌+◌, ◌*◌}
-use Rattle.spec_parser.specs.Shape.{type_of, size_of_type}
-use Rattle.spec_printer.specs.Same.{nowhere}
+use Rattle.spec_parser.specs.inner.Shape.{type_of, size_of_type}
+use Rattle.spec_printer.specs.inner.Same.{nowhere}
 use Rattle.spec_printer.proofs.type_name.+types.Given as goal
 
 abbrev pub decreases-put_type : goal.decreases-put_type

@@ -1,9 +1,9 @@
 use Rattle.std.specs.Prelude.{map}
 use Rattle.std.proofs.Common.{subst}
 use Rattle.std.proofs.lemmas.Result.{err_from_is_err_and}
-use Rattle.spec_parser.specs.Shape.{item_of, items_of}
+use Rattle.spec_parser.specs.inner.Shape.{item_of, items_of}
 use Rattle.expr_types.specs.Bodies.{AreKinds}
-use Rattle.expr_types.specs.Shown.{kinds_of}
+use Rattle.expr_types.specs.inner.Shown.{kinds_of}
 use Rattle.type_check.proofs.CheckLemmas.{from_names, from_forms, from_cycle, from_late}
 use Rattle.type_check.proofs.check.checked.Goals as goal
 

@@ -1,7 +1,7 @@
 use Rattle.std.proofs.Common.{OnOk, sym, subst}
 use Rattle.std.proofs.lemmas.Result.{on_ok_weaker}
-use Rattle.expr_types.specs.Shown.{kinds_of}
-use Rattle.type_check.specs.Slots.{IsSet}
+use Rattle.expr_types.specs.inner.Shown.{kinds_of}
+use Rattle.type_check.specs.inner.Slots.{IsSet}
 use Rattle.type_check.proofs.KindLemmas.{item_is_set, local_is_set}
 use Rattle.type_check.proofs.kinds.set.Goals as goal
 

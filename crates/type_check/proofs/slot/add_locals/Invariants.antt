@@ -1,5 +1,5 @@
 use Rattle.std.proofs.Common.{◌≡◌, ◌++◌}
-use Rattle.type_check.specs.Slots.{local_slots}
+use Rattle.type_check.specs.inner.Slots.{local_slots}
 use Rattle.type_check.proofs.slot.add_locals.Given as goal
 
 abbrev pub invariant-loop-local : goal.invariant-loop-local

@@ -1,6 +1,6 @@
 use Rattle.std.proofs.Common.{◌≡◌, ◌++◌, map, drop}
-use Rattle.spec_parser.specs.Shape.{item_of}
-use Rattle.type_check.specs.Slots.{slots, slots_from}
+use Rattle.spec_parser.specs.inner.Shape.{item_of}
+use Rattle.type_check.specs.inner.Slots.{slots, slots_from}
 use Rattle.type_check.proofs.slot.slots_of.Given as goal
 
 abbrev pub invariant-loop-number : goal.invariant-loop-number

@@ -1,6 +1,6 @@
 use Rattle.std.proofs.Common.{◌≡◌, ◌++◌, drop}
 use Rattle.std.specs.List.{filter_map}
-use Rattle.call_limits.specs.Edges.{macro_call, function_call}
+use Rattle.call_limits.specs.inner.Edges.{macro_call, function_call}
 use Rattle.call_limits.proofs.calls.Calls.add_all.Given as goal
 
 abbrev pub invariant-loop-mention : goal.invariant-loop-mention

@@ -1,7 +1,13 @@
 use Rattle.std.proofs.Common.{map, ◌∙◌}
-use Rattle.spec_parser.specs.Shape.{item_of}
-use Rattle.call_limits.proofs.CallLemmas.{macros_are, functions_are}
+use Rattle.spec_parser.specs.inner.Shape.{item_of}
+use Rattle.call_limits.proofs.CallLemmas.{macros_are, functions_are, small_kept, small_outputs}
 use Rattle.call_limits.proofs.calls.Calls.of_items.Goals as goal
+
+pub add_all-requires : goal.add_all-requires
+add_all-requires c = small_kept (map item_of c.args.items.now) c.in_ok-graph.graph.found c.mentions.result.now c.requires c.in_ok-graph.ensures.found c.mentions.ensures
+
+pub add_all-requires-2 : goal.add_all-requires-2
+add_all-requires-2 c = small_outputs (map item_of c.args.items.now) c.deref.result.now c.requires (c.deref.ensures.value ∙ c.in_ok-outputs.ensures)
 
 pub returns-clause-macros : goal.returns-clause-macros
 returns-clause-macros c =

@@ -1,11 +1,11 @@
 use Rattle.std.proofs.Common.{rules, sym, ap, ◌∙◌}
 use Rattle.spec_parser.specs.Tree as tree
-use Rattle.spec_parser.specs.Shape.{params_in, body_of, definition_of}
+use Rattle.spec_parser.specs.inner.Shape.{params_in, body_of, definition_of}
 use Rattle.name_check.specs.Scope.{seen}
-use Rattle.name_check.proofs.SizeLemmas.{definition_smaller}
+use Rattle.spec_parser.proofs.Sizes.{definition_smaller}
 use Rattle.std.proofs.lemmas.Result.{on_ok_weaker}
 use Rattle.definition_cycles.specs.Nodes.{definition_nodes}
-use Rattle.definition_cycles.specs.Walk.{with_nodes}
+use Rattle.definition_cycles.specs.inner.Walk.{with_nodes}
 use Rattle.definition_cycles.proofs.FoundLemmas.{block_turn, block_end, block_learned}
 use Rattle.definition_cycles.proofs.found.Found.+found.Goals as goal
 

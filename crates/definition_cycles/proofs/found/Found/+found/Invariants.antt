@@ -1,8 +1,8 @@
 use Rattle.std.proofs.Common.{◌≡◌, ◌+◌, ◌*◌, drop}
-use Rattle.spec_parser.specs.Shape.{definition_of, definitions_of, size_of_definition, size_of_definitions}
+use Rattle.spec_parser.specs.inner.Shape.{definition_of, definitions_of, size_of_definition, size_of_definitions}
 use Rattle.name_check.specs.Scope.{seen}
 use Rattle.definition_cycles.specs.Nodes.{block_nodes}
-use Rattle.definition_cycles.specs.Walk.{with_nodes}
+use Rattle.definition_cycles.specs.inner.Walk.{with_nodes}
 use Rattle.definition_cycles.proofs.found.Found.+found.Given as goal
 
 abbrev pub decreases-add_definition : goal.decreases-add_definition

@@ -1,8 +1,8 @@
 use Rattle.std.proofs.Common.{◌≡◌, length, map, ap}
-use Rattle.spec_parser.specs.Shape.{item_of}
+use Rattle.spec_parser.specs.inner.Shape.{item_of}
 use Rattle.name_check.specs.Scope.{top}
 use Rattle.definition_cycles.specs.Nodes.{item_nodes}
-use Rattle.definition_cycles.specs.Walk.{with_nodes}
+use Rattle.definition_cycles.specs.inner.Walk.{with_nodes}
 use Rattle.definition_cycles.proofs.FoundLemmas.{found_turn, firsts_turn}
 use Rattle.definition_cycles.proofs.graph.Graph.of_items.Goals as goal
 

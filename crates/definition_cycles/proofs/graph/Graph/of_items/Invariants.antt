@@ -1,8 +1,8 @@
 use Rattle.std.proofs.Common.{◌≡◌, ◌++◌, map, length, drop}
-use Rattle.spec_parser.specs.Shape.{item_of}
+use Rattle.spec_parser.specs.inner.Shape.{item_of}
 use Rattle.name_check.specs.Scope.{top}
 use Rattle.definition_cycles.specs.Nodes.{nodes, nodes_from}
-use Rattle.definition_cycles.specs.Walk.{with_nodes, nothing_kept, firsts_from}
+use Rattle.definition_cycles.specs.inner.Walk.{with_nodes, nothing_kept, firsts_from}
 use Rattle.definition_cycles.proofs.graph.Graph.of_items.Given as goal
 
 abbrev pub invariant-loop-number : goal.invariant-loop-number

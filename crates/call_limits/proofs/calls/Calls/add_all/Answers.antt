@@ -1,0 +1,8 @@
+use Rattle.std.proofs.Common.{false}
+use Rattle.name_check.specs.declared.declaration.Declaration.TheVariants as declaration
+use Rattle.definition_cycles.specs.declared.mention.Mention.{Mention}
+use Rattle.call_limits.proofs.calls.Calls.add_all.Goals as goal
+
+pub add-requires : goal.add-requires
+add-requires c =
+    let none : Mention = record { item = 0; node = 0; is = declaration.Input 0; calls = false } in c.requires c.loop-mention.mention-index none c.loop-mention-test.true

@@ -1,0 +1,9 @@
+-- The value functions of a checked specification have typed bodies.
+use Rattle.std.specs.Prelude.{List}
+use Rattle.spec_parser.specs.Tree as tree
+use Rattle.expr_types.specs.Around.{Kinds}
+use Rattle.checked_spec.specs.inner.Checked.{IsChecked}
+use Rattle.checked_spec.specs.inner.Functions.{AreTypedFunctions}
+
+abbrev pub FunctionsAreTyped : Type 0
+FunctionsAreTyped = (items : List tree.Item) (kinds : Kinds) → IsChecked items kinds → AreTypedFunctions items kinds

@@ -1,0 +1,4 @@
+pub mod Order
+pub mod Seen
+pub mod Walk
+pub mod Edges

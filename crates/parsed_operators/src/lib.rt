@@ -1,4 +1,0 @@
-// The chains of a parsed specification have the operators of their levels.
-#![tactic(auto)]
-
-pub mod laws;

@@ -1,0 +1,5 @@
+pub mod Marks
+pub mod Follow
+pub mod Same
+pub mod Print
+pub mod Back

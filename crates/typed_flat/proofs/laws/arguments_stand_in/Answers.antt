@@ -1,5 +1,0 @@
-use Rattle.typed_flat.proofs.Within.{argument_stands_in}
-use Rattle.typed_flat.proofs.laws.arguments_stand_in.Goals as goal
-
-pub returns : goal.returns
-returns c p x es none = argument_stands_in p x es none

@@ -1,5 +1,0 @@
-use Rattle.typed_flat.proofs.Inside.{call_typed}
-use Rattle.typed_flat.proofs.laws.calls_are_typed.Goals as goal
-
-pub returns : goal.returns
-returns c items top at st p x es t i b params locals h none is body theirs are_locals = call_typed items top at st p x es t i b params locals h none is body theirs are_locals

@@ -1,5 +1,0 @@
-use Rattle.typed_flat.proofs.Beginnings.{chain_begins}
-use Rattle.typed_flat.proofs.laws.chains_begin.Goals as goal
-
-pub returns : goal.returns
-returns c items top at st p l e front rest t h = chain_begins items top at st p l e front rest t h

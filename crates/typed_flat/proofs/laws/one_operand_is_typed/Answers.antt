@@ -1,5 +1,0 @@
-use Rattle.typed_flat.proofs.Beginnings.{one_operand}
-use Rattle.typed_flat.proofs.laws.one_operand_is_typed.Goals as goal
-
-pub returns : goal.returns
-returns c items top at st p l e t h = one_operand items top at st p l e t h

@@ -1,5 +1,0 @@
-use Rattle.typed_flat.proofs.Within.{operand_in}
-use Rattle.typed_flat.proofs.laws.operands_stand_in.Goals as goal
-
-pub returns : goal.returns
-returns c p l e ls f h = operand_in p l e ls f h

@@ -1,4 +1,0 @@
-pub mod Matches
-pub mod Laws
-pub mod Chains
-pub mod Inner

@@ -1,9 +1,0 @@
--- The value functions of a checked specification have typed bodies.
-use Rattle.std.specs.Prelude.{List}
-use Rattle.spec_parser.specs.Tree as tree
-use Rattle.expr_types.specs.Around.{Kinds}
-use Rattle.checked_spec.specs.Checked.{IsChecked}
-use Rattle.typed_functions.specs.Functions.{AreTypedFunctions}
-
-abbrev pub FunctionsAreTyped : Type 0
-FunctionsAreTyped = (items : List tree.Item) (kinds : Kinds) → IsChecked items kinds → AreTypedFunctions items kinds

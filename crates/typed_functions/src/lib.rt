@@ -1,4 +1,0 @@
-// The bodies of the value functions of a checked specification are typed.
-#![tactic(auto)]
-
-pub mod laws;
