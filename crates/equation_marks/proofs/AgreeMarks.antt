@@ -1,25 +1,29 @@
 -- Marks, as types, depend on what is seen through what names stand for alone.
-use Rattle.std.proofs.Common.{◌≡◌, ℕ, suc, Bool, true, false, List, [], ◌∷◌, ◌++◌, drop, Option, Some, None, refl, ap, ◌∙◌}
+use Rattle.std.proofs.Common.{◌≡◌, ℕ, suc, Bool, true, false, List, [], ◌∷◌, ◌++◌, length, drop, Option, Some, None, refl, ap, ◌∙◌}
 use Rattle.std.specs.Prelude.{if◌then◌else◌}
 use Rattle.tsl_value.specs.declared.place.Place.{Place}
+use Rattle.tsl_value.specs.declared.scalar.Scalar.TheVariants as scalar
 use Rattle.spec_parser.specs.Tree as tree
 use Rattle.spec_parser.specs.Tree.{Expr, Exprs, no_exprs, more_exprs, Links, no_links, more_links, place_of}
-use Rattle.spec_parser.specs.declared.tree.Dotted.{Dotted}
-use Rattle.spec_parser.specs.declared.tree.Dotted.TheVariants as dotted
+use Rattle.vocabulary.specs.declared.dotted.Dotted.{Dotted}
+use Rattle.vocabulary.specs.declared.dotted.Dotted.TheVariants as dotted
 use Rattle.name_check.specs.declared.declaration.Declaration.{Declaration}
 use Rattle.name_check.specs.declared.declaration.Declaration.TheVariants as declaration
 use Rattle.name_check.specs.Builtin.{is_lift}
 use Rattle.name_check.specs.Scope.{Scope, meaning, Agree}
 use Rattle.expr_types.specs.Around.{Around}
 use Rattle.expr_types.specs.Judge.{type_of}
-use Rattle.expr_types.specs.Alike.{IsAlike}
+use Rattle.expr_types.specs.inner.Alike.{IsAlike}
 use Rattle.expr_types.proofs.AlikeLemmas.{type_alike, names_alike}
 use Rattle.expr_types.proofs.SameLemmas.{moved}
+use Rattle.vocabulary.specs.declared.signature.Update.TheVariants as update
 use Rattle.stream_constructs.specs.Construct.{Construct}
+use Rattle.stream_constructs.specs.Construct as construct
+use Rattle.spec_meaning.specs.Function.{no_tree}
 use Rattle.spec_meaning.specs.Occurrence.{result_of}
 use Rattle.spec_meaning.specs.Shape.{expressions, plain_name, is_delay, is_const, is_filter}
-use Rattle.macro_flatten.specs.Makes.{is_name}
-use Rattle.equation_marks.specs.Marks.{Mark, marks, each_marks, link_marks, plain, signal_marks, signal_count, varying_count, unless_literal, joined, all_but_last, operands_marks, operation_marks, filter_marks, declared_marks, named_marks, dotted_marks, choice_marks, holds_aggregate, body_marks, block_marks}
+use Rattle.flatten_rules.specs.Makes.{is_name}
+use Rattle.equation_marks.specs.Marks.{Mark, own_marks, alias_own_marks, marks, each_marks, link_marks, signal_marks, update_marks, varying_count, unless_literal, joined, all_but_last, operands_marks, filter_marks, declared_marks, named_marks, dotted_marks, choice_marks, holds_aggregate, body_marks, block_marks}
 
 -- each name stands for the same in both, and the same is known of it
 pub record AreAlike (at to : Around) : Type 0 where
@@ -36,21 +40,21 @@ module _ (at to : Around) (call : ℕ → List Mark) (h : AreAlike at to) where
   declared_same p d es xs ys same = refl
 
   named_same : (p : Place) (n : List ℕ) (es : List Expr) (xs ys : List (List Mark)) (o : Option Construct) → xs ≡ ys → named_marks at call p n es xs o ≡ named_marks to call p n es ys o
-  named_same p n es xs ys (Some c) same = λ k. joined (same k) ++ plain 1 p
+  named_same p n es xs ys (Some c) same = λ k. joined (same k) ++ own_marks p c (length es)
   named_same p n es xs ys None same =
       let declared = declared_same p (meaning at.scope n) es xs ys same ∙ ap (λ d. declared_marks to call p d es ys) ((h.names n).stands) in
       λ k.
-      if is_delay n then joined (same k) ++ plain 1 p
-      else if is_const n then joined (drop 1 (same k)) ++ plain 1 p
+      if is_delay n then joined (same k) ++ own_marks p construct.Delay (length es)
+      else if is_const n then joined (drop 1 (same k)) ++ own_marks p (construct.Const scalar.Unit) 1
       else if is_filter n then filter_marks p es (same k)
-      else if is_lift n then joined (all_but_last (same k)) ++ plain 1 p
+      else if is_lift n then joined (all_but_last (same k)) ++ own_marks p (construct.Lift no_tree) (length (all_but_last (same k)))
       else declared k
 
   dotted_same : (p : Place) (d : Dotted) (es : List Expr) (xs ys : List (List Mark)) → xs ≡ ys → dotted_marks at call p d es xs ≡ dotted_marks to call p d es ys
-  dotted_same p dotted.SetAdd es xs ys same = λ k. operands_marks es (same k) ++ operation_marks p es true
-  dotted_same p dotted.SetRemove es xs ys same = λ k. operands_marks es (same k) ++ operation_marks p es true
-  dotted_same p dotted.MapAdd es xs ys same = λ k. operands_marks es (same k) ++ operation_marks p es true
-  dotted_same p dotted.MapRemove es xs ys same = λ k. operands_marks es (same k) ++ operation_marks p es true
+  dotted_same p dotted.SetAdd es xs ys same = λ k. operands_marks es (same k) ++ update_marks p update.SetAdd es
+  dotted_same p dotted.SetRemove es xs ys same = λ k. operands_marks es (same k) ++ update_marks p update.SetRemove es
+  dotted_same p dotted.MapAdd es xs ys same = λ k. operands_marks es (same k) ++ update_marks p update.MapAdd es
+  dotted_same p dotted.MapRemove es xs ys same = λ k. operands_marks es (same k) ++ update_marks p update.MapRemove es
   dotted_same p d es xs ys same = λ k. operands_marks es (same k) ++ signal_marks p es
 
   choice_same : (p : Place) (b : Bool) (es : List Expr) → choice_marks at call p b es ≡ choice_marks to call p b es
@@ -88,10 +92,10 @@ module _ (at to : Around) (call : ℕ → List Mark) (h : AreAlike at to) where
 
     pub links_alike : (p : Place) (ls : Links) → link_marks at call p ls ≡ link_marks to call p ls
     links_alike p no_links = refl
-    links_alike p (more_links o f ls) = λ k. unless_literal f (marks_alike f k) ++ plain (signal_count (suc (varying_count (f ∷ [])))) p ++ links_alike p ls k
+    links_alike p (more_links o f ls) = λ k. unless_literal f (marks_alike f k) ++ own_marks p (construct.Signal no_tree) (suc (varying_count (f ∷ []))) ++ links_alike p ls k
 
   pub body_alike : (e : Expr) → body_marks at call e ≡ body_marks to call e
-  body_alike e = ap (λ ms. if is_name e then plain 1 (place_of e) else ms) (marks_alike e)
+  body_alike e = ap (λ ms. if is_name e then alias_own_marks (place_of e) else ms) (marks_alike e)
 
   pub block_alike : (ds : tree.Definitions) → block_marks at call ds ≡ block_marks to call ds
   block_alike tree.no_definitions = refl

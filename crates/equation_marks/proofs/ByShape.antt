@@ -1,9 +1,8 @@
 -- The marks of an expression are those of its parts, and those of its construct.
-use Rattle.std.proofs.Common.{◌≡◌, ℕ, ◌+◌, Bool, true, false, cond, ◌&&◌, List, [], ◌∷◌, ◌++◌, map, length, drop, Option, Some, None, refl, sym, ap, subst, ◌∙◌, append_assoc}
-use Rattle.std.specs.Prelude.{if◌then◌else◌, codes}
+use Rattle.std.proofs.Common.{◌≡◌, ℕ, Bool, true, false, ◌&&◌, List, [], ◌∷◌, ◌++◌, map, length, drop, Option, Some, None, refl, sym, ap, subst, ◌∙◌, append_assoc}
+use Rattle.std.specs.Prelude.{if◌then◌else◌}
 use Rattle.std.specs.List.{filter, flat_map}
-use Rattle.std.specs.Option.{option_map, option_and_then}
-use Rattle.std.specs.Str.{bytes_eq}
+use Rattle.std.specs.Option.{option_and_then}
 use Rattle.std.proofs.lemmas.Bool.{false≢true, true≢false}
 use Rattle.std.proofs.lemmas.List.{length-map, append-nil, flat_map_more}
 use Rattle.std.proofs.lemmas.List.Folds.{flat_map-map}
@@ -11,44 +10,42 @@ use Rattle.std.proofs.lemmas.Option.{same_Some}
 use Rattle.tsl_value.specs.declared.place.Place.{Place}
 use Rattle.tsl_value.specs.declared.scalar.Scalar.{Scalar}
 use Rattle.tsl_value.specs.declared.scalar.Scalar.TheVariants as scalar
+use Rattle.flat_core.specs.Typed.{unit_type}
 use Rattle.lift_func.specs.declared.body.Unary.TheVariants as unary
 use Rattle.lift_func.specs.Tree.{Tree, One, Two}
 use Rattle.spec_parser.specs.Tree as tree
 use Rattle.spec_parser.specs.Tree.{Expr, Exprs, no_exprs, more_exprs, no_links, more_links, place_of}
-use Rattle.spec_parser.specs.declared.tree.Dotted.{Dotted}
-use Rattle.spec_parser.specs.declared.tree.Dotted.TheVariants as dotted
+use Rattle.vocabulary.specs.declared.dotted.Dotted.{Dotted}
+use Rattle.vocabulary.specs.declared.dotted.Dotted.TheVariants as dotted
 use Rattle.name_check.specs.declared.declaration.Declaration.{Declaration}
 use Rattle.name_check.specs.declared.declaration.Declaration.TheVariants as declaration
 use Rattle.name_check.specs.Builtin.{is_unit, is_lift}
 use Rattle.name_check.specs.Scope.{meaning, Agree}
 use Rattle.expr_types.specs.Around.{Around}
 use Rattle.expr_types.specs.Judge.{type_of}
-use Rattle.stream_constructs.specs.declared.construct.Update.{Update as UpdateOp}
-use Rattle.stream_constructs.specs.declared.construct.Update.TheVariants as update
+use Rattle.vocabulary.specs.declared.signature.Update.{Update as UpdateOp}
+use Rattle.vocabulary.specs.declared.signature.Update.TheVariants as update
 use Rattle.stream_constructs.specs.Construct.{Construct, operand_trees}
 use Rattle.stream_constructs.specs.Construct as construct
 use Rattle.stream_constructs.specs.Equations.{choice}
 use Rattle.spec_meaning.specs.Occurrence.{Call, Occurrence, scope_at, stands_for, called}
-use Rattle.spec_meaning.specs.Function.{literal, dotted_tree, function_at, function_body, operation_of, comparison_of}
+use Rattle.spec_meaning.specs.Function.{literal, no_tree, dotted_tree, function_at, function_body, operation_of, comparison_of}
 use Rattle.spec_meaning.specs.Shape as spec_meaning
-use Rattle.spec_meaning.specs.Shape.{Shape, is_part, expressions, beside, with_parts, signal_of, update_of, operands, left_of, all_but_last, last_operator, last_operand, dotted_shape, plain_name, plain_names, is_delay, is_const, is_filter, const_shape, filtered_by, filter_shape, same_as, name_shape, declared_shape, lift_by, function_named, lift_shape, call_shape, literal_shape, empty_shape, expr_shape, shape}
-use Rattle.macro_flatten.specs.Makes.{is_own, is_choice, choice_operands}
-use Rattle.equation_marks.specs.Marks.{Mark, marks, each_marks, plain, joined, unless_literal, operands_marks, operation_marks, signal_marks, signal_count, lifting_count, varying_count, fixed_count, filter_marks, filter_marks_by, declared_marks, named_marks, dotted_marks, choice_marks, holds_aggregate}
+use Rattle.spec_meaning.specs.Shape.{Shape, is_part, expressions, beside, with_parts, signal_of, update_of, operands, left_of, all_but_last, last_operator, last_operand, dotted_shape, plain_name, is_delay, is_const, is_filter, const_shape, filtered_by, filter_shape, same_as, name_shape, declared_shape, lift_by, function_named, lift_shape, call_shape, literal_shape, empty_shape, expr_shape, shape}
+use Rattle.flatten_rules.specs.Makes.{is_own, is_choice, choice_operands}
+use Rattle.equation_marks.specs.Marks.{Mark, own_marks, choice_own_marks, marks, each_marks, joined, unless_literal, operands_marks, signal_marks, update_marks, varying_count, filter_marks, filter_marks_by, declared_marks, named_marks, dotted_marks, choice_marks, holds_aggregate}
 use Rattle.equation_marks.specs.Marks as spec
-use Rattle.equation_marks.specs.Own.{operation_of_marks, own_marks, choice_own_marks, marks_of_shape}
-use Rattle.equation_marks.proofs.Parts.{fixed_are_literals, one_operand, two_operands, three_operands, joined_each, operands_each}
+use Rattle.equation_marks.specs.inner.Own.{marks_of_shape}
+use Rattle.equation_marks.proofs.OwnMarks.{signal_any}
+use Rattle.equation_marks.proofs.Parts.{one_operand, two_operands, three_operands, joined_each, operands_each}
 use Rattle.equation_marks.proofs.ChainMarks.{chain_by_last}
-
-operation_own : (p : Place) (es : List Expr) (update : Bool) → operation_marks p es update ≡ operation_of_marks p (varying_count es) (operands es) update
-operation_own p es update =
-    ap (λ k. plain (lifting_count (varying_count es) + k) p ++ record { place = p; is_update = update } ∷ []) (sym (fixed_are_literals es))
 
 -- ---- whatever marks parts have
 module _ (of : Expr → List Mark) (cs : List Call) where
   parts_marks : (es : List Expr) → flat_map (λ o. of o.expr) (map (beside cs) es) ≡ flat_map of es
   parts_marks es = flat_map-map (λ o. of o.expr) (beside cs) es
 
-  -- these marks are those of the parts, and behind them those of the construct
+  -- these marks are those of the parts, and after them those of the construct
   abbrev AreOf : Place → Construct → List Expr → List Mark → Type 0
   AreOf p c es ms = ms ≡ flat_map (λ o. of o.expr) (map (beside cs) es) ++ own_marks p c (length (map (beside cs) es))
 
@@ -62,33 +59,14 @@ module _ (of : Expr → List Mark) (cs : List Call) where
   with_own p c es before own first second = with_count (own_marks p c) es before own first second
 
   signal_own : (p : Place) (f : Tree) (es : List Expr) (before : List Mark) → before ≡ flat_map of (filter is_part es) → AreOf p (construct.Signal f) (filter is_part es) (before ++ signal_marks p es)
-  signal_own p f es before first = with_own p (construct.Signal f) (filter is_part es) before (signal_marks p es) first refl
+  signal_own p f es before first = with_own p (construct.Signal f) (filter is_part es) before (signal_marks p es) first (signal_any p no_tree f (varying_count es))
 
-  update_own : (p : Place) (o : UpdateOp) (es : List Expr) (before : List Mark) → before ≡ flat_map of (filter is_part es) → AreOf p (construct.Update o (operands es)) (filter is_part es) (before ++ operation_marks p es true)
-  update_own p o es before first =
-      with_own p (construct.Update o (operands es)) (filter is_part es) before (operation_marks p es true) first (operation_own p es true)
+  update_own : (p : Place) (o : UpdateOp) (es : List Expr) (before : List Mark) → before ≡ flat_map of (filter is_part es) → AreOf p (construct.Update o (operands es)) (filter is_part es) (before ++ update_marks p o es)
+  update_own p o es before first = with_own p (construct.Update o (operands es)) (filter is_part es) before (update_marks p o es) first refl
 
-  choice_own : (p : Place) (es : List Expr) (before : List Mark) → before ≡ flat_map of (filter is_part es) → before ++ operation_marks p es false ≡ flat_map (λ o. of o.expr) (map (beside cs) (filter is_part es)) ++ choice_own_marks p (length (map (beside cs) (filter is_part es))) (operands es)
+  choice_own : (p : Place) (es : List Expr) (before : List Mark) → before ≡ flat_map of (filter is_part es) → before ++ choice_own_marks p (varying_count es) (operands es) ≡ flat_map (λ o. of o.expr) (map (beside cs) (filter is_part es)) ++ choice_own_marks p (length (map (beside cs) (filter is_part es))) (operands es)
   choice_own p es before first =
-      with_count (λ k. choice_own_marks p k (operands es)) (filter is_part es) before (operation_marks p es false) first (operation_own p es false)
-
--- ---- names of constructs whose parts are all streams
-abbrev IsOnePlain : Option Construct → Type 0
-IsOnePlain None = Unit {0}
-IsOnePlain (Some c) = (p : Place) (k : ℕ) → own_marks p c k ≡ plain 1 p
-
-found_plain : (n : List ℕ) → IsOnePlain (plain_name n)
-unfolding plain_name
-found_plain n =
-    let one : (p : Place) (k : ℕ) → plain 1 p ≡ plain 1 p = λ p k. refl in
-    either (bytes_eq n (codes "time")) (codes "time", construct.Time) _ one
-    (either (bytes_eq n (codes "last")) (codes "last", construct.Last) _ one
-    (either (bytes_eq n (codes "merge")) (codes "merge", construct.Merge) _ one
-    (either (bytes_eq n (codes "default")) (codes "default", construct.Merge) None one tt)))
-  where
-    either : (b : Bool) (c : List ℕ × Construct) (rest : Option (List ℕ × Construct)) → ((p : Place) (k : ℕ) → own_marks p c.1 k ≡ plain 1 p) → IsOnePlain (option_map (λ c. c.1) rest) → IsOnePlain (option_map (λ c. c.1) (cond b (Some c) rest))
-    either true c rest here more = here
-    either false c rest here more = more
+      with_count (λ k. choice_own_marks p k (operands es)) (filter is_part es) before (choice_own_marks p (varying_count es) (operands es)) first refl
 
 module _ (items : List tree.Item) (cs : List Call) (at : Around) (call : ℕ → List Mark) where
   abbrev Has : Place → List Mark → Option Shape → Type 0
@@ -108,14 +86,14 @@ module _ (items : List tree.Item) (cs : List Call) (at : Around) (call : ℕ →
   if_has p true ms ns x y first second = first
   if_has p false ms ns x y first second = second
 
-  const_has : (p : Place) (es : Exprs) → Has p (joined (drop 1 (each_marks at call es)) ++ plain 1 p) (const_shape cs (expressions es))
+  const_has : (p : Place) (es : Exprs) → Has p (joined (drop 1 (each_marks at call es)) ++ own_marks p (construct.Const scalar.Unit) 1) (const_shape cs (expressions es))
   const_has p no_exprs = tt
   const_has p (more_exprs v no_exprs) = tt
   const_has p (more_exprs v (more_exprs e no_exprs)) = by (literal v)
     where
-      by : (s : Option Scalar) → Has p (joined (marks at call e ∷ []) ++ plain 1 p) (option_and_then (λ s. with_parts cs (construct.Const s) (e ∷ [])) s)
+      by : (s : Option Scalar) → Has p (joined (marks at call e ∷ []) ++ own_marks p (construct.Const scalar.Unit) 1) (option_and_then (λ s. with_parts cs (construct.Const s) (e ∷ [])) s)
       by None = tt
-      by (Some s) = λ _. with_own (marks at call) cs p (construct.Const s) (e ∷ []) (joined (marks at call e ∷ [])) (plain 1 p) refl refl
+      by (Some s) = λ _. with_own (marks at call) cs p (construct.Const s) (e ∷ []) (joined (marks at call e ∷ [])) (own_marks p (construct.Const scalar.Unit) 1) refl refl
   const_has p (more_exprs v (more_exprs e (more_exprs f es))) = tt
 
   filter_has : (p : Place) (es : Exprs) → Has p (filter_marks p (expressions es) (each_marks at call es)) (filter_shape cs (expressions es))
@@ -124,23 +102,23 @@ module _ (items : List tree.Item) (cs : List Call) (at : Around) (call : ℕ →
   filter_has p (more_exprs e (more_exprs c no_exprs)) = by (literal c)
     where
       by : (s : Option Scalar) → Has p (filter_marks_by p s (marks at call e ∷ marks at call c ∷ [])) (filtered_by cs e c s)
-      by (Some (scalar.Bool b)) = λ _. with_own (marks at call) cs p (construct.FilterBy b) (e ∷ []) (marks at call e) (plain 2 p) (sym (append-nil (marks at call e))) refl
-      by s = λ _. with_own (marks at call) cs p construct.Filter (e ∷ c ∷ []) (joined (marks at call e ∷ marks at call c ∷ [])) (plain 3 p) refl refl
+      by (Some (scalar.Bool b)) = λ _. with_own (marks at call) cs p (construct.FilterBy b) (e ∷ []) (marks at call e) (own_marks p (construct.FilterBy b) 1) (sym (append-nil (marks at call e))) refl
+      by s = λ _. with_own (marks at call) cs p construct.Filter (e ∷ c ∷ []) (joined (marks at call e ∷ marks at call c ∷ [])) (own_marks p construct.Filter 2) refl refl
   filter_has p (more_exprs e (more_exprs c (more_exprs f es))) = tt
 
-  by_has : (p : Place) (streams : List Expr) (f : Expr) (d : Option Declaration) → Has p (flat_map (marks at call) streams ++ [] ++ plain 1 p) (lift_by items cs streams f d)
+  by_has : (p : Place) (streams : List Expr) (f : Expr) (d : Option Declaration) → Has p (flat_map (marks at call) streams ++ [] ++ own_marks p (construct.Lift no_tree) 0) (lift_by items cs streams f d)
   by_has p streams f (Some (declaration.Function i)) =
-      λ _. with_own (marks at call) cs p (construct.Lift (function_body items i)) streams (flat_map (marks at call) streams ++ []) (plain 1 p) (append-nil (flat_map (marks at call) streams)) refl
+      λ _. with_own (marks at call) cs p (construct.Lift (function_body items i)) streams (flat_map (marks at call) streams ++ []) (own_marks p (construct.Lift no_tree) 0) (append-nil (flat_map (marks at call) streams)) refl
   by_has p streams f d = tt
 
-  lift_has : (p : Place) (streams : List Expr) (es : Exprs) → Has p (flat_map (marks at call) streams ++ joined (spec.all_but_last (each_marks at call es)) ++ plain 1 p) (lift_shape items cs streams (expressions es))
+  lift_has : (p : Place) (streams : List Expr) (es : Exprs) → Has p (flat_map (marks at call) streams ++ joined (spec.all_but_last (each_marks at call es)) ++ own_marks p (construct.Lift no_tree) 0) (lift_shape items cs streams (expressions es))
   lift_has p streams no_exprs = tt
   lift_has p streams (more_exprs f no_exprs) = by_has p streams f (function_named items (scope_at items cs) f)
   lift_has p streams (more_exprs e (more_exprs f es)) =
       let rest = joined (spec.all_but_last (each_marks at call (more_exprs f es))) in
       let whole : flat_map (marks at call) (streams ++ e ∷ []) ++ rest ≡ flat_map (marks at call) streams ++ (marks at call e ++ rest) =
       ap (λ ms. ms ++ rest) (sym (flat_map_more (marks at call) [] streams e)) ∙ append_assoc (flat_map (marks at call) streams) (marks at call e) rest in
-      subst (λ ms. Has p (ms ++ plain 1 p) (lift_shape items cs (streams ++ e ∷ []) (f ∷ expressions es))) whole (lift_has p (streams ++ e ∷ []) (more_exprs f es))
+      subst (λ ms. Has p (ms ++ own_marks p (construct.Lift no_tree) 0) (lift_shape items cs (streams ++ e ∷ []) (f ∷ expressions es))) whole (lift_has p (streams ++ e ∷ []) (more_exprs f es))
 
   declared_has : (p : Place) (d : Option Declaration) (es : Exprs) → Has p (declared_marks at call p d (expressions es) (each_marks at call es)) (declared_shape items cs d es)
   declared_has p (Some (declaration.Macro i)) es = same_has p _ (called items cs i es)
@@ -156,11 +134,11 @@ module _ (items : List tree.Item) (cs : List Call) (at : Around) (call : ℕ →
   dotted_has p d es =
       λ _. signal_own (marks at call) cs p (dotted_tree d (operand_trees 0 (operands (expressions es)))) (expressions es) (operands_marks (expressions es) (each_marks at call es)) (operands_each at call es)
 
-  call_has : (p : Place) (n : List ℕ) (es : Exprs) (o : Option Construct) → Agree at.scope (scope_at items cs) → IsOnePlain o → Has p (named_marks at call p n (expressions es) (each_marks at call es) o) (call_shape items cs n es o)
-  call_has p n es (Some c) same one =
-      λ _. with_own (marks at call) cs p c (expressions es) (joined (each_marks at call es)) (plain 1 p) (joined_each at call es) (sym (one p (length (expressions es))))
-  call_has p n es None same one =
-      if_has p (is_delay n) _ _ _ _ (λ _. with_own (marks at call) cs p construct.Delay (expressions es) (joined (each_marks at call es)) (plain 1 p) (joined_each at call es) refl)
+  call_has : (p : Place) (n : List ℕ) (es : Exprs) (o : Option Construct) → Agree at.scope (scope_at items cs) → Has p (named_marks at call p n (expressions es) (each_marks at call es) o) (call_shape items cs n es o)
+  call_has p n es (Some c) same =
+      λ _. with_own (marks at call) cs p c (expressions es) (joined (each_marks at call es)) (own_marks p c (length (expressions es))) (joined_each at call es) refl
+  call_has p n es None same =
+      if_has p (is_delay n) _ _ _ _ (λ _. with_own (marks at call) cs p construct.Delay (expressions es) (joined (each_marks at call es)) (own_marks p construct.Delay (length (expressions es))) (joined_each at call es) refl)
       (if_has p (is_const n) _ _ _ _ (const_has p es)
       (if_has p (is_filter n) _ _ _ _ (filter_has p es)
       (if_has p (is_lift n) _ _ _ _ (lift_has p [] es)
@@ -195,13 +173,13 @@ module _ (items : List tree.Item) (cs : List Call) (at : Around) (call : ℕ →
   expr_has (tree.Text p t) same other = λ _. refl
   expr_has (tree.Boolean p b) same other = λ _. refl
   expr_has (tree.Unit p) same other = λ _. refl
-  expr_has (tree.Name p n) same other = if_has p (is_unit n) (plain 1 p) [] _ _ (λ _. refl) (name_has p [] (meaning (scope_at items cs) n))
-  expr_has (tree.Call p n es) same other = call_has p n es (plain_name n) same (found_plain n)
+  expr_has (tree.Name p n) same other = if_has p (is_unit n) (own_marks p construct.Unit 0) [] _ _ (λ _. refl) (name_has p [] (meaning (scope_at items cs) n))
+  expr_has (tree.Call p n es) same other = call_has p n es (plain_name n) same
   expr_has (tree.CallDotted p d es) same other = dotted_has p d es
   expr_has (tree.Nil p y) same other = λ _. refl
   expr_has (tree.None p y) same other = tt
-  expr_has (tree.EmptySet p k) same other = option_has p (plain 1 p) (λ t. with_parts cs (construct.Empty t) []) (λ t _. refl) _
-  expr_has (tree.EmptyMap p k v) same other = option_has p (plain 1 p) (λ t. with_parts cs (construct.Empty t) []) (λ t _. refl) _
+  expr_has (tree.EmptySet p k) same other = option_has p (own_marks p (construct.Empty unit_type) 0) (λ t. with_parts cs (construct.Empty t) []) (λ t _. refl) _
+  expr_has (tree.EmptyMap p k v) same other = option_has p (own_marks p (construct.Empty unit_type) 0) (λ t. with_parts cs (construct.Empty t) []) (λ t _. refl) _
 
   -- ---- a choice
   abbrev choice_parts : Expr → Expr → Expr → List Mark
@@ -221,7 +199,7 @@ module _ (items : List tree.Item) (cs : List Call) (at : Around) (call : ℕ →
       subst P is (expr_has e same other) own
       ∙ (λ i. flat_map (λ o. marks at call o.expr) sh.parts ++ (if sym other i && holds_aggregate (type_of at e) then choice_own_marks (place_of e) (length sh.parts) (choice_operands e) else own_marks (place_of e) sh.construct (length sh.parts)))
 
-  -- Its marks are those of its parts, and behind them those of its construct.
+  -- Its marks are those of its parts, and after them those of its construct.
   pub marks_by_shape : (e : Expr) (sh : Shape) → Agree at.scope (scope_at items cs) → shape items (record { calls = cs; expr = e }) ≡ Some sh → is_own sh.construct ≡ true → marks at call e ≡ flat_map (λ o. marks at call o.expr) sh.parts ++ marks_of_shape at e sh
   marks_by_shape (tree.If p c a b) sh same is own =
       let P : Shape → Type 0 = λ s. marks at call (tree.If p c a b) ≡ flat_map (λ o. marks at call o.expr) s.parts ++ marks_of_shape at (tree.If p c a b) s in

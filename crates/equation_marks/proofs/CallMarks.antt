@@ -4,23 +4,26 @@ use Rattle.std.specs.Prelude.{if◌then◌else◌, slice_get}
 use Rattle.std.specs.List.{flat_map}
 use Rattle.std.proofs.lemmas.List.{append-nil, drop_all}
 use Rattle.tsl_value.specs.declared.place.Place.{Place}
+use Rattle.tsl_value.specs.declared.scalar.Scalar.TheVariants as scalar
 use Rattle.flat_core.specs.declared.equation.Equation.{Equation}
 use Rattle.spec_parser.specs.Tree as tree
 use Rattle.spec_parser.specs.Tree.{Expr, Exprs, place_of}
-use Rattle.spec_parser.specs.Shape.{definitions_of}
+use Rattle.spec_parser.specs.inner.Shape.{definitions_of}
 use Rattle.name_check.specs.declared.declaration.Declaration.TheVariants as declaration
 use Rattle.name_check.specs.Builtin.{is_unit, is_called}
 use Rattle.name_check.specs.Scope.{meaning}
-use Rattle.name_check.specs.Steps.{local_body}
-use Rattle.name_check.proofs.FirstLemmas.{left_at}
+use Rattle.name_check.specs.inner.Steps.{local_body}
+use Rattle.tsl_value.proofs.Lists.{left_at}
 use Rattle.expr_types.specs.Around.{Around}
+use Rattle.stream_constructs.specs.Construct as construct
 use Rattle.spec_meaning.specs.Occurrence.{result_of, block_of, body_of}
+use Rattle.spec_meaning.specs.Function.{no_tree}
 use Rattle.spec_meaning.specs.Shape.{expressions}
-use Rattle.macro_flatten.specs.Makes.{is_name}
-use Rattle.macro_flatten.specs.Flat.{named}
+use Rattle.flatten_rules.specs.Makes.{is_name}
+use Rattle.flatten_rules.specs.Flat.{named}
 use Rattle.checked_spec.specs.Laws.{in_macro}
-use Rattle.equation_marks.specs.Marks.{Mark, mark_of, marks, each_marks, plain, joined, named_marks, declared_marks, filter_marks, all_but_last, body_marks, block_marks, macro_marks, macro_body_marks}
-use Rattle.equation_marks.proofs.Names.{no_builtin}
+use Rattle.equation_marks.specs.Marks.{Mark, mark_of, own_marks, alias_own_marks, marks, each_marks, joined, named_marks, declared_marks, filter_marks, all_but_last, body_marks, block_marks, macro_marks, macro_body_marks}
+use Rattle.spec_meaning.proofs.Names.{no_builtin}
 use Rattle.equation_marks.proofs.Parts.{joined_each}
 
 -- the name of an equation is no mark
@@ -31,7 +34,7 @@ named_marks_are x (d ∷ e ∷ es) = ap (λ ms. mark_of d ∷ ms) (named_marks_a
 
 module _ (at : Around) (call : ℕ → List Mark) where
   pub name_has_none : (p : Place) (x : List ℕ) → is_unit x ≡ false → marks at call (tree.Name p x) ≡ []
-  name_has_none p x other = λ i. if other i then plain 1 p else []
+  name_has_none p x other = λ i. if other i then own_marks p construct.Unit 0 else []
 
   -- a call of a macro: what the arguments make, and what the call makes
   pub macro_call_marks : (p : Place) (x : List ℕ) (es : Exprs) (i : ℕ) → is_called x ≡ false → meaning at.scope x ≡ Some (declaration.Macro i) → marks at call (tree.Call p x es) ≡ flat_map (marks at call) (expressions es) ++ call i
@@ -40,19 +43,19 @@ module _ (at : Around) (call : ℕ → List Mark) where
       let each = each_marks at call es in
       ap (named_marks at call p x (expressions es) each) free.no_plain
       ∙ (λ k.
-      if free.no_delay k then joined each ++ plain 1 p
-      else if free.no_const k then joined (drop 1 each) ++ plain 1 p
+      if free.no_delay k then joined each ++ own_marks p construct.Delay (length (expressions es))
+      else if free.no_const k then joined (drop 1 each) ++ own_marks p (construct.Const scalar.Unit) 1
       else if free.no_filter k then filter_marks p (expressions es) each
-      else if free.no_lift k then joined (all_but_last each) ++ plain 1 p
+      else if free.no_lift k then joined (all_but_last each) ++ own_marks p (construct.Lift no_tree) (length (all_but_last each))
       else declared_marks at call p (is k) (expressions es) each)
       ∙ ap (λ ms. ms ++ call i) (joined_each at call es)
 
   -- ---- bodies
-  pub body_of_name : (e : Expr) → is_name e ≡ true → body_marks at call e ≡ plain 1 (place_of e)
-  body_of_name e is = λ i. if is i then plain 1 (place_of e) else marks at call e
+  pub body_of_name : (e : Expr) → is_name e ≡ true → body_marks at call e ≡ alias_own_marks (place_of e)
+  body_of_name e is = λ i. if is i then alias_own_marks (place_of e) else marks at call e
 
   pub body_of_other : (e : Expr) → is_name e ≡ false → body_marks at call e ≡ marks at call e
-  body_of_other e is = λ i. if is i then plain 1 (place_of e) else marks at call e
+  body_of_other e is = λ i. if is i then alias_own_marks (place_of e) else marks at call e
 
   -- ---- blocks, definition by definition
   pub definition_first : (d : tree.Definition) (ds : tree.Definitions) → block_marks at call (tree.more_definitions d ds) ≡ body_marks at call (result_of (local_body d)) ++ block_marks at call ds

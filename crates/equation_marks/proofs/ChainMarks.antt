@@ -1,17 +1,19 @@
--- The marks of a chain, link by link: the link behind a beginning is an operation on that and on its operand.
+-- The marks of a chain, link by link: the link after a beginning is an operation on that and on its operand.
 use Rattle.std.proofs.Common.{◌≡◌, ℕ, suc, List, [], ◌∷◌, ◌++◌, refl, sym, ap, ◌∙◌, append_assoc}
 use Rattle.std.proofs.lemmas.List.{append-nil}
 use Rattle.tsl_value.specs.declared.place.Place.{Place}
 use Rattle.spec_parser.specs.Tree as tree
 use Rattle.spec_parser.specs.Tree.{Expr, Links, no_links, more_links}
-use Rattle.spec_parser.specs.Gives.{join_links}
-use Rattle.spec_parser.specs.Shape.{links_in}
+use Rattle.spec_parser.specs.inner.Gives.{join_links}
+use Rattle.spec_parser.specs.inner.Shape.{links_in}
 use Rattle.spec_parser.specs.declared.tree.Link.{Link}
 use Rattle.spec_parser.specs.declared.tree.Level.{Level}
 use Rattle.spec_parser.specs.declared.tree.Operator.{Operator}
 use Rattle.expr_types.specs.Around.{Around}
+use Rattle.stream_constructs.specs.Construct as construct
+use Rattle.spec_meaning.specs.Function.{no_tree}
 use Rattle.spec_meaning.specs.Shape.{left_of, all_but_last, last_operator, last_operand}
-use Rattle.equation_marks.specs.Marks.{Mark, marks, link_marks, unless_literal, signal_marks, signal_count, varying_count, plain}
+use Rattle.equation_marks.specs.Marks.{Mark, own_marks, marks, link_marks, unless_literal, signal_marks, varying_count}
 
 pub join_nil : (ls : Links) → join_links ls no_links ≡ ls
 join_nil no_links = refl
@@ -26,16 +28,16 @@ pub links_more : (ls : List Link) (k : Link) → links_in (ls ++ k ∷ []) ≡ j
 links_more [] k = refl
 links_more (l ∷ ls) k = ap (more_links l.operator l.operand) (links_more ls k)
 
--- a chain is its last link behind the others
-pub last_behind : (o : Operator) (f : Expr) (ls : Links) → join_links (all_but_last (more_links o f ls)) (more_links (last_operator o ls) (last_operand f ls) no_links) ≡ more_links o f ls
-last_behind o f no_links = refl
-last_behind o f (more_links q g ls) = ap (more_links o f) (last_behind q g ls)
+-- a chain is its last link after the others
+pub last_after : (o : Operator) (f : Expr) (ls : Links) → join_links (all_but_last (more_links o f ls)) (more_links (last_operator o ls) (last_operand f ls) no_links) ≡ more_links o f ls
+last_after o f no_links = refl
+last_after o f (more_links q g ls) = ap (more_links o f) (last_after q g ls)
 
 module _ (at : Around) (call : ℕ → List Mark) where
   pub link_marks-join : (p : Place) (ls ms : Links) → link_marks at call p (join_links ls ms) ≡ link_marks at call p ls ++ link_marks at call p ms
   link_marks-join p no_links ms = refl
   link_marks-join p (more_links o f ls) ms =
-      let here = unless_literal f (marks at call f) ++ plain (signal_count (suc (varying_count (f ∷ [])))) p in
+      let here = unless_literal f (marks at call f) ++ own_marks p (construct.Signal no_tree) (suc (varying_count (f ∷ []))) in
       ap (λ x. here ++ x) (link_marks-join p ls ms) ∙ sym (append_assoc here (link_marks at call p ls) (link_marks at call p ms))
 
   -- an operation on two operands
@@ -47,7 +49,7 @@ module _ (at : Around) (call : ℕ → List Mark) where
   chain_more p l e no_links o f = append-nil (operation_here p e f)
   chain_more p l e (more_links q g ls) o f =
       let first = unless_literal e (marks at call e) ++ unless_literal g (marks at call g) ++ signal_marks p (e ∷ g ∷ []) in
-      let own = plain (signal_count (suc (varying_count (f ∷ [])))) p in
+      let own = own_marks p (construct.Signal no_tree) (suc (varying_count (f ∷ []))) in
       ap (λ x. first ++ x) (link_marks-join p ls (more_links o f no_links))
       ∙ sym (append_assoc first (link_marks at call p ls) (link_marks at call p (more_links o f no_links)))
       ∙ ap (λ x. first ++ link_marks at call p ls ++ x) (append-nil (unless_literal f (marks at call f) ++ own))
@@ -56,4 +58,4 @@ module _ (at : Around) (call : ℕ → List Mark) where
   -- a whole chain by its last link
   pub chain_by_last : (p : Place) (l : Level) (e : Expr) (o : Operator) (f : Expr) (ls : Links) → marks at call (tree.Chain p l e (more_links o f ls)) ≡ operation_here p (left_of e (tree.Chain p l e) (all_but_last (more_links o f ls))) (last_operand f ls)
   chain_by_last p l e o f ls =
-      ap (λ ms. marks at call (tree.Chain p l e ms)) (sym (last_behind o f ls)) ∙ chain_more p l e (all_but_last (more_links o f ls)) (last_operator o ls) (last_operand f ls)
+      ap (λ ms. marks at call (tree.Chain p l e ms)) (sym (last_after o f ls)) ∙ chain_more p l e (all_but_last (more_links o f ls)) (last_operator o ls) (last_operand f ls)

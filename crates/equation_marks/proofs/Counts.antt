@@ -1,12 +1,22 @@
 -- How many marks there are.
-use Rattle.std.proofs.Common.{◌≡◌, ℕ, zero, suc, ◌+◌, ◌-◌, Bool, true, false, cond, not, List, [], ◌∷◌, ◌++◌, length, refl, ap, arith, length-append}
+use Rattle.equation_marks.specs.declared.own.TheConstants.{ENOUGH}
+use Rattle.std.proofs.Common.{◌≡◌, ◌⊎◌, inl, inr, ℕ, zero, suc, ◌+◌, ◌-◌, ◌*◌, ◌<◌, min, Bool, true, false, cond, not, List, [], ◌∷◌, ◌++◌, length, refl, sym, ap, ◌∙◌, arith, length-append}
 use Rattle.std.specs.List.{filter}
 use Rattle.tsl_value.specs.declared.place.Place.{Place}
 use Rattle.spec_parser.specs.Tree.{Expr}
+use Rattle.vocabulary.specs.declared.dotted.Dotted.{Dotted}
+use Rattle.vocabulary.specs.declared.dotted.Dotted.TheVariants as dotted
+use Rattle.name_check.specs.inner.Shown.{nowhere}
 use Rattle.expr_types.specs.Around.{Around}
-use Rattle.spec_meaning.specs.Shape.{is_part}
-use Rattle.equation_marks.specs.Marks.{Mark, plain, signal_marks, operation_marks, choice_marks, lifting_count, signal_count, varying_count, fixed_count}
-use Rattle.equation_marks.specs.Counted.{counted, choice_count}
+use Rattle.vocabulary.specs.declared.signature.Update.{Update as UpdateOp}
+use Rattle.vocabulary.specs.declared.signature.Update.TheVariants as update
+use Rattle.stream_constructs.specs.Construct as construct
+use Rattle.spec_meaning.specs.Function.{no_tree}
+use Rattle.spec_meaning.specs.Shape.{is_part, operands}
+use Rattle.equation_marks.specs.Marks.{Mark, signal_marks, choice_marks, varying_count}
+use Rattle.equation_marks.specs.inner.Counted.{counted, own_count, choice_count, dotted_count, lifting_count, signal_count, fixed_count}
+use Rattle.equation_marks.proofs.OwnMarks.{literal_count, lifting_more, length-lift, length-update, length-choice_own, own_many}
+use Rattle.equation_marks.proofs.Parts.{fixed_are_literals}
 
 -- ---- operands that vary, and those that do not
 count_more : (b : Bool) (e : Expr) (es : List Expr) → length (cond b (e ∷ es) es) ≡ length (cond b (e ∷ []) []) + length es
@@ -34,22 +44,57 @@ pub fixed_three : (a b c : Expr) → fixed_count (a ∷ b ∷ c ∷ []) ≡ 3 - 
 fixed_three a b c = let all : fixed_count (a ∷ b ∷ c ∷ []) + varying_count (a ∷ b ∷ c ∷ []) ≡ 3 = fixed_and_varying (a ∷ b ∷ c ∷ []) in omega arith
 
 -- ---- the marks of constructs
-pub length-plain : (n : ℕ) (p : Place) → length (plain n p) ≡ n
-length-plain zero p = refl
-length-plain (suc n) p = ap suc (length-plain n p)
-
 pub length-signal : (p : Place) (es : List Expr) → length (signal_marks p es) ≡ signal_count (varying_count es)
-length-signal p es = length-plain (signal_count (varying_count es)) p
-
-pub length-operation : (p : Place) (es : List Expr) (update : Bool) → length (operation_marks p es update) ≡ lifting_count (varying_count es) + fixed_count es + 1
-length-operation p es update =
-    let all = length-append (plain (lifting_count (varying_count es) + fixed_count es) p) (record { place = p; is_update = update } ∷ []) in
-    omega (arith, all, length-plain (lifting_count (varying_count es) + fixed_count es) p)
+length-signal p es = own_many p (construct.Signal no_tree) (varying_count es)
 
 pub length-choice : (at : Around) (call : ℕ → List Mark) (p : Place) (b : Bool) (es : List Expr) → length (choice_marks at call p b es) ≡ choice_count b es
-length-choice at call p true es = length-operation p es false
+length-choice at call p true es =
+    length-choice_own p (varying_count es) (operands es) ∙ sym (length-choice_own nowhere (varying_count es) (operands es))
 length-choice at call p false es = length-signal p es
 
--- ---- counting some behind others
+-- ---- what the code adds up
+-- lifting some, and more than two
+pub signal_some : (k : ℕ) → 0 < k → signal_count k ≡ lifting_count k + 1
+signal_some zero some = absurd (omega arith)
+signal_some (suc k) some = length-lift nowhere no_tree k
+
+lifting_some : (k : ℕ) → 2 < k → lifting_count k ≡ 1 + 2 * k
+lifting_some zero some = absurd (omega arith)
+lifting_some (suc zero) some = absurd (omega arith)
+lifting_some (suc (suc zero)) some = absurd (omega arith)
+lifting_some (suc (suc (suc k))) some = let same : 1 + 2 * (3 + k) ≡ 1 + 2 * suc (suc (suc k)) = omega arith in lifting_more k ∙ same
+
+-- an operation on all operands
+operation_count : (es : List Expr) (own : ℕ) → own ≡ lifting_count (varying_count es) + literal_count (operands es) + 1 → own ≡ lifting_count (varying_count es) + fixed_count es + 1
+operation_count es own is = is ∙ ap (λ k. lifting_count (varying_count es) + k + 1) (fixed_are_literals es)
+
+update_count : (o : UpdateOp) (es : List Expr) → own_count (construct.Update o (operands es)) (varying_count es) ≡ lifting_count (varying_count es) + fixed_count es + 1
+update_count o es = operation_count es _ (length-update nowhere o (operands es) (varying_count es))
+
+aggregate_count : (es : List Expr) → choice_count true es ≡ lifting_count (varying_count es) + fixed_count es + 1
+aggregate_count es = operation_count es _ (length-choice_own nowhere (varying_count es) (operands es))
+
+-- as far as is counted
+pub lifting_counted : (k r : ℕ) → 2 < k → r ≡ min (1 + 2 * k) ENOUGH → r ≡ min (lifting_count k) ENOUGH
+lifting_counted k r some is = is ∙ ap (λ n. min n ENOUGH) (sym (lifting_some k some))
+
+update_counted : (o : UpdateOp) (es : List Expr) (r : ℕ) → r ≡ min (lifting_count (varying_count es) + fixed_count es + 1) ENOUGH → r ≡ min (own_count (construct.Update o (operands es)) (varying_count es)) ENOUGH
+update_counted o es r is = is ∙ ap (λ n. min n ENOUGH) (sym (update_count o es))
+
+pub updates_counted : (d : Dotted) (es : List Expr) (r : ℕ) → (d ≡ dotted.SetAdd) ⊎ ((d ≡ dotted.SetRemove) ⊎ ((d ≡ dotted.MapAdd) ⊎ (d ≡ dotted.MapRemove))) → r ≡ min (lifting_count (varying_count es) + fixed_count es + 1) ENOUGH → r ≡ min (dotted_count d es) ENOUGH
+updates_counted d es r (inl h) is = update_counted update.SetAdd es r is ∙ ap (λ f. min (dotted_count f es) ENOUGH) (sym h)
+updates_counted d es r (inr (inl h)) is = update_counted update.SetRemove es r is ∙ ap (λ f. min (dotted_count f es) ENOUGH) (sym h)
+updates_counted d es r (inr (inr (inl h))) is = update_counted update.MapAdd es r is ∙ ap (λ f. min (dotted_count f es) ENOUGH) (sym h)
+updates_counted d es r (inr (inr (inr h))) is = update_counted update.MapRemove es r is ∙ ap (λ f. min (dotted_count f es) ENOUGH) (sym h)
+
+pub choice_counted : (a b c : Expr) (aggregate : Bool) (varying r : ℕ) → aggregate ≡ true → varying ≡ varying_count (a ∷ b ∷ c ∷ []) → r ≡ min (lifting_count varying + (3 - varying) + 1) ENOUGH → r ≡ min (choice_count aggregate (a ∷ b ∷ c ∷ [])) ENOUGH
+choice_counted a b c aggregate varying r chosen count is =
+    let es = a ∷ b ∷ c ∷ [] in
+    is ∙ ap (λ v. min (lifting_count v + (3 - v) + 1) ENOUGH) count
+    ∙ ap (λ n. min (lifting_count (varying_count es) + n + 1) ENOUGH) (sym (fixed_three a b c))
+    ∙ ap (λ n. min n ENOUGH) (sym (aggregate_count es))
+    ∙ ap (λ g. min (choice_count g es) ENOUGH) (sym chosen)
+
+-- ---- counting some after others
 pub counted_then : (count n m : ℕ) (xs ys : List Mark) → n ≡ counted count xs → m ≡ counted n ys → m ≡ counted count (xs ++ ys)
 counted_then count n m xs ys first second = omega (arith, length-append xs ys)

@@ -5,8 +5,8 @@ use Rattle.std.proofs.lemmas.List.{append-nil}
 use Rattle.spec_parser.specs.Tree as tree
 use Rattle.spec_parser.specs.Tree.{Expr, Param}
 use Rattle.spec_parser.specs.declared.tree.DefinitionParts.{DefinitionParts}
-use Rattle.spec_parser.specs.Shape.{params_in}
-use Rattle.spec_parser.specs.Shape as code
+use Rattle.spec_parser.specs.inner.Shape.{params_in}
+use Rattle.spec_parser.specs.inner.Shape as code
 use Rattle.name_check.specs.Scope.{Scope, Agree, top, inside, in_block, seen, are_values, functions_of, parameters_from, locals_from}
 use Rattle.name_check.proofs.AgreeLemmas.{agree_same, agree_trans, agree_append}
 use Rattle.type_rules.specs.declared.rule.Setting.{Setting}
@@ -15,8 +15,8 @@ use Rattle.expr_types.specs.Bodies.{setting_of}
 use Rattle.spec_meaning.specs.Occurrence.{result_of, block_of, body_of}
 use Rattle.checked_spec.specs.Laws.{in_macro}
 use Rattle.equation_marks.specs.Marks.{body_marks, block_marks, macro_marks}
-use Rattle.equation_marks.specs.Counted.{counted}
-use Rattle.equation_marks.specs.Counters.{IsDefinitionAt}
+use Rattle.equation_marks.specs.inner.Counted.{counted}
+use Rattle.equation_marks.specs.inner.Counters.{IsDefinitionAt}
 use Rattle.equation_marks.proofs.AgreeMarks.{block_agrees, body_agrees}
 use Rattle.equation_marks.proofs.CallMarks.{macro_marks_are}
 use Rattle.equation_marks.proofs.CountLemmas.{then_counted}

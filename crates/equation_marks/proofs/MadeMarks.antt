@@ -22,10 +22,9 @@ use Rattle.stream_constructs.specs.Equations.{own_equations, choice_equations}
 use Rattle.stream_constructs.specs.Agree.{Fits, FitsChoice}
 use Rattle.spec_meaning.specs.Occurrence.{Call, scope_at, result_of, block_of, body_of}
 use Rattle.spec_meaning.specs.Shape.{Shape, shape, expressions}
-use Rattle.macro_flatten.specs.Makes.{with_itself, is_own, is_choice, choice_operands}
+use Rattle.flatten_rules.specs.Makes.{with_itself, is_own, is_choice, choice_operands}
 use Rattle.checked_spec.specs.Laws.{in_macro}
-use Rattle.equation_marks.specs.Marks.{Mark, mark_of, marks, holds_aggregate, body_marks, block_marks, macro_marks}
-use Rattle.equation_marks.specs.Own.{own_marks, choice_own_marks}
+use Rattle.equation_marks.specs.Marks.{Mark, mark_of, own_marks, choice_own_marks, marks, holds_aggregate, body_marks, block_marks, macro_marks}
 use Rattle.equation_marks.proofs.OwnMarks.{own_equations_marks, choice_equations_marks}
 use Rattle.equation_marks.proofs.ByShape.{marks_of_own, marks_of_choice}
 use Rattle.equation_marks.proofs.CallMarks.{macro_call_marks, macro_marks_are}

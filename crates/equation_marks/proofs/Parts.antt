@@ -5,12 +5,13 @@ use Rattle.std.specs.List.{filter, flat_map}
 use Rattle.std.proofs.lemmas.List.{append-nil}
 use Rattle.tsl_value.specs.declared.scalar.Scalar.{Scalar}
 use Rattle.spec_parser.specs.Tree.{Expr, Exprs, no_exprs, more_exprs}
-use Rattle.spec_parser.specs.Shape.{exprs_of}
+use Rattle.spec_parser.specs.inner.Shape.{exprs_of}
 use Rattle.expr_types.specs.Around.{Around}
 use Rattle.spec_meaning.specs.Function.{literal}
 use Rattle.spec_meaning.specs.Shape.{is_part, expressions, operand, operands}
-use Rattle.equation_marks.specs.Marks.{Mark, marks, each_marks, unless_literal, operands_marks, joined, all_but_last, fixed_count}
-use Rattle.equation_marks.specs.Own.{literal_count}
+use Rattle.equation_marks.specs.Marks.{Mark, marks, each_marks, unless_literal, operands_marks, joined, all_but_last}
+use Rattle.equation_marks.specs.inner.Counted.{fixed_count}
+use Rattle.equation_marks.proofs.OwnMarks.{literal_count}
 
 -- expressions as a list, and back
 pub expressions_again : (es : Exprs) → exprs_of (expressions es) ≡ es
@@ -61,7 +62,7 @@ module _ (at : Around) (call : ℕ → List Mark) where
   operands_each (more_exprs e es) =
       ap (λ ms. unless_literal e (marks at call e) ++ ms) (operands_each es) ∙ sym (operand_front (marks at call) e (expressions es))
 
-  -- those of a list, one behind the other
+  -- those of a list, one after the other
   pub joined_listed : (es : List Expr) → joined (each_marks at call (exprs_of es)) ≡ flat_map (marks at call) es
   joined_listed es = joined_each (exprs_of es) ∙ ap (flat_map (marks at call)) (listed_again es)
 

@@ -3,8 +3,8 @@ use Rattle.std.proofs.Common.{◌≡◌, ℕ, zero, suc, ◌+◌, ◌-◌, ◌*�
 use Rattle.std.specs.Prelude.{slice_get}
 use Rattle.spec_parser.specs.Tree as tree
 use Rattle.spec_parser.specs.Tree.{Expr}
-use Rattle.spec_parser.specs.Shape.{size_of, definitions_of}
-use Rattle.name_check.specs.Steps.{local_body}
+use Rattle.spec_parser.specs.inner.Shape.{size_of, definitions_of}
+use Rattle.name_check.specs.inner.Steps.{local_body}
 use Rattle.spec_meaning.specs.Occurrence.{result_of, block_of, body_of}
 
 -- ---- what is counted of bodies: the results of their blocks, and their own

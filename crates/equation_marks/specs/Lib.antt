@@ -1,7 +1,3 @@
 pub mod Marks
 pub mod Refused
-pub mod Own
-pub mod Counted
-pub mod Counters
-pub mod Calls
-pub mod CallsShown
+pub mod inner

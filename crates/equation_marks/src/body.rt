@@ -1,12 +1,12 @@
 // Bodies, and the definitions of items.
 
 ghost use Rattle.std.specs.Prelude.{◌≡◌, MatchOption, Some, None, map, slice_get};
-ghost use Rattle.spec_parser.specs.Shape.{item_of, params_in, definitions_of};
-ghost use Rattle.spec_parser.specs.Shape as code;
+ghost use Rattle.spec_parser.specs.inner.Shape.{item_of, params_in, definitions_of};
+ghost use Rattle.spec_parser.specs.inner.Shape as code;
 ghost use Rattle.expr_types.specs.Bodies.{setting_of};
 ghost use Rattle.spec_meaning.specs.Occurrence.{result_of, block_of, body_of};
-ghost use Rattle.macro_flatten.specs.Makes.{is_name};
-ghost use Rattle.equation_marks.specs.Counters.{IsDefinitionAt};
+ghost use Rattle.flatten_rules.specs.Makes.{is_name};
+ghost use Rattle.equation_marks.specs.inner.Counters.{IsDefinitionAt};
 
 use name_check::builtin::is_unit;
 use name_check::scope::are_values;
@@ -58,7 +58,8 @@ pub(crate) fn setting_of(params: &[Param]) -> Setting
 
 /// The definition of an item, if it is one.
 pub(crate) fn definition_at(items: &[Item], number: usize) -> Option<&DefinitionParts>
-    ensures { MatchOption result (body_of (slice_get (map item_of items.now) number) ≡ None) (λ d. IsDefinitionAt (map item_of items.now) number d.now) }
+    ensures { MatchOption result (body_of (slice_get (map item_of items.now) number) ≡ None)
+        (λ d. IsDefinitionAt (map item_of items.now) number d.now) }
 {
     match items.get(number) {
         Some(Item::Defined(_, definition)) => Some(definition.parts()),

@@ -3,8 +3,8 @@
 ghost use Rattle.std.specs.Prelude.{◌≡◌, ◌≤◌, drop};
 ghost use Rattle.name_check.specs.Scope.{seen};
 ghost use Rattle.spec_meaning.specs.Function.{literal};
-ghost use Rattle.equation_marks.specs.Calls.{of_streams, call_parts, declared_parts, filter_parts, front, is_truth};
-ghost use Rattle.equation_marks.specs.CallsShown.{IsParts};
+ghost use Rattle.equation_marks.specs.inner.Calls.{of_streams, call_parts, declared_parts, filter_parts, front, is_truth};
+ghost use Rattle.equation_marks.specs.inner.CallsShown.{IsParts};
 
 use crate::own::{ENOUGH, signal_over};
 use name_check::declaration::Declaration;
@@ -75,7 +75,7 @@ fn front(arguments: &[Expr]) -> &[Expr]
     }
 }
 
-fn behind_first(arguments: &[Expr]) -> &[Expr]
+fn after_the_first(arguments: &[Expr]) -> &[Expr]
     ensures { result.now ≡ drop 1 arguments.now }
 {
     match arguments.split_first() {
@@ -115,7 +115,7 @@ pub(crate) fn call_parts<'a>(scope: &Scope<'_>, name: &str, arguments: &'a [Expr
 {
     match name {
         "time" | "last" | "merge" | "default" | "delay" => Parts::of_streams(arguments, 1),
-        "const" => Parts::of_streams(behind_first(arguments), 1),
+        "const" => Parts::of_streams(after_the_first(arguments), 1),
         "filter" => filter_parts(arguments),
         "lift" => Parts::of_streams(front(arguments), 1),
         _ => declared_parts(scope.find(name), arguments),

@@ -5,21 +5,21 @@ ghost use Rattle.std.specs.List.{flat_map, filter};
 ghost use Rattle.tsl_value.specs.declared.place.Place.{Place};
 ghost use Rattle.spec_parser.specs.Tree as tree;
 ghost use Rattle.spec_parser.specs.declared.tree.Level.{Level as Levels};
-ghost use Rattle.spec_parser.specs.Shape.{definition_of, definitions_of, exprs_of, links_in, item_of};
-ghost use Rattle.name_check.specs.Steps.{local_body};
-ghost use Rattle.name_check.specs.Shown.{nowhere};
+ghost use Rattle.spec_parser.specs.inner.Shape.{definition_of, definitions_of, exprs_of, links_in, item_of};
+ghost use Rattle.name_check.specs.inner.Steps.{local_body};
+ghost use Rattle.name_check.specs.inner.Shown.{nowhere};
 ghost use Rattle.expr_types.specs.Judge.{type_of};
-ghost use Rattle.expr_types.specs.Shown.{around_of};
+ghost use Rattle.expr_types.specs.inner.Shown.{around_of};
 ghost use Rattle.spec_meaning.specs.Occurrence.{result_of as result_in};
 ghost use Rattle.spec_meaning.specs.Shape.{is_part};
 ghost use Rattle.equation_marks.specs.Marks.{marks, link_marks, body_marks, block_marks, unless_literal, holds_aggregate};
-ghost use Rattle.equation_marks.specs.Counted.{counted};
-ghost use Rattle.equation_marks.specs.Counters.{calls_of, HasNames, IsDefinitionAt};
+ghost use Rattle.equation_marks.specs.inner.Counted.{counted};
+ghost use Rattle.equation_marks.specs.inner.Counters.{calls_of, HasNames, IsDefinitionAt};
 
 use crate::body::{block_of, definition_at, is_only_name, result_of, setting_of};
 use crate::call::call_parts;
 pub use crate::own::ENOUGH;
-use crate::own::{choice, dotted_over, more, signal_behind, signal_of_one, signal_of_two, varies};
+use crate::own::{choice, dotted_over, more, signal_after, signal_of_one, signal_of_two, varies};
 use expr_types::around::Around;
 use expr_types::judge::expression as judge;
 use expr_types::kinds::KindTable;
@@ -45,7 +45,7 @@ pub struct Counter<'a> {
 }
 
 impl Counter<'_> {
-    /// How many equations there are with those of an expression, behind so many others. Calls of macros nest no deeper than is
+    /// How many equations there are with those of an expression, after so many others. Calls of macros nest no deeper than is
     /// said.
     #[cycle(counting)]
     pub fn expression(
@@ -123,7 +123,8 @@ impl Counter<'_> {
         count: u32,
     ) -> Result<u32, NoMemory>
         requires { HasNames self.now }
-        ensures { IfOk result (λ n. n ≡ counted count (unless_literal operand.now (marks (around_of at.now) (calls_of self.now deep) operand.now))) }
+        ensures { IfOk result (λ n. n ≡ counted count
+            (unless_literal operand.now (marks (around_of at.now) (calls_of self.now deep) operand.now))) }
     {
         if varies(operand) {
             self.expression(at, deep, operand, count)
@@ -142,7 +143,8 @@ impl Counter<'_> {
         count: u32,
     ) -> Result<u32, NoMemory>
         requires { HasNames self.now }
-        ensures { IfOk result (λ n. (p : Place) (l : Levels) → n ≡ counted count (marks (around_of at.now) (calls_of self.now deep) (tree.Chain p l first.now (links_in links.now)))) }
+        ensures { IfOk result (λ n. (p : Place) (l : Levels)
+            → n ≡ counted count (marks (around_of at.now) (calls_of self.now deep) (tree.Chain p l first.now (links_in links.now)))) }
     {
         match links.split_first() {
             None => self.expression(at, deep, first, count),
@@ -165,16 +167,17 @@ impl Counter<'_> {
         mut count: u32,
     ) -> Result<u32, NoMemory>
         requires { HasNames self.now }
-        ensures { IfOk result (λ n. (p : Place) → n ≡ counted count (link_marks (around_of at.now) (calls_of self.now deep) p (links_in links.now))) }
+        ensures { IfOk result (λ n. (p : Place)
+            → n ≡ counted count (link_marks (around_of at.now) (calls_of self.now deep) p (links_in links.now))) }
     {
         for link in links {
             count = self.operand(at, deep, &link.operand, count)?;
-            count = more(count, signal_behind(&link.operand));
+            count = more(count, signal_after(&link.operand));
         }
         Ok(count.min(ENOUGH))
     }
 
-    /// Expressions, one behind the other.
+    /// Expressions, one after the other.
     #[cycle(counting)]
     fn all(
         &self,
@@ -201,7 +204,8 @@ impl Counter<'_> {
         mut count: u32,
     ) -> Result<u32, NoMemory>
         requires { HasNames self.now }
-        ensures { IfOk result (λ n. n ≡ counted count (flat_map (marks (around_of at.now) (calls_of self.now deep)) (filter is_part operands.now))) }
+        ensures { IfOk result (λ n. n ≡ counted count
+            (flat_map (marks (around_of at.now) (calls_of self.now deep)) (filter is_part operands.now))) }
     {
         for operand in operands {
             count = self.operand(at, deep, operand, count)?;
@@ -219,7 +223,8 @@ impl Counter<'_> {
         count: u32,
     ) -> Result<u32, NoMemory>
         requires { HasNames self.now }
-        ensures { IfOk result (λ n. (p : Place) → n ≡ counted count (marks (around_of at.now) (calls_of self.now deep) (tree.Call p name.now (exprs_of arguments.now)))) }
+        ensures { IfOk result (λ n. (p : Place)
+            → n ≡ counted count (marks (around_of at.now) (calls_of self.now deep) (tree.Call p name.now (exprs_of arguments.now)))) }
     {
         let parts = call_parts(at.scope, name, arguments);
         let count = self.all(at, deep, parts.streams, count)?;
@@ -288,7 +293,8 @@ impl Counter<'_> {
         mut count: u32,
     ) -> Result<u32, NoMemory>
         requires { HasNames self.now }
-        ensures { IfOk result (λ n. n ≡ counted count (block_marks (around_of at.now) (calls_of self.now deep) (definitions_of definitions.now))) }
+        ensures { IfOk result (λ n. n ≡ counted count
+            (block_marks (around_of at.now) (calls_of self.now deep) (definitions_of definitions.now))) }
     {
         for definition in definitions {
             count = self.body(at, deep, result_of(&definition.parts().body), count)?;
@@ -305,7 +311,8 @@ impl Counter<'_> {
         count: u32,
     ) -> Result<u32, NoMemory>
         requires { HasNames self.now }
-        ensures { IfOk result (λ n. n ≡ counted count (body_marks (around_of at.now) (calls_of self.now deep) (result_in (local_body definition.now)))) }
+        ensures { IfOk result (λ n. n ≡ counted count
+            (body_marks (around_of at.now) (calls_of self.now deep) (result_in (local_body definition.now)))) }
     {
         self.body(at, deep, result_of(&definition.parts().body), count)
     }

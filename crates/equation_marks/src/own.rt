@@ -2,13 +2,15 @@
 
 ghost use Rattle.std.specs.Prelude.{◌≡◌, ◌+◌, ◌≤◌, suc, min, [], ◌∷◌};
 ghost use Rattle.spec_meaning.specs.Shape.{is_part};
-ghost use Rattle.equation_marks.specs.Marks.{lifting_count, signal_count, varying_count, fixed_count};
-ghost use Rattle.equation_marks.specs.Counted.{choice_count, dotted_count};
+ghost use Rattle.equation_marks.specs.Marks.{varying_count};
+ghost use Rattle.equation_marks.specs.inner.Counted.{lifting_count, signal_count, fixed_count, choice_count, dotted_count};
 
-use spec_parser::tree::{Dotted, Expr, Node};
+use flat_core::limits::MOST_EQUATIONS;
+use spec_parser::tree::{Expr, Node};
+use vocabulary::dotted::Dotted;
 
 /// More than any system has. Nothing is counted beyond.
-pub const ENOUGH: u32 = 4097;
+pub const ENOUGH: u32 = MOST_EQUATIONS + 1;
 
 /// So many more, as far as is counted.
 pub(crate) fn more(count: u32, equations: u32) -> u32
@@ -112,7 +114,7 @@ fn varying_two(left: &Expr, right: &Expr) -> usize
 }
 
 /// A signal lift of a stream and an operand.
-pub(crate) fn signal_behind(operand: &Expr) -> u32
+pub(crate) fn signal_after(operand: &Expr) -> u32
     ensures { result ≡ min (signal_count (suc (varying_count (operand.now ∷ [])))) ENOUGH }
 {
     signal(varying_one(operand) + 1)

@@ -10,7 +10,7 @@ use Rattle.lift_func.specs.Tree.{Tree}
 use Rattle.flat_core.specs.declared.equation.Op.TheVariants as op
 use Rattle.flat_core.specs.declared.equation.Equation.{Equation}
 use Rattle.flat_core.specs.Case.{root_fault, outcome_of}
-use Rattle.flat_core.specs.Graph.{Walk, stay}
+use Rattle.translation_order.specs.Graph.{Walk, stay}
 use Rattle.flat_core.specs.Needed.{HasArgument}
 use Rattle.flat_core.specs.System.{System}
 use Rattle.flat_core.specs.Typed.{unit_type}
@@ -25,7 +25,7 @@ use Rattle.stream_constructs.specs.Equations.{equation, own_equations, choice_eq
 use Rattle.stream_constructs.specs.Agree.{Makes as MakesConstruct, HangTogether, IsItself, Fits, FitsChoice, last_number, ConstructsAreMade, ConstructsHangTogether, ChoicesAreMade, ChoicesHangTogether, AliasesAreMade, AliasesHangTogether}
 use Rattle.spec_meaning.specs.Occurrence.{Occurrence}
 use Rattle.spec_meaning.specs.Shape.{Shape, shape, itself}
-use Rattle.macro_flatten.specs.Makes.{Standing, MakesAll, is_own, is_choice, choice_operands, with_itself}
+use Rattle.flatten_rules.specs.Makes.{Standing, MakesAll, is_own, is_choice, choice_operands, with_itself}
 use Rattle.flat_meaning.proofs.Plain.{plain, Within, IsNameless, stands}
 use Rattle.flat_meaning.proofs.OwnEquations.{IsOwn, own_made, choice_made, own_some, choice_some, IsOneDelay, delay_own}
 use Rattle.flat_meaning.proofs.Shapes.{parts_beside, choice_construct}
@@ -59,6 +59,10 @@ is_itself construct.Delay m (a ∷ b ∷ c ∷ parts) = longer (parts ++ record 
     longer (d ∷ more) is = subst (λ xs. IsItself construct.Delay m (a ∷ b ∷ c ∷ xs)) (sym is) tt
 is_itself c m parts = tt
 
+-- own equations have no name
+pub nameless : (c : Construct) (p : Place) (own : List Equation) → AllByRecursion (IsOwn c p) own → AllByRecursion IsNameless own
+nameless c p own all = all_by (IsOwn c p) IsNameless (λ e h. record { nameless = h.nameless }) own all
+
 module _ (items : List tree.Item) (kinds : Kinds) (top : ℕ → Stream) (s : System) (laws : TheLaws) where
   joined_from : (c : Construct) (own : List Equation) (n : ℕ) (parts : List Stream) → HangTogether c own n parts (plain s) → AreJoined items kinds top s c own n parts
   joined_from c own n parts hang = record { reach = hang.reach; reach_parts = hang.reach_parts; arguments = hang.arguments; falls = hang.falls }
@@ -66,9 +70,6 @@ module _ (items : List tree.Item) (kinds : Kinds) (top : ℕ → Stream) (s : Sy
   each_itself : (c : Construct) (m : ℕ) (o : Occurrence) (os : List Occurrence) (parts : List Stream) → Each (IsPlaced items kinds top s) os parts → (c ≡ construct.Delay → Placed items kinds top s o m) → Each (IsPlaced items kinds top s) (os ++ itself c o) (with_itself c m parts)
   each_itself construct.Delay m o os parts each self = each_end (IsPlaced items kinds top s) os parts o (record { id = m; of = unit_type }) each (self refl)
   each_itself c m o os parts each self = subst (λ xs. Each (IsPlaced items kinds top s) xs parts) (sym (append-nil os)) each
-
-  nameless : (c : Construct) (p : Place) (own : List Equation) → AllByRecursion (IsOwn c p) own → AllByRecursion IsNameless own
-  nameless c p own all = all_by (IsOwn c p) IsNameless (λ e h. record { nameless = h.nameless }) own all
 
   -- a construct
   pub own_built : (at : Standing) (e : Expr) (n m : ℕ) (sh : Shape) (parts : List Stream) (before : List Equation) (of : ValueType) (stream : Stream) → Entered items kinds top s at → shape items (record { calls = at.calls; expr = e }) ≡ Some sh → is_own sh.construct ≡ true → MakesAll items kinds top at (map (λ o. o.expr) sh.parts) n before parts → Within s n before → Fits sh.construct (with_itself sh.construct m parts) of → Within s m (own_equations (place_of e) of m sh.construct (with_itself sh.construct m parts)) → stream.id ≡ last_number m (own_equations (place_of e) of m sh.construct (with_itself sh.construct m parts)) → IsMade items kinds top s at e stream → IsBuilt items kinds top s (record { calls = at.calls; expr = e }) stream.id

@@ -1,16 +1,14 @@
 -- The text of a flat system's solution is the text that is due.
-use Rattle.std.proofs.Common.{◌≡◌, ◌==◌, ℕ, zero, suc, ◌<◌, ◌≤◌, Bool, true, false, not, ◌||◌, ◌&&◌, List, [], ◌∷◌, ◌++◌, take, Option, Some, None, refl, ap, sym, subst, inl, inr, arith}
+use Rattle.std.proofs.Common.{◌≡◌, ◌==◌, ℕ, zero, suc, ◌<◌, ◌≤◌, Bool, true, false, not, ◌||◌, ◌&&◌, List, [], ◌∷◌, ◌++◌, take, Option, Some, None, refl, ap, inl, inr, arith}
 use Rattle.std.specs.Prelude.{if◌then◌else◌, is_some}
 use Rattle.std.specs.Option.{option_and_then}
 use Rattle.std.specs.List.{Contains, flat_map, list_any}
-use Rattle.std.proofs.lemmas.Bool.{cases_Bool, cases_lt, or_cases, or_left, or_right, and_parts, and_from, eqb-true, eq-eqb, false≢true}
-use Rattle.std.proofs.lemmas.List.Elements.{Contains-append_left, Contains-append_right, Contains-append_cases}
+use Rattle.std.proofs.lemmas.Bool.{cases_Bool, or_cases, or_left, or_right, and_parts, and_from, eqb-true, eq-eqb, false≢true}
 use Rattle.std.proofs.lemmas.List.Kept.{IsStrictlyIncreasing-filter}
-use Rattle.tsl_value.specs.View.{View}
 use Rattle.lift_func.specs.declared.fault.FaultKind.{FaultKind}
 use Rattle.flat_core.specs.declared.equation.Equation.{Equation}
 use Rattle.flat_core.specs.declared.equation.Output.{Output}
-use Rattle.flat_core.specs.Stream.{Outcome, Event, Fault, event, has_event}
+use Rattle.flat_core.specs.Stream.{event, has_event, Outcome, Event, Fault}
 use Rattle.flat_core.specs.Case.{Streams, root_fault}
 use Rattle.flat_core.specs.Complete.{IsFlat}
 use Rattle.flat_core.specs.Needed.{RunsNeeded}
@@ -23,14 +21,17 @@ use Rattle.flat_core.specs.Text.{event_line, text_at, due_instants, due_text}
 use Rattle.flat_core.specs.WellFormed.{IsWellFormed}
 use Rattle.flat_core.proofs.Members.{contains_head, contains_tail, some_from, some_in}
 use Rattle.flat_core.proofs.PendingLemmas.{some_before_gives, some_before_from}
+use Rattle.flat_core.proofs.Instants.{in_instants, instants_have}
 use Rattle.spec_parser.specs.Tree as tree
 use Rattle.spec_parser.specs.Tree.{place_of}
 use Rattle.expr_types.specs.Around.{Kinds}
-use Rattle.spec_meaning.specs.Due.{Printed, outputs_of, Expires, IsInstant, IsFaulty, AreInstants, AreDue, IsTextAt, IsTextOf, IsDueText}
+use Rattle.spec_meaning.specs.Due.{Printed, outputs_of, IsInstant, IsFaulty, AreInstants, AreDue, IsTextAt, IsTextOf, IsDueText}
 use Rattle.spec_meaning.specs.Due as due
-use Rattle.macro_flatten.specs.Flat.{IsFlatOf}
-use Rattle.flat_meaning.specs.Laws.{IsExpiry, MeansTheSame}
-use Rattle.flat_meaning.proofs.ListLemmas.{contains_filter, from_filter, from_take}
+use Rattle.flatten_rules.specs.Flat.{IsFlatOf}
+use Rattle.flat_meaning.specs.inner.Laws.{IsExpiry, MeansTheSame}
+use Rattle.tsl_value.proofs.Lists.{kept_in, in_kept}
+use Rattle.tsl_value.specs.View.{View}
+use Rattle.flat_meaning.proofs.ListLemmas.{from_take}
 use Rattle.flat_meaning.proofs.Rising.{Rising, increasing}
 use Rattle.flat_meaning.proofs.Placed.{Each}
 use Rattle.flat_meaning.proofs.Built.{TheLaws}
@@ -48,17 +49,12 @@ rising_end low n [] true up below le = (le, tt)
 rising_end low n [] false up below le = tt
 rising_end low n (x ∷ xs) b up below le = (up.0, rising_end (suc x) n xs b up.1 (λ t c. below t (contains_tail x xs t c)) (below x (contains_head x xs)))
 
-at_end : (n t : ℕ) (b : Bool) → Contains (if b then n ∷ [] else []) t → (n ≡ t) × (b ≡ true)
-at_end n t true (zero, lt, is) = (is, refl)
-at_end n t true (suc k, lt, is) = absurd (omega arith)
-at_end n t false (k, lt, is) = absurd (omega arith)
-
 event_of : (o : Option Outcome) → has_event o ≡ true → (v : View) × (o ≡ Some (Event v))
 event_of None h = absurd (false≢true h)
 event_of (Some (Event v)) h = (v, refl)
 event_of (Some Fault) h = absurd (false≢true h)
 
-some_is : (o : Option FaultKind) → is_some o ≡ true → (kind : FaultKind) × (o ≡ Some kind)
+pub some_is : (o : Option FaultKind) → is_some o ≡ true → (kind : FaultKind) × (o ≡ Some kind)
 some_is None h = absurd (false≢true h)
 some_is (Some kind) h = (kind, refl)
 
@@ -95,34 +91,16 @@ module _ (items : List tree.Item) (s : System) (lines : List Line) (bound : ℕ)
         ]
       ]
 
-  pub in_instants : (n t : ℕ) → Contains (instants s lines z n) t → (t < n) × (is_instant s lines z t ≡ true)
-  in_instants zero t (k, lt, is) = absurd (omega arith)
-  in_instants (suc n) t c = elim (Contains-append_cases (instants s lines z n) (if is_instant s lines z n then n ∷ [] else []) t c) [
-    | inl before ↦ let found = in_instants n t before in let lt = found.0 in (omega arith, found.1)
-    | inr last ↦ let found = at_end n t (is_instant s lines z n) last in let same = found.0 in (omega arith, subst (λ u. is_instant s lines z u ≡ true) same found.1)
-  ]
-
-  pub instants_have : (n t : ℕ) → t < n → is_instant s lines z t ≡ true → Contains (instants s lines z n) t
-  instants_have zero t lt h = absurd (omega arith)
-  instants_have (suc n) t lt h = elim (cases_lt t n) [
-    | inl before ↦ Contains-append_left (instants s lines z n) (if is_instant s lines z n then n ∷ [] else []) t (instants_have n t before h)
-    | inr after ↦
-        let same : t ≡ n = omega arith in
-        let here : is_instant s lines z n ≡ true = subst (λ u. is_instant s lines z u ≡ true) same h in
-        let alone : Contains (n ∷ []) t = (0, omega arith, sym same) in
-        Contains-append_right (instants s lines z n) (if is_instant s lines z n then n ∷ [] else []) t (subst (λ b. Contains (if b then n ∷ [] else []) t) (sym here) alone)
-  ]
-
   rising_instants : (n : ℕ) → Rising 0 (instants s lines z n)
   rising_instants zero = tt
-  rising_instants (suc n) = rising_end 0 n (instants s lines z n) (is_instant s lines z n) (rising_instants n) (λ t c. (in_instants n t c).0) (omega arith)
+  rising_instants (suc n) = rising_end 0 n (instants s lines z n) (is_instant s lines z n) (rising_instants n) (λ t c. (in_instants s lines z n t c).0) (omega arith)
 
   pub are_instants : AreInstants items lines bound (instants s lines z bound)
   are_instants = record {
     rising = increasing 0 (instants s lines z bound) (rising_instants bound);
     each = λ t. (
-      (λ c. let found = in_instants bound t c in (found.0, to_instant t found.0 found.1)),
-      (λ h. instants_have bound t h.0 (from_instant t h.0 h.1)),
+      (λ c. let found = in_instants s lines z bound t c in (found.0, to_instant t found.0 found.1)),
+      (λ h. instants_have s lines z bound t h.0 (from_instant t h.0 h.1)),
     );
   }
 
@@ -158,7 +136,7 @@ module _ (items : List tree.Item) (s : System) (lines : List Line) (bound : ℕ)
 
   module _ (limit : ℕ) where
     pub taken_low : (t : ℕ) → Contains (take limit (instants s lines z bound)) t → t < bound
-    taken_low t c = (in_instants bound t (from_take limit (instants s lines z bound) t c)).0
+    taken_low t c = (in_instants s lines z bound t (from_take limit (instants s lines z bound) t c)).0
 
     are_due : AreDue items lines bound limit (due_instants s lines z bound limit)
     are_due = record {
@@ -167,14 +145,14 @@ module _ (items : List tree.Item) (s : System) (lines : List Line) (bound : ℕ)
       rising = IsStrictlyIncreasing-filter (λ t. not (is_over s (inputs_of lines) z t)) (take limit (instants s lines z bound)) (increasing 0 (take limit (instants s lines z bound)) (rising_take 0 limit (instants s lines z bound) (rising_instants bound)));
       each = λ t. (
         (λ c.
-            let found = from_filter (λ t. not (is_over s (inputs_of lines) z t)) (take limit (instants s lines z bound)) t c in
+            let found = in_kept (λ t. not (is_over s (inputs_of lines) z t)) (take limit (instants s lines z bound)) t c in
             (found.0, not_over t (taken_low t found.0) found.1)),
-        (λ h. contains_filter (λ t. not (is_over s (inputs_of lines) z t)) (take limit (instants s lines z bound)) t h.0 (still_on t (taken_low t h.0) h.1)),
+        (λ h. kept_in (λ t. not (is_over s (inputs_of lines) z t)) (take limit (instants s lines z bound)) t h.0 (still_on t (taken_low t h.0) h.1)),
       );
     }
 
     due_low : (t : ℕ) → Contains (due_instants s lines z bound limit) t → t < bound
-    due_low t c = taken_low t (from_filter (λ t. not (is_over s (inputs_of lines) z t)) (take limit (instants s lines z bound)) t c).0
+    due_low t c = taken_low t (in_kept (λ t. not (is_over s (inputs_of lines) z t)) (take limit (instants s lines z bound)) t c).0
 
 module _ (items : List tree.Item) (kinds : Kinds) (s : System) (lines : List Line) (bound : ℕ) (z : Streams) (laws : TheLaws) (of : IsFlatOf items kinds s.equations s.outputs) (flat : IsFlat s) (needs : RunsNeeded s) (good : IsWellFormed s) (solves : Solves s (inputs_of lines) bound z) where
   texts_at : (t : ℕ) → t < bound → (os : List Printed) (ps : List Output) → Each (IsOutput items kinds of.top s flat.proper (leads items kinds s lines bound z laws of flat needs good solves)) os ps → ((p : Output) → Contains ps p → Contains s.outputs p) → IsTextAt items lines t os (flat_map (λ (p : Output). event_line t p.name (event (z p.equation t))) ps)

@@ -5,7 +5,7 @@ use Rattle.stream_constructs.proofs.Operands.{chooses_of}
 use Rattle.stream_constructs.proofs.Updates.{choice_made}
 use Rattle.stream_constructs.proofs.Hangs.{alias_hangs}
 use Rattle.stream_constructs.proofs.Hung.{construct_hangs, choice_hangs}
-use Rattle.flat_meaning.specs.Laws.{FlatMeansTheSame, FlatTextIsDue}
+use Rattle.flat_meaning.specs.inner.Laws.{FlatMeansTheSame, FlatTextIsDue}
 use Rattle.flat_meaning.proofs.Built.{TheLaws}
 use Rattle.flat_meaning.proofs.Means.{means}
 use Rattle.flat_meaning.proofs.DueText.{text_is_due}

@@ -20,7 +20,7 @@ use Rattle.stream_constructs.specs.Agree.{MakesStream, last_number, history_of, 
 use Rattle.spec_meaning.specs.Occurrence.{Occurrence}
 use Rattle.spec_meaning.specs.Shape.{all_parts}
 use Rattle.spec_meaning.specs.Happens.{counts_below, history, Happens, happens}
-use Rattle.flat_meaning.proofs.ListLemmas.{place_contains}
+use Rattle.tsl_value.proofs.Lists.{contains_at}
 use Rattle.flat_meaning.proofs.Plain.{original, case_named, walk_named, walk_runs, path_lower}
 use Rattle.flat_meaning.proofs.Placed.{each_at, each_length, history_is, Placed, IsPlaced, IsBuilt, Leads, here, onward}
 use Rattle.flat_meaning.proofs.Resolve.{same_shape}
@@ -73,7 +73,7 @@ module _ (items : List tree.Item) (kinds : Kinds) (top : ℕ → Stream) (s : Sy
             happens built.of (history_of z built.parts) built.is (length-map built.parts (λ (a : Stream). z a.id) ∙ sym (each_length (IsPlaced items kinds top s) (all_parts o built.of) built.parts built.placed))
             (λ j a at u counts.
             let found = each_at (IsPlaced items kinds top s) (all_parts o built.of) built.parts built.placed j a at in
-            let part_run = part_runs built run found.0 (place_contains built.parts j found.0 found.1) in
+            let part_run = part_runs built run found.0 (contains_at built.parts j found.0 found.1) in
             let there : Happens items inputs a u (z found.0.id u) = elim (counted built.of.construct j t u counts) [
               | inl before ↦ earlier u before a found.0.id found.2 part_run
               | inr now ↦

@@ -14,9 +14,9 @@ use Rattle.stream_constructs.specs.declared.construct.Stream.{Stream}
 use Rattle.stream_constructs.specs.Equations.{equation}
 use Rattle.spec_meaning.specs.Occurrence.{Occurrence, argument, local, result_of}
 use Rattle.spec_meaning.specs.Shape.{expressions, input_number}
-use Rattle.macro_flatten.specs.Makes.{Standing, MakesAll, MakesBody, MakesBlock, no_part, part, no_definition, definition}
-use Rattle.macro_flatten.specs.Flat.{outermost, named, MakesInputs, MakesStreams}
-use Rattle.macro_flatten.specs.Flat as flat
+use Rattle.flatten_rules.specs.Makes.{Standing, MakesAll, MakesBody, MakesBlock, no_part, part, no_definition, definition}
+use Rattle.flatten_rules.specs.Flat.{outermost, named, MakesInputs, MakesStreams}
+use Rattle.flatten_rules.specs.Flat as flat
 use Rattle.flat_meaning.proofs.Plain.{unnamed, Within, within_left, within_right, within_named, named_length}
 use Rattle.flat_meaning.proofs.Placed.{Each, Entered, IsMade, IsMadeBody, Placed, placed, IsPlaced}
 use Rattle.flat_meaning.proofs.Shapes.{AreBeside}

@@ -1,11 +1,11 @@
 -- The streams of a flat system are those of its specification.
 use Rattle.std.proofs.Common.{◌≡◌, ℕ, suc, ◌+◌, ◌-◌, ◌<◌, Bool, true, false, List, [], ◌∷◌, ◌++◌, length, Option, Some, None, refl, ap, sym, subst, ◌∙◌, arith, length-append}
 use Rattle.std.specs.Prelude.{◌==◌, slice_get, if◌then◌else◌, IsTrue}
-use Rattle.std.specs.Option.{option_and_then, option_map}
+use Rattle.std.specs.Option.{option_and_then}
 use Rattle.std.specs.List.{Contains}
 use Rattle.std.proofs.lemmas.Bool.{false≢true, eq-eqb}
 use Rattle.std.proofs.lemmas.List.{length-map}
-use Rattle.std.proofs.lemmas.Option.{same_Some, none-some, slice_get-map}
+use Rattle.std.proofs.lemmas.Option.{same_Some, none-some}
 use Rattle.tsl_value.specs.declared.place.Place.{Place}
 use Rattle.lift_func.specs.declared.fault.FaultKind.{FaultKind}
 use Rattle.flat_core.specs.declared.equation.Equation.{Equation}
@@ -31,12 +31,13 @@ use Rattle.spec_meaning.specs.Occurrence.{Occurrence, result_of}
 use Rattle.spec_meaning.specs.Shape.{Shape, all_parts, input_number}
 use Rattle.spec_meaning.specs.Happens.{history, Happens, IsNeeded, HasRoot}
 use Rattle.spec_meaning.specs.Due.{Printed, outputs_of, Expires}
-use Rattle.macro_flatten.specs.Makes.{is_own}
-use Rattle.macro_flatten.specs.Flat.{outermost, IsFlatOf}
-use Rattle.flat_meaning.specs.Laws.{IsRootAt, IsRootOf, IsExpiry, MeansTheSame}
-use Rattle.flat_meaning.proofs.ListLemmas.{at_place, place_contains, all_by_place}
+use Rattle.flatten_rules.specs.Makes.{is_own}
+use Rattle.flatten_rules.specs.Flat.{outermost, IsFlatOf}
+use Rattle.flat_meaning.specs.inner.Laws.{IsRootAt, IsRootOf, IsExpiry, MeansTheSame}
+use Rattle.tsl_value.proofs.Lists.{contains_at, all_by_place}
+use Rattle.flat_meaning.proofs.ListLemmas.{at_place}
 use Rattle.flat_meaning.proofs.OneThing.{one_thing, roots_agree}
-use Rattle.flat_meaning.proofs.Plain.{plain, unnamed, original, Within, within_left, within_right, root_named}
+use Rattle.flat_meaning.proofs.Plain.{unnamed, original, Within, within_left, within_right, root_named, all_within}
 use Rattle.flat_meaning.proofs.Scopes.{IsInputItem, IsStreamItem}
 use Rattle.flat_meaning.proofs.Placed.{Each, each_at, each_length, history_is, IsMadeBody, Placed, IsPlaced, IsBuilt, Leads, here, onward}
 use Rattle.flat_meaning.proofs.Lookup.{IsInputAt, input_at, stream_at}
@@ -66,11 +67,8 @@ if_some true x kind is = is
 if_some false x kind is = absurd (none-some kind is)
 
 module _ (items : List tree.Item) (kinds : Kinds) (s : System) (lines : List Line) (bound : ℕ) (z : Streams) (laws : TheLaws) (of : IsFlatOf items kinds s.equations s.outputs) (flat : IsFlat s) (needs : RunsNeeded s) (good : IsWellFormed s) (solves : Solves s (inputs_of lines) bound z) where
-  whole : Within s 0 (of.inputs ++ of.streams ++ of.printed)
-  whole = subst (Within s 0) of.equations_are (λ k e is. let same : 0 + k ≡ k = omega arith in ap (slice_get (plain s).equations) same ∙ slice_get-map unnamed s.equations k ∙ ap (option_map unnamed) is)
-
   front : Within s 0 (of.inputs ++ of.streams)
-  front = within_left s 0 (of.inputs ++ of.streams) of.printed whole
+  front = within_left s 0 (of.inputs ++ of.streams) of.printed (all_within s (of.inputs ++ of.streams ++ of.printed) of.equations_are)
 
   input_of : (i : ℕ) → IsInputItem (slice_get items i) → IsInputAt items kinds of.top s (of.top i) (input_number items i)
   input_of i item =
@@ -92,7 +90,7 @@ module _ (items : List tree.Item) (kinds : Kinds) (s : System) (lines : List Lin
   pub outputs_there : Each (IsOutput items kinds of.top s flat.proper leads) (outputs_of items) s.outputs
   outputs_there =
       let from : 0 + length (of.inputs ++ of.streams) ≡ length of.inputs + length of.streams = omega (arith, length-append of.inputs of.streams) in
-      outputs_placed items kinds of.top s flat.proper leads of.makes_outputs (subst (λ n. Within s n of.printed) from (within_right s 0 (of.inputs ++ of.streams) of.printed whole))
+      outputs_placed items kinds of.top s flat.proper leads of.makes_outputs (subst (λ n. Within s n of.printed) from (within_right s 0 (of.inputs ++ of.streams) of.printed (all_within s (of.inputs ++ of.streams ++ of.printed) of.equations_are)))
 
   pub happening_at : (o : Occurrence) (i : ℕ) → Placed items kinds of.top s o i → IsTrue (runs s i) → (t : ℕ) → t < bound → Happens items (inputs_of lines) o t (z i t)
   happening_at o i there run t lt = happening.happening items kinds of.top s flat.proper (inputs_of lines) bound z solves good leads o i there run t lt
@@ -104,7 +102,7 @@ module _ (items : List tree.Item) (kinds : Kinds) (s : System) (lines : List Lin
   part_happens : {o : Occurrence} {i : ℕ} (built : IsBuilt items kinds of.top s o i) → IsTrue (runs s i) → (k : ℕ) (a : Occurrence) → slice_get (all_parts o built.of) k ≡ Some a → (u : ℕ) → u < bound → Happens items (inputs_of lines) a u (history (history_of z built.parts) k u)
   part_happens {o} built run k a at u lt =
       let found = each_at (IsPlaced items kinds of.top s) (all_parts o built.of) built.parts built.placed k a at in
-      subst (λ (h : History). Happens items (inputs_of lines) a u (h u)) (sym (history_is z built.parts k found.0 found.1)) (happening_at a found.0.id found.2 (part_runs items kinds of.top s flat.proper built run found.0 (place_contains built.parts k found.0 found.1)) u lt)
+      subst (λ (h : History). Happens items (inputs_of lines) a u (h u)) (sym (history_is z built.parts k found.0 found.1)) (happening_at a found.0.id found.2 (part_runs items kinds of.top s flat.proper built run found.0 (contains_at built.parts k found.0 found.1)) u lt)
 
   part_count : {o : Occurrence} {i : ℕ} (built : IsBuilt items kinds of.top s o i) → length (history_of z built.parts) ≡ length (all_parts o built.of)
   part_count {o} built = length-map built.parts (λ (a : Stream). z a.id) ∙ sym (each_length (IsPlaced items kinds of.top s) (all_parts o built.of) built.parts built.placed)
@@ -250,7 +248,7 @@ module _ (items : List tree.Item) (kinds : Kinds) (s : System) (lines : List Lin
   means = record {
     outputs = λ k o is.
         let found = each_at (IsOutput items kinds of.top s flat.proper leads) (outputs_of items) s.outputs outputs_there k o is in
-        (found.0, found.1, found.2.name_is, output_happens o found.0 found.2 (place_contains s.outputs k found.0 found.1));
+        (found.0, found.1, found.2.name_is, output_happens o found.0 found.2 (contains_at s.outputs k found.0 found.1));
     roots = λ t place kind lt. (root_of_equation t lt place kind, root_of_occurrence t lt place kind);
     expiries = λ t lt. (expiry_of_equation t lt, expiry_of_occurrence t lt);
   }

@@ -9,8 +9,8 @@ use Rattle.flat_core.specs.declared.equation.Equation.{Equation}
 use Rattle.flat_core.specs.Instant.{is_delay_op}
 use Rattle.flat_core.proofs.Members.{all_append}
 use Rattle.stream_constructs.specs.declared.construct.Stream.{Stream}
-use Rattle.stream_constructs.specs.declared.construct.Update.{Update as UpdateOp}
-use Rattle.stream_constructs.specs.declared.construct.Update.TheVariants as update
+use Rattle.vocabulary.specs.declared.signature.Update.{Update as UpdateOp}
+use Rattle.vocabulary.specs.declared.signature.Update.TheVariants as update
 use Rattle.stream_constructs.specs.Construct.{Construct, Operand, Fixed, Varying}
 use Rattle.stream_constructs.specs.Construct as construct
 use Rattle.stream_constructs.specs.Equations.{equation, strict_lift, held, held_each, lifting, lifted, literal_equations, operand_numbers, first_number, numbers, with_literals, update_op, own_equations, choice_equations}

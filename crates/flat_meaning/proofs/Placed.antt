@@ -6,7 +6,7 @@ use Rattle.std.specs.Option.{option_map}
 use Rattle.std.proofs.lemmas.Option.{same_Some, none-some, slice_get-map, get_or_from_slice_get}
 use Rattle.flat_core.specs.declared.equation.Equation.{Equation}
 use Rattle.flat_core.specs.Case.{Streams}
-use Rattle.flat_core.specs.Graph.{Path, Walk}
+use Rattle.translation_order.specs.Graph.{Path, Walk}
 use Rattle.flat_core.specs.Instant.{is_delay_op}
 use Rattle.flat_core.specs.Needed.{HasArgument}
 use Rattle.flat_core.specs.System.{System}
@@ -22,8 +22,8 @@ use Rattle.stream_constructs.specs.Agree.{StandsAt, Makes as MakesConstruct, las
 use Rattle.spec_meaning.specs.Occurrence.{Occurrence, body_of, block_of}
 use Rattle.spec_meaning.specs.Happens.{history}
 use Rattle.spec_meaning.specs.Shape.{Shape, shape, all_parts, expressions}
-use Rattle.macro_flatten.specs.Makes.{Standing, Makes, MakesAll, MakesBody, MakesBlock, inside_call, is_own}
-use Rattle.macro_flatten.specs.Flat.{outermost}
+use Rattle.flatten_rules.specs.Makes.{Standing, Makes, MakesAll, MakesBody, MakesBlock, inside_call, is_own}
+use Rattle.flatten_rules.specs.Flat.{outermost}
 use Rattle.flat_meaning.proofs.Plain.{plain, Within}
 use Rattle.flat_meaning.proofs.OwnEquations.{IsOneDelay}
 

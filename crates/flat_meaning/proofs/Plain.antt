@@ -6,16 +6,16 @@ use Rattle.std.specs.List.{AllByRecursion, Contains}
 use Rattle.std.proofs.lemmas.Option.{slice_get-map, same_Some, none-some}
 use Rattle.flat_core.specs.declared.equation.Equation.{Equation}
 use Rattle.flat_core.specs.Case.{Inputs, Streams, case_of, root_fault}
-use Rattle.flat_core.specs.Graph.{Path, edge, step, Walk, stay, onward}
+use Rattle.translation_order.specs.Graph.{Path, edge, step, Walk, stay, onward}
 use Rattle.flat_core.specs.Needed.{HasArgument}
 use Rattle.flat_core.specs.System.{System, runs, equation, IsProper}
 use Rattle.flat_core.specs.WellFormed.{unguarded_of, Needs, IsWellFormed}
 use Rattle.flat_core.proofs.Members.{all_at}
-use Rattle.flat_core.proofs.Walks.{walk_keeps}
+use Rattle.translation_order.proofs.PathLemmas.{walk_keeps}
 use Rattle.flat_core.proofs.WellFormedRank.{rank_of, rank_falls}
 use Rattle.stream_constructs.specs.Agree.{StandsAt}
-use Rattle.macro_flatten.specs.Flat.{named}
-use Rattle.flat_meaning.proofs.ListLemmas.{all_by_place, get_left, get_right}
+use Rattle.flatten_rules.specs.Flat.{named}
+use Rattle.tsl_value.proofs.Lists.{all_by_place, get_left, get_right}
 
 abbrev pub unnamed : Equation → Equation
 unnamed e = record e { name = None }
@@ -26,6 +26,10 @@ plain s = record s { equations = map unnamed s.equations }
 -- equations stand in a system from number n on, but for their names
 abbrev pub Within : System → ℕ → List Equation → Type 0
 Within s n made = (k : ℕ) (e : Equation) → slice_get made k ≡ Some e → slice_get (plain s).equations (n + k) ≡ Some (unnamed e)
+
+-- the equations of a system, from number 0 on
+pub all_within : (s : System) (made : List Equation) → s.equations ≡ made → Within s 0 made
+all_within s made are = subst (Within s 0) are (λ k e is. let same : 0 + k ≡ k = omega arith in ap (slice_get (plain s).equations) same ∙ slice_get-map unnamed s.equations k ∙ ap (option_map unnamed) is)
 
 pub within_left : (s : System) (n : ℕ) (xs ys : List Equation) → Within s n (xs ++ ys) → Within s n xs
 within_left s n xs ys all k e is = all k e (get_left xs ys k e is)

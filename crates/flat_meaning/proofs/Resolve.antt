@@ -19,9 +19,9 @@ use Rattle.stream_constructs.specs.Equations.{own_equations, choice_equations, a
 use Rattle.stream_constructs.specs.Agree.{Fits, FitsChoice, last_number}
 use Rattle.spec_meaning.specs.Occurrence.{Occurrence, stands_for, result_of, body_of, block_of, local}
 use Rattle.spec_meaning.specs.Shape.{Shape, shape, same_as, name_shape, input_number}
-use Rattle.macro_flatten.specs.Makes.{Standing, Stands, Makes, MakesAll, MakesBody, MakesBlock, last_of, is_name, is_own, is_choice, choice_operands, with_itself, IsAsWritten, inside_call}
-use Rattle.macro_flatten.specs.Makes as makes
-use Rattle.macro_flatten.specs.Flat.{outermost}
+use Rattle.flatten_rules.specs.Makes.{Standing, Stands, Makes, MakesAll, MakesBody, MakesBlock, last_of, is_name, is_own, is_choice, choice_operands, with_itself, IsAsWritten, inside_call}
+use Rattle.flatten_rules.specs.Makes as makes
+use Rattle.flatten_rules.specs.Flat.{outermost}
 use Rattle.flat_meaning.proofs.Plain.{Within, within_left, within_right}
 use Rattle.flat_meaning.proofs.Shapes.{call_is, name_is}
 use Rattle.flat_meaning.proofs.Scopes.{IsInputItem, IsStreamItem, IsRight, meaning_right}

@@ -1,30 +1,30 @@
 -- What shapes tell: the parts of a construct with equations of its own stand in its calls, and a call of a macro stands for its result.
-use Rattle.std.proofs.Common.{◌≡◌, ℕ, Bool, true, false, cond, ◌||◌, List, [], ◌∷◌, ◌++◌, map, Option, Some, None, refl, ap, sym, subst, ◌∙◌}
+use Rattle.std.proofs.Common.{◌≡◌, ℕ, Bool, true, false, List, [], ◌∷◌, ◌++◌, map, Option, Some, None, refl, ap, sym, subst, ◌∙◌}
 use Rattle.std.specs.Prelude.{if◌then◌else◌, slice_get}
-use Rattle.std.specs.List.{AllByRecursion, list_any, find, filter}
+use Rattle.std.specs.List.{AllByRecursion, filter}
 use Rattle.std.specs.Option.{option_map, option_and_then}
-use Rattle.std.specs.Str.{bytes_eq}
-use Rattle.std.proofs.lemmas.Bool.{true≢false, false≢true}
+use Rattle.std.proofs.lemmas.Bool.{false≢true}
 use Rattle.std.proofs.lemmas.Option.{same_Some}
 use Rattle.tsl_value.specs.declared.scalar.Scalar.{Scalar}
 use Rattle.tsl_value.specs.declared.scalar.Scalar.TheVariants as scalar
 use Rattle.tsl_value.specs.declared.place.Place.{Place}
 use Rattle.spec_parser.specs.Tree as tree
 use Rattle.spec_parser.specs.Tree.{Expr, Exprs, no_links, more_links}
-use Rattle.spec_parser.specs.declared.tree.Dotted.{Dotted}
-use Rattle.spec_parser.specs.declared.tree.Dotted.TheVariants as dotted
+use Rattle.vocabulary.specs.declared.signature.Role.{Role}
+use Rattle.vocabulary.specs.declared.signature.Role.TheVariants as role
+use Rattle.vocabulary.specs.Table.{role_of}
 use Rattle.name_check.specs.declared.declaration.Declaration.{Declaration}
 use Rattle.name_check.specs.declared.declaration.Declaration.TheVariants as declaration
 use Rattle.name_check.specs.Builtin.{is_unit, is_lift, is_called}
-use Rattle.name_check.specs.Builtin as builtin
 use Rattle.name_check.specs.Scope.{meaning}
 use Rattle.stream_constructs.specs.Construct.{Construct, operand_trees}
 use Rattle.stream_constructs.specs.Construct as construct
 use Rattle.stream_constructs.specs.Equations.{choice}
 use Rattle.spec_meaning.specs.Occurrence.{Call, Occurrence, scope_at, stands_for, result_of, body_of}
 use Rattle.spec_meaning.specs.Function.{literal}
-use Rattle.spec_meaning.specs.Shape.{Shape, is_part, left_of, all_but_last, last_operand, beside, with_parts, dotted_shape, plain_names, plain_name, is_delay, is_const, is_filter, const_shape, filtered_by, filter_shape, same_as, name_shape, declared_shape, lift_by, function_named, lift_shape, call_shape, expr_shape, shape, expressions}
-use Rattle.macro_flatten.specs.Makes.{is_own, is_choice, choice_operands}
+use Rattle.spec_meaning.specs.Shape.{Shape, is_part, left_of, all_but_last, last_operand, beside, with_parts, role_shape, plain_name, is_delay, is_const, is_filter, const_shape, filtered_by, filter_shape, same_as, name_shape, declared_shape, lift_by, function_named, lift_shape, call_shape, expr_shape, shape, expressions}
+use Rattle.spec_meaning.proofs.Names.{no_builtin}
+use Rattle.flatten_rules.specs.Makes.{is_own, is_choice, choice_operands}
 
 -- the parts stand in these calls
 abbrev pub AreBeside : List Call → List Occurrence → Type 0
@@ -66,9 +66,9 @@ filter_beside cs (e ∷ []) = tt
 filter_beside cs (e ∷ c ∷ []) = filtered_beside cs e c (literal c)
 filter_beside cs (e ∷ c ∷ f ∷ es) = tt
 
-dotted_beside : (cs : List Call) (d : Dotted) (es : List Expr) → IsBeside cs (dotted_shape cs d es)
-dotted_beside cs dotted.SetAdd es = λ _. all_beside cs (filter is_part es)
-dotted_beside cs d es = λ _. all_beside cs (filter is_part es)
+role_beside : (cs : List Call) (r : Role) (es : List Expr) → IsBeside cs (role_shape cs r es)
+role_beside cs (role.Update o) es = λ _. all_beside cs (filter is_part es)
+role_beside cs r es = λ _. all_beside cs (filter is_part es)
 
 module _ (items : List tree.Item) where
   name_beside : (cs : List Call) (d : Option Declaration) → IsBeside cs (name_shape items cs d)
@@ -112,7 +112,7 @@ module _ (items : List tree.Item) where
   expr_beside cs (tree.Unit p) = λ _. tt
   expr_beside cs (tree.Name p n) = if_beside cs (is_unit n) _ _ (λ _. tt) (name_beside cs (meaning (scope_at items cs) n))
   expr_beside cs (tree.Call p n es) = call_beside cs n es (plain_name n)
-  expr_beside cs (tree.CallDotted p d es) = dotted_beside cs d (expressions es)
+  expr_beside cs (tree.CallDotted p d es) = role_beside cs (role_of d) (expressions es)
   expr_beside cs (tree.Nil p y) = λ _. tt
   expr_beside cs (tree.None p y) = tt
   expr_beside cs (tree.EmptySet p k) = some_beside cs (λ t. with_parts cs (construct.Empty t) []) (λ _ _. tt) _
@@ -131,38 +131,6 @@ module _ (items : List tree.Item) where
   name_is cs p x d other is = λ i. if other i then with_parts cs construct.Unit [] else name_shape items cs (is i)
 
 -- ---- names of the language itself
-none_of : {A : Type 0} (p : A → Bool) (xs : List A) → list_any p xs ≡ false → AllByRecursion (λ x. p x ≡ false) xs
-none_of p [] none = tt
-none_of p (x ∷ xs) none = either (p x) refl none
-    (λ rest. none_of p xs rest)
-  where
-    either : (b : Bool) → p x ≡ b → (b || list_any p xs) ≡ false → (list_any p xs ≡ false → AllByRecursion (λ x. p x ≡ false) xs) → (p x ≡ false) × AllByRecursion (λ x. p x ≡ false) xs
-    either true is h more = absurd (true≢false h)
-    either false is h more = (is, more h)
-
-none_found : {A : Type 0} (p : A → Bool) (xs : List A) → AllByRecursion (λ x. p x ≡ false) xs → find p xs ≡ None
-none_found p [] none = refl
-none_found p (x ∷ xs) none = let rest = none_found p xs none.1 in λ i. cond (none.0 i) (Some x) (rest i)
-
-pub record IsNoBuiltin (n : List ℕ) : Type 0 where
-  pub no_plain : plain_name n ≡ None
-  pub no_delay : is_delay n ≡ false
-  pub no_const : is_const n ≡ false
-  pub no_filter : is_filter n ≡ false
-  pub no_lift : is_lift n ≡ false
-
-pub no_builtin : (n : List ℕ) → is_called n ≡ false → IsNoBuiltin n
-unfolding is_called plain_name is_delay is_const is_filter is_lift
-no_builtin n none =
-    let all = none_of (bytes_eq n) builtin.called none in
-    record {
-      no_plain = ap (option_map (λ c. c.1)) (none_found (λ c. bytes_eq n c.0) plain_names (all.0, (all.1.0, (all.1.1.1.0, (all.1.1.1.1.0, tt)))));
-      no_delay = all.1.1.0;
-      no_const = all.1.1.1.1.1.1.0;
-      no_filter = all.1.1.1.1.1.1.1.0;
-      no_lift = all.1.1.1.1.1.0;
-    }
-
 module _ (items : List tree.Item) where
   -- a call of a macro
   pub call_is : (cs : List Call) (p : Place) (x : List ℕ) (es : Exprs) (i : ℕ) (b : tree.Body) → is_called x ≡ false → meaning (scope_at items cs) x ≡ Some (declaration.Macro i) → body_of (slice_get items i) ≡ Some b → expr_shape items cs (tree.Call p x es) ≡ Some (record { construct = construct.Same; parts = record { calls = record { item = i; arguments = es } ∷ cs; expr = result_of b } ∷ [] })

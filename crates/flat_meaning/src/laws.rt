@@ -1,6 +1,6 @@
 // Laws of meanings, as the contracts of functions that do nothing.
 
-ghost use Rattle.flat_meaning.specs.Laws.{FlatMeansTheSame, FlatTextIsDue, OneThingHappens, OneTextIsDue};
+ghost use Rattle.flat_meaning.specs.inner.Laws.{FlatMeansTheSame, FlatTextIsDue, OneThingHappens, OneTextIsDue};
 
 /// At most one thing happens at an occurrence at a time.
 pub fn one_thing_happens()

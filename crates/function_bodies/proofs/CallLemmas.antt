@@ -2,14 +2,14 @@
 use Rattle.std.proofs.Common.{◌≡◌, ℕ, zero, suc, ◌<◌, ◌≤◌, List, [], ◌∷◌, length, Option, Some, None, refl, sym, ap, ◌∙◌, arith}
 use Rattle.std.specs.Prelude.{slice_index_or}
 use Rattle.std.proofs.lemmas.List.{length-map}
-use Rattle.lift_func.specs.declared.body.TheConstants.{MOST_NODES}
+use Rattle.lift_func.specs.declared.limits.TheConstants.{MOST_NODES}
 use Rattle.lift_func.specs.Tree.{Tree, Literal, Argument, Absent, One, Two, Choice, node_count}
-use Rattle.lift_func.specs.Placed.{placed, within}
+use Rattle.lift_func.specs.inner.Placed.{placed, within}
 use Rattle.lift_func.proofs.PlacedLemmas.{within_large}
 use Rattle.spec_parser.specs.declared.tree.Param.{Param}
-use Rattle.spec_parser.specs.Shape.{param_of, params_in}
+use Rattle.spec_parser.specs.inner.Shape.{param_of, params_in}
 use Rattle.spec_meaning.specs.Function.{no_tree, arguments_from}
-use Rattle.function_bodies.specs.Around.{negated, too_large, tree_or, call_of}
+use Rattle.function_bodies.specs.inner.Around.{negated, too_large, tree_or, call_of}
 use Rattle.function_bodies.proofs.LawLemmas.{argument_at}
 
 -- ---- parameters

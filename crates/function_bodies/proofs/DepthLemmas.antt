@@ -8,8 +8,8 @@ use Rattle.std.proofs.lemmas.List.{append-nil}
 use Rattle.spec_parser.specs.Tree as tree
 use Rattle.definition_cycles.specs.Calls.{Calls}
 use Rattle.definition_cycles.proofs.RangeLemmas.{called_below}
-use Rattle.function_bodies.specs.Calls.{IsCallOrder}
-use Rattle.function_bodies.specs.Laws.{NestsWithin}
+use Rattle.function_bodies.specs.inner.Calls.{IsCallOrder}
+use Rattle.function_bodies.specs.inner.Laws.{NestsWithin}
 
 -- ---- how many of the numbers below a bound are listed
 abbrev has : List ℕ → ℕ → Bool

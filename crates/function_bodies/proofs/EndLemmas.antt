@@ -7,18 +7,19 @@ use Rattle.std.proofs.lemmas.List.{get_or_default, take_all, take_more, take-app
 use Rattle.std.proofs.lemmas.Option.{slice_get-get_or, slice_get-map}
 use Rattle.tsl_value.specs.declared.place.Place.{Place}
 use Rattle.lift_func.specs.Tree.{Tree}
-use Rattle.lift_func.specs.Placed.{within}
+use Rattle.lift_func.specs.inner.Placed.{within}
 use Rattle.spec_parser.specs.Tree as tree
 use Rattle.spec_parser.specs.declared.tree.Item.{Item}
-use Rattle.spec_parser.specs.Shape.{item_of}
+use Rattle.spec_parser.specs.inner.Shape.{item_of}
 use Rattle.name_check.specs.Scope.{Scope, top}
 use Rattle.name_check.specs.Faults.{first}
-use Rattle.name_check.proofs.FirstLemmas.{first_behind, first_of_front, left_at}
+use Rattle.tsl_value.proofs.Lists.{left_at}
+use Rattle.name_check.proofs.FirstLemmas.{first_after, first_of_front}
 use Rattle.spec_meaning.specs.Function.{function_at, function_body}
-use Rattle.function_bodies.specs.Calls.{IsCallOrder, IsFunction, ArePlain}
-use Rattle.function_bodies.specs.Around.{call_of}
+use Rattle.function_bodies.specs.inner.Calls.{IsCallOrder, IsFunction, ArePlain}
+use Rattle.function_bodies.specs.inner.Around.{call_of}
 use Rattle.function_bodies.specs.Bodies.{AreBodies, too_large_in, too_large_from}
-use Rattle.function_bodies.specs.Made.{IsStep, AreMade}
+use Rattle.function_bodies.specs.inner.Made.{IsStep, AreMade}
 use Rattle.function_bodies.proofs.MadeLemmas.{Same, call_right, step_right, bodies_right}
 
 -- ---- a call
@@ -35,9 +36,9 @@ pub at_answer : {E : Type 0} (r : Result (Option Tree) E) (functions found os : 
 at_answer (Ok b) functions found os ts i same is h = λ items bodies function. at_right items functions i ts b bodies function (h ts is ∙ ap (λ l. within (call_of l i ts)) same)
 at_answer (Err e) functions found os ts i same is h = tt
 
--- ---- the items one behind the other
-too_large_behind : (tops : List tree.Item) (items : List Item) (i : ℕ) (x : Item) → i < length items → x ≡ get_or items i x → too_large_from tops i (map item_of (drop i items)) ≡ too_large_in tops i (item_of x) ++ too_large_from tops (i + 1) (map item_of (drop (i + 1) items))
-too_large_behind tops items i x lt is =
+-- ---- the items one after the other
+too_large_after : (tops : List tree.Item) (items : List Item) (i : ℕ) (x : Item) → i < length items → x ≡ get_or items i x → too_large_from tops i (map item_of (drop i items)) ≡ too_large_in tops i (item_of x) ++ too_large_from tops (i + 1) (map item_of (drop (i + 1) items))
+too_large_after tops items i x lt is =
     let number : suc i ≡ i + 1 = omega arith in
     ap (λ l. too_large_from tops i (map item_of l)) (left_at items i x lt is)
     ∙ ap (λ n. too_large_in tops i (item_of x) ++ too_large_from tops n (map item_of (drop (i + 1) items))) number
@@ -54,15 +55,15 @@ found_turn items functions i x p all lt is here done bodies =
     let tops = map item_of items in
     let behind = too_large_from tops (i + 1) (map item_of (drop (i + 1) items)) in
     sym (first_of_front (too_large_in tops i (item_of x)) behind p (sym (here tops bodies (item_at items i x lt is))))
-    ∙ sym (ap first (too_large_behind tops items i x lt is))
+    ∙ sym (ap first (too_large_after tops items i x lt is))
     ∙ done bodies
 
 pub none_turn : (items : List Item) (functions : List (Option Tree)) (i : ℕ) (x : Item) (found all : Option Place) → i < length items → x ≡ get_or items i x → IsTooLargeAt functions i x found → found ≡ None → (AreBodies (map item_of items) functions → first (too_large_from (map item_of items) i (map item_of (drop i items))) ≡ all) → AreBodies (map item_of items) functions → first (too_large_from (map item_of items) (i + 1) (map item_of (drop (i + 1) items))) ≡ all
 none_turn items functions i x found all lt is here none done bodies =
     let tops = map item_of items in
     let behind = too_large_from tops (i + 1) (map item_of (drop (i + 1) items)) in
-    sym (first_behind (too_large_in tops i (item_of x)) behind (sym (here tops bodies (item_at items i x lt is)) ∙ none))
-    ∙ sym (ap first (too_large_behind tops items i x lt is))
+    sym (first_after (too_large_in tops i (item_of x)) behind (sym (here tops bodies (item_at items i x lt is)) ∙ none))
+    ∙ sym (ap first (too_large_after tops items i x lt is))
     ∙ done bodies
 
 -- ---- along the order

@@ -6,14 +6,14 @@ use Rattle.tsl_value.specs.declared.scalar.Scalar.TheVariants as scalar
 use Rattle.spec_parser.specs.Tree as tree
 use Rattle.spec_parser.specs.Tree.{Expr}
 use Rattle.lift_func.specs.Tree.{Tree, Argument, One, Two, Choice}
-use Rattle.lift_func.specs.Placed.{placed}
+use Rattle.lift_func.specs.inner.Placed.{placed}
 use Rattle.name_check.specs.declared.declaration.Declaration.TheVariants as declaration
 use Rattle.name_check.specs.Scope.{meaning, inside, top}
 use Rattle.name_check.proofs.AgreeLemmas.{agree_same}
 use Rattle.spec_meaning.specs.Occurrence.{params_of, body_of}
 use Rattle.spec_meaning.specs.Function.{no_tree, tree_of, body_tree, function_tree, arguments_from}
-use Rattle.function_bodies.specs.Calls.{IsFunction, ArePlain}
-use Rattle.function_bodies.specs.Laws.{NestsWithin, DepthIsEnough, BodiesArePlaced}
+use Rattle.function_bodies.specs.inner.Calls.{IsFunction, ArePlain}
+use Rattle.function_bodies.specs.inner.Laws.{NestsWithin, DepthIsEnough, BodiesArePlaced}
 use Rattle.function_bodies.proofs.TreeLemmas.{IsCongruence, trees_alike}
 use Rattle.function_bodies.proofs.ScopeLemmas.{within_function, scope_same, seen_in_function, no_lift_within, function_below, good_parts}
 use Rattle.function_bodies.proofs.DepthLemmas.{nests}

@@ -8,24 +8,24 @@ use Rattle.std.proofs.lemmas.Bool.Decides.{nat_tests}
 use Rattle.std.proofs.lemmas.List.{append-nil, length-map, set_past, get_or_past}
 use Rattle.std.proofs.lemmas.List.Elements.{Contains-append_cases}
 use Rattle.std.proofs.lemmas.Option.{slice_get-map, slice_get_past, slice_get_within}
-use Rattle.lift_func.specs.declared.body.TheConstants.{MOST_NODES}
+use Rattle.lift_func.specs.declared.limits.TheConstants.{MOST_NODES}
 use Rattle.lift_func.specs.Tree.{Tree, node_count}
-use Rattle.lift_func.specs.Placed.{placed, within, one_within, two_within, choice_within, placed_within}
+use Rattle.lift_func.specs.inner.Placed.{placed, within, one_within, two_within, choice_within, placed_within}
 use Rattle.lift_func.proofs.PlacedLemmas.{one_same, two_same, choice_same, placed_same}
 use Rattle.spec_parser.specs.Tree as tree
 use Rattle.spec_parser.specs.Tree.{Expr}
 use Rattle.spec_parser.specs.declared.tree.Item.{Item}
-use Rattle.spec_parser.specs.Shape.{item_of}
+use Rattle.spec_parser.specs.inner.Shape.{item_of}
 use Rattle.name_check.specs.Scope.{Scope, top, are_values, functions_of, parameters_from, seen, Agree}
 use Rattle.name_check.proofs.AgreeLemmas.{agree_same, agree_append}
 use Rattle.spec_meaning.specs.Occurrence.{params_of, body_of, result_of}
 use Rattle.spec_meaning.specs.Function.{arguments_from, tree_of, function_tree, function_body}
 use Rattle.definition_cycles.specs.Calls.{Calls}
-use Rattle.function_bodies.specs.Calls.{IsCallOrder, IsFunction, ArePlain}
-use Rattle.function_bodies.specs.Laws.{NestsWithin}
-use Rattle.function_bodies.specs.Around.{call_of, too_large, tree_or}
+use Rattle.function_bodies.specs.inner.Calls.{IsCallOrder, IsFunction, ArePlain}
+use Rattle.function_bodies.specs.inner.Laws.{NestsWithin}
+use Rattle.function_bodies.specs.inner.Around.{call_of, too_large, tree_or}
 use Rattle.function_bodies.specs.Bodies.{body_at, AreBodies}
-use Rattle.function_bodies.specs.Made.{IsFunctionMade, IsItemMade, IsStep, AreMade}
+use Rattle.function_bodies.specs.inner.Made.{IsFunctionMade, IsItemMade, IsStep, AreMade}
 use Rattle.function_bodies.proofs.TreeLemmas.{IsCongruence, trees_alike}
 use Rattle.function_bodies.proofs.ScopeLemmas.{within_function, no_lift_within, function_below, good_parts}
 use Rattle.function_bodies.proofs.DepthLemmas.{nests}

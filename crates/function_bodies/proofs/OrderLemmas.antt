@@ -8,10 +8,10 @@ use Rattle.translation_order.proofs.Alike.{path_alike}
 use Rattle.translation_order.proofs.Cycles.{cycle_path}
 use Rattle.definition_cycles.specs.Calls.{Calls}
 use Rattle.definition_cycles.specs.Cycles.{IsFirstFunctionCycle}
-use Rattle.definition_cycles.specs.Edges.{AreEdges}
+use Rattle.definition_cycles.specs.inner.Edges.{AreEdges}
 use Rattle.definition_cycles.proofs.CycleLemmas.{are_between}
 use Rattle.definition_cycles.proofs.OrderLemmas.{turned_of, turned_has, turned_means, way_round}
-use Rattle.function_bodies.specs.Calls.{IsCallOrder}
+use Rattle.function_bodies.specs.inner.Calls.{IsCallOrder}
 use Rattle.function_bodies.proofs.DepthLemmas.{called_is_item}
 
 module _ (items : List tree.Item) (edges pairs : List (ℕ × ℕ)) (e : AreEdges (Calls items) edges) (turned : pairs ≡ turned_of edges) where

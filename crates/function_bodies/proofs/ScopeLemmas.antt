@@ -18,7 +18,7 @@ use Rattle.name_check.proofs.AgreeLemmas.{meaning-append}
 use Rattle.spec_meaning.specs.Occurrence.{params_of, body_of}
 use Rattle.definition_cycles.specs.Mentions.{declared}
 use Rattle.definition_cycles.specs.Calls.{is_call, Calls}
-use Rattle.function_bodies.specs.Calls.{IsFunction, ArePlain}
+use Rattle.function_bodies.specs.inner.Calls.{IsFunction, ArePlain}
 use Rattle.function_bodies.proofs.TreeLemmas.{MayCall, IsGoodPart, AreGood}
 
 -- ---- what holds of all that is declared holds of what a name stands for

@@ -1,14 +1,15 @@
 -- How many nodes bodies have, and calls of them.
-use Rattle.std.proofs.Common.{◌≡◌, ℕ, zero, suc, ◌+◌, ◌≤◌, Bool, true, false, ltb, ◌&&◌, if◌then◌else◌, List, [], ◌∷◌, ◌++◌, length, Option, Some, None, refl, sym, ap, ◌∙◌, inl, inr, arith}
+use Rattle.std.proofs.Common.{◌≡◌, ℕ, zero, suc, ◌+◌, ◌≤◌, Bool, true, false, ltb, ◌&&◌, if◌then◌else◌, List, [], ◌∷◌, length, Option, Some, None, refl, sym, ap, ◌∙◌, inl, inr, arith}
 use Rattle.std.specs.Prelude.{slice_get, slice_index_or}
 use Rattle.std.specs.List.{All}
 use Rattle.std.proofs.lemmas.Bool.{cases_lt, ltb-false}
 use Rattle.std.proofs.lemmas.List.{get_or_past}
 use Rattle.std.proofs.lemmas.List.Elements.{All-get_or}
 use Rattle.tsl_value.specs.declared.place.Place.{Place}
-use Rattle.lift_func.specs.declared.body.TheConstants.{MOST_NODES}
+use Rattle.tsl_value.proofs.Lists.{append_empty}
+use Rattle.lift_func.specs.declared.limits.TheConstants.{MOST_NODES}
 use Rattle.lift_func.specs.Tree.{Tree, Literal, Argument, Absent, One, Two, Choice, node_count}
-use Rattle.lift_func.specs.Placed.{placed, within}
+use Rattle.lift_func.specs.inner.Placed.{placed, within}
 use Rattle.lift_func.proofs.PlacedLemmas.{within_small}
 use Rattle.spec_parser.specs.Tree as tree
 use Rattle.name_check.specs.Scope.{are_values}
@@ -16,24 +17,20 @@ use Rattle.name_check.specs.Faults.{first}
 use Rattle.name_check.proofs.FirstLemmas.{empty_without_first}
 use Rattle.spec_meaning.specs.Occurrence.{params_of}
 use Rattle.spec_meaning.specs.Function.{no_tree, function_at, function_body}
-use Rattle.function_bodies.specs.Calls.{IsFunction}
+use Rattle.function_bodies.specs.inner.Calls.{IsFunction}
 use Rattle.function_bodies.specs.Bodies.{body_at, AreBodies, too_large_in, too_large_from, too_large_bodies}
 
 -- ---- where no body is too large
-both_empty : {A : Type 0} (xs ys : List A) → xs ++ ys ≡ [] → (xs ≡ []) × (ys ≡ [])
-both_empty [] ys h = (refl, h)
-both_empty (x ∷ xs) ys h = cc
-
 each_small : (items : List tree.Item) (n : ℕ) (rest : List tree.Item) → too_large_from items n rest ≡ [] → (k : ℕ) (item : tree.Item) → slice_get rest k ≡ Some item → too_large_in items (n + k) item ≡ []
 each_small items n [] h k item is = cc
 each_small items n (x ∷ rest) h zero item is =
     let same : x ≡ item = cc in
     let number : n + zero ≡ n = omega arith in
-    ap (λ m. too_large_in items m item) number ∙ ap (too_large_in items n) (sym same) ∙ (both_empty (too_large_in items n x) (too_large_from items (suc n) rest) h).0
+    ap (λ m. too_large_in items m item) number ∙ ap (too_large_in items n) (sym same) ∙ (append_empty (too_large_in items n x) (too_large_from items (suc n) rest) h).0
 each_small items n (x ∷ rest) h (suc k) item is =
     let number : n + suc k ≡ suc n + k = omega arith in
     ap (λ m. too_large_in items m item) number
-    ∙ each_small items (suc n) rest (both_empty (too_large_in items n x) (too_large_from items (suc n) rest) h).1 k item is
+    ∙ each_small items (suc n) rest (append_empty (too_large_in items n x) (too_large_from items (suc n) rest) h).1 k item is
 
 small_by : (q : Place) (body : Tree) (v b : Bool) → v ≡ true → ltb MOST_NODES (node_count body) ≡ b → (if v && ltb MOST_NODES (node_count body) then q ∷ [] else []) ≡ [] → node_count body ≤ MOST_NODES
 small_by q body false b is e h = cc

@@ -10,19 +10,19 @@ use Rattle.tsl_value.specs.declared.scalar.ValueType.{ValueType}
 use Rattle.lift_func.specs.declared.body.Unary.{Unary}
 use Rattle.lift_func.specs.declared.body.Unary.TheVariants as unary
 use Rattle.lift_func.specs.declared.body.Binary.{Binary}
-use Rattle.lift_func.specs.declared.body.Binary.TheVariants as binary
 use Rattle.lift_func.specs.Tree.{Tree, Literal, Absent, One, Two, Choice}
 use Rattle.spec_parser.specs.Tree as tree
 use Rattle.spec_parser.specs.Tree.{Expr, Exprs, no_exprs, more_exprs, Links, no_links, more_links}
-use Rattle.spec_parser.specs.declared.tree.Dotted.{Dotted}
-use Rattle.spec_parser.specs.declared.tree.Dotted.TheVariants as dotted
+use Rattle.vocabulary.specs.declared.signature.Role.{Role}
+use Rattle.vocabulary.specs.declared.signature.Role.TheVariants as role
+use Rattle.vocabulary.specs.Table.{role_of}
 use Rattle.type_rules.specs.Written.{value_of}
 use Rattle.name_check.specs.declared.declaration.Declaration.{Declaration}
 use Rattle.name_check.specs.declared.declaration.Declaration.TheVariants as declaration
 use Rattle.name_check.specs.Builtin.{is_lift, lift_name}
 use Rattle.name_check.specs.Scope.{Scope, meaning, Agree}
 use Rattle.name_check.specs.Parts.{Part, Operand, parts, argument_parts, lift_parts, link_parts}
-use Rattle.spec_meaning.specs.Function.{no_tree, operation_of, comparison_of, dotted_tree, option_tree, absent, named_tree, call_tree, tree_of, trees_of, chain_tree}
+use Rattle.spec_meaning.specs.Function.{no_tree, operation_of, comparison_of, role_tree, option_tree, absent, named_tree, call_tree, tree_of, trees_of, chain_tree}
 
 -- ---- parts, where what is called is good
 abbrev pub MayCall : (Option Declaration) → (ℕ → Type 0) → Type 0
@@ -63,69 +63,25 @@ absent_alike : (R : Tree → Tree → Type 0) → IsCongruence R → (t : Option
 absent_alike R r None = r.literal scalar.Unit
 absent_alike R r (Some t) = r.absent t
 
-dotted_none : (R : Tree → Tree → Type 0) → IsCongruence R → (d : Dotted) → R (dotted_tree d []) (dotted_tree d [])
-dotted_none R r dotted.SetAdd = r.literal scalar.Unit
-dotted_none R r dotted.SetRemove = r.literal scalar.Unit
-dotted_none R r dotted.SetContains = r.literal scalar.Unit
-dotted_none R r dotted.SetSize = r.literal scalar.Unit
-dotted_none R r dotted.MapAdd = r.literal scalar.Unit
-dotted_none R r dotted.MapRemove = r.literal scalar.Unit
-dotted_none R r dotted.MapContains = r.literal scalar.Unit
-dotted_none R r dotted.MapGet = r.literal scalar.Unit
-dotted_none R r dotted.MapSize = r.literal scalar.Unit
-dotted_none R r dotted.StringConcat = r.literal scalar.Unit
-dotted_none R r dotted.StringSize = r.literal scalar.Unit
-
-dotted_one : (R : Tree → Tree → Type 0) → IsCongruence R → (d : Dotted) (a x : Tree) → R a x → R (dotted_tree d (a ∷ [])) (dotted_tree d (x ∷ []))
-dotted_one R r dotted.SetAdd a x h = r.literal scalar.Unit
-dotted_one R r dotted.SetRemove a x h = r.literal scalar.Unit
-dotted_one R r dotted.SetContains a x h = r.literal scalar.Unit
-dotted_one R r dotted.SetSize a x h = r.one unary.Size a x h
-dotted_one R r dotted.MapAdd a x h = r.literal scalar.Unit
-dotted_one R r dotted.MapRemove a x h = r.literal scalar.Unit
-dotted_one R r dotted.MapContains a x h = r.literal scalar.Unit
-dotted_one R r dotted.MapGet a x h = r.literal scalar.Unit
-dotted_one R r dotted.MapSize a x h = r.one unary.Size a x h
-dotted_one R r dotted.StringConcat a x h = r.literal scalar.Unit
-dotted_one R r dotted.StringSize a x h = r.one unary.Length a x h
-
-dotted_two : (R : Tree → Tree → Type 0) → IsCongruence R → (d : Dotted) (a x b y : Tree) → R a x → R b y → R (dotted_tree d (a ∷ b ∷ [])) (dotted_tree d (x ∷ y ∷ []))
-dotted_two R r dotted.SetAdd a x b y h k = r.literal scalar.Unit
-dotted_two R r dotted.SetRemove a x b y h k = r.literal scalar.Unit
-dotted_two R r dotted.SetContains a x b y h k = r.two binary.Contains a x b y h k
-dotted_two R r dotted.SetSize a x b y h k = r.literal scalar.Unit
-dotted_two R r dotted.MapAdd a x b y h k = r.literal scalar.Unit
-dotted_two R r dotted.MapRemove a x b y h k = r.literal scalar.Unit
-dotted_two R r dotted.MapContains a x b y h k = r.two binary.Contains a x b y h k
-dotted_two R r dotted.MapGet a x b y h k = r.two binary.Get a x b y h k
-dotted_two R r dotted.MapSize a x b y h k = r.literal scalar.Unit
-dotted_two R r dotted.StringConcat a x b y h k = r.two binary.Concat a x b y h k
-dotted_two R r dotted.StringSize a x b y h k = r.literal scalar.Unit
-
-dotted_more : (R : Tree → Tree → Type 0) → IsCongruence R → (d : Dotted) (a b c x y z : Tree) (us vs : List Tree) → R (dotted_tree d (a ∷ b ∷ c ∷ us)) (dotted_tree d (x ∷ y ∷ z ∷ vs))
-dotted_more R r dotted.SetAdd a b c x y z us vs = r.literal scalar.Unit
-dotted_more R r dotted.SetRemove a b c x y z us vs = r.literal scalar.Unit
-dotted_more R r dotted.SetContains a b c x y z us vs = r.literal scalar.Unit
-dotted_more R r dotted.SetSize a b c x y z us vs = r.literal scalar.Unit
-dotted_more R r dotted.MapAdd a b c x y z us vs = r.literal scalar.Unit
-dotted_more R r dotted.MapRemove a b c x y z us vs = r.literal scalar.Unit
-dotted_more R r dotted.MapContains a b c x y z us vs = r.literal scalar.Unit
-dotted_more R r dotted.MapGet a b c x y z us vs = r.literal scalar.Unit
-dotted_more R r dotted.MapSize a b c x y z us vs = r.literal scalar.Unit
-dotted_more R r dotted.StringConcat a b c x y z us vs = r.literal scalar.Unit
-dotted_more R r dotted.StringSize a b c x y z us vs = r.literal scalar.Unit
-
-dotted_alike : (R : Tree → Tree → Type 0) → IsCongruence R → (d : Dotted) (us vs : List Tree) → AllZip R us vs → R (dotted_tree d us) (dotted_tree d vs)
-dotted_alike R r d [] [] h = dotted_none R r d
-dotted_alike R r d [] (x ∷ vs) h = absurd h
-dotted_alike R r d (a ∷ us) [] h = absurd h
-dotted_alike R r d (a ∷ []) (x ∷ []) h = dotted_one R r d a x h.0
-dotted_alike R r d (a ∷ []) (x ∷ y ∷ vs) h = absurd h.1
-dotted_alike R r d (a ∷ b ∷ us) (x ∷ []) h = absurd h.1
-dotted_alike R r d (a ∷ b ∷ []) (x ∷ y ∷ []) h = dotted_two R r d a x b y h.0 h.1.0
-dotted_alike R r d (a ∷ b ∷ []) (x ∷ y ∷ z ∷ vs) h = absurd h.1.1
-dotted_alike R r d (a ∷ b ∷ c ∷ us) (x ∷ y ∷ []) h = absurd h.1.1
-dotted_alike R r d (a ∷ b ∷ c ∷ us) (x ∷ y ∷ z ∷ vs) h = dotted_more R r d a b c x y z us vs
+role_alike : (R : Tree → Tree → Type 0) → IsCongruence R → (o : Role) (us vs : List Tree) → AllZip R us vs → R (role_tree o us) (role_tree o vs)
+role_alike R r (role.Unary o) [] [] h = r.literal scalar.Unit
+role_alike R r (role.Unary o) [] (x ∷ vs) h = absurd h
+role_alike R r (role.Unary o) (a ∷ us) [] h = absurd h
+role_alike R r (role.Unary o) (a ∷ []) (x ∷ []) h = r.one o a x h.0
+role_alike R r (role.Unary o) (a ∷ []) (x ∷ y ∷ vs) h = absurd h.1
+role_alike R r (role.Unary o) (a ∷ b ∷ us) (x ∷ []) h = absurd h.1
+role_alike R r (role.Unary o) (a ∷ b ∷ us) (x ∷ y ∷ vs) h = r.literal scalar.Unit
+role_alike R r (role.Binary o) [] [] h = r.literal scalar.Unit
+role_alike R r (role.Binary o) [] (x ∷ vs) h = absurd h
+role_alike R r (role.Binary o) (a ∷ us) [] h = absurd h
+role_alike R r (role.Binary o) (a ∷ []) (x ∷ []) h = r.literal scalar.Unit
+role_alike R r (role.Binary o) (a ∷ []) (x ∷ y ∷ vs) h = absurd h.1
+role_alike R r (role.Binary o) (a ∷ b ∷ us) (x ∷ []) h = absurd h.1
+role_alike R r (role.Binary o) (a ∷ b ∷ []) (x ∷ y ∷ []) h = r.two o a x b y h.0 h.1.0
+role_alike R r (role.Binary o) (a ∷ b ∷ []) (x ∷ y ∷ z ∷ vs) h = absurd h.1.1
+role_alike R r (role.Binary o) (a ∷ b ∷ c ∷ us) (x ∷ y ∷ []) h = absurd h.1.1
+role_alike R r (role.Binary o) (a ∷ b ∷ c ∷ us) (x ∷ y ∷ z ∷ vs) h = r.literal scalar.Unit
+role_alike R r (role.Update o) us vs h = r.literal scalar.Unit
 
 -- ---- where names, arguments and calls are alike
 pub record AreAlike (R : Tree → Tree → Type 0) (good : ℕ → Type 0) (from to : Scope) (args others : List Tree) (call other : ℕ → List Tree → Tree) : Type 0 where
@@ -214,7 +170,7 @@ module _ (R : Tree → Tree → Type 0) (good : ℕ → Type 0) (from to : Scope
     alike (tree.Unit p) h = s.congruence.literal _
     alike (tree.Name p n) h = named_alike n
     alike (tree.Call p n es) h = either n es (is_lift n) refl h.0 h.1 (all_alike es)
-    alike (tree.CallDotted p d es) h = dotted_alike R s.congruence d _ _ (all_alike es h.1)
+    alike (tree.CallDotted p d es) h = role_alike R s.congruence (role_of d) _ _ (all_alike es h.1)
     alike (tree.Nil p y) h = s.congruence.literal _
     alike (tree.None p y) h = absent_alike R s.congruence (value_of y)
     alike (tree.EmptySet p k) h = s.congruence.literal _

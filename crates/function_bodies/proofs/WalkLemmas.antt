@@ -1,16 +1,16 @@
--- Expressions, one level or one part behind the other.
+-- Expressions, one level or one part after the other.
 use Rattle.std.proofs.Common.{◌≡◌, List, Option, refl, ap, ◌∙◌}
 use Rattle.tsl_value.specs.declared.place.Place.{Place}
 use Rattle.lift_func.specs.Tree.{Tree}
-use Rattle.lift_func.specs.Placed.{within}
+use Rattle.lift_func.specs.inner.Placed.{within}
 use Rattle.spec_parser.specs.Tree.{Expr, place_of}
 use Rattle.spec_parser.specs.declared.tree.Node.{Node}
 use Rattle.spec_parser.specs.declared.tree.Node.TheVariants as node
 use Rattle.spec_parser.specs.declared.tree.Link.{Link}
-use Rattle.spec_parser.specs.Shape.{expr_of, links_in}
-use Rattle.name_check.specs.Shown.{nowhere}
+use Rattle.spec_parser.specs.inner.Shape.{expr_of, links_in}
+use Rattle.name_check.specs.inner.Shown.{nowhere}
 use Rattle.function_bodies.specs.declared.around.Around.{Around}
-use Rattle.function_bodies.specs.Around.{tree_at, chain_at}
+use Rattle.function_bodies.specs.inner.Around.{tree_at, chain_at}
 
 -- a tree does not say where its expression stands
 tree_anywhere : (at : Around) (p q : Place) (n : Node) → tree_at at (expr_of p n) ≡ tree_at at (expr_of q n)

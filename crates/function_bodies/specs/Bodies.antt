@@ -1,14 +1,14 @@
 -- The bodies of value functions, and which of them are too large.
 use Rattle.std.specs.Prelude.{◌≡◌, ℕ, suc, ltb, ◌&&◌, if◌then◌else◌, List, [], ◌∷◌, ◌++◌, length, Option, None, slice_get, slice_index_or}
 use Rattle.tsl_value.specs.declared.place.Place.{Place}
-use Rattle.lift_func.specs.declared.body.TheConstants.{MOST_NODES}
+use Rattle.lift_func.specs.declared.limits.TheConstants.{MOST_NODES}
 use Rattle.lift_func.specs.Tree.{Tree, node_count}
-use Rattle.lift_func.specs.Placed.{placed, within}
+use Rattle.lift_func.specs.inner.Placed.{placed, within}
 use Rattle.spec_parser.specs.Tree as tree
 use Rattle.name_check.specs.Scope.{are_values}
 use Rattle.spec_meaning.specs.Occurrence.{params_of}
 use Rattle.spec_meaning.specs.Function.{function_at, function_body}
-use Rattle.function_bodies.specs.Calls.{IsFunction}
+use Rattle.function_bodies.specs.inner.Calls.{IsFunction}
 
 -- the body of item i, if it is a value function whose body has not too many nodes
 abbrev pub body_at : List tree.Item → ℕ → Option Tree

@@ -1,5 +1,2 @@
-pub mod Calls
-pub mod Laws
-pub mod Around
 pub mod Bodies
-pub mod Made
+pub mod inner

@@ -1,13 +1,13 @@
 // Where an expression of a value function stands, and what stands alone there.
 
-ghost use Rattle.std.specs.Prelude.{◌≡◌, IfOk, List, map, pos, neg_ℤ, slice_index_or};
+ghost use Rattle.std.specs.Prelude.{◌≡◌, IfOk, List, map, slice_index_or};
 ghost use Rattle.lift_func.specs.Tree.{Tree, One};
-ghost use Rattle.lift_func.specs.Placed.{within};
+ghost use Rattle.lift_func.specs.inner.Placed.{within};
 ghost use Rattle.name_check.specs.Scope.{meaning, seen};
 ghost use Rattle.spec_meaning.specs.Function.{no_tree, named_tree, absent};
 ghost use Rattle.type_rules.specs.Written.{value_of};
-ghost use Rattle.spec_parser.specs.Shape.{params_in};
-ghost use Rattle.function_bodies.specs.Around.{args_at, call_of};
+ghost use Rattle.spec_parser.specs.inner.Shape.{params_in};
+ghost use Rattle.function_bodies.specs.inner.Around.{args_at, call_of};
 
 use lift_func::body::Body;
 use name_check::declaration::Declaration;
@@ -25,24 +25,6 @@ pub(crate) struct Around<'a> {
     pub(crate) functions: &'a [Option<Body>],
     pub(crate) scope: &'a Scope<'a>,
     pub(crate) params: &'a [Param],
-}
-
-/// A number as a value. The lexer lets no larger one through.
-pub(crate) fn positive(number: u64) -> Result<i64, NoMemory>
-    ensures { IfOk result (λ z. z ≡ pos number) }
-{
-    match i64::try_from(number) {
-        Ok(number) => Ok(number),
-        Err(_) => Err(NoMemory),
-    }
-}
-
-/// A number with a minus before it.
-pub(crate) fn negative(number: u64) -> Result<i64, NoMemory>
-    ensures { IfOk result (λ z. z ≡ neg_ℤ (pos number)) }
-{
-    let number = positive(number)?;
-    Ok(-number)
 }
 
 /// What stands for an expression that no value function has.
@@ -63,29 +45,28 @@ pub(crate) fn absent(of: &TypeName) -> Option<Body>
 }
 
 impl Around<'_> {
-    /// The parameter of this number. No source has more of them than a body can number.
-    fn parameter(&self, number: usize) -> Result<Option<Body>, NoMemory>
-        ensures { IfOk result (λ b. b ≡ within (slice_index_or (args_at self.now) number no_tree)) }
+    /// The parameter of this number.
+    fn parameter(&self, number: usize) -> Option<Body>
+        ensures { result ≡ within (slice_index_or (args_at self.now) number no_tree) }
     {
         if number >= self.params.len() {
-            return Ok(unit());
-        }
-        match u32::try_from(number) {
-            Ok(number) => Ok(Some(Body::argument(number))),
-            Err(_) => Err(NoMemory),
+            unit()
+        } else {
+            Some(Body::argument(number))
         }
     }
 
     /// What a name stands for that is not called.
-    pub(crate) fn named(&self, name: &str) -> Result<Option<Body>, NoMemory>
-        ensures { IfOk result (λ b. b ≡ within (named_tree (seen self.now.scope.now) (args_at self.now) (call_of self.now.functions.now) (meaning (seen self.now.scope.now) name.now))) }
+    pub(crate) fn named(&self, name: &str) -> Option<Body>
+        ensures { result ≡ within (named_tree (seen self.now.scope.now) (args_at self.now) (call_of self.now.functions.now)
+            (meaning (seen self.now.scope.now) name.now)) }
     {
         match self.scope.find(name) {
             Some(Declaration::Parameter(number)) => self.parameter(number),
-            Some(Declaration::Input(_)) | Some(Declaration::Stream(_)) => Ok(unit()),
-            Some(Declaration::Macro(_)) | Some(Declaration::Function(_)) => Ok(unit()),
-            Some(Declaration::Mixed(_)) | Some(Declaration::Local(_)) => Ok(unit()),
-            None => Ok(unit()),
+            Some(Declaration::Input(_)) | Some(Declaration::Stream(_)) => unit(),
+            Some(Declaration::Macro(_)) | Some(Declaration::Function(_)) => unit(),
+            Some(Declaration::Mixed(_)) | Some(Declaration::Local(_)) => unit(),
+            None => unit(),
         }
     }
 }

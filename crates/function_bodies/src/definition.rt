@@ -1,9 +1,9 @@
 // What value functions become.
 
 ghost use Rattle.std.specs.Prelude.{◌≡◌, IfOk, IfSome, Some, None};
-ghost use Rattle.spec_parser.specs.Shape.{body_of, definition_of, item_of};
+ghost use Rattle.spec_parser.specs.inner.Shape.{body_of, definition_of, item_of};
 ghost use Rattle.spec_meaning.specs.Occurrence.{result_of};
-ghost use Rattle.function_bodies.specs.Made.{IsDefinitionMade, IsItemMade, function_places, item_places};
+ghost use Rattle.function_bodies.specs.inner.Made.{IsDefinitionMade, IsItemMade, function_places, item_places};
 ghost use Rattle.name_check.specs.Faults.{first};
 
 use crate::around::Around;

@@ -1,75 +1,23 @@
 // What expressions of value functions become.
 
-ghost use Rattle.std.specs.Prelude.{◌≡◌, IfOk, List, [], ◌∷◌, map};
+ghost use Rattle.std.specs.Prelude.{◌≡◌, IfOk, map};
 ghost use Rattle.lift_func.specs.Tree.{Tree, One, Two, Choice};
-ghost use Rattle.lift_func.specs.Placed.{within};
+ghost use Rattle.lift_func.specs.inner.Placed.{within};
 ghost use Rattle.name_check.specs.Scope.{meaning, seen};
-ghost use Rattle.name_check.specs.Shown.{nowhere};
-ghost use Rattle.spec_parser.specs.Shape.{expr_of, exprs_of, links_in};
-ghost use Rattle.spec_meaning.specs.Function.{call_tree, comparison_of, dotted_tree, operation_of, option_tree};
-ghost use Rattle.function_bodies.specs.Around.{args_at, call_of, chain_at, tree_at, trees_at, one_or, two_or};
+ghost use Rattle.name_check.specs.inner.Shown.{nowhere};
+ghost use Rattle.spec_parser.specs.inner.Shape.{expr_of, exprs_of, links_in};
+ghost use Rattle.spec_meaning.specs.Function.{call_tree, dotted_tree, option_tree};
+ghost use Rattle.function_bodies.specs.inner.Around.{args_at, call_of, chain_at, tree_at, trees_at, one_or};
 
-use crate::around::{Around, absent, called, negative, positive, unit};
+use crate::around::{Around, absent, called, unit};
+use crate::operation::{comparison_of, dotted_one, dotted_two, operation_of};
 use lift_func::body::{Binary, Body, Unary};
 use name_check::declaration::Declaration;
-use spec_parser::tree::{Comparison, Dotted, Expr, Link, Node, Operator};
+use spec_parser::tree::{Expr, Link, Node};
 use std::alloc::Global;
 use tsl_value::memory::NoMemory;
 use tsl_value::scalar::Scalar;
-
-fn operation_of(operator: Operator) -> Binary
-    ensures { result ≡ operation_of operator }
-{
-    match operator {
-        Operator::Or => Binary::Or,
-        Operator::And => Binary::And,
-        Operator::Add => Binary::Add,
-        Operator::Subtract => Binary::Sub,
-        Operator::Multiply => Binary::Mul,
-        Operator::Divide => Binary::Div,
-        Operator::Remainder => Binary::Rem,
-    }
-}
-
-fn comparison_of(comparison: Comparison) -> Binary
-    ensures { result ≡ comparison_of comparison }
-{
-    match comparison {
-        Comparison::Same => Binary::Eq,
-        Comparison::Differs => Binary::Ne,
-        Comparison::AtMost => Binary::Le,
-        Comparison::AtLeast => Binary::Ge,
-        Comparison::Below => Binary::Lt,
-        Comparison::Above => Binary::Gt,
-    }
-}
-
-/// The operation of a function with a dot that has one operand, if a value function has it.
-fn dotted_one(function: Dotted) -> Option<Unary>
-    ensures { (a : Tree) → dotted_tree function (a ∷ []) ≡ one_or result a }
-{
-    match function {
-        Dotted::SetSize | Dotted::MapSize => Some(Unary::Size),
-        Dotted::StringSize => Some(Unary::Length),
-        Dotted::SetAdd | Dotted::SetRemove | Dotted::SetContains => None,
-        Dotted::MapAdd | Dotted::MapRemove | Dotted::MapContains | Dotted::MapGet => None,
-        Dotted::StringConcat => None,
-    }
-}
-
-/// The operation of a function with a dot that has two operands, if a value function has it.
-fn dotted_two(function: Dotted) -> Option<Binary>
-    ensures { (a b : Tree) → dotted_tree function (a ∷ b ∷ []) ≡ two_or result a b }
-{
-    match function {
-        Dotted::SetContains | Dotted::MapContains => Some(Binary::Contains),
-        Dotted::MapGet => Some(Binary::Get),
-        Dotted::StringConcat => Some(Binary::Concat),
-        Dotted::SetAdd | Dotted::SetRemove | Dotted::SetSize => None,
-        Dotted::MapAdd | Dotted::MapRemove | Dotted::MapSize => None,
-        Dotted::StringSize => None,
-    }
-}
+use vocabulary::dotted::Dotted;
 
 /// The operation on options of this name.
 fn option_operation(name: &str) -> Option<Unary>
@@ -110,12 +58,12 @@ fn inner(alloc: Global, at: &Around<'_>, node: &Node) -> Result<Option<Body>, No
         }
         Node::Negate(operand) => unary(alloc, at, Unary::Neg, operand),
         Node::Not(operand) => unary(alloc, at, Unary::Not, operand),
-        Node::Number(number) => Ok(Some(Body::literal(Scalar::Int(positive(*number)?)))),
-        Node::Negative(number) => Ok(Some(Body::literal(Scalar::Int(negative(*number)?)))),
+        Node::Number(number) => Ok(Some(Body::literal(Scalar::Int(number.to_int())))),
+        Node::Negative(number) => Ok(Some(Body::literal(Scalar::Int(number.to_negative())))),
         Node::Text(text) => Ok(Some(Body::literal(Scalar::Text(text.copy()?)))),
         Node::Boolean(value) => Ok(Some(Body::literal(Scalar::Bool(*value)))),
         Node::Unit => Ok(unit()),
-        Node::Name(name) => at.named(name.as_str()),
+        Node::Name(name) => Ok(at.named(name.as_str())),
         Node::Call(name, arguments) => call(alloc, at, name.as_str(), arguments),
         Node::CallDotted(function, arguments) => dotted(alloc, at, *function, arguments),
         Node::Nil(_) => Ok(unit()),
@@ -197,7 +145,8 @@ fn call(
     name: &str,
     arguments: &[Expr],
 ) -> Result<Option<Body>, NoMemory>
-    ensures { IfOk result (λ b. b ≡ within (call_tree (seen at.now.scope.now) (args_at at.now) (call_of at.now.functions.now) (meaning (seen at.now.scope.now) name.now) name.now (trees_at at.now (exprs_of arguments.now)))) }
+    ensures { IfOk result (λ b. b ≡ within (call_tree (seen at.now.scope.now) (args_at at.now) (call_of at.now.functions.now)
+        (meaning (seen at.now.scope.now) name.now) name.now (trees_at at.now (exprs_of arguments.now)))) }
 {
     match at.scope.find(name) {
         Some(Declaration::Function(number)) => {
@@ -219,7 +168,8 @@ fn option_call(
     name: &str,
     arguments: &[Expr],
 ) -> Result<Option<Body>, NoMemory>
-    ensures { IfOk result (λ b. b ≡ within (call_tree (seen at.now.scope.now) (args_at at.now) (call_of at.now.functions.now) None name.now (trees_at at.now (exprs_of arguments.now)))) }
+    ensures { IfOk result (λ b. b ≡ within (call_tree (seen at.now.scope.now) (args_at at.now) (call_of at.now.functions.now) None name.now
+        (trees_at at.now (exprs_of arguments.now)))) }
 {
     let Some((operand, rest)) = arguments.split_first() else {
         return Ok(unit());

@@ -2,24 +2,24 @@
 
 ghost use Rattle.std.specs.Prelude.{◌≡◌, List, None, Some, length, map, IfOk, OnOk, slice_get, slice_index_or};
 ghost use Rattle.std.specs.Option.{option_copied};
-ghost use Rattle.lift_func.specs.Placed.{within};
+ghost use Rattle.lift_func.specs.inner.Placed.{within};
 ghost use Rattle.spec_parser.specs.Tree as tree;
-ghost use Rattle.spec_parser.specs.Shape.{item_of};
+ghost use Rattle.spec_parser.specs.inner.Shape.{item_of};
 ghost use Rattle.name_check.specs.Scope.{top};
 ghost use Rattle.name_check.specs.Faults.{first};
 ghost use Rattle.spec_meaning.specs.Function.{function_at};
-ghost use Rattle.function_bodies.specs.Calls.{ArePlain, IsCallOrder, IsFunction};
+ghost use Rattle.function_bodies.specs.inner.Calls.{ArePlain, IsCallOrder, IsFunction};
 ghost use Rattle.function_bodies.specs.Bodies.{AreBodies, too_large_bodies, too_large_in};
-ghost use Rattle.function_bodies.specs.Made.{IsStep};
+ghost use Rattle.function_bodies.specs.inner.Made.{IsStep};
 
 use crate::around::called;
 use crate::definition::{item_body, item_place};
-use flat_core::steps::Steps;
 use lift_func::body::Body;
 use name_check::names::Names;
 use spec_parser::tree::Item;
 use std::alloc::Global;
 use std::marker::Model;
+use translation_order::steps::Steps;
 use tsl_value::memory::NoMemory;
 use tsl_value::place::Place;
 
@@ -103,7 +103,7 @@ pub(crate) fn along(
 }
 
 impl Functions {
-    /// The bodies of the value functions among items. Each is made once, behind those that it calls.
+    /// The bodies of the value functions among items. Each is made once, after those that it calls.
     pub fn of(
         alloc: Global,
         items: &[Item],
@@ -140,7 +140,10 @@ impl Functions {
         number: usize,
         operands: &[Body],
     ) -> Result<Option<Body>, NoMemory>
-        ensures { IfOk result (λ b. (items : List tree.Item) → AreBodies items self.now → IsFunction items number → b ≡ within (function_at items number operands.now)) }
+        ensures { IfOk result (λ b. (items : List tree.Item)
+            → AreBodies items self.now
+            → IsFunction items number
+            → b ≡ within (function_at items number operands.now)) }
     {
         let operands = copies(alloc, operands)?;
         called(alloc, self.bodies.as_slice(), number, &operands)
@@ -148,7 +151,10 @@ impl Functions {
 
     /// Where the name of an item stands, if it is a value function whose body has too many nodes.
     fn too_large_place(&self, number: usize, item: &Item) -> Option<Place>
-        ensures { (items : List tree.Item) → AreBodies items self.now → slice_get items number ≡ Some (item_of item.now) → result ≡ first (too_large_in items number (item_of item.now)) }
+        ensures { (items : List tree.Item)
+            → AreBodies items self.now
+            → slice_get items number ≡ Some (item_of item.now)
+            → result ≡ first (too_large_in items number (item_of item.now)) }
     {
         if self.body(number).is_some() {
             return None;

@@ -1,6 +1,6 @@
 // Laws of value functions.
 
-ghost use Rattle.function_bodies.specs.Laws.{DepthIsEnough, BodiesArePlaced};
+ghost use Rattle.function_bodies.specs.inner.Laws.{DepthIsEnough, BodiesArePlaced};
 
 /// Calls nest no deeper than there are items: no greater depth makes another tree.
 #[tactic(auto, using(crate::proofs::LawLemmas::depth_is_enough))]

@@ -6,6 +6,5 @@ mod definition;
 mod expression;
 pub mod functions;
 pub mod laws;
+pub mod operation;
 pub mod order;
-#[cfg(test)]
-mod tests;

@@ -63,12 +63,24 @@ module _ (items : List tree.Item) (lines : List Line) where
   -- the lines of outputs at a time
   pub data IsTextAt (t : ℕ) : List Printed → List ℕ → Type 0 where
     end : IsTextAt t [] []
-    output : {o : Printed} {os : List Printed} {text : List ℕ} (x : Option Outcome) (rest : List ℕ) → Happens items (inputs_of lines) o.is t x → IsTextAt t os rest → text ≡ event_line t o.name (event x) ++ rest → IsTextAt t (o ∷ os) text
+    -- t: NAME = VALUE , where NAME has an event, and the lines of the outputs after it
+    output :
+        {o : Printed} {os : List Printed} {text : List ℕ} (x : Option Outcome) (rest : List ℕ) →
+        Happens items (inputs_of lines) o.is t x →
+        IsTextAt t os rest →
+        text ≡ event_line t o.name (event x) ++ rest →
+        IsTextAt t (o ∷ os) text
 
   -- the lines of some instants
   pub data IsTextOf : List ℕ → List ℕ → Type 0 where
     end : IsTextOf [] []
-    instant : {t : ℕ} {ts text : List ℕ} (first rest : List ℕ) → IsTextAt t (outputs_of items) first → IsTextOf ts rest → text ≡ first ++ rest → IsTextOf (t ∷ ts) text
+    -- the lines of t , and those of the instants after it
+    instant :
+        {t : ℕ} {ts text : List ℕ} (first rest : List ℕ) →
+        IsTextAt t (outputs_of items) first →
+        IsTextOf ts rest →
+        text ≡ first ++ rest →
+        IsTextOf (t ∷ ts) text
 
   pub record IsDueText (bound limit : ℕ) (text : List ℕ) : Type 0 where
     pub due : List ℕ

@@ -1,5 +1,6 @@
 -- Value functions as bodies: a call of another value function stands for its body with the arguments in the place of the parameters.
-use Rattle.std.specs.Prelude.{ℕ, zero, suc, Bool, true, false, if◌then◌else◌, pos, neg_ℤ, List, [], ◌∷◌, length, Option, Some, None, slice_get, slice_index_or, codes}
+use Rattle.std.specs.Prelude.{ℕ, zero, suc, Bool, true, false, if◌then◌else◌, pos, neg_ℤ, List, [], ◌∷◌, length, Option, Some, None}
+use Rattle.std.specs.Prelude.{slice_get, slice_index_or, codes}
 use Rattle.std.specs.Option.{option_map}
 use Rattle.std.specs.Str.{bytes_eq}
 use Rattle.tsl_value.specs.declared.scalar.Scalar.{Scalar}
@@ -15,8 +16,10 @@ use Rattle.spec_parser.specs.declared.tree.Operator.{Operator}
 use Rattle.spec_parser.specs.declared.tree.Operator.TheVariants as operator
 use Rattle.spec_parser.specs.declared.tree.Comparison.{Comparison}
 use Rattle.spec_parser.specs.declared.tree.Comparison.TheVariants as comparison
-use Rattle.spec_parser.specs.declared.tree.Dotted.{Dotted}
-use Rattle.spec_parser.specs.declared.tree.Dotted.TheVariants as dotted
+use Rattle.vocabulary.specs.declared.dotted.Dotted.{Dotted}
+use Rattle.vocabulary.specs.declared.signature.Role.{Role}
+use Rattle.vocabulary.specs.declared.signature.Role.TheVariants as role
+use Rattle.vocabulary.specs.Table.{role_of}
 use Rattle.name_check.specs.declared.declaration.Declaration.{Declaration}
 use Rattle.name_check.specs.declared.declaration.Declaration.TheVariants as declaration
 use Rattle.name_check.specs.Scope.{Scope, top, inside, meaning}
@@ -32,7 +35,7 @@ literal (tree.Text p t) = Some (scalar.Text t)
 literal (tree.Boolean p b) = Some (scalar.Bool b)
 literal e = None
 
--- the operations of operators, comparisons and functions with a dot
+-- the operations of operators and comparisons
 abbrev pub operation_of : Operator → Binary
 operation_of operator.Or = binary.Or
 operation_of operator.And = binary.And
@@ -54,15 +57,14 @@ comparison_of comparison.Above = binary.Gt
 abbrev pub no_tree : Tree
 no_tree = Literal scalar.Unit
 
+-- what a function with a dot is, at as many operands as its operation has; an update is an operation of streams alone
+abbrev pub role_tree : Role → List Tree → Tree
+role_tree (role.Unary o) (a ∷ []) = One o a
+role_tree (role.Binary o) (a ∷ b ∷ []) = Two o a b
+role_tree r ts = no_tree
+
 abbrev pub dotted_tree : Dotted → List Tree → Tree
-dotted_tree dotted.SetContains (s ∷ k ∷ []) = Two binary.Contains s k
-dotted_tree dotted.MapContains (m ∷ k ∷ []) = Two binary.Contains m k
-dotted_tree dotted.MapGet (m ∷ k ∷ []) = Two binary.Get m k
-dotted_tree dotted.StringConcat (a ∷ b ∷ []) = Two binary.Concat a b
-dotted_tree dotted.SetSize (s ∷ []) = One unary.Size s
-dotted_tree dotted.MapSize (m ∷ []) = One unary.Size m
-dotted_tree dotted.StringSize (a ∷ []) = One unary.Length a
-dotted_tree d ts = no_tree
+dotted_tree d ts = role_tree (role_of d) ts
 
 -- the operations on options
 abbrev pub option_tree : List ℕ → Tree → Tree

@@ -24,14 +24,32 @@ history hs k = slice_index_or hs k (λ t. None)
 module _ (items : List tree.Item) where
   -- the occurrences of the outputs, and all that these have as parts
   pub data IsNeeded : Occurrence → Type 0 where
-    printed : (p : Place) {e : tree.Expr} (q : Place) (n : List ℕ) → Contains items (tree.OutputAs p e q n) → IsNeeded (record { calls = []; expr = e })
-    named : (p : Place) {q : Place} {n : List ℕ} → Contains items (tree.Output p q n) → IsNeeded (record { calls = []; expr = tree.Name q n })
+    -- out e as NAME needs e
+    printed :
+        (p : Place) {e : tree.Expr} (q : Place) (n : List ℕ) →
+        Contains items (tree.OutputAs p e q n) →
+        IsNeeded (record { calls = []; expr = e })
+    -- out NAME needs NAME
+    named :
+        (p : Place) {q : Place} {n : List ℕ} →
+        Contains items (tree.Output p q n) →
+        IsNeeded (record { calls = []; expr = tree.Name q n })
     part : (o : Occurrence) (s : Shape) {a : Occurrence} → IsNeeded o → shape items o ≡ Some s → Contains s.parts a → IsNeeded a
 
 module _ (items : List tree.Item) (inputs : Inputs) where
   -- What happens at an occurrence at a time: it follows from what happens at its parts at the times that count.
   pub data Happens : Occurrence → ℕ → Option Outcome → Type 0 where
-    happens : {o : Occurrence} {t : ℕ} {x : Option Outcome} (s : Shape) (hs : List History) → shape items o ≡ Some s → length hs ≡ length (all_parts o s) → ((k : ℕ) (a : Occurrence) → slice_get (all_parts o s) k ≡ Some a → (u : ℕ) → u < counts_below s.construct k t → Happens a u (history hs k u)) → x ≡ outcome inputs s.construct hs t → Happens o t x
+    -- CONSTRUCT ( a , .. ) at t , from what happens at each part a at each time u that counts
+    happens :
+        {o : Occurrence} {t : ℕ} {x : Option Outcome} (s : Shape) (hs : List History) →
+        shape items o ≡ Some s →
+        length hs ≡ length (all_parts o s) →
+        ((k : ℕ) (a : Occurrence)
+        → slice_get (all_parts o s) k ≡ Some a
+        → (u : ℕ) → u < counts_below s.construct k t
+        → Happens a u (history hs k u)) →
+        x ≡ outcome inputs s.construct hs t →
+        Happens o t x
 
   -- an occurrence that is needed has a root fault
   pub record HasRoot (o : Occurrence) (t : ℕ) (kind : FaultKind) : Type 0 where

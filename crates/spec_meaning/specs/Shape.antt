@@ -1,5 +1,6 @@
 -- Which construct an occurrence is, and the occurrences of its parts.
-use Rattle.std.specs.Prelude.{ℕ, zero, suc, Bool, true, false, if◌then◌else◌, List, [], ◌∷◌, ◌++◌, map, Option, Some, None, is_none, Ok, codes, slice_get}
+use Rattle.std.specs.Prelude.{ℕ, zero, suc, Bool, true, false, if◌then◌else◌, List, [], ◌∷◌, ◌++◌, map, Option, Some, None, is_none, Ok}
+use Rattle.std.specs.Prelude.{codes, slice_get}
 use Rattle.std.specs.List.{find, filter}
 use Rattle.std.specs.Option.{option_map, option_and_then}
 use Rattle.std.specs.Str.{bytes_eq}
@@ -12,19 +13,20 @@ use Rattle.lift_func.specs.Tree.{Tree, One, Two}
 use Rattle.spec_parser.specs.Tree as tree
 use Rattle.spec_parser.specs.Tree.{Expr, Exprs, no_exprs, more_exprs, Links, no_links, more_links}
 use Rattle.spec_parser.specs.declared.tree.Operator.{Operator}
-use Rattle.spec_parser.specs.declared.tree.Dotted.{Dotted}
-use Rattle.spec_parser.specs.declared.tree.Dotted.TheVariants as dotted
+use Rattle.vocabulary.specs.declared.dotted.Dotted.{Dotted}
 use Rattle.name_check.specs.declared.declaration.Declaration.{Declaration}
 use Rattle.name_check.specs.declared.declaration.Declaration.TheVariants as declaration
 use Rattle.name_check.specs.Builtin.{is_unit, is_lift}
 use Rattle.name_check.specs.Scope.{Scope, meaning}
 use Rattle.spec_meaning.specs.Occurrence.{Call, Occurrence, scope_at, stands_for, called}
-use Rattle.spec_meaning.specs.Function.{literal, operation_of, comparison_of, dotted_tree, no_tree, function_at, function_body}
+use Rattle.spec_meaning.specs.Function.{literal, operation_of, comparison_of, role_tree, no_tree, function_at, function_body}
 use Rattle.stream_constructs.specs.Construct.{Construct, Operand, operand_trees}
 use Rattle.stream_constructs.specs.Construct as construct
 use Rattle.stream_constructs.specs.Equations.{choice}
-use Rattle.stream_constructs.specs.declared.construct.Update.{Update as UpdateOp}
-use Rattle.stream_constructs.specs.declared.construct.Update.TheVariants as update
+use Rattle.vocabulary.specs.declared.signature.Update.{Update as UpdateOp}
+use Rattle.vocabulary.specs.declared.signature.Role.{Role}
+use Rattle.vocabulary.specs.declared.signature.Role.TheVariants as role
+use Rattle.vocabulary.specs.Table.{role_of}
 use Rattle.type_rules.specs.Written.{key_of, scalar_of}
 
 pub record Shape : Type 0 where
@@ -93,18 +95,20 @@ abbrev pub two_operands : (Tree → Tree → Tree) → List Tree → Tree
 two_operands f (a ∷ b ∷ ts) = f a b
 two_operands f ts = no_tree
 
+-- a function with a dot: an update, or a body over its operands
+abbrev pub role_shape : List Call → Role → List Expr → Option Shape
+role_shape cs (role.Update o) es = update_of cs o es
+role_shape cs r es = signal_of cs (role_tree r) es
+
 abbrev pub dotted_shape : List Call → Dotted → List Expr → Option Shape
-dotted_shape cs dotted.SetAdd es = update_of cs update.SetAdd es
-dotted_shape cs dotted.SetRemove es = update_of cs update.SetRemove es
-dotted_shape cs dotted.MapAdd es = update_of cs update.MapAdd es
-dotted_shape cs dotted.MapRemove es = update_of cs update.MapRemove es
-dotted_shape cs d es = signal_of cs (dotted_tree d) es
+dotted_shape cs d es = role_shape cs (role_of d) es
 
 -- ---- the language's own names
 -- those whose parts are all streams
 abbrev pub plain_names : List (List ℕ × Construct)
 plain_names =
-    (codes "time", construct.Time) ∷ (codes "last", construct.Last) ∷ (codes "merge", construct.Merge) ∷ (codes "default", construct.Merge) ∷ []
+    (codes "time", construct.Time) ∷ (codes "last", construct.Last) ∷ (codes "merge", construct.Merge)
+    ∷ (codes "default", construct.Merge) ∷ []
 
 unfoldable pub plain_name : List ℕ → Option Construct
 plain_name n = option_map (λ c. c.1) (find (λ c. bytes_eq n c.0) plain_names)
@@ -200,7 +204,7 @@ module _ (items : List tree.Item) where
   abbrev pub shape : Occurrence → Option Shape
   shape o = expr_shape o.calls o.expr
 
--- The streams of which a construct is made: those of its parts, and behind those of a delay the delay itself.
+-- The streams of which a construct is made: those of its parts, and after those of a delay the delay itself.
 abbrev pub itself : Construct → Occurrence → List Occurrence
 itself construct.Delay o = o ∷ []
 itself c o = []

@@ -17,13 +17,14 @@ use Rattle.spec_parser.specs.Answers.{place_at}
 use Rattle.spec_parser.proofs.Items.{one_tree}
 use Rattle.spec_parser.proofs.AnswerLaws.{tree_or_unexpected, tree_or_too_deep}
 use Rattle.spec_parser.proofs.OneRefusal.{one_refusal as one_kind, one_unexpected, one_too_deep as one_token}
+use Rattle.spec_parser.specs.declared.limits.TheConstants.{MOST_LEVELS}
 use Rattle.name_check.specs.Faults.{first}
 use Rattle.expr_types.specs.Around.{Kinds}
 use Rattle.expr_types.specs.Bodies.{AreKinds}
 use Rattle.type_check.specs.declared.fault.TypeFault.{TypeFault}
 use Rattle.type_check.specs.declared.fault.TypeFault.TheVariants as type_fault
 use Rattle.type_check.specs.Faults.{IsFirstFault}
-use Rattle.type_check.specs.Laws.{SameKinds}
+use Rattle.type_check.specs.inner.Laws.{SameKinds}
 use Rattle.type_check.proofs.LawLemmas.{one_kinds, one_fault as one_type_fault, accepted_has_no_fault}
 use Rattle.call_limits.specs.Nesting.{IsFirstMacroCycle, IsFirstTooDeep}
 use Rattle.call_limits.proofs.LawLemmas.{one_macro_cycle, one_too_deep}
@@ -31,8 +32,8 @@ use Rattle.function_bodies.specs.Bodies.{too_large_bodies}
 use Rattle.stream_constructs.specs.declared.maker.MakeFault.TheVariants as make_fault
 use Rattle.equation_marks.specs.Marks.{all_marks}
 use Rattle.equation_marks.specs.Refused.{refused}
-use Rattle.macro_flatten.specs.Flat.{IsFlatOf}
-use Rattle.one_flat.proofs.LawLemmas.{one_system as one_flat_system}
+use Rattle.flatten_rules.specs.Flat.{IsFlatOf}
+use Rattle.flat_meaning.proofs.LawLemmas.{one_system as one_flat_system}
 use Rattle.translation_order.specs.Cycle.{IsCycleOfWalk}
 use Rattle.translation_order.proofs.Cycles.{one_cycle}
 use Rattle.recursion_check.specs.Feeds.{Feeds}
@@ -40,7 +41,7 @@ use Rattle.spec_reader.specs.declared.fault.FlatFault.{FlatFault}
 use Rattle.spec_reader.specs.declared.fault.FlatFault.TheVariants as flat_fault
 use Rattle.spec_reader.specs.declared.fault.SpecFault.TheVariants as fault
 use Rattle.spec_reader.specs.Source.{IsSpelled, IsWellTyped, Specifies, HasSystem, SpellsSystem, IsLexFault, IsParseFault, IsMisspelled, IsTypeFault, IsMistyped, IsFlatFault, HasNoFlat, called, IsCyclic}
-use Rattle.spec_reader.specs.Laws.{OneSystem, RefusedSpellsNone, OneRefusal}
+use Rattle.spec_reader.specs.inner.Laws.{OneSystem, RefusedSpellsNone, OneRefusal}
 use Rattle.spec_reader.proofs.CycleLemmas.{as_cycle, first_there, no_order}
 
 -- ---- tokens
@@ -55,22 +56,22 @@ one_parse_fault : (tokens : List Token) (end : Place) (d e : ParseFault) → IsP
 one_parse_fault tokens end parse_fault.Memory e g h = absurd g
 one_parse_fault tokens end (parse_fault.Unexpected p) parse_fault.Memory g h = absurd h
 one_parse_fault tokens end (parse_fault.Unexpected p) (parse_fault.Unexpected q) g h =
-    let rest : g.1 ≡ h.1 = one_unexpected 64 tokens g.0 g.1 g.2 h.0 h.1 h.2 in
+    let rest : g.1 ≡ h.1 = one_unexpected MOST_LEVELS tokens g.0 g.1 g.2 h.0 h.1 h.2 in
     ap (λ k. parse_fault.Unexpected k) (g.3 ∙ (ap (λ r. place_at r end) rest ∙ sym h.3))
-one_parse_fault tokens end (parse_fault.Unexpected p) (parse_fault.TooDeep q) g h = absurd (one_kind 64 tokens g.0 g.1 g.2 h.0 h.1 h.2 h.3)
+one_parse_fault tokens end (parse_fault.Unexpected p) (parse_fault.TooDeep q) g h = absurd (one_kind MOST_LEVELS tokens g.0 g.1 g.2 h.0 h.1 h.2 h.3)
 one_parse_fault tokens end (parse_fault.TooDeep p) parse_fault.Memory g h = absurd h
-one_parse_fault tokens end (parse_fault.TooDeep p) (parse_fault.Unexpected q) g h = absurd (one_kind 64 tokens h.0 h.1 h.2 g.0 g.1 g.2 g.3)
+one_parse_fault tokens end (parse_fault.TooDeep p) (parse_fault.Unexpected q) g h = absurd (one_kind MOST_LEVELS tokens h.0 h.1 h.2 g.0 g.1 g.2 g.3)
 one_parse_fault tokens end (parse_fault.TooDeep p) (parse_fault.TooDeep q) g h =
-    let left : g.1 ∷ g.2 ≡ h.1 ∷ h.2 = one_token 64 tokens g.0 g.1 g.2 g.3 h.0 h.1 h.2 h.3 in
+    let left : g.1 ∷ g.2 ≡ h.1 ∷ h.2 = one_token MOST_LEVELS tokens g.0 g.1 g.2 g.3 h.0 h.1 h.2 h.3 in
     let token : g.1 ≡ h.1 = cc in
     ap (λ k. parse_fault.TooDeep k) (g.4 ∙ (ap (λ (t : Token). t.place) token ∙ sym h.4))
 
 -- ---- the tree
 -- tokens that spell a tree are not refused
-no_parse_fault : (tokens : List Token) (end : Place) (e : ParseFault) (items : List tree.Item) → IsParseFault tokens end e → Spells 64 tokens items → ⊥
+no_parse_fault : (tokens : List Token) (end : Place) (e : ParseFault) (items : List tree.Item) → IsParseFault tokens end e → Spells MOST_LEVELS tokens items → ⊥
 no_parse_fault tokens end parse_fault.Memory items h spells = h
-no_parse_fault tokens end (parse_fault.Unexpected p) items h spells = tree_or_unexpected 64 tokens items h.0 h.1 spells h.2
-no_parse_fault tokens end (parse_fault.TooDeep p) items h spells = tree_or_too_deep 64 tokens items h.0 h.1 h.2 spells h.3
+no_parse_fault tokens end (parse_fault.Unexpected p) items h spells = tree_or_unexpected MOST_LEVELS tokens items h.0 h.1 spells h.2
+no_parse_fault tokens end (parse_fault.TooDeep p) items h spells = tree_or_too_deep MOST_LEVELS tokens items h.0 h.1 h.2 spells h.3
 
 same_tokens : (source : List ℕ) (a b : Spelled) (e : ParseFault) → HasTokens source a → HasTokens source b → IsParseFault a.tokens a.end e → IsParseFault b.tokens b.end e
 same_tokens source a b e has_a has_b h = subst (λ (c : Spelled). IsParseFault c.tokens c.end e) (one_spelled source a b has_a has_b) h
@@ -86,7 +87,7 @@ module _ (source : List ℕ) where
     same_spelled = one_spelled source g.spelled h.spelled g.tokens h.tokens
 
     same_items : items ≡ others
-    same_items = one_tree 64 h.spelled.tokens items others (subst (λ (c : Spelled). Spells 64 c.tokens items) same_spelled g.spells) h.spells
+    same_items = one_tree MOST_LEVELS h.spelled.tokens items others (subst (λ (c : Spelled). Spells MOST_LEVELS c.tokens items) same_spelled g.spells) h.spells
 
     same_end : end ≡ last
     same_end = sym g.end_is ∙ (ap (λ (c : Spelled). c.end) same_spelled ∙ h.end_is)

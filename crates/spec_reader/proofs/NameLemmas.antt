@@ -13,7 +13,7 @@ percent : IsAscii (codes "%")
 percent zero = omega arith
 percent (suc i) = omega arith
 
--- a number behind `%` is text
+-- a number after `%` is text
 pub number_text : (n : ℕ) → n < 2 ^ 64 → IsUtf8 (codes "%" ++ decimal n)
 number_text n small =
     IsUtf8-append (codes "%") (decimal n) (IsUtf8-from_ascii (codes "%") percent) (IsUtf8-from_ascii (decimal n) (IsAscii-decimal n small))

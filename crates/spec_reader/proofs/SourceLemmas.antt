@@ -14,13 +14,14 @@ use Rattle.spec_parser.specs.Tree as tree
 use Rattle.spec_parser.specs.declared.parse.ParseFault.{ParseFault}
 use Rattle.spec_parser.specs.declared.parse.ParseFault.TheVariants as parse_fault
 use Rattle.spec_parser.specs.declared.tree.Tree.{Tree}
-use Rattle.spec_parser.specs.Shape.{items_of}
+use Rattle.spec_parser.specs.inner.Shape.{items_of}
 use Rattle.spec_parser.specs.Grammar.{Spells}
 use Rattle.spec_parser.specs.Answers.{IsFaultOf}
+use Rattle.spec_parser.specs.declared.limits.TheConstants.{MOST_LEVELS}
 use Rattle.expr_types.specs.Around.{Kinds}
 use Rattle.type_check.specs.declared.fault.TypeFault.{TypeFault}
 use Rattle.type_check.specs.declared.fault.TypeFault.TheVariants as type_fault
-use Rattle.type_check.specs.Answer.{IsFaultOf as IsTypeFaultOf}
+use Rattle.type_check.specs.inner.Answer.{IsFaultOf as IsTypeFaultOf}
 use Rattle.type_check.specs.Faults.{IsAccepted}
 use Rattle.stream_constructs.specs.declared.maker.MakeFault.{MakeFault}
 use Rattle.stream_constructs.specs.declared.maker.MakeFault.TheVariants as make_fault
@@ -28,7 +29,7 @@ use Rattle.call_limits.specs.Nesting.{IsFirstMacroCycle, IsFirstTooDeep}
 use Rattle.function_bodies.specs.Bodies.{too_large_bodies}
 use Rattle.equation_marks.specs.Marks.{all_marks}
 use Rattle.equation_marks.specs.Refused.{refused, AreRefused}
-use Rattle.macro_flatten.specs.Flat.{IsFlatOf}
+use Rattle.flatten_rules.specs.Flat.{IsFlatOf}
 use Rattle.spec_reader.specs.declared.fault.SpecFault.{SpecFault}
 use Rattle.spec_reader.specs.declared.fault.SpecFault.TheVariants as fault
 use Rattle.spec_reader.specs.declared.read.Specification.{Specification}
@@ -44,7 +45,7 @@ module _ (source : List ℕ) where
     parse_refused parse_fault.Memory h = tt
     parse_refused e h = record { spelled = spelled; tokens = tokens; refused = h }
 
-    module _ (items : List tree.Item) (end : Place) (spells : Spells 64 spelled.tokens items) (end_is : end ≡ spelled.end) where
+    module _ (items : List tree.Item) (end : Place) (spells : Spells MOST_LEVELS spelled.tokens items) (end_is : end ≡ spelled.end) where
       is_spelled : IsSpelled source items end
       is_spelled = record { spelled = spelled; tokens = tokens; spells = spells; end_is = sym end_is }
 
@@ -84,7 +85,7 @@ module _ (source : List ℕ) where
 
 -- ---- the whole
 -- what is read of a source that is well typed
-pub tree_typed : (source : List ℕ) (a : Spelled) (parsed checked : Tree) (kinds : Kinds) → HasTokens source a → Spells 64 a.tokens (items_of parsed) → parsed.end ≡ a.end → checked ≡ parsed → IsAccepted (items_of parsed) parsed.end kinds → IsWellTyped source (items_of checked) kinds
+pub tree_typed : (source : List ℕ) (a : Spelled) (parsed checked : Tree) (kinds : Kinds) → HasTokens source a → Spells MOST_LEVELS a.tokens (items_of parsed) → parsed.end ≡ a.end → checked ≡ parsed → IsAccepted (items_of parsed) parsed.end kinds → IsWellTyped source (items_of checked) kinds
 tree_typed source a parsed checked kinds tokens spells end same accepted =
     subst (λ t. IsWellTyped source (items_of t) kinds) (sym same) (is_well_typed source a tokens (items_of parsed) parsed.end spells end kinds accepted)
 

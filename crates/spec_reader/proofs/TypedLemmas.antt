@@ -1,25 +1,27 @@
 -- What a well typed source brings to its flattening.
 use Rattle.std.proofs.Common.{◌≡◌, ℕ, ◌<◌, ◌≤◌, List, [], ◌∷◌, length, None, arith}
 use Rattle.tsl_value.specs.declared.place.Place.{Place}
-use Rattle.spec_lexer.specs.Tokens.{Spelled}
-use Rattle.spec_lexer.specs.Source.{HasTokens, lexed}
 use Rattle.spec_lexer.proofs.SourceLaws.{few_tokens}
+use Rattle.spec_lexer.specs.declared.limits.TheConstants.{MOST_SOURCE_BYTES}
 use Rattle.spec_parser.specs.Tree as tree
 use Rattle.spec_parser.proofs.Items.{complete}
 use Rattle.spec_parser.proofs.ParseLaws.{size_is}
+use Rattle.spec_parser.specs.declared.limits.TheConstants.{MOST_LEVELS}
 use Rattle.form_check.specs.Outputs.{without_output}
 use Rattle.definition_cycles.specs.Cycles.{IsFirstFunctionCycle}
+use Rattle.definition_cycles.specs.Nodes.{HasFewNodes}
+use Rattle.definition_cycles.proofs.CountLemmas.{few_bytes, few_nodes}
 use Rattle.expr_types.specs.Around.{Kinds}
 use Rattle.spec_meaning.specs.Due.{outputs_of}
-use Rattle.checked_spec.specs.Checked.{IsChecked}
+use Rattle.checked_spec.specs.inner.Checked.{IsChecked}
 use Rattle.checked_spec.proofs.BodyLaws.{function_bodies_are_typed}
 use Rattle.checked_spec.proofs.OwnNames.{lift_is_no_function}
 use Rattle.type_check.proofs.AcceptedParts.{AcceptedParts, accepted_parts}
-use Rattle.parsed_operators.proofs.Chains.{spelled_have_operators}
-use Rattle.parsed_texts.specs.Short.{HaveShortTexts}
-use Rattle.parsed_texts.proofs.Texts.{spelled_have_short_texts}
-use Rattle.function_bodies.specs.Calls.{ArePlain}
-use Rattle.flat_completeness.specs.Laws.{HasOutputs}
+use Rattle.parsed_spec.proofs.Chains.{spelled_have_operators}
+use Rattle.parsed_spec.specs.inner.Short.{HaveShortTexts}
+use Rattle.parsed_spec.proofs.Texts.{spelled_have_short_texts}
+use Rattle.function_bodies.specs.inner.Calls.{ArePlain}
+use Rattle.flat_meaning.specs.inner.Complete.{HasOutputs}
 use Rattle.spec_reader.specs.Source.{IsSpelled, IsWellTyped}
 use Rattle.spec_reader.proofs.SourceLemmas.{held_typed}
 
@@ -32,14 +34,11 @@ has_output (tree.Output p q n ∷ items) end h = omega arith
 has_output (tree.OutputAs p e q n ∷ items) end h = omega arith
 
 -- no more items than bytes
-few_bytes : (source : List ℕ) (a : Spelled) → HasTokens source a → length source ≤ 1048576
-few_bytes source a (lexed few text lexes end) = few
-
-items_and_bytes : (source : List ℕ) (items : List tree.Item) (end : Place) → IsSpelled source items end → length items ≤ 1048576
+items_and_bytes : (source : List ℕ) (items : List tree.Item) (end : Place) → IsSpelled source items end → length items ≤ MOST_SOURCE_BYTES
 items_and_bytes source items end s =
     let bytes = few_bytes source s.spelled s.tokens in
     let tokens = few_tokens source s.spelled s.tokens in
-    let fewer = size_is 64 s.spelled.tokens items (complete 64 s.spelled.tokens items s.spells) in omega (arith, bytes, tokens, fewer)
+    let fewer = size_is MOST_LEVELS s.spelled.tokens items (complete MOST_LEVELS s.spelled.tokens items s.spells) in omega (arith, bytes, tokens, fewer)
 
 -- of the items as they lie in memory
 module _ (source : List ℕ) (items whole : List tree.Item) (kinds : Kinds) (same : items ≡ whole) (typed : IsWellTyped source whole kinds) where
@@ -76,6 +75,9 @@ module _ (source : List ℕ) (items whole : List tree.Item) (kinds : Kinds) (sam
 
   pub few_items : length items < 2147483648
   few_items = let few = items_and_bytes source items t.end t.spelled in omega (arith, few)
+
+  pub has_few_nodes : HasFewNodes items
+  has_few_nodes = few_nodes source t.spelled.spelled items t.spelled.tokens t.spelled.spells
 
   -- value functions are plain expressions
   pub are_plain : ArePlain items

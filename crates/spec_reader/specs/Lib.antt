@@ -1,2 +1,2 @@
 pub mod Source
-pub mod Laws
+pub mod inner

@@ -18,6 +18,7 @@ use Rattle.spec_parser.specs.declared.parse.ParseFault.{ParseFault}
 use Rattle.spec_parser.specs.declared.parse.ParseFault.TheVariants as parse_fault
 use Rattle.spec_parser.specs.Grammar.{Spells}
 use Rattle.spec_parser.specs.Answers.{IsFaultOf}
+use Rattle.spec_parser.specs.declared.limits.TheConstants.{MOST_LEVELS}
 use Rattle.name_check.specs.Faults.{first}
 use Rattle.expr_types.specs.Around.{Kinds}
 use Rattle.type_check.specs.declared.fault.TypeFault.{TypeFault}
@@ -29,7 +30,7 @@ use Rattle.stream_constructs.specs.declared.maker.MakeFault.{MakeFault}
 use Rattle.stream_constructs.specs.declared.maker.MakeFault.TheVariants as make_fault
 use Rattle.equation_marks.specs.Marks.{all_marks}
 use Rattle.equation_marks.specs.Refused.{refused}
-use Rattle.macro_flatten.specs.Flat.{IsFlatOf}
+use Rattle.flatten_rules.specs.Flat.{IsFlatOf}
 use Rattle.translation_order.specs.Cycle.{IsCycleOfWalk}
 use Rattle.recursion_check.specs.Feeds.{Feeds}
 use Rattle.spec_reader.specs.declared.fault.FlatFault.{FlatFault}
@@ -42,7 +43,7 @@ use Rattle.spec_reader.specs.declared.fault.SpecFault.TheVariants as fault
 pub record IsSpelled (source : List ℕ) (items : List tree.Item) (end : Place) : Type 0 where
   pub spelled : Spelled
   pub tokens : HasTokens source spelled
-  pub spells : Spells 64 spelled.tokens items
+  pub spells : Spells MOST_LEVELS spelled.tokens items
   pub end_is : spelled.end ≡ end
 
 -- and the check of types accepts them
@@ -77,7 +78,7 @@ abbrev pub SpellsSomething : List ℕ → System → Type 0
 SpellsSomething source s = (items : List tree.Item) × SpellsSystem source items s
 
 -- ---- how it is refused
--- want of memory is a fault of no source and of no tokens
+-- out of memory is a fault of no source and of no tokens
 abbrev pub IsLexFault : List ℕ → LexFault → Type 0
 IsLexFault source lex_fault.Memory = ⊥
 IsLexFault source e = HasFault source e
@@ -110,9 +111,15 @@ IsFlatFault items kinds (flat_fault.CallsTooDeep place) = IsFirstMacroCycle item
 IsFlatFault items kinds (flat_fault.BodyTooLarge place) =
     IsFirstMacroCycle items None × IsFirstTooDeep items None × (first (too_large_bodies items) ≡ Some place)
 IsFlatFault items kinds (flat_fault.TooManyEquations place) =
-    IsFirstMacroCycle items None × IsFirstTooDeep items None × (too_large_bodies items ≡ []) × (refused (all_marks items kinds) ≡ Some (make_fault.TooManyEquations place))
+    IsFirstMacroCycle items None
+    × IsFirstTooDeep items None
+    × (too_large_bodies items ≡ [])
+    × (refused (all_marks items kinds) ≡ Some (make_fault.TooManyEquations place))
 IsFlatFault items kinds (flat_fault.TooManyUpdates place) =
-    IsFirstMacroCycle items None × IsFirstTooDeep items None × (too_large_bodies items ≡ []) × (refused (all_marks items kinds) ≡ Some (make_fault.TooManyUpdates place))
+    IsFirstMacroCycle items None
+    × IsFirstTooDeep items None
+    × (too_large_bodies items ≡ [])
+    × (refused (all_marks items kinds) ≡ Some (make_fault.TooManyUpdates place))
 
 pub record HasNoFlat (source : List ℕ) (e : FlatFault) : Type 0 where
   pub items : List tree.Item
@@ -134,7 +141,7 @@ pub record IsCyclic (source : List ℕ) (place : Place) (names : List (List ℕ)
   pub names_are : names ≡ map (called system) cycle
   pub place_is : (i : ℕ) (rest : List ℕ) (e : Equation) → cycle ≡ i ∷ rest → equation system i ≡ Some e → place ≡ e.place
 
--- The source is refused in this way. Want of memory says nothing of it.
+-- The source is refused in this way. Out of memory says nothing of it.
 abbrev pub IsRefused : List ℕ → SpecFault → Type 0
 IsRefused source (fault.Lex e) = IsLexFault source e
 IsRefused source (fault.Parse e) = IsMisspelled source e
@@ -144,7 +151,7 @@ IsRefused source (fault.Cycle place names) = IsCyclic source place names.items
 IsRefused source fault.Memory = Unit {0}
 
 -- ---- on the way
--- the want of memory of a phase is that of the reader
+-- a phase that is out of memory leaves the reader so
 abbrev pub of_lex : LexFault → SpecFault
 of_lex lex_fault.Memory = fault.Memory
 of_lex e = fault.Lex e
@@ -162,7 +169,7 @@ of_make make_fault.Memory = fault.Memory
 of_make (make_fault.TooManyEquations place) = fault.Flat (flat_fault.TooManyEquations place)
 of_make (make_fault.TooManyUpdates place) = fault.Flat (flat_fault.TooManyUpdates place)
 
--- the fault is one of these, or want of memory
+-- the fault is one of these, or out of memory
 abbrev pub IsOfFlat : (FlatFault → Type 0) → SpecFault → Type 0
 IsOfFlat P (fault.Flat e) = P e
 IsOfFlat P fault.Memory = Unit {0}

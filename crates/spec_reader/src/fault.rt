@@ -51,7 +51,7 @@ pub enum SpecFault {
     /// name is called by its number, as `%7`. The place is that of the first.
     #[error("cycle")]
     Cycle { place: Place, names: Vec<Text> },
-    /// Memory was wanting.
+    /// Out of memory.
     #[error("memory")]
     Memory,
 }

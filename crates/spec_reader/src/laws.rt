@@ -1,18 +1,18 @@
 // Laws of sources, as the contracts of functions that do nothing.
 
-ghost use Rattle.spec_reader.specs.Laws.{OneSystem, RefusedSpellsNone, OneRefusal};
+ghost use Rattle.spec_reader.specs.inner.Laws.{OneSystem, RefusedSpellsNone, OneRefusal};
 
 /// A source is one specification at most, which means one system.
 pub fn one_system()
     ensures { OneSystem }
 {}
 
-/// A source that is refused, other than for want of memory, is none.
+/// A source that is refused, other than out of memory, is none.
 pub fn refused_spells_none()
     ensures { RefusedSpellsNone }
 {}
 
-/// A source is refused in one way at most, other than for want of memory: two refusals by a cycle have the same place and the same
+/// A source is refused in one way at most, other than out of memory: two refusals by a cycle have the same place and the same
 /// names, and any other two are equal.
 pub fn one_refusal()
     ensures { OneRefusal }

@@ -1,9 +1,7 @@
-// From the bytes of a specification to its flat system and an order to run it in, or the way in which it is refused.
+//! From the bytes of a specification to its flat system and an order to run it in, or the way in which it is refused.
 #![tactic(auto)]
 
 mod cycle;
 pub mod fault;
 pub mod laws;
 pub mod read;
-#[cfg(test)]
-mod tests;

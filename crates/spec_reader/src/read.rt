@@ -2,16 +2,17 @@
 
 ghost use Rattle.std.specs.Prelude.{◌≡◌, ℕ, List, [], None, map, IfOk, OnOk, IfErr};
 ghost use Rattle.flat_core.specs.Complete.{IsFlat};
-ghost use Rattle.flat_core.specs.Dependency.{IsRunOrder};
+ghost use Rattle.flat_core.specs.inner.Dependency.{IsRunOrder};
 ghost use Rattle.flat_core.specs.WellFormed.{IsWellFormed};
-ghost use Rattle.spec_parser.specs.Shape.{item_of, items_of};
+ghost use Rattle.spec_parser.specs.inner.Shape.{item_of, items_of};
 ghost use Rattle.spec_parser.specs.Tree.{Item as Tree};
 ghost use Rattle.name_check.specs.Scope.{top};
 ghost use Rattle.expr_types.specs.Around.{Kinds};
-ghost use Rattle.expr_types.specs.Shown.{kinds_of};
+ghost use Rattle.expr_types.specs.inner.Shown.{kinds_of};
 ghost use Rattle.definition_cycles.specs.Cycles.{IsFirstFunctionCycle};
+ghost use Rattle.definition_cycles.specs.Nodes.{HasFewNodes};
 ghost use Rattle.call_limits.specs.Nesting.{IsFirstMacroCycle, IsFirstTooDeep};
-ghost use Rattle.function_bodies.specs.Calls.{ArePlain};
+ghost use Rattle.function_bodies.specs.inner.Calls.{ArePlain};
 ghost use Rattle.function_bodies.specs.Bodies.{AreBodies, too_large_bodies};
 ghost use Rattle.spec_reader.specs.Source.{IsWellTyped, HasSystem, SpellsSomething, IsFlatFault, IsRefused, IsOfFlat};
 
@@ -20,16 +21,16 @@ use crate::fault::{FlatFault, SpecFault};
 use call_limits::cycle::find_macro_cycle;
 use call_limits::deep::find_too_deep;
 use flat_core::flat::Flat;
-use flat_core::steps::Steps;
 use function_bodies::functions::Functions;
 use function_bodies::order::bodies;
+use macro_flatten::flatten::flatten;
 use name_check::names::Names;
 use recursion_check::check::{CycleFault, run_order};
-use spec_flattening::flatten::flatten;
 use spec_lexer::lex::lex;
 use spec_parser::parse::parse;
 use spec_parser::tree::Item;
 use std::alloc::Global;
+use translation_order::steps::Steps;
 use type_check::check::check;
 use type_check::typed::Typed;
 
@@ -38,13 +39,14 @@ use type_check::typed::Typed;
 pub struct Specification {
     /// The system that the specification means.
     pub flat: Flat,
-    /// The numbers of its equations, counted from 0: each once, behind those that it uses at the same time.
+    /// The numbers of its equations, counted from 0: each once, after those that it uses at the same time.
     pub order: Steps,
 }
 
 /// Refuses cycles of macros, and else calls that nest too deep.
 fn check_calls(alloc: Global, items: &[Item]) -> Result<(), SpecFault>
-    requires { IsFirstFunctionCycle (map item_of items.now) None }
+    requires few { HasFewNodes (map item_of items.now) }
+    requires no_cycle { IsFirstFunctionCycle (map item_of items.now) None }
     ensures no_macro_cycle { OnOk result (IsFirstMacroCycle (map item_of items.now) None) }
     ensures nests { OnOk result (IsFirstTooDeep (map item_of items.now) None) }
     ensures refused { (kinds : Kinds) → IfErr result (IsOfFlat (IsFlatFault (map item_of items.now) kinds)) }
@@ -60,6 +62,7 @@ fn check_calls(alloc: Global, items: &[Item]) -> Result<(), SpecFault>
 
 /// The bodies of the value functions, where calls do not nest too deep and no body is too large.
 fn bodies_of(alloc: Global, items: &[Item], names: &Names) -> Result<Functions, SpecFault>
+    requires few { HasFewNodes (map item_of items.now) }
     requires names { names.now ≡ top (map item_of items.now) }
     requires no_cycle { IsFirstFunctionCycle (map item_of items.now) None }
     requires plain { ArePlain (map item_of items.now) }
@@ -81,8 +84,12 @@ fn bodies_of(alloc: Global, items: &[Item], names: &Names) -> Result<Functions, 
 fn flat_of(alloc: Global, typed: &Typed<'_>) -> Result<Flat, SpecFault>
     requires names { typed.now.names ≡ top (items_of typed.now.tree.now) }
     requires typed { (source : List ℕ) × IsWellTyped source (items_of typed.now.tree.now) (kinds_of typed.now.kinds) }
-    ensures system { (source : List ℕ) → IsWellTyped source (items_of typed.now.tree.now) (kinds_of typed.now.kinds) → IfOk result (HasSystem source (items_of typed.now.tree.now)) }
-    ensures refused { (source : List ℕ) → IsWellTyped source (items_of typed.now.tree.now) (kinds_of typed.now.kinds) → IfErr result (IsRefused source) }
+    ensures system { (source : List ℕ)
+        → IsWellTyped source (items_of typed.now.tree.now) (kinds_of typed.now.kinds)
+        → IfOk result (HasSystem source (items_of typed.now.tree.now)) }
+    ensures refused { (source : List ℕ)
+        → IsWellTyped source (items_of typed.now.tree.now) (kinds_of typed.now.kinds)
+        → IfErr result (IsRefused source) }
 {
     let items = typed.tree.items();
     let functions = bodies_of(alloc, items, &typed.names)?;
@@ -104,7 +111,7 @@ fn in_order(alloc: Global, flat: Flat) -> Result<Specification, SpecFault>
     }
 }
 
-/// Reads the bytes of a specification. They are refused exactly where they are none that can be run, but for want of memory, and in the
+/// Reads the bytes of a specification. They are refused exactly where they are none that can be run, unless memory runs out, and in the
 /// first of these ways: they have no tokens, the tokens no tree, the tree no types; a macro lies on a cycle of calls, calls nest too
 /// deep, the body of a value function is too large; equations or updates are too many; or equations wait for each other.
 pub fn read_spec(alloc: Global, source: &[u8]) -> Result<Specification, SpecFault>

@@ -1,47 +1,29 @@
 -- Equations hang together where what spreads from the last one along its arguments comes to all of them and to the parts.
-use Rattle.std.proofs.Common.{◌≡◌, ◌⊎◌, ℕ, zero, suc, ◌+◌, ◌<◌, true, List, [], ◌∷◌, ◌++◌, map, length, drop, Some, refl, sym, subst, inl, inr}
+use Rattle.std.proofs.Common.{◌≡◌, ◌⊎◌, ℕ, ◌+◌, ◌<◌, true, List, [], ◌∷◌, ◌++◌, map, length, Some, refl, sym, subst, inl, inr}
 use Rattle.std.specs.Prelude.{slice_get}
 use Rattle.std.specs.List.{AllByRecursion, Contains}
-use Rattle.std.proofs.lemmas.Option.{same_Some, none-some, slice_get_within}
-use Rattle.flat_core.specs.declared.equation.Op.{Op}
-use Rattle.flat_core.specs.declared.equation.Op.TheVariants as op
+use Rattle.std.proofs.lemmas.Option.{slice_get_within}
 use Rattle.flat_core.specs.declared.equation.Equation.{Equation}
-use Rattle.flat_core.specs.Graph.{Path, Walk, edge, step, stay, onward}
+use Rattle.translation_order.specs.Graph.{Path, Walk, edge, stay, onward}
 use Rattle.flat_core.specs.System.{System}
 use Rattle.flat_core.specs.TypedSystem.{IsOfType, IsTypedEquation}
 use Rattle.flat_core.specs.Needed.{HasArgument}
 use Rattle.flat_core.specs.WellFormed.{Needs, unguarded_of}
-use Rattle.flat_core.proofs.Members.{contains_tail, all_from, all_at, all_append, map_contains}
-use Rattle.flat_core.proofs.Walks.{walk_on}
+use Rattle.flat_core.proofs.Members.{all_from, all_at, all_append, map_contains}
+use Rattle.translation_order.proofs.PathLemmas.{walk_on, path_on}
+use Rattle.flat_core.proofs.Depth.{unguarded_in}
 use Rattle.stream_constructs.specs.declared.construct.Stream.{Stream}
 use Rattle.stream_constructs.specs.Construct.{Construct}
 use Rattle.stream_constructs.specs.Agree.{HangTogether, is_used_part, last_number}
 use Rattle.stream_constructs.proofs.Numbered.{At, at_none, at_more, at_first, at_front, at_back, at_both, at_number}
 use Rattle.stream_constructs.proofs.Making.{last_of_push}
-
-path_on : {E : ℕ → ℕ → Type 0} {a b c : ℕ} → Path E a b → E b c → Path E a c
-path_on (edge e) f = step e (edge f)
-path_on (step e w) f = step e (path_on w f)
-
-pub all_place : {A : Type 0} (P : A → Type 0) (xs : List A) → AllByRecursion P xs → (k : ℕ) (x : A) → slice_get xs k ≡ Some x → P x
-all_place P [] all k x is = absurd (none-some x is)
-all_place P (y ∷ xs) all zero x is = subst P (same_Some y x is) all.0
-all_place P (y ∷ xs) all (suc k) x is = all_place P xs all.1 k x is
-
-rest_contained : (args : List ℕ) (j : ℕ) → Contains (drop 1 args) j → Contains args j
-rest_contained [] j there = there
-rest_contained (a ∷ args) j there = contains_tail a args j there
-
-unguarded_contained : (o : Op) (args : List ℕ) (j : ℕ) → Contains (unguarded_of o args) j → Contains args j
-unguarded_contained op.Last args j there = rest_contained args j there
-unguarded_contained op.Delay args j there = rest_contained args j there
-unguarded_contained o args j there = there
+use Rattle.tsl_value.proofs.Lists.{all_by_place}
 
 module _ (s : System) where
   abbrev pub Stands : ℕ → Equation → Type 0
   Stands i e = slice_get s.equations i ≡ Some e
 
-  -- what spreads along the arguments behind edges that are not guarded
+  -- what spreads along the arguments after edges that are not guarded
   abbrev pub Spreads : (ℕ → Type 0) → Type 0
   Spreads Q = (i j : ℕ) → Needs s i j → Q i → Q j
 
@@ -74,7 +56,7 @@ module _ (s : System) where
     hang_from spread falls knows typed =
         let is_last = sym (last_of_push n before e) in
         let from_last : (j : ℕ) → Walk (HasArgument s.equations) m j → Walk (HasArgument s.equations) (last_number n (before ++ e ∷ [])) j = λ j w. subst (λ i. Walk (HasArgument s.equations) i j) is_last w in
-        let along : Spreads (λ j. Walk (HasArgument s.equations) m j) = λ i j need w. walk_on w (record { at = need.at; is = need.is; argument = unguarded_contained need.at.op need.at.args j need.argument }) in
+        let along : Spreads (λ j. Walk (HasArgument s.equations) m j) = λ i j need w. walk_on w (record { at = need.at; is = need.is; argument = unguarded_in need.at.op need.at.args j need.argument }) in
         let reached = spread (λ j. Walk (HasArgument s.equations) m j) along stay (all_from (λ j. Walk (HasArgument s.equations) m j) e.args (λ j there. onward (record { at = e; is = stands_last; argument = there }) stay)) in
         let everywhere : At (λ i f. Walk (HasArgument s.equations) m i) n (before ++ e ∷ []) = at_both before (e ∷ []) reached.0 (at_more stay at_none) in
         let numbered : At (λ i f. Known i) n (before ++ e ∷ []) = record { each = λ k f is. inr (k, slice_get_within (before ++ e ∷ []) k f is, refl) } in
@@ -98,4 +80,4 @@ module _ (s : System) where
     hang unguarded spread knows typed =
         let along : Spreads (λ j. Path (Needs s) m j) = λ i j need w. path_on w need in
         let reached = spread (λ j. Path (Needs s) m j) along (all_from (λ j. Path (Needs s) m j) e.args (λ j there. edge (record { at = e; is = stands_last; argument = subst (λ args. Contains args j) (sym unguarded) there }))) in
-        hang_from (λ Q along here args. spread Q along args) (λ k a is used. all_place (λ b. Path (Needs s) m b.id) parts reached.1 k a is) knows typed
+        hang_from (λ Q along here args. spread Q along args) (λ k a is used. all_by_place (λ b. Path (Needs s) m b.id) parts reached.1 k a is) knows typed

@@ -13,7 +13,7 @@ use Rattle.lift_func.specs.Tree.{Tree}
 use Rattle.lift_func.specs.Typing.{Kind, Value, Optional, HasKind, literal, argument, absent, one, two, choice}
 use Rattle.flat_core.specs.declared.equation.Op.{Op}
 use Rattle.flat_core.specs.declared.equation.Op.TheVariants as op
-use Rattle.flat_core.specs.Graph.{Path, edge}
+use Rattle.translation_order.specs.Graph.{Path, edge}
 use Rattle.flat_core.specs.System.{System}
 use Rattle.flat_core.specs.Typed as typed
 use Rattle.flat_core.specs.Typed.{unit_type, int_type, bool_type, is_aggregate, kind_of, IsTyped}

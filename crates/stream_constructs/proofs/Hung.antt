@@ -8,7 +8,7 @@ use Rattle.flat_core.specs.System.{System}
 use Rattle.flat_core.specs.Typed as typed
 use Rattle.flat_core.specs.WellFormed.{unguarded_of}
 use Rattle.stream_constructs.specs.declared.construct.Stream.{Stream}
-use Rattle.stream_constructs.specs.declared.construct.Update.{Update}
+use Rattle.vocabulary.specs.declared.signature.Update.{Update}
 use Rattle.stream_constructs.specs.Construct as construct
 use Rattle.stream_constructs.specs.Construct.{Construct, Operand, operand_trees}
 use Rattle.stream_constructs.specs.Equations.{with_literals, own_equations, choice_equations, choice}
@@ -16,7 +16,7 @@ use Rattle.stream_constructs.specs.Agree.{Fits, FitsChoice, IsItself, HangTogeth
 use Rattle.stream_constructs.proofs.Numbered.{At}
 use Rattle.stream_constructs.proofs.Hanging.{Stands}
 use Rattle.stream_constructs.proofs.LiftingHangs.{operands_few}
-use Rattle.stream_constructs.proofs.Operands.{Behind, Chooses, one_of, two_of, behind_aggregate, chooses_of, behind, by_literal, by_stream}
+use Rattle.stream_constructs.proofs.Operands.{Behind, Chooses, one_of, two_of, after_aggregate, chooses_of, behind, by_literal, by_stream}
 use Rattle.stream_constructs.proofs.Hangs.{nil_hangs, unit_hangs, literal_hangs, empty_hangs, time_hangs, last_hangs, delay_hangs, merge_hangs, const_hangs, filter_hangs, filter_by_hangs, lift_hangs, signal_alone_hangs, signal_hangs, literals_hang}
 
 module _ (p : Place) (of : ValueType) (n : ℕ) (s : System) where
@@ -35,10 +35,10 @@ module _ (p : Place) (of : ValueType) (n : ℕ) (s : System) where
 
 module _ (p : Place) (n : ℕ) (s : System) where
   update_hangs : (o : Update) (os : List Operand) (parts : List Stream) (ts : List ValueType) (of : ValueType) → AreOperands os parts ts → Updates o ts of → At (Stands s) n (own_equations p of n (construct.Update o os) parts) → HangTogether (construct.Update o os) (own_equations p of n (construct.Update o os) parts) n parts s
-  update_hangs _ os parts _ of operands (set_add {k}) stands = led p of n s _ op.SetAdd _ (behind_aggregate os parts _ _ refl (λ os parts h. one_of os parts _ h) operands) (λ args. refl) operands (omega arith) (typed.set_add refl) stands
-  update_hangs _ os parts _ of operands (set_remove {k}) stands = led p of n s _ op.SetRemove _ (behind_aggregate os parts _ _ refl (λ os parts h. one_of os parts _ h) operands) (λ args. refl) operands (omega arith) (typed.set_remove refl) stands
-  update_hangs _ os parts _ of operands (map_add {k} {x}) stands = led p of n s _ op.MapAdd _ (behind_aggregate os parts _ _ refl (λ os parts h. two_of os parts _ _ h) operands) (λ args. refl) operands (omega arith) (typed.map_add refl) stands
-  update_hangs _ os parts _ of operands (map_remove {k} {x}) stands = led p of n s _ op.MapRemove _ (behind_aggregate os parts _ _ refl (λ os parts h. one_of os parts _ h) operands) (λ args. refl) operands (omega arith) (typed.map_remove refl) stands
+  update_hangs _ os parts _ of operands (set_add {k}) stands = led p of n s _ op.SetAdd _ (after_aggregate os parts _ _ refl (λ os parts h. one_of os parts _ h) operands) (λ args. refl) operands (omega arith) (typed.set_add refl) stands
+  update_hangs _ os parts _ of operands (set_remove {k}) stands = led p of n s _ op.SetRemove _ (after_aggregate os parts _ _ refl (λ os parts h. one_of os parts _ h) operands) (λ args. refl) operands (omega arith) (typed.set_remove refl) stands
+  update_hangs _ os parts _ of operands (map_add {k} {x}) stands = led p of n s _ op.MapAdd _ (after_aggregate os parts _ _ refl (λ os parts h. two_of os parts _ _ h) operands) (λ args. refl) operands (omega arith) (typed.map_add refl) stands
+  update_hangs _ os parts _ of operands (map_remove {k} {x}) stands = led p of n s _ op.MapRemove _ (after_aggregate os parts _ _ refl (λ os parts h. one_of os parts _ h) operands) (λ args. refl) operands (omega arith) (typed.map_remove refl) stands
 
   pub construct_hangs : (c : Construct) (of : ValueType) (parts : List Stream) → Fits c parts of → IsItself c n parts → At (Stands s) n (own_equations p of n c parts) → HangTogether c (own_equations p of n c parts) n parts s
   construct_hangs construct.Nil of [] fits itself = nil_hangs p of n s fits

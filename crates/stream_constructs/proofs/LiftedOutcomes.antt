@@ -17,7 +17,7 @@ use Rattle.stream_constructs.specs.declared.construct.Stream.{Stream}
 use Rattle.stream_constructs.specs.Construct.{Operand, Fixed, Varying, now}
 use Rattle.stream_constructs.specs.Equations.{numbers, equation, held_each, merges, lifting, lifted, literal_equations, operand_numbers}
 use Rattle.stream_constructs.specs.Agree.{history_of}
-use Rattle.stream_constructs.proofs.Numbered.{At, at_first, at_rest, at_second, at_behind, at_from}
+use Rattle.stream_constructs.proofs.Numbered.{At, at_first, at_rest, at_second, at_after, at_from}
 use Rattle.stream_constructs.proofs.Fetched.{fetched, nones, over_fetched, merge_case, held_case, held_first, held_second, held_one, alone, literal_case, literal_fetched}
 
 -- the values of operands, where a literal is there with the first
@@ -65,7 +65,7 @@ module _ (inputs : Inputs) (z : Streams) (t : ℕ) where
   merges_are p n trigger fault some u (a ∷ rest) trig all at =
       let here : z (n + 1) t ≡ fetched fault some (now (z a.id) t) =
       held_has p n trigger a (at_first at) (at_second at) ∙ ap (λ o. held_case (z a.id t) o (latest (z a.id) t)) trig ∙ held_one (z a.id t) fault some u (latest (z a.id) t) all.0.0 all.0.1 in
-      let more = merges_are p (n + 2) trigger fault some u rest trig all.1 (at_behind at) in
+      let more = merges_are p (n + 2) trigger fault some u rest trig all.1 (at_after at) in
       λ k. here k ∷ more k
 
   fault_numbers : (parts : List Stream) → list_any (λ a. is_fault (z a t)) (numbers parts) ≡ some_fault parts
@@ -86,7 +86,7 @@ module _ (inputs : Inputs) (z : Streams) (t : ℕ) where
   lifted_are p n (a ∷ []) at = λ k. alone (z a.id t) (latest (z a.id) t) k ∷ []
   lifted_are p n (a ∷ b ∷ []) at =
       let first = held_has p n b.id a (at_first at) (at_second at) ∙ held_first (z a.id t) (z b.id t) (latest (z a.id) t) in
-      let behind = at_behind at in
+      let behind = at_after at in
       let second = held_has p (n + 2) a.id b (at_first behind) (at_second behind) ∙ held_second (z a.id t) (z b.id t) (latest (z b.id) t) in
       λ k. first k ∷ second k ∷ []
   lifted_are p n (a ∷ b ∷ c ∷ rest) at =

@@ -17,7 +17,7 @@ use Rattle.stream_constructs.specs.Construct.{Operand, Fixed, Varying}
 use Rattle.stream_constructs.specs.Equations.{numbers, equation, literal_over, held_each, merges, lifting, lifted, literal_equations, operand_numbers}
 use Rattle.stream_constructs.specs.Made.{varying_count}
 use Rattle.stream_constructs.specs.Agree.{AreOperands}
-use Rattle.stream_constructs.proofs.Numbered.{At, at_none, at_more, at_two, at_first, at_rest, at_second, at_behind, at_from}
+use Rattle.stream_constructs.proofs.Numbered.{At, at_none, at_more, at_two, at_first, at_rest, at_second, at_after, at_from}
 use Rattle.stream_constructs.proofs.Hanging.{Stands, Spreads, Reached}
 
 -- ---- lists that are as long as others
@@ -56,14 +56,14 @@ module _ (s : System) where
     spread_each p n trigger [] at all = (at_none, tt)
     spread_each p n trigger (a ∷ rest) at all =
         let here = spread_held p n trigger a (at_first at) (at_second at) all.0 in
-        let more = spread_each p (n + 2) trigger rest (at_behind at) all.1 in
+        let more = spread_each p (n + 2) trigger rest (at_after at) all.1 in
         (at_two here.1 all.0 more.0, (here.0, more.1))
 
     pub lifting_spread : (p : Place) (n : ℕ) (parts : List Stream) → At (Stands s) n (lifting p n parts) → AllByRecursion (λ b. Q b.id) (lifted n parts) → Reached s Q n parts (lifting p n parts)
     lifting_spread p n [] at all = (at_none, tt)
     lifting_spread p n (a ∷ []) at all = (at_none, all)
     lifting_spread p n (a ∷ b ∷ []) at all =
-        let behind = at_behind at in
+        let behind = at_after at in
         let first = spread_held p n b.id a (at_first at) (at_second at) all.0 in
         let second = spread_held p (n + 2) a.id b (at_first behind) (at_second behind) all.1.0 in
         (at_two first.1 all.0 (at_two second.1 all.1.0 at_none), (first.0, (second.0, tt)))
@@ -88,7 +88,7 @@ module _ (s : System) where
     know_each : (p : Place) (n trigger : ℕ) (parts : List Stream) → K trigger → AllByRecursion (λ a. K a.id) parts → At (λ i f. K i) n (held_each p n trigger parts) → At Arguments n (held_each p n trigger parts) × AllByRecursion (λ b. K b.id) (merges n parts)
     know_each p n trigger [] there all at = (at_none, tt)
     know_each p n trigger (a ∷ rest) there all at =
-        let more = know_each p (n + 2) trigger rest there all.1 (at_behind at) in
+        let more = know_each p (n + 2) trigger rest there all.1 (at_after at) in
         (at_two (all.0, (there, tt)) (all.0, (at_first at, tt)) more.0, (at_second at, more.1))
 
     pub all_numbers : (parts : List Stream) → AllByRecursion (λ a. K a.id) parts → AllByRecursion K (numbers parts)
@@ -99,7 +99,7 @@ module _ (s : System) where
     know_lifting p n [] all at = (at_none, tt)
     know_lifting p n (a ∷ []) all at = (at_none, all)
     know_lifting p n (a ∷ b ∷ []) all at =
-        let behind = at_behind at in (
+        let behind = at_after at in (
           at_two (all.0, (all.1.0, tt)) (all.0, (at_first at, tt)) (at_two (all.1.0, (all.0, tt)) (all.1.0, (at_first behind, tt)) at_none),
           (at_second at, (at_second behind, tt)),
         )
@@ -138,14 +138,14 @@ module _ (s : System) where
   typed_each : (p : Place) (n trigger : ℕ) (u : ValueType) (parts : List Stream) → IsOfType s.equations trigger u → AllByRecursion HasType parts → At (Stands s) n (held_each p n trigger parts) → AllByRecursion (IsTypedEquation s.equations) (held_each p n trigger parts) × AllByRecursion HasType (merges n parts)
   typed_each p n trigger u [] there all at = (tt, tt)
   typed_each p n trigger u (a ∷ rest) there all at =
-      let more = typed_each p (n + 2) trigger u rest there all.1 (at_behind at) in
+      let more = typed_each p (n + 2) trigger u rest there all.1 (at_after at) in
       ((typed_last p trigger u a there all.0, (typed_merge p n a (type_at n _ (at_first at)) all.0, more.0)), (type_at (n + 1) _ (at_second at), more.1))
 
   pub typed_lifting : (p : Place) (n : ℕ) (parts : List Stream) → length parts ≤ 8 → AllByRecursion HasType parts → At (Stands s) n (lifting p n parts) → AllByRecursion (IsTypedEquation s.equations) (lifting p n parts) × AllByRecursion HasType (lifted n parts)
   typed_lifting p n [] few all at = (tt, tt)
   typed_lifting p n (a ∷ []) few all at = (tt, all)
   typed_lifting p n (a ∷ b ∷ []) few all at =
-      let behind = at_behind at in (
+      let behind = at_after at in (
         (typed_last p b.id b.of a all.1.0 all.0, (typed_merge p n a (type_at n _ (at_first at)) all.0, (typed_last p a.id a.of b all.0 all.1.0, (typed_merge p (n + 2) b (type_at (n + 2) _ (at_first behind)) all.1.0, tt)))),
         (type_at (n + 1) _ (at_second at), (type_at (n + 2 + 1) _ (at_second behind), tt)),
       )

@@ -32,7 +32,7 @@ module _ (inputs : Inputs) (z : Streams) (t : ℕ) where
   abbrev pub IsQuiet : ℕ → Equation → Type 0
   IsQuiet i e = root_fault inputs z i e t ≡ None
 
-  -- of equations behind each other all but the last are quiet
+  -- of equations after each other all but the last are quiet
   roots : (n : ℕ) (before : List Equation) (e : Equation) (r : Option FaultKind) → At IsQuiet n before → root_fault inputs z (n + length before) e t ≡ r → (k : ℕ) (f : Equation) → slice_get (before ++ e ∷ []) k ≡ Some f → root_fault inputs z (n + k) f t ≡ (if suc k == suc (length before) then r else None)
   roots n [] e r quiet is zero f at = ap (λ g. root_fault inputs z (n + 0) g t) (sym (same_Some e f at)) ∙ is
   roots n [] e r quiet is (suc k) f at = absurd (none-some f at)

@@ -32,12 +32,12 @@ at_two {P} {n} {e} {f} {es} here next rest =
     let same : n + 1 ≡ suc n = omega arith in
     at_more here (at_more (subst (λ i. P i f) same next) (at_from (suc (suc n)) (omega arith) rest))
 
--- the second of two equations, and those behind it
+-- the second of two equations, and those after it
 pub at_second : {P : ℕ → Equation → Type 0} {n : ℕ} {e f : Equation} {es : List Equation} → At P n (e ∷ f ∷ es) → P (n + 1) f
 at_second {P} {n} {e} {f} {es} at = at.each 1 f refl
 
-pub at_behind : {P : ℕ → Equation → Type 0} {n : ℕ} {e f : Equation} {es : List Equation} → At P n (e ∷ f ∷ es) → At P (n + 2) es
-at_behind {P} {n} at = at_from (n + 2) (omega arith) (at_rest (at_rest at))
+pub at_after : {P : ℕ → Equation → Type 0} {n : ℕ} {e f : Equation} {es : List Equation} → At P n (e ∷ f ∷ es) → At P (n + 2) es
+at_after {P} {n} at = at_from (n + 2) (omega arith) (at_rest (at_rest at))
 
 pub at_front : {P : ℕ → Equation → Type 0} {n : ℕ} (xs ys : List Equation) → At P n (xs ++ ys) → At P n xs
 at_front [] ys at = at_none

@@ -23,7 +23,7 @@ pub data Two : List Operand → List Stream → Type 0 where
   varying_fixed : {a : Stream} {s : Scalar} → Two (Varying ∷ Fixed s ∷ []) (a ∷ [])
   varying_varying : {a b : Stream} → Two (Varying ∷ Varying ∷ []) (a ∷ b ∷ [])
 
--- one that varies before others, and two behind one
+-- one that varies before others, and two after one
 pub data Behind (Rest : List Operand → List Stream → Type 0) : List Operand → List Stream → Type 0 where
   behind : {a : Stream} {os : List Operand} {parts : List Stream} → Rest os parts → Behind Rest (Varying ∷ os) (a ∷ parts)
 
@@ -69,22 +69,22 @@ two_of (Varying ∷ os) (a ∷ parts) t u h = at (one_of os parts u h.1)
 no_literal : {P : Type 0} (t : ValueType) (s : Scalar) → is_aggregate t ≡ true → t ≡ value_type.Scalar (type_of s) → P
 no_literal t s aggregate is = absurd (false≢true (ap is_aggregate (sym is) ∙ aggregate))
 
-pub behind_aggregate : {Rest : List Operand → List Stream → Type 0} (os : List Operand) (parts : List Stream) (t : ValueType) (ts : List ValueType) → is_aggregate t ≡ true → ((os : List Operand) (parts : List Stream) → AreOperands os parts ts → Rest os parts) → AreOperands os parts (t ∷ ts) → Behind Rest os parts
-behind_aggregate [] [] t ts aggregate rest h = absurd h
-behind_aggregate [] (a ∷ parts) t ts aggregate rest h = absurd h
-behind_aggregate (Fixed s ∷ os) parts t ts aggregate rest h = no_literal t s aggregate h.0
-behind_aggregate (Varying ∷ os) [] t ts aggregate rest h = absurd h
-behind_aggregate (Varying ∷ os) (a ∷ parts) t ts aggregate rest h = behind (rest os parts h.1)
+pub after_aggregate : {Rest : List Operand → List Stream → Type 0} (os : List Operand) (parts : List Stream) (t : ValueType) (ts : List ValueType) → is_aggregate t ≡ true → ((os : List Operand) (parts : List Stream) → AreOperands os parts ts → Rest os parts) → AreOperands os parts (t ∷ ts) → Behind Rest os parts
+after_aggregate [] [] t ts aggregate rest h = absurd h
+after_aggregate [] (a ∷ parts) t ts aggregate rest h = absurd h
+after_aggregate (Fixed s ∷ os) parts t ts aggregate rest h = no_literal t s aggregate h.0
+after_aggregate (Varying ∷ os) [] t ts aggregate rest h = absurd h
+after_aggregate (Varying ∷ os) (a ∷ parts) t ts aggregate rest h = behind (rest os parts h.1)
 
 pub chooses_of : (os : List Operand) (parts : List Stream) (c t : ValueType) → is_aggregate t ≡ true → AreOperands os parts (c ∷ t ∷ t ∷ []) → Chooses os parts
 chooses_of [] [] c t aggregate h = absurd h
 chooses_of [] (a ∷ parts) c t aggregate h = absurd h
-chooses_of (Fixed s ∷ os) parts c t aggregate h = at (behind_aggregate os parts t (t ∷ []) aggregate (λ os parts h. behind_aggregate os parts t [] aggregate none_of h) h.1)
+chooses_of (Fixed s ∷ os) parts c t aggregate h = at (after_aggregate os parts t (t ∷ []) aggregate (λ os parts h. after_aggregate os parts t [] aggregate none_of h) h.1)
   where
     at : {os : List Operand} {parts : List Stream} → Behind (Behind None) os parts → Chooses (Fixed s ∷ os) parts
     at (behind (behind none)) = by_literal
 chooses_of (Varying ∷ os) [] c t aggregate h = absurd h
-chooses_of (Varying ∷ os) (a ∷ parts) c t aggregate h = at (behind_aggregate os parts t (t ∷ []) aggregate (λ os parts h. behind_aggregate os parts t [] aggregate none_of h) h.1)
+chooses_of (Varying ∷ os) (a ∷ parts) c t aggregate h = at (after_aggregate os parts t (t ∷ []) aggregate (λ os parts h. after_aggregate os parts t [] aggregate none_of h) h.1)
   where
     at : {os : List Operand} {parts : List Stream} → Behind (Behind None) os parts → Chooses (Varying ∷ os) (a ∷ parts)
     at (behind (behind none)) = by_stream

@@ -6,9 +6,11 @@ use Rattle.std.proofs.lemmas.Option.{same_Some, none-some}
 use Rattle.std.specs.Option.{option_map_or}
 use Rattle.flat_core.specs.declared.equation.Equation.{Equation}
 use Rattle.flat_core.specs.System.{System, equation, with_name}
+use Rattle.flat_core.specs.declared.limits.TheConstants.{MOST_EQUATIONS}
 use Rattle.stream_constructs.specs.declared.maker.MakeFault.{MakeFault}
 use Rattle.stream_constructs.specs.declared.maker.MakeFault.TheVariants as fault
 use Rattle.stream_constructs.specs.Limits.{is_update, one_if, update_count, refusal_from, refusal, IsRefusal}
+use Rattle.stream_constructs.specs.declared.limits.TheConstants.{MOST_UPDATES}
 
 -- a choice of two refusals before another
 abbrev choice_of : Bool → Bool → MakeFault → MakeFault → Option MakeFault → Option MakeFault
@@ -24,24 +26,24 @@ stays true b x y f rest more later is = is
 stays false true x y f rest more later is = is
 stays false false x y f rest more later is = later is
 
--- ---- a list behind one that is not refused
-pub refusal_behind : (made updates : ℕ) (xs ys : List Equation) → refusal_from made updates xs ≡ None → refusal_from made updates (xs ++ ys) ≡ refusal_from (made + length xs) (updates + update_count xs) ys
-refusal_behind made updates [] ys none =
+-- ---- a list after one that is not refused
+pub refusal_after : (made updates : ℕ) (xs ys : List Equation) → refusal_from made updates xs ≡ None → refusal_from made updates (xs ++ ys) ≡ refusal_from (made + length xs) (updates + update_count xs) ys
+refusal_after made updates [] ys none =
     let m : made ≡ made + 0 = omega arith in
     let u : updates ≡ updates + 0 = omega arith in
     λ k. refusal_from (m k) (u k) ys
-refusal_behind made updates (e ∷ es) ys none =
-    let passed = passes (made == 4096) (is_update e.op && (updates == 256)) _ _ _ none in
+refusal_after made updates (e ∷ es) ys none =
+    let passed = passes (made == MOST_EQUATIONS) (is_update e.op && (updates == MOST_UPDATES)) _ _ _ none in
     let m : suc made + length es ≡ made + suc (length es) = omega arith in
     let u : updates + one_if (is_update e.op) + update_count es ≡ updates + (one_if (is_update e.op) + update_count es) = omega arith in
     (λ k. choice_of (passed.0 k) (passed.1 k) (fault.TooManyEquations e.place) (fault.TooManyUpdates e.place) (refusal_from (suc made) (updates + one_if (is_update e.op)) (es ++ ys)))
-    ∙ refusal_behind (suc made) (updates + one_if (is_update e.op)) es ys passed.2
+    ∙ refusal_after (suc made) (updates + one_if (is_update e.op)) es ys passed.2
     ∙ (λ k. refusal_from (m k) (u k) ys)
 
 longer_from : (made updates : ℕ) (xs ys : List Equation) (f : MakeFault) → refusal_from made updates xs ≡ Some f → refusal_from made updates (xs ++ ys) ≡ Some f
 longer_from made updates [] ys f is = absurd (none-some f is)
 longer_from made updates (e ∷ es) ys f is =
-    stays (made == 4096) (is_update e.op && (updates == 256)) _ _ f _ _ (λ later. longer_from (suc made) (updates + one_if (is_update e.op)) es ys f later) is
+    stays (made == MOST_EQUATIONS) (is_update e.op && (updates == MOST_UPDATES)) _ _ f _ _ (λ later. longer_from (suc made) (updates + one_if (is_update e.op)) es ys f later) is
 
 -- the refusal of a list is that of each longer one
 pub refusal_longer : (xs ys : List Equation) (f : MakeFault) → refusal xs ≡ Some f → refusal (xs ++ ys) ≡ Some f
@@ -64,41 +66,41 @@ pub count_push : (xs : List Equation) (e : Equation) → update_count (xs ++ e �
 count_push [] e = omega arith
 count_push (x ∷ xs) e = let rest = count_push xs e in omega arith
 
-pub full_refused : (xs : List Equation) (e : Equation) → refusal xs ≡ None → length xs ≡ 4096 → refusal (xs ++ e ∷ []) ≡ Some (fault.TooManyEquations e.place)
+pub full_refused : (xs : List Equation) (e : Equation) → refusal xs ≡ None → length xs ≡ MOST_EQUATIONS → refusal (xs ++ e ∷ []) ≡ Some (fault.TooManyEquations e.place)
 full_refused xs e none full =
-    let is : (0 + length xs == 4096) ≡ true = eq-eqb _ _ (omega arith) in
-    refusal_behind 0 0 xs (e ∷ []) none ∙ (λ k. choice_of (is k) (is_update e.op && (0 + update_count xs == 256)) (fault.TooManyEquations e.place) (fault.TooManyUpdates e.place) None)
+    let is : (0 + length xs == MOST_EQUATIONS) ≡ true = eq-eqb _ _ (omega arith) in
+    refusal_after 0 0 xs (e ∷ []) none ∙ (λ k. choice_of (is k) (is_update e.op && (0 + update_count xs == MOST_UPDATES)) (fault.TooManyEquations e.place) (fault.TooManyUpdates e.place) None)
 
-pub update_refused : (xs : List Equation) (e : Equation) → refusal xs ≡ None → (length xs ≡ 4096 → ⊥) → is_update e.op ≡ true → update_count xs ≡ 256 → refusal (xs ++ e ∷ []) ≡ Some (fault.TooManyUpdates e.place)
+pub update_refused : (xs : List Equation) (e : Equation) → refusal xs ≡ None → (length xs ≡ MOST_EQUATIONS → ⊥) → is_update e.op ≡ true → update_count xs ≡ MOST_UPDATES → refusal (xs ++ e ∷ []) ≡ Some (fault.TooManyUpdates e.place)
 update_refused xs e none room update full =
-    let not : (0 + length xs == 4096) ≡ false = ne_eqb _ _ (λ h. room (omega arith)) in
-    let is : (0 + update_count xs == 256) ≡ true = eq-eqb _ _ (omega arith) in
-    refusal_behind 0 0 xs (e ∷ []) none ∙ (λ k. choice_of (not k) (update k && is k) (fault.TooManyEquations e.place) (fault.TooManyUpdates e.place) None)
+    let not : (0 + length xs == MOST_EQUATIONS) ≡ false = ne_eqb _ _ (λ h. room (omega arith)) in
+    let is : (0 + update_count xs == MOST_UPDATES) ≡ true = eq-eqb _ _ (omega arith) in
+    refusal_after 0 0 xs (e ∷ []) none ∙ (λ k. choice_of (not k) (update k && is k) (fault.TooManyEquations e.place) (fault.TooManyUpdates e.place) None)
 
-pub no_update_fits : (xs : List Equation) (e : Equation) → refusal xs ≡ None → (length xs ≡ 4096 → ⊥) → is_update e.op ≡ false → refusal (xs ++ e ∷ []) ≡ None
+pub no_update_fits : (xs : List Equation) (e : Equation) → refusal xs ≡ None → (length xs ≡ MOST_EQUATIONS → ⊥) → is_update e.op ≡ false → refusal (xs ++ e ∷ []) ≡ None
 no_update_fits xs e none room update =
-    let not : (0 + length xs == 4096) ≡ false = ne_eqb _ _ (λ h. room (omega arith)) in
-    refusal_behind 0 0 xs (e ∷ []) none ∙ (λ k. choice_of (not k) (update k && (0 + update_count xs == 256)) (fault.TooManyEquations e.place) (fault.TooManyUpdates e.place) None)
+    let not : (0 + length xs == MOST_EQUATIONS) ≡ false = ne_eqb _ _ (λ h. room (omega arith)) in
+    refusal_after 0 0 xs (e ∷ []) none ∙ (λ k. choice_of (not k) (update k && (0 + update_count xs == MOST_UPDATES)) (fault.TooManyEquations e.place) (fault.TooManyUpdates e.place) None)
 
-pub update_fits : (xs : List Equation) (e : Equation) → refusal xs ≡ None → (length xs ≡ 4096 → ⊥) → is_update e.op ≡ true → (update_count xs ≡ 256 → ⊥) → refusal (xs ++ e ∷ []) ≡ None
+pub update_fits : (xs : List Equation) (e : Equation) → refusal xs ≡ None → (length xs ≡ MOST_EQUATIONS → ⊥) → is_update e.op ≡ true → (update_count xs ≡ MOST_UPDATES → ⊥) → refusal (xs ++ e ∷ []) ≡ None
 update_fits xs e none room update more =
-    let not : (0 + length xs == 4096) ≡ false = ne_eqb _ _ (λ h. room (omega arith)) in
-    let is : (0 + update_count xs == 256) ≡ false = ne_eqb _ _ (λ h. more (omega arith)) in
-    refusal_behind 0 0 xs (e ∷ []) none ∙ (λ k. choice_of (not k) (update k && is k) (fault.TooManyEquations e.place) (fault.TooManyUpdates e.place) None)
+    let not : (0 + length xs == MOST_EQUATIONS) ≡ false = ne_eqb _ _ (λ h. room (omega arith)) in
+    let is : (0 + update_count xs == MOST_UPDATES) ≡ false = ne_eqb _ _ (λ h. more (omega arith)) in
+    refusal_after 0 0 xs (e ∷ []) none ∙ (λ k. choice_of (not k) (update k && is k) (fault.TooManyEquations e.place) (fault.TooManyUpdates e.place) None)
 
 -- the equations are few
-few_from : (made updates : ℕ) (xs : List Equation) → made ≤ 4096 → refusal_from made updates xs ≡ None → made + length xs ≤ 4096
+few_from : (made updates : ℕ) (xs : List Equation) → made ≤ MOST_EQUATIONS → refusal_from made updates xs ≡ None → made + length xs ≤ MOST_EQUATIONS
 few_from made updates [] low none = omega arith
 few_from made updates (e ∷ es) low none =
-    let passed = passes (made == 4096) (is_update e.op && (updates == 256)) _ _ _ none in
-    let apart : made ≡ 4096 → ⊥ = λ h. false_true (sym passed.0 ∙ eq-eqb made 4096 h) in
+    let passed = passes (made == MOST_EQUATIONS) (is_update e.op && (updates == MOST_UPDATES)) _ _ _ none in
+    let apart : made ≡ MOST_EQUATIONS → ⊥ = λ h. false_true (sym passed.0 ∙ eq-eqb made MOST_EQUATIONS h) in
     let rest = few_from (suc made) (updates + one_if (is_update e.op)) es (omega arith) passed.2 in
     omega arith
   where
     false_true : ◌≡◌ {A = Bool} false true → ⊥
     false_true h = cc
 
-pub few_equations : (xs : List Equation) → refusal xs ≡ None → length xs ≤ 4096
+pub few_equations : (xs : List Equation) → refusal xs ≡ None → length xs ≤ MOST_EQUATIONS
 few_equations xs none = let few = few_from 0 0 xs (omega arith) none in omega arith
 
 -- ---- a name changes nothing
@@ -106,7 +108,7 @@ pub refusal_named : (made updates : ℕ) (xs : List Equation) (i : ℕ) (e : Equ
 refusal_named made updates [] i e name is = refl
 refusal_named made updates (x ∷ xs) zero e name is = let same = same_Some x e is in λ k. refusal_from made updates (record (sym same k) { name = name } ∷ xs)
 refusal_named made updates (x ∷ xs) (suc i) e name is =
-    ap (choice_of (made == 4096) (is_update x.op && (updates == 256)) (fault.TooManyEquations x.place) (fault.TooManyUpdates x.place)) (refusal_named (suc made) (updates + one_if (is_update x.op)) xs i e name is)
+    ap (choice_of (made == MOST_EQUATIONS) (is_update x.op && (updates == MOST_UPDATES)) (fault.TooManyEquations x.place) (fault.TooManyUpdates x.place)) (refusal_named (suc made) (updates + one_if (is_update x.op)) xs i e name is)
 
 pub count_named : (xs : List Equation) (i : ℕ) (e : Equation) (name : Option (List ℕ)) → slice_get xs i ≡ Some e → update_count (slice_set xs i (record e { name = name })) ≡ update_count xs
 count_named [] i e name is = refl
@@ -122,12 +124,12 @@ count_few (x ∷ xs) = at (is_update x.op) (count_few xs)
     at false few = omega arith
 
 -- ---- what a maker keeps
-pub no_update_kept : (xs ys : List Equation) (e : Equation) (updates : ℕ) → refusal xs ≡ None → (length xs ≡ 4096 → ⊥) → is_update e.op ≡ false → updates ≡ update_count xs → ys ≡ xs ++ e ∷ [] → (refusal ys ≡ None) × (updates ≡ update_count ys)
+pub no_update_kept : (xs ys : List Equation) (e : Equation) (updates : ℕ) → refusal xs ≡ None → (length xs ≡ MOST_EQUATIONS → ⊥) → is_update e.op ≡ false → updates ≡ update_count xs → ys ≡ xs ++ e ∷ [] → (refusal ys ≡ None) × (updates ≡ update_count ys)
 no_update_kept xs ys e updates none room update count is =
     let more = count_push xs e ∙ ap (λ b. update_count xs + one_if b) update in
     (ap refusal is ∙ no_update_fits xs e none room update, let same = ap update_count is in omega arith)
 
-pub update_kept : (xs ys : List Equation) (e : Equation) (updates : ℕ) → refusal xs ≡ None → (length xs ≡ 4096 → ⊥) → is_update e.op ≡ true → (updates ≡ 256 → ⊥) → updates ≡ update_count xs → ys ≡ xs ++ e ∷ [] → (refusal ys ≡ None) × (updates + 1 ≡ update_count ys)
+pub update_kept : (xs ys : List Equation) (e : Equation) (updates : ℕ) → refusal xs ≡ None → (length xs ≡ MOST_EQUATIONS → ⊥) → is_update e.op ≡ true → (updates ≡ MOST_UPDATES → ⊥) → updates ≡ update_count xs → ys ≡ xs ++ e ∷ [] → (refusal ys ≡ None) × (updates + 1 ≡ update_count ys)
 update_kept xs ys e updates none room update few count is =
     let more = count_push xs e ∙ ap (λ b. update_count xs + one_if b) update in
     (ap refusal is ∙ update_fits xs e none room update (λ h. few (omega arith)), let same = ap update_count is in omega arith)

@@ -17,7 +17,7 @@ use Rattle.stream_constructs.specs.Construct as construct
 use Rattle.stream_constructs.specs.Construct.{now}
 use Rattle.stream_constructs.specs.Equations.{numbers, own_equations, alias_equation}
 use Rattle.stream_constructs.specs.Agree.{history_of, MakesStream}
-use Rattle.stream_constructs.proofs.Numbered.{At, at_none, at_more, at_first, at_second, at_behind}
+use Rattle.stream_constructs.proofs.Numbered.{At, at_none, at_more, at_first, at_second, at_after}
 use Rattle.stream_constructs.proofs.Fetched.{held_case, merge_case, literal_case}
 use Rattle.stream_constructs.proofs.LiftedOutcomes.{HasCase}
 use Rattle.stream_constructs.proofs.Making.{no_root, no_literal_root, makes, makes_one}
@@ -108,7 +108,7 @@ module _ (p : Place) (of : ValueType) (n : ℕ) (inputs : Inputs) (z : Streams) 
       let held : z (n + 1) t ≡ held_case (z c.id t) (z e.id t) (latest (z c.id) t) = at_second at ∙ ap (λ o. merge_case (z c.id t) o) (at_first at) in
       makes inputs z t construct.Filter n (e ∷ c ∷ []) (_ ∷ _ ∷ []) _
       (at_more (no_root (is_fault (z e.id t) || false) (if has_event (z e.id t) then latest (z c.id) t else None)) (at_more (no_root (is_fault (z c.id t) || (is_fault (z n t) || false)) (option_or (event (z c.id t)) (event (z n t)))) at_none))
-      (at_first (at_behind at) ∙ (λ k. if is_fault (z e.id t) || (is_fault (held k) || false) then Some Fault else outcome_of (Ok (filtered (event (z e.id t)) (event (held k))))) ∙ filter_held (z e.id t) (z c.id t) (latest (z c.id) t))
+      (at_first (at_after at) ∙ (λ k. if is_fault (z e.id t) || (is_fault (held k) || false) then Some Fault else outcome_of (Ok (filtered (event (z e.id t)) (event (held k))))) ∙ filter_held (z e.id t) (z c.id t) (latest (z c.id) t))
       (no_root (is_fault (z e.id t) || (is_fault (z (n + 1) t) || false)) (filtered (event (z e.id t)) (event (z (n + 1) t))) ∙ sym (no_root (is_fault (z e.id t) || (is_fault (z c.id t) || false)) (filtered (event (z e.id t)) (now (z c.id) t))))
 
   -- a function of options

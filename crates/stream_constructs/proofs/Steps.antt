@@ -1,8 +1,8 @@
--- Equations that are made one behind the other.
-use Rattle.std.proofs.Common.{◌≡◌, ◌==◌, ℕ, suc, ◌+◌, ◌<◌, ◌≤◌, false, List, [], ◌∷◌, ◌++◌, length, drop, get_or, Result, Ok, Err, refl, sym, ap, subst, ◌∙◌, arith}
+-- Equations that are made one after the other.
+use Rattle.std.proofs.Common.{◌≡◌, ◌==◌, ℕ, suc, ◌+◌, ◌≤◌, false, List, [], ◌∷◌, ◌++◌, length, Result, Ok, Err, refl, sym, ap, subst, ◌∙◌, arith}
 use Rattle.std.specs.Prelude.{IfErr}
 use Rattle.std.proofs.lemmas.Bool.{true≢false}
-use Rattle.std.proofs.lemmas.List.{append_assoc, drop_more}
+use Rattle.std.proofs.lemmas.List.{append_assoc}
 use Rattle.tsl_value.specs.declared.place.Place.{Place}
 use Rattle.tsl_value.specs.declared.scalar.ValueType.{ValueType}
 use Rattle.lift_func.specs.Tree.{Tree}
@@ -29,21 +29,17 @@ refused_early (Err f) y e start before own whole is same rest h =
     let all : IsRefusal (start ++ whole) e = subst (λ es. IsRefusal es e) (append_assoc start before own ∙ ap (λ es. start ++ es) rest) more in
     subst (IsRefusal (start ++ whole)) (sym found) all
 
--- what is refused behind others that were made is refused in the whole
-pub refused_behind : {T : Type 0} (r : Result T MakeFault) (y e : MakeFault) (s m : System) (before middle own whole : List Equation) → r ≡ Err y → y ≡ e → m ≡ with_equations s before → before ++ middle ++ own ≡ whole → IsRefusal (m.equations ++ middle) e → IfErr r (IsRefusal (s.equations ++ whole))
-refused_behind r y e s m before middle own whole is same made split h =
+-- what is refused after others that were made is refused in the whole
+pub refused_after : {T : Type 0} (r : Result T MakeFault) (y e : MakeFault) (s m : System) (before middle own whole : List Equation) → r ≡ Err y → y ≡ e → m ≡ with_equations s before → before ++ middle ++ own ≡ whole → IsRefusal (m.equations ++ middle) e → IfErr r (IsRefusal (s.equations ++ whole))
+refused_after r y e s m before middle own whole is same made split h =
     let P : List Equation → Type 0 = λ es. IsRefusal es e in
     refused_early r y e s.equations (before ++ middle) own whole is same split (subst P (ap (λ (n : System). n.equations ++ middle) made ∙ append_assoc s.equations before middle) h)
 
--- the same behind a part of a whole
+-- the same after a part of a whole
 pub refused_later : {T : Type 0} (r : Result T MakeFault) (y e : MakeFault) (m s : System) (before own rest whole : List Equation) → r ≡ Err y → y ≡ e → before ++ own ≡ rest → with_equations m rest ≡ with_equations s whole → IsRefusal (m.equations ++ before) e → IfErr r (IsRefusal (s.equations ++ whole))
 refused_later r y e m s before own rest whole is same split all h =
     let P : List Equation → Type 0 = λ es. IfErr r (IsRefusal es) in
     subst P (ap (λ (n : System). n.equations) all) (refused_early r y e m.equations before own rest is same split h)
-
--- the item of a turn
-pub drop_item : {A : Type 0} (xs : List A) (i : ℕ) (x : A) → i < length xs → x ≡ get_or xs i x → drop i xs ≡ x ∷ drop (i + 1) xs
-drop_item xs i x lt is = drop_more xs i x lt ∙ ap (λ y. y ∷ drop (i + 1) xs) (sym is)
 
 -- ---- lists by their lengths
 pub lifting_many : (p : Place) (n : ℕ) (parts : List Stream) → 3 ≤ length parts → equation p op.Any (numbers parts) unit_type ∷ held_each p (n + 1) n parts ≡ lifting p n parts

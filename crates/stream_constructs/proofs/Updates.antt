@@ -12,8 +12,8 @@ use Rattle.lift_func.specs.Update.{with_key, without_key, with_entry}
 use Rattle.flat_core.specs.declared.equation.Op.TheVariants as op
 use Rattle.flat_core.specs.Case.{Inputs, Streams, of_both, of_three, picked}
 use Rattle.stream_constructs.specs.declared.construct.Stream.{Stream}
-use Rattle.stream_constructs.specs.declared.construct.Update.{Update}
-use Rattle.stream_constructs.specs.declared.construct.Update.TheVariants as update
+use Rattle.vocabulary.specs.declared.signature.Update.{Update}
+use Rattle.vocabulary.specs.declared.signature.Update.TheVariants as update
 use Rattle.stream_constructs.specs.Construct as construct
 use Rattle.stream_constructs.specs.Construct.{Operand, now, operand_trees}
 use Rattle.stream_constructs.specs.Equations.{own_equations, choice_equations, choice}

@@ -1,5 +1,6 @@
 -- The equations of a construct make its stream: what that means, and the laws that say so for each construct.
-use Rattle.std.specs.Prelude.{◌≡◌, ◌==◌, ◌⊎◌, ℕ, suc, ◌+◌, ◌-◌, ◌<◌, ◌≤◌, Bool, true, false, if◌then◌else◌, List, [], ◌∷◌, map, length, Some, None, slice_get}
+use Rattle.std.specs.Prelude.{◌≡◌, ◌==◌, ◌⊎◌, ℕ, suc, ◌+◌, ◌-◌, ◌<◌, ◌≤◌, Bool, true, false, if◌then◌else◌, List, [], ◌∷◌, map, length}
+use Rattle.std.specs.Prelude.{Some, None, slice_get}
 use Rattle.std.specs.List.{Contains, AllByRecursion}
 use Rattle.tsl_value.specs.View.{type_of}
 use Rattle.tsl_value.specs.declared.place.Place.{Place}
@@ -9,7 +10,7 @@ use Rattle.tsl_value.specs.declared.scalar.ValueType.{ValueType}
 use Rattle.tsl_value.specs.declared.scalar.ValueType.TheVariants as value_type
 use Rattle.lift_func.specs.Typing.{Value, Optional, HasKind, scalar_of}
 use Rattle.flat_core.specs.declared.equation.Equation.{Equation}
-use Rattle.flat_core.specs.Graph.{Path, Walk}
+use Rattle.translation_order.specs.Graph.{Path, Walk}
 use Rattle.flat_core.specs.Stream.{History}
 use Rattle.flat_core.specs.Case.{Inputs, Streams, case_of, root_fault}
 use Rattle.flat_core.specs.System.{System}
@@ -18,8 +19,8 @@ use Rattle.flat_core.specs.TypedSystem.{IsOfType, IsTypedEquation}
 use Rattle.flat_core.specs.Needed.{HasArgument}
 use Rattle.flat_core.specs.WellFormed.{Needs}
 use Rattle.stream_constructs.specs.declared.construct.Stream.{Stream}
-use Rattle.stream_constructs.specs.declared.construct.Update.{Update as UpdateOp}
-use Rattle.stream_constructs.specs.declared.construct.Update.TheVariants as update
+use Rattle.vocabulary.specs.declared.signature.Update.{Update as UpdateOp}
+use Rattle.vocabulary.specs.declared.signature.Update.TheVariants as update
 use Rattle.stream_constructs.specs.Construct.{Construct, Operand, Fixed, Varying, outcome, root, operand_trees}
 use Rattle.stream_constructs.specs.Construct as construct
 use Rattle.stream_constructs.specs.Equations.{own_equations, choice_equations, choice, alias_equation}
@@ -36,8 +37,14 @@ AreOperands os parts ts = ⊥
 pub data Updates : UpdateOp → List ValueType → ValueType → Type 0 where
   set_add : {k : KeyType} → Updates update.SetAdd (value_type.Set k ∷ value_type.Scalar (scalar_of k) ∷ []) (value_type.Set k)
   set_remove : {k : KeyType} → Updates update.SetRemove (value_type.Set k ∷ value_type.Scalar (scalar_of k) ∷ []) (value_type.Set k)
-  map_add : {k : KeyType} {x : ScalarType} → Updates update.MapAdd (value_type.Map k x ∷ value_type.Scalar (scalar_of k) ∷ value_type.Scalar x ∷ []) (value_type.Map k x)
-  map_remove : {k : KeyType} {x : ScalarType} → Updates update.MapRemove (value_type.Map k x ∷ value_type.Scalar (scalar_of k) ∷ []) (value_type.Map k x)
+  -- MapAdd MAP KEY VALUE
+  map_add :
+      {k : KeyType} {x : ScalarType} →
+      Updates update.MapAdd (value_type.Map k x ∷ value_type.Scalar (scalar_of k) ∷ value_type.Scalar x ∷ []) (value_type.Map k x)
+  -- MapRemove MAP KEY
+  map_remove :
+      {k : KeyType} {x : ScalarType} →
+      Updates update.MapRemove (value_type.Map k x ∷ value_type.Scalar (scalar_of k) ∷ []) (value_type.Map k x)
 
 pub record IsScalar (of : ValueType) : Type 0 where
   pub scalar : ScalarType
@@ -83,9 +90,13 @@ IsItself c n parts = Unit {0}
 
 -- Where each of the equations has its case at t, the last one has what the construct makes of its parts, and only the last one can
 -- have a root fault, which is the construct's.
-pub record MakesStream (c : Construct) (own : List Equation) (n : ℕ) (parts : List Stream) (inputs : Inputs) (z : Streams) (t : ℕ) : Type 0 where
+pub record MakesStream (c : Construct) (own : List Equation) (n : ℕ) (parts : List Stream) (inputs : Inputs) (z : Streams)
+    (t : ℕ) : Type 0 where
   pub outcome_is : z (last_number n own) t ≡ outcome inputs c (history_of z parts) t
-  pub root_is : (k : ℕ) (e : Equation) → slice_get own k ≡ Some e → root_fault inputs z (n + k) e t ≡ (if suc k == length own then root inputs c (history_of z parts) t else None)
+  pub root_is :
+      (k : ℕ) (e : Equation) →
+      slice_get own k ≡ Some e →
+      root_fault inputs z (n + k) e t ≡ (if suc k == length own then root inputs c (history_of z parts) t else None)
 
 abbrev pub AreSolved : Inputs → Streams → ℕ → List Equation → ℕ → Type 0
 AreSolved inputs z n own t = (k : ℕ) (e : Equation) → slice_get own k ≡ Some e → z (n + k) t ≡ case_of inputs z (n + k) e t
@@ -105,7 +116,11 @@ is_used_part c k = true
 pub record HangTogether (c : Construct) (own : List Equation) (n : ℕ) (parts : List Stream) (s : System) : Type 0 where
   pub reach : (k : ℕ) → k < length own → Walk (HasArgument s.equations) (last_number n own) (n + k)
   pub reach_parts : (a : Stream) → Contains parts a → Walk (HasArgument s.equations) (last_number n own) a.id
-  pub arguments : (k : ℕ) (e : Equation) (j : ℕ) → slice_get own k ≡ Some e → Contains e.args j → Contains (map (λ a. a.id) parts) j ⊎ ((i : ℕ) × (i < length own) × (j ≡ n + i))
+  pub arguments :
+      (k : ℕ) (e : Equation) (j : ℕ) →
+      slice_get own k ≡ Some e →
+      Contains e.args j →
+      Contains (map (λ a. a.id) parts) j ⊎ ((i : ℕ) × (i < length own) × (j ≡ n + i))
   pub falls : (k : ℕ) (a : Stream) → slice_get parts k ≡ Some a → is_used_part c k ≡ true → Path (Needs s) (last_number n own) a.id
   pub typed : AllByRecursion (λ a. IsOfType s.equations a.id a.of) parts → AllByRecursion (IsTypedEquation s.equations) own
 
@@ -113,20 +128,32 @@ pub record HangTogether (c : Construct) (own : List Equation) (n : ℕ) (parts :
 -- all constructs but a name, a call of a macro and an input
 abbrev pub ConstructsAreMade : Type 0
 ConstructsAreMade =
-    (c : Construct) (p : Place) (of : ValueType) (n : ℕ) (parts : List Stream) → Fits c parts of → IsItself c n parts → Makes c (own_equations p of n c parts) n parts
+    (c : Construct) (p : Place) (of : ValueType) (n : ℕ) (parts : List Stream) →
+    Fits c parts of →
+    IsItself c n parts →
+    Makes c (own_equations p of n c parts) n parts
 
 abbrev pub ConstructsHangTogether : Type 0
 ConstructsHangTogether =
-    (c : Construct) (p : Place) (of : ValueType) (n : ℕ) (parts : List Stream) (s : System) → Fits c parts of → IsItself c n parts → StandsAt s.equations n (own_equations p of n c parts) → HangTogether c (own_equations p of n c parts) n parts s
+    (c : Construct) (p : Place) (of : ValueType) (n : ℕ) (parts : List Stream) (s : System) →
+    Fits c parts of →
+    IsItself c n parts →
+    StandsAt s.equations n (own_equations p of n c parts) →
+    HangTogether c (own_equations p of n c parts) n parts s
 
 -- a choice between sets or maps, which means what `if` means
 abbrev pub ChoicesAreMade : Type 0
 ChoicesAreMade =
-    (p : Place) (of : ValueType) (n : ℕ) (os : List Operand) (parts : List Stream) → FitsChoice os parts of → Makes (construct.Signal (choice (operand_trees 0 os))) (choice_equations p of n os parts) n parts
+    (p : Place) (of : ValueType) (n : ℕ) (os : List Operand) (parts : List Stream) →
+    FitsChoice os parts of →
+    Makes (construct.Signal (choice (operand_trees 0 os))) (choice_equations p of n os parts) n parts
 
 abbrev pub ChoicesHangTogether : Type 0
 ChoicesHangTogether =
-    (p : Place) (of : ValueType) (n : ℕ) (os : List Operand) (parts : List Stream) (s : System) → FitsChoice os parts of → StandsAt s.equations n (choice_equations p of n os parts) → HangTogether (construct.Signal (choice (operand_trees 0 os))) (choice_equations p of n os parts) n parts s
+    (p : Place) (of : ValueType) (n : ℕ) (os : List Operand) (parts : List Stream) (s : System) →
+    FitsChoice os parts of →
+    StandsAt s.equations n (choice_equations p of n os parts) →
+    HangTogether (construct.Signal (choice (operand_trees 0 os))) (choice_equations p of n os parts) n parts s
 
 -- a definition that is only a name
 abbrev pub AliasesAreMade : Type 0
@@ -134,4 +161,6 @@ AliasesAreMade = (p : Place) (n : ℕ) (a : Stream) → Makes construct.Same (al
 
 abbrev pub AliasesHangTogether : Type 0
 AliasesHangTogether =
-    (p : Place) (n : ℕ) (a : Stream) (s : System) → StandsAt s.equations n (alias_equation p a ∷ []) → HangTogether construct.Same (alias_equation p a ∷ []) n (a ∷ []) s
+    (p : Place) (n : ℕ) (a : Stream) (s : System) →
+    StandsAt s.equations n (alias_equation p a ∷ []) →
+    HangTogether construct.Same (alias_equation p a ∷ []) n (a ∷ []) s

@@ -12,9 +12,10 @@ use Rattle.lift_func.specs.Tree.{Tree}
 use Rattle.lift_func.specs.Apply.{Answer, apply}
 use Rattle.lift_func.specs.Update.{with_key, without_key, with_entry}
 use Rattle.flat_core.specs.Stream.{Outcome, Fault, History, event, has_event, is_fault, latest}
-use Rattle.flat_core.specs.Case.{Inputs, unit, empty_of, at_zero, merged, filtered, of_both, of_three, expires, outcome_of, fault_of, refused}
-use Rattle.stream_constructs.specs.declared.construct.Update.{Update as UpdateOp}
-use Rattle.stream_constructs.specs.declared.construct.Update.TheVariants as update
+use Rattle.flat_core.specs.Case.{Inputs, unit, empty_of, at_zero, merged, filtered, of_both, of_three, expires, outcome_of, fault_of}
+use Rattle.flat_core.specs.Case.{refused}
+use Rattle.vocabulary.specs.declared.signature.Update.{Update as UpdateOp}
+use Rattle.vocabulary.specs.declared.signature.Update.TheVariants as update
 
 -- An operand is a literal, or it varies: then its stream is one of those that are given.
 pub data Operand : Type 0 where

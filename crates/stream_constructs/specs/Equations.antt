@@ -13,8 +13,8 @@ use Rattle.flat_core.specs.declared.equation.Op.TheVariants as op
 use Rattle.flat_core.specs.declared.equation.Equation.{Equation}
 use Rattle.flat_core.specs.Typed.{unit_type, int_type}
 use Rattle.stream_constructs.specs.declared.construct.Stream.{Stream}
-use Rattle.stream_constructs.specs.declared.construct.Update.{Update as UpdateOp}
-use Rattle.stream_constructs.specs.declared.construct.Update.TheVariants as update
+use Rattle.vocabulary.specs.declared.signature.Update.{Update as UpdateOp}
+use Rattle.vocabulary.specs.declared.signature.Update.TheVariants as update
 use Rattle.stream_constructs.specs.Construct.{Construct, Operand, Fixed, Varying, operand_trees}
 use Rattle.stream_constructs.specs.Construct as construct
 
@@ -57,7 +57,7 @@ lifted n (a ∷ []) = a ∷ []
 lifted n (a ∷ b ∷ []) = merges n (a ∷ b ∷ [])
 lifted n (a ∷ b ∷ c ∷ rest) = merges (n + 1) (a ∷ b ∷ c ∷ rest)
 
--- ---- operands of which some are literals: behind the lifting a literal becomes an equation over the first lifted operand
+-- ---- operands of which some are literals: after the lifting a literal becomes an equation over the first lifted operand
 abbrev pub literal_equations : Place → ℕ → List Operand → List Equation
 literal_equations p first [] = []
 literal_equations p first (Fixed s ∷ os) = literal_over p s first ∷ literal_equations p first os

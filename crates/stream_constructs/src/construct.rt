@@ -6,6 +6,7 @@ ghost use Rattle.stream_constructs.specs.Equations.{update_op};
 use flat_core::equation::Op;
 use tsl_value::ids::EqId;
 use tsl_value::scalar::{Scalar, ValueType};
+use vocabulary::signature::Update;
 
 /// The stream of an equation: its number, and the type of its events.
 #[derive(Clone, Copy)]
@@ -14,26 +15,15 @@ pub struct Stream {
     pub of: ValueType,
 }
 
-/// The updates of sets and maps.
-#[derive(Clone, Copy, PartialEq, Eq, Debug)]
-pub enum Update {
-    SetAdd,
-    SetRemove,
-    MapAdd,
-    MapRemove,
-}
-
-impl Update {
-    /// The operation of its equation.
-    pub(crate) fn op(self) -> Op
-        ensures { result ≡ update_op self }
-    {
-        match self {
-            Update::SetAdd => Op::SetAdd,
-            Update::SetRemove => Op::SetRemove,
-            Update::MapAdd => Op::MapAdd,
-            Update::MapRemove => Op::MapRemove,
-        }
+/// The operation of an update's equation.
+pub(crate) fn operation_of(update: Update) -> Op
+    ensures { result ≡ update_op update }
+{
+    match update {
+        Update::SetAdd => Op::SetAdd,
+        Update::SetRemove => Op::SetRemove,
+        Update::MapAdd => Op::MapAdd,
+        Update::MapRemove => Op::MapRemove,
     }
 }
 

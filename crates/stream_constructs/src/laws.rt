@@ -1,6 +1,7 @@
 // That the equations of constructs make their streams, as the contracts of functions that do nothing.
 
-ghost use Rattle.stream_constructs.specs.Agree.{ConstructsAreMade, ConstructsHangTogether, ChoicesAreMade, ChoicesHangTogether, AliasesAreMade, AliasesHangTogether};
+ghost use Rattle.stream_constructs.specs.Agree.{ConstructsAreMade, ConstructsHangTogether, ChoicesAreMade, ChoicesHangTogether};
+ghost use Rattle.stream_constructs.specs.Agree.{AliasesAreMade, AliasesHangTogether};
 
 /// Where the equations of a construct have their cases, the last one has what the construct makes of its parts.
 pub fn constructs_are_made()

@@ -1,14 +1,17 @@
 // Making equations within their limits.
 
-ghost use Rattle.std.specs.Prelude.{◌≡◌, ◌+◌, ◌-◌, ◌<◌, ◌≤◌, ◌^◌, List, [], ◌∷◌, ◌++◌, None, length, is_ok, if◌then◌else◌, IfOk, OnOk, IfErr, OnErr};
+ghost use Rattle.std.specs.Prelude.{◌≡◌, ◌+◌, ◌-◌, ◌<◌, ◌≤◌, ◌^◌, List, [], ◌∷◌, ◌++◌, None, length, is_ok, if◌then◌else◌, IfOk, OnOk};
+ghost use Rattle.std.specs.Prelude.{IfErr, OnErr};
 ghost use Rattle.stream_constructs.specs.Limits.{is_update, refusal, IsRefusal};
 ghost use Rattle.stream_constructs.specs.Made.{with_equations, stream_of};
 ghost use Rattle.stream_constructs.specs.Equations as equations;
 
 use crate::construct::Stream;
+use crate::limits::MOST_UPDATES;
 use flat_core::builder::FlatBuilder;
 use flat_core::equation::{Equation, Op, Output};
 use flat_core::flat::Flat;
+use flat_core::limits::MOST_EQUATIONS;
 use flat_core::lists::Args;
 use std::alloc::{AllocError, AllocFailed, Global};
 use std::marker::Model;
@@ -17,12 +20,6 @@ use tsl_value::memory::NoMemory;
 use tsl_value::place::Place;
 use tsl_value::scalar::ValueType;
 use tsl_value::text::Text;
-
-/// The most equations of a system.
-pub const MOST_EQUATIONS: u32 = 4096;
-
-/// The most updates of sets and maps among them.
-pub const MOST_UPDATES: u32 = 256;
 
 /// Why no further equation is made.
 #[derive(Clone, Copy, PartialEq, Eq, Debug)]
@@ -67,7 +64,7 @@ impl<T: Drop> From<AllocFailed<T>> for MakeFault {
     }
 }
 
-/// Makes the equations of constructs, one behind the other. Contracts see it as the system that is made.
+/// Makes the equations of constructs, one after the other. Contracts see it as the system that is made.
 #[derive(Drop)]
 pub struct Maker {
     pub(crate) alloc: Global,
@@ -118,13 +115,13 @@ impl Maker {
     /// The number of equations.
     pub fn count(&self) -> u32
         ensures count { result ≡ length self.now.equations }
-        ensures few { result ≤ 4096 }
+        ensures few { result ≤ MOST_EQUATIONS }
         ensures within { refusal self.now.equations ≡ None }
     {
         self.builder.count()
     }
 
-    /// Adds an equation behind the others and gives its number, the next one.
+    /// Adds an equation after the others and gives its number, the next one.
     pub fn add(&mut self, equation: Equation) -> Result<EqId, MakeFault>
         ensures id { IfOk result (λ id. id ≡ length self.old.equations) }
         ensures made { OnOk result (self.new ≡ with_equations self.old (equation ∷ [])) }
@@ -179,7 +176,7 @@ impl Maker {
         }
     }
 
-    /// Adds an output behind the others.
+    /// Adds an output after the others.
     pub fn add_output(&mut self, output: Output) -> Result<(), NoMemory>
         requires { length self.old.outputs < 2 ^ 31 }
         ensures { self.new ≡ (if is_ok result then record self.old { outputs = self.old.outputs ++ output ∷ [] } else self.old) }

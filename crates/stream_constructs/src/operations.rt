@@ -21,7 +21,8 @@ impl Maker {
     /// The time of each event of a stream.
     pub fn time(&mut self, place: Place, a: Stream) -> Result<Stream, MakeFault>
         ensures made { OnOk result (self.new ≡ with_equations self.old (equations_for self.old place int_type construct.Time (a ∷ []))) }
-        ensures stream { IfOk result (λ s. s ≡ stream_of self.old (equations_for self.old place int_type construct.Time (a ∷ [])) int_type) }
+        ensures stream { IfOk result (λ s. s ≡ stream_of self.old
+            (equations_for self.old place int_type construct.Time (a ∷ [])) int_type) }
         ensures refused { IfErr result (IsRefusal (self.old.equations ++ equations_for self.old place int_type construct.Time (a ∷ []))) }
     {
         let args = arguments::one(self.alloc, a.id)?;
@@ -40,9 +41,12 @@ impl Maker {
 
     /// A unit when an amount of `d` has passed without an event of `r`.
     pub fn delay(&mut self, place: Place, d: Stream, r: Stream) -> Result<Stream, MakeFault>
-        ensures made { OnOk result (self.new ≡ with_equations self.old (equations_for self.old place unit_type construct.Delay (d ∷ r ∷ record { id = length self.old.equations; of = unit_type } ∷ []))) }
-        ensures stream { IfOk result (λ s. s ≡ stream_of self.old (equations_for self.old place unit_type construct.Delay (d ∷ r ∷ record { id = length self.old.equations; of = unit_type } ∷ [])) unit_type) }
-        ensures refused { IfErr result (IsRefusal (self.old.equations ++ equations_for self.old place unit_type construct.Delay (d ∷ r ∷ record { id = length self.old.equations; of = unit_type } ∷ []))) }
+        ensures made { OnOk result (self.new ≡ with_equations self.old (equations_for self.old place unit_type construct.Delay
+            (d ∷ r ∷ record { id = length self.old.equations; of = unit_type } ∷ []))) }
+        ensures stream { IfOk result (λ s. s ≡ stream_of self.old (equations_for self.old place unit_type construct.Delay
+            (d ∷ r ∷ record { id = length self.old.equations; of = unit_type } ∷ [])) unit_type) }
+        ensures refused { IfErr result (IsRefusal (self.old.equations ++ equations_for self.old place unit_type construct.Delay
+            (d ∷ r ∷ record { id = length self.old.equations; of = unit_type } ∷ []))) }
     {
         let args = arguments::two(self.alloc, d.id, r.id)?;
         self.make(place, Op::Delay, args, UNIT)
@@ -60,9 +64,12 @@ impl Maker {
 
     /// A literal at each event of a stream.
     pub fn constant(&mut self, place: Place, s: Scalar, e: Stream) -> Result<Stream, MakeFault>
-        ensures made { OnOk result (self.new ≡ with_equations self.old (equations_for self.old place (ValueType.Scalar (type_of s)) (construct.Const s) (e ∷ []))) }
-        ensures stream { IfOk result (λ t. t ≡ stream_of self.old (equations_for self.old place (ValueType.Scalar (type_of s)) (construct.Const s) (e ∷ [])) (ValueType.Scalar (type_of s))) }
-        ensures refused { IfErr result (IsRefusal (self.old.equations ++ equations_for self.old place (ValueType.Scalar (type_of s)) (construct.Const s) (e ∷ []))) }
+        ensures made { OnOk result (self.new ≡ with_equations self.old
+            (equations_for self.old place (ValueType.Scalar (type_of s)) (construct.Const s) (e ∷ []))) }
+        ensures stream { IfOk result (λ t. t ≡ stream_of self.old
+            (equations_for self.old place (ValueType.Scalar (type_of s)) (construct.Const s) (e ∷ [])) (ValueType.Scalar (type_of s))) }
+        ensures refused { IfErr result (IsRefusal (self.old.equations
+            ++ equations_for self.old place (ValueType.Scalar (type_of s)) (construct.Const s) (e ∷ []))) }
     {
         self.literal_over(place, s, e.id)
     }
@@ -80,9 +87,12 @@ impl Maker {
 
     /// A filter by a literal.
     pub fn filter_by(&mut self, place: Place, e: Stream, holds: bool) -> Result<Stream, MakeFault>
-        ensures made { OnOk result (self.new ≡ with_equations self.old (equations_for self.old place e.of (construct.FilterBy holds) (e ∷ []))) }
-        ensures stream { IfOk result (λ s. s ≡ stream_of self.old (equations_for self.old place e.of (construct.FilterBy holds) (e ∷ [])) e.of) }
-        ensures refused { IfErr result (IsRefusal (self.old.equations ++ equations_for self.old place e.of (construct.FilterBy holds) (e ∷ []))) }
+        ensures made { OnOk result (self.new ≡ with_equations self.old
+            (equations_for self.old place e.of (construct.FilterBy holds) (e ∷ []))) }
+        ensures stream { IfOk result (λ s. s ≡ stream_of self.old
+            (equations_for self.old place e.of (construct.FilterBy holds) (e ∷ [])) e.of) }
+        ensures refused { IfErr result (IsRefusal (self.old.equations
+            ++ equations_for self.old place e.of (construct.FilterBy holds) (e ∷ []))) }
     {
         let condition = self.literal_over(place, Scalar::Bool(holds), e.id)?;
         let args = arguments::two(self.alloc, e.id, condition.id)?;

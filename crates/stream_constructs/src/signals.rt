@@ -3,12 +3,13 @@
 ghost use Rattle.std.specs.Prelude.{◌≡◌, ◌+◌, ◌≤◌, [], ◌∷◌, ◌++◌, length, IfOk, OnOk, IfErr};
 ghost use Rattle.stream_constructs.specs.Limits.{IsRefusal};
 ghost use Rattle.stream_constructs.specs.Construct as construct;
-ghost use Rattle.stream_constructs.specs.Equations.{equation, numbers, first_number, literal_equations, operand_numbers, with_literals, choice_equations};
+ghost use Rattle.stream_constructs.specs.Equations.{equation, numbers, first_number, literal_equations, operand_numbers, with_literals};
+ghost use Rattle.stream_constructs.specs.Equations.{choice_equations};
 ghost use Rattle.stream_constructs.specs.Made.{with_equations, equations_for, stream_of, operands_of, varying_of, varying_count};
 ghost use Rattle.flat_core.specs.Typed.{unit_type};
 
 use crate::arguments;
-use crate::construct::{Operand, Stream, Update};
+use crate::construct::{Operand, Stream, operation_of};
 use crate::maker::{MakeFault, Maker};
 use flat_core::equation::Op;
 use flat_core::lists::Args;
@@ -17,6 +18,7 @@ use std::alloc::{AllocError, Global};
 use tsl_value::ids::EqId;
 use tsl_value::place::Place;
 use tsl_value::scalar::ValueType;
+use vocabulary::signature::Update;
 
 fn varying(alloc: Global, operands: &[Operand]) -> Result<Vec<Stream>, AllocError>
     ensures { IfOk result (λ v. v.items ≡ varying_of operands.now) }
@@ -42,9 +44,12 @@ fn first_id(streams: &[Stream]) -> EqId
 impl Maker {
     /// An operation on the unit at time 0.
     fn once(&mut self, place: Place, op: Op, of: ValueType) -> Result<Stream, MakeFault>
-        ensures made { OnOk result (self.new ≡ with_equations self.old (equation place Op.Unit [] unit_type ∷ equation place op (length self.old.equations ∷ []) of ∷ [])) }
-        ensures stream { IfOk result (λ s. s ≡ stream_of self.old (equation place Op.Unit [] unit_type ∷ equation place op (length self.old.equations ∷ []) of ∷ []) of) }
-        ensures refused { IfErr result (IsRefusal (self.old.equations ++ equation place Op.Unit [] unit_type ∷ equation place op (length self.old.equations ∷ []) of ∷ [])) }
+        ensures made { OnOk result (self.new ≡ with_equations self.old
+            (equation place Op.Unit [] unit_type ∷ equation place op (length self.old.equations ∷ []) of ∷ [])) }
+        ensures stream { IfOk result (λ s. s ≡ stream_of self.old
+            (equation place Op.Unit [] unit_type ∷ equation place op (length self.old.equations ∷ []) of ∷ []) of) }
+        ensures refused { IfErr result (IsRefusal (self.old.equations
+            ++ equation place Op.Unit [] unit_type ∷ equation place op (length self.old.equations ∷ []) of ∷ [])) }
     {
         let start = self.unit(place)?;
         let args = arguments::one(self.alloc, start.id)?;
@@ -59,9 +64,11 @@ impl Maker {
         parts: &[Stream],
         of: ValueType,
     ) -> Result<Stream, MakeFault>
-        ensures made { OnOk result (self.new ≡ with_equations self.old (equations_for self.old place of (construct.Signal body) parts.now)) }
+        ensures made { OnOk result (self.new ≡ with_equations self.old
+            (equations_for self.old place of (construct.Signal body) parts.now)) }
         ensures stream { IfOk result (λ s. s ≡ stream_of self.old (equations_for self.old place of (construct.Signal body) parts.now) of) }
-        ensures refused { IfErr result (IsRefusal (self.old.equations ++ equations_for self.old place of (construct.Signal body) parts.now)) }
+        ensures refused { IfErr result (IsRefusal (self.old.equations
+            ++ equations_for self.old place of (construct.Signal body) parts.now)) }
     {
         let op = Op::Lift { body, strict: true };
         if parts.is_empty() {
@@ -82,7 +89,8 @@ impl Maker {
     ) -> Result<Args, MakeFault>
         requires { varying_count (operands_of operands.now) ≡ length lifted.now }
         ensures made { OnOk result (self.new ≡ with_equations self.old (literal_equations place first (operands_of operands.now))) }
-        ensures args { IfOk result (λ args. args ≡ operand_numbers (length self.old.equations) (operands_of operands.now) (numbers lifted.now)) }
+        ensures args { IfOk result (λ args. args ≡ operand_numbers (length self.old.equations)
+            (operands_of operands.now) (numbers lifted.now)) }
         ensures refused { IfErr result (IsRefusal (self.old.equations ++ literal_equations place first (operands_of operands.now))) }
     {
         let mut args = Args::new(self.alloc);
@@ -110,9 +118,12 @@ impl Maker {
         operands: &[Operand],
         of: ValueType,
     ) -> Result<Stream, MakeFault>
-        ensures made { OnOk result (self.new ≡ with_equations self.old (with_literals place op of (length self.old.equations) (operands_of operands.now) (varying_of operands.now))) }
-        ensures stream { IfOk result (λ s. s ≡ stream_of self.old (with_literals place op of (length self.old.equations) (operands_of operands.now) (varying_of operands.now)) of) }
-        ensures refused { IfErr result (IsRefusal (self.old.equations ++ with_literals place op of (length self.old.equations) (operands_of operands.now) (varying_of operands.now))) }
+        ensures made { OnOk result (self.new ≡ with_equations self.old
+            (with_literals place op of (length self.old.equations) (operands_of operands.now) (varying_of operands.now))) }
+        ensures stream { IfOk result (λ s. s ≡ stream_of self.old
+            (with_literals place op of (length self.old.equations) (operands_of operands.now) (varying_of operands.now)) of) }
+        ensures refused { IfErr result (IsRefusal (self.old.equations
+            ++ with_literals place op of (length self.old.equations) (operands_of operands.now) (varying_of operands.now))) }
     {
         let parts = varying(self.alloc, operands)?;
         let lifted = self.lift_parts(place, &parts)?;
@@ -128,11 +139,14 @@ impl Maker {
         operands: &[Operand],
         of: ValueType,
     ) -> Result<Stream, MakeFault>
-        ensures made { OnOk result (self.new ≡ with_equations self.old (equations_for self.old place of (construct.Update op (operands_of operands.now)) (varying_of operands.now))) }
-        ensures stream { IfOk result (λ s. s ≡ stream_of self.old (equations_for self.old place of (construct.Update op (operands_of operands.now)) (varying_of operands.now)) of) }
-        ensures refused { IfErr result (IsRefusal (self.old.equations ++ equations_for self.old place of (construct.Update op (operands_of operands.now)) (varying_of operands.now))) }
+        ensures made { OnOk result (self.new ≡ with_equations self.old
+            (equations_for self.old place of (construct.Update op (operands_of operands.now)) (varying_of operands.now))) }
+        ensures stream { IfOk result (λ s. s ≡ stream_of self.old
+            (equations_for self.old place of (construct.Update op (operands_of operands.now)) (varying_of operands.now)) of) }
+        ensures refused { IfErr result (IsRefusal (self.old.equations
+            ++ equations_for self.old place of (construct.Update op (operands_of operands.now)) (varying_of operands.now))) }
     {
-        self.over_operands(place, op.op(), operands, of)
+        self.over_operands(place, operation_of(op), operands, of)
     }
 
     /// A choice between two sets or two maps, by a condition before them.
@@ -142,9 +156,12 @@ impl Maker {
         operands: &[Operand],
         of: ValueType,
     ) -> Result<Stream, MakeFault>
-        ensures made { OnOk result (self.new ≡ with_equations self.old (choice_equations place of (length self.old.equations) (operands_of operands.now) (varying_of operands.now))) }
-        ensures stream { IfOk result (λ s. s ≡ stream_of self.old (choice_equations place of (length self.old.equations) (operands_of operands.now) (varying_of operands.now)) of) }
-        ensures refused { IfErr result (IsRefusal (self.old.equations ++ choice_equations place of (length self.old.equations) (operands_of operands.now) (varying_of operands.now))) }
+        ensures made { OnOk result (self.new ≡ with_equations self.old
+            (choice_equations place of (length self.old.equations) (operands_of operands.now) (varying_of operands.now))) }
+        ensures stream { IfOk result (λ s. s ≡ stream_of self.old
+            (choice_equations place of (length self.old.equations) (operands_of operands.now) (varying_of operands.now)) of) }
+        ensures refused { IfErr result (IsRefusal (self.old.equations
+            ++ choice_equations place of (length self.old.equations) (operands_of operands.now) (varying_of operands.now))) }
     {
         self.over_operands(place, Op::Pick, operands, of)
     }

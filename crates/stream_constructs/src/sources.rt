@@ -93,9 +93,12 @@ impl Maker {
 
     /// A literal at time 0.
     pub fn literal(&mut self, place: Place, s: Scalar) -> Result<Stream, MakeFault>
-        ensures made { OnOk result (self.new ≡ with_equations self.old (equations_for self.old place (ValueType.Scalar (type_of s)) (construct.Literal s) [])) }
-        ensures stream { IfOk result (λ t. t ≡ stream_of self.old (equations_for self.old place (ValueType.Scalar (type_of s)) (construct.Literal s) []) (ValueType.Scalar (type_of s))) }
-        ensures refused { IfErr result (IsRefusal (self.old.equations ++ equations_for self.old place (ValueType.Scalar (type_of s)) (construct.Literal s) [])) }
+        ensures made { OnOk result (self.new ≡ with_equations self.old
+            (equations_for self.old place (ValueType.Scalar (type_of s)) (construct.Literal s) [])) }
+        ensures stream { IfOk result (λ t. t ≡ stream_of self.old
+            (equations_for self.old place (ValueType.Scalar (type_of s)) (construct.Literal s) []) (ValueType.Scalar (type_of s))) }
+        ensures refused { IfErr result (IsRefusal (self.old.equations
+            ++ equations_for self.old place (ValueType.Scalar (type_of s)) (construct.Literal s) [])) }
     {
         let start = self.unit(place)?;
         self.literal_over(place, s, start.id)

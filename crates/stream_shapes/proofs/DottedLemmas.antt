@@ -3,14 +3,16 @@ use Rattle.std.proofs.Common.{◌≡◌, ℕ, suc, List, [], ◌∷◌, Result, 
 use Rattle.std.specs.Prelude.{IfOk}
 use Rattle.lift_func.specs.Tree.{Tree, Literal, Argument}
 use Rattle.spec_parser.specs.Tree.{Expr}
-use Rattle.spec_parser.specs.declared.tree.Dotted.{Dotted}
-use Rattle.spec_parser.specs.declared.tree.Dotted.TheVariants as dotted
-use Rattle.spec_meaning.specs.Function.{dotted_tree, literal, no_tree}
+use Rattle.vocabulary.specs.declared.dotted.Dotted.{Dotted}
+use Rattle.vocabulary.specs.declared.signature.Role.{Role}
+use Rattle.vocabulary.specs.declared.signature.Role.TheVariants as role
+use Rattle.vocabulary.specs.Table.{role_of}
+use Rattle.spec_meaning.specs.Function.{dotted_tree, role_tree, literal, no_tree}
 use Rattle.spec_meaning.specs.Shape.{operand, operands}
 use Rattle.stream_constructs.specs.Construct.{Operand, Fixed, Varying, operand_trees}
 use Rattle.stream_constructs.specs.Construct as construct
 use Rattle.stream_shapes.specs.declared.construct.Shape.{Shape}
-use Rattle.stream_shapes.specs.Shape.{HasShape}
+use Rattle.stream_shapes.specs.inner.Shape.{HasShape}
 
 -- an operand before others
 record IsFront (k : ℕ) (o : Operand) (os : List Operand) : Type 0 where
@@ -22,9 +24,10 @@ front : (k : ℕ) (o : Operand) (os : List Operand) → IsFront k o os
 front k (Fixed s) os = record { first = Literal s; next = k; is = refl }
 front k Varying os = record { first = Argument k; next = suc k; is = refl }
 
-many : (d : Dotted) (a b c : Tree) (ts : List Tree) → dotted_tree d (a ∷ b ∷ c ∷ ts) ≡ no_tree
-many dotted.SetAdd a b c ts = refl
-many d a b c ts = refl
+many : (r : Role) (a b c : Tree) (ts : List Tree) → role_tree r (a ∷ b ∷ c ∷ ts) ≡ no_tree
+many (role.Unary o) a b c ts = refl
+many (role.Binary o) a b c ts = refl
+many (role.Update o) a b c ts = refl
 
 many_at : (d : Dotted) (o p q : Operand) (os : List Operand) → dotted_tree d (operand_trees 0 (o ∷ p ∷ q ∷ os)) ≡ no_tree
 many_at d o p q os =
@@ -32,7 +35,7 @@ many_at d o p q os =
     let two = front one.next p (q ∷ os) in
     let three = front two.next q os in
     ap (dotted_tree d) (one.is ∙ ap (λ ts. one.first ∷ ts) (two.is ∙ ap (λ ts. two.first ∷ ts) three.is))
-    ∙ many d one.first two.first three.first (operand_trees three.next os)
+    ∙ many (role_of d) one.first two.first three.first (operand_trees three.next os)
 
 -- three operands or more
 pub no_tree_of_many : (d : Dotted) (es : List Expr) (a b c : Expr) (rest : List Expr) → es ≡ a ∷ b ∷ c ∷ rest → no_tree ≡ dotted_tree d (operand_trees 0 (operands es))

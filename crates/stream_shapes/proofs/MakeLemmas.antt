@@ -1,30 +1,18 @@
 -- What a construct asks of its parts, by their list.
-use Rattle.std.proofs.Common.{◌≡◌, ℕ, suc, List, [], ◌∷◌, length, get_or, refl, sym, ap, ◌∙◌, subst}
+use Rattle.std.proofs.Common.{◌≡◌, ℕ, List, [], ◌∷◌, get_or, sym, ap, ◌∙◌, subst}
 use Rattle.tsl_value.specs.declared.scalar.ValueType.{ValueType}
 use Rattle.stream_constructs.specs.declared.construct.Stream.{Stream}
 use Rattle.stream_constructs.specs.Construct as construct
-use Rattle.stream_constructs.specs.Construct.{Operand, Fixed, Varying}
-use Rattle.stream_constructs.specs.Agree.{AreOperands, Fits}
-use Rattle.stream_constructs.specs.Made.{varying_count}
-use Rattle.macro_flatten.specs.Makes.{with_itself}
+use Rattle.stream_constructs.specs.Agree.{Fits}
+use Rattle.flatten_rules.specs.Makes.{with_itself}
 use Rattle.stream_shapes.specs.declared.construct.Construct.{Construct}
-use Rattle.stream_shapes.specs.Shape.{construct_of}
+use Rattle.stream_shapes.specs.inner.Shape.{construct_of}
 
 -- the same of a construct that is known
 pub fits_as : (found known : Construct) (n : ℕ) (parts : List Stream) (of : ValueType) → found ≡ known → Fits (construct_of found) (with_itself (construct_of found) n parts) of → Fits (construct_of known) (with_itself (construct_of known) n parts) of
 fits_as found known n parts of is h =
     let P : Construct → Type 0 = λ c. Fits (construct_of c) (with_itself (construct_of c) n parts) of in
     subst P is h
-
--- as many parts as operands vary
-pub operands_count : (os : List Operand) (parts : List Stream) (ts : List ValueType) → AreOperands os parts ts → varying_count os ≡ length parts
-operands_count [] [] ts h = refl
-operands_count [] (a ∷ parts) ts h = absurd h
-operands_count (Fixed s ∷ os) parts [] h = absurd h
-operands_count (Fixed s ∷ os) parts (t ∷ ts) h = operands_count os parts ts h.1
-operands_count (Varying ∷ os) [] ts h = absurd h
-operands_count (Varying ∷ os) (a ∷ parts) [] h = absurd h
-operands_count (Varying ∷ os) (a ∷ parts) (t ∷ ts) h = ap suc (operands_count os parts ts h.1)
 
 -- constructs of the type of their first part
 pub last_type : (parts : List Stream) (of : ValueType) (v : Stream) → Fits construct.Last parts of → v ≡ get_or parts 0 v → v.of ≡ of

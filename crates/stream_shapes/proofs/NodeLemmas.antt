@@ -6,21 +6,21 @@ use Rattle.tsl_value.specs.declared.place.Place.{Place}
 use Rattle.lift_func.specs.Tree.{Tree}
 use Rattle.spec_parser.specs.Tree as tree
 use Rattle.spec_parser.specs.Tree.{Expr, place_of}
-use Rattle.spec_parser.specs.Shape.{expr_of}
+use Rattle.spec_parser.specs.inner.Shape.{expr_of}
 use Rattle.spec_parser.specs.declared.tree.Node.{Node}
 use Rattle.spec_parser.specs.declared.tree.Node.TheVariants as node
 use Rattle.name_check.specs.declared.declaration.Declaration.{Declaration}
 use Rattle.name_check.specs.declared.declaration.Declaration.TheVariants as declaration
 use Rattle.name_check.specs.Builtin.{is_unit}
 use Rattle.name_check.specs.Scope.{Scope, meaning}
-use Rattle.name_check.specs.Shown.{nowhere}
+use Rattle.name_check.specs.inner.Shown.{nowhere}
 use Rattle.spec_meaning.specs.Occurrence.{Call, scope_at, stands_for}
 use Rattle.spec_meaning.specs.Shape as meaning
 use Rattle.spec_meaning.specs.Shape.{shape, expr_shape, with_parts, same_as, name_shape, input_number}
 use Rattle.stream_constructs.specs.Construct as construct
-use Rattle.macro_flatten.specs.Makes.{is_own}
+use Rattle.flatten_rules.specs.Makes.{is_own}
 use Rattle.stream_shapes.specs.declared.construct.Shape.{Shape}
-use Rattle.stream_shapes.specs.Shape.{HasShape, IsShapeAt, IsShapeWhere, IsShapeOf, is_chain}
+use Rattle.stream_shapes.specs.inner.Shape.{HasShape, IsShapeAt, IsShapeWhere, IsShapeOf, is_chain}
 use Rattle.stream_shapes.proofs.ShapeLemmas.{anywhere, over_at, same_where, same_no_own}
 
 -- ---- at a level that is known

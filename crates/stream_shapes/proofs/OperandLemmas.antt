@@ -7,7 +7,7 @@ use Rattle.stream_constructs.specs.declared.construct.Operand.{Operand}
 use Rattle.stream_constructs.specs.declared.construct.Operand.TheVariants as given
 use Rattle.stream_constructs.specs.Made.{operands_of, varying_of, varying_count}
 use Rattle.std.proofs.lemmas.List.{append-nil}
-use Rattle.stream_constructs.proofs.Steps.{drop_item}
+use Rattle.tsl_value.proofs.Lists.{left_at}
 
 operands_of-append : (xs ys : List Operand) → operands_of (xs ++ ys) ≡ operands_of xs ++ operands_of ys
 operands_of-append [] ys = refl
@@ -19,7 +19,7 @@ varying_of-append [] ys = refl
 varying_of-append (given.Fixed s ∷ xs) ys = varying_of-append xs ys
 varying_of-append (given.Varying a ∷ xs) ys = ap (λ os. a ∷ os) (varying_of-append xs ys)
 
--- What is put together so far, and what is left: the literals behind it, and the streams from a number on.
+-- What is put together so far, and what is left: the literals after it, and the streams from a number on.
 pub record AreGiven (literals : List (Option Scalar)) (streams : List Stream) (found : List Operand) (rest : List (Option Scalar)) (next : ℕ) : Type 0 where
   pub operands_are : operands_of found ++ map operand rest ≡ map operand literals
   pub streams_are : varying_of found ++ drop next streams ≡ streams
@@ -49,7 +49,7 @@ given_varying literals streams found more rest tail next o a h left is read adde
     let here : rest ≡ None ∷ tail = cc in
     let some : suc (varying_count (map operand tail)) ≡ length (drop next streams) = ap (λ os. varying_count (map operand os)) (sym here) ∙ h.count_is in
     let lt : next < length streams = omega (arith, length-drop next streams) in
-    let item : drop next streams ≡ a ∷ drop (next + 1) streams = drop_item streams next a lt read in
+    let item : drop next streams ≡ a ∷ drop (next + 1) streams = left_at streams next a lt read in
     let count : suc (varying_count (map operand tail)) ≡ suc (length (drop (next + 1) streams)) = some ∙ ap length item in
     record {
       operands_are =

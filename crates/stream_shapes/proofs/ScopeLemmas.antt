@@ -10,7 +10,7 @@ use Rattle.spec_parser.specs.Tree as tree
 use Rattle.name_check.specs.declared.declaration.Declaration.TheVariants as declaration
 use Rattle.name_check.specs.Scope.{Scope, Entry, meaning, top, inside, parameters_from, locals_from, count_in, is_function, are_values, functions_of}
 use Rattle.spec_meaning.specs.Occurrence.{Call, scope_at, params_of, body_of, block_of}
-use Rattle.function_bodies.specs.Calls.{IsFunction}
+use Rattle.function_bodies.specs.inner.Calls.{IsFunction}
 use Rattle.function_bodies.proofs.ScopeLemmas.{seen_in_function}
 
 of_parameters : (k : ℕ) (ps : List tree.Param) → functions_of (parameters_from k ps) ≡ []

@@ -7,10 +7,10 @@ use Rattle.std.proofs.lemmas.Option.{same_Some, none-some}
 use Rattle.std.proofs.lemmas.List.Elements.{All-from_recursion}
 use Rattle.std.proofs.lemmas.List.{append-nil}
 use Rattle.lift_func.specs.Tree.{Tree, node_count}
-use Rattle.lift_func.specs.Placed.{within}
+use Rattle.lift_func.specs.inner.Placed.{within}
 use Rattle.spec_parser.specs.Tree as tree
 use Rattle.spec_parser.specs.Tree.{Expr, Exprs}
-use Rattle.spec_parser.specs.Shape.{exprs_of}
+use Rattle.spec_parser.specs.inner.Shape.{exprs_of}
 use Rattle.name_check.specs.declared.declaration.Declaration.{Declaration}
 use Rattle.name_check.specs.declared.declaration.Declaration.TheVariants as declaration
 use Rattle.name_check.specs.Builtin.{is_lift}
@@ -19,14 +19,14 @@ use Rattle.spec_meaning.specs.Occurrence.{Call, Occurrence, scope_at, called}
 use Rattle.spec_meaning.specs.Function.{function_at, function_body}
 use Rattle.spec_meaning.specs.Shape as meaning
 use Rattle.spec_meaning.specs.Shape.{beside, with_parts, same_as, expressions, operands, is_part, is_delay, is_const, is_filter, const_shape, filter_shape, lift_by, lift_shape, function_named, declared_shape, call_shape}
-use Rattle.macro_flatten.specs.Makes.{is_own}
+use Rattle.flatten_rules.specs.Makes.{is_own}
 use Rattle.stream_constructs.specs.Construct as construct
 use Rattle.stream_constructs.specs.Construct.{Operand, Fixed, Varying, operand_trees}
 use Rattle.function_bodies.specs.Bodies.{AreBodies, too_large_bodies}
-use Rattle.function_bodies.specs.Calls.{IsFunction}
+use Rattle.function_bodies.specs.inner.Calls.{IsFunction}
 use Rattle.function_bodies.proofs.SizeLemmas.{few_nodes, body_is_there, call_is_there}
 use Rattle.stream_shapes.specs.declared.construct.Shape.{Shape}
-use Rattle.stream_shapes.specs.Shape.{HasShape, IsBeside, IsShapeAt, IsShapeWhere, filter_by}
+use Rattle.stream_shapes.specs.inner.Shape.{HasShape, IsBeside, IsShapeAt, IsShapeWhere, filter_by}
 use Rattle.stream_shapes.proofs.ScopeLemmas.{function_meant}
 
 -- ---- shapes

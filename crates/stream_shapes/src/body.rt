@@ -6,8 +6,9 @@ ghost use Rattle.spec_meaning.specs.Function.{operation_of};
 ghost use Rattle.spec_meaning.specs.Shape.{operand, one_operand, two_operands};
 ghost use Rattle.stream_constructs.specs.Construct.{operand_trees};
 ghost use Rattle.stream_constructs.specs.Equations as equations;
-ghost use Rattle.stream_shapes.specs.Operands.{operand_tree, argument_count};
+ghost use Rattle.stream_shapes.specs.inner.Operands.{operand_tree, argument_count};
 
+use function_bodies::operation::operation_of;
 use lift_func::body::{Binary, Body, Unary};
 use spec_parser::tree::Operator;
 use std::alloc::Global;
@@ -15,7 +16,7 @@ use tsl_value::memory::NoMemory;
 use tsl_value::scalar::Scalar;
 
 /// A literal, or else the argument of this number.
-fn operand_body(literal: Option<Scalar>, number: u32) -> Body
+fn operand_body(literal: Option<Scalar>, number: usize) -> Body
     ensures is { result ≡ operand_tree literal number }
     ensures single { node_count result ≡ 1 }
 {
@@ -26,7 +27,7 @@ fn operand_body(literal: Option<Scalar>, number: u32) -> Body
 }
 
 /// How many arguments an operand takes: none if it is a literal, and else one.
-fn argument_count(literal: &Option<Scalar>) -> u32
+fn argument_count(literal: &Option<Scalar>) -> usize
     ensures is { result ≡ argument_count literal.now }
     ensures few { result ≤ 1 }
 {
@@ -77,20 +78,6 @@ pub(crate) fn choice_body(
     let yes = operand_body(yes, second);
     let no = operand_body(no, third);
     Body::choice(alloc, condition, yes, no)
-}
-
-fn operation_of(operator: Operator) -> Binary
-    ensures { result ≡ operation_of operator }
-{
-    match operator {
-        Operator::Or => Binary::Or,
-        Operator::And => Binary::And,
-        Operator::Add => Binary::Add,
-        Operator::Subtract => Binary::Sub,
-        Operator::Multiply => Binary::Mul,
-        Operator::Divide => Binary::Div,
-        Operator::Remainder => Binary::Rem,
-    }
 }
 
 /// The body of an operator of a chain over its two operands: a literal, or None for the next argument.

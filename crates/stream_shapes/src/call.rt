@@ -3,16 +3,18 @@
 ghost use Rattle.std.specs.Prelude.{◌≡◌, ℕ, List, [], ◌∷◌, None, MatchOption, filter, IfOk};
 ghost use Rattle.std.specs.Option.{option_map};
 ghost use Rattle.spec_parser.specs.Tree as tree;
-ghost use Rattle.spec_parser.specs.Shape.{exprs_of};
+ghost use Rattle.spec_parser.specs.inner.Shape.{exprs_of};
 ghost use Rattle.name_check.specs.Scope.{meaning, seen};
 ghost use Rattle.spec_meaning.specs.Occurrence.{Call, scope_at};
 ghost use Rattle.spec_meaning.specs.Function.{function_at, function_body};
-ghost use Rattle.spec_meaning.specs.Shape.{call_shape, const_shape, declared_shape, filter_shape, lift_shape, function_named, plain_name, is_const as is_const_name, is_delay as is_delay_name, is_filter as is_filter_name, is_part, operands};
+ghost use Rattle.spec_meaning.specs.Shape.{call_shape, const_shape, declared_shape, filter_shape, lift_shape, function_named, plain_name};
+ghost use Rattle.spec_meaning.specs.Shape.{is_const as is_const_name, is_delay as is_delay_name, is_filter as is_filter_name, is_part};
+ghost use Rattle.spec_meaning.specs.Shape.{operands};
 ghost use Rattle.function_bodies.specs.Bodies.{AreBodies, too_large_bodies};
-ghost use Rattle.function_bodies.specs.Calls.{IsFunction};
+ghost use Rattle.function_bodies.specs.inner.Calls.{IsFunction};
 ghost use Rattle.stream_constructs.specs.Construct.{operand_trees};
 ghost use Rattle.stream_constructs.specs.Construct as construct;
-ghost use Rattle.stream_shapes.specs.Shape.{HasShape, IsShapeAt, IsShapeWhere, construct_of, filter_by};
+ghost use Rattle.stream_shapes.specs.inner.Shape.{HasShape, IsShapeAt, IsShapeWhere, construct_of, filter_by};
 
 use crate::construct::{Construct, Shape};
 use crate::leaf::{nothing, over};
@@ -115,7 +117,8 @@ fn function_named(scope: &Scope<'_>, function: &Expr) -> Option<Declaration>
 
 /// The item of the value function that a name stands for, if it stands for one.
 fn function_of(declaration: Option<Declaration>) -> Option<usize>
-    ensures { MatchOption result ((i : ℕ) → declaration ≡ Some (Declaration.Function i) → ⊥) (λ i. declaration ≡ Some (Declaration.Function i)) }
+    ensures { MatchOption result ((i : ℕ) → declaration ≡ Some (Declaration.Function i) → ⊥)
+        (λ i. declaration ≡ Some (Declaration.Function i)) }
 {
     match declaration {
         Some(Declaration::Function(number)) => Some(number),
@@ -133,7 +136,11 @@ fn function_lift<'a>(
     number: usize,
     streams: &'a [Expr],
 ) -> Result<Shape<'a>, NoMemory>
-    ensures { IfOk result (λ s. (items : List tree.Item) → AreBodies items functions.now → too_large_bodies items ≡ [] → IsFunction items number → HasShape s (construct.Lift (function_body items number)) streams.now) }
+    ensures { IfOk result (λ s. (items : List tree.Item)
+        → AreBodies items functions.now
+        → too_large_bodies items ≡ []
+        → IsFunction items number
+        → HasShape s (construct.Lift (function_body items number)) streams.now) }
 {
     match functions.body(number) {
         Some(body) => over(alloc, Construct::Lift(body.copy()?), streams),
@@ -166,7 +173,12 @@ fn function_call<'a>(
     number: usize,
     arguments: &'a [Expr],
 ) -> Result<Shape<'a>, NoMemory>
-    ensures { IfOk result (λ s. (items : List tree.Item) → AreBodies items functions.now → too_large_bodies items ≡ [] → IsFunction items number → HasShape s (construct.Signal (function_at items number (operand_trees 0 (operands arguments.now)))) (filter is_part arguments.now)) }
+    ensures { IfOk result (λ s. (items : List tree.Item)
+        → AreBodies items functions.now
+        → too_large_bodies items ≡ []
+        → IsFunction items number
+        → HasShape s (construct.Signal (function_at items number (operand_trees 0 (operands arguments.now))))
+        (filter is_part arguments.now)) }
 {
     let operands = operand_bodies(alloc, arguments)?;
     match functions.at(alloc, number, &operands)? {
@@ -183,7 +195,8 @@ fn declared_call<'a>(
     name: &str,
     arguments: &'a [Expr],
 ) -> Result<Shape<'a>, NoMemory>
-    ensures { IfOk result (IsShapeWhere functions.now scope.now (λ items cs. declared_shape items cs (meaning (scope_at items cs) name.now) (exprs_of arguments.now))) }
+    ensures { IfOk result (IsShapeWhere functions.now scope.now
+        (λ items cs. declared_shape items cs (meaning (scope_at items cs) name.now) (exprs_of arguments.now))) }
 {
     match function_of(scope.find(name)) {
         Some(number) => function_call(alloc, functions, number, arguments),
@@ -222,7 +235,8 @@ pub(crate) fn call<'a>(
     name: &str,
     arguments: &'a [Expr],
 ) -> Result<Shape<'a>, NoMemory>
-    ensures { IfOk result (IsShapeWhere functions.now scope.now (λ items cs. call_shape items cs name.now (exprs_of arguments.now) (plain_name name.now))) }
+    ensures { IfOk result (IsShapeWhere functions.now scope.now
+        (λ items cs. call_shape items cs name.now (exprs_of arguments.now) (plain_name name.now))) }
 {
     match plain_construct(name) {
         Some(construct) => over(alloc, construct, arguments),

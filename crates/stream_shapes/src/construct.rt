@@ -2,8 +2,8 @@
 
 use lift_func::body::Body;
 use spec_parser::tree::Expr;
-use stream_constructs::construct::Update;
 use tsl_value::scalar::{Scalar, ValueType};
+use vocabulary::signature::Update;
 
 /// What is made of the streams of some parts.
 #[derive(Drop)]

@@ -1,66 +1,42 @@
 // Calls of the functions whose names have a dot.
 
-ghost use Rattle.std.specs.Prelude.{◌≡◌, List, [], ◌∷◌, filter, IfOk};
-ghost use Rattle.lift_func.specs.Tree.{Tree};
+ghost use Rattle.std.specs.Prelude.{◌≡◌, List, filter, IfOk};
+ghost use Rattle.vocabulary.specs.Table.{role_of};
 ghost use Rattle.spec_parser.specs.Tree.{Expr as ExprTree};
 ghost use Rattle.spec_meaning.specs.Occurrence.{Call};
 ghost use Rattle.spec_meaning.specs.Function.{dotted_tree, no_tree};
-ghost use Rattle.spec_meaning.specs.Shape.{dotted_shape, is_part, operands};
-ghost use Rattle.function_bodies.specs.Around.{one_or, two_or};
+ghost use Rattle.spec_meaning.specs.Shape.{dotted_shape, role_shape, is_part, operands};
 ghost use Rattle.stream_constructs.specs.Construct.{operand_trees};
 ghost use Rattle.stream_constructs.specs.Construct as construct;
-ghost use Rattle.stream_shapes.specs.Shape.{HasShape, IsShapeAt, dotted_by};
+ghost use Rattle.stream_shapes.specs.inner.Shape.{HasShape, IsShapeAt, update_or};
 
 use crate::construct::Shape;
 use crate::operands::all;
 use crate::operation::{binary, signal, unary, update};
-use lift_func::body::{Binary, Body, Unary};
-use spec_parser::tree::{Dotted, Expr};
+use function_bodies::operation::{dotted_one, dotted_two};
+use lift_func::body::Body;
+use spec_parser::tree::Expr;
 use std::alloc::Global;
-use stream_constructs::construct::Update;
 use tsl_value::memory::NoMemory;
 use tsl_value::scalar::Scalar;
+use vocabulary::dotted::Dotted;
+use vocabulary::signature::{Role, Update};
+
+fn update_in(role: Role) -> Option<Update>
+    ensures { (cs : List Call) (es : List ExprTree) → role_shape cs role es ≡ update_or result role cs es }
+{
+    match role {
+        Role::Unary(_) => None,
+        Role::Binary(_) => None,
+        Role::Update(op) => Some(op),
+    }
+}
 
 /// The update that a function is, if it is one.
 fn update_of(function: Dotted) -> Option<Update>
-    ensures { (cs : List Call) (es : List ExprTree) → dotted_shape cs function es ≡ dotted_by result function cs es }
+    ensures { (cs : List Call) (es : List ExprTree) → dotted_shape cs function es ≡ update_or result (role_of function) cs es }
 {
-    match function {
-        Dotted::SetAdd => Some(Update::SetAdd),
-        Dotted::SetRemove => Some(Update::SetRemove),
-        Dotted::MapAdd => Some(Update::MapAdd),
-        Dotted::MapRemove => Some(Update::MapRemove),
-        Dotted::SetContains | Dotted::SetSize => None,
-        Dotted::MapContains | Dotted::MapGet | Dotted::MapSize => None,
-        Dotted::StringConcat | Dotted::StringSize => None,
-    }
-}
-
-/// The operation of a function of one operand, if it has one.
-fn one_operation(function: Dotted) -> Option<Unary>
-    ensures { (a : Tree) → dotted_tree function (a ∷ []) ≡ one_or result a }
-{
-    match function {
-        Dotted::SetSize | Dotted::MapSize => Some(Unary::Size),
-        Dotted::StringSize => Some(Unary::Length),
-        Dotted::SetAdd | Dotted::SetRemove | Dotted::SetContains => None,
-        Dotted::MapAdd | Dotted::MapRemove | Dotted::MapContains | Dotted::MapGet => None,
-        Dotted::StringConcat => None,
-    }
-}
-
-/// The operation of a function of two operands, if it has one.
-fn two_operation(function: Dotted) -> Option<Binary>
-    ensures { (a b : Tree) → dotted_tree function (a ∷ b ∷ []) ≡ two_or result a b }
-{
-    match function {
-        Dotted::SetContains | Dotted::MapContains => Some(Binary::Contains),
-        Dotted::MapGet => Some(Binary::Get),
-        Dotted::StringConcat => Some(Binary::Concat),
-        Dotted::SetAdd | Dotted::SetRemove | Dotted::SetSize => None,
-        Dotted::MapAdd | Dotted::MapRemove | Dotted::MapSize => None,
-        Dotted::StringSize => None,
-    }
+    update_in(function.role())
 }
 
 /// What an operation is at a number of operands that it does not take.
@@ -77,18 +53,19 @@ fn operation<'a>(
     function: Dotted,
     arguments: &'a [Expr],
 ) -> Result<Shape<'a>, NoMemory>
-    ensures { IfOk result (λ s. HasShape s (construct.Signal (dotted_tree function (operand_trees 0 (operands arguments.now)))) (filter is_part arguments.now)) }
+    ensures { IfOk result (λ s. HasShape s (construct.Signal (dotted_tree function (operand_trees 0 (operands arguments.now))))
+        (filter is_part arguments.now)) }
 {
     let Some((first, rest)) = arguments.split_first() else {
         return misfit(alloc, arguments);
     };
     let Some((second, rest)) = rest.split_first() else {
-        return match one_operation(function) {
+        return match dotted_one(function) {
             Some(operation) => unary(alloc, operation, first),
             None => misfit(alloc, arguments),
         };
     };
-    match (two_operation(function), rest.split_first()) {
+    match (dotted_two(function), rest.split_first()) {
         (Some(operation), None) => binary(alloc, operation, first, second),
         (Some(_), Some(_)) => misfit(alloc, arguments),
         (None, _) => misfit(alloc, arguments),

@@ -3,9 +3,9 @@
 ghost use Rattle.std.specs.Prelude.{[], IfOk};
 ghost use Rattle.spec_meaning.specs.Function.{literal};
 ghost use Rattle.spec_meaning.specs.Shape.{literal_shape, empty_shape};
-ghost use Rattle.spec_parser.specs.Shape.{expr_of};
-ghost use Rattle.name_check.specs.Shown.{nowhere};
-ghost use Rattle.stream_shapes.specs.Shape.{HasShape, IsShapeAt, construct_of};
+ghost use Rattle.spec_parser.specs.inner.Shape.{expr_of};
+ghost use Rattle.name_check.specs.inner.Shown.{nowhere};
+ghost use Rattle.stream_shapes.specs.inner.Shape.{HasShape, IsShapeAt, construct_of};
 
 use crate::construct::{Construct, Shape};
 use crate::literal::literal_of;

@@ -11,5 +11,3 @@ pub mod make;
 mod operands;
 mod operation;
 pub mod shape;
-#[cfg(test)]
-mod tests;

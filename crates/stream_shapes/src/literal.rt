@@ -1,40 +1,22 @@
 // Literals, which are no streams where they stand as operands.
 
-ghost use Rattle.std.specs.Prelude.{◌≡◌, IfOk, pos, neg_ℤ};
+ghost use Rattle.std.specs.Prelude.{◌≡◌, IfOk};
 ghost use Rattle.spec_meaning.specs.Function.{literal};
 ghost use Rattle.spec_meaning.specs.Shape.{is_part};
-ghost use Rattle.spec_parser.specs.Shape.{expr_of};
-ghost use Rattle.name_check.specs.Shown.{nowhere};
+ghost use Rattle.spec_parser.specs.inner.Shape.{expr_of};
+ghost use Rattle.name_check.specs.inner.Shown.{nowhere};
 
 use spec_parser::tree::{Expr, Node};
 use tsl_value::memory::NoMemory;
 use tsl_value::scalar::Scalar;
-
-/// A number as a value. The lexer lets no larger one through.
-fn positive(number: u64) -> Result<i64, NoMemory>
-    ensures { IfOk result (λ z. z ≡ pos number) }
-{
-    match i64::try_from(number) {
-        Ok(number) => Ok(number),
-        Err(_) => Err(NoMemory),
-    }
-}
-
-/// A number with a minus before it.
-fn negative(number: u64) -> Result<i64, NoMemory>
-    ensures { IfOk result (λ z. z ≡ neg_ℤ (pos number)) }
-{
-    let number = positive(number)?;
-    Ok(-number)
-}
 
 /// The value of one level, if it is a literal.
 pub(crate) fn literal_of(node: &Node) -> Result<Option<Scalar>, NoMemory>
     ensures { IfOk result (λ s. s ≡ literal (expr_of nowhere node.now)) }
 {
     match node {
-        Node::Number(number) => Ok(Some(Scalar::Int(positive(*number)?))),
-        Node::Negative(number) => Ok(Some(Scalar::Int(negative(*number)?))),
+        Node::Number(number) => Ok(Some(Scalar::Int(number.to_int()))),
+        Node::Negative(number) => Ok(Some(Scalar::Int(number.to_negative()))),
         Node::Text(text) => Ok(Some(Scalar::Text(text.copy()?))),
         Node::Boolean(value) => Ok(Some(Scalar::Bool(*value))),
         _ => Ok(None),

@@ -2,12 +2,12 @@
 
 ghost use Rattle.std.specs.Prelude.{◌≡◌, ◌++◌, true, length, map, IfOk, OnOk, IfErr};
 ghost use Rattle.spec_meaning.specs.Shape.{operand};
-ghost use Rattle.macro_flatten.specs.Makes.{choice_operands, is_own, last_of, with_itself};
+ghost use Rattle.flatten_rules.specs.Makes.{choice_operands, is_own, last_of, with_itself};
 ghost use Rattle.stream_constructs.specs.Agree.{Fits, FitsChoice};
 ghost use Rattle.stream_constructs.specs.Equations.{choice_equations, own_equations};
 ghost use Rattle.stream_constructs.specs.Limits.{IsRefusal};
 ghost use Rattle.stream_constructs.specs.Made.{operands_of, varying_count, varying_of, with_equations};
-ghost use Rattle.stream_shapes.specs.Shape.{construct_of};
+ghost use Rattle.stream_shapes.specs.inner.Shape.{construct_of};
 
 use crate::construct::Construct;
 use crate::literal::literal;
@@ -53,9 +53,12 @@ pub fn make(
 ) -> Result<Stream, MakeFault>
     requires fits { Fits (construct_of construct) (with_itself (construct_of construct) (length maker.old.equations) parts.now) of }
     requires own { is_own (construct_of construct) ≡ true }
-    ensures made { OnOk result (maker.new ≡ with_equations maker.old (own_equations place of (length maker.old.equations) (construct_of construct) (with_itself (construct_of construct) (length maker.old.equations) parts.now))) }
-    ensures stream { IfOk result (λ s. s ≡ last_of (length maker.old.equations) (own_equations place of (length maker.old.equations) (construct_of construct) (with_itself (construct_of construct) (length maker.old.equations) parts.now)) of) }
-    ensures refused { IfErr result (IsRefusal (maker.old.equations ++ own_equations place of (length maker.old.equations) (construct_of construct) (with_itself (construct_of construct) (length maker.old.equations) parts.now))) }
+    ensures made { OnOk result (maker.new ≡ with_equations maker.old (own_equations place of (length maker.old.equations)
+        (construct_of construct) (with_itself (construct_of construct) (length maker.old.equations) parts.now))) }
+    ensures stream { IfOk result (λ s. s ≡ last_of (length maker.old.equations) (own_equations place of (length maker.old.equations)
+        (construct_of construct) (with_itself (construct_of construct) (length maker.old.equations) parts.now)) of) }
+    ensures refused { IfErr result (IsRefusal (maker.old.equations ++ own_equations place of (length maker.old.equations)
+        (construct_of construct) (with_itself (construct_of construct) (length maker.old.equations) parts.now))) }
 {
     match construct {
         Construct::Nil => maker.nil(place, of),
@@ -88,9 +91,12 @@ pub fn make_choice(
     parts: &[Stream],
 ) -> Result<Stream, MakeFault>
     requires { FitsChoice (map operand operands.items) parts.now of }
-    ensures made { OnOk result (maker.new ≡ with_equations maker.old (choice_equations place of (length maker.old.equations) (map operand operands.items) parts.now)) }
-    ensures stream { IfOk result (λ s. s ≡ last_of (length maker.old.equations) (choice_equations place of (length maker.old.equations) (map operand operands.items) parts.now) of) }
-    ensures refused { IfErr result (IsRefusal (maker.old.equations ++ choice_equations place of (length maker.old.equations) (map operand operands.items) parts.now)) }
+    ensures made { OnOk result (maker.new ≡ with_equations maker.old
+        (choice_equations place of (length maker.old.equations) (map operand operands.items) parts.now)) }
+    ensures stream { IfOk result (λ s. s ≡ last_of (length maker.old.equations)
+        (choice_equations place of (length maker.old.equations) (map operand operands.items) parts.now) of) }
+    ensures refused { IfErr result (IsRefusal (maker.old.equations
+        ++ choice_equations place of (length maker.old.equations) (map operand operands.items) parts.now)) }
 {
     let operands = with_streams(*operands.allocator(), operands, parts)?;
     maker.choice(place, &operands, of)

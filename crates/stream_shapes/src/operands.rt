@@ -3,7 +3,7 @@
 ghost use Rattle.std.specs.Prelude.{◌≡◌, IfOk, filter, map};
 ghost use Rattle.spec_meaning.specs.Shape.{is_part, operand, operands};
 ghost use Rattle.stream_constructs.specs.Construct.{operand_trees};
-ghost use Rattle.stream_shapes.specs.Shape.{expressions_in};
+ghost use Rattle.stream_shapes.specs.inner.Shape.{expressions_in};
 
 use crate::literal::{literal, varies};
 use lift_func::body::Body;
@@ -50,19 +50,18 @@ pub(crate) fn literals(alloc: Global, expressions: &[Expr]) -> Result<Vec<Option
     Ok(found)
 }
 
-/// What expressions are as operands in a body: a literal is itself, and the others are arguments. No source has more of them than a
-/// body can number.
+/// What expressions are as operands in a body: a literal is itself, and the others are arguments.
 pub(crate) fn operand_bodies(alloc: Global, expressions: &[Expr]) -> Result<Vec<Body>, NoMemory>
     ensures { IfOk result (λ bodies. bodies.items ≡ operand_trees 0 (operands expressions.now)) }
 {
     let mut bodies = Vec::new(alloc);
-    let mut number: u32 = 0;
+    let mut number = 0;
     for expression in expressions {
         match literal(expression)? {
             Some(s) => bodies.push(Body::literal(s))?,
             None => {
                 bodies.push(Body::argument(number))?;
-                number = number.checked_add(1).ok_or(NoMemory)?;
+                number += 1;
             }
         }
     }

@@ -1,23 +1,22 @@
 // Operations on current values, and updates.
 
-ghost use Rattle.std.specs.Prelude.{◌≡◌, [], ◌∷◌, filter, IfOk};
+ghost use Rattle.std.specs.Prelude.{[], ◌∷◌, filter, IfOk};
 ghost use Rattle.lift_func.specs.Tree.{One, Two};
-ghost use Rattle.spec_meaning.specs.Function.{comparison_of};
 ghost use Rattle.spec_meaning.specs.Shape.{is_part, operands, one_operand, two_operands};
 ghost use Rattle.stream_constructs.specs.Construct.{operand_trees};
 ghost use Rattle.stream_constructs.specs.Construct as construct;
 ghost use Rattle.stream_constructs.specs.Equations as equations;
-ghost use Rattle.stream_shapes.specs.Shape.{HasShape, expressions_in};
+ghost use Rattle.stream_shapes.specs.inner.Shape.{HasShape, expressions_in};
 
 use crate::body::{choice_body, one_body, two_body};
 use crate::construct::{Construct, Shape};
 use crate::literal::literal;
 use crate::operands::{all, literals, varying};
 use lift_func::body::{Binary, Body, Unary};
-use spec_parser::tree::{Comparison, Expr};
+use spec_parser::tree::Expr;
 use std::alloc::Global;
-use stream_constructs::construct::Update;
 use tsl_value::memory::NoMemory;
+use vocabulary::signature::Update;
 
 /// A body over expressions, of which those are parts that are no literals.
 pub(crate) fn signal<'a>(
@@ -38,7 +37,8 @@ pub(crate) fn unary<'a>(
     operation: Unary,
     operand: &'a Expr,
 ) -> Result<Shape<'a>, NoMemory>
-    ensures { IfOk result (λ s. HasShape s (construct.Signal (one_operand (One operation) (operand_trees 0 (operands (operand.now ∷ []))))) (filter is_part (operand.now ∷ []))) }
+    ensures { IfOk result (λ s. HasShape s (construct.Signal (one_operand (One operation) (operand_trees 0 (operands (operand.now ∷ [])))))
+        (filter is_part (operand.now ∷ []))) }
 {
     let body = one_body(alloc, operation, literal(operand)?)?;
     signal(alloc, body, &[operand])
@@ -50,7 +50,9 @@ pub(crate) fn binary<'a>(
     left: &'a Expr,
     right: &'a Expr,
 ) -> Result<Shape<'a>, NoMemory>
-    ensures { IfOk result (λ s. HasShape s (construct.Signal (two_operands (Two operation) (operand_trees 0 (operands (left.now ∷ right.now ∷ []))))) (filter is_part (left.now ∷ right.now ∷ []))) }
+    ensures { IfOk result (λ s. HasShape s
+        (construct.Signal (two_operands (Two operation) (operand_trees 0 (operands (left.now ∷ right.now ∷ [])))))
+        (filter is_part (left.now ∷ right.now ∷ []))) }
 {
     let body = two_body(alloc, operation, literal(left)?, literal(right)?)?;
     signal(alloc, body, &[left, right])
@@ -62,7 +64,9 @@ pub(crate) fn choice<'a>(
     yes: &'a Expr,
     no: &'a Expr,
 ) -> Result<Shape<'a>, NoMemory>
-    ensures { IfOk result (λ s. HasShape s (construct.Signal (equations.choice (operand_trees 0 (operands (condition.now ∷ yes.now ∷ no.now ∷ []))))) (filter is_part (condition.now ∷ yes.now ∷ no.now ∷ []))) }
+    ensures { IfOk result (λ s. HasShape s
+        (construct.Signal (equations.choice (operand_trees 0 (operands (condition.now ∷ yes.now ∷ no.now ∷ [])))))
+        (filter is_part (condition.now ∷ yes.now ∷ no.now ∷ []))) }
 {
     let body = choice_body(alloc, literal(condition)?, literal(yes)?, literal(no)?)?;
     signal(alloc, body, &[condition, yes, no])
@@ -81,17 +85,4 @@ pub(crate) fn update<'a>(
         construct: Construct::Update(op, operands),
         parts: varying(alloc, &expressions)?,
     })
-}
-
-pub(crate) fn comparison_of(comparison: Comparison) -> Binary
-    ensures { result ≡ comparison_of comparison }
-{
-    match comparison {
-        Comparison::Same => Binary::Eq,
-        Comparison::Differs => Binary::Ne,
-        Comparison::AtMost => Binary::Le,
-        Comparison::AtLeast => Binary::Ge,
-        Comparison::Below => Binary::Lt,
-        Comparison::Above => Binary::Gt,
-    }
 }

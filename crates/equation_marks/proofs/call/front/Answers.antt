@@ -1,5 +1,5 @@
 use Rattle.std.proofs.Common.{◌≡◌, [], ◌∷◌, ◌++◌, rules, sym, ap, ◌∙◌}
-use Rattle.equation_marks.specs.Calls.{front}
+use Rattle.equation_marks.specs.inner.Calls.{front}
 use Rattle.equation_marks.proofs.PartsLemmas.{front-append}
 use Rattle.equation_marks.proofs.call.front.Goals as goal
 

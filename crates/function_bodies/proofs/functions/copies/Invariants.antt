@@ -1,5 +1,5 @@
 use Rattle.std.proofs.Common.{◌≡◌, map, take}
-use Rattle.lift_func.specs.Placed.{within}
+use Rattle.lift_func.specs.inner.Placed.{within}
 use Rattle.function_bodies.proofs.functions.copies.Given as goal
 
 abbrev pub invariant-loop-body : goal.invariant-loop-body

@@ -1,11 +1,14 @@
 use Rattle.std.proofs.Common.{map, arith}
 use Rattle.std.proofs.lemmas.List.{length-map}
 use Rattle.std.proofs.lemmas.Result.{err_from_is_err_and}
-use Rattle.spec_parser.specs.Shape.{item_of}
+use Rattle.spec_parser.specs.inner.Shape.{item_of}
 use Rattle.call_limits.proofs.ChainLemmas.{macros_limited}
 use Rattle.spec_reader.proofs.SourceLemmas.{flat_refused, make_refused, has_system}
-use Rattle.spec_reader.proofs.TypedLemmas.{is_checked, has_outputs, have_short_texts, few_items, are_plain}
+use Rattle.spec_reader.proofs.TypedLemmas.{is_checked, has_outputs, have_short_texts, has_few_nodes, few_items, are_plain}
 use Rattle.spec_reader.proofs.read.flat_of.Goals as goal
+
+pub bodies_of-requires-clause-few : goal.bodies_of-requires-clause-few
+bodies_of-requires-clause-few c = has_few_nodes c.requires.typed.0 _ _ _ c.items-items.ensures c.requires.typed.1
 
 pub bodies_of-requires-clause-plain : goal.bodies_of-requires-clause-plain
 bodies_of-requires-clause-plain c = are_plain c.requires.typed.0 _ _ _ c.items-items.ensures c.requires.typed.1

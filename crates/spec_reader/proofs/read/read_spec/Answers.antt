@@ -1,8 +1,12 @@
 use Rattle.std.proofs.lemmas.Result.{err_from_is_err_and}
-use Rattle.spec_parser.specs.Shape.{items_of}
-use Rattle.expr_types.specs.Shown.{kinds_of}
+use Rattle.spec_parser.specs.inner.Shape.{items_of}
+use Rattle.definition_cycles.proofs.CountLemmas.{few_nodes}
+use Rattle.expr_types.specs.inner.Shown.{kinds_of}
 use Rattle.spec_reader.proofs.SourceLemmas.{tree_typed, spells_something}
 use Rattle.spec_reader.proofs.read.read_spec.Goals as goal
+
+pub check-requires : goal.check-requires
+check-requires c = few_nodes c.args.source.now c.in_ok-tokens.tokens (items_of c.in_ok-tree.tree) c.in_ok-tokens.ensures.tokens c.in_ok-tree.ensures.tree
 
 pub returns-in_err-flat-clause-fault : goal.returns-in_err-flat-clause-fault
 returns-in_err-flat-clause-fault c =

@@ -1,8 +1,8 @@
 use Rattle.std.proofs.Common.{◌∙◌, refl, ap, sym}
 use Rattle.std.proofs.lemmas.Result.{IfOk-weaker}
-use Rattle.spec_parser.specs.Shape.{exprs_of}
+use Rattle.spec_parser.specs.inner.Shape.{exprs_of}
 use Rattle.spec_meaning.specs.Shape.{call_shape, with_parts}
-use Rattle.stream_shapes.specs.Shape.{construct_of}
+use Rattle.stream_shapes.specs.inner.Shape.{construct_of}
 use Rattle.stream_shapes.proofs.ShapeLemmas.{anywhere, over_at, same_where, listed}
 use Rattle.stream_shapes.proofs.call.call.Goals as goal
 

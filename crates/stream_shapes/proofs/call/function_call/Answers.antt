@@ -1,7 +1,7 @@
 use Rattle.std.proofs.Common.{◌≡◌, ap, ◌∙◌}
 use Rattle.spec_meaning.specs.Shape.{operands}
 use Rattle.stream_constructs.specs.Construct.{operand_trees}
-use Rattle.lift_func.specs.Placed.{within}
+use Rattle.lift_func.specs.inner.Placed.{within}
 use Rattle.spec_meaning.specs.Function.{function_at}
 use Rattle.stream_shapes.proofs.ShapeLemmas.{call_found}
 use Rattle.stream_shapes.proofs.call.function_call.Goals as goal

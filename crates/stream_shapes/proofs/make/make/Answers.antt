@@ -1,13 +1,14 @@
 use Rattle.std.proofs.Common.{◌≡◌, length, map, rules}
 use Rattle.spec_meaning.specs.Shape.{operand}
 use Rattle.stream_shapes.specs.declared.construct.Construct.TheVariants as given
-use Rattle.stream_shapes.proofs.MakeLemmas.{fits_as, operands_count, last_type, merge_type, filter_type, empty_type}
+use Rattle.stream_constructs.proofs.LiftingHangs.{operands_vary}
+use Rattle.stream_shapes.proofs.MakeLemmas.{fits_as, last_type, merge_type, filter_type, empty_type}
 use Rattle.stream_shapes.proofs.make.make.Goals as goal
 
 pub with_streams-requires : goal.with_streams-requires
 with_streams-requires c =
     let h = fits_as c.args.construct (given.Update c.in-Update.op c.in-Update.literals) (length c.args.maker.now.equations) c.args.parts.now c.args.of c.in-Update.is c.requires.fits in
-    operands_count (map operand c.in-Update.literals.items) c.args.parts.now h.0 h.1
+    operands_vary (map operand c.in-Update.literals.items) c.args.parts.now h.0 h.1
 
 pub returns-in-Empty-clause-stream : goal.returns-in-Empty-clause-stream
 returns-in-Empty-clause-stream c =

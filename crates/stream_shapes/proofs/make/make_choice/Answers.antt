@@ -1,8 +1,8 @@
 use Rattle.std.proofs.Common.{[], ◌∷◌, map}
 use Rattle.flat_core.specs.Typed.{bool_type}
 use Rattle.spec_meaning.specs.Shape.{operand}
-use Rattle.stream_shapes.proofs.MakeLemmas.{operands_count}
+use Rattle.stream_constructs.proofs.LiftingHangs.{operands_vary}
 use Rattle.stream_shapes.proofs.make.make_choice.Goals as goal
 
 pub with_streams-requires : goal.with_streams-requires
-with_streams-requires c = operands_count (map operand c.args.operands.items) c.args.parts.now (bool_type ∷ c.args.of ∷ c.args.of ∷ []) c.requires.0
+with_streams-requires c = operands_vary (map operand c.args.operands.items) c.args.parts.now (bool_type ∷ c.args.of ∷ c.args.of ∷ []) c.requires.0

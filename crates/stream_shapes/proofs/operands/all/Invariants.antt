@@ -1,5 +1,5 @@
 use Rattle.std.proofs.Common.{◌≡◌, ◌++◌, drop}
-use Rattle.stream_shapes.specs.Shape.{expressions_in}
+use Rattle.stream_shapes.specs.inner.Shape.{expressions_in}
 use Rattle.stream_shapes.proofs.operands.all.Given as goal
 
 abbrev pub invariant-loop-expression : goal.invariant-loop-expression

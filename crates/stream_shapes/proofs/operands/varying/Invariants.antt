@@ -1,6 +1,6 @@
 use Rattle.std.proofs.Common.{◌≡◌, ◌++◌, drop, filter}
 use Rattle.spec_meaning.specs.Shape.{is_part}
-use Rattle.stream_shapes.specs.Shape.{expressions_in}
+use Rattle.stream_shapes.specs.inner.Shape.{expressions_in}
 use Rattle.stream_shapes.proofs.operands.varying.Given as goal
 
 abbrev pub invariant-loop-expression : goal.invariant-loop-expression

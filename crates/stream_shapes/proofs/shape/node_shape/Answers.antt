@@ -1,9 +1,9 @@
 use Rattle.std.proofs.Common.{◌∙◌, ap, sym}
 use Rattle.std.proofs.lemmas.Result.{IfOk-weaker}
-use Rattle.spec_parser.specs.Shape.{expr_of, exprs_of}
+use Rattle.spec_parser.specs.inner.Shape.{expr_of, exprs_of}
 use Rattle.spec_parser.specs.declared.tree.Node.TheVariants as node
 use Rattle.spec_parser.specs.Tree as tree
-use Rattle.name_check.specs.Shown.{nowhere}
+use Rattle.name_check.specs.inner.Shown.{nowhere}
 use Rattle.spec_meaning.specs.Function.{literal}
 use Rattle.spec_meaning.specs.Shape.{expr_shape, literal_shape, empty_shape, dotted_shape, call_shape, plain_name}
 use Rattle.stream_shapes.proofs.ShapeLemmas.{listed}

@@ -6,23 +6,24 @@ use Rattle.tsl_value.specs.declared.place.Place.{Place}
 use Rattle.spec_parser.specs.Tree as tree
 use Rattle.spec_parser.specs.Tree.{Expr, Definition, place_of}
 use Rattle.spec_parser.specs.declared.tree.Level.{Level}
-use Rattle.spec_parser.specs.Shape.{expr_of, exprs_of, links_in, item_of, definitions_of, params_in, size_of, size_of_exprs}
-use Rattle.spec_parser.specs.Shape as code
+use Rattle.spec_parser.specs.inner.Shape.{expr_of, exprs_of, links_in, item_of, definitions_of, params_in, size_of, size_of_exprs}
+use Rattle.spec_parser.specs.inner.Shape as code
 use Rattle.name_check.specs.Scope.{seen}
-use Rattle.name_check.specs.Steps.{local_body}
-use Rattle.name_check.proofs.SizeLemmas.{argument_smaller, link_smaller}
-use Rattle.expr_types.specs.Shown.{around_of, kinds_of}
+use Rattle.name_check.specs.inner.Steps.{local_body}
+use Rattle.spec_parser.proofs.Sizes.{argument_smaller, link_smaller}
+use Rattle.expr_types.specs.inner.Shown.{around_of, kinds_of}
 use Rattle.spec_meaning.specs.Occurrence.{result_of}
 use Rattle.spec_meaning.specs.Shape.{is_part}
-use Rattle.equation_marks.specs.Marks.{marks, link_marks, body_marks, signal_count, varying_count}
-use Rattle.equation_marks.specs.Counted.{counted, choice_count, dotted_count}
-use Rattle.equation_marks.specs.Counters.{calls_of}
-use Rattle.equation_marks.specs.Calls.{callee_marks}
+use Rattle.equation_marks.specs.Marks.{marks, link_marks, body_marks, varying_count}
+use Rattle.equation_marks.specs.inner.Counted.{counted, choice_count, dotted_count, signal_count}
+use Rattle.equation_marks.specs.inner.Counters.{calls_of}
+use Rattle.equation_marks.specs.inner.Calls.{callee_marks}
 use Rattle.equation_marks.proofs.PartsLemmas.{small_parts}
 use Rattle.equation_marks.proofs.Weights.{items_weight, block_weight, body_weight, definition_lighter, body_within, one_call}
 use Rattle.equation_marks.proofs.CountLemmas.{call_counted, no_more, alone_counted, chain_counted, link_counted, links_counted, if_equal, if_at, if_each, same_operand, if_counted, compare_counted, dotted_counted}
 use Rattle.equation_marks.proofs.InsideLemmas.{inside_at, inside_counted}
 use Rattle.equation_marks.proofs.count.Counter.+counting.Goals as goal
+use Rattle.equation_marks.specs.declared.own.TheConstants.{ENOUGH}
 
 -- ---- parts are smaller
 pub all-expression-requires : goal.all-expression-requires
@@ -81,7 +82,7 @@ expression-returns-in_ok-count-in-If-3 t c =
     let no = c.in-If.no.value in
     let condition = c.in-If.condition.value in
     let is : tree.If (place_of e) condition yes no ≡ e = ap (expr_of (place_of e)) (sym c.in-If.is) ∙ c.node.ensures in
-    let own = c.choice-own.ensures ∙ (λ i. min (choice_count (c.in_ok-is_aggregate-in-If.ensures i) (c.deref.ensures i ∷ c.deref-in-If.ensures i ∷ c.deref-in-If-2.ensures i ∷ [])) 4097) in
+    let own = c.choice-own.ensures ∙ (λ i. min (choice_count (c.in_ok-is_aggregate-in-If.ensures i) (c.deref.ensures i ∷ c.deref-in-If.ensures i ∷ c.deref-in-If-2.ensures i ∷ [])) ENOUGH) in
     if_counted at call (place_of e) e condition yes no c.args.count _ _ _ c.choice-own.result c.more.result is
     (same_operand at call _ _ _ _ c.in_ok-count-in-If.ensures c.deref-in-If-3.ensures)
     (same_operand at call _ _ _ _ c.in_ok-count-in-If-2.ensures c.deref-in-If-4.ensures)
@@ -95,7 +96,7 @@ expression-returns-in_ok-count-in-Compare-2 t c =
     let left = c.in-Compare.left.value in
     let right = c.in-Compare.right.value in
     let is : tree.Compare (place_of e) c.in-Compare.field-0 left right ≡ e = ap (expr_of (place_of e)) (sym c.in-Compare.is) ∙ c.node.ensures in
-    let own = c.signal_of_two.ensures ∙ (λ i. min (signal_count (varying_count (c.deref-in-Compare-3.ensures i ∷ c.deref-in-Compare-4.ensures i ∷ []))) 4097) in
+    let own = c.signal_of_two.ensures ∙ (λ i. min (signal_count (varying_count (c.deref-in-Compare-3.ensures i ∷ c.deref-in-Compare-4.ensures i ∷ []))) ENOUGH) in
     compare_counted at call (place_of e) c.in-Compare.field-0 e left right c.args.count _ _ c.signal_of_two.result c.more-in-Compare.result is
     (same_operand at call _ _ _ _ c.in_ok-count-in-Compare.ensures c.deref-in-Compare.ensures)
     (same_operand at call _ _ _ _ c.in_ok-count-in-Compare-2.ensures c.deref-in-Compare-2.ensures) own c.more-in-Compare.ensures
@@ -119,7 +120,7 @@ expression-returns-in_ok-count-in-CallDotted t c =
     let is : tree.CallDotted (place_of e) c.in-CallDotted.function (exprs_of es) ≡ e = ap (expr_of (place_of e)) (sym c.in-CallDotted.is) ∙ c.node.ensures in
     dotted_counted at call (place_of e) c.in-CallDotted.function e es c.args.count _ c.dotted_over.result c.more-in-CallDotted.result is
     (c.in_ok-count-in-CallDotted.ensures ∙ ap (λ l. counted c.args.count (flat_map (marks at call) (filter is_part l))) c.deref-in-CallDotted.ensures.value)
-    (c.dotted_over.ensures ∙ ap (λ l. min (dotted_count c.in-CallDotted.function l) 4097) c.deref-in-CallDotted-2.ensures.value)
+    (c.dotted_over.ensures ∙ ap (λ l. min (dotted_count c.in-CallDotted.function l) ENOUGH) c.deref-in-CallDotted-2.ensures.value)
     c.more-in-CallDotted.ensures
 
 -- ---- chains
@@ -143,7 +144,7 @@ chain-returns-in_ok-count-in-Some-2 t c =
 
 pub links-loop-link-preserved : goal.links-loop-link-preserved
 links-loop-link-preserved t c =
-    λ p. link_counted (around_of c.args.at.now) (calls_of c.args.self.now c.args.deep) p c.args.links.now c.loop-link.link-index c.link-item.result c.loop-link.count _ _ _ _ c.loop-link-test.true c.link-item.is (c.loop-link.invariant p) c.in_ok-count.ensures c.signal_behind.ensures c.more-count.ensures
+    λ p. link_counted (around_of c.args.at.now) (calls_of c.args.self.now c.args.deep) p c.args.links.now c.loop-link.link-index c.link-item.result c.loop-link.count _ _ _ _ c.loop-link-test.true c.link-item.is (c.loop-link.invariant p) c.in_ok-count.ensures c.signal_after.ensures c.more-count.ensures
 
 pub links-returns : goal.links-returns
 links-returns t c =

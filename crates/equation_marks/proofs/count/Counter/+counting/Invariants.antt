@@ -1,13 +1,13 @@
 use Rattle.std.proofs.Common.{◌≡◌, ℕ, ◌+◌, ◌*◌, map, drop}
 use Rattle.std.specs.List.{flat_map, filter}
 use Rattle.tsl_value.specs.declared.place.Place.{Place}
-use Rattle.spec_parser.specs.Shape.{definitions_of, exprs_of, links_in, item_of, size_of, size_of_exprs, size_of_links}
-use Rattle.spec_parser.specs.Shape as code
-use Rattle.expr_types.specs.Shown.{around_of}
+use Rattle.spec_parser.specs.inner.Shape.{definitions_of, exprs_of, links_in, item_of, size_of, size_of_exprs, size_of_links}
+use Rattle.spec_parser.specs.inner.Shape as code
+use Rattle.expr_types.specs.inner.Shown.{around_of}
 use Rattle.spec_meaning.specs.Shape.{is_part}
 use Rattle.equation_marks.specs.Marks.{marks, link_marks, block_marks}
-use Rattle.equation_marks.specs.Counted.{counted}
-use Rattle.equation_marks.specs.Counters.{calls_of}
+use Rattle.equation_marks.specs.inner.Counted.{counted}
+use Rattle.equation_marks.specs.inner.Counters.{calls_of}
 use Rattle.equation_marks.specs.declared.count.Counter.{Counter}
 use Rattle.equation_marks.proofs.Weights.{items_weight, block_weight, body_weight}
 use Rattle.equation_marks.proofs.count.Counter.+counting.Given as goal

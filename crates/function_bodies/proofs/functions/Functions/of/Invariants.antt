@@ -1,6 +1,6 @@
 use Rattle.std.proofs.Common.{map, take}
-use Rattle.spec_parser.specs.Shape.{item_of}
-use Rattle.function_bodies.specs.Made.{AreMade}
+use Rattle.spec_parser.specs.inner.Shape.{item_of}
+use Rattle.function_bodies.specs.inner.Made.{AreMade}
 use Rattle.function_bodies.proofs.functions.Functions.of.Given as goal
 
 abbrev pub invariant-loop-number : goal.invariant-loop-number

@@ -6,7 +6,7 @@ use Rattle.stream_constructs.specs.Equations.{equation, numbers, lifting, lifted
 use Rattle.stream_constructs.specs.Limits.{IsRefusal}
 use Rattle.stream_constructs.specs.Made.{with_equations, operands_of, varying_of}
 use Rattle.stream_constructs.proofs.Hangs.{lifted_length}
-use Rattle.stream_constructs.proofs.Steps.{refused_early, refused_behind, varying_length}
+use Rattle.stream_constructs.proofs.Steps.{refused_early, refused_after, varying_length}
 use Rattle.stream_constructs.proofs.maker.Maker.over_operands.Goals as goal
 
 pub returns-in_err-lifted-clause-refused : goal.returns-in_err-lifted-clause-refused
@@ -44,5 +44,5 @@ returns-in_err-args-clause-refused c =
     let first_is = c.first_id.ensures ∙ ap first_number (c.deref-2.ensures.value ∙ c.in_ok-lifted.ensures.streams ∙ ap (lifted n) same) in
     let last = equation place c.args.op (operand_numbers (n + length lift) os (numbers up)) c.args.of ∷ [] in
     let P : ℕ → Type 0 = λ f. IsRefusal (c.lift_parts.new.self.equations ++ literal_equations place f os) c.in_err-args.field-0.0 in
-    refused_behind c.from_residual-in_err-args.result p.0 _ s c.lift_parts.new.self lift (literal_equations place (first_number up) os) last _ p.1 p.2
+    refused_after c.from_residual-in_err-args.result p.0 _ s c.lift_parts.new.self lift (literal_equations place (first_number up) os) last _ p.1 p.2
     (c.in_ok-lifted.ensures.made ∙ ap (λ ps. with_equations s (lifting place n ps)) same) refl (subst P first_is c.in_err-args.ensures.refused)

@@ -1,4 +1,0 @@
-// The flat system of a checked specification is complete.
-#![tactic(auto)]
-
-pub mod laws;

@@ -1,0 +1,3 @@
+pub mod Laws
+pub mod OneFlat
+pub mod Complete

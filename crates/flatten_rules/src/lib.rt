@@ -1,0 +1,2 @@
+//! The flat system of a specification.
+#![tactic(auto)]

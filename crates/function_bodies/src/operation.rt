@@ -1,0 +1,72 @@
+// The operations that operators, comparisons and functions with a dot stand for.
+
+ghost use Rattle.std.specs.Prelude.{◌≡◌, [], ◌∷◌};
+ghost use Rattle.lift_func.specs.Tree.{Tree};
+ghost use Rattle.spec_meaning.specs.Function.{comparison_of, dotted_tree, operation_of, role_tree};
+ghost use Rattle.function_bodies.specs.inner.Around.{one_or, two_or};
+
+use lift_func::body::{Binary, Unary};
+use spec_parser::tree::{Comparison, Operator};
+use vocabulary::dotted::Dotted;
+use vocabulary::signature::Role;
+
+pub fn operation_of(operator: Operator) -> Binary
+    ensures { result ≡ operation_of operator }
+{
+    match operator {
+        Operator::Or => Binary::Or,
+        Operator::And => Binary::And,
+        Operator::Add => Binary::Add,
+        Operator::Subtract => Binary::Sub,
+        Operator::Multiply => Binary::Mul,
+        Operator::Divide => Binary::Div,
+        Operator::Remainder => Binary::Rem,
+    }
+}
+
+pub fn comparison_of(comparison: Comparison) -> Binary
+    ensures { result ≡ comparison_of comparison }
+{
+    match comparison {
+        Comparison::Same => Binary::Eq,
+        Comparison::Differs => Binary::Ne,
+        Comparison::AtMost => Binary::Le,
+        Comparison::AtLeast => Binary::Ge,
+        Comparison::Below => Binary::Lt,
+        Comparison::Above => Binary::Gt,
+    }
+}
+
+fn one_of(role: Role) -> Option<Unary>
+    ensures { (a : Tree) → role_tree role (a ∷ []) ≡ one_or result a }
+{
+    match role {
+        Role::Unary(operation) => Some(operation),
+        Role::Binary(_) => None,
+        Role::Update(_) => None,
+    }
+}
+
+fn two_of(role: Role) -> Option<Binary>
+    ensures { (a b : Tree) → role_tree role (a ∷ b ∷ []) ≡ two_or result a b }
+{
+    match role {
+        Role::Unary(_) => None,
+        Role::Binary(operation) => Some(operation),
+        Role::Update(_) => None,
+    }
+}
+
+/// The operation of a function with a dot that has one operand, if a value function has it.
+pub fn dotted_one(function: Dotted) -> Option<Unary>
+    ensures { (a : Tree) → dotted_tree function (a ∷ []) ≡ one_or result a }
+{
+    one_of(function.role())
+}
+
+/// The operation of a function with a dot that has two operands, if a value function has it.
+pub fn dotted_two(function: Dotted) -> Option<Binary>
+    ensures { (a b : Tree) → dotted_tree function (a ∷ b ∷ []) ≡ two_or result a b }
+{
+    two_of(function.role())
+}

@@ -1,9 +1,0 @@
-pub mod OneKind
-pub mod OneType
-pub mod Lengths
-pub mod OwnShapes
-pub mod Numbers
-pub mod Once
-pub mod MakesOnce
-pub mod ItemsOnce
-pub mod LawLemmas

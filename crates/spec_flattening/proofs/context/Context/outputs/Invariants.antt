@@ -1,7 +1,0 @@
-use Rattle.std.proofs.Common.{map, take}
-use Rattle.spec_parser.specs.Shape.{item_of}
-use Rattle.spec_flattening.specs.Items.{AreOutputsMade}
-use Rattle.spec_flattening.proofs.context.Context.outputs.Given as goal
-
-abbrev pub invariant-loop-number : goal.invariant-loop-number
-invariant-loop-number l = AreOutputsMade l.self 0 (map item_of (take l.number l.items)) l.fn.maker l.maker

@@ -1,7 +1,0 @@
-use Rattle.std.proofs.Common.{None, refl, ap}
-use Rattle.spec_parser.specs.Shape.{item_of}
-use Rattle.spec_flattening.proofs.Inputs.{has_type}
-use Rattle.spec_flattening.proofs.top.input.Goals as goal
-
-pub unreachable-requires : goal.unreachable-requires
-unreachable-requires c = has_type (item_of c.args.item.now) c.in-Input.field-0 c.in-Input.place c.in-Input.name c.in-Input.of (ap item_of c.in-Input.is) None c.in-None.ensures c.requires refl

@@ -1,7 +1,0 @@
-use Rattle.std.proofs.Common.{drop, map}
-use Rattle.spec_parser.specs.Shape.{item_of}
-use Rattle.spec_flattening.proofs.Inputs.{AreLeft}
-use Rattle.spec_flattening.proofs.top.inputs.Given as goal
-
-abbrev pub invariant-loop-item : goal.invariant-loop-item
-invariant-loop-item l = AreLeft (map item_of l.items) l.fn.maker l.maker l.streams.items (map item_of (drop l.item-index l.items))

@@ -1,9 +1,0 @@
-// The flat system of a specification.
-#![tactic(auto)]
-
-mod call;
-mod chain;
-mod context;
-mod expression;
-pub mod flatten;
-mod top;
