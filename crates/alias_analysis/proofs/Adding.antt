@@ -8,15 +8,15 @@ use Rattle.std.proofs.lemmas.List.Folds.{list_any-append}
 use Rattle.std.proofs.lemmas.List.{take_more, length-replicate, length-set}
 use Rattle.std.proofs.Math.Seq.{take-length}
 use Rattle.std.proofs.lemmas.List.Elements.{Contains-append_left, Contains-append_right, Contains-push_cases}
-use Rattle.flat_core.specs.Marks.{has_mark}
+use Rattle.flat_core.specs.inner.Marks.{has_mark}
 use Rattle.flat_core.specs.Members.{is_in}
 use Rattle.flat_core.proofs.MarkLemmas.{unmarked, mark_within}
 use Rattle.flat_core.proofs.Members.{Contains-in, in-Contains}
 use Rattle.translation_order.specs.Order.{Before, AreOfSteps}
-use Rattle.translation_order.proofs.Lists.{here, none_in_nil}
-use Rattle.alias_analysis.specs.Pairs.{ArePairs, Adds, IsWanted, IsGiven, IsKeyBelow, AreTurned}
-use Rattle.alias_analysis.specs.Search.{AreMarkedIn}
-use Rattle.alias_analysis.specs.Marking.{AreJust, AddsMarks, IsChosen, HasMarkedSecond, HasMarkedFirst, IsMarkedBy}
+use Rattle.tsl_value.proofs.Lists.{here, none_in_nil}
+use Rattle.alias_analysis.specs.inner.Pairs.{ArePairs, Adds, IsWanted, IsGiven, IsKeyBelow, AreTurned}
+use Rattle.alias_analysis.specs.inner.Search.{AreMarkedIn}
+use Rattle.alias_analysis.specs.inner.Marking.{AreJust, AddsMarks, IsChosen, HasMarkedSecond, HasMarkedFirst, IsMarkedBy}
 
 -- ---- lists
 

@@ -6,23 +6,23 @@ use Rattle.std.proofs.lemmas.Option.{same_Some, slice_get_within}
 use Rattle.tsl_value.specs.declared.scalar.ValueType.{ValueType}
 use Rattle.flat_core.specs.declared.equation.Equation.{Equation}
 use Rattle.flat_core.specs.Complete.{IsFlat}
-use Rattle.flat_core.specs.Marks.{has_mark}
+use Rattle.flat_core.specs.inner.Marks.{has_mark}
 use Rattle.flat_core.specs.System.{System, equation}
 use Rattle.flat_core.specs.TypedSystem.{AreOfTypes}
 use Rattle.trigger_rules.specs.Question.{Implies}
 use Rattle.trigger_starts.specs.declared.rules.Rule.{Rule}
-use Rattle.trigger_formulas.specs.Kept.{AreTriggersOf}
-use Rattle.trigger_starts.specs.Rules.{rule_of}
+use Rattle.trigger_formulas.specs.inner.Kept.{AreTriggersOf}
+use Rattle.trigger_starts.specs.inner.Rules.{rule_of}
 use Rattle.alias_rules.specs.Uses.{IsLast, IsWritten}
 use Rattle.alias_rules.specs.Roots.{Carries, IsRoot}
 use Rattle.alias_rules.specs.Sharing.{Alias, same, lasts}
 use Rattle.alias_rules.specs.Bypass.{PassesOver, GoesAround, Bypasses}
-use Rattle.alias_analysis.specs.Search.{AreReached}
-use Rattle.alias_analysis.specs.Pairs.{ArePairs}
-use Rattle.alias_analysis.specs.Marking.{AreJust, AddsMarks, HasMarkedSecond, HasMarkedFirst}
-use Rattle.alias_analysis.specs.Kept.{AreStoredMarks}
-use Rattle.alias_analysis.specs.Flows.{SharesWithOne}
-use Rattle.alias_analysis.specs.Contents.{IsMergeBehind, IsPairAround, IsRootOfSource, SharesWithLast, IsLastOfMarked, AreAliased, IsNear, IsBeside, IsMarkedBeside}
+use Rattle.alias_analysis.specs.inner.Search.{AreReached}
+use Rattle.alias_analysis.specs.inner.Pairs.{ArePairs}
+use Rattle.alias_analysis.specs.inner.Marking.{AreJust, AddsMarks, HasMarkedSecond, HasMarkedFirst}
+use Rattle.alias_analysis.specs.inner.Kept.{AreStoredMarks}
+use Rattle.alias_analysis.specs.inner.Flows.{SharesWithOne}
+use Rattle.alias_analysis.specs.inner.Contents.{IsMergeAfter, IsPairAround, IsRootOfSource, SharesWithLast, IsLastOfMarked, AreAliased, IsNear, IsBeside, IsMarkedBeside}
 use Rattle.alias_analysis.proofs.Adding.{marks_as}
 use Rattle.alias_analysis.proofs.Rooting.{just_as, walk_as}
 use Rattle.alias_analysis.proofs.Sharers.{last_origin}
@@ -43,17 +43,17 @@ first_typed equations a rest [] h = absurd h
 first_typed equations a rest (t ∷ types) h = slice_get_within equations a h.0.at h.0.is
 
 module _ (s : System) (i x : ℕ) (e : Equation) (found : equation s i ≡ Some e) where
-  pub merged_low : IsFlat s → (other : ℕ) → IsMergeBehind e other x → other < length s.equations
+  pub merged_low : IsFlat s → (other : ℕ) → IsMergeAfter e other x → other < length s.equations
   merged_low flat other behind =
       let typed = flat.complete.typed.each i e found in
       first_typed s.equations other (x ∷ []) typed.types (subst (λ args. AreOfTypes s.equations args typed.types) behind.args_are typed.arguments)
 
-  pub merge_of : (y : ℕ) (p : PassesOver s y i x) → IsMergeBehind e p.other x
+  pub merge_of : (y : ℕ) (p : PassesOver s y i x) → IsMergeAfter e p.other x
   merge_of y p =
       let is : p.at ≡ e = same_Some p.at e (sym p.is ∙ found) in
       record { merges = ap (λ (d : Equation). d.op) (sym is) ∙ p.merges; args_are = ap (λ (d : Equation). d.args) (sym is) ∙ p.args_are; differ = p.differ }
 
-  pub passes_some : (y other : ℕ) (r : Bool) → IsMergeBehind e other x → IsTrue r ↔ Implies s y other → IsTrue r ↔ PassesOver s y i x
+  pub passes_some : (y other : ℕ) (r : Bool) → IsMergeAfter e other x → IsTrue r ↔ Implies s y other → IsTrue r ↔ PassesOver s y i x
   passes_some y other r behind exact = (
     (λ h. record { at = e; is = found; merges = behind.merges; other = other; args_are = behind.args_are; differ = behind.differ; implied = exact.0 h }),
     (λ p.

@@ -6,11 +6,11 @@ use Rattle.std.proofs.lemmas.List.{get_or_append_left, length_push}
 use Rattle.std.proofs.Math.Seq.{get_or-append_seam}
 use Rattle.std.proofs.lemmas.List.Folds.{list_any-append}
 use Rattle.flat_core.specs.declared.reach.Marks.{Marks}
-use Rattle.flat_core.specs.Marks.{is_marked, is_waiting, Marked}
+use Rattle.flat_core.specs.inner.Marks.{is_marked, is_waiting, Marked}
 use Rattle.flat_core.specs.Members.{is_in}
 use Rattle.flat_core.proofs.MarkLemmas.{marked_then}
-use Rattle.translation_order.specs.Taking.{seconds_of}
-use Rattle.alias_analysis.specs.Search.{first_at, IsAfterLast, AreChained}
+use Rattle.translation_order.specs.inner.Taking.{seconds_of}
+use Rattle.alias_analysis.specs.inner.Search.{first_at, IsAfterLast, AreChained}
 
 -- ---- one more is marked
 

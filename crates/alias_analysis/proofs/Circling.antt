@@ -5,12 +5,12 @@ use Rattle.std.proofs.lemmas.Bool.{cases_lt, cases_eq, or_cases, or_left, or_rig
 use Rattle.std.proofs.lemmas.List.{get_or_read}
 use Rattle.std.proofs.lemmas.List.Folds.{list_any-append}
 use Rattle.flat_core.specs.declared.reach.Marks.{Marks}
-use Rattle.flat_core.specs.Marks.{Marked}
+use Rattle.flat_core.specs.inner.Marks.{Marked}
 use Rattle.flat_core.specs.Members.{is_in}
 use Rattle.flat_core.specs.System.{System}
 use Rattle.flat_core.proofs.MarkLemmas.{marked_none, marked_then}
-use Rattle.alias_analysis.specs.Contents.{LeadsAround, IsSecondAround, IsPairAround}
-use Rattle.alias_analysis.specs.Search.{first_at, IsAfterLast, MarkedAll}
+use Rattle.alias_analysis.specs.inner.Contents.{LeadsAround, IsSecondAround, IsPairAround}
+use Rattle.alias_analysis.specs.inner.Search.{first_at, IsAfterLast, MarkedAll}
 use Rattle.alias_analysis.proofs.Adding.{read_again}
 
 module _ (s : System) (y : ℕ) where

@@ -7,7 +7,7 @@ use Rattle.std.proofs.lemmas.Bool.{cases_lt, cases_eq, false≢true}
 use Rattle.std.proofs.lemmas.List.{get_or_read}
 use Rattle.std.proofs.lemmas.List.Kept.{AllPairs-from_increasing}
 use Rattle.std.proofs.lemmas.Option.{slice_get_within}
-use Rattle.flat_core.specs.Marks.{has_mark}
+use Rattle.flat_core.specs.inner.Marks.{has_mark}
 use Rattle.flat_core.specs.Members.{is_in}
 use Rattle.flat_core.specs.System.{System}
 use Rattle.flat_core.proofs.Members.{Contains-in, in-Contains}
@@ -15,9 +15,9 @@ use Rattle.translation_order.specs.Order.{IsLeast}
 use Rattle.alias_rules.specs.Uses.{AreUpdates, IsStored}
 use Rattle.alias_rules.specs.Conflict.{IsKept, IsNotOverwritten, IsInConflict, IsFirst}
 use Rattle.alias_rules.proofs.Sharing.{both_stored}
-use Rattle.alias_analysis.specs.Marking.{AreJust}
-use Rattle.alias_analysis.specs.Search.{AreMarkedIn}
-use Rattle.alias_analysis.specs.Contents.{SharesWithLast, IsMarkedUnimplied, AreMarkedInBoth, IsNear, IsMarkedBeside}
+use Rattle.alias_analysis.specs.inner.Marking.{AreJust}
+use Rattle.alias_analysis.specs.inner.Search.{AreMarkedIn}
+use Rattle.alias_analysis.specs.inner.Contents.{SharesWithLast, IsMarkedUnimplied, AreMarkedInBoth, IsNear, IsMarkedBeside}
 use Rattle.alias_analysis.proofs.Rooting.{just_as}
 use Rattle.alias_analysis.proofs.Bypassing.{bypasses_near, near_bypass}
 

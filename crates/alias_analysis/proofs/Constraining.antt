@@ -1,40 +1,37 @@
 -- The pairs of steps, one kind after the other.
-use Rattle.std.proofs.Common.{◌≡◌, ◌↔◌, ◌⊎◌, ℕ, ◌+◌, ◌-◌, ◌<◌, ◌≤◌, Bool, true, List, [], ◌∷◌, length, take, drop, get_or, Some, refl, sym, ap, subst, ◌∙◌, inl, inr, arith}
+use Rattle.std.proofs.Common.{◌≡◌, ◌↔◌, ◌⊎◌, ℕ, ◌+◌, ◌-◌, ◌<◌, ◌≤◌, Bool, true, List, [], length, take, get_or, Some, refl, sym, ap, subst, ◌∙◌, inl, inr, arith}
 use Rattle.std.specs.Prelude.{IsTrue, slice_get}
 use Rattle.std.specs.List.{Contains}
 use Rattle.std.proofs.Math.Seq.{take-length}
 use Rattle.std.proofs.lemmas.Bool.{cases_lt}
 use Rattle.std.proofs.lemmas.List.{get_or_read}
 use Rattle.std.proofs.lemmas.Option.{same_Some, slice_get_within, get_or_from_slice_get}
-use Rattle.tsl_value.specs.declared.scalar.ValueType.{ValueType}
 use Rattle.flat_core.specs.declared.equation.Equation.{Equation}
-use Rattle.flat_core.specs.declared.equation.Op.{Op}
-use Rattle.flat_core.specs.declared.equation.Op.TheVariants as op
 use Rattle.flat_core.specs.declared.equation.Output.{Output}
 use Rattle.flat_core.specs.Complete.{IsFlat}
-use Rattle.flat_core.specs.Marks.{has_mark}
+use Rattle.flat_core.specs.inner.Marks.{has_mark}
 use Rattle.flat_core.specs.Members.{is_in}
 use Rattle.flat_core.specs.System.{System, equation, runs}
-use Rattle.flat_core.specs.TypedSystem.{AreOfTypes}
 use Rattle.flat_core.specs.WellFormed.{unguarded_of}
 use Rattle.flat_core.proofs.MarkLemmas.{mark_within}
 use Rattle.flat_core.proofs.Members.{Contains-in, all_at}
+use Rattle.flat_core.proofs.Depth.{unguarded_in}
 use Rattle.translation_order.specs.Order.{Before, AreOfSteps}
-use Rattle.translation_order.proofs.Lists.{none_in_nil, cons_cases, later}
 use Rattle.alias_rules.specs.Uses.{AreUpdates, read_of, passed_of, written_of}
 use Rattle.alias_rules.specs.Bypass.{Bypasses}
 use Rattle.alias_rules.specs.Conflict.{TakesBefore, read, printed, passed, written, StandsBefore, needed}
 use Rattle.alias_rules.specs.Conflict as conflict
-use Rattle.alias_rules.specs.Steps.{print_step, step_count, MustPrecede}
+use Rattle.alias_rules.specs.Steps.{step_count}
 use Rattle.alias_rules.specs.Steps as steps
 use Rattle.alias_analysis.specs.declared.uses.Uses.{Uses}
-use Rattle.alias_analysis.specs.Pairs.{ArePairs, Adds, IsWanted, IsGiven, IsKeyBelow}
-use Rattle.alias_analysis.specs.Marking.{AreJust}
-use Rattle.alias_analysis.specs.Kept.{AreUses}
-use Rattle.alias_analysis.specs.Constraints.{IsArgumentAt, IsNeeded, IsPrintOf, IsMarkedBefore, IsTakenBefore, WritesMarked, IsWrittenBefore, PassesMarked, IsPassedBefore, IsPrintedBefore, IsAskedFor, StandsBeforeUpdate, bypasses, takes}
+use Rattle.alias_analysis.specs.inner.Pairs.{ArePairs, Adds, IsWanted, IsGiven, IsKeyBelow}
+use Rattle.alias_analysis.specs.inner.Marking.{AreJust}
+use Rattle.alias_analysis.specs.inner.Kept.{AreUses}
+use Rattle.alias_analysis.specs.inner.Constraints.{IsArgumentAt, IsNeeded, IsPrintOf, IsMarkedBefore, IsTakenBefore, WritesMarked, IsWrittenBefore, PassesMarked, IsPassedBefore, IsPrintedBefore, IsAskedFor, StandsBeforeUpdate, bypasses, takes}
 use Rattle.alias_analysis.proofs.Adding.{adds_none, adds_as, adds_then, given_more, keyed_next, keyed_all, pairs_of, of_steps_from}
 use Rattle.alias_analysis.proofs.Using.{taker_low}
 use Rattle.alias_analysis.proofs.Conflicts.{is_inside}
+use Rattle.recursion_check.proofs.FeedLemmas.{typed_low}
 
 -- ---- arguments
 
@@ -287,23 +284,6 @@ module _ (s : System) (set : List ℕ) where
 
   -- ---- all are steps
 
-  typed_low : (args : List ℕ) (types : List ValueType) → AreOfTypes s.equations args types → (a : ℕ) → Contains args a → a < length s.equations
-  typed_low [] types typed a c = absurd (none_in_nil a c)
-  typed_low (b ∷ args) [] typed a c = absurd typed
-  typed_low (b ∷ args) (t ∷ types) typed a c = elim (cons_cases b a args c) [
-    | inl same ↦ subst (λ m. m < length s.equations) same (slice_get_within s.equations b typed.0.at typed.0.is)
-    | inr rest ↦ typed_low args types typed.1 a rest
-  ]
-
-  behind : (args : List ℕ) (a : ℕ) → Contains (drop 1 args) a → Contains args a
-  behind [] a c = c
-  behind (b ∷ args) a c = later b a args c
-
-  unguarded_in : (o : Op) (args : List ℕ) (a : ℕ) → Contains (unguarded_of o args) a → Contains args a
-  unguarded_in op.Last args a c = behind args a c
-  unguarded_in op.Delay args a c = behind args a c
-  unguarded_in o args a c = c
-
   module _ (flat : IsFlat s) (updates : AreUpdates s set) where
     equation_low : (x : ℕ) → x < length s.equations → x < step_count s
     equation_low x lt = omega arith
@@ -323,7 +303,7 @@ module _ (s : System) (set : List ℕ) where
     step_low : (a b : ℕ) → StandsBefore s set a b → (a < step_count s) × (b < step_count s)
     step_low a b (needed (steps.argument run needs)) =
         let typed = flat.complete.typed.each b needs.at needs.is in
-        (equation_low a (typed_low needs.at.args typed.types typed.arguments a (unguarded_in needs.at.op needs.at.args a needs.argument)), equation_low b (slice_get_within s.equations b needs.at needs.is))
+        (equation_low a (typed_low s needs.at.args typed.types typed.arguments a (unguarded_in needs.at.op needs.at.args a needs.argument)), equation_low b (slice_get_within s.equations b needs.at needs.is))
     step_low a b (needed (steps.printed k o is of at)) =
         let low = slice_get_within s.outputs k o is in
         let there = all_at (λ (p : Output). p.equation < length s.equations) s.outputs flat.complete.outputs_there o (k, low, get_or_from_slice_get s.outputs k o o is) in

@@ -3,20 +3,20 @@ use Rattle.std.proofs.Common.{◌≡◌, ◌↔◌, ℕ, ◌<◌, Bool, true, Li
 use Rattle.std.specs.Prelude.{IsTrue}
 use Rattle.std.specs.List.{Contains}
 use Rattle.std.proofs.Math.Seq.{take-length}
-use Rattle.flat_core.specs.Graph.{Walk, stay, onward}
-use Rattle.flat_core.specs.Marks.{has_mark}
+use Rattle.translation_order.specs.Graph.{Walk, stay, onward}
+use Rattle.flat_core.specs.inner.Marks.{has_mark}
 use Rattle.flat_core.specs.Members.{is_in}
 use Rattle.flat_core.specs.System.{System}
-use Rattle.flat_core.proofs.Walks.{walk_on}
+use Rattle.translation_order.proofs.PathLemmas.{walk_on}
 use Rattle.translation_order.specs.Order.{Before, AreOfSteps}
 use Rattle.alias_rules.specs.Uses.{written_of, passed_of, IsWritten}
 use Rattle.alias_rules.specs.Roots.{Carries, passed, written}
 use Rattle.alias_analysis.specs.declared.uses.Uses.{Uses}
-use Rattle.alias_analysis.specs.Search.{AreReached}
-use Rattle.alias_analysis.specs.Pairs.{ArePairs, Adds, IsWanted, IsGiven, AreTurned}
-use Rattle.alias_analysis.specs.Marking.{AreJust, IsChosen, HasMarkedSecond}
-use Rattle.alias_analysis.specs.Kept.{AreUses}
-use Rattle.alias_analysis.specs.Contents.{IsInside, IsReachedOrigin, IsRootOfOne, IsRootOfSource}
+use Rattle.alias_analysis.specs.inner.Search.{AreReached}
+use Rattle.alias_analysis.specs.inner.Pairs.{ArePairs, Adds, IsWanted, IsGiven, AreTurned}
+use Rattle.alias_analysis.specs.inner.Marking.{AreJust, IsChosen, HasMarkedSecond}
+use Rattle.alias_analysis.specs.inner.Kept.{AreUses}
+use Rattle.alias_analysis.specs.inner.Contents.{IsInside, IsReachedOrigin, IsRootOfOne, IsRootOfSource}
 use Rattle.alias_analysis.proofs.Adding.{adds_as, of_steps_from}
 use Rattle.alias_analysis.proofs.Using.{taken_low, taker_low}
 

@@ -9,26 +9,26 @@ use Rattle.flat_core.specs.declared.equation.Equation.{Equation}
 use Rattle.flat_core.specs.declared.equation.Op.{Op}
 use Rattle.flat_core.specs.declared.equation.Op.TheVariants as op
 use Rattle.flat_core.specs.Complete.{IsFlat}
-use Rattle.flat_core.specs.Graph.{Walk, stay, onward}
-use Rattle.flat_core.specs.Marks.{has_mark}
+use Rattle.translation_order.specs.Graph.{Walk, stay, onward}
+use Rattle.flat_core.specs.inner.Marks.{has_mark}
 use Rattle.flat_core.specs.Members.{is_in}
 use Rattle.flat_core.specs.System.{System}
 use Rattle.flat_core.specs.Typed.{is_aggregate, IsTyped, last}
 use Rattle.flat_core.specs.TypedSystem.{AreOfTypes}
 use Rattle.flat_core.proofs.MarkLemmas.{mark_within}
 use Rattle.flat_core.proofs.Members.{Contains-in, in-Contains}
-use Rattle.flat_core.proofs.Walks.{walk_on, walk_keeps}
+use Rattle.translation_order.proofs.PathLemmas.{walk_on, walk_keeps}
 use Rattle.alias_rules.specs.Uses.{first_of, last_of, IsLast, IsStored}
 use Rattle.alias_rules.specs.Roots.{begins_content, Carries, IsOrigin, ComesFromLast}
 use Rattle.alias_rules.specs.Sharing.{Shares, itself, turned, common_root, last_roots, last_root}
 use Rattle.alias_rules.proofs.Sharing.{both_stored}
-use Rattle.translation_order.proofs.Lists.{none_in_nil, cons_cases}
+use Rattle.tsl_value.proofs.Lists.{none_in_nil, cons_cases}
 use Rattle.translation_order.specs.Order.{Before, AreOfSteps}
-use Rattle.alias_analysis.specs.Search.{AreReached, AreMarkedIn}
-use Rattle.alias_analysis.specs.Pairs.{ArePairs, Adds, IsWanted, IsGiven, IsKeyBelow, AreTurned}
-use Rattle.alias_analysis.specs.Marking.{AreJust, AddsMarks, IsChosen, IsMarkedBy}
-use Rattle.alias_analysis.specs.Kept.{AreStoredMarks}
-use Rattle.alias_analysis.specs.Flows.{store_of, Flows, carried, kept, taken, IsSource, IsStoreOf, HasStoreAt, SharesWithOne, GoesThroughStore, into, out_of, IsMarkedPair}
+use Rattle.alias_analysis.specs.inner.Search.{AreReached, AreMarkedIn}
+use Rattle.alias_analysis.specs.inner.Pairs.{ArePairs, Adds, IsWanted, IsGiven, IsKeyBelow, AreTurned}
+use Rattle.alias_analysis.specs.inner.Marking.{AreJust, AddsMarks, IsChosen, IsMarkedBy}
+use Rattle.alias_analysis.specs.inner.Kept.{AreStoredMarks}
+use Rattle.alias_analysis.specs.inner.Flows.{store_of, Flows, carried, kept, taken, IsSource, IsStoreOf, HasStoreAt, SharesWithOne, GoesThroughStore, into, out_of, IsMarkedPair}
 use Rattle.alias_analysis.proofs.Adding.{adds_as, adds_then, adds_pushed, keyed_next, keyed_all, pairs_of, of_steps_from, marks_none, marks_as, first_added}
 use Rattle.alias_analysis.proofs.Rooting.{carrier_low, walk_as, walk_back, just_as}
 use Rattle.alias_analysis.proofs.Using.{taken_low, taker_low}

@@ -11,8 +11,8 @@ use Rattle.flat_core.specs.System.{System, equation, runs}
 use Rattle.translation_order.specs.Order.{AreOfSteps}
 use Rattle.alias_rules.specs.Uses.{read_of, passed_of, last_of, written_of, IsVariable, Takes}
 use Rattle.alias_analysis.specs.declared.uses.Uses.{Uses}
-use Rattle.alias_analysis.specs.Pairs.{ArePairs, Adds, IsWanted, IsGiven}
-use Rattle.alias_analysis.specs.Kept.{IsTakenAt, IsUseAt, IsUseBelow, AddsUses, HasUsesBelow, AreUses}
+use Rattle.alias_analysis.specs.inner.Pairs.{ArePairs, Adds, IsWanted, IsGiven}
+use Rattle.alias_analysis.specs.inner.Kept.{IsTakenAt, IsUseAt, IsUseBelow, AddsUses, HasUsesBelow, AreUses}
 use Rattle.alias_analysis.proofs.Adding.{adds_none, adds_as, adds_then, given_more, pairs_of, of_steps_from}
 
 -- ---- one list of arguments

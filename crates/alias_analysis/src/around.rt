@@ -2,14 +2,14 @@
 
 ghost use Rattle.std.specs.Prelude.{◌≡◌, ◌↔◌, ◌<◌, ℕ, List, length, IfOk, OnOk, IsTrue};
 ghost use Rattle.flat_core.specs.declared.equation.Op.TheVariants as op;
-ghost use Rattle.flat_core.specs.Marks.{is_marked, is_waiting};
+ghost use Rattle.flat_core.specs.inner.Marks.{is_marked, is_waiting, Spread};
 ghost use Rattle.translation_order.specs.Order.{AreOfSteps};
 ghost use Rattle.alias_rules.specs.Roots.{Carries};
 ghost use Rattle.alias_rules.specs.Bypass.{PassesOver};
-ghost use Rattle.trigger_formulas.specs.Kept.{AreTriggersOf};
-ghost use Rattle.alias_analysis.specs.Pairs.{ArePairs};
-ghost use Rattle.alias_analysis.specs.Search.{marks_of, AreListed, MarkedAll, Spread};
-ghost use Rattle.alias_analysis.specs.Contents.{IsOtherOfMerge, AreReachedAround, LeadsAround, IsSecondAround, IsPairAround};
+ghost use Rattle.trigger_formulas.specs.inner.Kept.{AreTriggersOf};
+ghost use Rattle.alias_analysis.specs.inner.Pairs.{ArePairs};
+ghost use Rattle.alias_analysis.specs.inner.Search.{marks_of, AreListed, MarkedAll};
+ghost use Rattle.alias_analysis.specs.inner.Contents.{IsOtherOfMerge, AreReachedAround, LeadsAround, IsSecondAround, IsPairAround};
 
 use crate::links::Links;
 use crate::numbers::Numbers;
@@ -44,7 +44,7 @@ fn other_of_merge(equation: &Equation, second: EqId) -> Option<EqId>
     Some(arguments[0])
 }
 
-/// Whether an equation merges this one behind another that has an event wherever the update has one.
+/// Whether an equation merges this one after another that has an event wherever the update has one.
 pub fn passes_over(
     alloc: Global,
     flat: &Flat,
@@ -134,7 +134,8 @@ fn mark_around(
     requires update { update < length flat.now.equations }
     requires one_each { length search.old.marked.items ≡ length flat.now.equations }
     requires there { AreOfSteps (length flat.now.equations) carriers.now }
-    ensures marked { OnOk result (MarkedAll (IsPairAround flat.now update carriers.now number) (marks_of search.old) (marks_of search.new)) }
+    ensures marked { OnOk result (MarkedAll (IsPairAround flat.now update carriers.now number)
+        (marks_of search.old) (marks_of search.new)) }
     ensures listed { OnOk result (AreListed search.old → AreListed search.new) }
 {
     let mut next = carriers.after_last(number);

@@ -2,10 +2,10 @@
 
 ghost use Rattle.std.specs.Prelude.{◌≡◌, ◌↔◌, ◌<◌, length, IfOk, OnOk, IsTrue};
 ghost use Rattle.alias_rules.specs.Bypass.{Bypasses};
-ghost use Rattle.trigger_formulas.specs.Kept.{AreTriggersOf};
-ghost use Rattle.alias_analysis.specs.Kept.{AreUses, ArePaths};
-ghost use Rattle.alias_analysis.specs.Marking.{AreJust};
-ghost use Rattle.alias_analysis.specs.Contents.{IsRootOfSource, SharesWithLast, AreAliased, IsMarkedBeside, IsNear};
+ghost use Rattle.trigger_formulas.specs.inner.Kept.{AreTriggersOf};
+ghost use Rattle.alias_analysis.specs.inner.Kept.{AreUses, ArePaths};
+ghost use Rattle.alias_analysis.specs.inner.Marking.{AreJust};
+ghost use Rattle.alias_analysis.specs.inner.Contents.{IsRootOfSource, SharesWithLast, AreAliased, IsMarkedBeside, IsNear};
 
 use crate::around::reached_around;
 use crate::numbers::{Numbers, firsts, mark_seconds};

@@ -1,14 +1,14 @@
 // Updates whose change of content would be seen at later times.
 
 ghost use Rattle.std.specs.Prelude.{◌≡◌, ◌↔◌, ◌<◌, ◌^◌, length, slice_index, IfOk, IsTrue};
-ghost use Rattle.flat_core.specs.Marks.{has_mark};
+ghost use Rattle.flat_core.specs.inner.Marks.{has_mark};
 ghost use Rattle.alias_rules.specs.Uses.{AreUpdates};
 ghost use Rattle.alias_rules.specs.Conflict.{IsKept, IsNotOverwritten};
-ghost use Rattle.trigger_formulas.specs.Kept.{AreTriggersOf};
-ghost use Rattle.alias_analysis.specs.Kept.{AreUses, ArePaths};
-ghost use Rattle.alias_analysis.specs.Marking.{AreJust};
-ghost use Rattle.alias_analysis.specs.Answer.{IsLeastOrNone, IsFirstOrNone, IsFirstConflict};
-ghost use Rattle.alias_analysis.specs.Contents.{IsMarkedUnimplied, AreMarkedInBoth};
+ghost use Rattle.trigger_formulas.specs.inner.Kept.{AreTriggersOf};
+ghost use Rattle.alias_analysis.specs.inner.Kept.{AreUses, ArePaths};
+ghost use Rattle.alias_analysis.specs.inner.Marking.{AreJust};
+ghost use Rattle.alias_analysis.specs.inner.Answer.{IsLeastOrNone, IsFirstOrNone, IsFirstConflict};
+ghost use Rattle.alias_analysis.specs.inner.Contents.{IsMarkedUnimplied, AreMarkedInBoth};
 
 use crate::bypass::{beside, last_sharers, near};
 use crate::numbers::Numbers;

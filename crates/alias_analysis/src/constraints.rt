@@ -6,24 +6,24 @@ ghost use Rattle.translation_order.specs.Order.{AreOfSteps};
 ghost use Rattle.alias_rules.specs.Uses.{AreUpdates};
 ghost use Rattle.alias_rules.specs.Conflict.{StandsBefore};
 ghost use Rattle.alias_rules.specs.Steps.{step_count};
-ghost use Rattle.trigger_formulas.specs.Kept.{AreTriggersOf};
-ghost use Rattle.alias_analysis.specs.Kept.{AreUses, ArePaths};
-ghost use Rattle.alias_analysis.specs.Pairs.{Adds, ArePairs};
-ghost use Rattle.alias_analysis.specs.Constraints.{IsArgumentAt, IsNeeded, IsPrintOf, IsMarkedBefore, IsTakenBefore};
-ghost use Rattle.alias_analysis.specs.Constraints.{WritesMarked, IsWrittenBefore, PassesMarked, IsPassedBefore, IsPrintedBefore};
-ghost use Rattle.alias_analysis.specs.Constraints.{StandsBeforeUpdate};
+ghost use Rattle.trigger_formulas.specs.inner.Kept.{AreTriggersOf};
+ghost use Rattle.alias_analysis.specs.inner.Kept.{AreUses, ArePaths};
+ghost use Rattle.alias_analysis.specs.inner.Pairs.{Adds, ArePairs};
+ghost use Rattle.alias_analysis.specs.inner.Constraints.{IsArgumentAt, IsNeeded, IsPrintOf, IsMarkedBefore, IsTakenBefore};
+ghost use Rattle.alias_analysis.specs.inner.Constraints.{WritesMarked, IsWrittenBefore, PassesMarked, IsPassedBefore, IsPrintedBefore};
+ghost use Rattle.alias_analysis.specs.inner.Constraints.{StandsBeforeUpdate};
 
 use crate::around::passes_over;
 use crate::bypass::bypassed;
 use crate::conflict::update_at;
 use crate::pairs::push_if;
 use crate::paths::Paths;
-use crate::uses::{Uses, behind_first};
+use crate::uses::{Uses, after_the_first};
 use flat_core::equation::{Equation, Op};
 use flat_core::flat::Flat;
 use flat_core::lists::EqSet;
-use flat_core::steps::Edges;
 use std::alloc::Global;
+use translation_order::steps::Edges;
 use trigger_formulas::triggers::Triggers;
 use tsl_value::ids::EqId;
 use tsl_value::memory::NoMemory;
@@ -34,8 +34,8 @@ fn unguarded(equation: &Equation) -> &[EqId]
 {
     let arguments = equation.args.ids();
     match &equation.op {
-        Op::Last => behind_first(arguments),
-        Op::Delay => behind_first(arguments),
+        Op::Last => after_the_first(arguments),
+        Op::Delay => after_the_first(arguments),
         Op::Input => arguments,
         Op::Nil => arguments,
         Op::Unit => arguments,

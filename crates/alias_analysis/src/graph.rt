@@ -3,7 +3,7 @@
 ghost use Rattle.std.specs.Prelude.{◌≡◌, ◌↔◌, ◌<◌, ℕ, IfOk, IsTrue};
 ghost use Rattle.std.specs.List.Sorted.{IsStrictlyIncreasing};
 ghost use Rattle.flat_core.specs.Members.{is_in};
-ghost use Rattle.trigger_formulas.specs.Kept.{AreTriggersOf};
+ghost use Rattle.trigger_formulas.specs.inner.Kept.{AreTriggersOf};
 ghost use Rattle.alias_rules.specs.Uses.{IsVariable, AreUpdates};
 ghost use Rattle.alias_rules.specs.Roots.{IsRoot};
 ghost use Rattle.alias_rules.specs.Sharing.{Shares};
@@ -11,7 +11,7 @@ ghost use Rattle.alias_rules.specs.Bypass.{Bypasses};
 ghost use Rattle.alias_rules.specs.Conflict.{StandsBefore};
 ghost use Rattle.translation_order.specs.Order.{Before, AreOfSteps};
 ghost use Rattle.alias_rules.specs.Steps.{step_count};
-ghost use Rattle.alias_analysis.specs.Answer.{IsFirstConflict};
+ghost use Rattle.alias_analysis.specs.inner.Answer.{IsFirstConflict};
 
 use crate::bypass::bypassed;
 use crate::conflict::first_conflict;
@@ -21,12 +21,13 @@ use crate::paths::Paths;
 use crate::reason::Reason;
 use crate::roots::roots_of_one;
 use crate::sharing::sharing;
+pub use crate::uses::is_variable;
 use crate::uses::{Uses, uses_of};
 use flat_core::flat::Flat;
 use flat_core::lists::EqSet;
-use flat_core::steps::Edges;
 use std::alloc::Global;
 use std::marker::Model;
+use translation_order::steps::Edges;
 use trigger_formulas::triggers::Triggers;
 use tsl_value::ids::EqId;
 use tsl_value::memory::NoMemory;
@@ -52,7 +53,7 @@ impl<'a> Model for Graph<'a> {
 
     ghost view = { λ g. g.flat.now };
 
-    ghost use Rattle.alias_analysis.specs.Kept.{IsGraph};
+    ghost use Rattle.alias_analysis.specs.inner.Kept.{IsGraph};
 
     ghost invariant = { λ g. IsGraph g.flat.now g.triggers.now g.uses };
 }

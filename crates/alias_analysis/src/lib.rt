@@ -1,4 +1,4 @@
-// Where updates of sets and maps would change content that is still needed.
+//! Where updates of sets and maps would change content that is still needed.
 #![tactic(auto)]
 
 mod around;
@@ -14,6 +14,4 @@ mod reach;
 pub mod reason;
 mod roots;
 mod sharing;
-#[cfg(test)]
-mod tests;
 mod uses;

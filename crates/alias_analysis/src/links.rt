@@ -2,11 +2,11 @@
 
 ghost use Rattle.std.specs.Prelude.{◌≡◌, ◌<◌, ℕ, List, length, slice_index_or, IfOk};
 ghost use Rattle.translation_order.specs.Order.{AreOfSteps};
-ghost use Rattle.alias_analysis.specs.Search.{AreChained, AreChainsOf, IsAfterLast, first_at};
+ghost use Rattle.alias_analysis.specs.inner.Search.{AreChained, AreChainsOf, IsAfterLast, first_at};
 
-use flat_core::steps::Edges;
 use std::alloc::Global;
 use std::marker::Model;
+use translation_order::steps::Edges;
 use tsl_value::memory::NoMemory;
 
 /// For each number the place after the last of its pairs, and for each pair the place after the last one before it with the same first.
@@ -31,7 +31,7 @@ impl Model for Links {
 
     ghost view = { λ l. l.pairs };
 
-    ghost use Rattle.alias_analysis.specs.Search.{AreLinked};
+    ghost use Rattle.alias_analysis.specs.inner.Search.{AreLinked};
 
     ghost invariant = { λ l. AreLinked l.pairs l.chains };
 }

@@ -2,11 +2,12 @@
 
 ghost use Rattle.std.specs.Prelude.{◌≡◌, ◌<◌, ◌≤◌, ℕ, length, replicate, false, IfOk, OnOk, IsTrue};
 ghost use Rattle.std.specs.List.Sorted.{IsStrictlyIncreasing};
-ghost use Rattle.flat_core.specs.Marks.{has_mark};
+ghost use Rattle.flat_core.specs.inner.Marks.{has_mark};
 ghost use Rattle.flat_core.specs.Members.{is_in};
+ghost use Rattle.flat_core.specs.declared.limits.TheConstants.{MOST_EQUATIONS};
 ghost use Rattle.translation_order.specs.Order.{AreOfSteps};
-ghost use Rattle.alias_analysis.specs.Marking.{AreJust, AddsMarks, IsChosen, HasMarkedSecond, HasMarkedFirst};
-ghost use Rattle.alias_analysis.specs.Search.{AreMarkedIn};
+ghost use Rattle.alias_analysis.specs.inner.Marking.{AreJust, AddsMarks, IsChosen, HasMarkedSecond, HasMarkedFirst};
+ghost use Rattle.alias_analysis.specs.inner.Search.{AreMarkedIn};
 
 use flat_core::lists::EqSet;
 use std::alloc::Global;
@@ -29,7 +30,7 @@ impl Model for Numbers {
 
     ghost view = { λ n. n.marks.items };
 
-    ghost use Rattle.alias_analysis.specs.Search.{AreMarkedIn};
+    ghost use Rattle.alias_analysis.specs.inner.Search.{AreMarkedIn};
 
     ghost invariant = { λ n. AreMarkedIn n.marks.items n.listed.items };
 }
@@ -136,7 +137,7 @@ pub fn mark_seconds(
 
 /// The marked numbers as a set of equations.
 pub fn set_of(alloc: Global, marked: &Numbers) -> Result<EqSet, NoMemory>
-    requires { length marked.now ≤ 4096 }
+    requires { length marked.now ≤ MOST_EQUATIONS }
     ensures ascending { IfOk result (λ s. IsStrictlyIncreasing s) }
     ensures members { IfOk result (λ s. (i : ℕ) → is_in s i ≡ has_mark marked.now i) }
 {

@@ -1,10 +1,10 @@
 // Lists of pairs that grow.
 
 ghost use Rattle.std.specs.Prelude.{◌≡◌, ◌++◌, map, IfOk, OnOk};
-ghost use Rattle.alias_analysis.specs.Pairs.{Adds, IsWanted, AreTurned};
+ghost use Rattle.alias_analysis.specs.inner.Pairs.{Adds, IsWanted, AreTurned};
 
-use flat_core::steps::Edges;
 use std::alloc::Global;
+use translation_order::steps::Edges;
 use tsl_value::memory::NoMemory;
 
 /// Appends a pair if it is wanted.

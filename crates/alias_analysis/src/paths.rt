@@ -1,7 +1,7 @@
 // How content goes on where a set of updates happens in place.
 
 ghost use Rattle.std.specs.Prelude.{◌≡◌, length, IfOk};
-ghost use Rattle.alias_analysis.specs.Kept.{AreUses, ArePaths};
+ghost use Rattle.alias_analysis.specs.inner.Kept.{AreUses, ArePaths};
 
 use crate::links::Links;
 use crate::numbers::Numbers;

@@ -1,10 +1,10 @@
 // What is reached along pairs of numbers.
 
 ghost use Rattle.std.specs.Prelude.{◌≡◌, ◌<◌, [], ◌∷◌, ℕ, length, IfOk, OnOk};
-ghost use Rattle.flat_core.specs.Marks.{is_marked, is_waiting, Marked};
+ghost use Rattle.flat_core.specs.inner.Marks.{is_marked, is_waiting, Marked, Spread};
 ghost use Rattle.translation_order.specs.Order.{Before, AreOfSteps};
-ghost use Rattle.translation_order.specs.Taking.{seconds_of};
-ghost use Rattle.alias_analysis.specs.Search.{marks_of, AreListed, AreReached, Spread};
+ghost use Rattle.translation_order.specs.inner.Taking.{seconds_of};
+ghost use Rattle.alias_analysis.specs.inner.Search.{marks_of, AreListed, AreReached};
 
 use crate::links::Links;
 use crate::numbers::Numbers;

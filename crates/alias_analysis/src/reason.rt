@@ -1,6 +1,6 @@
 // Why an update does not happen in place.
 
-use flat_core::steps::Steps;
+use translation_order::steps::Steps;
 use tsl_value::ids::EqId;
 
 /// Why the updates of a set cannot all happen in place.

@@ -4,10 +4,10 @@ ghost use Rattle.std.specs.Prelude.{◌≡◌, ◌↔◌, ◌<◌, ℕ, length, 
 ghost use Rattle.flat_core.specs.Members.{is_in};
 ghost use Rattle.alias_rules.specs.Uses.{IsWritten};
 ghost use Rattle.alias_rules.specs.Roots.{begins_content, Carries, IsOrigin, IsRoot};
-ghost use Rattle.alias_analysis.specs.Kept.{AreUses, ArePaths};
-ghost use Rattle.alias_analysis.specs.Pairs.{Adds, ArePairs};
-ghost use Rattle.alias_analysis.specs.Marking.{AreJust};
-ghost use Rattle.alias_analysis.specs.Contents.{IsInside, IsReachedOrigin, IsRootOfOne, IsRootOfSource};
+ghost use Rattle.alias_analysis.specs.inner.Kept.{AreUses, ArePaths};
+ghost use Rattle.alias_analysis.specs.inner.Pairs.{Adds, ArePairs};
+ghost use Rattle.alias_analysis.specs.inner.Marking.{AreJust};
+ghost use Rattle.alias_analysis.specs.inner.Contents.{IsInside, IsReachedOrigin, IsRootOfOne, IsRootOfSource};
 
 use crate::numbers::{Numbers, firsts, one_of};
 use crate::pairs::{push_all, push_if};
@@ -17,8 +17,8 @@ use crate::uses::{Uses, is_variable};
 use flat_core::equation::Op;
 use flat_core::flat::Flat;
 use flat_core::lists::EqSet;
-use flat_core::steps::Edges;
 use std::alloc::Global;
+use translation_order::steps::Edges;
 use tsl_value::ids::EqId;
 use tsl_value::memory::NoMemory;
 

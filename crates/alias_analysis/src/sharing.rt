@@ -1,15 +1,16 @@
 // Which stored variables may keep one content.
 
 ghost use Rattle.std.specs.Prelude.{◌≡◌, ◌+◌, ◌<◌, ◌≤◌, ◌^◌, ℕ, List, length, ◌↔◌, IfOk, OnOk, IsTrue};
-ghost use Rattle.flat_core.specs.Marks.{has_mark};
+ghost use Rattle.flat_core.specs.inner.Marks.{has_mark};
+ghost use Rattle.flat_core.specs.declared.limits.TheConstants.{MOST_EQUATIONS};
 ghost use Rattle.translation_order.specs.Order.{AreOfSteps};
 ghost use Rattle.alias_rules.specs.Uses.{IsStored};
 ghost use Rattle.alias_rules.specs.Roots.{Carries};
 ghost use Rattle.alias_rules.specs.Sharing.{Shares};
-ghost use Rattle.alias_analysis.specs.Kept.{AreUses, ArePaths, AreStoredMarks};
-ghost use Rattle.alias_analysis.specs.Pairs.{Adds, ArePairs};
-ghost use Rattle.alias_analysis.specs.Marking.{AreJust, AddsMarks};
-ghost use Rattle.alias_analysis.specs.Flows.{Flows, GoesThroughStore, IsSource, IsMarkedPair, IsStoreOf, HasStoreAt, SharesWithOne};
+ghost use Rattle.alias_analysis.specs.inner.Kept.{AreUses, ArePaths, AreStoredMarks};
+ghost use Rattle.alias_analysis.specs.inner.Pairs.{Adds, ArePairs};
+ghost use Rattle.alias_analysis.specs.inner.Marking.{AreJust, AddsMarks};
+ghost use Rattle.alias_analysis.specs.inner.Flows.{Flows, GoesThroughStore, IsSource, IsMarkedPair, IsStoreOf, HasStoreAt, SharesWithOne};
 
 use crate::numbers::{Numbers, one_of};
 use crate::pairs::{push_all, push_if};
@@ -19,8 +20,8 @@ use crate::roots::is_origin;
 use crate::uses::Uses;
 use flat_core::flat::Flat;
 use flat_core::lists::EqSet;
-use flat_core::steps::Edges;
 use std::alloc::Global;
+use translation_order::steps::Edges;
 use tsl_value::ids::EqId;
 use tsl_value::memory::NoMemory;
 
@@ -41,7 +42,7 @@ pub fn stored(alloc: Global, flat: &Flat, uses: &Uses) -> Result<Numbers, NoMemo
 /// value. A variable's store has the variable's number plus the count of equations.
 fn push_stores(pairs: &mut Edges, lasts: &[(u32, u32)], count: u32) -> Result<(), NoMemory>
     requires lasts { AreOfSteps count lasts.now }
-    requires few { count ≤ 4096 }
+    requires few { count ≤ MOST_EQUATIONS }
     ensures { OnOk result (Adds pairs.old (GoesThroughStore lasts.now count) pairs.new) }
 {
     for (variable, last) in lasts {
@@ -69,7 +70,7 @@ pub fn flows(
 
 /// The stores of these variables.
 fn stores_of(alloc: Global, variables: &Numbers) -> Result<Numbers, NoMemory>
-    requires { length variables.now ≤ 4096 }
+    requires { length variables.now ≤ MOST_EQUATIONS }
     ensures { IfOk result (AreJust (length variables.now + length variables.now) (IsStoreOf variables.now)) }
 {
     let count = variables.count();

@@ -3,14 +3,14 @@
 ghost use Rattle.std.specs.Prelude.{◌≡◌, ◌↔◌, ◌<◌, length, drop, IfOk, OnOk, IsTrue};
 ghost use Rattle.flat_core.specs.Typed.{is_aggregate};
 ghost use Rattle.alias_rules.specs.Uses.{IsVariable, first_of, read_of, passed_of, last_of, written_of};
-ghost use Rattle.alias_analysis.specs.Pairs.{Adds};
-ghost use Rattle.alias_analysis.specs.Kept.{AreUses, AddsUses, IsTakenAt};
+ghost use Rattle.alias_analysis.specs.inner.Pairs.{Adds};
+ghost use Rattle.alias_analysis.specs.inner.Kept.{AreUses, AddsUses, IsTakenAt};
 
 use crate::pairs::push_if;
 use flat_core::equation::{Equation, Op};
 use flat_core::flat::Flat;
-use flat_core::steps::Edges;
 use std::alloc::Global;
+use translation_order::steps::Edges;
 use tsl_value::ids::EqId;
 use tsl_value::memory::NoMemory;
 use tsl_value::scalar::ValueType;
@@ -59,8 +59,8 @@ fn first_of(arguments: &[EqId]) -> &[EqId]
     }
 }
 
-/// The arguments behind the first.
-pub fn behind_first(arguments: &[EqId]) -> &[EqId]
+/// The arguments after the first.
+pub fn after_the_first(arguments: &[EqId]) -> &[EqId]
     ensures { result.now ≡ drop 1 arguments.now }
 {
     match arguments.split_first() {
@@ -83,7 +83,7 @@ fn taken_of(equation: &Equation) -> Taken<'_>
         Op::Lift { body: _, strict: _ } => (all, none, none, none),
         Op::Merge => (none, all, none, none),
         Op::Filter => (none, first, none, none),
-        Op::Pick => (none, behind_first(all), none, none),
+        Op::Pick => (none, after_the_first(all), none, none),
         Op::Last => (none, none, first, none),
         Op::MapAdd => (none, none, none, first),
         Op::MapRemove => (none, none, none, first),

@@ -5,10 +5,10 @@ use Rattle.std.proofs.lemmas.Bool.{cases_lt, false≢true}
 use Rattle.std.proofs.lemmas.Option.{slice_get_within}
 use Rattle.flat_core.specs.Members.{is_in}
 use Rattle.flat_core.specs.System.{System}
-use Rattle.alias_rules.specs.Below.{IsTakenBelow, IsListedBelow}
+use Rattle.alias_rules.specs.inner.Below.{IsTakenBelow, IsListedBelow}
 use Rattle.alias_rules.specs.Fine.{IsFine, with_tried, IsListed}
 use Rattle.alias_rules.specs.Uses.{IsUpdate}
-use Rattle.alias_rules.proofs.Rising.{in_push, push_old, push_new, increasing_push}
+use Rattle.flat_core.proofs.Rising.{in_push, push_old, push_new, increasing_push}
 use Rattle.alias_rules.proofs.Tried.{tried_above, tried_before}
 
 module _ (s : System) where

@@ -1,7 +1,6 @@
 pub mod Sharing
 pub mod Around
 pub mod Firsts
-pub mod Rising
 pub mod Listed
 pub mod Ordered
 pub mod Empty

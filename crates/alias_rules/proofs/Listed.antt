@@ -7,8 +7,8 @@ use Rattle.std.proofs.lemmas.List.Kept.{AllPairs-from_increasing, AllPairs-filte
 use Rattle.flat_core.specs.Members.{is_in}
 use Rattle.flat_core.specs.System.{System}
 use Rattle.alias_rules.specs.Fine.{IsFine, with_tried, IsListed}
-use Rattle.alias_rules.specs.Laws.{IsFit}
-use Rattle.alias_rules.proofs.Rising.{Rises, rest_rises, above, head_in, same_rising, in_filter}
+use Rattle.alias_rules.specs.inner.Laws.{IsFit}
+use Rattle.flat_core.proofs.Rising.{Rises, rest_rises, above, head_in, same_rising, in_filter}
 
 abbrev pub below : ℕ → ℕ → Bool
 below y x = nat_lt x y

@@ -11,6 +11,6 @@ order_by_fewer s E F fewer order ordered = record {
   agrees = λ a b pair. ordered.agrees a b (fewer a b pair);
 }
 
--- where updates happen in place, each step stands behind those that it needs all the same
+-- where updates happen in place, each step stands after those that it needs all the same
 pub needed_order : (s : System) (set order : List ℕ) → IsOrderBy s (StandsBefore s set) order → IsOrderBy s (MustPrecede s) order
 needed_order s set = order_by_fewer s (StandsBefore s set) (MustPrecede s) (λ a b must. needed must)

@@ -1,7 +1,7 @@
 -- Sharing and aliasing.
 use Rattle.std.proofs.Common.{ℕ, List}
 use Rattle.flat_core.specs.System.{System}
-use Rattle.alias_rules.specs.Laws.{AreStored}
+use Rattle.alias_rules.specs.inner.Laws.{AreStored}
 use Rattle.alias_rules.specs.Roots.{IsRoot}
 use Rattle.alias_rules.specs.Sharing.{Shares, itself, turned, common_root, last_roots, last_root, Alias, same, lasts}
 use Rattle.alias_rules.specs.Uses.{IsStored}

@@ -1,46 +1,28 @@
 -- The least order of all numbers by the pairs of a set has the steps in an order that lets the set happen in place.
-use Rattle.std.proofs.Common.{◌≡◌, ◌&&◌, ◌||◌, ℕ, suc, ◌+◌, ◌<◌, ◌≤◌, Bool, true, cond, List, [], ◌∷◌, ◌++◌, length, eqb, get_or, Contains, Some, refl, sym, ap, subst, ◌∙◌, inl, inr, length-append, arith}
-use Rattle.std.specs.Prelude.{IsTrue, slice_get, nat_le, nat_lt}
-use Rattle.std.specs.List.{IsDistinct, filter}
-use Rattle.std.proofs.lemmas.Bool.{and_from, and_parts, or_cases, or_left, or_right, le-leb, lt-ltb, leb-true, ltb-true}
-use Rattle.std.proofs.lemmas.Bool.Decides.{Decides-eqb}
+use Rattle.std.proofs.Common.{◌≡◌, ℕ, suc, ◌+◌, ◌<◌, cond, List, ◌∷◌, ◌++◌, length, Contains, Some, refl, sym, ap, subst, ◌∙◌, inl, inr, length-append, arith}
+use Rattle.std.specs.Prelude.{IsTrue, nat_le, nat_lt}
+use Rattle.std.specs.List.{filter}
+use Rattle.std.proofs.lemmas.Bool.{and_from, and_parts, or_cases, or_left, or_right, le-leb, lt-ltb, ltb-true}
 use Rattle.std.proofs.lemmas.List.{get_or_append_left}
 use Rattle.std.proofs.lemmas.List.Elements.{filter-append}
-use Rattle.std.proofs.lemmas.List.Kept.{AllPairs-filter}
-use Rattle.std.proofs.lemmas.Map.Made.{AllPairs-from_IsDistinct, IsDistinct-from_AllPairs}
 use Rattle.std.proofs.lemmas.Option.{slice_get_within, slice_get-get_or}
 use Rattle.std.proofs.Math.Seq.{get_or-append_seam}
 use Rattle.flat_core.specs.Members.{is_in}
 use Rattle.flat_core.specs.System.{System, runs, IsProper, OutputsRun}
 use Rattle.flat_core.specs.WellFormed.{IsWellFormed}
-use Rattle.flat_core.proofs.Members.{Contains-in, in-Contains}
+use Rattle.flat_core.proofs.Depth.{runs_below}
 use Rattle.translation_order.specs.Order.{IsLeastOrder}
 use Rattle.translation_order.proofs.Lists.{split_at}
 use Rattle.translation_order.proofs.Orders.{one_order, taken_once}
 use Rattle.alias_rules.specs.Conflict.{StandsBefore, needed, bypasses, takes, TakesBefore, read, printed, passed, written}
 use Rattle.alias_rules.specs.Fine.{IsFinePlan, IsTakenPlan}
-use Rattle.alias_rules.specs.Laws.{AreOnePlan}
+use Rattle.alias_rules.specs.inner.Laws.{AreOnePlan}
 use Rattle.alias_rules.specs.Steps.{print_step, step_count, is_print, is_step, MustPrecede, Precedes, IsOrderBy, IsLeastOrderBy}
 use Rattle.alias_rules.specs.Steps as steps
 use Rattle.alias_rules.specs.Uses.{AreUpdates}
-use Rattle.alias_rules.proofs.Empty.{is_within, source_runs, empty_is_fine}
+use Rattle.alias_rules.proofs.Empty.{source_runs, empty_is_fine}
 use Rattle.alias_rules.proofs.Listed.{listed_fits, one_listed}
-use Rattle.alias_rules.proofs.Rising.{in_filter}
-
--- ---- lists of which some items are kept
-
-module _ (p : ℕ → Bool) where
-  kept_in : (xs : List ℕ) (x : ℕ) → Contains xs x → p x ≡ true → Contains (filter p xs) x
-  kept_in xs x c passes = Contains-in (filter p xs) x (in_filter p xs x ∙ and_from (p x) (is_in xs x) passes (in-Contains xs x c))
-
-  in_kept : (xs : List ℕ) (x : ℕ) → Contains (filter p xs) x → Contains xs x × (p x ≡ true)
-  in_kept xs x c =
-      let parts = and_parts (p x) (is_in xs x) (sym (in_filter p xs x) ∙ in-Contains (filter p xs) x c) in
-      (Contains-in xs x parts.1, parts.0)
-
-  kept_once : (xs : List ℕ) → IsDistinct eqb xs → IsDistinct eqb (filter p xs)
-  kept_once xs once =
-      IsDistinct-from_AllPairs Decides-eqb (filter p xs) (AllPairs-filter (λ x y. x ≡ y → ⊥) p xs (AllPairs-from_IsDistinct Decides-eqb xs once))
+use Rattle.tsl_value.proofs.Lists.{kept_in, in_kept, kept_once}
 
 -- what stands in front of an item stands before it
 stands_before : (front rest : List ℕ) (a b : ℕ) → Contains front a → Precedes (front ++ b ∷ rest) a b
@@ -69,7 +51,7 @@ module _ (s : System) where
 
   step_low : IsProper s → OutputsRun s → (x : ℕ) → IsTrue (is_step s x) → x < step_count s
   step_low proper outputs_run x h = elim (or_cases (runs s x) (is_print s x) h) [
-    | inl run ↦ let low = is_within s proper outputs_run x run in omega arith
+    | inl run ↦ let low = runs_below s proper x run in omega arith
     | inr print ↦ ltb-true x (step_count s) (and_parts (nat_le (length s.equations) x) (nat_lt x (step_count s)) print).1
   ]
 

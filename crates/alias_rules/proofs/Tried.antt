@@ -7,7 +7,7 @@ use Rattle.std.proofs.lemmas.List.Elements.{filter-append}
 use Rattle.flat_core.specs.Members.{is_in}
 use Rattle.alias_rules.specs.Fine.{with_tried}
 use Rattle.alias_rules.proofs.Listed.{below}
-use Rattle.alias_rules.proofs.Rising.{head_in}
+use Rattle.flat_core.proofs.Rising.{head_in}
 
 all_below : (y : ℕ) (xs : List ℕ) → ((x : ℕ) → IsTrue (is_in xs x) → x < y) → filter (below y) xs ≡ xs
 all_below y [] low = refl

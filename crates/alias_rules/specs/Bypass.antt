@@ -2,7 +2,7 @@
 use Rattle.std.specs.Prelude.{◌≡◌, ℕ, List, [], ◌∷◌, Some}
 use Rattle.flat_core.specs.declared.equation.Equation.{Equation}
 use Rattle.flat_core.specs.declared.equation.Op.TheVariants as op
-use Rattle.flat_core.specs.Graph.{Walk}
+use Rattle.translation_order.specs.Graph.{Walk}
 use Rattle.flat_core.specs.System.{System, equation}
 use Rattle.trigger_rules.specs.Question.{Implies, Together}
 use Rattle.alias_rules.specs.Uses.{IsVariable, IsWritten}

@@ -2,7 +2,7 @@
 use Rattle.std.specs.Prelude.{ℕ, ◌↔◌, nat_lt, List, [], ◌∷◌, ◌++◌, IsTrue}
 use Rattle.std.specs.List.{filter}
 use Rattle.std.specs.List.Sorted.{IsStrictlyIncreasing}
-use Rattle.flat_core.specs.Graph.{IsAcyclic}
+use Rattle.translation_order.specs.Graph.{IsAcyclic}
 use Rattle.flat_core.specs.Members.{is_in}
 use Rattle.flat_core.specs.System.{System}
 use Rattle.alias_rules.specs.Uses.{IsUpdate, AreUpdates}

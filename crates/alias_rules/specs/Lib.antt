@@ -6,5 +6,4 @@ pub mod Steps
 pub mod Conflict
 pub mod Fine
 pub mod Outside
-pub mod Below
-pub mod Laws
+pub mod inner

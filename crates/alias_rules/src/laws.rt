@@ -1,7 +1,8 @@
 // Laws of updates in place, as the contracts of functions that do nothing.
 
-ghost use Rattle.alias_rules.specs.Laws.{SharingIsOfStored, AliasedRootsShare, AliasTurns, NoneBypassesItself, OneIsKeptFirst, OneIsNotOverwrittenFirst, OneListedSet, EmptySetIsFine, ListedSetIsFit};
-ghost use Rattle.alias_rules.specs.Laws.{OneLeastOrder, TakenPlanIsFine, OneTakenPlan, SomePlanIsTaken, FineSetHasAnOrder};
+ghost use Rattle.alias_rules.specs.inner.Laws.{SharingIsOfStored, AliasedRootsShare, AliasTurns, NoneBypassesItself, OneIsKeptFirst};
+ghost use Rattle.alias_rules.specs.inner.Laws.{OneIsNotOverwrittenFirst, OneListedSet, EmptySetIsFine, ListedSetIsFit};
+ghost use Rattle.alias_rules.specs.inner.Laws.{OneLeastOrder, TakenPlanIsFine, OneTakenPlan, SomePlanIsTaken, FineSetHasAnOrder};
 
 /// Sharing is of stored variables.
 pub fn sharing_is_of_stored()

@@ -1,4 +1,4 @@
-// Which updates of sets and maps may happen in place.
+//! Which updates of sets and maps may happen in place.
 #![tactic(auto)]
 
 pub mod laws;

@@ -1,5 +1,6 @@
 -- What is told of the updates of a system.
-use Rattle.std.specs.Prelude.{ℕ, ◌-◌, ◌==◌, Bool, false, ◌&&◌, if◌then◌else◌, nat_lt, List, [], ◌∷◌, ◌++◌, Option, Some, None, codes, find, length, slice_get}
+use Rattle.std.specs.Prelude.{ℕ, ◌-◌, ◌==◌, Bool, false, ◌&&◌, if◌then◌else◌, nat_lt, List, [], ◌∷◌, ◌++◌, Option, Some, None, codes, find}
+use Rattle.std.specs.Prelude.{length, slice_get}
 use Rattle.std.specs.List.{filter, flat_map}
 use Rattle.event_writer.specs.Text.{place_text}
 use Rattle.flat_core.specs.declared.equation.Equation.{Equation}

@@ -4,7 +4,8 @@ ghost use Rattle.std.specs.Prelude.{◌≡◌, ◌<◌, ◌∷◌, [], ◌++◌,
 ghost use Rattle.std.specs.List.{flat_map};
 ghost use Rattle.flat_core.specs.System.{equation};
 ghost use Rattle.alias_rules.specs.Uses.{is_update};
-ghost use Rattle.choice_text.specs.Text.{called_text, cycle_text, how_text, is_running_update, label_text, print_label, reason_of, reason_text, running_updates, show_text, step_label, update_at, update_line};
+ghost use Rattle.choice_text.specs.Text.{called_text, cycle_text, how_text, is_running_update, label_text, print_label, reason_of};
+ghost use Rattle.choice_text.specs.Text.{reason_text, running_updates, show_text, step_label, update_at, update_line};
 
 use alias_analysis::reason::Reason;
 use event_writer::place::print_place;
@@ -86,7 +87,7 @@ fn put_step(flat: &Flat, step: u32, out: &mut Bytes) -> Result<(), NoMemory>
     put_print(flat.outputs().get((step - count) as usize), out)
 }
 
-/// Appends what steps are called, each with an arrow behind it.
+/// Appends what steps are called, each with an arrow after it.
 fn put_steps(flat: &Flat, steps: &[u32], out: &mut Bytes) -> Result<(), NoMemory>
     ensures ok { OnOk result (out.new ≡ out.old ++ flat_map (λ y. step_label flat.now y ++ codes " -> ") steps.now) }
     ensures err { OnErr result (take (length out.old) out.new ≡ out.old) }

@@ -11,7 +11,7 @@ use Rattle.flat_core.specs.Members.{is_in}
 use Rattle.flat_core.specs.System.{System, runs}
 use Rattle.flat_core.specs.Fault.{root_at, is_faulty, IsNamed}
 use Rattle.flat_core.specs.Instant.{is_instant, instants}
-use Rattle.flat_core.specs.BoundLaws.{HappensAlike}
+use Rattle.flat_core.specs.inner.BoundLaws.{HappensAlike}
 use Rattle.flat_core.proofs.Locality.{some_before-same}
 use Rattle.flat_core.proofs.Members.{some_from}
 

@@ -9,7 +9,7 @@ use Rattle.flat_core.specs.declared.equation.Equation.{Equation}
 use Rattle.flat_core.specs.Stream.{History, Event, Fault, has_event, is_fault}
 use Rattle.flat_core.specs.Case.{Streams, Inputs, unit, expires, delayed, own_of, used_of, outcome_of, case_of}
 use Rattle.flat_core.specs.Pending.{pending, option_is}
-use Rattle.flat_core.specs.Kept.{IsKept, AreKept}
+use Rattle.flat_core.specs.inner.Kept.{IsKept, AreKept}
 use Rattle.flat_core.specs.System.{System, runs, equation}
 use Rattle.flat_core.specs.Solution.{Solves}
 use Rattle.flat_core.proofs.Locality.{expires-same}

@@ -1,5 +1,5 @@
 -- A complete system of which the needed equations run.
-use Rattle.std.proofs.Common.{◌≡◌, ◌↔◌, ℕ, ◌<◌, ◌≤◌, ◌^◌, List, [], ◌∷◌, length, Some, get_or, sym, subst, arith}
+use Rattle.std.proofs.Common.{◌≡◌, ◌↔◌, ℕ, ◌<◌, ◌≤◌, ◌^◌, List, [], ◌∷◌, length, Some, get_or, refl, sym, subst, arith}
 use Rattle.std.specs.Prelude.{IsTrue, slice_get}
 use Rattle.std.specs.List.{AllByRecursion, Contains}
 use Rattle.std.specs.List.Sorted.{IsStrictlyIncreasing}
@@ -9,18 +9,23 @@ use Rattle.tsl_value.specs.declared.scalar.ValueType.{ValueType}
 use Rattle.flat_core.specs.declared.equation.Op.{Op}
 use Rattle.flat_core.specs.declared.equation.Equation.{Equation}
 use Rattle.flat_core.specs.declared.equation.Output.{Output}
-use Rattle.flat_core.specs.Graph.{stay}
+use Rattle.translation_order.specs.Graph.{stay}
 use Rattle.flat_core.specs.Members.{is_in}
 use Rattle.flat_core.specs.System.{System, equation, IsProper}
 use Rattle.flat_core.specs.Typed.{IsTyped}
-use Rattle.flat_core.specs.TypedSystem.{AreOfTypes, IsTypedEquation, IsTypedSystem}
+use Rattle.flat_core.specs.TypedSystem.{AreOfTypes, IsTypedEquation, IsTypedSystem, IsOfType}
 use Rattle.flat_core.specs.Needed.{HasArgument, IsReached, RunsNeeded}
 use Rattle.flat_core.specs.Complete.{IsComplete, IsFlat}
-use Rattle.flat_core.specs.Marks.{ArgumentsThere}
+use Rattle.flat_core.specs.inner.Marks.{ArgumentsThere}
 use Rattle.flat_core.proofs.Members.{all_from, all_at}
-use Rattle.flat_core.proofs.Walks.{walk_on, walk_keeps}
+use Rattle.translation_order.proofs.PathLemmas.{walk_on, walk_keeps}
+use Rattle.flat_core.specs.declared.limits.TheConstants.{MOST_EQUATIONS}
 
-typed_below : (equations : List Equation) (args : List ℕ) (types : List ValueType) → AreOfTypes equations args types → AllByRecursion (λ a. a < length equations) args
+-- an equation that is there is of its own type
+pub own_type : (equations : List Equation) (a : ℕ) (e : Equation) → slice_get equations a ≡ Some e → IsOfType equations a e.of
+own_type equations a e is = record { at = e; is = is; of_is = refl }
+
+pub typed_below : (equations : List Equation) (args : List ℕ) (types : List ValueType) → AreOfTypes equations args types → AllByRecursion (λ a. a < length equations) args
 typed_below equations [] [] of = tt
 typed_below equations (a ∷ args) (t ∷ types) of = (slice_get_within equations a of.0.at of.0.is, typed_below equations args types of.1)
 typed_below equations [] (t ∷ types) of = absurd of
@@ -65,7 +70,7 @@ module _ (b : System) (complete : IsComplete b) (running : List ℕ) (exact : (i
     runs_all = λ i h. let e = equation_there b.equations i (runs_there i h) in (e.0, e.1, argument_runs i h e.0 e.1);
   }
 
-  pub finished_flat : length b.equations ≤ 4096 → length b.outputs ≤ 2 ^ 31 → IsStrictlyIncreasing running → IsFlat finished
+  pub finished_flat : length b.equations ≤ MOST_EQUATIONS → length b.outputs ≤ 2 ^ 31 → IsStrictlyIncreasing running → IsFlat finished
   finished_flat few_equations few_outputs ascending = record {
     complete = record {
       typed = record { each = complete.typed.each };

@@ -18,7 +18,7 @@ use Rattle.flat_core.specs.Line.{Line, event_in, inputs_of}
 use Rattle.flat_core.specs.System.{System, equation}
 use Rattle.flat_core.specs.Fault.{root_at}
 use Rattle.flat_core.specs.Instant.{is_delay, is_instant}
-use Rattle.flat_core.specs.BoundLaws.{AreFrom, LeavesEarlier}
+use Rattle.flat_core.specs.inner.BoundLaws.{AreFrom, LeavesEarlier}
 use Rattle.flat_core.proofs.Alike.{alike_from}
 
 -- the case of an equation sees the event of its own input at its time, and no other

@@ -7,8 +7,10 @@ pub mod StreamLists
 pub mod PendingLemmas
 pub mod Depth
 pub mod Members
-pub mod Walks
+pub mod Rising
+pub mod Shapes
 pub mod MarkLemmas
+pub mod Spreads
 pub mod Finished
 pub mod Renumbering
 pub mod WellFormedRank
@@ -21,6 +23,7 @@ pub mod Silence
 pub mod Alike
 pub mod LaterLines
 pub mod SmallerBound
+pub mod Instants
 pub mod SameMeaning
 pub mod TypedCase
 pub mod TypedEvents

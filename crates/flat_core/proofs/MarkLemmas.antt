@@ -1,7 +1,8 @@
 -- Marking step by step.
 use Rattle.std.proofs.Common.{◌≡◌, ◌==◌, ℕ, zero, suc, ◌+◌, ◌<◌, ◌||◌, ◌&&◌, not, Bool, true, false, List, [], ◌∷◌, ◌++◌, length, map, replicate, take, get_or, Some, refl, sym, ap, subst, ◌∙◌, add-one, inl, inr, arith}
-use Rattle.std.specs.Prelude.{IsTrue, slice_get}
-use Rattle.std.proofs.lemmas.Bool.{cases_lt, or_cases, or_left, or_right, or_parts, and_parts, cases_Bool, false≢true, eqb-true, eq-eqb}
+use Rattle.std.specs.Prelude.{slice_get}
+use Rattle.std.specs.List.{Contains}
+use Rattle.std.proofs.lemmas.Bool.{cases_lt, or_left, or_right, false≢true, eq-eqb}
 use Rattle.std.proofs.lemmas.Option.{same_Some}
 use Rattle.std.proofs.Math.Bool.{or-false}
 use Rattle.std.proofs.lemmas.List.{length-map, length-replicate, get_or-map, get_or-replicate, get_or_past}
@@ -10,12 +11,12 @@ use Rattle.std.proofs.Math.Seq.{take-suc}
 use Rattle.flat_core.specs.declared.equation.Equation.{Equation}
 use Rattle.flat_core.specs.declared.equation.Output.{Output}
 use Rattle.flat_core.specs.declared.reach.Marks.{Marks}
-use Rattle.flat_core.specs.Graph.{Walk, stay}
+use Rattle.translation_order.specs.Graph.{Walk}
 use Rattle.flat_core.specs.Members.{is_in}
 use Rattle.flat_core.specs.Needed.{HasArgument, IsReached, IsReachedFrom}
-use Rattle.flat_core.specs.Marks.{has_mark, is_marked, is_waiting, AreBelow, ArgumentsThere, ArgumentsMarked, Marked, Spread, Spreading}
+use Rattle.flat_core.specs.inner.Marks.{has_mark, is_marked, is_waiting, AreBelow, ArgumentsThere, Marked, Spread}
 use Rattle.flat_core.proofs.Members.{Contains-in, in-Contains, contains_map, map_contains}
-use Rattle.flat_core.proofs.Walks.{walk_on, walk_keeps}
+use Rattle.translation_order.proofs.PathLemmas.{walk_keeps}
 
 or_turn : (x y m : Bool) → (y || (x || m)) ≡ ((x || y) || m)
 or_turn true true m = refl
@@ -75,90 +76,27 @@ numbers_more number items k m n o x lt is first second =
     marked_more (map number items) k m n o (number x) within read first second
 
 module _ (equations : List Equation) where
-  pub spreading_none : (m : Marks) → ((i : ℕ) → is_marked m i ≡ is_waiting m i) → Spreading equations m m
-  spreading_none m same = record {
-    one_each = refl;
-    kept = λ i h. h;
-    from = λ i h. (i, h, stay);
-    waiting = λ i h. same i ∙ h;
-    closed = λ i h idle. absurd (false≢true (sym idle ∙ sym (same i) ∙ h));
-  }
+  -- the arguments of an equation that is there
+  pub argument_of : (i : ℕ) (e : Equation) → slice_get equations i ≡ Some e → (a : ℕ) → is_in e.args a ≡ true → HasArgument equations i a
+  argument_of i e is a there = record { at = e; is = is; argument = Contains-in e.args a there }
 
-  -- the arguments of an equation that waited are marked, and it waits no longer
-  module _ (m n p o : Marks) (id : ℕ) (e : Equation) (so_far : Spreading equations m n) (same : p.marked.items ≡ n.marked.items) (taken : n.waiting.items ≡ p.waiting.items ++ (id ∷ [])) (is : slice_get equations id ≡ Some e) (more : Marked e.args p o) where
-    waits_in : (i : ℕ) → is_waiting n i ≡ (is_waiting p i || ((id == i) || false))
-    waits_in i = ap (λ xs. is_in xs i) taken ∙ list_any-append (λ j. j == i) p.waiting.items (id ∷ [])
-
-    marks_in : (i : ℕ) → is_marked o i ≡ (is_in e.args i || is_marked n i)
-    marks_in i = more.marks i ∙ ap (λ bs. is_in e.args i || has_mark bs i) same
-
-    on : (i : ℕ) → is_marked n i ≡ true → is_marked o i ≡ true
-    on i h = marks_in i ∙ or_right (is_in e.args i) (is_marked n i) h
-
-    argument : (i : ℕ) → is_in e.args i ≡ true → is_marked o i ≡ true
-    argument i h = marks_in i ∙ or_left (is_in e.args i) (is_marked n i) h
-
-    id_marked : is_marked n id ≡ true
-    id_marked = so_far.waiting id (waits_in id ∙ or_right (is_waiting p id) ((id == id) || false) (or_left (id == id) false (eq-eqb id id refl)))
-
-    from_one : (i : ℕ) → is_marked o i ≡ true → (j : ℕ) × IsTrue (is_marked m j) × Walk (HasArgument equations) j i
-    from_one i h = elim (or_cases (is_in e.args i) (is_marked n i) (sym (marks_in i) ∙ h)) [
-      | inl here ↦ let found = so_far.from id id_marked in (found.0, found.1, walk_on found.2 (record { at = e; is = is; argument = Contains-in e.args i here }))
-      | inr before ↦ so_far.from i before
-    ]
-
-    waiting_one : (i : ℕ) → is_waiting o i ≡ true → is_marked o i ≡ true
-    waiting_one i h = elim (or_cases (is_waiting p i) (is_in e.args i && not (is_marked p i)) (sym (more.waits i) ∙ h)) [
-      | inl old ↦ on i (so_far.waiting i (waits_in i ∙ or_left (is_waiting p i) ((id == i) || false) old))
-      | inr new ↦ argument i (and_parts (is_in e.args i) (not (is_marked p i)) new).0
-    ]
-
-    closed_at : (i : ℕ) → is_marked n i ≡ true → is_waiting p i ≡ false → ArgumentsMarked equations o i
-    closed_at i h idle d found a there = elim (cases_Bool (id == i)) [
-      | inl itself ↦
-          let e_is : e ≡ d = same_Some e d (sym is ∙ ap (slice_get equations) (eqb-true id i itself) ∙ found) in
-          argument a (subst (λ x. is_in x.args a ≡ true) (sym e_is) there)
-      | inr other ↦
-          let idle_n : is_waiting n i ≡ false = waits_in i ∙ (λ k. idle k || (other k || false)) in
-          on a (so_far.closed i h idle_n d found a there)
-    ]
-
-    closed_one : (i : ℕ) → is_marked o i ≡ true → is_waiting o i ≡ false → ArgumentsMarked equations o i
-    closed_one i h idle =
-        let both : (is_waiting p i || (is_in e.args i && not (is_marked p i))) ≡ false = sym (more.waits i) ∙ idle in
-        let idle_p = (or_parts (is_waiting p i) (is_in e.args i && not (is_marked p i)) both).0 in
-        elim (cases_Bool (is_marked n i)) [
-          | inl before ↦ closed_at i before idle_p
-          | inr new ↦
-              let there : is_in e.args i ≡ true = sym (or-false (is_in e.args i)) ∙ ap (λ b. is_in e.args i || b) (sym new) ∙ sym (marks_in i) ∙ h in
-              let new_p : is_marked p i ≡ false = ap (λ bs. has_mark bs i) same ∙ new in
-              let waits : (is_waiting p i || (is_in e.args i && not (is_marked p i))) ≡ true = or_right (is_waiting p i) (is_in e.args i && not (is_marked p i)) (λ k. there k && not (new_p k)) in
-              absurd (false≢true (sym both ∙ waits))
-        ]
-
-    pub spreading_more : Spreading equations m o
-    spreading_more = record {
-      one_each = more.one_each ∙ ap length same ∙ so_far.one_each;
-      kept = λ i h. on i (so_far.kept i h);
-      from = from_one;
-      waiting = waiting_one;
-      closed = closed_one;
-    }
+  pub of_argument : (i : ℕ) (e : Equation) → slice_get equations i ≡ Some e → (a : ℕ) → HasArgument equations i a → is_in e.args a ≡ true
+  of_argument i e is a h = in-Contains e.args a (subst (λ d. Contains d.args a) (same_Some h.at e (sym h.is ∙ is)) h.argument)
 
   -- what is marked in the end is what is reached from what was marked first
-  module _ (starts : List ℕ) (m n o : Marks) (fresh : (i : ℕ) → is_marked m i ≡ false) (begun : Marked starts m n) (spread : Spread equations n o) where
+  module _ (starts : List ℕ) (m n o : Marks) (fresh : (i : ℕ) → is_marked m i ≡ false) (begun : Marked starts m n) (spread : Spread (HasArgument equations) n o) where
     first : (i : ℕ) → is_marked n i ≡ is_in starts i
     first i = begun.marks i ∙ ap (λ b. is_in starts i || b) (fresh i) ∙ or-false (is_in starts i)
 
     pub marked_reached : (i : ℕ) → is_marked o i ≡ true → IsReachedFrom equations starts i
     marked_reached i h =
         let found = spread.from i h in
-        record { start = found.0; among = Contains-in starts found.0 (sym (first found.0) ∙ found.1); walk = found.2 }
+        record { start = found.start; among = Contains-in starts found.start (sym (first found.start) ∙ found.is_start); walk = found.walk }
 
     pub reached_marked : (i : ℕ) → IsReachedFrom equations starts i → is_marked o i ≡ true
     reached_marked i r =
         let start = first r.start ∙ in-Contains starts r.start r.among in
-        walk_keeps (λ j. is_marked o j ≡ true) (λ a b step h. spread.closed a h step.at step.is b (in-Contains step.at.args b step.argument)) r.walk (spread.kept r.start start)
+        walk_keeps (λ j. is_marked o j ≡ true) (λ a b step h. spread.closed a h b step) r.walk (spread.kept r.start start)
 
   -- and the outputs need what is reached from their equations
   pub reached_needed : (outputs : List Output) (i : ℕ) → IsReachedFrom equations (map (λ y. y.equation) outputs) i → IsReached equations outputs i

@@ -15,9 +15,14 @@ use Rattle.flat_core.proofs.Finished.{equation_there}
 use Rattle.flat_core.proofs.Members.{all_map}
 use Rattle.flat_core.proofs.Uniqueness.{all_by}
 
-old_of : {A : Type 0} (g : A → A) (o : Option A) (y : A) → option_map g o ≡ Some y → (x : A) × (o ≡ Some x) × (g x ≡ y)
+pub old_of : {A : Type 0} (g : A → A) (o : Option A) (y : A) → option_map g o ≡ Some y → (x : A) × (o ≡ Some x) × (g x ≡ y)
 old_of g None y is = absurd (cc)
 old_of g (Some x) y is = (x, refl, same_Some (g x) y is)
+
+-- the names of outputs stay different
+pub names_differ : (replaced : List ℕ) (outputs : List Output) → HaveDifferentNames outputs → HaveDifferentNames (map (with_new_equation replaced) outputs)
+names_differ replaced [] differ = tt
+names_differ replaced (o ∷ outputs) differ = (all_map (with_new_equation replaced) (λ p. ¬ (p.name ≡ o.name)) outputs differ.0, names_differ replaced outputs differ.1)
 
 -- without numbers all stays
 pub same_numbers : (ids : List ℕ) → map (new_number []) ids ≡ ids
@@ -67,16 +72,12 @@ module _ (s : System) (replaced running : List ℕ) where
         let count = same_count in
         omega arith
 
-    names_differ : (outputs : List Output) → HaveDifferentNames outputs → HaveDifferentNames (map (with_new_equation replaced) outputs)
-    names_differ [] differ = tt
-    names_differ (o ∷ outputs) differ = (all_map (with_new_equation replaced) (λ p. ¬ (p.name ≡ o.name)) outputs differ.0, names_differ outputs differ.1)
-
     pub renumbered_complete : IsComplete s → IsComplete (renumbered s replaced running)
     renumbered_complete complete = record {
       typed = renumbered_typed complete.typed;
       some_output = (let some = complete.some_output in let count = length-map s.outputs (with_new_equation replaced) in omega arith);
       outputs_there = all_map (with_new_equation replaced) (λ o. o.equation < length (renumbered s replaced running).equations) s.outputs (all_by (λ o. o.equation < length s.equations) (λ o. new_number replaced o.equation < length (renumbered s replaced running).equations) new_there s.outputs complete.outputs_there);
-      names_differ = names_differ s.outputs complete.names_differ;
+      names_differ = names_differ replaced s.outputs complete.names_differ;
       short_texts = all_map (with_new_args replaced) (λ e. HasShortBody e.op) s.equations complete.short_texts;
     }
 

@@ -12,7 +12,7 @@ use Rattle.flat_core.specs.Line.{Line, inputs_of}
 use Rattle.flat_core.specs.System.{System, runs, equation, IsProper}
 use Rattle.flat_core.specs.Fault.{root_at}
 use Rattle.flat_core.specs.Instant.{is_delay, is_instant}
-use Rattle.flat_core.specs.BoundLaws.{HappensAlike, OutputsAgree}
+use Rattle.flat_core.specs.inner.BoundLaws.{HappensAlike, OutputsAgree}
 use Rattle.flat_core.proofs.Alike.{any_same, alike_from}
 use Rattle.flat_core.proofs.Locality.{AgreeBefore, own-same, blocked-same}
 use Rattle.flat_core.proofs.Uniqueness.{all_by, used_all}

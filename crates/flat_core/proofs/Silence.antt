@@ -19,7 +19,7 @@ use Rattle.flat_core.specs.Solution.{Solves}
 use Rattle.flat_core.specs.Typed.{IsTyped, delay, lift}
 use Rattle.flat_core.specs.TypedSystem.{AreOfTypes, IsTypedSystem}
 use Rattle.flat_core.specs.WellFormed.{IsRanked}
-use Rattle.flat_core.specs.BoundLaws.{HappensAtInstants}
+use Rattle.flat_core.specs.inner.BoundLaws.{HappensAtInstants}
 use Rattle.flat_core.proofs.DueLemmas.{delay_kept}
 use Rattle.flat_core.proofs.Members.{none_from, none_in}
 use Rattle.flat_core.proofs.Quiet.{HasArguments, case_of-quiet}

@@ -24,7 +24,7 @@ use Rattle.flat_core.specs.Stream.{History, Fault, event, has_event, latest}
 use Rattle.flat_core.specs.System.{System, equation}
 use Rattle.flat_core.specs.Typed.{IsTyped, input, nil, empty, time, any, last, delay, merge, filter, pick, set_add, set_remove, map_add, map_remove, lift, is_aggregate, unit_type, kind_of}
 use Rattle.flat_core.specs.Typed as typed
-use Rattle.flat_core.specs.TypedEvents.{IsOf, AreOf}
+use Rattle.flat_core.specs.inner.TypedEvents.{IsOf, AreOf}
 use Rattle.flat_core.specs.TypedSystem.{AreOfTypes, IsTypedEquation}
 
 pub is_of_from : (of : ValueType) (v : Option View) → ((x : View) → v ≡ Some x → IsTrue (is_of of x)) → IsOf of v
@@ -54,7 +54,7 @@ pick_typed of (Some (Plain (scalar.Bool true))) (Some a) (Some b) p q = p
 pick_typed of (Some (Plain (scalar.Bool false))) (Some a) (Some b) p q = q
 pick_typed of _ _ _ p q = refl
 
-key_fits : (k : KeyType) (x : Scalar) → IsTrue (is_of (value_type.Scalar (scalar_of k)) (Plain x)) → IsTrue (is_of_key k x)
+pub key_fits : (k : KeyType) (x : Scalar) → IsTrue (is_of (value_type.Scalar (scalar_of k)) (Plain x)) → IsTrue (is_of_key k x)
 key_fits key_type.Int x fit = fit
 key_fits key_type.Bool x fit = fit
 key_fits key_type.Text x fit = fit
@@ -120,7 +120,7 @@ unit_where true = refl
 unit_where false = refl
 
 -- what an operation makes of values of its types
-at_once_typed : (o : Op) (ts : List ValueType) (of : ValueType) → IsTyped o ts of → (values : List (Option View)) → AreOf ts values → (t : ℕ) → FitsAnswer (Optional of) (at_once o of values t)
+pub at_once_typed : (o : Op) (ts : List ValueType) (of : ValueType) → IsTyped o ts of → (values : List (Option View)) → AreOf ts values → (t : ℕ) → FitsAnswer (Optional of) (at_once o of values t)
 at_once_typed op.Input ts of input [] fit t = refl
 at_once_typed op.Input ts of input (v ∷ values) fit t = absurd fit
 at_once_typed op.Nil ts of nil [] fit t = refl

@@ -13,8 +13,8 @@ use Rattle.flat_core.specs.Line.{Line, event_in, inputs_of}
 use Rattle.flat_core.specs.Solution.{Solves}
 use Rattle.flat_core.specs.Stream.{event}
 use Rattle.flat_core.specs.System.{System, runs, equation, IsProper}
-use Rattle.flat_core.specs.TypedEvents.{IsOf, AreTypedInputs, HasTypedEvents}
-use Rattle.flat_core.specs.TypedLines.{AreTypedLines}
+use Rattle.flat_core.specs.inner.TypedEvents.{IsOf, AreTypedInputs, HasTypedEvents}
+use Rattle.flat_core.specs.inner.TypedLines.{AreTypedLines}
 use Rattle.flat_core.specs.TypedSystem.{IsTypedSystem}
 use Rattle.flat_core.specs.WellFormed.{IsRanked}
 use Rattle.flat_core.proofs.TypedCase.{IsTypedAt, IsTypedBefore, is_of_from, is_of_at, merge_typed, case_typed}

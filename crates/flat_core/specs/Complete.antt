@@ -4,16 +4,18 @@ use Rattle.std.specs.List.{AllByRecursion}
 use Rattle.std.specs.List.Sorted.{IsStrictlyIncreasing}
 use Rattle.tsl_value.specs.declared.scalar.Scalar.{Scalar}
 use Rattle.tsl_value.specs.declared.scalar.Scalar.TheVariants as scalar
+use Rattle.tsl_value.specs.declared.limits.TheConstants.{MOST_TEXT_BYTES}
 use Rattle.lift_func.specs.Tree.{Tree, Literal, Argument, Absent, One, Two, Choice}
 use Rattle.flat_core.specs.declared.equation.Op.{Op}
 use Rattle.flat_core.specs.declared.equation.Op.TheVariants as op
 use Rattle.flat_core.specs.declared.equation.Output.{Output}
 use Rattle.flat_core.specs.System.{System, OutputsRun, IsProper}
 use Rattle.flat_core.specs.TypedSystem.{IsTypedSystem}
+use Rattle.flat_core.specs.declared.limits.TheConstants.{MOST_EQUATIONS}
 
 -- a text has at most 65,536 bytes
 abbrev pub IsShort : Scalar → Type 0
-IsShort (scalar.Text bytes) = length bytes ≤ 65536
+IsShort (scalar.Text bytes) = length bytes ≤ MOST_TEXT_BYTES
 IsShort _ = Unit {0}
 
 -- each text of a body has
@@ -45,7 +47,7 @@ pub record IsComplete (s : System) : Type 0 where
 -- what every `Flat` has: the equations of the outputs run, and with each its arguments, in ascending order
 pub record IsFlat (s : System) : Type 0 where
   pub complete : IsComplete s
-  pub few_equations : length s.equations ≤ 4096
+  pub few_equations : length s.equations ≤ MOST_EQUATIONS
   pub few_outputs : length s.outputs ≤ 2 ^ 31
   pub ascending : IsStrictlyIncreasing s.running
   pub outputs_run : OutputsRun s

@@ -3,7 +3,7 @@ use Rattle.std.specs.Prelude.{◌≡◌, ◌↔◌, ℕ, List, Some, IsTrue, sli
 use Rattle.std.specs.List.{Contains}
 use Rattle.flat_core.specs.declared.equation.Equation.{Equation}
 use Rattle.flat_core.specs.declared.equation.Output.{Output}
-use Rattle.flat_core.specs.Graph.{Walk}
+use Rattle.translation_order.specs.Graph.{Walk}
 use Rattle.flat_core.specs.System.{System, runs}
 
 -- an edge from equation i to its argument j

@@ -18,7 +18,8 @@ with_new_equation replaced o = record o { equation = new_number replaced o.equat
 
 -- all else of equations and outputs is as before
 abbrev pub renumbered : System → List ℕ → List ℕ → System
-renumbered s replaced running = record { equations = map (with_new_args replaced) s.equations; outputs = map (with_new_equation replaced) s.outputs; running = running }
+renumbered s replaced running =
+    record { equations = map (with_new_args replaced) s.equations; outputs = map (with_new_equation replaced) s.outputs; running = running }
 
 -- a number for each equation, of an equation of its type
 pub record AreReplacements (s : System) (replaced : List ℕ) : Type 0 where

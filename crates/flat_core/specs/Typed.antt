@@ -40,8 +40,30 @@ pub data IsTyped : Op → List ValueType → ValueType → Type 0 where
   merge : {t : ValueType} → IsTyped op.Merge (t ∷ t ∷ []) t
   filter : {t : ValueType} → IsTyped op.Filter (t ∷ bool_type ∷ []) t
   pick : {t : ValueType} → is_aggregate t ≡ true → IsTyped op.Pick (bool_type ∷ t ∷ t ∷ []) t
-  set_add : {k : KeyType} {t : ScalarType} → t ≡ scalar_of k → IsTyped op.SetAdd (value_type.Set k ∷ value_type.Scalar t ∷ []) (value_type.Set k)
-  set_remove : {k : KeyType} {t : ScalarType} → t ≡ scalar_of k → IsTyped op.SetRemove (value_type.Set k ∷ value_type.Scalar t ∷ []) (value_type.Set k)
-  map_add : {k : KeyType} {t x : ScalarType} → t ≡ scalar_of k → IsTyped op.MapAdd (value_type.Map k x ∷ value_type.Scalar t ∷ value_type.Scalar x ∷ []) (value_type.Map k x)
-  map_remove : {k : KeyType} {t x : ScalarType} → t ≡ scalar_of k → IsTyped op.MapRemove (value_type.Map k x ∷ value_type.Scalar t ∷ []) (value_type.Map k x)
-  lift : {body : Tree} {strict : Bool} {ts : List ValueType} {t : ScalarType} → 1 ≤ length ts → length ts ≤ 8 → HasKind (map (kind_of strict) ts) body (kind_of strict (value_type.Scalar t)) → IsTyped (op.Lift body strict) ts (value_type.Scalar t)
+  -- SetAdd SET KEY
+  set_add :
+      {k : KeyType} {t : ScalarType} →
+      t ≡ scalar_of k →
+      IsTyped op.SetAdd (value_type.Set k ∷ value_type.Scalar t ∷ []) (value_type.Set k)
+  -- SetRemove SET KEY
+  set_remove :
+      {k : KeyType} {t : ScalarType} →
+      t ≡ scalar_of k →
+      IsTyped op.SetRemove (value_type.Set k ∷ value_type.Scalar t ∷ []) (value_type.Set k)
+  -- MapAdd MAP KEY VALUE
+  map_add :
+      {k : KeyType} {t x : ScalarType} →
+      t ≡ scalar_of k →
+      IsTyped op.MapAdd (value_type.Map k x ∷ value_type.Scalar t ∷ value_type.Scalar x ∷ []) (value_type.Map k x)
+  -- MapRemove MAP KEY
+  map_remove :
+      {k : KeyType} {t x : ScalarType} →
+      t ≡ scalar_of k →
+      IsTyped op.MapRemove (value_type.Map k x ∷ value_type.Scalar t ∷ []) (value_type.Map k x)
+  -- Lift BODY a ..
+  lift :
+      {body : Tree} {strict : Bool} {ts : List ValueType} {t : ScalarType} →
+      1 ≤ length ts →
+      length ts ≤ 8 →
+      HasKind (map (kind_of strict) ts) body (kind_of strict (value_type.Scalar t)) →
+      IsTyped (op.Lift body strict) ts (value_type.Scalar t)

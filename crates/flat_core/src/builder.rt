@@ -1,6 +1,7 @@
 // Making a flat system.
 
 ghost use Rattle.std.specs.Prelude.{◌≡◌, ◌<◌, ◌≤◌, ◌^◌, [], ◌∷◌, ◌++◌, length, is_ok, if◌then◌else◌, IfOk};
+ghost use Rattle.flat_core.specs.declared.limits.TheConstants.{MOST_EQUATIONS};
 
 use crate::equation::{Equation, Output};
 use crate::flat::Flat;
@@ -23,6 +24,7 @@ pub struct FlatBuilder {
 impl Model for FlatBuilder {
     ghost use Rattle.std.specs.Prelude.{[], length, ◌≤◌, ◌^◌};
     ghost use Rattle.flat_core.specs.System.{System};
+    ghost use Rattle.flat_core.specs.declared.limits.TheConstants.{MOST_EQUATIONS};
     ghost use Rattle.lift_func.specs.contracts.body.Body as body;
     ghost use Rattle.std.specs.Coded.{codes};
 
@@ -32,7 +34,7 @@ impl Model for FlatBuilder {
 
     ghost view = { λ b. record { equations = b.equations.items; outputs = b.outputs.items; running = [] } };
 
-    ghost invariant = { λ b. (length b.equations.items ≤ 4096) × (length b.outputs.items ≤ 2 ^ 31) };
+    ghost invariant = { λ b. (length b.equations.items ≤ MOST_EQUATIONS) × (length b.outputs.items ≤ 2 ^ 31) };
 }
 
 impl FlatBuilder {
@@ -56,16 +58,17 @@ impl FlatBuilder {
     /// The number of equations.
     pub fn count(&self) -> u32
         ensures count { result ≡ length self.now.equations }
-        ensures few { result ≤ 4096 }
+        ensures few { result ≤ MOST_EQUATIONS }
     {
         self.equations.len() as u32
     }
 
     /// Adds an equation and gives its number, the next one. Its arguments may be numbers that are not made yet.
     pub fn add(&mut self, equation: Equation) -> Result<EqId, NoMemory>
-        requires { length self.old.equations < 4096 }
+        requires { length self.old.equations < MOST_EQUATIONS }
         ensures id { IfOk result (λ id. id ≡ length self.old.equations) }
-        ensures after { self.new ≡ (if is_ok result then record self.old { equations = self.old.equations ++ equation ∷ [] } else self.old) }
+        ensures after { self.new
+            ≡ (if is_ok result then record self.old { equations = self.old.equations ++ equation ∷ [] } else self.old) }
     {
         let id = EqId::new(self.equations.len() as u32);
         self.equations.push(equation)?;
@@ -88,7 +91,7 @@ impl FlatBuilder {
         self.equations[id.get() as usize].name = Some(name);
     }
 
-    /// Adds an output behind the others.
+    /// Adds an output after the others.
     pub fn add_output(&mut self, output: Output) -> Result<(), NoMemory>
         requires { length self.old.outputs < 2 ^ 31 }
         ensures { self.new ≡ (if is_ok result then record self.old { outputs = self.old.outputs ++ output ∷ [] } else self.old) }

@@ -105,7 +105,8 @@ impl Flat {
         requires replaced { AreReplacements self.now replaced.now }
         requires starts { All (λ i. i < length self.now.equations) starts.now }
         ensures ascending { IfOk result (λ s. IsStrictlyIncreasing s) }
-        ensures members { IfOk result (λ s. (i : ℕ) → IsTrue (is_in s i) ↔ IsReachedFrom (map (with_new_args replaced.now) self.now.equations) starts.now i) }
+        ensures members { IfOk result (λ s. (i : ℕ)
+            → IsTrue (is_in s i) ↔ IsReachedFrom (map (with_new_args replaced.now) self.now.equations) starts.now i) }
     {
         reached(alloc, &self.equations, replaced, starts)
     }

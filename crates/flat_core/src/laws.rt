@@ -1,8 +1,9 @@
 // Laws of solutions, as the contracts of functions that do nothing.
 
-ghost use Rattle.flat_core.specs.Laws.{SolutionsAgree, SolutionsExist, WellFormedHasOneSolution};
-ghost use Rattle.flat_core.specs.TypedEvents.{TypedLinesGiveTypedInputs, TypedInputsGiveTypedEvents};
-ghost use Rattle.flat_core.specs.BoundLaws.{LaterLinesLeaveEarlier, SmallerBoundIsSolved, EarlierInstantsComeFirst, AgreeingStreamsMeanTheSame, OneFaultIsNamed, AllHappensAtInstants};
+ghost use Rattle.flat_core.specs.inner.Laws.{SolutionsAgree, SolutionsExist, WellFormedHasOneSolution};
+ghost use Rattle.flat_core.specs.inner.TypedEvents.{TypedLinesGiveTypedInputs, TypedInputsGiveTypedEvents};
+ghost use Rattle.flat_core.specs.inner.BoundLaws.{LaterLinesLeaveEarlier, SmallerBoundIsSolved, EarlierInstantsComeFirst};
+ghost use Rattle.flat_core.specs.inner.BoundLaws.{AgreeingStreamsMeanTheSame, OneFaultIsNamed, AllHappensAtInstants};
 
 /// A system in dependency order has one solution at most.
 pub fn solutions_agree()

@@ -3,9 +3,10 @@
 ghost use Rattle.std.specs.Prelude.{◌≡◌, ◌↔◌, ◌<◌, ◌≤◌, [], ◌∷◌, ℕ, length, map, replicate, false, All, IfOk, OnOk, IsTrue};
 ghost use Rattle.std.specs.List.Sorted.{IsStrictlyIncreasing};
 ghost use Rattle.flat_core.specs.Members.{is_in};
-ghost use Rattle.flat_core.specs.Needed.{IsReached, IsReachedFrom};
-ghost use Rattle.flat_core.specs.Marks.{is_marked, is_waiting, AreBelow, ArgumentsThere, Marked, Spread};
+ghost use Rattle.flat_core.specs.Needed.{HasArgument, IsReached, IsReachedFrom};
+ghost use Rattle.flat_core.specs.inner.Marks.{is_marked, is_waiting, AreBelow, ArgumentsThere, Marked, Spread};
 ghost use Rattle.flat_core.specs.Renumbered.{new_number, with_new_args};
+ghost use Rattle.flat_core.specs.declared.limits.TheConstants.{MOST_EQUATIONS};
 
 use crate::equation::{Equation, Output};
 use crate::lists::EqSet;
@@ -72,7 +73,7 @@ impl Marks {
         requires one_each { length self.old.marked.items ≡ length equations.now }
         requires there { ArgumentsThere (map (with_new_args replaced.now) equations.now) }
         requires all_wait { (i : ℕ) → is_marked self.old i ≡ is_waiting self.old i }
-        ensures { OnOk result (Spread (map (with_new_args replaced.now) equations.now) self.old self.new) }
+        ensures { OnOk result (Spread (HasArgument (map (with_new_args replaced.now) equations.now)) self.old self.new) }
     {
         while let Some(id) = self.waiting.pop() {
             self.mark_all(equations[id.get() as usize].args.ids(), replaced)?;
@@ -82,7 +83,7 @@ impl Marks {
 
     /// The marked equations.
     fn set(&self, alloc: Global) -> Result<EqSet, NoMemory>
-        requires { length self.now.marked.items ≤ 4096 }
+        requires { length self.now.marked.items ≤ MOST_EQUATIONS }
         ensures ascending { IfOk result (λ s. IsStrictlyIncreasing s) }
         ensures members { IfOk result (λ s. (i : ℕ) → is_in s i ≡ is_marked self.now i) }
     {
@@ -102,7 +103,7 @@ pub(crate) fn needed(
     equations: &[Equation],
     outputs: &[Output],
 ) -> Result<EqSet, NoMemory>
-    requires few { length equations.now ≤ 4096 }
+    requires few { length equations.now ≤ MOST_EQUATIONS }
     requires there { ArgumentsThere equations.now }
     requires outputs_there { All (λ o. o.equation < length equations.now) outputs.now }
     ensures ascending { IfOk result (λ s. IsStrictlyIncreasing s) }
@@ -122,11 +123,12 @@ pub(crate) fn reached(
     replaced: &Replacements,
     starts: &[EqId],
 ) -> Result<EqSet, NoMemory>
-    requires few { length equations.now ≤ 4096 }
+    requires few { length equations.now ≤ MOST_EQUATIONS }
     requires there { ArgumentsThere (map (with_new_args replaced.now) equations.now) }
     requires starts_there { AreBelow (length equations.now) starts.now }
     ensures ascending { IfOk result (λ s. IsStrictlyIncreasing s) }
-    ensures members { IfOk result (λ s. (i : ℕ) → IsTrue (is_in s i) ↔ IsReachedFrom (map (with_new_args replaced.now) equations.now) starts.now i) }
+    ensures members { IfOk result (λ s. (i : ℕ)
+        → IsTrue (is_in s i) ↔ IsReachedFrom (map (with_new_args replaced.now) equations.now) starts.now i) }
 {
     let mut marks = Marks::new(alloc, equations.len())?;
     let unchanged = Replacements::new(alloc);

@@ -3,82 +3,54 @@ use Rattle.std.proofs.Common.{◌≡◌, ◌⊎◌, ℕ, zero, suc, ◌<◌, ◌
 use Rattle.std.specs.Prelude.{IsFalse, if◌then◌else◌, slice_get}
 use Rattle.std.specs.List.{AllByRecursion, Contains}
 use Rattle.std.proofs.Math.Seq.{take-append_seam}
-use Rattle.std.proofs.lemmas.Bool.{cases_Bool, cases_lt, true≢false}
-use Rattle.std.proofs.lemmas.Option.{slice_get_within, get_or_from_slice_get}
+use Rattle.std.proofs.lemmas.Bool.{cases_Bool, true≢false}
 use Rattle.lift_func.specs.declared.fault.FaultKind.{FaultKind}
-use Rattle.flat_core.specs.BoundLaws.{HappensAtInstants}
+use Rattle.flat_core.specs.inner.BoundLaws.{HappensAtInstants}
 use Rattle.flat_core.specs.Case.{Streams}
 use Rattle.flat_core.specs.Ending.{EndsInFault, EndsAtLimit}
 use Rattle.flat_core.specs.Fault.{is_faulty}
 use Rattle.flat_core.specs.Instant.{is_instant, instants}
 use Rattle.flat_core.specs.Line.{Line, inputs_of}
 use Rattle.flat_core.specs.System.{System}
-use Rattle.flat_core.proofs.Members.{all_append, all_at, contains_head, contains_tail}
+use Rattle.flat_core.proofs.Members.{all_append, all_at, contains_tail}
 use Rattle.flat_core.proofs.Silence.{happens_at_instants}
 use Rattle.flat_core.proofs.SmallerBound.{instants_first}
 use Rattle.flat_core.proofs.Uniqueness.{all_by}
 use Rattle.flat_core.proofs.WellFormedRank.{rank_of, well_formed_ranked}
-use Rattle.flat_simplify.specs.Solved.{AreSolved, IsSoundBefore}
-use Rattle.flat_simplify.specs.Laws.{IsFit, KeepsFaults, KeepsEnds}
+use Rattle.flat_core.proofs.Instants.{instants_have, instants_below}
+use Rattle.flat_simplify.specs.inner.Solved.{AreSolved, IsSoundBefore}
+use Rattle.flat_simplify.specs.inner.Laws.{IsFit, KeepsFaults, KeepsEnds}
 use Rattle.flat_simplify.proofs.Faults.{first_fault, sound_after, keeps_faults}
 use Rattle.flat_simplify.proofs.Named.{fault_named, named_time}
 use Rattle.flat_simplify.proofs.Streams.{fit}
-use Rattle.flat_simplify.proofs.Text.{all_take, instants_below, instant_same, instants_same}
+use Rattle.tsl_value.proofs.Lists.{all_take, contains_at, get_seam}
+use Rattle.flat_simplify.proofs.Text.{instant_same, instants_same}
 
 -- ---- lists
 
--- what is not behind stands among the first in front, and so whatever comes behind
+-- what is not after stands among the first in front, and so whatever comes after
 front_taken : (n : ℕ) (xs ys more : List ℕ) (t : ℕ) → AllByRecursion (λ y. t < y) ys → Contains (take n (xs ++ ys)) t → Contains (take n (xs ++ more)) t
 front_taken zero xs ys more t late (k, lt, is) = absurd (omega arith)
 front_taken (suc n) [] ys more t late among = let low = all_at (λ y. t < y) (take (suc n) ys) (all_take (λ y. t < y) (suc n) ys late) t among in absurd (omega arith)
 front_taken (suc n) (x ∷ xs) ys more t late (zero, lt, is) = (0, omega arith, is)
 front_taken (suc n) (x ∷ xs) ys more t late (suc k, lt, is) = contains_tail x (take n (xs ++ more)) t (front_taken n xs ys more t late (k, omega arith, is))
 
-get_in : (xs : List ℕ) (k x : ℕ) → slice_get xs k ≡ Some x → Contains xs x
-get_in xs k x is = (k, slice_get_within xs k x is, get_or_from_slice_get xs k x x is)
-
--- an element of two lists behind each other is one of the first, or stands behind it in the second
+-- an element of two lists after each other is one of the first, or stands after it in the second
 get_parts : (xs ys : List ℕ) (k x : ℕ) → slice_get (xs ++ ys) k ≡ Some x → (Contains xs x × (k < length xs)) ⊎ (Contains ys x × (length xs ≤ k))
-get_parts [] ys k x is = inr (get_in ys k x is, omega arith)
-get_parts (y ∷ xs) ys zero x is = inl (get_in (y ∷ xs) zero x is, omega arith)
+get_parts [] ys k x is = inr (contains_at ys k x is, omega arith)
+get_parts (y ∷ xs) ys zero x is = inl (contains_at (y ∷ xs) zero x is, omega arith)
 get_parts (y ∷ xs) ys (suc k) x is = elim (get_parts xs ys k x is) [
   | inl both ↦ let lt = both.1 in inl (contains_tail y xs x both.0, omega arith)
   | inr both ↦ let le = both.1 in inr (both.0, omega arith)
 ]
-
-get_seam : (xs ys : List ℕ) (x : ℕ) → slice_get (xs ++ x ∷ ys) (length xs) ≡ Some x
-get_seam [] ys x = refl
-get_seam (y ∷ xs) ys x = get_seam xs ys x
 
 front_all : (P : ℕ → Type 0) (n : ℕ) (xs ys : List ℕ) → length xs ≤ n → AllByRecursion P (take n (xs ++ ys)) → AllByRecursion P xs
 front_all P n [] ys le all = tt
 front_all P zero (x ∷ xs) ys le all = absurd (omega arith)
 front_all P (suc n) (x ∷ xs) ys le all = (all.0, front_all P n xs ys (omega arith) all.1)
 
-contains_front : (xs ys : List ℕ) (x : ℕ) → Contains xs x → Contains (xs ++ ys) x
-contains_front [] ys x (k, lt, is) = absurd (omega arith)
-contains_front (y ∷ xs) ys x (zero, lt, is) = (0, omega arith, is)
-contains_front (y ∷ xs) ys x (suc k, lt, is) = contains_tail y (xs ++ ys) x (contains_front xs ys x (k, omega arith, is))
-
-contains_behind : (xs ys : List ℕ) (x : ℕ) → Contains ys x → Contains (xs ++ ys) x
-contains_behind [] ys x c = c
-contains_behind (y ∷ xs) ys x c = contains_tail y (xs ++ ys) x (contains_behind xs ys x c)
-
 -- ---- one system
 module _ (s : System) (lines : List Line) (z : Streams) where
-  one : (b : Bool) (n : ℕ) → b ≡ true → Contains (if b then n ∷ [] else []) n
-  one true n is = contains_head n []
-  one false n is = absurd (true≢false (sym is))
-
-  has_instant : (n t : ℕ) → t < n → is_instant s lines z t ≡ true → Contains (instants s lines z n) t
-  has_instant zero t lt is = absurd (omega arith)
-  has_instant (suc n) t lt is = elim (cases_lt t n) [
-    | inl before ↦ contains_front (instants s lines z n) _ t (has_instant n t before is)
-    | inr here ↦
-        let same : n ≡ t = omega arith in
-        contains_behind (instants s lines z n) (if is_instant s lines z n then n ∷ [] else []) t (subst (λ m. Contains (if is_instant s lines z n then n ∷ [] else []) m) same (one (is_instant s lines z n) n (ap (is_instant s lines z) same ∙ is)))
-  ]
-
   module _ (bound limit : ℕ) where
     -- t is an instant, no root fault comes before it, and as many instants as the limit
     record IsNext (t : ℕ) : Type 0 where
@@ -100,7 +72,7 @@ module _ (s : System) (lines : List Line) (z : Streams) where
         let parts = split_at t next.early next.comes in
         let first : take limit (instants s lines z bound) ≡ instants s lines z t = (λ k. take (next.place k) (parts.1 k)) ∙ take-append_seam (instants s lines z t) (t ∷ parts.0) in
         record {
-          next = (λ k. slice_get (parts.1 k) (next.place k)) ∙ get_seam (instants s lines z t) parts.0 t;
+          next = (λ k. slice_get (parts.1 k) (next.place k)) ∙ get_seam (instants s lines z t) t parts.0;
           sound = subst (AllByRecursion (λ n. IsFalse (is_faulty s (inputs_of lines) z n))) (sym first) (all_by (λ n. n < t) (λ n. IsFalse (is_faulty s (inputs_of lines) z n)) next.sound (instants s lines z t) (instants_below s lines z t));
         }
 
@@ -114,7 +86,7 @@ module _ (s : System) (lines : List Line) (z : Streams) where
 
     next_from : HappensAtInstants s lines bound z → (t : ℕ) → EndsAtLimit s lines z bound limit t → IsNext t
     next_from happens t ends =
-        let among = get_in (instants s lines z bound) limit t ends.next in
+        let among = contains_at (instants s lines z bound) limit t ends.next in
         let early = all_at (λ n. n < bound) (instants s lines z bound) (instants_below s lines z bound) t among in
         let comes = all_at (λ n. is_instant s lines z n ≡ true) (instants s lines z bound) (each_is bound) t among in
         let before : List ℕ = instants s lines z t in
@@ -132,7 +104,7 @@ module _ (s : System) (lines : List Line) (z : Streams) where
         record {
           early = early;
           sound = λ n lt. elim (cases_Bool (is_instant s lines z n)) [
-            | inl is ↦ all_at (λ n. IsFalse (is_faulty s (inputs_of lines) z n)) before sound n (has_instant t n lt is)
+            | inl is ↦ all_at (λ n. IsFalse (is_faulty s (inputs_of lines) z n)) before sound n (instants_have s lines z t n lt is)
             | inr none ↦ happens.sound n (omega arith) none
           ];
           place = omega arith;

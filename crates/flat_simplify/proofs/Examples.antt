@@ -12,11 +12,11 @@ use Rattle.flat_core.specs.declared.equation.Equation.{Equation}
 use Rattle.flat_core.specs.declared.equation.Output.{Output}
 use Rattle.flat_core.specs.declared.equation.Op.{Op}
 use Rattle.flat_core.specs.declared.equation.Op.TheVariants as op
-use Rattle.flat_core.specs.Graph.{stay}
+use Rattle.translation_order.specs.Graph.{stay}
 use Rattle.flat_core.specs.Needed.{HasArgument}
 use Rattle.flat_core.specs.System.{System, runs, equation}
 use Rattle.flat_core.specs.Typed.{int_type}
-use Rattle.flat_core.proofs.Walks.{walk_keeps}
+use Rattle.translation_order.proofs.PathLemmas.{walk_keeps}
 use Rattle.trigger_rules.specs.declared.atom.Atom.{Atom}
 use Rattle.trigger_rules.specs.declared.atom.Atom.TheVariants.{Happens}
 use Rattle.trigger_rules.specs.Formula.{Assignment, If, Of, Both, Always, Meets, HasAtom, in_if, in_of, through, both, both_first, both_second}

@@ -19,8 +19,8 @@ use Rattle.flat_core.proofs.PendingLemmas.{some_before_from, none_before_from}
 use Rattle.flat_core.proofs.Uniqueness.{all_by, all_with, used_all}
 use Rattle.flat_simplify.specs.CanFault.{can_fault_op}
 use Rattle.flat_simplify.specs.Replaced.{itself}
-use Rattle.flat_simplify.specs.Solved.{AreSolved, IsSoundBefore, IsFaultTime}
-use Rattle.flat_simplify.specs.Laws.{IsFit, KeepsFaults}
+use Rattle.flat_simplify.specs.inner.Solved.{AreSolved, IsSoundBefore, IsFaultTime}
+use Rattle.flat_simplify.specs.inner.Laws.{IsFit, KeepsFaults}
 use Rattle.flat_simplify.proofs.CannotFault.{never_faults}
 use Rattle.flat_simplify.proofs.Renumbered.{root_moved}
 use Rattle.flat_simplify.proofs.Stands.{new_is}

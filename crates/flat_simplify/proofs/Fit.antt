@@ -1,5 +1,5 @@
 -- What simplification makes is proper, well typed and well-formed.
-use Rattle.std.proofs.Common.{◌≡◌, ℕ, ◌<◌, List, [], ◌∷◌, map, length, drop, Option, Some, None, refl, sym, ap, subst, ◌∙◌, inl, inr, arith}
+use Rattle.std.proofs.Common.{◌≡◌, ℕ, ◌<◌, List, [], ◌∷◌, map, length, Some, refl, sym, ap, subst, ◌∙◌, inl, inr, arith}
 use Rattle.std.specs.Prelude.{IsTrue, slice_get}
 use Rattle.std.specs.Option.{option_map}
 use Rattle.std.specs.List.{AllByRecursion, Contains}
@@ -12,21 +12,23 @@ use Rattle.flat_core.specs.declared.equation.Output.{Output}
 use Rattle.flat_core.specs.declared.equation.Op.{Op}
 use Rattle.flat_core.specs.declared.equation.Op.TheVariants as op
 use Rattle.flat_core.specs.Complete.{HasShortBody, HaveDifferentNames, IsComplete}
-use Rattle.flat_core.specs.Graph.{Path, edge, step, Walk, stay, onward}
+use Rattle.translation_order.specs.Graph.{Path, edge, step, Walk, stay, onward}
 use Rattle.flat_core.specs.Needed.{HasArgument}
 use Rattle.flat_core.specs.Renumbered.{new_number, with_new_args, with_new_equation}
 use Rattle.flat_core.specs.System.{System, runs, equation, OutputsRun, IsProper}
 use Rattle.flat_core.specs.TypedSystem.{IsOfType, AreOfTypes, IsTypedEquation, IsTypedSystem}
 use Rattle.flat_core.specs.WellFormed.{unguarded_of, Needs, IsWellFormed}
-use Rattle.flat_core.proofs.Members.{contains_head, contains_tail, all_from, all_at, all_map, contains_map, map_contains}
+use Rattle.flat_core.proofs.Members.{contains_head, all_from, all_at, all_map, contains_map, map_contains}
 use Rattle.flat_core.proofs.Uniqueness.{all_by}
 use Rattle.flat_core.proofs.WellFormedOrder.{ranked_solution}
 use Rattle.flat_core.proofs.WellFormedRank.{rank_of, well_formed_ranked}
-use Rattle.flat_core.proofs.Walks.{walk_on, walk_keeps}
+use Rattle.translation_order.proofs.PathLemmas.{walk_on, walk_keeps, path_join}
+use Rattle.flat_core.proofs.Depth.{unguarded_in}
+use Rattle.flat_core.proofs.Renumbering.{old_of, names_differ}
 use Rattle.flat_simplify.specs.CanFault.{can_fault_op, CanFault}
 use Rattle.flat_simplify.specs.Replaced.{IsReplaced, StandsFor, itself, through, IsReplacement}
 use Rattle.flat_simplify.specs.Simplified.{Remains, IsRenumbered, IsSimplified}
-use Rattle.flat_simplify.specs.Laws.{IsFit}
+use Rattle.flat_simplify.specs.inner.Laws.{IsFit}
 use Rattle.flat_simplify.proofs.Stands.{runs_on, left_over, same_type, new_stands_at, new_is}
 
 -- ---- paths
@@ -35,13 +37,9 @@ then_walk : {E : ℕ → ℕ → Type 0} {a b c : ℕ} → E a b → Walk E b c 
 then_walk e stay = edge e
 then_walk e (onward f w) = step e (then_walk f w)
 
-path_on : {E : ℕ → ℕ → Type 0} {a b c : ℕ} → Path E a b → Path E b c → Path E a c
-path_on (edge e) q = step e q
-path_on (step e p) q = step e (path_on p q)
-
 path_by : (E F : ℕ → ℕ → Type 0) → ((a b : ℕ) → E a b → Path F a b) → {a b : ℕ} → Path E a b → Path F a b
 path_by E F along {a} {b} (edge e) = along a b e
-path_by E F along (step {a} {b} e p) = path_on (along a b e) (path_by E F along p)
+path_by E F along (step {a} {b} e p) = path_join (along a b e) (path_by E F along p)
 
 -- ---- arguments
 
@@ -52,15 +50,6 @@ unguarded_map f op.Delay [] = refl
 unguarded_map f op.Delay (a ∷ args) = refl
 unguarded_map f o args = refl
 
-rest_in : (args : List ℕ) (a : ℕ) → Contains (drop 1 args) a → Contains args a
-rest_in [] a c = c
-rest_in (x ∷ args) a c = contains_tail x args a c
-
-unguarded_in : (o : Op) (args : List ℕ) (a : ℕ) → Contains (unguarded_of o args) a → Contains args a
-unguarded_in op.Last args a c = rest_in args a c
-unguarded_in op.Delay args a c = rest_in args a c
-unguarded_in o args a c = c
-
 -- an argument of a typed equation is there
 pub argument_there : (equations : List Equation) (args : List ℕ) (types : List ValueType) → AreOfTypes equations args types → (a : ℕ) → Contains args a → (e : Equation) × (slice_get equations a ≡ Some e)
 argument_there equations args types of a c = all_at (λ b. (e : Equation) × (slice_get equations b ≡ Some e)) args (each args types of) a c
@@ -70,10 +59,6 @@ argument_there equations args types of a c = all_at (λ b. (e : Equation) × (sl
     each [] (t ∷ ts) of = tt
     each (x ∷ xs) [] of = absurd of
     each (x ∷ xs) (t ∷ ts) of = ((of.0.at, of.0.is), each xs ts of.1)
-
-old_of : {A : Type 0} (g : A → A) (o : Option A) (y : A) → option_map g o ≡ Some y → (x : A) × (o ≡ Some x) × (g x ≡ y)
-old_of g None y is = absurd (cc)
-old_of g (Some x) y is = (x, refl, same_Some (g x) y is)
 
 module _ (s u : System) (proper : IsProper s) (typed : IsTypedSystem s) (formed : IsWellFormed s) (outputs_run : OutputsRun s) (replaced : List ℕ) (replacement : IsReplacement s replaced) (made : IsRenumbered s replaced u) where
   abbrev new : ℕ → ℕ
@@ -202,16 +187,12 @@ module _ (s u : System) (proper : IsProper s) (typed : IsTypedSystem s) (formed 
   same_count : length u.equations ≡ length s.equations
   same_count = ap length made.equations_are ∙ length-map s.equations (with_new_args replaced)
 
-  names_differ : (outputs : List Output) → HaveDifferentNames outputs → HaveDifferentNames (map (with_new_equation replaced) outputs)
-  names_differ [] differ = tt
-  names_differ (o ∷ outputs) differ = (all_map (with_new_equation replaced) (λ p. ¬ (p.name ≡ o.name)) outputs differ.0, names_differ outputs differ.1)
-
   complete_new : IsComplete s → IsComplete u
   complete_new c = record {
     typed = typed_new;
     some_output = (let same = ap length made.outputs_are ∙ length-map s.outputs (with_new_equation replaced) in let some = c.some_output in omega arith);
     outputs_there = all_by (λ o. IsTrue (runs u o.equation)) (λ o. o.equation < length u.equations) (λ o run. let found = proper_new.runs_all o.equation run in slice_get_within u.equations o.equation found.0 found.1) u.outputs outputs_run_new;
-    names_differ = subst HaveDifferentNames (sym made.outputs_are) (names_differ s.outputs c.names_differ);
+    names_differ = subst HaveDifferentNames (sym made.outputs_are) (names_differ replaced s.outputs c.names_differ);
     short_texts = subst (AllByRecursion (λ e. HasShortBody e.op)) (sym made.equations_are) (all_map (with_new_args replaced) (λ e. HasShortBody e.op) s.equations c.short_texts);
   }
 

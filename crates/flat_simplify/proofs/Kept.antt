@@ -7,7 +7,7 @@ use Rattle.flat_core.specs.declared.equation.Equation.{Equation}
 use Rattle.flat_core.specs.Renumbered.{with_new_args}
 use Rattle.flat_core.specs.System.{System}
 use Rattle.flat_simplify.specs.Simplified.{IsSimplified}
-use Rattle.flat_simplify.specs.Laws.{without_args, KeepsEquations}
+use Rattle.flat_simplify.specs.inner.Laws.{without_args, KeepsEquations}
 
 pub equations_kept : (s u : System) → IsSimplified s u → KeepsEquations s u
 equations_kept s u made =

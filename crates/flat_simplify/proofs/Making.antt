@@ -12,9 +12,9 @@ use Rattle.flat_core.specs.declared.equation.Equation.{Equation}
 use Rattle.flat_core.specs.declared.equation.Output.{Output}
 use Rattle.flat_core.specs.Case.{used_of}
 use Rattle.flat_core.specs.Complete.{IsFlat}
-use Rattle.flat_core.specs.Dependency.{with_one, IsOrdered, IsRunOrder}
+use Rattle.flat_core.specs.inner.Dependency.{with_one, IsOrdered, IsRunOrder}
 use Rattle.flat_core.specs.Members.{is_in}
-use Rattle.flat_core.specs.Graph.{Walk}
+use Rattle.translation_order.specs.Graph.{Walk}
 use Rattle.flat_core.specs.Needed.{HasArgument, IsReachedFrom}
 use Rattle.flat_core.specs.Renumbered.{new_number, with_new_args, with_new_equation, renumbered, AreReplacements}
 use Rattle.flat_core.specs.System.{System, runs, equation}
@@ -24,7 +24,7 @@ use Rattle.flat_core.proofs.Members.{all_at, contains_head, contains_map, map_co
 use Rattle.flat_simplify.specs.CanFault.{can_fault_op, CanFault}
 use Rattle.flat_simplify.specs.Replaced.{IsReplaced, StandsFor, IsReplacement}
 use Rattle.flat_simplify.specs.Simplified.{IsStart, Remains, IsRenumbered, IsSimplified}
-use Rattle.flat_simplify.specs.Laws.{IsFit}
+use Rattle.flat_simplify.specs.inner.Laws.{IsFit}
 use Rattle.flat_simplify.proofs.Fit.{fit}
 use Rattle.flat_simplify.proofs.Stands.{same_type, new_stands_at}
 

@@ -8,7 +8,7 @@ use Rattle.flat_core.specs.Fault.{root_at, is_faulty, IsNamed}
 use Rattle.flat_core.specs.System.{System, runs}
 use Rattle.flat_core.proofs.Alike.{named_faulty}
 use Rattle.flat_core.proofs.Members.{some_in}
-use Rattle.flat_simplify.specs.Solved.{IsFaultTime}
+use Rattle.flat_simplify.specs.inner.Solved.{IsFaultTime}
 
 module _ (s : System) (inputs : Inputs) (z : Streams) (t : ℕ) where
   abbrev NoneBelow : ℕ → Type 0

@@ -1,26 +1,21 @@
 -- The sample is a complete system.
-use Rattle.std.proofs.Common.{◌≡◌, ℕ, ◌<◌, ◌≤◌, List, [], ◌∷◌, length, take, take_all, Some, refl, sym, ap, subst, ◌∙◌, arith, lit<}
-use Rattle.std.specs.Prelude.{slice_get}
+use Rattle.std.proofs.Common.{◌≡◌, ℕ, ◌<◌, ◌≤◌, [], ◌∷◌, length, take, take_all, refl, sym, ap, subst, ◌∙◌, arith, lit<}
 use Rattle.std.specs.List.{AllByRecursion}
 use Rattle.lift_func.specs.Typing.{argument, one, neg}
-use Rattle.flat_core.specs.declared.equation.Equation.{Equation}
 use Rattle.flat_core.specs.declared.equation.Output.{Output}
 use Rattle.flat_core.specs.Complete.{HasShortBody, HaveDifferentNames, IsComplete}
 use Rattle.flat_core.specs.System.{System}
 use Rattle.flat_core.specs.Typed.{input, merge, lift, int_type}
-use Rattle.flat_core.specs.TypedSystem.{IsOfType, IsTypedEquation}
-use Rattle.flat_core.proofs.Finished.{typed_from_all}
-use Rattle.flat_simplify.specs.Sample.{sample_equations}
-
-there : (a : ℕ) (e : Equation) → slice_get sample_equations a ≡ Some e → IsOfType sample_equations a e.of
-there a e is = record { at = e; is = is; of_is = refl }
+use Rattle.flat_core.specs.TypedSystem.{IsTypedEquation}
+use Rattle.flat_core.proofs.Finished.{typed_from_all, own_type}
+use Rattle.flat_simplify.specs.inner.Sample.{sample_equations}
 
 typed : AllByRecursion (IsTypedEquation sample_equations) sample_equations
 typed = (
   record { types = []; arguments = tt; typed = input },
   (
-    record { types = int_type ∷ []; arguments = (there 0 _ refl, tt); typed = lift (omega arith) (omega arith) (one (argument refl) neg) },
-    (record { types = int_type ∷ int_type ∷ []; arguments = (there 0 _ refl, (there 1 _ refl, tt)); typed = merge }, tt),
+    record { types = int_type ∷ []; arguments = (own_type sample_equations 0 _ refl, tt); typed = lift (omega arith) (omega arith) (one (argument refl) neg) },
+    (record { types = int_type ∷ int_type ∷ []; arguments = (own_type sample_equations 0 _ refl, (own_type sample_equations 1 _ refl, tt)); typed = merge }, tt),
   ),
 )
 

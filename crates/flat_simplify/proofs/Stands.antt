@@ -13,7 +13,7 @@ use Rattle.flat_core.specs.WellFormed.{unguarded_of, IsWellFormed}
 use Rattle.flat_core.proofs.WellFormedRank.{rank_of, rank_falls}
 use Rattle.flat_simplify.specs.Replaced.{IsReplaced, StandsFor, itself, through, IsReplacement}
 use Rattle.flat_core.specs.Renumbered.{new_number}
-use Rattle.flat_simplify.specs.Laws.{IsStandIn}
+use Rattle.flat_simplify.specs.inner.Laws.{IsStandIn}
 
 -- both arguments of a merge have its type
 merged_types : (equations : List Equation) (a b : ℕ) (types : List ValueType) (t : ValueType) → IsTyped op.Merge types t → AreOfTypes equations (a ∷ b ∷ []) types → IsOfType equations a t

@@ -12,12 +12,12 @@ use Rattle.flat_core.specs.System.{System, runs, equation}
 use Rattle.flat_core.proofs.Locality.{AgreeBefore, case_of-same}
 use Rattle.flat_core.proofs.Uniqueness.{all_by, all_used, all_with, used_all}
 use Rattle.flat_core.proofs.WellFormedRank.{rank_of, well_formed_ranked}
-use Rattle.trigger_rules.specs.Firing.{IsUpToFault}
+use Rattle.trigger_rules.specs.inner.Firing.{IsUpToFault}
 use Rattle.trigger_rules.proofs.Times.{all_are_clear, implied}
 use Rattle.flat_simplify.specs.Replaced.{StandsFor, itself, through}
 use Rattle.flat_core.specs.Renumbered.{new_number, with_new_args}
-use Rattle.flat_simplify.specs.Solved.{AreSolved, IsSoundBefore}
-use Rattle.flat_simplify.specs.Laws.{IsFit, KeepsStreams}
+use Rattle.flat_simplify.specs.inner.Solved.{AreSolved, IsSoundBefore}
+use Rattle.flat_simplify.specs.inner.Laws.{IsFit, KeepsStreams}
 use Rattle.flat_simplify.proofs.Fit.{new_equation, arguments_run, simplified_fit}
 use Rattle.flat_simplify.proofs.Renumbered.{case_moved}
 use Rattle.flat_simplify.proofs.Stands.{merged_run, replaced_falls, new_stands_at, new_is}

@@ -5,6 +5,7 @@ use Rattle.std.specs.List.{AllByRecursion, list_any, filter, flat_map}
 use Rattle.std.proofs.lemmas.Bool.{and_from, and_parts, false≢true}
 use Rattle.std.proofs.lemmas.List.Folds.{flat_map-map}
 use Rattle.tsl_value.specs.View.{View}
+use Rattle.tsl_value.proofs.Lists.{all_take, filter_none, flat_map_same}
 use Rattle.flat_core.specs.declared.equation.Equation.{Equation}
 use Rattle.flat_core.specs.declared.equation.Output.{Output}
 use Rattle.flat_core.specs.declared.equation.Op.{Op}
@@ -16,15 +17,16 @@ use Rattle.flat_core.specs.Instant.{is_delay_op, is_delay, is_instant, instants}
 use Rattle.flat_core.specs.Line.{Line, inputs_of, is_line_on}
 use Rattle.flat_core.specs.System.{System, runs, equation}
 use Rattle.flat_core.specs.Text.{event_line, text_at, due_instants, due_text}
-use Rattle.flat_core.proofs.Members.{all_append, all_at, all_from, some_from, some_in}
+use Rattle.flat_core.proofs.Members.{all_at, all_from, some_from, some_in}
 use Rattle.flat_core.proofs.PendingLemmas.{some_before_from, none_before_from}
 use Rattle.flat_core.proofs.SmallerBound.{instants_first}
 use Rattle.flat_core.proofs.Uniqueness.{all_by}
 use Rattle.flat_simplify.specs.CanFault.{can_fault_op}
 use Rattle.flat_simplify.specs.Replaced.{itself}
 use Rattle.flat_core.specs.Renumbered.{new_number, with_new_equation}
-use Rattle.flat_simplify.specs.Solved.{AreSolved, IsSoundBefore}
-use Rattle.flat_simplify.specs.Laws.{IsFit, KeepsText}
+use Rattle.flat_core.proofs.Instants.{instants_below}
+use Rattle.flat_simplify.specs.inner.Solved.{AreSolved, IsSoundBefore}
+use Rattle.flat_simplify.specs.inner.Laws.{IsFit, KeepsText}
 use Rattle.flat_simplify.proofs.Faults.{first_fault, sound_after, keeps_faults}
 use Rattle.flat_simplify.proofs.Streams.{fit, new_equation_at, new_for, sound_kept, kept}
 
@@ -35,37 +37,13 @@ same_test true c to from = sym (to refl)
 same_test false true to from = absurd (false≢true (from refl))
 same_test false false to from = refl
 
-pub all_take : (P : ℕ → Type 0) (n : ℕ) (xs : List ℕ) → AllByRecursion P xs → AllByRecursion P (take n xs)
-all_take P zero xs all = tt
-all_take P (suc n) [] all = tt
-all_take P (suc n) (x ∷ xs) all = (all.0, all_take P n xs all.1)
-
-filter_none : (p : ℕ → Bool) (xs : List ℕ) → AllByRecursion (λ x. p x ≡ false) xs → filter p xs ≡ []
-filter_none p [] none = refl
-filter_none p (x ∷ xs) none = (λ k. cond (none.0 k) (x ∷ filter p xs) (filter p xs)) ∙ filter_none p xs none.1
-
--- where a test holds in front and not behind, those of the first that pass it are the first in front
+-- where a test holds in front and not after, those of the first that pass it are the first in front
 filter_front : (p : ℕ → Bool) (n : ℕ) (xs ys : List ℕ) → AllByRecursion (λ x. p x ≡ true) xs → AllByRecursion (λ y. p y ≡ false) ys → filter p (take n (xs ++ ys)) ≡ take n xs
 filter_front p zero xs ys all none = refl
 filter_front p (suc n) [] ys all none = filter_none p (take (suc n) ys) (all_take (λ y. p y ≡ false) (suc n) ys none)
 filter_front p (suc n) (x ∷ xs) ys all none = (λ k. cond (all.0 k) (x ∷ filter p (take n (xs ++ ys))) (filter p (take n (xs ++ ys)))) ∙ ap (λ l. x ∷ l) (filter_front p n xs ys all.1 none)
 
-flat_map_same : {A : Type 0} (f g : A → List ℕ) (xs : List A) → AllByRecursion (λ x. f x ≡ g x) xs → flat_map f xs ≡ flat_map g xs
-flat_map_same f g [] all = refl
-flat_map_same f g (x ∷ xs) all = let rest = flat_map_same f g xs all.1 in λ k. all.0 k ++ rest k
-
 -- ---- instants
-
-all_one : (P : ℕ → Type 0) (b : Bool) (n : ℕ) → P n → AllByRecursion P (if b then n ∷ [] else [])
-all_one P true n p = (p, tt)
-all_one P false n p = tt
-
-pub instants_below : (s : System) (lines : List Line) (z : Streams) (n : ℕ) → AllByRecursion (λ t. t < n) (instants s lines z n)
-instants_below s lines z zero = tt
-instants_below s lines z (suc n) =
-    all_append (λ t. t < suc n) (instants s lines z n) (if is_instant s lines z n then n ∷ [] else [])
-    (all_by (λ t. t < n) (λ t. t < suc n) (λ t lt. omega arith) (instants s lines z n) (instants_below s lines z n))
-    (all_one (λ t. t < suc n) (is_instant s lines z n) n (omega arith))
 
 -- where no root fault comes before a time, and from it on it is over, the due instants are the first before it
 due_front : (s : System) (lines : List Line) (z : Streams) (bound f limit : ℕ) → f ≤ bound → IsSoundBefore s (inputs_of lines) z f → ((t : ℕ) → f ≤ t → t < bound → is_over s (inputs_of lines) z t ≡ true) → due_instants s lines z bound limit ≡ take limit (instants s lines z f)

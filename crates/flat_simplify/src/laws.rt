@@ -1,6 +1,7 @@
 // Laws of simplification, as the contracts of functions that do nothing.
 
-ghost use Rattle.flat_simplify.specs.Laws.{StandInsFit, OneStandsForEach, OneIsSimplified, ReplacementsExist, EquationsAreKept, SimplifiedIsFit, StreamsAreKept, FaultsAreKept, TextIsKept, EndsAreKept};
+ghost use Rattle.flat_simplify.specs.inner.Laws.{StandInsFit, OneStandsForEach, OneIsSimplified, ReplacementsExist, EquationsAreKept};
+ghost use Rattle.flat_simplify.specs.inner.Laws.{SimplifiedIsFit, StreamsAreKept, FaultsAreKept, TextIsKept, EndsAreKept};
 
 /// What stands for a running equation runs, is not replaced and has its type.
 pub fn stand_ins_fit()

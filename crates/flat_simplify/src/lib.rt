@@ -1,7 +1,5 @@
-// Simplification of flat systems: merges that give way to their first argument.
+//! Simplification of flat systems: merges that give way to their first argument.
 #![tactic(auto)]
 
 pub mod laws;
 pub mod simplify;
-#[cfg(test)]
-mod tests;

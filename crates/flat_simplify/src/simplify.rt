@@ -2,10 +2,10 @@
 
 ghost use Rattle.std.specs.Prelude.{◌≡◌, ℕ, ◌<◌, ◌∷◌, [], ◌↔◌, ◌⊎◌, length, map, IfOk, OnOk, MatchOption, All};
 ghost use Rattle.std.specs.List.{Contains};
-ghost use Rattle.flat_core.specs.Dependency.{IsRunOrder};
+ghost use Rattle.flat_core.specs.inner.Dependency.{IsRunOrder};
 ghost use Rattle.flat_core.specs.Renumbered.{new_number};
 ghost use Rattle.flat_core.specs.WellFormed.{IsWellFormed};
-ghost use Rattle.trigger_formulas.specs.Kept.{AreTriggersOf};
+ghost use Rattle.trigger_formulas.specs.inner.Kept.{AreTriggersOf};
 ghost use Rattle.flat_simplify.specs.CanFault.{can_fault_op, CanFault};
 ghost use Rattle.flat_simplify.specs.Replaced.{IsReplaced, IsReplacedBy, StandsFor, IsReplacement};
 ghost use Rattle.flat_simplify.specs.Simplified.{IsStart, IsSimplified};
@@ -13,9 +13,9 @@ ghost use Rattle.flat_simplify.specs.Simplified.{IsStart, IsSimplified};
 use flat_core::equation::{Equation, Op, Output};
 use flat_core::flat::Flat;
 use flat_core::replacements::Replacements;
-use flat_core::steps::Steps;
 use recursion_check::check::{CycleFault, run_order};
 use std::alloc::Global;
+use translation_order::steps::Steps;
 use trigger_formulas::triggers::Triggers;
 use tsl_value::ids::EqId;
 use tsl_value::memory::NoMemory;
@@ -44,7 +44,8 @@ fn pair(ids: &[EqId]) -> Option<(EqId, EqId)>
 
 /// What an equation merges.
 fn merged(equation: &Equation) -> Option<(EqId, EqId)>
-    ensures { MatchOption result ((a b : ℕ) → equation.now.op ≡ Op.Merge → equation.now.args ≡ a ∷ b ∷ [] → ⊥) (λ p. (equation.now.op ≡ Op.Merge) × (equation.now.args ≡ p.0 ∷ p.1 ∷ [])) }
+    ensures { MatchOption result ((a b : ℕ) → equation.now.op ≡ Op.Merge → equation.now.args ≡ a ∷ b ∷ [] → ⊥)
+        (λ p. (equation.now.op ≡ Op.Merge) × (equation.now.args ≡ p.0 ∷ p.1 ∷ [])) }
 {
     match &equation.op {
         Op::Merge => pair(equation.args.ids()),

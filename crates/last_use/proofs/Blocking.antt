@@ -9,13 +9,13 @@ use Rattle.flat_core.specs.Complete.{IsFlat}
 use Rattle.flat_core.specs.Members.{is_in}
 use Rattle.flat_core.specs.System.{System}
 use Rattle.flat_core.specs.WellFormed.{IsWellFormed}
-use Rattle.alias_rules.specs.Below.{IsListedBelow}
+use Rattle.alias_rules.specs.inner.Below.{IsListedBelow}
 use Rattle.alias_rules.specs.Fine.{IsFine, with_tried}
 use Rattle.alias_rules.specs.Uses.{IsUpdate, AreUpdates}
 use Rattle.alias_rules.proofs.Listed.{below}
-use Rattle.alias_rules.proofs.Rising.{same_rising, in_filter, in_push}
-use Rattle.last_use.specs.Beginning.{NoneIsNil}
-use Rattle.last_use.specs.Blocks.{IsUpdateWithin, IsWithBlock}
+use Rattle.flat_core.proofs.Rising.{same_rising, in_filter, in_push}
+use Rattle.last_use.specs.inner.Beginning.{NoneIsNil}
+use Rattle.last_use.specs.inner.Blocks.{IsUpdateWithin, IsWithBlock}
 use Rattle.last_use.proofs.Fewer.{fewer_are_fine}
 
 -- ---- a block as it is made

@@ -13,12 +13,12 @@ use Rattle.flat_core.proofs.Members.{in-Contains, map_contains}
 use Rattle.alias_rules.specs.Fine.{IsFine, with_tried, IsListed}
 use Rattle.alias_rules.specs.Uses.{IsUpdate, AreUpdates}
 use Rattle.alias_rules.proofs.Below.{none_listed, listed_low, tried_is, listed_same, listed_more, update_low, all_listed}
-use Rattle.alias_rules.proofs.Rising.{in_push, push_old, push_new, increasing_push}
+use Rattle.flat_core.proofs.Rising.{in_push, push_old, push_new, increasing_push}
 use Rattle.alias_rules.proofs.Tried.{tried_before}
 use Rattle.alias_analysis.specs.declared.reason.Reason.{Reason}
-use Rattle.last_use.specs.Beginning.{NoneIsNil}
-use Rattle.last_use.specs.Blocks.{IsWithBlock}
-use Rattle.last_use.specs.Choosing.{IsOutsideBelow, IsChosenBelow}
+use Rattle.last_use.specs.inner.Beginning.{NoneIsNil}
+use Rattle.last_use.specs.inner.Blocks.{IsWithBlock}
+use Rattle.last_use.specs.inner.Choosing.{IsOutsideBelow, IsChosenBelow}
 use Rattle.last_use.specs.Reasons.{IsReason, updates_of, AreReasons}
 use Rattle.last_use.proofs.Blocking.{block_old, tried_same, block_listed}
 use Rattle.last_use.proofs.Reasoning.{none_where_fine}

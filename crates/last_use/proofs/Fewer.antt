@@ -7,12 +7,12 @@ use Rattle.std.proofs.lemmas.Bool.{cases_Bool, false≢true}
 use Rattle.std.proofs.lemmas.Option.{slice_get_within, same_Some}
 use Rattle.flat_core.specs.Complete.{IsFlat}
 use Rattle.flat_core.specs.declared.equation.Equation.{Equation}
-use Rattle.flat_core.specs.Graph.{Walk, stay, onward, Path, edge}
+use Rattle.translation_order.specs.Graph.{Walk, stay, onward, Path, edge}
 use Rattle.flat_core.specs.Members.{is_in}
 use Rattle.flat_core.specs.System.{System, equation, runs}
 use Rattle.flat_core.specs.WellFormed.{unguarded_of, Needs, IsWellFormed}
 use Rattle.flat_core.proofs.Members.{all_at}
-use Rattle.flat_core.proofs.Walks.{walk_on}
+use Rattle.translation_order.proofs.PathLemmas.{walk_on, path_on}
 use Rattle.translation_order.proofs.Alike.{path_alike}
 use Rattle.trigger_rules.specs.Question.{Together}
 use Rattle.alias_rules.specs.Bypass.{PassesOver, GoesAround, Bypasses}
@@ -23,8 +23,8 @@ use Rattle.alias_rules.specs.Sharing.{Shares, itself, turned, common_root, last_
 use Rattle.alias_rules.specs.Uses.{is_update, IsVariable, IsLast, IsWritten}
 use Rattle.alias_analysis.proofs.Rooting.{walk_as}
 use Rattle.alias_analysis.proofs.Sharers.{last_origin}
-use Rattle.last_use.specs.Beginning.{NoneIsNil}
-use Rattle.last_use.proofs.Descent.{path_on, descend}
+use Rattle.last_use.specs.inner.Beginning.{NoneIsNil}
+use Rattle.translation_order.proofs.Descent.{descend}
 use Rattle.last_use.proofs.Ways.{IsAggregateAt, Way, begins, is_nil, passes, writes, way, passed_needed, written_needed, unguarded_argument, begins_outside}
 
 walk_join : {E : ℕ → ℕ → Type 0} {a b c : ℕ} → Walk E a b → Walk E b c → Walk E a c

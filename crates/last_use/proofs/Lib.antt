@@ -1,5 +1,4 @@
 pub mod Reasoning
-pub mod Descent
 pub mod Ways
 pub mod Fewer
 pub mod Blocking

@@ -1,10 +1,10 @@
 -- What is answered for the pairs of a set is what the set asks for.
 use Rattle.std.proofs.Common.{ℕ, List, Ok, Err}
 use Rattle.std.specs.Prelude.{◌↔◌, Result, IfOk, OnOk, IfErr}
-use Rattle.flat_core.specs.Graph.{IsAcyclic}
+use Rattle.translation_order.specs.Graph.{IsAcyclic}
 use Rattle.translation_order.specs.declared.order.OrderFault.{OrderFault}
 use Rattle.translation_order.specs.declared.order.OrderFault.TheVariants.{CycleOf, Memory}
-use Rattle.translation_order.specs.Answer.{OnCycle}
+use Rattle.translation_order.specs.inner.Answer.{OnCycle}
 use Rattle.translation_order.specs.Cycle.{IsCycleOfWalk}
 use Rattle.translation_order.specs.Order.{Before, IsLeastOrder}
 use Rattle.translation_order.proofs.Alike.{path_alike, walk_alike}

@@ -8,7 +8,7 @@ use Rattle.alias_rules.specs.Steps.{step_count}
 use Rattle.alias_rules.proofs.Firsts.{one_first}
 use Rattle.alias_analysis.specs.declared.reason.Reason.{Reason}
 use Rattle.alias_analysis.specs.declared.reason.Reason.TheVariants.{Kept, NotOverwritten, Cycle}
-use Rattle.alias_analysis.specs.Answer.{IsFirstConflict}
+use Rattle.alias_analysis.specs.inner.Answer.{IsFirstConflict}
 use Rattle.last_use.specs.Reasons.{IsReason}
 
 module _ (s : System) (set : List ℕ) where

@@ -4,7 +4,7 @@ use Rattle.std.specs.List.{AllByRecursion}
 use Rattle.flat_core.specs.declared.equation.Output.{Output}
 use Rattle.flat_core.specs.Complete.{HaveDifferentNames, IsComplete}
 use Rattle.flat_core.specs.System.{System}
-use Rattle.program_text.specs.Sample.{sample_equations, sample_outputs}
+use Rattle.program_text.specs.inner.Sample.{sample_equations, sample_outputs}
 use Rattle.program_text.proofs.SampleLemmas.{sample_complete}
 
 pub with_output : (b : System) (o : Output) → b.equations ≡ sample_equations → b.outputs ≡ o ∷ [] → o.equation < 14 → IsComplete b

@@ -9,10 +9,10 @@ use Rattle.std.proofs.lemmas.List.Kept.{AllPairs-from_increasing}
 use Rattle.flat_core.specs.Members.{is_in}
 use Rattle.flat_core.proofs.Members.{Contains-in}
 use Rattle.alias_rules.specs.Fine.{with_tried}
-use Rattle.alias_rules.proofs.Rising.{same_rising, in_push, push_old, push_new, increasing_push}
+use Rattle.flat_core.proofs.Rising.{same_rising, in_push, push_old, push_new, increasing_push}
 use Rattle.alias_rules.proofs.Tried.{tried_above}
 
--- what is pushed behind all others stands at the end
+-- what is pushed after all others stands at the end
 pub pushed_last : (xs new : List ℕ) (y : ℕ) → IsStrictlyIncreasing xs → IsStrictlyIncreasing new → ((x : ℕ) → IsTrue (is_in xs x) → x < y) → ((x : ℕ) → is_in new x ≡ ((y == x) || is_in xs x)) → new ≡ xs ++ y ∷ []
 pushed_last xs new y up new_up low members =
     same_rising new (xs ++ y ∷ []) (AllPairs-from_increasing new new_up) (AllPairs-from_increasing (xs ++ y ∷ []) (increasing_push xs y up low))

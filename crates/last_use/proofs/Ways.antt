@@ -9,7 +9,7 @@ use Rattle.flat_core.specs.declared.equation.Op.TheVariants as op
 use Rattle.flat_core.specs.Typed.{is_aggregate, IsTyped, input, nil, unit, empty, time, any, last, delay, merge, filter, pick, set_add, set_remove, map_add, map_remove, lift}
 use Rattle.flat_core.specs.TypedSystem.{IsOfType, AreOfTypes}
 use Rattle.flat_core.specs.WellFormed.{unguarded_of}
-use Rattle.translation_order.proofs.Lists.{here, later, none_in_nil, cons_cases}
+use Rattle.tsl_value.proofs.Lists.{here, later, none_in_nil, cons_cases}
 use Rattle.alias_rules.specs.Roots.{begins_content}
 use Rattle.alias_rules.specs.Uses.{is_update, first_of, passed_of, written_of}
 

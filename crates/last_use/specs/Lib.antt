@@ -1,5 +1,2 @@
 pub mod Reasons
-pub mod Beginning
-pub mod Blocks
-pub mod Choosing
-pub mod Laws
+pub mod inner

@@ -8,8 +8,8 @@ ghost use Rattle.std.specs.List.Sorted.{IsStrictlyIncreasing};
 ghost use Rattle.flat_core.specs.declared.equation.Op.TheVariants as op;
 ghost use Rattle.flat_core.specs.Typed.{is_aggregate};
 ghost use Rattle.alias_rules.specs.Uses.{AreUpdates};
-ghost use Rattle.last_use.specs.Beginning.{IsNilVariable, NoneIsNil};
-ghost use Rattle.last_use.specs.Blocks.{IsBlock, IsFineBlock, IsWithBlock, IsUpdateWithin};
+ghost use Rattle.last_use.specs.inner.Beginning.{IsNilVariable, NoneIsNil};
+ghost use Rattle.last_use.specs.inner.Blocks.{IsBlock, IsFineBlock, IsWithBlock, IsUpdateWithin};
 
 use crate::trial::{copy, is_running_update, refusal};
 use alias_analysis::graph::Graph;

@@ -2,13 +2,13 @@
 
 ghost use Rattle.std.specs.Prelude.{◌≡◌, ◌+◌, ◌<◌, length, IfOk, IsTrue};
 ghost use Rattle.flat_core.specs.WellFormed.{IsWellFormed};
-ghost use Rattle.trigger_formulas.specs.Kept.{AreTriggersOf};
+ghost use Rattle.trigger_formulas.specs.inner.Kept.{AreTriggersOf};
 ghost use Rattle.alias_rules.specs.Conflict.{StandsBefore};
 ghost use Rattle.alias_rules.specs.Fine.{IsFine, IsFinePlan, IsTakenPlan};
 ghost use Rattle.alias_rules.specs.Steps.{IsLeastOrderBy};
 ghost use Rattle.alias_rules.specs.Uses.{IsUpdate, AreUpdates};
-ghost use Rattle.last_use.specs.Beginning.{NoneIsNil};
-ghost use Rattle.last_use.specs.Choosing.{IsChosenBelow, IsTriedFrom};
+ghost use Rattle.last_use.specs.inner.Beginning.{NoneIsNil};
+ghost use Rattle.last_use.specs.inner.Choosing.{IsChosenBelow, IsTriedFrom};
 ghost use Rattle.last_use.specs.Reasons.{AreReasons};
 
 use crate::block::{Block, fine_updates, none_is_nil};
@@ -17,11 +17,11 @@ use crate::trial::{is_running_update, ordered, refusal, tried_set};
 use alias_analysis::graph::Graph;
 use flat_core::flat::Flat;
 use flat_core::lists::EqSet;
-use flat_core::steps::Steps;
 use register_code::copying::steps_among;
 use register_code::plan::Plan;
 use std::alloc::Global;
 use translation_order::order::OrderFault;
+use translation_order::steps::Steps;
 use trigger_formulas::triggers::Triggers;
 use tsl_value::ids::EqId;
 use tsl_value::memory::NoMemory;

@@ -1,6 +1,6 @@
 // Laws of reasons, as the contracts of functions that do nothing.
 
-ghost use Rattle.last_use.specs.Laws.{OneReason, FineSetHasNoReason};
+ghost use Rattle.last_use.specs.inner.Laws.{OneReason, FineSetHasNoReason};
 
 /// A set has at most one reason why its updates cannot all happen in place.
 pub fn one_reason()

@@ -5,6 +5,4 @@ mod block;
 pub mod choice;
 pub mod laws;
 pub mod reasons;
-#[cfg(test)]
-mod tests;
 mod trial;

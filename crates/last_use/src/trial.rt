@@ -2,25 +2,25 @@
 
 ghost use Rattle.std.specs.Prelude.{◌≡◌, ◌↔◌, ◌<◌, ℕ, length, slice_index, IfOk, OnOk, IfErr, IsTrue};
 ghost use Rattle.std.specs.List.Sorted.{IsStrictlyIncreasing};
-ghost use Rattle.flat_core.specs.Graph.{IsAcyclic};
+ghost use Rattle.translation_order.specs.Graph.{IsAcyclic};
 ghost use Rattle.flat_core.specs.Members.{is_in};
-ghost use Rattle.translation_order.specs.Answer.{OnCycle};
+ghost use Rattle.translation_order.specs.inner.Answer.{OnCycle};
 ghost use Rattle.translation_order.specs.Cycle.{IsCycleOfWalk};
 ghost use Rattle.translation_order.specs.Order.{IsLeastOrder};
 ghost use Rattle.alias_rules.specs.Conflict.{StandsBefore};
 ghost use Rattle.alias_rules.specs.Fine.{with_tried};
 ghost use Rattle.alias_rules.specs.Steps.{step_count};
 ghost use Rattle.alias_rules.specs.Uses.{is_update as seen_update, IsUpdate, AreUpdates};
-ghost use Rattle.last_use.specs.Choosing.{IsRefusal};
+ghost use Rattle.last_use.specs.inner.Choosing.{IsRefusal};
 
 use alias_analysis::graph::Graph;
 use alias_analysis::reason::Reason;
 use flat_core::equation::Op;
 use flat_core::flat::Flat;
 use flat_core::lists::EqSet;
-use flat_core::steps::Steps;
 use std::alloc::Global;
 use translation_order::order::{OrderFault, order};
+use translation_order::steps::Steps;
 use tsl_value::ids::EqId;
 use tsl_value::memory::NoMemory;
 

@@ -6,22 +6,14 @@ use Rattle.std.specs.Prelude.{IsTrue}
 use Rattle.std.specs.List.{AllByRecursion}
 use Rattle.flat_core.specs.declared.equation.Equation.{Equation}
 use Rattle.flat_core.specs.Case.{Streams, Inputs, used_of}
-use Rattle.flat_core.specs.Dependency.{with_one, with_all, IsOrdered, IsRunOrder}
+use Rattle.flat_core.specs.inner.Dependency.{with_one, with_all, IsOrdered, IsRunOrder}
 use Rattle.flat_core.specs.System.{System, runs, equation, IsProper}
 use Rattle.flat_core.specs.Solution.{Solves}
 use Rattle.flat_core.proofs.Existence.{one_or_done}
 use Rattle.flat_core.proofs.Locality.{AgreeBefore, case_of-same}
 use Rattle.flat_core.proofs.Uniqueness.{all_by, all_with, used_all}
+use Rattle.flat_core.proofs.Shapes.{running_args}
 use Rattle.plain_solver.proofs.OrderLemmas.{listed_done}
-
--- the arguments of a running equation run
-pub running_args : (s : System) → IsProper s → (i : ℕ) (e : Equation) → IsTrue (runs s i) → equation s i ≡ Some e → AllByRecursion (λ a. IsTrue (runs s a)) e.args
-running_args s proper i e run is =
-    let found = proper.runs_all i run in
-    subst (λ (g : Equation). AllByRecursion (λ a. IsTrue (runs s a)) g.args) (one_equation found.0 found.1) found.2
-  where
-    one_equation : (f : Equation) → equation s i ≡ Some f → f ≡ e
-    one_equation f also = cc
 
 module _ (s : System) (inputs : Inputs) (order : List ℕ) (run_order : IsRunOrder s order) (proper : IsProper s) (bound : ℕ) (z w : Streams) (zs : Solves s inputs bound z) (ws : Solves s inputs bound w) where
   module _ (t : ℕ) (lt : t < bound) (past : (i : ℕ) → IsTrue (runs s i) → AgreeBefore (z i) (w i) t) where

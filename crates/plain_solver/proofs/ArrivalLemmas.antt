@@ -13,8 +13,8 @@ use Rattle.flat_core.specs.Instant.{is_delay_op, is_delay, is_instant, is_due, e
 use Rattle.flat_core.specs.Line.{Line, inputs_of}
 use Rattle.flat_core.specs.System.{System, runs, equation}
 use Rattle.flat_core.proofs.Locality.{AgreeBefore, expires-same}
-use Rattle.plain_solver.specs.Shape.{HasShape}
-use Rattle.plain_solver.proofs.OrderLemmas.{shape_of}
+use Rattle.flat_core.specs.inner.Shape.{HasShape}
+use Rattle.flat_core.proofs.Shapes.{shape_of}
 use Rattle.flat_core.proofs.DueLemmas.{delay_event}
 use Rattle.flat_core.proofs.Members.{some_from, some_in}
 use Rattle.std.proofs.lemmas.Bool.{or_cases}

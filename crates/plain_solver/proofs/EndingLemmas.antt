@@ -1,76 +1,43 @@
 -- A run ends where its solution says so, and the instants that it ran are the due ones.
-use Rattle.std.proofs.Common.{◌≡◌, ℕ, zero, suc, ◌+◌, ◌-◌, ◌<◌, ◌≤◌, Bool, true, false, not, List, [], ◌∷◌, ◌++◌, length, take, Some, refl, sym, ap, subst, ◌∙◌, arith, append_assoc}
-use Rattle.std.proofs.lemmas.List.{append-nil}
+use Rattle.std.proofs.Common.{◌≡◌, ℕ, suc, ◌+◌, ◌-◌, ◌<◌, ◌≤◌, Bool, true, false, not, List, [], ◌∷◌, ◌++◌, length, take, Some, refl, sym, ap, subst, ◌∙◌, arith, append_assoc}
+use Rattle.std.proofs.lemmas.List.{append-nil, take_all}
 use Rattle.std.proofs.lemmas.List.Elements.{filter-append, Contains-append_right}
 use Rattle.std.proofs.lemmas.Option.{slice_get_within}
 use Rattle.std.proofs.Math.Bool.{true≢false}
 use Rattle.std.proofs.Math.Seq.{take-append_seam, take-append-add}
-use Rattle.std.specs.Prelude.{if◌then◌else◌, cond, slice_get, IsTrue}
+use Rattle.std.specs.Prelude.{if◌then◌else◌, slice_get, IsTrue}
 use Rattle.std.specs.List.{AllByRecursion, Contains, filter}
 use Rattle.lift_func.specs.declared.fault.FaultKind.{FaultKind}
 use Rattle.flat_core.specs.Case.{Streams, Inputs}
 use Rattle.flat_core.specs.Complete.{IsFlat}
-use Rattle.flat_core.specs.Dependency.{IsRunOrder}
+use Rattle.flat_core.specs.inner.Dependency.{IsRunOrder}
 use Rattle.flat_core.specs.Fault.{is_faulty, is_over, IsNamed}
 use Rattle.flat_core.specs.Instant.{is_instant, instants}
 use Rattle.flat_core.specs.Line.{Line, inputs_of}
 use Rattle.flat_core.specs.Solution.{Solves}
 use Rattle.flat_core.specs.System.{System, runs}
-use Rattle.flat_core.proofs.Members.{all_append, all_at, contains_head}
+use Rattle.flat_core.proofs.Members.{all_at, contains_head}
 use Rattle.flat_core.proofs.PendingLemmas.{some_before_from, none_before_from}
 use Rattle.flat_core.proofs.Uniqueness.{all_by}
 use Rattle.plain_solver.specs.declared.events.Moment.{Moment}
 use Rattle.plain_solver.specs.declared.solve.End.{End}
 use Rattle.plain_solver.specs.declared.solve.End.TheVariants as end
 use Rattle.flat_core.specs.Ending.{EndsInFault, EndsAtLimit, EndsAtBound}
-use Rattle.plain_solver.specs.Ending.{EndsSo, IsEnding}
-use Rattle.plain_solver.specs.Shape.{streams_of}
-use Rattle.plain_solver.specs.Solved.{IsSolved, IsWhole, IsFaulted, IsLimited, IsEnded}
+use Rattle.plain_solver.specs.inner.Ending.{EndsSo, IsEnding}
+use Rattle.plain_solver.specs.inner.Shape.{streams_of}
+use Rattle.plain_solver.specs.inner.Solved.{IsSolved, IsWhole, IsFaulted, IsLimited, IsEnded}
 use Rattle.flat_core.specs.Text.{due_instants}
-use Rattle.plain_solver.proofs.Agreement.{running_args, agree}
+use Rattle.flat_core.proofs.Shapes.{running_args}
+use Rattle.plain_solver.proofs.Agreement.{agree}
 use Rattle.flat_core.proofs.Alike.{named_faulty, one_named}
 use Rattle.flat_core.proofs.SameMeaning.{happens_alike}
 use Rattle.flat_core.proofs.SmallerBound.{solves_less, instants_first}
+use Rattle.flat_core.proofs.Instants.{instants_below}
 use Rattle.plain_solver.proofs.ArrivalLemmas.{comes}
-
--- lists
-take_all : (xs : List ℕ) (n : ℕ) → length xs ≤ n → take n xs ≡ xs
-take_all [] zero le = refl
-take_all [] (suc n) le = refl
-take_all (x ∷ xs) zero le = absurd (omega arith)
-take_all (x ∷ xs) (suc n) le = ap (λ l. x ∷ l) (take_all xs n (omega arith))
-
-get_seam : (xs : List ℕ) (x : ℕ) (ys : List ℕ) → slice_get (xs ++ x ∷ ys) (length xs) ≡ Some x
-get_seam [] x ys = refl
-get_seam (y ∷ xs) x ys = get_seam xs x ys
-
-filter_all : (p : ℕ → Bool) (xs : List ℕ) → AllByRecursion (λ x. p x ≡ true) xs → filter p xs ≡ xs
-filter_all p [] all = refl
-filter_all p (x ∷ xs) all = (λ k. cond (all.0 k) (x ∷ filter p xs) (filter p xs)) ∙ ap (λ l. x ∷ l) (filter_all p xs all.1)
-
-filter_none : (p : ℕ → Bool) (xs : List ℕ) → AllByRecursion (λ x. p x ≡ false) xs → filter p xs ≡ []
-filter_none p [] none = refl
-filter_none p (x ∷ xs) none = (λ k. cond (none.0 k) (x ∷ filter p xs) (filter p xs)) ∙ filter_none p xs none.1
-
-all_take : (P : ℕ → Type 0) (n : ℕ) (xs : List ℕ) → AllByRecursion P xs → AllByRecursion P (take n xs)
-all_take P zero xs all = tt
-all_take P (suc n) [] all = tt
-all_take P (suc n) (x ∷ xs) all = (all.0, all_take P n xs all.1)
+use Rattle.tsl_value.proofs.Lists.{get_seam, filter_all, filter_none, all_take}
 
 -- the instants of one solution
 module _ (s : System) (lines : List Line) (w : Streams) where
-  abbrev one : ℕ → List ℕ
-  one n = if is_instant s lines w n then n ∷ [] else []
-
-  all_one : (P : ℕ → Type 0) (n : ℕ) → P n → AllByRecursion P (one n)
-  all_one P n p = elim (is_instant s lines w n) as (λ b. AllByRecursion P (if b then n ∷ [] else [])) [ true ↦ (p, tt) | false ↦ tt ]
-
-  pub instants_below : (n : ℕ) → AllByRecursion (λ u. u < n) (instants s lines w n)
-  instants_below zero = tt
-  instants_below (suc n) =
-      all_append (λ u. u < suc n) (instants s lines w n) (one n) (all_by (λ u. u < n) (λ u. u < suc n) (λ u lt. omega arith) (instants s lines w n) (instants_below n))
-      (all_one (λ u. u < suc n) n (omega arith))
-
   -- where one comes at a time
   split_at : (t n : ℕ) → t < n → is_instant s lines w t ≡ true → (rest : List ℕ) × (instants s lines w n ≡ instants s lines w t ++ t ∷ rest) × AllByRecursion (λ u. t ≤ u) (t ∷ rest)
   split_at t n lt is =
@@ -131,7 +98,7 @@ module _ (s : System) (lines : List Line) (order : List ℕ) (ordered : IsRunOrd
       let r = runs_to bound (omega arith) e.solved e.ran_is e.sound in
       record {
         runs_to = r;
-        first = take_all (instants s lines w bound) limit (subst (λ l. length l ≤ limit) r.ran_is e.within) ∙ sym r.ran_is ∙ sym (append-nil ran);
+        first = take_all limit (instants s lines w bound) (subst (λ l. length l ≤ limit) r.ran_is e.within) ∙ sym r.ran_is ∙ sym (append-nil ran);
         over = tt;
       }
 

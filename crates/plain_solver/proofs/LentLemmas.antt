@@ -9,13 +9,13 @@ use Rattle.std.specs.List.{AllByRecursion}
 use Rattle.tsl_value.specs.View.{View, Plain, Keyed, Mapped}
 use Rattle.tsl_value.specs.declared.scalar.Scalar.TheVariants as scalar
 use Rattle.lift_func.specs.declared.register.Register.TheVariants as register
-use Rattle.lift_func.specs.Cells.{Cells, HoldsLive, IsAggregate, arguments, held}
-use Rattle.lift_func.specs.Evaluable.{IsEvaluable}
+use Rattle.lift_func.specs.inner.Cells.{Cells, HoldsLive, IsAggregate, arguments, held}
+use Rattle.lift_func.specs.inner.Evaluable.{IsEvaluable}
 use Rattle.lift_func.specs.Tree.{Tree}
 use Rattle.lift_func.specs.Typing.{AllFit}
 use Rattle.event_writer.specs.Text.{IsPrintable}
 use Rattle.flat_core.proofs.Members.{all_true}
-use Rattle.plain_solver.specs.Lent.{aggregate_in, with_cell, cells_from, cells_of, register_of, registers_from, numbers_from, IsEvaluableAt}
+use Rattle.plain_solver.specs.inner.Lent.{aggregate_in, with_cell, cells_from, cells_of, register_of, registers_from, numbers_from, IsEvaluableAt}
 
 -- ---- cells
 

@@ -6,7 +6,7 @@ use Rattle.std.proofs.lemmas.List.{get_or_default}
 use Rattle.std.specs.Prelude.{◌≡◌}
 use Rattle.std.specs.List.Sorted.{IsNonDecreasingBy, IsPartitionPoint}
 use Rattle.plain_solver.specs.declared.events.Moment.{Moment}
-use Rattle.plain_solver.specs.Moments.{IsRising}
+use Rattle.plain_solver.specs.inner.Moments.{IsRising}
 
 pub point_from_tests : {X : Type 0} (n : X → ℕ) (t : ℕ) (xs : List X) (k : ℕ) → IsPartitionPoint (λ y. ltb (n y) t ≡ true) (λ y. ltb (n y) t ≡ false) xs k → IsPartitionPoint (λ y. n y < t) (λ y. t ≤ n y) xs k
 point_from_tests n t xs k point = (λ j d low lt. ltb-true _ _ (point.0 j d low lt), λ j d low lt. ltb-false _ _ (point.1 j d low lt))

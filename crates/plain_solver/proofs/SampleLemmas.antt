@@ -1,8 +1,6 @@
 -- The samples are complete systems with orders to run them in.
-use Rattle.std.proofs.Common.{◌≡◌, ◌==◌, ℕ, zero, suc, ◌+◌, ◌<◌, ◌≤◌, Bool, true, false, ◌&&◌, List, [], ◌∷◌, ◌++◌, length, get_or, take, Some, refl, sym, ap, subst, ◌∙◌, inl, inr, arith, lit<}
+use Rattle.std.proofs.Common.{◌≡◌, ◌==◌, ℕ, zero, suc, ◌+◌, ◌<◌, ◌≤◌, Bool, true, false, ◌&&◌, List, [], ◌∷◌, length, get_or, Some, refl, sym, ap, subst, ◌∙◌, inl, inr, arith, lit<}
 use Rattle.std.proofs.lemmas.Bool.{and_parts, cases_lt, eq-eqb, true≢false}
-use Rattle.std.proofs.lemmas.Option.{get_or_from_slice_get, slice_get_within}
-use Rattle.std.proofs.Math.Seq.{take-suc}
 use Rattle.std.specs.Prelude.{IsTrue, slice_get}
 use Rattle.std.specs.List.{AllAdjacentBelow, AllByRecursion}
 use Rattle.flat_core.specs.declared.equation.Equation.{Equation}
@@ -10,45 +8,42 @@ use Rattle.flat_core.specs.declared.line.TraceLine.{TraceLine}
 use Rattle.flat_core.specs.Line.{Line, IsSorted}
 use Rattle.lift_func.specs.Typing.{literal, argument, one, two, choice, arithmetic, order, is_some, in_set, get}
 use Rattle.flat_core.specs.Complete.{HasShortBody, HaveDifferentNames, IsComplete}
-use Rattle.flat_core.specs.Dependency.{IsRunOrder}
+use Rattle.flat_core.specs.inner.Dependency.{IsRunOrder}
 use Rattle.flat_core.specs.Members.{is_in}
 use Rattle.flat_core.specs.System.{System}
 use Rattle.flat_core.specs.Typed.{input, unit, empty, time, last, delay, merge, filter, set_add, map_add, lift, bool_type, int_type, unit_type}
 use Rattle.flat_core.specs.TypedSystem.{IsOfType, IsTypedEquation}
-use Rattle.flat_core.proofs.Finished.{typed_from_all}
-use Rattle.plain_solver.specs.Sample.{sample_equations, sample_outputs, sample_order, grown_equations, grown_outputs, grown_order, ints, int_map}
-
-there : (a : ℕ) (e : Equation) → slice_get sample_equations a ≡ Some e → IsOfType sample_equations a e.of
-there a e is = record { at = e; is = is; of_is = refl }
+use Rattle.flat_core.proofs.Finished.{typed_from_all, own_type}
+use Rattle.plain_solver.specs.inner.Sample.{sample_equations, sample_outputs, sample_order, grown_equations, grown_outputs, grown_order, ints, int_map}
 
 typed : AllByRecursion (IsTypedEquation sample_equations) sample_equations
 typed = (
   record { types = []; arguments = tt; typed = unit },
   (
-    record { types = int_type ∷ unit_type ∷ []; arguments = (there 3 _ refl, (there 0 _ refl, tt)); typed = delay },
+    record { types = int_type ∷ unit_type ∷ []; arguments = (own_type sample_equations 3 _ refl, (own_type sample_equations 0 _ refl, tt)); typed = delay },
     (
-      record { types = unit_type ∷ unit_type ∷ []; arguments = (there 0 _ refl, (there 1 _ refl, tt)); typed = merge },
+      record { types = unit_type ∷ unit_type ∷ []; arguments = (own_type sample_equations 0 _ refl, (own_type sample_equations 1 _ refl, tt)); typed = merge },
       (
-        record { types = unit_type ∷ []; arguments = (there 2 _ refl, tt); typed = lift (omega arith) (omega arith) (literal refl) },
+        record { types = unit_type ∷ []; arguments = (own_type sample_equations 2 _ refl, tt); typed = lift (omega arith) (omega arith) (literal refl) },
         (
           record { types = []; arguments = tt; typed = input },
           (
             record { types = []; arguments = tt; typed = input },
             (
-              record { types = int_type ∷ int_type ∷ []; arguments = (there 4 _ refl, (there 5 _ refl, tt)); typed = merge },
+              record { types = int_type ∷ int_type ∷ []; arguments = (own_type sample_equations 4 _ refl, (own_type sample_equations 5 _ refl, tt)); typed = merge },
               (
-                record { types = int_type ∷ []; arguments = (there 6 _ refl, tt); typed = time },
+                record { types = int_type ∷ []; arguments = (own_type sample_equations 6 _ refl, tt); typed = time },
                 (
-                  record { types = int_type ∷ int_type ∷ []; arguments = (there 4 _ refl, (there 4 _ refl, tt)); typed = last },
+                  record { types = int_type ∷ int_type ∷ []; arguments = (own_type sample_equations 4 _ refl, (own_type sample_equations 4 _ refl, tt)); typed = last },
                   (
-                    record { types = int_type ∷ int_type ∷ []; arguments = (there 4 _ refl, (there 5 _ refl, tt)); typed = delay },
+                    record { types = int_type ∷ int_type ∷ []; arguments = (own_type sample_equations 4 _ refl, (own_type sample_equations 5 _ refl, tt)); typed = delay },
                     (
-                      record { types = int_type ∷ []; arguments = (there 5 _ refl, tt); typed = lift (omega arith) (omega arith) (two (literal refl) (argument refl) (arithmetic refl)) },
+                      record { types = int_type ∷ []; arguments = (own_type sample_equations 5 _ refl, tt); typed = lift (omega arith) (omega arith) (two (literal refl) (argument refl) (arithmetic refl)) },
                       (
-                        record { types = int_type ∷ int_type ∷ []; arguments = (there 4 _ refl, (there 5 _ refl, tt)); typed = lift (omega arith) (omega arith) (choice (one (argument refl) is_some) (argument refl) (argument refl)) },
+                        record { types = int_type ∷ int_type ∷ []; arguments = (own_type sample_equations 4 _ refl, (own_type sample_equations 5 _ refl, tt)); typed = lift (omega arith) (omega arith) (choice (one (argument refl) is_some) (argument refl) (argument refl)) },
                         (
-                          record { types = int_type ∷ []; arguments = (there 11 _ refl, tt); typed = lift (omega arith) (omega arith) (two (argument refl) (literal refl) (order refl)) },
-                          (record { types = int_type ∷ bool_type ∷ []; arguments = (there 11 _ refl, (there 12 _ refl, tt)); typed = filter }, tt),
+                          record { types = int_type ∷ []; arguments = (own_type sample_equations 11 _ refl, tt); typed = lift (omega arith) (omega arith) (two (argument refl) (literal refl) (order refl)) },
+                          (record { types = int_type ∷ bool_type ∷ []; arguments = (own_type sample_equations 11 _ refl, (own_type sample_equations 12 _ refl, tt)); typed = filter }, tt),
                         ),
                       ),
                     ),
@@ -172,12 +167,6 @@ grown_run s = record {
 pub grown_in_order : (s : System) → s.equations ≡ grown_equations → (steps : List ℕ) → steps ≡ grown_order → IsRunOrder s steps
 grown_in_order s equations steps is =
     subst (IsRunOrder s) (sym is) (subst (λ es. IsRunOrder (of_equations s es) grown_order) (sym equations) (grown_run s))
-
--- one more of a list
-pub one_more : {A : Type 0} (xs : List A) (n : ℕ) (x : A) (ys zs : List A) → slice_get xs n ≡ Some x → ys ≡ take n xs → zs ≡ ys ++ x ∷ [] → zs ≡ take (n + 1) xs
-one_more xs n x ys zs is so_far more =
-    let one : suc n ≡ n + 1 = omega arith in
-    more ∙ (λ k. so_far k ++ sym (get_or_from_slice_get xs n x x is) k ∷ []) ∙ sym (take-suc xs n x (slice_get_within xs n x is)) ∙ ap (λ m. take m xs) one
 
 pub sorted_from_adjacent : (ls : List Line) → AllAdjacentBelow (λ (a b : TraceLine). a.time ≤ b.time) ls (length ls) → IsSorted ls
 sorted_from_adjacent [] rises = tt

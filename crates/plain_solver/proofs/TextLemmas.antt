@@ -1,5 +1,5 @@
 -- The text of the instants that ran is the due text.
-use Rattle.std.proofs.Common.{◌≡◌, ℕ, List, [], ◌∷◌, ◌++◌, refl, sym, ap, ◌∙◌}
+use Rattle.std.proofs.Common.{◌≡◌, ℕ, List, sym, ap, ◌∙◌}
 use Rattle.std.specs.Prelude.{IsTrue}
 use Rattle.std.specs.List.{AllByRecursion, flat_map}
 use Rattle.flat_core.specs.declared.equation.Output.{Output}
@@ -9,14 +9,11 @@ use Rattle.flat_core.specs.System.{System, runs}
 use Rattle.flat_core.proofs.Uniqueness.{all_by}
 use Rattle.plain_solver.specs.declared.events.Moment.{Moment}
 use Rattle.plain_solver.specs.declared.solve.End.{End}
-use Rattle.plain_solver.specs.Shape.{streams_of}
+use Rattle.plain_solver.specs.inner.Shape.{streams_of}
 use Rattle.flat_core.specs.Text.{event_line, text_at}
-use Rattle.plain_solver.specs.Ending.{IsDueText}
+use Rattle.plain_solver.specs.inner.Ending.{IsDueText}
 use Rattle.plain_solver.proofs.EndingLemmas.{all_ran, due_ran, ran_to, solved_to}
-
-flat_map_same : {A : Type 0} (f g : A → List ℕ) (xs : List A) → AllByRecursion (λ x. f x ≡ g x) xs → flat_map f xs ≡ flat_map g xs
-flat_map_same f g [] same = refl
-flat_map_same f g (x ∷ xs) same = let rest = flat_map_same f g xs same.1 in λ k. same.0 k ++ rest k
+use Rattle.tsl_value.proofs.Lists.{flat_map_same}
 
 -- streams that agree at a time, where equations run, have the same text there
 text_same : (s : System) (z w : Streams) (t : ℕ) → AllByRecursion (λ o. IsTrue (runs s o.equation)) s.outputs → ((i : ℕ) → IsTrue (runs s i) → z i t ≡ w i t) → text_at s z t ≡ text_at s w t

@@ -11,14 +11,14 @@ use Rattle.flat_core.specs.Complete.{IsFlat}
 use Rattle.flat_core.specs.Stream.{event}
 use Rattle.flat_core.specs.System.{System, equation}
 use Rattle.flat_core.specs.Typed.{IsTyped, lift, kind_of}
-use Rattle.flat_core.specs.TypedEvents.{AreOf, AreTypedInputs}
+use Rattle.flat_core.specs.inner.TypedEvents.{AreOf, AreTypedInputs}
 use Rattle.flat_core.proofs.Members.{all_true}
 use Rattle.flat_core.proofs.TypedCase as typed_case
 use Rattle.flat_core.proofs.TypedCase.{IsTypedAt, IsTypedBefore, is_of_at, is_of_from, all_there_fit, options_fit, values_typed}
 use Rattle.flat_core.proofs.TypedEvents.{given_typed}
-use Rattle.plain_solver.specs.Lent.{IsEvaluableAt}
-use Rattle.plain_solver.specs.Parts.{counts}
-use Rattle.plain_solver.specs.Typed.{AreTyped, TakesTyped}
+use Rattle.plain_solver.specs.inner.Lent.{IsEvaluableAt}
+use Rattle.plain_solver.specs.inner.Parts.{counts}
+use Rattle.plain_solver.specs.inner.Typed.{AreTyped, TakesTyped}
 
 -- ---- what equations have at their arguments
 

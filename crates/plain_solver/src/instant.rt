@@ -2,29 +2,29 @@
 
 ghost use Rattle.std.specs.Prelude.{◌≡◌, ◌<◌, length, slice_index_or, map, [], OnOk, IfOk, IsTrue};
 ghost use Rattle.flat_core.specs.Complete.{IsFlat};
-ghost use Rattle.flat_core.specs.Dependency.{IsRunOrder};
+ghost use Rattle.flat_core.specs.inner.Dependency.{IsRunOrder};
 ghost use Rattle.flat_core.specs.Line.{IsSorted, inputs_of};
 ghost use Rattle.flat_core.specs.System.{runs};
-ghost use Rattle.plain_solver.specs.Moments.{AllBefore};
-ghost use Rattle.plain_solver.specs.Instant.{AreBefore, IsFirstRoot, IsOneMore, IsRun};
-ghost use Rattle.plain_solver.specs.Shape.{streams_of};
-ghost use Rattle.flat_core.specs.TypedLines.{AreTypedLines};
-ghost use Rattle.plain_solver.specs.Typed.{AreTyped};
-ghost use Rattle.flat_core.specs.Kept.{AreKept};
+ghost use Rattle.plain_solver.specs.inner.Moments.{AllBefore};
+ghost use Rattle.plain_solver.specs.inner.Instant.{AreBefore, IsFirstRoot, IsOneMore, IsRun};
+ghost use Rattle.plain_solver.specs.inner.Shape.{streams_of};
+ghost use Rattle.flat_core.specs.inner.TypedLines.{AreTypedLines};
+ghost use Rattle.plain_solver.specs.inner.Typed.{AreTyped};
+ghost use Rattle.flat_core.specs.inner.Kept.{AreKept};
 
 use crate::events::Events;
 use crate::outcome::{outcome_of, root_of};
 use flat_core::flat::Flat;
 use flat_core::line::TraceLine;
-use flat_core::steps::Steps;
 use lift_func::fault::FaultKind;
 use std::alloc::Global;
+use translation_order::steps::Steps;
 use tsl_value::ids::EqId;
 use tsl_value::memory::NoMemory;
 use tsl_value::time::Time;
 
-/// What happens at an equation at a time, behind what happened before it.
-pub fn run_one(
+/// What happens at an equation at a time, after what happened before it.
+pub(crate) fn run_one(
     alloc: Global,
     flat: &Flat,
     streams: &mut [Events],
@@ -51,8 +51,8 @@ pub fn run_one(
     }
 }
 
-/// What happens at a time, behind what happened before it.
-pub fn run_instant(
+/// What happens at a time, after what happened before it.
+pub(crate) fn run_instant(
     alloc: Global,
     flat: &Flat,
     order: &Steps,

@@ -3,10 +3,10 @@
 ghost use Rattle.std.specs.Prelude.{◌≡◌, ◌≤◌, None, length, slice_index_or, IfOk, map};
 ghost use Rattle.std.specs.FinMap as finite_map;
 ghost use Rattle.std.specs.Option.{option_copied, option_map};
-ghost use Rattle.lift_func.specs.Answered.{IsValue};
+ghost use Rattle.lift_func.specs.inner.Answered.{IsValue};
 ghost use Rattle.lift_func.specs.Apply.{apply};
-ghost use Rattle.aggregate_store.specs.CellView as cell_view;
-ghost use Rattle.plain_solver.specs.Lent.{IsEvaluableAt, aggregate_in, cells_of, numbers_from, register_of, registers_from};
+ghost use Rattle.aggregate_store.specs.inner.CellView as cell_view;
+ghost use Rattle.plain_solver.specs.inner.Lent.{IsEvaluableAt, aggregate_in, cells_of, numbers_from, register_of, registers_from};
 
 use crate::value::{Held, Value};
 use aggregate_store::cell::Cell;

@@ -6,7 +6,7 @@ ghost use Rattle.std.specs.Option.{option_map, option_copied};
 ghost use Rattle.tsl_value.specs.View.{Plain};
 ghost use Rattle.flat_core.specs.Line.{IsSorted, event_in, inputs_of, is_line_on};
 ghost use Rattle.flat_core.specs.declared.line.TraceLine.{TraceLine};
-ghost use Rattle.plain_solver.specs.Lines.{IsLeast};
+ghost use Rattle.plain_solver.specs.inner.Lines.{IsLeast};
 
 use flat_core::line::TraceLine;
 use tsl_value::ids::EqId;

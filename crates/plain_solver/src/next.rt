@@ -2,9 +2,10 @@
 
 ghost use Rattle.std.specs.Prelude.{◌≡◌, ◌≤◌, ◌<◌, ◌^◌, length, All};
 ghost use Rattle.flat_core.specs.Line.{IsSorted};
-ghost use Rattle.plain_solver.specs.Lines.{IsLeast};
-ghost use Rattle.plain_solver.specs.Next.{due_of, is_expiry, is_next, IsFirst};
-ghost use Rattle.plain_solver.specs.Shape.{HasShape, streams_of};
+ghost use Rattle.plain_solver.specs.inner.Lines.{IsLeast};
+ghost use Rattle.plain_solver.specs.inner.Next.{due_of, is_expiry, is_next, IsFirst};
+ghost use Rattle.flat_core.specs.inner.Shape.{HasShape};
+ghost use Rattle.plain_solver.specs.inner.Shape.{streams_of};
 ghost use Rattle.flat_core.specs.Pending.{option_is};
 
 use crate::delay::pending_before;

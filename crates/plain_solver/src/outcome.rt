@@ -1,19 +1,21 @@
 // What happens at an equation at a time.
 
-ghost use Rattle.std.specs.Prelude.{◌≡◌, ◌<◌, Some, None, pos, if◌then◌else◌, length, map, slice_index, slice_index_or, [], is_some, IfOk, IsTrue, Ok, All};
+ghost use Rattle.std.specs.Prelude.{◌≡◌, ◌<◌, Some, None, pos, if◌then◌else◌, length, map, slice_index, slice_index_or, [], is_some, IfOk};
+ghost use Rattle.std.specs.Prelude.{IsTrue, Ok, All};
 ghost use Rattle.std.specs.List.{list_any, list_all};
 ghost use Rattle.std.specs.Option.{option_map, option_copied};
 ghost use Rattle.tsl_value.specs.View.{Plain};
 ghost use Rattle.flat_core.specs.Stream.{event, is_fault, latest};
 ghost use Rattle.flat_core.specs.Case.{case_of, delayed, filtered, is_blocked, lasting, merged, own, refused, root_fault, unit};
 ghost use Rattle.flat_core.specs.Line.{IsSorted, inputs_of};
-ghost use Rattle.flat_core.specs.Kept.{IsKept};
-ghost use Rattle.plain_solver.specs.Lent.{IsEvaluableAt};
-ghost use Rattle.plain_solver.specs.Parts.{chosen_of, counts, lifted, updated_of};
-ghost use Rattle.plain_solver.specs.Moments.{seen};
-ghost use Rattle.plain_solver.specs.Shape.{HasShape, streams_of};
-ghost use Rattle.plain_solver.specs.Typed.{TakesTyped};
-ghost use Rattle.plain_solver.specs.ValueView.{IsAnswer};
+ghost use Rattle.flat_core.specs.inner.Kept.{IsKept};
+ghost use Rattle.plain_solver.specs.inner.Lent.{IsEvaluableAt};
+ghost use Rattle.plain_solver.specs.inner.Parts.{chosen_of, counts, lifted, updated_of};
+ghost use Rattle.plain_solver.specs.inner.Moments.{seen};
+ghost use Rattle.flat_core.specs.inner.Shape.{HasShape};
+ghost use Rattle.plain_solver.specs.inner.Shape.{streams_of};
+ghost use Rattle.plain_solver.specs.inner.Typed.{TakesTyped};
+ghost use Rattle.plain_solver.specs.inner.ValueView.{IsAnswer};
 
 use crate::delay::{is_now, pending_before};
 use crate::events::{Events, Outcome};

@@ -1,20 +1,20 @@
 // All that happens below a bound.
 
 ghost use Rattle.std.specs.Prelude.{◌^◌, ◌<◌, ◌≤◌, ◌≡◌, [], IfOk, replicate};
-ghost use Rattle.flat_core.specs.Dependency.{IsRunOrder};
+ghost use Rattle.flat_core.specs.inner.Dependency.{IsRunOrder};
 ghost use Rattle.flat_core.specs.Line.{IsSorted};
-ghost use Rattle.plain_solver.specs.Ending.{EndsSo};
-ghost use Rattle.plain_solver.specs.Solved.{IsEnded};
-ghost use Rattle.flat_core.specs.TypedLines.{AreTypedLines};
+ghost use Rattle.plain_solver.specs.inner.Ending.{EndsSo};
+ghost use Rattle.plain_solver.specs.inner.Solved.{IsEnded};
+ghost use Rattle.flat_core.specs.inner.TypedLines.{AreTypedLines};
 
 use crate::events::Events;
 use crate::instant::{first_root, run_instant};
 use crate::next::next_below;
 use flat_core::flat::Flat;
 use flat_core::line::TraceLine;
-use flat_core::steps::Steps;
 use lift_func::fault::FaultKind;
 use std::alloc::Global;
+use translation_order::steps::Steps;
 use tsl_value::ids::EqId;
 use tsl_value::memory::NoMemory;
 use tsl_value::time::Time;
@@ -62,7 +62,7 @@ fn no_events(alloc: Global, count: u32) -> Result<Vec<Events>, NoMemory>
 }
 
 /// What happens at all equations at the times below a bound, in at most as many instants as a limit. The order is one in which
-/// each equation comes behind those that it uses at the same time.
+/// each equation comes after those that it uses at the same time.
 pub fn solve(
     alloc: Global,
     flat: &Flat,

@@ -3,8 +3,8 @@
 ghost use Rattle.std.specs.Prelude.{◌≡◌, IfOk};
 ghost use Rattle.std.specs.Option.{option_copied};
 ghost use Rattle.lift_func.specs.Update.{with_entry, with_key, without_key};
-ghost use Rattle.aggregate_store.specs.CellView as cell_view;
-ghost use Rattle.aggregate_store.specs.Stored.{with_added};
+ghost use Rattle.aggregate_store.specs.inner.CellView as cell_view;
+ghost use Rattle.aggregate_store.specs.inner.Stored.{with_added};
 ghost use Rattle.flat_core.specs.Case.{at_zero, empty_of, of_both, of_three, picked};
 
 use crate::value::{Held, Value};

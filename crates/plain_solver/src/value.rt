@@ -3,9 +3,9 @@
 ghost use Rattle.std.specs.Prelude.{◌≡◌, Some, IfOk};
 ghost use Rattle.std.specs.Option.{option_copied, option_map};
 ghost use Rattle.tsl_value.specs.View.{Plain};
-ghost use Rattle.aggregate_store.specs.CellView as cell_view;
-ghost use Rattle.plain_solver.specs.Lent.{aggregate_in};
-ghost use Rattle.plain_solver.specs.ValueView.{view_of};
+ghost use Rattle.aggregate_store.specs.inner.CellView as cell_view;
+ghost use Rattle.plain_solver.specs.inner.Lent.{aggregate_in};
+ghost use Rattle.plain_solver.specs.inner.ValueView.{view_of};
 
 use aggregate_store::cell::Cell;
 use std::alloc::Global;
@@ -28,8 +28,8 @@ pub(crate) enum Held {
 
 impl Model for Value {
     ghost use Rattle.tsl_value.specs.View.{View};
-    ghost use Rattle.tsl_value.specs.ViewCode.{view_code};
-    ghost use Rattle.plain_solver.specs.ValueView.{view_of};
+    ghost use Rattle.tsl_value.specs.inner.ViewCode.{view_code};
+    ghost use Rattle.plain_solver.specs.inner.ValueView.{view_of};
 
     ghost Value = { View };
 

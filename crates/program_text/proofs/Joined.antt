@@ -1,4 +1,4 @@
--- Texts that are printed one behind the other.
+-- Texts that are printed one after the other.
 use Rattle.std.proofs.Common.{◌≡◌, ℕ, List, ◌++◌, length, take, drop, sym, ap, ◌∙◌, append_assoc, Result, Ok, Err, OnErr}
 use Rattle.std.proofs.lemmas.List.{take-append-drop}
 use Rattle.std.proofs.Math.Seq.{take-append_seam}

@@ -98,22 +98,22 @@ op_name op.MapRemove = codes "MapRemove"
 op_name op.SetAdd = codes "SetAdd"
 op_name op.SetRemove = codes "SetRemove"
 
--- what is written behind the name of an operation: the type of an input, of no events and of an empty aggregate, and a lift's body
-abbrev pub behind_op_text : Op → ValueType → List ℕ
-behind_op_text op.Input t = codes " " ++ type_text t
-behind_op_text op.Nil t = codes " " ++ type_text t
-behind_op_text op.Empty t = codes " " ++ type_text t
-behind_op_text (op.Lift body strict) t = codes " " ++ body_text body
-behind_op_text o t = []
+-- what is written after the name of an operation: the type of an input, of no events and of an empty aggregate, and a lift's body
+abbrev pub after_op_text : Op → ValueType → List ℕ
+after_op_text op.Input t = codes " " ++ type_text t
+after_op_text op.Nil t = codes " " ++ type_text t
+after_op_text op.Empty t = codes " " ++ type_text t
+after_op_text (op.Lift body strict) t = codes " " ++ body_text body
+after_op_text o t = []
 
 abbrev pub op_text : Op → ValueType → List ℕ
-op_text o t = op_name o ++ behind_op_text o t
+op_text o t = op_name o ++ after_op_text o t
 
 -- an equation by its number
 abbrev pub number_text : ℕ → List ℕ
 number_text i = codes "%" ++ decimal i
 
--- a name with a blank behind it, where there is one
+-- a name with a blank after it, where there is one
 abbrev pub name_text : Option (List ℕ) → List ℕ
 name_text None = []
 name_text (Some name) = name ++ codes " "

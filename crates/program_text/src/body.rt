@@ -1,7 +1,7 @@
 // The text of bodies.
 
 ghost use Rattle.std.specs.Prelude.{◌≡◌, ◌++◌, codes, length, take, OnOk, OnErr};
-ghost use Rattle.lift_func.specs.Shape.{tree_of};
+ghost use Rattle.lift_func.specs.inner.Shape.{tree_of};
 ghost use Rattle.program_text.specs.Text.{body_text};
 
 use crate::names::{binary_name, unary_name};
@@ -28,7 +28,7 @@ fn put_node(node: &Node, out: &mut Bytes) -> Result<(), NoMemory>
         Node::Literal(scalar) => print_scalar(scalar, out),
         Node::Argument(number) => {
             out.push(b'$')?;
-            print_number(u64::from(*number), out)
+            print_number(*number as u64, out)
         }
         Node::Absent(_) => out.append(b"none"),
         Node::One(operation, a) => {

@@ -4,5 +4,3 @@
 mod body;
 mod names;
 pub mod print;
-#[cfg(test)]
-mod tests;

@@ -3,7 +3,8 @@
 ghost use Rattle.std.specs.Prelude.{◌≡◌, ◌<◌, [], ◌++◌, codes, if◌then◌else◌, length, take, OnOk, OnErr};
 ghost use Rattle.std.specs.List.{flat_map};
 ghost use Rattle.flat_core.specs.System.{runs};
-ghost use Rattle.program_text.specs.Text.{args_text, behind_op_text, definition_text, equation_line, text_of, flat_text, name_text, number_text, op_text, output_line, running, type_text};
+ghost use Rattle.program_text.specs.Text.{args_text, after_op_text, definition_text, equation_line, text_of, flat_text, name_text};
+ghost use Rattle.program_text.specs.Text.{number_text, op_text, output_line, running, type_text};
 
 use crate::body::put_body;
 use crate::names::{key_type_name, op_name, scalar_type_name};
@@ -67,9 +68,9 @@ fn put_name(name: &Option<Text>, out: &mut Bytes) -> Result<(), NoMemory>
     }
 }
 
-/// Appends the type or the body that is written behind some operations.
-fn put_behind_op(equation: &Equation, out: &mut Bytes) -> Result<(), NoMemory>
-    ensures ok { OnOk result (out.new ≡ out.old ++ behind_op_text equation.now.op equation.now.of) }
+/// Appends the type or the body that is written after some operations.
+fn put_after_op(equation: &Equation, out: &mut Bytes) -> Result<(), NoMemory>
+    ensures ok { OnOk result (out.new ≡ out.old ++ after_op_text equation.now.op equation.now.of) }
     ensures err { OnErr result (take (length out.old) out.new ≡ out.old) }
 {
     match &equation.op {
@@ -97,13 +98,13 @@ fn put_args(args: &[EqId], out: &mut Bytes) -> Result<(), NoMemory>
     Ok(())
 }
 
-/// Appends what stands behind `:=`.
+/// Appends what stands after `:=`.
 fn put_operation(equation: &Equation, out: &mut Bytes) -> Result<(), NoMemory>
     ensures ok { OnOk result (out.new ≡ out.old ++ (op_text equation.now.op equation.now.of ++ args_text equation.now.args)) }
     ensures err { OnErr result (take (length out.old) out.new ≡ out.old) }
 {
     out.append(op_name(&equation.op))?;
-    put_behind_op(equation, out)?;
+    put_after_op(equation, out)?;
     put_args(equation.args.ids(), out)
 }
 

@@ -1,21 +1,22 @@
 -- The pairs of all equations are those of the arguments that are not guarded.
-use Rattle.std.proofs.Common.{◌≡◌, ℕ, zero, suc, ◌+◌, ◌<◌, List, [], ◌∷◌, ◌++◌, length, drop, get_or, Contains, All, Option, Some, None, refl, sym, ap, subst, ◌∙◌, inl, inr, append_assoc, take, add-one, arith}
+use Rattle.std.proofs.Common.{◌≡◌, ℕ, zero, suc, ◌+◌, ◌<◌, List, [], ◌∷◌, ◌++◌, length, get_or, Contains, All, Option, Some, None, refl, sym, ap, subst, ◌∙◌, inl, inr, append_assoc, take, add-one, arith}
 use Rattle.std.proofs.lemmas.Bool.{cases_lt}
 use Rattle.std.proofs.lemmas.List.{take_more}
 use Rattle.std.proofs.lemmas.Option.{slice_get_within}
 use Rattle.std.proofs.lemmas.List.Elements.{Contains-append_left, Contains-append_right, Contains-append_cases, Contains-get_or, All-from_get_or}
 use Rattle.tsl_value.specs.declared.scalar.ValueType.{ValueType}
 use Rattle.flat_core.specs.declared.equation.Equation.{Equation}
-use Rattle.flat_core.specs.declared.equation.Op.{Op}
-use Rattle.flat_core.specs.declared.equation.Op.TheVariants as op
-use Rattle.flat_core.specs.Graph.{Path, edge, step, IsAcyclic}
+use Rattle.translation_order.specs.Graph.{Path, edge, step, IsAcyclic}
 use Rattle.flat_core.specs.System.{System, equation}
 use Rattle.flat_core.specs.TypedSystem.{AreOfTypes}
 use Rattle.flat_core.specs.Complete.{IsFlat}
 use Rattle.flat_core.specs.WellFormed.{unguarded_of, Needs, IsWellFormed}
+use Rattle.flat_core.proofs.Depth.{unguarded_in}
+use Rattle.flat_core.proofs.Finished.{typed_below}
+use Rattle.flat_core.proofs.Members.{all_at}
 use Rattle.translation_order.specs.Order.{Before, AreOfSteps}
 use Rattle.translation_order.specs.Cycle.{IsCycle, IsCycleOfWalk}
-use Rattle.translation_order.proofs.Lists.{here, later, cons_cases, none_in_nil}
+use Rattle.tsl_value.proofs.Lists.{here, later, none_in_nil, cons_cases}
 use Rattle.translation_order.proofs.Cycles.{cycle_path}
 use Rattle.translation_order.proofs.Alike.{path_alike, cycle_alike, walk_alike}
 use Rattle.recursion_check.specs.Feeds.{Feeds, edges_to, edges_at, edges_of}
@@ -59,22 +60,8 @@ in_of s (suc n) a i lt need = elim (cases_lt i n) [
 ]
 
 -- ---- all arguments are there
-typed_low : (s : System) (args : List ℕ) (types : List ValueType) → AreOfTypes s.equations args types → (a : ℕ) → Contains args a → a < length s.equations
-typed_low s [] types typed a c = absurd (none_in_nil a c)
-typed_low s (b ∷ args) [] typed a c = absurd typed
-typed_low s (b ∷ args) (t ∷ types) typed a c = elim (cons_cases b a args c) [
-  | inl same ↦ subst (λ m. m < length s.equations) same (slice_get_within s.equations b typed.0.at typed.0.is)
-  | inr rest ↦ typed_low s args types typed.1 a rest
-]
-
-behind : (args : List ℕ) (a : ℕ) → Contains (drop 1 args) a → Contains args a
-behind [] a c = c
-behind (b ∷ args) a c = later b a args c
-
-unguarded_in : (o : Op) (args : List ℕ) (a : ℕ) → Contains (unguarded_of o args) a → Contains args a
-unguarded_in op.Last args a c = behind args a c
-unguarded_in op.Delay args a c = behind args a c
-unguarded_in o args a c = c
+pub typed_low : (s : System) (args : List ℕ) (types : List ValueType) → AreOfTypes s.equations args types → (a : ℕ) → Contains args a → a < length s.equations
+typed_low s args types typed a c = all_at (λ b. b < length s.equations) args (typed_below s.equations args types typed) a c
 
 pub needs_low : (s : System) → IsFlat s → (i a : ℕ) → Needs s i a → (i < length s.equations) × (a < length s.equations)
 needs_low s flat i a need =

@@ -8,13 +8,13 @@ use Rattle.flat_core.specs.declared.equation.Op.{Op}
 use Rattle.flat_core.specs.declared.equation.Op.TheVariants as op
 use Rattle.flat_core.specs.Case.{used_of}
 use Rattle.flat_core.specs.Complete.{IsFlat}
-use Rattle.flat_core.specs.Dependency.{with_one, IsOrdered, IsRunOrder}
+use Rattle.flat_core.specs.inner.Dependency.{with_one, IsOrdered, IsRunOrder}
 use Rattle.flat_core.specs.System.{System}
 use Rattle.flat_core.specs.WellFormed.{unguarded_of}
 use Rattle.flat_core.proofs.Existence.{one_or_done, more_done}
 use Rattle.flat_core.proofs.Members.{all_from, in-Contains}
 use Rattle.translation_order.specs.Order.{Before, TakesLeast, IsLeastOrder}
-use Rattle.translation_order.proofs.Lists.{here, none_in_nil}
+use Rattle.tsl_value.proofs.Lists.{here, none_in_nil}
 use Rattle.recursion_check.proofs.FeedLemmas.{pairs, from_feeds}
 
 -- what is used at the same time is not guarded

@@ -1,3 +1,2 @@
 pub mod Feeds
-pub mod Answer
-pub mod Laws
+pub mod inner

@@ -1,18 +1,18 @@
 // Whether a flat system is well-formed, and a cycle where it is not.
 
 ghost use Rattle.std.specs.Prelude.{◌≡◌, length, IfOk, OnOk, IfErr};
-ghost use Rattle.flat_core.specs.Dependency.{IsRunOrder};
+ghost use Rattle.flat_core.specs.inner.Dependency.{IsRunOrder};
 ghost use Rattle.flat_core.specs.WellFormed.{IsWellFormed};
 ghost use Rattle.translation_order.specs.Cycle.{IsCycle, IsCycleOfWalk};
 ghost use Rattle.recursion_check.specs.Feeds.{Feeds};
-ghost use Rattle.recursion_check.specs.Answer.{OnCycle};
+ghost use Rattle.recursion_check.specs.inner.Answer.{OnCycle};
 
 use crate::edges::edges;
 use crate::equations::EqList;
 use flat_core::flat::Flat;
-use flat_core::steps::Steps;
 use std::alloc::Global;
 use translation_order::order::{OrderFault, order};
+use translation_order::steps::Steps;
 use tsl_value::ids::EqId;
 use tsl_value::memory::NoMemory;
 

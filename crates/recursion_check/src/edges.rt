@@ -6,13 +6,13 @@ ghost use Rattle.recursion_check.specs.Feeds.{edges_to, edges_of};
 
 use flat_core::equation::{Equation, Op};
 use flat_core::flat::Flat;
-use flat_core::steps::Edges;
 use std::alloc::Global;
+use translation_order::steps::Edges;
 use tsl_value::ids::EqId;
 use tsl_value::memory::NoMemory;
 
-/// The arguments behind the first.
-fn behind_first(arguments: &[EqId]) -> &[EqId]
+/// The arguments after the first.
+fn after_the_first(arguments: &[EqId]) -> &[EqId]
     ensures { result.now ≡ drop 1 arguments.now }
 {
     match arguments.split_first() {
@@ -27,8 +27,8 @@ fn unguarded(equation: &Equation) -> &[EqId]
 {
     let arguments = equation.args.ids();
     match &equation.op {
-        Op::Last => behind_first(arguments),
-        Op::Delay => behind_first(arguments),
+        Op::Last => after_the_first(arguments),
+        Op::Delay => after_the_first(arguments),
         Op::Input => arguments,
         Op::Nil => arguments,
         Op::Unit => arguments,

@@ -1,9 +1,7 @@
-// Whether a flat system is well-formed.
+//! Whether a flat system is well-formed.
 #![tactic(auto)]
 
 pub mod check;
 mod edges;
 pub mod equations;
 pub mod laws;
-#[cfg(test)]
-mod tests;

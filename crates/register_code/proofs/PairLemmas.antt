@@ -1,7 +1,7 @@
 -- The list of all pairs has those of which the first has to stand before the second.
-use Rattle.std.proofs.Common.{◌≡◌, ℕ, zero, suc, ◌+◌, ◌<◌, Bool, true, false, cond, List, [], ◌∷◌, ◌++◌, length, drop, map, take, Contains, All, Option, Some, None, refl, sym, ap, subst, ◌∙◌, inl, inr, arith, get_or, append_assoc}
-use Rattle.std.proofs.lemmas.Bool.{cases_Bool, and_from, and_parts, or_cases, or_left, or_right, le-leb, lt-ltb, ltb-true, leb-true}
-use Rattle.std.proofs.lemmas.Option.{same_Some, slice_get_within, get_or_from_slice_get}
+use Rattle.std.proofs.Common.{◌≡◌, ℕ, zero, suc, ◌+◌, ◌<◌, Bool, true, false, cond, List, [], ◌∷◌, ◌++◌, length, take, Contains, Option, Some, None, refl, sym, ap, subst, ◌∙◌, inl, inr, arith, get_or, append_assoc}
+use Rattle.std.proofs.lemmas.Bool.{cases_Bool, and_from, and_parts, or_cases, or_left, or_right, le-leb, lt-ltb, ltb-true}
+use Rattle.std.proofs.lemmas.Option.{same_Some, slice_get_within}
 use Rattle.std.proofs.lemmas.List.{length-take-le, take_more}
 use Rattle.std.proofs.lemmas.List.Elements.{All-from_get_or, Contains-append_left, Contains-append_right, Contains-append_cases, Contains-get_or}
 use Rattle.std.proofs.lemmas.List.FromFn.{length-range_with_len, get_or-range_with_len}
@@ -9,17 +9,16 @@ use Rattle.std.specs.Prelude.{IsTrue, nat_le, nat_lt, slice_get}
 use Rattle.std.specs.List.{flat_map, range_with_len}
 use Rattle.flat_core.specs.declared.equation.Equation.{Equation}
 use Rattle.flat_core.specs.declared.equation.Output.{Output}
-use Rattle.flat_core.specs.declared.equation.Op.{Op}
-use Rattle.flat_core.specs.declared.equation.Op.TheVariants as op
 use Rattle.flat_core.specs.Complete.{IsFlat}
 use Rattle.flat_core.specs.System.{System, equation, runs}
-use Rattle.flat_core.specs.WellFormed.{unguarded_of, Needs}
-use Rattle.flat_core.proofs.Members.{all_at, contains_map, map_contains}
+use Rattle.flat_core.specs.WellFormed.{Needs}
+use Rattle.flat_core.proofs.Members.{contains_map, map_contains}
+use Rattle.flat_core.proofs.Depth.{runs_below}
 use Rattle.translation_order.specs.Order.{Before, AreOfSteps}
-use Rattle.translation_order.proofs.Lists.{here, later, none_in_nil, cons_cases}
-use Rattle.alias_rules.specs.Steps.{print_step, step_count, is_print, is_step, MustPrecede, argument, printed}
-use Rattle.alias_rules.proofs.Empty.{is_within, source_within}
-use Rattle.register_code.specs.Pairs.{unguarded_at, pairs_to, pairs_at, argument_pairs, print_pairs, all_pairs}
+use Rattle.tsl_value.proofs.Lists.{here, later, none_in_nil, cons_cases}
+use Rattle.alias_rules.specs.Steps.{step_count, is_print, is_step, MustPrecede, argument, printed}
+use Rattle.alias_rules.proofs.Empty.{source_within}
+use Rattle.register_code.specs.inner.Pairs.{unguarded_at, pairs_to, pairs_at, argument_pairs, print_pairs, all_pairs}
 
 -- ---- lists
 in_flat_map : {X Y : Type 0} (f : X → List Y) (xs : List X) (x : X) (y : Y) → Contains xs x → Contains (f x) y → Contains (flat_map f xs) y
@@ -114,7 +113,7 @@ module _ (s : System) where
 module _ (s : System) (flat : IsFlat s) where
   pub step_low : (x : ℕ) → IsTrue (is_step s x) → x < step_count s
   step_low x step = elim (or_cases (runs s x) (is_print s x) step) [
-    | inl run ↦ let low = is_within s flat.proper flat.outputs_run x run in omega arith
+    | inl run ↦ let low = runs_below s flat.proper x run in omega arith
     | inr print ↦ ltb-true x (step_count s) (and_parts (nat_le (length s.equations) x) (nat_lt x (step_count s)) print).1
   ]
 
@@ -130,7 +129,7 @@ module _ (s : System) (flat : IsFlat s) where
   pub from_precede : (a x : ℕ) → MustPrecede s a x → Before (all_pairs s) a x
   from_precede a x (argument run need) =
       Contains-append_left (argument_pairs s (length s.equations)) (print_pairs (length s.equations) s.outputs) (a, x)
-      (in_flat_map (pairs_at s) (range_with_len 0 (length s.equations)) x (a, x) (low_in (length s.equations) x (is_within s flat.proper flat.outputs_run x run)) (at_from s x a run need))
+      (in_flat_map (pairs_at s) (range_with_len 0 (length s.equations)) x (a, x) (low_in (length s.equations) x (runs_below s flat.proper x run)) (at_from s x a run need))
   from_precede a x (printed k o is a_is x_is) =
       Contains-append_right (argument_pairs s (length s.equations)) (print_pairs (length s.equations) s.outputs) (a, x)
       (in_print (length s.equations) s.outputs k o a x is a_is x_is)

@@ -1,7 +1,7 @@
 -- The least order of all equations and prints has the steps in an order for a plan.
-use Rattle.std.proofs.Common.{◌≡◌, ℕ, List, [], ◌∷◌, ◌++◌, Contains, subst}
+use Rattle.std.proofs.Common.{◌≡◌, ℕ, List, [], subst}
 use Rattle.std.specs.List.{filter}
-use Rattle.flat_core.specs.Graph.{IsAcyclic}
+use Rattle.translation_order.specs.Graph.{IsAcyclic}
 use Rattle.flat_core.specs.Complete.{IsFlat}
 use Rattle.flat_core.specs.System.{System}
 use Rattle.flat_core.specs.WellFormed.{IsWellFormed}
@@ -13,9 +13,10 @@ use Rattle.alias_rules.specs.Conflict.{StandsBefore, needed}
 use Rattle.alias_rules.specs.Fine.{IsFine, IsFinePlan}
 use Rattle.alias_rules.specs.Steps.{step_count, is_step, MustPrecede}
 use Rattle.alias_rules.proofs.Empty.{empty_is_fine, empty_plan, source_runs}
-use Rattle.register_code.specs.Pairs.{all_pairs}
-use Rattle.register_code.specs.Plan.{IsPlanOrder}
-use Rattle.register_code.proofs.Filtered.{in_filter, filter_in, once_filter, filter_precedes}
+use Rattle.register_code.specs.inner.Pairs.{all_pairs}
+use Rattle.register_code.specs.inner.Plan.{IsPlanOrder}
+use Rattle.tsl_value.proofs.Lists.{kept_in, in_kept, kept_once}
+use Rattle.register_code.proofs.Filtered.{filter_precedes}
 use Rattle.register_code.proofs.PairLemmas.{step_runs, second_step, step_low, to_precede, from_precede}
 
 -- relations that hold alike have the same least order
@@ -47,8 +48,8 @@ module _ (s : System) (flat : IsFlat s) where
 
   plan_order : (all : List ℕ) → IsLeastOrder (step_count s) (MustPrecede s) all → IsPlanOrder s (filter (is_step s) all)
   plan_order all least = record {
-    once = once_filter (is_step s) all (taken_once (step_count s) (MustPrecede s) all least.takes_least);
-    steps = λ x. ((λ c. (filter_in (is_step s) all x c).1), (λ h. in_filter (is_step s) all x (least.all x (step_low s flat x h)) h));
+    once = kept_once (is_step s) all (taken_once (step_count s) (MustPrecede s) all least.takes_least);
+    steps = λ x. ((λ c. (in_kept (is_step s) all x c).1), (λ h. kept_in (is_step s) all x (least.all x (step_low s flat x h)) h));
     agrees = λ a b must.
         let at = split_at all b (least.all b (step_low s flat b (second_step s a b must))) in
         filter_precedes (is_step s) all at.0 at.1 a b (step_runs s a (source_runs s flat.proper flat.outputs_run a b must)) (second_step s a b must) at.2

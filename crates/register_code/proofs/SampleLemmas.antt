@@ -4,11 +4,11 @@ use Rattle.std.proofs.lemmas.Option.{same_Some}
 use Rattle.std.specs.Prelude.{slice_get}
 use Rattle.std.specs.List.{AllByRecursion}
 use Rattle.flat_core.specs.declared.equation.Equation.{Equation}
-use Rattle.flat_core.specs.Graph.{Path, edge, step}
+use Rattle.translation_order.specs.Graph.{Path, edge, step}
 use Rattle.flat_core.specs.System.{System}
 use Rattle.flat_core.specs.WellFormed.{unguarded_of, Needs, IsWellFormed}
 use Rattle.flat_core.proofs.Members.{all_at}
-use Rattle.program_text.specs.Sample.{sample_equations}
+use Rattle.program_text.specs.inner.Sample.{sample_equations}
 
 abbrev pub rank : ℕ → ℕ
 rank i = get_or (0 ∷ 0 ∷ 3 ∷ 1 ∷ 1 ∷ 0 ∷ 0 ∷ 1 ∷ 2 ∷ 1 ∷ 2 ∷ 2 ∷ 3 ∷ 2 ∷ []) i 0

@@ -1,5 +1,3 @@
-pub mod Plan
-pub mod Pairs
 pub mod Code
 pub mod Text
-pub mod Laws
+pub mod inner

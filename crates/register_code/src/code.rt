@@ -78,7 +78,7 @@ impl Code {
 /// The code of a system by a plan. Both are gone after `NoMemory`.
 ///
 /// The plan has to be fine: all updates of its set can happen in place together, and its order has the running equations and the
-/// prints, each once and behind those that have to stand before it.
+/// prints, each once and after those that have to stand before it.
 pub fn generate(alloc: Global, flat: Flat, plan: Plan) -> Result<Code, NoMemory>
     requires { IsFinePlan flat plan.in_place plan.order }
     ensures system { IfOk result (λ c. c.system ≡ flat) }

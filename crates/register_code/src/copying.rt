@@ -6,15 +6,15 @@ ghost use Rattle.flat_core.specs.WellFormed.{IsWellFormed};
 ghost use Rattle.translation_order.specs.Order.{IsLeastOrder};
 ghost use Rattle.alias_rules.specs.Fine.{IsFinePlan};
 ghost use Rattle.alias_rules.specs.Steps.{MustPrecede, is_print as seen_print, is_step as seen_step, step_count};
-ghost use Rattle.register_code.specs.Plan.{IsLeastPlanOrder};
+ghost use Rattle.register_code.specs.inner.Plan.{IsLeastPlanOrder};
 
 use crate::pairs::pairs;
 use crate::plan::Plan;
 use flat_core::flat::Flat;
 use flat_core::lists::EqSet;
-use flat_core::steps::Steps;
 use std::alloc::Global;
 use translation_order::order::{OrderFault, order};
+use translation_order::steps::Steps;
 use tsl_value::ids::EqId;
 use tsl_value::memory::NoMemory;
 
@@ -44,7 +44,7 @@ pub fn steps_among(alloc: Global, flat: &Flat, numbers: &[u32]) -> Result<Steps,
     Ok(steps)
 }
 
-/// All equations and prints by their numbers, each behind those that have to stand before it, at each place the least that may stand
+/// All equations and prints by their numbers, each after those that have to stand before it, at each place the least that may stand
 /// there.
 fn all_ordered(alloc: Global, flat: &Flat) -> Result<Steps, NoMemory>
     requires { IsWellFormed flat.now }
@@ -60,7 +60,7 @@ fn all_ordered(alloc: Global, flat: &Flat) -> Result<Steps, NoMemory>
     }
 }
 
-/// The plan in which no update happens in place: the running equations and the prints, each behind those that have to stand before it,
+/// The plan in which no update happens in place: the running equations and the prints, each after those that have to stand before it,
 /// at each place the least that may stand there.
 ///
 /// An argument of an equation has to stand before it, unless it is the first of a `Last` or of a `Delay`, and a printed equation before

@@ -1,6 +1,6 @@
 // Laws of the order of a plan, as the contracts of functions that do nothing.
 
-ghost use Rattle.register_code.specs.Laws.{LeastStepsFirst, OnePlanOrder};
+ghost use Rattle.register_code.specs.inner.Laws.{LeastStepsFirst, OnePlanOrder};
 
 /// At each place of the order stands the least step that may stand there.
 pub fn least_steps_come_first()

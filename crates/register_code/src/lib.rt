@@ -8,5 +8,3 @@ pub mod laws;
 mod pairs;
 pub mod plan;
 pub mod print;
-#[cfg(test)]
-mod tests;

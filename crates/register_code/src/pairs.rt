@@ -2,17 +2,17 @@
 
 ghost use Rattle.std.specs.Prelude.{◌≡◌, ◌<◌, ◌≤◌, ◌+◌, ◌^◌, ◌++◌, length, drop, IfOk, OnOk};
 ghost use Rattle.flat_core.specs.WellFormed.{unguarded_of};
-ghost use Rattle.register_code.specs.Pairs.{all_pairs, pairs_at, pairs_to, print_pairs};
+ghost use Rattle.register_code.specs.inner.Pairs.{all_pairs, pairs_at, pairs_to, print_pairs};
 
 use flat_core::equation::{Equation, Op, Output};
 use flat_core::flat::Flat;
-use flat_core::steps::Edges;
 use std::alloc::Global;
+use translation_order::steps::Edges;
 use tsl_value::ids::EqId;
 use tsl_value::memory::NoMemory;
 
-/// The arguments behind the first.
-fn behind_first(arguments: &[EqId]) -> &[EqId]
+/// The arguments after the first.
+fn after_the_first(arguments: &[EqId]) -> &[EqId]
     ensures { result.now ≡ drop 1 arguments.now }
 {
     match arguments.split_first() {
@@ -26,7 +26,7 @@ fn unguarded(equation: &Equation) -> &[EqId]
     ensures { result.now ≡ unguarded_of equation.now.op equation.now.args }
 {
     match &equation.op {
-        Op::Last | Op::Delay => behind_first(equation.args.ids()),
+        Op::Last | Op::Delay => after_the_first(equation.args.ids()),
         _ => equation.args.ids(),
     }
 }

@@ -1,7 +1,7 @@
 // Plans: which updates happen in place, and the order of the steps.
 
 use flat_core::lists::EqSet;
-use flat_core::steps::Steps;
+use translation_order::steps::Steps;
 
 /// How a flat system is to be run.
 ///

@@ -13,10 +13,11 @@ use tsl_value::bytes::Bytes;
 use tsl_value::ids::EqId;
 use tsl_value::memory::NoMemory;
 
-/// Appends an equation's line, with ` in place` behind it where it happens in place.
+/// Appends an equation's line, with ` in place` after it where it happens in place.
 fn put_equation(code: &Code, id: EqId, out: &mut Bytes) -> Result<(), NoMemory>
     requires { id < length code.now.system.equations }
-    ensures ok { OnOk result (out.new ≡ out.old ++ (definition_text code.now.system id ++ (place_text (is_in code.now.in_place id) ++ codes "\n"))) }
+    ensures ok { OnOk result (out.new
+        ≡ out.old ++ (definition_text code.now.system id ++ (place_text (is_in code.now.in_place id) ++ codes "\n"))) }
     ensures err { OnErr result (take (length out.old) out.new ≡ out.old) }
 {
     print_definition(code.flat(), id, out)?;
@@ -97,7 +98,7 @@ fn put_code(code: &Code, out: &mut Bytes) -> Result<(), NoMemory>
 
 /// Appends the text of code, or leaves `out` as it was.
 ///
-/// The steps of the plan come in their order: an equation as its line, with ` in place` behind it where it is in the plan's set, and a
+/// The steps of the plan come in their order: an equation as its line, with ` in place` after it where it is in the plan's set, and a
 /// print as `print NAME %N`. Then comes `keep %N` for each first argument of a running `Last`, and `timer %N` for each running `Delay`.
 pub fn print_code(code: &Code, out: &mut Bytes) -> Result<(), NoMemory>
     ensures ok { OnOk result (out.new ≡ out.old ++ code_text code.now) }

@@ -10,16 +10,16 @@ use Rattle.trigger_rules.specs.declared.atom.Atom.{Atom}
 use Rattle.trigger_rules.specs.Formula.{Formula, Assignment, Of, Meets, always, atom, no_atom, through, both, first, second, started, unless, HasAtom, in_if, in_if_not, in_of, both_first, both_second, either_first, either_second, in_unless, Unless}
 use Rattle.trigger_rules.specs.Question.{Starts, Stands, Fires}
 use Rattle.trigger_rules.specs.Table.{formula}
-use Rattle.trigger_starts.proofs.AtomLists.{here, later, in_cons}
+use Rattle.tsl_value.proofs.Lists.{here, later, cons_cases}
 use Rattle.trigger_diagram.specs.declared.arena.Branch.{Branch}
 use Rattle.trigger_diagram.specs.declared.join.Pair.{Pair}
 use Rattle.trigger_diagram.specs.declared.join.Split.{Split}
-use Rattle.trigger_diagram.specs.Tree.{Tree, Leaf, Fork, Valuation, value, Agree, IsBehind, IsCanonical, with_value}
-use Rattle.trigger_diagram.specs.Arena.{tree_at, AreCanonical, Grows, IsNode}
-use Rattle.trigger_diagram.specs.Join.{AreNodes, IsSplit}
-use Rattle.trigger_diagram.specs.Kept.{Kept, AreDiagramsOf, IsNodeIn, IsNodeOf}
-use Rattle.trigger_diagram.specs.Truth.{variable_of, truth}
-use Rattle.trigger_diagram.specs.Ways.{Occurs, OccursInOne, IsSide, Nests, none, one_more}
+use Rattle.trigger_diagram.specs.inner.Tree.{Tree, Leaf, Fork, Valuation, value, Agree, IsAfter, IsCanonical, with_value}
+use Rattle.trigger_diagram.specs.inner.Arena.{tree_at, AreCanonical, Grows, IsNode}
+use Rattle.trigger_diagram.specs.inner.Join.{AreNodes, IsSplit}
+use Rattle.trigger_diagram.specs.inner.Kept.{Kept, AreDiagramsOf, IsNodeIn, IsNodeOf}
+use Rattle.trigger_diagram.specs.inner.Truth.{variable_of, truth}
+use Rattle.trigger_diagram.specs.inner.Ways.{Occurs, OccursInOne, IsSide, Nests, none, one_more}
 use Rattle.trigger_diagram.proofs.Trees.{low_value, high_value, same_tree}
 use Rattle.trigger_diagram.proofs.Truths.{assignment_of, truth_is, valuation_is}
 
@@ -39,7 +39,7 @@ no_more x (z ∷ xs) = elim (cases_Bool (nat_lt x z)) [
 
 fewer : (x : ℕ) (xs : List ℕ) → Contains xs x → length (above x xs) < length xs
 fewer x [] there = let low = there.1 in absurd (omega arith)
-fewer x (z ∷ xs) there = elim (in_cons z x xs there) [
+fewer x (z ∷ xs) there = elim (cons_cases z x xs there) [
   | inl same ↦
       let l = ap length (above_cons x z xs false (le-ltb x z (omega arith))) in
       let r = no_more x xs in omega arith
@@ -53,7 +53,7 @@ fewer x (z ∷ xs) there = elim (in_cons z x xs there) [
 
 is_above : (x y : ℕ) (xs : List ℕ) → x < y → Contains xs y → Contains (above x xs) y
 is_above x y [] lt there = let low = there.1 in absurd (omega arith)
-is_above x y (z ∷ xs) lt there = elim (in_cons z y xs there) [
+is_above x y (z ∷ xs) lt there = elim (cons_cases z y xs there) [
   | inl same ↦ subst (λ l. Contains l y) (sym (above_cons x z xs true (lt-ltb x z (omega arith)))) (subst (λ k. Contains (k ∷ above x xs) y) (sym same) (here y (above x xs)))
   | inr rest ↦
       let it = is_above x y xs lt rest in
@@ -64,11 +64,11 @@ is_above x y (z ∷ xs) lt there = elim (in_cons z y xs there) [
 ]
 
 -- ---- variables
-occurs_behind : (x y : ℕ) (t : Tree) → IsBehind x t → IsCanonical t → Occurs y t → x < y
-occurs_behind x y (Leaf b) behind can deep = elim deep [ ]
-occurs_behind x y (Fork z low high) behind can (inl same) = omega arith
-occurs_behind x y (Fork z low high) behind can (inr (inl deep)) = let less = occurs_behind z y low can.0 can.3 deep in omega arith
-occurs_behind x y (Fork z low high) behind can (inr (inr deep)) = let less = occurs_behind z y high can.1 can.4 deep in omega arith
+occurs_after : (x y : ℕ) (t : Tree) → IsAfter x t → IsCanonical t → Occurs y t → x < y
+occurs_after x y (Leaf b) behind can deep = elim deep [ ]
+occurs_after x y (Fork z low high) behind can (inl same) = omega arith
+occurs_after x y (Fork z low high) behind can (inr (inl deep)) = let less = occurs_after z y low can.0 can.3 deep in omega arith
+occurs_after x y (Fork z low high) behind can (inr (inr deep)) = let less = occurs_after z y high can.1 can.4 deep in omega arith
 
 chosen_same : (b p q r : Bool) → p ≡ r → q ≡ r → (if b then p else q) ≡ r
 chosen_same true p q r e f = e
@@ -76,13 +76,13 @@ chosen_same false p q r e f = f
 
 module _ (bs : List Branch) (can : AreCanonical bs) where
   -- a node is both its parts by a variable, or its tree has the variable first
-  parts : (n low high x : ℕ) → IsNode bs n → IsNode bs low → IsNode bs high → IsBehind x (tree_at bs low) → IsBehind x (tree_at bs high) → ((v : Valuation) → value v (tree_at bs n) ≡ (if v x then value v (tree_at bs high) else value v (tree_at bs low))) → ((n ≡ low) × (n ≡ high)) ⊎ (tree_at bs n ≡ Fork x (tree_at bs low) (tree_at bs high))
-  parts n low high x node low_node high_node low_behind high_behind exact = elim (cases_eq low high) [
+  parts : (n low high x : ℕ) → IsNode bs n → IsNode bs low → IsNode bs high → IsAfter x (tree_at bs low) → IsAfter x (tree_at bs high) → ((v : Valuation) → value v (tree_at bs n) ≡ (if v x then value v (tree_at bs high) else value v (tree_at bs low))) → ((n ≡ low) × (n ≡ high)) ⊎ (tree_at bs n ≡ Fork x (tree_at bs low) (tree_at bs high))
+  parts n low high x node low_node high_node low_after high_after exact = elim (cases_eq low high) [
     | inl same ↦
         let trees = same_tree (tree_at bs n) (tree_at bs low) (can.canonical n node) (can.canonical low low_node) (λ v. exact v ∙ chosen_same (v x) _ _ _ (ap (λ k. value v (tree_at bs k)) (sym same)) refl) in
         let is = can.once n low node low_node trees in
         inl (is, is ∙ same)
-    | inr other ↦ inr (same_tree (tree_at bs n) (Fork x (tree_at bs low) (tree_at bs high)) (can.canonical n node) (low_behind, high_behind, λ e. other (can.once low high low_node high_node e), can.canonical low low_node, can.canonical high high_node) exact)
+    | inr other ↦ inr (same_tree (tree_at bs n) (Fork x (tree_at bs low) (tree_at bs high)) (can.canonical n node) (low_after, high_after, λ e. other (can.once low high low_node high_node e), can.canonical low low_node, can.canonical high high_node) exact)
   ]
 
   module _ (n low high x : ℕ) (either : ((n ≡ low) × (n ≡ high)) ⊎ (tree_at bs n ≡ Fork x (tree_at bs low) (tree_at bs high))) where
@@ -100,10 +100,10 @@ module _ (bs : List Branch) (can : AreCanonical bs) where
 
   module _ (p : Pair) (nodes : AreNodes bs p) (s : Split) (split : IsSplit bs p s) where
     firsts : ((p.first ≡ s.low.first) × (p.first ≡ s.high.first)) ⊎ (tree_at bs p.first ≡ Fork s.variable (tree_at bs s.low.first) (tree_at bs s.high.first))
-    firsts = parts p.first s.low.first s.high.first s.variable nodes.0 split.low.0 split.high.0 split.low_behind.0 split.high_behind.0 split.first
+    firsts = parts p.first s.low.first s.high.first s.variable nodes.0 split.low.0 split.high.0 split.low_after.0 split.high_after.0 split.first
 
     seconds : ((p.second ≡ s.low.second) × (p.second ≡ s.high.second)) ⊎ (tree_at bs p.second ≡ Fork s.variable (tree_at bs s.low.second) (tree_at bs s.high.second))
-    seconds = parts p.second s.low.second s.high.second s.variable nodes.1 split.low.1 split.high.1 split.low_behind.1 split.high_behind.1 split.second
+    seconds = parts p.second s.low.second s.high.second s.variable nodes.1 split.low.1 split.high.1 split.low_after.1 split.high_after.1 split.second
 
     variable_in : OccursInOne bs p s.variable
     variable_in = elim firsts [
@@ -115,12 +115,12 @@ module _ (bs : List Branch) (can : AreCanonical bs) where
     ]
 
     low_in : (y : ℕ) → OccursInOne bs s.low y → OccursInOne bs p y × (s.variable < y)
-    low_in y (inl deep) = (inl (in_low p.first s.low.first s.high.first s.variable firsts y deep), occurs_behind s.variable y (tree_at bs s.low.first) split.low_behind.0 (can.canonical s.low.first split.low.0) deep)
-    low_in y (inr deep) = (inr (in_low p.second s.low.second s.high.second s.variable seconds y deep), occurs_behind s.variable y (tree_at bs s.low.second) split.low_behind.1 (can.canonical s.low.second split.low.1) deep)
+    low_in y (inl deep) = (inl (in_low p.first s.low.first s.high.first s.variable firsts y deep), occurs_after s.variable y (tree_at bs s.low.first) split.low_after.0 (can.canonical s.low.first split.low.0) deep)
+    low_in y (inr deep) = (inr (in_low p.second s.low.second s.high.second s.variable seconds y deep), occurs_after s.variable y (tree_at bs s.low.second) split.low_after.1 (can.canonical s.low.second split.low.1) deep)
 
     high_in : (y : ℕ) → OccursInOne bs s.high y → OccursInOne bs p y × (s.variable < y)
-    high_in y (inl deep) = (inl (in_high p.first s.low.first s.high.first s.variable firsts y deep), occurs_behind s.variable y (tree_at bs s.high.first) split.high_behind.0 (can.canonical s.high.first split.high.0) deep)
-    high_in y (inr deep) = (inr (in_high p.second s.low.second s.high.second s.variable seconds y deep), occurs_behind s.variable y (tree_at bs s.high.second) split.high_behind.1 (can.canonical s.high.second split.high.1) deep)
+    high_in y (inl deep) = (inl (in_high p.first s.low.first s.high.first s.variable firsts y deep), occurs_after s.variable y (tree_at bs s.high.first) split.high_after.0 (can.canonical s.high.first split.high.0) deep)
+    high_in y (inr deep) = (inr (in_high p.second s.low.second s.high.second s.variable seconds y deep), occurs_after s.variable y (tree_at bs s.high.second) split.high_after.1 (can.canonical s.high.second split.high.1) deep)
 
 -- a side of two nodes has variables of both, which come after that by which they are split
 side_in : (bs : List Branch) → AreCanonical bs → (p q : Pair) → AreNodes bs p → (side : IsSide bs p q) → (y : ℕ) → OccursInOne bs q y → OccursInOne bs p y × (side.split.variable < y)
@@ -166,12 +166,12 @@ depends y (Leaf b) can deep alike = elim deep [ ]
 depends y (Fork x low high) can (inl same) alike =
     can.2 (same_tree low high can.3 can.4 (λ v. sym (low_value v x low high can) ∙ sym (subst (λ z. value (with_value v z true) (Fork x low high) ≡ value (with_value v z false) (Fork x low high)) same (alike v)) ∙ high_value v x low high can))
 depends y (Fork x low high) can (inr (inl deep)) alike =
-    let less = occurs_behind x y low can.0 can.3 deep in
+    let less = occurs_after x y low can.0 can.3 deep in
     let at : (b : Bool) (v : Valuation) → value (with_value v y b) low ≡ value (with_value (with_value v x false) y b) (Fork x low high) =
     λ b v. sym (low_value (with_value v y b) x low high can) ∙ ap (λ w. value w (Fork x low high)) (with_turned v x y b false (λ e. omega arith)) in
     depends y low can.3 deep (λ v. at true v ∙ alike (with_value v x false) ∙ sym (at false v))
 depends y (Fork x low high) can (inr (inr deep)) alike =
-    let less = occurs_behind x y high can.1 can.4 deep in
+    let less = occurs_after x y high can.1 can.4 deep in
     let at : (b : Bool) (v : Valuation) → value (with_value v y b) high ≡ value (with_value (with_value v x true) y b) (Fork x low high) =
     λ b v. sym (high_value (with_value v y b) x low high can) ∙ ap (λ w. value w (Fork x low high)) (with_turned v x y b true (λ e. omega arith)) in
     depends y high can.4 deep (λ v. at true v ∙ alike (with_value v x true) ∙ sym (at false v))

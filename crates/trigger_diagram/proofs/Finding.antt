@@ -6,9 +6,9 @@ use Rattle.indexmap.specs.IndexSet.{IndexSet, contains}
 use Rattle.trigger_diagram.specs.declared.arena.Branch.{Branch}
 use Rattle.trigger_diagram.specs.declared.join.Pair.{Pair}
 use Rattle.trigger_diagram.specs.declared.join.Split.{Split}
-use Rattle.trigger_diagram.specs.Tree.{Agree, Valuation, value, IsBehind, with_value}
-use Rattle.trigger_diagram.specs.Arena.{tree_at, IsNode, AreCanonical}
-use Rattle.trigger_diagram.specs.Join.{asked, decided, same_pair, AreNodes, AreRefuted, AreTogether, IsFound, IsImplied, IsSplit}
+use Rattle.trigger_diagram.specs.inner.Tree.{Agree, Valuation, value, IsAfter, with_value}
+use Rattle.trigger_diagram.specs.inner.Arena.{tree_at, IsNode, AreCanonical}
+use Rattle.trigger_diagram.specs.inner.Join.{asked, decided, same_pair, AreNodes, AreRefuted, AreTogether, IsFound, IsImplied, IsSplit}
 use Rattle.trigger_diagram.proofs.Trees.{has_other, same_tree, value_with, with_same}
 use Rattle.trigger_diagram.proofs.Joining.{pair_to, value_no, value_yes}
 
@@ -86,7 +86,7 @@ module _ (bs : List Branch) (can : AreCanonical bs) (both : Bool) (p : Pair) (s 
   abbrev is : Valuation → ℕ → Bool
   is v n = value v (tree_at bs n)
 
-  side : (b : Bool) (v : Valuation) (n low high k : ℕ) → ((w : Valuation) → is w n ≡ (if w s.variable then is w high else is w low)) → k ≡ (if b then high else low) → IsNode bs k → IsBehind s.variable (tree_at bs k) → is (with_value v s.variable b) n ≡ is v k
+  side : (b : Bool) (v : Valuation) (n low high k : ℕ) → ((w : Valuation) → is w n ≡ (if w s.variable then is w high else is w low)) → k ≡ (if b then high else low) → IsNode bs k → IsAfter s.variable (tree_at bs k) → is (with_value v s.variable b) n ≡ is v k
   side true v n low high k parts same node behind =
       parts (with_value v s.variable true) ∙ ap (λ t. if t then is (with_value v s.variable true) high else is (with_value v s.variable true) low) (with_same v s.variable true)
       ∙ ap (λ m. is (with_value v s.variable true) m) (sym same) ∙ value_with v s.variable true (tree_at bs k) behind (can.canonical k node)
@@ -98,16 +98,16 @@ module _ (bs : List Branch) (can : AreCanonical bs) (both : Bool) (p : Pair) (s 
   from_low f = record {
     valuation = with_value f.valuation s.variable false;
     holds =
-        asked_at both _ _ _ _ (side false f.valuation p.first s.low.first s.high.first s.low.first split.first refl split.low.0 split.low_behind.0)
-        (side false f.valuation p.second s.low.second s.high.second s.low.second split.second refl split.low.1 split.low_behind.1) f.holds;
+        asked_at both _ _ _ _ (side false f.valuation p.first s.low.first s.high.first s.low.first split.first refl split.low.0 split.low_after.0)
+        (side false f.valuation p.second s.low.second s.high.second s.low.second split.second refl split.low.1 split.low_after.1) f.holds;
   }
 
   pub from_high : IsFound both bs s.high → IsFound both bs p
   from_high f = record {
     valuation = with_value f.valuation s.variable true;
     holds =
-        asked_at both _ _ _ _ (side true f.valuation p.first s.low.first s.high.first s.high.first split.first refl split.high.0 split.high_behind.0)
-        (side true f.valuation p.second s.low.second s.high.second s.high.second split.second refl split.high.1 split.high_behind.1) f.holds;
+        asked_at both _ _ _ _ (side true f.valuation p.first s.low.first s.high.first s.high.first split.first refl split.high.0 split.high_after.0)
+        (side true f.valuation p.second s.low.second s.high.second s.high.second split.second refl split.high.1 split.high_after.1) f.holds;
   }
 
   pub to_side : IsFound both bs p → IsFound both bs s.low ⊎ IsFound both bs s.high

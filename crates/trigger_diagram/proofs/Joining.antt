@@ -7,9 +7,9 @@ use Rattle.trigger_diagram.specs.declared.join.Connective.{Connective}
 use Rattle.trigger_diagram.specs.declared.join.Connective.TheVariants as connective
 use Rattle.trigger_diagram.specs.declared.join.Pair.{Pair}
 use Rattle.trigger_diagram.specs.declared.join.Split.{Split}
-use Rattle.trigger_diagram.specs.Tree.{Valuation, value, IsBehind}
-use Rattle.trigger_diagram.specs.Arena.{tree_at, IsNode, Grows}
-use Rattle.trigger_diagram.specs.Join.{connected, settled, same_pair, AreNodes, AreJoined, IsJoin, IsSplit}
+use Rattle.trigger_diagram.specs.inner.Tree.{Valuation, value, IsAfter}
+use Rattle.trigger_diagram.specs.inner.Arena.{tree_at, IsNode, Grows}
+use Rattle.trigger_diagram.specs.inner.Join.{connected, settled, same_pair, AreNodes, AreJoined, IsJoin, IsSplit}
 use Rattle.trigger_diagram.proofs.Nodes.{no_is, yes_is, grows_on, both}
 
 -- ---- where no branch is looked at
@@ -53,10 +53,10 @@ value_yes bs n v e = ap (value v) (ap (tree_at bs) e ∙ yes_is bs)
 
 module _ (bs : List Branch) (p : Pair) (nodes : AreNodes bs p) where
   join_no : (c : Connective) → ((v : Valuation) → false ≡ connected c (value v (tree_at bs p.first)) (value v (tree_at bs p.second))) → IsJoin c bs p 0
-  join_no c same = record { there = omega arith; exact = λ v. ap (value v) (no_is bs) ∙ same v; behind = λ x f s. subst (IsBehind x) (sym (no_is bs)) tt }
+  join_no c same = record { there = omega arith; exact = λ v. ap (value v) (no_is bs) ∙ same v; behind = λ x f s. subst (IsAfter x) (sym (no_is bs)) tt }
 
   join_yes : (c : Connective) → ((v : Valuation) → true ≡ connected c (value v (tree_at bs p.first)) (value v (tree_at bs p.second))) → IsJoin c bs p 1
-  join_yes c same = record { there = omega arith; exact = λ v. ap (value v) (yes_is bs) ∙ same v; behind = λ x f s. subst (IsBehind x) (sym (yes_is bs)) tt }
+  join_yes c same = record { there = omega arith; exact = λ v. ap (value v) (yes_is bs) ∙ same v; behind = λ x f s. subst (IsAfter x) (sym (yes_is bs)) tt }
 
   join_first : (c : Connective) → ((v : Valuation) → value v (tree_at bs p.first) ≡ connected c (value v (tree_at bs p.first)) (value v (tree_at bs p.second))) → IsJoin c bs p p.first
   join_first c same = record { there = nodes.0; exact = same; behind = λ x f s. f }
@@ -101,12 +101,12 @@ join_on c a b p n grows nodes join = record {
   exact = λ v.
       value_kept a b n v grows join.there ∙ join.exact v
       ∙ connected_same c (value v (tree_at a p.first)) (value v (tree_at a p.second)) (value v (tree_at b p.first)) (value v (tree_at b p.second)) (sym (value_kept a b p.first v grows nodes.0)) (sym (value_kept a b p.second v grows nodes.1));
-  behind = λ x f s. subst (IsBehind x) (sym (grows.kept n join.there)) (join.behind x (subst (IsBehind x) (grows.kept p.first nodes.0) f) (subst (IsBehind x) (grows.kept p.second nodes.1) s));
+  behind = λ x f s. subst (IsAfter x) (sym (grows.kept n join.there)) (join.behind x (subst (IsAfter x) (grows.kept p.first nodes.0) f) (subst (IsAfter x) (grows.kept p.second nodes.1) s));
 }
 
-pub join_behind : (c : Connective) (a b d : List Branch) (x : ℕ) (q : Pair) (n : ℕ) → Grows a b → Grows b d → AreNodes a q → IsBehind x (tree_at a q.first) × IsBehind x (tree_at a q.second) → IsJoin c b q n → IsBehind x (tree_at d n)
-join_behind c a b d x q n one two nodes behind join =
-    subst (IsBehind x) (sym (two.kept n join.there)) (join.behind x (subst (IsBehind x) (sym (one.kept q.first nodes.0)) behind.0) (subst (IsBehind x) (sym (one.kept q.second nodes.1)) behind.1))
+pub join_after : (c : Connective) (a b d : List Branch) (x : ℕ) (q : Pair) (n : ℕ) → Grows a b → Grows b d → AreNodes a q → IsAfter x (tree_at a q.first) × IsAfter x (tree_at a q.second) → IsJoin c b q n → IsAfter x (tree_at d n)
+join_after c a b d x q n one two nodes behind join =
+    subst (IsAfter x) (sym (two.kept n join.there)) (join.behind x (subst (IsAfter x) (sym (one.kept q.first nodes.0)) behind.0) (subst (IsAfter x) (sym (one.kept q.second nodes.1)) behind.1))
 
 spread : (c : Connective) (b p q r s : Bool) → (if b then connected c p q else connected c r s) ≡ connected c (if b then p else r) (if b then q else s)
 spread c true p q r s = refl
@@ -117,7 +117,7 @@ chosen true p q r s e f = e
 chosen false p q r s e f = f
 
 -- the step of the recursion
-module _ (c : Connective) (a b d e : List Branch) (p : Pair) (s : Split) (low high node : ℕ) (nodes : AreNodes a p) (split : IsSplit a p s) (one : Grows a b) (two : Grows b d) (three : Grows d e) (lows : IsJoin c b s.low low) (highs : IsJoin c d s.high high) (there : IsNode e node) (exact : (v : Valuation) → value v (tree_at e node) ≡ (if v s.variable then value v (tree_at d high) else value v (tree_at d low))) (behind : (x : ℕ) → x < s.variable → IsBehind x (tree_at e node)) where
+module _ (c : Connective) (a b d e : List Branch) (p : Pair) (s : Split) (low high node : ℕ) (nodes : AreNodes a p) (split : IsSplit a p s) (one : Grows a b) (two : Grows b d) (three : Grows d e) (lows : IsJoin c b s.low low) (highs : IsJoin c d s.high high) (there : IsNode e node) (exact : (v : Valuation) → value v (tree_at e node) ≡ (if v s.variable then value v (tree_at d high) else value v (tree_at d low))) (behind : (x : ℕ) → x < s.variable → IsAfter x (tree_at e node)) where
   abbrev at : Valuation → List Branch → ℕ → Bool
   at v l n = value v (tree_at l n)
 
@@ -137,7 +137,7 @@ module _ (c : Connective) (a b d e : List Branch) (p : Pair) (s : Split) (low hi
         exact v ∙ chosen (v s.variable) _ _ _ _ (high_is v) (low_is v) ∙ spread c (v s.variable) (at v a s.high.first) (at v a s.high.second) (at v a s.low.first) (at v a s.low.second)
         ∙ connected_same c _ _ _ _ (sym (split.first v)) (sym (split.second v))
         ∙ connected_same c _ _ _ _ (sym (value_kept a e p.first v all_on nodes.0)) (sym (value_kept a e p.second v all_on nodes.1));
-    behind = λ x f g. behind x (split.before x (subst (IsBehind x) (all_on.kept p.first nodes.0) f) (subst (IsBehind x) (all_on.kept p.second nodes.1) g));
+    behind = λ x f g. behind x (split.before x (subst (IsAfter x) (all_on.kept p.first nodes.0) f) (subst (IsAfter x) (all_on.kept p.second nodes.1) g));
   }
 
 -- ---- what is known

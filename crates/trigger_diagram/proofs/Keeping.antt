@@ -7,16 +7,16 @@ use Rattle.flat_core.specs.System.{System}
 use Rattle.trigger_rules.specs.declared.atom.Atom.{Atom}
 use Rattle.trigger_rules.specs.Question.{Fires}
 use Rattle.trigger_starts.specs.declared.rules.Rule.{Rule}
-use Rattle.trigger_starts.specs.AtomLists.{AreDifferent, atoms_at}
-use Rattle.trigger_starts.specs.Kept.{AreAtomsOf, AreRulesOf, AreStarts, IsOrder}
-use Rattle.trigger_starts.specs.Rules.{AreClosed, rules_of}
-use Rattle.trigger_starts.specs.Truth.{IsMet}
+use Rattle.trigger_starts.specs.inner.AtomLists.{AreDifferent, atoms_at}
+use Rattle.trigger_starts.specs.inner.Kept.{AreAtomsOf, AreRulesOf, AreStarts, IsOrder}
+use Rattle.trigger_starts.specs.inner.Rules.{AreClosed, rules_of}
+use Rattle.trigger_starts.specs.inner.Truth.{IsMet}
 use Rattle.trigger_starts.proofs.Systems.{fires_is, has_stands}
 use Rattle.trigger_diagram.specs.declared.arena.Branch.{Branch}
-use Rattle.trigger_diagram.specs.Arena.{AreCanonical, Grows, IsNode}
-use Rattle.trigger_diagram.specs.Kept.{AreAlike, AreKept, HaveAtoms, IsNodeIn, IsNodeOf, Keeps, Kept}
-use Rattle.trigger_diagram.specs.Made.{node_at, AreNodesOf, IsMade}
-use Rattle.trigger_diagram.specs.Truth.{truth}
+use Rattle.trigger_diagram.specs.inner.Arena.{AreCanonical, Grows, IsNode}
+use Rattle.trigger_diagram.specs.inner.Kept.{AreAlike, AreKept, HaveAtoms, IsNodeIn, IsNodeOf, Keeps, Kept}
+use Rattle.trigger_diagram.specs.inner.Made.{node_at, AreNodesOf, IsMade}
+use Rattle.trigger_diagram.specs.inner.Truth.{truth}
 use Rattle.trigger_diagram.proofs.Questions.{alike_is}
 use Rattle.trigger_diagram.proofs.Truths.{node_on, truth_kept}
 

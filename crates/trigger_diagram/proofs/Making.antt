@@ -7,13 +7,13 @@ use Rattle.std.proofs.lemmas.List.Elements.{Contains-push_cases}
 use Rattle.flat_core.proofs.Uniqueness.{all_by}
 use Rattle.trigger_rules.specs.Formula.{Assignment}
 use Rattle.trigger_starts.specs.declared.rules.Rule.{Rule}
-use Rattle.trigger_starts.specs.Rules.{used_by}
-use Rattle.trigger_starts.specs.Truth.{IsMet, value_by}
+use Rattle.trigger_starts.specs.inner.Rules.{used_by}
+use Rattle.trigger_starts.specs.inner.Truth.{IsMet, value_by}
 use Rattle.trigger_starts.proofs.Meaning.{value_met}
 use Rattle.trigger_diagram.specs.declared.arena.Branch.{Branch}
-use Rattle.trigger_diagram.specs.Arena.{IsNode, Grows}
-use Rattle.trigger_diagram.specs.Made.{node_at, value_at, AreNodesOf, IsMade, UsedMade}
-use Rattle.trigger_diagram.specs.Truth.{truth, Tells}
+use Rattle.trigger_diagram.specs.inner.Arena.{IsNode, Grows}
+use Rattle.trigger_diagram.specs.inner.Made.{node_at, value_at, AreNodesOf, IsMade, UsedMade}
+use Rattle.trigger_diagram.specs.inner.Truth.{truth, Tells}
 use Rattle.trigger_diagram.proofs.Truths.{node_on, truth_kept}
 
 -- the same nodes among more

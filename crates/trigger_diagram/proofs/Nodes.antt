@@ -8,8 +8,8 @@ use Rattle.std.proofs.lemmas.Bool.{true≢false, false≢true, eq-eqb, eqb-true}
 use Rattle.std.proofs.lemmas.List.{get_or_append_left, length-append}
 use Rattle.std.proofs.Math.Seq.{get_or-append_seam}
 use Rattle.trigger_diagram.specs.declared.arena.Branch.{Branch}
-use Rattle.trigger_diagram.specs.Tree.{Tree, Leaf, Fork, Valuation, value, IsBehind}
-use Rattle.trigger_diagram.specs.Arena.{tree_in, fork_in, trees_from, trees_of, tree_at, IsNode, IsSound, same_branch, IsArena, Grows}
+use Rattle.trigger_diagram.specs.inner.Tree.{Tree, Leaf, Fork, Valuation, value, IsAfter}
+use Rattle.trigger_diagram.specs.inner.Arena.{tree_in, fork_in, trees_from, trees_of, tree_at, IsNode, IsSound, same_branch, IsArena, Grows}
 
 length-trees_from : (ts : List Tree) (bs : List Branch) → length (trees_from ts bs) ≡ length ts + length bs
 length-trees_from ts [] = omega arith
@@ -75,8 +75,8 @@ sound_on a b n it grows node sound =
       low = l;
       high = h;
       differ = sound.differ;
-      low_behind = subst (IsBehind it.variable) (sym low) sound.low_behind;
-      high_behind = subst (IsBehind it.variable) (sym high) sound.high_behind;
+      low_after = subst (IsAfter it.variable) (sym low) sound.low_after;
+      high_after = subst (IsAfter it.variable) (sym high) sound.high_after;
       is = grows.kept n node ∙ sound.is ∙ (λ i. Fork it.variable (sym low i) (sym high i));
     }
 
@@ -89,8 +89,8 @@ at_push (x ∷ bs) b c (suc k) e = elim (at_push bs b c k e) [
   | inr new ↦ inr (ap suc new.0, new.1)
 ]
 
-pub arena_push : (bs : List Branch) (b : Branch) → IsArena bs → IsNode bs b.low → IsNode bs b.high → (b.low ≡ b.high → ⊥) → IsBehind b.variable (tree_at bs b.low) → IsBehind b.variable (tree_at bs b.high) → IsDistinct same_branch (bs ++ b ∷ []) → IsArena (bs ++ b ∷ [])
-arena_push bs b arena low high differ low_behind high_behind once = record { sound = sound_new; once = once }
+pub arena_push : (bs : List Branch) (b : Branch) → IsArena bs → IsNode bs b.low → IsNode bs b.high → (b.low ≡ b.high → ⊥) → IsAfter b.variable (tree_at bs b.low) → IsAfter b.variable (tree_at bs b.high) → IsDistinct same_branch (bs ++ b ∷ []) → IsArena (bs ++ b ∷ [])
+arena_push bs b arena low high differ low_after high_after once = record { sound = sound_new; once = once }
   where
     new : IsSound (bs ++ b ∷ []) (length bs + 2) b
     new =
@@ -100,8 +100,8 @@ arena_push bs b arena low high differ low_behind high_behind once = record { sou
           low = low;
           high = high;
           differ = differ;
-          low_behind = subst (IsBehind b.variable) (sym l) low_behind;
-          high_behind = subst (IsBehind b.variable) (sym h) high_behind;
+          low_after = subst (IsAfter b.variable) (sym l) low_after;
+          high_after = subst (IsAfter b.variable) (sym h) high_after;
           is = tree_new bs b ∙ (λ i. Fork b.variable (sym l i) (sym h i));
         }
 
@@ -167,9 +167,9 @@ after (Ok x) old new b ok err = elim (inserted old b) [
 ]
 after (Err e) old new b ok err = inl err
 
-pub arena_after : (old new : List Branch) (b : Branch) → IsArena old → IsNode old b.low → IsNode old b.high → (b.low ≡ b.high → ⊥) → IsBehind b.variable (tree_at old b.low) → IsBehind b.variable (tree_at old b.high) → IsDistinct same_branch new → (new ≡ old) ⊎ (new ≡ old ++ b ∷ []) → IsArena new
-arena_after old new b arena low high differ low_behind high_behind once (inl same) = subst IsArena (sym same) arena
-arena_after old new b arena low high differ low_behind high_behind once (inr more) = subst IsArena (sym more) (arena_push old b arena low high differ low_behind high_behind (subst (IsDistinct same_branch) more once))
+pub arena_after : (old new : List Branch) (b : Branch) → IsArena old → IsNode old b.low → IsNode old b.high → (b.low ≡ b.high → ⊥) → IsAfter b.variable (tree_at old b.low) → IsAfter b.variable (tree_at old b.high) → IsDistinct same_branch new → (new ≡ old) ⊎ (new ≡ old ++ b ∷ []) → IsArena new
+arena_after old new b arena low high differ low_after high_after once (inl same) = subst IsArena (sym same) arena
+arena_after old new b arena low high differ low_after high_after once (inr more) = subst IsArena (sym more) (arena_push old b arena low high differ low_after high_after (subst (IsDistinct same_branch) more once))
 
 pub grows_after : (old new : List Branch) (b : Branch) → (new ≡ old) ⊎ (new ≡ old ++ b ∷ []) → Grows old new
 grows_after old new b (inl same) = subst (Grows old) (sym same) (grows_same old)
@@ -188,8 +188,8 @@ module _ (old new : List Branch) (b c : Branch) (k : ℕ) (arena : IsArena new) 
   pub value_fork : (v : Valuation) → value v (tree_at new (k + 2)) ≡ (if v b.variable then value v (tree_at old b.high) else value v (tree_at old b.low))
   value_fork v = ap (value v) is_fork
 
-  pub behind_fork : (x : ℕ) → x < b.variable → IsBehind x (tree_at new (k + 2))
-  behind_fork x lt = subst (IsBehind x) (sym is_fork) lt
+  pub after_fork : (x : ℕ) → x < b.variable → IsAfter x (tree_at new (k + 2))
+  after_fork x lt = subst (IsAfter x) (sym is_fork) lt
 
 pub value_same : (b : Bool) (p : Bool) → p ≡ (if b then p else p)
 value_same true p = refl

@@ -2,8 +2,8 @@
 use Rattle.std.proofs.Common.{◌≡◌, ℕ, zero, suc, ◌+◌, ◌<◌, true, false, List, [], ◌∷◌, length, Some, refl, sym, ap, subst, ◌∙◌, arith}
 use Rattle.std.specs.Prelude.{slice_get}
 use Rattle.trigger_diagram.specs.declared.arena.Branch.{Branch}
-use Rattle.trigger_diagram.specs.Tree.{Tree, Leaf, Fork, IsCanonical}
-use Rattle.trigger_diagram.specs.Arena.{tree_at, IsNode, IsSound, IsArena, AreCanonical}
+use Rattle.trigger_diagram.specs.inner.Tree.{Tree, Leaf, Fork, IsCanonical}
+use Rattle.trigger_diagram.specs.inner.Arena.{tree_at, IsNode, IsSound, IsArena, AreCanonical}
 use Rattle.trigger_diagram.proofs.Nodes.{no_is, yes_is, once_at}
 
 -- the branch at a place
@@ -77,7 +77,7 @@ module _ (bs : List Branch) (arena : IsArena bs) where
   canonical_by bound n lt node before (branch k b p at s) =
       let l = s.low in
       let h = s.high in
-      subst IsCanonical (sym s.is) (s.low_behind, s.high_behind, (λ e. s.differ (once b.low b.high (omega arith) (omega arith) e)), before b.low (omega arith) (omega arith), before b.high (omega arith) (omega arith))
+      subst IsCanonical (sym s.is) (s.low_after, s.high_after, (λ e. s.differ (once b.low b.high (omega arith) (omega arith) e)), before b.low (omega arith) (omega arith), before b.high (omega arith) (omega arith))
 
   canonical_below : (bound n : ℕ) → n < bound → IsNode bs n → IsCanonical (tree_at bs n)
   canonical_below zero n lt node = absurd (omega arith)

@@ -1,12 +1,12 @@
 -- Canonical trees that agree are equal.
 use Rattle.std.proofs.Common.{◌≡◌, ℕ, zero, suc, ◌+◌, ◌<◌, ◌==◌, ◌⊎◌, Bool, true, false, not, if◌then◌else◌, refl, sym, ap, subst, ◌∙◌, inl, inr, arith}
 use Rattle.std.proofs.lemmas.Bool.{cases_eq, cases_lt, cases_Bool, eq-eqb, eqb-true}
-use Rattle.trigger_diagram.specs.Tree.{Tree, Leaf, Fork, Valuation, value, IsBehind, IsCanonical, Agree, with_value}
+use Rattle.trigger_diagram.specs.inner.Tree.{Tree, Leaf, Fork, Valuation, value, IsAfter, IsCanonical, Agree, with_value}
 
 -- ---- behind a variable
-pub behind_less : (x y : ℕ) (t : Tree) → x < y → IsBehind y t → IsBehind x t
-behind_less x y (Leaf b) lt h = tt
-behind_less x y (Fork z low high) lt h = omega arith
+pub after_less : (x y : ℕ) (t : Tree) → x < y → IsAfter y t → IsAfter x t
+after_less x y (Leaf b) lt h = tt
+after_less x y (Fork z low high) lt h = omega arith
 
 -- ---- the value at one variable
 pub with_same : (v : Valuation) (x : ℕ) (b : Bool) → with_value v x b x ≡ b
@@ -25,11 +25,11 @@ chosen : (b : Bool) (p q r s : Bool) → p ≡ r → q ≡ s → (if b then p el
 chosen true p q r s same other = same
 chosen false p q r s same other = other
 
-pub value_with : (v : Valuation) (x : ℕ) (b : Bool) (t : Tree) → IsBehind x t → IsCanonical t → value (with_value v x b) t ≡ value v t
+pub value_with : (v : Valuation) (x : ℕ) (b : Bool) (t : Tree) → IsAfter x t → IsCanonical t → value (with_value v x b) t ≡ value v t
 value_with v x b (Leaf c) behind can = refl
 value_with v x b (Fork y low high) behind can =
     ap (λ c. if c then value (with_value v x b) high else value (with_value v x b) low) (with_other v x b y behind)
-    ∙ chosen (v y) _ _ _ _ (value_with v x b high (behind_less x y high behind can.1) can.4) (value_with v x b low (behind_less x y low behind can.0) can.3)
+    ∙ chosen (v y) _ _ _ _ (value_with v x b high (after_less x y high behind can.1) can.4) (value_with v x b low (after_less x y low behind can.0) can.3)
 
 -- ---- a fork with one side taken
 pub low_value : (v : Valuation) (x : ℕ) (low high : Tree) → IsCanonical (Fork x low high) → value (with_value v x false) (Fork x low high) ≡ value v low
@@ -38,10 +38,10 @@ low_value v x low high can = ap (λ c. if c then value (with_value v x false) hi
 pub high_value : (v : Valuation) (x : ℕ) (low high : Tree) → IsCanonical (Fork x low high) → value (with_value v x true) (Fork x low high) ≡ value v high
 high_value v x low high can = ap (λ c. if c then value (with_value v x true) high else value (with_value v x true) low) (with_same v x true) ∙ value_with v x true high can.1 can.4
 
-agree_low : (x : ℕ) (low high u : Tree) → IsCanonical (Fork x low high) → IsBehind x u → IsCanonical u → Agree (Fork x low high) u → Agree low u
+agree_low : (x : ℕ) (low high u : Tree) → IsCanonical (Fork x low high) → IsAfter x u → IsCanonical u → Agree (Fork x low high) u → Agree low u
 agree_low x low high u can behind can_u agree v = sym (low_value v x low high can) ∙ agree (with_value v x false) ∙ value_with v x false u behind can_u
 
-agree_high : (x : ℕ) (low high u : Tree) → IsCanonical (Fork x low high) → IsBehind x u → IsCanonical u → Agree (Fork x low high) u → Agree high u
+agree_high : (x : ℕ) (low high u : Tree) → IsCanonical (Fork x low high) → IsAfter x u → IsCanonical u → Agree (Fork x low high) u → Agree high u
 agree_high x low high u can behind can_u agree v = sym (high_value v x low high can) ∙ agree (with_value v x true) ∙ value_with v x true u behind can_u
 
 turned : (t u : Tree) → Agree t u → Agree u t

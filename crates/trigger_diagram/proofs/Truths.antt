@@ -8,16 +8,16 @@ use Rattle.trigger_rules.specs.declared.atom.Atom.TheVariants.{Start, Happens, H
 use Rattle.trigger_rules.specs.Formula.{Assignment}
 use Rattle.trigger_starts.specs.declared.rules.Rule.{Rule}
 use Rattle.trigger_starts.specs.declared.rules.Rule.TheVariants as rule
-use Rattle.trigger_starts.specs.Truth.{value_by}
+use Rattle.trigger_starts.specs.inner.Truth.{value_by}
 use Rattle.trigger_diagram.specs.declared.arena.Branch.{Branch}
 use Rattle.trigger_diagram.specs.declared.join.Connective.{Connective}
 use Rattle.trigger_diagram.specs.declared.join.Connective.TheVariants as connective
 use Rattle.trigger_diagram.specs.declared.join.Pair.{Pair}
-use Rattle.trigger_diagram.specs.Tree.{Valuation, value}
-use Rattle.trigger_diagram.specs.Arena.{tree_at, IsNode, Grows}
-use Rattle.trigger_diagram.specs.Join.{connected, AreNodes, IsJoin}
-use Rattle.trigger_diagram.specs.Made.{node_at, value_at, AreThere}
-use Rattle.trigger_diagram.specs.Truth.{following, variable_of, atom_of, valuation_of, truth, Tells}
+use Rattle.trigger_diagram.specs.inner.Tree.{Valuation, value}
+use Rattle.trigger_diagram.specs.inner.Arena.{tree_at, IsNode, Grows}
+use Rattle.trigger_diagram.specs.inner.Join.{connected, AreNodes, IsJoin}
+use Rattle.trigger_diagram.specs.inner.Made.{node_at, value_at, AreThere}
+use Rattle.trigger_diagram.specs.inner.Truth.{following, variable_of, atom_of, valuation_of, truth, Tells}
 use Rattle.trigger_diagram.proofs.Nodes.{no_is, yes_is}
 
 -- ---- atoms by their variables

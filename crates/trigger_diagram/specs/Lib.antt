@@ -1,7 +1,1 @@
-pub mod Tree
-pub mod Arena
-pub mod Join
-pub mod Truth
-pub mod Made
-pub mod Kept
-pub mod Ways
+pub mod inner

@@ -1,8 +1,8 @@
 // Nodes of decision diagrams: each branch stands once.
 
 ghost use Rattle.std.specs.Prelude.{◌≡◌, ℕ, ◌<◌, ◌≤◌, [], if◌then◌else◌, IfOk};
-ghost use Rattle.trigger_diagram.specs.Arena.{tree_at, AreCanonical, Grows, IsNode, IsSound};
-ghost use Rattle.trigger_diagram.specs.Tree.{IsBehind, Valuation, value};
+ghost use Rattle.trigger_diagram.specs.inner.Arena.{tree_at, AreCanonical, Grows, IsNode, IsSound};
+ghost use Rattle.trigger_diagram.specs.inner.Tree.{IsAfter, Valuation, value};
 
 use indexmap::IndexSet;
 use std::alloc::Global;
@@ -26,7 +26,7 @@ pub struct Arena {
 impl Model for Arena {
     ghost use Rattle.std.specs.Prelude.{List};
     ghost use Rattle.trigger_diagram.specs.declared.arena.Branch.{Branch};
-    ghost use Rattle.trigger_diagram.specs.Arena.{IsArena};
+    ghost use Rattle.trigger_diagram.specs.inner.Arena.{IsArena};
 
     ghost Value = { List Branch };
 
@@ -65,13 +65,13 @@ impl Arena {
     pub(crate) fn fork(&mut self, variable: u64, low: u64, high: u64) -> Result<u64, NoMemory>
         requires low { IsNode self.old low }
         requires high { IsNode self.old high }
-        requires low_behind { IsBehind variable (tree_at self.old low) }
-        requires high_behind { IsBehind variable (tree_at self.old high) }
+        requires low_after { IsAfter variable (tree_at self.old low) }
+        requires high_after { IsAfter variable (tree_at self.old high) }
         ensures grows { Grows self.old self.new }
         ensures there { IfOk result (λ n. IsNode self.new n) }
         ensures exact { IfOk result (λ n. (v : Valuation) →
             value v (tree_at self.new n) ≡ (if v variable then value v (tree_at self.old high) else value v (tree_at self.old low))) }
-        ensures behind { IfOk result (λ n. (x : ℕ) → x < variable → IsBehind x (tree_at self.new n)) }
+        ensures behind { IfOk result (λ n. (x : ℕ) → x < variable → IsAfter x (tree_at self.new n)) }
     {
         if low == high {
             return Ok(low);

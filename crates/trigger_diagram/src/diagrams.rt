@@ -4,17 +4,17 @@ ghost use Rattle.std.specs.Prelude.{◌≡◌, ℕ, ◌<◌, ◌↔◌, length, 
 ghost use Rattle.flat_core.specs.System.{System};
 ghost use Rattle.flat_core.specs.WellFormed.{IsWellFormed};
 ghost use Rattle.trigger_rules.specs.Question.{Starts};
-ghost use Rattle.trigger_starts.specs.AtomLists.{AreDifferent, atoms_at};
-ghost use Rattle.trigger_diagram.specs.Kept.{AreAlike, AreDiagramsOf, AreMetIn, Follows, HaveAtoms, IsNodeIn, IsNodeOf, Keeps};
+ghost use Rattle.trigger_starts.specs.inner.AtomLists.{AreDifferent, atoms_at};
+ghost use Rattle.trigger_diagram.specs.inner.Kept.{AreAlike, AreDiagramsOf, AreMetIn, Follows, HaveAtoms, IsNodeIn, IsNodeOf, Keeps};
 
 use crate::arena::Arena;
 use crate::formula::node_at;
 use crate::join::Pair;
 use crate::made::make_all;
 use flat_core::flat::Flat;
-use flat_core::steps::Steps;
 use std::alloc::Global;
 use std::marker::Model;
+use translation_order::steps::Steps;
 use trigger_starts::atoms::Atoms;
 use trigger_starts::gather::gather;
 use trigger_starts::listed::{order, rules};
@@ -54,7 +54,7 @@ pub struct Diagrams {
 }
 
 impl Model for Diagrams {
-    ghost use Rattle.trigger_diagram.specs.Kept.{AreKept, Kept};
+    ghost use Rattle.trigger_diagram.specs.inner.Kept.{AreKept, Kept};
 
     ghost Value = { Kept };
 

@@ -3,11 +3,11 @@
 ghost use Rattle.std.specs.Prelude.{◌≡◌, ◌<◌, not, ◌&&◌, ◌||◌, length, IfOk};
 ghost use Rattle.std.specs.List.{All, list_all, list_any};
 ghost use Rattle.trigger_rules.specs.declared.atom.Atom.TheVariants.{Start, Happens, Holds};
-ghost use Rattle.trigger_starts.specs.Rules.{ArgumentsBelow};
-ghost use Rattle.trigger_starts.specs.Truth.{value_by};
-ghost use Rattle.trigger_diagram.specs.Arena.{Grows, IsNode};
-ghost use Rattle.trigger_diagram.specs.Made.{node_at, value_at, AreThere};
-ghost use Rattle.trigger_diagram.specs.Truth.{truth, variable_of, Tells};
+ghost use Rattle.trigger_starts.specs.inner.Rules.{ArgumentsBelow};
+ghost use Rattle.trigger_starts.specs.inner.Truth.{value_by};
+ghost use Rattle.trigger_diagram.specs.inner.Arena.{Grows, IsNode};
+ghost use Rattle.trigger_diagram.specs.inner.Made.{node_at, value_at, AreThere};
+ghost use Rattle.trigger_diagram.specs.inner.Truth.{truth, variable_of, Tells};
 
 use crate::arena::Arena;
 use crate::join::{Connective, Pair};

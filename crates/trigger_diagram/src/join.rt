@@ -1,9 +1,9 @@
 // Two nodes taken together.
 
 ghost use Rattle.std.specs.Prelude.{◌≡◌, ◌≤◌, not, IfOk, OnOk};
-ghost use Rattle.trigger_diagram.specs.Arena.{tree_at, Grows, IsNode};
-ghost use Rattle.trigger_diagram.specs.Join.{settled, sides_of, AreJoined, AreNodes, IsJoin, IsSplit};
-ghost use Rattle.trigger_diagram.specs.Tree.{Valuation, value};
+ghost use Rattle.trigger_diagram.specs.inner.Arena.{tree_at, Grows, IsNode};
+ghost use Rattle.trigger_diagram.specs.inner.Join.{settled, sides_of, AreJoined, AreNodes, IsJoin, IsSplit};
+ghost use Rattle.trigger_diagram.specs.inner.Tree.{Valuation, value};
 
 use crate::arena::{Arena, Branch};
 use indexmap::IndexMap;
@@ -62,7 +62,7 @@ fn settled(connective: Connective, pair: Pair) -> Option<u64>
     }
 }
 
-/// What is below a node where a variable is false and where it is true. The node's own variable is this one or comes behind it.
+/// What is below a node where a variable is false and where it is true. The node's own variable is this one or comes after it.
 fn sides(branch: Branch, node: u64, variable: u64) -> (u64, u64)
     ensures { result ≡ sides_of branch node variable }
 {
@@ -131,7 +131,7 @@ impl Arena {
     }
 
     /// The node that is true where both nodes are, or where one of them is.
-    pub fn join(
+    pub(crate) fn join(
         &mut self,
         alloc: Global,
         connective: Connective,
@@ -146,7 +146,7 @@ impl Arena {
     }
 
     /// The node of a variable.
-    pub fn variable(&mut self, variable: u64) -> Result<u64, NoMemory>
+    pub(crate) fn variable(&mut self, variable: u64) -> Result<u64, NoMemory>
         ensures grows { Grows self.old self.new }
         ensures there { IfOk result (λ n. IsNode self.new n) }
         ensures exact { IfOk result (λ n. (v : Valuation) → value v (tree_at self.new n) ≡ v variable) }
@@ -156,7 +156,7 @@ impl Arena {
     }
 
     /// The node that is true where a variable is false.
-    pub fn denied(&mut self, variable: u64) -> Result<u64, NoMemory>
+    pub(crate) fn denied(&mut self, variable: u64) -> Result<u64, NoMemory>
         ensures grows { Grows self.old self.new }
         ensures there { IfOk result (λ n. IsNode self.new n) }
         ensures exact { IfOk result (λ n. (v : Valuation) → value v (tree_at self.new n) ≡ not (v variable)) }

@@ -1,6 +1,6 @@
 // Laws of diagrams, as the contracts of functions that do nothing.
 
-ghost use Rattle.trigger_diagram.specs.Ways.{NestsByVariables, VariablesStand};
+ghost use Rattle.trigger_diagram.specs.inner.Ways.{NestsByVariables, VariablesStand};
 
 /// Calls for two nodes nest no deeper than both nodes have different variables.
 pub fn calls_nest_by_variables()

@@ -1,4 +1,4 @@
-// Reduced ordered decision diagrams of trigger formulas: formulas that are true in the same assignments are one node.
+//! Reduced ordered decision diagrams of trigger formulas: formulas that are true in the same assignments are one node.
 #![tactic(auto)]
 
 pub mod arena;
@@ -8,5 +8,3 @@ pub mod join;
 pub mod laws;
 mod made;
 pub mod search;
-#[cfg(test)]
-mod tests;

@@ -2,9 +2,9 @@
 
 ghost use Rattle.std.specs.Prelude.{◌≡◌, ℕ, ◌<◌, [], length, OnOk};
 ghost use Rattle.std.specs.List.{Contains};
-ghost use Rattle.trigger_starts.specs.Rules.{AreClosed, AreReady};
-ghost use Rattle.trigger_diagram.specs.Arena.{Grows};
-ghost use Rattle.trigger_diagram.specs.Made.{AreNodesOf, IsMade, UsedMade};
+ghost use Rattle.trigger_starts.specs.inner.Rules.{AreClosed, AreReady};
+ghost use Rattle.trigger_diagram.specs.inner.Arena.{Grows};
+ghost use Rattle.trigger_diagram.specs.inner.Made.{AreNodesOf, IsMade, UsedMade};
 
 use crate::arena::Arena;
 use std::alloc::Global;
@@ -41,7 +41,7 @@ fn make(
     Ok(())
 }
 
-/// Makes the nodes of some equations, of which each stands behind those whose formulas its own needs.
+/// Makes the nodes of some equations, of which each stands after those whose formulas its own needs.
 pub(crate) fn make_all(
     alloc: Global,
     rules: &[Rule],

@@ -1,9 +1,9 @@
 // What some assignment has.
 
 ghost use Rattle.std.specs.Prelude.{◌≡◌, ◌↔◌, IfOk, IsTrue, OnOk};
-ghost use Rattle.trigger_diagram.specs.Arena.{tree_at, AreCanonical};
-ghost use Rattle.trigger_diagram.specs.Join.{decided, AreNodes, AreRefuted, AreTogether, IsFound, IsImplied};
-ghost use Rattle.trigger_diagram.specs.Tree.{Agree};
+ghost use Rattle.trigger_diagram.specs.inner.Arena.{tree_at, AreCanonical};
+ghost use Rattle.trigger_diagram.specs.inner.Join.{decided, AreNodes, AreRefuted, AreTogether, IsFound, IsImplied};
+ghost use Rattle.trigger_diagram.specs.inner.Tree.{Agree};
 
 use crate::arena::Arena;
 use crate::join::Pair;

@@ -8,14 +8,14 @@ use Rattle.flat_core.specs.System.{System}
 use Rattle.trigger_rules.specs.declared.atom.Atom.{Atom}
 use Rattle.trigger_rules.specs.declared.limit.TheConstants.{ATOMS}
 use Rattle.trigger_rules.specs.Question.{AreFew, Implies, Stands, StandsInOne, Together}
-use Rattle.trigger_starts.specs.AtomLists.{Adds, AreDifferent, HasAtoms, atoms_at}
-use Rattle.trigger_starts.proofs.AtomLists.{none_in_nil}
+use Rattle.trigger_starts.specs.inner.AtomLists.{Adds, AreDifferent, HasAtoms, atoms_at}
+use Rattle.tsl_value.proofs.Lists.{none_in_nil}
 use Rattle.trigger_starts.proofs.Gathered.{no_more}
 use Rattle.trigger_starts.proofs.Systems.{read_as}
-use Rattle.trigger_diagram.specs.Kept as diagrams
-use Rattle.trigger_diagram.specs.Kept.{AreDiagramsOf, AreMetIn, Follows, IsNodeIn, IsNodeOf, Keeps}
+use Rattle.trigger_diagram.specs.inner.Kept as diagrams
+use Rattle.trigger_diagram.specs.inner.Kept.{AreDiagramsOf, AreMetIn, Follows, IsNodeIn, IsNodeOf, Keeps}
 use Rattle.trigger_diagram.proofs.Keeping.{node_kept}
-use Rattle.trigger_formulas.specs.Kept.{HasNode, IsKept, IsMadeFor}
+use Rattle.trigger_formulas.specs.inner.Kept.{HasNode, IsKept, IsMadeFor}
 
 -- ---- the atoms of two lists
 joined_has : (P Q : Atom → Type 0) (xs ys new : List Atom) → HasAtoms P xs → HasAtoms Q ys → Adds [] (λ a. Contains xs a ⊎ Contains ys a) new → HasAtoms (λ a. P a ⊎ Q a) new

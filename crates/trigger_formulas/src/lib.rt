@@ -1,6 +1,4 @@
-// Questions about the trigger formulas of a flat system.
+//! Questions about the trigger formulas of a flat system.
 #![tactic(auto)]
 
-#[cfg(test)]
-mod tests;
 pub mod triggers;

@@ -1,13 +1,11 @@
 // The questions about trigger formulas.
 
-ghost use Rattle.std.specs.Prelude.{◌≡◌, ℕ, ◌<◌, ◌↔◌, ◌⊎◌, [], length, slice_index_or, None, Some, IfOk, IsSome, IsTrue};
-ghost use Rattle.std.specs.List.{Contains};
+ghost use Rattle.std.specs.Prelude.{◌≡◌, ℕ, ◌<◌, ◌↔◌, length, slice_index_or, None, Some, IfOk, IsSome, IsTrue};
 ghost use Rattle.flat_core.specs.System.{System};
 ghost use Rattle.flat_core.specs.WellFormed.{IsWellFormed};
 ghost use Rattle.trigger_rules.specs.Question.{Implies, Starts, Together};
-ghost use Rattle.trigger_starts.specs.AtomLists.{Adds};
-ghost use Rattle.trigger_diagram.specs.Kept.{Keeps};
-ghost use Rattle.trigger_formulas.specs.Kept.{AreMadeFor, AreTriggersOf, IsMadeFor};
+ghost use Rattle.trigger_diagram.specs.inner.Kept.{Keeps};
+ghost use Rattle.trigger_formulas.specs.inner.Kept.{AreMadeFor, AreTriggersOf, IsMadeFor};
 
 use flat_core::flat::Flat;
 use std::alloc::Global;
@@ -28,7 +26,7 @@ pub struct Triggers {
 impl Model for Triggers {
     ghost use Rattle.std.specs.Prelude.{List};
     ghost use Rattle.trigger_starts.specs.declared.rules.Rule.{Rule};
-    ghost use Rattle.trigger_formulas.specs.Kept.{IsKept};
+    ghost use Rattle.trigger_formulas.specs.inner.Kept.{IsKept};
 
     ghost Value = { List Rule };
 
@@ -69,16 +67,6 @@ fn nodes(
     Ok(nodes)
 }
 
-/// The atoms of two lists.
-fn joined(alloc: Global, first: &Atoms, second: &Atoms) -> Result<Atoms, NoMemory>
-    ensures { IfOk result (λ atoms. Adds [] (λ a. Contains first.now a ⊎ Contains second.now a) atoms) }
-{
-    let mut atoms = Atoms::new(alloc);
-    atoms.add_all(first.list())?;
-    atoms.add_all(second.list())?;
-    Ok(atoms)
-}
-
 /// The node of an equation that has one.
 fn made(nodes: &[Option<Node>], a: EqId) -> Node
     requires below { a < length nodes.now }
@@ -113,7 +101,7 @@ impl Triggers {
         if a == b {
             return Ok(true);
         }
-        let both = joined(
+        let both = Atoms::joined(
             alloc,
             &self.atoms[a.get() as usize],
             &self.atoms[b.get() as usize],
@@ -132,7 +120,7 @@ impl Triggers {
         requires second { b < length self.now }
         ensures { IfOk result (λ r. (s : System) → AreTriggersOf self.now s → IsTrue r ↔ Together s a b) }
     {
-        let both = joined(
+        let both = Atoms::joined(
             alloc,
             &self.atoms[a.get() as usize],
             &self.atoms[b.get() as usize],

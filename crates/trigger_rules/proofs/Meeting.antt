@@ -14,9 +14,10 @@ use Rattle.flat_core.specs.Typed.{IsTyped, filter, last, delay}
 use Rattle.trigger_rules.specs.declared.atom.Atom.{Atom}
 use Rattle.trigger_rules.specs.declared.atom.Atom.TheVariants.{Happens}
 use Rattle.trigger_rules.specs.Formula.{Formula, If, Of, Both, all_of, any_of, Meets, always, atom, no_atom, through, both, first, second, started, unless}
-use Rattle.trigger_rules.specs.Firing.{at_time}
+use Rattle.trigger_rules.specs.inner.Firing.{at_time}
 use Rattle.trigger_rules.specs.Table.{formula_of}
-use Rattle.trigger_rules.proofs.Values.{AreOf, is_plain, happens, gives, same_value}
+use Rattle.flat_core.specs.inner.TypedEvents.{AreOf}
+use Rattle.trigger_rules.proofs.Values.{is_plain, happens, gives, same_value}
 
 -- a choice that gives a value
 chosen : (b : Bool) (v : Option View) → IsTrue b → IsTrue (is_some v) → IsTrue (is_some (if b then v else None))

@@ -14,7 +14,7 @@ use Rattle.flat_core.specs.Stream.{Outcome, Event, Fault, History, event, has_ev
 use Rattle.flat_core.specs.Case.{Streams, Inputs, delayed, own, own_of, used_of, is_blocked, outcome_of, fault_of, root_of, root_fault}
 use Rattle.flat_core.specs.Fault.{root_at, is_faulty}
 use Rattle.flat_core.specs.System.{System, runs, equation}
-use Rattle.flat_core.specs.TypedEvents.{HasTypedEvents}
+use Rattle.flat_core.specs.inner.TypedEvents.{HasTypedEvents, AreOf}
 use Rattle.flat_core.specs.TypedSystem.{AreOfTypes}
 use Rattle.flat_core.proofs.Members.{none_in}
 use Rattle.flat_core.proofs.TypedCase.{is_of_from}
@@ -22,11 +22,10 @@ use Rattle.flat_core.proofs.TypedEvents.{events_typed}
 use Rattle.flat_core.proofs.Uniqueness.{all_used, all_with, used_all}
 use Rattle.trigger_rules.specs.declared.atom.Atom.TheVariants.{Start}
 use Rattle.trigger_rules.specs.Formula.{Formula, Never, IfNot, Both, no_atom, through, both}
-use Rattle.trigger_rules.specs.Firing.{at_time, IsUpToFault}
+use Rattle.trigger_rules.specs.inner.Firing.{at_time, IsUpToFault}
 use Rattle.trigger_rules.specs.Table.{formula_of, at_zero, formula, zero_formula}
 use Rattle.trigger_rules.specs.Question.{Fires, Starts, Implies, Together}
 use Rattle.trigger_rules.proofs.Meeting.{Met, Tells, unfolded, own_met}
-use Rattle.trigger_rules.proofs.Values.{AreOf}
 
 -- ---- outcomes
 

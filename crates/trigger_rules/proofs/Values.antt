@@ -8,18 +8,16 @@ use Rattle.tsl_value.specs.declared.scalar.Scalar.TheVariants as scalar
 use Rattle.tsl_value.specs.declared.scalar.ValueType.{ValueType}
 use Rattle.tsl_value.specs.View.{View, Plain}
 use Rattle.lift_func.specs.Apply.{Answer, apply}
-use Rattle.lift_func.specs.Typing.{Value, Optional, fits, FitsAnswer, AllFit}
+use Rattle.lift_func.specs.Typing.{Value, Optional, fits, FitsAnswer}
 use Rattle.lift_func.proofs.Fits.{apply_fits}
 use Rattle.flat_core.specs.declared.equation.Op.{Op}
 use Rattle.flat_core.specs.declared.equation.Op.TheVariants as op
 use Rattle.flat_core.specs.Case.{unit, empty_of, at_zero, filtered, picked, of_both, of_three, at_once}
 use Rattle.flat_core.specs.Typed.{IsTyped, nil, empty, time, any, merge, filter, pick, set_add, set_remove, map_add, map_remove, lift, bool_type, kind_of}
 use Rattle.flat_core.specs.Typed as typed
-use Rattle.trigger_rules.specs.Firing.{is_true}
-
--- values that may be absent are of these types
-abbrev pub AreOf : List ValueType → List (Option View) → Type 0
-AreOf types values = AllFit (map (kind_of false) types) values
+use Rattle.flat_core.specs.inner.TypedEvents.{AreOf}
+use Rattle.flat_core.proofs.TypedCase.{all_there_fit}
+use Rattle.trigger_rules.specs.inner.Firing.{is_true}
 
 -- the operations that decide by them alone whether there is a value
 abbrev pub is_plain : Op → Bool
@@ -53,13 +51,6 @@ there k (Some v) fit = refl
 where_all : (k : ValueType) (b : Bool) (answer : Answer) (v : Option View) → (b ≡ true → FitsAnswer (Value k) answer) → (if b then answer else Ok None) ≡ Ok v → is_some v ≡ b
 where_all k true answer v fit is = there k v (subst (FitsAnswer (Value k)) is (fit refl))
 where_all k false answer v fit is = same_value is
-
-all_there : (types : List ValueType) (values : List (Option View)) → AreOf types values → list_all is_some values ≡ true → AllFit (map (kind_of true) types) values
-all_there [] [] of all = tt
-all_there [] (v ∷ values) of all = absurd of
-all_there (t ∷ types) [] of all = absurd of
-all_there (t ∷ types) (None ∷ values) of all = absurd (false≢true all)
-all_there (t ∷ types) (Some v ∷ values) of all = (of.0, all_there types values of.1 all)
 
 zero_is : (t : ℕ) (v : View) → is_some (at_zero t v) ≡ (t == 0)
 zero_is zero v = refl
@@ -146,5 +137,5 @@ gives op.MapRemove ts of (map_remove h) (a ∷ []) fit plain t v is = absurd fit
 gives op.MapRemove ts of (map_remove h) (a ∷ b ∷ []) fit plain t v is = same_value is ∙ both_is _ a b
 gives op.MapRemove ts of (map_remove h) (a ∷ b ∷ c ∷ values) fit plain t v is = absurd fit.1.1
 gives (op.Lift body true) ts of (lift low high kind) values fit plain t v is =
-    where_all of (list_all is_some values) (apply body values) v (λ all. apply_fits (map (kind_of true) ts) values (all_there ts values fit all) kind) is
+    where_all of (list_all is_some values) (apply body values) v (λ all. apply_fits (map (kind_of true) ts) values (all_there_fit ts values fit all) kind) is
 gives _ ts of typing values fit plain t v is = absurd (false≢true plain)

@@ -1,5 +1,4 @@
 pub mod Formula
 pub mod Table
 pub mod Question
-pub mod Firing
-pub mod Laws
+pub mod inner

@@ -1,6 +1,8 @@
 // Laws of trigger formulas, as the contracts of functions that do nothing.
 
-ghost use Rattle.trigger_rules.specs.Laws.{FormulasTellEvents, SoundTimesHaveNoFault, StartingHappens, StartedIsThere, ImpliedHappens, ApartNeverMeet};
+ghost use Rattle.trigger_rules.specs.inner.Laws.{FormulasTellEvents, SoundTimesHaveNoFault, StartingHappens, StartedIsThere};
+ghost use Rattle.trigger_rules.specs.inner.Laws.{ImpliedHappens};
+ghost use Rattle.trigger_rules.specs.inner.Laws.{ApartNeverMeet};
 
 /// The formula of an equation that is not Fault is true exactly where the equation has an event, up to the fault time.
 pub fn formulas_tell_events()

@@ -1,4 +1,4 @@
-// Trigger formulas: when the equations of a flat system have events.
+//! Trigger formulas: when the equations of a flat system have events.
 #![tactic(auto)]
 
 pub mod atom;

@@ -1,25 +1,12 @@
 -- Lists of different atoms.
-use Rattle.std.proofs.Common.{◌≡◌, ℕ, zero, suc, ◌+◌, ◌<◌, ◌↔◌, ◌⊎◌, Bool, false, List, [], ◌∷◌, ◌++◌, length, take, get_or, Contains, refl, sym, ap, subst, ◌∙◌, inl, inr, arith, length-append}
+use Rattle.std.proofs.Common.{◌≡◌, ℕ, ◌+◌, ◌<◌, ◌↔◌, ◌⊎◌, Bool, false, List, [], ◌∷◌, ◌++◌, length, take, get_or, Contains, refl, sym, ap, subst, ◌∙◌, inl, inr, arith, length-append}
 use Rattle.std.specs.Prelude.{IsTrue}
 use Rattle.std.proofs.lemmas.Bool.{false≢true}
 use Rattle.std.proofs.lemmas.List.{take_more, get_or_default}
 use Rattle.std.proofs.lemmas.List.Elements.{Contains-append_left, Contains-push, Contains-push_cases}
 use Rattle.trigger_rules.specs.declared.atom.Atom.{Atom}
-use Rattle.trigger_starts.specs.AtomLists.{AreDifferent, Adds, IsInSome, atoms_at}
-
--- ---- elements
-pub here : {A : Type 0} (x : A) (xs : List A) → Contains (x ∷ xs) x
-here x xs = (0, omega arith, refl)
-
-pub later : {A : Type 0} (x y : A) (xs : List A) → Contains xs y → Contains (x ∷ xs) y
-later x y xs (k, lt, is) = (suc k, omega arith, is)
-
-pub none_in_nil : {A : Type 0} (x : A) → Contains [] x → ⊥
-none_in_nil x (k, lt, is) = absurd (omega arith)
-
-pub in_cons : {A : Type 0} (x y : A) (xs : List A) → Contains (x ∷ xs) y → (x ≡ y) ⊎ Contains xs y
-in_cons x y xs (zero, lt, is) = inl is
-in_cons x y xs (suc k, lt, is) = inr (k, omega arith, is)
+use Rattle.trigger_starts.specs.inner.AtomLists.{AreDifferent, Adds, IsInSome, atoms_at}
+use Rattle.tsl_value.proofs.Lists.{here, later, none_in_nil}
 
 -- ---- one more atom
 different_push : (atoms : List Atom) (a : Atom) → (Contains atoms a → ⊥) → AreDifferent atoms → AreDifferent (atoms ++ a ∷ [])

@@ -11,12 +11,13 @@ use Rattle.trigger_rules.specs.declared.atom.Atom.{Atom}
 use Rattle.trigger_rules.specs.declared.atom.Atom.TheVariants.{Start, Happens, Holds}
 use Rattle.trigger_rules.specs.Formula as formula
 use Rattle.trigger_rules.specs.Formula.{Formula, Of, If, all_of, any_of, HasAtom, in_if, in_if_not, in_of, both_first, both_second, either_first, either_second, in_unless}
+use Rattle.trigger_rules.specs.declared.limit.TheConstants.{ATOMS}
 use Rattle.trigger_starts.specs.declared.rules.Rule.{Rule}
 use Rattle.trigger_starts.specs.declared.rules.Rule.TheVariants as rule
-use Rattle.trigger_starts.specs.AtomLists.{AreDifferent, Adds, HasAtoms, StandsFrom, StandsAs, atoms_at}
-use Rattle.trigger_starts.specs.Rules.{HasSome, formula_by, zero_formula_by, either_formula, looks_back, ruled, used_by, AreReady, starts_at}
-use Rattle.trigger_starts.specs.Truth.{Started}
-use Rattle.trigger_starts.proofs.AtomLists.{here, later, none_in_nil, in_cons}
+use Rattle.trigger_starts.specs.inner.AtomLists.{AreDifferent, Adds, HasAtoms, StandsFrom, StandsAs, atoms_at}
+use Rattle.trigger_starts.specs.inner.Rules.{HasSome, formula_by, zero_formula_by, either_formula, looks_back, ruled, used_by, AreReady, starts_at}
+use Rattle.trigger_starts.specs.inner.Truth.{Started}
+use Rattle.tsl_value.proofs.Lists.{here, later, none_in_nil, cons_cases}
 use Rattle.trigger_starts.proofs.Meaning.{ready_at}
 
 -- ---- different atoms that all stand in a list are no more than those of the list
@@ -27,11 +28,11 @@ record IsWithout (ys : List Atom) (x : Atom) : Type 0 where
 
 without : (ys : List Atom) (x : Atom) → Contains ys x → IsWithout ys x
 without [] x c = absurd (none_in_nil x c)
-without (y ∷ ys) x c = elim (in_cons y x ys c) [
+without (y ∷ ys) x c = elim (cons_cases y x ys c) [
   | inl same ↦ record {
     rest = ys;
     shorter = refl;
-    others = λ a d not_it. elim (in_cons y a ys d) [
+    others = λ a d not_it. elim (cons_cases y a ys d) [
       | inl is ↦ absurd (not_it (sym same ∙ is))
       | inr more ↦ more
     ];
@@ -41,7 +42,7 @@ without (y ∷ ys) x c = elim (in_cons y x ys c) [
       record {
         rest = y ∷ it.rest;
         shorter = ap suc it.shorter;
-        others = λ a d not_it. elim (in_cons y a ys d) [
+        others = λ a d not_it. elim (cons_cases y a ys d) [
           | inl is ↦ subst (Contains (y ∷ it.rest)) is (here y it.rest)
           | inr rest ↦ later y a it.rest (it.others a rest not_it)
         ];
@@ -88,14 +89,14 @@ module _ (table : ℕ → Formula) (starts : List Bool) (a : Atom) where
 
   from_all : (args : List ℕ) (x : ℕ) → Contains args x → StandsAt x → Stands (all_of args)
   from_all [] x c m = absurd (none_in_nil x c)
-  from_all (y ∷ args) x c m = elim (in_cons y x args c) [
+  from_all (y ∷ args) x c m = elim (cons_cases y x args c) [
     | inl same ↦ both_first (subst StandsAt (sym same) m)
     | inr rest ↦ both_second (from_all args x rest m)
   ]
 
   from_any : (args : List ℕ) (x : ℕ) → Contains args x → StandsAt x → Stands (any_of args)
   from_any [] x c m = absurd (none_in_nil x c)
-  from_any (y ∷ args) x c m = elim (in_cons y x args c) [
+  from_any (y ∷ args) x c m = elim (cons_cases y x args c) [
     | inl same ↦ either_first (subst StandsAt (sym same) m)
     | inr rest ↦ either_second (from_any args x rest m)
   ]
@@ -175,14 +176,14 @@ used_stands P rule.Own x starts a y c p = absurd (none_in_nil y c)
 used_stands P (rule.All args) x starts a y c p = (y, c, p)
 used_stands P (rule.Any args) x starts a y c p = (y, c, p)
 used_stands P (rule.AnyAndOwn args) x starts a y c p = inr (y, c, p)
-used_stands P (rule.Filter e d) x starts a y c p = elim (in_cons e y (d ∷ []) c) [
+used_stands P (rule.Filter e d) x starts a y c p = elim (cons_cases e y (d ∷ []) c) [
   | inl same ↦ inl (inl (subst P (sym same) p))
-  | inr rest ↦ elim (in_cons d y [] rest) [
+  | inr rest ↦ elim (cons_cases d y [] rest) [
     | inl same ↦ inl (inr (subst P (sym same) p))
     | inr none ↦ absurd (none_in_nil y none)
   ]
 ]
-used_stands P (rule.Last v r) x starts a y c p = elim (in_cons r y [] c) [
+used_stands P (rule.Last v r) x starts a y c p = elim (cons_cases r y [] c) [
   | inl same ↦ inl (inr (subst P (sym same) p))
   | inr none ↦ absurd (none_in_nil y none)
 ]
@@ -231,7 +232,7 @@ module _ (at_zero : Bool) (rules : List Rule) (starts : List Bool) (all : List (
         on (y ∷ args) u a = (u.0.from a, on args u.1 a)
 
     -- the lists of the used arguments are no longer than the new one
-    module _ (few : length new ≤ 16) (quiet : (at_zero && looks_back it) ≡ false) where
+    module _ (few : length new ≤ ATOMS) (quiet : (at_zero && looks_back it) ≡ false) where
       whole : (y : ℕ) → Contains (used_by it) y → HasAtoms (Standing y) (atoms_at all y) → (a : Atom) → Standing y a → Contains (atoms_at all y) a
       whole y c has a m =
           let short = no_more (atoms_at all y) new has.different (λ b d. adds.there few b (quiet, used_stands (λ z. Contains (atoms_at all z) b) it x starts b y c d)) in
@@ -246,7 +247,7 @@ module _ (at_zero : Bool) (rules : List Rule) (starts : List Bool) (all : List (
           let stands = to_stand (ruled at_zero rules) starts a it x (subst (HasAtom (ruled at_zero rules) (Started starts) a) (either_is at_zero it x quiet) m) in
           adds.there few a (quiet, stands_on (λ y. Standing y a) (λ y. Contains (atoms_at all y) a) it x starts a (wholes (used_by it) (λ y c. c) used a) stands)
 
-    there_new : length new ≤ 16 → (a : Atom) → Standing x a → Contains new a
+    there_new : length new ≤ ATOMS → (a : Atom) → Standing x a → Contains new a
     there_new few a m = elim (cases_Bool (at_zero && looks_back it)) [
       | inl back ↦ never (subst (HasAtom (ruled at_zero rules) (Started starts) a) (either_never at_zero it x back) (to_ruled a m))
       | inr quiet ↦ there_few few quiet a (to_ruled a m)

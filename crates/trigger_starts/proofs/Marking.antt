@@ -8,8 +8,8 @@ use Rattle.std.proofs.lemmas.List.Elements.{Contains-append_left, Contains-push,
 use Rattle.flat_core.proofs.Members.{all_at, all_from}
 use Rattle.flat_core.proofs.Uniqueness.{all_by, all_with}
 use Rattle.trigger_starts.specs.declared.rules.Rule.{Rule}
-use Rattle.trigger_starts.specs.Rules.{AreReady, IsReady, Marks, UsedMarked, is_marked, used_by}
-use Rattle.trigger_starts.proofs.AtomLists.{here, none_in_nil}
+use Rattle.trigger_starts.specs.inner.Rules.{AreReady, IsReady, Marks, UsedMarked, is_marked, used_by}
+use Rattle.tsl_value.proofs.Lists.{here, none_in_nil}
 use Rattle.trigger_starts.proofs.Meaning.{ready_at}
 
 -- ---- marks
@@ -82,14 +82,14 @@ module _ (rules : List Rule) (order : List ℕ) (ready : AreReady rules [] order
   abbrev at : ℕ → ℕ
   at k = get_or order k 0
 
-  -- a step does not use itself or what comes behind it
-  never_behind : (k j : ℕ) → k < length order → j < length order → k ≤ j → Contains (take k order) (at j) → ⊥
-  never_behind k j k_lt j_lt le c =
+  -- a step does not use itself or what comes after it
+  never_after : (k j : ℕ) → k < length order → j < length order → k ≤ j → Contains (take k order) (at j) → ⊥
+  never_after k j k_lt j_lt le c =
       let it = take_in order k (at j) c in
       let low = it.1 in
       new_at rules order [] j j_lt ready (subst (Contains (take j order)) it.3 (in_take order it.0 j (omega arith) it.2))
 
-  -- the walk from the last step back: what is behind it stays as it is
+  -- the walk from the last step back: what is after it stays as it is
   pub closed_more : (k : ℕ) → k < length order → (it : Rule) → slice_get rules (at k) ≡ Some it → (old new : List Bool) → Marks (Contains (used_by it)) old new → ((j : ℕ) → k + 1 ≤ j → j < length order → UsedMarked rules old (at j)) → (j : ℕ) → k ≤ j → j < length order → UsedMarked rules new (at j)
   closed_more k lt it is old new marks before j le j_lt marked other other_is =
       elim (cases_eq j k) [
@@ -99,7 +99,7 @@ module _ (rules : List Rule) (order : List ℕ) (ready : AreReady rules [] order
         | inr differ ↦
             let was : IsTrue (is_marked old (at j)) = elim (marks.from (at j) marked) [
               | inl old ↦ old
-              | inr used ↦ absurd (never_behind k j lt j_lt le (all_at (Contains (take k order)) (used_by it) ((ready_at rules order [] k lt ready).1 it is) (at j) used))
+              | inr used ↦ absurd (never_after k j lt j_lt le (all_at (Contains (take k order)) (used_by it) ((ready_at rules order [] k lt ready).1 it is) (at j) used))
             ] in
             all_by (λ a. IsTrue (is_marked old a)) (λ a. IsTrue (is_marked new a)) marks.kept (used_by other) (before j (omega arith) j_lt was other other_is)
       ]

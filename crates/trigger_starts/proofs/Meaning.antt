@@ -14,10 +14,10 @@ use Rattle.trigger_rules.specs.Formula as formula
 use Rattle.trigger_rules.specs.Formula.{Formula, Assignment, Of, Both, If, IfNot, Unless, all_of, any_of, Meets, always, atom, no_atom, through, both, first, second, started, unless}
 use Rattle.trigger_starts.specs.declared.rules.Rule.{Rule}
 use Rattle.trigger_starts.specs.declared.rules.Rule.TheVariants as rule
-use Rattle.trigger_starts.specs.Kept.{AreFiring}
-use Rattle.trigger_starts.specs.Rules.{HasSome, formula_by, is_marked, ruled, used_by, IsReady, AreReady, starts_at}
-use Rattle.trigger_starts.specs.Truth.{IsMet, Started, TrueBy, start_alone, value_by}
-use Rattle.trigger_starts.proofs.AtomLists.{here, later, none_in_nil, in_cons}
+use Rattle.trigger_starts.specs.inner.Kept.{AreFiring}
+use Rattle.trigger_starts.specs.inner.Rules.{HasSome, formula_by, is_marked, ruled, used_by, IsReady, AreReady, starts_at}
+use Rattle.trigger_starts.specs.inner.Truth.{IsMet, Started, TrueBy, start_alone, value_by}
+use Rattle.tsl_value.proofs.Lists.{here, later, none_in_nil, cons_cases}
 
 -- ---- a formula by its rule
 module _ (table : ℕ → Formula) (starts : List Bool) (holds : Assignment) where
@@ -45,7 +45,7 @@ module _ (table : ℕ → Formula) (starts : List Bool) (holds : Assignment) whe
 
   from_some : (args : List ℕ) (a : ℕ) → Contains args a → MetAt a → Met (any_of args)
   from_some [] a c p = absurd (none_in_nil a c)
-  from_some (b ∷ args) a c p = elim (in_cons b a args c) [
+  from_some (b ∷ args) a c p = elim (cons_cases b a args c) [
     | inl same ↦ first (subst MetAt (sym same) p)
     | inr rest ↦ second (from_some args a rest p)
   ]
@@ -91,7 +91,7 @@ module _ (P Q : ℕ → Type 0) where
 
   at_alike : (args : List ℕ) → AllByRecursion Alike args → (a : ℕ) → Contains args a → P a → Q a
   at_alike [] same a c p = absurd (none_in_nil a c)
-  at_alike (b ∷ args) same a c p = elim (in_cons b a args c) [
+  at_alike (b ∷ args) same a c p = elim (cons_cases b a args c) [
     | inl is ↦ (subst Alike is same.0).0 p
     | inr rest ↦ at_alike args same.1 a rest p
   ]
@@ -185,7 +185,7 @@ module _ (f : ℕ → Bool) where
           | inl p ↦ (a, here a args, p)
           | inr more ↦ let some = rest.0 more in (some.0, later a some.0 args some.1, some.2)
         ],
-        λ h. either.1 (elim (in_cons a h.0 args h.1) [
+        λ h. either.1 (elim (cons_cases a h.0 args h.1) [
           | inl same ↦ inl (subst (λ b. IsTrue (f b)) (sym same) h.2)
           | inr more ↦ inr (rest.1 (h.0, more, h.2))
         ]),

@@ -15,7 +15,7 @@ use Rattle.flat_core.specs.Typed.{input, empty, last, merge, set_add, int_type}
 use Rattle.flat_core.specs.TypedSystem.{IsOfType, IsTypedEquation}
 use Rattle.flat_core.proofs.Finished.{typed_from_all}
 use Rattle.flat_core.proofs.Members.{all_at, all_from, contains_map}
-use Rattle.trigger_starts.specs.Sample.{equation_of, growing_equations, ints, merged_equation, merged_equations}
+use Rattle.trigger_starts.specs.inner.Sample.{equation_of, growing_equations, ints, merged_equation, merged_equations}
 
 abbrev an_input : Equation
 an_input = equation_of op.Input [] int_type

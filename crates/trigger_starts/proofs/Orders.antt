@@ -13,16 +13,16 @@ use Rattle.flat_core.specs.declared.equation.Op.{Op}
 use Rattle.flat_core.specs.declared.equation.Op.TheVariants as op
 use Rattle.flat_core.specs.Case.{used_of}
 use Rattle.flat_core.specs.Complete.{IsFlat}
-use Rattle.flat_core.specs.Dependency.{with_one, IsOrdered, IsRunOrder}
+use Rattle.flat_core.specs.inner.Dependency.{with_one, IsOrdered, IsRunOrder}
 use Rattle.flat_core.specs.System.{System, equation}
 use Rattle.flat_core.specs.TypedSystem.{AreOfTypes}
 use Rattle.flat_core.proofs.Existence.{more_done, one_or_done}
 use Rattle.flat_core.proofs.Members.{Contains-in}
 use Rattle.flat_core.proofs.Uniqueness.{all_by}
 use Rattle.trigger_starts.specs.declared.rules.Rule.{Rule}
-use Rattle.trigger_starts.proofs.AtomLists.{none_in_nil}
-use Rattle.trigger_starts.specs.Kept.{IsOrder}
-use Rattle.trigger_starts.specs.Rules.{AreClosed, AreReady, named_by, rule_by, rule_of, rules_of, used_by}
+use Rattle.tsl_value.proofs.Lists.{none_in_nil}
+use Rattle.trigger_starts.specs.inner.Kept.{IsOrder}
+use Rattle.trigger_starts.specs.inner.Rules.{AreClosed, AreReady, named_by, rule_by, rule_of, rules_of, used_by}
 
 -- what a rule uses and names are arguments
 used_all : (P : ℕ → Type 0) (o : Op) (args : List ℕ) → AllByRecursion P (used_of o args) → AllByRecursion P (used_by (rule_by o args))

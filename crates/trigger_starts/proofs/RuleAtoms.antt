@@ -7,8 +7,8 @@ use Rattle.trigger_rules.specs.declared.atom.Atom.{Atom}
 use Rattle.trigger_rules.specs.declared.atom.Atom.TheVariants.{Start, Happens, Holds}
 use Rattle.trigger_starts.specs.declared.rules.Rule.{Rule}
 use Rattle.trigger_starts.specs.declared.rules.Rule.TheVariants as rule
-use Rattle.trigger_starts.specs.AtomLists.{Adds, IsInSome, StandsBy, atoms_at}
-use Rattle.trigger_starts.specs.Rules.{ArgumentsBelow, named_by, starts_at}
+use Rattle.trigger_starts.specs.inner.AtomLists.{Adds, IsInSome, StandsBy, atoms_at}
+use Rattle.trigger_starts.specs.inner.Rules.{ArgumentsBelow, named_by, starts_at}
 use Rattle.trigger_starts.proofs.AtomLists.{adds_also, adds_alike, adds_none}
 
 pub named_below : (count : ℕ) (it known : Rule) → it ≡ known → ArgumentsBelow count it → AllByRecursion (λ a. a < count) (named_by known)

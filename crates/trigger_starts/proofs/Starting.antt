@@ -13,10 +13,10 @@ use Rattle.trigger_rules.specs.Formula.{Formula, Assignment, Of, Meets, both, no
 use Rattle.trigger_rules.specs.Question.{FiresAtZero, StandsAtZero, Starts}
 use Rattle.trigger_starts.specs.declared.rules.Rule.{Rule}
 use Rattle.trigger_starts.specs.declared.rules.Rule.TheVariants as rule
-use Rattle.trigger_starts.specs.AtomLists.{HasAtoms}
-use Rattle.trigger_starts.specs.Kept.{AreRulesOf, IsAtomAt, StartsBy}
-use Rattle.trigger_starts.specs.Rules.{formula_by, zero_formula_by, either_formula, ruled}
-use Rattle.trigger_starts.specs.Truth.{start_alone, IsMet, Started}
+use Rattle.trigger_starts.specs.inner.AtomLists.{HasAtoms}
+use Rattle.trigger_starts.specs.inner.Kept.{AreRulesOf, IsAtomAt, StartsBy}
+use Rattle.trigger_starts.specs.inner.Rules.{formula_by, zero_formula_by, either_formula, ruled}
+use Rattle.trigger_starts.specs.inner.Truth.{start_alone, IsMet, Started}
 use Rattle.trigger_starts.proofs.Gathered.{no_more}
 use Rattle.trigger_starts.proofs.Tables.{zero_table_is}
 use Rattle.trigger_starts.proofs.Transfer.{DeniesStart, all_denies, any_denies, atom_under, met_more, met_turned}

@@ -6,10 +6,10 @@ use Rattle.trigger_rules.specs.declared.atom.Atom.{Atom}
 use Rattle.trigger_rules.specs.Formula.{Assignment, Of, Meets, HasAtom}
 use Rattle.trigger_rules.specs.Question.{Fires, Stands, Starts}
 use Rattle.trigger_starts.specs.declared.rules.Rule.{Rule}
-use Rattle.trigger_starts.specs.AtomLists.{HasAtoms}
-use Rattle.trigger_starts.specs.Kept.{AreRulesOf, IsAtomAt}
-use Rattle.trigger_starts.specs.Rules.{ruled}
-use Rattle.trigger_starts.specs.Truth.{IsMet, Started}
+use Rattle.trigger_starts.specs.inner.AtomLists.{HasAtoms}
+use Rattle.trigger_starts.specs.inner.Kept.{AreRulesOf, IsAtomAt}
+use Rattle.trigger_starts.specs.inner.Rules.{ruled}
+use Rattle.trigger_starts.specs.inner.Truth.{IsMet, Started}
 use Rattle.trigger_starts.proofs.Tables.{table_is}
 use Rattle.trigger_starts.proofs.Transfer.{atom_under, met_under}
 

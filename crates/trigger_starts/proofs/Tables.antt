@@ -11,7 +11,7 @@ use Rattle.flat_core.specs.System.{System, equation}
 use Rattle.trigger_rules.specs.Formula.{Never}
 use Rattle.trigger_rules.specs.Table.{formula_of, at_zero, formula, zero_formula}
 use Rattle.trigger_starts.specs.declared.rules.Rule.{Rule}
-use Rattle.trigger_starts.specs.Rules.{rule_by, rule_of, rules_of, formula_by, zero_formula_by, ruled}
+use Rattle.trigger_starts.specs.inner.Rules.{rule_by, rule_of, rules_of, formula_by, zero_formula_by, ruled}
 
 formula_is : (o : Op) (args : List ℕ) (x : ℕ) → formula_by (rule_by o args) x ≡ formula_of o x args
 formula_is (op.Lift body true) args x = refl

@@ -1,5 +1,1 @@
-pub mod Rules
-pub mod AtomLists
-pub mod Truth
-pub mod Kept
-pub mod Sample
+pub mod inner

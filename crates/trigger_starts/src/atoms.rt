@@ -1,8 +1,8 @@
 // The atoms that stand in a formula.
 
-ghost use Rattle.std.specs.Prelude.{◌≡◌, ◌≤◌, ◌↔◌, [], length, IsTrue, OnOk};
+ghost use Rattle.std.specs.Prelude.{◌≡◌, ◌≤◌, ◌↔◌, ◌⊎◌, [], length, IsTrue, IfOk, OnOk};
 ghost use Rattle.std.specs.List.{Contains};
-ghost use Rattle.trigger_starts.specs.AtomLists.{Adds};
+ghost use Rattle.trigger_starts.specs.inner.AtomLists.{Adds};
 
 use std::alloc::Global;
 use std::marker::Model;
@@ -57,7 +57,7 @@ impl Atoms {
     }
 
     /// Adds an atom, unless it is there or there are too many.
-    pub fn add(&mut self, atom: Atom) -> Result<(), NoMemory>
+    pub(crate) fn add(&mut self, atom: Atom) -> Result<(), NoMemory>
         ensures { OnOk result (Adds self.old (λ a. a ≡ atom) self.new) }
     {
         if self.are_few() && !self.has(&atom) {
@@ -67,12 +67,22 @@ impl Atoms {
     }
 
     /// Adds each atom of a list.
-    pub fn add_all(&mut self, atoms: &[Atom]) -> Result<(), NoMemory>
+    pub(crate) fn add_all(&mut self, atoms: &[Atom]) -> Result<(), NoMemory>
         ensures { OnOk result (Adds self.old (Contains atoms.now) self.new) }
     {
         for atom in atoms {
             self.add(*atom)?;
         }
         Ok(())
+    }
+
+    /// The atoms of two lists.
+    pub fn joined(alloc: Global, first: &Atoms, second: &Atoms) -> Result<Atoms, NoMemory>
+        ensures { IfOk result (λ atoms. Adds [] (λ a. Contains first.now a ⊎ Contains second.now a) atoms) }
+    {
+        let mut atoms = Atoms::new(alloc);
+        atoms.add_all(first.list())?;
+        atoms.add_all(second.list())?;
+        Ok(atoms)
     }
 }

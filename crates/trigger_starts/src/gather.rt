@@ -2,9 +2,9 @@
 
 ghost use Rattle.std.specs.Prelude.{◌≡◌, ℕ, ◌<◌, [], length, IfOk, OnOk};
 ghost use Rattle.std.specs.List.{All, Contains};
-ghost use Rattle.trigger_starts.specs.AtomLists.{Adds, HasAtoms, IsInSome, StandsAs, StandsBy, atoms_at};
-ghost use Rattle.trigger_starts.specs.Kept.{AreAtomsOf};
-ghost use Rattle.trigger_starts.specs.Rules.{AreClosed, AreReady, ArgumentsBelow};
+ghost use Rattle.trigger_starts.specs.inner.AtomLists.{Adds, HasAtoms, IsInSome, StandsAs, StandsBy, atoms_at};
+ghost use Rattle.trigger_starts.specs.inner.Kept.{AreAtomsOf};
+ghost use Rattle.trigger_starts.specs.inner.Rules.{AreClosed, AreReady, ArgumentsBelow};
 
 use crate::atoms::Atoms;
 use crate::rules::Rule;
@@ -98,7 +98,7 @@ fn none(alloc: Global, count: usize) -> Result<Vec<Atoms>, NoMemory>
     Ok(all)
 }
 
-/// The atoms of each equation's formula, or of its formula at time 0. The order has each equation behind its arguments.
+/// The atoms of each equation's formula, or of its formula at time 0. The order has each equation after its arguments.
 pub fn gather(
     alloc: Global,
     rules: &[Rule],

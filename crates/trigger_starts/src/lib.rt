@@ -1,4 +1,4 @@
-// The rules of a flat system: for each equation its trigger formula, the atoms that stand in it, and whether it starts.
+//! The rules of a flat system: for each equation its trigger formula, the atoms that stand in it, and whether it starts.
 #![tactic(auto)]
 
 pub mod atoms;
@@ -8,5 +8,3 @@ pub mod needed;
 pub mod rules;
 pub mod sample;
 pub mod starts;
-#[cfg(test)]
-mod tests;

@@ -2,14 +2,14 @@
 
 ghost use Rattle.std.specs.Prelude.{◌≡◌, IfOk};
 ghost use Rattle.flat_core.specs.WellFormed.{IsWellFormed};
-ghost use Rattle.trigger_starts.specs.Kept.{AreRulesOf, IsOrder};
-ghost use Rattle.trigger_starts.specs.Rules.{AreClosed, rules_of};
+ghost use Rattle.trigger_starts.specs.inner.Kept.{AreRulesOf, IsOrder};
+ghost use Rattle.trigger_starts.specs.inner.Rules.{AreClosed, rules_of};
 
 use crate::rules::{Rule, rule_of};
 use flat_core::flat::Flat;
-use flat_core::steps::Steps;
 use recursion_check::check::{CycleFault, run_order};
 use std::alloc::Global;
+use translation_order::steps::Steps;
 use tsl_value::ids::EqId;
 use tsl_value::memory::NoMemory;
 
@@ -25,7 +25,7 @@ pub fn rules(alloc: Global, flat: &Flat) -> Result<Vec<Rule>, NoMemory>
     Ok(rules)
 }
 
-/// An order of a well-formed system's equations in which each comes behind those whose formulas its own needs.
+/// An order of a well-formed system's equations in which each comes after those whose formulas its own needs.
 pub fn order(alloc: Global, flat: &Flat) -> Result<Steps, NoMemory>
     requires { IsWellFormed flat.now }
     ensures { IfOk result (λ o. IsOrder (rules_of flat.now) o) }

@@ -2,11 +2,11 @@
 
 ghost use Rattle.std.specs.Prelude.{◌≡◌, ℕ, ◌<◌, [], length, IfOk, IsTrue};
 ghost use Rattle.std.specs.List.{All, Contains};
-ghost use Rattle.trigger_starts.specs.Rules.{AreClosed, AreReady, ArgumentsBelow, Marks, UsedMarked, is_marked, used_by};
+ghost use Rattle.trigger_starts.specs.inner.Rules.{AreClosed, AreReady, ArgumentsBelow, Marks, UsedMarked, is_marked, used_by};
 
 use crate::rules::Rule;
-use flat_core::steps::Steps;
 use std::alloc::Global;
+use translation_order::steps::Steps;
 use tsl_value::ids::EqId;
 use tsl_value::memory::NoMemory;
 

@@ -1,7 +1,7 @@
 // The trigger formula of an equation.
 
 ghost use Rattle.std.specs.Prelude.{◌≡◌, IfOk};
-ghost use Rattle.trigger_starts.specs.Rules.{pair_of, filter_by, last_by, lift_by, rule_of, looks_back};
+ghost use Rattle.trigger_starts.specs.inner.Rules.{pair_of, filter_by, last_by, lift_by, rule_of, looks_back};
 
 use flat_core::equation::{Equation, Op};
 use flat_core::lists::Args;

@@ -2,7 +2,7 @@
 
 ghost use Rattle.std.specs.Prelude.{◌≡◌, ◌<◌, true, slice_get, IfOk};
 ghost use Rattle.lift_func.specs.Tree.{Argument, Two};
-ghost use Rattle.trigger_starts.specs.Sample.{equation_of, growing_equations, merged_equations, sample_equations};
+ghost use Rattle.trigger_starts.specs.inner.Sample.{equation_of, growing_equations, merged_equations, sample_equations};
 
 use flat_core::builder::FlatBuilder;
 use flat_core::equation::{Equation, Op, Output};

@@ -2,9 +2,9 @@
 
 ghost use Rattle.std.specs.Prelude.{◌≡◌, ℕ, ◌<◌, ◌↔◌, Bool, List, [], length, IfOk, IsTrue};
 ghost use Rattle.std.specs.List.{All, list_all, list_any};
-ghost use Rattle.trigger_starts.specs.Kept.{AreFiring, AreStarts, IsOrder, StartsBy};
-ghost use Rattle.trigger_starts.specs.Rules.{AreClosed, AreReady, ArgumentsBelow, is_marked};
-ghost use Rattle.trigger_starts.specs.Truth.{start_alone, value_by};
+ghost use Rattle.trigger_starts.specs.inner.Kept.{AreFiring, AreStarts, IsOrder, StartsBy};
+ghost use Rattle.trigger_starts.specs.inner.Rules.{AreClosed, AreReady, ArgumentsBelow, is_marked};
+ghost use Rattle.trigger_starts.specs.inner.Truth.{start_alone, value_by};
 
 use crate::atoms::Atoms;
 use crate::gather::gather;

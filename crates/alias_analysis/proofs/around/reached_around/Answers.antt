@@ -1,6 +1,6 @@
 use Rattle.std.proofs.Common.{length, ap, ◌∙◌, sym, subst}
-use Rattle.alias_analysis.specs.Search.{marks_of, AreReached}
-use Rattle.alias_analysis.specs.Contents.{IsPairAround}
+use Rattle.alias_analysis.specs.inner.Search.{marks_of, AreReached}
+use Rattle.alias_analysis.specs.inner.Contents.{IsPairAround}
 use Rattle.alias_analysis.proofs.Bypassing.{reached_around}
 use Rattle.alias_analysis.proofs.Rooting.{carriers_of_steps}
 use Rattle.alias_analysis.proofs.Spreads.{spread_reaches}

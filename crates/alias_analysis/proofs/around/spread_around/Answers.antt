@@ -1,8 +1,8 @@
 use Rattle.std.proofs.Common.{refl}
 use Rattle.flat_core.specs.declared.reach.Marks.{Marks}
-use Rattle.alias_analysis.specs.Search.{marks_of}
-use Rattle.alias_analysis.specs.Contents.{IsPairAround}
-use Rattle.alias_analysis.proofs.Spreads.{spreading_none, spreading_more}
+use Rattle.alias_analysis.specs.inner.Search.{marks_of}
+use Rattle.alias_analysis.specs.inner.Contents.{IsPairAround}
+use Rattle.flat_core.proofs.Spreads.{spreading_none, spreading_more}
 use Rattle.alias_analysis.proofs.around.spread_around.Goals as goal
 
 pub loop-number-init : goal.loop-number-init

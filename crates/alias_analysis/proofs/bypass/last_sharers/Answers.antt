@@ -2,10 +2,10 @@ use Rattle.std.proofs.Common.{length, sym, subst, ◌∙◌}
 use Rattle.std.proofs.lemmas.Result.{IfOk-weaker}
 use Rattle.translation_order.specs.Order.{AreOfSteps}
 use Rattle.alias_rules.specs.Uses.{last_of, IsLast}
-use Rattle.alias_analysis.specs.Pairs.{ArePairs}
-use Rattle.alias_analysis.specs.Marking.{AreJust}
-use Rattle.alias_analysis.specs.Flows.{SharesWithOne}
-use Rattle.alias_analysis.specs.Contents.{SharesWithLast}
+use Rattle.alias_analysis.specs.inner.Pairs.{ArePairs}
+use Rattle.alias_analysis.specs.inner.Marking.{AreJust}
+use Rattle.alias_analysis.specs.inner.Flows.{SharesWithOne}
+use Rattle.alias_analysis.specs.inner.Contents.{SharesWithLast}
 use Rattle.alias_analysis.proofs.Bypassing.{all_stored, last_sharers_are}
 use Rattle.alias_analysis.proofs.Using.{uses_of_steps}
 use Rattle.alias_analysis.proofs.bypass.last_sharers.Goals as goal

@@ -1,6 +1,6 @@
 use Rattle.std.proofs.Common.{◌≡◌, slice_index, arith}
 use Rattle.std.proofs.lemmas.List.{get_or_read}
-use Rattle.alias_analysis.specs.Search.{first_at}
+use Rattle.alias_analysis.specs.inner.Search.{first_at}
 use Rattle.alias_analysis.proofs.Chaining.{chained_more}
 use Rattle.alias_analysis.proofs.links.chained.Goals as goal
 

@@ -1,4 +1,4 @@
-use Rattle.alias_analysis.specs.Search.{AreChained}
+use Rattle.alias_analysis.specs.inner.Search.{AreChained}
 use Rattle.alias_analysis.proofs.links.chained.Given as goal
 
 abbrev pub invariant-loop-place : goal.invariant-loop-place

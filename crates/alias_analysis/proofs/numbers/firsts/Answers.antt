@@ -1,5 +1,5 @@
 use Rattle.std.proofs.Common.{subst, length, get_or, ap, false, replicate, ◌∙◌, arith}
-use Rattle.alias_analysis.specs.Marking.{AddsMarks, IsChosen, HasMarkedSecond}
+use Rattle.alias_analysis.specs.inner.Marking.{AddsMarks, IsChosen, HasMarkedSecond}
 use Rattle.alias_analysis.proofs.Adding.{MarksFirst, firsts_marked, marked_none, marked_more, read_again, first_added, none_long}
 use Rattle.alias_analysis.proofs.numbers.firsts.Goals as goal
 

@@ -1,5 +1,5 @@
 use Rattle.std.proofs.Common.{take}
-use Rattle.alias_analysis.specs.Marking.{AddsMarks, IsMarkedBy}
+use Rattle.alias_analysis.specs.inner.Marking.{AddsMarks, IsMarkedBy}
 use Rattle.alias_analysis.proofs.Adding.{MarksFirst}
 use Rattle.alias_analysis.proofs.numbers.firsts.Given as goal
 

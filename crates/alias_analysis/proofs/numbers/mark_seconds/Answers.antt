@@ -1,5 +1,5 @@
 use Rattle.std.proofs.Common.{get_or, subst, arith}
-use Rattle.alias_analysis.specs.Marking.{AddsMarks, IsChosen}
+use Rattle.alias_analysis.specs.inner.Marking.{AddsMarks, IsChosen}
 use Rattle.alias_analysis.proofs.Adding.{MarksSecond, seconds_marked, marked_none, marked_more, read_again}
 use Rattle.alias_analysis.proofs.numbers.mark_seconds.Goals as goal
 

@@ -1,5 +1,5 @@
 use Rattle.std.proofs.Common.{take}
-use Rattle.alias_analysis.specs.Marking.{AddsMarks, IsMarkedBy}
+use Rattle.alias_analysis.specs.inner.Marking.{AddsMarks, IsMarkedBy}
 use Rattle.alias_analysis.proofs.Adding.{MarksSecond}
 use Rattle.alias_analysis.proofs.numbers.mark_seconds.Given as goal
 

@@ -1,4 +1,4 @@
-use Rattle.alias_analysis.specs.Marking.{IsChosen}
+use Rattle.alias_analysis.specs.inner.Marking.{IsChosen}
 use Rattle.alias_analysis.proofs.Adding.{first_added}
 use Rattle.alias_analysis.proofs.numbers.one_of.Goals as goal
 

@@ -1,5 +1,5 @@
 use Rattle.std.proofs.Common.{[], get_or, sym, subst}
-use Rattle.alias_analysis.specs.Pairs.{AreTurned}
+use Rattle.alias_analysis.specs.inner.Pairs.{AreTurned}
 use Rattle.alias_analysis.proofs.Adding.{turned_none, turned_more, read_again}
 use Rattle.alias_analysis.proofs.pairs.turned.Goals as goal
 

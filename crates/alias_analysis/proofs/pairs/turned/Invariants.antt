@@ -1,5 +1,5 @@
 use Rattle.std.proofs.Common.{take}
-use Rattle.alias_analysis.specs.Pairs.{AreTurned}
+use Rattle.alias_analysis.specs.inner.Pairs.{AreTurned}
 use Rattle.alias_analysis.proofs.pairs.turned.Given as goal
 
 abbrev pub invariant-loop-first : goal.invariant-loop-first

@@ -1,6 +1,6 @@
 use Rattle.std.proofs.Common.{length, ap, ◌∙◌, sym, subst}
 use Rattle.translation_order.specs.Order.{Before}
-use Rattle.alias_analysis.specs.Search.{marks_of, AreReached}
+use Rattle.alias_analysis.specs.inner.Search.{marks_of, AreReached}
 use Rattle.alias_analysis.proofs.Spreads.{spread_reaches}
 use Rattle.alias_analysis.proofs.reach.reached.Goals as goal
 

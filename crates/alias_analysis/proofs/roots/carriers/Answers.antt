@@ -1,6 +1,6 @@
 use Rattle.std.proofs.Common.{◌++◌, ap, subst, ◌∙◌}
-use Rattle.alias_analysis.specs.Pairs.{Adds}
-use Rattle.alias_analysis.specs.Contents.{IsInside}
+use Rattle.alias_analysis.specs.inner.Pairs.{Adds}
+use Rattle.alias_analysis.specs.inner.Contents.{IsInside}
 use Rattle.alias_analysis.proofs.Rooting.{carriers_are}
 use Rattle.alias_analysis.proofs.roots.carriers.Goals as goal
 

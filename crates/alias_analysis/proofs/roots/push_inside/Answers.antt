@@ -1,6 +1,6 @@
 use Rattle.std.proofs.Common.{◌≡◌, get_or, ap, subst, ◌∙◌, arith}
 use Rattle.flat_core.specs.Members.{is_in}
-use Rattle.alias_analysis.specs.Pairs.{Adds, IsWanted}
+use Rattle.alias_analysis.specs.inner.Pairs.{Adds, IsWanted}
 use Rattle.alias_analysis.proofs.Adding.{given_more, read_again}
 use Rattle.alias_analysis.proofs.Rooting.{GivesInside, inside_all}
 use Rattle.alias_analysis.proofs.roots.push_inside.Goals as goal

@@ -1,5 +1,5 @@
 use Rattle.std.proofs.Common.{take}
-use Rattle.alias_analysis.specs.Pairs.{Adds, IsGiven}
+use Rattle.alias_analysis.specs.inner.Pairs.{Adds, IsGiven}
 use Rattle.alias_analysis.proofs.Rooting.{GivesInside}
 use Rattle.alias_analysis.proofs.roots.push_inside.Given as goal
 

@@ -1,8 +1,8 @@
 use Rattle.std.proofs.Common.{length, sym, subst, ◌∙◌}
 use Rattle.std.proofs.lemmas.Result.{IfOk-weaker}
 use Rattle.translation_order.specs.Order.{AreOfSteps}
-use Rattle.alias_analysis.specs.Marking.{AreJust}
-use Rattle.alias_analysis.specs.Contents.{IsReachedOrigin, IsRootOfOne}
+use Rattle.alias_analysis.specs.inner.Marking.{AreJust}
+use Rattle.alias_analysis.specs.inner.Contents.{IsReachedOrigin, IsRootOfOne}
 use Rattle.alias_analysis.proofs.Rooting.{carriers_of_steps, turned_of_steps, roots_are}
 use Rattle.alias_analysis.proofs.roots.roots_of.Goals as goal
 

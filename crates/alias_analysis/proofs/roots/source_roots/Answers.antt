@@ -1,7 +1,7 @@
 use Rattle.std.proofs.Common.{length}
 use Rattle.std.proofs.lemmas.Result.{IfOk-weaker}
-use Rattle.alias_analysis.specs.Marking.{AreJust}
-use Rattle.alias_analysis.specs.Contents.{IsRootOfOne, IsRootOfSource}
+use Rattle.alias_analysis.specs.inner.Marking.{AreJust}
+use Rattle.alias_analysis.specs.inner.Contents.{IsRootOfOne, IsRootOfSource}
 use Rattle.alias_analysis.proofs.Rooting.{source_roots_are}
 use Rattle.alias_analysis.proofs.roots.source_roots.Goals as goal
 

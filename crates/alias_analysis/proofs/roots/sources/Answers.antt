@@ -2,7 +2,7 @@ use Rattle.std.proofs.Common.{◌≡◌, true, length, sym, subst, ◌∙◌}
 use Rattle.std.proofs.lemmas.Result.{IfOk-weaker}
 use Rattle.translation_order.specs.Order.{AreOfSteps}
 use Rattle.alias_rules.specs.Uses.{written_of, IsWritten}
-use Rattle.alias_analysis.specs.Marking.{AreJust, IsChosen, HasMarkedSecond}
+use Rattle.alias_analysis.specs.inner.Marking.{AreJust, IsChosen, HasMarkedSecond}
 use Rattle.alias_analysis.proofs.Rooting.{sources_are}
 use Rattle.alias_analysis.proofs.Using.{uses_of_steps}
 use Rattle.alias_analysis.proofs.roots.sources.Goals as goal

@@ -1,7 +1,7 @@
 use Rattle.std.proofs.Common.{◌++◌, length, sym, ap, subst, ◌∙◌}
 use Rattle.translation_order.specs.Order.{AreOfSteps}
 use Rattle.alias_rules.specs.Uses.{last_of, IsLast}
-use Rattle.alias_analysis.specs.Pairs.{ArePairs}
+use Rattle.alias_analysis.specs.inner.Pairs.{ArePairs}
 use Rattle.alias_analysis.proofs.Sharers.{flows_are}
 use Rattle.alias_analysis.proofs.Using.{uses_of_steps}
 use Rattle.alias_analysis.proofs.sharing.flows.Goals as goal

@@ -1,5 +1,5 @@
 use Rattle.std.proofs.Common.{refl, arith}
-use Rattle.flat_core.specs.Marks.{has_mark}
+use Rattle.flat_core.specs.inner.Marks.{has_mark}
 use Rattle.alias_analysis.proofs.Sharers.{marked_pairs_next, marked_pairs_all}
 use Rattle.alias_analysis.proofs.sharing.push_marked.Goals as goal
 

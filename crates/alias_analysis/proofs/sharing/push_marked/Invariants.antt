@@ -1,5 +1,5 @@
-use Rattle.alias_analysis.specs.Flows.{IsMarkedPair}
-use Rattle.alias_analysis.specs.Pairs.{Adds, IsKeyBelow}
+use Rattle.alias_analysis.specs.inner.Flows.{IsMarkedPair}
+use Rattle.alias_analysis.specs.inner.Pairs.{Adds, IsKeyBelow}
 use Rattle.alias_analysis.proofs.sharing.push_marked.Given as goal
 
 abbrev pub invariant-loop-index : goal.invariant-loop-index

@@ -1,10 +1,10 @@
 use Rattle.std.proofs.Common.{◌≡◌, ◌+◌, length, sym, subst, ◌∙◌, arith}
 use Rattle.std.specs.Prelude.{IsTrue}
 use Rattle.std.proofs.lemmas.Result.{IfOk-weaker}
-use Rattle.flat_core.specs.Marks.{has_mark}
+use Rattle.flat_core.specs.inner.Marks.{has_mark}
 use Rattle.translation_order.specs.Order.{AreOfSteps}
-use Rattle.alias_analysis.specs.Marking.{AreJust}
-use Rattle.alias_analysis.specs.Flows.{SharesWithOne}
+use Rattle.alias_analysis.specs.inner.Marking.{AreJust}
+use Rattle.alias_analysis.specs.inner.Flows.{SharesWithOne}
 use Rattle.alias_analysis.proofs.Rooting.{turned_of_steps}
 use Rattle.alias_analysis.proofs.Sharers.{sharers_are, flows_of_steps, both_halves}
 use Rattle.alias_analysis.proofs.sharing.sharers.Goals as goal

@@ -1,8 +1,8 @@
 use Rattle.std.proofs.Common.{length}
 use Rattle.std.proofs.lemmas.Result.{IfOk-weaker}
 use Rattle.alias_rules.specs.Sharing.{Shares}
-use Rattle.alias_analysis.specs.Marking.{AreJust}
-use Rattle.alias_analysis.specs.Flows.{SharesWithOne}
+use Rattle.alias_analysis.specs.inner.Marking.{AreJust}
+use Rattle.alias_analysis.specs.inner.Flows.{SharesWithOne}
 use Rattle.alias_analysis.proofs.Sharers.{one_stored, sharers_of_one}
 use Rattle.alias_analysis.proofs.sharing.sharers_of.Goals as goal
 

@@ -1,6 +1,6 @@
 use Rattle.std.proofs.Common.{[], length, sym, subst, arith}
 use Rattle.alias_rules.specs.Sharing.{Shares}
-use Rattle.alias_analysis.specs.Marking.{AreJust}
+use Rattle.alias_analysis.specs.inner.Marking.{AreJust}
 use Rattle.alias_analysis.proofs.Sharers.{shared_next, shared_all}
 use Rattle.alias_analysis.proofs.sharing.sharing.Goals as goal
 

@@ -1,6 +1,6 @@
 use Rattle.std.proofs.Common.{[]}
 use Rattle.alias_rules.specs.Sharing.{Shares}
-use Rattle.alias_analysis.specs.Pairs.{Adds, IsKeyBelow}
+use Rattle.alias_analysis.specs.inner.Pairs.{Adds, IsKeyBelow}
 use Rattle.alias_analysis.proofs.sharing.sharing.Given as goal
 
 abbrev pub invariant-loop-number : goal.invariant-loop-number

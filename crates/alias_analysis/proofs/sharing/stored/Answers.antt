@@ -1,7 +1,7 @@
 use Rattle.std.proofs.Common.{length, get_or, sym, subst, arith}
 use Rattle.translation_order.specs.Order.{AreOfSteps}
 use Rattle.alias_rules.specs.Uses.{last_of, IsLast}
-use Rattle.alias_analysis.specs.Pairs.{ArePairs}
+use Rattle.alias_analysis.specs.inner.Pairs.{ArePairs}
 use Rattle.alias_analysis.proofs.Adding.{marked_none, marked_more, read_again, none_long}
 use Rattle.alias_analysis.proofs.Sharers.{MarksVariable, stored_are}
 use Rattle.alias_analysis.proofs.Using.{uses_of_steps}

@@ -1,5 +1,5 @@
 use Rattle.std.proofs.Common.{take}
-use Rattle.alias_analysis.specs.Marking.{AddsMarks, IsMarkedBy}
+use Rattle.alias_analysis.specs.inner.Marking.{AddsMarks, IsMarkedBy}
 use Rattle.alias_analysis.proofs.Sharers.{MarksStore}
 use Rattle.alias_analysis.proofs.sharing.stores_of.Given as goal
 

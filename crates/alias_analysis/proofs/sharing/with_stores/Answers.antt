@@ -1,6 +1,6 @@
 use Rattle.std.proofs.Common.{get_or, arith}
 use Rattle.flat_core.proofs.MarkLemmas.{mark_within}
-use Rattle.alias_analysis.specs.Flows.{HasStoreAt}
+use Rattle.alias_analysis.specs.inner.Flows.{HasStoreAt}
 use Rattle.alias_analysis.proofs.Adding.{marked_none, marked_more, read_again, listed_low, none_long}
 use Rattle.alias_analysis.proofs.Sharers.{with_stores_all}
 use Rattle.alias_analysis.proofs.sharing.with_stores.Goals as goal

@@ -1,6 +1,6 @@
 use Rattle.std.proofs.Common.{take}
-use Rattle.alias_analysis.specs.Marking.{AddsMarks, IsMarkedBy}
-use Rattle.alias_analysis.specs.Flows.{HasStoreAt}
+use Rattle.alias_analysis.specs.inner.Marking.{AddsMarks, IsMarkedBy}
+use Rattle.alias_analysis.specs.inner.Flows.{HasStoreAt}
 use Rattle.alias_analysis.proofs.sharing.with_stores.Given as goal
 
 abbrev pub invariant-loop-number : goal.invariant-loop-number

@@ -1,5 +1,5 @@
 use Rattle.std.proofs.Common.{take}
-use Rattle.alias_analysis.specs.Pairs.{Adds, IsGiven}
+use Rattle.alias_analysis.specs.inner.Pairs.{Adds, IsGiven}
 use Rattle.alias_analysis.proofs.Using.{IsOfArgument}
 use Rattle.alias_analysis.proofs.uses.push_variables.Given as goal
 

@@ -1,4 +1,4 @@
-use Rattle.alias_analysis.specs.Kept.{HasUsesBelow}
+use Rattle.alias_analysis.specs.inner.Kept.{HasUsesBelow}
 use Rattle.alias_analysis.proofs.uses.uses_of.Given as goal
 
 abbrev pub invariant-loop-number : goal.invariant-loop-number

@@ -2,8 +2,8 @@ use Rattle.std.proofs.Common.{◌≡◌, ◌↔◌, ℕ, true, false, length, ma
 use Rattle.std.proofs.lemmas.List.{length-replicate}
 use Rattle.std.proofs.lemmas.Result.{IfOk-weaker}
 use Rattle.flat_core.specs.Members.{is_in}
-use Rattle.flat_core.specs.Needed.{IsReached}
-use Rattle.flat_core.specs.Marks.{is_marked, ArgumentsThere, Spread}
+use Rattle.flat_core.specs.Needed.{HasArgument, IsReached}
+use Rattle.flat_core.specs.inner.Marks.{is_marked, ArgumentsThere, Spread}
 use Rattle.flat_core.specs.Renumbered.{with_new_args}
 use Rattle.flat_core.proofs.MarkLemmas.{unmarked, marked_reached, reached_marked, reached_needed, needed_reached}
 use Rattle.flat_core.proofs.Renumbering.{same_equations}
@@ -31,7 +31,7 @@ returns-clause-members c =
     let m = c.in_ok-marks.marks in
     let n = c.mark_outputs.new.self in
     let o = c.spread.new.self in
-    let spread = subst (λ es. Spread es n o) (ap (λ r. map (with_new_args r) equations) c.new-unchanged.ensures ∙ same_equations equations) c.in_ok-spread.ensures in
+    let spread = subst (λ es. Spread (HasArgument es) n o) (ap (λ r. map (with_new_args r) equations) c.new-unchanged.ensures ∙ same_equations equations) c.in_ok-spread.ensures in
     IfOk-weaker c.set.result (λ s. (i : ℕ) → is_in s i ≡ is_marked o i) (λ s. (i : ℕ) → (is_in s i ≡ true) ↔ IsReached equations outputs i) (λ s same i. (
       (λ h. reached_needed equations outputs i (marked_reached equations starts m n o fresh c.in_ok-mark_outputs.ensures spread i (sym (same i) ∙ h))),
       (λ r. same i ∙ reached_marked equations starts m n o fresh c.in_ok-mark_outputs.ensures spread i (needed_reached equations outputs i r)),

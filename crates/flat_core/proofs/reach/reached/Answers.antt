@@ -3,7 +3,7 @@ use Rattle.std.proofs.lemmas.List.{length-replicate}
 use Rattle.std.proofs.lemmas.Result.{IfOk-weaker}
 use Rattle.flat_core.specs.Members.{is_in}
 use Rattle.flat_core.specs.Needed.{IsReachedFrom}
-use Rattle.flat_core.specs.Marks.{is_marked, AreBelow, Marked}
+use Rattle.flat_core.specs.inner.Marks.{is_marked, AreBelow, Marked}
 use Rattle.flat_core.specs.Renumbered.{new_number, with_new_args}
 use Rattle.flat_core.proofs.MarkLemmas.{unmarked, marked_reached, reached_marked}
 use Rattle.flat_core.proofs.Renumbering.{same_numbers}

@@ -1,6 +1,6 @@
 use Rattle.std.proofs.Common.{◌+◌, sym, subst, ◌∙◌, arith}
 use Rattle.std.proofs.lemmas.List.{get_or_default}
-use Rattle.flat_core.specs.Dependency.{IsRunOrder}
+use Rattle.flat_core.specs.inner.Dependency.{IsRunOrder}
 use Rattle.flat_simplify.proofs.Making.{AreStanding, standing_none, step_there, known_before, standing_more, standing_all}
 use Rattle.flat_simplify.proofs.simplify.replacements.Goals as goal
 

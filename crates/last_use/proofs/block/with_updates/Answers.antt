@@ -1,6 +1,6 @@
 use Rattle.std.proofs.Common.{◌+◌, sym, subst, arith}
 use Rattle.std.specs.List.Sorted.{IsStrictlyIncreasing}
-use Rattle.last_use.specs.Blocks.{IsWithBlock}
+use Rattle.last_use.specs.inner.Blocks.{IsWithBlock}
 use Rattle.last_use.proofs.Blocking.{block_none, block_then}
 use Rattle.last_use.proofs.block.with_updates.Goals as goal
 

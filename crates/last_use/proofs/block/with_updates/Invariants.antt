@@ -1,4 +1,4 @@
-use Rattle.last_use.specs.Blocks.{IsWithBlock}
+use Rattle.last_use.specs.inner.Blocks.{IsWithBlock}
 use Rattle.last_use.proofs.block.with_updates.Given as goal
 
 abbrev pub invariant-loop-number : goal.invariant-loop-number

@@ -1,5 +1,5 @@
 use Rattle.std.proofs.Common.{◌-◌, ◌≤◌, length}
-use Rattle.last_use.specs.Choosing.{IsChosenBelow}
+use Rattle.last_use.specs.inner.Choosing.{IsChosenBelow}
 use Rattle.last_use.proofs.choice.try_all.Given as goal
 
 abbrev pub invariant-loop-tried : goal.invariant-loop-tried

@@ -1,7 +1,7 @@
 use Rattle.std.proofs.Common.{◌≤◌, Option, subst, arith}
 use Rattle.std.specs.Prelude.{MatchOption}
 use Rattle.last_use.specs.declared.block.Block.{Block}
-use Rattle.last_use.specs.Blocks.{IsBlock}
+use Rattle.last_use.specs.inner.Blocks.{IsBlock}
 use Rattle.last_use.proofs.Choosing.{block_chosen}
 use Rattle.last_use.proofs.choice.with_next.Goals as goal
 

@@ -2,7 +2,7 @@ use Rattle.std.proofs.Common.{ℕ, List, Option, ◌+◌, sym, subst}
 use Rattle.alias_rules.specs.Fine.{IsFine}
 use Rattle.alias_rules.specs.Uses.{AreUpdates}
 use Rattle.alias_analysis.specs.declared.reason.Reason.{Reason}
-use Rattle.last_use.specs.Choosing.{IsChosenBelow, IsRefusal}
+use Rattle.last_use.specs.inner.Choosing.{IsChosenBelow, IsRefusal}
 use Rattle.last_use.specs.Reasons.{IsReason}
 use Rattle.last_use.proofs.Choosing.{tried_updates, accepted, refused}
 use Rattle.last_use.proofs.choice.with_update.Goals as goal

@@ -1,7 +1,7 @@
 use Rattle.std.proofs.Common.{◌≡◌, ℕ, ◌+◌, length, subst}
 use Rattle.std.specs.Prelude.{◌↔◌, IfOk, IfErr}
 use Rattle.flat_core.specs.System.{System}
-use Rattle.translation_order.specs.Answer.{OnCycle}
+use Rattle.translation_order.specs.inner.Answer.{OnCycle}
 use Rattle.translation_order.specs.Cycle.{IsCycleOfWalk}
 use Rattle.translation_order.specs.Order.{Before, IsLeastOrder}
 use Rattle.alias_rules.specs.Conflict.{StandsBefore}

@@ -1,10 +1,10 @@
 use Rattle.std.proofs.Common.{Option, None, subst}
 use Rattle.flat_core.specs.System.{System}
-use Rattle.translation_order.specs.Answer.{OnCycle}
+use Rattle.translation_order.specs.inner.Answer.{OnCycle}
 use Rattle.translation_order.specs.Cycle.{IsCycleOfWalk}
 use Rattle.alias_rules.specs.Conflict.{StandsBefore}
 use Rattle.alias_rules.specs.Steps.{step_count}
-use Rattle.alias_analysis.specs.Answer.{IsFirstConflict}
+use Rattle.alias_analysis.specs.inner.Answer.{IsFirstConflict}
 use Rattle.alias_analysis.specs.declared.reason.Reason.{Reason}
 use Rattle.last_use.proofs.trial.refusal.Goals as goal
 

@@ -1,4 +1,4 @@
-use Rattle.plain_solver.proofs.OrderLemmas.{args_there, shape_of}
+use Rattle.flat_core.proofs.Shapes.{args_there, shape_of}
 use Rattle.plain_solver.proofs.TypedLemmas.{takes_typed}
 use Rattle.plain_solver.proofs.instant.first_root.Goals as goal
 

@@ -1,5 +1,5 @@
 use Rattle.std.proofs.Common.{◌≡◌, ℕ, suc, ◌+◌, ◌-◌, ◌<◌, List, [], ◌∷◌, ◌++◌, ap, ◌∙◌, append_assoc, arith}
-use Rattle.plain_solver.specs.Lent.{numbers_from}
+use Rattle.plain_solver.specs.inner.Lent.{numbers_from}
 use Rattle.plain_solver.proofs.lender.numbers.Goals as goal
 
 one_more : (done new : List ℕ) (n count : ℕ) → n < count → new ≡ done ++ n ∷ [] → done ++ numbers_from n (count - n) ≡ numbers_from 0 count → new ++ numbers_from (n + 1) (count - (n + 1)) ≡ numbers_from 0 count

@@ -1,5 +1,5 @@
 use Rattle.std.proofs.Common.{◌≡◌, ◌++◌, ◌-◌}
-use Rattle.plain_solver.specs.Lent.{numbers_from}
+use Rattle.plain_solver.specs.inner.Lent.{numbers_from}
 use Rattle.plain_solver.proofs.lender.numbers.Given as goal
 
 abbrev pub invariant-loop-number : goal.invariant-loop-number

@@ -1,5 +1,5 @@
 use Rattle.std.proofs.Common.{◌≡◌, ◌++◌, drop}
-use Rattle.plain_solver.specs.Lent.{registers_from}
+use Rattle.plain_solver.specs.inner.Lent.{registers_from}
 use Rattle.plain_solver.proofs.lender.registers.Given as goal
 
 abbrev pub invariant-loop-number : goal.invariant-loop-number

@@ -1,5 +1,5 @@
 use Rattle.std.proofs.Common.{sym, ◌∙◌, subst, arith}
-use Rattle.plain_solver.specs.Lines.{IsLeast}
+use Rattle.plain_solver.specs.inner.Lines.{IsLeast}
 use Rattle.plain_solver.proofs.LinesLemmas.{line_past, line_late, line_found, line_end}
 use Rattle.plain_solver.proofs.line.first_event.Goals as goal
 use Rattle.flat_core.specs.Line.{is_line_on}

@@ -1,6 +1,6 @@
 use Rattle.std.proofs.Common.{List, subst, sym}
 use Rattle.flat_core.specs.declared.line.TraceLine.{TraceLine}
-use Rattle.plain_solver.specs.Lines.{IsLeast}
+use Rattle.plain_solver.specs.inner.Lines.{IsLeast}
 use Rattle.std.proofs.lemmas.List.{take_rest}
 use Rattle.plain_solver.proofs.LinesLemmas.{least_placed, sorted_rest}
 use Rattle.plain_solver.proofs.line.least_line.Goals as goal

@@ -1,6 +1,6 @@
 use Rattle.std.proofs.Common.{ap, map, ◌∙◌}
 use Rattle.flat_core.specs.Stream.{event}
-use Rattle.plain_solver.specs.Shape.{streams_of}
+use Rattle.plain_solver.specs.inner.Shape.{streams_of}
 use Rattle.plain_solver.proofs.TypedLemmas.{liftable}
 use Rattle.plain_solver.proofs.outcome.own_of.Goals as goal
 

@@ -1,9 +1,9 @@
 use Rattle.std.proofs.Common.{◌≡◌, ◌++◌, [], ◌∷◌, Option, Some, OnOk, ap, sym, subst, ◌∙◌}
 use Rattle.tsl_value.specs.View.{View}
-use Rattle.lift_func.specs.Cells.{held}
+use Rattle.lift_func.specs.inner.Cells.{held}
 use Rattle.flat_core.specs.Text.{event_line}
 use Rattle.event_writer.specs.Text.{IsPrintable}
-use Rattle.plain_solver.specs.Lent.{cells_of}
+use Rattle.plain_solver.specs.inner.Lent.{cells_of}
 use Rattle.plain_solver.proofs.LentLemmas.{lent_printable, lent_value}
 use Rattle.plain_solver.proofs.text.append_line.Goals as goal
 

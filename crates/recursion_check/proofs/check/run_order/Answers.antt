@@ -1,6 +1,6 @@
 use Rattle.std.proofs.Common.{length, sym, subst, ◌∙◌}
-use Rattle.flat_core.specs.Graph.{IsAcyclic}
-use Rattle.translation_order.specs.Answer.{OnCycle}
+use Rattle.translation_order.specs.Graph.{IsAcyclic}
+use Rattle.translation_order.specs.inner.Answer.{OnCycle}
 use Rattle.translation_order.specs.Order.{Before, AreOfSteps, IsLeastOrder}
 use Rattle.translation_order.specs.Cycle.{IsCycle, IsCycleOfWalk}
 use Rattle.recursion_check.proofs.FeedLemmas.{pairs, edges_of_steps, well_formed_from, cycle_from, walk_from, cyclic_from}

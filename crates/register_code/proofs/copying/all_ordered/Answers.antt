@@ -1,7 +1,7 @@
 use Rattle.std.proofs.Common.{◌≡◌, ◌+◌, length, sym, ap, subst, ◌∙◌}
 use Rattle.flat_core.specs.declared.equation.Output.{Output}
-use Rattle.flat_core.specs.Graph.{IsAcyclic}
-use Rattle.translation_order.specs.Answer.{OnCycle}
+use Rattle.translation_order.specs.Graph.{IsAcyclic}
+use Rattle.translation_order.specs.inner.Answer.{OnCycle}
 use Rattle.translation_order.specs.Order.{Before, AreOfSteps, IsLeastOrder}
 use Rattle.alias_rules.specs.Steps.{step_count}
 use Rattle.register_code.proofs.PairLemmas.{pairs_of_steps}

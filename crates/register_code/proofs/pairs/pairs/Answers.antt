@@ -1,5 +1,5 @@
 use Rattle.std.proofs.Common.{ℕ, ◌++◌, sym, ap, ◌∙◌}
-use Rattle.register_code.specs.Pairs.{argument_pairs, pairs_at}
+use Rattle.register_code.specs.inner.Pairs.{argument_pairs, pairs_at}
 use Rattle.register_code.proofs.Gathered.{gathered_more}
 use Rattle.register_code.proofs.pairs.pairs.Goals as goal
 

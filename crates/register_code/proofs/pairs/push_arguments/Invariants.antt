@@ -1,5 +1,5 @@
 use Rattle.std.proofs.Common.{◌≡◌, ◌++◌, take}
-use Rattle.register_code.specs.Pairs.{pairs_to}
+use Rattle.register_code.specs.inner.Pairs.{pairs_to}
 use Rattle.register_code.proofs.pairs.push_arguments.Given as goal
 
 abbrev pub invariant-loop-argument : goal.invariant-loop-argument

@@ -1,5 +1,5 @@
 use Rattle.std.proofs.Common.{◌≡◌, ◌+◌, ◌++◌, take}
-use Rattle.register_code.specs.Pairs.{print_pairs}
+use Rattle.register_code.specs.inner.Pairs.{print_pairs}
 use Rattle.register_code.proofs.pairs.push_prints.Given as goal
 
 abbrev pub invariant-loop-output : goal.invariant-loop-output

@@ -1,8 +1,8 @@
 use Rattle.std.proofs.Common.{ℕ, ◌<◌, length, refl, sym, subst}
 use Rattle.std.proofs.lemmas.Option.{slice_get_read}
-use Rattle.trigger_starts.specs.Truth.{value_by}
-use Rattle.trigger_diagram.specs.Made.{value_at}
-use Rattle.trigger_diagram.specs.Truth.{Tells}
+use Rattle.trigger_starts.specs.inner.Truth.{value_by}
+use Rattle.trigger_diagram.specs.inner.Made.{value_at}
+use Rattle.trigger_diagram.specs.inner.Truth.{Tells}
 use Rattle.trigger_diagram.proofs.Making.{nodes_kept, nodes_more}
 use Rattle.trigger_diagram.proofs.made.make.Goals as goal
 

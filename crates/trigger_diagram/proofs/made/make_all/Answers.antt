@@ -1,8 +1,8 @@
 use Rattle.std.proofs.Common.{[], Contains, take}
 use Rattle.flat_core.proofs.Uniqueness.{all_by}
-use Rattle.trigger_starts.specs.Rules.{used_by}
+use Rattle.trigger_starts.specs.inner.Rules.{used_by}
 use Rattle.trigger_starts.proofs.Meaning.{ready_at}
-use Rattle.trigger_diagram.specs.Made.{IsMade}
+use Rattle.trigger_diagram.specs.inner.Made.{IsMade}
 use Rattle.trigger_diagram.proofs.Making.{made_next}
 use Rattle.trigger_diagram.proofs.Nodes.{grows_on}
 use Rattle.trigger_diagram.proofs.made.make_all.Goals as goal

@@ -1,6 +1,6 @@
 use Rattle.std.proofs.Common.{ℕ, Contains, take}
-use Rattle.trigger_diagram.specs.Arena.{Grows}
-use Rattle.trigger_diagram.specs.Made.{AreNodesOf, IsMade}
+use Rattle.trigger_diagram.specs.inner.Arena.{Grows}
+use Rattle.trigger_diagram.specs.inner.Made.{AreNodesOf, IsMade}
 use Rattle.trigger_diagram.proofs.made.make_all.Given as goal
 
 abbrev pub invariant-loop-step : goal.invariant-loop-step

@@ -1,8 +1,8 @@
 use Rattle.std.proofs.Common.{◌≡◌, ℕ, ◌<◌, None, length}
 use Rattle.std.specs.Prelude.{slice_index_or}
-use Rattle.trigger_starts.specs.AtomLists.{atoms_at}
-use Rattle.trigger_diagram.specs.Kept.{Keeps}
-use Rattle.trigger_formulas.specs.Kept.{IsMadeFor}
+use Rattle.trigger_starts.specs.inner.AtomLists.{atoms_at}
+use Rattle.trigger_diagram.specs.inner.Kept.{Keeps}
+use Rattle.trigger_formulas.specs.inner.Kept.{IsMadeFor}
 use Rattle.trigger_formulas.proofs.triggers.nodes.Given as goal
 
 abbrev pub invariant-loop-number : goal.invariant-loop-number

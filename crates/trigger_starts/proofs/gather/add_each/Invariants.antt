@@ -1,5 +1,5 @@
 use Rattle.std.proofs.Common.{take}
-use Rattle.trigger_starts.specs.AtomLists.{Adds, IsInSome}
+use Rattle.trigger_starts.specs.inner.AtomLists.{Adds, IsInSome}
 use Rattle.trigger_starts.proofs.gather.add_each.Given as goal
 
 abbrev pub invariant-loop-arg : goal.invariant-loop-arg

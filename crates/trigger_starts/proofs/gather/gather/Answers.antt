@@ -2,9 +2,9 @@ use Rattle.std.proofs.Common.{ℕ, List, [], length, take_all, get_or, Contains,
 use Rattle.std.proofs.lemmas.Option.{slice_get_read}
 use Rattle.trigger_rules.specs.declared.atom.Atom.{Atom}
 use Rattle.trigger_rules.specs.Formula.{HasAtom, Of}
-use Rattle.trigger_starts.specs.AtomLists.{Adds, HasAtoms, StandsAs, atoms_at}
-use Rattle.trigger_starts.specs.Rules.{ArgumentsBelow, ruled}
-use Rattle.trigger_starts.specs.Truth.{Started}
+use Rattle.trigger_starts.specs.inner.AtomLists.{Adds, HasAtoms, StandsAs, atoms_at}
+use Rattle.trigger_starts.specs.inner.Rules.{ArgumentsBelow, ruled}
+use Rattle.trigger_starts.specs.inner.Truth.{Started}
 use Rattle.trigger_starts.proofs.Gathered.{gather_step}
 use Rattle.trigger_starts.proofs.Meaning.{ready_at}
 use Rattle.trigger_starts.proofs.gather.gather.Goals as goal

@@ -1,8 +1,8 @@
 use Rattle.std.proofs.Common.{◌≡◌, ℕ, Contains, length, take}
 use Rattle.trigger_rules.specs.Formula.{HasAtom, Of}
-use Rattle.trigger_starts.specs.AtomLists.{HasAtoms, atoms_at}
-use Rattle.trigger_starts.specs.Rules.{ruled}
-use Rattle.trigger_starts.specs.Truth.{Started}
+use Rattle.trigger_starts.specs.inner.AtomLists.{HasAtoms, atoms_at}
+use Rattle.trigger_starts.specs.inner.Rules.{ruled}
+use Rattle.trigger_starts.specs.inner.Truth.{Started}
 use Rattle.trigger_starts.proofs.gather.gather.Given as goal
 
 abbrev pub invariant-loop-step : goal.invariant-loop-step

@@ -1,5 +1,5 @@
 use Rattle.std.proofs.Common.{◌≡◌, take_all, sym, subst, ◌∙◌, arith}
-use Rattle.trigger_starts.specs.Rules.{AreClosed, rules_of}
+use Rattle.trigger_starts.specs.inner.Rules.{AreClosed, rules_of}
 use Rattle.trigger_starts.proofs.Orders.{closed, count}
 use Rattle.trigger_starts.proofs.Tables.{rules_more}
 use Rattle.trigger_starts.proofs.listed.rules.Goals as goal

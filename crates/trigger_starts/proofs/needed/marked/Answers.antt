@@ -2,8 +2,8 @@ use Rattle.std.proofs.Common.{◌≡◌, ℕ, ◌-◌, ◌<◌, ◌≤◌, Bool,
 use Rattle.std.proofs.lemmas.List.{take_at}
 use Rattle.std.proofs.lemmas.Option.{slice_get_read}
 use Rattle.std.specs.Prelude.{IsTrue}
-use Rattle.trigger_starts.specs.Rules.{ArgumentsBelow, UsedMarked, is_marked}
-use Rattle.trigger_starts.proofs.AtomLists.{here}
+use Rattle.trigger_starts.specs.inner.Rules.{ArgumentsBelow, UsedMarked, is_marked}
+use Rattle.tsl_value.proofs.Lists.{here}
 use Rattle.trigger_starts.proofs.Meaning.{ready_at}
 use Rattle.trigger_starts.proofs.Marking.{all_closed, closed_more}
 use Rattle.trigger_starts.proofs.needed.marked.Goals as goal

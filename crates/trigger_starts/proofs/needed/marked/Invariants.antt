@@ -1,6 +1,6 @@
 use Rattle.std.proofs.Common.{◌≡◌, ℕ, ◌<◌, ◌≤◌, get_or, length}
 use Rattle.std.specs.Prelude.{IsTrue}
-use Rattle.trigger_starts.specs.Rules.{UsedMarked, is_marked}
+use Rattle.trigger_starts.specs.inner.Rules.{UsedMarked, is_marked}
 use Rattle.trigger_starts.proofs.needed.marked.Given as goal
 
 abbrev pub invariant-loop-index : goal.invariant-loop-index

@@ -1,7 +1,7 @@
 use Rattle.std.proofs.Common.{◌≡◌, ℕ, ◌+◌, false, List, [], Contains, take, take_all, get_or, sym, subst, ◌∙◌, arith}
 use Rattle.std.proofs.lemmas.List.{get_or_default}
 use Rattle.std.specs.Prelude.{IsTrue}
-use Rattle.trigger_starts.specs.Rules.{AreReady, is_marked}
+use Rattle.trigger_starts.specs.inner.Rules.{AreReady, is_marked}
 use Rattle.trigger_starts.proofs.Meaning.{ready_at, step_below}
 use Rattle.trigger_starts.proofs.Marking.{ready_next, there_next, there_same, from_next, from_same}
 use Rattle.trigger_starts.proofs.needed.needed.Goals as goal

@@ -1,6 +1,6 @@
 use Rattle.std.proofs.Common.{ℕ, [], Contains, take}
 use Rattle.std.specs.Prelude.{IsTrue}
-use Rattle.trigger_starts.specs.Rules.{AreReady, is_marked}
+use Rattle.trigger_starts.specs.inner.Rules.{AreReady, is_marked}
 use Rattle.trigger_starts.proofs.needed.needed.Given as goal
 
 abbrev pub invariant-loop-step : goal.invariant-loop-step

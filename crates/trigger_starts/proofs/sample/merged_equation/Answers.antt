@@ -3,7 +3,7 @@ use Rattle.std.proofs.lemmas.Result.{IfOk-weaker}
 use Rattle.std.specs.Prelude.{slice_get}
 use Rattle.flat_core.specs.declared.equation.Op.TheVariants as op
 use Rattle.flat_core.specs.Typed.{int_type}
-use Rattle.trigger_starts.specs.Sample.{equation_of, growing_equations, merged_equations}
+use Rattle.trigger_starts.specs.inner.Sample.{equation_of, growing_equations, merged_equations}
 use Rattle.trigger_starts.proofs.MergedLemmas.{chain_at, growing_at}
 use Rattle.trigger_starts.proofs.sample.merged_equation.Goals as goal
 

@@ -1,8 +1,9 @@
 use Rattle.std.proofs.Common.{[], ◌∷◌, ◌++◌, ap, ◌∙◌}
 use Rattle.flat_core.specs.declared.equation.Output.{Output}
 use Rattle.flat_core.specs.System.{System}
-use Rattle.trigger_starts.specs.Sample.{sample_equations}
-use Rattle.trigger_starts.proofs.SampleLemmas.{one_more, sample_complete}
+use Rattle.trigger_starts.specs.inner.Sample.{sample_equations}
+use Rattle.tsl_value.proofs.Lists.{one_more}
+use Rattle.trigger_starts.proofs.SampleLemmas.{sample_complete}
 use Rattle.trigger_starts.proofs.sample.sample.Goals as goal
 
 pub loop-n-preserved : goal.loop-n-preserved

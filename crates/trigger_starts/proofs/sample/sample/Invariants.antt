@@ -1,5 +1,5 @@
 use Rattle.std.proofs.Common.{◌≡◌, take, []}
-use Rattle.trigger_starts.specs.Sample.{sample_equations}
+use Rattle.trigger_starts.specs.inner.Sample.{sample_equations}
 use Rattle.trigger_starts.proofs.sample.sample.Given as goal
 
 abbrev pub invariant-loop-n : goal.invariant-loop-n

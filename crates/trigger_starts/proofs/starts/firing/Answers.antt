@@ -1,8 +1,8 @@
 use Rattle.std.proofs.Common.{◌≡◌, ℕ, Bool, List, [], length, take_all, get_or, refl, sym, ap, subst, ◌∙◌, arith, length-set}
 use Rattle.std.proofs.lemmas.Option.{slice_get_read}
-use Rattle.trigger_starts.specs.Kept.{AreFiring}
-use Rattle.trigger_starts.specs.Rules.{ArgumentsBelow, is_marked}
-use Rattle.trigger_starts.specs.Truth.{start_alone, value_by}
+use Rattle.trigger_starts.specs.inner.Kept.{AreFiring}
+use Rattle.trigger_starts.specs.inner.Rules.{ArgumentsBelow, is_marked}
+use Rattle.trigger_starts.specs.inner.Truth.{start_alone, value_by}
 use Rattle.trigger_starts.proofs.Meaning.{firing_next, ready_at}
 use Rattle.trigger_starts.proofs.starts.firing.Goals as goal
 

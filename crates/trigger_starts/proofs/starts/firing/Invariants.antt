@@ -1,5 +1,5 @@
 use Rattle.std.proofs.Common.{◌≡◌, Bool, List, length, take}
-use Rattle.trigger_starts.specs.Kept.{AreFiring}
+use Rattle.trigger_starts.specs.inner.Kept.{AreFiring}
 use Rattle.trigger_starts.proofs.starts.firing.Given as goal
 
 abbrev pub invariant-loop-step : goal.invariant-loop-step

@@ -1,8 +1,8 @@
 use Rattle.std.proofs.Common.{◌≡◌, ℕ, Bool, false, List, length, replicate, sym, subst, ◌∙◌, arith}
 use mathlib.Core.Logic.Iff.{trans}
-use Rattle.trigger_starts.specs.AtomLists.{atoms_at}
-use Rattle.trigger_starts.specs.Rules.{is_marked}
-use Rattle.trigger_starts.specs.Truth.{Started}
+use Rattle.trigger_starts.specs.inner.AtomLists.{atoms_at}
+use Rattle.trigger_starts.specs.inner.Rules.{is_marked}
+use Rattle.trigger_starts.specs.inner.Truth.{Started}
 use Rattle.trigger_starts.proofs.Starting.{none_started, starts_are, starts_by}
 use Rattle.trigger_starts.proofs.starts.starts.Goals as goal
 

@@ -1,8 +1,8 @@
 use Rattle.std.proofs.Common.{◌≡◌, ℕ, ◌<◌, ◌↔◌, length}
-use Rattle.trigger_starts.specs.AtomLists.{atoms_at}
-use Rattle.trigger_starts.specs.Kept.{StartsBy}
-use Rattle.trigger_starts.specs.Rules.{is_marked}
-use Rattle.trigger_starts.specs.Truth.{Started}
+use Rattle.trigger_starts.specs.inner.AtomLists.{atoms_at}
+use Rattle.trigger_starts.specs.inner.Kept.{StartsBy}
+use Rattle.trigger_starts.specs.inner.Rules.{is_marked}
+use Rattle.trigger_starts.specs.inner.Truth.{Started}
 use Rattle.trigger_starts.proofs.starts.starts.Given as goal
 
 abbrev pub invariant-loop-index : goal.invariant-loop-index

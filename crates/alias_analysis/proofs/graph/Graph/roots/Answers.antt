@@ -1,11 +1,11 @@
 use Rattle.std.proofs.Common.{◌≡◌, ℕ, ◌↔◌, length, refl, subst}
 use Rattle.std.specs.Prelude.{IsTrue}
 use Rattle.std.proofs.lemmas.Result.{IfOk-weaker}
-use Rattle.flat_core.specs.Marks.{has_mark}
+use Rattle.flat_core.specs.inner.Marks.{has_mark}
 use Rattle.flat_core.specs.Members.{is_in}
 use Rattle.flat_core.specs.System.{System}
 use Rattle.alias_rules.specs.Roots.{IsRoot}
-use Rattle.alias_analysis.specs.Marking.{AreJust}
+use Rattle.alias_analysis.specs.inner.Marking.{AreJust}
 use Rattle.alias_analysis.proofs.Rooting.{set_members}
 use Rattle.alias_analysis.proofs.graph.Graph.roots.Goals as goal
 

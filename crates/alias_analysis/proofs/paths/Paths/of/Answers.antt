@@ -1,7 +1,7 @@
 use Rattle.std.proofs.Common.{◌+◌, length, sym, subst}
 use Rattle.translation_order.specs.Order.{AreOfSteps}
 use Rattle.alias_rules.specs.Roots.{Carries}
-use Rattle.alias_analysis.specs.Pairs.{ArePairs, AreTurned}
+use Rattle.alias_analysis.specs.inner.Pairs.{ArePairs, AreTurned}
 use Rattle.alias_analysis.proofs.Rooting.{carriers_of_steps, turned_of_steps}
 use Rattle.alias_analysis.proofs.Sharers.{flows_of_steps}
 use Rattle.alias_analysis.proofs.paths.Paths.of.Goals as goal

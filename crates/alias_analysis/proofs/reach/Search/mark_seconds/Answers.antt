@@ -1,8 +1,8 @@
 use Rattle.std.proofs.Common.{◌≡◌, [], ◌∷◌, suc, ◌-◌, ◌<◌, length, drop, slice_index_or, sym, subst, ◌∙◌, arith}
-use Rattle.flat_core.specs.Marks.{Marked}
+use Rattle.flat_core.specs.inner.Marks.{Marked}
 use Rattle.flat_core.proofs.MarkLemmas.{marked_none}
-use Rattle.translation_order.specs.Taking.{seconds_of}
-use Rattle.alias_analysis.specs.Search.{marks_of, first_at, IsAfterLast}
+use Rattle.translation_order.specs.inner.Taking.{seconds_of}
+use Rattle.alias_analysis.specs.inner.Search.{marks_of, first_at, IsAfterLast}
 use Rattle.alias_analysis.proofs.Chaining.{marked_front, skipped, one_more, from_last}
 use Rattle.alias_analysis.proofs.reach.Search.mark_seconds.Goals as goal
 

@@ -1,7 +1,7 @@
 use Rattle.std.proofs.Common.{◌≡◌, ℕ, suc, ◌≤◌, length, drop}
-use Rattle.flat_core.specs.Marks.{Marked}
-use Rattle.translation_order.specs.Taking.{seconds_of}
-use Rattle.alias_analysis.specs.Search.{marks_of, AreListed, first_at}
+use Rattle.flat_core.specs.inner.Marks.{Marked}
+use Rattle.translation_order.specs.inner.Taking.{seconds_of}
+use Rattle.alias_analysis.specs.inner.Search.{marks_of, AreListed, first_at}
 use Rattle.alias_analysis.proofs.reach.Search.mark_seconds.Given as goal
 
 abbrev pub invariant-loop-next : goal.invariant-loop-next

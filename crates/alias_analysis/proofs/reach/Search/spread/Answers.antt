@@ -1,9 +1,10 @@
 use Rattle.std.proofs.Common.{refl}
 use Rattle.flat_core.specs.declared.reach.Marks.{Marks}
 use Rattle.translation_order.specs.Order.{Before}
-use Rattle.translation_order.specs.Taking.{seconds_of}
-use Rattle.alias_analysis.specs.Search.{marks_of}
-use Rattle.alias_analysis.proofs.Spreads.{spreading_none, spreading_more, in_second, second_in}
+use Rattle.translation_order.specs.inner.Taking.{seconds_of}
+use Rattle.alias_analysis.specs.inner.Search.{marks_of}
+use Rattle.flat_core.proofs.Spreads.{spreading_none, spreading_more}
+use Rattle.alias_analysis.proofs.Spreads.{in_second, second_in}
 use Rattle.alias_analysis.proofs.reach.Search.spread.Goals as goal
 
 pub loop-number-init : goal.loop-number-init

@@ -5,7 +5,7 @@ use Rattle.flat_core.specs.declared.equation.Output.{Output}
 use Rattle.flat_core.specs.Members.{is_in}
 use Rattle.flat_core.specs.Needed.{IsReached}
 use Rattle.flat_core.specs.System.{System}
-use Rattle.flat_core.specs.Marks.{ArgumentsThere}
+use Rattle.flat_core.specs.inner.Marks.{ArgumentsThere}
 use Rattle.flat_core.specs.Complete.{IsComplete}
 use Rattle.flat_core.proofs.Finished.{arguments_there, finished_flat, finished_needed}
 use Rattle.flat_core.proofs.builder.FlatBuilder.finish.Goals as goal

@@ -1,6 +1,6 @@
 use Rattle.std.proofs.Common.{[], map, sym, ap, subst, ◌∙◌}
 use Rattle.flat_core.specs.Complete.{IsFlat}
-use Rattle.flat_core.specs.Marks.{ArgumentsThere}
+use Rattle.flat_core.specs.inner.Marks.{ArgumentsThere}
 use Rattle.flat_core.specs.Renumbered.{with_new_args, renumbered}
 use Rattle.flat_core.specs.System.{System}
 use Rattle.flat_core.proofs.Finished.{arguments_there}

@@ -1,6 +1,6 @@
 use Rattle.std.proofs.Common.{◌≡◌, ◌<◌, [], ◌∷◌, length, map, get_or, sym, ap, subst, ◌∙◌, arith}
 use Rattle.std.proofs.lemmas.List.{length-map, get_or-map}
-use Rattle.flat_core.specs.Marks.{Marked}
+use Rattle.flat_core.specs.inner.Marks.{Marked}
 use Rattle.flat_core.specs.Renumbered.{new_number}
 use Rattle.flat_core.proofs.MarkLemmas.{numbers_more}
 use Rattle.flat_core.proofs.reach.Marks.mark_all.Goals as goal

@@ -1,5 +1,5 @@
 use Rattle.std.proofs.Common.{map, take}
-use Rattle.flat_core.specs.Marks.{Marked}
+use Rattle.flat_core.specs.inner.Marks.{Marked}
 use Rattle.flat_core.specs.Renumbered.{new_number}
 use Rattle.flat_core.proofs.reach.Marks.mark_all.Given as goal
 

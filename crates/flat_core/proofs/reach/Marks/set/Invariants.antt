@@ -2,7 +2,7 @@ use Rattle.std.proofs.Common.{◌≡◌, ℕ, ◌&&◌}
 use Rattle.std.specs.Prelude.{nat_lt}
 use Rattle.std.specs.List.Sorted.{IsStrictlyIncreasing}
 use Rattle.flat_core.specs.Members.{is_in}
-use Rattle.flat_core.specs.Marks.{is_marked}
+use Rattle.flat_core.specs.inner.Marks.{is_marked}
 use Rattle.flat_core.proofs.reach.Marks.set.Given as goal
 
 abbrev pub invariant-loop-index : goal.invariant-loop-index

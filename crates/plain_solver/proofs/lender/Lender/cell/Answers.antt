@@ -2,7 +2,7 @@ use Rattle.std.proofs.Common.{◌≡◌, ℕ, List, get_or, Option, Some, None, 
 use Rattle.std.specs.Prelude.{unwrap_or}
 use Rattle.std.specs.Option.{option_map}
 use Rattle.tsl_value.specs.View.{View}
-use Rattle.plain_solver.specs.Lent.{aggregate_in}
+use Rattle.plain_solver.specs.inner.Lent.{aggregate_in}
 use Rattle.plain_solver.proofs.LentLemmas.{lent_cell}
 use Rattle.plain_solver.proofs.lender.Lender.cell.Goals as goal
 

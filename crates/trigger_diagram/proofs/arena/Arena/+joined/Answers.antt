@@ -1,7 +1,7 @@
 use Rattle.std.proofs.Common.{sym, ap, ◌∙◌}
 use Rattle.std.specs.Option.{option_copied}
 use Rattle.trigger_diagram.proofs.Nodes.{grows_on, grows_same}
-use Rattle.trigger_diagram.proofs.Joining.{settled_is, join_behind, joined_is, known_more, nodes_on}
+use Rattle.trigger_diagram.proofs.Joining.{settled_is, join_after, joined_is, known_more, nodes_on}
 use Rattle.trigger_diagram.proofs.arena.Arena.+joined.Goals as goal
 
 pub returns-in-Some-clause-exact : goal.returns-in-Some-clause-exact
@@ -10,15 +10,15 @@ returns-in-Some-clause-exact t c = settled_is c.args.self.now c.args.pair c.requ
 pub returns-in-Some-get-clause-exact : goal.returns-in-Some-get-clause-exact
 returns-in-Some-get-clause-exact t c = (c.requires.known c.args.pair c.in-Some-get.node.now (sym c.get.ensures.value ∙ ap option_copied c.in-Some-get.is)).1
 
-pub fork-requires-clause-low_behind : goal.fork-requires-clause-low_behind
-fork-requires-clause-low_behind t c =
+pub fork-requires-clause-low_after : goal.fork-requires-clause-low_after
+fork-requires-clause-low_after t c =
     let s = c.split-split.ensures in
-    join_behind c.args.connective c.args.self.now c.joined.new.self c.joined-2.new.self c.split-split.result.variable c.split-split.result.low c.in_ok-low.low c.joined.ensures.grows c.joined-2.ensures.grows s.low s.low_behind c.in_ok-low.ensures.exact
+    join_after c.args.connective c.args.self.now c.joined.new.self c.joined-2.new.self c.split-split.result.variable c.split-split.result.low c.in_ok-low.low c.joined.ensures.grows c.joined-2.ensures.grows s.low s.low_after c.in_ok-low.ensures.exact
 
-pub fork-requires-clause-high_behind : goal.fork-requires-clause-high_behind
-fork-requires-clause-high_behind t c =
+pub fork-requires-clause-high_after : goal.fork-requires-clause-high_after
+fork-requires-clause-high_after t c =
     let s = c.split-split.ensures in
-    join_behind c.args.connective c.args.self.now c.joined-2.new.self c.joined-2.new.self c.split-split.result.variable c.split-split.result.high c.in_ok-high.high (grows_on c.args.self.now c.joined.new.self c.joined-2.new.self c.joined.ensures.grows c.joined-2.ensures.grows) (grows_same c.joined-2.new.self) s.high s.high_behind c.in_ok-high.ensures.exact
+    join_after c.args.connective c.args.self.now c.joined-2.new.self c.joined-2.new.self c.split-split.result.variable c.split-split.result.high c.in_ok-high.high (grows_on c.args.self.now c.joined.new.self c.joined-2.new.self c.joined.ensures.grows c.joined-2.ensures.grows) (grows_same c.joined-2.new.self) s.high s.high_after c.in_ok-high.ensures.exact
 
 pub returns-clause-exact : goal.returns-clause-exact
 returns-clause-exact t c =

@@ -1,8 +1,8 @@
 use Rattle.std.proofs.Common.{take}
 use Rattle.std.specs.List.{list_all}
-use Rattle.trigger_diagram.specs.Arena.{Grows}
-use Rattle.trigger_diagram.specs.Made.{value_at}
-use Rattle.trigger_diagram.specs.Truth.{Tells}
+use Rattle.trigger_diagram.specs.inner.Arena.{Grows}
+use Rattle.trigger_diagram.specs.inner.Made.{value_at}
+use Rattle.trigger_diagram.specs.inner.Truth.{Tells}
 use Rattle.trigger_diagram.proofs.arena.Arena.all.Given as goal
 
 abbrev pub invariant-loop-arg : goal.invariant-loop-arg

@@ -1,6 +1,6 @@
 use Rattle.std.proofs.Common.{◌≡◌, ◌+◌, ◌-◌, sym, subst, ◌∙◌, ap, arith}
 use Rattle.std.specs.Option.{option_copied}
-use Rattle.trigger_diagram.specs.Arena.{IsSound}
+use Rattle.trigger_diagram.specs.inner.Arena.{IsSound}
 use Rattle.trigger_diagram.proofs.arena.Arena.branch.Goals as goal
 
 pub returns : goal.returns

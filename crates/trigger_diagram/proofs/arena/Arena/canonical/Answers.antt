@@ -1,5 +1,5 @@
 use Rattle.std.proofs.Common.{subst}
-use Rattle.trigger_diagram.specs.Arena.{IsArena}
+use Rattle.trigger_diagram.specs.inner.Arena.{IsArena}
 use Rattle.trigger_diagram.proofs.Once.{all_canonical}
 use Rattle.trigger_diagram.proofs.arena.Arena.canonical.Goals as goal
 

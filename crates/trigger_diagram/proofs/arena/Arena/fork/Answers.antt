@@ -1,9 +1,9 @@
 use Rattle.std.proofs.Common.{◌≡◌, List, subst, arith}
 use Rattle.std.specs.Result.{OnOk, OnErr}
 use Rattle.indexmap.specs.IndexSet.{insert_key}
-use Rattle.trigger_diagram.specs.Arena.{IsArena, same_branch}
+use Rattle.trigger_diagram.specs.inner.Arena.{IsArena, same_branch}
 use Rattle.trigger_diagram.specs.declared.arena.Branch.{Branch}
-use Rattle.trigger_diagram.proofs.Nodes.{after, arena_after, grows_after, value_fork, behind_fork}
+use Rattle.trigger_diagram.proofs.Nodes.{after, arena_after, grows_after, value_fork, after_fork}
 use Rattle.trigger_diagram.proofs.arena.Arena.fork.Goals as goal
 
 pub invariant_of-self-2 : goal.invariant_of-self-2
@@ -11,7 +11,7 @@ invariant_of-self-2 c =
     let b : Branch = record { variable = c.args.variable; low = c.args.low; high = c.args.high } in
     let ok = subst (λ (l : List Branch). OnOk c.insert_full.result (c.insert_full.new.self.keys ≡ insert_key same_branch l b)) c.self.view_is c.insert_full.ensures.keys in
     let err = subst (λ (l : List Branch). OnErr c.insert_full.result (c.insert_full.new.self.keys ≡ l)) c.self.view_is c.insert_full.ensures.err in
-    arena_after c.args.self.now c.insert_full.new.self.keys b (subst IsArena c.self.view_is c.self.invariant) c.requires.low c.requires.high (λ e. let f = c.if-low-high.false in omega arith) c.requires.low_behind c.requires.high_behind
+    arena_after c.args.self.now c.insert_full.new.self.keys b (subst IsArena c.self.view_is c.self.invariant) c.requires.low c.requires.high (λ e. let f = c.if-low-high.false in omega arith) c.requires.low_after c.requires.high_after
     c.insert_full.ensures.unique (after c.insert_full.result c.args.self.now c.insert_full.new.self.keys b ok err)
 
 pub returns-clause-grows : goal.returns-clause-grows
@@ -31,4 +31,4 @@ pub returns-clause-behind : goal.returns-clause-behind
 returns-clause-behind c =
     let b : Branch = record { variable = c.args.variable; low = c.args.low; high = c.args.high } in
     let it = c.in_ok-index.ensures.stored in
-    behind_fork c.args.self.now c.insert_full.new.self.keys b it.0 c.in_ok-index.index (invariant_of-self-2 c) (returns-clause-grows c) c.requires.low c.requires.high it.1 it.2
+    after_fork c.args.self.now c.insert_full.new.self.keys b it.0 c.in_ok-index.index (invariant_of-self-2 c) (returns-clause-grows c) c.requires.low c.requires.high it.1 it.2

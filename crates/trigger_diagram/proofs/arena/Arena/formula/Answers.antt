@@ -1,4 +1,4 @@
-use Rattle.trigger_diagram.specs.Made.{value_at}
+use Rattle.trigger_diagram.specs.inner.Made.{value_at}
 use Rattle.trigger_diagram.proofs.Truths.{never_told}
 use Rattle.trigger_diagram.proofs.arena.Arena.formula.Goals as goal
 

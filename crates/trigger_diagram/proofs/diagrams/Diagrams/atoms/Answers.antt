@@ -1,8 +1,8 @@
 use Rattle.std.proofs.Common.{ℕ, ◌<◌, length, false}
 use Rattle.std.proofs.lemmas.Result.{IfOk-weaker}
-use Rattle.trigger_starts.specs.AtomLists.{AreDifferent, atoms_at}
-use Rattle.trigger_starts.specs.Kept.{AreAtomsOf}
-use Rattle.trigger_diagram.specs.Kept.{HaveAtoms}
+use Rattle.trigger_starts.specs.inner.AtomLists.{AreDifferent, atoms_at}
+use Rattle.trigger_starts.specs.inner.Kept.{AreAtomsOf}
+use Rattle.trigger_diagram.specs.inner.Kept.{HaveAtoms}
 use Rattle.trigger_diagram.proofs.Keeping.{atoms_told, different_told}
 use Rattle.trigger_diagram.proofs.diagrams.Diagrams.atoms.Goals as goal
 

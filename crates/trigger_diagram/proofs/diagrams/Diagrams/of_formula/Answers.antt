@@ -1,6 +1,6 @@
 use Rattle.std.proofs.Common.{ℕ, ◌<◌, List, Contains, length, drop, sym, ap, subst, ◌∙◌}
 use Rattle.std.proofs.lemmas.List.{take_at}
-use Rattle.trigger_diagram.specs.Kept.{Kept}
+use Rattle.trigger_diagram.specs.inner.Kept.{Kept}
 use Rattle.trigger_diagram.proofs.Keeping.{formula_told, keeps_told, once_told}
 use Rattle.trigger_diagram.proofs.diagrams.Diagrams.of_formula.Goals as goal
 

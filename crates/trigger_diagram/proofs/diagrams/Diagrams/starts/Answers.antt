@@ -2,7 +2,7 @@ use Rattle.std.proofs.Common.{◌<◌, ◌↔◌, false, length, sym, ap, subst,
 use Rattle.std.specs.Prelude.{IsTrue}
 use Rattle.trigger_rules.specs.Question.{Starts}
 use Rattle.trigger_starts.proofs.Systems.{read_as}
-use Rattle.trigger_diagram.specs.Kept.{Kept}
+use Rattle.trigger_diagram.specs.inner.Kept.{Kept}
 use Rattle.trigger_diagram.proofs.diagrams.Diagrams.starts.Goals as goal
 
 pub returns : goal.returns

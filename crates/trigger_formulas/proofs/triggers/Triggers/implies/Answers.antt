@@ -5,8 +5,8 @@ use Rattle.std.proofs.lemmas.Result.{IfOk-weaker}
 use Rattle.flat_core.specs.System.{System}
 use Rattle.trigger_rules.specs.Question.{Implies}
 use Rattle.trigger_starts.specs.declared.rules.Rule.{Rule}
-use Rattle.trigger_diagram.specs.Kept.{Follows}
-use Rattle.trigger_formulas.specs.Kept.{AreTriggersOf}
+use Rattle.trigger_diagram.specs.inner.Kept.{Follows}
+use Rattle.trigger_formulas.specs.inner.Kept.{AreTriggersOf}
 use Rattle.trigger_formulas.proofs.Answering.{first_node, implies_few, implies_many, node_exact, node_there, pair_has, second_node, some_at}
 use Rattle.trigger_formulas.proofs.triggers.Triggers.implies.Goals as goal
 

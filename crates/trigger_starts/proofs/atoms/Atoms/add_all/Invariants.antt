@@ -1,6 +1,6 @@
 use Rattle.std.proofs.Common.{take}
 use Rattle.std.specs.List.{Contains}
-use Rattle.trigger_starts.specs.AtomLists.{Adds}
+use Rattle.trigger_starts.specs.inner.AtomLists.{Adds}
 use Rattle.trigger_starts.proofs.atoms.Atoms.add_all.Given as goal
 
 abbrev pub invariant-loop-atom : goal.invariant-loop-atom

@@ -1,0 +1,3 @@
+pub mod Solved
+pub mod Laws
+pub mod Sample

@@ -1,0 +1,4 @@
+pub mod Beginning
+pub mod Blocks
+pub mod Choosing
+pub mod Laws

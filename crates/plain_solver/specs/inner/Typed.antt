@@ -1,0 +1,20 @@
+-- Values of the equations' types.
+use Rattle.std.specs.Prelude.{◌≡◌, ℕ, List, map, Some, IsTrue}
+use Rattle.tsl_value.specs.declared.scalar.ValueType.{ValueType}
+use Rattle.tsl_value.specs.View.{View, is_of}
+use Rattle.flat_core.specs.declared.equation.Equation.{Equation}
+use Rattle.flat_core.specs.Case.{Streams}
+use Rattle.flat_core.specs.Stream.{event}
+use Rattle.flat_core.specs.System.{System, equation}
+use Rattle.flat_core.specs.Typed.{IsTyped}
+use Rattle.flat_core.specs.inner.TypedEvents.{AreOf}
+
+-- each event of each stream is of its equation's type
+pub record AreTyped (s : System) (z : Streams) : Type 0 where
+  pub each : (i : ℕ) (e : Equation) → equation s i ≡ Some e → (t : ℕ) (v : View) → event (z i t) ≡ Some v → IsTrue (is_of e.of v)
+
+-- the events of an equation's arguments at a time are of types that its operation takes
+pub record TakesTyped (z : Streams) (e : Equation) (t : ℕ) : Type 0 where
+  pub types : List ValueType
+  pub typed : IsTyped e.op types e.of
+  pub values : AreOf types (map (λ a. event (z a t)) e.args)

@@ -1,0 +1,7 @@
+pub mod Tree
+pub mod Arena
+pub mod Join
+pub mod Truth
+pub mod Made
+pub mod Kept
+pub mod Ways

@@ -1,0 +1,5 @@
+pub mod Rules
+pub mod AtomLists
+pub mod Truth
+pub mod Kept
+pub mod Sample
