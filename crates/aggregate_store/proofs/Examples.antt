@@ -1,6 +1,6 @@
 -- Worked rows of the definitions.
 use Rattle.std.proofs.Common.{◌≡◌, true, false, [], ◌∷◌, refl}
-use Rattle.aggregate_store.specs.Stored.{counted, is_listed}
+use Rattle.aggregate_store.specs.inner.Stored.{counted, is_listed}
 
 grows : counted (5 ∷ 7 ∷ []) 1 3 ≡ 5 ∷ 10 ∷ []
 grows = refl

@@ -1,23 +1,20 @@
 -- The finite maps and sets that ordered collections hold.
-use Rattle.std.proofs.Common.{◌≡◌, suc, ◌+◌, Bool, true, false, ◌||◌, ◌&&◌, not, cond, List, [], ◌∷◌, Option, Some, None, map, length, refl, sym, ap, subst, ◌∙◌, arith}
+use Rattle.std.proofs.Common.{◌≡◌, ◌+◌, Bool, true, false, ◌||◌, ◌&&◌, not, cond, List, [], ◌∷◌, Some, None, map, length, refl, sym, ap, subst, ◌∙◌, arith}
 use Rattle.std.specs.BTreeMap as tree
 use Rattle.std.specs.BTreeSet as sorted
-use Rattle.std.specs.BTreeMap.{BTreeMap, is_at}
+use Rattle.std.specs.BTreeMap.{BTreeMap}
 use Rattle.std.specs.BTreeSet.{BTreeSet}
 use Rattle.std.specs.FinMap as finite_map
 use Rattle.std.specs.FinMap.{FinMap, IsAntisymmetric}
 use Rattle.std.specs.FinSet as set
-use Rattle.std.specs.Cmp.{Equal-is, IsTotalOrder, eq_by_cmp_equiv}
-use Rattle.std.specs.Map.{lookup, keys_of}
-use Rattle.std.specs.List.{filter, list_any, AllByRecursion}
+use Rattle.std.specs.Cmp.{IsTotalOrder, eq_by_cmp_equiv}
+use Rattle.std.specs.Map.{keys_of}
+use Rattle.std.specs.List.{list_any, AllByRecursion}
 use Rattle.std.specs.List.Sorted.{IsStrictlySortedBy}
-use Rattle.std.specs.Option.{option_map}
 use Rattle.std.specs.Ordering.{eq_by_cmp}
 use Rattle.std.specs.declared.cmp.Ordering.{Ordering}
-use Rattle.std.specs.declared.cmp.Ordering.TheVariants.{Less, Equal}
-use Rattle.std.proofs.lemmas.Map.Entries.{lookup-filter-keys}
+use Rattle.std.specs.declared.cmp.Ordering.TheVariants.{Less}
 use Rattle.std.proofs.lemmas.Map.Keys.{IsDistinct-from_sorted, IsDistinct-head, Less-from_sorted, sorted_tail}
-use Rattle.std.proofs.lemmas.Map.Made.{lookup-map_values}
 use Rattle.lift_func.proofs.FiniteMaps.{entries-empty, get-of_entries, is_remove}
 
 -- ---- one change
@@ -116,48 +113,3 @@ module _ {K : Type 0} {R : K → K → Ordering} (o : IsTotalOrder R) where
         set.contains-from_list o n.keys q ∙ updates.0 q ∙ not_and (eq_by_cmp R k q) _
         ∙ ap (λ b. not b && list_any (eq_by_cmp R q) s.keys) ((eq_by_cmp_equiv o).symm k q)
         ∙ sym (set.contains-remove o (set.from_list s.keys) k q ∙ ap (λ b. not (eq_by_cmp R q k) && b) (set.contains-from_list o s.keys q)))
-
-  -- ---- a map whose values are seen by a function
-
-  module _ {X Y : Type 0} (f : X → Y) where
-    abbrev viewed : List (K × X) → List (K × Y)
-    viewed es = map (λ e. (e.0, f e.1)) es
-
-    pub keys-viewed : (es : List (K × X)) → keys_of (viewed es) ≡ keys_of es
-    keys-viewed [] = refl
-    keys-viewed (e ∷ es) = ap (λ ks. e.0 ∷ ks) (keys-viewed es)
-
-    pub get-viewed : (m : BTreeMap K X) (q : K) → finite_map.get (finite_map.from_entries {R = R} (viewed m.entries)) q ≡ option_map f (tree.get R m q)
-    get-viewed m q = get-of_entries o (viewed m.entries) q ∙ lookup-map_values f (is_at (R q)) m.entries
-
-    some_viewed : (b : Bool) (v : X) (w : Option X) → option_map f (cond b (Some v) w) ≡ cond b (Some (f v)) (option_map f w)
-    some_viewed true v w = refl
-    some_viewed false v w = refl
-
-    pub viewed-insert : IsAntisymmetric R → (m n : BTreeMap K X) (k : K) (v : X) → tree.Updates R m n k (Some v) → finite_map.from_entries {R = R} (viewed n.entries) ≡ finite_map.insert (finite_map.from_entries (viewed m.entries)) k (f v)
-    viewed-insert same m n k v updates = is_insert o same _ _ k (f v) (λ q.
-        get-viewed n q ∙ ap (option_map f) (updates.0 q) ∙ some_viewed (eq_by_cmp R k q) v (tree.get R m q)
-        ∙ ap (cond (eq_by_cmp R k q) (Some (f v))) (sym (get-viewed m q)))
-
-    none_viewed : (b : Bool) (w : Option X) → option_map f (cond b w None) ≡ cond b (option_map f w) None
-    none_viewed true w = refl
-    none_viewed false w = refl
-
-    pub viewed-retain : IsAntisymmetric R → (m n : BTreeMap K X) (p : K → Bool) → n.entries ≡ filter (λ e. p e.0) m.entries → finite_map.from_entries {R = R} (viewed n.entries) ≡ finite_map.retain_keys (finite_map.from_entries (viewed m.entries)) p
-    viewed-retain same m n p kept =
-        let alike : (q x : K) → R q x ≡ Equal → p x ≡ p q = λ q x tied. ap p (sym (same q x tied)) in
-        finite_map.same_map o same _ _ (λ q.
-        get-viewed n q ∙ ap (λ es. option_map f (lookup (is_at (R q)) es)) kept
-        ∙ ap (option_map f) (lookup-filter-keys (is_at (R q)) p (p q) (λ x tied. alike q x ((Equal-is (R q x)).0 tied)) m.entries)
-        ∙ none_viewed (p q) (tree.get R m q)
-        ∙ ap (λ w. cond (p q) w None) (sym (get-viewed m q))
-        ∙ sym (finite_map.get-retain_keys (finite_map.from_entries (viewed m.entries)) p q (alike q)))
-
-    same_length : (es : List (K × X)) → length (viewed es) ≡ length es
-    same_length [] = refl
-    same_length (e ∷ es) = ap suc (same_length es)
-
-    pub len-viewed : (m : BTreeMap K X) → tree.IsOrdered R m → finite_map.len (finite_map.from_entries {R = R} (viewed m.entries)) ≡ length m.entries
-    len-viewed m ordered =
-        len-of_entries (viewed m.entries) (subst (IsStrictlySortedBy R) (sym (keys-viewed m.entries)) ordered)
-        ∙ same_length m.entries

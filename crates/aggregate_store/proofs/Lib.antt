@@ -1,8 +1,7 @@
 mod Examples
 pub mod FiniteMaps
-pub mod Handles
+pub mod Recent
 pub mod Listed
-pub mod Lent
 pub mod Live
-pub mod Seen
+pub mod Cells
 pub mod Typed

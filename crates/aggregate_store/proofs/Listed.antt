@@ -10,7 +10,7 @@ abbrev pub entry_text : Scalar × Scalar → List ℕ
 entry_text e = scalar_text e.0 ++ (codes " -> " ++ scalar_text e.1)
 
 module _ {X : Type 0} (f : X → List ℕ) where
-  -- what stands behind the first item
+  -- what stands after the first item
   abbrev pub more_text : List X → List ℕ
   more_text xs = flat_map (λ x. codes ", " ++ f x) xs
 

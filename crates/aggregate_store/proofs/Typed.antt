@@ -8,10 +8,10 @@ use Rattle.tsl_value.specs.declared.scalar.Scalar.{Scalar}
 use Rattle.tsl_value.specs.declared.scalar.Scalar.TheVariants as scalar
 use Rattle.tsl_value.specs.declared.scalar.ValueType.{ValueType}
 use Rattle.tsl_value.specs.declared.scalar.ValueType.TheVariants as value_type
-use Rattle.lift_func.specs.Cells.{Cells, FitsKey, view_at}
+use Rattle.lift_func.specs.inner.Cells.{Cells, FitsKey, view_at}
 use Rattle.lift_func.specs.Update.{without_key}
 use Rattle.lift_func.proofs.TypedUpdates.{both, first, second, is_of-empty_set, is_of-empty_map, is_of-with_key, is_of-with_entry, is_of-without_key}
-use Rattle.aggregate_store.specs.Stored.{FitsValue, IsAggregate, empty_view, with_added}
+use Rattle.aggregate_store.specs.inner.Stored.{FitsValue, IsAggregate, empty_view, with_added}
 use Rattle.aggregate_store.proofs.Live.{has_view}
 
 -- a key with what stands beside it fits a type
@@ -33,9 +33,6 @@ is_of-added (value_type.Set k) (Mapped m) key value fits typed = absurd (cc)
 is_of-added (value_type.Map k t) (Plain s) key value fits typed = typed
 is_of-added (value_type.Map k t) (Keyed s) key value fits typed = absurd (cc)
 is_of-added (value_type.Map k t) (Mapped m) key value fits typed = is_of-with_entry k t (Mapped m) key value fits.0 fits.1 typed
-
-pub is_of-removed : (of : ValueType) (v : View) (key : Scalar) → IsTrue (is_of of v) → IsTrue (is_of of (without_key v (Plain key)))
-is_of-removed of v key typed = is_of-without_key of v key typed
 
 weaker : {A : Type 0} (p q : A → Bool) → ((x : A) → IsTrue (p x) → IsTrue (q x)) → (xs : List A) → IsTrue (list_all p xs) → IsTrue (list_all q xs)
 weaker p q gives [] all = refl
@@ -74,4 +71,4 @@ typed_added of old new source handle key value is fits typed =
     typed_new of old new handle (with_added (view_at old source) key value) is (is_of-added of (view_at old source) key value fits typed)
 
 pub typed_removed : (of : ValueType) (old new : Cells) (source handle : ℕ) (key : Scalar) → new ≡ finite_map.insert old handle (without_key (view_at old source) (Plain key)) → IsTrue (is_of of (view_at old source)) → IsTrue (is_of of (view_at new handle))
-typed_removed of old new source handle key is typed = typed_new of old new handle (without_key (view_at old source) (Plain key)) is (is_of-removed of (view_at old source) key typed)
+typed_removed of old new source handle key is typed = typed_new of old new handle (without_key (view_at old source) (Plain key)) is (is_of-without_key of (view_at old source) key typed)

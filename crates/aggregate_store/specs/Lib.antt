@@ -1,3 +1,1 @@
-pub mod Stored
-pub mod CellView
-pub mod Lent
+pub mod inner

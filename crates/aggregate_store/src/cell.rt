@@ -3,24 +3,25 @@
 ghost use Rattle.std.specs.Prelude.{◌≡◌, IfOk, OnOk, OnErr};
 ghost use Rattle.std.specs.Option.{option_copied};
 ghost use Rattle.tsl_value.specs.View.{Plain};
-ghost use Rattle.lift_func.specs.Cells.{has_key, value_at};
+ghost use Rattle.lift_func.specs.inner.Cells.{has_key, value_at};
 ghost use Rattle.lift_func.specs.Update.{size_of, without_key};
-ghost use Rattle.aggregate_store.specs.Stored.{IsAggregate, empty_view, with_added};
+ghost use Rattle.aggregate_store.specs.inner.Stored.{IsAggregate, empty_view, with_added};
 
+use crate::keys::KeySet;
 use std::alloc::Global;
-use std::collections::{BTreeMap, BTreeSet};
+use std::collections::BTreeMap;
 use tsl_value::memory::NoMemory;
 use tsl_value::scalar::{Scalar, ValueType};
 
 /// A set of keys, or a map from keys to scalars.
 #[derive(Drop)]
 pub enum Cell {
-    Set(BTreeSet<Scalar>),
+    Set(KeySet),
     Map(BTreeMap<Scalar, Scalar>),
 }
 
 impl Cell {
-    ghost use Rattle.aggregate_store.specs.CellView.{view_of};
+    ghost use Rattle.aggregate_store.specs.inner.CellView.{view_of};
 
     /// The cell of a type that has no element.
     pub fn empty(alloc: Global, of: ValueType) -> Cell
@@ -29,7 +30,7 @@ impl Cell {
     {
         match of {
             ValueType::Scalar(_) => unreachable!(),
-            ValueType::Set(_) => Cell::Set(BTreeSet::new(alloc)),
+            ValueType::Set(_) => Cell::Set(KeySet::new(alloc)),
             ValueType::Map(_, _) => Cell::Map(BTreeMap::new(alloc)),
         }
     }
@@ -69,7 +70,7 @@ impl Cell {
         ensures { IfOk result (λ cell. view_of cell ≡ view_of self.now) }
     {
         match self {
-            Cell::Set(keys) => Ok(Cell::Set(keys.clone()?)),
+            Cell::Set(keys) => Ok(Cell::Set(keys.copy()?)),
             Cell::Map(entries) => Ok(Cell::Map(entries.clone()?)),
         }
     }
@@ -81,13 +82,27 @@ impl Cell {
     {
         match self {
             Cell::Set(keys) => {
-                keys.insert(key)?;
+                keys.insert(&key)?;
             }
             Cell::Map(entries) => {
                 entries.insert(key, value)?;
             }
         }
         Ok(())
+    }
+
+    /// Adds copies of a key and a value, or puts the value at the key. After `NoMemory` the view is as it was.
+    pub fn add_copied(&mut self, key: &Scalar, value: &Scalar) -> Result<(), NoMemory>
+        ensures ok { OnOk result (view_of self.new ≡ with_added (view_of self.old) key.now value.now) }
+        ensures err { OnErr result (view_of self.new ≡ view_of self.old) }
+    {
+        match self {
+            Cell::Set(keys) => keys.insert(key),
+            Cell::Map(entries) => {
+                entries.insert(key.copy()?, value.copy()?)?;
+                Ok(())
+            }
+        }
     }
 
     /// Takes a key out, present or not.

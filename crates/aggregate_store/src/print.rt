@@ -3,7 +3,8 @@
 ghost use Rattle.std.specs.Prelude.{◌≡◌, ◌++◌, codes, length, map, take, OnOk, OnErr};
 ghost use Rattle.std.specs.FinMap as finite_map;
 ghost use Rattle.tsl_value.specs.Print.{in_order, listed, scalar_text, view_text};
-ghost use Rattle.aggregate_store.specs.CellView.{set_of, table_of, view_of};
+ghost use Rattle.aggregate_store.specs.inner.CellView.{table_of, view_of};
+ghost use Rattle.aggregate_store.specs.inner.Keys.{set_of};
 
 use crate::cell::Cell;
 use std::collections::{BTreeMap, BTreeSet};
@@ -34,7 +35,7 @@ fn append_cell(cell: &Cell, out: &mut Bytes) -> Result<(), NoMemory>
     match cell {
         Cell::Set(keys) => {
             out.append(b"Set(")?;
-            append_keys(keys, out)?;
+            append_keys(keys.sorted(), out)?;
         }
         Cell::Map(entries) => {
             out.append(b"Map(")?;

@@ -2,19 +2,16 @@
 
 ghost use Rattle.std.specs.Prelude.{◌≡◌, ◌<◌, None, IfOk, IsTrue, OnOk, OnErr, length, replicate, slice_index};
 ghost use Rattle.std.specs.FinMap as finite_map;
-ghost use Rattle.std.specs.BTreeMap as tree;
-ghost use Rattle.std.specs.Option.{option_copied_mut, option_map};
-ghost use Rattle.std.specs.Ordering.{nat_cmp};
 ghost use Rattle.tsl_value.specs.View.{Plain};
-ghost use Rattle.lift_func.specs.Cells.{FitsKey, IsLive, view_at};
+ghost use Rattle.lift_func.specs.inner.Cells.{FitsKey, IsLive, view_at};
 ghost use Rattle.lift_func.specs.Update.{size_of, without_key};
-ghost use Rattle.aggregate_store.specs.Stored.{FitsValue, IsAggregate, counted, empty_view, is_listed, with_added};
+ghost use Rattle.aggregate_store.specs.inner.Stored.{FitsValue, IsAggregate, counted, empty_view, is_listed, with_added};
 
 use crate::cell::Cell;
 use crate::print::print_cell;
+use crate::slots::{count, drop_others, free_from};
 use lift_func::reader::Reader;
 use std::alloc::Global;
-use std::collections::BTreeMap;
 use std::marker::Model;
 use tsl_value::bytes::Bytes;
 use tsl_value::ids::Handle;
@@ -26,26 +23,27 @@ use tsl_value::scalar::{Scalar, ValueType};
 #[derive(Drop)]
 pub struct Store {
     alloc: Global,
-    cells: BTreeMap<u64, Cell>,
+    // By their handles. A slot without a cell is free.
+    slots: Vec<Option<Cell>>,
+    // Where the next free slot is looked for. Those before it may be free too.
+    start: usize,
     ledger: Vec<u64>,
 }
 
 impl Model for Store {
-    ghost use Rattle.aggregate_store.specs.Stored.{Stored, stored_code};
+    ghost use Rattle.aggregate_store.specs.inner.Stored.{Stored, stored_code};
 
     ghost Value = { Stored };
 
     ghost coded = { stored_code };
 
-    ghost use Rattle.aggregate_store.specs.CellView.{cells_of};
+    ghost use Rattle.aggregate_store.specs.inner.CellView.{cells_of};
 
-    ghost view = { λ s. record { cells = cells_of s.cells.entries; ledger = s.ledger.items } };
+    ghost view = { λ s. record { cells = cells_of s.slots.items; ledger = s.ledger.items } };
 }
 
 impl Store {
-    ghost use Rattle.std.specs.Borrow.{sem};
-    ghost use Rattle.aggregate_store.specs.CellView.{view_of};
-    ghost use Rattle.aggregate_store.specs.Lent.{LendsCell};
+    ghost use Rattle.aggregate_store.specs.inner.CellView.{view_of};
 
     /// No cell, and 0 for each update.
     pub fn new(alloc: Global, updates: u32) -> Result<Store, NoMemory>
@@ -54,7 +52,8 @@ impl Store {
         let ledger = vec![in alloc; 0; updates as usize]?;
         Ok(Store {
             alloc,
-            cells: BTreeMap::new(alloc),
+            slots: Vec::new(alloc),
+            start: 0,
             ledger,
         })
     }
@@ -143,10 +142,8 @@ impl Store {
         }) }
         ensures err { OnErr result (self.new ≡ self.old) }
     {
-        let key = key.copy()?;
-        let value = value.copy()?;
-        match self.cell_mut(cell) {
-            Some(lent) => lent.add(key, value),
+        match &mut self.slots[cell.get() as usize] {
+            Some(cell) => cell.add_copied(key, value),
             None => unreachable!(),
         }
     }
@@ -159,8 +156,8 @@ impl Store {
           cells = finite_map.insert self.old.cells cell (without_key (view_at self.old.cells cell) (Plain key.now));
         } }
     {
-        match self.cell_mut(cell) {
-            Some(lent) => lent.remove(key),
+        match &mut self.slots[cell.get() as usize] {
+            Some(cell) => cell.remove(key),
             None => unreachable!(),
         }
     }
@@ -169,8 +166,8 @@ impl Store {
     pub fn keep_only(&mut self, cells: &[Handle])
         ensures { self.new ≡ record self.old { cells = finite_map.retain_keys self.old.cells (is_listed cells.now) } }
     {
-        self.cells
-            .retain(|handle, _| cells.contains(&Handle::new(*handle)));
+        drop_others(cells, &mut self.slots);
+        self.start = 0;
     }
 
     /// How many elements an update has copied, or 2^64 - 1 where there were more.
@@ -185,22 +182,17 @@ impl Store {
     pub fn count(&self) -> u64
         ensures { result ≡ finite_map.len self.now.cells }
     {
-        self.cells.len() as u64
+        count(&self.slots)
     }
 
     fn cell(&self, handle: Handle) -> &Cell
         requires { IsLive self.now.cells handle }
         ensures { view_of result.now ≡ view_at self.now.cells handle }
     {
-        &self.cells[&handle.get()]
-    }
-
-    /// Lends the cell behind a handle. `None` exactly where the handle is not live.
-    fn cell_mut(&mut self, handle: Handle) -> Option<&mut Cell>
-        ensures* lends { sem 𝓛 (LendsCell self.entry handle result) }
-        ensures cell { option_map view_of (option_copied_mut result) ≡ finite_map.get self.old.cells handle }
-    {
-        self.cells.get_mut(&handle.get())
+        match &self.slots[handle.get() as usize] {
+            Some(cell) => cell,
+            None => unreachable!(),
+        }
     }
 
     /// Puts a cell behind a handle that was not live.
@@ -210,9 +202,14 @@ impl Store {
             self.new ≡ record self.old { cells = finite_map.insert self.old.cells handle (view_of cell) }) }
         ensures err { OnErr result (self.new ≡ self.old) }
     {
-        let handle = free_handle(&self.cells);
-        self.cells.insert(handle, cell)?;
-        Ok(Handle::new(handle))
+        let place = free_from(self.start, &self.slots);
+        if place < self.slots.len() {
+            self.slots[place] = Some(cell);
+        } else {
+            self.slots.push(Some(cell))?;
+        }
+        self.start = place + 1;
+        Ok(Handle::new(place as u64))
     }
 
     fn count_copied(&mut self, update: u32, copied: u64)
@@ -242,30 +239,4 @@ impl Reader for Store {
     fn print(&self, cell: Handle, out: &mut Bytes) -> Result<(), NoMemory> {
         print_cell(self.cell(cell), out)
     }
-}
-
-/// A number that no cell has: the one behind the greatest, and where there is none the least that is free.
-fn free_handle(cells: &BTreeMap<u64, Cell>) -> u64
-    ensures { tree.get nat_cmp cells.now result ≡ None }
-{
-    match cells.last_key_value() {
-        None => 0,
-        Some((greatest, _)) => match greatest.checked_add(1) {
-            Some(next) => next,
-            None => least_free(cells),
-        },
-    }
-}
-
-/// The least number that no cell has. There are more numbers than cells.
-fn least_free(cells: &BTreeMap<u64, Cell>) -> u64
-    ensures { tree.get nat_cmp cells.now result ≡ None }
-{
-    let count = cells.len() as u64;
-    for free in 0..count {
-        if !cells.contains_key(&free) {
-            return free;
-        }
-    }
-    count
 }

@@ -9,8 +9,8 @@ use Rattle.std.specs.declared.cmp.Ordering.TheVariants.{Less, Equal, Greater}
 use Rattle.std.specs.Cmp.{nat_cmp_is, nat_cmp_total}
 use Rattle.std.specs.FinMap as map
 use Rattle.delay_timers.specs.declared.tree.Due.{Due}
-use Rattle.delay_timers.specs.Pending.{Times, NoneIsDueAt, IsLeastDueAt}
-use Rattle.delay_timers.specs.Tree.{slot, time_at, IsOf, IsUpTo, IsTree, IsFirstDue, ChangesLeaf, NoLeafAt, IsFirstLeafAt, entries_from, times_of}
+use Rattle.delay_timers.specs.inner.Pending.{Times, NoneIsDueAt, IsLeastDueAt}
+use Rattle.delay_timers.specs.inner.Tree.{slot, time_at, IsOf, IsUpTo, IsTree, IsFirstDue, ChangesLeaf, NoLeafAt, IsFirstLeafAt, entries_from, times_of}
 use Rattle.delay_timers.proofs.TreeLemmas.{root_comes_first, root_is_a_leaf}
 
 pub tied : (a b : ℕ) → a ≡ b → eq_by_cmp nat_cmp a b ≡ true

@@ -1,7 +1,5 @@
-// The pending delays of a monitor.
+//! The pending delays of a monitor.
 #![tactic(auto)]
 
-#[cfg(test)]
-mod tests;
 pub mod timers;
 mod tree;

@@ -2,8 +2,8 @@
 
 ghost use Rattle.std.specs.Prelude.{◌≡◌, ◌+◌, ◌<◌, IfOk, IfNone, IfSome, MatchOption};
 ghost use Rattle.std.specs.FinMap as map;
-ghost use Rattle.delay_timers.specs.Pending.{AreBelowCapacity, IsLeastTime, NoneIsDueAt, IsLeastDueAt};
-ghost use Rattle.delay_timers.specs.Tree.{IsFirstDue};
+ghost use Rattle.delay_timers.specs.inner.Pending.{AreBelowCapacity, IsLeastTime, NoneIsDueAt, IsLeastDueAt};
+ghost use Rattle.delay_timers.specs.inner.Tree.{IsFirstDue};
 
 use crate::tree::{Due, change_leaf, first_leaf_at};
 use std::alloc::Global;
@@ -21,13 +21,13 @@ pub struct Timers {
 
 impl Model for Timers {
     ghost use Rattle.std.specs.Prelude.{drop};
-    ghost use Rattle.delay_timers.specs.Pending.{Pending, pending_code};
+    ghost use Rattle.delay_timers.specs.inner.Pending.{Pending, pending_code};
 
     ghost Value = { Pending };
 
     ghost coded = { pending_code };
 
-    ghost use Rattle.delay_timers.specs.Tree.{IsTree, times_of};
+    ghost use Rattle.delay_timers.specs.inner.Tree.{IsTree, times_of};
 
     ghost view = { λ t. record { capacity = t.delays; times = times_of (drop t.delays t.nodes.items) } };
 

@@ -2,7 +2,8 @@
 
 ghost use Rattle.std.specs.Prelude.{◌≡◌, ◌≢◌, ◌+◌, ◌<◌, ◌≤◌, ℕ, length, IsTrue, None, MatchOption};
 ghost use Rattle.std.specs.Option.{option_map};
-ghost use Rattle.delay_timers.specs.Tree.{slot, IsOf, IsUpTo, IsFirstOf, IsTree, IsTreeBut, SameFrom, ChangesLeaf, IsFirstLeafAt, NoLeafAt};
+ghost use Rattle.delay_timers.specs.inner.Tree.{slot, IsOf, IsUpTo, IsFirstOf, IsTree, IsTreeBut, SameFrom, ChangesLeaf, IsFirstLeafAt};
+ghost use Rattle.delay_timers.specs.inner.Tree.{NoLeafAt};
 
 use tsl_value::time::Time;
 

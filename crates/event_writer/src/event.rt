@@ -2,7 +2,7 @@
 
 ghost use Rattle.std.specs.Prelude.{◌≡◌, ◌++◌, codes, length, take, OnOk, OnErr};
 ghost use Rattle.std.specs.Fmt.{decimal};
-ghost use Rattle.lift_func.specs.Cells.{held};
+ghost use Rattle.lift_func.specs.inner.Cells.{held};
 ghost use Rattle.flat_core.specs.Text.{event_line};
 ghost use Rattle.event_writer.specs.Text.{IsPrintable};
 

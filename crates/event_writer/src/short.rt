@@ -3,7 +3,7 @@
 ghost use Rattle.std.specs.Prelude.{◌≡◌, ◌≤◌, ◌+◌, ◌++◌, ◌∷◌, [], codes, drop, length, true, OnOk, OnErr};
 ghost use Rattle.std.specs.Fmt.{decimal, signed_decimal};
 ghost use Rattle.tsl_value.specs.Print.{scalar_text};
-ghost use Rattle.event_writer.specs.Short.{is_no_text, is_short};
+ghost use Rattle.event_writer.specs.inner.Short.{is_no_text, is_short};
 
 use itoa::write_digits;
 use tsl_value::bytes::Bytes;

@@ -11,14 +11,14 @@ use Rattle.std.specs.Ordering.{eq_by_cmp, nat_cmp}
 use Rattle.tsl_value.specs.declared.scalar.Scalar.{Scalar}
 use Rattle.tsl_value.specs.declared.scalar.Scalar.TheVariants as scalar
 use Rattle.tsl_value.specs.View.{View, Plain}
-use Rattle.delay_timers.specs.Pending.{Times}
+use Rattle.delay_timers.specs.inner.Pending.{Times}
 use Rattle.lift_func.specs.declared.register.Register.{Register}
 use Rattle.lift_func.specs.declared.register.Register.TheVariants as register
 use Rattle.flat_core.specs.Line.{Line, event_in, inputs_of}
 use Rattle.flat_core.specs.Pending.{option_is}
-use Rattle.monitor_run.specs.Given.{AreAt, AreThere, IsThere}
-use Rattle.monitor_run.specs.Instant.{moved_in, with_event}
-use Rattle.monitor_run.specs.Registers.{register_at}
+use Rattle.monitor_run.specs.inner.Given.{AreAt, AreThere, IsThere}
+use Rattle.monitor_run.specs.inner.Instant.{moved_in, with_event}
+use Rattle.monitor_run.specs.inner.Registers.{register_at}
 
 -- ---- delays that are due
 

@@ -3,7 +3,7 @@ use Rattle.std.proofs.Common.{◌≡◌, ◌==◌, ℕ, zero, suc, ◌+◌, ◌-
 use Rattle.std.proofs.lemmas.Bool.{false≢true, true≢false, ne_eqb}
 use Rattle.std.proofs.lemmas.List.{length-set}
 use Rattle.std.specs.Prelude.{◌⊎◌, IfOk, IsTrue, Result, is_some, min, not, if◌then◌else◌, slice_index}
-use Rattle.std.specs.List.{All, AllByRecursion, list_all, list_any}
+use Rattle.std.specs.List.{All, AllByRecursion, list_any}
 use Rattle.std.specs.Option.{option_and_then, option_or}
 use Rattle.std.proofs.lemmas.List.Elements.{recursion_from_All}
 use Rattle.std.specs.FinMap as finite_map
@@ -12,26 +12,28 @@ use Rattle.tsl_value.specs.declared.scalar.ValueType.TheVariants as value_type
 use Rattle.tsl_value.specs.View.{View}
 use Rattle.lift_func.specs.declared.register.Register.{Register}
 use Rattle.lift_func.specs.declared.register.Register.TheVariants as register
-use Rattle.lift_func.specs.Cells.{Cells, HoldsLive, IsLive, held}
+use Rattle.lift_func.specs.inner.Cells.{Cells, HoldsLive, IsLive, held}
 use Rattle.lift_func.specs.declared.eval.EvalFault.{EvalFault}
 use Rattle.lift_func.specs.declared.eval.EvalFault.TheVariants as eval_fault
 use Rattle.lift_func.specs.Apply.{Answer}
-use Rattle.lift_func.specs.Evaluable.{IsEvaluable, IsHeldValue}
+use Rattle.lift_func.specs.inner.Evaluable.{IsEvaluable, IsHeldValue}
 use Rattle.tsl_value.specs.declared.scalar.Scalar.TheVariants as scalar
 use Rattle.lift_func.specs.Tree.{Tree}
-use Rattle.lift_func.specs.Typing.{AllFit}
-use Rattle.aggregate_store.specs.Stored.{Stored, IsAggregate, empty_view}
+use Rattle.aggregate_store.specs.inner.Stored.{Stored, IsAggregate, empty_view}
 use Rattle.flat_core.specs.declared.equation.Equation.{Equation}
 use Rattle.flat_core.specs.declared.equation.Op.{Op}
 use Rattle.flat_core.specs.declared.equation.Op.TheVariants as op
 use Rattle.flat_core.specs.Case.{at_once, at_zero, empty_of, unit}
 use Rattle.flat_core.specs.Typed.{IsTyped, empty, is_aggregate, kind_of, lift}
-use Rattle.monitor_run.specs.Here.{AreOf, HasEffect, HasMade, HasMadeOne, HasShape, IsBare, TakesTyped, counts, effect_here, lifted, source_of, truth_of}
+use Rattle.flat_core.specs.inner.TypedEvents.{AreOf}
+use Rattle.flat_core.specs.inner.Shape.{HasShape}
+use Rattle.flat_core.proofs.TypedCase.{all_there_fit, options_fit}
+use Rattle.monitor_run.specs.inner.Here.{HasEffect, HasMade, HasMadeOne, IsBare, TakesTyped, counts, effect_here, lifted, source_of, truth_of}
 use Rattle.alias_rules.specs.Uses.{is_update}
 use Rattle.register_machine.specs.Machine.{Held, Bare, Cell, slot_of, slot_of_answer, Config, view_of, value_in, where_either, Effect, Fill, Make, effect_of}
 use Rattle.register_machine.specs.Copied.{size_at}
-use Rattle.monitor_run.specs.Registers.{register_at, value_at}
-use Rattle.monitor_run.specs.Shown.{config_of, held_at, held_by}
+use Rattle.monitor_run.specs.inner.Registers.{register_at, value_at}
+use Rattle.monitor_run.specs.inner.Shown.{config_of, held_at, held_by}
 use Rattle.monitor_run.proofs.CellLemmas.{held_slot, seen_is}
 
 pub last_two : (args : List ℕ) → HasShape op.Last args → length args ≡ 2
@@ -76,20 +78,6 @@ pub takes_empty : (c : Cells) (registers : List Register) (e : Equation) → Tak
 takes_empty c registers e t is = type_aggregate e.of (empty_typed e.op t.types e.of is t.typed)
 
 -- ---- lifts
-
--- values that count fit the kinds of a lift
-pub all_there_fit : (types : List ValueType) (values : List (Option View)) → AreOf types values → list_all is_some values ≡ true → AllFit (map (kind_of true) types) values
-all_there_fit [] [] of all = tt
-all_there_fit [] (v ∷ values) of all = absurd of
-all_there_fit (t ∷ types) [] of all = absurd of
-all_there_fit (t ∷ types) (None ∷ values) of all = absurd (false≢true all)
-all_there_fit (t ∷ types) (Some v ∷ values) of all = (of.0, all_there_fit types values of.1 all)
-
-pub options_fit : (types : List ValueType) (values : List (Option View)) → AreOf types values → AllFit (map (kind_of false) types) values
-options_fit [] [] of = tt
-options_fit [] (v ∷ values) of = absurd of
-options_fit (t ∷ types) [] of = absurd of
-options_fit (t ∷ types) (v ∷ values) of = (of.0, options_fit types values of.1)
 
 module _ (c : Cells) (registers : List Register) (args : List ℕ) (known : All (λ a. a < length registers) args) (live : All (λ a. HoldsLive c (register_at registers a)) args) where
   lift_evaluable : (body : Tree) (strict : Bool) (ts : List ValueType) (of : ValueType) → IsTyped (op.Lift body strict) ts of → AreOf ts (map (value_at c registers) args) → IsTrue (counts strict (map (value_at c registers) args)) → IsEvaluable c registers args body

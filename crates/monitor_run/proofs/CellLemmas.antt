@@ -7,8 +7,8 @@ use Rattle.std.specs.FinMap as finite_map
 use Rattle.tsl_value.specs.declared.scalar.ValueType.{ValueType}
 use Rattle.tsl_value.specs.declared.scalar.ValueType.TheVariants as value_type
 use Rattle.tsl_value.specs.View.{View, Plain, Keyed, Mapped, is_of}
-use Rattle.lift_func.specs.Cells as cells
-use Rattle.lift_func.specs.Cells.{Cells, IsLive, HoldsLive, view_at}
+use Rattle.lift_func.specs.inner.Cells as cells
+use Rattle.lift_func.specs.inner.Cells.{Cells, IsLive, HoldsLive, view_at}
 use Rattle.tsl_value.specs.declared.scalar.Scalar.TheVariants as scalar
 use Rattle.lift_func.specs.Typing.{fits}
 use Rattle.lift_func.specs.declared.register.Register.{Register}
@@ -19,9 +19,9 @@ use Rattle.register_machine.specs.Machine.{Held, Bare, Cell, Slot, slot_of, view
 use Rattle.register_machine.specs.Machine as machine
 use Rattle.register_machine.proofs.Cells.{get-there, with-there}
 use Rattle.flat_core.specs.Typed.{is_aggregate}
-use Rattle.monitor_run.specs.Here.{StayTyped}
-use Rattle.monitor_run.specs.Shown.{held_by}
-use Rattle.monitor_run.specs.Registers.{AreHeld, IsHeldOf, register_at}
+use Rattle.monitor_run.specs.inner.Here.{StayTyped}
+use Rattle.monitor_run.specs.inner.Shown.{held_by}
+use Rattle.monitor_run.specs.inner.Registers.{AreHeld, IsHeldOf, register_at}
 
 -- a view of a type of aggregates
 pub aggregate_of : (of : ValueType) (v : View) → is_aggregate of ≡ true → IsTrue (is_of of v) → cells.IsAggregate v

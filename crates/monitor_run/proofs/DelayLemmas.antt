@@ -7,10 +7,10 @@ use Rattle.std.proofs.lemmas.Option.{slice_get_within}
 use Rattle.std.specs.Prelude.{◌≢◌, if◌then◌else◌, is_some, IsTrue, slice_index}
 use Rattle.std.specs.Option.{option_map}
 use Rattle.std.specs.FinMap as finite_map
-use Rattle.delay_timers.specs.Pending.{Times}
+use Rattle.delay_timers.specs.inner.Pending.{Times}
 use Rattle.lift_func.specs.declared.fault.FaultKind.{FaultKind}
 use Rattle.lift_func.specs.declared.register.Register.{Register}
-use Rattle.lift_func.specs.Cells.{Cells, held}
+use Rattle.lift_func.specs.inner.Cells.{Cells, held}
 use Rattle.flat_core.specs.declared.equation.Equation.{Equation}
 use Rattle.flat_core.specs.declared.equation.Op.{Op}
 use Rattle.flat_core.specs.declared.equation.Op.TheVariants as op
@@ -23,10 +23,11 @@ use Rattle.flat_core.specs.System.{System, equation, runs}
 use Rattle.register_code.specs.Code.{is_timer}
 use Rattle.monitor_run.specs.declared.run.Root.{Root}
 use Rattle.register_machine.specs.Stands.{in_time}
-use Rattle.monitor_run.specs.Here.{HasShape, first_of}
-use Rattle.monitor_run.specs.Instant.{IsLeastRoot, refusal_of, second_of, set_at, set_by}
-use Rattle.monitor_run.specs.Registers.{register_at, value_at}
-use Rattle.monitor_run.proofs.PlanLemmas.{shape_of}
+use Rattle.flat_core.specs.inner.Shape.{HasShape}
+use Rattle.monitor_run.specs.inner.Here.{first_of}
+use Rattle.monitor_run.specs.inner.Instant.{IsLeastRoot, refusal_of, second_of, set_at, set_by}
+use Rattle.monitor_run.specs.inner.Registers.{register_at, value_at}
+use Rattle.flat_core.proofs.Shapes.{shape_of}
 use Rattle.monitor_run.proofs.RootLemmas.{least-one, least-same}
 
 pub delay_op : (o : Op) → is_delay_op o ≡ true → o ≡ op.Delay

@@ -1,22 +1,19 @@
 -- What is kept of an instant.
-use Rattle.std.proofs.Common.{◌≡◌, ◌==◌, ℕ, ◌+◌, ◌<◌, Bool, true, false, ◌||◌, cond, List, Option, None, length, get_or, set, take, refl, sym, ap, subst, ◌∙◌, inl, inr}
+use Rattle.std.proofs.Common.{◌≡◌, ◌==◌, ℕ, ◌+◌, ◌<◌, Bool, true, false, ◌||◌, List, length, get_or, set, take, refl, sym, subst, ◌∙◌, inl, inr}
 use Rattle.std.proofs.lemmas.Bool.{cases_Bool, eqb-true, eqb-false, eq-eqb, false≢true, true≢false}
 use Rattle.std.specs.FinMap as finite_map
 use Rattle.std.proofs.Math.Bool.{or-false}
 use Rattle.std.proofs.Common.{length-set}
 use Rattle.std.proofs.lemmas.List.{get_or-set_same, get_or-set_other}
 use Rattle.std.proofs.lemmas.List.Folds.{list_any_more}
-use Rattle.std.specs.Cmp.{nat_cmp_total}
-use Rattle.std.specs.Ordering.{nat_cmp}
 use Rattle.std.specs.Prelude.{◌≢◌, if◌then◌else◌, is_some}
-use Rattle.tsl_value.specs.View.{View}
 use Rattle.lift_func.specs.declared.register.Register.{Register}
 use Rattle.lift_func.specs.declared.register.Register.TheVariants as register
-use Rattle.lift_func.specs.Cells.{Cells, HoldsLive, held}
+use Rattle.lift_func.specs.inner.Cells.{Cells, HoldsLive, held}
 use Rattle.flat_core.specs.Members.{is_in}
 use Rattle.event_writer.specs.Text.{IsPrintable}
-use Rattle.monitor_run.specs.Instant.{kept_in, kept_register}
-use Rattle.monitor_run.specs.Registers.{register_at}
+use Rattle.monitor_run.specs.inner.Instant.{kept_in, kept_register}
+use Rattle.monitor_run.specs.inner.Registers.{register_at}
 
 -- the registers of the first k that are kept have been moved, where they are not empty
 pub record AreKeeping (keeps : List ℕ) (k : ℕ) (registers last now kept : List Register) : Type 0 where
@@ -96,16 +93,3 @@ pub is_printable : (cells : Cells) (r : Register) → ((c : Cells) → is_some (
 is_printable cells register.Empty some live = false≢true (some finite_map.empty)
 is_printable cells (register.Scalar s) some live = tt
 is_printable cells (register.Aggregate h) some live = live.0
-
--- no cell is dropped where there is none
-pub none_dropped : (cells : Cells) (p : ℕ → Bool) → finite_map.len cells ≡ 0 → cells ≡ finite_map.retain_keys cells p
-none_dropped cells p none = finite_map.same_map nat_cmp_total finite_map.nat_cmp-IsAntisymmetric cells (finite_map.retain_keys cells p) (λ h.
-    absent h
-    ∙ sym (finite_map.get-retain_keys cells p h (λ x tied. ap p (sym (finite_map.nat_cmp-IsAntisymmetric h x tied))) ∙ ap (λ w. cond (p h) w None) (absent h) ∙ either (p h)))
-  where
-    absent : (h : ℕ) → finite_map.get cells h ≡ None
-    absent h = ap (λ m. finite_map.get m h) (finite_map.empty_of_len cells none) ∙ finite_map.get-empty nat_cmp h
-
-    either : (b : Bool) → ◌≡◌ {A = Option View} (cond b None None) None
-    either true = refl
-    either false = refl

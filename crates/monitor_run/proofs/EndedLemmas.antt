@@ -8,16 +8,17 @@ use Rattle.std.specs.FinMap as finite_map
 use Rattle.std.specs.Cmp.{eq_by_cmp_equiv, nat_cmp_total}
 use Rattle.std.specs.Ordering.{eq_by_cmp, nat_cmp}
 use Rattle.std.specs.declared.cmp.Ordering.TheVariants.{Equal}
+use Rattle.std.proofs.Math.Bool.{or_assoc}
 use Rattle.tsl_value.specs.View.{View, Plain, Keyed, Mapped}
 use Rattle.tsl_value.specs.declared.scalar.Scalar.TheVariants as scalar
 use Rattle.tsl_value.specs.declared.scalar.ValueType.{ValueType}
 use Rattle.tsl_value.specs.declared.scalar.ValueType.TheVariants as value_type
 use Rattle.lift_func.specs.declared.register.Register.{Register}
 use Rattle.lift_func.specs.declared.register.Register.TheVariants as register
-use Rattle.lift_func.specs.Cells as cells_of
-use Rattle.lift_func.specs.Cells.{Cells, HoldsLive, IsLive, held, view_at}
+use Rattle.lift_func.specs.inner.Cells as cells_of
+use Rattle.lift_func.specs.inner.Cells.{Cells, HoldsLive, IsLive, held, view_at}
 use Rattle.lift_func.specs.Typing.{Optional, fits}
-use Rattle.aggregate_store.specs.Stored.{is_listed}
+use Rattle.aggregate_store.specs.inner.Stored.{is_listed}
 use Rattle.flat_core.specs.declared.equation.Equation.{Equation}
 use Rattle.flat_core.specs.Case.{refused}
 use Rattle.flat_core.specs.Complete.{IsFlat}
@@ -32,11 +33,12 @@ use Rattle.program_text.specs.Text.{numbers}
 use Rattle.monitor_run.specs.declared.machine.Machine.{Machine}
 use Rattle.register_machine.specs.Stands.{in_time}
 use Rattle.register_machine.specs.Run.{Plan}
-use Rattle.monitor_run.specs.Here.{first_of}
-use Rattle.monitor_run.specs.Instant.{AreTimers, HasEnded, HasRunRegisters, IsSound, cell_in, cells_in, kept_register, left_at, refusal_of, second_of, set_at}
-use Rattle.monitor_run.specs.Registers.{IsHeldOf, register_at, value_at}
-use Rattle.monitor_run.specs.Stored.{is_stored_type}
-use Rattle.monitor_run.proofs.InstantLemmas.{contains_filter, filtered_running, kept_runs, listed_kept, listed_timer}
+use Rattle.monitor_run.specs.inner.Here.{first_of}
+use Rattle.monitor_run.specs.inner.Instant.{AreTimers, HasEnded, HasRunRegisters, IsSound, cell_in, cells_in, kept_register, left_at, refusal_of, second_of, set_at}
+use Rattle.monitor_run.specs.inner.Registers.{IsHeldOf, register_at, value_at}
+use Rattle.monitor_run.specs.inner.Stored.{is_stored_type}
+use Rattle.flat_core.proofs.Rising.{in_filter}
+use Rattle.monitor_run.proofs.InstantLemmas.{filtered_running, kept_runs, listed_kept, listed_timer}
 
 -- ---- few cells
 none_pending : (c : Cells) (q : ℕ) (v : View) → c ≡ finite_map.empty → finite_map.get c q ≡ Some v → ⊥
@@ -76,11 +78,7 @@ few_live (h ∷ handles) c listed =
 -- ---- the cells of last registers
 pub listed_append : (xs ys : List ℕ) (h : ℕ) → is_listed (xs ++ ys) h ≡ (is_listed xs h || is_listed ys h)
 listed_append [] ys h = refl
-listed_append (x ∷ xs) ys h = ap (λ b. nat_eq x h || b) (listed_append xs ys h) ∙ regroup (nat_eq x h) (is_listed xs h) (is_listed ys h)
-  where
-    regroup : (a b c : Bool) → (a || (b || c)) ≡ ((a || b) || c)
-    regroup true b c = refl
-    regroup false b c = refl
+listed_append (x ∷ xs) ys h = ap (λ b. nat_eq x h || b) (listed_append xs ys h) ∙ sym (or_assoc (nat_eq x h) (is_listed xs h) (is_listed ys h))
 
 -- the cell of a kept register is listed
 pub cell_listed : (last : List Register) (keeps : List ℕ) (i h : ℕ) → is_in keeps i ≡ true → register_at last i ≡ register.Aggregate h → is_listed (cells_in last keeps) h ≡ true
@@ -122,7 +120,7 @@ module _ (s : System) (whole : IsFlat s) (plan : Plan) (t : ℕ) (given : List L
       ∙ (λ k. kept_register (register_at mid.registers.items i) (register_at (ran.last_same k) i))
 
   unlisted : (i : ℕ) → is_kept s i ≡ false → is_in (keeps_of s) i ≡ false
-  unlisted i fails = contains_filter (is_kept s) (numbers s) i ∙ (λ k. fails k && is_in (numbers s) i)
+  unlisted i fails = in_filter (is_kept s) (numbers s) i ∙ (λ k. fails k && is_in (numbers s) i)
 
   last_unkept : (i : ℕ) → is_kept s i ≡ false → register_at new.last.items i ≡ register.Empty
   last_unkept i fails =

@@ -14,8 +14,9 @@ use Rattle.flat_core.specs.System.{System, equation}
 use Rattle.register_machine.specs.Machine.{Instr, Keep, Timer, Held, held, view_of, fires, with, Config, value_in, expiry, timed, OfEquation, Steps}
 use Rattle.register_machine.specs.Run.{ending, kept, delays}
 use Rattle.register_machine.specs.Stands.{in_time}
-use Rattle.register_machine.proofs.Cells.{with-here, with-there}
+use Rattle.register_machine.proofs.Cells.{with-here}
 use Rattle.register_machine.proofs.End.{keeps_are, timers_are}
+use Rattle.register_machine.proofs.Gaps.{timed_there}
 
 steps_join : (inputs : Inputs) (t : ℕ) (s : System) (xs ys : List Instr) (c mid d : Config) → Steps inputs t s xs c mid → Steps inputs t s ys mid d → Steps inputs t s (xs ++ ys) c d
 steps_join inputs t s [] ys c mid d ran more = subst (λ x. Steps inputs t s ys x d) ran more
@@ -35,16 +36,6 @@ expiry_is t (Some v) = refl
 abbrev pub timed_at : ℕ → Config → ℕ → Option Equation → Option ℕ
 timed_at t c i None = c.pending i
 timed_at t c i (Some e) = timed t c i e.args i
-
-timed_other : (t : ℕ) (c : Config) (j : ℕ) (args : List ℕ) (i : ℕ) → (i ≡ j → ⊥) → timed t c j args i ≡ c.pending i
-timed_other t c j [] i ne = refl
-timed_other t c j (d ∷ []) i ne = refl
-timed_other t c j (d ∷ r ∷ x ∷ args) i ne = refl
-timed_other t c j (d ∷ r ∷ []) i ne = go (fires c j || fires c r)
-  where
-    go : (b : Bool) → (if b then with c.pending j (expiry t (value_in c d)) else c.pending) i ≡ c.pending i
-    go true = with-there c.pending j (expiry t (value_in c d)) i ne
-    go false = refl
 
 -- what is pending at i matters alone
 timed_same : (t : ℕ) (c : Config) (pend : ℕ → Option ℕ) (i : ℕ) (args : List ℕ) → pend i ≡ c.pending i → timed t (record c { pending = pend }) i args i ≡ timed t c i args i
@@ -89,8 +80,8 @@ module _ (inputs : Inputs) (t : ℕ) (s : System) where
       again = ap (timed_at t (record c { pending = timed t c j all.0.0.args }) j) all.0.1 ∙ timed_again t c j all.0.0.args
 
       same_at : (i : ℕ) (q : Option Equation) → (i ≡ j → ⊥) → timed_at t (record c { pending = timed t c j all.0.0.args }) i q ≡ timed_at t c i q
-      same_at i None ne = timed_other t c j all.0.0.args i ne
-      same_at i (Some e) ne = timed_same t c (timed t c j all.0.0.args) i e.args (timed_other t c j all.0.0.args i ne)
+      same_at i None ne = timed_there t c j i all.0.0.args ne
+      same_at i (Some e) ne = timed_same t c (timed t c j all.0.0.args) i e.args (timed_there t c j i all.0.0.args ne)
 
       both : (b : Bool) (x y : Option ℕ) → x ≡ y → (if b then x else y) ≡ y
       both true x y same = same
@@ -103,7 +94,7 @@ module _ (inputs : Inputs) (t : ℕ) (s : System) where
           ∙ sym at_j
           ∙ sym (λ k. if eq-eqb j j refl k || is_in is_ j then timed_at t c j (equation s j) else c.pending j))
       one i (inr other) =
-          (λ k. if is_in is_ i then same_at i (equation s i) other k else timed_other t c j all.0.0.args i other k)
+          (λ k. if is_in is_ i then same_at i (equation s i) other k else timed_there t c j i all.0.0.args other k)
           ∙ sym (λ k. if ne_eqb j i (λ e. other (sym e)) k || is_in is_ i then timed_at t c i (equation s i) else c.pending i)
 
   -- the end of an instant

@@ -9,14 +9,14 @@ use Rattle.std.specs.List.{flat_map}
 use Rattle.std.specs.Option.{option_map_or}
 use Rattle.tsl_value.specs.declared.scalar.ValueType.{ValueType}
 use Rattle.lift_func.specs.declared.register.Register.{Register}
-use Rattle.lift_func.specs.Cells.{Cells, HoldsLive}
+use Rattle.lift_func.specs.inner.Cells.{Cells, HoldsLive}
 use Rattle.flat_core.specs.declared.equation.Output.{Output}
 use Rattle.flat_core.specs.Complete.{IsFlat}
 use Rattle.flat_core.specs.System.{System, runs}
 use Rattle.register_machine.specs.Content.{print_of}
-use Rattle.monitor_run.specs.Begun.{IsBegunOf}
-use Rattle.monitor_run.specs.Instant.{name_of}
-use Rattle.monitor_run.specs.Registers.{AreHeld, register_at}
+use Rattle.monitor_run.specs.inner.Begun.{IsBegunOf}
+use Rattle.monitor_run.specs.inner.Instant.{name_of}
+use Rattle.monitor_run.specs.inner.Registers.{AreHeld, register_at}
 
 -- ---- output k
 

@@ -5,13 +5,13 @@ use Rattle.std.proofs.lemmas.List.Folds.{list_any-append}
 use Rattle.std.specs.Prelude.{if◌then◌else◌, is_some, min, nat_lt, IsTrue}
 use Rattle.std.specs.List.{AllByRecursion, Contains, list_any}
 use Rattle.std.specs.FinMap as finite_map
-use Rattle.delay_timers.specs.Pending.{Times}
+use Rattle.delay_timers.specs.inner.Pending.{Times}
 use Rattle.flat_core.specs.declared.equation.Equation.{Equation}
 use Rattle.flat_core.specs.declared.equation.Op.{Op}
 use Rattle.flat_core.specs.declared.equation.Op.TheVariants as op
 use Rattle.flat_core.specs.Case.{Streams}
 use Rattle.flat_core.specs.Complete.{IsFlat}
-use Rattle.flat_core.specs.BoundLaws.{HappensAtInstants}
+use Rattle.flat_core.specs.inner.BoundLaws.{HappensAtInstants}
 use Rattle.flat_core.specs.Fault.{is_faulty}
 use Rattle.flat_core.specs.Instant.{instants, is_delay, is_delay_op, is_instant}
 use Rattle.flat_core.specs.Line.{Line, inputs_of, is_line_at, is_line_on}
@@ -26,16 +26,16 @@ use Rattle.flat_core.proofs.Silence.{happens_at_instants}
 use Rattle.flat_core.proofs.StillLemmas.{pending_still}
 use Rattle.alias_rules.specs.Steps.{MustPrecede}
 use Rattle.alias_rules.proofs.Ranks.{order_ranked, place}
-use Rattle.register_code.specs.Plan.{IsPlanOrder}
+use Rattle.register_code.specs.inner.Plan.{IsPlanOrder}
 use Rattle.register_machine.specs.Stands.{in_time}
 use Rattle.flat_core.specs.Members.{is_in}
 use Rattle.register_machine.specs.Copied.{args_of, copied, copied_at, size_at, total_copied}
 use Rattle.monitor_run.proofs.DueTimes.{due_at, due_of, due_time}
-use Rattle.monitor_run.specs.Given.{AreBefore, AreEventLines}
-use Rattle.monitor_run.specs.Here.{HasShape}
-use Rattle.monitor_run.specs.Next.{Comes, NothingBefore}
+use Rattle.monitor_run.specs.inner.Given.{AreBefore, AreEventLines}
+use Rattle.flat_core.specs.inner.Shape.{HasShape}
+use Rattle.monitor_run.specs.inner.Next.{Comes, NothingBefore}
 use Rattle.monitor_run.proofs.DelayLemmas.{delay_op}
-use Rattle.monitor_run.proofs.PlanLemmas.{running_args, shape_of}
+use Rattle.flat_core.proofs.Shapes.{running_args, shape_of}
 
 pub plan_ranked : (s : System) (order : List ℕ) → IsPlanOrder s order → IsRanked s (place order)
 plan_ranked s order plan = order_ranked s (MustPrecede s) (λ a b must. must) order plan

@@ -10,10 +10,10 @@ use Rattle.tsl_value.specs.View.{View, Plain, Keyed, Mapped, is_of}
 use Rattle.lift_func.specs.declared.register.Register.{Register}
 use Rattle.lift_func.specs.declared.register.Register.TheVariants as register
 use Rattle.lift_func.specs.Apply.{Answer}
-use Rattle.lift_func.specs.Cells.{Cells, HoldsLive}
-use Rattle.lift_func.specs.Cells as cells
+use Rattle.lift_func.specs.inner.Cells.{Cells, HoldsLive}
+use Rattle.lift_func.specs.inner.Cells as cells
 use Rattle.lift_func.specs.Typing.{Optional, FitsAnswer}
-use Rattle.aggregate_store.specs.Stored.{Stored}
+use Rattle.aggregate_store.specs.inner.Stored.{Stored}
 use Rattle.flat_core.specs.declared.equation.Equation.{Equation}
 use Rattle.flat_core.specs.declared.equation.Op.{Op}
 use Rattle.flat_core.specs.declared.equation.Op.TheVariants as op
@@ -23,13 +23,15 @@ use Rattle.flat_core.specs.System.{System, runs, equation}
 use Rattle.flat_core.specs.Typed.{IsTyped, empty, last, merge, filter, pick, set_add, set_remove, map_add, map_remove, is_aggregate}
 use Rattle.flat_core.specs.TypedSystem.{AreOfTypes}
 use Rattle.register_machine.specs.Machine.{Held, Bare, Cell, Slot, Blank, held, slot_of, slot_of_answer, Config, value_in, where_true, where_either, Fill, Make, made, effect_of}
-use Rattle.monitor_run.specs.Here.{effect_here, is_given_op, HasShape}
-use Rattle.monitor_run.specs.Registers.{AreHeld, IsHeldOf, register_at, value_at}
-use Rattle.monitor_run.specs.Shown.{config_of, held_at, held_by}
+use Rattle.flat_core.specs.inner.Shape.{HasShape}
+use Rattle.monitor_run.specs.inner.Here.{effect_here, is_given_op}
+use Rattle.monitor_run.specs.inner.Registers.{AreHeld, IsHeldOf, register_at, value_at}
+use Rattle.monitor_run.specs.inner.Shown.{config_of, held_at, held_by}
 use Rattle.monitor_run.proofs.CaseLemmas.{values_seen}
 use Rattle.monitor_run.proofs.CellLemmas.{aggregate_of, held_slot}
-use Rattle.monitor_run.proofs.PlanLemmas.{running_args, shape_of}
-use Rattle.monitor_run.proofs.TypedLemmas.{args_live, at_once_typed, values_typed}
+use Rattle.flat_core.proofs.Shapes.{running_args, shape_of}
+use Rattle.flat_core.proofs.TypedCase.{at_once_typed}
+use Rattle.monitor_run.proofs.TypedLemmas.{args_live, values_typed}
 
 -- what is held is of a type, and a cell's type is this one
 abbrev pub HoldsAs : (ℕ → ValueType) → Cells → ValueType → Option Held → Type 0

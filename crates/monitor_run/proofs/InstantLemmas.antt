@@ -3,8 +3,6 @@ use Rattle.std.proofs.Common.{◌≡◌, ◌==◌, ℕ, ◌<◌, Bool, true, fal
 use Rattle.std.proofs.lemmas.Bool.{cases_Bool, and_parts, eqb-true, false≢true, true≢false}
 use Rattle.std.proofs.Common.{zero-add}
 use Rattle.std.proofs.lemmas.List.FromFn.{length-range_with_len, get_or-range_with_len}
-use Rattle.std.proofs.lemmas.Map.Views.{any-filter_same}
-use Rattle.std.proofs.lemmas.Option.{slice_get_within}
 use Rattle.std.specs.Prelude.{if◌then◌else◌, ◌≢◌, ◌⊎◌, unwrap_or, IsTrue, slice_index}
 use Rattle.std.specs.Option.{option_or, option_and_then}
 use Rattle.std.specs.List.{All, AllByRecursion, filter}
@@ -15,9 +13,9 @@ use Rattle.tsl_value.specs.declared.scalar.Scalar.TheVariants as scalar
 use Rattle.tsl_value.specs.declared.scalar.ValueType.{ValueType}
 use Rattle.lift_func.specs.declared.fault.FaultKind.{FaultKind}
 use Rattle.lift_func.specs.declared.register.Register.TheVariants as register
-use Rattle.lift_func.specs.Cells.{Cells, HoldsLive, held}
+use Rattle.lift_func.specs.inner.Cells.{Cells, HoldsLive, held}
 use Rattle.lift_func.specs.Typing.{Optional, fits}
-use Rattle.aggregate_store.specs.Stored.{Stored, is_listed}
+use Rattle.aggregate_store.specs.inner.Stored.{Stored, is_listed}
 use Rattle.flat_core.specs.declared.equation.Equation.{Equation}
 use Rattle.flat_core.specs.declared.equation.Op.{Op}
 use Rattle.flat_core.specs.declared.equation.Op.TheVariants as op
@@ -32,24 +30,27 @@ use Rattle.flat_core.specs.System.{System, equation, runs}
 use Rattle.flat_core.specs.Typed.{IsTyped, delay, unit_type}
 use Rattle.std.proofs.lemmas.List.Elements.{All-from_recursion}
 use Rattle.flat_core.proofs.Members.{all_from, in-Contains, some_in}
+use Rattle.flat_core.proofs.Depth.{runs_below}
 use Rattle.register_code.specs.Code.{is_kept, is_number, is_timer, kept_at, kept_by, keeps_of, timers_of}
 use Rattle.program_text.specs.Text.{numbers}
-use Rattle.register_machine.specs.Machine.{Bare, Config, value_in, view_of, slot_of_answer}
+use Rattle.register_machine.specs.Machine.{Bare, value_in, view_of, slot_of_answer}
 use Rattle.register_machine.specs.Machine as machine
 use Rattle.register_machine.specs.Run as run
-use Rattle.register_machine.specs.Run.{Plan, root_in, root_seen, started}
+use Rattle.register_machine.specs.Run.{Plan, root_in, root_seen}
 use Rattle.monitor_run.specs.declared.machine.Machine.{Machine}
 use Rattle.monitor_run.specs.declared.run.Root.{Root}
-use Rattle.monitor_run.specs.Given.{AreEventLines, IsInputOf}
-use Rattle.monitor_run.specs.Here.{HasShape, is_given_op}
-use Rattle.monitor_run.specs.Instant.{AreInputs, AreTimers, Begins, HasEnded, HasRunAll, HasRunBody, HasRunRegisters, IsLeastRoot, IsSound, StartsAs, cells_in, expired_at, first_value, kept_of, kept_register, refusal_of, root_beside, set_at, with_event}
-use Rattle.monitor_run.specs.Machine.{AreFresh, HasRoom}
-use Rattle.monitor_run.specs.Registers.{AreHeld, IsHeldOf, register_at, value_at}
-use Rattle.monitor_run.specs.Shown.{held_at, held_by}
+use Rattle.monitor_run.specs.inner.Given.{AreEventLines, IsInputOf}
+use Rattle.flat_core.specs.inner.Shape.{HasShape}
+use Rattle.monitor_run.specs.inner.Here.{is_given_op}
+use Rattle.monitor_run.specs.inner.Instant.{AreInputs, AreTimers, Begins, HasEnded, HasRunAll, HasRunBody, HasRunRegisters, IsLeastRoot, IsSound, StartsAs, cells_in, expired_at, first_value, kept_of, kept_register, refusal_of, root_beside, set_at, with_event}
+use Rattle.monitor_run.specs.inner.Machine.{AreFresh, HasRoom}
+use Rattle.monitor_run.specs.inner.Registers.{AreHeld, IsHeldOf, register_at, value_at}
+use Rattle.monitor_run.specs.inner.Shown.{held_at, held_by}
 use Rattle.monitor_run.proofs.CellLemmas.{seen_is}
 use Rattle.monitor_run.proofs.DelayLemmas.{delay_op, timer_runs, timer_shape}
-use Rattle.monitor_run.proofs.PlanLemmas.{running_args}
+use Rattle.flat_core.proofs.Shapes.{running_args}
 use Rattle.monitor_run.proofs.RootLemmas.{least-at, least-same}
+use Rattle.flat_core.proofs.Rising.{in_filter}
 
 -- ---- given events
 
@@ -228,28 +229,22 @@ module _ (s : System) (whole : IsFlat s) (t : ℕ) (given : List Line) (events :
       due_slot false = refl
 
 -- ---- what is listed
-pub contains_filter : (p : ℕ → Bool) (xs : List ℕ) (i : ℕ) → is_in (filter p xs) i ≡ (p i && is_in xs i)
-contains_filter p xs i = any-filter_same (λ j. j == i) p (p i) (λ k h. ap p (eqb-true k i h)) xs
-
 pub in_numbers : (s : System) (i : ℕ) → i < length s.equations → is_in (numbers s) i ≡ true
 in_numbers s i lt = let size = length-range_with_len 0 (length s.equations) in in-Contains (numbers s) i (i, omega arith, get_or-range_with_len 0 (length s.equations) i i lt ∙ zero-add i)
 
-pub runs_there : (s : System) → IsFlat s → (i : ℕ) → IsTrue (runs s i) → i < length s.equations
-runs_there s whole i run = let f = whole.proper.runs_all i run in slice_get_within s.equations i f.0 f.1
-
 -- among running equations
 pub filtered_running : (s : System) → IsFlat s → (p : ℕ → Bool) (i : ℕ) → IsTrue (runs s i) → is_in (filter p (numbers s)) i ≡ p i
-filtered_running s whole p i run = contains_filter p (numbers s) i ∙ (λ k. p i && in_numbers s i (runs_there s whole i run) k) ∙ and_true (p i)
+filtered_running s whole p i run = in_filter p (numbers s) i ∙ (λ k. p i && in_numbers s i (runs_below s whole.proper i run) k) ∙ and_true (p i)
   where
     and_true : (b : Bool) → (b && true) ≡ b
     and_true true = refl
     and_true false = refl
 
 pub listed_timer : (s : System) (i : ℕ) → IsTrue (is_in (timers_of s) i) → IsTrue (is_timer s i)
-listed_timer s i h = (and_parts (is_timer s i) (is_in (numbers s) i) (sym (contains_filter (is_timer s) (numbers s) i) ∙ h)).0
+listed_timer s i h = (and_parts (is_timer s i) (is_in (numbers s) i) (sym (in_filter (is_timer s) (numbers s) i) ∙ h)).0
 
 pub listed_kept : (s : System) (i : ℕ) → IsTrue (is_in (keeps_of s) i) → IsTrue (is_kept s i)
-listed_kept s i h = (and_parts (is_kept s i) (is_in (numbers s) i) (sym (contains_filter (is_kept s) (numbers s) i) ∙ h)).0
+listed_kept s i h = (and_parts (is_kept s i) (is_in (numbers s) i) (sym (in_filter (is_kept s) (numbers s) i) ∙ h)).0
 
 -- what is kept runs
 pub kept_runs : (s : System) → IsFlat s → (i : ℕ) → IsTrue (is_kept s i) → IsTrue (runs s i)
@@ -312,7 +307,7 @@ module _ (s : System) (whole : IsFlat s) (plan : Plan) (inputs : Inputs) (t : �
   union_is : (i : ℕ) → ((runs s i && not (is_delay (equation s i))) || is_in (timers_of s) i) ≡ runs s i
   union_is i = elim (cases_Bool (runs s i)) [
     | inl run ↦ (λ k. (run k && not (is_delay (equation s i))) || (filtered_running s whole (is_timer s) i run ∙ (λ j. run j && is_delay (equation s i))) k) ∙ either (is_delay (equation s i)) ∙ sym run
-    | inr idle ↦ (λ k. (idle k && not (is_delay (equation s i))) || (contains_filter (is_timer s) (numbers s) i ∙ (λ j. (idle j && is_delay (equation s i)) && is_in (numbers s) i)) k) ∙ sym idle
+    | inr idle ↦ (λ k. (idle k && not (is_delay (equation s i))) || (in_filter (is_timer s) (numbers s) i ∙ (λ j. (idle j && is_delay (equation s i)) && is_in (numbers s) i)) k) ∙ sym idle
   ]
     where
       either : (b : Bool) → ((true && not b) || (true && b)) ≡ true
@@ -378,7 +373,7 @@ all_timers s delays is = subst (All (λ i. IsTrue (is_timer s i))) (sym is) (All
 pub all_kept : (s : System) → IsFlat s → (n : ℕ) → n ≡ length s.equations → (keeps : List ℕ) → keeps ≡ keeps_of s → All (λ i. i < n) keeps
 all_kept s whole n size keeps is =
     subst (All (λ i. i < n)) (sym is) (All-from_recursion (λ i. i < n) (keeps_of s) (all_from (λ i. i < n) (keeps_of s) (λ i there.
-    let lt = runs_there s whole i (kept_runs s whole i (listed_kept s i (in-Contains (keeps_of s) i there))) in omega arith)))
+    let lt = runs_below s whole.proper i (kept_runs s whole i (listed_kept s i (in-Contains (keeps_of s) i there))) in omega arith)))
 
 -- what is kept, the delays that are set, and the cells that stay
 pub ends : {E : Type 0} (s : System) (t : ℕ) (old new : Machine)

@@ -8,9 +8,9 @@ use Rattle.std.specs.FinMap as finite_map
 use Rattle.tsl_value.specs.declared.scalar.Scalar.TheVariants as scalar
 use Rattle.lift_func.specs.declared.register.Register.{Register}
 use Rattle.lift_func.specs.declared.register.Register.TheVariants as register
-use Rattle.lift_func.specs.Cells.{Cells}
-use Rattle.lift_func.specs.Cells as cells
-use Rattle.aggregate_store.specs.Stored.{is_listed}
+use Rattle.lift_func.specs.inner.Cells.{Cells}
+use Rattle.lift_func.specs.inner.Cells as cells
+use Rattle.aggregate_store.specs.inner.Stored.{is_listed}
 use Rattle.flat_core.specs.declared.equation.Equation.{Equation}
 use Rattle.flat_core.specs.declared.equation.Op.{Op}
 use Rattle.flat_core.specs.declared.equation.Op.TheVariants as op
@@ -22,27 +22,29 @@ use Rattle.flat_core.specs.Members.{is_in}
 use Rattle.flat_core.specs.Pending.{option_is, reached}
 use Rattle.flat_core.specs.System.{System, equation, runs}
 use Rattle.flat_core.proofs.Members.{all_from, in-Contains, none_from, some_from, some_in}
+use Rattle.flat_core.proofs.Depth.{runs_below}
 use Rattle.alias_rules.specs.Uses.{last_of}
-use Rattle.alias_rules.proofs.Rising.{in_filter}
+use Rattle.flat_core.proofs.Rising.{in_filter}
 use Rattle.register_code.specs.Code.{is_kept, is_number, is_timer, kept_at, kept_by, keeps_of, timers_of}
 use Rattle.program_text.specs.Text.{numbers}
-use Rattle.register_machine.specs.Machine.{Held, Bare, Cell, Config, fires, with, value_in, view_of, expiry, timed}
+use Rattle.register_machine.specs.Machine.{Bare, Config, fires, with, value_in, view_of, expiry, timed}
 use Rattle.register_machine.specs.Machine as machine
 use Rattle.register_machine.specs.Run as run
 use Rattle.register_machine.specs.Run.{Plan, Instant, delays, ended, has_root, is_cell, kept, kept_cells, last_at, root_seen}
 use Rattle.register_machine.specs.Stands.{in_time}
 use Rattle.register_machine.proofs.Cells.{with-here}
 use Rattle.monitor_run.specs.declared.machine.Machine.{Machine}
-use Rattle.monitor_run.specs.Instant.{AreInputs, HasEnded, HasReached, HasRunRegisters, IsSound, cell_in, cells_in, kept_of, kept_register, left_at, second_of, set_at, set_by}
-use Rattle.monitor_run.specs.Here.{HasShape, first_of}
-use Rattle.monitor_run.specs.Registers.{register_at, value_at}
-use Rattle.monitor_run.specs.Shown.{held_at, held_by}
+use Rattle.monitor_run.specs.inner.Instant.{AreInputs, HasEnded, HasReached, HasRunRegisters, IsSound, cell_in, cells_in, kept_of, kept_register, left_at, second_of, set_at, set_by}
+use Rattle.flat_core.specs.inner.Shape.{HasShape}
+use Rattle.monitor_run.specs.inner.Here.{first_of}
+use Rattle.monitor_run.specs.inner.Registers.{register_at, value_at}
+use Rattle.monitor_run.specs.inner.Shown.{held_at, held_by}
 use Rattle.monitor_run.proofs.CellLemmas.{seen_is}
 use Rattle.monitor_run.proofs.DelayLemmas.{delay_op, timer_runs, timer_shape}
 use Rattle.monitor_run.proofs.EndedLemmas.{listed_append}
 use Rattle.monitor_run.proofs.EndingLemmas.{HasEnding, ending_goes, expiry_is, overwritten, timed_at}
-use Rattle.monitor_run.proofs.PlanLemmas.{running_args}
-use Rattle.monitor_run.proofs.InstantLemmas.{contains_filter, filtered_running, in_numbers, kept_runs, listed_kept, listed_timer, runs_there}
+use Rattle.flat_core.proofs.Shapes.{running_args}
+use Rattle.monitor_run.proofs.InstantLemmas.{filtered_running, in_numbers, kept_runs, listed_kept, listed_timer}
 
 -- two tests that follow from one another
 pub both_ways : (x y : Bool) → (x ≡ true → y ≡ true) → (y ≡ true → x ≡ true) → x ≡ y
@@ -80,10 +82,10 @@ module _ (s : System) (whole : IsFlat s) where
       back listed =
           let both = and_parts (run.is_kept s v) (is_in s.running v) (sym (in_filter (run.is_kept s) s.running v) ∙ listed) in
           let found = some_in (λ j. is_in (last_at (equation s j)) v) s.running both.0 in
-          contains_filter (is_kept s) (numbers s) v
+          in_filter (is_kept s) (numbers s) v
           ∙ and_from (is_kept s v) (is_in (numbers s) v)
-          (some_from (λ j. runs s j && is_number (kept_at (equation s j)) v) (numbers s) found.0 (in_numbers s found.0 (runs_there s whole found.0 found.1)) (and_from (runs s found.0) (is_number (kept_at (equation s found.0)) v) found.1 (number_same (equation s found.0) v ∙ found.2)))
-          (in_numbers s v (runs_there s whole v both.1))
+          (some_from (λ j. runs s j && is_number (kept_at (equation s j)) v) (numbers s) found.0 (in_numbers s found.0 (runs_below s whole.proper found.0 found.1)) (and_from (runs s found.0) (is_number (kept_at (equation s found.0)) v) found.1 (number_same (equation s found.0) v ∙ found.2)))
+          (in_numbers s v (runs_below s whole.proper v both.1))
 
   pub timers_same : (v : ℕ) → is_in (timers_of s) v ≡ is_in (delays s) v
   timers_same v = both_ways (is_in (timers_of s) v) (is_in (delays s) v) there back

@@ -10,9 +10,9 @@ use Rattle.tsl_value.specs.declared.scalar.ValueType.{ValueType}
 use Rattle.lift_func.specs.declared.eval.EvalFault.TheVariants as eval_fault
 use Rattle.lift_func.specs.declared.register.Register.{Register}
 use Rattle.lift_func.specs.declared.register.Register.TheVariants as register
-use Rattle.lift_func.specs.Cells as cells
-use Rattle.lift_func.specs.Cells.{Cells}
-use Rattle.aggregate_store.specs.Stored.{Stored}
+use Rattle.lift_func.specs.inner.Cells as cells
+use Rattle.lift_func.specs.inner.Cells.{Cells}
+use Rattle.aggregate_store.specs.inner.Stored.{Stored}
 use Rattle.aggregate_store.proofs.Live.{is_live, has_view}
 use Rattle.flat_core.specs.declared.equation.Equation.{Equation}
 use Rattle.flat_core.specs.declared.equation.Op.{Op}
@@ -26,12 +26,12 @@ use Rattle.register_machine.specs.Machine.{with, Effect, Fill, Make}
 use Rattle.register_machine.proofs.Cells.{with-here}
 use Rattle.monitor_run.specs.declared.machine.Machine.{Machine}
 use Rattle.monitor_run.specs.declared.run.Root.{Root}
-use Rattle.monitor_run.specs.Here.{HasEffect, HasMade, IsMade, effect_here, is_given_op, source_of}
-use Rattle.monitor_run.specs.Instant.{HasRunOne, was_given, was_barred, was_filled, has_failed}
-use Rattle.monitor_run.specs.Registers.{AreHeld, IsHeldOf, register_at}
+use Rattle.monitor_run.specs.inner.Here.{HasEffect, HasMade, IsMade, effect_here, is_given_op, source_of}
+use Rattle.monitor_run.specs.inner.Instant.{HasRunOne, was_given, was_barred, was_filled, has_failed}
+use Rattle.monitor_run.specs.inner.Registers.{AreHeld, IsHeldOf, register_at}
 use Rattle.monitor_run.proofs.CellLemmas.{held-retyped, held-stays, stay-changed, stay-new}
 use Rattle.monitor_run.proofs.HoldLemmas.{filled_holds, held_as, made_fits, one_as}
-use Rattle.monitor_run.proofs.PlanLemmas.{one_equation, running_args}
+use Rattle.flat_core.proofs.Shapes.{one_equation, running_args}
 
 -- all registers, and the last registers, with some types of the cells
 pub record AllHeld (s : System) (m : Machine) : Type 0 where

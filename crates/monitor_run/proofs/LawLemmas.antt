@@ -1,6 +1,6 @@
 -- The texts of steps, joined.
-use Rattle.std.proofs.Common.{◌≡◌, ℕ, zero, suc, ◌<◌, ◌≤◌, Bool, true, false, not, List, [], ◌∷◌, ◌++◌, length, take, Some, refl, sym, ap, subst, ◌∙◌, append_assoc, append-nil, inl, inr, arith}
-use Rattle.std.proofs.lemmas.Bool.{cases_Bool, cases_lt, true≢false}
+use Rattle.std.proofs.Common.{◌≡◌, ℕ, zero, suc, ◌<◌, ◌≤◌, true, false, not, List, [], ◌∷◌, ◌++◌, length, take, refl, sym, ap, subst, ◌∙◌, append_assoc, append-nil, inl, inr, arith}
+use Rattle.std.proofs.lemmas.Bool.{cases_lt, true≢false}
 use Rattle.std.proofs.lemmas.Grind.{flat_map-append}
 use Rattle.std.specs.Prelude.{if◌then◌else◌, is_some, IsFalse, slice_get}
 use Rattle.std.specs.List.{AllByRecursion, Contains, filter, flat_map}
@@ -17,16 +17,20 @@ use Rattle.flat_core.proofs.Members.{all_at, contains_head, contains_tail, some_
 use Rattle.flat_core.proofs.PendingLemmas.{none_before_from, some_before_from}
 use Rattle.flat_core.proofs.Uniqueness.{all_by}
 use Rattle.std.proofs.lemmas.Option.{slice_get_within}
+use Rattle.std.proofs.lemmas.List.Elements.{filter-append}
+use Rattle.std.proofs.lemmas.List.{take_all}
 use Rattle.flat_core.proofs.SmallerBound.{instants_first, solves_less}
-use Rattle.monitor_run.specs.Next.{IsFirstInstant, NoInstant}
-use Rattle.monitor_run.specs.State.{State, IsReady}
-use Rattle.monitor_run.specs.Stands.{Stands, KeepsOf}
-use Rattle.monitor_run.specs.Steps.{HasRun, HasFaulted, IsAtLimit, IsNextOf, NoneIsLeft}
-use Rattle.monitor_run.specs.Written.{HasWritten}
+use Rattle.flat_core.proofs.Instants.{instants_below}
+use Rattle.monitor_run.specs.inner.Next.{IsFirstInstant, NoInstant}
+use Rattle.monitor_run.specs.inner.State.{State, IsReady}
+use Rattle.monitor_run.specs.inner.Stands.{Stands, KeepsOf}
+use Rattle.monitor_run.specs.inner.Steps.{HasRun, HasFaulted, IsAtLimit, IsNextOf, NoneIsLeft}
+use Rattle.monitor_run.specs.inner.Written.{HasWritten}
+use Rattle.tsl_value.proofs.Lists.{filter_all, filter_none, get_seam}
 
 -- ---- instants
 module _ (s : System) (lines : List Line) (z : Streams) where
-  no_instants : (n m : ℕ) → n ≤ m → NoInstant s lines z n m → instants s lines z m ≡ instants s lines z n
+  pub no_instants : (n m : ℕ) → n ≤ m → NoInstant s lines z n m → instants s lines z m ≡ instants s lines z n
   no_instants n zero le none = let same : zero ≡ n = omega arith in ap (instants s lines z) same
   no_instants n (suc m) le none = elim (cases_lt m n) [
     | inl end ↦ let same : suc m ≡ n = omega arith in ap (instants s lines z) same
@@ -35,10 +39,6 @@ module _ (s : System) (lines : List Line) (z : Streams) where
 
   pub next_instants : (n b t : ℕ) → IsFirstInstant s lines z n b t → instants s lines z (suc t) ≡ instants s lines z n ++ t ∷ []
   next_instants n b t f = (λ k. instants s lines z t ++ (if f.comes k then t ∷ [] else [])) ∙ ap (λ ts. ts ++ t ∷ []) (no_instants n t f.late f.first)
-
-  below : (n : ℕ) → AllByRecursion (λ u. u < n) (instants s lines z n)
-  below n = let first = instants_first s lines z 0 n (omega arith) in
-      subst (AllByRecursion (λ u. u < n)) (sym first.1) (all_by (λ u. (0 ≤ u) × (u < n)) (λ u. u < n) (λ u both. both.1) first.0 first.2)
 
 append_same : (xs ys zs : List ℕ) → xs ++ ys ≡ xs ++ zs → ys ≡ zs
 append_same [] ys zs is = is
@@ -65,34 +65,9 @@ goes_on_written old new lines text before added written ran = record {
 }
 
 -- ---- ends
-take_most : (xs : List ℕ) (n : ℕ) → length xs ≤ n → take n xs ≡ xs
-take_most [] zero le = refl
-take_most [] (suc n) le = refl
-take_most (x ∷ xs) zero le = absurd (omega arith)
-take_most (x ∷ xs) (suc n) le = ap (λ l. x ∷ l) (take_most xs n (omega arith))
-
 take_first : (xs ys : List ℕ) → take (length xs) (xs ++ ys) ≡ xs
 take_first [] ys = refl
 take_first (x ∷ xs) ys = ap (λ l. x ∷ l) (take_first xs ys)
-
-get_first : (xs ys : List ℕ) (y : ℕ) → slice_get (xs ++ y ∷ ys) (length xs) ≡ Some y
-get_first [] ys y = refl
-get_first (x ∷ xs) ys y = get_first xs ys y
-
-filter_kept : (p : ℕ → Bool) (xs : List ℕ) → AllByRecursion (λ x. p x ≡ true) xs → filter p xs ≡ xs
-filter_kept p [] all = refl
-filter_kept p (x ∷ xs) all = (λ k. if all.0 k then x ∷ filter p xs else filter p xs) ∙ ap (λ l. x ∷ l) (filter_kept p xs all.1)
-
-filter_dropped : (p : ℕ → Bool) (xs : List ℕ) → AllByRecursion (λ x. p x ≡ false) xs → filter p xs ≡ []
-filter_dropped p [] all = refl
-filter_dropped p (x ∷ xs) all = (λ k. if all.0 k then x ∷ filter p xs else filter p xs) ∙ filter_dropped p xs all.1
-
-filter_append : (p : ℕ → Bool) (xs ys : List ℕ) → filter p (xs ++ ys) ≡ filter p xs ++ filter p ys
-filter_append p [] ys = refl
-filter_append p (x ∷ xs) ys = elim (cases_Bool (p x)) [
-  | inl holds ↦ (λ k. if holds k then x ∷ filter p (xs ++ ys) else filter p (xs ++ ys)) ∙ ap (λ l. x ∷ l) (filter_append p xs ys) ∙ sym (λ k. (if holds k then x ∷ filter p xs else filter p xs) ++ filter p ys)
-  | inr no_not ↦ (λ k. if no_not k then x ∷ filter p (xs ++ ys) else filter p (xs ++ ys)) ∙ filter_append p xs ys ∙ sym (λ k. (if no_not k then x ∷ filter p xs else filter p xs) ++ filter p ys)
-]
 
 take_beyond : (xs ys : List ℕ) (y n : ℕ) → length xs < n → (m : ℕ) × (take n (xs ++ y ∷ ys) ≡ xs ++ y ∷ take m ys)
 take_beyond [] ys y zero lt = absurd (omega arith)
@@ -119,14 +94,14 @@ module _ (old : State) (lines : List Line) (stands : Stands old lines) (w : Stre
   unfaulted t lt = none_before_from (is_faulty old.system (inputs_of lines) w) (suc t) (λ u before. keeps.sound u (omega arith))
 
   pub all_due : filter (λ t. not (is_over old.system (inputs_of lines) w t)) (instants old.system lines w old.next) ≡ instants old.system lines w old.next
-  all_due = filter_kept (λ t. not (is_over old.system (inputs_of lines) w t)) (instants old.system lines w old.next) (all_by (λ t. t < old.next) (λ t. not (is_over old.system (inputs_of lines) w t) ≡ true) (λ t lt. ap not (unfaulted t lt)) (instants old.system lines w old.next) (below old.system lines w old.next))
+  all_due = filter_all (λ t. not (is_over old.system (inputs_of lines) w t)) (instants old.system lines w old.next) (all_by (λ t. t < old.next) (λ t. not (is_over old.system (inputs_of lines) w t) ≡ true) (λ t lt. ap not (unfaulted t lt)) (instants old.system lines w old.next) (instants_below old.system lines w old.next))
 
 pub idle_ends : (old : State) (lines : List Line) (text : List ℕ) → IsReady old → HasWritten old lines text → NoneIsLeft old lines → (w : Streams) → Solves old.system (inputs_of lines) old.bound w → (text ≡ due_text old.system lines w old.bound old.limit) × EndsAtBound old.system lines w old.bound old.limit
 idle_ends old lines text ready written none w solves = (
-  written.text_is w before ∙ ap (flat_map (text_at old.system w)) (sym (ap (filter (λ t. not (is_over old.system (inputs_of lines) w t))) (ap (take old.limit) same ∙ take_most (instants old.system lines w old.next) old.limit room) ∙ all_due old lines written.stands w before)),
+  written.text_is w before ∙ ap (flat_map (text_at old.system w)) (sym (ap (filter (λ t. not (is_over old.system (inputs_of lines) w t))) (ap (take old.limit) same ∙ take_all old.limit (instants old.system lines w old.next) room) ∙ all_due old lines written.stands w before)),
   record {
     no_fault = λ t i kind ends.
-        let there = all_at (λ u. u < old.next) (instants old.system lines w old.next) (below old.system lines w old.next) t (subst (λ ts. Contains ts t) (ap (take old.limit) same ∙ take_most (instants old.system lines w old.next) old.limit room) ends.within) in
+        let there = all_at (λ u. u < old.next) (instants old.system lines w old.next) (instants_below old.system lines w old.next) t (subst (λ ts. Contains ts t) (ap (take old.limit) same ∙ take_all old.limit (instants old.system lines w old.next) room) ends.within) in
         let keep = keeps old lines written.stands w before in
         true≢false (sym (some_from (λ j. is_some (root_at old.system (inputs_of lines) w t j)) old.system.running i ends.named.running (ap is_some ends.named.root)) ∙ keep.sound t there);
     no_limit = λ t ends. let within = slice_get_within (instants old.system lines w old.bound) old.limit t ends.next in let size = ap length same in let fits = room in absurd (omega arith);
@@ -164,10 +139,10 @@ module _ (old : State) (lines : List Line) (ready : IsReady old) (stands : Stand
   limit_ends text full text_is = (
     text_is ∙ ap (flat_map (text_at old.system w)) (sym (ap (filter (λ u. not (is_over old.system (inputs_of lines) w u))) taken ∙ all_due old lines stands w before_next)),
     record {
-      next = ap (λ ts. slice_get ts old.limit) then_more.1 ∙ ap (slice_get (instants old.system lines w old.next ++ t ∷ then_more.0)) (sym full ∙ ran_is) ∙ get_first (instants old.system lines w old.next) then_more.0 t;
+      next = ap (λ ts. slice_get ts old.limit) then_more.1 ∙ ap (slice_get (instants old.system lines w old.next ++ t ∷ then_more.0)) (sym full ∙ ran_is) ∙ get_seam (instants old.system lines w old.next) t then_more.0;
       sound =
           subst (AllByRecursion (λ u. IsFalse (is_faulty old.system (inputs_of lines) w u))) (sym taken)
-          (all_by (λ u. u < old.next) (λ u. IsFalse (is_faulty old.system (inputs_of lines) w u)) (λ u lt. (keeps old lines stands w before_next).sound u lt) (instants old.system lines w old.next) (below old.system lines w old.next));
+          (all_by (λ u. u < old.next) (λ u. IsFalse (is_faulty old.system (inputs_of lines) w u)) (λ u lt. (keeps old lines stands w before_next).sound u lt) (instants old.system lines w old.next) (instants_below old.system lines w old.next));
     },
   )
     where
@@ -195,11 +170,11 @@ module _ (old : State) (lines : List Line) (ready : IsReady old) (stands : Stand
   fault_ends text i kind room named text_is =
       let faulty = some_from (λ j. is_some (root_at old.system (inputs_of lines) w t j)) old.system.running i named.running (ap is_some named.root) in
       let taken = taken_more room in
-      let none = filter_dropped (λ u. not (is_over old.system (inputs_of lines) w u)) (t ∷ take taken.0 then_more.0) (dropped faulty taken.0) in
+      let none = filter_none (λ u. not (is_over old.system (inputs_of lines) w u)) (t ∷ take taken.0 then_more.0) (dropped faulty taken.0) in
       let all = all_due old lines stands w before_next in (
         text_is
             ∙ ap (flat_map (text_at old.system w)) (sym (ap (filter (λ u. not (is_over old.system (inputs_of lines) w u))) taken.1
-            ∙ filter_append (λ u. not (is_over old.system (inputs_of lines) w u)) (instants old.system lines w old.next) (t ∷ take taken.0 then_more.0) ∙ (λ k. all k ++ none k) ∙ append-nil (instants old.system lines w old.next))),
+            ∙ filter-append (λ u. not (is_over old.system (inputs_of lines) w u)) (instants old.system lines w old.next) (t ∷ take taken.0 then_more.0) ∙ (λ k. all k ++ none k) ∙ append-nil (instants old.system lines w old.next))),
         record { named = named; within = subst (λ ts. Contains ts t) (sym taken.1) (contains_middle (instants old.system lines w old.next) (take taken.0 then_more.0) t) },
       )
 

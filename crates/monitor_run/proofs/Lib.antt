@@ -1,3 +1,4 @@
+pub mod AskedLemmas
 pub mod CellLemmas
 pub mod UpdateLemmas
 pub mod CaseLemmas
@@ -5,6 +6,7 @@ pub mod PlanLemmas
 pub mod TypedLemmas
 pub mod BeginLemmas
 pub mod RunLemmas
+pub mod HandLemmas
 pub mod HoldLemmas
 pub mod KeptTypes
 pub mod RootLemmas

@@ -4,13 +4,12 @@ use Rattle.std.proofs.lemmas.Bool.{and_parts, cases_eq, eqb-true, eqb-false, ne_
 use Rattle.std.proofs.Math.Bool.{or-false}
 use Rattle.std.proofs.lemmas.List.Elements.{recursion_from_All}
 use Rattle.std.proofs.lemmas.List.{get_or-set_same, get_or-set_other, take_more}
-use Rattle.std.proofs.lemmas.Option.{slice_get_within}
 use Rattle.std.specs.Prelude.{◌≢◌, if◌then◌else◌, IsTrue, IsFalse, is_some, slice_get, slice_index, slice_index_or}
 use Rattle.std.specs.List.{AllByRecursion, list_any}
 use Rattle.std.specs.Option.{option_and_then, option_map}
 use Rattle.tsl_value.specs.declared.scalar.Scalar.TheVariants as scalar
-use Rattle.lift_func.specs.Cells.{HoldsLive}
-use Rattle.aggregate_store.specs.Stored.{Stored}
+use Rattle.lift_func.specs.inner.Cells.{HoldsLive}
+use Rattle.aggregate_store.specs.inner.Stored.{Stored}
 use Rattle.lift_func.specs.declared.fault.FaultKind.{FaultKind}
 use Rattle.flat_core.specs.declared.equation.Equation.{Equation}
 use Rattle.flat_core.specs.declared.equation.Op.{Op}
@@ -23,29 +22,31 @@ use Rattle.flat_core.proofs.Uniqueness.{used_all}
 use Rattle.alias_rules.specs.Fine.{IsFinePlan}
 use Rattle.alias_rules.specs.Uses.{is_update}
 use Rattle.alias_rules.proofs.Ordered.{needed_order}
-use Rattle.register_code.specs.Plan.{IsPlanOrder}
+use Rattle.register_code.specs.inner.Plan.{IsPlanOrder}
 use Rattle.flat_core.specs.Members.{is_in}
 use Rattle.flat_core.specs.System.{System, runs, equation}
 use Rattle.flat_core.specs.Text.{event_line}
+use Rattle.flat_core.proofs.Depth.{runs_below}
 use Rattle.register_machine.specs.Content.{print_of}
 use Rattle.register_machine.specs.Machine.{Instr, Run, RunInPlace, Print, Bare, held, is_failed, view_of, Config, OfEquation, Ran, RanInPlace, effect, value_in, Step, Steps}
 use Rattle.register_machine.specs.Run as run
 use Rattle.register_machine.specs.Run.{Plan, step_instr, started, failed_by, root_in, root_seen}
 use Rattle.monitor_run.specs.declared.machine.Machine.{Machine}
 use Rattle.monitor_run.specs.declared.run.Root.{Root}
-use Rattle.monitor_run.specs.Here.{TakesTyped, is_blocked_here, is_given_op, is_marked}
-use Rattle.monitor_run.specs.Instant.{HasPrinted, HasRunAll, HasRunOne, IsLeastRoot, IsPrinted, IsShownAt, SameBeside, Shows, StartsAs, name_of, root_beside}
-use Rattle.monitor_run.specs.Machine.{AreFresh, HasRoom, IsFresh}
-use Rattle.monitor_run.specs.Registers.{AreHeld, register_at, value_at}
-use Rattle.monitor_run.specs.Shown.{held_at, held_by}
+use Rattle.monitor_run.specs.inner.Here.{TakesTyped, is_blocked_here, is_given_op, is_marked}
+use Rattle.monitor_run.specs.inner.Instant.{HasPrinted, HasRunAll, HasRunOne, IsLeastRoot, IsPrinted, IsShownAt, SameBeside, Shows, StartsAs, name_of, root_beside}
+use Rattle.monitor_run.specs.inner.Machine.{AreFresh, HasRoom, IsFresh}
+use Rattle.monitor_run.specs.inner.Registers.{AreHeld, register_at, value_at}
+use Rattle.monitor_run.specs.inner.Shown.{held_at, held_by}
 use Rattle.monitor_run.proofs.CellLemmas.{seen_is}
 use Rattle.monitor_run.proofs.KeptTypes.{AllHeld, all_held}
-use Rattle.monitor_run.proofs.PlanLemmas.{ComesNext, PrintsNext, fine_update, next_is, one_equation, prints_next, running_args, shape_of}
+use Rattle.flat_core.proofs.Shapes.{one_equation, running_args, shape_of}
+use Rattle.monitor_run.proofs.PlanLemmas.{ComesNext, PrintsNext, fine_update, next_is, prints_next}
 use Rattle.monitor_run.proofs.RunLemmas.{CanRunOn, HasRunOn, RanOne, delay_none, given_same, mark_none, marks_same, others_same, run_on}
 use Rattle.monitor_run.proofs.RootLemmas.{least-at, least-one, least-same}
 use Rattle.monitor_run.proofs.TypedLemmas.{args_live, takes_typed}
 
--- ---- steps behind one another
+-- ---- steps after one another
 pub steps_push : (inputs : Inputs) (t : ℕ) (s : System) (xs : List Instr) (instr : Instr) (c mid d : Config) → Steps inputs t s xs c mid → Step inputs t s instr mid d → Steps inputs t s (xs ++ instr ∷ []) c d
 steps_push inputs t s [] instr c mid d ran step = (d, subst (λ x. Step inputs t s instr x d) ran step, refl)
 steps_push inputs t s (x ∷ xs) instr c mid d ran step = (ran.0, ran.1, steps_push inputs t s xs instr ran.0 mid d ran.2 step)
@@ -304,9 +305,6 @@ module _ (s : System) (whole : IsFlat s) (plan : Plan) (t : ℕ) (front : List �
 -- ---- the print that comes next
 module _ (s : System) (whole : IsFlat s) (plan : Plan) (t : ℕ) (front rest : List ℕ) (n k : ℕ) (order_is : plan.order ≡ front ++ n ∷ rest) (n_is : n ≡ length s.equations + k) (old mid new : Machine) (root : Option Root) (p : IsPartly s plan t front old mid root) (room : HasRoom s old) (there : k < length s.outputs)
     (done : IsTrue (is_in front (print_of s k))) (running : IsTrue (runs s (print_of s k))) (printed : HasPrinted s t k mid new) (beside : SameBeside mid new) where
-  below : (i : ℕ) → IsTrue (runs s i) → i < length s.equations
-  below i run_i = let found = whole.proper.runs_all i run_i in slice_get_within s.equations i found.0 found.1
-
   same_in : (i : ℕ) → i < length s.equations → is_in (front ++ n ∷ []) i ≡ is_in front i
   same_in i lt = in_push front n i ∙ (λ j. is_in front i || ne_eqb n i (λ same. absurd (omega arith)) j) ∙ or-false (is_in front i)
 
@@ -342,7 +340,7 @@ module _ (s : System) (whole : IsFlat s) (plan : Plan) (t : ℕ) (front rest : L
       config = before_print.config;
       ran = subst (λ instrs. Steps inputs t s instrs (started a) before_print.config) (sym (map_split (step_instr s plan) front (n ∷ []))) (steps_push inputs t s (map (step_instr s plan) front) (step_instr s plan n) (started a) before_print.config before_print.config before_print.ran (subst (λ instr. Step inputs t s instr before_print.config before_print.config) (sym instr_is) refl));
       shows = record {
-        each = λ i run_i done_i. stays_shown mid new before_print.config before_print.config i (ap (λ v. register_at v.items i) printed.registers) (ap (λ v. is_marked v.items i) printed.faulted) refl (before_print.shows.each i run_i (sym (same_in i (below i run_i)) ∙ done_i));
+        each = λ i run_i done_i. stays_shown mid new before_print.config before_print.config i (ap (λ v. register_at v.items i) printed.registers) (ap (λ v. is_marked v.items i) printed.faulted) refl (before_print.shows.each i run_i (sym (same_in i (runs_below s whole.proper i run_i)) ∙ done_i));
         beside = record {
           lasts = λ v. ap (λ l. held_at l v) beside.last ∙ before_print.shows.beside.lasts v;
           cells = ap (λ st. st.cells) printed.store ∙ before_print.shows.beside.cells;
@@ -372,7 +370,7 @@ module _ (s : System) (whole : IsFlat s) (plan : Plan) (t : ℕ) (front rest : L
             none false false = refl
 
             split : (q : Bool) → runs s i ≡ q → (is_in front i && runs s i) ≡ (is_in (front ++ n ∷ []) i && runs s i)
-            split true so = λ j. sym (same_in i (below i so)) j && runs s i
+            split true so = λ j. sym (same_in i (runs_below s whole.proper i so)) j && runs s i
             split false fails = (λ j. is_in front i && fails j) ∙ none (is_in front i) (is_in (front ++ n ∷ []) i) ∙ sym (λ j. is_in (front ++ n ∷ []) i && fails j)
 
   pub partly_print : IsPartly s plan t (front ++ n ∷ []) old new root
@@ -384,7 +382,7 @@ module _ (s : System) (whole : IsFlat s) (plan : Plan) (t : ℕ) (front rest : L
       last = subst (λ l. AreHeld s p.all.types new.store.cells l) (sym beside.last) (subst (λ (st : Stored). AreHeld s p.all.types st.cells mid.last.items) (sym printed.store) p.all.last);
     };
     fresh = λ i e run_i is none.
-        let was = p.fresh i e run_i is (sym (same_in i (below i run_i)) ∙ none) in
+        let was = p.fresh i e run_i is (sym (same_in i (runs_below s whole.proper i run_i)) ∙ none) in
         record { unmarked = ap (λ v. is_marked v.items i) printed.faulted ∙ was.unmarked; empty = λ other. ap (λ v. register_at v.items i) printed.registers ∙ was.empty other };
     given_stay = λ i e is so. ap (λ v. register_at v.items i) printed.registers ∙ p.given_stay i e is so;
     untouched = λ i none. ap (λ v. register_at v.items i) printed.registers ∙ p.untouched i (or_parts (is_in front i) (n == i) (sym (in_push front n i) ∙ none)).0;

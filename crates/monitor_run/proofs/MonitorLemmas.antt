@@ -19,8 +19,8 @@ use Rattle.register_machine.specs.Stands.{RunsTo}
 use Rattle.register_machine.proofs.LaterRuns.{later_leave}
 use Rattle.lift_func.specs.declared.register.Register.TheVariants as register
 use Rattle.std.specs.Ordering.{nat_cmp}
-use Rattle.flat_core.specs.BoundLaws.{LeavesEarlier}
-use Rattle.monitor_run.specs.Begun.{IsBegunOf}
+use Rattle.flat_core.specs.inner.BoundLaws.{LeavesEarlier}
+use Rattle.monitor_run.specs.inner.Begun.{IsBegunOf}
 use Rattle.flat_core.specs.Text.{text_at}
 use Rattle.flat_core.specs.Instant.{instants}
 use Rattle.flat_core.specs.Line.{Line, IsSorted, event_in, inputs_of}
@@ -31,16 +31,16 @@ use Rattle.flat_core.proofs.Uniqueness.{all_by}
 use Rattle.flat_core.proofs.LaterLines.{leaves_earlier}
 use Rattle.monitor_run.specs.declared.machine.Machine.{Machine}
 use Rattle.monitor_run.specs.declared.run.Root.{Root}
-use Rattle.monitor_run.specs.Given.{AreAt, AreBefore, AreEventLines, AreGiven, AreOnce, IsEventLine, line_of}
-use Rattle.monitor_run.specs.Instant.{AreTimers, HasFaultedAt, HasRunInstant, IsInstantBegun, IsInstantText, ReachesFault, kept_of}
-use Rattle.monitor_run.specs.Next.{Comes, NothingBefore}
-use Rattle.monitor_run.specs.Machine.{HasRoom}
-use Rattle.monitor_run.specs.Registers.{AreHeld, IsHeldOf, register_at}
-use Rattle.monitor_run.specs.Shown.{held_at, held_by, state_of}
-use Rattle.monitor_run.specs.Stands.{KeepsOf, Stands}
-use Rattle.monitor_run.specs.State.{State, IsReady, kept_state, plan_of}
-use Rattle.monitor_run.specs.Steps.{AreAsSet, CanTake, HasFaulted, HasRun, IsAtLimit, IsBegun, IsNextOf, NoneIsLeft}
-use Rattle.monitor_run.specs.Stored.{stored_count}
+use Rattle.monitor_run.specs.inner.Given.{AreAt, AreBefore, AreEventLines, AreGiven, AreOnce, IsEventLine, line_of}
+use Rattle.monitor_run.specs.inner.Instant.{AreTimers, HasFaultedAt, HasRunInstant, IsInstantBegun, IsInstantText, ReachesFault, kept_of}
+use Rattle.monitor_run.specs.inner.Next.{Comes, NothingBefore}
+use Rattle.monitor_run.specs.inner.Machine.{HasRoom}
+use Rattle.monitor_run.specs.inner.Registers.{AreHeld, IsHeldOf, register_at}
+use Rattle.monitor_run.specs.inner.Shown.{held_at, held_by, state_of}
+use Rattle.monitor_run.specs.inner.Stands.{KeepsOf, Stands}
+use Rattle.monitor_run.specs.inner.State.{State, IsReady, kept_state, plan_of}
+use Rattle.monitor_run.specs.inner.Steps.{AreAsSet, CanTake, HasFaulted, HasRun, IsAtLimit, IsBegun, IsNextOf, NoneIsLeft}
+use Rattle.monitor_run.specs.inner.Stored.{stored_count}
 use Rattle.flat_core.specs.Typed.{unit_type}
 use Rattle.monitor_run.proofs.RootLemmas.{least-at}
 use Rattle.monitor_run.proofs.StepLemmas.{append_input, both_none, copied_now, inputs_now, is_first, no_past_input, one_more, quiet_to, run_on_now, shown, sound_before, sound_now, text_now}
@@ -317,6 +317,14 @@ once_push (x ∷ lines) time i value once fresh = from (λ rest. once_push lines
     from : (inputs_of lines i time ≡ None → AreOnce (lines ++ line_of time i value ∷ [])) → AreOnce ((x ∷ lines) ++ line_of time i value ∷ [])
     from rest = ((λ j v is. input_push lines (line_of time i value) j x.time (once.0 j v is) ∙ other j v is), rest parts.1)
 
+-- an event that can be taken leaves all that is earlier
+pub given_leaves : (m : State) → IsReady m → (time i : ℕ) (value : Scalar) → CanTake m time i value → (lines : List Line) → LeavesEarlier m.system m.next lines (line_of time i value ∷ [])
+given_leaves m ready time i value can lines =
+    let within = ready.within in
+    let unclosed = can.unclosed in
+    let low : m.next ≤ time = omega arith in
+    leaves_earlier m.system m.next lines (line_of time i value ∷ []) (low, tt)
+
 pub stands_given : (m : State) (ready : IsReady m) (time i : ℕ) (value : Scalar) → CanTake m time i value → (lines : List Line) → Stands m lines → Stands (record m { given = m.given ++ line_of time i value ∷ [] }) (lines ++ line_of time i value ∷ [])
 stands_given m ready time i value can lines stands = record {
   going = stands.going;
@@ -329,8 +337,8 @@ stands_given m ready time i value can lines stands = record {
   parts = ap (λ ls. ls ++ line_of time i value ∷ []) stands.parts ∙ append_assoc stands.past m.given (line_of time i value ∷ []);
   earlier = stands.earlier;
   keeps = λ z solves.
-      let k = stands.keeps z ((leaves.solves_same z).1 solves) in
-      let same = leaves.happens z in
+      let k = stands.keeps z (((given_leaves m ready time i value can lines).solves_same z).1 solves) in
+      let same = (given_leaves m ready time i value can lines).happens z in
       record {
         run = (later_leave m.system (plan_of m) lines (line_of time i value ∷ []) z m.next (kept_state m) (next_below, tt)).0 k.run;
         ran = k.ran ∙ ap length (same.instants_same m.next (omega arith));
@@ -340,9 +348,6 @@ stands_given m ready time i value can lines stands = record {
   where
     next_below : m.next ≤ time
     next_below = let within = ready.within in let unclosed = can.unclosed in omega arith
-
-    leaves : LeavesEarlier m.system m.next lines (line_of time i value ∷ [])
-    leaves = leaves_earlier m.system m.next lines (line_of time i value ∷ []) (next_below, tt)
 
     not_later : AllByRecursion (λ x. x.time ≤ time) lines
     not_later =

@@ -5,12 +5,12 @@ use Rattle.std.specs.Prelude.{◌⊎◌, ◌≢◌, if◌then◌else◌, MatchOp
 use Rattle.std.specs.List.{AllByRecursion, Contains}
 use Rattle.std.specs.FinMap as finite_map
 use Rattle.std.specs.Ordering.{nat_cmp}
-use Rattle.delay_timers.specs.Pending.{Times, IsLeastTime}
+use Rattle.delay_timers.specs.inner.Pending.{Times, IsLeastTime}
 use Rattle.flat_core.specs.Line.{Line}
 use Rattle.flat_core.proofs.Members.{contains_head}
 use Rattle.flat_core.proofs.Uniqueness.{all_by}
-use Rattle.monitor_run.specs.Given.{AreAt}
-use Rattle.monitor_run.specs.Next.{Comes, IsFirstTime, NothingBefore, earliest, time_if}
+use Rattle.monitor_run.specs.inner.Given.{AreAt}
+use Rattle.monitor_run.specs.inner.Next.{Comes, IsFirstTime, NothingBefore, earliest, time_if}
 
 -- the time of the timers
 abbrev pub IsFirstTimer : Times → Option ℕ → Type 0

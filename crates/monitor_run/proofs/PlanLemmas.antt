@@ -1,104 +1,28 @@
--- What the equations of a system have, and the orders of plans.
+-- Orders of plans, and what comes next in them.
 use Rattle.std.proofs.Common.{◌≡◌, ◌==◌, ℕ, zero, suc, ◌+◌, ◌<◌, ◌≤◌, Bool, true, ◌||◌, List, [], ◌∷◌, length, get_or, take, Some, refl, sym, ap, subst, ◌∙◌, inl, inr, arith}
 use Rattle.std.proofs.lemmas.Bool.{and_from, and_parts, le-leb, leb-true, lt-ltb, ltb-true, or_cases, or_left, or_right}
-use Rattle.std.proofs.lemmas.List.Elements.{All-from_recursion}
 use Rattle.std.proofs.lemmas.List.{take_all}
 use Rattle.std.proofs.lemmas.List.Folds.{list_any_more}
 use Rattle.std.proofs.lemmas.Option.{get_or_from_slice_get, slice_get-get_or, slice_get_within}
 use Rattle.std.specs.Prelude.{◌-◌, IsTrue, IsFalse, nat_le, nat_lt, slice_get}
 use Rattle.std.specs.Option.{option_map_or}
-use Rattle.std.specs.List.{All, AllByRecursion}
-use Rattle.tsl_value.specs.declared.scalar.ValueType.{ValueType}
+use Rattle.std.specs.List.{AllByRecursion}
 use Rattle.flat_core.specs.declared.equation.Equation.{Equation}
-use Rattle.flat_core.specs.declared.equation.Op.{Op}
-use Rattle.flat_core.specs.declared.equation.Op.TheVariants as op
 use Rattle.flat_core.specs.Case.{used_of}
 use Rattle.flat_core.specs.Complete.{IsFlat}
 use Rattle.flat_core.specs.Members.{is_in}
 use Rattle.flat_core.specs.System.{System, runs, equation, IsProper}
-use Rattle.flat_core.specs.Typed.{IsTyped, input, nil, unit, empty, time, any, last, delay, merge, filter, pick, set_add, set_remove, map_add, map_remove, lift}
-use Rattle.flat_core.specs.TypedSystem.{AreOfTypes}
 use Rattle.flat_core.specs.WellFormed.{unguarded_of}
-use Rattle.flat_core.proofs.Finished.{typed_there}
 use Rattle.flat_core.proofs.Members.{all_from, in-Contains}
 use Rattle.flat_core.proofs.Uniqueness.{all_used}
 use Rattle.flat_core.specs.declared.equation.Output.{Output}
+use Rattle.flat_core.proofs.Shapes.{one_equation}
 use Rattle.alias_rules.specs.Fine.{IsFinePlan}
 use Rattle.alias_rules.specs.Steps.{argument, printed, is_print, is_step, step_count}
 use Rattle.alias_rules.specs.Uses.{is_update}
 use Rattle.alias_rules.proofs.Ranks.{in_take, not_in_take, one_place}
 use Rattle.register_machine.specs.Content.{print_of}
-use Rattle.register_code.specs.Plan.{IsPlanOrder}
-use Rattle.monitor_run.specs.Here.{HasShape}
-
--- an equation stands at its number alone
-pub one_equation : (s : System) (n : ℕ) (e f : Equation) → equation s n ≡ Some e → equation s n ≡ Some f → f ≡ e
-one_equation s n e f is also = cc
-
--- ---- arguments
-
--- the arguments of a running equation run
-pub running_args : (s : System) → IsProper s → (i : ℕ) (e : Equation) → IsTrue (runs s i) → equation s i ≡ Some e → AllByRecursion (λ a. IsTrue (runs s a)) e.args
-running_args s proper i e run is =
-    let found = proper.runs_all i run in
-    subst (λ (g : Equation). AllByRecursion (λ a. IsTrue (runs s a)) g.args) (one_equation s i e found.0 is found.1) found.2
-
--- the arguments of an equation are there
-pub args_there : (s : System) (i : ℕ) (e : Equation) (n : ℕ) → IsFlat s → equation s i ≡ Some e → n ≡ length s.equations → All (λ a. a < n) e.args
-args_there s i e n flat is same =
-    subst (λ m. All (λ a. a < m) e.args) (sym same) (All-from_recursion (λ a. a < length s.equations) e.args (typed_there s flat.complete.typed i e is))
-
--- as many arguments as types
-module _ (equations : List Equation) (P : List ℕ → Type 0) where
-  none_of : (args : List ℕ) → AreOfTypes equations args [] → P [] → P args
-  none_of [] of p = p
-  none_of (a ∷ args) of p = absurd of
-
-  one_of : (t : ValueType) (args : List ℕ) → AreOfTypes equations args (t ∷ []) → ((a : ℕ) → P (a ∷ [])) → P args
-  one_of t [] of p = absurd of
-  one_of t (a ∷ []) of p = p a
-  one_of t (a ∷ b ∷ args) of p = absurd of.1
-
-  two_of : (t u : ValueType) (args : List ℕ) → AreOfTypes equations args (t ∷ u ∷ []) → ((a b : ℕ) → P (a ∷ b ∷ [])) → P args
-  two_of t u [] of p = absurd of
-  two_of t u (a ∷ []) of p = absurd of.1
-  two_of t u (a ∷ b ∷ []) of p = p a b
-  two_of t u (a ∷ b ∷ c ∷ args) of p = absurd of.1.1
-
-  three_of : (t u v : ValueType) (args : List ℕ) → AreOfTypes equations args (t ∷ u ∷ v ∷ []) → ((a b c : ℕ) → P (a ∷ b ∷ c ∷ [])) → P args
-  three_of t u v [] of p = absurd of
-  three_of t u v (a ∷ []) of p = absurd of.1
-  three_of t u v (a ∷ b ∷ []) of p = absurd of.1.1
-  three_of t u v (a ∷ b ∷ c ∷ []) of p = p a b c
-  three_of t u v (a ∷ b ∷ c ∷ d ∷ args) of p = absurd of.1.1.1
-
-typed_shape : (equations : List Equation) (o : Op) (args : List ℕ) (ts : List ValueType) (t : ValueType) → IsTyped o ts t → AreOfTypes equations args ts → HasShape o args
-typed_shape equations op.Input args ts t input of = none_of equations (HasShape op.Input) args of tt
-typed_shape equations op.Nil args ts t nil of = none_of equations (HasShape op.Nil) args of tt
-typed_shape equations op.Unit args ts t unit of = none_of equations (HasShape op.Unit) args of tt
-typed_shape equations op.Empty args ts t (empty is) of = none_of equations (HasShape op.Empty) args of tt
-typed_shape equations op.Time args ts t time of = one_of equations (HasShape op.Time) _ args of (λ a. tt)
-typed_shape equations op.Any args ts t (any low high) of = tt
-typed_shape equations op.Last args ts t last of = two_of equations (HasShape op.Last) _ _ args of (λ a b. tt)
-typed_shape equations op.Delay args ts t delay of = two_of equations (HasShape op.Delay) _ _ args of (λ a b. tt)
-typed_shape equations op.Merge args ts t merge of = two_of equations (HasShape op.Merge) _ _ args of (λ a b. tt)
-typed_shape equations op.Filter args ts t filter of = two_of equations (HasShape op.Filter) _ _ args of (λ a b. tt)
-typed_shape equations op.Pick args ts t (pick is) of = three_of equations (HasShape op.Pick) _ _ _ args of (λ a b c. tt)
-typed_shape equations op.SetAdd args ts t (set_add is) of = two_of equations (HasShape op.SetAdd) _ _ args of (λ a b. tt)
-typed_shape equations op.SetRemove args ts t (set_remove is) of = two_of equations (HasShape op.SetRemove) _ _ args of (λ a b. tt)
-typed_shape equations op.MapAdd args ts t (map_add is) of = three_of equations (HasShape op.MapAdd) _ _ _ args of (λ a b c. tt)
-typed_shape equations op.MapRemove args ts t (map_remove is) of = two_of equations (HasShape op.MapRemove) _ _ args of (λ a b. tt)
-typed_shape equations (op.Lift body strict) [] [] t (lift low high kind) of = absurd (omega arith)
-typed_shape equations (op.Lift body strict) [] (x ∷ ts) t (lift low high kind) of = absurd of
-typed_shape equations (op.Lift body strict) (a ∷ args) ts t (lift low high kind) of = tt
-
--- an equation has as many arguments as its operation
-pub shape_of : (s : System) → IsFlat s → (i : ℕ) (e : Equation) → equation s i ≡ Some e → HasShape e.op e.args
-shape_of s flat i e is =
-    let typed = flat.complete.typed.each i e is in
-    typed_shape s.equations e.op e.args typed.types e.of typed.typed typed.arguments
-
--- ---- orders
+use Rattle.register_code.specs.inner.Plan.{IsPlanOrder}
 
 -- what is among the first steps of an order
 abbrev pub done_by : List ℕ → ℕ → ℕ → Bool

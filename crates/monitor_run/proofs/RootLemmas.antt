@@ -5,7 +5,7 @@ use Rattle.std.specs.Prelude.{IsTrue}
 use Rattle.std.specs.Option.{option_map}
 use Rattle.lift_func.specs.declared.fault.FaultKind.{FaultKind}
 use Rattle.monitor_run.specs.declared.run.Root.{Root}
-use Rattle.monitor_run.specs.Instant.{IsLeastRoot}
+use Rattle.monitor_run.specs.inner.Instant.{IsLeastRoot}
 
 pub least-same : (among other : ℕ → Bool) (at : ℕ → Option FaultKind) (r : Option Root) → ((i : ℕ) → among i ≡ other i) → IsLeastRoot among at r → IsLeastRoot other at r
 least-same among other at r same = subst (λ (p : ℕ → Bool). IsLeastRoot p at r) (λ k i. same i k)

@@ -13,9 +13,9 @@ use Rattle.lift_func.specs.declared.eval.EvalFault.TheVariants as eval_fault
 use Rattle.lift_func.specs.declared.fault.FaultKind.{FaultKind}
 use Rattle.lift_func.specs.declared.register.Register.{Register}
 use Rattle.lift_func.specs.declared.register.Register.TheVariants as register
-use Rattle.lift_func.specs.Cells as cells
-use Rattle.lift_func.specs.Cells.{IsLive, HoldsLive}
-use Rattle.aggregate_store.specs.Stored.{Stored, counted}
+use Rattle.lift_func.specs.inner.Cells as cells
+use Rattle.lift_func.specs.inner.Cells.{IsLive, HoldsLive}
+use Rattle.aggregate_store.specs.inner.Stored.{Stored, counted}
 use Rattle.flat_core.specs.declared.equation.Equation.{Equation}
 use Rattle.flat_core.specs.declared.equation.Op.{Op}
 use Rattle.flat_core.specs.declared.equation.Op.TheVariants as op
@@ -29,11 +29,12 @@ use Rattle.register_machine.specs.Run.{failed_by}
 use Rattle.register_machine.proofs.Cells.{with-here, with-there}
 use Rattle.monitor_run.specs.declared.machine.Machine.{Machine}
 use Rattle.monitor_run.specs.declared.run.Root.{Root}
-use Rattle.monitor_run.specs.Here.{HasEffect, HasMade, HasShape, effect_here, is_blocked_here, is_given_op, is_marked, source_of}
-use Rattle.monitor_run.specs.Instant.{HasRunOne, was_given, was_barred, was_filled, has_failed, IsGivenEvent, IsShownAt, ShowsBeside}
-use Rattle.monitor_run.specs.Machine.{IsFresh}
-use Rattle.monitor_run.specs.Registers.{register_at}
-use Rattle.monitor_run.specs.Shown.{IsShown, config_of, held_at, held_by}
+use Rattle.flat_core.specs.inner.Shape.{HasShape}
+use Rattle.monitor_run.specs.inner.Here.{HasEffect, HasMade, effect_here, is_blocked_here, is_given_op, is_marked, source_of}
+use Rattle.monitor_run.specs.inner.Instant.{HasRunOne, was_given, was_barred, was_filled, has_failed, IsGivenEvent, IsShownAt, ShowsBeside}
+use Rattle.monitor_run.specs.inner.Machine.{IsFresh}
+use Rattle.monitor_run.specs.inner.Registers.{register_at}
+use Rattle.monitor_run.specs.inner.Shown.{IsShown, config_of, held_at, held_by}
 use Rattle.monitor_run.proofs.CaseLemmas.{value_seen}
 
 -- ---- registers that stand for one another

@@ -21,11 +21,12 @@ use Rattle.flat_core.specs.Solution.{Solves}
 use Rattle.flat_core.specs.Stream.{event}
 use Rattle.flat_core.specs.System.{System, equation, runs}
 use Rattle.flat_core.specs.Text.{event_line, text_at}
-use Rattle.flat_core.specs.TypedLines.{AreTypedLines}
+use Rattle.flat_core.specs.inner.TypedLines.{AreTypedLines}
 use Rattle.flat_core.proofs.SmallerBound.{solves_less}
+use Rattle.flat_core.proofs.Shapes.{one_equation}
 use Rattle.alias_rules.specs.Uses.{IsUpdate}
 use Rattle.register_code.specs.Code.{is_timer}
-use Rattle.register_code.specs.Plan.{IsPlanOrder}
+use Rattle.register_code.specs.inner.Plan.{IsPlanOrder}
 use Rattle.register_machine.specs.Copied.{copied}
 use Rattle.register_machine.specs.Laws.{Reaches, ShowsInstant}
 use Rattle.register_machine.specs.Machine.{Config}
@@ -36,11 +37,11 @@ use Rattle.register_machine.specs.Stands as machine
 use Rattle.register_machine.proofs.LaterRuns.{runs_on}
 use Rattle.register_machine.proofs.Shown as laws
 use Rattle.alias_rules.proofs.Ordered.{needed_order}
-use Rattle.monitor_run.specs.Given.{AreBefore, AreEventLines}
-use Rattle.monitor_run.specs.Instant.{IsInstantText, name_of}
-use Rattle.monitor_run.specs.Next.{Comes, IsFirstInstant, NothingBefore}
-use Rattle.monitor_run.specs.Stands.{KeepsOf, Stands}
-use Rattle.monitor_run.specs.State.{State, IsReady, kept_state, plan_of}
+use Rattle.monitor_run.specs.inner.Given.{AreBefore, AreEventLines}
+use Rattle.monitor_run.specs.inner.Instant.{IsInstantText, name_of}
+use Rattle.monitor_run.specs.inner.Next.{Comes, IsFirstInstant, NothingBefore}
+use Rattle.monitor_run.specs.inner.Stands.{KeepsOf, Stands}
+use Rattle.monitor_run.specs.inner.State.{State, IsReady, kept_state, plan_of}
 use Rattle.monitor_run.specs.Updates.{is_running_update, is_update}
 use Rattle.monitor_run.proofs.DelayLemmas.{delay_op}
 use Rattle.monitor_run.proofs.DueTimes.{due_at, due_of, due_time}
@@ -71,22 +72,21 @@ append_input (l ∷ past) given i t none = from (λ rest. append_input past give
 -- event lines are typed
 typed_lines : (s : System) (lines : List Line) → AreEventLines s lines → AreTypedLines s lines
 typed_lines s [] all = tt
-typed_lines s (l ∷ lines) all = (record { event = λ i v is e at. typed i v is e at }, typed_lines s lines all.1)
+typed_lines s (l ∷ lines) all = (
+  record {
+    event = λ i v is e at.
+        let same = pair_same all.0.input i all.0.value v (sym all.0.is ∙ is) in
+        let fits = all.0.fits in
+        let here : equation s i ≡ Some fits.at = ap (equation s) (sym same.0) ∙ fits.is in
+        subst (λ x. IsTrue (is_of e.of (Plain x))) same.1 (subst (λ (f : Equation). IsTrue (is_of f.of (Plain all.0.value))) (one_equation s i e fits.at at here) fits.typed);
+  },
+  typed_lines s lines all.1,
+)
   where
     pair_same : (a b : ℕ) (x y : Scalar) → ◌≡◌ {A = Option (ℕ × Scalar)} (Some (a, x)) (Some (b, y)) → (a ≡ b) × (x ≡ y)
     pair_same a b x y p = (ap (λ (o : Option (ℕ × Scalar)). option_map_or (λ (q : ℕ × Scalar). q.0) o a) p, ap (λ (o : Option (ℕ × Scalar)). option_map_or (λ (q : ℕ × Scalar). q.1) o x) p)
 
-    one_equation : (i : ℕ) (e f : Equation) → equation s i ≡ Some e → equation s i ≡ Some f → f ≡ e
-    one_equation i e f is also = cc
-
-    typed : (i : ℕ) (v : Scalar) → l.event ≡ Some (i, v) → (e : Equation) → equation s i ≡ Some e → IsTrue (is_of e.of (Plain v))
-    typed i v is e at =
-        let same = pair_same all.0.input i all.0.value v (sym all.0.is ∙ is) in
-        let fits = all.0.fits in
-        let here : equation s i ≡ Some fits.at = ap (equation s) (sym same.0) ∙ fits.is in
-        subst (λ x. IsTrue (is_of e.of (Plain x))) same.1 (subst (λ (f : Equation). IsTrue (is_of f.of (Plain all.0.value))) (one_equation i e fits.at at here) fits.typed)
-
--- texts one behind the other
+-- texts one after the other
 concat_is : (f : Option Output → List ℕ) (outputs : List Output) (texts : List (List ℕ)) → length texts ≡ length outputs → ((k : ℕ) → k < length outputs → slice_index_or texts k [] ≡ f (slice_get outputs k)) → flat_map (λ x. x) texts ≡ flat_map (λ o. f (Some o)) outputs
 concat_is f [] [] size each = refl
 concat_is f [] (x ∷ texts) size each = absurd (omega arith)

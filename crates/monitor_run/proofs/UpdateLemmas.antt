@@ -3,7 +3,6 @@ use Rattle.std.proofs.Common.{◌≡◌, ℕ, true, List, [], ◌∷◌, map, po
 use Rattle.std.specs.Prelude.{IsTrue, slice_index}
 use Rattle.std.specs.List.{All}
 use Rattle.tsl_value.specs.declared.scalar.KeyType.{KeyType}
-use Rattle.tsl_value.specs.declared.scalar.KeyType.TheVariants as key_type
 use Rattle.tsl_value.specs.declared.scalar.Scalar.{Scalar}
 use Rattle.tsl_value.specs.declared.scalar.Scalar.TheVariants as scalar
 use Rattle.tsl_value.specs.declared.scalar.ScalarType.{ScalarType}
@@ -11,22 +10,19 @@ use Rattle.tsl_value.specs.declared.scalar.ScalarType.TheVariants as scalar_type
 use Rattle.tsl_value.specs.declared.scalar.ValueType.{ValueType}
 use Rattle.tsl_value.specs.declared.scalar.ValueType.TheVariants as value_type
 use Rattle.tsl_value.specs.View.{View, Plain, is_of, is_of_key}
-use Rattle.lift_func.specs.Cells.{Cells, FitsKey, HoldsLive, IsLive, view_at}
+use Rattle.lift_func.specs.inner.Cells.{Cells, FitsKey, HoldsLive, IsLive, view_at}
 use Rattle.lift_func.specs.declared.register.Register.{Register}
 use Rattle.lift_func.specs.declared.register.Register.TheVariants as register
 use Rattle.lift_func.specs.Typing.{Optional, fits, scalar_of}
-use Rattle.aggregate_store.specs.Stored.{Stored, FitsValue}
+use Rattle.aggregate_store.specs.inner.Stored.{Stored, FitsValue}
 use Rattle.aggregate_store.proofs.Typed.{fits_key, fits_value}
 use Rattle.flat_core.specs.declared.equation.Equation.{Equation}
 use Rattle.flat_core.specs.declared.equation.Op.TheVariants as op
 use Rattle.flat_core.specs.Typed.{IsTyped, set_add, set_remove, map_add, map_remove}
-use Rattle.monitor_run.specs.Here.{AreAggregateAndKey, AreMapAndEntry, AreOf, AreSetAndKey, HasKeys, TakesTyped}
-use Rattle.monitor_run.specs.Registers.{IsHeldOf, register_at, value_at}
-
-pub key_fits : (k : KeyType) (x : Scalar) → IsTrue (is_of (value_type.Scalar (scalar_of k)) (Plain x)) → IsTrue (is_of_key k x)
-key_fits key_type.Int x fit = fit
-key_fits key_type.Bool x fit = fit
-key_fits key_type.Text x fit = fit
+use Rattle.flat_core.specs.inner.TypedEvents.{AreOf}
+use Rattle.flat_core.proofs.TypedCase.{key_fits}
+use Rattle.monitor_run.specs.inner.Here.{AreAggregateAndKey, AreMapAndEntry, AreSetAndKey, HasKeys, TakesTyped}
+use Rattle.monitor_run.specs.inner.Registers.{IsHeldOf, register_at, value_at}
 
 -- a value that stands beside a key of a type
 key_of_type : (k : KeyType) (of : ValueType) (v : View) (key : Scalar) → HasKeys k of → IsTrue (is_of_key k key) → IsTrue (is_of of v) → FitsKey v key

@@ -10,9 +10,9 @@ use Rattle.flat_core.specs.System.{System}
 use Rattle.register_machine.specs.Run.{Plan}
 use Rattle.monitor_run.specs.declared.machine.Machine.{Machine}
 use Rattle.monitor_run.specs.declared.run.Root.{Root}
-use Rattle.monitor_run.specs.Begun.{IsBegunOf}
-use Rattle.monitor_run.specs.Instant.{AreInputs, HasEnded, HasRunRegisters, IsInstant, IsInstantBegun, IsInstantText, IsSound, kept_of}
-use Rattle.monitor_run.specs.Machine.{HasRoom}
+use Rattle.monitor_run.specs.inner.Begun.{IsBegunOf}
+use Rattle.monitor_run.specs.inner.Instant.{AreInputs, HasEnded, HasRunRegisters, IsInstant, IsInstantBegun, IsInstantText, IsSound, kept_of}
+use Rattle.monitor_run.specs.inner.Machine.{HasRoom}
 use Rattle.monitor_run.proofs.EndedLemmas.{sound_after}
 use Rattle.monitor_run.proofs.InstantOf.{instant_is}
 

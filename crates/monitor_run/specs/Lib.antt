@@ -1,16 +1,2 @@
-pub mod Code
-pub mod Begun
-pub mod Given
-pub mod Registers
-pub mod Shown
-pub mod Here
-pub mod Machine
 pub mod Updates
-pub mod Stored
-pub mod Instant
-pub mod State
-pub mod Next
-pub mod Stands
-pub mod Steps
-pub mod Written
-pub mod Laws
+pub mod inner

@@ -4,16 +4,16 @@ ghost use Rattle.std.specs.Prelude.{◌≡◌, ◌==◌, ◌<◌, ◌≤◌, ℕ
 ghost use Rattle.std.specs.FinMap as map;
 ghost use Rattle.flat_core.specs.Line.{inputs_of};
 ghost use Rattle.flat_core.specs.Members.{is_in};
-ghost use Rattle.monitor_run.specs.Given.{AreAt, AreThere, IsThere};
-ghost use Rattle.monitor_run.specs.Here.{is_marked};
-ghost use Rattle.monitor_run.specs.Instant.{expired_at, left_at, moved_in, with_event};
-ghost use Rattle.monitor_run.specs.Registers.{register_at};
+ghost use Rattle.monitor_run.specs.inner.Given.{AreAt, AreThere, IsThere};
+ghost use Rattle.monitor_run.specs.inner.Here.{is_marked};
+ghost use Rattle.monitor_run.specs.inner.Instant.{expired_at, left_at, moved_in, with_event};
+ghost use Rattle.monitor_run.specs.inner.Registers.{register_at};
 
 use crate::machine::put;
 use delay_timers::timers::Timers;
 use flat_core::line::TraceLine;
-use flat_core::steps::Steps;
 use lift_func::register::Register;
+use translation_order::steps::Steps;
 use tsl_value::scalar::Scalar;
 use tsl_value::time::Time;
 

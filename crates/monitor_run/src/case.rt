@@ -1,26 +1,31 @@
 // What an operation makes of the registers of its arguments.
 
-ghost use Rattle.std.specs.Prelude.{◌≡◌, ◌<◌, All, IfOk, OnErr, IsTrue, None, Some, false, pos, if◌then◌else◌, is_some, length, map, slice_index};
+ghost use Rattle.std.specs.Prelude.{◌≡◌, ◌<◌, All, IfOk, IfSome, OnErr, IsTrue, None, Ok, Some, false, pos, if◌then◌else◌, is_some, length};
+ghost use Rattle.std.specs.Prelude.{map};
+ghost use Rattle.std.specs.Prelude.{List, slice_index};
 ghost use Rattle.std.specs.List.{list_all, list_any};
-ghost use Rattle.std.specs.Option.{option_map, option_or};
+ghost use Rattle.std.specs.Option.{option_map};
 ghost use Rattle.tsl_value.specs.View.{Plain};
 ghost use Rattle.lift_func.specs.Apply.{apply};
-ghost use Rattle.lift_func.specs.Cells.{Cells, HoldsLive, arguments, held};
-ghost use Rattle.lift_func.specs.Evaluable.{IsEvaluable, IsHeldValue};
+ghost use Rattle.lift_func.specs.inner.Cells.{Cells, HoldsLive, arguments, held};
+ghost use Rattle.lift_func.specs.inner.Evaluable.{IsEvaluable, IsHeldValue};
 ghost use Rattle.flat_core.specs.Case.{at_zero, empty_of, unit};
+ghost use Rattle.flat_core.specs.Members.{is_in};
 ghost use Rattle.flat_core.specs.Typed.{is_aggregate};
-ghost use Rattle.aggregate_store.specs.Stored.{IsAggregate};
-ghost use Rattle.register_machine.specs.Machine.{where_either, where_true};
-ghost use Rattle.monitor_run.specs.Here.{HasEffect, HasMadeOne, HasShape, IsBare, TakesTyped, chosen_of, counts, effect_here, is_given_op, lifted, source_of, truth_of};
-ghost use Rattle.monitor_run.specs.Registers.{register_at, value_at};
-ghost use Rattle.monitor_run.specs.Shown.{held_at, held_by};
+ghost use Rattle.aggregate_store.specs.inner.Stored.{IsAggregate};
+ghost use Rattle.flat_core.specs.inner.Shape.{HasShape};
+ghost use Rattle.monitor_run.specs.inner.Here.{HasEffect, HasMadeOne, IsBare, IsNamed, TakesTyped, counts, effect_here, hands_on};
+ghost use Rattle.monitor_run.specs.inner.Here.{is_given_op};
+ghost use Rattle.monitor_run.specs.inner.Here.{lifted, source_of};
+ghost use Rattle.monitor_run.specs.inner.Registers.{register_at, value_at};
 
 use crate::update::{Update, updated};
 use aggregate_store::store::Store;
 use flat_core::equation::{Equation, Op};
-use flat_core::lists::Args;
-use lift_func::body::Body;
+use flat_core::lists::{Args, EqSet};
+use lift_func::body::{Binary, Body, Node};
 use lift_func::eval::{EvalFault, eval};
+use lift_func::reader::Reader;
 use lift_func::register::Register;
 use smallvec::SmallVec;
 use std::alloc::Global;
@@ -36,6 +41,14 @@ pub(crate) fn argument<'a>(registers: &'a [Register], args: &Args, k: usize) -> 
     ensures { result.now ≡ register_at registers.now (slice_index args.now k) }
 {
     &registers[args.ids()[k].get() as usize]
+}
+
+/// The register of an equation.
+pub(crate) fn register(registers: &[Register], id: EqId) -> &Register
+    requires { id < length registers.now }
+    ensures { result.now ≡ register_at registers.now id }
+{
+    &registers[id.get() as usize]
 }
 
 /// All arguments have events.
@@ -87,6 +100,35 @@ fn numbers(alloc: Global, ids: &[EqId]) -> Result<SmallVec<u32, 4>, NoMemory>
     Ok(numbers)
 }
 
+/// The argument that a body is.
+fn named(body: &Body, args: &Args) -> Option<EqId>
+    ensures { IfSome result (IsNamed body.now args.now) }
+{
+    match body.node() {
+        Node::Argument(k) => args.get(*k as usize).copied(),
+        _ => None,
+    }
+}
+
+/// Whether a key is there, of a body that only asks this of two arguments. It is the body of most lifts over sets, and the evaluation of
+/// a body would copy both registers. `None` says nothing.
+fn asked(body: &Body, args: &Args, registers: &[Register], store: &Store) -> Option<bool>
+    requires known { All (λ a. a < length registers.now) args.now }
+    requires typed { IsEvaluable store.now.cells registers.now args.now body.now }
+    ensures { IfSome result (λ b. apply body.now (map (value_at store.now.cells registers.now) args.now)
+        ≡ Ok (Some (Plain (Scalar.Bool b)))) }
+{
+    let Node::Two(Binary::Contains, aggregate, key) = body.node() else {
+        return None;
+    };
+    let aggregate = named(aggregate, args)?;
+    let key = named(key, args)?;
+    match (register(registers, aggregate), register(registers, key)) {
+        (Register::Aggregate(cell), Register::Scalar(key)) => Some(store.contains(*cell, key)),
+        _ => None,
+    }
+}
+
 /// The value of a lifted body: where all its arguments are there, or of a body of options where one of them is.
 fn lifted(
     alloc: Global,
@@ -104,6 +146,9 @@ fn lifted(
 {
     if !do_count(strict, args.ids(), registers) {
         return Ok(Register::Empty);
+    }
+    if let Some(is_there) = asked(body, args, registers, store) {
+        return Ok(Register::Scalar(Scalar::Bool(is_there)));
     }
     let numbers = numbers(alloc, args.ids())?;
     match eval(alloc, body, registers, &numbers, store)? {
@@ -149,118 +194,43 @@ fn empty_at(of: ValueType, time: Time, store: &mut Store) -> Result<Register, No
     }
 }
 
-/// The last register of the first argument, where the second one has an event.
-fn lasting(args: &Args, registers: &[Register], last: &[Register]) -> Result<Register, NoMemory>
-    requires shape { HasShape Op.Last args.now }
-    requires known { All (λ a. a < length registers.now) args.now }
-    requires one_each { length last.now ≡ length registers.now }
-    ensures { IfOk result (λ r. held_by r
-        ≡ (if is_some (held_at registers.now (slice_index args.now 1)) then held_at last.now (slice_index args.now 0) else None)) }
-{
-    if argument(registers, args, 1).is_empty() {
-        Ok(Register::Empty)
-    } else {
-        argument(last, args, 0).copy()
-    }
-}
-
-/// The first of two, or else the second.
-fn merged(a: &Register, b: &Register) -> Result<Register, NoMemory>
-    ensures { IfOk result (λ r. held_by r ≡ option_or (held_by a.now) (held_by b.now)) }
-{
-    if a.is_empty() { b.copy() } else { a.copy() }
-}
-
-/// One where a condition is true.
-fn passed(value: &Register, condition: &Register) -> Result<Register, NoMemory>
-    ensures { IfOk result (λ r. held_by r ≡ where_true (held_by condition.now) (held_by value.now)) }
-{
-    match condition {
-        Register::Scalar(Scalar::Bool(holds)) => {
-            if *holds {
-                value.copy()
-            } else {
-                Ok(Register::Empty)
-            }
-        }
-        _ => Ok(Register::Empty),
-    }
-}
-
-/// What a condition says, if it has an event.
-fn truth(condition: &Register) -> Option<bool>
-    ensures { result ≡ truth_of (held_by condition.now) }
-{
-    match condition {
-        Register::Scalar(Scalar::Bool(holds)) => Some(*holds),
-        _ => None,
-    }
-}
-
-/// The first of two where a condition is true and the second where it is false, if all three have events.
-fn picked(condition: &Register, a: &Register, b: &Register) -> Result<Register, NoMemory>
-    ensures { IfOk result (λ r. held_by r ≡ where_either (held_by condition.now) (held_by a.now) (held_by b.now)) }
-{
-    if a.is_empty() || b.is_empty() {
-        return Ok(Register::Empty);
-    }
-    match truth(condition) {
-        Some(is_first) => { if is_first { a.copy() } else { b.copy() } }
-        None => Ok(Register::Empty),
-    }
-}
-
-/// The event of an argument that an operation hands on. The register of an aggregate names the same cell.
-fn chosen(e: &Equation, registers: &[Register]) -> Result<Register, NoMemory>
-    requires shape { HasShape e.now.op e.now.args }
-    requires known { All (λ a. a < length registers.now) e.now.args }
-    ensures { IfOk result (λ r. held_by r ≡ chosen_of e.now.op (map (held_at registers.now) e.now.args)) }
-{
-    let args = &e.args;
-    match &e.op {
-        Op::Merge => merged(argument(registers, args, 0), argument(registers, args, 1)),
-        Op::Filter => passed(argument(registers, args, 0), argument(registers, args, 1)),
-        Op::Pick => picked(
-            argument(registers, args, 0),
-            argument(registers, args, 1),
-            argument(registers, args, 2),
-        ),
-        _ => Ok(Register::Empty),
-    }
-}
-
-/// What an equation has by its own case. Inputs and delays have their events in their registers already.
+/// What an equation has by its own case, an update in place if it is among these. Inputs and delays have their events in their
+/// registers already, and what is handed on is none of these cases.
 pub(crate) fn own_case(
     alloc: Global,
     e: &Equation,
-    update: Update,
+    id: EqId,
+    in_place: &EqSet,
     time: Time,
     registers: &[Register],
-    last: &[Register],
     store: &mut Store,
 ) -> Result<Register, EvalFault>
     requires shape { HasShape e.now.op e.now.args }
     requires known { All (λ a. a < length registers.now) e.now.args }
     requires other { is_given_op e.now.op ≡ false }
-    requires one_each { length last.now ≡ length registers.now }
+    requires own { hands_on e.now.op ≡ false }
     requires typed { TakesTyped store.old.cells registers.now e.now }
-    requires ledger { update.id < length store.old.ledger }
-    ensures effect { HasEffect update.in_place update.id e.now.op (source_of registers.now e.now.args) store.old store.new result
-        (effect_here registers.now last.now store.old update.id time e.now) }
+    requires ledger { id < length store.old.ledger }
+    ensures effect { (last : List Register)
+        → HasEffect (is_in in_place.now id) id e.now.op (source_of registers.now e.now.args) store.old store.new result
+        (effect_here registers.now last store.old id time e.now) }
     ensures err { OnErr result (store.new ≡ store.old) }
 {
     let args = &e.args;
     match &e.op {
         Op::Input | Op::Delay => unreachable!(),
+        Op::Last | Op::Merge | Op::Filter | Op::Pick => unreachable!(),
         Op::Nil => Ok(Register::Empty),
         Op::Unit => Ok(unit_if(time.get() == 0)),
         Op::Lift { body, strict } => lifted(alloc, body, *strict, args, registers, store),
         Op::Any => Ok(unit_if(is_one_there(args.ids(), registers))),
         Op::Time => Ok(time_of(argument(registers, args, 0), time)),
-        Op::Last => Ok(lasting(args, registers, last)?),
         Op::Empty => Ok(empty_at(e.of, time, store)?),
-        Op::Merge | Op::Filter | Op::Pick => Ok(chosen(e, registers)?),
         Op::SetAdd | Op::SetRemove | Op::MapAdd | Op::MapRemove => {
+            let update = Update {
+                id,
+                in_place: in_place.contains(id),
+            };
             Ok(updated(e, update, registers, store)?)
         }
     }

@@ -4,7 +4,7 @@ ghost use Rattle.std.specs.Prelude.{◌≡◌, ◌≢◌, ◌<◌, ◌||◌, ℕ
 ghost use Rattle.std.specs.FinMap as map;
 ghost use Rattle.std.specs.Option.{option_map};
 ghost use Rattle.tsl_value.specs.declared.scalar.ValueType.{ValueType};
-ghost use Rattle.lift_func.specs.Cells.{Cells, HoldsLive, held};
+ghost use Rattle.lift_func.specs.inner.Cells.{Cells, HoldsLive, held};
 ghost use Rattle.flat_core.specs.Case.{refused};
 ghost use Rattle.flat_core.specs.Complete.{IsFlat};
 ghost use Rattle.flat_core.specs.Members.{is_in};
@@ -12,9 +12,9 @@ ghost use Rattle.flat_core.specs.Pending.{reached};
 ghost use Rattle.flat_core.specs.System.{equation};
 ghost use Rattle.register_code.specs.Code.{is_timer};
 ghost use Rattle.register_machine.specs.Stands.{in_time};
-ghost use Rattle.monitor_run.specs.Here.{HasShape};
-ghost use Rattle.monitor_run.specs.Instant.{IsLeastRoot, refusal_of, set_at};
-ghost use Rattle.monitor_run.specs.Registers.{AreHeld, register_at};
+ghost use Rattle.flat_core.specs.inner.Shape.{HasShape};
+ghost use Rattle.monitor_run.specs.inner.Instant.{IsLeastRoot, refusal_of, set_at};
+ghost use Rattle.monitor_run.specs.inner.Registers.{AreHeld, register_at};
 
 use crate::case::argument;
 use crate::run::{Root, least_root};

@@ -2,10 +2,10 @@
 
 ghost use Rattle.std.specs.Prelude.{◌≡◌, ◌<◌, ℕ, All, if◌then◌else◌, length, slice_set, OnOk, OnErr};
 ghost use Rattle.std.specs.FinMap as map;
-ghost use Rattle.aggregate_store.specs.Stored.{is_listed};
+ghost use Rattle.aggregate_store.specs.inner.Stored.{is_listed};
 ghost use Rattle.flat_core.specs.Members.{is_in};
-ghost use Rattle.monitor_run.specs.Instant.{cells_in, kept_in, kept_register};
-ghost use Rattle.monitor_run.specs.Registers.{register_at};
+ghost use Rattle.monitor_run.specs.inner.Instant.{cells_in, kept_in, kept_register};
+ghost use Rattle.monitor_run.specs.inner.Registers.{register_at};
 
 use crate::machine::put;
 use aggregate_store::store::Store;
@@ -66,9 +66,6 @@ pub(crate) fn drop_others(
         (store.new ≡ record store.old { cells = map.retain_keys store.old.cells (is_listed (cells_in last.now keeps.now)) }) }
     ensures err { OnErr result (store.new ≡ store.old) }
 {
-    if store.count() == 0 {
-        return Ok(());
-    }
     list_kept(keeps, last, cells)?;
     store.keep_only(cells);
     Ok(())

@@ -3,10 +3,10 @@
 
 ghost use Rattle.std.specs.Prelude.{◌≡◌, ◌<◌, ◌++◌, length, slice_set, IfOk, OnOk, OnErr};
 ghost use Rattle.std.specs.List.{flat_map};
-ghost use Rattle.lift_func.specs.Cells.{HoldsLive};
+ghost use Rattle.lift_func.specs.inner.Cells.{HoldsLive};
 ghost use Rattle.flat_core.specs.Text.{event_line};
-ghost use Rattle.monitor_run.specs.Begun.{IsBegunOf};
-ghost use Rattle.monitor_run.specs.Registers.{register_at, value_at};
+ghost use Rattle.monitor_run.specs.inner.Begun.{IsBegunOf};
+ghost use Rattle.monitor_run.specs.inner.Registers.{register_at, value_at};
 
 use aggregate_store::store::Store;
 use event_writer::event::write_event;

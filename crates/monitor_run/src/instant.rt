@@ -4,10 +4,10 @@ ghost use Rattle.std.specs.Prelude.{◌≡◌, ◌==◌, ℕ, [], if◌then◌el
 ghost use Rattle.flat_core.specs.Complete.{IsFlat};
 ghost use Rattle.register_code.specs.Code.{keeps_of, timers_of};
 ghost use Rattle.alias_rules.specs.Fine.{IsFinePlan};
-ghost use Rattle.monitor_run.specs.Given.{AreAt, AreEventLines};
-ghost use Rattle.monitor_run.specs.Instant.{Begins, HasEnded, HasRunRegisters, IsInstant, IsInstantBegun, IsSound};
-ghost use Rattle.monitor_run.specs.Machine.{HasRoom};
-ghost use Rattle.monitor_run.specs.Shown.{plan_in};
+ghost use Rattle.monitor_run.specs.inner.Given.{AreAt, AreEventLines};
+ghost use Rattle.monitor_run.specs.inner.Instant.{Begins, HasEnded, HasRunRegisters, IsInstant, IsInstantBegun, IsSound};
+ghost use Rattle.monitor_run.specs.inner.Machine.{HasRoom};
+ghost use Rattle.monitor_run.specs.inner.Shown.{plan_in};
 
 use crate::begin::{clear, expire, give};
 use crate::delay::{first_refused, set_timers};

@@ -1,6 +1,6 @@
 // What the steps of a run make together, as the contracts of functions that do nothing.
 
-ghost use Rattle.monitor_run.specs.Laws.{FaultEndsInFault, IdleEndsAtBound, LimitEndsAtLimit, StepsGoOn};
+ghost use Rattle.monitor_run.specs.inner.Laws.{FaultEndsInFault, IdleEndsAtBound, LimitEndsAtLimit, StepsGoOn};
 
 /// The text of an instant goes on from the text of those before.
 pub fn steps_go_on()

@@ -7,6 +7,7 @@ mod case;
 mod delay;
 mod end;
 mod event;
+mod hand;
 mod instant;
 pub mod laws;
 mod machine;

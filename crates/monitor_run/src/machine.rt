@@ -14,7 +14,8 @@ use tsl_value::memory::NoMemory;
 /// Registers by the numbers of equations, cells and timers, and texts by the numbers of outputs.
 ///
 /// `registers`, `faulted` and `texts` are those of one instant: what stands at each equation, which are faults, and the lines that were
-/// printed. `kept` lists cells at its end. Nothing of an earlier instant is read in them; the texts and the list keep their room. `last` has
+/// printed. `kept` lists cells at its end. Nothing of an earlier instant is read in them; the texts and the list keep their room. `last`
+/// has
 /// for each equation that is kept the register of its last event.
 #[derive(Drop)]
 pub(crate) struct Machine {

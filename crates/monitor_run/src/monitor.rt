@@ -1,15 +1,16 @@
 // The monitor.
 
-ghost use Rattle.std.specs.Prelude.{◌≡◌, ◌≤◌, ◌^◌, [], ◌∷◌, ◌++◌, None, Some, max, is_ok, is_some, slice_index, IfErr, IfOk, OnOk, IsTrue, List, ℕ, Ok};
+ghost use Rattle.std.specs.Prelude.{◌≡◌, ◌≤◌, ◌^◌, [], ◌∷◌, ◌++◌, None, Some, max, is_ok, is_some, slice_index, IfErr, IfOk, OnOk, IsTrue};
+ghost use Rattle.std.specs.Prelude.{List, ℕ, Ok, OnErr};
 ghost use Rattle.std.specs.FinMap as map;
 ghost use Rattle.flat_core.specs.Line.{Line};
 ghost use Rattle.monitor_run.specs.Updates.{is_running_update};
-ghost use Rattle.monitor_run.specs.Given.{line_of};
-ghost use Rattle.monitor_run.specs.Next.{IsIdle};
-ghost use Rattle.monitor_run.specs.Stands.{Stands};
-ghost use Rattle.monitor_run.specs.State.{IsReady, bound_of};
-ghost use Rattle.monitor_run.specs.Stored.{stored_count};
-ghost use Rattle.monitor_run.specs.Steps.{AreAsSet, CanTake, HasStepped, IsStoppedAgain, stopped};
+ghost use Rattle.monitor_run.specs.inner.Given.{line_of};
+ghost use Rattle.monitor_run.specs.inner.Next.{IsIdle};
+ghost use Rattle.monitor_run.specs.inner.Stands.{Stands};
+ghost use Rattle.monitor_run.specs.inner.State.{IsReady, bound_of};
+ghost use Rattle.monitor_run.specs.inner.Stored.{stored_count};
+ghost use Rattle.monitor_run.specs.inner.Steps.{AreAsSet, CanTake, HasStepped, IsStoppedAgain, stopped};
 
 use crate::instant::run_instant;
 use crate::machine::Machine;
@@ -54,7 +55,7 @@ pub enum Stop {
         count: u64,
         time: Time,
     },
-    /// Memory was wanting.
+    /// Out of memory.
     Memory,
 }
 
@@ -81,9 +82,9 @@ impl<'c> Model for Monitor<'c> {
     ghost use Rattle.std.specs.Coded.{codes};
     ghost use Rattle.std.specs.Prelude.{◌≡◌, None};
     ghost use Rattle.lift_func.specs.contracts.body.Body as body;
-    ghost use Rattle.monitor_run.specs.Code.{cells_code, times_code};
-    ghost use Rattle.monitor_run.specs.Machine.{HasRoom};
-    ghost use Rattle.monitor_run.specs.State.{State, IsReady};
+    ghost use Rattle.monitor_run.specs.inner.Code.{cells_code, times_code};
+    ghost use Rattle.monitor_run.specs.inner.Machine.{HasRoom};
+    ghost use Rattle.monitor_run.specs.inner.State.{State, IsReady};
 
     ghost Value = { State };
 
@@ -219,6 +220,7 @@ impl<'c> Monitor<'c> {
         ensures again { IsStoppedAgain self.old self.new result }
         ensures unwritten { IsTrue (is_some self.old.stop) → out.new ≡ out.old }
         ensures kept { IfErr result (λ stop. self.new.stop ≡ Some stop) }
+        ensures ran { OnErr result ((self.new.ran ≡ self.old.ran) × (self.new.next ≡ self.old.next)) }
         ensures going { OnOk result (self.new.stop ≡ None) }
         ensures as_set { AreAsSet self.old self.new }
         ensures idle { result ≡ Ok Step.Idle → IsIdle self.new }

@@ -1,8 +1,8 @@
 // When the next instant comes.
 
 ghost use Rattle.std.specs.Prelude.{◌≡◌, ℕ};
-ghost use Rattle.monitor_run.specs.Given.{AreAt};
-ghost use Rattle.monitor_run.specs.Next.{IsFirstTime, IsNextTime, earliest, time_if};
+ghost use Rattle.monitor_run.specs.inner.Given.{AreAt};
+ghost use Rattle.monitor_run.specs.inner.Next.{IsFirstTime, IsNextTime, earliest, time_if};
 
 use delay_timers::timers::Timers;
 use flat_core::line::TraceLine;

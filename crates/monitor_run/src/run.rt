@@ -6,18 +6,21 @@ ghost use Rattle.alias_rules.specs.Fine.{IsFinePlan};
 ghost use Rattle.tsl_value.specs.declared.scalar.ValueType.{ValueType};
 ghost use Rattle.lift_func.specs.declared.fault.FaultKind.{FaultKind};
 ghost use Rattle.flat_core.specs.Complete.{IsFlat};
-ghost use Rattle.monitor_run.specs.Here.{HasShape, TakesTyped, is_blocked_here, is_given_op, is_marked};
-ghost use Rattle.monitor_run.specs.Instant.{HasPrinted, HasRunAll, HasRunOne, IsLeastRoot, SameBeside};
-ghost use Rattle.monitor_run.specs.Machine.{AreFresh, HasRoom};
-ghost use Rattle.monitor_run.specs.Registers.{AreHeld};
-ghost use Rattle.monitor_run.specs.Shown.{plan_in};
+ghost use Rattle.flat_core.specs.inner.Shape.{HasShape};
+ghost use Rattle.flat_core.specs.Members.{is_in};
+ghost use Rattle.monitor_run.specs.inner.Here.{TakesTyped, is_blocked_here, is_given_op, is_marked};
+ghost use Rattle.monitor_run.specs.inner.Instant.{HasPrinted, HasRunAll, HasRunOne, IsLeastRoot, SameBeside};
+ghost use Rattle.monitor_run.specs.inner.Machine.{AreFresh, HasRoom};
+ghost use Rattle.monitor_run.specs.inner.Registers.{AreHeld};
+ghost use Rattle.monitor_run.specs.inner.Shown.{plan_in};
 
 use crate::case::own_case;
 use crate::event::print_output;
+use crate::hand::{hand_on, hands_on};
 use crate::machine::{Machine, put};
-use crate::update::Update;
 use flat_core::equation::{Equation, Op};
 use flat_core::flat::Flat;
+use flat_core::lists::EqSet;
 use lift_func::eval::EvalFault;
 use lift_func::fault::FaultKind;
 use register_code::plan::Plan;
@@ -100,7 +103,8 @@ fn is_given(o: &Op) -> bool
 pub(crate) fn run_one(
     alloc: Global,
     e: &Equation,
-    update: Update,
+    id: EqId,
+    in_place: &EqSet,
     time: Time,
     is_sound: bool,
     machine: &mut Machine,
@@ -108,32 +112,35 @@ pub(crate) fn run_one(
     requires shape { HasShape e.now.op e.now.args }
     requires registers_known { All (λ a. a < length machine.old.registers.items) e.now.args }
     requires faulted_known { All (λ a. a < length machine.old.faulted.items) e.now.args }
-    requires register_there { update.id < length machine.old.registers.items }
-    requires mark_there { update.id < length machine.old.faulted.items }
-    requires number_there { update.id < length machine.old.store.ledger }
+    requires register_there { id < length machine.old.registers.items }
+    requires mark_there { id < length machine.old.faulted.items }
+    requires number_there { id < length machine.old.store.ledger }
     requires last_each { length machine.old.last.items ≡ length machine.old.registers.items }
     requires typed { TakesTyped machine.old.store.cells machine.old.registers.items e.now }
     requires sound { IsTrue is_sound → is_blocked_here machine.old.faulted.items e.now.op e.now.args ≡ false }
     ensures same { SameBeside machine.old machine.new }
     ensures texts { machine.new.texts ≡ machine.old.texts }
-    ensures ran { IfOk result (λ root. HasRunOne update.in_place time update.id e.now machine.old machine.new root) }
+    ensures ran { IfOk result (λ root. HasRunOne (is_in in_place.now id) time id e.now machine.old machine.new root) }
 {
     if is_given(&e.op) {
         return Ok(None);
     }
-    let id = update.id;
     let place = id.get() as usize;
     if is_blocked(e, is_sound, &machine.faulted) {
         machine.faulted[place] = true;
         return Ok(None);
     }
+    if hands_on(&e.op) {
+        hand_on(e, place, &mut machine.registers, &machine.last)?;
+        return Ok(None);
+    }
     match own_case(
         alloc,
         e,
-        update,
+        id,
+        in_place,
         time,
         &machine.registers,
-        &machine.last,
         &mut machine.store,
     ) {
         Ok(register) => {
@@ -190,12 +197,9 @@ pub(crate) fn run_steps(
     for step in plan.order.as_slice() {
         if *step < flat.count() {
             let id = EqId::new(*step);
-            let update = Update {
-                id,
-                in_place: plan.in_place.contains(id),
-            };
+            let e = flat.equation(id);
             let is_sound = root.is_none();
-            let found = run_one(alloc, flat.equation(id), update, time, is_sound, machine)?;
+            let found = run_one(alloc, e, id, &plan.in_place, time, is_sound, machine)?;
             root = least_root(root, found);
         } else {
             print_step(flat, (*step - flat.count()) as usize, time, machine)?;

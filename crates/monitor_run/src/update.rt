@@ -2,12 +2,14 @@
 
 ghost use Rattle.std.specs.Prelude.{◌≡◌, ◌<◌, All, Some, IfOk, OnErr, length, map};
 ghost use Rattle.tsl_value.specs.View.{Plain};
-ghost use Rattle.lift_func.specs.Cells.{FitsKey, IsLive, held, view_at};
+ghost use Rattle.lift_func.specs.inner.Cells.{FitsKey, IsLive, held, view_at};
 ghost use Rattle.lift_func.specs.Update.{with_entry, with_key, without_key};
-ghost use Rattle.aggregate_store.specs.Stored.{FitsValue, with_added};
+ghost use Rattle.aggregate_store.specs.inner.Stored.{FitsValue, with_added};
 ghost use Rattle.flat_core.specs.Case.{of_both, of_three};
-ghost use Rattle.monitor_run.specs.Here.{AreAggregateAndKey, AreMapAndEntry, AreSetAndKey, HasShape, HasUpdated, TakesTyped, source_of, updated_of};
-ghost use Rattle.monitor_run.specs.Registers.{value_at};
+ghost use Rattle.flat_core.specs.inner.Shape.{HasShape};
+ghost use Rattle.monitor_run.specs.inner.Here.{AreAggregateAndKey, AreMapAndEntry, AreSetAndKey, HasUpdated, TakesTyped, source_of};
+ghost use Rattle.monitor_run.specs.inner.Here.{updated_of};
+ghost use Rattle.monitor_run.specs.inner.Registers.{value_at};
 
 use crate::case::argument;
 use aggregate_store::store::Store;

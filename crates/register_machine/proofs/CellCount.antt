@@ -16,12 +16,11 @@ use Rattle.std.specs.FinMap as finite_map
 use Rattle.tsl_value.specs.View.{View}
 use Rattle.flat_core.specs.System.{System}
 use Rattle.flat_core.specs.Case.{Inputs, Streams}
-use Rattle.translation_order.proofs.Lists.{none_in_nil, cons_cases, later}
+use Rattle.tsl_value.proofs.Lists.{later, none_in_nil, cons_cases, kept_in}
 use Rattle.alias_rules.specs.Uses.{IsStored}
 use Rattle.register_machine.specs.Run.{Plan, State, Instant, kept, is_cell}
 use Rattle.register_machine.specs.Machine.{Held, Bare, Cell, Cells}
 use Rattle.register_machine.proofs.Setting.{aggregate}
-use Rattle.register_machine.proofs.Kept.{filter_in}
 use Rattle.register_machine.proofs.End.{get-kept}
 use Rattle.register_machine.proofs.Safety.{Course, Standing, instant_on}
 use Rattle.register_machine.specs.Stands.{is_aggregate_at, stored}
@@ -91,7 +90,7 @@ module _ (s : System) (lasts : ℕ → Option Held) (all_stored : (v h : ℕ) �
       let got = some_in (λ v. is_cell q (lasts v)) (kept s) (passes (is_held q) (finite_map.get cells q) (sym (ap is_some (get-kept cells is_held q)) ∙ there)) in
       let is = is_cell_true q (lasts got.0) got.2 in
       let variable = (all_stored got.0 q is).taken.variable in
-      key_in (stored s) got.0 q is (filter_in (aggregate s) (kept s) got.0 (Contains-in (kept s) got.0 got.1) (ap is_aggregate_at variable.is ∙ variable.aggregate))
+      key_in (stored s) got.0 q is (kept_in (aggregate s) (kept s) got.0 (Contains-in (kept s) got.0 got.1) (ap is_aggregate_at variable.is ∙ variable.aggregate))
 
   pub cells_bound : (cells : Cells) → finite_map.len (held_on cells) ≤ length (stored s)
   cells_bound cells =

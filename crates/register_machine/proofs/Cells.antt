@@ -8,7 +8,7 @@ use Rattle.std.proofs.lemmas.Cmp.{nat_cmp_total}
 use Rattle.std.specs.FinMap as finite_map
 use Rattle.tsl_value.specs.View.{View}
 use Rattle.lift_func.specs.declared.fault.FaultKind.{FaultKind}
-use Rattle.translation_order.proofs.Lists.{later, cons_cases, none_in_nil}
+use Rattle.tsl_value.proofs.Lists.{later, none_in_nil, cons_cases}
 use Rattle.register_machine.specs.Machine.{Held, Bare, Cell, Slot, Blank, Holds, Failed, Cells, with}
 
 pub with-here : {A : Type 0} (f : ℕ → A) (i : ℕ) (x : A) → with f i x i ≡ x

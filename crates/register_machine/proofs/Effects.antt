@@ -19,7 +19,7 @@ use Rattle.flat_core.specs.Typed.{is_aggregate}
 use Rattle.flat_core.specs.Members.{is_in}
 use Rattle.flat_core.specs.Pending.{option_is}
 use Rattle.flat_core.specs.declared.equation.Op.TheVariants as op
-use Rattle.translation_order.proofs.Lists.{later}
+use Rattle.tsl_value.proofs.Lists.{later}
 use Rattle.alias_rules.specs.Uses.{passed_of, written_of, IsVariable, IsPassed, IsWritten, IsLast, IsRead}
 use Rattle.alias_rules.specs.Roots.{begins_content, IsOrigin}
 use Rattle.alias_rules.specs.Roots as roots

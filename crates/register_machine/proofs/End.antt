@@ -17,7 +17,7 @@ use Rattle.flat_core.specs.Case.{Inputs, Streams, outcome_of}
 use Rattle.flat_core.specs.System.{System, runs, equation}
 use Rattle.flat_core.specs.Members.{is_in}
 use Rattle.flat_core.proofs.Members.{some_from, all_at, in-Contains, Contains-in}
-use Rattle.translation_order.proofs.Lists.{none_in_nil}
+use Rattle.tsl_value.proofs.Lists.{none_in_nil}
 use Rattle.alias_rules.specs.Uses.{last_of, IsStored}
 use Rattle.alias_rules.specs.Fine.{IsFine}
 use Rattle.alias_rules.specs.Sharing.{Shares}

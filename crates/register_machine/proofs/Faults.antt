@@ -11,7 +11,7 @@ use Rattle.flat_core.specs.Fault.{root_at, is_faulty}
 use Rattle.flat_core.specs.System.{System, runs}
 use Rattle.flat_core.proofs.Members.{all_at, in-Contains}
 use Rattle.flat_core.specs.declared.equation.Op.TheVariants as op
-use Rattle.translation_order.proofs.Lists.{none_in_nil}
+use Rattle.tsl_value.proofs.Lists.{none_in_nil}
 use Rattle.alias_rules.specs.Conflict.{StandsBefore}
 use Rattle.register_machine.specs.Run.{Plan, failed_by, root_in, root_seen, has_root}
 use Rattle.register_machine.proofs.Running.{Running, Prints, printed_before}

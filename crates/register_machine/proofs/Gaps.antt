@@ -59,6 +59,17 @@ due_is d r i t small solves = elim (cases_Bool (expires d r i t)) [
   ]
 ]
 
+-- a timer sets its own delay alone
+pub timed_there : (t : ℕ) (c : Config) (j i : ℕ) (args : List ℕ) → (i ≡ j → ⊥) → timed t c j args i ≡ c.pending i
+timed_there t c j i [] other = refl
+timed_there t c j i (d ∷ []) other = refl
+timed_there t c j i (d ∷ r ∷ x ∷ more) other = refl
+timed_there t c j i (d ∷ r ∷ []) other = go (fires c j || fires c r)
+  where
+    go : (b : Bool) → (if b then with c.pending j (expiry t (value_in c d)) else c.pending) i ≡ c.pending i
+    go true = with-there c.pending j (expiry t (value_in c d)) i other
+    go false = refl
+
 -- what the timers leave
 module _ (inputs : Inputs) (t : ℕ) (s : System) where
   abbrev pub timed_at : Config → ℕ → ℕ → ℕ → Option ℕ → Option ℕ
@@ -70,16 +81,6 @@ module _ (inputs : Inputs) (t : ℕ) (s : System) where
       go : (b : Bool) → (if b then with c.pending i (expiry t (value_in c d)) else c.pending) i ≡ (if b then expiry t (value_in c d) else c.pending i)
       go true = with-here c.pending i (expiry t (value_in c d))
       go false = refl
-
-  timed_there : (c : Config) (j i : ℕ) (args : List ℕ) → (i ≡ j → ⊥) → timed t c j args i ≡ c.pending i
-  timed_there c j i (d ∷ r ∷ []) other = go (fires c j || fires c r)
-    where
-      go : (b : Bool) → (if b then with c.pending j (expiry t (value_in c d)) else c.pending) i ≡ c.pending i
-      go true = with-there c.pending j (expiry t (value_in c d)) i other
-      go false = refl
-  timed_there c j i [] other = refl
-  timed_there c j i (d ∷ []) other = refl
-  timed_there c j i (d ∷ r ∷ x ∷ more) other = refl
 
   timed_twice : (b f : Bool) (x p : Option ℕ) → (if b then (if f then x else (if f then x else p)) else (if f then x else p)) ≡ (if f then x else p)
   timed_twice true true x p = refl
@@ -112,7 +113,7 @@ module _ (inputs : Inputs) (t : ℕ) (s : System) where
             ∙ timed_twice (is_in js i) (fires c i || fires c r) (expiry t (value_in c a)) (c.pending i)
             ∙ sym (λ k. if eq-eqb j i (sym same) k || is_in js i then timed_at c i a r (c.pending i) else c.pending i)
         | inr other ↦
-            let value = timed_there c j i e_j.args other in
+            let value = timed_there t c j i e_j.args other in
             (λ k. if is_in js i then timed_at c i a r (value k) else value k)
             ∙ sym (λ k. if ne_eqb j i (λ q. other (sym q)) k || is_in js i then timed_at c i a r (c.pending i) else c.pending i)
       ]

@@ -9,7 +9,7 @@ use Rattle.flat_core.specs.System.{System, equation}
 use Rattle.flat_core.specs.Members.{is_in}
 use Rattle.flat_core.specs.Instant.{is_delay}
 use Rattle.flat_core.proofs.Members.{in-Contains}
-use Rattle.translation_order.proofs.Lists.{none_in_nil}
+use Rattle.tsl_value.proofs.Lists.{none_in_nil, in_kept}
 use Rattle.alias_rules.specs.Uses.{is_update}
 use Rattle.alias_rules.specs.Conflict.{StandsBefore}
 use Rattle.register_machine.specs.Run.{Plan, State, started, body, ending, kept, delays, step_instr, Instant, ended}
@@ -19,7 +19,6 @@ use Rattle.register_machine.specs.Machine.{Instr, RunInPlace, Keep, Timer, Confi
 use Rattle.register_machine.specs.Content.{LeavesRead}
 use Rattle.register_machine.proofs.Cells.{without, without-there}
 use Rattle.register_machine.proofs.Steps.{step_good}
-use Rattle.register_machine.proofs.Kept.{filter_both}
 use Rattle.register_machine.proofs.Walks.{IsEnding, cons_head, cons_tail, start_good, next_of, walk}
 use Rattle.register_machine.proofs.Progress.{ending_goes, body_goes}
 use Rattle.register_machine.proofs.Safety.{Course, Standing, setting_of, GoodAt, ending_is, roots_at, instant_leaves, fault_leaves}
@@ -35,7 +34,7 @@ module _ (s : System) (plan : Plan) (inputs : Inputs) (z : Streams) (bound : ℕ
     | inl keep ↦ let got = contains_map Keep (kept s) instr keep in subst (λ x. (d : Config) × Step inputs t s x c d) got.2 (keep_goes got.0)
     | inr timer ↦
         let got = contains_map Timer (delays s) instr timer in
-        let run = (filter_both (λ j. is_delay (equation s j)) s.running got.0 got.1).0 in
+        let run = (in_kept (λ j. is_delay (equation s j)) s.running got.0 got.1).0 in
         let all = course.proper.runs_all got.0 (in-Contains s.running got.0 run) in
         subst (λ x. (d : Config) × Step inputs t s x c d) got.2 (timer_goes t got.0 all.0 all.1 c)
   ]

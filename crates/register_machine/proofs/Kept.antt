@@ -1,30 +1,20 @@
 -- The equations whose last registers are kept.
-use Rattle.std.proofs.Common.{◌≡◌, ℕ, Bool, true, List, [], ◌∷◌, sym, ap, ◌∙◌, inl, inr, Contains, IsTrue, arith, filter}
-use Rattle.std.proofs.lemmas.Bool.{and_parts, and_from}
+use Rattle.std.proofs.Common.{ℕ, List, [], ◌∷◌, sym, ap, ◌∙◌, inl, inr, Contains, IsTrue, arith}
 use Rattle.flat_core.specs.declared.equation.Op.{Op}
 use Rattle.flat_core.specs.declared.equation.Op.TheVariants as op
 use Rattle.flat_core.specs.declared.equation.Equation.{Equation}
 use Rattle.flat_core.specs.System.{System, runs, equation, IsProper}
 use Rattle.flat_core.specs.Members.{is_in}
 use Rattle.flat_core.proofs.Members.{in-Contains, Contains-in, some_from, some_in}
-use Rattle.translation_order.proofs.Lists.{none_in_nil, cons_cases}
+use Rattle.tsl_value.proofs.Lists.{none_in_nil, cons_cases, in_kept, kept_in}
 use Rattle.alias_rules.specs.Uses.{last_of, IsVariable, IsStored}
-use Rattle.alias_rules.proofs.Rising.{in_filter}
 use Rattle.register_machine.specs.Run.{kept, is_kept, last_at}
 use Rattle.register_machine.proofs.Running.{Running}
-
-pub filter_both : (p : ℕ → Bool) (xs : List ℕ) (x : ℕ) → Contains (filter p xs) x → Contains xs x × (p x ≡ true)
-filter_both p xs x found =
-    let parts = and_parts (p x) (is_in xs x) (sym (in_filter p xs x) ∙ in-Contains (filter p xs) x found) in
-    (Contains-in xs x parts.1, parts.0)
-
-pub filter_in : (p : ℕ → Bool) (xs : List ℕ) (x : ℕ) → Contains xs x → p x ≡ true → Contains (filter p xs) x
-filter_in p xs x found is = Contains-in (filter p xs) x (in_filter p xs x ∙ and_from (p x) (is_in xs x) is (in-Contains xs x found))
 
 -- what is kept is the first argument of a running last
 pub kept_last : (s : System) → IsProper s → (v : ℕ) → Contains (kept s) v → (i : ℕ) × (e : Equation) × Running s i e × Contains (last_of e.op e.args) v
 kept_last s proper v found =
-    let both = filter_both (is_kept s) s.running v found in
+    let both = in_kept (is_kept s) s.running v found in
     let inner = some_in (λ i. is_in (last_at (equation s i)) v) s.running both.1 in
     let all = proper.runs_all inner.0 inner.1 in
     (inner.0, all.0, record { is = all.1; runs_too = inner.1 }, Contains-in (last_of all.0.op all.0.args) v (sym (ap (λ q. is_in (last_at q) v) all.1) ∙ inner.2))
@@ -36,7 +26,7 @@ kept_stored s proper v variable found =
 
 pub last_kept : (s : System) (v i : ℕ) (e : Equation) → IsTrue (runs s v) → Running s i e → Contains (last_of e.op e.args) v → Contains (kept s) v
 last_kept s v i e run running argument =
-    filter_in (is_kept s) s.running v (Contains-in s.running v run)
+    kept_in (is_kept s) s.running v (Contains-in s.running v run)
     (some_from (λ j. is_in (last_at (equation s j)) v) s.running i running.runs_too (ap (λ q. is_in (last_at q) v) running.is ∙ in-Contains (last_of e.op e.args) v argument))
 
 pub stored_kept : (s : System) (v : ℕ) → IsStored s v → Contains (kept s) v

@@ -8,7 +8,8 @@ use Rattle.std.proofs.lemmas.Option.{slice_get_within}
 use Rattle.flat_core.specs.declared.equation.Output.{Output}
 use Rattle.flat_core.specs.System.{System, runs}
 use Rattle.flat_core.proofs.Members.{in-Contains, Contains-in}
-use Rattle.translation_order.proofs.Lists.{none_in_nil, cons_cases, later, split_at, once_split, same_split}
+use Rattle.tsl_value.proofs.Lists.{later, none_in_nil, cons_cases, contains_at}
+use Rattle.translation_order.proofs.Lists.{split_at, once_split, same_split}
 use Rattle.alias_rules.specs.Steps.{is_print, is_step, print_step, Precedes, IsOrderBy}
 use Rattle.register_machine.proofs.Cells.{without, without-there, without-other, without-keeps}
 
@@ -22,18 +23,12 @@ abbrev pub Agrees : (ℕ → ℕ → Type 0) → List ℕ → List ℕ → Type 
 Agrees E rest [] = rest ≡ []
 Agrees E rest (x ∷ order) = IsFree E rest x × Agrees E (without x rest) order
 
--- what stands at a place is in the list
-pub there_at : {A : Type 0} (xs : List A) (k : ℕ) (x : A) → slice_get xs k ≡ Some x → Contains xs x
-there_at [] k x is = absurd (cc)
-there_at (y ∷ xs) zero x is = let same : y ≡ x = cc in (0, omega arith, same)
-there_at (y ∷ xs) (suc k) x is = later y x xs (there_at xs k x is)
-
 -- what stands before a place is in the part before it
 before_place : (xs : List ℕ) (i j w n : ℕ) → slice_get xs i ≡ Some w → slice_get xs j ≡ Some n → i < j → (p : List ℕ) × (q : List ℕ) × (xs ≡ p ++ n ∷ q) × Contains p w
 before_place [] i j w n is_w is_n lt = absurd (cc)
 before_place (x ∷ xs) i zero w n is_w is_n lt = absurd (omega arith)
 before_place (x ∷ xs) zero (suc j) w n is_w is_n lt =
-    let parts = split_at xs n (there_at xs j n is_n) in
+    let parts = split_at xs n (contains_at xs j n is_n) in
     let first : x ≡ w = cc in
     (x ∷ parts.0, parts.1, ap (λ l. x ∷ l) parts.2, (0, omega arith, first))
 before_place (x ∷ xs) (suc i) (suc j) w n is_w is_n lt =

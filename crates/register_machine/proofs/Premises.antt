@@ -5,19 +5,19 @@ use Rattle.tsl_value.specs.View.{View, Plain, Keyed, Mapped, is_of}
 use Rattle.tsl_value.specs.declared.scalar.ValueType.{ValueType}
 use Rattle.tsl_value.specs.declared.scalar.ValueType.TheVariants as value_type
 use Rattle.flat_core.specs.declared.equation.Equation.{Equation}
-use Rattle.flat_core.specs.BoundLaws.{HappensAtInstants}
+use Rattle.flat_core.specs.inner.BoundLaws.{HappensAtInstants}
 use Rattle.flat_core.specs.Case.{Streams, Inputs}
 use Rattle.flat_core.specs.Fault.{is_faulty}
 use Rattle.flat_core.specs.Line.{Line, inputs_of}
 use Rattle.flat_core.specs.System.{System, runs}
 use Rattle.flat_core.specs.Typed.{is_aggregate}
-use Rattle.flat_core.specs.TypedEvents.{AreTypedInputs, HasTypedEvents}
+use Rattle.flat_core.specs.inner.TypedEvents.{AreTypedInputs, HasTypedEvents}
 use Rattle.flat_core.specs.TypedSystem.{AreOfTypes}
 use Rattle.flat_core.specs.WellFormed.{IsRanked}
 use Rattle.flat_core.proofs.Members.{all_at}
 use Rattle.flat_core.proofs.Silence.{happens_at_instants}
 use Rattle.flat_core.proofs.TypedEvents.{inputs_typed, events_typed}
-use Rattle.trigger_rules.specs.Firing.{at_time, IsUpToFault}
+use Rattle.trigger_rules.specs.inner.Firing.{at_time, IsUpToFault}
 use Rattle.trigger_rules.proofs.Times.{exact, implied, all_are_clear}
 use Rattle.alias_rules.specs.Conflict.{StandsBefore, needed}
 use Rattle.alias_rules.specs.Uses.{is_update}
@@ -25,7 +25,8 @@ use Rattle.alias_rules.proofs.Ranks.{order_ranked, place}
 use Rattle.register_machine.specs.Run.{Plan}
 use Rattle.register_machine.specs.Stands.{IsGiven}
 use Rattle.register_machine.proofs.Running.{Running, Prints}
-use Rattle.register_machine.proofs.Orders.{followed, there_at}
+use Rattle.tsl_value.proofs.Lists.{contains_at}
+use Rattle.register_machine.proofs.Orders.{followed}
 use Rattle.register_machine.proofs.Reach.{TriggerLaw}
 use Rattle.register_machine.proofs.Setting.{Fit, is_keyed}
 use Rattle.register_machine.proofs.Effects.{some_equation}
@@ -102,7 +103,7 @@ module _ (s : System) (plan : Plan) (lines : List Line) (bound : ℕ) (z : Strea
   printed_runs : (x n : ℕ) → Prints s x n → IsTrue (runs s x)
   printed_runs x n p =
       subst (λ i. IsTrue (runs s i)) (sym p.printed.of)
-      (all_at (λ o. IsTrue (runs s o.equation)) s.outputs given.flat.outputs_run p.printed.output (there_at s.outputs p.number p.printed.output p.printed.is))
+      (all_at (λ o. IsTrue (runs s o.equation)) s.outputs given.flat.outputs_run p.printed.output (contains_at s.outputs p.number p.printed.output p.printed.is))
 
   pub course_of : Course s plan inputs z bound
   course_of = record {

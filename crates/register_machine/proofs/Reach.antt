@@ -4,11 +4,12 @@ use Rattle.std.proofs.Math.Bool.{true≢false}
 use Rattle.std.specs.FinMap as finite_map
 use Rattle.flat_core.specs.declared.equation.Op.{Op}
 use Rattle.flat_core.specs.declared.equation.Equation.{Equation}
-use Rattle.flat_core.specs.Graph.{Walk, stay, onward}
+use Rattle.translation_order.specs.Graph.{Walk, stay, onward}
 use Rattle.flat_core.specs.Stream.{has_event, is_fault}
 use Rattle.flat_core.specs.Case.{Streams}
 use Rattle.flat_core.specs.System.{System, runs, equation}
 use Rattle.flat_core.specs.declared.equation.Op.TheVariants as op
+use Rattle.translation_order.proofs.PathLemmas.{walk_on}
 use Rattle.trigger_rules.specs.Question.{Implies, Together}
 use Rattle.alias_rules.specs.Uses.{IsVariable, IsLast, IsWritten}
 use Rattle.alias_rules.specs.Roots.{Carries, IsOrigin, IsRoot}
@@ -75,10 +76,6 @@ module _ (s : System) (set : List ℕ) (z : Streams) (t : ℕ) (last : ℕ → O
   walk_kept slots i new h blank stay = stay
   walk_kept slots i new h blank (onward e w) = onward (took_kept slots i new h blank e) (walk_kept slots i new h blank w)
 
-  walk_end : {E : ℕ → ℕ → Type 0} {a b c : ℕ} → Walk E a b → E b c → Walk E a c
-  walk_end stay last_edge = onward last_edge stay
-  walk_end (onward e w) last_edge = onward e (walk_end w last_edge)
-
   pub source_kept : (slots : ℕ → Slot) (i : ℕ) (new : Slot) (h q : ℕ) → slots i ≡ Blank → Source slots h q → Source (with slots i new) h q
   source_kept slots i new h q blank c = record { root = c.root; holds = kept-slot slots i new q (Cell h) blank c.holds; origin = c.origin }
 
@@ -87,7 +84,7 @@ module _ (s : System) (set : List ℕ) (z : Streams) (t : ℕ) (last : ℕ → O
 
   -- one more edge
   pub reached_on : (slots : ℕ → Slot) (h x i : ℕ) → Reached slots h x → Took slots h x i → Reached slots h i
-  reached_on slots h x i r e = record { from = r.from; source = r.source; leads = walk_end r.leads e }
+  reached_on slots h x i r e = record { from = r.from; source = r.source; leads = walk_on r.leads e }
 
   pub reached_root : (slots : ℕ → Slot) (h q : ℕ) → Source slots h q → Reached slots h q
   reached_root slots h q c = record { from = q; source = c; leads = stay }

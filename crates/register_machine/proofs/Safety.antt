@@ -19,7 +19,7 @@ use Rattle.flat_core.specs.Members.{is_in}
 use Rattle.flat_core.specs.Instant.{is_delay, is_delay_op}
 use Rattle.flat_core.proofs.Members.{all_at, in-Contains, Contains-in}
 use Rattle.flat_core.specs.declared.equation.Op.TheVariants as op
-use Rattle.translation_order.proofs.Lists.{none_in_nil}
+use Rattle.tsl_value.proofs.Lists.{none_in_nil, kept_in}
 use Rattle.alias_rules.specs.Uses.{last_of}
 use Rattle.alias_rules.specs.Conflict.{StandsBefore}
 use Rattle.alias_rules.specs.Fine.{IsFine}
@@ -34,7 +34,7 @@ use Rattle.register_machine.proofs.Middle.{SlotOf, IsNext}
 use Rattle.register_machine.proofs.Moves.{Between}
 use Rattle.register_machine.proofs.Setting.{Fit, Setting, is_keyed, fires_is, value_is, no_variable}
 use Rattle.register_machine.proofs.Steps.{Good, step_good}
-use Rattle.register_machine.proofs.Kept.{filter_in, kept_argument}
+use Rattle.register_machine.proofs.Kept.{kept_argument}
 use Rattle.register_machine.proofs.Walks.{IsEnding, cons_head, start_good, split_steps, walk}
 use Rattle.register_machine.proofs.Still.{leaves_read}
 use Rattle.register_machine.proofs.End.{next_between, next_lasts}
@@ -261,7 +261,7 @@ module _ (s : System) (plan : Plan) (inputs : Inputs) (z : Streams) (bound : ℕ
         due_then i d r e running is_op is_args =
             let parts = split_steps inputs t s (map Keep (kept s)) (map Timer (delays s)) instant.reached instant.last instant.kept_on in
             let same = keeps_same (kept s) instant.reached parts.0 parts.1 in
-            let listed : is_in (delays s) i ≡ true = in-Contains (delays s) i (filter_in (λ j. is_delay (equation s j)) s.running i (Contains-in s.running i running.runs_too) (ap is_delay running.is ∙ ap is_delay_op is_op)) in
+            let listed : is_in (delays s) i ≡ true = in-Contains (delays s) i (kept_in (λ j. is_delay (equation s j)) s.running i (Contains-in s.running i running.runs_too) (ap is_delay running.is ∙ ap is_delay_op is_op)) in
             let runs_args = delay_args i d r e running is_args in
             let fit = subst (λ l. Fit s op.Delay l e.of) is_args (subst (λ o. Fit s o e.args e.of) is_op (course.fitting i e running)) in
             let fires_i = fires_is (z i t) (instant.reached.slots i) (status i running.runs_too) in

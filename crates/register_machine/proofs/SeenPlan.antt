@@ -7,16 +7,16 @@ use Rattle.flat_core.specs.declared.equation.Equation.{Equation}
 use Rattle.flat_core.specs.declared.equation.Op.TheVariants as op
 use Rattle.flat_core.specs.declared.equation.Output.{Output}
 use Rattle.flat_core.specs.Case.{Streams}
-use Rattle.flat_core.specs.Graph.{Walk, stay, onward, Path, edge, step}
+use Rattle.translation_order.specs.Graph.{Walk, stay, onward, Path, edge, step}
 use Rattle.flat_core.specs.Line.{Line, inputs_of}
 use Rattle.flat_core.specs.Members.{is_in}
 use Rattle.flat_core.specs.System.{runs, equation}
-use Rattle.flat_core.specs.TypedLines.{AreTypedLines}
+use Rattle.flat_core.specs.inner.TypedLines.{AreTypedLines}
 use Rattle.flat_core.specs.WellFormed.{unguarded_of}
 use Rattle.flat_core.proofs.Members.{all_at, Contains-in}
 use Rattle.flat_core.proofs.WellFormedOrder.{ranked_solution}
 use Rattle.flat_core.proofs.WellFormedRank.{rank_of, well_formed_ranked}
-use Rattle.translation_order.proofs.Lists.{none_in_nil, cons_cases}
+use Rattle.tsl_value.proofs.Lists.{none_in_nil, cons_cases}
 use Rattle.trigger_rules.specs.declared.atom.Atom.{Atom}
 use Rattle.trigger_rules.specs.declared.atom.Atom.TheVariants.{Start, Happens}
 use Rattle.trigger_rules.specs.Formula as formula

@@ -12,13 +12,13 @@ use Rattle.flat_core.specs.declared.equation.Equation.{Equation}
 use Rattle.flat_core.specs.declared.equation.Op.{Op}
 use Rattle.flat_core.specs.declared.equation.Op.TheVariants as op
 use Rattle.flat_core.specs.Complete.{IsFlat}
-use Rattle.flat_core.specs.Graph.{Path, edge, step}
+use Rattle.translation_order.specs.Graph.{Path, edge, step}
 use Rattle.flat_core.specs.System.{System, runs, equation}
 use Rattle.flat_core.specs.Typed.{input, empty, merge, last, set_add}
 use Rattle.flat_core.specs.TypedSystem.{IsOfType, IsTypedEquation}
 use Rattle.flat_core.specs.WellFormed.{unguarded_of, Needs, IsWellFormed}
 use Rattle.flat_core.proofs.Members.{all_at, Contains-in}
-use Rattle.translation_order.proofs.Lists.{none_in_nil, cons_cases}
+use Rattle.tsl_value.proofs.Lists.{none_in_nil, cons_cases}
 use Rattle.register_machine.proofs.Effects.{some_equation}
 
 abbrev pub made_of : Op → List ℕ → ValueType → Equation

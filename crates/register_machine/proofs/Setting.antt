@@ -14,7 +14,7 @@ use Rattle.flat_core.specs.WellFormed.{unguarded_of}
 use Rattle.flat_core.specs.Typed.{is_aggregate}
 use Rattle.flat_core.specs.Pending.{option_is}
 use Rattle.flat_core.specs.declared.equation.Op.TheVariants as op
-use Rattle.translation_order.proofs.Lists.{none_in_nil, later}
+use Rattle.tsl_value.proofs.Lists.{later, none_in_nil}
 use Rattle.alias_rules.specs.Uses.{is_update, last_of, IsVariable}
 use Rattle.register_machine.proofs.Running.{Running}
 use Rattle.register_machine.specs.Machine.{Held, Cell, Slot, Blank, Holds, Failed, Cells, held, is_failed, view_of, slot_of}

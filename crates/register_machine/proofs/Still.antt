@@ -7,7 +7,7 @@ use Rattle.flat_core.specs.Stream.{has_event, is_fault}
 use Rattle.flat_core.specs.Case.{Inputs, Streams}
 use Rattle.flat_core.specs.System.{System, runs, equation}
 use Rattle.flat_core.specs.Members.{is_in}
-use Rattle.translation_order.proofs.Lists.{none_in_nil, cons_cases}
+use Rattle.tsl_value.proofs.Lists.{none_in_nil, cons_cases}
 use Rattle.alias_rules.specs.Uses.{IsVariable}
 use Rattle.alias_rules.specs.Conflict.{StandsBefore}
 use Rattle.alias_rules.specs.Fine.{IsFine}

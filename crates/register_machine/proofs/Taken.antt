@@ -11,7 +11,7 @@ use Rattle.flat_core.specs.Stream.{Outcome, Event, Fault, has_event, is_fault, l
 use Rattle.flat_core.specs.Case.{Inputs, Streams, outcome_of, used_of}
 use Rattle.flat_core.specs.System.{System, runs, equation}
 use Rattle.flat_core.specs.declared.equation.Op.TheVariants as op
-use Rattle.translation_order.proofs.Lists.{none_in_nil, cons_cases, later}
+use Rattle.tsl_value.proofs.Lists.{later, none_in_nil, cons_cases, in_kept}
 use Rattle.alias_rules.specs.Uses.{first_of, IsVariable, IsLast}
 use Rattle.alias_rules.specs.Roots.{IsOrigin}
 use Rattle.alias_rules.specs.Conflict.{TakesBefore}
@@ -27,7 +27,6 @@ use Rattle.register_machine.proofs.Moves.{Between}
 use Rattle.register_machine.proofs.Setting.{Fit, Setting, fires_is, variable_too}
 use Rattle.register_machine.proofs.Uses.{unspoiled, last_bypasses}
 use Rattle.register_machine.proofs.Steps.{Good, done_args, barred_is, sound_args}
-use Rattle.register_machine.proofs.Kept.{filter_both}
 
 pub own_same : {x y : ℕ} → Own x ≡ Own y → x ≡ y
 own_same e = cc
@@ -97,7 +96,7 @@ module _ (s : System) (plan : Plan) (inputs : Inputs) (z : Streams) (t : ℕ) (l
     taken_uses : (o : Op) (args : List ℕ) (of : ValueType) → Running s i (eq_of e0 o args of) → Fit s o args of → ((a : ℕ) → Contains (used_of o args) a → IsTrue (runs s a) × (Contains rest a → ⊥)) → ((a : ℕ) → Contains (used_of o args) a → is_fault (z a t) ≡ false)
         → (x : ℕ) → IsVariable s x → (p : SpoiledHere x) → Contains (taken_of c o args) (Own x) → TakesBefore s p.by x i
     taken_uses (op.Lift body true) args of running fit done sound x variable p found = conflict.read (record { at = eq_of e0 (op.Lift body true) args of; is = running.is; running = running.runs_too; variable = variable; argument = in_owned args x (in_if (list_all (fires c) args) (owned args) (Own x) found) })
-    taken_uses (op.Lift body false) args of running fit done sound x variable p found = conflict.read (record { at = eq_of e0 (op.Lift body false) args of; is = running.is; running = running.runs_too; variable = variable; argument = (filter_both (fires c) args x (in_owned (filter (fires c) args) x found)).0 })
+    taken_uses (op.Lift body false) args of running fit done sound x variable p found = conflict.read (record { at = eq_of e0 (op.Lift body false) args of; is = running.is; running = running.runs_too; variable = variable; argument = (in_kept (fires c) args x (in_owned (filter (fires c) args) x found)).0 })
     taken_uses op.Merge (a ∷ b ∷ []) of running fit done sound x variable p found =
         let da = done a (0, omega arith, refl) in
         let got = merge_takes a b da.0 da.1 (sound a (0, omega arith, refl)) x found in

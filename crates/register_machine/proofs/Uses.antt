@@ -2,7 +2,7 @@
 use Rattle.std.proofs.Common.{◌≡◌, ℕ, true, false, List, Option, Some, sym, subst, ◌∙◌, inl, inr, Contains, IsTrue}
 use Rattle.std.specs.FinMap as finite_map
 use Rattle.flat_core.specs.declared.equation.Equation.{Equation}
-use Rattle.flat_core.specs.Graph.{stay}
+use Rattle.translation_order.specs.Graph.{stay}
 use Rattle.flat_core.specs.Stream.{event, has_event, is_fault, latest}
 use Rattle.flat_core.specs.Case.{Streams}
 use Rattle.flat_core.specs.System.{System, runs, equation}

@@ -6,7 +6,7 @@ use Rattle.flat_core.specs.declared.equation.Equation.{Equation}
 use Rattle.flat_core.specs.Case.{Inputs, Streams}
 use Rattle.flat_core.specs.System.{System, equation}
 use Rattle.flat_core.specs.Members.{is_in}
-use Rattle.translation_order.proofs.Lists.{later}
+use Rattle.tsl_value.proofs.Lists.{later}
 use Rattle.alias_rules.specs.Conflict.{StandsBefore}
 use Rattle.register_machine.specs.Run.{Plan, State, started, step_instr, kept}
 use Rattle.register_machine.proofs.Orders.{IsFree, Agrees, steps_of, all_steps}

@@ -1,5 +1,6 @@
 -- Which registers are still read, and that runs in place leave these as they were.
-use Rattle.std.specs.Prelude.{◌≡◌, ◌≢◌, ℕ, Bool, true, false, ◌&&◌, if◌then◌else◌, List, [], ◌∷◌, ◌++◌, Option, Some, None, is_some, IsTrue, slice_get}
+use Rattle.std.specs.Prelude.{◌≡◌, ◌≢◌, ℕ, Bool, true, false, ◌&&◌, if◌then◌else◌, List, [], ◌∷◌, ◌++◌, Option, Some, None, is_some, IsTrue}
+use Rattle.std.specs.Prelude.{slice_get}
 use Rattle.std.specs.Option.{option_and_then, option_map_or}
 use Rattle.std.specs.List.{Contains, list_all, filter}
 use Rattle.tsl_value.specs.declared.scalar.Scalar.TheVariants as scalar
@@ -10,7 +11,8 @@ use Rattle.flat_core.specs.declared.equation.Equation.{Equation}
 use Rattle.flat_core.specs.Case.{Inputs}
 use Rattle.flat_core.specs.System.{System, equation}
 use Rattle.alias_rules.specs.Uses.{is_update, first_of}
-use Rattle.register_machine.specs.Machine.{Instr, Run, RunInPlace, Print, Keep, Timer, Held, Bare, Config, held, view_of, fires, is_barred, Step, Steps}
+use Rattle.register_machine.specs.Machine.{Instr, Run, RunInPlace, Print, Keep, Timer, Held, Bare, Config, held, view_of, fires, is_barred}
+use Rattle.register_machine.specs.Machine.{Step, Steps}
 
 -- the register of an equation, or the last register of one
 pub data Register : Type 0 where

@@ -3,7 +3,7 @@ use Rattle.std.specs.Prelude.{◌≡◌, ℕ, suc, ◌<◌, ◌≤◌, ◌↔◌
 use Rattle.std.specs.FinMap as finite_map
 use Rattle.flat_core.specs.Case.{Streams}
 use Rattle.flat_core.specs.Fault.{root_at, is_faulty}
-use Rattle.flat_core.specs.BoundLaws.{AreFrom}
+use Rattle.flat_core.specs.inner.BoundLaws.{AreFrom}
 use Rattle.flat_core.specs.Instant.{is_instant}
 use Rattle.flat_core.specs.Line.{Line, inputs_of}
 use Rattle.flat_core.specs.Stream.{event}

@@ -1,5 +1,6 @@
 -- The code of a plan, whole instants of the register machine, and runs over them.
-use Rattle.std.specs.Prelude.{◌≡◌, ◌==◌, ℕ, ◌-◌, Bool, false, if◌then◌else◌, nat_lt, List, [], ◌∷◌, ◌++◌, map, length, Option, Some, None, is_some, IsFalse}
+use Rattle.std.specs.Prelude.{◌≡◌, ◌==◌, ℕ, ◌-◌, Bool, false, if◌then◌else◌, nat_lt, List, [], ◌∷◌, ◌++◌, map, length, Option, Some, None}
+use Rattle.std.specs.Prelude.{is_some, IsFalse}
 use Rattle.std.specs.Option.{option_and_then}
 use Rattle.std.specs.List.{list_any, filter}
 use Rattle.std.specs.FinMap as finite_map
@@ -12,7 +13,8 @@ use Rattle.flat_core.specs.Instant.{is_delay}
 use Rattle.flat_core.specs.Members.{is_in}
 use Rattle.flat_core.specs.System.{System, equation}
 use Rattle.alias_rules.specs.Uses.{last_of}
-use Rattle.register_machine.specs.Machine.{Instr, Run, RunInPlace, Print, Keep, Timer, Held, Cell, Slot, Blank, Failed, Config, Cells, value_in, Steps}
+use Rattle.register_machine.specs.Machine.{Instr, Run, RunInPlace, Print, Keep, Timer, Held, Cell, Slot, Blank, Failed, Config, Cells}
+use Rattle.register_machine.specs.Machine.{value_in, Steps}
 
 -- the updates that happen in place, and the order of the steps
 pub record Plan : Type 0 where

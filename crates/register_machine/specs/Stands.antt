@@ -14,7 +14,7 @@ use Rattle.flat_core.specs.Solution.{Solves}
 use Rattle.flat_core.specs.Stream.{latest}
 use Rattle.flat_core.specs.System.{System, runs, equation}
 use Rattle.flat_core.specs.Typed.{is_aggregate}
-use Rattle.flat_core.specs.TypedLines.{AreTypedLines}
+use Rattle.flat_core.specs.inner.TypedLines.{AreTypedLines}
 use Rattle.alias_rules.specs.Fine.{IsFinePlan}
 use Rattle.alias_rules.specs.Sharing.{Shares}
 use Rattle.alias_rules.specs.Uses.{IsUpdate}

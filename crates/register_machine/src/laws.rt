@@ -1,6 +1,7 @@
 // Laws of the register machine, as the contracts of functions that do nothing.
 
-ghost use Rattle.register_machine.specs.Laws.{UpdatesLeaveWhatIsRead, RunsShowTheSolution, PlansLookAlike, RunsStand, LedgersCountCopies, CellsAreBounded, SoundInstantsGoOn, RunsExist, RunsGoOn, LaterLinesLeaveRuns};
+ghost use Rattle.register_machine.specs.Laws.{UpdatesLeaveWhatIsRead, RunsShowTheSolution, PlansLookAlike, RunsStand, LedgersCountCopies};
+ghost use Rattle.register_machine.specs.Laws.{CellsAreBounded, SoundInstantsGoOn, RunsExist, RunsGoOn, LaterLinesLeaveRuns};
 
 /// With a fine plan, each update in place leaves the view of each register that is still read.
 pub fn updates_leave_what_is_read()

@@ -11,12 +11,12 @@ use Rattle.flat_core.specs.Text.{due_text}
 use Rattle.monitor_run.proofs.StepLemmas.{ready_order}
 use Rattle.monitor_run.specs.declared.monitor.Stop.{Stop}
 use Rattle.monitor_run.specs.declared.monitor.Stop.TheVariants as stop
-use Rattle.monitor_run.specs.State as engine
-use Rattle.monitor_run.specs.Written.{HasWritten}
-use Rattle.register_code.specs.Plan.{IsPlanOrder}
-use Rattle.trace_reader.specs.Reader.{Reader, AwaitsMore}
+use Rattle.monitor_run.specs.inner.State as engine
+use Rattle.monitor_run.specs.inner.Written.{HasWritten}
+use Rattle.register_code.specs.inner.Plan.{IsPlanOrder}
+use Rattle.trace_reader.specs.inner.Reader.{Reader, AwaitsMore}
 use Rattle.trace_reader.specs.Reading.{Reading, reading}
-use Rattle.trace_reader.specs.Reads.{Reads}
+use Rattle.trace_reader.specs.inner.Reads.{Reads}
 use Rattle.trace_monitor.specs.declared.ending.RunEnding.{RunEnding}
 use Rattle.trace_monitor.specs.declared.ending.RunEnding.TheVariants as ending
 use Rattle.trace_monitor.specs.declared.halt.Halt.{Halt}
@@ -24,11 +24,11 @@ use Rattle.trace_monitor.specs.declared.halt.Halt.TheVariants as halt
 use Rattle.trace_monitor.specs.Counted.{HasCounted}
 use Rattle.trace_monitor.specs.Due.{IsDue, lines_in, bound_in}
 use Rattle.trace_monitor.specs.Ending.{IsQuiet}
-use Rattle.trace_monitor.specs.Kept.{Kept, events_of}
+use Rattle.trace_monitor.specs.inner.Kept.{Kept, events_of}
 use Rattle.trace_monitor.specs.Next.{EndsBy, EndsSo, IsNext, is_nothing}
-use Rattle.trace_monitor.specs.Reading.{Fed, HasRead, HasRunAll, HasStoppedIn, Halts, bound_at}
-use Rattle.trace_monitor.specs.Run.{HasCopiedTo, HasCountedTo, HasRanTo, StopsSo}
-use Rattle.trace_monitor.specs.State.{State}
+use Rattle.trace_monitor.specs.inner.Reading.{Fed, HasRead, HasRunAll, HasStoppedIn, Halts, bound_at}
+use Rattle.trace_monitor.specs.inner.Run.{HasCopiedTo, HasCountedTo, HasRanTo, StopsSo}
+use Rattle.trace_monitor.specs.inner.State.{State}
 use Rattle.trace_monitor.proofs.Readiness.{one_due}
 use Rattle.trace_monitor.proofs.Counts.{copies_stay, ran_stays}
 use Rattle.trace_monitor.proofs.RunOut.{halted_bound, halted_lines}
@@ -153,11 +153,11 @@ module _ (m : State) (bytes : List ℕ) (ended : Bool) (lines : List Line) (text
   due_stopped stop.Memory some h = absurd (some refl)
 
   -- what is due
-  pub due_behind : (halted : Result Halt Stop) (answer : Option RunEnding) → IfOk halted Ran → IfErr halted (λ why. why ≢ stop.Memory → Stopped why) → EndsSo m.system halted answer → IsDue m.system m.options bytes ended (text ++ after)
-  due_behind (Ok by) answer ran stopped ends = due_ran by ran
-  due_behind (Err (stop.Fault t i kind)) answer ran stopped ends = due_stopped (stop.Fault t i kind) (λ is. cc) (stopped (λ is. cc))
-  due_behind (Err (stop.Limit count t)) answer ran stopped ends = due_stopped (stop.Limit count t) (λ is. cc) (stopped (λ is. cc))
-  due_behind (Err stop.Memory) answer ran stopped (by, is, none) = absurd none
+  pub due_after : (halted : Result Halt Stop) (answer : Option RunEnding) → IfOk halted Ran → IfErr halted (λ why. why ≢ stop.Memory → Stopped why) → EndsSo m.system halted answer → IsDue m.system m.options bytes ended (text ++ after)
+  due_after (Ok by) answer ran stopped ends = due_ran by ran
+  due_after (Err (stop.Fault t i kind)) answer ran stopped ends = due_stopped (stop.Fault t i kind) (λ is. cc) (stopped (λ is. cc))
+  due_after (Err (stop.Limit count t)) answer ran stopped ends = due_stopped (stop.Limit count t) (λ is. cc) (stopped (λ is. cc))
+  due_after (Err stop.Memory) answer ran stopped (by, is, none) = absurd none
 
   -- the equation of a fault is there
   pub there : (halted : Result Halt Stop) → IfErr halted (λ why. why ≢ stop.Memory → Stopped why) → (t i : ℕ) (kind : FaultKind) → halted ≡ Err (stop.Fault t i kind) → i < length m.system.equations
@@ -166,8 +166,8 @@ module _ (m : State) (bytes : List ℕ) (ended : Bool) (lines : List Line) (text
       fault_within m.system m.options m.engine.order flat plan bytes ended h.taken h.more (lines_are _ h) h.time h.later (closed _ h) (text ++ after) t i kind (stops _ h)
 
   -- how the run stands
-  pub next_behind : (halted : Result Halt Stop) (answer : Option RunEnding) → IfOk halted Ran → IfErr halted (λ why. why ≢ stop.Memory → Stopped why) → EndsSo m.system halted answer → IsNext m.system m.options bytes ended answer
-  next_behind (Ok halt.More) answer ran stopped is =
+  pub next_after : (halted : Result Halt Stop) (answer : Option RunEnding) → IfOk halted Ran → IfErr halted (λ why. why ≢ stop.Memory → Stopped why) → EndsSo m.system halted answer → IsNext m.system m.options bytes ended answer
+  next_after (Ok halt.More) answer ran stopped is =
       let h = halts halt.More ran in
       subst (IsNext m.system m.options bytes ended) (sym is) (
         h.1,
@@ -176,25 +176,25 @@ module _ (m : State) (bytes : List ℕ) (ended : Bool) (lines : List Line) (text
           quiet = subst (IsQuiet m.system m.options bytes) h.1 (quiet halt.More ran);
         },
       )
-  next_behind (Ok halt.End) answer ran stopped is =
+  next_after (Ok halt.End) answer ran stopped is =
       let h = halts halt.End ran in
       subst (IsNext m.system m.options bytes ended) (sym is) (h.1, ap (λ (r : Reading). r.refused) h.0, quiet halt.End ran)
-  next_behind (Ok (halt.Refused f)) answer ran stopped is =
+  next_after (Ok (halt.Refused f)) answer ran stopped is =
       let h = halts (halt.Refused f) ran in
       subst (IsNext m.system m.options bytes ended) (sym is) (ap (λ (r : Reading). r.refused) h, quiet (halt.Refused f) ran)
-  next_behind (Err (stop.Fault t i kind)) answer ran stopped (by, is, (place, at, so)) =
+  next_after (Err (stop.Fault t i kind)) answer ran stopped (by, is, (place, at, so)) =
       let h = stopped (λ is. cc) in
       let fault = faulted m.system m.options m.engine.order flat plan bytes ended h.taken h.more (lines_are _ h) h.time h.later (closed _ h) (text ++ after) t i kind (stops _ h) in
       subst (IsNext m.system m.options bytes ended) (sym is) (subst (EndsBy m.system m.options bytes ended) (sym so) (i, at, fault))
-  next_behind (Err (stop.Limit count t)) answer ran stopped (by, is, so) =
+  next_after (Err (stop.Limit count t)) answer ran stopped (by, is, so) =
       let h = stopped (λ is. cc) in
       let full = limited m.system m.options m.engine.order flat plan bytes ended h.taken h.more (lines_are _ h) h.time h.later (closed _ h) (text ++ after) count t (stops _ h) in
       subst (IsNext m.system m.options bytes ended) (sym is) (subst (EndsBy m.system m.options bytes ended) (sym so) full)
-  next_behind (Err stop.Memory) answer ran stopped (by, is, none) = absurd none
+  next_after (Err stop.Memory) answer ran stopped (by, is, none) = absurd none
 
   -- what goes on stands for all that was fed
-  pub kept_behind : (halted : Result Halt Stop) → IfOk halted Ran → (halted ≡ Ok halt.More → AwaitsMore r) → EndsSo m.system halted None → Kept (record m { reader = r; last = last; engine = e }) bytes
-  kept_behind (Ok halt.More) ran awaits is =
+  pub kept_after : (halted : Result Halt Stop) → IfOk halted Ran → (halted ≡ Ok halt.More → AwaitsMore r) → EndsSo m.system halted None → Kept (record m { reader = r; last = last; engine = e }) bytes
+  kept_after (Ok halt.More) ran awaits is =
       let h = halts halt.More ran in
       record {
         lines = taken halt.More ran;
@@ -210,9 +210,9 @@ module _ (m : State) (bytes : List ℕ) (ended : Bool) (lines : List Line) (text
         written = subst (λ (t : List ℕ). HasWritten e (events_of (taken halt.More ran)) (text ++ t)) (sym ran.after_is) ran.written;
         due = subst (λ (b : Bool). IsDue m.system m.options bytes b (text ++ after)) h.1 (due_ran halt.More ran);
       }
-  kept_behind (Ok halt.End) ran awaits is = absurd (cc)
-  kept_behind (Ok (halt.Refused f)) ran awaits is = absurd (cc)
-  kept_behind (Err why) ran awaits (by, is, so) = absurd (cc)
+  kept_after (Ok halt.End) ran awaits is = absurd (cc)
+  kept_after (Ok (halt.Refused f)) ran awaits is = absurd (cc)
+  kept_after (Err why) ran awaits (by, is, so) = absurd (cc)
 
   -- what the engine has counted
   module _ (by : Halt) (h : Ran by) where
@@ -244,21 +244,21 @@ module _ (m : State) (bytes : List ℕ) (ended : Bool) (lines : List Line) (text
         (copies_stay e m.system h.taken h.more h.time (bound_in m.system m.options bytes ended) (closed why h) h.later t
         (subst (λ (s : System). HasCopiedTo e s (events_of h.taken) h.time t) begun.system_is counts))
 
-  pub counted_behind : (halted : Result Halt Stop) (how : RunEnding) → IfOk halted Ran → IfErr halted (λ why. why ≢ stop.Memory → Stopped why) → EndsSo m.system halted (Some how) → HasCounted m.system m.options bytes ended e how
-  counted_behind (Ok halt.More) how ran stopped is = absurd (cc)
-  counted_behind (Ok halt.End) how ran stopped is =
+  pub counted_after : (halted : Result Halt Stop) (how : RunEnding) → IfOk halted Ran → IfErr halted (λ why. why ≢ stop.Memory → Stopped why) → EndsSo m.system halted (Some how) → HasCounted m.system m.options bytes ended e how
+  counted_after (Ok halt.More) how ran stopped is = absurd (cc)
+  counted_after (Ok halt.End) how ran stopped is =
       let counts = counted_ran halt.End ran in
       subst (HasCounted m.system m.options bytes ended e) (same_ending how ending.Done is) (record { ran = counts.0.ran; ledger = counts.1.ledger })
-  counted_behind (Ok (halt.Refused f)) how ran stopped is =
+  counted_after (Ok (halt.Refused f)) how ran stopped is =
       let counts = counted_ran (halt.Refused f) ran in
       subst (HasCounted m.system m.options bytes ended e) (same_ending how (ending.Trace f) is) (record { ran = counts.0.ran; ledger = counts.1.ledger })
-  counted_behind (Err (stop.Fault t i kind)) how ran stopped (by, is, (place, at, so)) =
+  counted_after (Err (stop.Fault t i kind)) how ran stopped (by, is, (place, at, so)) =
       let h = stopped (λ is. cc) in
       let copies = copies_stopped (stop.Fault t i kind) h (suc t) h.counts in
       subst (HasCounted m.system m.options bytes ended e) (same_ending how (ending.Fault t kind place) (is ∙ ap Some so)) (record { ran = λ z zs. tt; ledger = copies.ledger })
-  counted_behind (Err (stop.Limit count t)) how ran stopped (by, is, so) =
+  counted_after (Err (stop.Limit count t)) how ran stopped (by, is, so) =
       let h = stopped (λ is. cc) in
       let counts = ran_stopped (stop.Limit count t) h t h.counts.0 in
       let copies = copies_stopped (stop.Limit count t) h t h.counts.1 in
       subst (HasCounted m.system m.options bytes ended e) (same_ending how (ending.Limit count t) (is ∙ ap Some so)) (record { ran = counts.ran; ledger = copies.ledger })
-  counted_behind (Err stop.Memory) how ran stopped (by, is, none) = absurd none
+  counted_after (Err stop.Memory) how ran stopped (by, is, none) = absurd none

@@ -1,8 +1,8 @@
--- What is due behind a piece of the trace, and how the run stands there.
+-- What is due after a piece of the trace, and how the run stands there.
 use Rattle.std.proofs.Common.{◌≡◌, ℕ, ◌<◌, ◌≤◌, Bool, List, ◌++◌, length, sym, subst}
 use Rattle.std.proofs.lemmas.Option.{slice_get_within}
 use Rattle.lift_func.specs.declared.fault.FaultKind.{FaultKind}
-use Rattle.flat_core.specs.BoundLaws.{AreFrom}
+use Rattle.flat_core.specs.inner.BoundLaws.{AreFrom}
 use Rattle.flat_core.specs.Case.{Streams}
 use Rattle.flat_core.specs.Complete.{IsFlat}
 use Rattle.flat_core.specs.Ending.{EndsInFault, EndsAtLimit, EndsAtBound}
@@ -11,15 +11,15 @@ use Rattle.flat_core.specs.Solution.{Solves}
 use Rattle.flat_core.specs.System.{System}
 use Rattle.flat_core.specs.Text.{due_text}
 use Rattle.monitor_run.specs.declared.monitor.Stop.TheVariants as stop
-use Rattle.register_code.specs.Plan.{IsPlanOrder}
+use Rattle.register_code.specs.inner.Plan.{IsPlanOrder}
 use Rattle.trace_reader.specs.Reading.{reading}
 use Rattle.trace_monitor.specs.declared.halt.Halt.{Halt}
 use Rattle.trace_monitor.specs.declared.options.Options.{Options}
 use Rattle.trace_monitor.specs.Due.{IsDue, SolvesClosed, bound_in, lines_in}
 use Rattle.trace_monitor.specs.Ending.{InAll, IsFaulted, IsLimited, IsQuiet}
-use Rattle.trace_monitor.specs.Kept.{events_of}
-use Rattle.trace_monitor.specs.Reading.{Halts, bound_at}
-use Rattle.trace_monitor.specs.Run.{StopsSo}
+use Rattle.trace_monitor.specs.inner.Kept.{events_of}
+use Rattle.trace_monitor.specs.inner.Reading.{Halts, bound_at}
+use Rattle.trace_monitor.specs.inner.Run.{StopsSo}
 use Rattle.trace_monitor.proofs.Ends.{bound_stays, fault_stays, limit_stays}
 use Rattle.trace_monitor.proofs.Readiness.{plan_solution}
 use Rattle.trace_monitor.proofs.RunOut.{halted_bound, halted_lines}

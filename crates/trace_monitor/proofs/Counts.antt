@@ -1,11 +1,10 @@
 -- What an engine has counted where it is idle, or stops.
-use Rattle.std.proofs.Common.{◌≡◌, ◌∙◌, ℕ, zero, suc, ◌≤◌, Bool, true, false, ◌&&◌, if◌then◌else◌, List, [], ◌∷◌, ◌++◌, length, inl, inr, refl, sym, ap, subst, arith, append-nil}
+use Rattle.std.proofs.Common.{◌≡◌, ◌∙◌, ℕ, zero, suc, ◌≤◌, Bool, true, false, ◌&&◌, List, ◌++◌, length, inl, inr, refl, sym, ap, subst, arith}
 use Rattle.std.proofs.lemmas.Bool.{cases_lt}
 use Rattle.std.specs.Prelude.{IsTrue}
 use Rattle.lift_func.specs.declared.fault.FaultKind.{FaultKind}
-use Rattle.flat_core.specs.BoundLaws.{AreFrom, HappensAtInstants}
+use Rattle.flat_core.specs.inner.BoundLaws.{AreFrom, HappensAtInstants}
 use Rattle.flat_core.specs.Case.{Streams}
-use Rattle.flat_core.specs.Instant.{instants}
 use Rattle.flat_core.specs.Line.{Line, inputs_of}
 use Rattle.flat_core.specs.Solution.{Solves}
 use Rattle.flat_core.specs.Stream.{has_event}
@@ -16,26 +15,20 @@ use Rattle.flat_core.proofs.SmallerBound.{solves_less}
 use Rattle.monitor_run.specs.declared.monitor.Stop.TheVariants as stop
 use Rattle.register_machine.specs.Copied.{copied}
 use Rattle.monitor_run.specs.Updates.{is_update}
-use Rattle.monitor_run.specs.Next.{NoInstant}
-use Rattle.monitor_run.specs.Stands.{KeepsOf, Stands}
-use Rattle.monitor_run.specs.State as engine
-use Rattle.monitor_run.specs.Steps.{AreAsSet, HasFaulted, IsAtLimit, NoneIsLeft, stopped}
+use Rattle.monitor_run.specs.inner.Next.{NoInstant}
+use Rattle.monitor_run.specs.inner.Stands.{KeepsOf, Stands}
+use Rattle.monitor_run.specs.inner.State as engine
+use Rattle.monitor_run.specs.inner.Steps.{AreAsSet, HasFaulted, IsAtLimit, NoneIsLeft, stopped}
 use Rattle.alias_rules.proofs.Ranks.{place}
 use Rattle.monitor_run.proofs.GapLemmas.{copied_still, plan_ranked}
 use Rattle.monitor_run.proofs.StepLemmas.{counted, ready_order}
-use Rattle.trace_monitor.specs.Kept.{events_of}
-use Rattle.trace_monitor.specs.Run.{HasCopiedTo, HasCountedTo, HasRanTo}
+use Rattle.monitor_run.proofs.LawLemmas.{no_instants}
+use Rattle.trace_monitor.specs.inner.Kept.{events_of}
+use Rattle.trace_monitor.specs.inner.Run.{HasCopiedTo, HasCountedTo, HasRanTo}
 use Rattle.trace_monitor.proofs.Events.{events_alike, events_solve}
 
 -- ---- no instant comes between two times
 module _ (s : System) (lines : List Line) (z : Streams) (n : ℕ) where
-  instants_still : (t : ℕ) → n ≤ t → NoInstant s lines z n t → instants s lines z t ≡ instants s lines z n
-  instants_still zero le none = let same : zero ≡ n = omega arith in ap (instants s lines z) same
-  instants_still (suc t) le none = elim (cases_lt t n) [
-    | inl end ↦ let same : suc t ≡ n = omega arith in ap (instants s lines z) same
-    | inr more ↦ (λ k. instants s lines z t ++ (if none t more (omega arith) k then t ∷ [] else [])) ∙ append-nil (instants s lines z t) ∙ instants_still t more (λ u low lt. none u low (omega arith))
-  ]
-
   copies_still : (set : List ℕ) (bound : ℕ) → HappensAtInstants s lines bound z → (u : ℕ) → IsTrue (runs s u) → (t : ℕ) → n ≤ t → t ≤ bound → NoInstant s lines z n t → copied s set z u t ≡ copied s set z u n
   copies_still set bound happens u run zero le within none = let same : zero ≡ n = omega arith in ap (copied s set z u) same
   copies_still set bound happens u run (suc t) le within none = elim (cases_lt t n) [
@@ -59,7 +52,7 @@ module _ (m : engine.State) (ready : engine.IsReady m) (lines : List Line) (stan
   counts_still t within none = (
     record {
       within = within;
-      ran = λ z zs. (keeps z zs).ran ∙ ap length (sym (instants_still m.system lines z m.next t (none z zs).0 (none z zs).1));
+      ran = λ z zs. (keeps z zs).ran ∙ ap length (sym (no_instants m.system lines z m.next t (none z zs).0 (none z zs).1));
     },
     record {
       ledger = λ z zs u update.

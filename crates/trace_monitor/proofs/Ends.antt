@@ -1,11 +1,11 @@
 -- How a run ends, by other lines and by a higher bound.
-use Rattle.std.proofs.Common.{◌≡◌, ℕ, zero, suc, ◌<◌, ◌≤◌, Bool, true, false, not, if◌then◌else◌, List, [], ◌∷◌, ◌++◌, length, take, Some, is_some, slice_get, refl, sym, ◌∙◌, ap, subst, arith, append-nil}
+use Rattle.std.proofs.Common.{◌≡◌, ℕ, zero, suc, ◌<◌, ◌≤◌, true, false, not, List, [], ◌∷◌, ◌++◌, length, take, is_some, slice_get, refl, sym, ◌∙◌, ap, subst, arith, append-nil}
 use Rattle.std.specs.List.{AllByRecursion, Contains, filter, flat_map}
 use Rattle.std.specs.Prelude.{IsFalse}
-use Rattle.std.proofs.lemmas.List.Elements.{Contains-append_left}
+use Rattle.std.proofs.lemmas.List.Elements.{Contains-append_left, filter-append}
 use Rattle.std.proofs.lemmas.Option.{slice_get_within}
 use Rattle.lift_func.specs.declared.fault.FaultKind.{FaultKind}
-use Rattle.flat_core.specs.BoundLaws.{AreFrom, HappensAlike}
+use Rattle.flat_core.specs.inner.BoundLaws.{AreFrom, HappensAlike}
 use Rattle.flat_core.specs.Case.{Streams}
 use Rattle.flat_core.specs.Ending.{EndsInFault, EndsAtLimit, EndsAtBound}
 use Rattle.flat_core.specs.Fault.{is_faulty, is_over, root_at}
@@ -20,8 +20,10 @@ use Rattle.flat_core.proofs.PendingLemmas.{some_before_from}
 use Rattle.flat_core.proofs.SameMeaning.{outputs_agree}
 use Rattle.flat_core.proofs.SmallerBound.{instants_first, solves_less}
 use Rattle.flat_core.proofs.Uniqueness.{all_by, all_with}
-use Rattle.trace_monitor.specs.Kept.{events_of}
-use Rattle.trace_monitor.proofs.DueTexts.{below, due_alike, filter_append, take_all}
+use Rattle.trace_monitor.specs.inner.Kept.{events_of}
+use Rattle.tsl_value.proofs.Lists.{all_take, filter_none, get_left}
+use Rattle.flat_core.proofs.Instants.{instants_below}
+use Rattle.trace_monitor.proofs.DueTexts.{due_alike}
 use Rattle.trace_monitor.proofs.Events.{events_alike, events_solve}
 
 alike_back : (s : System) (bound : ℕ) (ls ms : List Line) (z w : Streams) → HappensAlike s bound ls z ms w → HappensAlike s bound ms w ls z
@@ -39,7 +41,7 @@ module _ (s : System) (bound limit : ℕ) (ls ms : List Line) (z w : Streams) (a
   same = a.instants_same bound (omega arith)
 
   taken_below : AllByRecursion (λ t. t < bound) (take limit (instants s ms w bound))
-  taken_below = take_all (λ t. t < bound) limit (instants s ms w bound) (below s ms w bound)
+  taken_below = all_take (λ t. t < bound) limit (instants s ms w bound) (instants_below s ms w bound)
 
   pub fault_alike : (t i : ℕ) (kind : FaultKind) → EndsInFault s ls z bound limit t i kind → EndsInFault s ms w bound limit t i kind
   fault_alike t i kind e =
@@ -66,22 +68,13 @@ bound_alike s bound limit ls ms z w a e =
 -- ---- a higher bound
 take_more : (P : ℕ → Type 0) (n : ℕ) (xs ys : List ℕ) → AllByRecursion P ys → (more : List ℕ) × (take n (xs ++ ys) ≡ take n xs ++ more) × AllByRecursion P more
 take_more P zero xs ys all = ([], refl, tt)
-take_more P (suc n) [] ys all = (take (suc n) ys, refl, take_all P (suc n) ys all)
+take_more P (suc n) [] ys all = (take (suc n) ys, refl, all_take P (suc n) ys all)
 take_more P (suc n) (x ∷ xs) ys all = let (more, is, rest) = take_more P n xs ys all in (more, ap (λ l. x ∷ l) is, rest)
 
 take_within : (n : ℕ) (xs ys : List ℕ) → n ≤ length xs → take n (xs ++ ys) ≡ take n xs
 take_within zero xs ys le = refl
 take_within (suc n) [] ys le = absurd (omega arith)
 take_within (suc n) (x ∷ xs) ys le = ap (λ l. x ∷ l) (take_within n xs ys (omega arith))
-
-get_kept : (xs ys : List ℕ) (n t : ℕ) → slice_get xs n ≡ Some t → slice_get (xs ++ ys) n ≡ Some t
-get_kept [] ys n t is = let lt : n < length {A = ℕ} [] = slice_get_within [] n t is in absurd (omega arith)
-get_kept (x ∷ xs) ys zero t is = is
-get_kept (x ∷ xs) ys (suc n) t is = get_kept xs ys n t is
-
-filter_dropped : (p : ℕ → Bool) (xs : List ℕ) → AllByRecursion (λ x. p x ≡ false) xs → filter p xs ≡ []
-filter_dropped p [] all = refl
-filter_dropped p (x ∷ xs) all = (λ k. if all.0 k then x ∷ filter p xs else filter p xs) ∙ filter_dropped p xs all.1
 
 module _ (s : System) (lines : List Line) (z : Streams) (low high limit : ℕ) (le : low ≤ high) where
   later : (rest : List ℕ) × (instants s lines z high ≡ instants s lines z low ++ rest) × AllByRecursion (λ t. (low ≤ t) × (t < high)) rest
@@ -93,7 +86,7 @@ module _ (s : System) (lines : List Line) (z : Streams) (low high limit : ℕ) (
       let takes : take limit (instants s lines z high) ≡ take limit (instants s lines z low) =
       ap (λ (l : List ℕ). take limit l) later.1 ∙ take_within limit (instants s lines z low) later.0 (omega arith) in (
         record {
-          next = ap (λ (l : List ℕ). slice_get l limit) later.1 ∙ get_kept (instants s lines z low) later.0 limit t e.next;
+          next = ap (λ (l : List ℕ). slice_get l limit) later.1 ∙ get_left (instants s lines z low) later.0 limit t e.next;
           sound = subst (λ (l : List ℕ). AllByRecursion (λ u. IsFalse (is_faulty s (inputs_of lines) z u)) l) (sym takes) e.sound;
         },
         ap (λ (l : List ℕ). flat_map (text_at s z) (filter (λ u. not (is_over s (inputs_of lines) z u)) l)) takes,
@@ -105,16 +98,16 @@ module _ (s : System) (lines : List Line) (z : Streams) (low high limit : ℕ) (
       let takes : take limit (instants s lines z high) ≡ take limit (instants s lines z low) ++ more.0 = ap (λ (l : List ℕ). take limit l) later.1 ∙ more.1 in
       let p = λ (u : ℕ). not (is_over s (inputs_of lines) z u) in
       let faulty : is_faulty s (inputs_of lines) z t ≡ true = some_from (λ j. is_some (root_at s (inputs_of lines) z t j)) s.running i e.named.running (ap is_some e.named.root) in
-      let early : t < low = all_at (λ u. u < low) (take limit (instants s lines z low)) (take_all (λ u. u < low) limit (instants s lines z low) (below s lines z low)) t e.within in
+      let early : t < low = all_at (λ u. u < low) (take limit (instants s lines z low)) (all_take (λ u. u < low) limit (instants s lines z low) (instants_below s lines z low)) t e.within in
       let none : filter p more.0 ≡ [] =
-      filter_dropped p more.0 (all_by (λ u. (low ≤ u) × (u < high)) (λ u. p u ≡ false) (λ u both. let late = both.0 in ap not (some_before_from (is_faulty s (inputs_of lines) z) (suc u) t (omega arith) faulty)) more.0 more.2) in (
+      filter_none p more.0 (all_by (λ u. (low ≤ u) × (u < high)) (λ u. p u ≡ false) (λ u both. let late = both.0 in ap not (some_before_from (is_faulty s (inputs_of lines) z) (suc u) t (omega arith) faulty)) more.0 more.2) in (
         record { named = e.named; within = subst (λ (l : List ℕ). Contains l t) (sym takes) (Contains-append_left (take limit (instants s lines z low)) more.0 t e.within) },
         ap (λ (l : List ℕ). flat_map (text_at s z) (filter p l)) takes
-            ∙ ap (λ (l : List ℕ). flat_map (text_at s z) l) (filter_append p (take limit (instants s lines z low)) more.0 ∙ ap (λ (l : List ℕ). filter p (take limit (instants s lines z low)) ++ l) none
+            ∙ ap (λ (l : List ℕ). flat_map (text_at s z) l) (filter-append p (take limit (instants s lines z low)) more.0 ∙ ap (λ (l : List ℕ). filter p (take limit (instants s lines z low)) ++ l) none
             ∙ append-nil (filter p (take limit (instants s lines z low)))),
       )
 
--- ---- from the events that were given below a bound to all lines below a higher one
+-- ---- from the events that were given instants_below a bound to all lines instants_below a higher one
 module _ (s : System) (proper : IsProper s) (outputs : OutputsRun s) (ls more : List Line) (low high limit : ℕ) (le : low ≤ high) (from : AreFrom low more) (text : List ℕ) (z : Streams) (zs : Solves s (inputs_of (ls ++ more)) high z) where
   solved : Solves s (inputs_of (events_of ls)) low z
   solved = events_solve s ls z low (((leaves_earlier s low ls more from).solves_same z).1 (solves_less s (inputs_of (ls ++ more)) low high z le zs))

@@ -3,7 +3,7 @@ use Rattle.std.proofs.Common.{◌≡◌, ◌==◌, ℕ, zero, suc, Bool, true, f
 use Rattle.std.proofs.lemmas.Bool.{cases_Bool}
 use Rattle.std.specs.List.{list_any}
 use Rattle.std.specs.Option.{option_or}
-use Rattle.flat_core.specs.BoundLaws.{HappensAlike}
+use Rattle.flat_core.specs.inner.BoundLaws.{HappensAlike}
 use Rattle.flat_core.specs.Case.{Streams}
 use Rattle.flat_core.specs.Fault.{root_at, is_faulty, is_over, IsNamed}
 use Rattle.flat_core.specs.Instant.{is_delay, is_instant, instants}
@@ -12,7 +12,7 @@ use Rattle.flat_core.specs.Solution.{Solves}
 use Rattle.flat_core.specs.Stream.{has_event}
 use Rattle.flat_core.specs.System.{System, equation}
 use Rattle.flat_core.proofs.StillLemmas.{no_event_on}
-use Rattle.trace_monitor.specs.Kept.{events_of}
+use Rattle.trace_monitor.specs.inner.Kept.{events_of}
 
 and_false : (b : Bool) → (b && false) ≡ false
 and_false true = refl

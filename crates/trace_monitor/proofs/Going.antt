@@ -12,20 +12,20 @@ use Rattle.flat_core.specs.System.{System}
 use Rattle.flat_core.specs.Text.{due_text, text_at}
 use Rattle.monitor_run.specs.declared.monitor.Stop.{Stop}
 use Rattle.monitor_run.specs.declared.monitor.Stop.TheVariants as stop
-use Rattle.monitor_run.specs.Next.{IsIdle}
-use Rattle.monitor_run.specs.Stands.{Stands}
-use Rattle.monitor_run.specs.State as engine
+use Rattle.monitor_run.specs.inner.Next.{IsIdle}
+use Rattle.monitor_run.specs.inner.Stands.{Stands}
+use Rattle.monitor_run.specs.inner.State as engine
 use Rattle.monitor_run.proofs.StepLemmas.{ready_order}
-use Rattle.monitor_run.specs.Steps.{AreAsSet, HasRun, HasStepped, NoneIsLeft}
-use Rattle.monitor_run.specs.Written.{HasWritten}
+use Rattle.monitor_run.specs.inner.Steps.{AreAsSet, HasRun, HasStepped, NoneIsLeft}
+use Rattle.monitor_run.specs.inner.Written.{HasWritten}
 use Rattle.monitor_run.proofs.LawLemmas.{goes_on_written, idle_ends, limit_below, named_below}
-use Rattle.register_code.specs.Plan.{IsPlanOrder}
-use Rattle.trace_reader.specs.Reader.{AwaitsMore}
-use Rattle.trace_reader.specs.Reads.{Reads}
-use Rattle.trace_monitor.specs.Kept.{Kept}
+use Rattle.register_code.specs.inner.Plan.{IsPlanOrder}
+use Rattle.trace_reader.specs.inner.Reader.{AwaitsMore}
+use Rattle.trace_reader.specs.inner.Reads.{Reads}
+use Rattle.trace_monitor.specs.inner.Kept.{Kept}
 use Rattle.trace_monitor.specs.Next.{is_nothing}
-use Rattle.trace_monitor.specs.Run.{CountsSo, HasCountedTo, HasRunOut, HasStopped, StopsSo}
-use Rattle.trace_monitor.specs.State.{State}
+use Rattle.trace_monitor.specs.inner.Run.{CountsSo, HasCountedTo, HasRunOut, HasStopped, StopsSo}
+use Rattle.trace_monitor.specs.inner.State.{State}
 use Rattle.trace_monitor.proofs.Counts.{counts_idle, counts_limit, copies_fault}
 use Rattle.trace_monitor.proofs.Readiness.{due_at_start, none_read, plan_solution}
 
@@ -56,7 +56,7 @@ kept_new m ready system limit last bound stands reads awaits =
       due = due_at_start m.system m.options m.engine.order (subst IsFlat system ready.whole) (subst (λ (s : System). IsPlanOrder s m.engine.order) system (ready_order m.engine ready));
     }
 
--- ---- steps, one behind the other
+-- ---- steps, one after the other
 pub record HasGoneOn (old new : engine.State) (lines : List Line) (text before after : List ℕ) : Type 0 where
   pub added : List ℕ
   pub after_is : after ≡ before ++ added

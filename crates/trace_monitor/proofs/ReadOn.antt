@@ -1,21 +1,21 @@
--- Lines that are taken one behind the other.
+-- Lines that are taken one after the other.
 use Rattle.std.proofs.Common.{◌≡◌, ◌≢◌, ℕ, List, [], ◌∷◌, ◌++◌, Some, Ok, Err, refl, sym, ap, subst, ◌∙◌, append-nil, append_assoc}
 use Rattle.flat_core.specs.Line.{Line}
 use Rattle.flat_core.specs.System.{System}
 use Rattle.monitor_run.specs.declared.monitor.Stop.{Stop}
 use Rattle.monitor_run.specs.declared.monitor.Stop.TheVariants as stop
-use Rattle.monitor_run.specs.State as engine
+use Rattle.monitor_run.specs.inner.State as engine
 use Rattle.trace_reader.specs.declared.fault.TraceFault.{TraceFault}
 use Rattle.trace_reader.specs.declared.fault.TraceFault.TheVariants as fault
 use Rattle.trace_reader.specs.declared.next.Next.TheVariants as next
-use Rattle.trace_reader.specs.Reader.{Reader}
-use Rattle.trace_reader.specs.Reads.{Reads, SaysNext}
+use Rattle.trace_reader.specs.inner.Reader.{Reader}
+use Rattle.trace_reader.specs.inner.Reads.{Reads, SaysNext}
 use Rattle.trace_reader.proofs.LineLemmas.{last_time-push}
 use Rattle.trace_monitor.specs.declared.halt.Halt.{Halt}
 use Rattle.trace_monitor.specs.declared.halt.Halt.TheVariants as halt
-use Rattle.trace_monitor.specs.Reading.{Fed, HasRead, HasReadOn, HasReadAll, HasStoppedIn, Halts, reading_of}
-use Rattle.trace_monitor.specs.Kept.{events_of}
-use Rattle.trace_monitor.specs.Run.{HasTaken, HasStoppedAt, MayFollow, StopsSo}
+use Rattle.trace_monitor.specs.inner.Reading.{Fed, HasRead, HasReadOn, HasReadAll, HasStoppedIn, Halts, reading_of}
+use Rattle.trace_monitor.specs.inner.Kept.{events_of}
+use Rattle.trace_monitor.specs.inner.Run.{HasTaken, HasStoppedAt, MayFollow, StopsSo}
 use Rattle.trace_monitor.proofs.Following.{may_follow, from_line, line_closed}
 
 -- nothing was taken yet

@@ -12,7 +12,7 @@ use Rattle.flat_core.specs.System.{System}
 use Rattle.flat_core.specs.Text.{due_text, text_at}
 use Rattle.flat_core.proofs.WellFormedOrder.{ranked_solution}
 use Rattle.monitor_run.proofs.GapLemmas.{plan_ranked}
-use Rattle.register_code.specs.Plan.{IsPlanOrder}
+use Rattle.register_code.specs.inner.Plan.{IsPlanOrder}
 use Rattle.trace_reader.specs.Closed.{closed_below}
 use Rattle.trace_reader.specs.Reading.{Reading, reading}
 use Rattle.trace_monitor.specs.declared.options.Options.{Options}

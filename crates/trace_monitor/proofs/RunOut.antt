@@ -8,17 +8,17 @@ use Rattle.flat_core.specs.System.{System}
 use Rattle.flat_core.specs.Text.{due_text}
 use Rattle.monitor_run.specs.declared.monitor.Stop.{Stop}
 use Rattle.monitor_run.specs.declared.monitor.Stop.TheVariants as stop
-use Rattle.monitor_run.specs.State as engine
-use Rattle.monitor_run.specs.Written.{HasWritten}
+use Rattle.monitor_run.specs.inner.State as engine
+use Rattle.monitor_run.specs.inner.Written.{HasWritten}
 use Rattle.trace_reader.specs.Closed.{closed_below}
-use Rattle.trace_reader.specs.Reader.{Reader}
+use Rattle.trace_reader.specs.inner.Reader.{Reader}
 use Rattle.trace_reader.specs.Reading.{Reading}
-use Rattle.trace_reader.specs.Reads.{Reads}
+use Rattle.trace_reader.specs.inner.Reads.{Reads}
 use Rattle.trace_monitor.specs.declared.halt.Halt.{Halt}
 use Rattle.trace_monitor.specs.declared.halt.Halt.TheVariants as halt
-use Rattle.trace_monitor.specs.Kept.{events_of}
-use Rattle.trace_monitor.specs.Reading.{Fed, HasReadAll, HasRunAll, HasStoppedIn, Halts, bound_at, reading_of}
-use Rattle.trace_monitor.specs.Run.{CountsSo, HasCountedTo, HasRunOut, HasStopped, StopsSo, closed_to}
+use Rattle.trace_monitor.specs.inner.Kept.{events_of}
+use Rattle.trace_monitor.specs.inner.Reading.{Fed, HasReadAll, HasRunAll, HasStoppedIn, Halts, bound_at, reading_of}
+use Rattle.trace_monitor.specs.inner.Run.{CountsSo, HasCountedTo, HasRunOut, HasStopped, StopsSo, closed_to}
 
 pub halted_lines : (r : Reading) (ls : List Line) (ended : Bool) (by : Halt) → Halts r ls ended by → r.lines ≡ ls
 halted_lines r ls ended halt.More h = ap (λ (r : Reading). r.lines) h.0
@@ -61,8 +61,8 @@ module _ (r : Reader) (old mid new : engine.State) (last until : ℕ) (x : Fed) 
   abbrev EndsAll : System → ℕ → ℕ → List ℕ → Type 0
   EndsAll s b n t = (w : Streams) → Solves s (inputs_of (events_of taken)) b w → (t ≡ due_text s (events_of taken) w b n) × EndsAtBound s (events_of taken) w b n
 
-  pub run_behind : HasRunOut (closed_to mid (bound_at by last until)) new (events_of taken) written_text at after → HasRunAll r old new last until x lines text before after by
-  run_behind run = record {
+  pub run_after : HasRunOut (closed_to mid (bound_at by last until)) new (events_of taken) written_text at after → HasRunAll r old new last until x lines text before after by
+  run_after run = record {
     more = h.on.more;
     added = h.on.added ++ run.added;
     after_is = same_after run.added run.after_is;
@@ -81,8 +81,8 @@ module _ (r : Reader) (old mid new : engine.State) (last until : ℕ) (x : Fed) 
         (subst (EndsAll mid.system (bound_at by last until) mid.limit) (same_text run.added) run.ends)));
   }
 
-  pub stopped_behind : (why : Stop) → why ≢ stop.Memory → HasStopped (closed_to mid (bound_at by last until)) new (events_of taken) written_text at after why → HasStoppedIn old new x until text before after why
-  stopped_behind why some run =
+  pub stopped_after : (why : Stop) → why ≢ stop.Memory → HasStopped (closed_to mid (bound_at by last until)) new (events_of taken) written_text at after why → HasStoppedIn old new x until text before after why
+  stopped_after why some run =
       let bound : bound_at by last until ≡ closed_below (reading_of old.system x) until x.ended = bound_same ∙ halted_bound (reading_of old.system x) taken x.ended until by h.halts in
       record {
         taken = taken;

@@ -1,28 +1,26 @@
 -- Closing times, running their instants, and giving events.
-use Rattle.std.proofs.Common.{◌≡◌, ◌≢◌, ℕ, ◌+◌, ◌≤◌, max, List, [], ◌∷◌, ◌++◌, Option, Some, None, is_some, if◌then◌else◌, Result, Ok, Err, OnOk, IfErr, IfOk, refl, sym, subst, ap, arith, ◌∙◌}
+use Rattle.std.proofs.Common.{◌≡◌, ◌≢◌, ℕ, ◌+◌, ◌≤◌, max, List, [], ◌∷◌, ◌++◌, Option, Some, None, is_some, is_ok, if◌then◌else◌, Result, Ok, Err, OnOk, IfErr, IfOk, refl, sym, subst, ap, arith, ◌∙◌}
 use Rattle.std.proofs.Math.Nat.{max-eq_right}
 use Rattle.std.proofs.lemmas.List.Elements.{filter-append}
 use Rattle.std.specs.List.{AllByRecursion, flat_map}
 use Rattle.std.specs.Option.{option_or}
 use Rattle.tsl_value.specs.View.{View}
 use Rattle.tsl_value.specs.declared.scalar.Scalar.{Scalar}
-use Rattle.flat_core.specs.BoundLaws.{LeavesEarlier}
 use Rattle.flat_core.specs.Line.{Line, event_in, inputs_of, last_time}
 use Rattle.flat_core.specs.System.{System}
 use Rattle.flat_core.specs.Text.{text_at}
-use Rattle.flat_core.proofs.LaterLines.{leaves_earlier}
 use Rattle.monitor_run.specs.declared.monitor.Stop.{Stop}
-use Rattle.monitor_run.specs.Given.{AreAt, IsInputOf, line_of}
-use Rattle.monitor_run.specs.Next.{IsIdle}
-use Rattle.monitor_run.specs.State as engine
-use Rattle.monitor_run.specs.Steps.{AreAsSet, CanTake}
-use Rattle.monitor_run.specs.Written.{HasWritten}
-use Rattle.monitor_run.proofs.MonitorLemmas.{stands_closed, stands_given}
-use Rattle.trace_monitor.specs.Kept.{events_of}
+use Rattle.monitor_run.specs.inner.Given.{AreAt, IsInputOf, line_of}
+use Rattle.monitor_run.specs.inner.Next.{IsIdle}
+use Rattle.monitor_run.specs.inner.State as engine
+use Rattle.monitor_run.specs.inner.Steps.{AreAsSet, CanTake}
+use Rattle.monitor_run.specs.inner.Written.{HasWritten}
+use Rattle.monitor_run.proofs.MonitorLemmas.{stands_closed, stands_given, given_leaves}
+use Rattle.trace_monitor.specs.inner.Kept.{events_of}
 use Rattle.trace_monitor.specs.declared.halt.Halt.{Halt}
 use Rattle.trace_monitor.specs.declared.halt.Halt.TheVariants as halt
-use Rattle.trace_monitor.specs.Reading.{bound_at}
-use Rattle.trace_monitor.specs.Run.{HasRunOut, HasStopped, HasRunBelow, HasStoppedAt, HasTaken, CountsSo, MayFollow, StopsSo, closed_to}
+use Rattle.trace_monitor.specs.inner.Reading.{bound_at}
+use Rattle.trace_monitor.specs.inner.Run.{HasRunOut, HasStopped, HasRunBelow, HasStoppedAt, HasTaken, CountsSo, MayFollow, StopsSo, closed_to}
 
 pub written_closed : (m : engine.State) (bound : ℕ) (lines : List Line) (text : List ℕ) → HasWritten m lines text → HasWritten (record m { bound = bound }) lines text
 written_closed m bound lines text w = record { stands = stands_closed m bound lines w.stands; text_is = w.text_is }
@@ -31,14 +29,8 @@ pub written_given : (m : engine.State) → engine.IsReady m → (time i : ℕ) (
     → HasWritten (record m { given = m.given ++ line_of time i value ∷ [] }) (lines ++ line_of time i value ∷ []) text
 written_given m ready time i value can lines text w = record {
   stands = stands_given m ready time i value can lines w.stands;
-  text_is = λ z zs. w.text_is z ((leaves.solves_same z).1 zs) ∙ ap (flat_map (text_at m.system z)) ((leaves.happens z).instants_same m.next (omega arith));
+  text_is = λ z zs. w.text_is z (((given_leaves m ready time i value can lines).solves_same z).1 zs) ∙ ap (flat_map (text_at m.system z)) (((given_leaves m ready time i value can lines).happens z).instants_same m.next (omega arith));
 }
-  where
-    next_below : m.next ≤ time
-    next_below = let within = ready.within in let unclosed = can.unclosed in omega arith
-
-    leaves : LeavesEarlier m.system m.next lines (line_of time i value ∷ [])
-    leaves = leaves_earlier m.system m.next lines (line_of time i value ∷ []) (next_below, tt)
 
 -- the engine whose times below a time are closed
 abbrev closed_at : engine.State → ℕ → engine.State
@@ -106,17 +98,17 @@ last_snoc [] l = refl
 last_snoc (x ∷ []) l = refl
 last_snoc (x ∷ y ∷ lines) l = last_snoc (y ∷ lines) l
 
-all_behind : (P : Line → Type 0) (xs ys : List Line) → AllByRecursion P (xs ++ ys) → AllByRecursion P ys
-all_behind P [] ys all = all
-all_behind P (x ∷ xs) ys all = all_behind P xs ys all.1
+all_after : (P : Line → Type 0) (xs ys : List Line) → AllByRecursion P (xs ++ ys) → AllByRecursion P ys
+all_after P [] ys all = all
+all_after P (x ∷ xs) ys all = all_after P xs ys all.1
 
 at_time : (t : ℕ) (lines : List Line) → AllByRecursion (λ e. e.time ≤ t) lines → AllByRecursion (λ e. t ≤ e.time) lines → AreAt t lines
 at_time t [] most least = tt
 at_time t (l ∷ lines) most least = ((let le = most.0 in let ge = least.0 in omega arith), at_time t lines most.1 least.1)
 
-fresh_behind : (past given : List Line) (i t : ℕ) → inputs_of (past ++ given) i t ≡ None → inputs_of given i t ≡ None
-fresh_behind [] given i t none = none
-fresh_behind (l ∷ past) given i t none = fresh_behind past given i t (second_none (event_in i t l.time l.event) (inputs_of (past ++ given) i t) none)
+fresh_after : (past given : List Line) (i t : ℕ) → inputs_of (past ++ given) i t ≡ None → inputs_of given i t ≡ None
+fresh_after [] given i t none = none
+fresh_after (l ∷ past) given i t none = fresh_after past given i t (second_none (event_in i t l.time l.event) (inputs_of (past ++ given) i t) none)
   where
     second_none : (a b : Option View) → option_or a b ≡ None → b ≡ None
     second_none None b h = h
@@ -127,9 +119,9 @@ pub can_take : (e : engine.State) (s : System) (lines : List Line) (text : List 
 can_take e s lines text l same w idle closed may i value is =
     let parts = w.stands.parts in record {
       unclosed = omega arith;
-      alone = at_time l.time e.given (all_behind (λ x. x.time ≤ l.time) w.stands.past e.given (subst (AllByRecursion (λ x. x.time ≤ l.time)) parts may.all_before))
+      alone = at_time l.time e.given (all_after (λ x. x.time ≤ l.time) w.stands.past e.given (subst (AllByRecursion (λ x. x.time ≤ l.time)) parts may.all_before))
           (subst (λ (b : ℕ). AllByRecursion (λ x. b ≤ x.time) e.given) closed idle.events);
-      fresh = fresh_behind w.stands.past e.given i l.time (subst (λ (ls : List Line). inputs_of ls i l.time ≡ None) parts (may.fresh i value is));
+      fresh = fresh_after w.stands.past e.given i l.time (subst (λ (ls : List Line). inputs_of ls i l.time ≡ None) parts (may.fresh i value is));
       fits = subst (λ (t : System). IsInputOf t i value) (sym same) (may.fits i value is);
     }
 
@@ -186,3 +178,8 @@ if_ok (Err e) P Q f p = tt
 pub on_if_ok : {A E : Type 0} (r : Result A E) (P : A → Type 0) (Q : Type 0) → ((a : A) → P a → Q) → IfOk r P → OnOk r Q
 on_if_ok (Ok a) P Q f p = f a p
 on_if_ok (Err e) P Q f p = tt
+
+-- what is kept where there was no error
+pub on_kept : {A E : Type 0} (r : Result A E) (P : List ℕ → Type 0) (before after : List ℕ) → after ≡ (if is_ok r then before else []) → OnOk r (P before) → OnOk r (P after)
+on_kept (Ok a) P before after is p = subst P (sym is) p
+on_kept (Err e) P before after is p = tt

@@ -8,9 +8,9 @@ use Rattle.trace_reader.specs.declared.fault.TraceFault.{TraceFault}
 use Rattle.trace_reader.specs.declared.fault.TraceFault.TheVariants as fault
 use Rattle.trace_reader.specs.Form.{is_long}
 use Rattle.trace_reader.specs.Reading.{Reading, cut, lines_of, on_line, overflow, read, reading, unfinished}
-use Rattle.trace_monitor.specs.Kept.{Kept}
+use Rattle.trace_monitor.specs.inner.Kept.{Kept}
 use Rattle.trace_monitor.specs.Next.{is_nothing}
-use Rattle.trace_monitor.specs.State.{State}
+use Rattle.trace_monitor.specs.inner.State.{State}
 
 overflow_is : (r : Option TraceFault) (b n : ℕ) (rest : List ℕ) → option_or r (unfinished (Some b) n rest) ≡ None → ⊥
 overflow_is (Some f) b n rest none = absurd (cc)

@@ -10,7 +10,7 @@ use Rattle.trace_reader.specs.declared.fault.TraceFault.{TraceFault}
 use Rattle.flat_core.specs.Text.{due_text}
 use Rattle.trace_monitor.specs.declared.options.Options.{Options}
 
--- the lines that the bytes have, the refusal behind them, and the bound below which times are closed
+-- the lines that the bytes have, the refusal after them, and the bound below which times are closed
 abbrev pub lines_in : System → Options → List ℕ → Bool → List Line
 lines_in s o bytes ended = (reading s o.strict o.bytes bytes ended).lines
 

@@ -26,7 +26,7 @@ module _ (s : System) (o : Options) (bytes : List ℕ) (ended : Bool) where
   abbrev pub IsLimited : ℕ → Type 0
   IsLimited t = InAll s o bytes ended (λ z. EndsAtLimit s (lines_in s o bytes ended) z (bound_in s o bytes ended) o.instants t)
 
--- a run goes on behind these bytes: no line is refused, no fault is closed, and the limit is not passed
+-- a run goes on after these bytes: no line is refused, no fault is closed, and the limit is not passed
 pub record GoesOn (s : System) (o : Options) (bytes : List ℕ) : Type 0 where
   pub accepted : refused_in s o bytes false ≡ None
   pub quiet : IsQuiet s o bytes false

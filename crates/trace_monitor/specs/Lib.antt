@@ -1,8 +1,5 @@
 pub mod Due
 pub mod Ending
 pub mod Next
-pub mod State
-pub mod Kept
-pub mod Run
-pub mod Reading
 pub mod Counted
+pub mod inner

@@ -1,4 +1,4 @@
--- How a run stands behind some bytes of the trace: it goes on, or it ends.
+-- How a run stands after some bytes of the trace: it goes on, or it ends.
 use Rattle.std.specs.Prelude.{◌≡◌, ℕ, Bool, true, false, List, length, Option, None, Some, nat_eq, Result, Ok, Err}
 use Rattle.flat_core.specs.System.{System, equation}
 use Rattle.flat_core.specs.declared.equation.Equation.{Equation}
@@ -12,10 +12,6 @@ use Rattle.trace_monitor.specs.declared.halt.Halt.TheVariants as halt
 use Rattle.trace_monitor.specs.declared.options.Options.{Options}
 use Rattle.trace_monitor.specs.Due.{refused_in}
 use Rattle.trace_monitor.specs.Ending.{IsQuiet, IsFaulted, IsLimited, GoesOn}
-
--- as many bytes as a piece has at most
-abbrev pub most_taken : ℕ
-most_taken = 65536
 
 -- no bytes
 abbrev pub is_nothing : List ℕ → Bool

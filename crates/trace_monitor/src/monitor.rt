@@ -1,20 +1,23 @@
 // The monitor of a trace.
 
-ghost use Rattle.std.specs.Prelude.{◌≡◌, ◌≢◌, ◌≤◌, ◌<◌, ◌^◌, ◌++◌, ◌∷◌, ℕ, List, [], false, length, IfErr, IfOk, IsTrue, None, Err, Ok, OnOk, Some, slice_index};
+ghost use Rattle.std.specs.Prelude.{◌≡◌, ◌≢◌, ◌≤◌, ◌<◌, ◌^◌, ◌++◌, ◌∷◌, ℕ, List, [], false, length, IfErr, IfOk, IsTrue, None, Err, Ok};
+ghost use Rattle.std.specs.Prelude.{OnErr, OnOk, Some, if◌then◌else◌, is_ok, slice_index};
 ghost use Rattle.lift_func.specs.declared.fault.FaultKind.{FaultKind};
-ghost use Rattle.trace_reader.specs.Reader.{AwaitsMore};
+ghost use Rattle.trace_reader.specs.inner.Reader.{AwaitsMore};
 ghost use Rattle.tsl_value.specs.declared.scalar.Scalar.{Scalar};
-ghost use Rattle.monitor_run.specs.Steps.{AreAsSet, CanTake};
+ghost use Rattle.tsl_value.specs.declared.limits.TheConstants.{MOST_TRACE_BYTES};
+ghost use Rattle.monitor_run.specs.inner.Steps.{AreAsSet, CanTake};
 ghost use Rattle.monitor_run.specs.Updates.{is_running_update};
 ghost use Rattle.trace_monitor.specs.Counted.{HasCounted};
 ghost use Rattle.trace_monitor.specs.Due.{IsDue};
-ghost use Rattle.trace_monitor.specs.Kept.{Kept, events_of};
-ghost use Rattle.trace_monitor.specs.Next.{EndsFor, EndsSo, IsNext, is_nothing, most_taken};
-ghost use Rattle.trace_monitor.specs.Run.{HasLines, HasRunBelow, HasRunOut, HasStopped, HasStoppedAt, HasTaken, MayFollow, closed_to};
-ghost use Rattle.trace_monitor.specs.Reading.{Fed, HasRead, HasReadAll, HasRunAll, HasStoppedIn, bound_at};
+ghost use Rattle.trace_monitor.specs.inner.Kept.{Kept, events_of};
+ghost use Rattle.trace_monitor.specs.Next.{EndsFor, EndsSo, IsNext, is_nothing};
+ghost use Rattle.trace_monitor.specs.inner.Run.{HasLines, HasRunBelow, HasRunOut, HasStopped, HasStoppedAt, HasTaken, MayFollow, closed_to};
+ghost use Rattle.trace_monitor.specs.inner.Reading.{Fed, HasRead, HasReadAll, HasRunAll, HasStoppedIn, bound_at};
 ghost use Rattle.flat_core.specs.Line.{Line};
-ghost use Rattle.trace_reader.specs.Reads.{Reads};
-ghost use Rattle.monitor_run.specs.Written.{HasWritten};
+ghost use Rattle.trace_reader.specs.inner.Reads.{Reads};
+ghost use Rattle.trace_reader.specs.declared.limits.TheConstants.{MOST_PIECE_BYTES};
+ghost use Rattle.monitor_run.specs.inner.Written.{HasWritten};
 
 use crate::ending::RunEnding;
 use crate::halt::Halt;
@@ -49,8 +52,8 @@ impl<'c> Model for TraceMonitor<'c> {
     ghost use Rattle.std.specs.Coded.{codes};
     ghost use Rattle.std.specs.Prelude.{◌≤◌, ◌<◌, ◌^◌};
     ghost use Rattle.lift_func.specs.contracts.body.Body as body;
-    ghost use Rattle.monitor_run.specs.Code.{cells_code, times_code};
-    ghost use Rattle.trace_monitor.specs.State.{State};
+    ghost use Rattle.monitor_run.specs.inner.Code.{cells_code, times_code};
+    ghost use Rattle.trace_monitor.specs.inner.State.{State};
 
     ghost Value = { State };
 
@@ -101,7 +104,7 @@ fn run_below(engine: &mut Monitor, time: Time, out: &mut Bytes) -> Result<(), St
     run(engine, out)
 }
 
-/// Gives the event of a line, where it has one. It stops for want of memory alone.
+/// Gives the event of a line, where it has one. It stops only where memory runs out.
 fn give(engine: &mut Monitor, line: TraceLine) -> Result<(), Stop>
     requires written { (lines : List Line) × (text : List ℕ) × HasWritten engine.old lines text }
     requires takes { (i : ℕ) (value : Scalar) → line.event ≡ Some (i, value) → CanTake engine.old line.time i value }
@@ -142,7 +145,7 @@ fn take_line(engine: &mut Monitor, line: TraceLine, out: &mut Bytes) -> Result<(
     give(engine, line)
 }
 
-/// Why no further line is taken where one is refused. Want of memory refuses none.
+/// Why no further line is taken where one is refused. Out of memory refuses none.
 fn halt_at(fault: TraceFault) -> Result<Halt, Stop>
     ensures halt { IfOk result (λ by. by ≡ Halt.Refused fault) }
     ensures refused { IfOk result (λ _. fault ≢ TraceFault.Memory) }
@@ -265,6 +268,15 @@ fn conclude(code: &Code, halted: Result<Halt, Stop>) -> Result<Option<RunEnding>
     }
 }
 
+/// Leaves no text where memory ran out.
+fn clear_if_err(ending: &Result<Option<RunEnding>, NoMemory>, text: &mut Bytes)
+    ensures { text.new ≡ (if is_ok ending.now then text.old else []) }
+{
+    if ending.is_err() {
+        text.truncate(0);
+    }
+}
+
 impl<'c> TraceMonitor<'c> {
     /// A monitor of a trace of which nothing was taken.
     pub fn new(
@@ -273,7 +285,7 @@ impl<'c> TraceMonitor<'c> {
         options: Options,
     ) -> Result<TraceMonitor<'c>, NoMemory>
         requires some { 1 ≤ options.bytes }
-        requires few { options.bytes ≤ 2 ^ 40 }
+        requires few { options.bytes ≤ MOST_TRACE_BYTES }
         requires instants { 1 ≤ options.instants }
         requires until { options.until < 2 ^ 63 }
         ensures kept { IfOk result (λ m. Kept m []) }
@@ -296,7 +308,7 @@ impl<'c> TraceMonitor<'c> {
     /// Feeds a piece of the trace to the reader, or its end, which is an empty piece.
     fn feed(&mut self, piece: &[u8]) -> Result<(), NoMemory>
         requires kept { (fed : List ℕ) × Kept self.old fed }
-        requires short { length piece.now ≤ most_taken }
+        requires short { length piece.now ≤ MOST_PIECE_BYTES }
         ensures fed { OnOk result ((fed : List ℕ) (lines : List Line)
             → Reads self.old.reader self.old.system self.old.options.strict self.old.options.bytes fed lines false
             → Reads self.new.reader self.old.system self.old.options.strict self.old.options.bytes
@@ -312,10 +324,10 @@ impl<'c> TraceMonitor<'c> {
     }
 
     /// Takes a piece of the trace, or its end, which is an empty piece. `out` then has the text that it adds to what is due, in place of
-    /// what it had. The answer is how the run ends, if it does.
+    /// what it had. The answer is how the run ends, if it does. Out of memory, `out` has nothing, and no further piece may come.
     pub fn advance(&mut self, piece: &[u8], out: &mut Bytes) -> Result<Option<RunEnding>, NoMemory>
         requires kept { (fed : List ℕ) × Kept self.old fed }
-        requires short { length piece.now ≤ most_taken }
+        requires short { length piece.now ≤ MOST_PIECE_BYTES }
         ensures system { self.new.system ≡ self.old.system }
         ensures options { self.new.options ≡ self.old.options }
         ensures engine { self.new.engine.system ≡ self.old.engine.system }
@@ -327,11 +339,12 @@ impl<'c> TraceMonitor<'c> {
             → IsNext self.old.system self.old.options (fed ++ piece.now) (is_nothing piece.now) ending) }
         ensures counted { (fed : List ℕ) (how : RunEnding) → Kept self.old fed → result ≡ Ok (Some how)
             → HasCounted self.old.system self.old.options (fed ++ piece.now) (is_nothing piece.now) self.new.engine how }
+        ensures err { OnErr result (out.new ≡ []) }
     {
+        out.truncate(0);
         self.feed(piece)?;
         // What it answers is not needed: its contract says what every engine has.
         self.engine.instants();
-        out.truncate(0);
         let until = Time::new(self.options.until).unwrap();
         let halted = run_all(
             &mut self.reader,
@@ -340,7 +353,9 @@ impl<'c> TraceMonitor<'c> {
             until,
             out,
         );
-        conclude(self.code, halted)
+        let ending = conclude(self.code, halted);
+        clear_if_err(&ending, out);
+        ending
     }
 
     /// How many elements a running update has copied, or 2^64 - 1 where there were more.

@@ -19,6 +19,7 @@ use Rattle.trace_reader.specs.declared.fault.TraceFault.TheVariants as fault
 use Rattle.trace_reader.specs.Closed.{closed_below}
 use Rattle.trace_reader.specs.Form.{is_long, is_name}
 use Rattle.trace_reader.specs.Reading.{Reading, reading, unfinished}
+use Rattle.trace_reader.specs.declared.limits.TheConstants.{MOST_LINE_BYTES}
 
 abbrev input : List ℕ → ScalarType → Equation
 input name of = record { op = op.Input; args = []; of = value_type.Scalar of; place = record { line = 1; column = 1 }; name = Some name }
@@ -60,7 +61,7 @@ two_lines : read (codes "1: i = 5" ∷ codes "02: j = -7" ∷ []) ≡ all (event
 unfolding reading literal is_name chars encode_utf8 is_utf8 unicode_ident
 two_lines = refl
 
--- blanks before the parts and between them, and behind the last one
+-- blanks before the parts and between them, and after the last one
 blanks : read (codes "\t 1 :i=5" ∷ codes "2\t:  b  =  true " ∷ codes "3:u" ∷ codes "4 : j = 7 \r\r" ∷ codes "5 :" ∷ []) ≡ all (event 1 0 (int 5) ∷ event 2 3 (scalar.Bool true) ∷ event 3 2 scalar.Unit ∷ event 4 1 (int 7) ∷ bare 5 ∷ [])
 unfolding reading literal is_name chars encode_utf8 is_utf8 unicode_ident
 blanks = refl
@@ -103,11 +104,11 @@ word : read (codes "1: in = 5" ∷ []) ≡ refused [] (fault.BadLine 1)
 unfolding reading literal is_name chars encode_utf8 is_utf8 unicode_ident
 word = refl
 
-word_behind : read (codes "1: ink = 5" ∷ codes "2: then" ∷ []) ≡ refused (bare 1 ∷ []) (fault.BadLine 2)
+word_after : read (codes "1: ink = 5" ∷ codes "2: then" ∷ []) ≡ refused (bare 1 ∷ []) (fault.BadLine 2)
 unfolding reading literal is_name chars encode_utf8 is_utf8 unicode_ident
-word_behind = refl
+word_after = refl
 
--- what stands behind = is not empty
+-- what stands after = is not empty
 no_value : read (codes "1: u =" ∷ []) ≡ refused [] (fault.BadLine 1)
 unfolding reading literal is_name chars encode_utf8 is_utf8 unicode_ident
 no_value = refl
@@ -199,20 +200,20 @@ unfolding reading literal is_name chars encode_utf8 is_utf8 unicode_ident
 line_beyond = refl
 
 -- a line has 65,536 bytes at most
-not_long : is_long 65536 ≡ false
+not_long : is_long MOST_LINE_BYTES ≡ false
 not_long = refl
 
 long : is_long 65537 ≡ true
 long = refl
 
 -- as many bytes of a line that is not whole: a limit is passed with them only by the line's end
-open_line : (bytes : List ℕ) → length bytes ≡ 65536 → unfinished None 3 bytes ≡ None
+open_line : (bytes : List ℕ) → length bytes ≡ MOST_LINE_BYTES → unfinished None 3 bytes ≡ None
 open_line bytes is = λ k. if is_long (is k + 0) then Some (fault.LineTooLong 3) else None
 
-end_is_beyond : (bytes : List ℕ) → length bytes ≡ 65536 → unfinished (Some 10) 3 bytes ≡ Some (fault.TraceTooLong 3)
+end_is_beyond : (bytes : List ℕ) → length bytes ≡ MOST_LINE_BYTES → unfinished (Some 10) 3 bytes ≡ Some (fault.TraceTooLong 3)
 end_is_beyond bytes is = λ k. if is_long (is k + 0) then Some (fault.LineTooLong 3) else Some (fault.TraceTooLong 3)
 
-other_is_beyond : (bytes : List ℕ) → length bytes ≡ 65536 → unfinished (Some 35) 3 bytes ≡ Some (fault.LineTooLong 3)
+other_is_beyond : (bytes : List ℕ) → length bytes ≡ MOST_LINE_BYTES → unfinished (Some 35) 3 bytes ≡ Some (fault.LineTooLong 3)
 other_is_beyond bytes is = λ k. if is_long (is k + 1) then Some (fault.LineTooLong 3) else Some (fault.TraceTooLong 3)
 
 long_open_line : (bytes : List ℕ) → length bytes ≡ 65537 → unfinished None 3 bytes ≡ Some (fault.LineTooLong 3)

@@ -7,12 +7,12 @@ use Rattle.std.specs.List.{list_all}
 use Rattle.std.specs.Option.{option_and_then, option_map}
 use Rattle.tsl_value.specs.Literal.{are_digits}
 use Rattle.tsl_value.proofs.Digits.{are_digits-parts}
-use Rattle.trace_reader.specs.Form.{Parts, put_first, split_once, is_blank, is_end_blank, is_name, without_front, without_end, content, says_nothing, called, valued, named_by, behind_time, timed, parts_of}
-use Rattle.trace_reader.specs.Spelling.{AreBlanks, AreDigits, AreEndBlanks, HasForm, IsSkippedLine, IsWhole, SpellsName}
+use Rattle.trace_reader.specs.Form.{Parts, put_first, split_once, is_blank, is_end_blank, is_name, without_front, without_end, content, says_nothing, called, valued, named_by, after_time, timed, parts_of}
+use Rattle.trace_reader.specs.inner.Spelling.{AreBlanks, AreDigits, AreEndBlanks, HasForm, IsSkippedLine, IsWhole, SpellsName}
 use Rattle.trace_reader.proofs.CutLemmas.{split_by, split_once-append}
 use Rattle.trace_reader.proofs.JudgedLemmas.{came, some_same}
 use Rattle.trace_reader.proofs.NameLemmas.{is_inner, name_inner, name_read, name_some, name_spelled}
-use Rattle.trace_reader.proofs.TrimLemmas.{EndTo, FrontTo, LastOf, StopsAt, all_joined, all_weaker, end_all, end_at, end_behind, end_to, front_all, front_to, last_of, not_mark}
+use Rattle.trace_reader.proofs.TrimLemmas.{EndTo, FrontTo, LastOf, StopsAt, all_joined, all_weaker, end_all, end_at, end_following, end_to, front_all, front_to, last_of, not_mark}
 
 pub record Mapped {A B : Type 0} (f : A → B) (o : Option A) (y : B) : Type 0 where
   pub at : A
@@ -23,7 +23,7 @@ pub mapped : {A B : Type 0} (f : A → B) (o : Option A) (y : B) → option_map 
 mapped f None y is = absurd (cc)
 mapped f (Some x) y is = record { at = x; is = refl; gives = some_same (f x) y is }
 
--- Bytes that pass a test which the mark doesn't pass have no mark, and split off at one behind them.
+-- Bytes that pass a test which the mark doesn't pass have no mark, and split off at one after them.
 module _ (p : ℕ → Bool) (mark : ℕ) (no_mark : p mark ≡ false) where
   none_step : (b : ℕ) (bytes : List ℕ) (is_mark : Bool) → b == mark ≡ is_mark → p b ≡ true → split_once mark bytes ≡ None →
       (if is_mark then Some ([], bytes) else option_map (put_first b) (split_once mark bytes)) ≡ None
@@ -114,10 +114,10 @@ inner_last : (name : List ℕ) → 0 < length name → list_all is_inner name �
 inner_last [] some all = absurd (omega arith)
 inner_last (b ∷ name) some all = last_of is_inner b name all
 
--- Behind a time: by what stands behind the colon without its blanks.
-behind_some : (time bytes : List ℕ) → 0 < length bytes → behind_time time bytes ≡ named_by time bytes (split_once 61 bytes)
-behind_some time [] some = absurd (omega arith)
-behind_some time (b ∷ bytes) some = refl
+-- After a time: by what stands after the colon without its blanks.
+after_some : (time bytes : List ℕ) → 0 < length bytes → after_time time bytes ≡ named_by time bytes (split_once 61 bytes)
+after_some time [] some = absurd (omega arith)
+after_some time (b ∷ bytes) some = refl
 
 valued_some : (time name value : List ℕ) → 0 < length value → valued time name value ≡ called time name (Some value)
 valued_some time name [] some = absurd (omega arith)
@@ -126,7 +126,7 @@ valued_some time name (b ∷ value) some = refl
 called_is : (time name : List ℕ) (value : Option (List ℕ)) → SpellsName name → called time name value ≡ Some (record { time = time; name = Some name; value = value })
 called_is time name value it = ap (λ ok. if ok then Some (record { time = time; name = Some name; value = value }) else None) (name_read name it)
 
--- A line of a time and what stands behind its colon, of which the end is not dropped.
+-- A line of a time and what stands after its colon, of which the end is not dropped.
 module _ (line a time b rest z : List ℕ) (blanks : AreBlanks a) (digits : AreDigits time) (between : AreBlanks b) (ends : without_end is_end_blank (rest ++ z) ≡ rest) (is : line ≡ a ++ (time ++ (b ++ (codes ":" ++ (rest ++ z))))) where
   abbrev core : List ℕ
   core = time ++ (b ++ (58 ∷ rest))
@@ -137,7 +137,7 @@ module _ (line a time b rest z : List ℕ) (blanks : AreBlanks a) (digits : AreD
   content_is : content line ≡ core
   content_is =
       ap content is
-      ∙ ap (without_front is_blank) (ap (without_end is_end_blank) (whole_is (rest ++ z)) ∙ end_behind is_end_blank (a ++ (time ++ b)) 58 (rest ++ z) refl
+      ∙ ap (without_front is_blank) (ap (without_end is_end_blank) (whole_is (rest ++ z)) ∙ end_following is_end_blank (a ++ (time ++ b)) 58 (rest ++ z) refl
       ∙ ap (λ bs. (a ++ (time ++ b)) ++ (58 ∷ bs)) ends ∙ sym (whole_is rest))
       ∙ front_all is_blank a core blanks (digits_stop time (b ++ (58 ∷ rest)) digits)
 
@@ -147,12 +147,12 @@ module _ (line a time b rest z : List ℕ) (blanks : AreBlanks a) (digits : AreD
   time_trimmed : without_end is_blank (time ++ b) ≡ time
   time_trimmed = let last = digits_last time digits in end_at is_blank time last.front last.last b last.is (digit_no_blank last.last last.passes) between
 
-  pub parts_are : parts_of (content line) ≡ behind_time time (without_front is_blank rest)
+  pub parts_are : parts_of (content line) ≡ after_time time (without_front is_blank rest)
   parts_are =
       ap parts_of (content_is ∙ sym (append_assoc time b (58 ∷ rest)))
       ∙ ap (option_and_then (λ (p : List ℕ × List ℕ). timed (without_end is_blank p.0) (without_front is_blank p.1))) (splits_off no_colon 58 refl (time ++ b) rest (early time b digits between))
       ∙ ap (λ t. timed t (without_front is_blank rest)) time_trimmed
-      ∙ ap (λ ok. if ok then behind_time time (without_front is_blank rest) else None) digits
+      ∙ ap (λ ok. if ok then after_time time (without_front is_blank rest) else None) digits
 
 -- Each form is cut into its parts.
 record IsCut (line : List ℕ) (parts : Parts) : Type 0 where
@@ -179,7 +179,7 @@ cut_named line a time b c name z blanks digits between before named end is =
       says = says_something line a time b (c ++ name) z blanks digits between ends whole;
       parts_is =
           parts_are line a time b (c ++ name) z blanks digits between ends whole
-          ∙ ap (behind_time time) front ∙ behind_some time name some
+          ∙ ap (after_time time) front ∙ after_some time name some
           ∙ ap (named_by time name) (none_among no_equals 61 refl name (all_weaker is_inner no_equals name (λ n is. not_by n 61 (not_mark is_inner n 61 is refl)) inner))
           ∙ called_is time name None named;
     }
@@ -236,7 +236,7 @@ cut_valued line a time b c name d e value z blanks digits between before named b
       says = says_something line a time b rest z blanks digits between ends all;
       parts_is =
           parts_are line a time b rest z blanks digits between ends all
-          ∙ ap (behind_time time) front ∙ behind_some time named_rest long
+          ∙ ap (after_time time) front ∙ after_some time named_rest long
           ∙ ap (named_by time named_rest) split
           ∙ (λ k. valued time (trimmed k) (value_is k))
           ∙ valued_some time name value (whole_some value whole)
@@ -319,7 +319,7 @@ module _ (line a time b z : List ℕ) (blanks : AreBlanks a) (digits : AreDigits
       (is ∙ ap (λ bs. a ++ (time ++ (b ++ (58 ∷ (c ++ bs))))) (parted 61 rest p.0 p.1 (without_end is_blank p.0) u.dropped w.dropped (without_front is_blank p.1) whole u.is w.is z))
       gives
 
-  rest_form : (c rest : List ℕ) (parts : Parts) → AreBlanks c → AtRest c rest → EndsFit rest → behind_time time rest ≡ Some parts → HasForm line parts
+  rest_form : (c rest : List ℕ) (parts : Parts) → AreBlanks c → AtRest c rest → EndsFit rest → after_time time rest ≡ Some parts → HasForm line parts
   rest_form c [] parts before is fit gives =
       HasForm.time_alone a time b (c ++ z) blanks digits between (all_joined is_end_blank c z (all_weaker is_blank is_end_blank c blank_end before) end) is
       (sym (some_same (record { time = time; name = None; value = None }) parts gives))
@@ -348,7 +348,7 @@ module _ (line : List ℕ) where
       let u = end_to is_blank split.at.0 in
       let w = front_to is_blank split.at.1 in
       let whole = joined 58 (content line) split.at split.is in
-      let both = timed_by (are_digits (without_end is_blank split.at.0)) (behind_time (without_end is_blank split.at.0) (without_front is_blank split.at.1)) parts split.gives in
+      let both = timed_by (are_digits (without_end is_blank split.at.0)) (after_time (without_end is_blank split.at.0) (without_front is_blank split.at.1)) parts split.gives in
       rest_form line at_front.dropped (without_end is_blank x) u.dropped at_end.dropped at_front.all both.0 u.all at_end.all w.dropped (without_front is_blank y) parts w.all
       (around ∙ ap (λ bs. at_front.dropped ++ bs) (parted 58 (content line) x y (without_end is_blank x) u.dropped w.dropped (without_front is_blank y) whole u.is w.is at_end.dropped))
       (ends_fit (content line) _ (without_front is_blank y) (ends_in 58 (content line) x y (without_end is_blank x) u.dropped w.dropped (without_front is_blank y) whole u.is w.is)
@@ -380,7 +380,7 @@ nothing_skipped line nothing =
 -- a comment stays a comment without what is dropped
 comment_content : (a rest : List ℕ) (b : ℕ) → AreBlanks a → is_end_blank b ≡ false → is_blank b ≡ false → content (a ++ (b ∷ rest)) ≡ b ∷ without_end is_end_blank rest
 comment_content a rest b blanks no_end no_blank =
-    ap (without_front is_blank) (end_behind is_end_blank a b rest no_end) ∙ front_all is_blank a (b ∷ without_end is_end_blank rest) blanks no_blank
+    ap (without_front is_blank) (end_following is_end_blank a b rest no_end) ∙ front_all is_blank a (b ∷ without_end is_end_blank rest) blanks no_blank
 
 hash_says : (bytes : List ℕ) → says_nothing (35 ∷ bytes) ≡ true
 hash_says [] = refl
@@ -391,4 +391,4 @@ skipped_nothing line (IsSkippedLine.blank all) = ap (λ bs. says_nothing (withou
 skipped_nothing line (IsSkippedLine.hash a comment blanks is) =
     ap (λ bs. says_nothing (content bs)) is ∙ ap says_nothing (comment_content a comment 35 blanks refl refl) ∙ hash_says (without_end is_end_blank comment)
 skipped_nothing line (IsSkippedLine.dashes a comment blanks is) =
-    ap (λ bs. says_nothing (content bs)) is ∙ ap says_nothing (comment_content a (45 ∷ comment) 45 blanks refl refl ∙ ap (λ bs. 45 ∷ bs) (end_behind is_end_blank [] 45 comment refl))
+    ap (λ bs. says_nothing (content bs)) is ∙ ap says_nothing (comment_content a (45 ∷ comment) 45 blanks refl refl ∙ ap (λ bs. 45 ∷ bs) (end_following is_end_blank [] 45 comment refl))

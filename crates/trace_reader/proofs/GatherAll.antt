@@ -8,11 +8,11 @@ use Rattle.trace_reader.specs.declared.fault.TraceFault.{TraceFault}
 use Rattle.trace_reader.specs.declared.fault.TraceFault.TheVariants as fault
 use Rattle.trace_reader.specs.declared.next.Rest.{Rest}
 use Rattle.trace_reader.specs.Reading.{Reading, reading}
-use Rattle.trace_reader.specs.Reader.{Reader}
-use Rattle.trace_reader.specs.Reads.{Reads, Gathers, SaysRest}
+use Rattle.trace_reader.specs.inner.Reader.{Reader}
+use Rattle.trace_reader.specs.inner.Reads.{Reads, Gathers, SaysRest}
 use Rattle.trace_reader.proofs.LawLemmas.{reading_refused}
 
--- what is gathered behind all lines that were given
+-- what is gathered after all lines that were given
 pub all_say : (new : Reader) (s : System) (strict : Bool) (limit : ℕ) (fed : List ℕ) (ended : Bool) (before behind : List Line) (result : Result Rest TraceFault) → Gathers new s strict limit fed before ended before behind result → SaysRest (reading s strict limit fed ended) behind ended result
 all_say new s strict limit fed ended before behind result it = subst (λ (ls : List Line). SaysRest (reading s strict limit fed ended) ls ended result) (sym it.grew) it.says
 

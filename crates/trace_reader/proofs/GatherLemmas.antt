@@ -7,8 +7,8 @@ use Rattle.trace_reader.specs.declared.fault.TraceFault.{TraceFault}
 use Rattle.trace_reader.specs.declared.fault.TraceFault.TheVariants as fault
 use Rattle.trace_reader.specs.declared.next.Rest.{Rest}
 use Rattle.trace_reader.specs.Reading.{Reading, reading}
-use Rattle.trace_reader.specs.Reader.{Reader}
-use Rattle.trace_reader.specs.Reads.{Reads, Gathers, SaysNext, SaysRest}
+use Rattle.trace_reader.specs.inner.Reader.{Reader}
+use Rattle.trace_reader.specs.inner.Reads.{Reads, Gathers, SaysNext, SaysRest}
 
 -- lines were appended, and the reader has given them
 pub record HasGathered (now : Reader) (s : System) (strict : Bool) (limit : ℕ) (fed : List ℕ) (given : List Line) (ended : Bool) (before behind : List Line) : Type 0 where
@@ -32,7 +32,7 @@ module _ (s : System) (strict : Bool) (limit : ℕ) (fed : List ℕ) (given : Li
     reads = subst (λ (ls : List Line). Reads new s strict limit fed ls ended) (append_assoc given it.added (l ∷ [])) reads;
   }
 
-  -- the last answer, behind what was gathered
+  -- the last answer, after what was gathered
   pub gathers : (now new : Reader) (behind : List Line) (it : HasGathered now s strict limit fed given ended before behind) → Reads new s strict limit fed (given ++ it.added ++ []) ended →
       (result : Result Rest TraceFault) → SaysRest (reading s strict limit fed ended) (given ++ it.added) ended result → Gathers new s strict limit fed given ended before behind result
   gathers now new behind it reads result says = record {
@@ -59,7 +59,7 @@ module _ (s : System) (strict : Bool) (limit : ℕ) (fed : List ℕ) (given : Li
       subst (λ (r : Result Rest TraceFault). Gathers new s strict limit fed given ended before behind r) (sym is)
       (gathers now new behind it reads (Err f) (says_fault (reading s strict limit fed ended) (given ++ it.added) f says))
 
-  -- want of memory, where nothing was read
+  -- out of memory, where nothing was read
   pub gathers_memory : (now : Reader) (behind : List Line) → HasGathered now s strict limit fed given ended before behind → (result : Result Rest TraceFault) → result ≡ Err fault.Memory → Gathers now s strict limit fed given ended before behind result
   gathers_memory now behind it result is =
       subst (λ (r : Result Rest TraceFault). Gathers now s strict limit fed given ended before behind r) (sym is) (record { added = it.added; grew = it.grew; reads = it.reads; says = tt })

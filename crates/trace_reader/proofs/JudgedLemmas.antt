@@ -16,6 +16,7 @@ use Rattle.tsl_value.specs.declared.scalar.ValueType.TheVariants as value_type
 use Rattle.tsl_value.specs.Literal.{literal, short_text, unquoted}
 use Rattle.tsl_value.specs.declared.literal.LiteralFault.{LiteralFault}
 use Rattle.tsl_value.specs.View.{Plain, is_of, is_of_scalar}
+use Rattle.tsl_value.specs.declared.limits.TheConstants.{MOST_TEXT_BYTES}
 use Rattle.flat_core.specs.declared.equation.Equation.{Equation}
 use Rattle.flat_core.specs.declared.equation.Op.{Op}
 use Rattle.flat_core.specs.declared.equation.Op.TheVariants as op
@@ -25,7 +26,7 @@ use Rattle.trace_reader.specs.declared.fault.TraceFault.{TraceFault}
 use Rattle.trace_reader.specs.declared.fault.TraceFault.TheVariants as fault
 use Rattle.trace_reader.specs.Form.{Parts, content, is_long, parts_of, says_nothing, time_of}
 use Rattle.trace_reader.specs.Reading.{is_input, is_input_called, input_called, value_of, value_at, as_read, placed, addressed, said, said_at, formed, judged_content, judged}
-use Rattle.trace_reader.specs.Laws.{IsInputEvent, IsProperLine}
+use Rattle.trace_reader.specs.inner.Laws.{IsInputEvent, IsProperLine}
 
 pub some_same : {A : Type 0} (x y : A) → Some x ≡ Some y → x ≡ y
 some_same x y is = cc
@@ -76,7 +77,7 @@ and_first false b is = is
 -- a literal is of its type, and a text is short
 record Fits (of : ScalarType) (v : Scalar) : Type 0 where
   typed : is_of_scalar of v ≡ true
-  short : (text : List ℕ) → v ≡ scalar.Text text → length text ≤ 65536
+  short : (text : List ℕ) → v ≡ scalar.Text text → length text ≤ MOST_TEXT_BYTES
 
 fits_as : (of : ScalarType) (v w : Scalar) → Some v ≡ Some w → Fits of v → Fits of w
 fits_as of v w is fits = subst (Fits of) (some_same v w is) fits
@@ -98,16 +99,16 @@ int_fits false false z f g v is = absurd (cc)
 text_same : (x y : List ℕ) → scalar.Text x ≡ scalar.Text y → x ≡ y
 text_same x y is = cc
 
-long_fits : (long : Bool) (text : List ℕ) (f : LiteralFault) (v : Scalar) → nat_lt 65536 (length text) ≡ long → result_ok (if long then Err f else Ok (scalar.Text text)) ≡ Some v → Fits scalar_type.Text v
+long_fits : (long : Bool) (text : List ℕ) (f : LiteralFault) (v : Scalar) → nat_lt MOST_TEXT_BYTES (length text) ≡ long → result_ok (if long then Err f else Ok (scalar.Text text)) ≡ Some v → Fits scalar_type.Text v
 long_fits true text f v at is = absurd (cc)
 long_fits false text f v at is = fits_as scalar_type.Text (scalar.Text text) v is (record {
   typed = refl;
-  short = λ other same. subst (λ (t : List ℕ). length t ≤ 65536) (text_same text other same) (ltb-false 65536 (length text) at);
+  short = λ other same. subst (λ (t : List ℕ). length t ≤ MOST_TEXT_BYTES) (text_same text other same) (ltb-false MOST_TEXT_BYTES (length text) at);
 })
 
 short_fits : (content : Option (List ℕ)) (v : Scalar) → result_ok (short_text content) ≡ Some v → Fits scalar_type.Text v
 short_fits None v is = absurd (cc)
-short_fits (Some text) v is = long_fits (nat_lt 65536 (length text)) text _ v refl is
+short_fits (Some text) v is = long_fits (nat_lt MOST_TEXT_BYTES (length text)) text _ v refl is
 
 text_fits : (utf8 : Bool) (content : Option (List ℕ)) (f : LiteralFault) (v : Scalar) → result_ok (if utf8 then short_text content else Err f) ≡ Some v → Fits scalar_type.Text v
 text_fits true content f v is = short_fits content v is
@@ -122,7 +123,7 @@ literal_fits scalar_type.Text bytes v is = text_fits _ (unquoted bytes) _ v is
 
 record FitsType (of : ValueType) (v : Scalar) : Type 0 where
   typed : is_of of (Plain v) ≡ true
-  short : (text : List ℕ) → v ≡ scalar.Text text → length text ≤ 65536
+  short : (text : List ℕ) → v ≡ scalar.Text text → length text ≤ MOST_TEXT_BYTES
 
 value_fits : (of : ValueType) (value : Option (List ℕ)) (v : Scalar) → value_of of value ≡ Some v → FitsType of v
 value_fits (value_type.Scalar of) (Some bytes) v is = let it = literal_fits of bytes v is in record { typed = it.typed; short = it.short }
@@ -133,7 +134,7 @@ value_fits _ _ v is = absurd (cc)
 -- the event of an input
 record IsEvent (s : System) (i : ℕ) (v : Scalar) : Type 0 where
   event : IsInputEvent s i v
-  short : (text : List ℕ) → v ≡ scalar.Text text → length text ≤ 65536
+  short : (text : List ℕ) → v ≡ scalar.Text text → length text ≤ MOST_TEXT_BYTES
 
 event_fits : (s : System) (name : List ℕ) (value : Option (List ℕ)) (i : ℕ) (v : Scalar) → input_called s name ≡ Some i → value_at s i value ≡ Some v → IsEvent s i v
 event_fits s name value i v called is =
@@ -239,7 +240,7 @@ module _ (s : System) (strict : Bool) (had : ℕ → ℕ → Bool) (last n : ℕ
   pub line_stands : (line : List ℕ) (l : Line) → judged s strict had last n line ≡ Ok (Some l) → Stands s had last l
   line_stands line l is = subst IfStands is (judged_stands line)
 
-  -- No line is refused for want of memory.
+  -- No line is refused because memory runs out.
   abbrev NotMemory : Result Line TraceFault → Type 0
   NotMemory (Err fault.Memory) = ⊥
   NotMemory _ = Unit {0}

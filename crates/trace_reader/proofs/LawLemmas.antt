@@ -11,11 +11,12 @@ use Rattle.trace_reader.specs.declared.fault.TraceFault.{TraceFault}
 use Rattle.trace_reader.specs.declared.fault.TraceFault.TheVariants as fault
 use Rattle.trace_reader.specs.Form.{content, is_long, put_first, split_once}
 use Rattle.trace_reader.specs.Reading.{Reading, put_before, cut, last_line, alone, had_event, judged, judged_content, go_on, read, unfinished, limited, on_line, overflow, read_on, reading}
-use Rattle.trace_reader.specs.Reads.{after}
-use Rattle.trace_reader.specs.Laws.{Begins}
+use Rattle.trace_reader.specs.inner.Reads.{after}
+use Rattle.trace_reader.specs.inner.Laws.{Begins}
 use Rattle.trace_reader.proofs.CutLemmas.{read_by, read_on-first, slice_get-append, split_by, split_once-append, take-append}
+use Rattle.trace_reader.specs.declared.limits.TheConstants.{MOST_LINE_BYTES}
 
--- the lines of bytes before others, by those of the bytes and of what stands behind their last end
+-- the lines of bytes before others, by those of the bytes and of what stands after their last end
 abbrev cut_join : List (List ℕ) × List ℕ → List ℕ → List (List ℕ) × List ℕ
 cut_join c back = (c.0 ++ (cut (c.1 ++ back)).0, (cut (c.1 ++ back)).1)
 
@@ -34,7 +35,7 @@ cut-append : (front back : List ℕ) → cut (front ++ back) ≡ cut_join (cut f
 cut-append [] back = refl
 cut-append (b ∷ front) back = cut_step (b == 10) b front back refl (cut-append front back)
 
--- what stands behind the last line's end has none
+-- what stands after the last line's end has none
 open_put : (b : ℕ) (ls : List (List ℕ)) (rest : List ℕ) → b == 10 ≡ false → split_once 10 rest ≡ None → split_once 10 (put_before b ls rest).1 ≡ None
 open_put b [] rest no_end none = (λ k. if no_end k then Some ([], rest) else option_map (put_first b) (split_once 10 rest)) ∙ ap (option_map (put_first b)) none
 open_put b (l ∷ ls) rest no_end none = none
@@ -48,7 +49,7 @@ open_has_no_end : (bytes : List ℕ) → split_once 10 (cut bytes).1 ≡ None
 open_has_no_end [] = refl
 open_has_no_end (b ∷ bytes) = open_step (b == 10) b bytes refl (open_has_no_end bytes)
 
--- The reading of lines before others goes on behind the last one, unless a line is refused.
+-- The reading of lines before others goes on after the last one, unless a line is refused.
 abbrev joined : Option TraceFault → List Line → (List Line → Reading) → Reading
 joined (Some f) lines rest = record { lines = lines; refused = Some f }
 joined None lines rest = after lines (rest lines)
@@ -97,9 +98,9 @@ alone_some (b ∷ bytes) some = refl
 
 longer : (front back : List ℕ) (more : ℕ) → is_long (length front) ≡ true → is_long (length (front ++ back) + more) ≡ true
 longer front back more long =
-    let lt = ltb-true 65536 (length front) long in
-    let lt_whole : 65536 < length (front ++ back) + more = omega (arith, length-append front back) in
-    lt-ltb 65536 (length (front ++ back) + more) lt_whole
+    let lt = ltb-true MOST_LINE_BYTES (length front) long in
+    let lt_whole : MOST_LINE_BYTES < length (front ++ back) + more = omega (arith, length-append front back) in
+    lt-ltb MOST_LINE_BYTES (length (front ++ back) + more) lt_whole
 
 module _ (s : System) (strict : Bool) (before : List Line) (n : ℕ) where
   -- what is read where a line is too long
@@ -112,7 +113,7 @@ module _ (s : System) (strict : Bool) (before : List Line) (n : ℕ) where
   long_line : (beyond : Option ℕ) (ended : Bool) (bytes line rest : List ℕ) → is_long (length line) ≡ true → read_by s strict before n beyond ended bytes (Some (line, rest)) ≡ too_long
   long_line beyond ended bytes line rest long = ap (λ j. go_on j (λ l. read_on s strict (before ++ option_to_list l) (n + 1) rest beyond ended)) (long_judged line long)
 
-  -- by the first line's end behind its front, and by whether the last line counts
+  -- by the first line's end after its front, and by whether the last line counts
   long_by : (front back : List ℕ) (beyond : Option ℕ) (ended counts : Bool) (o : Option (List ℕ × List ℕ)) → is_long (length front) ≡ true →
       read_by s strict before n beyond ended (front ++ back) (option_or (option_map (λ (p : List ℕ × List ℕ). (front ++ p.0, p.1)) o) (if counts then alone (front ++ back) else None)) ≡ too_long
   long_by front back beyond ended counts (Some p) long =
@@ -120,7 +121,7 @@ module _ (s : System) (strict : Bool) (before : List Line) (n : ℕ) where
       long_line beyond ended (front ++ back) (front ++ p.0) p.1 whole
   long_by front back beyond ended true None long =
       let whole : is_long (length (front ++ back)) ≡ true = ap is_long (sym (add-zero (length (front ++ back)))) ∙ longer front back 0 long in
-      let lt = ltb-true 65536 (length (front ++ back)) whole in
+      let lt = ltb-true MOST_LINE_BYTES (length (front ++ back)) whole in
       ap (read_by s strict before n beyond ended (front ++ back)) (alone_some (front ++ back) (omega arith)) ∙ long_line beyond ended (front ++ back) (front ++ back) [] whole
   long_by front back beyond ended false None long =
       let whole = longer front back (length (on_line beyond)) long in
@@ -138,18 +139,18 @@ pub record GoesOn (beyond : Option ℕ) (more : List ℕ) (beyond_then : Option 
   pub stays : (b : ℕ) → beyond ≡ Some b → beyond_then ≡ Some b
 
 module _ (s : System) (strict : Bool) (before : List Line) (n : ℕ) where
-  -- the whole lines of bytes, and the reading of what stands behind them where more follows
+  -- the whole lines of bytes, and the reading of what stands after them where more follows
   abbrev first_lines : List ℕ → Reading
   first_lines bytes = read s strict before n (cut bytes).0
 
-  abbrev number_behind : List ℕ → ℕ
-  number_behind bytes = n + length (cut bytes).0
+  abbrev number_after : List ℕ → ℕ
+  number_after bytes = n + length (cut bytes).0
 
   abbrev read_rest : List ℕ → List ℕ → Option ℕ → Bool → List Line → Reading
-  read_rest bytes more beyond ended ls = read_on s strict (before ++ ls) (number_behind bytes) ((cut bytes).1 ++ more) beyond ended
+  read_rest bytes more beyond ended ls = read_on s strict (before ++ ls) (number_after bytes) ((cut bytes).1 ++ more) beyond ended
 
-  read_open : (bytes : List ℕ) (beyond : Option ℕ) → read_on s strict before n bytes beyond false ≡ limited (first_lines bytes) (unfinished beyond (number_behind bytes) (cut bytes).1)
-  read_open bytes beyond = ap (λ ls. limited (read s strict before n ls) (unfinished beyond (number_behind bytes) (cut bytes).1)) (append-nil (cut bytes).0)
+  read_open : (bytes : List ℕ) (beyond : Option ℕ) → read_on s strict before n bytes beyond false ≡ limited (first_lines bytes) (unfinished beyond (number_after bytes) (cut bytes).1)
+  read_open bytes beyond = ap (λ ls. limited (read s strict before n ls) (unfinished beyond (number_after bytes) (cut bytes).1)) (append-nil (cut bytes).0)
 
   read_on-append : (bytes more : List ℕ) (beyond : Option ℕ) (ended : Bool) →
       read_on s strict before n (bytes ++ more) beyond ended ≡ joined (first_lines bytes).refused (first_lines bytes).lines (read_rest bytes more beyond ended)
@@ -157,11 +158,11 @@ module _ (s : System) (strict : Bool) (before : List Line) (n : ℕ) where
       let c = cut bytes in
       let d = cut ((cut bytes).1 ++ more) in
       let last = if ended && is_none beyond then last_line (cut ((cut bytes).1 ++ more)).1 else [] in
-      let number : n + length ((cut bytes).0 ++ (cut ((cut bytes).1 ++ more)).0) ≡ number_behind bytes + length (cut ((cut bytes).1 ++ more)).0 = omega (arith, length-append (cut bytes).0 (cut ((cut bytes).1 ++ more)).0) in
+      let number : n + length ((cut bytes).0 ++ (cut ((cut bytes).1 ++ more)).0) ≡ number_after bytes + length (cut ((cut bytes).1 ++ more)).0 = omega (arith, length-append (cut bytes).0 (cut ((cut bytes).1 ++ more)).0) in
       ap (λ (e : List (List ℕ) × List ℕ). limited (read s strict before n (e.0 ++ (if ended && is_none beyond then last_line e.1 else []))) (unfinished beyond (n + length e.0) e.1)) (cut-append bytes more)
       ∙ (λ k. limited (read s strict before n (append_assoc c.0 d.0 last k)) (unfinished beyond (number k) d.1))
-      ∙ ap (λ r. limited r (unfinished beyond (number_behind bytes + length d.0) d.1)) (read-append s strict before n c.0 (d.0 ++ last))
-      ∙ joined_limited (first_lines bytes).refused (first_lines bytes).lines _ (unfinished beyond (number_behind bytes + length d.0) d.1)
+      ∙ ap (λ r. limited r (unfinished beyond (number_after bytes + length d.0) d.1)) (read-append s strict before n c.0 (d.0 ++ last))
+      ∙ joined_limited (first_lines bytes).refused (first_lines bytes).lines _ (unfinished beyond (number_after bytes + length d.0) d.1)
 
   pub lines_stay : (bytes more : List ℕ) (beyond beyond_then : Option ℕ) (ended : Bool) → Begins (read_on s strict before n bytes beyond false).lines (read_on s strict before n (bytes ++ more) beyond_then ended).lines
   lines_stay bytes more beyond beyond_then ended =
@@ -186,17 +187,17 @@ module _ (s : System) (strict : Bool) (before : List Line) (n : ℕ) where
   long_from true k f is = refl
   long_from false k f is = absurd (cc)
 
-  refused_long : (bytes more : List ℕ) (beyond_then : Option ℕ) (ended : Bool) (f : TraceFault) → (first_lines bytes).refused ≡ None → unfinished None (number_behind bytes) (cut bytes).1 ≡ Some f →
+  refused_long : (bytes more : List ℕ) (beyond_then : Option ℕ) (ended : Bool) (f : TraceFault) → (first_lines bytes).refused ≡ None → unfinished None (number_after bytes) (cut bytes).1 ≡ Some f →
       read_on s strict before n (bytes ++ more) beyond_then ended ≡ read_on s strict before n bytes None false
   refused_long bytes more beyond_then ended f none is =
       let first = first_lines bytes in
-      let sum = long_from (is_long (length (cut bytes).1 + 0)) (number_behind bytes) f is in
+      let sum = long_from (is_long (length (cut bytes).1 + 0)) (number_after bytes) f is in
       let long : is_long (length (cut bytes).1) ≡ true = ap is_long (sym (add-zero (length (cut bytes).1))) ∙ sum in
       read_on-append bytes more beyond_then ended
       ∙ ap (λ o. joined o first.lines (read_rest bytes more beyond_then ended)) none
-      ∙ ap (after first.lines) (long_open s strict (before ++ first.lines) (number_behind bytes) (cut bytes).1 more beyond_then ended (open_has_no_end bytes) long)
-      ∙ (λ k. record { lines = append-nil first.lines k; refused = if sym sum k then Some (fault.LineTooLong (number_behind bytes)) else None })
-      ∙ (λ k. record { lines = first.lines; refused = option_or (sym none k) (unfinished None (number_behind bytes) (cut bytes).1) })
+      ∙ ap (after first.lines) (long_open s strict (before ++ first.lines) (number_after bytes) (cut bytes).1 more beyond_then ended (open_has_no_end bytes) long)
+      ∙ (λ k. record { lines = append-nil first.lines k; refused = if sym sum k then Some (fault.LineTooLong (number_after bytes)) else None })
+      ∙ (λ k. record { lines = first.lines; refused = option_or (sym none k) (unfinished None (number_after bytes) (cut bytes).1) })
       ∙ sym (read_open bytes None)
 
   -- a line among those before
@@ -206,11 +207,11 @@ module _ (s : System) (strict : Bool) (before : List Line) (n : ℕ) where
       let first = first_lines bytes in
       read_on-append bytes more beyond_then ended
       ∙ ap (λ o. joined o first.lines (read_rest bytes more beyond_then ended)) is
-      ∙ (λ k. record { lines = first.lines; refused = option_or (sym is k) (unfinished beyond (number_behind bytes) (cut bytes).1) })
+      ∙ (λ k. record { lines = first.lines; refused = option_or (sym is k) (unfinished beyond (number_after bytes) (cut bytes).1) })
       ∙ sym (read_open bytes beyond)
 
   refused_by : (bytes more : List ℕ) (beyond beyond_then : Option ℕ) (ended : Bool) (f : TraceFault) (o : Option TraceFault) → GoesOn beyond more beyond_then →
-      (first_lines bytes).refused ≡ o → option_or o (unfinished beyond (number_behind bytes) (cut bytes).1) ≡ Some f →
+      (first_lines bytes).refused ≡ o → option_or o (unfinished beyond (number_after bytes) (cut bytes).1) ≡ Some f →
       read_on s strict before n (bytes ++ more) beyond_then ended ≡ read_on s strict before n bytes beyond false
   refused_by bytes more beyond beyond_then ended f (Some g) goes at is = refused_first bytes more beyond beyond_then ended g at
   refused_by bytes more (Some b) beyond_then ended f None goes at is = refused_beyond bytes more b beyond_then ended goes

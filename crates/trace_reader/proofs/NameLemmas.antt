@@ -15,7 +15,7 @@ use Rattle.spec_lexer.specs.Source.{IsText}
 use Rattle.spec_lexer.proofs.Words.{no_word, word_of-spells}
 use Rattle.spec_lexer.specs.Found.{word_of}
 use Rattle.trace_reader.specs.Form.{are_name_characters, is_end_blank, is_name}
-use Rattle.trace_reader.specs.Spelling.{SpellsName}
+use Rattle.trace_reader.specs.inner.Spelling.{SpellsName}
 use Rattle.trace_reader.proofs.TrimLemmas.{all_joined, not_mark}
 
 pub name_characters : (name rest : List ℕ) (first : ℕ) → IsUtf8 name → name ≡ encode_utf8 first ++ rest → begins_name first ≡ true → list_all is_xid_continue (chars rest) ≡ are_name_characters (chars name)

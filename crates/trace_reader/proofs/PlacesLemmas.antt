@@ -12,7 +12,7 @@ use Rattle.flat_core.specs.declared.equation.Equation.{Equation}
 use Rattle.flat_core.specs.System.{System, equation}
 use Rattle.flat_core.specs.declared.equation.Op.TheVariants as op
 use Rattle.trace_reader.specs.Reading.{is_called, is_input, is_input_called}
-use Rattle.trace_reader.specs.Places.{Places, noted, place_in, places_in}
+use Rattle.trace_reader.specs.inner.Places.{Places, noted, place_in, places_in}
 use Rattle.trace_reader.proofs.PlaceLemmas.{drop-get}
 
 -- a look-up among the entries
@@ -65,7 +65,7 @@ module _ {A : Type 0} (places : Places) (name : List ℕ) (i : ℕ) (es : List (
       ∙ (λ k. is k ++ (same k, i) ∷ [])
       ∙ sym (ap (λ b. if b then places ++ (name, i) ∷ [] else places) (none_there ∙ ap not absent))
 
--- The table behind an input.
+-- The table after an input.
 place_push : (places : Places) (name other : List ℕ) (i : ℕ) → place_in (places ++ (other, i) ∷ []) name ≡ option_or (place_in places name) (if bytes_eq name other then Some i else None)
 place_push [] name other i = refl
 place_push (p ∷ places) name other i = by (bytes_eq name p.0) (place_push places name other i)
@@ -100,7 +100,7 @@ pub on_ok : {A E : Type 0} {P Q : Type 0} (r : Result A E) → (P → Q) → OnO
 on_ok (Ok x) f p = f p
 on_ok (Err e) f p = tt
 
--- What is noted of the equations before a number, and what stands behind it, give the first input.
+-- What is noted of the equations before a number, and what stands after it, give the first input.
 pub table_next : (s : System) (name : List ℕ) (n : ℕ) (e : Equation) (before after : Option ℕ) → equation s n ≡ Some e → after ≡ option_or before (if is_input_called name e then Some n else None) →
     option_or before (position_from (is_input_called name) n (drop n s.equations)) ≡ option_or after (position_from (is_input_called name) (n + 1) (drop (n + 1) s.equations))
 table_next s name n e before after is next =

@@ -1,5 +1,5 @@
 -- Lines of the form in which most are written say what their parts say.
-use Rattle.std.proofs.Common.{◌≡◌, ◌≢◌, ◌==◌, ◌≤◌, ◌<◌, ◌^◌, ℕ, ◌+◌, ◌-◌, ◌*◌, ℤ, pos, neg_ℤ, Bool, true, false, ◌&&◌, ◌||◌, not, List, [], ◌∷◌, ◌++◌, length, take, drop, nat_le, nat_lt, Option, Some, None, Result, Ok, Err, IfSome, refl, sym, ap, subst, ◌∙◌, arith, append-nil, append_assoc, length-append}
+use Rattle.std.proofs.Common.{◌≡◌, ◌≢◌, ◌==◌, ◌≤◌, ◌<◌, ◌^◌, ℕ, ◌+◌, ◌-◌, ◌*◌, pos, neg_ℤ, Bool, true, false, ◌&&◌, ◌||◌, not, List, [], ◌∷◌, ◌++◌, length, take, drop, nat_le, nat_lt, Option, Some, None, Ok, Err, IfSome, refl, sym, ap, subst, ◌∙◌, arith, append-nil, append_assoc, length-append}
 use Rattle.std.proofs.lemmas.Bool.{and_parts, ltb-false, leb-true, ne_eqb, le-leb, le-ltb, lt-ltb}
 use Rattle.std.proofs.lemmas.List.Folds.{list_all-append}
 use Rattle.std.specs.Prelude.{if◌then◌else◌, codes, slice_get}
@@ -13,27 +13,26 @@ use Rattle.std.proofs.lemmas.Slice.Eq.{bytes_eq-Decides}
 use Rattle.std.proofs.lemmas.Str.{digit_value_digit}
 use Rattle.tsl_value.specs.declared.scalar.Scalar.{Scalar}
 use Rattle.tsl_value.specs.declared.scalar.Scalar.TheVariants as scalar
-use Rattle.tsl_value.specs.declared.scalar.ScalarType.TheVariants as scalar_type
-use Rattle.tsl_value.specs.declared.literal.LiteralFault.{LiteralFault}
 use Rattle.tsl_value.specs.declared.literal.LiteralFault.TheVariants.{BadLiteral, LiteralTooWide}
 use Rattle.tsl_value.specs.Literal.{are_digits, begins_with_minus, int_literal, is_int, literal}
 use Rattle.tsl_value.proofs.Digits.{are_digits-parts, is_int-neg, is_int-pos}
+use Rattle.tsl_value.proofs.Printed.{begins_with_minus-digits}
 use Rattle.flat_core.specs.declared.equation.Equation.{Equation}
-use Rattle.flat_core.specs.System.{System, equation}
+use Rattle.flat_core.specs.System.{System}
 use Rattle.flat_core.specs.Line.{Line}
-use Rattle.trace_reader.specs.declared.fault.TraceFault.{TraceFault}
 use Rattle.trace_reader.specs.declared.fault.TraceFault.TheVariants as fault
 use Rattle.trace_reader.specs.declared.plain.PlainLine.{PlainLine}
 use Rattle.trace_reader.specs.Form.{Parts, content, is_blank, is_end_blank, is_long, is_name, parts_of, put_first, says_nothing, split_once, time_of, without_end, without_front}
-use Rattle.trace_reader.specs.Plain.{BeginsWithInt, BeginsWithNumber, IsNumberInput, IsPlain, StandsPlain, begins_with_digit, is_of_int, plain}
-use Rattle.trace_reader.specs.Reader.{IsFirstLine, Reader, StopsAtLine, had_now, is_skipped, last_counts}
-use Rattle.trace_reader.specs.Reading.{addressed, alone, as_read, first_line, formed, had_event, input_called, is_among, is_input, is_called, is_input_called, judged, judged_content, placed, said, said_at, value_at, value_of}
-use Rattle.trace_reader.specs.Spelling.{HasForm, IsWhole}
+use Rattle.trace_reader.specs.inner.Plain.{BeginsWithInt, BeginsWithNumber, IsNumberInput, IsPlain, StandsPlain, begins_with_digit, is_of_int, plain}
+use Rattle.trace_reader.specs.inner.Reader.{IsFirstLine, Reader, StopsAtLine, had_now, is_skipped, last_counts}
+use Rattle.trace_reader.specs.Reading.{addressed, alone, as_read, formed, input_called, is_among, is_input, is_called, is_input_called, judged, judged_content, placed, said, said_at, value_at, value_of}
+use Rattle.trace_reader.specs.inner.Spelling.{HasForm, IsWhole}
 use Rattle.trace_reader.proofs.FormLemmas.{form_parts, form_says, says_digit, splits_off}
 use Rattle.trace_reader.proofs.JudgedLemmas.{some_same}
 use Rattle.trace_reader.proofs.NameLemmas.{is_inner, name_inner, name_spelled}
-use Rattle.trace_reader.proofs.TrimLemmas.{all_joined, all_weaker, end_behind, front_kept, not_mark}
+use Rattle.trace_reader.proofs.TrimLemmas.{all_joined, all_weaker, end_following, front_kept, not_mark}
 use Rattle.trace_reader.proofs.UnreadLemmas.{is_split}
+use Rattle.trace_reader.specs.declared.limits.TheConstants.{MOST_LINE_BYTES}
 
 -- all but a line's end
 abbrev no_end : ℕ → Bool
@@ -119,7 +118,7 @@ module _ (name bytes : List ℕ) (p : PlainLine) (it : IsPlain name bytes p) (sp
       (of_int_whole it.number (int_some it.number p.number it.means) it.all) refl
       (ap (λ number. plain it.time name number) (sym (append-nil it.number))) refl
 
-  module _ (s : System) (strict : Bool) (had : ℕ → ℕ → Bool) (last n : ℕ) (input : IsNumberInput s name) (short : p.len ≤ 65536) (later : last ≤ p.time) (new : had p.time 0 ≡ false) where
+  module _ (s : System) (strict : Bool) (had : ℕ → ℕ → Bool) (last n : ℕ) (input : IsNumberInput s name) (short : p.len ≤ MOST_LINE_BYTES) (later : last ≤ p.time) (new : had p.time 0 ≡ false) where
     abbrev event : Line
     event = record { time = p.time; event = Some (0, p.number) }
 
@@ -138,8 +137,8 @@ module _ (name bytes : List ℕ) (p : PlainLine) (it : IsPlain name bytes p) (sp
 
     pub judged_plain : judged s strict had last n line ≡ Ok (Some event)
     judged_plain =
-        let len : length line ≤ 65536 = subst (λ (m : ℕ). m ≤ 65536) it.len short in
-        ap (λ b. if b then Err (fault.LineTooLong n) else judged_content s strict had last n (content line)) (le-ltb 65536 (length line) len)
+        let len : length line ≤ MOST_LINE_BYTES = subst (λ (m : ℕ). m ≤ MOST_LINE_BYTES) it.len short in
+        ap (λ b. if b then Err (fault.LineTooLong n) else judged_content s strict had last n (content line)) (le-ltb MOST_LINE_BYTES (length line) len)
         ∙ ap (λ b. if b then Ok None else as_read (formed s strict had last n (parts_of (content line)))) (form_says line parts form)
         ∙ ap (λ o. as_read (formed s strict had last n o)) (form_parts line parts form)
         ∙ ap as_read said_is
@@ -157,7 +156,7 @@ stands_plain r name p it input short later =
       some = plain_some name r.unread p it spelled;
       judged =
           ap (judged r.system r.strict (had_now r.last r.seen) r.last (r.count + 1)) (taken name r.unread p it spelled)
-          ∙ judged_plain name r.unread p it spelled r.system r.strict (had_now r.last r.seen) r.last (r.count + 1) input (ltb-false 65536 p.len short) (omega arith)
+          ∙ judged_plain name r.unread p it spelled r.system r.strict (had_now r.last r.seen) r.last (r.count + 1) input (ltb-false MOST_LINE_BYTES p.len short) (omega arith)
           (none_had r.last r.seen p.time 0 later);
     }
 
@@ -171,7 +170,7 @@ digit_says : (b : ℕ) (bytes : List ℕ) → is_ascii_digit b ≡ true → says
 digit_says b bytes is =
     let no_blank : is_blank b ≡ false = λ k. not_mark is_ascii_digit b 32 is refl k || not_mark is_ascii_digit b 9 is refl k in
     let no_end_blank : is_end_blank b ≡ false = λ k. no_blank k || not_mark is_ascii_digit b 13 is refl k in
-    ap (λ bs. says_nothing (without_front is_blank bs)) (end_behind is_end_blank [] b bytes no_end_blank)
+    ap (λ bs. says_nothing (without_front is_blank bs)) (end_following is_end_blank [] b bytes no_end_blank)
     ∙ ap says_nothing (front_kept is_blank b (without_end is_end_blank bytes) no_blank)
     ∙ says_digit b (without_end is_end_blank bytes) is
 
@@ -231,11 +230,6 @@ read_digits (d ∷ digits) bytes rest is fewer all = let none : length (d ∷ di
 pub number_read : (bytes : List ℕ) (number : ℕ) (rest : List ℕ) → HasRead bytes number rest → length rest < length bytes → BeginsWithNumber bytes number rest
 number_read bytes number rest it fewer = record { digits = it.digits; are = read_digits it.digits bytes rest it.is fewer it.all; value = it.value; is = it.is }
 
--- A number with a sign.
-no_minus : (ds : List ℕ) → list_all is_ascii_digit ds ≡ true → begins_with_minus ds ≡ false
-no_minus [] all = refl
-no_minus (d ∷ ds) all = not_mark is_ascii_digit d 45 (and_parts (is_ascii_digit d) (list_all is_ascii_digit ds) all).0 refl
-
 int_means : (ds : List ℕ) → begins_with_minus ds ≡ false → are_digits ds ≡ true → digits_value 10 ds < 2 ^ 63 → int_literal ds ≡ Ok (scalar.Int (pos (digits_value 10 ds)))
 int_means ds plain are small =
     let n = digits_value 10 ds in
@@ -255,7 +249,7 @@ int_read bytes number rest it small = record {
   all = all_weaker is_ascii_digit is_of_int it.digits (λ b is. ap (λ t. t || (b == 45)) is) (are_digits-parts it.digits it.are).1;
   means =
       let value = it.value in
-      int_means it.digits (no_minus it.digits (are_digits-parts it.digits it.are).1) it.are (omega arith) ∙ ap (λ n. Ok (scalar.Int (pos n))) it.value;
+      int_means it.digits (begins_with_minus-digits it.digits (are_digits-parts it.digits it.are).1) it.are (omega arith) ∙ ap (λ n. Ok (scalar.Int (pos n))) it.value;
   is = it.is;
 }
 

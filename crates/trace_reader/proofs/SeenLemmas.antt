@@ -9,10 +9,10 @@ use Rattle.flat_core.specs.Line.{Line, IsSorted, last_time}
 use Rattle.trace_reader.specs.declared.fault.TraceFault.TheVariants as fault
 use Rattle.trace_reader.specs.Form.{Parts, content, is_long, parts_of, says_nothing, time_of}
 use Rattle.trace_reader.specs.Reading.{input_in, inputs_at, is_among, had_event, input_called, value_at, as_read, placed, addressed, said, said_at, formed, judged}
-use Rattle.trace_reader.specs.Reader.{had_now, seen_with}
+use Rattle.trace_reader.specs.inner.Reader.{had_now, seen_with}
 use Rattle.trace_reader.proofs.LineLemmas.{inputs_at-append}
 
--- no line is behind the last one
+-- no line is after the last one
 abbrev UpTo : ℕ → List Line → Type 0
 UpTo last ls = AllByRecursion (λ (l : Line). l.time ≤ last) ls
 

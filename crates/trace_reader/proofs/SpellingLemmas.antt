@@ -22,10 +22,11 @@ use Rattle.trace_reader.specs.declared.fault.TraceFault.{TraceFault}
 use Rattle.trace_reader.specs.declared.fault.TraceFault.TheVariants as fault
 use Rattle.trace_reader.specs.Form.{Parts, content, is_long, parts_of, says_nothing, time_of}
 use Rattle.trace_reader.specs.Reading.{is_input, is_called, is_input_called, input_called, value_of, value_at, input_in, inputs_at, is_among, had_event, as_read, placed, addressed, said, said_at, formed, judged_content, judged}
-use Rattle.trace_reader.specs.Laws.{SpelledAgrees}
-use Rattle.trace_reader.specs.Spelling.{HadEvent, HasForm, HasValue, IsInputNamed, IsSkippedLine, NamesInput, NamesNone, Says, SpellsForm, SpellsLine}
+use Rattle.trace_reader.specs.inner.Laws.{SpelledAgrees}
+use Rattle.trace_reader.specs.inner.Spelling.{HadEvent, HasForm, HasValue, IsInputNamed, IsSkippedLine, NamesInput, NamesNone, Says, SpellsForm, SpellsLine}
 use Rattle.trace_reader.proofs.FormLemmas.{form_parts, form_says, nothing_skipped, parts_form, skipped_nothing}
 use Rattle.trace_reader.proofs.JudgedLemmas.{only_input, some_same}
+use Rattle.trace_reader.specs.declared.limits.TheConstants.{MOST_LINE_BYTES}
 
 -- The first of a list that passes a test, and that none does.
 record IsFirst (p : Equation → Bool) (es : List Equation) (k : ℕ) : Type 0 where
@@ -264,7 +265,7 @@ module _ (s : System) (strict : Bool) (before : List Line) (n : ℕ) where
   time_spells parts true is = back_spells parts (nat_lt (digits_value 10 parts.time) last) refl (ltb-true (digits_value 10 parts.time) 0x8000_0000_0000_0000 is)
   time_spells parts false is = SpellsForm.too_large (ltb-false (digits_value 10 parts.time) 0x8000_0000_0000_0000 is) refl
 
-  formed_spells : (line : List ℕ) (o : Option Parts) → length line ≤ 65536 → (IsSkippedLine line → ⊥) → parts_of (content line) ≡ o → SpellsLine s strict before n line (as_read (formed s strict had last n o))
+  formed_spells : (line : List ℕ) (o : Option Parts) → length line ≤ MOST_LINE_BYTES → (IsSkippedLine line → ⊥) → parts_of (content line) ≡ o → SpellsLine s strict before n line (as_read (formed s strict had last n o))
   formed_spells line None short says is = SpellsLine.no_form short says (λ parts form. none_not_some (sym is ∙ form_parts line parts form)) refl
     where
       none_not_some : {parts : Parts} → None ≡ Some parts → ⊥
@@ -272,15 +273,15 @@ module _ (s : System) (strict : Bool) (before : List Line) (n : ℕ) where
   formed_spells line (Some parts) short says is =
       SpellsLine.formed parts short (parts_form line parts is) (time_spells parts (nat_lt (digits_value 10 parts.time) 0x8000_0000_0000_0000) refl)
 
-  content_spells : (line : List ℕ) (nothing : Bool) → length line ≤ 65536 → says_nothing (content line) ≡ nothing →
+  content_spells : (line : List ℕ) (nothing : Bool) → length line ≤ MOST_LINE_BYTES → says_nothing (content line) ≡ nothing →
       SpellsLine s strict before n line (if nothing then Ok None else as_read (formed s strict had last n (parts_of (content line))))
   content_spells line true short is = SpellsLine.skipped short (nothing_skipped line is) refl
   content_spells line false short is =
       formed_spells line (parts_of (content line)) short (λ skipped. true≢false (sym (skipped_nothing line skipped) ∙ is)) refl
 
   long_spells : (line : List ℕ) (long : Bool) → is_long (length line) ≡ long → SpellsLine s strict before n line (if long then Err (fault.LineTooLong n) else judged_content s strict had last n (content line))
-  long_spells line true is = SpellsLine.too_long (ltb-true 65536 (length line) is) refl
-  long_spells line false is = content_spells line (says_nothing (content line)) (ltb-false 65536 (length line) is) refl
+  long_spells line true is = SpellsLine.too_long (ltb-true MOST_LINE_BYTES (length line) is) refl
+  long_spells line false is = content_spells line (says_nothing (content line)) (ltb-false MOST_LINE_BYTES (length line) is) refl
 
   judged_spells : (line : List ℕ) → SpellsLine s strict before n line (judged s strict had last n line)
   judged_spells line = long_spells line (is_long (length line)) refl
@@ -333,10 +334,10 @@ module _ (s : System) (strict : Bool) (before : List Line) (n : ℕ) where
       ∙ says_said t parts.name parts.value answer says
 
   -- a line that is not too long
-  short_judged : (line : List ℕ) (nothing : Bool) → length line ≤ 65536 → says_nothing (content line) ≡ nothing →
+  short_judged : (line : List ℕ) (nothing : Bool) → length line ≤ MOST_LINE_BYTES → says_nothing (content line) ≡ nothing →
       judged s strict had last n line ≡ (if nothing then Ok None else as_read (formed s strict had last n (parts_of (content line))))
   short_judged line nothing short is =
-      ap (λ b. if b then Err (fault.LineTooLong n) else judged_content s strict had last n (content line)) (le-ltb 65536 (length line) short)
+      ap (λ b. if b then Err (fault.LineTooLong n) else judged_content s strict had last n (content line)) (le-ltb MOST_LINE_BYTES (length line) short)
       ∙ ap (λ b. if b then Ok None else as_read (formed s strict had last n (parts_of (content line)))) is
 
   no_parts : (line : List ℕ) (o : Option Parts) → parts_of (content line) ≡ o → ((parts : Parts) → HasForm line parts → ⊥) → o ≡ None
@@ -349,7 +350,7 @@ module _ (s : System) (strict : Bool) (before : List Line) (n : ℕ) where
 
   spells_judged : (line : List ℕ) (answer : Result (Option Line) TraceFault) → SpellsLine s strict before n line answer → judged s strict had last n line ≡ answer
   spells_judged line answer (SpellsLine.too_long long is) =
-      ap (λ b. if b then Err (fault.LineTooLong n) else judged_content s strict had last n (content line)) (lt-ltb 65536 (length line) long) ∙ sym is
+      ap (λ b. if b then Err (fault.LineTooLong n) else judged_content s strict had last n (content line)) (lt-ltb MOST_LINE_BYTES (length line) long) ∙ sym is
   spells_judged line answer (SpellsLine.skipped short skipped is) = short_judged line true short (skipped_nothing line skipped) ∙ sym is
   spells_judged line answer (SpellsLine.no_form short says never is) =
       short_judged line false short (says_nothing_not line (says_nothing (content line)) refl says)

@@ -7,7 +7,7 @@ use Rattle.std.specs.List.{prefix_len}
 use Rattle.std.specs.Option.{option_map}
 use Rattle.trace_reader.specs.Form.{put_first, split_once}
 
--- the bytes before a place and those behind it, where it is within them
+-- the bytes before a place and those after it, where it is within them
 abbrev at_place : Bool → ℕ → List ℕ → Option (List ℕ × List ℕ)
 at_place true n bytes = Some (take n bytes, drop (n + 1) bytes)
 at_place false n bytes = None
@@ -49,6 +49,6 @@ split_once-some mark at bytes is = split_place mark bytes ∙ at_some _ _ at byt
 pub split_once-none : (mark : ℕ) (bytes : List ℕ) → None ≡ position (λ b. b == mark) bytes → split_once mark bytes ≡ None
 split_once-none mark bytes is = split_place mark bytes ∙ at_none _ _ bytes is
 
--- what stands behind a place, taken whole
+-- what stands after a place, taken whole
 pub rest_is : (n : ℕ) (bytes : List ℕ) → take (length bytes - n) (drop n bytes) ≡ drop n bytes
 rest_is n bytes = let within : length (drop n bytes) ≤ length bytes - n = omega (arith, length-drop n bytes) in take_all (length bytes - n) (drop n bytes) within

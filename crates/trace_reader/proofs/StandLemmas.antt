@@ -9,8 +9,8 @@ use Rattle.std.specs.Option.{option_or}
 use Rattle.flat_core.specs.System.{System}
 use Rattle.flat_core.specs.Line.{Line}
 use Rattle.trace_reader.specs.Reading.{Reading, reading, read_on}
-use Rattle.trace_reader.specs.Reader.{Reader}
-use Rattle.trace_reader.specs.Reads.{Reads, after}
+use Rattle.trace_reader.specs.inner.Reader.{Reader}
+use Rattle.trace_reader.specs.inner.Reads.{Reads, after}
 use Rattle.trace_reader.proofs.CutLemmas.{slice_get-append, take-append}
 use Rattle.trace_reader.proofs.LawLemmas.{reading_refused}
 
@@ -40,7 +40,7 @@ take_min n bytes = elim (cases_lt n (length bytes)) [
       ap (λ m. take m bytes) same ∙ take-length bytes ∙ sym (take_all n bytes all)
 ]
 
--- the byte behind as much as is taken
+-- the byte after as much as is taken
 get_min : (n : ℕ) (bytes : List ℕ) → slice_get bytes (min (length bytes) n) ≡ slice_get bytes n
 get_min n bytes = elim (cases_lt n (length bytes)) [
   | inl low ↦ let same : min (length bytes) n ≡ n = omega arith in ap (slice_get bytes) same
@@ -54,7 +54,7 @@ or_assoc : (a b c : Option ℕ) → option_or (option_or a b) c ≡ option_or a 
 or_assoc None b c = refl
 or_assoc (Some x) b c = refl
 
--- A piece: as much of it is kept as is within the limit, and the byte behind that.
+-- A piece: as much of it is kept as is within the limit, and the byte after that.
 abbrev pub fed_more : Reader → List ℕ → Reader
 fed_more r piece =
     record r { left = r.left - length piece; unread = r.unread ++ take r.left piece; beyond = option_or r.beyond (slice_get piece r.left) }

@@ -1,4 +1,4 @@
--- What an answer says of the trace, and what the reader stands for behind it.
+-- What an answer says of the trace, and what the reader stands for after it.
 use Rattle.std.proofs.Common.{◌≡◌, ◌≤◌, ◌<◌, ℕ, zero, suc, ◌+◌, ◌-◌, min, Bool, true, false, ◌&&◌, List, [], ◌∷◌, ◌++◌, length, take, drop, Option, Some, None, Result, Ok, Err, refl, sym, ap, subst, ◌∙◌, arith, append_assoc, length-drop, add-zero}
 use Rattle.std.proofs.lemmas.List.{append-nil}
 use Rattle.std.specs.Prelude.{if◌then◌else◌, is_none, is_some, not, option_to_list, slice_get}
@@ -11,8 +11,8 @@ use Rattle.trace_reader.specs.declared.next.Next.{Next}
 use Rattle.trace_reader.specs.declared.next.Next.TheVariants as next
 use Rattle.trace_reader.specs.Form.{content, is_long, says_nothing, split_once}
 use Rattle.trace_reader.specs.Reading.{Reading, alone, first_line, inputs_at, had_event, judged, judged_content, go_on, reading, read_on}
-use Rattle.trace_reader.specs.Reader.{Reader, HasLine, Passes, StopsAtLine, had_now, is_skipped, judged_at, last_counts, passed, past_line, seen_with, at_fault}
-use Rattle.trace_reader.specs.Reads.{Reads, MayCome, IfLine, IsPastLine, after, behind_all, IsAllOf, SaysNext, lines_in, TakesLine, Rests}
+use Rattle.trace_reader.specs.inner.Reader.{Reader, HasLine, Passes, StopsAtLine, had_now, is_skipped, judged_at, last_counts, passed, past_line, seen_with, at_fault}
+use Rattle.trace_reader.specs.inner.Reads.{Reads, MayCome, IfLine, IsPastLine, after, after_all, IsAllOf, SaysNext, lines_in, TakesLine, Rests}
 use Rattle.trace_reader.proofs.JudgedLemmas.{line_stands, never_memory}
 use Rattle.trace_reader.proofs.LineLemmas.{last_time-push, reading_sorted}
 use Rattle.trace_reader.proofs.SeenLemmas.{had_same, judged_same, seen_push}
@@ -28,7 +28,7 @@ or_none : (o : Option ℕ) (n : ℕ) → (let none : List ℕ = [] in option_or 
 or_none None n = refl
 or_none (Some b) n = refl
 
--- a line's end that stands in bytes stands in them with more behind
+-- a line's end that stands in bytes stands in them with more after
 ended_line : {A : Type 0} (o : Option A) (p : A) → option_or o None ≡ Some p → o ≡ Some p
 ended_line None p is = absurd (cc)
 ended_line (Some q) p is = is
@@ -95,11 +95,11 @@ module _ (old : Reader) (s : System) (strict : Bool) (limit : ℕ) (fed : List �
   now = reading s strict limit fed ended
 
   -- what follows the line of this length
-  abbrev behind_line : ℕ → List ℕ → Bool → Option Line → Reading
-  behind_line len more e l =
+  abbrev after_the_line : ℕ → List ℕ → Bool → Option Line → Reading
+  after_the_line len more e l =
       read_on s strict (given ++ option_to_list l) (old.count + 1 + 1) (drop (len + 1) old.unread ++ take old.left more) (more_beyond old more) e
 
-  -- what was fed, with nothing behind it
+  -- what was fed, with nothing after it
   now_is : (r : Reading) → reading s strict limit (fed ++ []) ended ≡ r → now ≡ r
   now_is r is = ap (λ bytes. reading s strict limit bytes ended) (sym (append-nil fed)) ∙ is
 
@@ -114,20 +114,20 @@ module _ (old : Reader) (s : System) (strict : Bool) (limit : ℕ) (fed : List �
       ∙ λ k. judged (sym reads.system k) (sym reads.strict_is k) (had_now (sym reads.last k) (sym reads.seen k)) (sym reads.last k) (old.count + 1) (take len old.unread)
 
   at_line : (len : ℕ) → HasLine old len → (more : List ℕ) (e : Bool) → MayCome ended more e →
-      reading s strict limit (fed ++ more) e ≡ after given (go_on (judged_at old len) (behind_line len more e))
+      reading s strict limit (fed ++ more) e ≡ after given (go_on (judged_at old len) (after_the_line len more e))
   at_line len has more e may =
       reads.goes_on more e may
       ∙ ap (after given) (read_on-first s strict given (old.count + 1) (more_bytes old more) (more_beyond old more) e
       ∙ ap (read_by s strict given (old.count + 1) (more_beyond old more) e (more_bytes old more)) (first_stands old len ended reads.ended_is has more e may)
-      ∙ ap (λ j. go_on j (behind_line len more e)) (at_judged len))
+      ∙ ap (λ j. go_on j (after_the_line len more e)) (at_judged len))
 
   after_line : (l : Line) (r : Reading) → after given (record { lines = l ∷ r.lines; refused = r.refused }) ≡ after (given ++ l ∷ []) r
   after_line l r = λ k. record { lines = sym (append_assoc given (l ∷ []) r.lines) k; refused = r.refused }
 
   at_given : (len : ℕ) (l : Line) → HasLine old len → judged_at old len ≡ Ok (Some l) → (more : List ℕ) (e : Bool) → MayCome ended more e →
-      reading s strict limit (fed ++ more) e ≡ after (given ++ l ∷ []) (behind_line len more e (Some l))
+      reading s strict limit (fed ++ more) e ≡ after (given ++ l ∷ []) (after_the_line len more e (Some l))
   at_given len l has is more e may =
-      at_line len has more e may ∙ ap (λ j. after given (go_on j (behind_line len more e))) is ∙ after_line l (behind_line len more e (Some l))
+      at_line len has more e may ∙ ap (λ j. after given (go_on j (after_the_line len more e))) is ∙ after_line l (after_the_line len more e (Some l))
 
   pub reads_line : (len : ℕ) (l : Line) → HasLine old len → old.refused ≡ None → judged_at old len ≡ Ok (Some l) → Reads (past_line old len l) s strict limit fed (given ++ l ∷ []) ended
   reads_line len l has accepted is =
@@ -157,14 +157,14 @@ module _ (old : Reader) (s : System) (strict : Bool) (limit : ℕ) (fed : List �
         last = reads.last;
         seen = reads.seen;
         goes_on = λ more e may.
-            at_line len has more e may ∙ ap (λ j. after given (go_on j (behind_line len more e))) is
+            at_line len has more e may ∙ ap (λ j. after given (go_on j (after_the_line len more e))) is
             ∙ λ k. after given (read_on s strict (append-nil given k) (old.count + 1 + 1) (drop (len + 1) old.unread ++ take old.left more) (more_beyond old more) e);
         refused = reads.refused;
       }
 
   says_line : (len : ℕ) (l : Line) → HasLine old len → judged_at old len ≡ Ok (Some l) → SaysNext now given ended (Ok (next.Line l))
   says_line len l has is =
-      let rest = behind_line len [] ended (Some l) in
+      let rest = after_the_line len [] ended (Some l) in
       (rest.lines, ap (λ (r : Reading). r.lines) (now_is _ (at_given len l has is [] ended (may_none ended))) ∙ append_assoc given (l ∷ []) rest.lines)
 
   no_more : (f : TraceFault) → after given (record { lines = []; refused = Some f }) ≡ record { lines = given; refused = Some f }
@@ -172,16 +172,16 @@ module _ (old : Reader) (s : System) (strict : Bool) (limit : ℕ) (fed : List �
 
   refused_line : (len : ℕ) (f : TraceFault) → HasLine old len → judged_at old len ≡ Err f → now ≡ record { lines = given; refused = Some f }
   refused_line len f has is =
-      now_is _ (at_line len has [] ended (may_none ended) ∙ ap (λ j. after given (go_on j (behind_line len [] ended))) is ∙ no_more f)
+      now_is _ (at_line len has [] ended (may_none ended) ∙ ap (λ j. after given (go_on j (after_the_line len [] ended))) is ∙ no_more f)
 
   -- where no line stands
-  pub at_rest : first_line old.unread (last_counts old) ≡ None → now ≡ record { lines = given; refused = behind_all old }
+  pub at_rest : first_line old.unread (last_counts old) ≡ None → now ≡ record { lines = given; refused = after_all old }
   at_rest none =
       now_is _ (reads.goes_on [] ended (may_none ended)
       ∙ ap (after given) ((λ k. read_on s strict given (old.count + 1) (no_bytes old k) (no_beyond old k) ended)
       ∙ read_on-first s strict given (old.count + 1) old.unread old.beyond ended
       ∙ ap (read_by s strict given (old.count + 1) old.beyond ended old.unread) ((λ k. first_line old.unread (sym reads.ended_is k && is_none old.beyond)) ∙ none))
-      ∙ λ k. record { lines = append-nil given k; refused = behind_all old })
+      ∙ λ k. record { lines = append-nil given k; refused = after_all old })
 
   -- the same lines, and the fault that was answered
   pub reads_fault : (f : TraceFault) → now ≡ record { lines = given; refused = Some f } → Reads (at_fault old f) s strict limit fed given ended
@@ -258,25 +258,25 @@ module _ (old : Reader) (s : System) (strict : Bool) (limit : ℕ) (fed : List �
   takes_line new len (Err (fault.LineTooLong n)) has accepted takes = refused_at new len (fault.LineTooLong n) has takes.0 takes.1
   takes_line new len (Err (fault.TraceTooLong n)) has accepted takes = refused_at new len (fault.TraceTooLong n) has takes.0 takes.1
 
-  all_of : first_line old.unread (last_counts old) ≡ None → behind_all old ≡ None → IsAllOf (reading s strict limit fed ended) given
+  all_of : first_line old.unread (last_counts old) ≡ None → after_all old ≡ None → IsAllOf (reading s strict limit fed ended) given
   all_of none nothing = at_rest old s strict limit fed given ended reads none ∙ ap (λ o. record { lines = given; refused = o }) nothing
 
-  refused_behind : (new : Reader) (f : TraceFault) → first_line old.unread (last_counts old) ≡ None → behind_all old ≡ Some f → new ≡ at_fault old f → Answered new (Err f)
-  refused_behind new f none is new_is = answered_fault f new (at_rest old s strict limit fed given ended reads none ∙ ap (λ o. record { lines = given; refused = o }) is) new_is
+  refused_after : (new : Reader) (f : TraceFault) → first_line old.unread (last_counts old) ≡ None → after_all old ≡ Some f → new ≡ at_fault old f → Answered new (Err f)
+  refused_after new f none is new_is = answered_fault f new (at_rest old s strict limit fed given ended reads none ∙ ap (λ o. record { lines = given; refused = o }) is) new_is
 
   pub rests : (new : Reader) (result : Result Next TraceFault) → first_line old.unread (last_counts old) ≡ None → Rests old new result → Answered new result
   rests new (Ok (next.Line l)) none rest = absurd rest
   rests new (Ok next.More) none rest = ((all_of none rest.0, sym reads.ended_is ∙ rest.2), same new rest.3)
   rests new (Ok next.End) none rest = ((all_of none rest.0, sym reads.ended_is ∙ rest.1), same new rest.2)
   rests new (Err fault.Memory) none rest = (tt, same new rest)
-  rests new (Err (fault.BadLine n)) none rest = refused_behind new (fault.BadLine n) none rest.0 rest.1
-  rests new (Err (fault.TimeTooLarge n)) none rest = refused_behind new (fault.TimeTooLarge n) none rest.0 rest.1
-  rests new (Err (fault.TimeBack n before at)) none rest = refused_behind new (fault.TimeBack n before at) none rest.0 rest.1
-  rests new (Err (fault.UnknownStream n)) none rest = refused_behind new (fault.UnknownStream n) none rest.0 rest.1
-  rests new (Err (fault.WrongValue n name)) none rest = refused_behind new (fault.WrongValue n name) none rest.0 rest.1
-  rests new (Err (fault.Twice n name)) none rest = refused_behind new (fault.Twice n name) none rest.0 rest.1
-  rests new (Err (fault.LineTooLong n)) none rest = refused_behind new (fault.LineTooLong n) none rest.0 rest.1
-  rests new (Err (fault.TraceTooLong n)) none rest = refused_behind new (fault.TraceTooLong n) none rest.0 rest.1
+  rests new (Err (fault.BadLine n)) none rest = refused_after new (fault.BadLine n) none rest.0 rest.1
+  rests new (Err (fault.TimeTooLarge n)) none rest = refused_after new (fault.TimeTooLarge n) none rest.0 rest.1
+  rests new (Err (fault.TimeBack n before at)) none rest = refused_after new (fault.TimeBack n before at) none rest.0 rest.1
+  rests new (Err (fault.UnknownStream n)) none rest = refused_after new (fault.UnknownStream n) none rest.0 rest.1
+  rests new (Err (fault.WrongValue n name)) none rest = refused_after new (fault.WrongValue n name) none rest.0 rest.1
+  rests new (Err (fault.Twice n name)) none rest = refused_after new (fault.Twice n name) none rest.0 rest.1
+  rests new (Err (fault.LineTooLong n)) none rest = refused_after new (fault.LineTooLong n) none rest.0 rest.1
+  rests new (Err (fault.TraceTooLong n)) none rest = refused_after new (fault.TraceTooLong n) none rest.0 rest.1
 
 -- a line that is judged not to stand is refused, and the fault is kept
 pub refuses_line : (old new : Reader) (len : ℕ) (f : TraceFault) → judged_at old len ≡ Err f → new ≡ at_fault old f → TakesLine old new len (Err f)
@@ -315,11 +315,11 @@ none_told None false is = absurd (cc)
 none_told (Some b) true is = absurd (cc)
 none_told (Some b) false is = refl
 
--- before the end bytes behind the last line's end are no line, whatever is beyond the limit
+-- before the end bytes after the last line's end are no line, whatever is beyond the limit
 pub unended_stops : (bytes : List ℕ) (ended : Bool) (beyond : Option ℕ) → ended ≡ false → StopsAtLine bytes false → StopsAtLine bytes (ended && is_none beyond)
 unended_stops bytes ended beyond is stops = subst (λ (e : Bool). StopsAtLine bytes (e && is_none beyond)) (sym is) stops
 
--- the line that was taken is behind the reader, and so are skipped lines that follow it
+-- the line that was taken is after the reader, and so are skipped lines that follow it
 pub past_is : (old : Reader) (len skipped : ℕ) (l : Line) (rest seen : List ℕ) → seen ≡ seen_with old.last old.seen l → Passes (last_counts old) (drop (len + 1) old.unread) skipped rest →
     IsPastLine old (record old { unread = rest; count = old.count + 1 + skipped; last = l.time; seen = seen }) len l
 past_is old len skipped l rest seen is passes =

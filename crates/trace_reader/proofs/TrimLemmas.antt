@@ -92,25 +92,25 @@ module _ (p : ℕ → Bool) where
   put_push t c (d ∷ bytes) b rest = refl
 
   -- all up to a byte that does not pass stays
-  pub end_behind : (bytes : List ℕ) (b : ℕ) (rest : List ℕ) → p b ≡ false → without_end p (bytes ++ b ∷ rest) ≡ bytes ++ b ∷ without_end p rest
-  end_behind [] b rest is = ap (λ t. put_kept t b (without_end p rest)) is ∙ put_plain b (without_end p rest)
-  end_behind (c ∷ bytes) b rest is = ap (put_kept (p c) c) (end_behind bytes b rest is) ∙ put_push (p c) c bytes b (without_end p rest)
+  pub end_following : (bytes : List ℕ) (b : ℕ) (rest : List ℕ) → p b ≡ false → without_end p (bytes ++ b ∷ rest) ≡ bytes ++ b ∷ without_end p rest
+  end_following [] b rest is = ap (λ t. put_kept t b (without_end p rest)) is ∙ put_plain b (without_end p rest)
+  end_following (c ∷ bytes) b rest is = ap (put_kept (p c) c) (end_following bytes b rest is) ∙ put_push (p c) c bytes b (without_end p rest)
 
   pub end_all : (bytes : List ℕ) → list_all p bytes ≡ true → without_end p bytes ≡ []
   end_all [] all = refl
   end_all (b ∷ bytes) all = let parts = and_parts (p b) (list_all p bytes) all in ap (put_kept (p b) b) (end_all bytes parts.1) ∙ ap (λ t. put_kept t b []) parts.0
 
   pub end_kept : (bytes : List ℕ) (b : ℕ) → p b ≡ false → without_end p (bytes ++ b ∷ []) ≡ bytes ++ b ∷ []
-  end_kept bytes b is = end_behind bytes b [] is
+  end_kept bytes b is = end_following bytes b [] is
 
   pub end_dropped : (bytes : List ℕ) (b : ℕ) → p b ≡ true → without_end p (bytes ++ b ∷ []) ≡ without_end p bytes
   end_dropped [] b is = ap (λ t. put_kept t b []) is
   end_dropped (c ∷ bytes) b is = ap (put_kept (p c) c) (end_dropped bytes b is)
 
-  -- what passes behind a last byte that does not is dropped
+  -- what passes after a last byte that does not is dropped
   pub end_at : (xs front : List ℕ) (last : ℕ) (z : List ℕ) → xs ≡ front ++ last ∷ [] → p last ≡ false → list_all p z ≡ true → without_end p (xs ++ z) ≡ xs
   end_at xs front last z is fails all =
-      ap (λ bs. without_end p (bs ++ z)) is ∙ ap (without_end p) (append_assoc front (last ∷ []) z) ∙ end_behind front last z fails ∙ ap (λ bs. front ++ last ∷ bs) (end_all z all) ∙ sym is
+      ap (λ bs. without_end p (bs ++ z)) is ∙ ap (without_end p) (append_assoc front (last ∷ []) z) ∙ end_following front last z fails ∙ ap (λ bs. front ++ last ∷ bs) (end_all z all) ∙ sym is
 
   end_step : (passes : Bool) (b : ℕ) (bytes rest : List ℕ) → p b ≡ passes → EndTo p bytes rest → EndTo p (b ∷ bytes) (put_kept passes b rest)
   end_step true b bytes [] is it = record { dropped = b ∷ it.dropped; all = λ k. is k && it.all k; is = ap (λ bs. b ∷ bs) it.is; stops = λ front c same. absurd (nil_push front c same) }

@@ -1,4 +1,4 @@
--- A line's end behind bytes that were searched.
+-- A line's end after bytes that were searched.
 use Rattle.std.proofs.Common.{drop-drop, ◌≡◌, ◌==◌, ◌≤◌, ◌<◌, ℕ, suc, ◌+◌, ◌-◌, Bool, true, false, List, [], ◌∷◌, ◌++◌, length, take, drop, Option, Some, None, refl, sym, ap, subst, ◌∙◌, arith, length-append, length-take, length-drop}
 use Rattle.std.proofs.lemmas.List.{take-append-drop}
 use Rattle.std.specs.Prelude.{if◌then◌else◌, position}
@@ -7,7 +7,7 @@ use Rattle.trace_reader.specs.Form.{put_first, split_once}
 use Rattle.trace_reader.proofs.CutLemmas.{split_by, split_once-append}
 use Rattle.trace_reader.proofs.SplitLemmas.{split_once-none, split_once-some}
 
--- the front is that of the list, and so is what stands behind the mark
+-- the front is that of the list, and so is what stands after the mark
 pub record IsSplit (bytes : List ℕ) (p : List ℕ × List ℕ) : Type 0 where
   pub within : length p.0 < length bytes
   pub front : p.0 ≡ take (length p.0) bytes
@@ -77,12 +77,12 @@ module _ (bytes : List ℕ) (start searched : ℕ) (low : start ≤ searched) (h
   by_back : split_once 10 whole ≡ option_map (λ (p : List ℕ × List ℕ). (front ++ p.0, p.1)) (split_once 10 back)
   by_back = ap (split_once 10) whole_is ∙ split_once-append 10 front back ∙ ap (λ o. split_by 10 o front back) none
 
-  pub none_behind : None ≡ position (λ b. b == 10) back → split_once 10 whole ≡ None
-  none_behind is = by_back ∙ ap (option_map (λ (p : List ℕ × List ℕ). (front ++ p.0, p.1))) (split_once-none 10 back is)
+  pub none_after : None ≡ position (λ b. b == 10) back → split_once 10 whole ≡ None
+  none_after is = by_back ∙ ap (option_map (λ (p : List ℕ × List ℕ). (front ++ p.0, p.1))) (split_once-none 10 back is)
 
-  pub found_behind : (more : ℕ) → Some more ≡ position (λ b. b == 10) back →
+  pub found_after : (more : ℕ) → Some more ≡ position (λ b. b == 10) back →
       (searched + more - start < length whole) × (split_once 10 whole ≡ Some (take (searched + more - start) whole, drop (searched + more - start + 1) whole))
-  found_behind more is =
+  found_after more is =
       let at = split_once-some 10 more back is in
       let line : List ℕ × List ℕ = (front ++ take more back, drop (more + 1) back) in
       let here : split_once 10 whole ≡ Some line = by_back ∙ ap (option_map (λ (p : List ℕ × List ℕ). (front ++ p.0, p.1))) at in
@@ -100,4 +100,4 @@ module _ (bytes : List ℕ) (start searched : ℕ) (low : start ≤ searched) (h
       )
 
   pub none_searched : (more : ℕ) → Some more ≡ position (λ b. b == 10) back → split_once 10 (take (searched + more - start) whole) ≡ None
-  none_searched more is = none_before 10 whole (take (searched + more - start) whole, drop (searched + more - start + 1) whole) (found_behind more is).1
+  none_searched more is = none_before 10 whole (take (searched + more - start) whole, drop (searched + more - start + 1) whole) (found_after more is).1

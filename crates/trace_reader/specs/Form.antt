@@ -1,6 +1,7 @@
 -- The forms of a trace line: `TIME :`, `TIME : NAME` and `TIME : NAME = VALUE`, with blanks before and between their parts. They are
 -- cut as the code cuts them; `Spelling` has the relation that `SpelledAgrees` proves the same.
-use Rattle.std.specs.Prelude.{◌==◌, ℕ, Bool, true, false, ◌&&◌, ◌||◌, if◌then◌else◌, nat_lt, is_none, List, [], ◌∷◌, Option, Some, None, chars}
+use Rattle.std.specs.Prelude.{◌==◌, ℕ, Bool, true, false, ◌&&◌, ◌||◌, if◌then◌else◌, nat_lt, is_none, List, [], ◌∷◌, Option, Some, None}
+use Rattle.std.specs.Prelude.{chars}
 use Rattle.std.specs.List.{list_all}
 use Rattle.std.specs.Option.{option_and_then, option_map}
 use Rattle.std.specs.Str.{is_utf8}
@@ -9,6 +10,7 @@ use Rattle.unicode_ident.specs.Ident.{is_xid_continue}
 use Rattle.tsl_value.specs.Literal.{are_digits}
 use Rattle.spec_lexer.specs.Spelling.{begins_name}
 use Rattle.spec_lexer.specs.Found.{word_of}
+use Rattle.trace_reader.specs.declared.limits.TheConstants.{MOST_LINE_BYTES}
 
 -- the bytes of a line's time, its name and its value, where it has them
 pub record Parts : Type 0 where
@@ -16,7 +18,7 @@ pub record Parts : Type 0 where
   pub name : Option (List ℕ)
   pub value : Option (List ℕ)
 
--- what stands before the first such byte, and what stands behind it
+-- what stands before the first such byte, and what stands after it
 abbrev pub put_first : ℕ → List ℕ × List ℕ → List ℕ × List ℕ
 put_first b p = (b ∷ p.0, p.1)
 
@@ -56,7 +58,7 @@ says_nothing (b ∷ c ∷ bytes) = (b == 35) || ((b == 45) && (c == 45))
 
 -- so many bytes are more than the 65,536 that a line may have
 abbrev pub is_long : ℕ → Bool
-is_long count = nat_lt 65536 count
+is_long count = nat_lt MOST_LINE_BYTES count
 
 -- a name of a specification, of any length
 abbrev pub are_name_characters : List ℕ → Bool
@@ -66,11 +68,11 @@ are_name_characters (c ∷ cs) = begins_name c && list_all is_xid_continue cs
 unfoldable pub is_name : List ℕ → Bool
 is_name bytes = is_utf8 bytes && (are_name_characters (chars bytes) && is_none (word_of bytes))
 
--- a name, and perhaps a value, behind a time
+-- a name, and perhaps a value, after a time
 abbrev pub called : List ℕ → List ℕ → Option (List ℕ) → Option Parts
 called time name value = if is_name name then Some (record { time = time; name = Some name; value = value }) else None
 
--- what stands behind `=` is not empty
+-- what stands after `=` is not empty
 abbrev pub valued : List ℕ → List ℕ → List ℕ → Option Parts
 valued time name [] = None
 valued time name (b ∷ value) = called time name (Some (b ∷ value))
@@ -80,13 +82,13 @@ abbrev pub named_by : List ℕ → List ℕ → Option (List ℕ × List ℕ) �
 named_by time bytes None = called time bytes None
 named_by time bytes (Some p) = valued time (without_end is_blank p.0) (without_front is_blank p.1)
 
--- what stands behind the colon
-abbrev pub behind_time : List ℕ → List ℕ → Option Parts
-behind_time time [] = Some (record { time = time; name = None; value = None })
-behind_time time (b ∷ rest) = named_by time (b ∷ rest) (split_once 61 (b ∷ rest))
+-- what stands after the colon
+abbrev pub after_time : List ℕ → List ℕ → Option Parts
+after_time time [] = Some (record { time = time; name = None; value = None })
+after_time time (b ∷ rest) = named_by time (b ∷ rest) (split_once 61 (b ∷ rest))
 
 abbrev pub timed : List ℕ → List ℕ → Option Parts
-timed time rest = if are_digits time then behind_time time rest else None
+timed time rest = if are_digits time then after_time time rest else None
 
 -- the parts of a line without the blanks around it, where it is of one of the forms
 abbrev pub parts_of : List ℕ → Option Parts

@@ -1,10 +1,4 @@
 pub mod Form
-pub mod Borrowed
 pub mod Reading
-pub mod Places
-pub mod Spelling
 pub mod Closed
-pub mod Laws
-pub mod Reader
-pub mod Reads
-pub mod Plain
+pub mod inner

@@ -1,5 +1,6 @@
 -- The lines of a trace, and perhaps one that is refused. It speaks of the whole text, and knows no pieces.
-use Rattle.std.specs.Prelude.{◌==◌, ℕ, ◌+◌, Bool, true, false, ◌&&◌, if◌then◌else◌, nat_lt, List, [], ◌∷◌, ◌++◌, length, take, Option, Some, None, is_none, option_to_list, slice_get, Result, Ok, Err}
+use Rattle.std.specs.Prelude.{◌==◌, ℕ, ◌+◌, Bool, true, false, ◌&&◌, if◌then◌else◌, nat_lt, List, [], ◌∷◌, ◌++◌, length, take, Option, Some}
+use Rattle.std.specs.Prelude.{None, is_none, option_to_list, slice_get, Result, Ok, Err}
 use Rattle.std.specs.List.{list_any, position_from}
 use Rattle.std.specs.Option.{option_and_then, option_or}
 use Rattle.std.specs.Result.{result_ok}
@@ -24,7 +25,7 @@ pub record Reading : Type 0 where
   pub lines : List Line
   pub refused : Option TraceFault
 
--- The whole lines of some bytes, without their ends, and what stands behind the last line's end.
+-- The whole lines of some bytes, without their ends, and what stands after the last line's end.
 abbrev pub put_before : ℕ → List (List ℕ) → List ℕ → List (List ℕ) × List ℕ
 put_before b [] rest = ([], b ∷ rest)
 put_before b (line ∷ lines) rest = ((b ∷ line) ∷ lines, rest)
@@ -41,7 +42,7 @@ last_line (b ∷ bytes) = (b ∷ bytes) ∷ []
 abbrev pub lines_of : List ℕ → Bool → List (List ℕ)
 lines_of bytes ended = (cut bytes).0 ++ (if ended then last_line (cut bytes).1 else [])
 
--- the first of these lines, and what stands behind it
+-- the first of these lines, and what stands after it
 abbrev pub alone : List ℕ → Option (List ℕ × List ℕ)
 alone [] = None
 alone (b ∷ bytes) = Some (b ∷ bytes, [])
@@ -127,7 +128,7 @@ abbrev pub go_on : Result (Option Line) TraceFault → (Option Line → Reading)
 go_on (Err f) rest = record { lines = []; refused = Some f }
 go_on (Ok l) rest = record { lines = option_to_list l ++ (rest l).lines; refused = (rest l).refused }
 
--- these lines, from number `n` on, behind earlier ones
+-- these lines, from number `n` on, after earlier ones
 abbrev pub read : System → Bool → List Line → ℕ → List (List ℕ) → Reading
 read s strict before n [] = record { lines = []; refused = None }
 read s strict before n (bytes ∷ more) =
@@ -138,7 +139,7 @@ abbrev pub on_line : Option ℕ → List ℕ
 on_line None = []
 on_line (Some b) = if b == 10 then [] else b ∷ []
 
--- What is refused behind the whole lines: a line that is too long already, or bytes beyond the limit, in the line in which they begin.
+-- What is refused after the whole lines: a line that is too long already, or bytes beyond the limit, in the line in which they begin.
 abbrev pub overflow : Option ℕ → ℕ → Option TraceFault
 overflow None n = None
 overflow (Some b) n = Some (fault.TraceTooLong n)
@@ -149,11 +150,11 @@ unfinished beyond n rest = if is_long (length rest + length (on_line beyond)) th
 abbrev pub limited : Reading → Option TraceFault → Reading
 limited r behind = record { lines = r.lines; refused = option_or r.refused behind }
 
--- These bytes, from line number `n` on, behind earlier lines, with the first byte beyond the limit.
+-- These bytes, from line number `n` on, after earlier lines, with the first byte beyond the limit.
 abbrev pub read_on : System → Bool → List Line → ℕ → List ℕ → Option ℕ → Bool → Reading
 read_on s strict before n bytes beyond ended =
     limited (read s strict before n (lines_of bytes (ended && is_none beyond))) (unfinished beyond (n + length (cut bytes).0) (cut bytes).1)
 
--- The lines of a trace and what is refused. Bytes behind the last line's end are a line only where the trace has ended.
+-- The lines of a trace and what is refused. Bytes after the last line's end are a line only where the trace has ended.
 unfoldable pub reading : System → Bool → ℕ → List ℕ → Bool → Reading
 reading s strict limit bytes ended = read_on s strict [] 1 (take limit bytes) (slice_get bytes limit) ended

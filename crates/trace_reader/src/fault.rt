@@ -28,7 +28,7 @@ pub enum TraceFault {
     LineTooLong { line: u64 },
     /// The trace has more bytes than the limit, and the first beyond it stands in this line.
     TraceTooLong { line: u64 },
-    /// Memory was wanting. This alone says nothing of the trace.
+    /// Out of memory. This alone says nothing of the trace.
     Memory,
 }
 

@@ -6,8 +6,9 @@ ghost use Rattle.std.specs.List.{list_all};
 ghost use Rattle.std.specs.Option.{SomeIff};
 ghost use Rattle.std.specs.Str.Parse.{digits_value};
 ghost use Rattle.tsl_value.specs.Literal.{are_digits};
-ghost use Rattle.trace_reader.specs.Borrowed.{bytes_of};
-ghost use Rattle.trace_reader.specs.Form.{behind_time, called, content, is_blank, is_end_blank, parts_of, says_nothing, split_once, time_of, timed, valued, without_end, without_front};
+ghost use Rattle.trace_reader.specs.inner.Borrowed.{bytes_of};
+ghost use Rattle.trace_reader.specs.Form.{after_time, called, content, is_blank, is_end_blank, parts_of, says_nothing, split_once};
+ghost use Rattle.trace_reader.specs.Form.{time_of, timed, valued, without_end, without_front};
 
 use crate::name::name_of;
 use tsl_value::time::Time;
@@ -27,7 +28,7 @@ pub(crate) fn place_of(bytes: &[u8], mark: u8) -> Option<usize>
     bytes.iter().position(|byte| *byte == mark)
 }
 
-/// What stands before the first such byte, and what stands behind it.
+/// What stands before the first such byte, and what stands after it.
 fn split_once(bytes: &[u8], mark: u8) -> Option<(&[u8], &[u8])>
     ensures { option_map (λ p. (p.0.now, p.1.now)) result ≡ split_once mark bytes.now }
 {
@@ -48,8 +49,8 @@ fn without_blanks_before(bytes: &[u8]) -> &[u8]
     rest
 }
 
-/// The bytes without the blanks behind them.
-fn without_blanks_behind(bytes: &[u8]) -> &[u8]
+/// The bytes without the blanks after them.
+fn without_blanks_after(bytes: &[u8]) -> &[u8]
     ensures { result.now ≡ without_end is_blank bytes.now }
 {
     let mut rest = bytes;
@@ -123,24 +124,24 @@ pub(crate) fn parts_of(content: &[u8]) -> Option<Parts<'_>>
     ensures digits { IfSome result (λ p. IsTrue (are_digits p.time.now)) }
 {
     let (time, rest) = split_once(content, b':')?;
-    timed(without_blanks_behind(time), without_blanks_before(rest))
+    timed(without_blanks_after(time), without_blanks_before(rest))
 }
 
-/// The parts, by what stands before the colon and behind it.
+/// The parts, by what stands before the colon and after it.
 fn timed<'a>(time: &'a [u8], rest: &'a [u8]) -> Option<Parts<'a>>
     ensures parts { option_map bytes_of result ≡ timed time.now rest.now }
     ensures digits { IfSome result (λ p. IsTrue (are_digits p.time.now)) }
 {
     if are_digits(time) {
-        behind_time(time, rest)
+        after_time(time, rest)
     } else {
         None
     }
 }
 
-/// The parts, by what stands behind the colon.
-fn behind_time<'a>(time: &'a [u8], rest: &'a [u8]) -> Option<Parts<'a>>
-    ensures { option_map bytes_of result ≡ behind_time time.now rest.now }
+/// The parts, by what stands after the colon.
+fn after_time<'a>(time: &'a [u8], rest: &'a [u8]) -> Option<Parts<'a>>
+    ensures { option_map bytes_of result ≡ after_time time.now rest.now }
 {
     if rest.is_empty() {
         return Some(Parts {
@@ -152,14 +153,14 @@ fn behind_time<'a>(time: &'a [u8], rest: &'a [u8]) -> Option<Parts<'a>>
     match split_once(rest, b'=') {
         Some((name, value)) => valued(
             time,
-            without_blanks_behind(name),
+            without_blanks_after(name),
             without_blanks_before(value),
         ),
         None => called(time, rest, None),
     }
 }
 
-/// A name and a value, which is not empty, behind a time.
+/// A name and a value, which is not empty, after a time.
 fn valued<'a>(time: &'a [u8], name: &'a [u8], value: &'a [u8]) -> Option<Parts<'a>>
     ensures { option_map bytes_of result ≡ valued time.now name.now value.now }
 {
@@ -169,7 +170,7 @@ fn valued<'a>(time: &'a [u8], name: &'a [u8], value: &'a [u8]) -> Option<Parts<'
     called(time, name, Some(value))
 }
 
-/// A name, and perhaps a value, behind a time.
+/// A name, and perhaps a value, after a time.
 fn called<'a>(time: &'a [u8], name: &'a [u8], value: Option<&'a [u8]>) -> Option<Parts<'a>>
     ensures { option_map bytes_of result ≡ called time.now name.now (option_map (λ b. b.now) value.entry) }
 {

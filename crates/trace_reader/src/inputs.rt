@@ -3,8 +3,8 @@
 ghost use Rattle.std.specs.Prelude.{◌≡◌, ◌<◌, ℕ, List, [], Some, None, if◌then◌else◌, length, IfOk, IfSome, OnErr, OnOk};
 ghost use Rattle.std.specs.Option.{option_or};
 ghost use Rattle.flat_core.specs.System.{equation};
-ghost use Rattle.trace_reader.specs.Places.{noted, place_in};
-ghost use Rattle.trace_reader.specs.Plain.{IsInputOfNumbers, IsNumberInput};
+ghost use Rattle.trace_reader.specs.inner.Places.{noted, place_in};
+ghost use Rattle.trace_reader.specs.inner.Plain.{IsInputOfNumbers, IsNumberInput};
 ghost use Rattle.trace_reader.specs.Reading.{input_called, is_input_called};
 
 use crate::name::name_of;
@@ -26,7 +26,7 @@ struct Places {
 impl Model for Places {
     ghost use Rattle.std.specs.String.{string_eq};
     ghost use Rattle.indexmap.specs.IndexMap.{IsUnique};
-    ghost use Rattle.trace_reader.specs.Places.{Places, places_in};
+    ghost use Rattle.trace_reader.specs.inner.Places.{Places, places_in};
 
     ghost Value = { Places };
 
@@ -81,7 +81,8 @@ impl Places {
 
     /// Notes an equation's name, where it is an input.
     fn note_input(&mut self, equation: &Equation, id: EqId) -> Result<(), NoMemory>
-        ensures { OnOk result ((name : List ℕ) → place_in self.new name ≡ option_or (place_in self.old name) (if is_input_called name equation.now then Some id else None)) }
+        ensures { OnOk result ((name : List ℕ)
+            → place_in self.new name ≡ option_or (place_in self.old name) (if is_input_called name equation.now then Some id else None)) }
     {
         match (&equation.op, &equation.name) {
             (Op::Input, Some(name)) => self.note(name.as_str(), id),
@@ -126,8 +127,8 @@ impl<'f> Model for Inputs<'f> {
     ghost use Rattle.std.specs.Coded.{codes};
     ghost use Rattle.flat_core.specs.System.{System};
     ghost use Rattle.std.specs.Prelude.{IfSome};
-    ghost use Rattle.trace_reader.specs.Places.{IsTable};
-    ghost use Rattle.trace_reader.specs.Plain.{IsNumberInput};
+    ghost use Rattle.trace_reader.specs.inner.Places.{IsTable};
+    ghost use Rattle.trace_reader.specs.inner.Plain.{IsNumberInput};
 
     ghost Value = { System };
 

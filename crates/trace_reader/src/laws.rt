@@ -1,6 +1,8 @@
 // What holds of every reading of a trace, as the contracts of functions that do nothing.
 
-ghost use Rattle.trace_reader.specs.Laws.{ClosedStays, EventsAreDistinct, LaterLinesAreLater, LinesAreProper, LinesAreSorted, LinesStay, RefusalStays, SpelledAgrees};
+ghost use Rattle.trace_reader.specs.inner.Laws.{ClosedStays, EventsAreDistinct, LaterLinesAreLater, LinesAreProper, LinesAreSorted};
+ghost use Rattle.trace_reader.specs.inner.Laws.{LinesStay};
+ghost use Rattle.trace_reader.specs.inner.Laws.{RefusalStays, SpelledAgrees};
 
 /// The lines of a beginning of a trace are the first lines of the whole.
 pub fn lines_stay()

@@ -1,4 +1,4 @@
-// The lines of a trace, however its bytes are cut into pieces.
+//! The lines of a trace, however its bytes are cut into pieces.
 #![tactic(auto)]
 
 pub mod fault;
@@ -6,14 +6,13 @@ mod form;
 mod inputs;
 mod int;
 pub mod laws;
+pub mod limits;
 mod line;
 mod name;
 pub mod next;
 mod plain;
 pub mod reader;
 mod seen;
-#[cfg(test)]
-mod tests;
 mod unread;
 
 pub use flat_core::line::TraceLine;

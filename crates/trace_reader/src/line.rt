@@ -3,15 +3,16 @@
 ghost use Rattle.std.specs.Prelude.{◌≡◌, ◌<◌, IfOk, IfSome, IsTrue, Ok, Some, length, option_map, false};
 ghost use Rattle.std.specs.Result.{result_ok};
 ghost use Rattle.tsl_value.specs.Literal.{are_digits, literal};
-ghost use Rattle.trace_reader.specs.Borrowed.{bytes_of};
+ghost use Rattle.trace_reader.specs.inner.Borrowed.{bytes_of};
 ghost use Rattle.trace_reader.specs.Form.{is_long};
-ghost use Rattle.trace_reader.specs.Reader.{had_now, is_skipped};
+ghost use Rattle.trace_reader.specs.inner.Reader.{had_now, is_skipped};
 ghost use Rattle.trace_reader.specs.Reading.{addressed, as_read, formed, input_called, judged, placed, said, value_at, value_of};
 
 use crate::fault::TraceFault;
 use crate::form::{Parts, content, parts_of, says_nothing, time_of};
 use crate::inputs::Inputs;
 use crate::int::small_int;
+use crate::limits::MOST_LINE_BYTES;
 use flat_core::line::TraceLine;
 use std::alloc::Global;
 use tsl_value::ids::EqId;
@@ -21,9 +22,6 @@ use tsl_value::scalar::{Scalar, ScalarType, ValueType};
 use tsl_value::text::Text;
 use tsl_value::time::Time;
 
-/// The most bytes that a line has, its end not counted.
-const MAX_LINE: usize = 65_536;
-
 /// A line's time and perhaps an event, or why the line is refused.
 type Verdict = Result<TraceLine, TraceFault>;
 
@@ -31,7 +29,7 @@ type Verdict = Result<TraceLine, TraceFault>;
 pub(crate) fn is_long(count: usize) -> bool
     ensures { result ≡ is_long count }
 {
-    count > MAX_LINE
+    count > MOST_LINE_BYTES
 }
 
 /// Whether a line is empty or a comment.
@@ -92,7 +90,8 @@ impl<'a> Judge<'a> {
     /// What a line says that is not skipped, or why it is refused.
     pub(crate) fn judge(&self, line: &[u8]) -> Result<Verdict, NoMemory>
         requires { is_skipped line.now ≡ false }
-        ensures { IfOk result (λ v. as_read v ≡ judged self.now.inputs.now self.now.strict (had_now self.now.last self.now.seen.now) self.now.last self.now.number line.now) }
+        ensures { IfOk result (λ v. as_read v ≡ judged self.now.inputs.now self.now.strict (had_now self.now.last self.now.seen.now)
+            self.now.last self.now.number line.now) }
     {
         if is_long(line.len()) {
             return Ok(Err(TraceFault::LineTooLong { line: self.number }));
@@ -106,7 +105,8 @@ impl<'a> Judge<'a> {
     /// What a line of these parts says.
     fn said_at(&self, parts: &Parts<'_>) -> Result<Verdict, NoMemory>
         requires { IsTrue (are_digits parts.now.time.now) }
-        ensures { IfOk result (λ v. v ≡ formed self.now.inputs.now self.now.strict (had_now self.now.last self.now.seen.now) self.now.last self.now.number (Some (bytes_of parts.now))) }
+        ensures { IfOk result (λ v. v ≡ formed self.now.inputs.now self.now.strict (had_now self.now.last self.now.seen.now) self.now.last
+            self.now.number (Some (bytes_of parts.now))) }
     {
         match time_of(parts.time) {
             None => Ok(Err(TraceFault::TimeTooLarge { line: self.number })),
@@ -121,7 +121,8 @@ impl<'a> Judge<'a> {
 
     /// The line of a time, and perhaps of an event.
     fn said(&self, time: Time, parts: &Parts<'_>) -> Result<Verdict, NoMemory>
-        ensures { IfOk result (λ v. v ≡ said self.now.inputs.now self.now.strict (had_now self.now.last self.now.seen.now) self.now.last self.now.number time (bytes_of parts.now).name (bytes_of parts.now).value) }
+        ensures { IfOk result (λ v. v ≡ said self.now.inputs.now self.now.strict (had_now self.now.last self.now.seen.now) self.now.last
+            self.now.number time (bytes_of parts.now).name (bytes_of parts.now).value) }
     {
         match parts.name {
             Some(name) => self.addressed(time, name, parts.value),
@@ -131,7 +132,8 @@ impl<'a> Judge<'a> {
 
     /// The line of a time and a name.
     fn addressed(&self, time: Time, name: &str, value: Option<&[u8]>) -> Result<Verdict, NoMemory>
-        ensures { IfOk result (λ v. v ≡ addressed self.now.inputs.now self.now.strict (had_now self.now.last self.now.seen.now) self.now.last self.now.number time name.now (option_map (λ b. b.now) value.entry) (input_called self.now.inputs.now name.now)) }
+        ensures { IfOk result (λ v. v ≡ addressed self.now.inputs.now self.now.strict (had_now self.now.last self.now.seen.now)
+            self.now.last self.now.number time name.now (option_map (λ b. b.now) value.entry) (input_called self.now.inputs.now name.now)) }
     {
         match self.inputs.find(name) {
             Some(input) => self.placed(time, name, input, value),
@@ -149,7 +151,8 @@ impl<'a> Judge<'a> {
         value: Option<&[u8]>,
     ) -> Result<Verdict, NoMemory>
         requires { input < length self.now.inputs.now.equations }
-        ensures { IfOk result (λ v. v ≡ placed self.now.inputs.now self.now.strict (had_now self.now.last self.now.seen.now) self.now.last self.now.number time name.now input (value_at self.now.inputs.now input (option_map (λ b. b.now) value.entry))) }
+        ensures { IfOk result (λ v. v ≡ placed self.now.inputs.now self.now.strict (had_now self.now.last self.now.seen.now) self.now.last
+            self.now.number time name.now input (value_at self.now.inputs.now input (option_map (λ b. b.now) value.entry))) }
     {
         let of = self.inputs.equation(input).of;
         let Some(value) = value_of(self.alloc, of, value)? else {

@@ -2,7 +2,7 @@
 
 ghost use Rattle.std.specs.Prelude.{◌≡◌, ◌++◌, ◌<◌, ◌^◌, codes, neg_ℤ, pos, IfSome};
 ghost use Rattle.tsl_value.specs.declared.scalar.Scalar.TheVariants as scalar;
-ghost use Rattle.trace_reader.specs.Plain.{BeginsWithInt, BeginsWithNumber, IsPlain};
+ghost use Rattle.trace_reader.specs.inner.Plain.{BeginsWithInt, BeginsWithNumber, IsPlain};
 
 use tsl_value::scalar::Scalar;
 use tsl_value::time::Time;
@@ -22,16 +22,16 @@ pub(crate) struct PlainLine {
 pub(crate) fn plain_line(bytes: &[u8], name: &[u8]) -> Option<PlainLine>
     ensures { IfSome result (IsPlain name.now bytes.now) }
 {
-    let (digits, behind_time) = number_before(bytes)?;
+    let (digits, after_time) = number_before(bytes)?;
     let time = Time::new(digits)?;
-    let (number, end) = int_before(behind_name(behind_time, name)?)?;
+    let (number, end) = int_before(after_name(after_time, name)?)?;
     let _next = behind(end, b"\n")?;
     let len = bytes.len() - end.len();
     Some(PlainLine { time, number, len })
 }
 
-/// What stands behind `: NAME = `.
-fn behind_name<'a>(bytes: &'a [u8], name: &[u8]) -> Option<&'a [u8]>
+/// What stands after `: NAME = `.
+fn after_name<'a>(bytes: &'a [u8], name: &[u8]) -> Option<&'a [u8]>
     ensures { IfSome result (λ r. bytes.now ≡ codes ": " ++ (name.now ++ (codes " = " ++ r.now))) }
 {
     let [b':', b' ', rest @ ..] = bytes else {
@@ -43,7 +43,7 @@ fn behind_name<'a>(bytes: &'a [u8], name: &[u8]) -> Option<&'a [u8]>
     }
 }
 
-/// What stands behind these bytes.
+/// What stands after these bytes.
 fn behind<'a>(bytes: &'a [u8], front: &[u8]) -> Option<&'a [u8]>
     ensures { IfSome result (λ r. bytes.now ≡ front.now ++ r.now) }
 {
@@ -58,7 +58,7 @@ fn behind<'a>(bytes: &'a [u8], front: &[u8]) -> Option<&'a [u8]>
     Some(rest)
 }
 
-/// The number that digits at the front spell, with a minus or nothing before them, and what stands behind them.
+/// The number that digits at the front spell, with a minus or nothing before them, and what stands after them.
 fn int_before(bytes: &[u8]) -> Option<(Scalar, &[u8])>
     ensures { IfSome result (λ r. BeginsWithInt bytes.now r.0 r.1.now) }
 {
@@ -88,7 +88,7 @@ fn negative(number: u64) -> Scalar
     Scalar::Int(-(number as i64))
 }
 
-/// The number that digits at the front spell, and what stands behind them. `None` says nothing of them.
+/// The number that digits at the front spell, and what stands after them. `None` says nothing of them.
 fn number_before(bytes: &[u8]) -> Option<(u64, &[u8])>
     ensures number { IfSome result (λ r. BeginsWithNumber bytes.now r.0 r.1.now) }
     ensures bounded { IfSome result (λ r. r.0 < 2 ^ 63) }

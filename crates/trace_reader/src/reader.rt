@@ -1,7 +1,10 @@
 // The reader of a trace.
 
-ghost use Rattle.std.specs.Prelude.{◌≡◌, ◌≤◌, ◌<◌, ◌^◌, [], ◌∷◌, ◌++◌, ℕ, Bool, List, None, false, true, length, slice_get, IfOk, IfSome, OnOk, OnErr, vec_capacity, vec_len};
+ghost use Rattle.std.specs.Prelude.{◌≡◌, ◌≤◌, ◌<◌, [], ◌∷◌, ◌++◌, ℕ, Bool, List, None, false, true, length, slice_get, IfOk, IfSome};
+ghost use Rattle.std.specs.Prelude.{OnOk, OnErr, vec_capacity, vec_len};
 ghost use Rattle.trace_reader.specs.Form.{is_long};
+ghost use Rattle.trace_reader.specs.declared.limits.TheConstants.{MOST_PIECE_BYTES};
+ghost use Rattle.tsl_value.specs.declared.limits.TheConstants.{MOST_TRACE_BYTES};
 
 use crate::fault::TraceFault;
 use crate::inputs::Inputs;
@@ -44,25 +47,38 @@ pub struct TraceReader<'f> {
 impl<'f> Model for TraceReader<'f> {
     ghost use Rattle.lift_func.specs.contracts.body.Body as body;
     ghost use Rattle.std.specs.Coded.{codes};
-    ghost use Rattle.std.specs.Prelude.{◌+◌, ◌≤◌, ◌^◌, ◌&&◌, is_none, length};
-    ghost use Rattle.trace_reader.specs.Reader.{Reader, StopsAtLine};
+    ghost use Rattle.std.specs.Prelude.{◌+◌, ◌≤◌, ◌&&◌, is_none, length};
+    ghost use Rattle.tsl_value.specs.declared.limits.TheConstants.{MOST_TRACE_BYTES};
+    ghost use Rattle.trace_reader.specs.inner.Reader.{Reader, StopsAtLine};
 
     ghost Value = { Reader };
 
     ghost coded = { Prim.hlevel (codes, body.the_row.coded) };
 
-    ghost view = { λ r. record { system = r.inputs; strict = r.strict; left = r.left; unread = r.unread; beyond = r.beyond; ended = r.ended; count = r.count; last = r.last; seen = r.seen.items; refused = r.refused } };
+    ghost view = { λ r. record {
+      system = r.inputs;
+      strict = r.strict;
+      left = r.left;
+      unread = r.unread;
+      beyond = r.beyond;
+      ended = r.ended;
+      count = r.count;
+      last = r.last;
+      seen = r.seen.items;
+      refused = r.refused;
+    } };
 
-    ghost invariant = { λ r. (r.count + length r.unread + r.left ≤ 2 ^ 40) × StopsAtLine r.unread (r.ended && is_none r.beyond) };
+    ghost invariant = { λ r. (r.count + length r.unread + r.left ≤ MOST_TRACE_BYTES) × StopsAtLine r.unread (r.ended && is_none r.beyond) };
 }
 
 impl<'f> TraceReader<'f> {
     ghost use Rattle.flat_core.specs.System.{System};
     ghost use Rattle.flat_core.specs.Line.{Line};
-    ghost use Rattle.trace_reader.specs.Plain.{StandsPlain};
-    ghost use Rattle.trace_reader.specs.Reader.{AwaitsMore, HasLine, at_fault, last_counts};
+    ghost use Rattle.trace_reader.specs.inner.Plain.{StandsPlain};
+    ghost use Rattle.trace_reader.specs.inner.Reader.{AwaitsMore, HasLine, at_fault, last_counts};
     ghost use Rattle.trace_reader.specs.Reading.{first_line, reading};
-    ghost use Rattle.trace_reader.specs.Reads.{AnswersAgain, Gathers, IfLine, IfMore, IfRestMore, IsPastLine, Reads, Rests, SaysNext, TakesLine, behind_all, lines_in};
+    ghost use Rattle.trace_reader.specs.inner.Reads.{AnswersAgain, Gathers, IfLine, IfMore, IfRestMore, IsPastLine, Reads, Rests, SaysNext};
+    ghost use Rattle.trace_reader.specs.inner.Reads.{TakesLine, after_all, lines_in};
 
     /// A reader of the trace of a system's inputs, which was fed nothing. At most `limit` bytes of a
     /// trace are read. A line of a name that no input has only says its time; with `strict` it is
@@ -74,7 +90,7 @@ impl<'f> TraceReader<'f> {
         limit: u64,
     ) -> Result<TraceReader<'f>, NoMemory>
         requires some { 1 ≤ limit }
-        requires few { limit ≤ 2 ^ 40 }
+        requires few { limit ≤ MOST_TRACE_BYTES }
         ensures reads { IfOk result (λ r. Reads r flat.now strict limit [] [] false) }
         ensures awaits { IfOk result AwaitsMore }
     {
@@ -94,11 +110,11 @@ impl<'f> TraceReader<'f> {
     }
 
     /// Appends a piece to the trace. It is asked for where `next_line` answered `More`, or nothing was
-    /// fed yet. Want of memory leaves the reader as it was.
+    /// fed yet. Out of memory leaves the reader as it was.
     pub fn feed(&mut self, piece: &[u8]) -> Result<(), NoMemory>
         requires awaits { AwaitsMore self.old }
         requires some { 1 ≤ length piece.now }
-        requires short { length piece.now ≤ 65536 }
+        requires short { length piece.now ≤ MOST_PIECE_BYTES }
         ensures reads { OnOk result ((s : System) (strict : Bool) (limit : ℕ) (fed : List ℕ) (given : List Line) →
             Reads self.old s strict limit fed given false → Reads self.new s strict limit (fed ++ piece.now) given false) }
         ensures err { OnErr result (self.new ≡ self.old) }
@@ -112,7 +128,7 @@ impl<'f> TraceReader<'f> {
         Ok(())
     }
 
-    /// Says that the trace has ended. Bytes behind the last line's end are a line from then on. Said
+    /// Says that the trace has ended. Bytes after the last line's end are a line from then on. Said
     /// again, it leaves the reader as it is, so that the last line is not given twice.
     pub fn finish(&mut self)
         ensures reads { (s : System) (strict : Bool) (limit : ℕ) (fed : List ℕ) (given : List Line) →
@@ -127,7 +143,8 @@ impl<'f> TraceReader<'f> {
 
     /// The next line of what was fed. `More` comes where no further whole line stands, nothing is
     /// refused and the trace has not ended, and `End` where it has. A fault is answered again by
-    /// every further call, or want of memory is. Want of memory leaves the reader as it was.
+    /// every further call, or else that it is out of memory. The reader keeps the fault, and else is as it was.
+    /// Out of memory leaves it as it was.
     pub fn next_line(&mut self) -> Result<Next, TraceFault>
         ensures says { (s : System) (strict : Bool) (limit : ℕ) (fed : List ℕ) (given : List Line) (ended : Bool) →
             Reads self.old s strict limit fed given ended → SaysNext (reading s strict limit fed ended) given ended result }
@@ -150,7 +167,7 @@ impl<'f> TraceReader<'f> {
         }
     }
 
-    /// Whether bytes behind the last line's end are a line.
+    /// Whether bytes after the last line's end are a line.
     fn last_counts(&self) -> bool
         ensures { result ≡ last_counts self.now }
     {
@@ -208,7 +225,7 @@ impl<'f> TraceReader<'f> {
         }
     }
 
-    /// Takes the first line that stands, which says this, and the lines behind it that say nothing.
+    /// Takes the first line that stands, which says this, and the lines after it that say nothing.
     fn pass_line(&mut self, len: usize, line: &TraceLine) -> Result<(), NoMemory>
         requires within { len ≤ length self.old.unread }
         requires some { 0 < length self.old.unread }
@@ -239,7 +256,7 @@ impl<'f> TraceReader<'f> {
         requires accepted { self.old.refused ≡ None }
         ensures { Rests self.old self.new result }
     {
-        if let Some(fault) = self.behind_all() {
+        if let Some(fault) = self.after_all() {
             self.refuse(&fault)?;
             return Err(fault);
         }
@@ -250,9 +267,9 @@ impl<'f> TraceReader<'f> {
         }
     }
 
-    /// Why what stands behind the whole lines is refused.
-    fn behind_all(&self) -> Option<TraceFault>
-        ensures { result ≡ behind_all self.now }
+    /// Why what stands after the whole lines is refused.
+    fn after_all(&self) -> Option<TraceFault>
+        ensures { result ≡ after_all self.now }
     {
         let line = self.count + 1;
         let more = self.beyond.is_some_and(|byte| byte != b'\n');
@@ -265,7 +282,7 @@ impl<'f> TraceReader<'f> {
         }
     }
 
-    /// Gives all lines that stand, by `next_line`. What was gathered before want of memory stays
+    /// Gives all lines that stand, by `next_line`. What was gathered before memory ran out stays
     /// gathered.
     pub fn read_all(&mut self, lines: &mut Vec<TraceLine>) -> Result<Rest, TraceFault>
         ensures gathers { (s : System) (strict : Bool) (limit : ℕ) (fed : List ℕ) (given : List Line) (ended : Bool) →

@@ -1,7 +1,7 @@
 // The inputs that had an event at the last time.
 
 ghost use Rattle.std.specs.Prelude.{◌≡◌, ◌<◌, ◌∷◌, ◌++◌, [], OnErr, OnOk, vec_capacity, vec_len};
-ghost use Rattle.trace_reader.specs.Reader.{seen_with};
+ghost use Rattle.trace_reader.specs.inner.Reader.{seen_with};
 
 use flat_core::line::TraceLine;
 use tsl_value::ids::EqId;

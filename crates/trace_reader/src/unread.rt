@@ -1,10 +1,11 @@
 // The bytes of a stream that are not read yet.
 
-ghost use Rattle.std.specs.Prelude.{◌≡◌, ◌≤◌, ◌<◌, ◌^◌, ◌+◌, ◌++◌, [], None, true, length, take, drop, OnOk, OnErr, IfSome, IfNone, IsTrue};
+ghost use Rattle.std.specs.Prelude.{◌≡◌, ◌≤◌, ◌<◌, ◌+◌, ◌++◌, [], None, true, length, take, drop, OnOk, OnErr, IfSome, IfNone, IsTrue};
 ghost use Rattle.trace_reader.specs.Form.{split_once};
-ghost use Rattle.trace_reader.specs.Plain.{begins_with_digit};
-ghost use Rattle.trace_reader.specs.Reader.{IsFirstLine, Passes, StopsAtLine, is_skipped};
+ghost use Rattle.trace_reader.specs.inner.Plain.{begins_with_digit};
+ghost use Rattle.trace_reader.specs.inner.Reader.{IsFirstLine, Passes, StopsAtLine, is_skipped};
 ghost use Rattle.trace_reader.specs.Reading.{first_line};
+ghost use Rattle.tsl_value.specs.declared.limits.TheConstants.{MOST_TRACE_BYTES};
 
 use crate::form::place_of;
 use crate::line::is_skipped;
@@ -30,7 +31,9 @@ impl Model for Unread {
 
     ghost view = { λ u. drop u.start u.bytes.items };
 
-    ghost invariant = { λ u. (u.start ≤ u.searched) × (u.searched ≤ length u.bytes.items) × (split_once 10 (take (u.searched - u.start) (drop u.start u.bytes.items)) ≡ None) };
+    ghost invariant = { λ u. (u.start ≤ u.searched)
+        × (u.searched ≤ length u.bytes.items)
+        × (split_once 10 (take (u.searched - u.start) (drop u.start u.bytes.items)) ≡ None) };
 }
 
 impl Unread {
@@ -67,7 +70,7 @@ impl Unread {
         }
     }
 
-    /// The length of the first line without its end, if one stands. Behind the last line's end one
+    /// The length of the first line without its end, if one stands. After the last line's end one
     /// stands where the stream has ended.
     pub(crate) fn line_len(&mut self, ended: bool) -> Option<usize>
         ensures same { self.new ≡ self.old }
@@ -86,7 +89,8 @@ impl Unread {
     /// The place of the first line's end.
     fn end_of_line(&mut self) -> Option<usize>
         ensures same { self.new ≡ self.old }
-        ensures line { IfSome result (λ n. (n < length self.old) × (split_once 10 self.old ≡ Some (take n self.old, drop (n + 1) self.old))) }
+        ensures line { IfSome result (λ n. (n < length self.old)
+            × (split_once 10 self.old ≡ Some (take n self.old, drop (n + 1) self.old))) }
         ensures none { IfNone result (split_once 10 self.old ≡ None) }
     {
         match place_of(&self.bytes[self.searched..], b'\n') {
@@ -103,7 +107,7 @@ impl Unread {
 
     /// Takes the lines at the front that are empty or comments, and gives their number.
     pub(crate) fn pass_skipped(&mut self, ended: bool) -> u64
-        requires { length self.old ≤ 2 ^ 40 }
+        requires { length self.old ≤ MOST_TRACE_BYTES }
         ensures passes { Passes ended self.old result self.new }
         ensures stops { StopsAtLine self.new ended }
         ensures fewer { result + length self.new ≤ length self.old }

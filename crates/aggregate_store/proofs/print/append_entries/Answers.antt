@@ -1,6 +1,6 @@
 use Rattle.std.proofs.Common.{rules, ◌≡◌, ◌∷◌, ◌++◌, map, length, take, sym, ap, ◌∙◌}
 use Rattle.tsl_value.specs.Print.{listed}
-use Rattle.tsl_value.specs.ScalarOrder.{scalar_cmp_total}
+use Rattle.tsl_value.specs.inner.ScalarOrder.{scalar_cmp_total}
 use Rattle.aggregate_store.proofs.FiniteMaps.{entries-of_entries}
 use Rattle.aggregate_store.proofs.Listed.{all_printed, begins_still, begins_through, begins_with, entry_text, first_printed, none_printed}
 use Rattle.aggregate_store.proofs.print.append_entries.Goals as goal

@@ -1,6 +1,6 @@
 use Rattle.std.proofs.Common.{rules, ◌≡◌, ◌∷◌, ◌++◌, map, sym, ap, ◌∙◌}
 use Rattle.tsl_value.specs.Print.{listed, scalar_text}
-use Rattle.tsl_value.specs.ScalarOrder.{scalar_cmp_total}
+use Rattle.tsl_value.specs.inner.ScalarOrder.{scalar_cmp_total}
 use Rattle.tsl_value.proofs.ScalarOrder.{scalar_cmp-IsAntisymmetric}
 use Rattle.aggregate_store.proofs.FiniteMaps.{keys-of_keys}
 use Rattle.aggregate_store.proofs.Listed.{all_printed, begins_with, first_printed, none_printed}

@@ -1,7 +1,7 @@
 use Rattle.std.proofs.Common.{arith, length, nat_le, rules}
 use Rattle.std.proofs.lemmas.Bool.{and_parts, leb-true}
 use Rattle.std.proofs.lemmas.Fmt.{length-decimal-le}
-use Rattle.event_writer.specs.Short.{is_no_text}
+use Rattle.event_writer.specs.inner.Short.{is_no_text}
 use Rattle.event_writer.proofs.short.append_short.Goals as goal
 
 pub write_digits-start-requires : goal.write_digits-start-requires

@@ -2,8 +2,8 @@ use Rattle.std.proofs.Common.{◌≡◌, ℕ, ◌<◌, false, length, take}
 use Rattle.std.specs.Prelude.{IsTrue}
 use Rattle.lift_func.specs.declared.register.Register.TheVariants.{Empty}
 use Rattle.flat_core.specs.Members.{is_in}
-use Rattle.monitor_run.specs.Here.{is_marked}
-use Rattle.monitor_run.specs.Registers.{register_at}
+use Rattle.monitor_run.specs.inner.Here.{is_marked}
+use Rattle.monitor_run.specs.inner.Registers.{register_at}
 use Rattle.monitor_run.proofs.begin.clear.Given as goal
 
 abbrev pub invariant-loop-step : goal.invariant-loop-step

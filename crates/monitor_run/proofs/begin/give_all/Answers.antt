@@ -1,5 +1,5 @@
 use Rattle.std.proofs.Common.{subst, length}
-use Rattle.monitor_run.specs.Given.{AreThere}
+use Rattle.monitor_run.specs.inner.Given.{AreThere}
 use Rattle.monitor_run.proofs.BeginLemmas.{AreMoving, front_there, last_there, moved-length, moving-one}
 use Rattle.monitor_run.proofs.begin.give_all.Goals as goal
 

@@ -1,5 +1,5 @@
 use Rattle.std.proofs.Common.{length, vec_len}
-use Rattle.monitor_run.specs.Given.{AreThere}
+use Rattle.monitor_run.specs.inner.Given.{AreThere}
 use Rattle.monitor_run.proofs.BeginLemmas.{AreMoving}
 use Rattle.monitor_run.proofs.begin.give_all.Given as goal
 

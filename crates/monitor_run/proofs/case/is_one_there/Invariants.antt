@@ -1,8 +1,8 @@
 use Rattle.std.proofs.Common.{◌≡◌, drop, map}
 use Rattle.std.specs.Prelude.{is_some}
 use Rattle.std.specs.List.{list_any}
-use Rattle.lift_func.specs.Cells.{Cells}
-use Rattle.monitor_run.specs.Registers.{value_at}
+use Rattle.lift_func.specs.inner.Cells.{Cells}
+use Rattle.monitor_run.specs.inner.Registers.{value_at}
 use Rattle.monitor_run.proofs.case.is_one_there.Given as goal
 
 abbrev pub invariant-loop-id : goal.invariant-loop-id

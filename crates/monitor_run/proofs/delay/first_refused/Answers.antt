@@ -1,15 +1,15 @@
 use Rattle.std.proofs.Common.{◌<◌, length, sym, ap, subst, ◌∙◌, arith}
 use Rattle.std.proofs.lemmas.List.{get_or_default}
 use Rattle.std.specs.Prelude.{IsTrue}
-use Rattle.lift_func.specs.Cells.{HoldsLive, held}
+use Rattle.lift_func.specs.inner.Cells.{HoldsLive, held}
 use Rattle.flat_core.specs.Members.{is_in}
 use Rattle.flat_core.specs.System.{equation}
 use Rattle.register_code.specs.Code.{is_timer}
-use Rattle.monitor_run.specs.Instant.{IsLeastRoot, refusal_of}
+use Rattle.monitor_run.specs.inner.Instant.{IsLeastRoot, refusal_of}
 use Rattle.flat_core.specs.Case.{refused}
 use Rattle.std.specs.Option.{option_map}
 use Rattle.monitor_run.proofs.DelayLemmas.{delay_two, refused-more, take_whole, timer_runs, timer_shape}
-use Rattle.monitor_run.proofs.PlanLemmas.{args_there}
+use Rattle.flat_core.proofs.Shapes.{args_there}
 use Rattle.monitor_run.proofs.TypedLemmas.{args_live}
 use Rattle.monitor_run.proofs.delay.first_refused.Goals as goal
 

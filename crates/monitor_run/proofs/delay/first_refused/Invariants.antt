@@ -1,10 +1,10 @@
 use Rattle.std.proofs.Common.{ℕ, take}
 use Rattle.tsl_value.specs.declared.scalar.ValueType.{ValueType}
-use Rattle.lift_func.specs.Cells.{Cells}
+use Rattle.lift_func.specs.inner.Cells.{Cells}
 use Rattle.flat_core.specs.Members.{is_in}
 use Rattle.flat_core.specs.System.{equation}
-use Rattle.monitor_run.specs.Instant.{IsLeastRoot, refusal_of}
-use Rattle.monitor_run.specs.Registers.{AreHeld}
+use Rattle.monitor_run.specs.inner.Instant.{IsLeastRoot, refusal_of}
+use Rattle.monitor_run.specs.inner.Registers.{AreHeld}
 use Rattle.monitor_run.proofs.delay.first_refused.Given as goal
 
 abbrev pub invariant-loop-delay : goal.invariant-loop-delay

@@ -5,9 +5,9 @@ use Rattle.std.specs.FinMap as finite_map
 use Rattle.flat_core.specs.Members.{is_in}
 use Rattle.flat_core.specs.System.{equation}
 use Rattle.register_code.specs.Code.{is_timer}
-use Rattle.monitor_run.specs.Instant.{set_at}
+use Rattle.monitor_run.specs.inner.Instant.{set_at}
 use Rattle.monitor_run.proofs.DelayLemmas.{set-more, take_whole, timer_runs, timer_shape, timer_there}
-use Rattle.monitor_run.proofs.PlanLemmas.{args_there}
+use Rattle.flat_core.proofs.Shapes.{args_there}
 use Rattle.monitor_run.proofs.TypedLemmas.{args_live}
 use Rattle.monitor_run.proofs.delay.set_timers.Goals as goal
 

@@ -2,11 +2,11 @@ use Rattle.std.proofs.Common.{◌≡◌, ℕ, take}
 use Rattle.std.specs.Prelude.{if◌then◌else◌}
 use Rattle.std.specs.FinMap as finite_map
 use Rattle.tsl_value.specs.declared.scalar.ValueType.{ValueType}
-use Rattle.lift_func.specs.Cells.{Cells}
+use Rattle.lift_func.specs.inner.Cells.{Cells}
 use Rattle.flat_core.specs.Members.{is_in}
 use Rattle.flat_core.specs.System.{equation}
-use Rattle.monitor_run.specs.Instant.{set_at}
-use Rattle.monitor_run.specs.Registers.{AreHeld}
+use Rattle.monitor_run.specs.inner.Instant.{set_at}
+use Rattle.monitor_run.specs.inner.Registers.{AreHeld}
 use Rattle.monitor_run.proofs.delay.set_timers.Given as goal
 
 abbrev pub invariant-loop-delay : goal.invariant-loop-delay

@@ -3,7 +3,7 @@ use Rattle.std.proofs.lemmas.List.{get_or_default}
 use Rattle.std.specs.Prelude.{slice_index_or}
 use Rattle.lift_func.specs.declared.register.Register.TheVariants as register
 use Rattle.monitor_run.proofs.EndLemmas.{AreKeeping, kept_length, keeping-one}
-use Rattle.monitor_run.specs.Registers.{register_at}
+use Rattle.monitor_run.specs.inner.Registers.{register_at}
 use Rattle.monitor_run.proofs.end.keep.Goals as goal
 
 pub loop-id-preserved : goal.loop-id-preserved

@@ -1,5 +1,5 @@
 use Rattle.std.proofs.Common.{◌≡◌, ◌++◌, drop}
-use Rattle.monitor_run.specs.Instant.{cells_in}
+use Rattle.monitor_run.specs.inner.Instant.{cells_in}
 use Rattle.monitor_run.proofs.end.list_kept.Given as goal
 
 abbrev pub invariant-loop-id : goal.invariant-loop-id

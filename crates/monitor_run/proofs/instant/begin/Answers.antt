@@ -5,9 +5,9 @@ use Rattle.std.specs.FinMap as finite_map
 use Rattle.std.specs.Vec.{with_items}
 use Rattle.flat_core.specs.Line.{inputs_of}
 use Rattle.alias_rules.proofs.Ordered.{needed_order}
-use Rattle.monitor_run.specs.Here.{is_marked}
-use Rattle.monitor_run.specs.Instant.{expired_at, with_event}
-use Rattle.monitor_run.specs.Registers.{register_at}
+use Rattle.monitor_run.specs.inner.Here.{is_marked}
+use Rattle.monitor_run.specs.inner.Instant.{expired_at, with_event}
+use Rattle.monitor_run.specs.inner.Registers.{register_at}
 use Rattle.monitor_run.proofs.PlanLemmas.{in_order}
 use Rattle.monitor_run.proofs.instant.begin.Goals as goal
 

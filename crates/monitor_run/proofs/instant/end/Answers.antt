@@ -3,11 +3,11 @@ use Rattle.std.proofs.lemmas.List.{with_items_is}
 use Rattle.std.specs.Prelude.{if◌then◌else◌}
 use Rattle.std.specs.FinMap as finite_map
 use Rattle.std.specs.Vec.{with_items}
-use Rattle.aggregate_store.specs.Stored.{is_listed}
+use Rattle.aggregate_store.specs.inner.Stored.{is_listed}
 use Rattle.flat_core.specs.Members.{is_in}
 use Rattle.flat_core.specs.System.{equation}
-use Rattle.monitor_run.specs.Instant.{cells_in, kept_register, set_at}
-use Rattle.monitor_run.specs.Registers.{AreHeld, register_at}
+use Rattle.monitor_run.specs.inner.Instant.{cells_in, kept_register, set_at}
+use Rattle.monitor_run.specs.inner.Registers.{AreHeld, register_at}
 use Rattle.monitor_run.proofs.InstantLemmas.{all_kept, all_timers, ends}
 use Rattle.monitor_run.proofs.instant.end.Goals as goal
 

@@ -3,9 +3,9 @@ use Rattle.std.specs.Prelude.{not}
 use Rattle.std.specs.List.{flat_map}
 use Rattle.flat_core.specs.System.{System}
 use Rattle.register_machine.specs.Run.{Plan}
-use Rattle.monitor_run.specs.Begun.{IsBegunOf}
-use Rattle.monitor_run.specs.Instant.{HasEnded, HasRunRegisters}
-use Rattle.monitor_run.specs.Machine.{HasRoom}
+use Rattle.monitor_run.specs.inner.Begun.{IsBegunOf}
+use Rattle.monitor_run.specs.inner.Instant.{HasEnded, HasRunRegisters}
+use Rattle.monitor_run.specs.inner.Machine.{HasRoom}
 use Rattle.monitor_run.proofs.EventLemmas.{on_err}
 use Rattle.monitor_run.proofs.WholeLemmas.{begun_part, begun_whole, faulted_instant, sound_instant}
 use Rattle.monitor_run.proofs.instant.run_instant.Goals as goal

@@ -1,11 +1,11 @@
 use Rattle.std.proofs.Common.{ℕ, subst}
 use Rattle.tsl_value.specs.declared.scalar.ValueType.{ValueType}
-use Rattle.lift_func.specs.Cells.{Cells}
+use Rattle.lift_func.specs.inner.Cells.{Cells}
 use Rattle.flat_core.specs.Members.{is_in}
 use Rattle.flat_core.specs.System.{equation}
-use Rattle.monitor_run.specs.Instant.{IsLeastRoot, refusal_of}
-use Rattle.monitor_run.specs.Registers.{AreHeld}
-use Rattle.monitor_run.specs.Shown.{plan_in}
+use Rattle.monitor_run.specs.inner.Instant.{IsLeastRoot, refusal_of}
+use Rattle.monitor_run.specs.inner.Registers.{AreHeld}
+use Rattle.monitor_run.specs.inner.Shown.{plan_in}
 use Rattle.monitor_run.proofs.InstantLemmas.{all_timers, begins-all, begins-fresh, begins-room, runs-registers}
 use Rattle.monitor_run.proofs.instant.run_registers.Goals as goal
 

@@ -1,5 +1,5 @@
 use Rattle.std.proofs.Common.{sym, ap, ◌∙◌}
-use Rattle.monitor_run.specs.Next.{earliest}
+use Rattle.monitor_run.specs.inner.Next.{earliest}
 use Rattle.monitor_run.proofs.NextLemmas.{first_is}
 use Rattle.monitor_run.proofs.next.first_time.Goals as goal
 

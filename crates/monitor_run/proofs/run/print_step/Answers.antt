@@ -2,9 +2,9 @@ use Rattle.std.proofs.Common.{◌≡◌, get_or, refl, sym, ap, subst, ◌∙◌
 use Rattle.std.proofs.lemmas.List.{with_items_is}
 use Rattle.std.proofs.lemmas.Result.{on_ok_weaker}
 use Rattle.std.specs.Prelude.{slice_set}
-use Rattle.lift_func.specs.Cells.{HoldsLive}
+use Rattle.lift_func.specs.inner.Cells.{HoldsLive}
 use Rattle.flat_core.specs.Text.{event_line}
-use Rattle.monitor_run.specs.Registers.{register_at, value_at}
+use Rattle.monitor_run.specs.inner.Registers.{register_at, value_at}
 use Rattle.monitor_run.proofs.EventLemmas.{name_is, output_live, print_is}
 use Rattle.monitor_run.proofs.run.print_step.Goals as goal
 

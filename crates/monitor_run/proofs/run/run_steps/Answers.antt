@@ -1,10 +1,11 @@
 use Rattle.std.proofs.Common.{◌<◌, ◌≤◌, ◌-◌, not, length, get_or, ◌∙◌, ap, subst, arith}
 use Rattle.alias_rules.proofs.Ordered.{needed_order}
-use Rattle.monitor_run.specs.Instant.{HasPrinted, HasRunOne}
-use Rattle.monitor_run.specs.Shown.{plan_in}
+use Rattle.monitor_run.specs.inner.Instant.{HasPrinted}
+use Rattle.monitor_run.specs.inner.Shown.{plan_in}
 use Rattle.monitor_run.proofs.DelayLemmas.{take_whole}
 use Rattle.monitor_run.proofs.LoopLemmas.{IsPartly, equation_sound, equation_typed, no_root, partly_equation, partly_none, partly_printed, print_there, run_all}
-use Rattle.monitor_run.proofs.PlanLemmas.{args_there, in_order, prints_in, shape_of}
+use Rattle.flat_core.proofs.Shapes.{args_there, shape_of}
+use Rattle.monitor_run.proofs.PlanLemmas.{in_order, prints_in}
 use Rattle.monitor_run.proofs.run.run_steps.Goals as goal
 use Rattle.monitor_run.proofs.run.run_steps.Goals.{then-step-count+in_ok-found, else-step-count+in_ok-print_step}
 
@@ -12,23 +13,23 @@ pub loop-step-init : goal.loop-step-init
 loop-step-init c = partly_none c.args.flat.now c.requires.whole (plan_in c.args.plan.now) c.args.time c.args.machine.now (record { types = c.requires.held.0; held = c.requires.held.1; last = c.requires.held.2 }) c.requires.fresh
 
 pub run_one-requires-clause-shape : goal.run_one-requires-clause-shape
-run_one-requires-clause-shape c = shape_of c.args.flat.now c.requires.whole c.new-id.result c.equation.result.now c.equation.ensures
+run_one-requires-clause-shape c = shape_of c.args.flat.now c.requires.whole c.new-id.result c.equation-e.result.now c.equation-e.ensures
 
 pub run_one-requires-clause-registers_known : goal.run_one-requires-clause-registers_known
-run_one-requires-clause-registers_known c = args_there c.args.flat.now c.new-id.result c.equation.result.now _ c.requires.whole c.equation.ensures (c.loop-step.invariant.same.registers_each ∙ c.requires.room.registers)
+run_one-requires-clause-registers_known c = args_there c.args.flat.now c.new-id.result c.equation-e.result.now _ c.requires.whole c.equation-e.ensures (c.loop-step.invariant.same.registers_each ∙ c.requires.room.registers)
 
 pub run_one-requires-clause-faulted_known : goal.run_one-requires-clause-faulted_known
-run_one-requires-clause-faulted_known c = args_there c.args.flat.now c.new-id.result c.equation.result.now _ c.requires.whole c.equation.ensures (c.loop-step.invariant.same.faulted_each ∙ c.requires.room.faulted)
+run_one-requires-clause-faulted_known c = args_there c.args.flat.now c.new-id.result c.equation-e.result.now _ c.requires.whole c.equation-e.ensures (c.loop-step.invariant.same.faulted_each ∙ c.requires.room.faulted)
 
 pub run_one-requires-clause-typed : goal.run_one-requires-clause-typed
 run_one-requires-clause-typed c =
     equation_typed c.args.flat.now c.requires.whole (plan_in c.args.plan.now) c.requires.fine c.args.time c.loop-step.step-index (subst (λ xs. c.loop-step.step-index < length xs) c.as_slice-step-items.ensures c.loop-step-test.true) c.args.machine.now c.loop-step.machine c.loop-step.root c.loop-step.invariant c.requires.room
-    c.new-id.result (c.new-id.ensures ∙ ap (λ xs. get_or xs c.loop-step.step-index 0) c.as_slice-step-items.ensures) (rw (c.new-id.ensures, ← c.count.ensures.count) c.if-step-count.true) c.equation.result.now c.equation.ensures
+    c.new-id.result (c.new-id.ensures ∙ ap (λ xs. get_or xs c.loop-step.step-index 0) c.as_slice-step-items.ensures) (rw (c.new-id.ensures, ← c.count.ensures.count) c.if-step-count.true) c.equation-e.result.now c.equation-e.ensures
 
 pub run_one-requires-clause-sound : goal.run_one-requires-clause-sound
 run_one-requires-clause-sound c = λ so.
     equation_sound c.args.flat.now c.requires.whole (plan_in c.args.plan.now) c.requires.fine c.args.time c.loop-step.step-index (subst (λ xs. c.loop-step.step-index < length xs) c.as_slice-step-items.ensures c.loop-step-test.true) c.args.machine.now c.loop-step.machine c.loop-step.root c.loop-step.invariant c.requires.room
-    c.new-id.result (c.new-id.ensures ∙ ap (λ xs. get_or xs c.loop-step.step-index 0) c.as_slice-step-items.ensures) (rw (c.new-id.ensures, ← c.count.ensures.count) c.if-step-count.true) c.equation.result.now c.equation.ensures (no_root c.loop-step.root (c.is_none-is_sound.ensures ∙ ap not so))
+    c.new-id.result (c.new-id.ensures ∙ ap (λ xs. get_or xs c.loop-step.step-index 0) c.as_slice-step-items.ensures) (rw (c.new-id.ensures, ← c.count.ensures.count) c.if-step-count.true) c.equation-e.result.now c.equation-e.ensures (no_root c.loop-step.root (c.is_none-is_sound.ensures ∙ ap not so))
 
 pub print_step-requires-clause-there : goal.print_step-requires-clause-there
 print_step-requires-clause-there c =
@@ -58,9 +59,9 @@ loop-step-preserved c =
       | then-step-count+in_ok-found w ↦
           rw (w.machine-is, w.root-is)
           (partly_equation s c.requires.whole plan c.requires.fine c.args.time k lt c.args.machine.now mid c.loop-step.root c.loop-step.invariant c.requires.room
-          w.new-id.result (w.new-id.ensures ∙ same) (rw (w.new-id.ensures, ← c.count.ensures.count) w.if-step-count.true) w.equation.result.now w.equation.ensures
+          w.new-id.result (w.new-id.ensures ∙ same) (rw (w.new-id.ensures, ← c.count.ensures.count) w.if-step-count.true) w.equation-e.result.now w.equation-e.ensures
           w.run_one.new.machine w.in_ok-found.found w.least_root-root.result w.run_one.ensures.same w.run_one.ensures.texts
-          (subst (λ b. HasRunOne b c.args.time w.new-id.result w.equation.result.now mid w.run_one.new.machine w.in_ok-found.found) w.contains.ensures w.in_ok-found.ensures.ran) w.least_root-root.ensures.least (λ none. (w.least_root-root.ensures.first none, w.least_root-root.ensures.none none)))
+          w.in_ok-found.ensures.ran w.least_root-root.ensures.least (λ none. (w.least_root-root.ensures.first none, w.least_root-root.ensures.none none)))
       | else-step-count+in_ok-print_step w ↦
           let high : length s.equations ≤ get_or plan.order k 0 = rw (← c.count.ensures.count, ← same) w.if-step-count.false in
           rw (w.machine-is, w.root-is)

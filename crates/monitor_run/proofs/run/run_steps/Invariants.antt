@@ -1,5 +1,5 @@
 use Rattle.std.proofs.Common.{take}
-use Rattle.monitor_run.specs.Shown.{plan_in}
+use Rattle.monitor_run.specs.inner.Shown.{plan_in}
 use Rattle.monitor_run.proofs.LoopLemmas.{IsPartly}
 use Rattle.monitor_run.proofs.run.run_steps.Given as goal
 

@@ -2,7 +2,7 @@ use Rattle.std.proofs.Common.{◌≡◌, ◌∙◌, refl, Ok, Err, Result, subst
 use Rattle.monitor_run.specs.declared.monitor.Step.{Step}
 use Rattle.monitor_run.specs.declared.monitor.Step.TheVariants as step
 use Rattle.monitor_run.specs.declared.monitor.Stop.{Stop}
-use Rattle.monitor_run.specs.Steps.{HasStepped}
+use Rattle.monitor_run.specs.inner.Steps.{HasStepped}
 use Rattle.trace_monitor.proofs.Going.{not_begun, ran_on, less_left, ran_out, stopped_so}
 use Rattle.trace_monitor.proofs.monitor.run.Goals as goal
 

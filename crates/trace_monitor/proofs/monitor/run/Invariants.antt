@@ -1,6 +1,6 @@
 use Rattle.std.proofs.Common.{◌≡◌, ℕ, List, ◌-◌}
 use Rattle.flat_core.specs.Line.{Line}
-use Rattle.monitor_run.specs.Written.{HasWritten}
+use Rattle.monitor_run.specs.inner.Written.{HasWritten}
 use Rattle.trace_monitor.proofs.Going.{HasGoneOn}
 use Rattle.trace_monitor.proofs.monitor.run.Given as goal
 

@@ -1,6 +1,6 @@
 use Rattle.std.proofs.Common.{◌≡◌, ◌∙◌}
-use Rattle.trace_monitor.specs.Reading.{bound_at}
-use Rattle.trace_monitor.specs.Run.{closed_to}
+use Rattle.trace_monitor.specs.inner.Reading.{bound_at}
+use Rattle.trace_monitor.specs.inner.Run.{closed_to}
 use Rattle.trace_monitor.proofs.Taking.{on_ok, if_err, closed_both, closed_none, runs_closed, stops_closed}
 use Rattle.trace_monitor.proofs.monitor.run_to_halt.Goals.{in-End+in_ok-close+in_ok-close-2, in_default}
 use Rattle.trace_monitor.proofs.monitor.run_to_halt.Goals as goal

@@ -1,4 +1,4 @@
-use Rattle.trace_monitor.specs.Kept.{events_of}
+use Rattle.trace_monitor.specs.inner.Kept.{events_of}
 use Rattle.trace_monitor.proofs.Taking.{on_both, can_take, taken_line}
 use Rattle.trace_monitor.proofs.monitor.take_line.Goals as goal
 

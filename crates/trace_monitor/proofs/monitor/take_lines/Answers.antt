@@ -4,9 +4,9 @@ use Rattle.monitor_run.specs.declared.monitor.Stop.{Stop}
 use Rattle.trace_reader.specs.declared.fault.TraceFault.{TraceFault}
 use Rattle.trace_reader.specs.declared.next.Next.{Next}
 use Rattle.trace_reader.specs.declared.next.Next.TheVariants as next
-use Rattle.trace_reader.specs.Reads.{Reads, SaysNext, lines_in}
+use Rattle.trace_reader.specs.inner.Reads.{Reads, SaysNext, lines_in}
 use Rattle.trace_monitor.specs.declared.halt.Halt.TheVariants as halt
-use Rattle.trace_monitor.specs.Reading.{Halts, reading_of}
+use Rattle.trace_monitor.specs.inner.Reading.{Halts, reading_of}
 use Rattle.trace_monitor.proofs.ReadOn.{none_taken, next_may, on_line, stopped_there, at_more, at_end, at_fault, all_taken}
 use Rattle.trace_monitor.proofs.Taking.{if_both, if_is_err}
 use Rattle.trace_monitor.proofs.monitor.take_lines.Goals as goal

@@ -1,6 +1,6 @@
 use Rattle.std.proofs.Common.{◌≡◌, ℕ, List, length}
 use Rattle.flat_core.specs.Line.{Line}
-use Rattle.trace_monitor.specs.Reading.{Fed, HasRead, HasReadOn}
+use Rattle.trace_monitor.specs.inner.Reading.{Fed, HasRead, HasReadOn}
 use Rattle.trace_monitor.proofs.monitor.take_lines.Given as goal
 
 -- for all that was fed and all lines for which reader and engine stood, and with the same code

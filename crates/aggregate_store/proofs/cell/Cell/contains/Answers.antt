@@ -1,17 +1,15 @@
 use Rattle.std.proofs.Common.{sym, ap, ◌∙◌}
-use Rattle.std.specs.FinSet as set
 use Rattle.std.specs.Prelude.{is_some}
-use Rattle.tsl_value.specs.ScalarOrder.{scalar_cmp_total}
-use Rattle.lift_func.specs.Cells.{has_key}
-use Rattle.aggregate_store.specs.CellView.{view_of}
+use Rattle.tsl_value.specs.inner.ScalarOrder.{scalar_cmp_total}
+use Rattle.lift_func.specs.inner.Cells.{has_key}
+use Rattle.aggregate_store.specs.inner.CellView.{view_of}
 use Rattle.aggregate_store.specs.declared.cell.Cell.{Cell}
 use Rattle.lift_func.proofs.FiniteMaps.{get-of_entries}
 use Rattle.aggregate_store.proofs.cell.Cell.contains.Goals as goal
 
 pub returns-in-Set : goal.returns-in-Set
 returns-in-Set c =
-    c.contains.ensures ∙ sym (set.contains-from_list scalar_cmp_total c.in-Set.keys.keys c.args.key.now)
-    ∙ sym (ap (λ (cell : Cell). has_key (view_of cell) c.args.key.now) c.in-Set.is)
+    c.contains.ensures ∙ sym (ap (λ (cell : Cell). has_key (view_of cell) c.args.key.now) c.in-Set.is)
 
 pub returns-in-Map : goal.returns-in-Map
 returns-in-Map c =

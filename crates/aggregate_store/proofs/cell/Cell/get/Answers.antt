@@ -1,7 +1,7 @@
 use Rattle.std.proofs.Common.{sym, ap, ◌∙◌}
-use Rattle.tsl_value.specs.ScalarOrder.{scalar_cmp_total}
-use Rattle.lift_func.specs.Cells.{value_at}
-use Rattle.aggregate_store.specs.CellView.{view_of}
+use Rattle.tsl_value.specs.inner.ScalarOrder.{scalar_cmp_total}
+use Rattle.lift_func.specs.inner.Cells.{value_at}
+use Rattle.aggregate_store.specs.inner.CellView.{view_of}
 use Rattle.aggregate_store.specs.declared.cell.Cell.{Cell}
 use Rattle.lift_func.proofs.FiniteMaps.{get-of_entries}
 use Rattle.aggregate_store.proofs.cell.Cell.get.Goals as goal

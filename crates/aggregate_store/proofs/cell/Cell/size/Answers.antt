@@ -1,15 +1,14 @@
 use Rattle.std.proofs.Common.{sym, ap, ◌∙◌}
-use Rattle.tsl_value.specs.ScalarOrder.{scalar_cmp_total}
+use Rattle.tsl_value.specs.inner.ScalarOrder.{scalar_cmp_total}
 use Rattle.lift_func.specs.Update.{size_of}
-use Rattle.aggregate_store.specs.CellView.{view_of}
+use Rattle.aggregate_store.specs.inner.CellView.{view_of}
 use Rattle.aggregate_store.specs.declared.cell.Cell.{Cell}
-use Rattle.aggregate_store.proofs.FiniteMaps.{len-of_entries, len-of_keys}
+use Rattle.aggregate_store.proofs.FiniteMaps.{len-of_entries}
 use Rattle.aggregate_store.proofs.cell.Cell.size.Goals as goal
 
 pub returns-in-Set : goal.returns-in-Set
 returns-in-Set c =
-    c.len.ensures.len ∙ sym (len-of_keys scalar_cmp_total c.in-Set.keys.keys c.len.ensures.ordered)
-    ∙ sym (ap (λ (cell : Cell). size_of (view_of cell)) c.in-Set.is)
+    c.len.ensures ∙ sym (ap (λ (cell : Cell). size_of (view_of cell)) c.in-Set.is)
 
 pub returns-in-Map : goal.returns-in-Map
 returns-in-Map c =

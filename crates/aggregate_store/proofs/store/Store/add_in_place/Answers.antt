@@ -1,17 +1,29 @@
-use Rattle.std.proofs.Common.{◌∙◌}
+use Rattle.std.proofs.Common.{◌<◌, sym, subst, ap, ◌∙◌}
 use Rattle.std.proofs.lemmas.Result.{on_ok_weaker, on_err_weaker}
-use Rattle.aggregate_store.proofs.Lent.{ends_same, ends_with, same_added, view_lent}
+use Rattle.tsl_value.specs.View.{View}
+use Rattle.aggregate_store.specs.inner.Stored.{with_added}
+use Rattle.aggregate_store.proofs.Cells.{changed, not_free, seen, unchanged, within}
 use Rattle.aggregate_store.proofs.store.Store.add_in_place.Goals as goal
+
+pub index_mut-requires : goal.index_mut-requires
+index_mut-requires c =
+    subst (λ n. c.get.result < n) (sym c.self.inside.slots.ok.0)
+    (within c.self.inside.slots.items c.self.inside.ledger.items c.args.self.now c.self.view_is c.get.result c.args.cell c.get.ensures c.requires.live)
+
+pub unreachable-requires : goal.unreachable-requires
+unreachable-requires c =
+    not_free c.self.inside.slots.items c.self.inside.ledger.items c.args.self.now c.self.view_is c.get.result c.args.cell c.get.ensures c.requires.live
+    c.index_mut.result.now c.index_mut.ensures.value c.in-None.is
 
 pub returns-clause-changed : goal.returns-clause-changed
 returns-clause-changed c =
-    let old = c.args.self.now in let left = c.add.new.self in let ends = c.cell_mut.follows.holds left in
-    let was = view_lent old old c.args.cell c.cell_mut.result c.in-Some.lent left c.in-Some.is c.cell_mut.ensures.cell in
-    let same = same_added _ _ _ _ _ _ was c.in_ok-key.ensures c.in_ok-value.ensures in
-    on_ok_weaker c.add.result (λ seen. ends_with old _ c.args.cell c.cell_mut.result c.in-Some.lent left c.in-Some.is ends _ (seen ∙ same)) c.add.ensures.ok
+    let was = seen c.self.inside.slots.items c.self.inside.ledger.items c.args.self.now c.self.view_is c.get.result c.args.cell c.get.ensures c.requires.live c.index_mut.result.now c.index_mut.ensures.value c.in-Some.cell c.in-Some.is in
+    on_ok_weaker c.add_copied.result (λ ok.
+    changed c.self.inside.slots.items c.self.inside.ledger.items c.args.self.now c.self.view_is c.get.result c.args.cell c.get.ensures c.requires.live c.add_copied.new.self _
+    (ok ∙ ap (λ (v : View). with_added v c.args.key.now c.args.value.now) was)) c.add_copied.ensures.ok
 
 pub returns-clause-err : goal.returns-clause-err
 returns-clause-err c =
-    let old = c.args.self.now in let left = c.add.new.self in let ends = c.cell_mut.follows.holds left in
-    let was = view_lent old old c.args.cell c.cell_mut.result c.in-Some.lent left c.in-Some.is c.cell_mut.ensures.cell in
-    on_err_weaker c.add.result (λ seen. ends_same old _ c.args.cell c.cell_mut.result c.in-Some.lent left c.in-Some.is ends c.requires.live (seen ∙ was)) c.add.ensures.err
+    on_err_weaker c.add_copied.result (λ err.
+    unchanged c.self.inside.slots.items c.self.inside.ledger.items c.args.self.now c.self.view_is c.get.result c.args.cell c.get.ensures c.requires.live
+    c.index_mut.result.now c.index_mut.ensures.value c.in-Some.cell c.add_copied.new.self c.in-Some.is err) c.add_copied.ensures.err

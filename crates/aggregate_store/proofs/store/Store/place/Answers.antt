@@ -1,20 +1,25 @@
-use Rattle.std.proofs.Common.{ℕ, sym, subst, ap, ◌∙◌}
-use Rattle.std.specs.FinMap as finite_map
-use Rattle.lift_func.specs.Cells.{Cells, IsLive}
-use Rattle.aggregate_store.specs.CellView.{cells_of, view_of}
-use Rattle.aggregate_store.specs.Stored.{Stored}
-use Rattle.aggregate_store.proofs.Seen.{cells-insert, not_live}
+use Rattle.std.proofs.Common.{rules, ◌≡◌, Some, None, length, ap, sym, subst}
+use Rattle.std.specs.Prelude.{slice_index_or, slice_set}
+use Rattle.lift_func.specs.inner.Cells.{IsLive}
+use Rattle.aggregate_store.specs.inner.CellView.{cells_of}
+use Rattle.aggregate_store.specs.inner.Stored.{Stored}
+use Rattle.aggregate_store.proofs.Cells.{not_live, placed, pushed, put_slot}
 use Rattle.aggregate_store.proofs.store.Store.place.Goals as goal
+use Rattle.aggregate_store.proofs.store.Store.place.Goals.{then-place-len+in-Some+in-Set-1, then-place-len+in-Some+in-Map-1, then-place-len+in-None-1, else-place-len+in_ok-push}
 
 pub returns-clause-fresh : goal.returns-clause-fresh
-returns-clause-fresh c =
-    let P : Stored → Type 0 = λ s. IsLive s.cells c.new.result → ⊥ in
-    let Q : ℕ → Type 0 = λ handle. IsLive (cells_of c.self.inside.cells.entries) handle → ⊥ in
-    subst P c.self.view_is (subst Q (sym c.new.ensures) (not_live c.self.inside.cells c.free_handle-handle.result c.free_handle-handle.ensures))
+returns-clause-fresh c = λ live.
+    let slots = c.self.inside.slots.items in let place = c.free_from-place.result in
+    not_live slots place (subst (λ xs. slice_index_or xs place None ≡ None) c.deref.ensures.value c.free_from-place.ensures.free)
+    (subst (IsLive (cells_of slots)) c.new.ensures (subst (λ (s : Stored). IsLive s.cells c.new.result) (sym c.self.view_is) live))
 
 pub returns-clause-made : goal.returns-clause-made
 returns-clause-made c =
-    let shown : Cells → Stored = λ cells. record { cells = cells; ledger = c.self.inside.ledger.items } in
-    let made : ℕ → Stored → Stored = λ handle s. record { cells = finite_map.insert s.cells handle (view_of c.args.cell); ledger = s.ledger } in
-    ap shown (cells-insert c.self.inside.cells c.insert.new.self c.free_handle-handle.result c.args.cell c.in_ok-insert.ensures.updates)
-    ∙ ap (made c.free_handle-handle.result) c.self.view_is ∙ ap (λ (handle : ℕ). made handle c.args.self.now) (sym c.new.ensures)
+    let slots = c.self.inside.slots.items in let place = c.free_from-place.result in let ledger = c.self.inside.ledger.items in
+    let short = ap length c.deref.ensures.value in
+    elim c.if-place-len.branch [
+      | then-place-len+in-Some+in-Set-1 w ↦ rw w.self-inside-is (placed slots (slice_set slots place (Some c.args.cell)) ledger c.args.self.now place c.new.result c.args.cell c.self.view_is c.new.ensures (put_slot slots place c.args.cell (search rules)))
+      | then-place-len+in-Some+in-Map-1 w ↦ rw w.self-inside-is (placed slots (slice_set slots place (Some c.args.cell)) ledger c.args.self.now place c.new.result c.args.cell c.self.view_is c.new.ensures (put_slot slots place c.args.cell (search rules)))
+      | then-place-len+in-None-1 w ↦ rw w.self-inside-is (placed slots (slice_set slots place (Some c.args.cell)) ledger c.args.self.now place c.new.result c.args.cell c.self.view_is c.new.ensures (put_slot slots place c.args.cell (search rules)))
+      | else-place-len+in_ok-push w ↦ rw w.self-inside-is (placed slots w.push.new.self.items ledger c.args.self.now place c.new.result c.args.cell c.self.view_is c.new.ensures (pushed slots w.push.new.self.items place c.args.cell w.in_ok-push.ensures.items (search rules)))
+    ]

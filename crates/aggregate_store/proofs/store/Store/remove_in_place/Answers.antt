@@ -1,12 +1,21 @@
-use Rattle.std.proofs.Common.{ap, ◌∙◌}
+use Rattle.std.proofs.Common.{◌<◌, sym, subst, ap, ◌∙◌}
 use Rattle.tsl_value.specs.View.{Plain}
 use Rattle.lift_func.specs.Update.{without_key}
-use Rattle.aggregate_store.proofs.Lent.{ends_with, view_lent}
+use Rattle.aggregate_store.proofs.Cells.{changed, not_free, seen, within}
 use Rattle.aggregate_store.proofs.store.Store.remove_in_place.Goals as goal
+
+pub index_mut-requires : goal.index_mut-requires
+index_mut-requires c =
+    subst (λ n. c.get.result < n) (sym c.self.inside.slots.ok.0)
+    (within c.self.inside.slots.items c.self.inside.ledger.items c.args.self.now c.self.view_is c.get.result c.args.cell c.get.ensures c.requires.live)
+
+pub unreachable-requires : goal.unreachable-requires
+unreachable-requires c =
+    not_free c.self.inside.slots.items c.self.inside.ledger.items c.args.self.now c.self.view_is c.get.result c.args.cell c.get.ensures c.requires.live
+    c.index_mut.result.now c.index_mut.ensures.value c.in-None.is
 
 pub returns : goal.returns
 returns c =
-    let old = c.args.self.now in let left = c.remove.new.self in
-    let was = view_lent old old c.args.cell c.cell_mut.result c.in-Some.lent left c.in-Some.is c.cell_mut.ensures.cell in
-    ends_with old _ c.args.cell c.cell_mut.result c.in-Some.lent left c.in-Some.is (c.cell_mut.follows.holds left) _
+    let was = seen c.self.inside.slots.items c.self.inside.ledger.items c.args.self.now c.self.view_is c.get.result c.args.cell c.get.ensures c.requires.live c.index_mut.result.now c.index_mut.ensures.value c.in-Some.cell c.in-Some.is in
+    changed c.self.inside.slots.items c.self.inside.ledger.items c.args.self.now c.self.view_is c.get.result c.args.cell c.get.ensures c.requires.live c.remove.new.self _
     (c.remove.ensures ∙ ap (λ view. without_key view (Plain c.args.key.now)) was)

@@ -2,8 +2,8 @@ use Rattle.std.proofs.Common.{◌≡◌, ◌<◌, None, drop, length, sym, subst
 use Rattle.std.proofs.lemmas.List.{get_or_read}
 use Rattle.std.specs.Prelude.{MatchOption}
 use Rattle.std.specs.FinMap as map
-use Rattle.delay_timers.specs.Pending.{Pending, AreBelowCapacity}
-use Rattle.delay_timers.specs.Tree.{times_of, IsFirstDue}
+use Rattle.delay_timers.specs.inner.Pending.{Pending, AreBelowCapacity}
+use Rattle.delay_timers.specs.inner.Tree.{times_of, IsFirstDue}
 use Rattle.delay_timers.proofs.TimesLemmas.{root_is_first, all_below}
 use Rattle.delay_timers.proofs.timers.Timers.first.Goals as goal
 

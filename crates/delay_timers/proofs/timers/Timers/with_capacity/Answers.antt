@@ -1,5 +1,5 @@
 use Rattle.std.proofs.Common.{ap, rules}
-use Rattle.delay_timers.specs.Pending.{Pending}
+use Rattle.delay_timers.specs.inner.Pending.{Pending}
 use Rattle.delay_timers.proofs.TimesLemmas.{empty_tree, empty_times}
 use Rattle.delay_timers.proofs.timers.Timers.with_capacity.Goals as goal
 

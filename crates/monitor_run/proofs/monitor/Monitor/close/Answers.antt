@@ -1,6 +1,6 @@
 use Rattle.std.proofs.Common.{sym, subst, arith}
-use Rattle.monitor_run.specs.Stands.{Stands}
-use Rattle.monitor_run.specs.State.{State}
+use Rattle.monitor_run.specs.inner.Stands.{Stands}
+use Rattle.monitor_run.specs.inner.State.{State}
 use Rattle.monitor_run.proofs.MonitorLemmas.{ready_closed, stands_closed}
 use Rattle.monitor_run.proofs.monitor.Monitor.close.Goals as goal
 

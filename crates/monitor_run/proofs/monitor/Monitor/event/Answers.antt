@@ -1,7 +1,7 @@
 use Rattle.std.proofs.Common.{sym, subst, ap, ◌∙◌}
-use Rattle.monitor_run.specs.Stands.{Stands}
-use Rattle.monitor_run.specs.State.{State}
-use Rattle.monitor_run.specs.Steps.{CanTake}
+use Rattle.monitor_run.specs.inner.Stands.{Stands}
+use Rattle.monitor_run.specs.inner.State.{State}
+use Rattle.monitor_run.specs.inner.Steps.{CanTake}
 use Rattle.monitor_run.proofs.MonitorLemmas.{ready_pushed, stands_pushed}
 use Rattle.monitor_run.proofs.monitor.Monitor.event.Goals as goal
 use Rattle.monitor_run.proofs.monitor.Monitor.event.Goals.{in-Ok, in-Err}

@@ -1,10 +1,10 @@
 use Rattle.std.proofs.Common.{◌+◌, Some, refl, sym, ap, subst, ◌∙◌, arith}
-use Rattle.monitor_run.specs.Given.{AreAt}
-use Rattle.monitor_run.specs.Instant.{IsInstant}
-use Rattle.monitor_run.specs.Next.{IsNextTime, NothingBefore}
-use Rattle.monitor_run.specs.Stands.{Stands}
-use Rattle.monitor_run.specs.State.{State}
-use Rattle.monitor_run.specs.Steps.{HasFaulted, HasRun, IsAtLimit, IsBegun, NoneIsLeft}
+use Rattle.monitor_run.specs.inner.Given.{AreAt}
+use Rattle.monitor_run.specs.inner.Instant.{IsInstant}
+use Rattle.monitor_run.specs.inner.Next.{IsNextTime, NothingBefore}
+use Rattle.monitor_run.specs.inner.Stands.{Stands}
+use Rattle.monitor_run.specs.inner.State.{State}
+use Rattle.monitor_run.specs.inner.Steps.{HasFaulted, HasRun, IsAtLimit, IsBegun, NoneIsLeft}
 use Rattle.monitor_run.proofs.MonitorLemmas.{begun_is, below_limit, fault_is, limit_is, none_left, ready_on, run_is}
 use Rattle.monitor_run.proofs.monitor.Monitor.step.Goals as goal
 

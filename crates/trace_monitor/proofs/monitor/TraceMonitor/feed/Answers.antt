@@ -1,9 +1,9 @@
 use Rattle.std.proofs.Common.{◌≡◌, ◌++◌, List, ℕ, Bool, true, false, sym, subst, ap, rules}
 use Rattle.std.proofs.lemmas.List.{append-nil}
-use Rattle.trace_reader.specs.Reader.{Reader}
-use Rattle.trace_reader.specs.Reads.{Reads}
+use Rattle.trace_reader.specs.inner.Reader.{Reader}
+use Rattle.trace_reader.specs.inner.Reads.{Reads}
 use Rattle.trace_monitor.specs.Next.{is_nothing}
-use Rattle.trace_monitor.specs.State.{State}
+use Rattle.trace_monitor.specs.inner.State.{State}
 use Rattle.trace_monitor.proofs.Going.{nothing_is}
 use Rattle.trace_monitor.proofs.monitor.TraceMonitor.feed.Goals as goal
 

@@ -1,6 +1,6 @@
 use Rattle.std.proofs.Common.{◌≡◌, [], false, subst, rules}
 use Rattle.flat_core.specs.System.{System}
-use Rattle.trace_reader.specs.Reads.{Reads}
+use Rattle.trace_reader.specs.inner.Reads.{Reads}
 use Rattle.trace_monitor.proofs.Going.{kept_new}
 use Rattle.trace_monitor.proofs.monitor.TraceMonitor.new.Goals as goal
 

@@ -1,5 +1,5 @@
 use Rattle.std.proofs.Common.{◌∙◌, sym}
-use Rattle.trace_reader.specs.Places.{place_in}
+use Rattle.trace_reader.specs.inner.Places.{place_in}
 use Rattle.trace_reader.proofs.PlacesLemmas.{table_next}
 use Rattle.trace_reader.proofs.inputs.Inputs.new.Goals as goal
 

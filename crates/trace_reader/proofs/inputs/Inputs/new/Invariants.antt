@@ -1,7 +1,7 @@
 use Rattle.std.proofs.Common.{◌≡◌, ℕ, List, drop}
 use Rattle.std.specs.List.{position_from}
 use Rattle.std.specs.Option.{option_or}
-use Rattle.trace_reader.specs.Places.{place_in}
+use Rattle.trace_reader.specs.inner.Places.{place_in}
 use Rattle.trace_reader.specs.Reading.{input_called, is_input_called}
 use Rattle.trace_reader.proofs.inputs.Inputs.new.Given as goal
 

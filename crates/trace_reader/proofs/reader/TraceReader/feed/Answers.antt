@@ -1,5 +1,5 @@
 use Rattle.std.proofs.Common.{◌∙◌, ap, take, length, arith, length-append, length-take}
-use Rattle.trace_reader.specs.Reader.{Reader}
+use Rattle.trace_reader.specs.inner.Reader.{Reader}
 use Rattle.trace_reader.proofs.StepLemmas.{reads_fed_on, unended_stops}
 use Rattle.trace_reader.proofs.reader.TraceReader.feed.Goals as goal
 

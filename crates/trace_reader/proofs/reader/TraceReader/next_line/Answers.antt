@@ -1,5 +1,5 @@
 use Rattle.std.proofs.Common.{◌∙◌, ap, sym}
-use Rattle.trace_reader.specs.Reader.{Reader, last_counts}
+use Rattle.trace_reader.specs.inner.Reader.{Reader, last_counts}
 use Rattle.trace_reader.specs.Reading.{first_line}
 use Rattle.trace_reader.proofs.StepLemmas.{line_fewer, none_from, rests, takes_line}
 use Rattle.trace_reader.proofs.reader.TraceReader.next_line.Goals as goal

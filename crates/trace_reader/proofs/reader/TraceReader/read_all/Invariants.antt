@@ -1,7 +1,7 @@
 use Rattle.std.proofs.Common.{ℕ, Bool, List, length}
 use Rattle.flat_core.specs.System.{System}
 use Rattle.flat_core.specs.Line.{Line}
-use Rattle.trace_reader.specs.Reads.{Reads}
+use Rattle.trace_reader.specs.inner.Reads.{Reads}
 use Rattle.trace_reader.proofs.GatherLemmas.{HasGathered}
 use Rattle.trace_reader.proofs.reader.TraceReader.read_all.Given as goal
 

@@ -1,6 +1,6 @@
 use Rattle.std.proofs.Common.{◌≡◌, Err, ◌∙◌, sym, ap}
 use Rattle.trace_reader.specs.Reading.{as_read}
-use Rattle.trace_reader.specs.Reader.{judged_at}
+use Rattle.trace_reader.specs.inner.Reader.{judged_at}
 use Rattle.trace_reader.proofs.StepLemmas.{refuses_line}
 use Rattle.trace_reader.proofs.reader.TraceReader.take_line.Goals as goal
 

@@ -1,5 +1,5 @@
 use Rattle.std.proofs.Common.{◌+◌, arith, length-drop}
-use Rattle.trace_reader.specs.Reader.{Passes}
+use Rattle.trace_reader.specs.inner.Reader.{Passes}
 use Rattle.trace_reader.proofs.unread.Unread.pass_skipped.Goals as goal
 
 pub loop-len-init : goal.loop-len-init

@@ -1,5 +1,5 @@
 use Rattle.std.proofs.Common.{◌≤◌, ◌+◌, length}
-use Rattle.trace_reader.specs.Reader.{Passes}
+use Rattle.trace_reader.specs.inner.Reader.{Passes}
 use Rattle.trace_reader.proofs.unread.Unread.pass_skipped.Given as goal
 
 -- so many lines were passed, each of a byte or more

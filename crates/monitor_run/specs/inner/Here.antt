@@ -1,0 +1,190 @@
+-- What an equation has by the registers of its arguments.
+use Rattle.std.specs.Prelude.{◌≡◌, ℕ, Bool, true, false, List, [], ◌∷◌, map, Option, Some, None, Result, Ok, Err, is_some, IsTrue}
+use Rattle.std.specs.Prelude.{slice_get, slice_index, slice_index_or, slice_set, if◌then◌else◌}
+use Rattle.std.specs.List.{All, list_all, list_any}
+use Rattle.std.specs.Option.{option_or}
+use Rattle.std.specs.FinMap as finite_map
+use Rattle.tsl_value.specs.declared.scalar.KeyType.{KeyType}
+use Rattle.tsl_value.specs.declared.scalar.Scalar.TheVariants as scalar
+use Rattle.tsl_value.specs.declared.scalar.ScalarType.{ScalarType}
+use Rattle.tsl_value.specs.declared.scalar.ValueType.{ValueType}
+use Rattle.tsl_value.specs.declared.scalar.ValueType.TheVariants as value_type
+use Rattle.tsl_value.specs.View.{View, is_of}
+use Rattle.lift_func.specs.Apply.{Answer, apply}
+use Rattle.lift_func.specs.Tree.{Tree, Argument}
+use Rattle.lift_func.specs.declared.eval.EvalFault.{EvalFault}
+use Rattle.lift_func.specs.declared.eval.EvalFault.TheVariants as eval_fault
+use Rattle.lift_func.specs.declared.register.Register.{Register}
+use Rattle.lift_func.specs.declared.register.Register.TheVariants as register
+use Rattle.lift_func.specs.inner.Cells.{Cells, IsLive, HoldsLive, held, view_at}
+use Rattle.lift_func.specs.Typing.{scalar_of}
+use Rattle.lift_func.specs.Update.{with_key, without_key, with_entry}
+use Rattle.aggregate_store.specs.inner.Stored.{Stored, counted}
+use Rattle.flat_core.specs.declared.equation.Equation.{Equation}
+use Rattle.flat_core.specs.declared.equation.Op.{Op}
+use Rattle.flat_core.specs.declared.equation.Op.TheVariants as op
+use Rattle.flat_core.specs.Case.{of_both, of_three, used_of}
+use Rattle.flat_core.specs.Typed.{IsTyped}
+use Rattle.flat_core.specs.inner.TypedEvents.{AreOf}
+use Rattle.alias_rules.specs.Uses.{is_update}
+use Rattle.register_machine.specs.Copied.{size_at}
+use Rattle.register_machine.specs.Machine.{Held, Bare, Failed, slot_of, where_true, where_either, Effect, Fill, Make, effect_of}
+use Rattle.monitor_run.specs.inner.Registers.{IsHeldOf, register_at, value_at}
+use Rattle.monitor_run.specs.inner.Shown.{config_of, held_at, held_by}
+
+-- what an equation's arguments have is of types that its operation takes, and aggregates are in live cells
+pub record TakesTyped (cells : Cells) (registers : List Register) (e : Equation) : Type 0 where
+  pub types : List ValueType
+  pub typed : IsTyped e.op types e.of
+  pub values : AreOf types (map (value_at cells registers) e.args)
+  pub live : All (λ a. HoldsLive cells (register_at registers a)) e.args
+
+abbrev pub is_marked : List Bool → ℕ → Bool
+is_marked faulted i = slice_index_or faulted i false
+
+-- an argument that is used at the same time is a fault
+abbrev pub is_blocked_here : List Bool → Op → List ℕ → Bool
+is_blocked_here faulted o args = list_any (is_marked faulted) (used_of o args)
+
+-- The cells that were there stay, each with a view of its type.
+pub record StayTyped (types : ℕ → ValueType) (old new : Cells) : Type 0 where
+  pub live : (handle : ℕ) → IsLive old handle → IsLive new handle
+  pub typed : (handle : ℕ)
+      → IsLive old handle
+      → IsTrue (is_of (types handle) (view_at old handle))
+      → IsTrue (is_of (types handle) (view_at new handle))
+
+-- the values of a lift count: all of them are there, or one of them is
+abbrev pub counts : Bool → List (Option View) → Bool
+counts true values = list_all is_some values
+counts false values = list_any is_some values
+
+-- the tree is an argument, and this is the one
+abbrev pub IsNamed : Tree → List ℕ → ℕ → Type 0
+IsNamed tree args a = (k : ℕ) × (tree ≡ Argument k) × (slice_get args k ≡ Some a)
+
+abbrev pub lifted : Tree → Bool → List (Option View) → Answer
+lifted body strict values = if counts strict values then apply body values else Ok None
+
+-- what a condition says, if it has an event
+abbrev pub truth_of : Option Held → Option Bool
+truth_of (Some (Bare (scalar.Bool b))) = Some b
+truth_of _ = None
+
+-- what a merge, a filter and a choice hand on
+abbrev pub chosen_of : Op → List (Option Held) → Option Held
+chosen_of op.Merge (a ∷ b ∷ []) = option_or a b
+chosen_of op.Filter (a ∷ c ∷ []) = where_true c a
+chosen_of op.Pick (c ∷ a ∷ b ∷ []) = where_either c a b
+chosen_of _ _ = None
+
+-- operations that hand on the event of an argument, or a last one
+abbrev pub hands_on : Op → Bool
+hands_on op.Last = true
+hands_on op.Merge = true
+hands_on op.Filter = true
+hands_on op.Pick = true
+hands_on _ = false
+
+-- what they hand on
+abbrev pub handed_of : List Register → List Register → Op → List ℕ → Option Held
+handed_of registers last op.Last args =
+    if is_some (held_at registers (slice_index args 1)) then held_at last (slice_index args 0) else None
+handed_of registers last o args = chosen_of o (map (held_at registers) args)
+
+-- the register at a place has what is handed on, and the others stay
+abbrev pub HasHanded : ℕ → Option Held → List Register → List Register → Type 0
+HasHanded place h old new = (r : Register) × (new ≡ slice_set old place r) × (held_by r ≡ h)
+
+-- what an update makes of what its arguments have, if they are all there
+abbrev pub updated_of : Op → List (Option View) → Option View
+updated_of op.SetAdd (s ∷ k ∷ []) = of_both with_key s k
+updated_of op.SetRemove (s ∷ k ∷ []) = of_both without_key s k
+updated_of op.MapAdd (m ∷ k ∷ x ∷ []) = of_three with_entry m k x
+updated_of op.MapRemove (m ∷ k ∷ []) = of_both without_key m k
+updated_of _ _ = None
+
+-- a type of sets or maps with keys of a type
+abbrev pub HasKeys : KeyType → ValueType → Type 0
+HasKeys key (value_type.Scalar of) = ⊥
+HasKeys key (value_type.Set k) = k ≡ key
+HasKeys key (value_type.Map k of) = k ≡ key
+
+-- a set and a key of its keys' type, a map with a key and a value, and an aggregate with a key; each may be absent
+pub record AreSetAndKey (cells : Cells) (set key : Register) : Type 0 where
+  pub of : KeyType
+  pub set_is : IsHeldOf cells (value_type.Set of) set
+  pub key_is : IsHeldOf cells (value_type.Scalar (scalar_of of)) key
+
+pub record AreAggregateAndKey (cells : Cells) (aggregate key : Register) : Type 0 where
+  pub of : ValueType
+  pub key_of : KeyType
+  pub keys : HasKeys key_of of
+  pub aggregate_is : IsHeldOf cells of aggregate
+  pub key_is : IsHeldOf cells (value_type.Scalar (scalar_of key_of)) key
+
+pub record AreMapAndEntry (cells : Cells) (map key value : Register) : Type 0 where
+  pub of : KeyType
+  pub value_of : ScalarType
+  pub map_is : IsHeldOf cells (value_type.Map of value_of) map
+  pub key_is : IsHeldOf cells (value_type.Scalar (scalar_of of)) key
+  pub value_is : IsHeldOf cells (value_type.Scalar value_of) value
+
+-- the register holds no aggregate
+abbrev pub IsBare : Register → Type 0
+IsBare (register.Aggregate handle) = ⊥
+IsBare _ = Unit {0}
+
+-- A cell was made under a handle that was not live.
+pub record IsMade (old new : Cells) (v : View) (r : Register) : Type 0 where
+  pub handle : ℕ
+  pub is : r ≡ register.Aggregate handle
+  pub fresh : ¬ (IsLive old handle)
+  pub cells : new ≡ finite_map.insert old handle v
+
+-- a cell was made for a view, if there is one, and the ledger is as it was
+abbrev pub HasMadeOne : Stored → Stored → Register → Option View → Type 0
+HasMadeOne old new r None = (r ≡ register.Empty) × (new ≡ old)
+HasMadeOne old new r (Some v) = IsMade old.cells new.cells v r × (new.ledger ≡ old.ledger)
+
+-- An update has run: without an event all is as it was. Its copy is a new cell, and the ledger has counted it. In place the cell of the
+-- source is changed, its handle is handed on, and nothing is counted.
+abbrev pub HasUpdated : Bool → ℕ → Register → Stored → Stored → Register → Option View → Type 0
+HasUpdated in_place i source old new r None = (r ≡ register.Empty) × (new ≡ old)
+HasUpdated false i source old new r (Some v) =
+    IsMade old.cells new.cells v r × (new.ledger ≡ counted old.ledger i (size_at (held old.cells source)))
+HasUpdated true i source old new r (Some v) =
+    (handle : ℕ)
+    × (source ≡ register.Aggregate handle)
+    × (r ≡ register.Aggregate handle)
+    × (new ≡ record old { cells = finite_map.insert old.cells handle v })
+
+abbrev pub first_of : List (Option View) → Option View
+first_of [] = None
+first_of (v ∷ values) = v
+
+abbrev pub source_of : List Register → List ℕ → Register
+source_of registers [] = register.Empty
+source_of registers (m ∷ args) = register_at registers m
+
+-- An effect has come: the register is filled, or it has the cell that was made or changed.
+abbrev pub HasMade : Bool → Bool → ℕ → Register → Stored → Stored → Register → View → Type 0
+HasMade true in_place i source old new r v = HasUpdated in_place i source old new r (Some v)
+HasMade false in_place i source old new r v = HasMadeOne old new r (Some v)
+
+abbrev pub HasEffect : Bool → ℕ → Op → Register → Stored → Stored → Result Register EvalFault → Effect → Type 0
+HasEffect in_place i o source old new (Ok r) (Fill slot) = (slot ≡ slot_of (held_by r)) × (new ≡ old)
+HasEffect in_place i o source old new (Ok r) (Make v) = HasMade (is_update o) in_place i source old new r v
+HasEffect in_place i o source old new (Err (eval_fault.Fault kind)) (Fill slot) = (slot ≡ Failed (Some kind)) × (new ≡ old)
+HasEffect in_place i o source old new (Err (eval_fault.Fault kind)) (Make v) = ⊥
+HasEffect in_place i o source old new (Err eval_fault.Memory) effect = Unit {0}
+
+-- inputs and delays have their events in their registers from the beginning of the instant
+abbrev pub is_given_op : Op → Bool
+is_given_op op.Input = true
+is_given_op op.Delay = true
+is_given_op _ = false
+
+-- what the own case of an equation does by the registers
+abbrev pub effect_here : List Register → List Register → Stored → ℕ → ℕ → Equation → Effect
+effect_here registers last store i t e = effect_of (λ j u. None) t (config_of registers last store) i e.op e.args e.of

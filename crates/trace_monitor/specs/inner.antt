@@ -1,0 +1,4 @@
+pub mod State
+pub mod Kept
+pub mod Run
+pub mod Reading
