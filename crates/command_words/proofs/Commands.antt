@@ -5,15 +5,17 @@ use Rattle.std.specs.Str.Parse.{digits_value}
 use Rattle.std.specs.List.{list_any}
 use Rattle.std.proofs.lemmas.Bool.{le-leb, leb-true, and_parts}
 use Rattle.tsl_value.specs.Literal.{are_digits}
+use Rattle.tsl_value.specs.declared.limits.TheConstants.{MOST_TRACE_BYTES}
 use Rattle.clap.specs.Matches.{first_value}
 use Rattle.clap.specs.Walk.{Text}
 use Rattle.clap.specs.declared.parser.matches.Found.{Found}
-use Rattle.command_words.specs.Reader.{Holds, IsRefused, run_found}
+use Rattle.command_words.specs.inner.Reader.{Holds, IsRefused, run_found}
 use Rattle.command_words.specs.declared.words.Command.{Command as CodeCommand}
 use Rattle.command_words.specs.declared.words.Kind.{Kind}
 use Rattle.command_words.specs.declared.words.Verb.{Verb}
 use Rattle.command_words.specs.declared.words.Verb.TheVariants as verb
-use Rattle.command_words.specs.Words.{IsLimited, IsLimitedRun, IsLimitedCount, Command, until_name, instants_name, bytes_name, strict_flag, stats_flag, Piece, plains, values, uses, are_plain, fits, read, spec_form, run_form, count_form, number, number_or, most_time, most_instants, most_bytes, most_lines, Run, run_by, run_of, spec_of, kind_of as trace_kind, counted_by, counted_of, first_verb, asked_by, command_asked, command_of, is_empty, check as checks, flat as flattens, show as shows, code as codes_of, run as runs, generate, bench}
+use Rattle.command_words.specs.Words.{IsLimited, IsLimitedRun, IsLimitedCount, Command, until_name, instants_name, bytes_name, strict_flag, stats_flag, Piece, plains, values, uses, are_plain, fits, read, spec_form, run_form, count_form, number, number_or, Run, run_by, run_of, spec_of, kind_of as trace_kind, counted_by, counted_of, first_verb, asked_by, command_asked, command_of, is_empty, check as checks, flat as flattens, show as shows, code as codes_of, run as runs, generate, bench}
+use Rattle.command_words.specs.declared.limits.TheConstants.{MOST_TIME, MOST_INSTANTS, MOST_LINES}
 
 fits_run : (ps : List Piece) (found : Found) → Holds ps found → fits run_form ps ≡ true
 fits_run ps found h = rw (le-leb _ _ h.some_word, le-leb _ _ h.few_words, le-leb _ _ (h.one_value until_name), le-leb _ _ (h.one_value instants_name), le-leb _ _ (h.one_value bytes_name), le-leb _ _ (h.one_use strict_flag), le-leb _ _ (h.one_use stats_flag)) refl
@@ -122,20 +124,20 @@ or_within other least most (Some word) n low high e = number_within least most w
 limited_by : (spec trace until instants bytes : Option Text) (strict stats : Bool) (run : Run) → run_by spec trace until instants bytes strict stats ≡ Some run → IsLimitedRun run
 limited_by spec trace until instants bytes strict stats run e =
     let named = then_some _ spec run e in
-    let timed = then_some _ (number_or 0 0 most_time until) run named.2 in
-    let counted = then_some _ (number_or most_instants 1 most_instants instants) run timed.2 in
-    let measured = map_some _ (number_or most_bytes 1 most_bytes bytes) run counted.2 in
-    let time = or_within 0 0 most_time until timed.0 (omega arith) (omega arith) timed.1 in
-    let count = or_within most_instants 1 most_instants instants counted.0 (omega arith) (omega arith) counted.1 in
-    let size = or_within most_bytes 1 most_bytes bytes measured.0 (omega arith) (omega arith) measured.1 in
+    let timed = then_some _ (number_or 0 0 MOST_TIME until) run named.2 in
+    let counted = then_some _ (number_or MOST_INSTANTS 1 MOST_INSTANTS instants) run timed.2 in
+    let measured = map_some _ (number_or MOST_TRACE_BYTES 1 MOST_TRACE_BYTES bytes) run counted.2 in
+    let time = or_within 0 0 MOST_TIME until timed.0 (omega arith) (omega arith) timed.1 in
+    let count = or_within MOST_INSTANTS 1 MOST_INSTANTS instants counted.0 (omega arith) (omega arith) counted.1 in
+    let size = or_within MOST_TRACE_BYTES 1 MOST_TRACE_BYTES bytes measured.0 (omega arith) (omega arith) measured.1 in
     subst IsLimitedRun measured.2 (record { until = omega arith; some_instants = count.0; instants = count.1; some_bytes = size.0; bytes = size.1 })
 
 counted_limited : (name count : Option Text) (c : Kind × ℕ) → counted_by name count ≡ Some c → IsLimitedCount c.1
 counted_limited name count c e =
     let kind = then_some _ (option_and_then trace_kind name) c e in
-    let n = map_some _ (option_and_then (number 1 most_lines) count) c kind.2 in
-    let told = then_some (number 1 most_lines) count n.0 n.1 in
-    let within = number_within 1 most_lines told.0 n.0 told.2 in
+    let n = map_some _ (option_and_then (number 1 MOST_LINES) count) c kind.2 in
+    let told = then_some (number 1 MOST_LINES) count n.0 n.1 in
+    let within = number_within 1 MOST_LINES told.0 n.0 told.2 in
     subst (λ (d : Kind × ℕ). IsLimitedCount d.1) n.2 (record { some = within.0; most = within.1 })
 
 run_limited : (ps : List Piece) (r : Run) → run_of ps ≡ Some r → IsLimitedRun r

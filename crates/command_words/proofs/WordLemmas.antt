@@ -17,10 +17,10 @@ use Rattle.clap.specs.Matches.{found_of, first_value}
 use Rattle.clap.specs.declared.error.kind.ErrorKind.{ErrorKind}
 use Rattle.clap.specs.declared.builder.value_parser.Reading.TheVariants.{AsWritten}
 use Rattle.clap.specs.declared.parser.matches.ValueSource.TheVariants.{DefaultValue}
-use Rattle.command_words.specs.Reader.{IsRefused, Matches, flag_id, flag_rule, id_of, option_rule, run_app, spec_rule, trace_rule}
+use Rattle.command_words.specs.inner.Reader.{IsRefused, Matches, flag_id, flag_rule, id_of, option_rule, run_app, spec_rule, trace_rule}
 use Rattle.command_words.specs.Words.{Form, Name, until_name, instants_name, bytes_name, Flag, strict_flag, stats_flag, Piece, plain, option, flag, Class, whole, waits, ends, refused, is_dashed, is_equals, value_in, class_of, named_class, before, pieces, plains, values, uses, fits, read, spec_form, run_form, count_form}
 use Rattle.command_words.proofs.WordRows.{row, flag_row, rows_from, any_row, has_chosen, flag_other, chosen_name, chosen_spec, chosen_trace, defaulted, flag_no_spec, flag_no_trace, fresh_row, rows_more, has_name, has_flag, Fits, plains_then, fits_plain, fits_flag, fits_option, unfit_plain, unfit_flag, unfit_option, default_row, final, first_final, first_taken, second_dropped, flag_final, spec_given}
-use Rattle.command_words.proofs.WordTurns.{is_exact, spec_slot, trace_slot, name_slot, S, R, HasFault, left_fault, Look, look, Named, named, rest_name, name_behind, value_behind, at, fault_from, end_rows, pass_turn, stop_turn, pass_rows, held, quiet_settle, loud_settle, slot_rows, empty_settle, positional_spec, positional_trace, spec_placed, trace_placed, plain_turn, plain_walked, trailing_turn, trailing_walked, end_turn, end_walked, value_turn, value_walked, short_turn, first_char, long_turn, long_turn_is, long_walk, long_walk_is, loud_long, unknown_long, option_turn, option_walked, joined_turn, joined_again, joined_walked, flag_turn, flag_again, flag_valued, flag_walked, Texts, loud_trailing, loud_idle, undashed, end_mark, long, short, to_option, to_flag, to_none}
+use Rattle.command_words.proofs.WordTurns.{is_exact, spec_slot, trace_slot, name_slot, S, R, HasFault, left_fault, Look, look, Named, named, rest_name, name_after, value_after, at, fault_from, end_rows, pass_turn, stop_turn, pass_rows, held, quiet_settle, loud_settle, slot_rows, empty_settle, positional_spec, positional_trace, spec_placed, trace_placed, plain_turn, plain_walked, trailing_turn, trailing_walked, end_turn, end_walked, value_turn, value_walked, short_turn, first_char, long_turn, long_turn_is, long_walk, long_walk_is, loud_long, unknown_long, option_turn, option_walked, joined_turn, joined_again, joined_walked, flag_turn, flag_again, flag_valued, flag_walked, Texts, loud_trailing, loud_idle, undashed, end_mark, long, short, to_option, to_flag, to_none}
 
 -- ---- the pieces so far
 
@@ -213,7 +213,7 @@ undashed_kind : (word : Text) → is_dashed word ≡ false → class_of word ≡
 undashed_kind word d = rw d refl
 
 long_kind : (x : ℕ) (xs : Text) → class_of (45 ∷ 45 ∷ x ∷ xs) ≡ named_class (45 ∷ 45 ∷ rest_name (x ∷ xs)) (value_in (x ∷ xs))
-long_kind x xs = rw (name_behind (x ∷ xs), value_behind (x ∷ xs)) refl
+long_kind x xs = rw (name_after (x ∷ xs), value_after (x ∷ xs)) refl
 
 not_hyphen : (c : ℕ) → (c == 45) ≡ false → (45 == c) ≡ false
 not_hyphen c h = go (45 == c) refl

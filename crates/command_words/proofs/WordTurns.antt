@@ -12,7 +12,7 @@ use Rattle.clap.specs.Lexer.{long_of, long_of_rest, short_of, short_of_rest, str
 use Rattle.clap.specs.Simple.{Shape, built, filled, with_index}
 use Rattle.clap.specs.Faults.{is_simple_and_free, use_fault, flag_word_fault, flags_fault, long_fault, turn_fault, walk_fault, settle_fault, step_fault}
 use Rattle.clap.specs.Kinds.{Kinds, or_else}
-use Rattle.command_words.specs.Reader.{flag_id, flag_rule, id_of, option_rule, run_app}
+use Rattle.command_words.specs.inner.Reader.{flag_id, flag_rule, id_of, option_rule, run_app}
 use Rattle.command_words.specs.Words.{Name, until_name, instants_name, bytes_name, Flag, strict_flag, stats_flag, is_dashed, is_equals, value_in}
 use Rattle.command_words.proofs.WordRows.{row, flag_row, set_row}
 
@@ -85,7 +85,7 @@ look (b ∷ c ∷ more) = first (b == 45) refl
 
 -- ---- what a long word names
 
--- which option or flag it is that a name behind `--` names
+-- which option or flag it is that a name after `--` names
 pub data Named : Text → Type 0 where
   to_option : (name : Name) → Named (id_of name)
   to_flag : (f : Flag) → Named (flag_id f)
@@ -106,14 +106,14 @@ named id = go (bytes_eq (codes "until") id) (bytes_eq (codes "instants") id) (by
 abbrev pub rest_name : Text → Text
 rest_name rest = before_first is_equals rest
 
-pub name_behind : (rest : Text) → before_first is_equals (45 ∷ 45 ∷ rest) ≡ 45 ∷ 45 ∷ rest_name rest
-name_behind rest =
+pub name_after : (rest : Text) → before_first is_equals (45 ∷ 45 ∷ rest) ≡ 45 ∷ 45 ∷ rest_name rest
+name_after rest =
     let n = prefix_len (λ x. not (is_equals x)) rest in
     let e : 1 + (1 + n) ≡ suc (suc n) = omega arith in
     ap (λ k. take k (45 ∷ 45 ∷ rest)) e
 
-pub value_behind : (rest : Text) → value_in (45 ∷ 45 ∷ rest) ≡ value_in rest
-value_behind rest =
+pub value_after : (rest : Text) → value_in (45 ∷ 45 ∷ rest) ≡ value_in rest
+value_after rest =
     let n = prefix_len (λ x. not (is_equals x)) rest in
     let e : 1 + (1 + n) + 1 ≡ suc (suc (n + 1)) = omega arith in
     ap (λ k. if list_any is_equals rest then Some (drop k (45 ∷ 45 ∷ rest)) else None) e
@@ -254,7 +254,7 @@ pub plain_walked : (rows : List Row) (pending : Option (Text × List Text)) (n :
 unfolding walked
 plain_walked rows pending n word a b c = rw (a, b, c) refl
 
--- and behind it
+-- and after it
 pub trailing_turn : (rows : List Row) (pending : Option (Text × List Text)) (waiting : Waiting) (n : ℕ) (word : Text)
     → turn_fault S [] (at rows pending waiting n true) word ≡ step_fault S n (held rows pending) value
 trailing_turn rows pending waiting n word = refl

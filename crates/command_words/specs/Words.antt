@@ -1,9 +1,11 @@
--- What the words behind the program's name ask for.
-use Rattle.std.specs.Prelude.{◌<◌, ◌≤◌, ◌==◌, ◌^◌, ◌-◌, ℕ, Bool, true, false, not, ◌&&◌, if◌then◌else◌, nat_le, ⊤, List, [], ◌∷◌, length, map, Option, Some, None, codes, drop, option_map, option_and_then, unwrap_or, slice_get}
+-- What the words after the program's name ask for.
+use Rattle.std.specs.Prelude.{◌<◌, ◌≤◌, ◌==◌, ◌^◌, ◌-◌, ℕ, Bool, true, false, not, ◌&&◌, if◌then◌else◌, nat_le, ⊤, List, [], ◌∷◌, length}
+use Rattle.std.specs.Prelude.{map, Option, Some, None, codes, drop, option_map, option_and_then, unwrap_or, slice_get}
 use Rattle.std.specs.List.{list_any, before_first, after_first}
 use Rattle.std.specs.Str.{bytes_eq}
 use Rattle.std.specs.Str.Parse.{digits_value}
 use Rattle.tsl_value.specs.Literal.{are_digits}
+use Rattle.tsl_value.specs.declared.limits.TheConstants.{MOST_TRACE_BYTES}
 use Rattle.command_words.specs.declared.words.Command.{Command as CodeCommand}
 use Rattle.command_words.specs.declared.words.Command.TheVariants as asked
 use Rattle.command_words.specs.declared.words.Kind.{Kind}
@@ -12,6 +14,7 @@ use Rattle.command_words.specs.declared.words.Run.{Run as CodeRun}
 use Rattle.command_words.specs.declared.words.Verb.{Verb}
 use Rattle.command_words.specs.declared.words.Verb.TheVariants as verb
 use Rattle.command_words.specs.declared.words.Word.{Word}
+use Rattle.command_words.specs.declared.limits.TheConstants.{MOST_TIME, MOST_INSTANTS, MOST_LINES}
 
 -- a run: the names of the specification and of the trace, the time up to which times are closed at the end of the trace,
 -- how many instants and bytes it may have, whether the trace is read strictly, and whether copies are told at the end
@@ -72,7 +75,7 @@ is_dashed (b ∷ c ∷ more) = b == 45
 abbrev pub is_equals : ℕ → Bool
 is_equals b = b == 61
 
--- what stands behind the first `=`, if there is one
+-- what stands after the first `=`, if there is one
 abbrev pub value_in : List ℕ → Option (List ℕ)
 value_in word = if list_any is_equals word then Some (after_first is_equals word) else None
 
@@ -88,13 +91,13 @@ abbrev pub flag_class : Flag → Option (List ℕ) → Class
 flag_class f None = whole (flag f)
 flag_class f (Some value) = refused
 
--- an option has its value behind `=`, or in the next word
+-- an option has its value after `=`, or in the next word
 abbrev pub option_class : Option Name → Option (List ℕ) → Class
 option_class None value = refused
 option_class (Some name) None = waits name
 option_class (Some name) (Some value) = whole (option name value)
 
--- by what stands before the first `=`, and what stands behind it
+-- by what stands before the first `=`, and what stands after it
 abbrev pub named_class : List ℕ → Option (List ℕ) → Class
 named_class name value =
     if bytes_eq (codes "--strict") name then flag_class strict_flag value
@@ -112,7 +115,7 @@ abbrev pub before : Piece → Option (List Piece) → Option (List Piece)
 before piece = option_map (λ pieces. piece ∷ pieces)
 
 -- the pieces that words say, of which the first is the value of an option where one waits; `None` where a word is refused or
--- a value is missing. Behind `--` every word is a plain one
+-- a value is missing. After `--` every word is a plain one
 abbrev pub pieces : Option Name → List (List ℕ) → Option (List Piece)
 pieces None [] = Some []
 pieces (Some name) [] = None
@@ -163,27 +166,15 @@ uses f (piece ∷ pieces) = uses f pieces
 -- one digit or more, which spell a number from the least to the most
 abbrev pub number : ℕ → ℕ → List ℕ → Option ℕ
 number least most word =
-    if are_digits word && (nat_le least (digits_value 10 word) && nat_le (digits_value 10 word) most) then Some (digits_value 10 word) else None
+    if are_digits word && (nat_le least (digits_value 10 word) && nat_le (digits_value 10 word) most) then Some (digits_value 10 word)
+    else None
 
 -- the number that an option's value spells, or another where the option does not stand
 abbrev pub number_or : ℕ → ℕ → ℕ → Option (List ℕ) → Option ℕ
 number_or other least most None = Some other
 number_or other least most (Some word) = number least most word
 
--- the limits of the numbers
-abbrev pub most_time : ℕ
-most_time = 2 ^ 63 - 1
-
-abbrev pub most_instants : ℕ
-most_instants = 1_000_000_000_000
-
-abbrev pub most_bytes : ℕ
-most_bytes = 2 ^ 40
-
-abbrev pub most_lines : ℕ
-most_lines = 1_000_000
-
--- which words stand behind a command's name: how many plain ones at least and at most, and how often each option and each
+-- which words stand after a command's name: how many plain ones at least and at most, and how often each option and each
 -- flag at most
 pub record Form : Type 0 where
   pub least : ℕ
@@ -233,9 +224,9 @@ run_by spec trace until instants bytes strict stats =
       strict = strict;
       stats = stats;
     })
-    (number_or most_bytes 1 most_bytes bytes))
-    (number_or most_instants 1 most_instants instants))
-    (number_or 0 0 most_time until))
+    (number_or MOST_TRACE_BYTES 1 MOST_TRACE_BYTES bytes))
+    (number_or MOST_INSTANTS 1 MOST_INSTANTS instants))
+    (number_or 0 0 MOST_TIME until))
     spec
 
 -- the run that pieces ask for; the first plain word is the specification
@@ -255,7 +246,7 @@ kind_of word =
 
 abbrev pub counted_by : Option (List ℕ) → Option (List ℕ) → Option (Kind × ℕ)
 counted_by name count =
-    option_and_then (λ k. option_map (λ n. (k, n)) (option_and_then (number 1 most_lines) count)) (option_and_then kind_of name)
+    option_and_then (λ k. option_map (λ n. (k, n)) (option_and_then (number 1 MOST_LINES) count)) (option_and_then kind_of name)
 
 -- the kind and the number that pieces ask for
 abbrev pub counted_of : List Piece → Option (Kind × ℕ)
@@ -272,7 +263,7 @@ verb_of word =
     else (if bytes_eq word (codes "gen") then Some verb.Generate
     else (if bytes_eq word (codes "bench") then Some verb.Bench else None))))))
 
--- what is asked for behind the name of a command
+-- what is asked for after the name of a command
 abbrev pub asked_by : Verb → List (List ℕ) → Option Command
 asked_by verb.Run words = option_map run (option_and_then run_of (read run_form words))
 asked_by verb.Check words = option_map check (option_and_then spec_of (read spec_form words))
@@ -287,7 +278,7 @@ abbrev pub first_verb : List (List ℕ) → Option Verb
 first_verb [] = None
 first_verb (name ∷ words) = verb_of name
 
--- what is asked for: the name of a command and then what is asked for behind it, in words of which none is empty
+-- what is asked for: the name of a command and then what is asked for after it, in words of which none is empty
 abbrev pub command_of : List (List ℕ) → Option Command
 command_of words = if list_any is_empty words then None else option_and_then (λ v. asked_by v (drop 1 words)) (first_verb words)
 
@@ -299,14 +290,14 @@ texts_of = map (λ word. word.text)
 pub record IsLimitedRun (run : Run) : Type 0 where
   pub until : run.until < 2 ^ 63
   pub some_instants : 1 ≤ run.instants
-  pub instants : run.instants ≤ most_instants
+  pub instants : run.instants ≤ MOST_INSTANTS
   pub some_bytes : 1 ≤ run.bytes
-  pub bytes : run.bytes ≤ most_bytes
+  pub bytes : run.bytes ≤ MOST_TRACE_BYTES
 
 -- and of each number of lines
 pub record IsLimitedCount (n : ℕ) : Type 0 where
   pub some : 1 ≤ n
-  pub most : n ≤ most_lines
+  pub most : n ≤ MOST_LINES
 
 -- what holds of each command that is asked for
 abbrev pub IsLimited : Command → Type 0

@@ -1,6 +1,5 @@
-//! The words behind the program's name, and what they ask for.
+//! The words after the program's name, and what they ask for.
 #![tactic(auto)]
 
-#[cfg(test)]
-mod tests;
+pub mod limits;
 pub mod words;

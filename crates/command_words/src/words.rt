@@ -1,6 +1,7 @@
-// The words behind the program's name.
+// The words after the program's name.
 
-ghost use Rattle.std.specs.Prelude.{IfNone, Bool, ◌≡◌, ◌<◌, ◌^◌, [], ◌∷◌, ◌++◌, false, List, ℕ, if◌then◌else◌, Some, None, codes, drop, IfOk, IfSome, OnOk, OnErr, IsTrue, nat_le, length, not, option_map, option_and_then};
+ghost use Rattle.std.specs.Prelude.{IfNone, Bool, ◌≡◌, ◌<◌, ◌^◌, [], ◌∷◌, ◌++◌, false, List, ℕ, if◌then◌else◌, Some, None, codes, drop};
+ghost use Rattle.std.specs.Prelude.{IfOk, IfSome, OnOk, OnErr, IsTrue, nat_le, length, not, option_map, option_and_then};
 ghost use Rattle.std.specs.Option.{SomeIff};
 ghost use Rattle.std.specs.Str.{IsUtf8};
 ghost use Rattle.std.specs.Str.Parse.{digits_value};
@@ -8,28 +9,20 @@ ghost use Rattle.std.specs.List.{All, list_all, list_any};
 ghost use Rattle.std.specs.Char.{is_ascii_digit};
 ghost use Rattle.tsl_value.specs.Literal.{are_digits};
 ghost use Rattle.clap.specs.Words.{app_of, found_of};
-ghost use Rattle.command_words.specs.Reader.{Holds, IsRefused, Matches, run_app, run_found, says};
-ghost use Rattle.command_words.specs.Words.{IsLimited, Piece, are_plain, asked_by, command_asked, command_of, count_form, counted_of, first_verb, fits, is_empty, kind_of, number, number_or, plains, run_asked, run_form, run_of, spec_form, spec_of, texts_of, verb_of};
+ghost use Rattle.command_words.specs.inner.Reader.{Holds, IsRefused, Matches, run_app, run_found, says};
+ghost use Rattle.command_words.specs.Words.{IsLimited, Piece, are_plain, asked_by, command_asked, command_of, count_form, counted_of};
+ghost use Rattle.command_words.specs.Words.{first_verb, fits, is_empty, kind_of, number, number_or, plains, run_asked, run_form, run_of};
+ghost use Rattle.command_words.specs.Words.{spec_form, spec_of, texts_of, verb_of};
 
+use crate::limits::{MOST_INSTANTS, MOST_LINES, MOST_TIME};
 use clap::error::ErrorKind;
 use clap::{Arg, ArgAction, ArgMatches};
 use std::alloc::{AllocError, Global};
 use std::convert::AsStr;
 use std::marker::Model;
+use tsl_value::limits::MOST_TRACE_BYTES;
 use tsl_value::memory::NoMemory;
 use tsl_value::text::Text;
-
-/// The last time that there is: 2^63 - 1.
-pub const MOST_TIME: u64 = 0x7fff_ffff_ffff_ffff;
-
-/// As many instants as a run has at most.
-pub const MOST_INSTANTS: u64 = 1_000_000_000_000;
-
-/// As many bytes as a trace has at most: 2^40.
-pub const MOST_BYTES: u64 = 0x100_0000_0000;
-
-/// As many lines as a generated trace has at most.
-pub const MOST_LINES: u64 = 1_000_000;
 
 /// A word, as `clap` reads it.
 #[derive(Drop)]
@@ -45,7 +38,7 @@ impl AsStr for Word {
     }
 }
 
-/// The words behind the program's name, in order.
+/// The words after the program's name, in order.
 #[derive(Drop)]
 pub struct Words {
     words: Vec<Word>,
@@ -194,14 +187,21 @@ fn number_or(word: Option<&str>, other: u64, least: u64, most: u64) -> Option<u6
 
 /// The run that the values in the matches ask for.
 fn run_found<'a>(matches: &ArgMatches<'a>) -> Option<Run<'a>>
-    ensures { (strict stats : Bool) → says (found_of matches.now) (codes "strict") strict → says (found_of matches.now) (codes "stats") stats
+    ensures { (strict stats : Bool)
+        → says (found_of matches.now) (codes "strict") strict
+        → says (found_of matches.now) (codes "stats") stats
         → option_map run_asked result ≡ run_found (found_of matches.now) strict stats }
 {
     let spec = matches.get_str("spec")?;
     let trace = matches.get_str("trace").unwrap_or("-");
     let until = number_or(matches.get_str("until"), 0, 0, MOST_TIME)?;
     let instants = number_or(matches.get_str("instants"), MOST_INSTANTS, 1, MOST_INSTANTS)?;
-    let bytes = number_or(matches.get_str("bytes"), MOST_BYTES, 1, MOST_BYTES)?;
+    let bytes = number_or(
+        matches.get_str("bytes"),
+        MOST_TRACE_BYTES,
+        1,
+        MOST_TRACE_BYTES,
+    )?;
     Some(Run {
         spec,
         trace,
@@ -324,7 +324,7 @@ fn verb_of(word: &str) -> Option<Verb>
     }
 }
 
-/// What the matches behind the name of a command ask for.
+/// What the matches after the name of a command ask for.
 fn command_by<'a>(verb: Verb, matches: &ArgMatches<'a>) -> Option<Command<'a>>
     ensures { (words : List (List ℕ)) → Matches words matches.now → option_map command_asked result ≡ asked_by verb words }
 {
@@ -363,9 +363,9 @@ fn first_verb(words: &[Word]) -> Option<Verb>
     }
 }
 
-/// What the words behind the first one ask for.
+/// What the words after the first one ask for.
 #[tactic(auto, using(crate::proofs::Commands::refused_by, crate::proofs::Commands::are_limited))]
-fn asked_behind<'a>(
+fn asked_after<'a>(
     alloc: Global,
     verb: Verb,
     words: &'a [Word],
@@ -383,12 +383,12 @@ fn asked_behind<'a>(
 impl Words {
     /// What the words ask for; `None` exactly where they are not accepted.
     ///
-    /// The first word is the name of a command. Behind it stand `SPEC` for `check`, `flat`, `show` and `code`, `SPEC` and at
+    /// The first word is the name of a command. After it stand `SPEC` for `check`, `flat`, `show` and `code`, `SPEC` and at
     /// most one `TRACE` for `run`, and `KIND N` for `gen` and `bench`, where `KIND` is `seen` or `copy`, none of them empty. For
     /// `run` the options `--until T`, `--instants N` and `--bytes B`, also written `--name=V`, and the flags `--strict` and
     /// `--stats` may stand anywhere before a word `--`, each at most once. Other words than `-` that begin with `-` are
-    /// refused there, and all words behind it are plain. Numbers are one digit or more: T at most `MOST_TIME`, N of `run`
-    /// from 1 to `MOST_INSTANTS`, B from 1 to `MOST_BYTES`, N of `gen` and `bench` from 1 to `MOST_LINES`.
+    /// refused there, and all words after it are plain. Numbers are one digit or more: T at most `MOST_TIME`, N of `run`
+    /// from 1 to `MOST_INSTANTS`, B from 1 to `MOST_TRACE_BYTES`, N of `gen` and `bench` from 1 to `MOST_LINES`.
     #[tactic(auto, using(crate::proofs::Commands::told_when, crate::proofs::Commands::told_never))]
     pub fn command(&self, alloc: Global) -> Result<Option<Command<'_>>, NoMemory>
         ensures command { IfOk result (λ asked. option_map command_asked asked ≡ command_of self.now) }
@@ -399,7 +399,7 @@ impl Words {
             return Ok(None);
         }
         match first_verb(words) {
-            Some(verb) => asked_behind(alloc, verb, words),
+            Some(verb) => asked_after(alloc, verb, words),
             None => Ok(None),
         }
     }

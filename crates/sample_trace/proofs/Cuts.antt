@@ -8,7 +8,7 @@ use Rattle.std.specs.Char.{digit_value}
 use Rattle.std.specs.Fmt.{decimal}
 use Rattle.std.specs.List.{All, range_with_len, slice_split}
 use Rattle.std.specs.Str.Parse.{AllDigits}
-use Rattle.sample_trace.specs.Laws.{HasOneLineEach, said_text}
+use Rattle.sample_trace.specs.inner.Laws.{HasOneLineEach, said_text}
 use Rattle.sample_trace.specs.Trace.{line_text, lines_text}
 
 abbrev IsInLine : ℕ → Type 0

@@ -36,7 +36,7 @@ to_short from to low = elim (cases_lt to from) [
   | inr some ↦ lines_short from (to - from) (omega arith)
 ]
 
--- so many lines, and more behind them
+-- so many lines, and more after them
 pub lines_join : (from n more : ℕ) → lines_text from (n + more) ≡ lines_text from n ++ lines_text (from + n) more
 lines_join from zero more = let here : from ≡ from + 0 = omega arith in let all : 0 + more ≡ more = omega arith in ap (lines_text from) all ∙ ap (λ (t : ℕ). lines_text t more) here
 lines_join from (suc n) more =

@@ -1,3 +1,3 @@
-pub mod Laws
 pub mod Source
 pub mod Trace
+pub mod inner

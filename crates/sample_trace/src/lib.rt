@@ -3,6 +3,4 @@
 
 pub mod laws;
 pub mod spec;
-#[cfg(test)]
-mod tests;
 pub mod trace;

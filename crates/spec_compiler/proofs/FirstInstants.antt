@@ -4,7 +4,7 @@ use Rattle.std.specs.Prelude.{IsTrue, is_some}
 use Rattle.std.specs.List.{Contains}
 use Rattle.std.proofs.lemmas.Bool.{cases_Bool, cases_lt, true≢false}
 use Rattle.lift_func.specs.declared.fault.FaultKind.{FaultKind}
-use Rattle.flat_core.specs.BoundLaws.{HappensAtInstants}
+use Rattle.flat_core.specs.inner.BoundLaws.{HappensAtInstants}
 use Rattle.flat_core.specs.Case.{Streams}
 use Rattle.flat_core.specs.Ending.{EndsAtBound}
 use Rattle.flat_core.specs.Fault.{root_at, is_faulty, IsNamed}
@@ -13,6 +13,7 @@ use Rattle.flat_core.specs.Line.{Line, inputs_of}
 use Rattle.flat_core.specs.System.{System, runs}
 use Rattle.flat_core.proofs.Members.{all_from, contains_tail, some_in}
 use Rattle.flat_core.proofs.SmallerBound.{instants_first}
+use Rattle.flat_core.proofs.Instants.{in_instants, instants_have}
 use Rattle.flat_meaning.proofs.ListLemmas.{at_place}
 
 -- what stands in front of one of the first stands among the first
@@ -77,8 +78,6 @@ module _ (s : System) (lines : List Line) (z : Streams) (bound limit : ℕ) (hap
 
   pub record Listed : Type 0 where
     pub below : (t : ℕ) → Contains first t → t < bound
-    pub has : (n t : ℕ) → t < n → is_instant s lines z t ≡ true → Contains (instants s lines z n) t
-    pub before : (n t : ℕ) → Contains (instants s lines z n) t → t < n
 
   module _ (listed : Listed) where
     -- an instant before one of the first is one of them
@@ -87,8 +86,8 @@ module _ (s : System) (lines : List Line) (z : Streams) (bound limit : ℕ) (hap
         let low : u < bound = listed.below u among in
         let (rest, split, late) = instants_first s lines z u bound (omega arith) in
         let there : Contains (take limit (instants s lines z u ++ rest)) u = subst (λ (l : List ℕ). Contains (take limit l) u) split among in
-        let fresh : Contains (instants s lines z u) u → ⊥ = λ c. let self = listed.before u u c in absurd (omega arith) in
-        subst (λ (l : List ℕ). Contains (take limit l) v) (sym split) (front_taken limit (instants s lines z u) rest u v fresh there (listed.has u v lt is))
+        let fresh : Contains (instants s lines z u) u → ⊥ = λ c. let self = (in_instants s lines z u u c).0 in absurd (omega arith) in
+        subst (λ (l : List ℕ). Contains (take limit l) v) (sym split) (front_taken limit (instants s lines z u) rest u v fresh there (instants_have s lines z u v lt is))
 
     sound_to : (n t : ℕ) → t < n → Contains first t → is_faulty s (inputs_of lines) z t ≡ false
     sound_to zero t lt among = absurd (omega arith)

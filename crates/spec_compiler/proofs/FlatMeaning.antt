@@ -4,7 +4,7 @@ use Rattle.std.specs.Prelude.{not, IsTrue}
 use Rattle.std.specs.List.{Contains}
 use Rattle.std.proofs.lemmas.Bool.{true≢false}
 use Rattle.lift_func.specs.declared.fault.FaultKind.{FaultKind}
-use Rattle.flat_core.specs.BoundLaws.{HappensAtInstants}
+use Rattle.flat_core.specs.inner.BoundLaws.{HappensAtInstants}
 use Rattle.flat_core.specs.Case.{Streams}
 use Rattle.flat_core.specs.Ending.{EndsInFault, EndsAtLimit, EndsAtBound}
 use Rattle.flat_core.specs.Fault.{root_at, is_faulty}
@@ -12,8 +12,8 @@ use Rattle.flat_core.specs.Instant.{instants}
 use Rattle.flat_core.specs.Line.{Line, inputs_of}
 use Rattle.flat_core.specs.System.{System, runs, IsProper}
 use Rattle.flat_core.proofs.Members.{all_at}
-use Rattle.flat_meaning.specs.Laws.{MeansTheSame}
-use Rattle.flat_meaning.proofs.DueText.{in_instants, instants_have, are_instants, to_faulty, taken_low}
+use Rattle.flat_meaning.specs.inner.Laws.{MeansTheSame}
+use Rattle.flat_meaning.proofs.DueText.{are_instants, to_faulty, taken_low}
 use Rattle.spec_meaning.specs.Due.{IsFaulty}
 use Rattle.spec_parser.specs.Tree as tree
 use Rattle.spec_compiler.specs.Meant.{FaultTimeIsMeant, QuietIsMeant, LimitIsMeant}
@@ -41,8 +41,6 @@ module _ (items : List tree.Item) (s : System) (lines : List Line) (bound : ℕ)
     listed : (happens : HappensAtInstants s lines bound z) (quiet : EndsAtBound s lines z bound limit) → Listed s lines z bound limit happens quiet
     listed happens quiet = record {
       below = taken_low items s lines bound z same limit;
-      has = instants_have items s lines bound z same;
-      before = λ n t c. (in_instants items s lines bound z same n t c).0;
     }
 
     pub quiet_is_meant : HappensAtInstants s lines bound z → EndsAtBound s lines z bound limit → QuietIsMeant items lines bound limit

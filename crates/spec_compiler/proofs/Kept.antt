@@ -5,7 +5,7 @@ use Rattle.flat_simplify.specs.Simplified.{IsSimplified}
 use Rattle.flat_simplify.proofs.One.{one_simplified}
 use Rattle.spec_reader.proofs.LawLemmas.{one_system}
 use Rattle.spec_reader.proofs.LawLemmas as reader
-use Rattle.spec_compiler.specs.Laws.{OneIsCompiled, RefusedCompilesNone}
+use Rattle.spec_compiler.specs.inner.Laws.{OneIsCompiled, RefusedCompilesNone}
 
 pub one_is_compiled : OneIsCompiled
 one_is_compiled source items others u v here there =

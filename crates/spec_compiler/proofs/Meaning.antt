@@ -2,7 +2,7 @@
 use Rattle.std.proofs.Common.{◌≡◌, ℕ, ◌<◌, List, Some, refl, sym, subst, arith}
 use Rattle.std.specs.Prelude.{IsTrue}
 use Rattle.lift_func.specs.declared.fault.FaultKind.{FaultKind}
-use Rattle.flat_core.specs.BoundLaws.{HappensAtInstants}
+use Rattle.flat_core.specs.inner.BoundLaws.{HappensAtInstants}
 use Rattle.flat_core.specs.declared.equation.Equation.{Equation}
 use Rattle.flat_core.specs.Case.{Streams}
 use Rattle.flat_core.specs.Complete.{IsFlat}
@@ -12,24 +12,24 @@ use Rattle.flat_core.specs.Renumbered.{with_new_args}
 use Rattle.flat_core.specs.Solution.{Solves}
 use Rattle.flat_core.specs.System.{System, runs, equation}
 use Rattle.flat_core.specs.Text.{due_text}
-use Rattle.flat_core.specs.TypedLines.{IsTypedLine, AreTypedLines}
+use Rattle.flat_core.specs.inner.TypedLines.{IsTypedLine, AreTypedLines}
 use Rattle.flat_core.specs.WellFormed.{IsWellFormed}
 use Rattle.flat_core.proofs.SameMeaning.{happens_alike}
 use Rattle.flat_core.proofs.Silence.{happens_at_instants}
 use Rattle.flat_core.proofs.TypedEvents.{inputs_typed}
 use Rattle.flat_core.proofs.Uniqueness.{agree_before, all_by}
 use Rattle.flat_core.proofs.WellFormedRank.{rank_of, well_formed_ranked}
-use Rattle.flat_meaning.specs.Laws.{MeansTheSame}
+use Rattle.flat_meaning.specs.inner.Laws.{MeansTheSame}
 use Rattle.flat_meaning.proofs.FromLaws.{flat_means_the_same, flat_text_is_due, the_laws}
-use Rattle.flat_simplify.specs.Laws.{IsFit, KeepsEnds}
-use Rattle.flat_simplify.specs.Solved.{AreSolved}
+use Rattle.flat_simplify.specs.inner.Laws.{IsFit, KeepsEnds}
+use Rattle.flat_simplify.specs.inner.Solved.{AreSolved}
 use Rattle.flat_simplify.proofs.Ends.{keeps_ends}
 use Rattle.flat_simplify.proofs.Fit.{new_equation, simplified_fit}
 use Rattle.flat_simplify.proofs.Text.{keeps_text}
 use Rattle.spec_meaning.specs.Due.{IsDueText}
 use Rattle.spec_parser.specs.Tree as tree
 use Rattle.spec_compiler.specs.Compiled.{Compiles}
-use Rattle.spec_compiler.specs.Laws.{SaysWhatIsMeant, CompiledSaysWhatIsMeant}
+use Rattle.spec_compiler.specs.inner.Laws.{SaysWhatIsMeant, CompiledSaysWhatIsMeant}
 use Rattle.spec_compiler.specs.Meant.{FaultTimeIsMeant, IsFaultNamed}
 use Rattle.spec_compiler.proofs.FlatMeaning.{quiet_is_meant, limit_is_meant, fault_time_is_meant}
 use Rattle.spec_compiler.proofs.Readiness.{ready_of}

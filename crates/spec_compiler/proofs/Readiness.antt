@@ -6,7 +6,7 @@ use Rattle.flat_core.specs.WellFormed.{IsWellFormed}
 use Rattle.flat_core.proofs.Uniqueness.{agree_before}
 use Rattle.flat_core.proofs.WellFormedOrder.{ranked_solution}
 use Rattle.flat_core.proofs.WellFormedRank.{rank_of, well_formed_ranked}
-use Rattle.spec_compiler.specs.Ready.{IsReady}
+use Rattle.spec_compiler.specs.inner.Ready.{IsReady}
 
 pub ready_of : (s : System) → IsFlat s → IsWellFormed s → IsReady s
 ready_of s flat good = record {

@@ -1,8 +1,7 @@
 -- Something happens in a specification that is compiled.
-use Rattle.std.proofs.Common.{◌≡◌, ◌⊎◌, inl, inr, ℕ, suc, true, List, Option, Some, None, refl, sym, ◌∙◌, arith}
+use Rattle.std.proofs.Common.{◌⊎◌, inl, inr, ℕ, suc, List, sym, ◌∙◌, arith}
 use Rattle.std.specs.Prelude.{is_some}
-use Rattle.std.proofs.lemmas.Bool.{cases_Bool, true≢false, false≢true}
-use Rattle.lift_func.specs.declared.fault.FaultKind.{FaultKind}
+use Rattle.std.proofs.lemmas.Bool.{cases_Bool, true≢false}
 use Rattle.flat_core.specs.Case.{Streams}
 use Rattle.flat_core.specs.Complete.{IsFlat}
 use Rattle.flat_core.specs.Fault.{root_at, is_faulty}
@@ -11,9 +10,9 @@ use Rattle.flat_core.specs.Solution.{Solves}
 use Rattle.flat_core.specs.System.{System}
 use Rattle.flat_core.specs.WellFormed.{IsWellFormed}
 use Rattle.flat_core.proofs.Members.{some_in}
-use Rattle.flat_meaning.specs.Laws.{MeansTheSame}
+use Rattle.flat_meaning.specs.inner.Laws.{MeansTheSame}
 use Rattle.flat_meaning.proofs.Covered.{needed_there}
-use Rattle.flat_meaning.proofs.DueText.{to_faulty}
+use Rattle.flat_meaning.proofs.DueText.{to_faulty, some_is}
 use Rattle.flat_meaning.proofs.FromLaws.{flat_means_the_same, the_laws}
 use Rattle.flat_meaning.proofs.Means.{leads, outputs_there, happening_at}
 use Rattle.flat_meaning.proofs.OneThing.{one_thing}
@@ -22,13 +21,9 @@ use Rattle.spec_meaning.specs.Happens.{IsNeeded}
 use Rattle.spec_meaning.specs.Occurrence.{Occurrence}
 use Rattle.spec_parser.specs.Tree as tree
 use Rattle.spec_compiler.specs.Compiled.{Compiles}
-use Rattle.spec_compiler.specs.Laws.{OneHappens, SomethingHappens, FaultsAreDecided}
+use Rattle.spec_compiler.specs.inner.Laws.{OneHappens, SomethingHappens, FaultsAreDecided}
 use Rattle.spec_compiler.proofs.FlatMeaning.{root_is_meant}
 use Rattle.spec_compiler.proofs.Readiness.{ready_of}
-
-kind_in : (o : Option FaultKind) → is_some o ≡ true → (kind : FaultKind) × (o ≡ Some kind)
-kind_in None h = absurd (false≢true h)
-kind_in (Some kind) h = (kind, refl)
 
 module _ (source : List ℕ) (items : List tree.Item) (u : System) (lines : List Line) (t : ℕ) (c : Compiles source items u) where
   abbrev s : System
@@ -64,7 +59,7 @@ module _ (source : List ℕ) (items : List tree.Item) (u : System) (lines : List
       elim (cases_Bool (is_faulty s (inputs_of lines) z t)) [
         | inl faulty ↦
             let found = some_in (λ i. is_some (root_at s (inputs_of lines) z t i)) s.running faulty in
-            let kind = kind_in (root_at s (inputs_of lines) z t found.0) found.2 in
+            let kind = some_is (root_at s (inputs_of lines) z t found.0) found.2 in
             inl (root_is_meant items s lines (suc t) z same flat.proper t found.0 kind.0 (omega arith) found.1 kind.1)
         | inr sound ↦ inr (λ faulty. true≢false (sym (to_faulty items s lines (suc t) z same t (omega arith) faulty) ∙ sound))
       ]

@@ -17,6 +17,6 @@ pub record Compiles (source : List ℕ) (items : List tree.Item) (u : System) : 
 abbrev pub CompilesSomething : List ℕ → System → Type 0
 CompilesSomething source u = (items : List tree.Item) × Compiles source items u
 
--- the source is refused in this way; want of memory refuses none
+-- the source is refused in this way; out of memory refuses none
 abbrev pub IsRefusedBy : List ℕ → SpecFault → Type 0
 IsRefusedBy source e = (e ≢ Memory) × IsRefused source e

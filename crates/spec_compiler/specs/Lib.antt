@@ -1,4 +1,3 @@
 pub mod Compiled
-pub mod Ready
 pub mod Meant
-pub mod Laws
+pub mod inner

@@ -7,7 +7,7 @@ ghost use Rattle.alias_rules.specs.Fine.{IsTakenPlan};
 ghost use Rattle.last_use.specs.Reasons.{AreReasons};
 ghost use Rattle.spec_reader.specs.Source.{IsRefused};
 ghost use Rattle.spec_compiler.specs.Compiled.{CompilesSomething};
-ghost use Rattle.spec_compiler.specs.Ready.{IsReady};
+ghost use Rattle.spec_compiler.specs.inner.Ready.{IsReady};
 
 use flat_core::flat::Flat;
 use flat_simplify::simplify::simplify;
@@ -58,7 +58,7 @@ fn planned(alloc: Global, flat: Flat) -> Result<Compiled, NoMemory>
 }
 
 /// Compiles the bytes of a specification: its flat system is simplified, and the code is made by the plan that is taken, in which each
-/// update of the listed set happens in place. They are refused exactly where they are none that can be run, but for want of memory.
+/// update of the listed set happens in place. They are refused exactly where they are none that can be run, unless memory runs out.
 pub fn compile(alloc: Global, source: &[u8]) -> Result<Compiled, SpecFault>
     ensures system { IfOk result (λ c. CompilesSomething source.now c.code.system) }
     ensures taken { IfOk result (λ c. IsTakenPlan c.code.system c.code.in_place c.code.order) }

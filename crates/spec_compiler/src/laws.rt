@@ -1,13 +1,14 @@
 // Laws of compiled specifications, as the contracts of functions that do nothing.
 
-ghost use Rattle.spec_compiler.specs.Laws.{OneIsCompiled, RefusedCompilesNone, CompiledSaysWhatIsMeant, SomethingHappens, FaultsAreDecided};
+ghost use Rattle.spec_compiler.specs.inner.Laws.{OneIsCompiled, RefusedCompilesNone, CompiledSaysWhatIsMeant, SomethingHappens};
+ghost use Rattle.spec_compiler.specs.inner.Laws.{FaultsAreDecided};
 
 /// A source is one specification at most, and one system at most is run for it.
 pub fn one_is_compiled()
     ensures { OneIsCompiled }
 {}
 
-/// For a source that is refused, other than for want of memory, no system is run.
+/// For a source that is refused, other than out of memory, no system is run.
 pub fn refused_compiles_none()
     ensures { RefusedCompilesNone }
 {}

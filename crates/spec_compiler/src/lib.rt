@@ -1,7 +1,5 @@
-// From the bytes of a specification to the code that runs, or the way in which it is refused.
+//! From the bytes of a specification to the code that runs, or the way in which it is refused.
 #![tactic(auto)]
 
 pub mod compile;
 pub mod laws;
-#[cfg(test)]
-mod tests;

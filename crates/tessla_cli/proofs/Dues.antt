@@ -5,7 +5,7 @@ use Rattle.std.proofs.Math.Seq.{take-nil}
 use Rattle.std.proofs.lemmas.Option.{slice_get_within}
 use Rattle.flat_core.specs.Ending.{EndsAtBound}
 use Rattle.flat_core.specs.Instant.{instants}
-use Rattle.flat_core.specs.BoundLaws.{AreFrom}
+use Rattle.flat_core.specs.inner.BoundLaws.{AreFrom}
 use Rattle.flat_core.specs.Case.{Streams}
 use Rattle.flat_core.specs.Line.{Line, inputs_of}
 use Rattle.flat_core.specs.Solution.{Solves}
@@ -20,7 +20,7 @@ use Rattle.trace_reader.proofs.LineLemmas.{reading_later, reading_closed}
 use Rattle.trace_monitor.specs.declared.options.Options.{Options}
 use Rattle.trace_monitor.specs.Due.{IsDue, SolvesClosed, lines_in, bound_in}
 use Rattle.trace_monitor.specs.Ending.{GoesOn}
-use Rattle.spec_compiler.specs.Ready.{IsReady}
+use Rattle.spec_compiler.specs.inner.Ready.{IsReady}
 use Rattle.trace_monitor.proofs.DueTexts.{due_alike, due_grows}
 use Rattle.trace_monitor.proofs.Readiness.{none_read, none_closed, none_due}
 

@@ -18,7 +18,7 @@ use Rattle.trace_bench.proofs.Compiling.{refused_benches_none}
 use Rattle.trace_bench.proofs.Endings.{one_ending}
 use Rattle.trace_bench.specs.Bench.{source_of}
 use Rattle.trace_bench.specs.declared.outcome.Outcome.TheVariants as outcome
-use Rattle.trace_bench.specs.Laws.{AreOfOneKind}
+use Rattle.trace_bench.specs.inner.Laws.{AreOfOneKind}
 use Rattle.trace_monitor.specs.declared.ending.RunEnding.{RunEnding}
 use Rattle.trace_monitor.specs.declared.ending.RunEnding.TheVariants as run
 use Rattle.trace_monitor.specs.declared.options.Options.{Options}

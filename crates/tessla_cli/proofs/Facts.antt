@@ -3,7 +3,7 @@ use Rattle.std.proofs.Common.{◌≡◌, ◌⊎◌, inl, inr, ℕ, ◌<◌, ◌�
 use Rattle.std.proofs.lemmas.List.{append-nil}
 use Rattle.alias_rules.specs.Fine.{IsTakenPlan}
 use Rattle.flat_core.specs.System.{System}
-use Rattle.monitor_run.specs.State as engine
+use Rattle.monitor_run.specs.inner.State as engine
 use Rattle.trace_monitor.specs.Counted.{HasCounted}
 use Rattle.tsl_world.specs.Begins.{Begins}
 use Rattle.tsl_world.specs.declared.outside.Did.{Did}
@@ -14,30 +14,32 @@ use Rattle.tsl_world.specs.declared.outside.Channel.{Channel}
 use Rattle.tsl_world.specs.declared.outside.Channel.TheVariants.{Out, Err}
 use Rattle.tsl_world.specs.Journal.{given, taken, ended, opening, openings, creations, AtReads, StopsAtEnd, IsNoRead, IsNoGift, IsTransfer, IsWithin, Each}
 use Rattle.tsl_world.proofs.Journals.{openings-append, creations-append, Each-append, no_place, place}
-use Rattle.tsl_world.proofs.Parts.{gifts_read_none, gifts_transfer, gifts_within, gifts_elsewhere, taken_before, taken_behind, ended_before, ended_behind, given_behind, given_none, openings_none, creations_none}
-use Rattle.tsl_world.proofs.Places.{at_none, at_no_read, at_join, at_more, at_behind, at_weaker}
+use Rattle.tsl_world.proofs.Parts.{gifts_read_none, gifts_transfer, gifts_within, gifts_elsewhere, taken_before, taken_after, ended_before, ended_after, given_after, given_none, openings_none, creations_none}
+use Rattle.tsl_world.proofs.Places.{at_none, at_no_read, at_join, at_more, at_after, at_weaker}
 use Rattle.spec_parser.specs.Tree as tree
 use Rattle.spec_compiler.specs.Compiled.{Compiles}
 use Rattle.trace_monitor.specs.declared.options.Options.{Options}
 use Rattle.trace_monitor.specs.Due.{IsDue}
 use Rattle.trace_monitor.specs.Ending.{GoesOn}
-use Rattle.trace_monitor.specs.Next.{EndsBy, most_taken}
+use Rattle.trace_monitor.specs.Next.{EndsBy}
 use Rattle.tessla_cli.specs.declared.ending.Ending.{Ending}
-use Rattle.tessla_cli.specs.Conduct.{HasWhole, source_limit, IsBeforeOpening, MakesNothing, ReadsSpecFirst, ReadsTraceLast, StopsAtLimit, ReadsPieces, OpensAsAsked, OfPrint, GoesOnAtReads, IsPartlyDue}
+use Rattle.tessla_cli.specs.Conduct.{HasWhole, IsBeforeOpening, MakesNothing, ReadsSpecFirst, ReadsTraceLast, StopsAtLimit, ReadsPieces, OpensAsAsked, OfPrint, GoesOnAtReads, IsPartlyDue}
 use Rattle.tessla_cli.specs.Headline.{OfRun, IsDueAtReads}
 use Rattle.tessla_cli.specs.Meant.{IsDueAsMeant, GoesOnAsMeant, BeginsAsMeant, WatchEndsAsMeant}
 use Rattle.tessla_cli.specs.Parts.{IsTake, IsTraceWork, MayRead, BeginsDue, Watched, WatchEnds}
 use Rattle.tessla_cli.specs.Statistics.{AreStatistics}
-use Rattle.tessla_cli.specs.Shape.{counted_text, MayReadSpec, ReadsSpec, GivesSource, Prints, idle, no_trace, watched, uncompiled, compiled, prints, RunsSpec, unopened, no_spec, reading, whole, RunsWords, unasked, asked, samples, PrintsText, unmade, writes}
+use Rattle.tessla_cli.specs.inner.Shape.{counted_text, MayReadSpec, ReadsSpec, GivesSource, Prints, idle, no_trace, watched, uncompiled, compiled, prints, RunsSpec, unopened, no_spec, reading, whole, RunsWords, unasked, asked, samples, PrintsText, unmade, writes}
 use Rattle.tessla_cli.specs.Alone.{IsAloneText}
 use Rattle.tessla_cli.specs.Printed.{IsTextOf}
 use Rattle.tessla_cli.specs.Tasks.{Alone, Task, alone_of, print, monitor, asked_of, names_of, traces_of}
 use Rattle.tessla_cli.specs.declared.task.Form.{Form}
 use Rattle.tessla_cli.proofs.Counted.{statistics_meant}
 use Rattle.tessla_cli.proofs.Meaning.{due_meant, goes_on_meant, begins_meant, watch_ends_meant}
+use Rattle.trace_reader.specs.declared.limits.TheConstants.{MOST_PIECE_BYTES}
+use Rattle.spec_lexer.specs.declared.limits.TheConstants.{MOST_SOURCE_BYTES}
 
 -- What holds of each read of a slot holds of a part of such reads, and so for a part that reads the trace and writes output.
-pub each_take : (P : Did → Type 0) (from : Slot) → ((bytes : List ℕ) → length bytes ≤ most_taken → P (Took from bytes)) → (part : List Did) → Each (IsTake from) part → Each P part
+pub each_take : (P : Did → Type 0) (from : Slot) → ((bytes : List ℕ) → length bytes ≤ MOST_PIECE_BYTES → P (Took from bytes)) → (part : List Did) → Each (IsTake from) part → Each P part
 each_take P from take [] all = tt
 each_take P from take (Took at bytes ∷ part) all = (subst (λ (s : Slot). P (Took s bytes)) (sym all.0.0) (take bytes all.0.1), each_take P from take part all.1)
 each_take P from take (Gave a b ∷ part) all = absurd all.0
@@ -46,7 +48,7 @@ each_take P from take (Created a b ∷ part) all = absurd all.0
 each_take P from take (NotOpened a b ∷ part) all = absurd all.0
 each_take P from take (NotCreated a b ∷ part) all = absurd all.0
 
-pub each_work : (P : Did → Type 0) → ((bytes : List ℕ) → length bytes ≤ most_taken → P (Took Trace bytes)) → ((bytes : List ℕ) → P (Gave Out bytes)) → (part : List Did) → Each IsTraceWork part → Each P part
+pub each_work : (P : Did → Type 0) → ((bytes : List ℕ) → length bytes ≤ MOST_PIECE_BYTES → P (Took Trace bytes)) → ((bytes : List ℕ) → P (Gave Out bytes)) → (part : List Did) → Each IsTraceWork part → Each P part
 each_work P take gave [] all = tt
 each_work P take gave (Took at bytes ∷ part) all = (subst (λ (s : Slot). P (Took s bytes)) (sym all.0.0) (take bytes all.0.1), each_work P take gave part all.1)
 each_work P take gave (Gave to bytes ∷ part) all = (subst (λ (c : Channel). P (Gave c bytes)) (sym all.0) (gave bytes), each_work P take gave part all.1)
@@ -80,7 +82,7 @@ no_opening_in slot (Gave a b ∷ part) (x ∷ before) all r =
 -- The specification stays whole where nothing of it is read.
 pub whole_more : (part more : List Did) → Each (IsNoRead Spec) more → HasWhole part → HasWhole (part ++ more)
 whole_more part more none (inl is) = inl (ended_before Spec part more none ∙ is)
-whole_more part more none (inr beyond) = inr (subst (λ (l : List ℕ). source_limit < length l) (sym (taken_before Spec part more none)) beyond)
+whole_more part more none (inr beyond) = inr (subst (λ (l : List ℕ). MOST_SOURCE_BYTES < length l) (sym (taken_before Spec part more none)) beyond)
 
 -- What every run shows, whatever ends it.
 pub record Shows (words : List (List ℕ)) (part : List Did) : Type 0 where
@@ -123,7 +125,7 @@ one_place : (before after : List Did) (it d : Did) → it ∷ [] ≡ before ++ d
 one_place [] after it d is = refl
 one_place (b ∷ before) after it d is = absurd (let rest : [] ≡ before ++ d ∷ after = cc in no_place before after d rest)
 
--- What stands behind the reads of the specification, for a task.
+-- What stands after the reads of the specification, for a task.
 record Tail (task : Task) (rest : List Did) : Type 0 where
   opens : (openings rest ≡ []) ⊎ (openings rest ≡ traces_of task)
   makes : creations rest ≡ []
@@ -150,13 +152,13 @@ module _ (words : List (List ℕ)) (name : List ℕ) (task : Task) (asked_is : a
   transfers : Each IsTransfer reads
   transfers = each_take IsTransfer Spec (λ bytes short. tt) reads r.only
 
-  front_pieces : Each (IsWithin most_taken) front
-  front_pieces = (tt, each_take (IsWithin most_taken) Spec (λ bytes short. short) reads r.only)
+  front_pieces : Each (IsWithin MOST_PIECE_BYTES) front
+  front_pieces = (tt, each_take (IsWithin MOST_PIECE_BYTES) Spec (λ bytes short. short) reads r.only)
 
   front_reads : AtReads Spec MayReadSpec front
-  front_reads = at_behind Spec MayReadSpec MayReadSpec (Opened Spec name ∷ []) reads (tt, tt) (λ less h. record { unended = h.unended; within = h.within }) r.reads
+  front_reads = at_after Spec MayReadSpec MayReadSpec (Opened Spec name ∷ []) reads (tt, tt) (λ less h. record { unended = h.unended; within = h.within }) r.reads
 
-  -- the openings of the front and of what is behind it
+  -- the openings of the front and of what is after it
   front_openings : (rest : List Did) → openings (front ++ rest) ≡ (Spec, name) ∷ openings rest
   front_openings rest = ap (λ (l : List (Slot × List ℕ)). (Spec, name) ∷ l) (openings-append reads rest ∙ ap (λ (l : List (Slot × List ℕ)). l ++ openings rest) (openings_none reads transfers))
 
@@ -175,9 +177,9 @@ module _ (words : List (List ℕ)) (name : List ℕ) (task : Task) (asked_is : a
       cc
   no_opening_front (x ∷ before) o = no_opening_in Trace reads before transfers record { did = o.did; name = o.name; after = o.after; is = o.is; split = (let e = o.split in cc) }
 
-  -- it stands behind
-  opening_behind : (rest before : List Did) → IsBeforeOpening Trace before (front ++ rest) → (mid : List Did) × (before ≡ front ++ mid) × IsBeforeOpening Trace mid rest
-  opening_behind rest before b = elim (place front rest before b.after b.did b.split) [
+  -- it stands after
+  opening_after : (rest before : List Did) → IsBeforeOpening Trace before (front ++ rest) → (mid : List Did) × (before ≡ front ++ mid) × IsBeforeOpening Trace mid rest
+  opening_after rest before b = elim (place front rest before b.after b.did b.split) [
     | inl (more, is) ↦ absurd (no_opening_front before record { did = b.did; name = b.name; after = more; is = b.is; split = is })
     | inr (mid, is, of) ↦ (mid, is, record { did = b.did; name = b.name; after = b.after; is = b.is; split = of })
   ]
@@ -189,24 +191,24 @@ module _ (words : List (List ℕ)) (name : List ℕ) (task : Task) (asked_is : a
     opens = inr (name, task, asked_is, subst (λ (l : List (Slot × List ℕ)). Begins l (names_of name task)) (sym (front_openings rest)) (opens_so (openings rest) tail.opens));
     makes = front_creations rest ∙ tail.makes;
     spec_first = λ before b.
-        let (mid, is, at) = opening_behind rest before b in
+        let (mid, is, at) = opening_after rest before b in
         let none : before ≡ front = is ∙ ap (λ (l : List Did). front ++ l) (tail.first mid at) ∙ append-nil front in
         let w : HasWhole front = is_whole mid at in
         subst (λ (l : List Did). HasWhole l) (sym none) w;
     trace_last = at_join Trace HasWhole front rest (at_no_read Trace HasWhole front front_no_trace) last;
     spec_ends = at_more Spec _ front rest (at_weaker Spec MayReadSpec _ front (λ before h. h.unended) front_reads) tail.spec;
-    trace_ends = at_behind Trace (λ less. ended Trace less ≡ false) (λ before. ended Trace before ≡ false) front rest front_no_trace (λ less e. ended_behind Trace front less front_no_trace ∙ e) tail.ends;
+    trace_ends = at_after Trace (λ less. ended Trace less ≡ false) (λ before. ended Trace before ≡ false) front rest front_no_trace (λ less e. ended_after Trace front less front_no_trace ∙ e) tail.ends;
     limit = at_more Spec _ front rest (at_weaker Spec MayReadSpec _ front (λ before h. h.within) front_reads) tail.spec;
-    pieces = Each-append (IsWithin most_taken) front rest front_pieces tail.pieces;
+    pieces = Each-append (IsWithin MOST_PIECE_BYTES) front rest front_pieces tail.pieces;
     due = at_join Trace (λ before. OfRun words before (λ items s o. IsDueAsMeant items s o (taken Trace before) false (given Out before))) front rest (at_no_read Trace _ front front_no_trace) due;
     goes_on = at_join Trace (λ before. OfRun words before (λ items s o. GoesOnAsMeant items s o (taken Trace before))) front rest (at_no_read Trace _ front front_no_trace) goes_on;
     partly = partly;
-    silent = given_behind Err front rest front_no_err ∙ tail.silent;
+    silent = given_after Err front rest front_no_err ∙ tail.silent;
   }
 
-  -- nothing behind it
-  nothing_behind : Tail task []
-  nothing_behind = record {
+  -- nothing after it
+  nothing_after : Tail task []
+  nothing_after = record {
     opens = inl refl;
     makes = refl;
     first = λ before b. absurd (no_place before b.after b.did b.split);
@@ -218,19 +220,19 @@ module _ (words : List (List ℕ)) (name : List ℕ) (task : Task) (asked_is : a
 
   shows_front : Shows words (front ++ [])
   shows_front =
-      shows_tail [] nothing_behind (λ before b. absurd (no_place before b.after b.did b.split)) (at_none Trace _) (at_none Trace _) (at_none Trace _)
+      shows_tail [] nothing_after (λ before b. absurd (no_place before b.after b.did b.split)) (at_none Trace _) (at_none Trace _) (at_none Trace _)
       (inl (given_none Out (front ++ []) (Each-append (IsNoGift Out) front [] front_no_out tt)))
 
   -- a text is printed
   module _ (source : List ℕ) (g : GivesSource source reads) (f : Form) (task_is : task ≡ print f) (part : List Did) (p : Prints source f part) where
-    print_behind : Tail task part
-    print_behind = record {
+    print_after : Tail task part
+    print_after = record {
       opens = inl (openings_none part (gifts_transfer Out part p.gifts));
       makes = creations_none part (gifts_transfer Out part p.gifts);
       first = λ before b. absurd (no_opening_in Trace part before (gifts_transfer Out part p.gifts) b);
       spec = gifts_read_none Out Spec part p.gifts;
       ends = at_no_read Trace _ part (gifts_read_none Out Trace part p.gifts);
-      pieces = gifts_within Out most_taken part p.gifts;
+      pieces = gifts_within Out MOST_PIECE_BYTES part p.gifts;
       silent = given_none Err part (gifts_elsewhere Out Err refl part p.gifts);
     }
 
@@ -238,16 +240,16 @@ module _ (words : List (List ℕ)) (name : List ℕ) (task : Task) (asked_is : a
     asked_print = asked_is ∙ ap (λ (t : Task). Some (name, t)) task_is
 
     -- the text is that of what was taken
-    printed_behind : (text : List ℕ) → IsTextOf source f text → IsTextOf (taken Spec (front ++ part)) f text
-    printed_behind text is = subst (λ (l : List ℕ). IsTextOf l f text) (sym (taken_before Spec front part (gifts_read_none Out Spec part p.gifts) ∙ g.bytes_are)) is
+    printed_after : (text : List ℕ) → IsTextOf source f text → IsTextOf (taken Spec (front ++ part)) f text
+    printed_after text is = subst (λ (l : List ℕ). IsTextOf l f text) (sym (taken_before Spec front part (gifts_read_none Out Spec part p.gifts) ∙ g.bytes_are)) is
 
     pub of_print : (P : List ℕ → Type 0) → P p.text → OfPrint words (front ++ part) P
-    of_print P holds = record { name = name; form = f; asked = asked_print; text = p.text; is = printed_behind p.text p.is; holds = holds }
+    of_print P holds = record { name = name; form = f; asked = asked_print; text = p.text; is = printed_after p.text p.is; holds = holds }
 
     shows_print : Shows words (front ++ part)
     shows_print =
-        shows_tail part print_behind (λ before b. g.whole) (at_no_read Trace _ part (gifts_read_none Out Trace part p.gifts)) (at_no_read Trace _ part (gifts_read_none Out Trace part p.gifts)) (at_no_read Trace _ part (gifts_read_none Out Trace part p.gifts))
-        (inr (inr (inl (of_print (λ text. Begins (given Out (front ++ part)) text) (subst (λ (l : List ℕ). Begins l p.text) (sym (given_behind Out front part front_no_out)) p.some)))))
+        shows_tail part print_after (λ before b. g.whole) (at_no_read Trace _ part (gifts_read_none Out Trace part p.gifts)) (at_no_read Trace _ part (gifts_read_none Out Trace part p.gifts)) (at_no_read Trace _ part (gifts_read_none Out Trace part p.gifts))
+        (inr (inr (inl (of_print (λ text. Begins (given Out (front ++ part)) text) (subst (λ (l : List ℕ). Begins l p.text) (sym (given_after Out front part front_no_out)) p.some)))))
 
   -- a trace is asked for
   module _ (trace : List ℕ) (o : Options) (statistics : Bool) (task_is : task ≡ monitor trace o statistics) where
@@ -258,8 +260,8 @@ module _ (words : List (List ℕ)) (name : List ℕ) (task : Task) (asked_is : a
     asked_run = asked_is ∙ ap (λ (t : Task). Some (name, t)) task_is
 
     -- the trace could not be opened
-    no_trace_behind : Tail task (NotOpened Trace trace ∷ [])
-    no_trace_behind = record {
+    no_trace_after : Tail task (NotOpened Trace trace ∷ [])
+    no_trace_after = record {
       opens = inr (sym traces_are);
       makes = refl;
       first = λ before b. one_place before b.after (NotOpened Trace trace) b.did b.split;
@@ -271,27 +273,27 @@ module _ (words : List (List ℕ)) (name : List ℕ) (task : Task) (asked_is : a
 
     shows_no_trace : (source : List ℕ) → GivesSource source reads → Shows words (front ++ NotOpened Trace trace ∷ [])
     shows_no_trace source g =
-        shows_tail (NotOpened Trace trace ∷ []) no_trace_behind (λ before b. g.whole) (at_no_read Trace _ (NotOpened Trace trace ∷ []) (tt, tt)) (at_no_read Trace _ (NotOpened Trace trace ∷ []) (tt, tt))
+        shows_tail (NotOpened Trace trace ∷ []) no_trace_after (λ before b. g.whole) (at_no_read Trace _ (NotOpened Trace trace ∷ []) (tt, tt)) (at_no_read Trace _ (NotOpened Trace trace ∷ []) (tt, tt))
         (at_no_read Trace _ (NotOpened Trace trace ∷ []) (tt, tt))
         (inl (given_none Out (front ++ NotOpened Trace trace ∷ []) (Each-append (IsNoGift Out) front (NotOpened Trace trace ∷ []) front_no_out (tt, tt))))
 
     module _ (source : List ℕ) (g : GivesSource source reads) (items : List tree.Item) (s : System) (compiled_so : Compiles source items s) where
-      -- what is taken of the specification, behind which nothing of it is read
-      pub compiled_behind : (less : List Did) → Each (IsNoRead Spec) less → Compiles (taken Spec (front ++ less)) items s
-      compiled_behind less none = subst (λ (l : List ℕ). Compiles l items s) (sym (taken_before Spec front less none ∙ g.bytes_are)) compiled_so
+      -- what is taken of the specification, after which nothing of it is read
+      pub compiled_after : (less : List Did) → Each (IsNoRead Spec) less → Compiles (taken Spec (front ++ less)) items s
+      compiled_after less none = subst (λ (l : List ℕ). Compiles l items s) (sym (taken_before Spec front less none ∙ g.bytes_are)) compiled_so
 
       pub of_run : (less : List Did) (P : List tree.Item → System → Options → Type 0) → Each (IsNoRead Spec) less → P items s o → OfRun words (front ++ less) P
-      of_run less P none holds = record { name = name; trace = trace; options = o; statistics = statistics; asked = asked_run; items = items; system = s; compiled = compiled_behind less none; holds = holds }
+      of_run less P none holds = record { name = name; trace = trace; options = o; statistics = statistics; asked = asked_run; items = items; system = s; compiled = compiled_after less none; holds = holds }
 
-      -- what is due, what goes on and what ends behind the front is what it is without it
-      due_behind : (less : List Did) (e : Bool) (text : List ℕ) → IsDue s o (taken Trace less) e text → IsDue s o (taken Trace (front ++ less)) e text
-      due_behind less e text due = subst (λ (l : List ℕ). IsDue s o l e text) (sym (taken_behind Trace front less front_no_trace)) due
+      -- what is due, what goes on and what ends after the front is what it is without it
+      due_after : (less : List Did) (e : Bool) (text : List ℕ) → IsDue s o (taken Trace less) e text → IsDue s o (taken Trace (front ++ less)) e text
+      due_after less e text due = subst (λ (l : List ℕ). IsDue s o l e text) (sym (taken_after Trace front less front_no_trace)) due
 
       given_so : (less : List Did) (e : Bool) → IsDue s o (taken Trace less) e (given Out less) → IsDue s o (taken Trace (front ++ less)) e (given Out (front ++ less))
-      given_so less e due = subst (λ (l : List ℕ). IsDue s o (taken Trace (front ++ less)) e l) (sym (given_behind Out front less front_no_out)) (due_behind less e (given Out less) due)
+      given_so less e due = subst (λ (l : List ℕ). IsDue s o (taken Trace (front ++ less)) e l) (sym (given_after Out front less front_no_out)) (due_after less e (given Out less) due)
 
       ended_so : (less : List Did) → ended Trace (front ++ less) ≡ ended Trace less
-      ended_so less = ended_behind Trace front less front_no_trace
+      ended_so less = ended_after Trace front less front_no_trace
 
       all_ends : (state : engine.State) (by : Ending) (part : List Did) → WatchEnds s o state by part → WatchEnds s o state by (front ++ Opened Trace trace ∷ part)
       all_ends state by part w = let rest = Opened Trace trace ∷ part in record {
@@ -299,18 +301,18 @@ module _ (words : List (List ℕ)) (name : List ℕ) (task : Task) (asked_is : a
         how = w.how;
         by_is = w.by_is;
         cause = subst (λ (e : Bool). EndsBy s o (taken Trace (front ++ rest)) e w.how) (sym (ended_so rest))
-            (subst (λ (l : List ℕ). EndsBy s o l (ended Trace rest) w.how) (sym (taken_behind Trace front rest front_no_trace)) w.cause);
+            (subst (λ (l : List ℕ). EndsBy s o l (ended Trace rest) w.how) (sym (taken_after Trace front rest front_no_trace)) w.cause);
         counted = subst (λ (e : Bool). HasCounted s o (taken Trace (front ++ rest)) e state w.how) (sym (ended_so rest))
-            (subst (λ (l : List ℕ). HasCounted s o l (ended Trace rest) state w.how) (sym (taken_behind Trace front rest front_no_trace)) w.counted);
+            (subst (λ (l : List ℕ). HasCounted s o l (ended Trace rest) state w.how) (sym (taken_after Trace front rest front_no_trace)) w.counted);
       }
 
-      pub ends_behind : (state : engine.State) (by : Ending) (part : List Did) → WatchEnds s o state by part → WatchEndsAsMeant items s o by (front ++ Opened Trace trace ∷ part)
-      ends_behind state by part w = watch_ends_meant source items s o compiled_so state by (front ++ Opened Trace trace ∷ part) (all_ends state by part w)
+      pub ends_after : (state : engine.State) (by : Ending) (part : List Did) → WatchEnds s o state by part → WatchEndsAsMeant items s o by (front ++ Opened Trace trace ∷ part)
+      ends_after state by part w = watch_ends_meant source items s o compiled_so state by (front ++ Opened Trace trace ∷ part) (all_ends state by part w)
 
       -- what is told of the updates
-      pub statistics_behind : (state : engine.State) (order : List ℕ) → IsTakenPlan s state.in_place order → (by : Ending) (part : List Did) (text : List ℕ) → WatchEnds s o state by part → text ≡ counted_text s state true
+      pub statistics_after : (state : engine.State) (order : List ℕ) → IsTakenPlan s state.in_place order → (by : Ending) (part : List Did) (text : List ℕ) → WatchEnds s o state by part → text ≡ counted_text s state true
           → AreStatistics s o (taken Trace (front ++ Opened Trace trace ∷ part)) (ended Trace (front ++ Opened Trace trace ∷ part)) by text
-      statistics_behind state order taken_plan by part text w is = statistics_meant s o state order taken_plan by (front ++ Opened Trace trace ∷ part) text (all_ends state by part w) is
+      statistics_after state order taken_plan by part text w is = statistics_meant s o state order taken_plan by (front ++ Opened Trace trace ∷ part) text (all_ends state by part w) is
 
       module _ (part : List Did) (w : Watched s o part) where
         spec_none : Each (IsNoRead Spec) part
@@ -323,14 +325,14 @@ module _ (words : List (List ℕ)) (name : List ℕ) (task : Task) (asked_is : a
         before_read : AtReads Trace (λ less. MayRead s o less × Each (IsNoRead Spec) less) part
         before_read before r = (w.reads before r, each_front (IsNoRead Spec) before _ (subst (λ (l : List Did). Each (IsNoRead Spec) l) r.split spec_none))
 
-        watched_behind : Tail task (Opened Trace trace ∷ part)
-        watched_behind = record {
+        watched_after : Tail task (Opened Trace trace ∷ part)
+        watched_after = record {
           opens = inr (ap (λ (l : List (Slot × List ℕ)). (Trace, trace) ∷ l) (openings_none part moves) ∙ sym traces_are);
           makes = creations_none part moves;
           first = opened_first;
           spec = (tt, spec_none);
-          ends = at_behind Trace (MayRead s o) (λ less. ended Trace less ≡ false) (Opened Trace trace ∷ []) part (tt, tt) (λ less h. h.unended) w.reads;
-          pieces = (tt, each_work (IsWithin most_taken) (λ bytes short. short) (λ bytes. tt) part w.work);
+          ends = at_after Trace (MayRead s o) (λ less. ended Trace less ≡ false) (Opened Trace trace ∷ []) part (tt, tt) (λ less h. h.unended) w.reads;
+          pieces = (tt, each_work (IsWithin MOST_PIECE_BYTES) (λ bytes short. short) (λ bytes. tt) part w.work);
           silent = given_none Err part (each_work (IsNoGift Err) (λ bytes short. tt) (λ bytes. refl) part w.work);
         }
           where
@@ -340,26 +342,26 @@ module _ (words : List (List ℕ)) (name : List ℕ) (task : Task) (asked_is : a
 
         pub shows_watched : Shows words (front ++ Opened Trace trace ∷ part)
         shows_watched =
-            shows_tail (Opened Trace trace ∷ part) watched_behind (λ before b. g.whole)
-            (at_behind Trace (λ less. MayRead s o less × Each (IsNoRead Spec) less) (λ less. HasWhole (front ++ less)) (Opened Trace trace ∷ []) part (tt, tt)
+            shows_tail (Opened Trace trace ∷ part) watched_after (λ before b. g.whole)
+            (at_after Trace (λ less. MayRead s o less × Each (IsNoRead Spec) less) (λ less. HasWhole (front ++ less)) (Opened Trace trace ∷ []) part (tt, tt)
             (λ less h. whole_more front (Opened Trace trace ∷ less) (tt, h.1) g.whole) before_read)
-            (at_behind Trace (λ less. MayRead s o less × Each (IsNoRead Spec) less)
+            (at_after Trace (λ less. MayRead s o less × Each (IsNoRead Spec) less)
             (λ less. OfRun words (front ++ less) (λ items s o. IsDueAsMeant items s o (taken Trace (front ++ less)) false (given Out (front ++ less)))) (Opened Trace trace ∷ []) part (tt, tt)
             (λ less h. of_run (Opened Trace trace ∷ less) (λ items s o. IsDueAsMeant items s o (taken Trace (front ++ Opened Trace trace ∷ less)) false (given Out (front ++ Opened Trace trace ∷ less))) (tt, h.1)
             (due_meant source items s o compiled_so (taken Trace (front ++ Opened Trace trace ∷ less)) false (given Out (front ++ Opened Trace trace ∷ less)) (given_so (Opened Trace trace ∷ less) false h.0.due))) before_read)
-            (at_behind Trace (λ less. MayRead s o less × Each (IsNoRead Spec) less)
+            (at_after Trace (λ less. MayRead s o less × Each (IsNoRead Spec) less)
             (λ less. OfRun words (front ++ less) (λ items s o. GoesOnAsMeant items s o (taken Trace (front ++ less)))) (Opened Trace trace ∷ []) part (tt, tt)
             (λ less h. of_run (Opened Trace trace ∷ less) (λ items s o. GoesOnAsMeant items s o (taken Trace (front ++ Opened Trace trace ∷ less))) (tt, h.1)
             (goes_on_meant source items s o compiled_so (taken Trace (front ++ Opened Trace trace ∷ less))
-            (subst (λ (l : List ℕ). GoesOn s o l) (sym (taken_behind Trace front (Opened Trace trace ∷ less) front_no_trace)) h.0.goes_on))) before_read)
+            (subst (λ (l : List ℕ). GoesOn s o l) (sym (taken_after Trace front (Opened Trace trace ∷ less) front_no_trace)) h.0.goes_on))) before_read)
             (inr (inl (of_run (Opened Trace trace ∷ part) (λ items s o. BeginsAsMeant items s o (front ++ Opened Trace trace ∷ part)) (tt, spec_none)
             (begins_meant source items s o compiled_so (front ++ Opened Trace trace ∷ part) begins))))
           where
             begins : BeginsDue s o (front ++ Opened Trace trace ∷ part)
             begins = let rest = Opened Trace trace ∷ part in record {
               text = w.partly.text;
-              due = subst (λ (e : Bool). IsDue s o (taken Trace (front ++ rest)) e w.partly.text) (sym (ended_so rest)) (due_behind rest (ended Trace rest) w.partly.text w.partly.due);
-              begins = subst (λ (l : List ℕ). Begins l w.partly.text) (sym (given_behind Out front rest front_no_out)) w.partly.begins;
+              due = subst (λ (e : Bool). IsDue s o (taken Trace (front ++ rest)) e w.partly.text) (sym (ended_so rest)) (due_after rest (ended Trace rest) w.partly.text w.partly.due);
+              begins = subst (λ (l : List ℕ). Begins l w.partly.text) (sym (given_after Out front rest front_no_out)) w.partly.begins;
             }
 
 -- what a run of a specification shows, and of words
@@ -392,7 +394,7 @@ shows_alone words a is part p = record {
   trace_ends = at_no_read Trace _ part (gifts_read_none Out Trace part p.gifts);
   trace_last = at_no_read Trace HasWhole part (gifts_read_none Out Trace part p.gifts);
   limit = at_no_read Spec _ part (gifts_read_none Out Spec part p.gifts);
-  pieces = gifts_within Out most_taken part p.gifts;
+  pieces = gifts_within Out MOST_PIECE_BYTES part p.gifts;
   due = at_no_read Trace _ part (gifts_read_none Out Trace part p.gifts);
   goes_on = at_no_read Trace _ part (gifts_read_none Out Trace part p.gifts);
   partly = inr (inr (inr (record { what = a; asked = is; text = p.text; is = p.is; holds = p.some })));

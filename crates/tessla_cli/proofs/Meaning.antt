@@ -1,13 +1,13 @@
 -- What the system that is run says of a trace, the specification itself says.
 use Rattle.std.proofs.Common.{◌≡◌, ℕ, Bool, false, List, sym, subst}
 use Rattle.lift_func.specs.declared.fault.FaultKind.{FaultKind}
-use Rattle.monitor_run.specs.State as engine
+use Rattle.monitor_run.specs.inner.State as engine
 use Rattle.flat_core.specs.Case.{Streams}
 use Rattle.flat_core.specs.Ending.{EndsInFault}
 use Rattle.flat_core.specs.Line.{Line}
 use Rattle.flat_core.specs.System.{System}
 use Rattle.spec_compiler.specs.Compiled.{Compiles}
-use Rattle.spec_compiler.specs.Laws.{SaysWhatIsMeant}
+use Rattle.spec_compiler.specs.inner.Laws.{SaysWhatIsMeant}
 use Rattle.spec_compiler.specs.Meant.{QuietIsMeant, FaultTimeIsMeant, IsFaultNamed}
 use Rattle.spec_compiler.proofs.Meaning.{compiled_says_what_is_meant}
 use Rattle.spec_meaning.specs.Due.{IsDueText}

@@ -8,7 +8,7 @@ use Rattle.tsl_world.specs.declared.outside.Did.{Did}
 use Rattle.tessla_cli.specs.declared.task.Form.{Form}
 use Rattle.tessla_cli.specs.Parts.{Gives}
 use Rattle.tessla_cli.specs.Printed.{HasText, IsTextOf}
-use Rattle.tessla_cli.specs.Shape.{Prints, HasPrinted, PrintsText, HasPrintedText}
+use Rattle.tessla_cli.specs.inner.Shape.{Prints, HasPrinted, PrintsText, HasPrintedText}
 
 -- any text
 module _ (P : List ℕ → Type 0) (text : List ℕ) (is : P text) where

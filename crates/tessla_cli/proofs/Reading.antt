@@ -10,12 +10,13 @@ use Rattle.tsl_world.specs.Runs.{Runs}
 use Rattle.tsl_world.specs.Standing.{Standing}
 use Rattle.tsl_world.proofs.Runs.{go_on, called}
 use Rattle.tsl_world.proofs.Journals.{taken-append, ended-append, Each-append}
-use Rattle.tessla_cli.specs.Conduct.{source_limit}
-use Rattle.trace_monitor.specs.Next.{most_taken, is_nothing}
+use Rattle.trace_monitor.specs.Next.{is_nothing}
 use Rattle.tessla_cli.specs.Parts.{IsTake}
-use Rattle.tessla_cli.specs.Shape.{MayReadSpec, ReadsSpec, GivesSource}
+use Rattle.tessla_cli.specs.inner.Shape.{MayReadSpec, ReadsSpec, GivesSource}
 use Rattle.tessla_cli.proofs.Watching.{not_zero}
 use Rattle.tsl_world.proofs.Places.{at_none, at_read}
+use Rattle.trace_reader.specs.declared.limits.TheConstants.{MOST_PIECE_BYTES}
+use Rattle.spec_lexer.specs.declared.limits.TheConstants.{MOST_SOURCE_BYTES}
 
 -- these bytes of the specification were read, and not its end
 pub record HasRead (source : List ℕ) (part : List Did) : Type 0 where
@@ -27,10 +28,10 @@ pub has_read_none : HasRead [] []
 has_read_none = record { bytes_are = refl; unended = refl; reads = record { only = tt; reads = at_none Spec MayReadSpec } }
 
 -- one read more
-pub reads_more : (source piece : List ℕ) (part : List Did) → HasRead source part → length source ≤ source_limit → length piece ≤ most_taken → ReadsSpec (part ++ Took Spec piece ∷ [])
+pub reads_more : (source piece : List ℕ) (part : List Did) → HasRead source part → length source ≤ MOST_SOURCE_BYTES → length piece ≤ MOST_PIECE_BYTES → ReadsSpec (part ++ Took Spec piece ∷ [])
 reads_more source piece part h within short = record {
   only = Each-append (IsTake Spec) part (Took Spec piece ∷ []) h.reads.only ((refl, short), tt);
-  reads = at_read Spec MayReadSpec part piece h.reads.reads record { unended = h.unended; within = subst (λ (l : List ℕ). length l ≤ source_limit) (sym h.bytes_are) within };
+  reads = at_read Spec MayReadSpec part piece h.reads.reads record { unended = h.unended; within = subst (λ (l : List ℕ). length l ≤ MOST_SOURCE_BYTES) (sym h.bytes_are) within };
 }
 
 took_bytes : (source piece : List ℕ) (part : List Did) → HasRead source part → taken Spec (part ++ Took Spec piece ∷ []) ≡ source ++ piece
@@ -42,7 +43,7 @@ took_end [] part is = ended-append Spec part (Took Spec [] ∷ []) ∙ ap (λ (b
 took_end (x ∷ piece) part is = ended-append Spec part (Took Spec (x ∷ piece) ∷ []) ∙ ap (λ (b : Bool). b || false) is ∙ not_zero (length piece)
 
 -- a piece that is not the end
-pub has_read_more : (source piece : List ℕ) (part : List Did) → HasRead source part → length source ≤ source_limit → length piece ≤ most_taken → is_nothing piece ≡ false
+pub has_read_more : (source piece : List ℕ) (part : List Did) → HasRead source part → length source ≤ MOST_SOURCE_BYTES → length piece ≤ MOST_PIECE_BYTES → is_nothing piece ≡ false
     → HasRead (source ++ piece) (part ++ Took Spec piece ∷ [])
 has_read_more source piece part h within short some = record {
   bytes_are = took_bytes source piece part h;
@@ -51,7 +52,7 @@ has_read_more source piece part h within short some = record {
 }
 
 -- the end
-pub has_read_all : (source piece : List ℕ) (part : List Did) → HasRead source part → length source ≤ source_limit → length piece ≤ most_taken → is_nothing piece ≡ true
+pub has_read_all : (source piece : List ℕ) (part : List Did) → HasRead source part → length source ≤ MOST_SOURCE_BYTES → length piece ≤ MOST_PIECE_BYTES → is_nothing piece ≡ true
     → ReadsSpec (part ++ Took Spec piece ∷ []) × GivesSource source (part ++ Took Spec piece ∷ [])
 has_read_all source [] part h within short none = (
   reads_more source [] part h within short,
@@ -60,8 +61,8 @@ has_read_all source [] part h within short none = (
 has_read_all source (b ∷ piece) part h within short none = absurd (let e : false ≡ true = not_zero (length piece) ∙ none in cc)
 
 -- past the limit
-pub has_read_enough : (source : List ℕ) (part : List Did) → HasRead source part → source_limit < length source → GivesSource source part
-has_read_enough source part h over = record { bytes_are = h.bytes_are; whole = inr (subst (λ (l : List ℕ). source_limit < length l) (sym h.bytes_are) over) }
+pub has_read_enough : (source : List ℕ) (part : List Did) → HasRead source part → MOST_SOURCE_BYTES < length source → GivesSource source part
+has_read_enough source part h over = record { bytes_are = h.bytes_are; whole = inr (subst (λ (l : List ℕ). MOST_SOURCE_BYTES < length l) (sym h.bytes_are) over) }
 
 -- one read of the specification more, told or not
 module _ {W : Type 0} (told : W → Bool) (journal : W → List Did) (standing : W → Standing) where

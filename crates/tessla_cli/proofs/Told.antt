@@ -1,9 +1,9 @@
--- What a run shows and how it ends, behind the line that tells it.
+-- What a run shows and how it ends, after the line that tells it.
 use Rattle.std.proofs.Common.{◌≡◌, ◌≢◌, ◌⊎◌, inl, inr, ℕ, Bool, true, false, List, [], ◌∷◌, ◌++◌, refl, sym, ◌∙◌, ap, subst, arith, Option, Some, None, option_and_then}
 use Rattle.std.specs.Option.{option_map_or}
 use Rattle.alias_rules.specs.Fine.{IsTakenPlan}
 use Rattle.flat_core.specs.System.{System}
-use Rattle.monitor_run.specs.State as engine
+use Rattle.monitor_run.specs.inner.State as engine
 use Rattle.spec_parser.specs.Tree as tree
 use Rattle.spec_reader.specs.declared.fault.SpecFault.{SpecFault}
 use Rattle.spec_compiler.specs.Compiled.{Compiles, IsRefusedBy}
@@ -18,7 +18,7 @@ use Rattle.tsl_world.specs.declared.outside.Slot.TheVariants.{Spec, Trace}
 use Rattle.tsl_world.specs.declared.outside.Channel.TheVariants.{Out, Err}
 use Rattle.tsl_world.specs.Journal.{given, taken, ended, openings, IsNoRead, IsNoGift, IsTransfer, IsGift, Each}
 use Rattle.tsl_world.proofs.Journals.{given-append, place, Each-append}
-use Rattle.tsl_world.proofs.Parts.{gifts_read_none, gifts_transfer, gifts_within, gifts_elsewhere, taken_before, ended_before, given_before, given_behind, given_none, openings_before, creations_before, openings_none}
+use Rattle.tsl_world.proofs.Parts.{gifts_read_none, gifts_transfer, gifts_within, gifts_elsewhere, taken_before, ended_before, given_before, given_after, given_none, openings_before, creations_before, openings_none}
 use Rattle.tsl_world.proofs.Places.{at_more}
 use Rattle.tessla_cli.specs.declared.ending.Ended.{Ended}
 use Rattle.tessla_cli.specs.declared.ending.Ending.{Ending}
@@ -33,13 +33,13 @@ use Rattle.tessla_cli.specs.Meant.{IsDueAsMeant, EndsAsMeant, BeginsAsMeant, Wat
 use Rattle.tessla_cli.specs.Messages.{ended_text, broken_line, status_of}
 use Rattle.tessla_cli.specs.Outcome.{Ends, Faulted, IsToldBefore, unasked, refused_before, counted, Limited, LineRefused, Refused, TellsFailure, told_failure, untold_ending, untold_memory, untold_failure, Outcome, told, outside, memory, ShowsAlways, Concludes, TellsBroken, all_of_broken, some_of_broken, TellsEnding, all_of_ending, some_of_ending, no_text}
 use Rattle.tessla_cli.specs.Parts.{ending_of, Watched, WatchEnds}
-use Rattle.tessla_cli.specs.Shape.{ReadsSpec, GivesSource, counted_text, ends, SourceEnds, spec_refused, compiled_ends, printed, whole_ends, WordsEnd, words_refused, asked_ends, sampled, AloneIsDone, written, stopped}
+use Rattle.tessla_cli.specs.inner.Shape.{ReadsSpec, GivesSource, counted_text, ends, SourceEnds, spec_refused, compiled_ends, printed, whole_ends, WordsEnd, words_refused, asked_ends, sampled, AloneIsDone, written, stopped}
 use Rattle.tessla_cli.specs.Printed.{IsTextOf}
 use Rattle.tessla_cli.specs.Statistics.{AreStatistics}
 use Rattle.tessla_cli.specs.Tasks.{Alone, Request, Task, alone, alone_of, asked_of, asks_statistics, benched, has_statistics, made, monitor, names_of, over, requested, with_spec, without_spec}
 use Rattle.tessla_cli.proofs.Failing.{call_and_none, call_and_write, none_and_write}
 use Rattle.tessla_cli.proofs.Unseen.{no_update_is_seen}
-use Rattle.tessla_cli.proofs.Facts.{Shows, no_opening_in, whole_more, of_run, of_print, ends_behind, statistics_behind, each_take, each_work}
+use Rattle.tessla_cli.proofs.Facts.{Shows, no_opening_in, whole_more, of_run, of_print, ends_after, statistics_after, each_take, each_work}
 use Rattle.std.proofs.lemmas.List.{append-nil}
 
 -- a run that ends before the end of its trace is not done
@@ -131,11 +131,11 @@ module _ (words : List (List ℕ)) where
     source_ends by _ (compiled_ends trace o statistics monitors items s c (ends state order part taken_plan w e is_told)) =
         of_watch by.ending (Opened Spec name ∷ (reads ++ Opened Trace trace ∷ part))
         (of_run words name task is reads r trace o statistics monitors source g items s c (Opened Trace trace ∷ part) (λ items s o. WatchEndsAsMeant items s o by.ending (Opened Spec name ∷ (reads ++ Opened Trace trace ∷ part)))
-        (tt, each_work (IsNoRead Spec) (λ bytes short. refl) (λ bytes. tt) part w.work) (ends_behind words name task is reads r trace o statistics monitors source g items s c state by.ending part e))
+        (tt, each_work (IsNoRead Spec) (λ bytes short. refl) (λ bytes. tt) part w.work) (ends_after words name task is reads r trace o statistics monitors source g items s c state by.ending part e))
     source_ends by rest (printed f printing done nothing p) =
         let part = Opened Spec name ∷ (reads ++ rest) in
         let begins : Begins (given Out rest) p.text = record { rest = []; is = sym p.whole ∙ sym (append-nil (given Out rest)) } in
-        let given_is : given Out part ≡ p.text = given_behind Out (Opened Spec name ∷ reads) rest (tt, each_take (IsNoGift Out) Spec (λ bytes short. tt) reads r.only) ∙ p.whole in
+        let given_is : given Out part ≡ p.text = given_after Out (Opened Spec name ∷ reads) rest (tt, each_take (IsNoGift Out) Spec (λ bytes short. tt) reads r.only) ∙ p.whole in
         subst (λ (b : Ending). RunEnds words b part) (sym done)
         (inr (inl (of_print words name task is reads r source g f printing rest record { text = p.text; is = p.is; gifts = p.gifts; some = begins } (λ text. given Out part ≡ text) given_is)))
 
@@ -148,7 +148,7 @@ module _ (words : List (List ℕ)) where
         let whole = Opened Spec name ∷ (reads ++ Opened Trace trace ∷ part) in
         counted (asks_as words name task is ∙ ap has_statistics monitors)
         (of_run words name task is reads r trace o true monitors source g items s c (Opened Trace trace ∷ part) (λ items s o. AreStatistics s o (taken Trace whole) (ended Trace whole) by.ending by.statistics)
-        (tt, each_work (IsNoRead Spec) (λ bytes short. refl) (λ bytes. tt) part w.work) (statistics_behind words name task is reads r trace o true monitors source g items s c state order taken_plan by.ending part by.statistics e is_told))
+        (tt, each_work (IsNoRead Spec) (λ bytes short. refl) (λ bytes. tt) part w.work) (statistics_after words name task is reads r trace o true monitors source g items s c state order taken_plan by.ending part by.statistics e is_told))
 
     source_before : (by : Ended) (rest : List Did) → SourceEnds source task by rest → IsToldBefore words by.ending (Opened Spec name ∷ (reads ++ rest)) by.statistics
     source_before by rest (spec_refused {fault} same nothing refused none) = refused_before fault same nothing
@@ -316,7 +316,7 @@ module _ (words : List (List ℕ)) where
     less_told : (text : List ℕ) → given Err part ≡ [] → BeginsStrictly (given Err more) text → BeginsStrictly (given Err (part ++ more)) text
     less_told text none less = subst (λ (l : List ℕ). BeginsStrictly l text) (sym (err_told none)) less
 
-  -- A run that was cut short is told: by a failure of the outside, or by a want of memory.
+  -- A run that was cut short is told: by a failure of the outside, or by memory that ran out.
   module _ (before mid now : Failures) (status : ℕ) (part more : List Did) (shows : Shows words part) where
     pub concludes_failure : CallFailed before mid → TellsBroken broken.Outside mid now status more → Concludes words before now status (part ++ more)
     concludes_failure call (all_of_broken is same gifts whole) =

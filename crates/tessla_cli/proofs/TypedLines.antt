@@ -5,11 +5,11 @@ use Rattle.tsl_value.specs.View.{Plain, is_of}
 use Rattle.flat_core.specs.declared.equation.Equation.{Equation}
 use Rattle.flat_core.specs.Line.{Line}
 use Rattle.flat_core.specs.System.{System}
-use Rattle.flat_core.specs.TypedLines.{IsTypedLine, AreTypedLines}
+use Rattle.flat_core.specs.inner.TypedLines.{IsTypedLine, AreTypedLines}
 use Rattle.flat_core.proofs.Uniqueness.{all_by}
 use Rattle.trace_monitor.specs.declared.options.Options.{Options}
 use Rattle.trace_monitor.specs.Due.{lines_in}
-use Rattle.trace_reader.specs.Laws.{IsProperLine}
+use Rattle.trace_reader.specs.inner.Laws.{IsProperLine}
 use Rattle.trace_reader.proofs.LineLemmas.{reading_proper}
 
 -- what the law of the compiler asks of the lines of a trace

@@ -15,7 +15,8 @@ use Rattle.flat_core.specs.Line.{Line, inputs_of, last_time}
 use Rattle.flat_core.specs.Members.{is_in}
 use Rattle.flat_core.specs.Renumbered.{with_new_args, with_new_equation}
 use Rattle.flat_core.specs.System.{System}
-use Rattle.flat_simplify.specs.Laws.{IsFit}
+use Rattle.flat_core.specs.declared.limits.TheConstants.{MOST_EQUATIONS}
+use Rattle.flat_simplify.specs.inner.Laws.{IsFit}
 use Rattle.flat_simplify.proofs.Fit.{simplified_fit}
 use Rattle.register_machine.specs.Copied.{copied, total_copied}
 use Rattle.register_machine.specs.Run.{Plan}
@@ -25,7 +26,7 @@ use Rattle.spec_compiler.specs.Compiled.{Compiles}
 use Rattle.spec_parser.specs.Tree as tree
 use Rattle.trace_monitor.specs.declared.options.Options.{Options}
 use Rattle.trace_monitor.specs.Due.{bound_in, lines_in}
-use Rattle.trace_reader.specs.Laws.{IsProperLine}
+use Rattle.trace_reader.specs.inner.Laws.{IsProperLine}
 use Rattle.trace_reader.specs.Reading.{reading}
 use Rattle.trace_reader.proofs.LineLemmas.{reading_proper}
 use Rattle.tsl_world.specs.Journal.{ended, taken}
@@ -43,7 +44,7 @@ module _ (source : List ℕ) (items : List tree.Item) (s : System) (c : Compiles
   pub fit : IsFit c.flat s
   fit = simplified_fit c.flat s before.proper before.complete.typed c.spells.well_formed before.outputs_run c.simplified
 
-  few_equations : length s.equations ≤ 4096
+  few_equations : length s.equations ≤ MOST_EQUATIONS
   few_equations =
       let many : length s.equations ≡ length c.flat.equations = ap length c.simplified.renumbered.equations_are ∙ length-map c.flat.equations (with_new_args c.simplified.replaced) in
       let few = before.few_equations in

@@ -17,18 +17,19 @@ use Rattle.tsl_world.proofs.Parts.{gifts_read_none, taken_before, ended_before}
 use Rattle.tsl_world.proofs.Places.{at_none, at_more, at_read}
 use Rattle.tsl_world.proofs.Journals.{given-append, taken-append, ended-append, Each-append}
 use Rattle.tessla_cli.specs.declared.ending.Ending.{Ending}
-use Rattle.monitor_run.specs.State as engine
+use Rattle.monitor_run.specs.inner.State as engine
 use Rattle.trace_monitor.specs.Counted.{HasCounted}
 use Rattle.trace_monitor.specs.declared.options.Options.{Options}
 use Rattle.trace_monitor.specs.Due.{IsDue}
 use Rattle.tsl_world.specs.Begins.{Begins}
 use Rattle.trace_monitor.specs.Ending.{GoesOn}
 use Rattle.trace_monitor.specs.declared.ending.RunEnding.{RunEnding}
-use Rattle.trace_monitor.specs.Next.{EndsBy, IsNext, most_taken, is_nothing}
-use Rattle.trace_monitor.specs.State.{State}
+use Rattle.trace_monitor.specs.Next.{EndsBy, IsNext, is_nothing}
+use Rattle.trace_monitor.specs.inner.State.{State}
 use Rattle.tessla_cli.specs.Parts.{Gives, IsTraceWork, MayRead, Watched, WatchEnds, ending_of}
-use Rattle.spec_compiler.specs.Ready.{IsReady}
+use Rattle.spec_compiler.specs.inner.Ready.{IsReady}
 use Rattle.tessla_cli.proofs.Dues.{due_more}
+use Rattle.trace_reader.specs.declared.limits.TheConstants.{MOST_PIECE_BYTES}
 
 is_out : (at : Channel) → same_channel at Out ≡ true → at ≡ Out
 is_out channel.Out same = refl
@@ -91,7 +92,7 @@ module _ (s : System) (o : Options) where
   }
 
   -- one read more
-  pub read_more : (part : List Did) (bytes text piece : List ℕ) → Stands part bytes text false → IsDue s o bytes false text → GoesOn s o bytes → length piece ≤ most_taken
+  pub read_more : (part : List Did) (bytes text piece : List ℕ) → Stands part bytes text false → IsDue s o bytes false text → GoesOn s o bytes → length piece ≤ MOST_PIECE_BYTES
       → Stands (part ++ Took Trace piece ∷ []) (bytes ++ piece) text (is_nothing piece)
   read_more part bytes text piece stands due goes_on short = record {
     bytes_are = taken-append Trace part (Took Trace piece ∷ []) ∙ ap (λ (l : List ℕ). taken Trace part ++ l) (append-nil piece) ∙ ap (λ (l : List ℕ). l ++ piece) stands.bytes_are;
@@ -117,7 +118,7 @@ module _ (s : System) (o : Options) where
   pub stopped_between : (part : List Did) (bytes text : List ℕ) (e : Bool) → Stands part bytes text e → IsDue s o bytes e text → Watched s o part
   stopped_between part bytes text e stands due = stopped part bytes text text e stands due record { rest = []; is = sym (append-nil text) }
 
-  -- behind a read that was not kept
+  -- after a read that was not kept
   pub stopped_at_piece : IsReady s → (part : List Did) (bytes text piece : List ℕ) → Stands part (bytes ++ piece) text (is_nothing piece) → IsDue s o bytes false text → Watched s o part
   stopped_at_piece ready part bytes text piece stands due =
       let adds = due_more s o ready bytes piece text (is_nothing piece) due in
@@ -132,7 +133,7 @@ module _ (s : System) (o : Options) where
         is = ap (λ (l : List ℕ). text ++ l) gives.some.is ∙ sym (append_assoc text (given Out q) gives.some.rest);
       }
 
-  -- behind a write
+  -- after a write
   pub gave_all : {E : Type 0} (part q : List Did) (bytes text more : List ℕ) (e : Bool) → Stands part bytes text e → Gives {E = E} Out more (Ok tt) q → Stands (part ++ q) bytes (text ++ more) e
   gave_all part q bytes text more e stands gives =
       subst (λ (l : List ℕ). Stands (part ++ q) bytes l e) (ap (λ (l : List ℕ). text ++ l) gives.whole) (wrote part q bytes text e stands gives.gifts)
@@ -152,7 +153,7 @@ module _ (s : System) (o : Options) where
 -- one read of the trace more, told or not
 module _ {W : Type 0} (told : W → Bool) (journal : W → List Did) (standing : W → Standing) (s : System) (o : Options) where
   pub read_on : (old mid new : W) (bytes text piece : List ℕ) → Runs told journal standing old mid (λ part. Stands s o part bytes text false) → IsDue s o bytes false text
-      → GoesOn s o bytes → length piece ≤ most_taken → (IsTrue (told new) → IsTrue (told mid)) → standing new ≡ standing mid
+      → GoesOn s o bytes → length piece ≤ MOST_PIECE_BYTES → (IsTrue (told new) → IsTrue (told mid)) → standing new ≡ standing mid
       → (IsTrue (told new) → journal new ≡ journal mid ++ Took Trace piece ∷ []) → Runs told journal standing old new (λ part. Stands s o part (bytes ++ piece) text (is_nothing piece))
   read_on old mid new bytes text piece calls due goes_on short kept stands adds =
       go_on told journal standing old mid new _ (λ q. q ≡ Took Trace piece ∷ []) _ calls

@@ -4,7 +4,7 @@ use Rattle.std.proofs.lemmas.List.Elements.{Contains-append_left}
 use Rattle.std.specs.List.{AllByRecursion, Contains}
 use Rattle.std.specs.Prelude.{IsFalse}
 use Rattle.lift_func.specs.declared.fault.FaultKind.{FaultKind}
-use Rattle.flat_core.specs.BoundLaws.{AreFrom, HappensAlike}
+use Rattle.flat_core.specs.inner.BoundLaws.{AreFrom, HappensAlike}
 use Rattle.flat_core.specs.Case.{Streams}
 use Rattle.flat_core.specs.Ending.{EndsAtBound, EndsAtLimit, EndsInFault}
 use Rattle.flat_core.specs.Fault.{is_faulty}
@@ -17,14 +17,15 @@ use Rattle.flat_core.proofs.Members.{all_at}
 use Rattle.flat_core.proofs.SmallerBound.{instants_first, solves_less}
 use Rattle.flat_core.proofs.Uniqueness.{all_with}
 use Rattle.spec_compiler.specs.Compiled.{Compiles}
-use Rattle.spec_compiler.specs.Laws.{SaysWhatIsMeant}
+use Rattle.spec_compiler.specs.inner.Laws.{SaysWhatIsMeant}
 use Rattle.spec_compiler.specs.Meant.{QuietIsMeant}
 use Rattle.spec_compiler.proofs.Meaning.{compiled_says_what_is_meant}
 use Rattle.spec_parser.specs.Tree as tree
 use Rattle.trace_monitor.specs.declared.options.Options.{Options}
 use Rattle.trace_monitor.specs.Due.{SolvesClosed, bound_in, lines_in, refused_in}
-use Rattle.trace_monitor.proofs.DueTexts.{below, take_all}
-use Rattle.trace_reader.specs.Laws.{Begins as LinesBegin}
+use Rattle.tsl_value.proofs.Lists.{all_take, take_append, get_left}
+use Rattle.flat_core.proofs.Instants.{instants_below}
+use Rattle.trace_reader.specs.inner.Laws.{Begins as LinesBegin}
 use Rattle.trace_reader.specs.Reading.{Reading}
 use Rattle.trace_reader.proofs.LawLemmas.{reading_begins, reading_refused}
 use Rattle.trace_reader.proofs.LineLemmas.{reading_closed, reading_later}
@@ -34,27 +35,15 @@ use Rattle.tessla_cli.proofs.Exact.{long, loud, nothing_some}
 use Rattle.tessla_cli.proofs.TypedLines.{typed_read}
 use Rattle.tessla_cli.proofs.Unseen.{fit}
 
--- the first numbers of a list, where more stand after it
-take_more : (n : ℕ) (xs ys : List ℕ) → (more : List ℕ) × (take n (xs ++ ys) ≡ take n xs ++ more)
-take_more zero xs ys = ([], refl)
-take_more (suc n) [] ys = (take (suc n) ys, refl)
-take_more (suc n) (x ∷ xs) ys = let (more, is) = take_more n xs ys in (more, ap (λ (l : List ℕ). x ∷ l) is)
-
 within_more : (n t : ℕ) (xs ys : List ℕ) → Contains (take n xs) t → Contains (take n (xs ++ ys)) t
-within_more n t xs ys at = let (more, is) = take_more n xs ys in subst (λ (l : List ℕ). Contains l t) (sym is) (Contains-append_left (take n xs) more t at)
-
--- where there is one more than the first ones
-next_more : (n t : ℕ) (xs ys : List ℕ) → slice_get xs n ≡ Some t → slice_get (xs ++ ys) n ≡ Some t
-next_more n t [] ys at = absurd (cc)
-next_more zero t (x ∷ xs) ys at = at
-next_more (suc n) t (x ∷ xs) ys at = next_more n t xs ys at
+within_more n t xs ys at = let (more, is) = take_append n xs ys in subst (λ (l : List ℕ). Contains l t) (sym is) (Contains-append_left (take n xs) more t at)
 
 first_more : (n t : ℕ) (xs ys : List ℕ) → slice_get xs n ≡ Some t → take n (xs ++ ys) ≡ take n xs
 first_more n t [] ys at = absurd (cc)
 first_more zero t (x ∷ xs) ys at = refl
 first_more (suc n) t (x ∷ xs) ys at = ap (λ (l : List ℕ). x ∷ l) (first_more n t xs ys at)
 
--- Streams that end in nothing below a bound end in nothing below a smaller one, with lines by which below it the same happens.
+-- Streams that end in nothing instants_below a bound end in nothing instants_below a smaller one, with lines by which instants_below it the same happens.
 module _ (s : System) (z : Streams) (ls ms : List Line) (low high limit : ℕ) (le : low ≤ high) (alike : HappensAlike s low ls z ms z) where
   abbrev rest : List ℕ
   rest = (instants_first s ms z low high le).0
@@ -63,7 +52,7 @@ module _ (s : System) (z : Streams) (ls ms : List Line) (low high limit : ℕ) (
   grow = (instants_first s ms z low high le).1 ∙ ap (λ (l : List ℕ). l ++ rest) (sym (alike.instants_same low (omega arith)))
 
   first_below : AllByRecursion (λ t. t < low) (take limit (instants s ls z low))
-  first_below = take_all (λ t. t < low) limit (instants s ls z low) (below s ls z low)
+  first_below = all_take (λ t. t < low) limit (instants s ls z low) (instants_below s ls z low)
 
   fault_stays : (t i : ℕ) (kind : FaultKind) → EndsInFault s ls z low limit t i kind → EndsInFault s ms z high limit t i kind
   fault_stays t i kind ends = let lt : t < low = all_at (λ t. t < low) (take limit (instants s ls z low)) first_below t ends.within in record {
@@ -73,7 +62,7 @@ module _ (s : System) (z : Streams) (ls ms : List Line) (low high limit : ℕ) (
 
   limit_stays : (t : ℕ) → EndsAtLimit s ls z low limit t → EndsAtLimit s ms z high limit t
   limit_stays t ends = record {
-    next = subst (λ (l : List ℕ). slice_get l limit ≡ Some t) (sym grow) (next_more limit t (instants s ls z low) rest ends.next);
+    next = subst (λ (l : List ℕ). slice_get l limit ≡ Some t) (sym grow) (get_left (instants s ls z low) rest limit t ends.next);
     sound = subst (λ (l : List ℕ). AllByRecursion (λ u. IsFalse (is_faulty s (inputs_of ms) z u)) l)
         (sym (ap (λ (l : List ℕ). take limit l) grow ∙ first_more limit t (instants s ls z low) rest ends.next))
         (all_with (λ u. u < low) (λ u. IsFalse (is_faulty s (inputs_of ls) z u)) (λ u. IsFalse (is_faulty s (inputs_of ms) z u))

@@ -1,4 +1,4 @@
--- COMPLETENESS: what nothing stands against is done whole, unless the outside failed or memory was wanting.
+-- COMPLETENESS: what nothing stands against is done whole, unless the outside failed or memory ran out.
 use Rattle.std.specs.Prelude.{◌≡◌, ◌⊎◌, ℕ, ⊤, Bool, true, List, Some, None}
 use Rattle.flat_core.specs.System.{System}
 use Rattle.spec_compiler.specs.Compiled.{Compiles}
@@ -27,7 +27,7 @@ pub record IsWholeTrace (part : List Did) (whole : List ℕ) : Type 0 where
   pub begins : Begins (taken Trace part) whole
   pub ends : ended Trace part ≡ true → whole ≡ taken Trace part
 
--- all is done with status 0, or memory was wanting
+-- all is done with status 0, or memory ran out
 abbrev pub IsDoneWith : ℕ → Type 0 → Type 0
 IsDoneWith status P = ((status ≡ 0) × P) ⊎ (status ≡ 6)
 
@@ -47,7 +47,8 @@ module _ (words : List (List ℕ)) where
 
   -- Nothing stands against a run over a whole trace: then the end of the trace was read, and all of the text that is due of it was given to
   -- Out. This follows from what was taken of the trace alone, so that a run that stopped in its midst for another cause than the trace was
-  -- out of memory. In the same way all of the text is given that is asked for of a specification, or without one, where there is such a text.
+  -- out of memory. In the same way all of the text is given that is asked for of a specification, or without one, where there is such a
+  -- text.
   pub record IsComplete (status : ℕ) (part : List Did) : Type 0 where
     pub of_run : (whole : List ℕ) → IsWholeTrace part whole → CanRun part whole true → IsDoneWith status (EndsRun words ending.Done part)
     pub of_taken : CanRun part (taken Trace part) (ended Trace part) → IsDoneWith status (EndsRun words ending.Done part)

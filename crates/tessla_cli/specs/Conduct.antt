@@ -9,7 +9,6 @@ use Rattle.spec_reader.specs.declared.fault.SpecFault.{SpecFault}
 use Rattle.spec_compiler.specs.Compiled.{IsRefusedBy}
 use Rattle.tessla_cli.specs.declared.ending.Ending.{Ending}
 use Rattle.tessla_cli.specs.declared.ending.Ending.TheVariants as ending
-use Rattle.trace_monitor.specs.Next.{most_taken}
 use Rattle.tsl_world.specs.Begins.{Begins}
 use Rattle.tessla_cli.specs.Alone.{AloneStops, IsAloneText}
 use Rattle.tessla_cli.specs.Meant.{GoesOnAsMeant, BeginsAsMeant, WatchEndsAsMeant}
@@ -17,16 +16,14 @@ use Rattle.tessla_cli.specs.Headline.{OfRun}
 use Rattle.tessla_cli.specs.Printed.{IsTextOf}
 use Rattle.tessla_cli.specs.Tasks.{Alone, Task, alone_of, print, asked_of, names_of, requested}
 use Rattle.tessla_cli.specs.declared.task.Form.{Form}
-
--- a specification is refused where it has more bytes than this
-abbrev pub source_limit : ℕ
-source_limit = 1_048_576
+use Rattle.trace_reader.specs.declared.limits.TheConstants.{MOST_PIECE_BYTES}
+use Rattle.spec_lexer.specs.declared.limits.TheConstants.{MOST_SOURCE_BYTES}
 
 -- the specification was read to its end, or past its limit
 abbrev pub HasWhole : List Did → Type 0
-HasWhole journal = (ended Spec journal ≡ true) ⊎ (source_limit < length (taken Spec journal))
+HasWhole journal = (ended Spec journal ≡ true) ⊎ (MOST_SOURCE_BYTES < length (taken Spec journal))
 
--- an opening of the slot, which may have failed, stands behind this much of the journal
+-- an opening of the slot, which may have failed, stands after this much of the journal
 pub record IsBeforeOpening (slot : Slot) (before journal : List Did) : Type 0 where
   pub did : Did
   pub name : List ℕ
@@ -38,7 +35,7 @@ pub record IsBeforeOpening (slot : Slot) (before journal : List Did) : Type 0 wh
 abbrev pub MakesNothing : List Did → Type 0
 MakesNothing part = creations part ≡ []
 
--- The trace is opened only behind the whole of the specification, or so much of it that it is too long.
+-- The trace is opened only after the whole of the specification, or so much of it that it is too long.
 abbrev pub ReadsSpecFirst : List Did → Type 0
 ReadsSpecFirst part = (before : List Did) → IsBeforeOpening Trace before part → HasWhole before
 
@@ -48,11 +45,11 @@ ReadsTraceLast part = AtReads Trace HasWhole part
 
 -- No read of the specification follows once more of it was taken than it may have.
 abbrev pub StopsAtLimit : List Did → Type 0
-StopsAtLimit part = AtReads Spec (λ before. length (taken Spec before) ≤ source_limit) part
+StopsAtLimit part = AtReads Spec (λ before. length (taken Spec before) ≤ MOST_SOURCE_BYTES) part
 
 -- No read takes more bytes than one may.
 abbrev pub ReadsPieces : List Did → Type 0
-ReadsPieces part = Each (IsWithin most_taken) part
+ReadsPieces part = Each (IsWithin MOST_PIECE_BYTES) part
 
 module _ (words : List (List ℕ)) where
   -- Nothing is opened but what the words ask for, the specification and then the trace, each once and each whether it could be opened or

@@ -10,5 +10,5 @@ pub mod Failures
 pub mod Conduct
 pub mod Outcome
 pub mod Completeness
-pub mod Shape
 pub mod Unseen
+pub mod inner

@@ -30,7 +30,7 @@ module _ (items : List tree.Item) (s : System) (o : Options) where
   abbrev pub IsQuietAsMeant : List ℕ → Bool → Type 0
   IsQuietAsMeant bytes ended = QuietIsMeant items (lines_in s o bytes ended) (bound_in s o bytes ended) o.instants
 
-  -- a run goes on behind them: no line is refused either
+  -- a run goes on after them: no line is refused either
   pub record GoesOnAsMeant (bytes : List ℕ) : Type 0 where
     pub accepted : refused_in s o bytes false ≡ None
     pub quiet : IsQuietAsMeant bytes false

@@ -23,7 +23,7 @@ use Rattle.tessla_cli.specs.declared.ending.Ended.{Ended}
 use Rattle.tessla_cli.specs.declared.ending.Broken.{Broken}
 use Rattle.tessla_cli.specs.declared.ending.Broken.TheVariants as broken
 
--- the number of a refused line, and why it is refused; a want of memory is told otherwise
+-- the number of a refused line, and why it is refused; out of memory is told otherwise
 abbrev pub line_text : ℕ → List ℕ → List ℕ
 line_text line cause = decimal line ++ (codes ": " ++ cause)
 
@@ -95,7 +95,7 @@ flat_text (flat.BodyTooLarge place) = at_text place (codes "BodyTooLarge")
 flat_text (flat.TooManyEquations place) = at_text place (codes "TooManyEquations")
 flat_text (flat.TooManyUpdates place) = at_text place (codes "TooManyUpdates")
 
--- the names of a cycle, each with an arrow behind it
+-- the names of a cycle, each with an arrow after it
 abbrev pub members_text : List (List ℕ) → List ℕ
 members_text [] = []
 members_text (name ∷ names) = name ++ (codes " -> " ++ members_text names)

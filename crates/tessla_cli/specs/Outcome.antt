@@ -14,7 +14,8 @@ use Rattle.tessla_cli.specs.declared.ending.Ending.{Ending}
 use Rattle.tessla_cli.specs.declared.ending.Ending.TheVariants as ending
 use Rattle.tessla_cli.specs.declared.ending.Broken.{Broken}
 use Rattle.tessla_cli.specs.declared.ending.Broken.TheVariants as broken
-use Rattle.tessla_cli.specs.Conduct.{OpensAsAsked, MakesNothing, ReadsSpecFirst, ReadsTraceLast, StopsAtLimit, ReadsPieces, GoesOnAtReads, IsPartlyDue, RunEnds}
+use Rattle.tessla_cli.specs.Conduct.{OpensAsAsked, MakesNothing, ReadsSpecFirst, ReadsTraceLast, StopsAtLimit, ReadsPieces, GoesOnAtReads}
+use Rattle.tessla_cli.specs.Conduct.{IsPartlyDue, RunEnds}
 use Rattle.tessla_cli.specs.Failures.{Failures, NoneFailed, CallFailed, WriteFailed, BothFailed}
 use Rattle.tessla_cli.specs.Headline.{IsDueAtReads, OfRun}
 use Rattle.tessla_cli.specs.Messages.{ended_text, ending_line, broken_line, broken_status, status_of}
@@ -33,7 +34,7 @@ pub data TellsBroken (by : Broken) (before now : Failures) (status : ℕ) (part 
   some_of_broken : status ≡ 5 → WriteFailed before now → Each (IsGift Err) part → BeginsStrictly (given Err part) (broken_line by)
       → TellsBroken by before now status part
 
--- An ending is told by its text in the same way, or else the want of memory for the text is told.
+-- An ending is told by its text in the same way, or else it is told that memory ran out for the text.
 pub data TellsEnding (by : Ended) (before now : Failures) (status : ℕ) (part : List Did) : Type 0 where
   all_of_ending : status ≡ status_of by.ending → Each (IsGift Err) part → Tells (ended_text by) part → TellsEnding by before now status part
   some_of_ending : status ≡ 5 → WriteFailed before now → Each (IsGift Err) part → BeginsStrictly (given Err part) (ended_text by)
@@ -80,7 +81,7 @@ module _ (words : List (List ℕ)) where
     pub ends : Ends (ending.Limit count time) part
 
   -- Status 5. A call failed, and Err was given the whole line that tells it. Or a write to Err failed, and Err was given less than the
-  -- text of which it was: of what tells an ending, or of the line that tells a want of memory, or of that line, where a call had failed
+  -- text of which it was: of what tells an ending, or of the line that tells that memory ran out, or of that line, where a call had failed
   -- before.
   pub data TellsFailure (before now : Failures) (part : List Did) : Type 0 where
     told_failure : CallFailed before now → Tells (broken_line broken.Outside) part → TellsFailure before now part
@@ -95,7 +96,7 @@ module _ (words : List (List ℕ)) where
     outside : status ≡ 5 → TellsFailure before now part → Outcome before now status part
     memory : status ≡ 6 → Tells (broken_line broken.Memory) part → Outcome before now status part
 
-  -- Exactly where: where an ending has its cause, the status is its own, unless the outside failed or memory was wanting.
+  -- Exactly where: where an ending has its cause, the status is its own, unless the outside failed or memory ran out.
   abbrev pub IsExact : ℕ → List Did → Type 0
   IsExact status part = (by : Ending) → RunEnds words by part → (status ≡ status_of by) ⊎ (status ≡ 5) ⊎ (status ≡ 6)
 

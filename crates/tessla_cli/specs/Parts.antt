@@ -1,14 +1,14 @@
 -- What single functions do to the outside.
 use Rattle.std.specs.Prelude.{◌≡◌, ℕ, ◌≤◌, false, List, length, Result, OnOk, OnErr}
 use Rattle.flat_core.specs.System.{System}
-use Rattle.monitor_run.specs.State as engine
+use Rattle.monitor_run.specs.inner.State as engine
 use Rattle.trace_monitor.specs.Counted.{HasCounted}
 use Rattle.trace_monitor.specs.declared.ending.RunEnding.{RunEnding}
 use Rattle.trace_monitor.specs.declared.ending.RunEnding.TheVariants as run
 use Rattle.trace_monitor.specs.declared.options.Options.{Options}
 use Rattle.trace_monitor.specs.Due.{IsDue}
 use Rattle.trace_monitor.specs.Ending.{GoesOn}
-use Rattle.trace_monitor.specs.Next.{EndsBy, most_taken}
+use Rattle.trace_monitor.specs.Next.{EndsBy}
 use Rattle.tsl_world.specs.Begins.{Begins, BeginsStrictly}
 use Rattle.tsl_world.specs.declared.outside.Channel.{Channel}
 use Rattle.tsl_world.specs.declared.outside.Did.{Did}
@@ -19,6 +19,7 @@ use Rattle.tsl_world.specs.declared.outside.Channel.TheVariants.{Out}
 use Rattle.tsl_world.specs.Journal.{given, taken, ended, AtReads, IsGift, Each}
 use Rattle.tessla_cli.specs.declared.ending.Ending.{Ending}
 use Rattle.tessla_cli.specs.declared.ending.Ending.TheVariants as ending
+use Rattle.trace_reader.specs.declared.limits.TheConstants.{MOST_PIECE_BYTES}
 
 -- These bytes are given to the channel, all of them at Ok, and else a beginning that is not all.
 pub record Gives {E : Type 0} (to : Channel) (bytes : List ℕ) (result : Result (Unit {0}) E) (part : List Did) : Type 0 where
@@ -29,12 +30,12 @@ pub record Gives {E : Type 0} (to : Channel) (bytes : List ℕ) (result : Result
 
 -- a read of the slot that takes no more than one may
 abbrev pub IsTake : Slot → Did → Type 0
-IsTake from (Took at bytes) = (at ≡ from) × (length bytes ≤ most_taken)
+IsTake from (Took at bytes) = (at ≡ from) × (length bytes ≤ MOST_PIECE_BYTES)
 IsTake from did = ⊥
 
 -- a read of the trace, or a write of output
 abbrev pub IsTraceWork : Did → Type 0
-IsTraceWork (Took at bytes) = (at ≡ Trace) × (length bytes ≤ most_taken)
+IsTraceWork (Took at bytes) = (at ≡ Trace) × (length bytes ≤ MOST_PIECE_BYTES)
 IsTraceWork (Gave to bytes) = to ≡ Out
 IsTraceWork did = ⊥
 

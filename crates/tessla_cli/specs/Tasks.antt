@@ -14,6 +14,7 @@ use Rattle.tessla_cli.specs.declared.task.Form.{Form}
 use Rattle.tessla_cli.specs.declared.task.Form.TheVariants as form
 use Rattle.tessla_cli.specs.declared.task.Task.{Task as CodeTask}
 use Rattle.tessla_cli.specs.declared.task.Task.TheVariants as seen
+use Rattle.tsl_value.specs.declared.limits.TheConstants.{MOST_TRACE_BYTES}
 
 -- With a specification that is compiled: a text of this form is printed, or the trace of this name is monitored, with statistics or without
 pub data Task : Type 0 where
@@ -75,7 +76,7 @@ has_statistics (monitor trace o statistics) = statistics
 abbrev pub asks_statistics : List (List ℕ) → Bool
 asks_statistics words = option_map_or (λ asked. has_statistics asked.1) (asked_of words) false
 
--- the trace that is opened behind the specification
+-- the trace that is opened after the specification
 abbrev pub traces_of : Task → List (Slot × List ℕ)
 traces_of (print f) = []
 traces_of (monitor trace o statistics) = (Trace, trace) ∷ []
@@ -89,7 +90,7 @@ pub record AreLimited (o : Options) : Type 0 where
   pub until : o.until < 2 ^ 63
   pub some_instants : 1 ≤ o.instants
   pub some_bytes : 1 ≤ o.bytes
-  pub few_bytes : o.bytes ≤ 2 ^ 40
+  pub few_bytes : o.bytes ≤ MOST_TRACE_BYTES
 
 abbrev pub IsLimitedTask : Task → Type 0
 IsLimitedTask (print f) = ⊤

@@ -24,7 +24,11 @@ use Rattle.tessla_cli.specs.Tasks.{asked_of, monitor}
 -- fault comes. At each instant that follows, that of a fault included, each update in place leaves what is still read, and what is printed
 -- and the root faults are those of the streams. And what happens in place has copied nothing.
 pub record RunsUnseen (s : System) (plan : Plan) (lines : List Line) (bound : ℕ) (z : Streams) : Type 0 where
-  pub exist : (t : ℕ) → t ≤ bound → ((u : ℕ) → u < t → IsFalse (is_faulty s (inputs_of lines) z u)) → (a : State) × RunsTo s plan lines z t a
+  pub exist :
+      (t : ℕ) →
+      t ≤ bound →
+      ((u : ℕ) → u < t → IsFalse (is_faulty s (inputs_of lines) z u)) →
+      (a : State) × RunsTo s plan lines z t a
   pub leave : (t : ℕ) → t < bound → (a : State) → RunsTo s plan lines z t a → LeavesWhatIsRead s plan lines t a
   pub show : (t : ℕ) → t < bound → (a : State) → RunsTo s plan lines z t a → ShowsInstant s plan lines z t a
   pub copy_none : (t : ℕ) → t ≤ bound → (a : State) → RunsTo s plan lines z t a

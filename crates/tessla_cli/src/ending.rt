@@ -57,7 +57,7 @@ impl Ended {
     }
 }
 
-/// How a run ends whose specification is refused in this way. Want of memory refuses none.
+/// How a run ends whose specification is refused in this way. Out of memory refuses none.
 pub fn refused(fault: SpecFault) -> Result<Ending, NoMemory>
     ensures ending { IfOk result (λ ending. ending ≡ Ending.Spec fault) }
     ensures refused { IfOk result (λ _. fault ≢ SpecFault.Memory) }
@@ -73,7 +73,7 @@ pub fn refused(fault: SpecFault) -> Result<Ending, NoMemory>
 pub enum Broken {
     /// A call of the outside failed.
     Outside,
-    /// Memory was wanting.
+    /// Out of memory.
     Memory,
 }
 

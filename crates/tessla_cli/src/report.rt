@@ -1,7 +1,9 @@
 // What is told on the standard error.
 
 ghost use Rattle.std.specs.Prelude.{◌≡◌, ◌++◌, IfOk, OnOk};
-ghost use Rattle.tessla_cli.specs.Messages.{at_text, back_text, broken_line, broken_status, clash_text, cycle_text, ended_text, ending_line, flat_text, lex_text, limit_text, line_text, members_text, next_text, parse_text, spec_text, status_of, trace_text, twice_text, types_text, wrong_text};
+ghost use Rattle.tessla_cli.specs.Messages.{at_text, back_text, broken_line, broken_status, clash_text, cycle_text, ended_text};
+ghost use Rattle.tessla_cli.specs.Messages.{ending_line, flat_text, lex_text, limit_text, line_text, members_text, next_text, parse_text};
+ghost use Rattle.tessla_cli.specs.Messages.{spec_text, status_of, trace_text, twice_text, types_text, wrong_text};
 
 use crate::ending::{Broken, Ended, Ending};
 use event_writer::fault::write_fault;
@@ -154,7 +156,7 @@ fn print_flat(fault: FlatFault, out: &mut Bytes) -> Result<(), NoMemory>
     }
 }
 
-/// Appends the names of a cycle, each with an arrow behind it.
+/// Appends the names of a cycle, each with an arrow after it.
 fn print_members(names: &[Text], out: &mut Bytes) -> Result<(), NoMemory>
     ensures { OnOk result (out.new ≡ out.old ++ members_text names.now) }
 {

@@ -4,12 +4,13 @@ ghost use Rattle.std.specs.Prelude.{◌≡◌, ◌<◌, ◌≤◌, ℕ, List, fa
 ghost use Rattle.alias_rules.specs.Fine.{IsTakenPlan};
 ghost use Rattle.last_use.specs.Reasons.{AreReasons};
 ghost use Rattle.spec_compiler.specs.Compiled.{CompilesSomething};
-ghost use Rattle.spec_compiler.specs.Ready.{IsReady};
-ghost use Rattle.trace_monitor.specs.Next.{most_taken};
+ghost use Rattle.spec_compiler.specs.inner.Ready.{IsReady};
 ghost use Rattle.tsl_world.specs.Standing.{at_first, is_open};
 ghost use Rattle.tsl_world.specs.Runs.{Grows};
 ghost use Rattle.tsl_world.specs.World.{RoseBy};
-ghost use Rattle.tessla_cli.specs.Shape.{AloneIsDone, HasPrinted, RunsAlone, RunsSystem, SystemEnds, RunsSource, SourceEnds, RunsSpec, SpecEnds, RunsWords, WordsEnd};
+ghost use Rattle.tessla_cli.specs.inner.Shape.{AloneIsDone, HasPrinted, RunsAlone, RunsSystem, SystemEnds, RunsSource, SourceEnds};
+ghost use Rattle.tessla_cli.specs.inner.Shape.{RunsSpec};
+ghost use Rattle.tessla_cli.specs.inner.Shape.{SpecEnds, RunsWords, WordsEnd};
 ghost use Rattle.tessla_cli.specs.Tasks.{AreLimited, IsLimitedAlone, IsLimitedTask, alone_seen, print, task_seen};
 
 use crate::alone::{AloneOutcome, outcome_of};
@@ -26,10 +27,8 @@ use spec_compiler::compile::{Compiled, compile};
 use std::alloc::Global;
 use trace_monitor::monitor::TraceMonitor;
 use trace_monitor::options::Options;
+use trace_reader::limits::MOST_PIECE_BYTES;
 use tsl_world::{Channel, Slot, World};
-
-/// As many bytes as one read takes at most.
-const PIECE: usize = 65_536;
 
 /// Opens the trace of this name and monitors it by the code of a system, with statistics or without.
 fn run_code<W: World>(
@@ -42,7 +41,7 @@ fn run_code<W: World>(
     buf: &mut [u8],
 ) -> Result<Ended, Broken>
     requires room { 0 < length buf.old }
-    requires short { length buf.old ≤ most_taken }
+    requires short { length buf.old ≤ MOST_PIECE_BYTES }
     requires stands { is_open (W.standing world.old) Slot.Trace ≡ false }
     requires ready { IsReady code.now.system }
     requires taken { IsTakenPlan code.now.system code.now.in_place code.now.order }
@@ -94,7 +93,7 @@ fn perform<W: World>(
     buf: &mut [u8],
 ) -> Result<Ended, Broken>
     requires room { 0 < length buf.old }
-    requires short { length buf.old ≤ most_taken }
+    requires short { length buf.old ≤ MOST_PIECE_BYTES }
     requires stands { is_open (W.standing world.old) Slot.Trace ≡ false }
     requires limited { IsLimitedTask (task_seen task) }
     requires ready { IsReady compiled.now.code.system }
@@ -136,7 +135,7 @@ fn run_source<W: World>(
     buf: &mut [u8],
 ) -> Result<Ended, Broken>
     requires room { 0 < length buf.old }
-    requires short { length buf.old ≤ most_taken }
+    requires short { length buf.old ≤ MOST_PIECE_BYTES }
     requires stands { is_open (W.standing world.old) Slot.Trace ≡ false }
     requires limited { IsLimitedTask (task_seen task) }
     ensures ok { OnOk result (W.faults world.new ≡ W.faults world.old) }
@@ -162,7 +161,7 @@ fn run_spec<W: World>(
     buf: &mut [u8],
 ) -> Result<Ended, Broken>
     requires room { 0 < length buf.old }
-    requires short { length buf.old ≤ most_taken }
+    requires short { length buf.old ≤ MOST_PIECE_BYTES }
     requires stands { W.standing world.old ≡ at_first }
     requires limited { IsLimitedTask (task_seen task) }
     ensures ok { OnOk result (W.faults world.new ≡ W.faults world.old) }
@@ -193,7 +192,7 @@ fn run_in_pieces<W: World>(
     ensures calls { Grows W.told W.journal world.old world.new (RunsSpec name.now (task_seen task.entry)) }
     ensures ending { IfOk result (λ ended. Grows W.told W.journal world.old world.new (SpecEnds name.now (task_seen task.entry) ended)) }
 {
-    let mut buf = vec![in alloc; 0u8; PIECE]?;
+    let mut buf = vec![in alloc; 0u8; MOST_PIECE_BYTES]?;
     Ok(run_spec(alloc, world, name, task, &mut buf)?)
 }
 

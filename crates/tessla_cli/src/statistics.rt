@@ -4,7 +4,7 @@ ghost use Rattle.std.specs.Prelude.{◌≡◌, ◌<◌, [], ◌++◌, codes, if�
 ghost use Rattle.event_writer.specs.Text.{place_text};
 ghost use Rattle.monitor_run.specs.Updates.{is_running_update};
 ghost use Rattle.spec_reader.specs.Source.{called};
-ghost use Rattle.tessla_cli.specs.Shape.{counted_text};
+ghost use Rattle.tessla_cli.specs.inner.Shape.{counted_text};
 ghost use Rattle.tessla_cli.specs.Statistics.{copied_text, statistics_text, update_line};
 
 use event_writer::place::print_place;

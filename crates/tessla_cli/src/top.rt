@@ -6,7 +6,8 @@ ghost use Rattle.tsl_world.specs.Runs.{Grows};
 ghost use Rattle.tsl_world.specs.Standing.{at_first};
 ghost use Rattle.tsl_world.specs.declared.outside.Did.{Did};
 ghost use Rattle.tessla_cli.specs.Completeness.{IsComplete};
-ghost use Rattle.tessla_cli.specs.Conduct.{OpensAsAsked, MakesNothing, ReadsSpecFirst, ReadsTraceLast, StopsAtLimit, ReadsPieces, GoesOnAtReads, IsPartlyDue};
+ghost use Rattle.tessla_cli.specs.Conduct.{OpensAsAsked, MakesNothing, ReadsSpecFirst, ReadsTraceLast, StopsAtLimit, ReadsPieces};
+ghost use Rattle.tessla_cli.specs.Conduct.{GoesOnAtReads, IsPartlyDue};
 ghost use Rattle.tessla_cli.specs.Failures.{SomeFailed, failures};
 ghost use Rattle.tessla_cli.specs.Headline.{IsDueAtReads};
 ghost use Rattle.tessla_cli.specs.Messages.{broken_line};
@@ -35,13 +36,13 @@ fn conclude<W: World>(alloc: Global, words: &Words, world: &mut W) -> u8
     }
 }
 
-/// The program, behind its words. Each command with a SPEC compiles that specification: its flat system is simplified and becomes register
+/// The program, after its words. Each command with a SPEC compiles that specification: its flat system is simplified and becomes register
 /// code.
 ///
 /// - `run SPEC TRACE` monitors the trace under it, and writes the output events up to the first fault. `-` names the standard input,
 ///   and a TRACE that is left out is `-`. `--until T` closes the times up to T at the end of the trace, `--instants N` is the limit of
 ///   instants, from 1 to 10^12, `--bytes B` that of the bytes of the trace, from 1 to 2^40, and with `--strict` a line is refused whose
-///   name is no input's. With `--stats` it is told at the end how many elements each update has copied. Each stands anywhere behind `run`,
+///   name is no input's. With `--stats` it is told at the end how many elements each update has copied. Each stands anywhere after `run`,
 ///   at most once, as `--name V` or `--name=V`.
 /// - `check SPEC` writes `ok E U`, how many equations and how many updates run.
 /// - `flat SPEC` writes the running equations and the outputs.
@@ -52,7 +53,7 @@ fn conclude<W: World>(alloc: Global, words: &Words, world: &mut W) -> u8
 ///   `bytes Y` and `copied Z`: how many instants ran, how many bytes of text are due, and how many elements the updates copied together.
 ///
 /// The answer is the status: 0 where all was done, 1 where a fault is closed, 2 where the words are not accepted, 3 where the
-/// specification is refused, 4 where a line of the trace is, 5 where a call of the outside failed, 6 where memory was wanting, and
+/// specification is refused, 4 where a line of the trace is, 5 where a call of the outside failed, 6 where memory ran out, and
 /// 7 where the limit of instants was passed. Words are not accepted, and nothing is opened, where the command is another, SPEC, KIND
 /// or N is left out, KIND is another, a further name stands, an option is unknown, stands twice or has no value, or a number is none
 /// or past its limits. Each status but 0 is told by one line on the standard error. With `--stats` and status 0, 1, 4 or 7 the line
@@ -96,7 +97,7 @@ pub fn tessla<W: World>(alloc: Global, words: &Words, world: &mut W) -> u8
     ensures calm { (result ≡ 5 → ⊥) → W.faults world.new ≡ W.faults world.old }
     ensures exact { Grows W.told W.journal world.old world.new (IsExact words.now result) }
 
-    // Where the outside did not fail, what nothing stands against is done whole, or memory was wanting.
+    // Where the outside did not fail, what nothing stands against is done whole, or memory ran out.
     ensures complete { W.faults world.new ≡ W.faults world.old → W.faults world.old < 2 ^ 64 - 1
         → Grows W.told W.journal world.old world.new (IsComplete words.now result) }
     ensures answers { result ≤ 7 }

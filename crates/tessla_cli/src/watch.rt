@@ -1,13 +1,14 @@
 // The loop over the trace.
 
-ghost use Rattle.std.specs.Prelude.{◌≡◌, ◌<◌, ◌≤◌, ◌^◌, [], true, length, IfOk, OnOk, IsErrOf};
-ghost use Rattle.spec_compiler.specs.Ready.{IsReady};
-ghost use Rattle.trace_monitor.specs.Kept.{Kept};
-ghost use Rattle.trace_monitor.specs.Next.{most_taken};
+ghost use Rattle.std.specs.Prelude.{◌≡◌, ◌<◌, ◌≤◌, [], true, length, IfOk, OnOk, IsErrOf};
+ghost use Rattle.spec_compiler.specs.inner.Ready.{IsReady};
+ghost use Rattle.trace_monitor.specs.inner.Kept.{Kept};
 ghost use Rattle.tsl_world.specs.Standing.{is_open};
 ghost use Rattle.tsl_world.specs.World.{RoseBy};
 ghost use Rattle.tsl_world.specs.Runs.{Runs};
 ghost use Rattle.tessla_cli.specs.Parts.{Watched, WatchEnds, ending_of};
+ghost use Rattle.trace_reader.specs.declared.limits.TheConstants.{MOST_PIECE_BYTES};
+ghost use Rattle.tsl_value.specs.declared.limits.TheConstants.{MOST_TRACE_BYTES};
 
 use crate::ending::{Broken, Ending};
 use crate::write::write_all;
@@ -39,12 +40,12 @@ pub fn watch<W: World>(
     buf: &mut [u8],
 ) -> Result<Ending, Broken>
     requires room { 0 < length buf.old }
-    requires short { length buf.old ≤ most_taken }
+    requires short { length buf.old ≤ MOST_PIECE_BYTES }
     requires stands { is_open (W.standing world.old) Slot.Trace ≡ true }
     requires ready { IsReady monitor.old.system }
     requires kept { Kept monitor.old [] }
     requires limit { limit ≡ monitor.old.options.bytes }
-    requires few { limit ≤ 2 ^ 40 }
+    requires few { limit ≤ MOST_TRACE_BYTES }
     ensures ok { OnOk result (W.faults world.new ≡ W.faults world.old) }
     ensures outside { IsErrOf result Broken.Outside → RoseBy 1 (W.faults world.old) (W.faults world.new) }
     ensures memory { IsErrOf result Broken.Memory → W.faults world.new ≡ W.faults world.old }
@@ -56,7 +57,7 @@ pub fn watch<W: World>(
         (WatchEnds monitor.old.system monitor.old.options monitor.new.engine ending)) }
 {
     let mut text = Bytes::new(alloc);
-    // Each round but the last one takes a byte at least, and no run goes on behind more than the limit.
+    // Each round but the last one takes a byte at least, and no run goes on after more than the limit.
     for _ in 0..limit + 1 {
         let count = world.read(Slot::Trace, buf)?;
         let next = monitor.advance(&buf[..count], &mut text)?;

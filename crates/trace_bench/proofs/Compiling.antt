@@ -6,7 +6,7 @@ use Rattle.flat_core.specs.System.{System}
 use Rattle.flat_simplify.proofs.Fit.{simplified_fit}
 use Rattle.spec_compiler.specs.Compiled.{CompilesSomething}
 use Rattle.spec_compiler.proofs.Kept.{one_is_compiled, refused_compiles_none}
-use Rattle.trace_bench.specs.Laws.{RefusedBenchesNone}
+use Rattle.trace_bench.specs.inner.Laws.{RefusedBenchesNone}
 
 pub one_system : (source : List ℕ) (s u : System) → CompilesSomething source s → CompilesSomething source u → s ≡ u
 one_system source s u here there = (one_is_compiled source here.0 there.0 s u here.1 there.1).1

@@ -1,8 +1,8 @@
 -- How a run over the sample trace ends, by streams over the whole trace.
-use Rattle.std.proofs.Common.{◌≡◌, ℕ, ◌+◌, ◌<◌, ◌≤◌, Bool, true, false, List, [], ◌++◌, Option, None, Some, take, refl, sym, ap, subst, ◌∙◌, append-nil}
+use Rattle.std.proofs.Common.{◌≡◌, ℕ, ◌+◌, ◌≤◌, Bool, true, false, List, [], ◌++◌, None, Some, take, refl, sym, ap, subst, ◌∙◌, append-nil}
 use Rattle.std.proofs.lemmas.Bool.{true≢false, false≢true}
 use Rattle.std.specs.Prelude.{◌≢◌, if◌then◌else◌, is_none, max, IsFalse}
-use Rattle.flat_core.specs.BoundLaws.{LeavesEarlier}
+use Rattle.flat_core.specs.inner.BoundLaws.{LeavesEarlier}
 use Rattle.flat_core.specs.Case.{Streams}
 use Rattle.flat_core.specs.Ending.{EndsInFault, EndsAtLimit, EndsAtBound}
 use Rattle.flat_core.specs.Fault.{is_faulty}
@@ -15,10 +15,9 @@ use Rattle.flat_core.proofs.LaterLines.{leaves_earlier}
 use Rattle.flat_core.proofs.Members.{all_at}
 use Rattle.flat_core.proofs.SmallerBound.{solves_less}
 use Rattle.lift_func.specs.declared.fault.FaultKind.{FaultKind}
-use Rattle.trace_bench.specs.Bench.{IsBenched}
 use Rattle.trace_bench.specs.declared.outcome.Outcome.{Outcome}
 use Rattle.trace_bench.specs.declared.outcome.Outcome.TheVariants as outcome
-use Rattle.trace_bench.specs.Laws.{AreOfOneKind, EndsAlike, OneEnding}
+use Rattle.trace_bench.specs.inner.Laws.{AreOfOneKind, EndsAlike, OneEnding}
 use Rattle.trace_bench.specs.Measured.{IsStopped, IsTallied, options}
 use Rattle.trace_bench.specs.declared.tally.Tally.{Tally}
 use Rattle.trace_bench.specs.Outcome.{IsOutcomeOf}
@@ -54,7 +53,7 @@ module _ (s : System) (o : Options) (bytes : List ℕ) (z : Streams) (zs : Solve
   said_at_end (ending.Fault time kind place) cause = (cause.0, cause.1, cause.2.each z zs)
   said_at_end (ending.Limit count time) cause = (cause.0, cause.1.each z zs)
 
--- ---- behind a front of the trace
+-- ---- after a front of the trace
 closed_refused : (r : Reading) (fault : TraceFault) (until : ℕ) → r.refused ≡ Some fault → closed_below r until true ≡ closed_below r until false
 closed_refused r fault until is = λ k. if is_none (is k) then max (last_time r.lines) until + 1 else last_time r.lines
 
@@ -110,11 +109,11 @@ module _ (s : System) (o : Options) (front more : List ℕ) (z : Streams) (zs : 
       let grown = limit_grows s (first.lines ++ rest) z low high o.instants le time ends in
       (cause.0, subst (λ (l : List Line). EndsAtLimit s l z high o.instants time) (sym lines_are) grown.0)
 
-  said_behind : (how : RunEnding) → EndsBy s o front false how → Says s o (front ++ more) z how
-  said_behind ending.Done cause = absurd (false≢true cause.0)
-  said_behind (ending.Trace fault) cause = said_refused fault cause
-  said_behind (ending.Fault time kind place) cause = said_fault time kind place cause
-  said_behind (ending.Limit count time) cause = said_limit count time cause
+  said_after : (how : RunEnding) → EndsBy s o front false how → Says s o (front ++ more) z how
+  said_after ending.Done cause = absurd (false≢true cause.0)
+  said_after (ending.Trace fault) cause = said_refused fault cause
+  said_after (ending.Fault time kind place) cause = said_fault time kind place cause
+  said_after (ending.Limit count time) cause = said_limit count time cause
 
 -- ---- either
 module _ (s : System) (o : Options) (bytes front rest : List ℕ) (is : bytes ≡ front ++ rest) (z : Streams) (zs : SolvesClosed s o bytes true z) (how : RunEnding) where
@@ -122,7 +121,7 @@ module _ (s : System) (o : Options) (bytes front rest : List ℕ) (is : bytes �
   said true none cause =
       let same : front ≡ bytes = sym (append-nil front) ∙ ap (λ (l : List ℕ). front ++ l) (sym (none refl)) ∙ sym is in
       said_at_end s o bytes z zs how (subst (λ (l : List ℕ). EndsBy s o l true how) same cause)
-  said false none cause = subst (λ (l : List ℕ). Says s o l z how) (sym is) (said_behind s o front rest z (subst (λ (l : List ℕ). SolvesClosed s o l true z) is zs) how cause)
+  said false none cause = subst (λ (l : List ℕ). Says s o l z how) (sym is) (said_after s o front rest z (subst (λ (l : List ℕ). SolvesClosed s o l true z) is zs) how cause)
 
 -- ---- they exclude each other
 module _ (s : System) (o : Options) (bytes : List ℕ) (z : Streams) where

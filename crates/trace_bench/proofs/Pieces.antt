@@ -2,20 +2,20 @@
 use Rattle.std.proofs.Common.{◌≡◌, ℕ, ◌+◌, ◌-◌, ◌<◌, ◌≤◌, ◌^◌, Bool, true, false, List, [], ◌++◌, length, min, sym, ap, subst, ◌∙◌, arith, length-append, inl, inr}
 use Rattle.std.proofs.lemmas.Bool.{cases_lt, true≢false}
 use Rattle.flat_core.specs.System.{System}
-use Rattle.monitor_run.specs.State as engine
+use Rattle.monitor_run.specs.inner.State as engine
 use Rattle.sample_trace.specs.Trace.{lines_text, trace_text}
 use Rattle.sample_trace.proofs.Lines.{lines_join, lines_none}
 use Rattle.trace_bench.specs.Ran.{HasRanOver, up_to_most}
 use Rattle.trace_monitor.specs.declared.ending.RunEnding.{RunEnding}
 use Rattle.trace_monitor.specs.declared.options.Options.{Options}
 use Rattle.trace_monitor.specs.Due.{IsDue, bound_in, lines_in}
-use Rattle.trace_monitor.specs.Kept.{Kept}
-use Rattle.trace_monitor.specs.State.{State}
+use Rattle.trace_monitor.specs.inner.Kept.{Kept}
+use Rattle.trace_monitor.specs.inner.State.{State}
 use Rattle.trace_monitor.specs.Next.{is_nothing}
 use Rattle.trace_monitor.proofs.Going.{nothing_is}
 use Rattle.trace_monitor.proofs.Readiness.{none_closed, none_due}
 
--- a piece behind so many lines of the trace
+-- a piece after so many lines of the trace
 module _ (count taken more : ℕ) (piece : List ℕ) (within : taken ≤ count) (is : more ≡ min count (taken + 2000)) (piece_is : piece ≡ lines_text (taken + 1) (more + 1 - (taken + 1))) where
   piece_as : piece ≡ lines_text (1 + taken) (more - taken)
   piece_as =
@@ -29,7 +29,7 @@ module _ (count taken more : ℕ) (piece : List ℕ) (within : taken ≤ count) 
       let all : taken + (more - taken) ≡ more = omega arith in
       ap (λ (l : List ℕ). lines_text 1 taken ++ l) piece_as ∙ sym (lines_join 1 taken (more - taken)) ∙ ap (lines_text 1) all
 
-  -- the trace is these and the lines behind them
+  -- the trace is these and the lines after them
   pub parted : trace_text count ≡ (lines_text 1 taken ++ piece) ++ lines_text (1 + more) (count - more)
   parted =
       let all : count ≡ more + (count - more) = omega arith in

@@ -3,7 +3,7 @@ use Rattle.std.proofs.Common.{◌≡◌, ℕ, Bool, true, List, ◌++◌, refl, 
 use Rattle.std.specs.Prelude.{IsTrue, slice_index}
 use Rattle.flat_core.specs.Case.{Streams}
 use Rattle.flat_core.specs.System.{System}
-use Rattle.monitor_run.specs.State as engine
+use Rattle.monitor_run.specs.inner.State as engine
 use Rattle.monitor_run.specs.Updates.{is_running_update}
 use Rattle.program_text.specs.Text.{numbers}
 use Rattle.register_machine.specs.Copied.{copied}

@@ -1,6 +1,6 @@
 pub mod Bench
-pub mod Laws
 pub mod Measured
 pub mod Outcome
 pub mod Ran
 pub mod Text
+pub mod inner

@@ -1,5 +1,5 @@
 -- What is measured.
-use Rattle.std.specs.Prelude.{◌≡◌, ◌≢◌, ℕ, ◌^◌, Bool, true, false, List, [], ◌++◌, length}
+use Rattle.std.specs.Prelude.{◌≡◌, ◌≢◌, ℕ, Bool, true, false, List, [], ◌++◌, length}
 use Rattle.flat_core.specs.Case.{Streams}
 use Rattle.flat_core.specs.Instant.{instants}
 use Rattle.flat_core.specs.System.{System}
@@ -12,10 +12,12 @@ use Rattle.trace_monitor.specs.declared.ending.RunEnding.TheVariants as ending
 use Rattle.trace_monitor.specs.declared.options.Options.{Options}
 use Rattle.trace_monitor.specs.Due.{IsDue, SolvesClosed, bound_in, lines_in}
 use Rattle.trace_monitor.specs.Next.{EndsBy}
+use Rattle.tsl_value.specs.declared.limits.TheConstants.{MOST_TRACE_BYTES}
+use Rattle.command_words.specs.declared.limits.TheConstants.{MOST_INSTANTS}
 
--- no time is closed behind the trace's end, and the limits are the largest
+-- no time is closed after the trace's end, and the limits are the largest
 abbrev pub options : Options
-options = record { until = 0; instants = 10 ^ 12; bytes = 2 ^ 40; strict = false }
+options = record { until = 0; instants = MOST_INSTANTS; bytes = MOST_TRACE_BYTES; strict = false }
 
 -- The tally of a system, of which the updates of a set happen in place, over the whole trace with so many lines, by which no line is
 -- refused, no fault is closed, and the limit of instants is not passed: the lines, the instants, the bytes of the text that is due, and
@@ -31,7 +33,7 @@ pub record IsTallied (s : System) (set : List ℕ) (count : ℕ) (tally : Tally)
   pub copied_are : (z : Streams) → SolvesClosed s options (trace_text count) true z
       → tally.copied ≡ up_to_most (updates_sum s (λ u. copied s set z u (bound_in s options (trace_text count) true)))
 
--- The run of a system over the trace ends before that, behind a front of the trace.
+-- The run of a system over the trace ends before that, after a front of the trace.
 pub record IsStopped (s : System) (count : ℕ) (how : RunEnding) : Type 0 where
   pub early : how ≢ ending.Done
   pub front : List ℕ

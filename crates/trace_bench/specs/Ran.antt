@@ -2,7 +2,7 @@
 use Rattle.std.specs.Prelude.{◌≡◌, ℕ, ◌-◌, ◌^◌, Bool, true, List, [], ◌++◌, length, min}
 use Rattle.std.specs.List.{filter, sum_by}
 use Rattle.flat_core.specs.System.{System}
-use Rattle.monitor_run.specs.State as engine
+use Rattle.monitor_run.specs.inner.State as engine
 use Rattle.monitor_run.specs.Updates.{is_running_update}
 use Rattle.program_text.specs.Text.{numbers}
 use Rattle.sample_trace.specs.Trace.{trace_text}

@@ -23,7 +23,7 @@ fn source_of(kind: Kind) -> &'static [u8]
 }
 
 /// Compiles the specification of a kind, runs it over the sample trace with so many lines, and tells what the run did or how it ended. No
-/// time is closed behind the last line, and the limits are the largest. It is refused where the specification is, or for want of memory.
+/// time is closed after the last line, and the limits are the largest. It is refused where the specification is, or memory runs out.
 pub fn bench(alloc: Global, kind: Kind, lines: u64) -> Result<Outcome, SpecFault>
     requires { lines < 2 ^ 63 }
     ensures outcome { IfOk result (IsBenched (source_of kind) lines) }

@@ -5,8 +5,6 @@ pub mod bench;
 pub mod laws;
 pub mod measure;
 pub mod outcome;
-pub mod run;
+mod run;
 pub mod tally;
-#[cfg(test)]
-mod tests;
 pub mod updates;

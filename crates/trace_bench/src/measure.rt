@@ -7,19 +7,20 @@ use crate::outcome::Outcome;
 use crate::run::run_over;
 use crate::tally::Tally;
 use crate::updates::copied_together;
-use command_words::words::{MOST_BYTES, MOST_INSTANTS};
+use command_words::limits::MOST_INSTANTS;
 use register_code::code::Code;
 use std::alloc::Global;
 use trace_monitor::ending::RunEnding;
 use trace_monitor::monitor::TraceMonitor;
 use trace_monitor::options::Options;
+use tsl_value::limits::MOST_TRACE_BYTES;
 use tsl_value::memory::NoMemory;
 
 /// How far the run goes: to the end of the trace, within the largest limits.
 const OPTIONS: Options = Options {
     until: 0,
     instants: MOST_INSTANTS,
-    bytes: MOST_BYTES,
+    bytes: MOST_TRACE_BYTES,
     strict: false,
 };
 

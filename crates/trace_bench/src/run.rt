@@ -2,7 +2,7 @@
 
 ghost use Rattle.std.specs.Prelude.{◌≡◌, ◌<◌, ◌^◌, [], IfOk, OnOk};
 ghost use Rattle.trace_bench.specs.Ran.{HasRanOver};
-ghost use Rattle.trace_monitor.specs.Kept.{Kept};
+ghost use Rattle.trace_monitor.specs.inner.Kept.{Kept};
 
 use sample_trace::trace::append_lines;
 use std::alloc::Global;
@@ -15,7 +15,7 @@ use tsl_value::memory::NoMemory;
 const PIECE: u64 = 2_000;
 
 /// Runs a monitor over the sample trace with so many lines. The answer is how the run ends, and how many bytes of text are due.
-pub fn run_over(
+pub(crate) fn run_over(
     alloc: Global,
     monitor: &mut TraceMonitor<'_>,
     lines: u64,
@@ -33,7 +33,7 @@ pub fn run_over(
         let more = lines.min(taken + PIECE);
         piece.truncate(0);
         append_lines(taken + 1, more + 1, &mut piece)?;
-        // Behind the last line the piece is empty, which is the end.
+        // After the last line the piece is empty, which is the end.
         let next = monitor.advance(piece.as_slice(), &mut text)?;
         bytes = bytes.saturating_add(text.len() as u64);
         if let Some(ending) = next {

@@ -5,7 +5,7 @@ use Rattle.clap.specs.declared.builder.arg.Arg.{Arg}
 use Rattle.clap.specs.Simple.{Shape, app_of_fields, on_top, with_rule}
 use Rattle.clap.specs.Words.{app_of, rule_of}
 use Rattle.clap.specs.declared.builder.action.ArgAction.TheVariants.{SetTrue}
-use Rattle.command_words.specs.Reader.{flag_rule, helpless_app, option_rule, spec_rule}
+use Rattle.command_words.specs.inner.Reader.{flag_rule, helpless_app, option_rule, spec_rule}
 use Rattle.command_words.proofs.words.reader.Goals as goal
 
 pub returns : goal.returns

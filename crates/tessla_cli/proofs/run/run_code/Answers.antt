@@ -5,10 +5,10 @@ use Rattle.tsl_world.specs.declared.outside.Did.TheVariants.{Opened, NotOpened}
 use Rattle.tsl_world.specs.declared.outside.Slot.TheVariants.{Trace}
 use Rattle.tessla_cli.specs.declared.ending.Ended.{Ended}
 use Rattle.tessla_cli.specs.Parts.{Watched, WatchEnds}
-use Rattle.tessla_cli.specs.Shape.{RunsSystem, SystemEnds, counted_text}
-use Rattle.tessla_cli.specs.Shape.{idle, no_trace, watched, ends}
+use Rattle.tessla_cli.specs.inner.Shape.{RunsSystem, SystemEnds, counted_text}
+use Rattle.tessla_cli.specs.inner.Shape.{idle, no_trace, watched, ends}
 use Rattle.tsl_world.proofs.Runs.{grows_none, grows_called, grows_run}
-use Rattle.tessla_cli.proofs.Grown.{grows_behind, grows_both}
+use Rattle.tessla_cli.proofs.Grown.{grows_following, grows_both}
 use Rattle.tessla_cli.proofs.run.run_code.Goals as goal
 
 pub returns-in_err-monitor-clause-calls : goal.returns-in_err-monitor-clause-calls
@@ -23,7 +23,7 @@ returns-in_err-ending-clause-calls g c =
     let s = c.args.code.now.system in
     let o = c.args.options in
     let calls = rw (c.in_ok-monitor.ensures.system, c.in_ok-monitor.ensures.options) at c.watch.ensures.calls in
-    grows_behind g.W.World.told g.W.World.journal c.args.world.now c.open.new.self c.watch.new.world (Opened Trace c.args.trace.now) (Watched s o) (RunsSystem c.args.trace.now s o) c.open.ensures.told
+    grows_following g.W.World.told g.W.World.journal c.args.world.now c.open.new.self c.watch.new.world (Opened Trace c.args.trace.now) (Watched s o) (RunsSystem c.args.trace.now s o) c.open.ensures.told
     c.in_ok-open.ensures.journal (grows_run g.W.World.told g.W.World.journal g.W.World.standing c.open.new.self c.watch.new.world _ calls) (λ q w. watched q w)
 
 pub returns-in_err-statistics-clause-calls : goal.returns-in_err-statistics-clause-calls
@@ -31,7 +31,7 @@ returns-in_err-statistics-clause-calls g c =
     let s = c.args.code.now.system in
     let o = c.args.options in
     let calls = rw (c.in_ok-monitor.ensures.system, c.in_ok-monitor.ensures.options) at c.watch.ensures.calls in
-    grows_behind g.W.World.told g.W.World.journal c.args.world.now c.open.new.self c.watch.new.world (Opened Trace c.args.trace.now) (Watched s o) (RunsSystem c.args.trace.now s o) c.open.ensures.told
+    grows_following g.W.World.told g.W.World.journal c.args.world.now c.open.new.self c.watch.new.world (Opened Trace c.args.trace.now) (Watched s o) (RunsSystem c.args.trace.now s o) c.open.ensures.told
     c.in_ok-open.ensures.journal (grows_run g.W.World.told g.W.World.journal g.W.World.standing c.open.new.self c.watch.new.world _ calls) (λ q w. watched q w)
 
 pub returns-clause-calls : goal.returns-clause-calls
@@ -39,7 +39,7 @@ returns-clause-calls g c =
     let s = c.args.code.now.system in
     let o = c.args.options in
     let calls = rw (c.in_ok-monitor.ensures.system, c.in_ok-monitor.ensures.options) at c.watch.ensures.calls in
-    grows_behind g.W.World.told g.W.World.journal c.args.world.now c.open.new.self c.watch.new.world (Opened Trace c.args.trace.now) (Watched s o) (RunsSystem c.args.trace.now s o) c.open.ensures.told
+    grows_following g.W.World.told g.W.World.journal c.args.world.now c.open.new.self c.watch.new.world (Opened Trace c.args.trace.now) (Watched s o) (RunsSystem c.args.trace.now s o) c.open.ensures.told
     c.in_ok-open.ensures.journal (grows_run g.W.World.told g.W.World.journal g.W.World.standing c.open.new.self c.watch.new.world _ calls) (λ q w. watched q w)
 
 pub returns-clause-ending : goal.returns-clause-ending
@@ -56,7 +56,7 @@ returns-clause-ending g c =
     let both = grows_both g.W.World.told g.W.World.journal c.open.new.self c.watch.new.world (Watched s o) (WatchEnds s o e by)
     (grows_run g.W.World.told g.W.World.journal g.W.World.standing c.open.new.self c.watch.new.world (Watched s o) calls)
     (grows_run g.W.World.told g.W.World.journal g.W.World.standing c.open.new.self c.watch.new.world (WatchEnds s o e by) ending) in
-    grows_behind g.W.World.told g.W.World.journal c.args.world.now c.open.new.self c.watch.new.world (Opened Trace c.args.trace.now) (λ q. Watched s o q × WatchEnds s o e by q)
+    grows_following g.W.World.told g.W.World.journal c.args.world.now c.open.new.self c.watch.new.world (Opened Trace c.args.trace.now) (λ q. Watched s o q × WatchEnds s o e by q)
     (SystemEnds c.args.trace.now s o c.args.with_statistics ended) c.open.ensures.told c.in_ok-open.ensures.journal both (λ q w. ends e c.args.code.now.order q taken_plan w.0 w.1 told)
 
 pub statistics_of-requires : goal.statistics_of-requires

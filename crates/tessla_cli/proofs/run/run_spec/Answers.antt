@@ -2,9 +2,9 @@ use Rattle.std.proofs.Common.{◌∷◌}
 use Rattle.tsl_world.specs.declared.outside.Did.TheVariants.{Opened, NotOpened}
 use Rattle.tsl_world.specs.declared.outside.Slot.TheVariants.{Spec}
 use Rattle.tessla_cli.specs.Tasks.{task_seen}
-use Rattle.tessla_cli.specs.Shape.{ReadsSpec, GivesSource, RunsSource, SourceEnds, RunsSpec, SpecEnds, no_spec, reading, whole, whole_ends}
+use Rattle.tessla_cli.specs.inner.Shape.{ReadsSpec, GivesSource, RunsSource, SourceEnds, RunsSpec, SpecEnds, no_spec, reading, whole, whole_ends}
 use Rattle.tsl_world.proofs.Runs.{grows_called, grows_run, grows_on}
-use Rattle.tessla_cli.proofs.Grown.{grows_both, grows_behind}
+use Rattle.tessla_cli.proofs.Grown.{grows_both, grows_following}
 use Rattle.tessla_cli.proofs.run.run_spec.Goals as goal
 
 pub returns-in_err-open-clause-calls : goal.returns-in_err-open-clause-calls
@@ -13,7 +13,7 @@ returns-in_err-open-clause-calls g c =
 
 pub returns-in_err-source-clause-calls : goal.returns-in_err-source-clause-calls
 returns-in_err-source-clause-calls g c =
-    grows_behind g.W.World.told g.W.World.journal c.args.world.now c.open.new.self c.read_source.new.world (Opened Spec c.args.name.now) ReadsSpec (RunsSpec c.args.name.now (task_seen c.args.task)) c.open.ensures.told
+    grows_following g.W.World.told g.W.World.journal c.args.world.now c.open.new.self c.read_source.new.world (Opened Spec c.args.name.now) ReadsSpec (RunsSpec c.args.name.now (task_seen c.args.task)) c.open.ensures.told
     c.in_ok-open.ensures.journal (grows_run g.W.World.told g.W.World.journal g.W.World.standing c.open.new.self c.read_source.new.world _ c.read_source.ensures.calls) (λ q r. reading q r)
 
 pub returns-in_err-run_source-clause-calls : goal.returns-in_err-run_source-clause-calls
@@ -25,7 +25,7 @@ returns-in_err-run_source-clause-calls g c =
     (grows_run g.W.World.told g.W.World.journal g.W.World.standing c.open.new.self c.read_source.new.world ReadsSpec c.read_source.ensures.calls)
     (grows_run g.W.World.told g.W.World.journal g.W.World.standing c.open.new.self c.read_source.new.world (GivesSource source) c.in_ok-source.ensures.source) in
     let ran = rw c.as_slice.ensures at c.run_source.ensures.calls in
-    grows_behind g.W.World.told g.W.World.journal c.args.world.now c.open.new.self c.run_source.new.world (Opened Spec name) (λ q. RunsSpec name task (Opened Spec name ∷ q)) (RunsSpec name task) c.open.ensures.told c.in_ok-open.ensures.journal
+    grows_following g.W.World.told g.W.World.journal c.args.world.now c.open.new.self c.run_source.new.world (Opened Spec name) (λ q. RunsSpec name task (Opened Spec name ∷ q)) (RunsSpec name task) c.open.ensures.told c.in_ok-open.ensures.journal
     (grows_on g.W.World.told g.W.World.journal c.open.new.self c.read_source.new.world c.run_source.new.world (λ p. ReadsSpec p × GivesSource source p) (RunsSource source task) (λ q. RunsSpec name task (Opened Spec name ∷ q)) read ran
     (λ p q r t. whole p q source r.0 r.1 t)) (λ q r. r)
 
@@ -38,7 +38,7 @@ returns-clause-calls g c =
     (grows_run g.W.World.told g.W.World.journal g.W.World.standing c.open.new.self c.read_source.new.world ReadsSpec c.read_source.ensures.calls)
     (grows_run g.W.World.told g.W.World.journal g.W.World.standing c.open.new.self c.read_source.new.world (GivesSource source) c.in_ok-source.ensures.source) in
     let ran = rw c.as_slice.ensures at c.run_source.ensures.calls in
-    grows_behind g.W.World.told g.W.World.journal c.args.world.now c.open.new.self c.run_source.new.world (Opened Spec name) (λ q. RunsSpec name task (Opened Spec name ∷ q)) (RunsSpec name task) c.open.ensures.told c.in_ok-open.ensures.journal
+    grows_following g.W.World.told g.W.World.journal c.args.world.now c.open.new.self c.run_source.new.world (Opened Spec name) (λ q. RunsSpec name task (Opened Spec name ∷ q)) (RunsSpec name task) c.open.ensures.told c.in_ok-open.ensures.journal
     (grows_on g.W.World.told g.W.World.journal c.open.new.self c.read_source.new.world c.run_source.new.world (λ p. ReadsSpec p × GivesSource source p) (RunsSource source task) (λ q. RunsSpec name task (Opened Spec name ∷ q)) read ran
     (λ p q r t. whole p q source r.0 r.1 t)) (λ q r. r)
 
@@ -52,6 +52,6 @@ returns-clause-ending g c =
     (grows_run g.W.World.told g.W.World.journal g.W.World.standing c.open.new.self c.read_source.new.world (GivesSource source) c.in_ok-source.ensures.source) in
     let ended = rw c.as_slice.ensures at c.in_ok-run_source.ensures.ending in
     let by = c.in_ok-run_source.field-0 in
-    grows_behind g.W.World.told g.W.World.journal c.args.world.now c.open.new.self c.run_source.new.world (Opened Spec name) (λ q. SpecEnds name task by (Opened Spec name ∷ q)) (SpecEnds name task by) c.open.ensures.told c.in_ok-open.ensures.journal
+    grows_following g.W.World.told g.W.World.journal c.args.world.now c.open.new.self c.run_source.new.world (Opened Spec name) (λ q. SpecEnds name task by (Opened Spec name ∷ q)) (SpecEnds name task by) c.open.ensures.told c.in_ok-open.ensures.journal
     (grows_on g.W.World.told g.W.World.journal c.open.new.self c.read_source.new.world c.run_source.new.world (λ p. ReadsSpec p × GivesSource source p) (SourceEnds source task by) (λ q. SpecEnds name task by (Opened Spec name ∷ q)) read ended
     (λ p q r t. whole_ends p q source r.0 r.1 t)) (λ q r. r)

@@ -2,11 +2,12 @@ use Rattle.std.proofs.Common.{◌≡◌, ◌≤◌, take, length, true, false, r
 use Rattle.tsl_world.specs.Runs.{Runs}
 use Rattle.tsl_world.proofs.Parts.{read_within}
 use Rattle.tsl_world.proofs.Runs.{none}
-use Rattle.tessla_cli.specs.Conduct.{source_limit}
-use Rattle.trace_monitor.specs.Next.{most_taken, is_nothing}
-use Rattle.tessla_cli.specs.Shape.{ReadsSpec, GivesSource}
+use Rattle.trace_monitor.specs.Next.{is_nothing}
+use Rattle.tessla_cli.specs.inner.Shape.{ReadsSpec, GivesSource}
 use Rattle.tessla_cli.proofs.Reading.{HasRead, has_read_none, reads_more, has_read_more, has_read_all, spec_read_on, none_taken, some_taken}
 use Rattle.tessla_cli.proofs.source.read_source.Goals as goal
+use Rattle.trace_reader.specs.declared.limits.TheConstants.{MOST_PIECE_BYTES}
+use Rattle.spec_lexer.specs.declared.limits.TheConstants.{MOST_SOURCE_BYTES}
 
 pub loop-world-init : goal.loop-world-init
 loop-world-init g c = record {
@@ -21,16 +22,16 @@ loop-world-init g c = record {
 pub returns-then-count-eq0-clause-calls : goal.returns-then-count-eq0-clause-calls
 returns-then-count-eq0-clause-calls g c =
     let piece = take c.in_ok-count.count c.read.new.buf in
-    let within : length c.loop-world.source ≤ source_limit = rw (← c.len.ensures) c.loop-world-test.true in
-    let short : length piece ≤ most_taken = read_within c.read.new.buf c.in_ok-count.count most_taken c.in_ok-count.ensures.count (search rules) in
+    let within : length c.loop-world.source ≤ MOST_SOURCE_BYTES = rw (← c.len.ensures) c.loop-world-test.true in
+    let short : length piece ≤ MOST_PIECE_BYTES = read_within c.read.new.buf c.in_ok-count.count MOST_PIECE_BYTES c.in_ok-count.ensures.count (search rules) in
     spec_read_on g.W.World.told g.W.World.journal g.W.World.standing c.args.world.now c.loop-world.world c.read.new.self c.loop-world.source piece ReadsSpec c.loop-world.invariant.calls
     (λ p at. reads_more c.loop-world.source piece p at within short) c.read.ensures.told c.read.ensures.standing c.in_ok-count.ensures.journal
 
 pub returns-then-count-eq0-clause-source : goal.returns-then-count-eq0-clause-source
 returns-then-count-eq0-clause-source g c =
     let piece = take c.in_ok-count.count c.read.new.buf in
-    let within : length c.loop-world.source ≤ source_limit = rw (← c.len.ensures) c.loop-world-test.true in
-    let short : length piece ≤ most_taken = read_within c.read.new.buf c.in_ok-count.count most_taken c.in_ok-count.ensures.count (search rules) in
+    let within : length c.loop-world.source ≤ MOST_SOURCE_BYTES = rw (← c.len.ensures) c.loop-world-test.true in
+    let short : length piece ≤ MOST_PIECE_BYTES = read_within c.read.new.buf c.in_ok-count.count MOST_PIECE_BYTES c.in_ok-count.ensures.count (search rules) in
     let none : is_nothing piece ≡ true = none_taken c.in_ok-count.count c.read.new.buf c.if-count-eq0.true in
     spec_read_on g.W.World.told g.W.World.journal g.W.World.standing c.args.world.now c.loop-world.world c.read.new.self c.loop-world.source piece (GivesSource c.loop-world.source) c.loop-world.invariant.calls
     (λ p at. (has_read_all c.loop-world.source piece p at within short none).1) c.read.ensures.told c.read.ensures.standing c.in_ok-count.ensures.journal
@@ -38,8 +39,8 @@ returns-then-count-eq0-clause-source g c =
 pub loop-world-preserved : goal.loop-world-preserved
 loop-world-preserved g c =
     let piece = take c.in_ok-count.count c.read.new.buf in
-    let within : length c.loop-world.source ≤ source_limit = rw (← c.len.ensures) c.loop-world-test.true in
-    let short : length piece ≤ most_taken = read_within c.read.new.buf c.in_ok-count.count most_taken c.in_ok-count.ensures.count (search rules) in
+    let within : length c.loop-world.source ≤ MOST_SOURCE_BYTES = rw (← c.len.ensures) c.loop-world-test.true in
+    let short : length piece ≤ MOST_PIECE_BYTES = read_within c.read.new.buf c.in_ok-count.count MOST_PIECE_BYTES c.in_ok-count.ensures.count (search rules) in
     let some : is_nothing piece ≡ false = some_taken c.in_ok-count.count c.read.new.buf c.in_ok-count.ensures.count c.if-count-eq0.false in
     record {
       room = search rules;
@@ -54,7 +55,7 @@ loop-world-preserved g c =
 pub returns-in_err-append-clause-calls : goal.returns-in_err-append-clause-calls
 returns-in_err-append-clause-calls g c =
     let piece = take c.in_ok-count.count c.read.new.buf in
-    let within : length c.loop-world.source ≤ source_limit = rw (← c.len.ensures) c.loop-world-test.true in
-    let short : length piece ≤ most_taken = read_within c.read.new.buf c.in_ok-count.count most_taken c.in_ok-count.ensures.count (search rules) in
+    let within : length c.loop-world.source ≤ MOST_SOURCE_BYTES = rw (← c.len.ensures) c.loop-world-test.true in
+    let short : length piece ≤ MOST_PIECE_BYTES = read_within c.read.new.buf c.in_ok-count.count MOST_PIECE_BYTES c.in_ok-count.ensures.count (search rules) in
     spec_read_on g.W.World.told g.W.World.journal g.W.World.standing c.args.world.now c.loop-world.world c.read.new.self c.loop-world.source piece ReadsSpec c.loop-world.invariant.calls
     (λ p at. reads_more c.loop-world.source piece p at within short) c.read.ensures.told c.read.ensures.standing c.in_ok-count.ensures.journal

@@ -5,12 +5,13 @@ use Rattle.tsl_world.proofs.Runs.{none, go_on, weaker}
 use Rattle.trace_monitor.specs.declared.options.Options.{Options}
 use Rattle.trace_monitor.specs.declared.ending.RunEnding.{RunEnding}
 use Rattle.trace_monitor.specs.Due.{IsDue}
-use Rattle.trace_monitor.specs.Next.{EndsBy, IsNext, most_taken, is_nothing}
+use Rattle.trace_monitor.specs.Next.{EndsBy, IsNext, is_nothing}
 use Rattle.trace_monitor.proofs.Within.{kept_within, some_more}
 use Rattle.tessla_cli.specs.Parts.{Watched, WatchEnds}
 use Rattle.tessla_cli.proofs.Dues.{due_at_start, goes_on_at_start}
 use Rattle.tessla_cli.proofs.Watching.{Stands, at_start, read_on, stopped_at_piece, stopped_at_gift, stopped_between, gave_all, ends, due_as, next_as, counted_as}
 use Rattle.tessla_cli.proofs.watch.watch.Goals as goal
+use Rattle.trace_reader.specs.declared.limits.TheConstants.{MOST_PIECE_BYTES}
 
 pub loop-init : goal.loop-init
 loop-init g c =
@@ -43,7 +44,7 @@ returns-in_err-next-clause-calls g c =
     let o = c.args.monitor.now.options in
     let (fed, written, kept, taken, due, goes_on, calls) = c.loop.invariant.7 in
     let piece = take c.in_ok-count.count c.read.new.buf in
-    let short : length piece ≤ most_taken = read_within c.read.new.buf c.in_ok-count.count most_taken c.in_ok-count.ensures.count (search rules) in
+    let short : length piece ≤ MOST_PIECE_BYTES = read_within c.read.new.buf c.in_ok-count.count MOST_PIECE_BYTES c.in_ok-count.ensures.count (search rules) in
     let read = read_on g.W.World.told g.W.World.journal g.W.World.standing s o c.args.world.now c.loop.world c.read.new.self fed written piece calls due goes_on short c.read.ensures.told c.read.ensures.standing c.in_ok-count.ensures.journal in
     weaker g.W.World.told g.W.World.journal g.W.World.standing _ _ _ (Watched s o) read
     (λ p at. stopped_at_piece s o c.requires.ready p fed written piece at due)
@@ -54,7 +55,7 @@ returns-in_err-write_all-clause-calls g c =
     let o = c.args.monitor.now.options in
     let (fed, written, kept, taken, due, goes_on, calls) = c.loop.invariant.7 in
     let piece = take c.in_ok-count.count c.read.new.buf in
-    let short : length piece ≤ most_taken = read_within c.read.new.buf c.in_ok-count.count most_taken c.in_ok-count.ensures.count (search rules) in
+    let short : length piece ≤ MOST_PIECE_BYTES = read_within c.read.new.buf c.in_ok-count.count MOST_PIECE_BYTES c.in_ok-count.ensures.count (search rules) in
     let read = read_on g.W.World.told g.W.World.journal g.W.World.standing s o c.args.world.now c.loop.world c.read.new.self fed written piece calls due goes_on short c.read.ensures.told c.read.ensures.standing c.in_ok-count.ensures.journal in
     let brings = due_as c.loop.monitor s o c.loop.invariant.4 c.loop.invariant.5 fed written piece c.advance.new.out due (c.in_ok-next.ensures.text fed written kept) in
     let gives = rw c.as_slice.ensures at c.in_err-write_all.ensures.calls in
@@ -67,7 +68,7 @@ returns-in-Some-clause-calls g c =
     let o = c.args.monitor.now.options in
     let (fed, written, kept, taken, due, goes_on, calls) = c.loop.invariant.7 in
     let piece = take c.in_ok-count.count c.read.new.buf in
-    let short : length piece ≤ most_taken = read_within c.read.new.buf c.in_ok-count.count most_taken c.in_ok-count.ensures.count (search rules) in
+    let short : length piece ≤ MOST_PIECE_BYTES = read_within c.read.new.buf c.in_ok-count.count MOST_PIECE_BYTES c.in_ok-count.ensures.count (search rules) in
     let read = read_on g.W.World.told g.W.World.journal g.W.World.standing s o c.args.world.now c.loop.world c.read.new.self fed written piece calls due goes_on short c.read.ensures.told c.read.ensures.standing c.in_ok-count.ensures.journal in
     let brings = due_as c.loop.monitor s o c.loop.invariant.4 c.loop.invariant.5 fed written piece c.advance.new.out due (c.in_ok-next.ensures.text fed written kept) in
     let gives = rw c.as_slice.ensures at c.in_ok-write_all.ensures.calls in
@@ -81,7 +82,7 @@ returns-in-Some-clause-ending g c =
     let o = c.args.monitor.now.options in
     let (fed, written, kept, taken, due, goes_on, calls) = c.loop.invariant.7 in
     let piece = take c.in_ok-count.count c.read.new.buf in
-    let short : length piece ≤ most_taken = read_within c.read.new.buf c.in_ok-count.count most_taken c.in_ok-count.ensures.count (search rules) in
+    let short : length piece ≤ MOST_PIECE_BYTES = read_within c.read.new.buf c.in_ok-count.count MOST_PIECE_BYTES c.in_ok-count.ensures.count (search rules) in
     let read = read_on g.W.World.told g.W.World.journal g.W.World.standing s o c.args.world.now c.loop.world c.read.new.self fed written piece calls due goes_on short c.read.ensures.told c.read.ensures.standing c.in_ok-count.ensures.journal in
     let brings = due_as c.loop.monitor s o c.loop.invariant.4 c.loop.invariant.5 fed written piece c.advance.new.out due (c.in_ok-next.ensures.text fed written kept) in
     let gives = rw c.as_slice.ensures at c.in_ok-write_all.ensures.calls in
@@ -106,7 +107,7 @@ loop-preserved g c =
     let o = c.args.monitor.now.options in
     let (fed, written, kept, taken, due, goes_on, calls) = c.loop.invariant.7 in
     let piece = take c.in_ok-count.count c.read.new.buf in
-    let short : length piece ≤ most_taken = read_within c.read.new.buf c.in_ok-count.count most_taken c.in_ok-count.ensures.count (search rules) in
+    let short : length piece ≤ MOST_PIECE_BYTES = read_within c.read.new.buf c.in_ok-count.count MOST_PIECE_BYTES c.in_ok-count.ensures.count (search rules) in
     let read = read_on g.W.World.told g.W.World.journal g.W.World.standing s o c.args.world.now c.loop.world c.read.new.self fed written piece calls due goes_on short c.read.ensures.told c.read.ensures.standing c.in_ok-count.ensures.journal in
     let brings = due_as c.loop.monitor s o c.loop.invariant.4 c.loop.invariant.5 fed written piece c.advance.new.out due (c.in_ok-next.ensures.text fed written kept) in
     let gives = rw c.as_slice.ensures at c.in_ok-write_all.ensures.calls in

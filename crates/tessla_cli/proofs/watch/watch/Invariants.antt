@@ -1,15 +1,15 @@
 use Rattle.std.proofs.Common.{◌≡◌, ◌<◌, ◌≤◌, ℕ, List, false, length}
 use Rattle.trace_monitor.specs.Due.{IsDue}
 use Rattle.trace_monitor.specs.Ending.{GoesOn}
-use Rattle.trace_monitor.specs.Kept.{Kept}
-use Rattle.trace_monitor.specs.Next.{most_taken}
+use Rattle.trace_monitor.specs.inner.Kept.{Kept}
 use Rattle.tsl_world.specs.Runs.{Runs}
 use Rattle.tessla_cli.proofs.Watching.{Stands}
 use Rattle.tessla_cli.proofs.watch.watch.Given as goal
+use Rattle.trace_reader.specs.declared.limits.TheConstants.{MOST_PIECE_BYTES}
 
 -- for some bytes of the trace and some text that was written, told or not
 abbrev pub invariant-loop : goal.invariant-loop
-invariant-loop g l = (0 < length l.buf) × (length l.buf ≤ most_taken) × (g.W.World.faults l.world ≡ g.W.World.faults l.fn.world)
+invariant-loop g l = (0 < length l.buf) × (length l.buf ≤ MOST_PIECE_BYTES) × (g.W.World.faults l.world ≡ g.W.World.faults l.fn.world)
     × (g.W.World.unheard l.world ≡ g.W.World.unheard l.fn.world)
     × (l.monitor.system ≡ l.fn.monitor.system) × (l.monitor.options ≡ l.fn.monitor.options) × (l.monitor.engine.in_place ≡ l.fn.monitor.engine.in_place) × ((fed : List ℕ) × (written : List ℕ)
     × Kept l.monitor fed × (l.counter ≤ length fed) × IsDue l.fn.monitor.system l.fn.monitor.options fed false written × GoesOn l.fn.monitor.system l.fn.monitor.options fed

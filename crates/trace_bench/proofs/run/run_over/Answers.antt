@@ -3,7 +3,7 @@ use Rattle.std.specs.Result.{result_from_control_flow}
 use Rattle.sample_trace.specs.Trace.{lines_text}
 use Rattle.trace_bench.proofs.Pieces.{joined, parted, ended, bytes_more, due_as, ran_as, begun}
 use Rattle.trace_monitor.specs.declared.ending.RunEnding.{RunEnding}
-use Rattle.trace_monitor.specs.Kept.{Kept}
+use Rattle.trace_monitor.specs.inner.Kept.{Kept}
 use Rattle.trace_monitor.specs.Due.{IsDue}
 use Rattle.trace_monitor.specs.Next.{IsNext, is_nothing}
 use Rattle.trace_bench.proofs.run.run_over.Goals as goal

@@ -2,10 +2,10 @@ use Rattle.std.proofs.Common.{◌≡◌, ℕ, ◌≤◌, ◌-◌, false, List, l
 use Rattle.sample_trace.specs.Trace.{lines_text}
 use Rattle.trace_bench.specs.Ran.{up_to_most}
 use Rattle.trace_monitor.specs.Due.{IsDue}
-use Rattle.trace_monitor.specs.Kept.{Kept}
+use Rattle.trace_monitor.specs.inner.Kept.{Kept}
 use Rattle.trace_bench.proofs.run.run_over.Given as goal
 
--- behind so many lines, with some text that is due
+-- after so many lines, with some text that is due
 abbrev pub invariant-loop-text : goal.invariant-loop-text
 invariant-loop-text l = record {
   within : l.taken ≤ l.lines;

@@ -9,7 +9,7 @@ use Rattle.flat_core.specs.Solution.{Solves}
 use Rattle.flat_core.specs.Stream.{Outcome}
 use Rattle.flat_core.specs.System.{System, equation}
 use Rattle.flat_core.specs.Text.{due_text}
-use Rattle.flat_core.specs.TypedLines.{AreTypedLines}
+use Rattle.flat_core.specs.inner.TypedLines.{AreTypedLines}
 use Rattle.spec_parser.specs.Tree as tree
 use Rattle.spec_meaning.specs.Due.{IsFaulty, IsDueText}
 use Rattle.spec_meaning.specs.Happens.{Happens, IsNeeded}

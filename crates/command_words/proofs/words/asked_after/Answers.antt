@@ -1,7 +1,7 @@
 use Rattle.std.proofs.Common.{rules, drop}
 use Rattle.command_words.specs.Words.{texts_of}
 use Rattle.command_words.proofs.Commands.{are_limited}
-use Rattle.command_words.proofs.words.asked_behind.Goals as goal
+use Rattle.command_words.proofs.words.asked_after.Goals as goal
 
 pub returns-in-Some-clause-limits : goal.returns-in-Some-clause-limits
 returns-in-Some-clause-limits c =

@@ -1,36 +1,19 @@
-//! The monitor: from a specification and a trace to the output events up to the first fault, and that fault. It also prints what is run.
-//!
-//! `top` has the one public call, `tessla`, with all that is promised of the program.
+//! The program: it calls `tessla_cli::top::tessla` with its words and the host's world.
 #![tactic(auto)]
 
-mod alone;
-mod ending;
-mod print;
-mod report;
-mod run;
-mod source;
-mod statistics;
-mod task;
-mod tell;
-#[cfg(test)]
-mod tests;
-mod top;
-mod watch;
-mod write;
-
-use crate::ending::Broken;
-use crate::tell::tell_broken;
-use crate::top::tessla;
 use command_words::words::Words;
 use std::env;
 use std::io::ErrorKind;
 use std::process::ExitCode;
+use tessla_cli::ending::Broken;
+use tessla_cli::tell::tell_broken;
+use tessla_cli::top::tessla;
 use tsl_value::memory::NoMemory;
 use tsl_value::text::Text;
 use tsl_world::RealWorld;
 
-/// The words behind the program's name. Where one is no text there are none, and so they are not accepted.
-fn words_behind(rt: &HostRuntime) -> Result<Words, NoMemory> {
+/// The words after the program's name. Where one is no text there are none, and so they are not accepted.
+fn words_after(rt: &HostRuntime) -> Result<Words, NoMemory> {
     let alloc = rt.alloc();
     let mut words = Words::new(alloc);
     let found = match env::args(rt) {
@@ -46,7 +29,7 @@ fn words_behind(rt: &HostRuntime) -> Result<Words, NoMemory> {
 
 fn main(rt: HostRuntime) -> ExitCode {
     let alloc = rt.alloc();
-    let words = words_behind(&rt);
+    let words = words_after(&rt);
     let mut world = RealWorld::new(rt);
     ExitCode::from(match words {
         Ok(words) => tessla(alloc, &words, &mut world),

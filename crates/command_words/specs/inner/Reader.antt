@@ -1,4 +1,4 @@
--- How `clap` reads the words behind a command's name, and what its matches say of them.
+-- How `clap` reads the words after a command's name, and what its matches say of them.
 use Rattle.std.specs.Prelude.{◌≡◌, ◌≤◌, ℕ, Bool, true, List, Option, Some, None, codes, length, nat_le, slice_get}
 use Rattle.clap.specs.Matches.{first_value, found_of, one_text}
 use Rattle.clap.specs.Simple.{App, new_app, new_rule, on_top, with_rule}
@@ -7,7 +7,8 @@ use Rattle.clap.specs.Walk.{Rule, Text}
 use Rattle.clap.specs.declared.builder.action.ArgAction.TheVariants.{SetTrue}
 use Rattle.clap.specs.declared.parser.matches.ArgMatches.{ArgMatches}
 use Rattle.clap.specs.declared.parser.matches.Found.{Found}
-use Rattle.command_words.specs.Words.{Name, until_name, instants_name, bytes_name, Flag, strict_flag, stats_flag, Piece, pieces, plains, values, uses, Run, read, run_by, spec_form, run_form, count_form}
+use Rattle.command_words.specs.Words.{Name, until_name, instants_name, bytes_name, Flag, strict_flag, stats_flag, Piece, pieces, plains}
+use Rattle.command_words.specs.Words.{values, uses, Run, read, run_by, spec_form, run_form, count_form}
 
 -- the names of the arguments
 abbrev pub id_of : Name → Text
@@ -62,7 +63,8 @@ Matches words m = (ps : List Piece) × (pieces None words ≡ Some ps) × Holds 
 
 -- the run that the values in the matches ask for
 abbrev pub run_found : Found → Bool → Bool → Option Run
-run_found found strict stats = run_by (first_value found (codes "spec")) (first_value found (codes "trace")) (first_value found (codes "until"))
+run_found found strict stats =
+    run_by (first_value found (codes "spec")) (first_value found (codes "trace")) (first_value found (codes "until"))
     (first_value found (codes "instants")) (first_value found (codes "bytes")) strict stats
 
 -- what the matches say of a flag

@@ -1,8 +1,8 @@
--- The parts of a run's journal, one behind another.
+-- The parts of a run's journal, one after another.
 use Rattle.std.specs.Prelude.{◌≡◌, ℕ, ◌≤◌, Bool, true, false, List, [], ◌∷◌, ◌++◌, length, slice_index, Some, None}
 use Rattle.alias_rules.specs.Fine.{IsTakenPlan}
 use Rattle.flat_core.specs.System.{System}
-use Rattle.monitor_run.specs.State as engine
+use Rattle.monitor_run.specs.inner.State as engine
 use Rattle.spec_compiler.specs.Compiled.{Compiles, IsRefusedBy}
 use Rattle.spec_parser.specs.Tree as tree
 use Rattle.spec_reader.specs.declared.fault.SpecFault.{SpecFault}
@@ -18,16 +18,17 @@ use Rattle.tessla_cli.specs.declared.ending.Ending.{Ending}
 use Rattle.tessla_cli.specs.declared.ending.Ending.TheVariants as ending
 use Rattle.tessla_cli.specs.declared.task.Form.{Form}
 use Rattle.tessla_cli.specs.Alone.{AloneStops, IsAloneText}
-use Rattle.tessla_cli.specs.Conduct.{HasWhole, source_limit}
+use Rattle.tessla_cli.specs.Conduct.{HasWhole}
 use Rattle.tessla_cli.specs.Parts.{IsTake, Watched, WatchEnds}
 use Rattle.tessla_cli.specs.Printed.{IsTextOf}
 use Rattle.tessla_cli.specs.Statistics.{statistics_text}
 use Rattle.tessla_cli.specs.Tasks.{Alone, Task, alone_of, print, monitor, asked_of, requested}
+use Rattle.spec_lexer.specs.declared.limits.TheConstants.{MOST_SOURCE_BYTES}
 
--- the specification may be read behind this much of the journal
+-- the specification may be read after this much of the journal
 pub record MayReadSpec (before : List Did) : Type 0 where
   pub unended : ended Spec before ≡ false
-  pub within : length (taken Spec before) ≤ source_limit
+  pub within : length (taken Spec before) ≤ MOST_SOURCE_BYTES
 
 -- the specification is read, and nothing else is done
 pub record ReadsSpec (part : List Did) : Type 0 where

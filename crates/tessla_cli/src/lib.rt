@@ -1,0 +1,17 @@
+//! The monitor: from a specification and a trace to the output events up to the first fault, and that fault. It also prints what is run.
+//!
+//! `top` has the call `tessla`, with all that is promised of the program. The program, the crate `tessla`, makes it.
+#![tactic(auto)]
+
+mod alone;
+pub mod ending;
+mod print;
+mod report;
+mod run;
+mod source;
+mod statistics;
+mod task;
+pub mod tell;
+pub mod top;
+mod watch;
+mod write;
