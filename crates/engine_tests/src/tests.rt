@@ -1,0 +1,12 @@
+// Each call answers, where there is memory.
+
+mod of_aggregate_store;
+mod of_command_words;
+mod of_delay_timers;
+mod of_event_writer;
+mod of_lift_func;
+mod of_sample_trace;
+mod of_trace_bench;
+mod of_trace_reader;
+mod of_tsl_value;
+mod of_tsl_world;

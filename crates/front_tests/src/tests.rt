@@ -1,0 +1,30 @@
+// Small sources, and what the calls of the front and of the lowering answer of them.
+
+mod bodies;
+mod constructs;
+mod expressions;
+mod forms;
+mod naming;
+mod of_call_limits;
+mod of_definition_cycles;
+mod of_equation_marks;
+mod of_spec_lexer;
+mod of_spec_printer;
+mod of_spec_reader;
+mod of_type_check;
+mod parsing;
+mod rules;
+mod shapes;
+
+use spec_lexer::lex::lex;
+use spec_parser::parse::parse;
+use spec_parser::tree::Tree;
+use std::alloc::Global;
+
+/// The tree of a source, if it has one.
+fn tree_of(alloc: Global, source: &[u8]) -> Option<Tree> {
+    let Ok(tokens) = lex(alloc, source) else {
+        return None;
+    };
+    parse(alloc, &tokens).ok()
+}

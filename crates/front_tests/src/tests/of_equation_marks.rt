@@ -1,0 +1,80 @@
+// Small specifications, with the equations that the language has for them, counted by hand.
+
+ghost use Rattle.std.specs.Prelude.{◌≡◌, map};
+
+use definition_cycles::limits::MOST_CALLS;
+use equation_marks::count::{Counter, ENOUGH};
+use expr_types::around::Around;
+use expr_types::kinds::KindTable;
+use name_check::check::check_names;
+use name_check::scope::Scope;
+use spec_lexer::lex::lex;
+use spec_parser::parse::parse;
+use spec_parser::tree::{Item, Tree};
+use std::alloc::Global;
+use tsl_value::scalar::{KeyType, ValueType};
+use type_rules::asked::INT;
+use type_rules::rule::{ExprType, Setting};
+
+fn tree_of(alloc: Global, source: &[u8]) -> Option<Tree> {
+    let Ok(tokens) = lex(alloc, source) else {
+        return None;
+    };
+    parse(alloc, &tokens).ok()
+}
+
+/// How many equations there are with those of the expression that is printed last, where the first names are streams of integers
+/// and of sets.
+fn counted(alloc: Global, source: &[u8], count: u32) -> Option<u32> {
+    let tree = tree_of(alloc, source)?;
+    let Ok(names) = check_names(alloc, &tree) else {
+        return None;
+    };
+    let integers = ExprType::Stream(INT);
+    let sets = ExprType::Stream(ValueType::Set(KeyType::Int));
+    let kinds = KindTable {
+        items: vec![in alloc; Some(integers), Some(sets)].ok()?,
+        locals: Vec::new(alloc),
+    };
+    let counter = Counter {
+        alloc,
+        items: tree.items(),
+        names: &names,
+        kinds: &kinds,
+    };
+    let scope = Scope::all(&names);
+    let at = Around {
+        items: tree.items(),
+        kinds: &kinds,
+        scope: &scope,
+        setting: Setting::Streams,
+        number: 0,
+        params: &[],
+    };
+    let Some(Item::OutputAs(_, expression, _, _)) = tree.items().last() else {
+        return None;
+    };
+    counter.expression(&at, MOST_CALLS, expression, count).ok()
+}
+
+#[test]
+fn a_call_makes_a_block_and_a_result(rt: HostRuntime) {
+    let source =
+        b"in i: Int\nin s: Set[Int]\ndef m(x: Events[Int]) := { def y := x + 1 def z := x y * z }\nout m(i) as a";
+    assert_eq!(rt; counted(rt.alloc(), source, 0), Some(1 + 1 + 5));
+}
+
+#[test]
+fn a_choice_between_sets_is_one_operation(rt: HostRuntime) {
+    let sets = b"in i: Int\nin s: Set[Int]\nout if i > 0 then Set.add(s, 1) else s as a";
+    assert_eq!(rt; counted(rt.alloc(), sets, 0), Some(1 + 2 + 8));
+    let integers = b"in i: Int\nin s: Set[Int]\nout if true then i else 2 as a";
+    assert_eq!(rt; counted(rt.alloc(), integers, 0), Some(1));
+}
+
+#[test]
+fn nothing_is_counted_beyond(rt: HostRuntime) {
+    let source = b"in i: Int\nin s: Set[Int]\nout 1 + 2 as a";
+    assert_eq!(rt; counted(rt.alloc(), source, 4094), Some(4096));
+    assert_eq!(rt; counted(rt.alloc(), source, 4096), Some(ENOUGH));
+}

@@ -1,0 +1,21 @@
+use Rattle.std.proofs.Common.{◌≡◌, take, [], ◌∷◌, ◌++◌, ap, ◌∙◌, arith}
+use Rattle.flat_core.specs.System.{System}
+use Rattle.program_text.specs.inner.Sample.{sample_equations}
+use Rattle.tsl_value.proofs.Lists.{one_more}
+use Rattle.program_text.proofs.SampleLemmas.{sample_complete}
+use Rattle.system_tests.proofs.tests.of_program_text.sample.Goals as goal
+
+pub loop-n-preserved : goal.loop-n-preserved
+loop-n-preserved c = record {
+  equations =
+      one_more sample_equations c.loop-n.n c.in_ok-sample_equation.field-0 c.loop-n.builder.equations c.add.new.self.equations
+      c.in_ok-sample_equation.ensures c.loop-n.invariant.equations (ap (λ (b : System). b.equations) c.in_ok-add.ensures.after);
+  outputs = ap (λ (b : System). b.outputs) c.in_ok-add.ensures.after ∙ c.loop-n.invariant.outputs;
+}
+
+pub finish-requires : goal.finish-requires
+finish-requires c =
+    let all : c.loop-n.n ≡ 14 = omega arith in
+    sample_complete c.add_output.new.self
+    (ap (λ (b : System). b.equations) c.in_ok-add_output.ensures ∙ c.loop-n.invariant.equations ∙ ap (λ n. take n sample_equations) all)
+    (ap (λ (b : System). b.outputs) c.in_ok-add_output.ensures ∙ (λ k. c.loop-n.invariant.outputs k ++ record { name = c.in_ok-from_str.ensures k; equation = c.new.ensures k } ∷ []))

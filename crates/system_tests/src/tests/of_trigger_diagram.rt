@@ -1,0 +1,52 @@
+// Questions about the formulas of two systems.
+
+ghost use Rattle.std.specs.Prelude.{◌≡◌, length, IfOk};
+
+use flat_core::flat::Flat;
+use recursion_check::check::check_cycles;
+use std::alloc::Global;
+use std::test::Fail;
+use trigger_diagram::diagrams::Diagrams;
+use trigger_starts::sample::{merged, sample};
+use tsl_value::ids::EqId;
+
+/// The diagrams of a system.
+fn diagrams(alloc: Global, flat: &Flat) -> Result<Diagrams, Fail>
+    ensures { IfOk result (λ d. length d.rules ≡ length flat.now.equations) }
+{
+    match check_cycles(alloc, flat) {
+        Ok(()) => Ok(Diagrams::new(alloc, flat)?),
+        Err(_) => Err(Fail::from("a cycle")),
+    }
+}
+
+#[test]
+fn formulas_of_a_set_that_grows(rt: HostRuntime) -> Result<(), Fail> {
+    let flat = sample(rt.alloc())?;
+    let mut diagrams = diagrams(rt.alloc(), &flat)?;
+    let input = diagrams.of_formula(EqId::new(0))?;
+    let set = diagrams.of_formula(EqId::new(8))?;
+    assert!(rt; diagrams.implies(rt.alloc(), set, input)?);
+    assert!(rt; !diagrams.implies(rt.alloc(), input, set)?);
+    assert!(rt; diagrams.together(rt.alloc(), set, input)?);
+    // the set grows just where there was one before
+    let last = diagrams.of_formula(EqId::new(3))?;
+    assert!(rt; last == set);
+    assert!(rt; last != input);
+    assert!(rt; diagrams.starts(EqId::new(1)));
+    assert!(rt; !diagrams.starts(EqId::new(3)));
+    Ok(())
+}
+
+/// The formulas have 20 atoms and more, which are too many for a table.
+#[test]
+fn formulas_of_many_merged_inputs(rt: HostRuntime) -> Result<(), Fail> {
+    let flat = merged(rt.alloc())?;
+    let mut diagrams = diagrams(rt.alloc(), &flat)?;
+    let trigger = diagrams.of_formula(EqId::new(34))?;
+    let set = diagrams.of_formula(EqId::new(42))?;
+    // the set grows with each event of the inputs but at the start, and before it is there
+    assert!(rt; diagrams.implies(rt.alloc(), set, trigger)?);
+    assert!(rt; !diagrams.implies(rt.alloc(), trigger, set)?);
+    Ok(())
+}
