@@ -16,5 +16,7 @@ complete -c tessla -n '__fish_seen_subcommand_from run' -l instants -x -d 'run a
 complete -c tessla -n '__fish_seen_subcommand_from run' -l bytes -x -d 'refuse a longer trace'
 complete -c tessla -n '__fish_seen_subcommand_from run' -l strict -d 'refuse names that are no inputs'
 complete -c tessla -n '__fish_seen_subcommand_from run' -l stats -d 'tell what updates have copied'
-complete -c tessla -n '__fish_seen_subcommand_from gen bench' -f -a 'seen copy'
+complete -c tessla -n '__fish_seen_subcommand_from check flat show code' -f -k -a '(__fish_complete_suffix .tsl)'
+complete -c tessla -n '__fish_seen_subcommand_from gen bench help' -f
+complete -c tessla -n '__fish_prev_arg_in gen bench' -f -a 'seen copy'
 complete -c tessla -n '__fish_seen_subcommand_from install' -f -a '(__fish_complete_directories)'
