@@ -1,10 +1,12 @@
 // Cells, each with a set or a map.
 
 ghost use Rattle.std.specs.Prelude.{◌≡◌, IfOk, OnOk, OnErr};
+ghost use Rattle.std.specs.FinMap as map;
 ghost use Rattle.std.specs.Option.{option_copied};
 ghost use Rattle.tsl_value.specs.View.{Plain};
 ghost use Rattle.lift_func.specs.inner.Cells.{has_key, value_at};
 ghost use Rattle.lift_func.specs.Update.{size_of, without_key};
+ghost use Rattle.aggregate_store.specs.inner.CellView.{table_of};
 ghost use Rattle.aggregate_store.specs.inner.Stored.{IsAggregate, empty_view, with_added};
 
 use crate::keys::KeySet;
@@ -18,6 +20,20 @@ use tsl_value::scalar::{Scalar, ValueType};
 pub enum Cell {
     Set(KeySet),
     Map(BTreeMap<Scalar, Scalar>),
+}
+
+/// Puts a copy of a value at a copy of a key.
+#[inline(never)]
+fn add_entry(
+    key: &Scalar,
+    value: &Scalar,
+    entries: &mut BTreeMap<Scalar, Scalar>,
+) -> Result<(), NoMemory>
+    ensures ok { OnOk result (table_of entries.new ≡ map.insert (table_of entries.old) key.now value.now) }
+    ensures err { OnErr result (table_of entries.new ≡ table_of entries.old) }
+{
+    entries.insert(key.copy()?, value.copy()?)?;
+    Ok(())
 }
 
 impl Cell {
@@ -46,6 +62,7 @@ impl Cell {
     }
 
     /// Whether the key is there.
+    #[inline(always)]
     pub fn contains(&self, key: &Scalar) -> bool
         ensures { result ≡ has_key (view_of self.now) key.now }
     {
@@ -92,16 +109,14 @@ impl Cell {
     }
 
     /// Adds copies of a key and a value, or puts the value at the key. After `NoMemory` the view is as it was.
+    #[inline(always)]
     pub fn add_copied(&mut self, key: &Scalar, value: &Scalar) -> Result<(), NoMemory>
         ensures ok { OnOk result (view_of self.new ≡ with_added (view_of self.old) key.now value.now) }
         ensures err { OnErr result (view_of self.new ≡ view_of self.old) }
     {
         match self {
             Cell::Set(keys) => keys.insert(key),
-            Cell::Map(entries) => {
-                entries.insert(key.copy()?, value.copy()?)?;
-                Ok(())
-            }
+            Cell::Map(entries) => add_entry(key, value, entries),
         }
     }
 

@@ -122,6 +122,7 @@ impl KeySet {
     }
 
     /// Whether the key is there.
+    #[inline(always)]
     pub fn contains(&self, key: &Scalar) -> bool
         ensures { result ≡ set.contains self.now key.now }
     {
@@ -130,6 +131,14 @@ impl KeySet {
                 return true;
             }
         }
+        self.is_key(key)
+    }
+
+    /// The search. It is no part of its callers, which are short where the table has the number.
+    #[inline(never)]
+    fn is_key(&self, key: &Scalar) -> bool
+        ensures { result ≡ set.contains self.now key.now }
+    {
         self.keys.contains(key)
     }
 
@@ -147,17 +156,18 @@ impl KeySet {
     }
 
     /// Adds a key, present or not. After `NoMemory` all is as it was.
+    #[inline(always)]
     pub fn insert(&mut self, key: &Scalar) -> Result<(), NoMemory>
         ensures ok { OnOk result (self.new ≡ set.insert self.old key.now) }
         ensures err { OnErr result (self.new ≡ self.old) }
     {
-        if let Scalar::Int(number) = key {
-            return self.insert_number(*number);
+        match key {
+            Scalar::Int(number) => self.insert_number(*number),
+            _ => self.add_copy(key),
         }
-        self.keys.insert(key.copy()?)?;
-        Ok(())
     }
 
+    #[inline(always)]
     fn insert_number(&mut self, number: i64) -> Result<(), NoMemory>
         ensures ok { OnOk result (self.new ≡ set.insert self.old (scalar.Int number)) }
         ensures err { OnErr result (self.new ≡ self.old) }
@@ -165,6 +175,25 @@ impl KeySet {
         if self.is_recent(number) {
             return Ok(());
         }
+        self.add_number(number)
+    }
+
+    /// Adds a copy of a key to the tree.
+    #[inline(never)]
+    fn add_copy(&mut self, key: &Scalar) -> Result<(), NoMemory>
+        ensures ok { OnOk result (self.new ≡ set.insert self.old key.now) }
+        ensures err { OnErr result (self.new ≡ self.old) }
+    {
+        self.keys.insert(key.copy()?)?;
+        Ok(())
+    }
+
+    /// Adds a number to the tree and to the table.
+    #[inline(never)]
+    fn add_number(&mut self, number: i64) -> Result<(), NoMemory>
+        ensures ok { OnOk result (self.new ≡ set.insert self.old (scalar.Int number)) }
+        ensures err { OnErr result (self.new ≡ self.old) }
+    {
         self.keys.insert(Scalar::Int(number))?;
         if self.is_noting {
             note(number, self.keys.len(), &mut self.recent);

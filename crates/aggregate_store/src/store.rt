@@ -72,6 +72,7 @@ impl Store {
     /// Makes a cell with the source's elements and a key, which is added, or whose value is replaced. A set's value is
     /// `Unit`. The update's number grows by the source's size, and stands once it is 2^64 - 1. After `NoMemory` all is as
     /// it was.
+    #[inline(never)]
     pub fn copy_add(
         &mut self,
         update: u32,
@@ -101,6 +102,7 @@ impl Store {
 
     /// Makes a cell with the source's elements without a key, which may be there or not. The update's number grows as by
     /// `copy_add`. After `NoMemory` all is as it was.
+    #[inline(never)]
     pub fn copy_remove(
         &mut self,
         update: u32,
@@ -128,6 +130,7 @@ impl Store {
 
     /// Adds a key to a cell, or replaces its value. A set's value is `Unit`. The handle stays, and no update's number grows. After
     /// `NoMemory` all is as it was.
+    #[inline(always)]
     pub fn add_in_place(
         &mut self,
         cell: Handle,
@@ -228,6 +231,7 @@ impl Reader for Store {
         self.cell(cell).size()
     }
 
+    #[inline(always)]
     fn contains(&self, cell: Handle, key: &Scalar) -> bool {
         self.cell(cell).contains(key)
     }

@@ -73,9 +73,24 @@ fn empty_texts(alloc: Global, count: usize) -> Result<Vec<Bytes>, NoMemory>
 }
 
 /// Puts a register into a place.
+#[inline(always)]
 pub(crate) fn put(register: Register, place: usize, registers: &mut [Register])
     requires { place < length registers.old }
     ensures { registers.new ≡ slice_set registers.old place register }
 {
-    registers[place] = register;
+    match register {
+        Register::Empty => empty(place, registers),
+        full => registers[place] = full,
+    }
+}
+
+/// Empties a place. In most instants most places are empty already, and nothing is written there.
+fn empty(place: usize, registers: &mut [Register])
+    requires { place < length registers.old }
+    ensures { registers.new ≡ slice_set registers.old place Register.Empty }
+{
+    match &registers[place] {
+        Register::Empty => {}
+        _ => registers[place] = Register::Empty,
+    }
 }

@@ -46,6 +46,9 @@ pub(crate) fn least_root(a: Option<Root>, b: Option<Root>) -> Option<Root>
         → IsLeastRoot (λ i. among i || besides i) at result }
 {
     match (a, b) {
+        // Most equations answer none, and this arm asks nothing of the first one.
+        (_, None) => a,
+        (None, Some(_)) => b,
         (Some(x), Some(y)) => {
             if y.equation.get() < x.equation.get() {
                 b
@@ -53,8 +56,6 @@ pub(crate) fn least_root(a: Option<Root>, b: Option<Root>) -> Option<Root>
                 a
             }
         }
-        (Some(_), None) => a,
-        (None, _) => b,
     }
 }
 

@@ -27,6 +27,7 @@ pub(crate) struct Update {
 }
 
 /// Adds a key with its value: to the cell itself, or to a copy.
+#[inline(always)]
 fn add(
     update: Update,
     source: Handle,

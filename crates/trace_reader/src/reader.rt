@@ -226,6 +226,7 @@ impl<'f> TraceReader<'f> {
     }
 
     /// Takes the first line that stands, which says this, and the lines after it that say nothing.
+    #[inline(always)]
     fn pass_line(&mut self, len: usize, line: &TraceLine) -> Result<(), NoMemory>
         requires within { len ≤ length self.old.unread }
         requires some { 0 < length self.old.unread }

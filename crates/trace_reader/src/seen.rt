@@ -9,6 +9,7 @@ use tsl_value::memory::NoMemory;
 use tsl_value::time::Time;
 
 /// Notes the event of a line, where it has one. Those of lower times are forgotten.
+#[inline(always)]
 pub(crate) fn note_event(seen: &mut Vec<EqId>, last: Time, line: &TraceLine) -> Result<(), NoMemory>
     ensures ok { OnOk result (seen.new.items ≡ seen_with last seen.old.items line.now) }
     ensures err { OnErr result (seen.new.items ≡ seen.old.items) }

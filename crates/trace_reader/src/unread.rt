@@ -72,6 +72,7 @@ impl Unread {
 
     /// The length of the first line without its end, if one stands. After the last line's end one
     /// stands where the stream has ended.
+    #[inline(never)]
     pub(crate) fn line_len(&mut self, ended: bool) -> Option<usize>
         ensures same { self.new ≡ self.old }
         ensures line { IfSome result (λ n. first_line self.old ended ≡ Some (take n self.old, drop (n + 1) self.old)) }
@@ -106,6 +107,7 @@ impl Unread {
     }
 
     /// Takes the lines at the front that are empty or comments, and gives their number.
+    #[inline(always)]
     pub(crate) fn pass_skipped(&mut self, ended: bool) -> u64
         requires { length self.old ≤ MOST_TRACE_BYTES }
         ensures passes { Passes ended self.old result self.new }
@@ -121,6 +123,7 @@ impl Unread {
     }
 
     /// The length of the first line, where it is empty or a comment. What begins with a digit is neither.
+    #[inline(always)]
     fn skipped_len(&mut self, ended: bool) -> Option<usize>
         ensures same { self.new ≡ self.old }
         ensures line { IfSome result (λ n. IsFirstLine self.old ended n) }

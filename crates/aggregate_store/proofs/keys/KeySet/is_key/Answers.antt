@@ -1,7 +1,7 @@
 use Rattle.std.proofs.Common.{sym, ap, ◌∙◌}
 use Rattle.std.specs.FinSet as set
 use Rattle.tsl_value.specs.inner.ScalarOrder.{scalar_cmp_total}
-use Rattle.aggregate_store.proofs.keys.KeySet.contains.Goals as goal
+use Rattle.aggregate_store.proofs.keys.KeySet.is_key.Goals as goal
 
 pub returns : goal.returns
 returns c =

@@ -1,7 +1,7 @@
 use Rattle.std.proofs.Common.{ap, ◌∙◌}
 use Rattle.std.specs.FinSet as set
 use Rattle.aggregate_store.proofs.Recent.{keys_added, set_added}
-use Rattle.aggregate_store.proofs.keys.KeySet.insert.Goals as goal
+use Rattle.aggregate_store.proofs.keys.KeySet.add_copy.Goals as goal
 
 pub invariant_of-self-2 : goal.invariant_of-self-2
 invariant_of-self-2 c = keys_added c.self.inside.keys c.insert.new.self c.in_ok-copy.field-0 c.in_ok-insert.ensures.updates c.self.inside.recent.items c.self.invariant

@@ -1,0 +1,12 @@
+use Rattle.std.proofs.Common.{◌∙◌}
+use Rattle.std.specs.FinMap as map
+use Rattle.tsl_value.specs.inner.ScalarOrder.{scalar_cmp_total}
+use Rattle.tsl_value.proofs.ScalarOrder.{scalar_cmp-IsAntisymmetric}
+use Rattle.aggregate_store.specs.inner.CellView.{table_of}
+use Rattle.aggregate_store.proofs.FiniteMaps.{table-insert}
+use Rattle.aggregate_store.proofs.cell.add_entry.Goals as goal
+
+pub returns-clause-ok : goal.returns-clause-ok
+returns-clause-ok c =
+    table-insert scalar_cmp_total scalar_cmp-IsAntisymmetric c.args.entries.now c.insert.new.self c.in_ok-copy.field-0 c.in_ok-copy-2.field-0 c.in_ok-insert.ensures.updates
+    ∙ (λ k. map.insert (table_of c.args.entries.now) (c.in_ok-copy.ensures k) (c.in_ok-copy-2.ensures k))
