@@ -16,15 +16,24 @@ mod parsing;
 mod rules;
 mod shapes;
 
+ghost use Rattle.std.specs.Prelude.{IfSome};
+ghost use Rattle.spec_parser.specs.inner.Shape.{items_of};
+ghost use Rattle.definition_cycles.specs.Nodes.{HasFewNodes};
+
 use spec_lexer::lex::lex;
 use spec_parser::parse::parse;
 use spec_parser::tree::Tree;
 use std::alloc::Global;
 
 /// The tree of a source, if it has one.
-fn tree_of(alloc: Global, source: &[u8]) -> Option<Tree> {
+fn tree_of(alloc: Global, source: &[u8]) -> Option<Tree>
+    ensures { IfSome result (λ t. HasFewNodes (items_of t)) }
+{
     let Ok(tokens) = lex(alloc, source) else {
         return None;
     };
-    parse(alloc, &tokens).ok()
+    match parse(alloc, &tokens) {
+        Ok(tree) => Some(tree),
+        Err(_) => None,
+    }
 }

@@ -1,32 +1,14 @@
 // Small specifications, with ample memory.
 
-ghost use Rattle.std.specs.Prelude.{IfSome};
-ghost use Rattle.spec_parser.specs.inner.Shape.{items_of};
-ghost use Rattle.definition_cycles.specs.Nodes.{HasFewNodes};
-
+use crate::tests::tree_of;
 use call_limits::cycle::find_macro_cycle;
 use call_limits::deep::find_too_deep;
 use definition_cycles::functions::find_function_cycle;
-use spec_lexer::lex::lex;
-use spec_parser::parse::parse;
-use spec_parser::tree::Tree;
 use std::alloc::{AllocError, Global};
 use std::fmt::Write;
 use std::test::Fail;
 use tsl_value::memory::NoMemory;
 use tsl_value::place::Place;
-
-fn tree_of(alloc: Global, source: &[u8]) -> Option<Tree>
-    ensures { IfSome result (λ t. HasFewNodes (items_of t)) }
-{
-    let Ok(tokens) = lex(alloc, source) else {
-        return None;
-    };
-    match parse(alloc, &tokens) {
-        Ok(tree) => Some(tree),
-        Err(_) => None,
-    }
-}
 
 /// The line and column of a place, or the first column of no line where there is none.
 fn told(place: Result<Option<Place>, NoMemory>) -> (u32, u32) {

@@ -1,29 +1,11 @@
 // Small specifications, with ample memory.
 
-ghost use Rattle.std.specs.Prelude.{IfSome};
-ghost use Rattle.spec_parser.specs.inner.Shape.{items_of};
-ghost use Rattle.definition_cycles.specs.Nodes.{HasFewNodes};
-
+use crate::tests::tree_of;
 use definition_cycles::functions::find_function_cycle;
 use definition_cycles::kinds::{find_untyped_cycle, kind_order};
-use spec_lexer::lex::lex;
-use spec_parser::parse::parse;
-use spec_parser::tree::Tree;
 use std::alloc::Global;
 use std::test::Fail;
 use tsl_value::place::Place;
-
-fn tree_of(alloc: Global, source: &[u8]) -> Option<Tree>
-    ensures { IfSome result (λ t. HasFewNodes (items_of t)) }
-{
-    let Ok(tokens) = lex(alloc, source) else {
-        return None;
-    };
-    match parse(alloc, &tokens) {
-        Ok(tree) => Some(tree),
-        Err(_) => None,
-    }
-}
 
 /// The line and column of the first function on a cycle, or of the first definition that needs a type.
 fn found(alloc: Global, source: &[u8], functions: bool) -> (u32, u32) {

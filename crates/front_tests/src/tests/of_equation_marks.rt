@@ -1,27 +1,17 @@
 // Small specifications, with the equations that the language has for them, counted by hand.
 
-ghost use Rattle.std.specs.Prelude.{◌≡◌, map};
-
+use crate::tests::tree_of;
 use definition_cycles::limits::MOST_CALLS;
 use equation_marks::count::{Counter, ENOUGH};
 use expr_types::around::Around;
 use expr_types::kinds::KindTable;
 use name_check::check::check_names;
 use name_check::scope::Scope;
-use spec_lexer::lex::lex;
-use spec_parser::parse::parse;
-use spec_parser::tree::{Item, Tree};
+use spec_parser::tree::Item;
 use std::alloc::Global;
 use tsl_value::scalar::{KeyType, ValueType};
 use type_rules::asked::INT;
 use type_rules::rule::{ExprType, Setting};
-
-fn tree_of(alloc: Global, source: &[u8]) -> Option<Tree> {
-    let Ok(tokens) = lex(alloc, source) else {
-        return None;
-    };
-    parse(alloc, &tokens).ok()
-}
 
 /// How many equations there are with those of the expression that is printed last, where the first names are streams of integers
 /// and of sets.

@@ -1,31 +1,13 @@
 // Small specifications, with what the language says of them.
 
-ghost use Rattle.std.specs.Prelude.{IfSome};
-ghost use Rattle.spec_parser.specs.inner.Shape.{items_of};
-ghost use Rattle.definition_cycles.specs.Nodes.{HasFewNodes};
-
+use crate::tests::tree_of;
 use expr_types::kinds::KindTable;
-use spec_lexer::lex::lex;
-use spec_parser::parse::parse;
-use spec_parser::tree::Tree;
 use std::alloc::Global;
 use tsl_value::place::Place;
 use type_check::check::check;
 use type_check::fault::{Kind, TypeFault};
 use type_rules::asked::{BOOL, INT};
 use type_rules::rule::ExprType;
-
-fn tree_of(alloc: Global, source: &[u8]) -> Option<Tree>
-    ensures { IfSome result (λ t. HasFewNodes (items_of t)) }
-{
-    let Ok(tokens) = lex(alloc, source) else {
-        return None;
-    };
-    match parse(alloc, &tokens) {
-        Ok(tree) => Some(tree),
-        Err(_) => None,
-    }
-}
 
 /// What the declared names of a source are, if it is accepted.
 fn kinds_of(alloc: Global, source: &[u8]) -> Option<KindTable> {

@@ -1,0 +1,26 @@
+// Which updates of a small flat system happen in place, with ample memory.
+
+mod of_alias_analysis;
+mod of_choice_text;
+mod of_last_use;
+
+ghost use Rattle.std.specs.Prelude.{IfOk, OnOk};
+ghost use Rattle.flat_core.specs.WellFormed.{IsWellFormed};
+ghost use Rattle.trigger_formulas.specs.inner.Kept.{AreTriggersOf};
+
+use flat_core::flat::Flat;
+use recursion_check::check::check_cycles;
+use std::alloc::Global;
+use std::test::Fail;
+use trigger_formulas::triggers::Triggers;
+
+/// The triggers of a system without a cycle.
+fn triggers(alloc: Global, flat: &Flat) -> Result<Triggers, Fail>
+    ensures triggers { IfOk result (λ t. AreTriggersOf t flat.now) }
+    ensures well_formed { OnOk result (IsWellFormed flat.now) }
+{
+    match check_cycles(alloc, flat) {
+        Ok(()) => Ok(Triggers::of(alloc, flat)?),
+        Err(_) => Err(Fail::from("a cycle")),
+    }
+}

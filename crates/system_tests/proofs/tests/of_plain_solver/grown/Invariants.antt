@@ -1,9 +1,0 @@
-use Rattle.std.proofs.Common.{◌≡◌, take, []}
-use Rattle.plain_solver.specs.inner.Sample.{grown_equations, grown_outputs}
-use Rattle.system_tests.proofs.tests.of_plain_solver.grown.Given as goal
-
-abbrev pub invariant-loop-n : goal.invariant-loop-n
-invariant-loop-n l = record { equations : l.builder.equations ≡ take l.n grown_equations; outputs : l.builder.outputs ≡ [] }
-
-abbrev pub invariant-loop-k : goal.invariant-loop-k
-invariant-loop-k l = record { equations : l.builder.equations ≡ grown_equations; outputs : l.builder.outputs ≡ take l.k grown_outputs }

@@ -1,0 +1,82 @@
+// Each call, with ample memory.
+
+ghost use Rattle.lift_func.specs.inner.Cells.{IsLive};
+
+use aggregate_store::store::Store;
+use lift_func::reader::Reader;
+use std::alloc::Global;
+use std::test::Fail;
+use tsl_value::bytes::Bytes;
+use tsl_value::ids::Handle;
+use tsl_value::memory::NoMemory;
+use tsl_value::scalar::{KeyType, Scalar, ScalarType, ValueType};
+
+fn text(alloc: Global, store: &Store, cell: Handle) -> Result<Bytes, NoMemory>
+    requires { IsLive store.now.cells cell }
+{
+    let mut out = Bytes::new(alloc);
+    store.print(cell, &mut out)?;
+    Ok(out)
+}
+
+#[test]
+fn sets_are_copied(rt: HostRuntime) -> Result<(), Fail> {
+    let mut store = Store::new(rt.alloc(), 2)?;
+    let none = store.empty(ValueType::Set(KeyType::Int))?;
+    let one = store.copy_add(0, none, &Scalar::Int(2), &Scalar::Unit)?;
+    let printed = text(rt.alloc(), &store, none)?;
+    assert_eq!(rt; printed.as_slice(), b"Set()".as_slice());
+    let two = store.copy_add(0, one, &Scalar::Int(-1), &Scalar::Unit)?;
+    let printed = text(rt.alloc(), &store, one)?;
+    assert_eq!(rt; printed.as_slice(), b"Set(2)".as_slice());
+    let less = store.copy_remove(1, two, &Scalar::Int(2))?;
+    let printed = text(rt.alloc(), &store, less)?;
+    assert_eq!(rt; printed.as_slice(), b"Set(-1)".as_slice());
+    let same = store.copy_remove(1, two, &Scalar::Int(7))?;
+    let printed = text(rt.alloc(), &store, same)?;
+    assert_eq!(rt; printed.as_slice(), b"Set(-1, 2)".as_slice());
+    assert_eq!(rt; store.ledger(0), 1);
+    assert_eq!(rt; store.ledger(1), 4);
+    Ok(())
+}
+
+#[test]
+fn keys_are_added_in_place(rt: HostRuntime) -> Result<(), Fail> {
+    let mut store = Store::new(rt.alloc(), 1)?;
+    let cell = store.empty(ValueType::Map(KeyType::Int, ScalarType::Bool))?;
+    store.add_in_place(cell, &Scalar::Int(3), &Scalar::Bool(true))?;
+    store.add_in_place(cell, &Scalar::Int(3), &Scalar::Bool(false))?;
+    let printed = text(rt.alloc(), &store, cell)?;
+    assert_eq!(rt; printed.as_slice(), b"Map(3 -> false)".as_slice());
+    assert_eq!(rt; store.ledger(0), 0);
+    Ok(())
+}
+
+#[test]
+fn keys_are_removed_in_place(rt: HostRuntime) -> Result<(), Fail> {
+    let mut store = Store::new(rt.alloc(), 0)?;
+    let cell = store.empty(ValueType::Set(KeyType::Int))?;
+    store.add_in_place(cell, &Scalar::Int(2), &Scalar::Unit)?;
+    store.remove_in_place(cell, &Scalar::Int(7));
+    let printed = text(rt.alloc(), &store, cell)?;
+    assert_eq!(rt; printed.as_slice(), b"Set(2)".as_slice());
+    store.remove_in_place(cell, &Scalar::Int(2));
+    let printed = text(rt.alloc(), &store, cell)?;
+    assert_eq!(rt; printed.as_slice(), b"Set()".as_slice());
+    Ok(())
+}
+
+#[test]
+fn cells_are_dropped(rt: HostRuntime) -> Result<(), Fail> {
+    let mut store = Store::new(rt.alloc(), 0)?;
+    let first = store.empty(ValueType::Set(KeyType::Text))?;
+    let second = store.empty(ValueType::Set(KeyType::Bool))?;
+    let third = store.empty(ValueType::Map(KeyType::Int, ScalarType::Unit))?;
+    store.keep_only(&[third, first]);
+    assert_eq!(rt; store.count(), 2);
+    store.keep_only(&[second, third]);
+    assert_eq!(rt; store.count(), 1);
+    let printed = text(rt.alloc(), &store, third)?;
+    assert_eq!(rt; printed.as_slice(), b"Map()".as_slice());
+    Ok(())
+}
