@@ -20,7 +20,8 @@ use Rattle.lift_func.specs.Apply.{int, bool, found, of_one, contained, at_key}
 use Rattle.lift_func.specs.inner.Cells.{Cells, FitsKey, HoldsLive, IsAggregate, IsMap, has_key, held, register_of, scalar_in, value_at, view_at}
 use Rattle.lift_func.specs.inner.Evaluable.{CanRead, IsScalarKind, is_read}
 use Rattle.lift_func.specs.Typing as typing
-use Rattle.lift_func.specs.Typing.{Kind, Value, Optional, TypesTwo, fits, plain, scalar_of, is_arithmetic, is_order, is_equality, is_logic}
+use Rattle.lift_func.specs.Operations.{is_arithmetic, is_order, is_equality, is_logic, is_on_texts}
+use Rattle.lift_func.specs.Typing.{ValueKind, Value, Optional, TypesTwo, fits, plain, scalar_of}
 use Rattle.lift_func.specs.Update.{size_of}
 
 pub size_is : (v : View) → IsAggregate v → of_one unary.Size (Some v) ≡ int (pos (size_of v))
@@ -39,7 +40,7 @@ at_key_is (Keyed s) key is = absurd is
 at_key_is (Mapped m) key is = refl
 
 -- an aggregate is of no scalar's kind
-no_aggregate : (k : Kind) → IsScalarKind k → (v : View) → IsAggregate v → IsTrue (fits k (Some v)) → ⊥
+no_aggregate : (k : ValueKind) → IsScalarKind k → (v : View) → IsAggregate v → IsTrue (fits k (Some v)) → ⊥
 no_aggregate (Value (value_type.Scalar t)) scalar (Plain s) is fit = is
 no_aggregate (Value (value_type.Scalar t)) scalar _ is fit = false≢true fit
 no_aggregate (Optional (value_type.Scalar t)) scalar (Plain s) is fit = is
@@ -75,7 +76,7 @@ unread p c g binary.Get e is = false≢true (sym g ∙ e)
 unread p c g _ e is = false≢true is
 
 -- operations that read no aggregate have operands of scalars
-pub plain_operands : {o : Binary} {i j k : Kind} → TypesTwo o i j k → is_read o ≡ false → IsScalarKind i × IsScalarKind j
+pub plain_operands : {o : Binary} {i j k : ValueKind} → TypesTwo o i j k → is_read o ≡ false → IsScalarKind i × IsScalarKind j
 plain_operands (typing.arithmetic e) is = (tt, tt)
 plain_operands (typing.order e) is = (tt, tt)
 plain_operands (typing.equality e) is = (tt, tt)
@@ -83,7 +84,7 @@ plain_operands (typing.logic e) is = (tt, tt)
 plain_operands (typing.in_set e) is = absurd (false≢true (sym is))
 plain_operands (typing.in_map e) is = absurd (false≢true (sym is))
 plain_operands (typing.get e) is = absurd (false≢true (sym is))
-plain_operands typing.concat is = (tt, tt)
+plain_operands (typing.on_texts e) is = (tt, tt)
 
 module _ (cells : Cells) where
   pub held_register : (v : Option Scalar) → held cells (register_of v) ≡ option_map Plain v
@@ -95,13 +96,13 @@ module _ (cells : Cells) where
   live_register (Some s) = tt
 
   -- a register of a scalar's kind has a scalar or nothing
-  pub held_scalar : (k : Kind) → IsScalarKind k → (r : Register) → HoldsLive cells r → IsTrue (fits k (held cells r)) → held cells r ≡ option_map Plain (scalar_in r)
+  pub held_scalar : (k : ValueKind) → IsScalarKind k → (r : Register) → HoldsLive cells r → IsTrue (fits k (held cells r)) → held cells r ≡ option_map Plain (scalar_in r)
   held_scalar k scalar register.Empty live fit = refl
   held_scalar k scalar (register.Scalar s) live fit = refl
   held_scalar k scalar (register.Aggregate handle) live fit = absurd (no_aggregate k scalar (view_at cells handle) live.1 fit)
 
   -- an operand that is an aggregate, and one that is a scalar
-  at_cell : (of : Kind) (P : Register → Type 0) → fits of None ≡ false → ((s : Scalar) → fits of (Some (Plain s)) ≡ false) → ((handle : ℕ) → IsTrue (fits of (Some (view_at cells handle))) → P (register.Aggregate handle)) → (r : Register) → IsTrue (fits of (held cells r)) → P r
+  at_cell : (of : ValueKind) (P : Register → Type 0) → fits of None ≡ false → ((s : Scalar) → fits of (Some (Plain s)) ≡ false) → ((handle : ℕ) → IsTrue (fits of (Some (view_at cells handle))) → P (register.Aggregate handle)) → (r : Register) → IsTrue (fits of (held cells r)) → P r
   at_cell of P none scalar h register.Empty fit = absurd (false≢true (sym none ∙ fit))
   at_cell of P none scalar h (register.Scalar s) fit = absurd (false≢true (sym (scalar s) ∙ fit))
   at_cell of P none scalar h (register.Aggregate handle) fit = h handle fit
@@ -111,7 +112,7 @@ module _ (cells : Cells) where
   at_scalar t P h (register.Scalar s) live fit = h s fit
   at_scalar t P h (register.Aggregate handle) live fit = absurd (no_aggregate (plain t) tt (view_at cells handle) live.1 fit)
 
-  pub can_read : {o : Binary} {i j k : Kind} → TypesTwo o i j k → is_read o ≡ true → (r q : Register) → HoldsLive cells q → IsTrue (fits i (held cells r)) → IsTrue (fits j (held cells q)) → CanRead cells o r q
+  pub can_read : {o : Binary} {i j k : ValueKind} → TypesTwo o i j k → is_read o ≡ true → (r q : Register) → HoldsLive cells q → IsTrue (fits i (held cells r)) → IsTrue (fits j (held cells q)) → CanRead cells o r q
   can_read (typing.arithmetic {o = o} e) is r q live p f = absurd (unread is_arithmetic refl refl o e is)
   can_read (typing.order {o = o} e) is r q live p f = absurd (unread is_order refl refl o e is)
   can_read (typing.equality {o = o} e) is r q live p f = absurd (unread is_equality refl refl o e is)
@@ -128,4 +129,4 @@ module _ (cells : Cells) where
       at_cell (Value (value_type.Map k x)) (λ r. CanRead cells binary.Get r q) refl (λ s. refl)
       (λ handle fit. at_scalar t (λ q. CanRead cells binary.Get (register.Aggregate handle) q) (λ key of. map_key k x t e (view_at cells handle) key fit of) q live f)
       r p
-  can_read typing.concat is r q live p f = absurd (false≢true is)
+  can_read (typing.on_texts {o = o} e) is r q live p f = absurd (unread is_on_texts refl refl o e is)

@@ -7,9 +7,9 @@ use Rattle.lift_func.specs.declared.fault.FaultKind.TheVariants.{Overflow, Divid
 use Rattle.lift_func.specs.declared.body.Unary.TheVariants as unary
 use Rattle.lift_func.specs.declared.body.Binary.TheVariants as binary
 use Rattle.lift_func.specs.Apply.{Answer, apply}
-use Rattle.lift_func.specs.Tree.{Tree, Literal, Argument, One, Two, Choice}
+use Rattle.lift_func.specs.BodyTree.{BodyTree, Literal, Argument, One, Two, Choice}
 
-abbrev int : ℤ → Tree
+abbrev int : ℤ → BodyTree
 int z = Literal (scalar.Int z)
 
 abbrev gives : Scalar → Answer
@@ -50,7 +50,7 @@ left_first : apply (Two binary.Add (One unary.Neg (int least)) (Two binary.Div (
 unfolding least
 left_first = refl
 
-fault : Tree
+fault : BodyTree
 fault = Two binary.Div (int (pos 1)) (int (pos 0))
 
 and_skips : apply (Two binary.And (Literal (scalar.Bool false)) (Two binary.Eq fault (int (pos 1)))) [] ≡ gives (scalar.Bool false)

@@ -1,12 +1,12 @@
 -- A well typed body at fitting arguments has an answer of its kind.
 use Rattle.std.proofs.Common.{◌≡◌, ℕ, zero, suc, Bool, true, false, cond, ◌&&◌, List, [], ◌∷◌, ◌++◌, length, ℤ, pos, neg_ℤ, ◌+ℤ◌, ◌-ℤ◌, ◌*ℤ◌, Option, Some, None, Ok, Err, refl, sym, subst}
-use Rattle.std.specs.Prelude.{IsTrue, if◌then◌else◌, int_div, int_rem, int_le, int_lt, not, nat_lt, slice_get, slice_index_or}
+use Rattle.std.specs.Prelude.{IsTrue, IsFalse, if◌then◌else◌, int_div, int_rem, int_le, int_lt, not, nat_lt, slice_get, slice_index_or}
 use Rattle.std.specs.List.{list_all}
 use Rattle.std.specs.Option.{option_map}
 use Rattle.std.specs.Ordering.{eq_by_cmp, is_eq}
 use Rattle.std.specs.FinSet as set
 use Rattle.std.specs.FinMap as map
-use Rattle.std.proofs.lemmas.Bool.{and_parts, false≢true}
+use Rattle.std.proofs.lemmas.Bool.{and_parts, false≢true, true≢false}
 use Rattle.tsl_value.specs.Literal.{is_int}
 use Rattle.tsl_value.specs.View.{View, Plain, Keyed, Mapped, Keys, Table, is_of, is_of_key, is_of_scalar, scalar_cmp, type_of}
 use Rattle.tsl_value.specs.declared.scalar.KeyType.{KeyType}
@@ -21,18 +21,19 @@ use Rattle.lift_func.specs.declared.body.Unary.{Unary}
 use Rattle.lift_func.specs.declared.body.Unary.TheVariants as unary
 use Rattle.lift_func.specs.declared.body.Binary.{Binary}
 use Rattle.lift_func.specs.declared.body.Binary.TheVariants as binary
-use Rattle.lift_func.specs.Tree.{Tree}
+use Rattle.lift_func.specs.BodyTree.{BodyTree}
 use Rattle.lift_func.specs.Apply.{Answer, int, bool, text, and_then, remainder, divided, found, of_one, on_ints, on_scalars, on_texts, contained, at_key, chosen, both, of_two, apply}
 use Rattle.lift_func.specs.Typing as typing
-use Rattle.lift_func.specs.Typing.{Kind, Value, Optional, plain, TypesOne, TypesTwo, HasKind, is_arithmetic, is_order, is_equality, is_logic, fits, FitsAnswer, AllFit}
+use Rattle.lift_func.specs.Operations.{is_arithmetic, is_order, is_equality, is_logic, is_on_texts, made_of_texts, can_fault_one, can_fault_two}
+use Rattle.lift_func.specs.Typing.{ValueKind, Value, Optional, plain, TypesOne, TypesTwo, HasKind, fits, FitsAnswer, AllFit}
 
-abbrev int_kind : Kind
+abbrev int_kind : ValueKind
 int_kind = plain scalar_type.Int
 
-abbrev bool_kind : Kind
+abbrev bool_kind : ValueKind
 bool_kind = plain scalar_type.Bool
 
-abbrev text_kind : Kind
+abbrev text_kind : ValueKind
 text_kind = plain scalar_type.Text
 
 -- what fits a kind
@@ -70,7 +71,7 @@ text_fits : (s : List ℕ) → FitsAnswer text_kind (text s)
 text_fits s =
     elim (nat_lt MOST_TEXT_BYTES (length s)) as (λ b. FitsAnswer text_kind (if b then Err TextTooLong else Ok (Some (Plain (scalar.Text s))))) [ true ↦ tt | false ↦ refl ]
 
-then_fits : (f : Option View → Answer) (j k : Kind) → ((v : Option View) → IsTrue (fits j v) → FitsAnswer k (f v)) → (x : Answer) → FitsAnswer j x → FitsAnswer k (and_then x f)
+then_fits : (f : Option View → Answer) (j k : ValueKind) → ((v : Option View) → IsTrue (fits j v) → FitsAnswer k (f v)) → (x : Answer) → FitsAnswer j x → FitsAnswer k (and_then x f)
 then_fits f j k h (Ok v) fit = h v fit
 then_fits f j k h (Err kind) fit = tt
 
@@ -81,7 +82,7 @@ divided_fits b answer h = h
 remainder_fits : (a b : ℤ) → FitsAnswer int_kind (remainder a b)
 remainder_fits a b = then_fits (λ _. int (int_rem a b)) int_kind int_kind (λ v fit. int_fits (int_rem a b)) (int (int_div a b)) (int_fits (int_div a b))
 
-one_fits : {o : Unary} {j k : Kind} → TypesOne o j k → (v : Option View) → IsTrue (fits j v) → FitsAnswer k (of_one o v)
+one_fits : {o : Unary} {j k : ValueKind} → TypesOne o j k → (v : Option View) → IsTrue (fits j v) → FitsAnswer k (of_one o v)
 one_fits typing.neg v fit = int_form (λ v. FitsAnswer int_kind (of_one unary.Neg v)) (λ z. int_fits (neg_ℤ z)) v fit
 one_fits typing.not v fit = bool_form (λ v. FitsAnswer bool_kind (of_one unary.Not v)) (λ b. refl) v fit
 one_fits (typing.set_size {k = k}) v fit = set_form (λ v. FitsAnswer int_kind (of_one unary.Size v)) k (λ s all. int_fits (pos (set.len s))) v fit
@@ -94,18 +95,18 @@ one_fits typing.is_none v fit = refl
 one_fits typing.get_some (Some v) fit = fit
 one_fits typing.get_some None fit = tt
 
-both_fits : (f : Option View → Option View → Answer) (i j k : Kind) → ((a b : Option View) → IsTrue (fits i a) → IsTrue (fits j b) → FitsAnswer k (f a b)) → (x y : Answer) → FitsAnswer i x → FitsAnswer j y → FitsAnswer k (both f x y)
+both_fits : (f : Option View → Option View → Answer) (i j k : ValueKind) → ((a b : Option View) → IsTrue (fits i a) → IsTrue (fits j b) → FitsAnswer k (f a b)) → (x y : Answer) → FitsAnswer i x → FitsAnswer j y → FitsAnswer k (both f x y)
 both_fits f i j k h (Ok a) (Ok b) p q = h a b p q
 both_fits f i j k h (Ok a) (Err kind) p q = tt
 both_fits f i j k h (Err kind) y p q = tt
 
-on_ints_fit : (f : ℤ → ℤ → Answer) (k : Kind) → ((a b : ℤ) → FitsAnswer k (f a b)) → (x y : Answer) → FitsAnswer int_kind x → FitsAnswer int_kind y → FitsAnswer k (both (on_ints f) x y)
+on_ints_fit : (f : ℤ → ℤ → Answer) (k : ValueKind) → ((a b : ℤ) → FitsAnswer k (f a b)) → (x y : Answer) → FitsAnswer int_kind x → FitsAnswer int_kind y → FitsAnswer k (both (on_ints f) x y)
 on_ints_fit f k h x y p q =
     both_fits (on_ints f) int_kind int_kind k
     (λ a b p q. int_form (λ a. FitsAnswer k (on_ints f a b)) (λ m. int_form (λ b. FitsAnswer k (on_ints f (Some (Plain (scalar.Int m))) b)) (λ n. h m n) b q) a p)
     x y p q
 
-on_scalars_fit : (f : Scalar → Scalar → Answer) (t : ScalarType) (k : Kind) → ((a b : Scalar) → FitsAnswer k (f a b)) → (x y : Answer) → FitsAnswer (plain t) x → FitsAnswer (plain t) y → FitsAnswer k (both (on_scalars f) x y)
+on_scalars_fit : (f : Scalar → Scalar → Answer) (t : ScalarType) (k : ValueKind) → ((a b : Scalar) → FitsAnswer k (f a b)) → (x y : Answer) → FitsAnswer (plain t) x → FitsAnswer (plain t) y → FitsAnswer k (both (on_scalars f) x y)
 on_scalars_fit f t k h x y p q =
     both_fits (on_scalars f) (plain t) (plain t) k
     (λ a b p q. scalar_form (λ a. FitsAnswer k (on_scalars f a b)) t (λ m is. scalar_form (λ b. FitsAnswer k (on_scalars f (Some (Plain m)) b)) t (λ n is. h m n) b q) a p)
@@ -132,7 +133,7 @@ equality_fits binary.Eq t e x y p q = on_scalars_fit (λ a b. bool (is_eq (scala
 equality_fits binary.Ne t e x y p q = on_scalars_fit (λ a b. bool (not (is_eq (scalar_cmp a b)))) t bool_kind (λ a b. refl) x y p q
 equality_fits _ t e x y p q = absurd (false≢true e)
 
-chosen_fits : (k : Kind) (y z : Answer) → FitsAnswer k y → FitsAnswer k z → (v : Option View) → IsTrue (fits bool_kind v) → FitsAnswer k (chosen v y z)
+chosen_fits : (k : ValueKind) (y z : Answer) → FitsAnswer k y → FitsAnswer k z → (v : Option View) → IsTrue (fits bool_kind v) → FitsAnswer k (chosen v y z)
 chosen_fits k y z p q v fit = bool_form (λ v. FitsAnswer k (chosen v y z)) by_case v fit
   where
     by_case : (b : Bool) → FitsAnswer k (chosen (Some (Plain (scalar.Bool b))) y z)
@@ -158,7 +159,17 @@ value_fits : (k : KeyType) (x : ScalarType) (key : Scalar) (m : Table) → IsTru
 value_fits k x key m all =
     subst (λ o. FitsAnswer (plain x) (found (option_map Plain o))) (sym (map.get-entries m key)) (found_fits k x key (map.entries m) all)
 
-two_fits : {o : Binary} {i j k : Kind} → TypesTwo o i j k → (x y : Answer) → FitsAnswer i x → FitsAnswer j y → FitsAnswer k (of_two o x y)
+on_texts_fit : (f : List ℕ → List ℕ → Answer) (k : ValueKind) → ((a b : List ℕ) → FitsAnswer k (f a b)) → (x y : Answer) → FitsAnswer text_kind x → FitsAnswer text_kind y → FitsAnswer k (both (on_texts f) x y)
+on_texts_fit f k h x y p q =
+    both_fits (on_texts f) text_kind text_kind k
+    (λ a b p q. text_form (λ a. FitsAnswer k (on_texts f a b)) (λ r. text_form (λ b. FitsAnswer k (on_texts f (Some (Plain (scalar.Text r))) b)) (λ s. h r s) b q) a p)
+    x y p q
+
+texts_fit : (o : Binary) → is_on_texts o ≡ true → (x y : Answer) → FitsAnswer text_kind x → FitsAnswer text_kind y → FitsAnswer (plain (made_of_texts o)) (of_two o x y)
+texts_fit binary.Concat e x y p q = on_texts_fit (λ a b. text (a ++ b)) text_kind (λ a b. text_fits (a ++ b)) x y p q
+texts_fit _ e x y p q = absurd (false≢true e)
+
+two_fits : {o : Binary} {i j k : ValueKind} → TypesTwo o i j k → (x y : Answer) → FitsAnswer i x → FitsAnswer j y → FitsAnswer k (of_two o x y)
 two_fits (typing.arithmetic {o = o} e) x y p q = arithmetic_fits o e x y p q
 two_fits (typing.order {o = o} e) x y p q = order_fits o e x y p q
 two_fits (typing.equality {o = o} {t = t} e) x y p q = equality_fits o t e x y p q
@@ -175,10 +186,7 @@ two_fits (typing.get {k = k} {x = z} {t = t} e) x y p q =
     both_fits at_key (Value (value_type.Map k z)) (plain t) (plain z)
     (λ a b p q. map_form (λ a. FitsAnswer (plain z) (at_key a b)) k z (λ m all. scalar_form (λ b. FitsAnswer (plain z) (at_key (Some (Mapped m)) b)) t (λ key is. value_fits k z key m all) b q) a p)
     x y p q
-two_fits typing.concat x y p q =
-    both_fits (on_texts (λ a b. text (a ++ b))) text_kind text_kind text_kind
-    (λ a b p q. text_form (λ a. FitsAnswer text_kind (on_texts (λ a b. text (a ++ b)) a b)) (λ r. text_form (λ b. FitsAnswer text_kind (on_texts (λ a b. text (a ++ b)) (Some (Plain (scalar.Text r))) b)) (λ s. text_fits (r ++ s)) b q) a p)
-    x y p q
+two_fits (typing.on_texts {o = o} e) x y p q = texts_fit o e x y p q
 
 literal_fits : (s : Scalar) → IsTrue (is_of_scalar (type_of s) s)
 literal_fits scalar.Unit = refl
@@ -186,13 +194,13 @@ literal_fits (scalar.Int z) = refl
 literal_fits (scalar.Bool b) = refl
 literal_fits (scalar.Text s) = refl
 
-argument_fits : (kinds : List Kind) (values : List (Option View)) → AllFit kinds values → (n : ℕ) (k : Kind) → slice_get kinds n ≡ Some k → IsTrue (fits k (slice_index_or values n None))
+argument_fits : (kinds : List ValueKind) (values : List (Option View)) → AllFit kinds values → (n : ℕ) (k : ValueKind) → slice_get kinds n ≡ Some k → IsTrue (fits k (slice_index_or values n None))
 argument_fits [] values all n k is = absurd (cc)
 argument_fits (j ∷ kinds) [] all n k is = absurd all
 argument_fits (j ∷ kinds) (v ∷ values) all zero k is = let same : j ≡ k = cc in subst (λ k. IsTrue (fits k v)) same all.0
 argument_fits (j ∷ kinds) (v ∷ values) all (suc n) k is = argument_fits kinds values all.1 n k is
 
-pub apply_fits : (kinds : List Kind) (values : List (Option View)) → AllFit kinds values → {tree : Tree} {k : Kind} → HasKind kinds tree k → FitsAnswer k (apply tree values)
+pub apply_fits : (kinds : List ValueKind) (values : List (Option View)) → AllFit kinds values → {tree : BodyTree} {k : ValueKind} → HasKind kinds tree k → FitsAnswer k (apply tree values)
 apply_fits kinds values all (typing.literal {s = s} e) = subst (λ t. IsTrue (is_of_scalar t s)) (sym e) (literal_fits s)
 apply_fits kinds values all (typing.argument {n = n} {k = k} is) = argument_fits kinds values all n k is
 apply_fits kinds values all typing.absent = refl
@@ -204,3 +212,55 @@ apply_fits kinds values all (typing.choice {c = c} {a = a} {b = b} {k = k} o p q
     then_fits (λ v. chosen v (apply a values) (apply b values)) bool_kind k
     (chosen_fits k (apply a values) (apply b values) (apply_fits kinds values all p) (apply_fits kinds values all q))
     (apply c values) (apply_fits kinds values all o)
+
+-- ---- operations that cannot fault
+abbrev pub HasNoFault : Answer → Type 0
+HasNoFault (Ok v) = Unit {0}
+HasNoFault (Err kind) = ⊥
+
+pub then_safe : (x : Answer) (next : Option View → Answer) → HasNoFault x → ((v : Option View) → HasNoFault (next v)) → HasNoFault (and_then x next)
+then_safe (Ok v) next safe each = each v
+then_safe (Err kind) next safe each = absurd safe
+
+both_safe : (f : Option View → Option View → Answer) (x y : Answer) → HasNoFault x → HasNoFault y → ((a b : Option View) → HasNoFault (f a b)) → HasNoFault (both f x y)
+both_safe f x y first second each = then_safe x (λ a. and_then y (λ b. f a b)) first (λ a. then_safe y (λ b. f a b) second (λ b. each a b))
+
+pub chosen_safe : (v : Option View) (x y : Answer) → HasNoFault x → HasNoFault y → HasNoFault (chosen v x y)
+chosen_safe (Some (Plain (scalar.Bool true))) x y first second = first
+chosen_safe (Some (Plain (scalar.Bool false))) x y first second = second
+chosen_safe _ x y first second = tt
+
+ints_safe : (f : ℤ → ℤ → Answer) → ((a b : ℤ) → HasNoFault (f a b)) → (a b : Option View) → HasNoFault (on_ints f a b)
+ints_safe f each (Some (Plain (scalar.Int a))) (Some (Plain (scalar.Int b))) = each a b
+ints_safe f each _ _ = tt
+
+scalars_safe : (f : Scalar → Scalar → Answer) → ((a b : Scalar) → HasNoFault (f a b)) → (a b : Option View) → HasNoFault (on_scalars f a b)
+scalars_safe f each (Some (Plain a)) (Some (Plain b)) = each a b
+scalars_safe f each _ _ = tt
+
+contained_safe : (a b : Option View) → HasNoFault (contained a b)
+contained_safe (Some (Keyed s)) (Some (Plain k)) = tt
+contained_safe (Some (Mapped m)) (Some (Plain k)) = tt
+contained_safe _ _ = tt
+
+pub one_safe : (o : Unary) (v : Option View) → IsFalse (can_fault_one o) → HasNoFault (of_one o v)
+one_safe unary.Neg v never = absurd (true≢false never)
+one_safe unary.Size v never = absurd (true≢false never)
+one_safe unary.GetSome v never = absurd (true≢false never)
+one_safe unary.Not (Some (Plain (scalar.Bool a))) never = tt
+one_safe unary.Not _ never = tt
+one_safe unary.Length (Some (Plain (scalar.Text a))) never = tt
+one_safe unary.Length _ never = tt
+one_safe _ v never = tt
+
+pub two_safe : (o : Binary) (x y : Answer) → IsFalse (can_fault_two o) → HasNoFault x → HasNoFault y → HasNoFault (of_two o x y)
+two_safe binary.Eq x y never first second = both_safe _ x y first second (scalars_safe _ (λ a b. tt))
+two_safe binary.Ne x y never first second = both_safe _ x y first second (scalars_safe _ (λ a b. tt))
+two_safe binary.Lt x y never first second = both_safe _ x y first second (ints_safe _ (λ a b. tt))
+two_safe binary.Le x y never first second = both_safe _ x y first second (ints_safe _ (λ a b. tt))
+two_safe binary.Gt x y never first second = both_safe _ x y first second (ints_safe _ (λ a b. tt))
+two_safe binary.Ge x y never first second = both_safe _ x y first second (ints_safe _ (λ a b. tt))
+two_safe binary.And x y never first second = then_safe x (λ a. chosen a y (bool false)) first (λ a. chosen_safe a y (bool false) second tt)
+two_safe binary.Or x y never first second = then_safe x (λ a. chosen a (bool true) y) first (λ a. chosen_safe a (bool true) y tt second)
+two_safe binary.Contains x y never first second = both_safe contained x y first second contained_safe
+two_safe _ x y never first second = absurd (true≢false never)

@@ -10,10 +10,10 @@ use Rattle.lift_func.specs.declared.register.Register.{Register}
 use Rattle.lift_func.specs.declared.register.Register.TheVariants as register
 use Rattle.lift_func.specs.inner.Cells.{Cells, HoldsLive}
 use Rattle.lift_func.specs.inner.Evaluable.{IsEvaluable}
-use Rattle.lift_func.specs.Tree.{Tree, Literal, Argument, One, Two}
+use Rattle.lift_func.specs.BodyTree.{BodyTree, Literal, Argument, One, Two}
 use Rattle.lift_func.specs.Typing.{plain, neg, literal, argument, arithmetic, one, two}
 
-abbrev quotient : Tree
+abbrev quotient : BodyTree
 quotient = One unary.Neg (Two binary.Div (Literal (scalar.Int (pos 12))) (Argument 0))
 
 abbrev of_one : ℤ → List Register
@@ -32,8 +32,8 @@ at_one cells n = record {
   scalar = tt;
 }
 
-pub quotient_evaluable : (cells : Cells) (registers : List Register) (args : List ℕ) (tree : Tree) (n : ℤ) → registers ≡ of_one n → args ≡ 0 ∷ [] → tree ≡ quotient → IsEvaluable cells registers args tree
+pub quotient_evaluable : (cells : Cells) (registers : List Register) (args : List ℕ) (tree : BodyTree) (n : ℤ) → registers ≡ of_one n → args ≡ 0 ∷ [] → tree ≡ quotient → IsEvaluable cells registers args tree
 quotient_evaluable cells registers args tree n rs as_zero is =
-    subst (λ (t : Tree). IsEvaluable cells registers args t) (sym is)
+    subst (λ (t : BodyTree). IsEvaluable cells registers args t) (sym is)
     (subst (λ (a : List ℕ). IsEvaluable cells registers a quotient) (sym as_zero)
     (subst (λ (r : List Register). IsEvaluable cells r (0 ∷ []) quotient) (sym rs) (at_one cells n)))

@@ -1,4 +1,5 @@
-pub mod Shape
+pub mod OneLevel
+pub mod Textless
 pub mod Answered
 pub mod Cells
 pub mod Evaluable

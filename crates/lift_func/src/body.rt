@@ -1,6 +1,7 @@
 // The body of a value function.
 
 ghost use Rattle.std.specs.Prelude.{◌≡◌, ◌+◌, ◌≤◌, IfOk};
+ghost use Rattle.lift_func.specs.Operations.{unary_name, binary_name};
 ghost use Rattle.lift_func.specs.declared.limits.TheConstants.{MOST_NODES};
 
 use std::alloc::Global;
@@ -22,6 +23,24 @@ pub enum Unary {
     GetSome,
 }
 
+impl Unary {
+    /// Its name where a body is printed.
+    pub fn name(self) -> &'static [u8]
+        ensures { result.now ≡ unary_name self }
+    {
+        match self {
+            Unary::Neg => b"neg",
+            Unary::Not => b"not",
+            Unary::Size => b"size",
+            Unary::Length => b"length",
+            Unary::Some => b"some",
+            Unary::IsSome => b"issome",
+            Unary::IsNone => b"isnone",
+            Unary::GetSome => b"getsome",
+        }
+    }
+}
+
 /// The operations of two operands.
 #[derive(Clone, Copy, PartialEq, Eq, Debug)]
 pub enum Binary {
@@ -41,6 +60,32 @@ pub enum Binary {
     Contains,
     Get,
     Concat,
+}
+
+impl Binary {
+    /// Its name where a body is printed.
+    pub fn name(self) -> &'static [u8]
+        ensures { result.now ≡ binary_name self }
+    {
+        match self {
+            Binary::Add => b"add",
+            Binary::Sub => b"sub",
+            Binary::Mul => b"mul",
+            Binary::Div => b"div",
+            Binary::Rem => b"rem",
+            Binary::Eq => b"eq",
+            Binary::Ne => b"ne",
+            Binary::Lt => b"lt",
+            Binary::Le => b"le",
+            Binary::Gt => b"gt",
+            Binary::Ge => b"ge",
+            Binary::And => b"and",
+            Binary::Or => b"or",
+            Binary::Contains => b"contains",
+            Binary::Get => b"get",
+            Binary::Concat => b"concat",
+        }
+    }
 }
 
 /// The tree of a value function, of at most 1,024 nodes.
@@ -65,13 +110,13 @@ pub enum Node {
 }
 
 impl Model for Body {
-    ghost use Rattle.lift_func.specs.Tree.{Tree, tree_code, node_count, IsCounted};
+    ghost use Rattle.lift_func.specs.BodyTree.{BodyTree, tree_code, node_count, IsCounted};
 
-    ghost Value = { Tree };
+    ghost Value = { BodyTree };
 
     ghost coded = { tree_code };
 
-    ghost use Rattle.lift_func.specs.inner.Shape.{tree_of};
+    ghost use Rattle.lift_func.specs.inner.OneLevel.{tree_of};
 
     ghost view = { λ b. tree_of b.node };
 
@@ -85,8 +130,8 @@ impl Model for Body {
 }
 
 impl Body {
-    ghost use Rattle.lift_func.specs.Tree.{Absent, Argument, Choice, Literal, One, Two, node_count};
-    ghost use Rattle.lift_func.specs.inner.Shape.{tree_of};
+    ghost use Rattle.lift_func.specs.BodyTree.{Absent, Argument, Choice, Literal, One, Two, node_count};
+    ghost use Rattle.lift_func.specs.inner.OneLevel.{tree_of};
 
     /// A literal.
     pub fn literal(s: Scalar) -> Body

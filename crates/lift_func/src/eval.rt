@@ -1,12 +1,13 @@
 // The value of a body.
 
-ghost use Rattle.std.specs.Prelude.{◌≡◌, All, IfOk, None, slice_index_or};
+ghost use Rattle.std.specs.Prelude.{◌≡◌, All, IfOk, OnErr, None, slice_index_or};
 ghost use Rattle.std.specs.Option.{option_map};
 ghost use Rattle.tsl_value.specs.View.{Plain};
 ghost use Rattle.lift_func.specs.Apply.{apply};
 ghost use Rattle.lift_func.specs.inner.Cells.{Cells, HoldsLive, arguments, held};
 ghost use Rattle.lift_func.specs.inner.Evaluable.{IsEvaluable, IsHeldValue, IsTypedAt};
 ghost use Rattle.lift_func.specs.inner.Answered.{IsValue, views};
+ghost use Rattle.lift_func.specs.inner.Textless.{HasNoText, IsAnswered, IsText};
 
 use crate::body::{Body, Node};
 use crate::fault::FaultKind;
@@ -104,7 +105,8 @@ pub fn eval_scalars(
 
 /// The register of a number. One that is not there holds nothing.
 fn register_at(registers: &[Register], a: u32) -> Result<Register, NoMemory>
-    ensures { IfOk result (λ r. r ≡ slice_index_or registers.now a Register.Empty) }
+    ensures value { IfOk result (λ r. r ≡ slice_index_or registers.now a Register.Empty) }
+    ensures text { OnErr result ((cells : Cells) → IsText (held cells (slice_index_or registers.now a Register.Empty))) }
 {
     match registers.get(a as usize) {
         Some(register) => register.copy(),
@@ -118,6 +120,7 @@ fn named_at(registers: &[Register], args: &[u32], k: usize) -> Result<Register, 
     ensures live { IfOk result (λ r. (cells : Cells)
         → All (λ a. HoldsLive cells (slice_index_or registers.now a Register.Empty)) args.now
         → HoldsLive cells r) }
+    ensures text { OnErr result ((cells : Cells) → IsText (slice_index_or (arguments cells registers.now args.now) k None)) }
 {
     match args.get(k) {
         Some(a) => register_at(registers, *a),
@@ -125,7 +128,7 @@ fn named_at(registers: &[Register], args: &[u32], k: usize) -> Result<Register, 
     }
 }
 
-/// The register of a body's value, or the first fault.
+/// The register of a body's value, or the first fault. Without a text it takes no memory.
 fn eval_register<R: Reader>(
     alloc: Global,
     body: &Body,
@@ -134,7 +137,8 @@ fn eval_register<R: Reader>(
     reader: &R,
 ) -> Result<Register, EvalFault>
     requires { IsTypedAt (R.cells reader.now) registers.now args.now body.now }
-    ensures { IsHeldValue (R.cells reader.now) result (apply body.now (arguments (R.cells reader.now) registers.now args.now)) }
+    ensures value { IsHeldValue (R.cells reader.now) result (apply body.now (arguments (R.cells reader.now) registers.now args.now)) }
+    ensures spare { HasNoText body.now (arguments (R.cells reader.now) registers.now args.now) → IsAnswered result }
 {
     match &body.node {
         Node::Literal(s) => Ok(Register::Scalar(s.copy()?)),
@@ -174,7 +178,8 @@ fn eval_register<R: Reader>(
 
 /// The value of a body at the registers that the arguments name. `Fault` comes exactly where the
 /// body's operations have that fault, and is the first of them, operands taken from left to right.
-/// `None` is the absent value of a body whose value is optional.
+/// `None` is the absent value of a body whose value is optional. Where no literal, argument or
+/// operation of the body is a text, no memory is taken.
 pub fn eval<R: Reader>(
     alloc: Global,
     body: &Body,
@@ -183,7 +188,8 @@ pub fn eval<R: Reader>(
     reader: &R,
 ) -> Result<Option<Scalar>, EvalFault>
     requires { IsEvaluable (R.cells reader.now) registers.now args.now body.now }
-    ensures { IsValue result (apply body.now (arguments (R.cells reader.now) registers.now args.now)) }
+    ensures value { IsValue result (apply body.now (arguments (R.cells reader.now) registers.now args.now)) }
+    ensures spare { HasNoText body.now (arguments (R.cells reader.now) registers.now args.now) → IsAnswered result }
 {
     Ok(scalar_of(eval_register(alloc, body, registers, args, reader)?))
 }

@@ -1,7 +1,8 @@
 // Which bodies can fault.
 
 ghost use Rattle.std.specs.Prelude.{◌≡◌};
-ghost use Rattle.lift_func.specs.Typing.{can_fault, can_fault_one, can_fault_two, is_arithmetic};
+ghost use Rattle.lift_func.specs.Operations.{can_fault_one, can_fault_two, is_arithmetic};
+ghost use Rattle.lift_func.specs.Typing.{can_fault};
 
 use crate::body::{Binary, Body, Node, Unary};
 

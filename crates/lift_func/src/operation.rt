@@ -9,6 +9,7 @@ ghost use Rattle.tsl_value.specs.View.{Plain, scalar_cmp};
 ghost use Rattle.lift_func.specs.Apply.{int, bool, text, apply, divided, remainder, on_ints, on_scalars, on_texts, of_one, of_two};
 ghost use Rattle.lift_func.specs.declared.body.Unary.TheVariants as unary;
 ghost use Rattle.lift_func.specs.inner.Answered.{Decides, IsAnswer, IsInt, IsValue, NeedsSecond};
+ghost use Rattle.lift_func.specs.inner.Textless.{IsAnswered, IsText};
 
 use crate::body::{Binary, Unary};
 use crate::eval::EvalFault;
@@ -234,13 +235,14 @@ fn concatenated(alloc: Global, a: &str, b: &str) -> Result<Text, NoMemory>
     Text::from_str(alloc, text.as_str())
 }
 
-/// One text after another, or why there is none.
+/// One text after another, or why there is none. Only two texts take memory.
 fn joined(
     alloc: Global,
     a: &Option<Scalar>,
     b: &Option<Scalar>,
 ) -> Result<Option<Scalar>, EvalFault>
-    ensures { IsValue result (on_texts (λ x y. text (x ++ y)) (option_map Plain a.now) (option_map Plain b.now)) }
+    ensures value { IsValue result (on_texts (λ x y. text (x ++ y)) (option_map Plain a.now) (option_map Plain b.now)) }
+    ensures spare { (IsText (option_map Plain a.now) → ⊥) → IsAnswered result }
 {
     match (a, b) {
         (Some(Scalar::Text(a)), Some(Scalar::Text(b))) => {
@@ -305,14 +307,15 @@ pub(crate) fn decided(o: Binary, a: &Option<Scalar>) -> Option<Option<Scalar>>
     }
 }
 
-/// The value of an operation at two operands, or its fault.
+/// The value of an operation at two operands, or its fault. Only with a text it takes memory.
 pub(crate) fn apply_binary(
     alloc: Global,
     o: Binary,
     a: &Option<Scalar>,
     b: Option<Scalar>,
 ) -> Result<Option<Scalar>, EvalFault>
-    ensures { IsValue result (of_two o (Ok (option_map Plain a.now)) (Ok (option_map Plain b))) }
+    ensures value { IsValue result (of_two o (Ok (option_map Plain a.now)) (Ok (option_map Plain b))) }
+    ensures spare { (IsText (option_map Plain a.now) → ⊥) → IsAnswered result }
 {
     match o {
         Binary::Add => Ok(added(a, &b)?),

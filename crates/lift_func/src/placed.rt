@@ -2,7 +2,7 @@
 
 ghost use Rattle.std.specs.Prelude.{◌≡◌, ◌≤◌, List, map, IfOk, IfSome, slice_index_or};
 ghost use Rattle.std.specs.Option.{option_map};
-ghost use Rattle.lift_func.specs.Tree.{Tree, Literal, node_count};
+ghost use Rattle.lift_func.specs.BodyTree.{BodyTree, Literal, node_count};
 ghost use Rattle.lift_func.specs.inner.Placed.{placed, within, limited, one_within, two_within, choice_within, placed_within};
 
 use crate::body::{Binary, Body, Node, Unary};
@@ -145,7 +145,7 @@ impl Body {
     /// uses it. Past the end of the operands stands unit.
     #[tactic(auto, using(crate::proofs::PlacedLemmas::placed_same))]
     pub fn placed(&self, alloc: Global, operands: &[Option<Body>]) -> Result<Option<Body>, NoMemory>
-        ensures { IfOk result (λ b. (ts : List Tree) → operands.now ≡ map within ts → b ≡ within (placed ts self.now)) }
+        ensures { IfOk result (λ b. (ts : List BodyTree) → operands.now ≡ map within ts → b ≡ within (placed ts self.now)) }
     {
         if placed_nodes(self, operands).is_none() {
             return Ok(None);

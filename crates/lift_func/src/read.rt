@@ -9,6 +9,7 @@ ghost use Rattle.lift_func.specs.Apply.{int, found, of_one, of_two};
 ghost use Rattle.lift_func.specs.inner.Cells.{Cells, FitsKey, HoldsLive, IsLive, IsMap, has_key, held, register_of, scalar_in, value_at};
 ghost use Rattle.lift_func.specs.inner.Cells.{view_at};
 ghost use Rattle.lift_func.specs.inner.Evaluable.{CanRead, FitsOperand, IsHeldAnswer, IsHeldValue, is_read};
+ghost use Rattle.lift_func.specs.inner.Textless.{IsAnswered, IsNoText};
 
 use crate::body::{Binary, Unary};
 use crate::eval::EvalFault;
@@ -107,12 +108,14 @@ pub(crate) fn unary_at<R: Reader>(o: Unary, a: Register, reader: &R) -> Result<R
     }
 }
 
-/// The value at a key of a map, or its fault.
+/// The value at a key of a map, or its fault. Only a text takes memory.
 fn value_at_key<R: Reader>(cell: Handle, key: &Scalar, reader: &R) -> Result<Register, EvalFault>
     requires live { IsLive (R.cells reader.now) cell }
     requires map { IsMap (view_at (R.cells reader.now) cell) }
     requires typed { FitsKey (view_at (R.cells reader.now) cell) key.now }
-    ensures { IsHeldValue (R.cells reader.now) result (found (option_map Plain (value_at (view_at (R.cells reader.now) cell) key.now))) }
+    ensures value { IsHeldValue (R.cells reader.now) result
+        (found (option_map Plain (value_at (view_at (R.cells reader.now) cell) key.now))) }
+    ensures spare { IsNoText (found (option_map Plain (value_at (view_at (R.cells reader.now) cell) key.now))) → IsAnswered result }
 {
     match reader.get(cell, key) {
         Some(value) => Ok(Register::Scalar(value.copy()?)),
@@ -120,7 +123,7 @@ fn value_at_key<R: Reader>(cell: Handle, key: &Scalar, reader: &R) -> Result<Reg
     }
 }
 
-/// The value of an operation that reads an aggregate at a key, or its fault.
+/// The value of an operation that reads an aggregate at a key, or its fault. Only a text takes memory.
 pub(crate) fn read<R: Reader>(
     o: Binary,
     a: &Register,
@@ -129,8 +132,10 @@ pub(crate) fn read<R: Reader>(
 ) -> Result<Register, EvalFault>
     requires live { HoldsLive (R.cells reader.now) a.now }
     requires typed { CanRead (R.cells reader.now) o a.now key.now }
-    ensures { IsHeldValue (R.cells reader.now) result
+    ensures value { IsHeldValue (R.cells reader.now) result
         (of_two o (Ok (held (R.cells reader.now) a.now)) (Ok (held (R.cells reader.now) key.now))) }
+    ensures spare { IsNoText (of_two o (Ok (held (R.cells reader.now) a.now)) (Ok (held (R.cells reader.now) key.now)))
+        → IsAnswered result }
 {
     match (a, key) {
         (Register::Aggregate(cell), Register::Scalar(key)) => match o {

@@ -1,7 +1,8 @@
 // Registers.
 
-ghost use Rattle.std.specs.Prelude.{◌≡◌, IfOk, is_some, not};
+ghost use Rattle.std.specs.Prelude.{◌≡◌, IfOk, OnErr, is_some, not};
 ghost use Rattle.lift_func.specs.inner.Cells.{Cells, held};
+ghost use Rattle.lift_func.specs.inner.Textless.{IsText};
 
 use tsl_value::ids::Handle;
 use tsl_value::memory::NoMemory;
@@ -27,9 +28,10 @@ impl Register {
         }
     }
 
-    /// An equal register. The copy of an aggregate's names the same cell.
+    /// An equal register. The copy of an aggregate's names the same cell. Only a text takes memory.
     pub fn copy(&self) -> Result<Register, NoMemory>
-        ensures { IfOk result (λ r. r ≡ self.now) }
+        ensures equal { IfOk result (λ r. r ≡ self.now) }
+        ensures text { OnErr result ((cells : Cells) → IsText (held cells self.now)) }
     {
         match self {
             Register::Empty => Ok(Register::Empty),

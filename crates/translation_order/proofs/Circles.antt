@@ -8,8 +8,8 @@ use Rattle.std.proofs.lemmas.List.Elements.{Contains-append_left, Contains-appen
 use Rattle.std.specs.List.{IsDistinct}
 use Rattle.translation_order.specs.Order.{IsLeast}
 use Rattle.translation_order.specs.Cycle.{Through, IsTurned}
-use Rattle.tsl_value.proofs.Lists.{here, later, cons_cases}
-use Rattle.translation_order.proofs.Lists.{middle, same_split}
+use Rattle.tsl_value.proofs.Lists.{here, later, cons_cases, middle}
+use Rattle.translation_order.proofs.Lists.{same_split}
 
 -- E holds from a to the first of xs, and from each to the next
 abbrev pub Along : (ℕ → ℕ → Type 0) → ℕ → List ℕ → Type 0

@@ -4,8 +4,9 @@ use Rattle.std.specs.List.{IsDistinct}
 use Rattle.translation_order.specs.Graph.{Path, edge, step}
 use Rattle.translation_order.specs.Order.{IsLeast}
 use Rattle.translation_order.specs.Cycle.{Through, IsCycle, IsTurned, Remains, RemainsBefore, IsWalk, IsCycleOfWalk}
-use Rattle.translation_order.proofs.Lists.{once_split, once_after, same_split, middle}
+use Rattle.translation_order.proofs.Lists.{once_split, once_after, same_split}
 use Rattle.translation_order.proofs.Circles.{through_weaker, closes, turned_around, once_turned, turned_same, least_same}
+use Rattle.tsl_value.proofs.Lists.{middle}
 
 -- ---- two walks
 module _ (N : ℕ → ℕ → Type 0) (one : (x a b : ℕ) → N x a → N x b → a ≡ b) where

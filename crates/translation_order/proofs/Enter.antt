@@ -8,8 +8,8 @@ use Rattle.translation_order.specs.inner.Searching.{Leads, visit_of, one_if_new,
 use Rattle.translation_order.specs.declared.search.Visit.{Visit}
 use Rattle.translation_order.specs.declared.search.Visit.TheVariants.{New, OnPath}
 use Rattle.translation_order.specs.declared.search.Group.{Group}
-use Rattle.tsl_value.proofs.Lists.{here}
-use Rattle.translation_order.proofs.SearchLists.{only, reverse_push}
+use Rattle.tsl_value.proofs.Lists.{here, only}
+use Rattle.translation_order.proofs.SearchLists.{reverse_push}
 use Rattle.translation_order.proofs.Paths.{path_join}
 use Rattle.translation_order.proofs.Visits.{on_path_weaker, on_path_not_new, on_path_is, followed_not_new, done_not_new, path_stays}
 

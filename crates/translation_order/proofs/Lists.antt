@@ -1,10 +1,10 @@
 -- Members of lists, and lists without repeats.
 use Rattle.std.proofs.Common.{◌≡◌, ℕ, ◌<◌, ◌≤◌, true, false, List, [], ◌∷◌, ◌++◌, length, eqb, Contains, refl, sym, ap, subst, ◌∙◌, ◌⊎◌, inl, inr, arith}
 use Rattle.std.proofs.lemmas.Bool.{or_cases, or_left, or_right, false≢true, eqb-true, eqb-false, eq-eqb, ne_eqb}
-use Rattle.std.proofs.lemmas.List.Elements.{Contains-append_right, Contains-push_cases}
+use Rattle.std.proofs.lemmas.List.Elements.{Contains-push_cases}
 use Rattle.std.proofs.lemmas.Map.Steps.{length-le_from_distinct_below}
 use Rattle.std.specs.List.{AllByRecursion, IsDistinct, list_any}
-use Rattle.tsl_value.proofs.Lists.{here, later, none_in_nil, cons_cases}
+use Rattle.tsl_value.proofs.Lists.{here, later, none_in_nil, cons_cases, middle}
 
 pub any_from_contains : (xs : List ℕ) (x : ℕ) → Contains xs x → list_any (eqb x) xs ≡ true
 any_from_contains [] x c = absurd (none_in_nil x c)
@@ -27,9 +27,6 @@ split_at (y ∷ ys) x c = elim (cons_cases y x ys c) [
   | inl same ↦ ([], ys, ap (λ z. z ∷ ys) same)
   | inr rest ↦ let parts = split_at ys x rest in (y ∷ parts.0, parts.1, ap (λ zs. y ∷ zs) parts.2)
 ]
-
-pub middle : (front rest : List ℕ) (x : ℕ) → Contains (front ++ x ∷ rest) x
-middle front rest x = Contains-append_right front (x ∷ rest) x (here x rest)
 
 -- a split of a list with one more at its end
 pub split_push : (xs front rest : List ℕ) (x y : ℕ) → xs ++ x ∷ [] ≡ front ++ y ∷ rest → ((xs ≡ front) × (x ≡ y)) ⊎ ((r : List ℕ) × (xs ≡ front ++ y ∷ r))

@@ -4,13 +4,7 @@ use Rattle.std.proofs.lemmas.Bool.{cases_eq}
 use Rattle.std.proofs.lemmas.List.{reverse-append}
 use Rattle.std.proofs.lemmas.List.Elements.{Contains-push, Contains-push_cases, Contains-append_left, Contains-append_right, Contains-append_cases}
 use Rattle.translation_order.specs.inner.Joined.{AreJoined}
-use Rattle.tsl_value.proofs.Lists.{none_in_nil, cons_cases}
-
-pub only : (y x : ℕ) → Contains (y ∷ []) x → y ≡ x
-only y x c = elim (cons_cases y x [] c) [
-  | inl same ↦ same
-  | inr rest ↦ absurd (none_in_nil x rest)
-]
+use Rattle.tsl_value.proofs.Lists.{none_in_nil}
 
 pub none_in : (xs : List ℕ) (x : ℕ) → xs ≡ [] → Contains xs x → ⊥
 none_in xs x is c = none_in_nil x (subst (λ l. Contains l x) is c)

@@ -3,7 +3,6 @@
 
 mod cycle;
 pub mod laws;
-mod nodes;
 pub mod on_cycle;
 pub mod order;
 mod search;

@@ -4,8 +4,8 @@ ghost use Rattle.std.specs.Prelude.{◌≡◌, ◌<◌, ◌^◌, ℕ, [], true, 
 ghost use Rattle.translation_order.specs.OnCycle.{AreBetween, IsFirstOnCycle, IsLeast};
 ghost use Rattle.translation_order.specs.inner.Searching.{AreSuccessors, visit_of};
 
-use crate::nodes::Nodes;
 use crate::search::{Visit, visit_all};
+use crate::steps::Steps;
 use std::alloc::Global;
 use tsl_value::memory::NoMemory;
 
@@ -28,7 +28,7 @@ pub fn first_on_cycle(
 }
 
 /// For each node the nodes to which its edges lead.
-fn successors(alloc: Global, nodes: u32, edges: &[(u32, u32)]) -> Result<Vec<Nodes>, NoMemory>
+fn successors(alloc: Global, nodes: u32, edges: &[(u32, u32)]) -> Result<Vec<Steps>, NoMemory>
     requires { AreBetween nodes edges.now }
     ensures { IfOk result (λ s. AreSuccessors nodes edges.now s.items) }
 {
@@ -41,12 +41,12 @@ fn successors(alloc: Global, nodes: u32, edges: &[(u32, u32)]) -> Result<Vec<Nod
 }
 
 /// So many empty lists.
-fn no_successors(alloc: Global, count: u32) -> Result<Vec<Nodes>, NoMemory>
+fn no_successors(alloc: Global, count: u32) -> Result<Vec<Steps>, NoMemory>
     ensures { IfOk result (λ s. s.items ≡ replicate count []) }
 {
     let mut lists = Vec::new(alloc);
     for _ in 0..count {
-        lists.push(Nodes::new(alloc))?;
+        lists.push(Steps::new(alloc))?;
     }
     Ok(lists)
 }

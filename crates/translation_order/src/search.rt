@@ -7,13 +7,13 @@
 //
 // Each step takes an edge off, comes to a new node, joins two groups or ends one: there are few more than edges and nodes.
 
-ghost use Rattle.std.specs.Prelude.{◌≡◌, ◌<◌, ◌^◌, ◌∷◌, [], ◌++◌, ℕ, List, true, false, reverse, replicate, length, IfOk, All};
+ghost use Rattle.std.specs.Prelude.{◌≡◌, ◌<◌, ◌^◌, ◌∷◌, [], ℕ, true, false, reverse, replicate, length, IfOk, All};
 ghost use Rattle.std.specs.List.{Contains};
 ghost use Rattle.translation_order.specs.inner.Searching.{AreInside, visit_of, IsSearch, GoesOn, AreDone, path_of, steps_left, IsJoined};
 ghost use Rattle.translation_order.specs.inner.Searching.{IsPassed};
 ghost use Rattle.translation_order.specs.inner.Searching.{IsMet, AreMarked};
 
-use crate::nodes::Nodes;
+use crate::steps::Steps;
 use std::alloc::Global;
 use tsl_value::memory::NoMemory;
 
@@ -33,9 +33,9 @@ pub enum Visit {
 pub struct Group {
     /// The least number of its nodes.
     pub first: u32,
-    pub nodes: Nodes,
+    pub nodes: Steps,
     /// Where edges from these nodes lead that have still to be followed.
-    pub targets: Nodes,
+    pub targets: Steps,
     /// Whether its nodes lie on a cycle.
     pub cyclic: bool,
 }
@@ -49,17 +49,17 @@ impl Group {
     {
         Ok(Group {
             first: 0,
-            nodes: Nodes::new(alloc),
-            targets: Nodes::below(alloc, count)?,
+            nodes: Steps::new(alloc),
+            targets: Steps::below(alloc, count)?,
             cyclic: false,
         })
     }
 
     /// A group of one node.
-    fn of_node(alloc: Global, node: u32, number: u32, targets: &Nodes) -> Result<Group, NoMemory>
+    fn of_node(alloc: Global, node: u32, number: u32, targets: &Steps) -> Result<Group, NoMemory>
         ensures { IfOk result (λ g. g ≡ record { first = number; nodes = node ∷ []; targets = targets.now; cyclic = false }) }
     {
-        let mut nodes = Nodes::new(alloc);
+        let mut nodes = Steps::new(alloc);
         nodes.push(node)?;
         Ok(Group {
             first: number,
@@ -133,7 +133,7 @@ impl Search {
     fn enter(
         &mut self,
         alloc: Global,
-        successors: &[Nodes],
+        successors: &[Steps],
         last: Group,
         node: u32,
     ) -> Result<Group, NoMemory>
@@ -154,7 +154,7 @@ impl Search {
     }
 
     /// The last group is done. Answers the group that is last then.
-    fn leave(&mut self, successors: &[Nodes], last: Group) -> Option<Group>
+    fn leave(&mut self, successors: &[Steps], last: Group) -> Option<Group>
         requires search { IsSearch successors.now self.old.visits.items self.old.entered (last ∷ reverse self.old.others.items) }
         requires followed { last.targets ≡ [] }
         ensures { GoesOn successors.now self.new.visits.items self.new.entered (path_of result self.new.others.items)
@@ -173,7 +173,7 @@ impl Search {
     fn step(
         &mut self,
         alloc: Global,
-        successors: &[Nodes],
+        successors: &[Steps],
         last: Group,
     ) -> Result<Option<Group>, NoMemory>
         requires small { length successors.now < 2 ^ 32 }
@@ -200,7 +200,7 @@ fn all_new(alloc: Global, count: usize) -> Result<Vec<Visit>, NoMemory>
 }
 
 /// For each node whether it lies on a cycle.
-pub fn visit_all(alloc: Global, count: u32, successors: &[Nodes]) -> Result<Vec<Visit>, NoMemory>
+pub fn visit_all(alloc: Global, count: u32, successors: &[Steps]) -> Result<Vec<Visit>, NoMemory>
     requires count { length successors.now ≡ count }
     requires inside { AreInside successors.now }
     ensures { IfOk result (λ v. AreDone successors.now v.items) }

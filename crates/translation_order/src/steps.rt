@@ -1,7 +1,9 @@
-// Lists of steps and of pairs of steps. A step is a number, such as that of an equation.
+// Lists of steps and of pairs of steps. A step is a number, such as that of an equation or of a node of a graph.
 
-ghost use Rattle.std.specs.Prelude.{◌≡◌, ◌∷◌, [], ◌++◌, length, slice_get, is_ok, if◌then◌else◌};
+ghost use Rattle.std.specs.Prelude.{◌≡◌, ◌<◌, ◌∷◌, [], ◌++◌, ℕ, List, length, slice_get, is_ok, if◌then◌else◌, IfOk, MatchOption};
+ghost use Rattle.std.specs.List.{Contains};
 ghost use Rattle.std.specs.Option.{option_copied};
+ghost use Rattle.translation_order.specs.inner.Joined.{AreJoined};
 
 use std::alloc::Global;
 use std::marker::Model;
@@ -58,6 +60,62 @@ impl Steps {
         ensures { result.now ≡ self.now }
     {
         self.numbers.as_slice()
+    }
+
+    /// All numbers below one.
+    pub(crate) fn below(alloc: Global, count: u32) -> Result<Steps, NoMemory>
+        ensures within { IfOk result (λ v. (x : ℕ) → Contains v x → x < count) }
+        ensures all { IfOk result (λ v. (x : ℕ) → x < count → Contains v x) }
+    {
+        let mut numbers = Vec::new(alloc);
+        for node in 0..count {
+            numbers.push(node)?;
+        }
+        Ok(Steps { numbers })
+    }
+
+    /// The same steps once more.
+    pub(crate) fn copied(&self, alloc: Global) -> Result<Steps, NoMemory>
+        ensures { IfOk result (λ v. v ≡ self.now) }
+    {
+        Ok(Steps {
+            numbers: Vec::from_slice(alloc, self.numbers.as_slice())?,
+        })
+    }
+
+    /// Takes the last step off.
+    pub(crate) fn pop(&mut self) -> Option<u32>
+        ensures { MatchOption result ((self.old ≡ []) × (self.new ≡ [])) (λ x. self.old ≡ self.new ++ x ∷ []) }
+    {
+        self.numbers.pop()
+    }
+
+    /// The last step.
+    pub(crate) fn last(&self) -> Option<u32>
+        ensures { MatchOption result (self.now ≡ []) (λ x. (front : List ℕ) × (self.now ≡ front ++ x ∷ [])) }
+    {
+        self.numbers.as_slice().last().copied()
+    }
+
+    /// The steps of both lists. The shorter list is appended to the longer one, so however lists are joined, no step
+    /// is moved more often than the logarithm of their number.
+    pub(crate) fn joined(self, other: Steps) -> Result<Steps, NoMemory>
+        ensures { IfOk result (AreJoined self other) }
+    {
+        if self.numbers.len() < other.numbers.len() {
+            other.with(&self)
+        } else {
+            self.with(&other)
+        }
+    }
+
+    /// With the steps of another list after.
+    fn with(self, other: &Steps) -> Result<Steps, NoMemory>
+        ensures { IfOk result (λ v. v ≡ self ++ other.now) }
+    {
+        let mut numbers = self.numbers;
+        numbers.extend_from_slice(other.numbers.as_slice())?;
+        Ok(Steps { numbers })
     }
 }
 

@@ -1,5 +1,5 @@
 -- Elements of lists: where they stand, what holds of all of them, and which are kept.
-use Rattle.std.proofs.Common.{◌≡◌, ℕ, zero, suc, ◌+◌, ◌<◌, ◌⊎◌, Bool, true, false, cond, List, [], ◌∷◌, ◌++◌, length, take, drop, get_or, eqb, Contains, Some, None, refl, sym, ap, subst, ◌∙◌, inl, inr, arith}
+use Rattle.std.proofs.Common.{◌≡◌, ℕ, zero, suc, ◌+◌, ◌<◌, ◌⊎◌, Bool, true, false, cond, List, [], ◌∷◌, ◌++◌, length, take, drop, get_or, eqb, map, Contains, Some, None, refl, sym, ap, subst, ◌∙◌, inl, inr, arith}
 use Rattle.std.specs.Prelude.{if◌then◌else◌, slice_get}
 use Rattle.std.specs.List.{AllByRecursion, IsDistinct, filter, find, flat_map, list_all, list_any}
 use Rattle.std.proofs.lemmas.Bool.{and_from, cases_Bool, cases_eq, or_cases, or_parts, false≢true, eqb-true}
@@ -27,6 +27,27 @@ cons_cases y x xs (suc k, lt, is) = inr (k, omega arith, is)
 pub in_rest : {X : Type 0} (xs : List X) (x : X) → Contains (drop 1 xs) x → Contains xs x
 in_rest [] x c = c
 in_rest (y ∷ ys) x c = later y x ys c
+
+-- a list of one element has no other
+pub only : {X : Type 0} (y x : X) → Contains (y ∷ []) x → y ≡ x
+only y x (zero, lt, is) = is
+only y x (suc k, lt, is) = absurd (omega arith)
+
+-- an element between others
+pub middle : {X : Type 0} (front rest : List X) (x : X) → Contains (front ++ x ∷ rest) x
+middle [] rest x = here x rest
+middle (y ∷ front) rest x = later y x (front ++ x ∷ rest) (middle front rest x)
+
+-- an element of a mapped list comes from one
+pub contains_map : {X Y : Type 0} (f : X → Y) (xs : List X) (y : Y) → Contains (map f xs) y → (x : X) × Contains xs x × (f x ≡ y)
+contains_map f [] y (k, lt, is) = absurd (omega arith)
+contains_map f (x ∷ xs) y (zero, lt, is) = (x, here x xs, is)
+contains_map f (x ∷ xs) y (suc k, lt, is) = let found = contains_map f xs y (k, omega arith, is) in (found.0, later x found.0 xs found.1, found.2)
+
+pub map_contains : {X Y : Type 0} (f : X → Y) (xs : List X) (x : X) → Contains xs x → Contains (map f xs) (f x)
+map_contains f [] x (k, lt, is) = absurd (omega arith)
+map_contains f (y ∷ xs) x (zero, lt, is) = (0, omega arith, ap f is)
+map_contains f (y ∷ xs) x (suc k, lt, is) = later (f y) (f x) (map f xs) (map_contains f xs x (k, omega arith, is))
 
 -- a number is an element or not
 pub member_cases : (xs : List ℕ) (x : ℕ) → Contains xs x ⊎ (Contains xs x → ⊥)

@@ -1,6 +1,7 @@
 // Scalars and types.
 
-ghost use Rattle.std.specs.Prelude.{◌≡◌, IfOk};
+ghost use Rattle.std.specs.Prelude.{◌≡◌, IfOk, OnErr};
+ghost use Rattle.tsl_value.specs.View.{type_of};
 
 use crate::memory::NoMemory;
 use crate::text::Text;
@@ -16,9 +17,10 @@ pub enum Scalar {
 }
 
 impl Scalar {
-    /// An equal value.
+    /// An equal value. Only a text takes memory.
     pub fn copy(&self) -> Result<Scalar, NoMemory>
-        ensures { IfOk result (λ s. s ≡ self.now) }
+        ensures equal { IfOk result (λ s. s ≡ self.now) }
+        ensures text { OnErr result (type_of self.now ≡ ScalarType.Text) }
     {
         match self {
             Scalar::Unit => Ok(Scalar::Unit),

@@ -6,7 +6,7 @@ use Rattle.tsl_world.specs.declared.outside.Did.{Did}
 use Rattle.tsl_world.specs.declared.outside.Did.TheVariants.{Took}
 use Rattle.tsl_world.specs.Journal.{ended, IsNoRead, AtReads, StopsAtEnd, Each}
 use Rattle.tsl_world.proofs.Journals.{no_place, place}
-use Rattle.tsl_world.proofs.Parts.{ended_after, no_read_in, place_before}
+use Rattle.tsl_world.proofs.Untouched.{ended_after, no_read_in, place_before}
 
 module _ (from : Slot) where
   -- before any call

@@ -1,1 +1,2 @@
+pub mod PlainTable
 pub mod Table

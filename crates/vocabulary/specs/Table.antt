@@ -1,5 +1,5 @@
 -- The functions of the language whose names have a dot, on one page: how each is spelled, what it takes and gives, and what it is.
-use Rattle.std.specs.Prelude.{ℕ, Bool, true, false, ◌&&◌, if◌then◌else◌, List, [], ◌∷◌, Option, Some, None, codes}
+use Rattle.std.specs.Prelude.{◌≡◌, ℕ, Bool, true, false, ◌&&◌, if◌then◌else◌, List, [], ◌∷◌, Option, Some, None, codes, refl}
 use Rattle.std.specs.List.{find}
 use Rattle.std.specs.Str.{bytes_eq}
 use Rattle.tsl_value.specs.declared.scalar.ScalarType.TheVariants as scalar_type
@@ -105,3 +105,17 @@ is_family f g = false
 
 unfoldable pub dotted_of : Family → List ℕ → Option Dotted
 dotted_of f n = find (λ d. is_family (family_in d) f && bytes_eq n (member_name d)) every
+
+pub dotted_again : (d : Dotted) → dotted_of (family_in d) (member_name d) ≡ Some d
+unfolding dotted_of
+dotted_again dotted.SetAdd = refl
+dotted_again dotted.SetRemove = refl
+dotted_again dotted.SetContains = refl
+dotted_again dotted.SetSize = refl
+dotted_again dotted.MapAdd = refl
+dotted_again dotted.MapRemove = refl
+dotted_again dotted.MapContains = refl
+dotted_again dotted.MapGet = refl
+dotted_again dotted.MapSize = refl
+dotted_again dotted.StringConcat = refl
+dotted_again dotted.StringSize = refl

@@ -2,4 +2,5 @@
 #![tactic(auto)]
 
 pub mod dotted;
+pub mod plain;
 pub mod signature;

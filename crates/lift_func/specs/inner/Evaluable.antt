@@ -12,27 +12,27 @@ use Rattle.lift_func.specs.declared.register.Register.{Register}
 use Rattle.lift_func.specs.declared.register.Register.TheVariants as register
 use Rattle.lift_func.specs.Apply.{Answer}
 use Rattle.lift_func.specs.inner.Cells.{Cells, FitsKey, HoldsLive, IsMap, arguments, held, view_at}
-use Rattle.lift_func.specs.Tree.{Tree}
-use Rattle.lift_func.specs.Typing.{Kind, Value, Optional, TypesOne, HasKind, AllFit, fits}
+use Rattle.lift_func.specs.BodyTree.{BodyTree}
+use Rattle.lift_func.specs.Typing.{ValueKind, Value, Optional, TypesOne, HasKind, AllFit, fits}
 
 -- The body has a kind at the registers that the arguments name: they are there, what they hold is of some kinds, their
 -- aggregates are in live cells, and the body is well typed for these kinds.
-pub record IsTypedAt (cells : Cells) (registers : List Register) (args : List ℕ) (tree : Tree) : Type 0 where
-  pub kinds : List Kind
-  pub kind : Kind
+pub record IsTypedAt (cells : Cells) (registers : List Register) (args : List ℕ) (tree : BodyTree) : Type 0 where
+  pub kinds : List ValueKind
+  pub kind : ValueKind
   pub named : All (λ a. a < length registers) args
   pub live : All (λ a. HoldsLive cells (slice_index_or registers a register.Empty)) args
   pub fit : AllFit kinds (arguments cells registers args)
   pub typed : HasKind kinds tree kind
 
 -- a scalar, or an option of one
-abbrev pub IsScalarKind : Kind → Type 0
+abbrev pub IsScalarKind : ValueKind → Type 0
 IsScalarKind (Value (value_type.Scalar t)) = Unit {0}
 IsScalarKind (Optional (value_type.Scalar t)) = Unit {0}
 IsScalarKind _ = ⊥
 
 -- the body can be evaluated: it is so typed, and its value is a scalar or an option of one
-pub record IsEvaluable (cells : Cells) (registers : List Register) (args : List ℕ) (tree : Tree) : Type 0 where
+pub record IsEvaluable (cells : Cells) (registers : List Register) (args : List ℕ) (tree : BodyTree) : Type 0 where
   pub body : IsTypedAt cells registers args tree
   pub scalar : IsScalarKind body.kind
 
@@ -51,8 +51,8 @@ CanRead cells _ _ _ = ⊥
 
 -- the operand has a kind that the operation takes
 pub record FitsOperand (o : Unary) (v : Option View) : Type 0 where
-  pub kind : Kind
-  pub to : Kind
+  pub kind : ValueKind
+  pub to : ValueKind
   pub types : TypesOne o kind to
   pub fit : IsTrue (fits kind v)
 

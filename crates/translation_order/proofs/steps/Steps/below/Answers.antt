@@ -1,6 +1,6 @@
 use Rattle.std.proofs.Common.{arith}
 use Rattle.translation_order.proofs.SearchLists.{below_more}
-use Rattle.translation_order.proofs.nodes.Nodes.below.Goals as goal
+use Rattle.translation_order.proofs.steps.Steps.below.Goals as goal
 
 pub loop-node-preserved : goal.loop-node-preserved
 loop-node-preserved c = below_more c.loop-node.numbers.items c.push.new.self.items c.loop-node.node c.loop-node.invariant c.in_ok-push.ensures.items
