@@ -7,9 +7,9 @@ use Rattle.std.proofs.lemmas.List.{append-nil, drop_all}
 use Rattle.std.proofs.lemmas.List.Elements.{Contains-append_left, Contains-append_right, Contains-append_cases, filter_map-append, All-contains_itself, All-weaker, All-same}
 use Rattle.std.proofs.lemmas.Option.{some_pair_parts}
 use Rattle.tsl_value.specs.declared.place.Place.{Place}
-use Rattle.spec_parser.specs.Tree as tree
-use Rattle.spec_parser.specs.declared.tree.Item.{Item}
-use Rattle.spec_parser.specs.inner.Shape.{item_of}
+use Rattle.syntax_tree.specs.Tree as tree
+use Rattle.syntax_tree.specs.declared.tree.Item.{Item}
+use Rattle.syntax_tree.specs.inner.OneLevel.{item_of}
 use Rattle.tsl_value.proofs.Lists.{none_in_nil, cons_cases, left_at}
 use Rattle.name_check.specs.declared.declaration.Declaration.{Declaration}
 use Rattle.name_check.specs.declared.declaration.Declaration.TheVariants as declaration

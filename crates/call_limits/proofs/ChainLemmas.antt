@@ -1,6 +1,6 @@
 -- Chains of calls, and what nests by them.
 use Rattle.std.proofs.Common.{◌≡◌, ℕ, zero, suc, ◌<◌, ◌≤◌, List, None, refl, sym, subst, inl, inr, arith}
-use Rattle.spec_parser.specs.Tree as tree
+use Rattle.syntax_tree.specs.Tree as tree
 use Rattle.call_limits.specs.Nesting.{CallsMacro, CallsFunction, Chain, none, link, IsFirstTooDeep}
 use Rattle.call_limits.specs.inner.Depths.{Nests, ends, counts, passes}
 use Rattle.definition_cycles.specs.declared.limits.TheConstants.{MOST_CALLS}

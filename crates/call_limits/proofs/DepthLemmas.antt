@@ -106,12 +106,12 @@ read_is table x was list low read is = is ∙ get_or_read table x was low read [
 split_here : (order : List ℕ) (k : ℕ) → k < length order → order ≡ take k order ++ get_or order k 0 ∷ drop (suc k) order
 split_here order k low = sym (take-append-drop k order) ∙ ap (λ l. take k order ++ l) (drop-cons order k 0 low)
 
-module _ (counted passed : List (List ℕ)) (count : ℕ) (order : List ℕ) (behind : AreAfter (Leads counted) (Leads passed) count order) where
+module _ (counted passed : List (List ℕ)) (count : ℕ) (order : List ℕ) (after : AreAfter (Leads counted) (Leads passed) count order) where
   pub is_below : (x : ℕ) → Contains order x → x < count
-  is_below x c = let parts = split_at order x c in (behind.each parts.0 parts.1 x parts.2).is_item
+  is_below x c = let parts = split_at order x c in (after.each parts.0 parts.1 x parts.2).is_item
 
   stands_at : (k : ℕ) → k < length order → StandsAfter (Leads counted) (Leads passed) count (take k order) (get_or order k 0)
-  stands_at k low = behind.each (take k order) (drop (suc k) order) (get_or order k 0) (split_here order k low)
+  stands_at k low = after.each (take k order) (drop (suc k) order) (get_or order k 0) (split_here order k low)
 
   pub is_item : (k : ℕ) → k < length order → get_or order k 0 < count
   is_item k low = (stands_at k low).is_item
@@ -151,7 +151,7 @@ module _ (counted passed : List (List ℕ)) (count : ℕ) (order : List ℕ) (be
   pub all_known : (k : ℕ) (depths : List ℕ) → length order ≤ k → AreKnown counted passed count (take k order) depths → AreDepths (Leads counted) (Leads passed) count depths
   all_known k depths past known = record {
     one_each = known.one_each;
-    at = λ x low. known.known x (subst (λ l. Contains l x) (sym (take_all k order past)) (behind.all x low));
+    at = λ x low. known.known x (subst (λ l. Contains l x) (sym (take_all k order past)) (after.all x low));
   }
 
 -- ---- the same of what is known to be equal

@@ -3,7 +3,7 @@ use Rattle.std.proofs.Common.{◌≡◌, ℕ, ◌<◌, ◌⊎◌, List, [], ◌+
 use Rattle.std.specs.List.{Contains}
 use Rattle.std.proofs.lemmas.List.Elements.{Contains-append_left, Contains-append_right, Contains-append_cases, All-contains}
 use Rattle.std.proofs.lemmas.Option.{slice_get_within}
-use Rattle.spec_parser.specs.Tree as tree
+use Rattle.syntax_tree.specs.Tree as tree
 use Rattle.translation_order.specs.Graph.{IsAcyclic}
 use Rattle.translation_order.specs.OnCycle.{Edge, AreBetween, Path, one, more}
 use Rattle.translation_order.proofs.Paths.{path_alike, along_from}

@@ -3,7 +3,7 @@
 ghost use Rattle.std.specs.Prelude.{◌≡◌, ◌++◌, map, IfOk, OnOk};
 ghost use Rattle.std.specs.Option.{option_to_list};
 ghost use Rattle.std.specs.List.{All, filter_map};
-ghost use Rattle.spec_parser.specs.inner.Shape.{item_of};
+ghost use Rattle.syntax_tree.specs.inner.OneLevel.{item_of};
 ghost use Rattle.name_check.specs.Scope.{seen, top};
 ghost use Rattle.definition_cycles.specs.inner.Edges.{AreEdges};
 ghost use Rattle.definition_cycles.specs.Nodes.{HasFewNodes};
@@ -15,8 +15,8 @@ use definition_cycles::mention::{Mention, add_mentions};
 use name_check::declaration::Declaration;
 use name_check::scope::Scope;
 use name_check::top::top_names;
-use spec_parser::tree::Item;
 use std::alloc::Global;
+use syntax_tree::tree::Item;
 use tsl_value::memory::NoMemory;
 
 /// The calls of a specification, each as the pair of an item and what is called in it.
@@ -67,12 +67,12 @@ impl Calls {
             return Ok(());
         }
         match mention.is {
-            Declaration::Macro(called) => {
-                self.macros.push((to_node(mention.item), to_node(called)))?
+            Declaration::Macro(callee) => {
+                self.macros.push((to_node(mention.item), to_node(callee)))?
             }
-            Declaration::Function(called) => {
+            Declaration::Function(callee) => {
                 self.functions
-                    .push((to_node(mention.item), to_node(called)))?
+                    .push((to_node(mention.item), to_node(callee)))?
             }
             _ => {}
         }

@@ -1,15 +1,15 @@
 // Cycles of macros.
 
 ghost use Rattle.std.specs.Prelude.{map, IfOk};
-ghost use Rattle.spec_parser.specs.inner.Shape.{item_of};
+ghost use Rattle.syntax_tree.specs.inner.OneLevel.{item_of};
 ghost use Rattle.definition_cycles.specs.Nodes.{HasFewNodes};
 ghost use Rattle.call_limits.specs.Nesting.{IsFirstMacroCycle};
 
 use crate::calls::Calls;
 use crate::deep::deep_place;
 use definition_cycles::graph::to_node;
-use spec_parser::tree::Item;
 use std::alloc::Global;
+use syntax_tree::tree::Item;
 use translation_order::on_cycle::first_on_cycle;
 use tsl_value::memory::NoMemory;
 use tsl_value::place::Place;

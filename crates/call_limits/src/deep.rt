@@ -1,7 +1,7 @@
 // Calls that nest too deep.
 
 ghost use Rattle.std.specs.Prelude.{◌≡◌, ◌++◌, None, length, map, IfOk, OnOk};
-ghost use Rattle.spec_parser.specs.inner.Shape.{item_of};
+ghost use Rattle.syntax_tree.specs.inner.OneLevel.{item_of};
 ghost use Rattle.translation_order.specs.OnCycle.{Edge};
 ghost use Rattle.definition_cycles.specs.Cycles.{IsFirstFunctionCycle};
 ghost use Rattle.definition_cycles.specs.Nodes.{HasFewNodes};
@@ -12,8 +12,8 @@ ghost use Rattle.call_limits.specs.inner.Depths.{AreAfter, IsFirst, NestsTooDeep
 use crate::calls::Calls;
 use crate::depth::{depths, first_deep, successors};
 use definition_cycles::graph::to_node;
-use spec_parser::tree::Item;
 use std::alloc::Global;
+use syntax_tree::tree::Item;
 use translation_order::order::{OrderFault, order};
 use translation_order::steps::{Edges, Steps};
 use tsl_value::memory::NoMemory;
@@ -83,8 +83,8 @@ fn call_order(alloc: Global, count: u32, calls: &Calls) -> Result<Steps, NoMemor
 fn add_turned(pairs: &mut Edges, calls: &[(u32, u32)]) -> Result<(), NoMemory>
     ensures { OnOk result (pairs.new ≡ pairs.old ++ turned calls.now) }
 {
-    for (caller, called) in calls {
-        pairs.push((*called, *caller))?;
+    for (caller, callee) in calls {
+        pairs.push((*callee, *caller))?;
     }
     Ok(())
 }

@@ -44,7 +44,7 @@ pub fn depths(
     passed: &[Steps],
 ) -> Result<Vec<u32>, NoMemory>
     requires same { length passed.now ≡ length counted.now }
-    requires behind { AreAfter (Leads counted.now) (Leads passed.now) (length counted.now) order.now }
+    requires after { AreAfter (Leads counted.now) (Leads passed.now) (length counted.now) order.now }
     ensures { IfOk result (λ d. AreDepths (Leads counted.now) (Leads passed.now) (length counted.now) d.items) }
 {
     let mut depths = vec![in alloc; 0u32; counted.len()]?;

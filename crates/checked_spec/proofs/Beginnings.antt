@@ -5,11 +5,11 @@ use Rattle.std.specs.Option.{option_and_then}
 use Rattle.std.proofs.lemmas.Option.{same_Some}
 use Rattle.tsl_value.specs.declared.place.Place.{Place}
 use Rattle.tsl_value.specs.declared.scalar.ValueType.{ValueType}
-use Rattle.spec_parser.specs.Tree as tree
-use Rattle.spec_parser.specs.Tree.{Expr, Links, no_links, more_links}
-use Rattle.spec_parser.specs.inner.Gives.{join_links}
-use Rattle.spec_parser.specs.declared.tree.Level.{Level}
-use Rattle.spec_parser.specs.declared.tree.Operator.{Operator}
+use Rattle.syntax_tree.specs.Tree as tree
+use Rattle.syntax_tree.specs.Tree.{Expr, Links, no_links, more_links}
+use Rattle.syntax_tree.specs.inner.Joins.{join_links}
+use Rattle.syntax_tree.specs.declared.tree.Level.{Level}
+use Rattle.syntax_tree.specs.declared.tree.Operator.{Operator}
 use Rattle.type_rules.specs.declared.rule.ExprType.{ExprType}
 use Rattle.type_rules.specs.declared.rule.ExprType.TheVariants as expr_type
 use Rattle.type_rules.specs.declared.rule.Setting.TheVariants as setting
@@ -19,7 +19,7 @@ use Rattle.expr_types.specs.Around.{Around}
 use Rattle.expr_types.specs.Judge.{type_of, judge_links, next_link, continued, of_verdict}
 use Rattle.stream_constructs.specs.declared.construct.Stream.{Stream}
 use Rattle.spec_meaning.specs.Occurrence.{Call}
-use Rattle.flatten_rules.specs.Makes.{Standing}
+use Rattle.spec_meaning.specs.Makes.{Standing}
 use Rattle.checked_spec.specs.inner.Formed.{AreOfLevel}
 use Rattle.checked_spec.specs.inner.Matches.{IsTypedAt}
 use Rattle.checked_spec.specs.inner.Chains.{HaveOperands}

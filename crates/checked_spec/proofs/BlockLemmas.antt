@@ -6,8 +6,8 @@ use Rattle.std.proofs.lemmas.Bool.{ne_eqb, eq-eqb}
 use Rattle.std.proofs.lemmas.List.Elements.{Contains-append_right}
 use Rattle.tsl_value.proofs.Lists.{here, append_empty}
 use Rattle.tsl_value.specs.declared.place.Place.{Place}
-use Rattle.spec_parser.specs.Tree as tree
-use Rattle.spec_parser.specs.Tree.{Expr, TypeName}
+use Rattle.syntax_tree.specs.Tree as tree
+use Rattle.syntax_tree.specs.Tree.{Expr, TypeName}
 use Rattle.name_check.specs.Scope.{Scope, count_in}
 use Rattle.name_check.specs.Bodies.{Seen, bodies, block_bodies}
 use Rattle.name_check.specs.inner.Steps.{local_body}

@@ -6,8 +6,8 @@ use Rattle.std.proofs.lemmas.Bool.{true≢false, false≢true, ltb-false}
 use Rattle.std.proofs.lemmas.Option.{same_Some, none-some}
 use Rattle.tsl_value.specs.declared.place.Place.{Place}
 use Rattle.tsl_value.specs.declared.scalar.ValueType.TheVariants as value_type
-use Rattle.spec_parser.specs.Tree as tree
-use Rattle.spec_parser.specs.Tree.{Expr, TypeName}
+use Rattle.syntax_tree.specs.Tree as tree
+use Rattle.syntax_tree.specs.Tree.{Expr, TypeName}
 use Rattle.name_check.specs.Bodies.{item_bodies}
 use Rattle.name_check.specs.Scope.{top, are_values}
 use Rattle.type_rules.specs.declared.rule.ExprType.{ExprType}

@@ -8,8 +8,8 @@ use Rattle.std.proofs.lemmas.Option.{same_Some}
 use Rattle.tsl_value.proofs.Lists.{here, contains_at}
 use Rattle.tsl_value.specs.declared.place.Place.{Place}
 use Rattle.tsl_value.specs.declared.scalar.ValueType.{ValueType}
-use Rattle.spec_parser.specs.Tree as tree
-use Rattle.spec_parser.specs.Tree.{Expr, TypeName}
+use Rattle.syntax_tree.specs.Tree as tree
+use Rattle.syntax_tree.specs.Tree.{Expr, TypeName}
 use Rattle.name_check.specs.Scope.{top, is_events, are_values}
 use Rattle.name_check.specs.Parts.{Operand}
 use Rattle.name_check.specs.inner.Steps.{local_body}
@@ -23,6 +23,7 @@ use Rattle.type_rules.specs.Written.{value_of, as_written, bad_as_written}
 use Rattle.expr_types.specs.Around.{Around, Kinds, params_of}
 use Rattle.expr_types.specs.Judge.{type_of}
 use Rattle.expr_types.specs.Bodies.{in_definition, setting_of, may_have_braces, written_of, definition_kind, expr_kind, item_kind, body_wrongs}
+use Rattle.expr_types.proofs.BlockLemmas.{braces_streams}
 use Rattle.spec_meaning.specs.Occurrence.{body_of, block_of, result_of, local}
 use Rattle.checked_spec.specs.inner.Checked.{IsChecked, IsTyped}
 use Rattle.checked_spec.specs.Laws.{IsStreamBody, StreamsAreTyped, MacrosAreTyped, OutputsAreTyped, NamedOutputsAreTyped, FunctionBodiesAreTyped}
@@ -34,15 +35,6 @@ use Rattle.checked_spec.proofs.SoundLemmas.{around, IsSound, sound_at, wrongs_at
 use Rattle.checked_spec.proofs.KindLemmas.{Fits, sound_fits, fits_kind, none_written, written_has, local_kind_at, names_there}
 
 -- ---- parameters
--- those of a macro are no values, and those of a value function no streams
-no_values : (ps : List tree.Param) → may_have_braces ps ≡ true → are_values ps ≡ false
-no_values [] h = refl
-no_values (p ∷ ps) h = by (is_events p.of) (and_parts (is_events p.of) (list_all (λ q. is_events q.of) ps) h).0
-  where
-    by : (b : Bool) → b ≡ true → ((if b then false else true) && list_all (λ q. if is_events q.of then false else true) ps) ≡ false
-    by true k = refl
-    by false k = absurd (cc)
-
 no_streams : (ps : List tree.Param) → are_values ps ≡ true → may_have_braces ps ≡ false
 no_streams [] h = refl
 no_streams (p ∷ ps) h = by (is_events p.of) (and_parts (if is_events p.of then false else true) (list_all (λ q. if is_events q.of then false else true) ps) h).0
@@ -186,7 +178,7 @@ record IsMacroOf (items : List tree.Item) (kinds : Kinds) (i : ℕ) (o : Option 
 macro_of : (items : List tree.Item) (kinds : Kinds) (i : ℕ) → IsChecked items kinds → (o : Option tree.Item) → slice_get items i ≡ o → may_have_braces (params_of o) ≡ true → IsMacroOf items kinds i o
 macro_of items kinds i checked (Some (tree.Defined p (tree.Define q n ps w b))) is braces =
     let f = result_fits items kinds checked i p q n ps w b is in
-    let streams = no_values ps braces in
+    let streams = braces_streams ps braces in
     let stream = stream_fits (around items kinds i (Some (tree.Defined p (tree.Define q n ps w b)))) (written_of ps w) (result_of b) (streams_in ps streams) f in record {
       of = inner f.of;
       kind_is = item_fits items kinds checked i p q n ps w b is ∙ ap Some stream;

@@ -17,7 +17,7 @@ use Rattle.stream_constructs.specs.declared.construct.Stream.{Stream}
 use Rattle.stream_constructs.specs.Construct.{Construct}
 use Rattle.stream_constructs.specs.Construct as construct
 use Rattle.stream_constructs.specs.Agree.{Fits}
-use Rattle.flatten_rules.specs.Makes.{with_itself}
+use Rattle.spec_meaning.specs.Makes.{with_itself}
 use Rattle.checked_spec.proofs.SameLemmas.{exactly}
 use Rattle.checked_spec.proofs.FunctionAsks.{checked, of_family, same_Ok}
 use Rattle.checked_spec.proofs.Asks.{stream_of}

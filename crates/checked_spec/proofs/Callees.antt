@@ -5,10 +5,10 @@ use Rattle.std.specs.List.{AllByRecursion, list_all}
 use Rattle.std.specs.Option.{option_map, option_and_then}
 use Rattle.std.proofs.lemmas.Bool.{true≢false, false≢true, and_parts}
 use Rattle.std.proofs.lemmas.Option.{same_Some, none-some}
-use Rattle.lift_func.specs.Tree.{Tree}
-use Rattle.lift_func.specs.Typing.{Kind}
-use Rattle.spec_parser.specs.Tree as tree
-use Rattle.spec_parser.specs.Tree.{TypeName, Param}
+use Rattle.lift_func.specs.BodyTree.{BodyTree}
+use Rattle.lift_func.specs.Typing.{ValueKind}
+use Rattle.syntax_tree.specs.Tree as tree
+use Rattle.syntax_tree.specs.Tree.{TypeName, Param}
 use Rattle.name_check.specs.Scope.{is_events, are_values}
 use Rattle.type_rules.specs.declared.rule.ExprType.{ExprType}
 use Rattle.type_rules.specs.declared.rule.ExprType.TheVariants as expr_type
@@ -128,24 +128,24 @@ function_called params result args u long h = by (has_options params result) h
     by false h = called_is params result args u long (ap (λ ps. macro_rule ps result args) (sym (none_lifted params)) ∙ h)
 
 -- ---- trees of types that are no streams
-pub fits_type : (ks : List Kind) (t : Tree) (u : ExprType) → HasType ks t u → Fits ks t u
+pub fits_type : (ks : List ValueKind) (t : BodyTree) (u : ExprType) → HasType ks t u → Fits ks t u
 fits_type ks t (expr_type.Value v) h = h
 fits_type ks t (expr_type.Optional v) h = h
 fits_type ks t (expr_type.Stream v) h = tt
 
-pub has_type : (ks : List Kind) (t : Tree) (u : ExprType) → IsNoStream u → Fits ks t u → HasType ks t u
+pub has_type : (ks : List ValueKind) (t : BodyTree) (u : ExprType) → IsNoStream u → Fits ks t u → HasType ks t u
 has_type ks t (expr_type.Value v) none h = h
 has_type ks t (expr_type.Optional v) none h = h
 has_type ks t (expr_type.Stream v) none h = absurd none
 
-pub have_types : (ks : List Kind) (ts : List Tree) (us : List ExprType) → AllByRecursion IsNoStream us → FitAll ks ts us → HaveTypes ks ts us
+pub have_types : (ks : List ValueKind) (ts : List BodyTree) (us : List ExprType) → AllByRecursion IsNoStream us → FitAll ks ts us → HaveTypes ks ts us
 have_types ks [] [] none h = tt
 have_types ks [] (u ∷ us) none h = absurd h
 have_types ks (t ∷ ts) [] none h = absurd h
 have_types ks (t ∷ ts) (u ∷ us) none h = (has_type ks t u none.0 h.0, have_types ks ts us none.1 h.1)
 
 -- ---- each operand is of the type of its parameter
-pub parameter_fits : (ks : List Kind) (args : List Tree) (ps : List Param) (us : List ExprType) → param_types ps ≡ Some us → HaveTypes ks args us → (k : ℕ) (u : ExprType) → option_and_then (λ p. as_written p.of) (slice_get ps k) ≡ Some u → Fits ks (slice_index_or args k no_tree) u
+pub parameter_fits : (ks : List ValueKind) (args : List BodyTree) (ps : List Param) (us : List ExprType) → param_types ps ≡ Some us → HaveTypes ks args us → (k : ℕ) (u : ExprType) → option_and_then (λ p. as_written p.of) (slice_get ps k) ≡ Some u → Fits ks (slice_index_or args k no_tree) u
 parameter_fits ks args [] us types have k u is = absurd (none-some u is)
 parameter_fits ks [] (p ∷ ps) us types have k u is =
     let c = cons_is (as_written p.of) (param_types ps) us types in

@@ -1,6 +1,6 @@
 -- Calls of names: what they are made of fits.
 use Rattle.std.proofs.Common.{◌≡◌, ℕ, suc, ◌==◌, ◌≤◌, Bool, true, false, not, List, [], ◌∷◌, length, Option, Some, None, refl, ap, sym, subst, ◌∙◌, arith}
-use Rattle.std.specs.Prelude.{Ok, codes, slice_get, if◌then◌else◌, nat_le}
+use Rattle.std.specs.Prelude.{Ok, slice_get, if◌then◌else◌, nat_le}
 use Rattle.std.specs.Option.{option_map, option_and_then}
 use Rattle.std.specs.Str.{bytes_eq}
 use Rattle.std.proofs.lemmas.Bool.{true≢false, not-false, eqb-true, leb-true, and_parts}
@@ -10,8 +10,11 @@ use Rattle.tsl_value.specs.declared.scalar.Scalar.{Scalar}
 use Rattle.tsl_value.specs.declared.scalar.Scalar.TheVariants as scalar
 use Rattle.tsl_value.specs.declared.scalar.ValueType.{ValueType}
 use Rattle.tsl_value.proofs.Lists.{none_of, none_found}
-use Rattle.spec_parser.specs.Tree as tree
-use Rattle.spec_parser.specs.Tree.{Expr, Exprs, no_exprs, more_exprs}
+use Rattle.syntax_tree.specs.Tree as tree
+use Rattle.syntax_tree.specs.Tree.{Expr, Exprs, no_exprs, more_exprs}
+use Rattle.vocabulary.specs.declared.plain.Plain.{Plain}
+use Rattle.vocabulary.specs.declared.plain.Plain.TheVariants as language
+use Rattle.vocabulary.specs.PlainTable.{spelling}
 use Rattle.name_check.specs.declared.declaration.Declaration.{Declaration}
 use Rattle.name_check.specs.declared.declaration.Declaration.TheVariants as declaration
 use Rattle.name_check.specs.Builtin.{is_unit, is_lift, is_called}
@@ -32,11 +35,11 @@ use Rattle.expr_types.specs.Around.{Around, Callee, params_of, callee_at}
 use Rattle.expr_types.specs.Judge.{type_of, types_of, streams_of, last_of, of_verdict, is_literal, builtin_of, builtins, is_const, call_rule, function_at, function_of, lifted_by, const_call, own_call}
 use Rattle.stream_constructs.specs.Construct.{Construct}
 use Rattle.stream_constructs.specs.Construct as construct
-use Rattle.spec_meaning.specs.Occurrence.{Call, scope_at, called}
+use Rattle.spec_meaning.specs.Occurrence.{Call, scope_at, macro_result}
 use Rattle.spec_meaning.specs.Function.{literal}
 use Rattle.spec_meaning.specs.Function as function
 use Rattle.spec_meaning.specs.Shape.{Shape, expressions, with_parts, signal_of, plain_names, plain_name, is_delay, is_const as is_const_word, is_filter, const_shape, filtered_by, filter_shape, lift_by, function_named, lift_shape, declared_shape, call_shape, expr_shape}
-use Rattle.flatten_rules.specs.Makes.{is_own}
+use Rattle.spec_meaning.specs.Makes.{is_own}
 use Rattle.checked_spec.specs.inner.Formed.{IsDeclared}
 use Rattle.checked_spec.specs.inner.Functions.{AreTypedFunctions}
 use Rattle.checked_spec.proofs.FunctionAsks.{checked, same_Ok}
@@ -47,7 +50,7 @@ use Rattle.checked_spec.proofs.Operands.{standard, literal_typed}
 use Rattle.checked_spec.proofs.Fitting.{IsPlain, IsFitting, plain_fits, signal_fits}
 use Rattle.checked_spec.proofs.Expressions.{never_own, same_not_own}
 use Rattle.checked_spec.proofs.Words as words
-use Rattle.checked_spec.proofs.Words.{Word, spelling, IsWord, is_word}
+use Rattle.checked_spec.proofs.Words.{IsWord, is_word}
 use Rattle.checked_spec.proofs.CallRules.{time_fits, last_fits, delay_fits, merge_fits, filter_fits, filter_by_fits, const_fits}
 use Rattle.checked_spec.proofs.Functions.{function_signal}
 use Rattle.checked_spec.proofs.Lifts.{front, final, form_final, judged_final, shape_final, front_typed, front_count, lift_fits}
@@ -114,7 +117,7 @@ pub record IsDeclaredName (n : List ℕ) : Type 0 where
 pub declared_name : (n : List ℕ) → is_called n ≡ false → IsDeclaredName n
 unfolding is_called plain_name is_delay is_filter is_lift builtin_of takes_one takes_two is_const_word
 declared_name n none =
-    let a = none_of (bytes_eq n) builtin_names.called none in
+    let a = none_of (bytes_eq n) builtin_names.callable_names none in
     let time = a.0 in
     let last = a.1.0 in
     let delay = a.1.1.0 in
@@ -300,7 +303,7 @@ module _ (items : List tree.Item) (cs : List Call) (at : Around) (t : ValueType)
 
   declared_call : (x : List ℕ) (d : Option Declaration) → ((i : ℕ) → d ≡ Some (declaration.Function i) → IsDeclared items (declaration.Function i)) → not (call_fits (if is_unit x then None else declared_takes items d) (count es)) ≡ false → of_verdict (option_and_then (λ ts. option_and_then (λ e. call_rule here e ts) d) (types_of here es)) ≡ Some (expr_type.Stream t) → declared_shape items cs d es ≡ Some sh → Fitting x
   declared_call x (Some (declaration.Function i)) right fits h is = function_call x i (right i refl) fits h is
-  declared_call x (Some (declaration.Macro i)) right fits h is = never_own (Fitting x) (declared_shape items cs (Some (declaration.Macro i)) es) sh (same_not_own (called items cs i es)) is own
+  declared_call x (Some (declaration.Macro i)) right fits h is = never_own (Fitting x) (declared_shape items cs (Some (declaration.Macro i)) es) sh (same_not_own (macro_result items cs i es)) is own
   declared_call x d right fits h is = absurd (none-some sh is)
 
   other_call : (x : List ℕ) → is_called x ≡ false → Typed x
@@ -310,20 +313,20 @@ module _ (items : List tree.Item) (cs : List Call) (at : Around) (t : ValueType)
       (sym (declared_fits items (scope_at items cs) x es n) ∙ fits) (sym (declared_judged here p x es n) ∙ h) (sym (declared_made items cs p x es n) ∙ is)
 
   -- ---- all calls
-  word_call : (w : Word) → Typed (spelling w)
+  word_call : (w : Plain) → Typed (spelling w)
   unfolding is_unit is_lift builtin_of takes_one takes_two plain_name is_delay is_const_word is_filter
-  word_call words.Time fits h is = one_word (codes "time") builtin.Time construct.Time (λ a. time_fits a t) fits h is
-  word_call words.Last fits h is = two_word (codes "last") builtin.Last construct.Last (λ a b. last_fits a b t) fits h is
-  word_call words.Delay fits h is = two_word (codes "delay") builtin.Delay construct.Delay (λ a b. delay_fits a b t) fits h is
-  word_call words.Merge fits h is = two_word (codes "merge") builtin.Merge construct.Merge (λ a b. merge_fits a b t) fits h is
-  word_call words.Default fits h is = two_word (codes "default") builtin.Merge construct.Merge (λ a b. merge_fits a b t) fits h is
-  word_call words.Lift fits h is = lift_word (codes "lift") es fits h is
-  word_call words.Const fits h is = const_word (codes "const") fits h is
-  word_call words.Filter fits h is = filter_word (codes "filter") fits h is
-  word_call words.IsSome fits h is = refused_word (codes "isSome") builtin.IsSome (λ a. is_some_refused (Fitting (codes "isSome")) a t) fits h
-  word_call words.IsNone fits h is = refused_word (codes "isNone") builtin.IsNone (λ a. is_none_refused (Fitting (codes "isNone")) a t) fits h
-  word_call words.GetSome fits h is = refused_word (codes "getSome") builtin.GetSome (λ a. get_some_refused (Fitting (codes "getSome")) a t) fits h
-  word_call words.Some fits h is = refused_word (codes "Some") builtin.Some (λ a. some_refused (Fitting (codes "Some")) a t) fits h
+  word_call language.Time fits h is = one_word (spelling language.Time) builtin.Time construct.Time (λ a. time_fits a t) fits h is
+  word_call language.Last fits h is = two_word (spelling language.Last) builtin.Last construct.Last (λ a b. last_fits a b t) fits h is
+  word_call language.Delay fits h is = two_word (spelling language.Delay) builtin.Delay construct.Delay (λ a b. delay_fits a b t) fits h is
+  word_call language.Merge fits h is = two_word (spelling language.Merge) builtin.Merge construct.Merge (λ a b. merge_fits a b t) fits h is
+  word_call language.Default fits h is = two_word (spelling language.Default) builtin.Merge construct.Merge (λ a b. merge_fits a b t) fits h is
+  word_call language.Lift fits h is = lift_word (spelling language.Lift) es fits h is
+  word_call language.Const fits h is = const_word (spelling language.Const) fits h is
+  word_call language.Filter fits h is = filter_word (spelling language.Filter) fits h is
+  word_call language.IsSome fits h is = refused_word (spelling language.IsSome) builtin.IsSome (λ a. is_some_refused (Fitting (spelling language.IsSome)) a t) fits h
+  word_call language.IsNone fits h is = refused_word (spelling language.IsNone) builtin.IsNone (λ a. is_none_refused (Fitting (spelling language.IsNone)) a t) fits h
+  word_call language.GetSome fits h is = refused_word (spelling language.GetSome) builtin.GetSome (λ a. get_some_refused (Fitting (spelling language.GetSome)) a t) fits h
+  word_call language.Some fits h is = refused_word (spelling language.Some) builtin.Some (λ a. some_refused (Fitting (spelling language.Some)) a t) fits h
 
   pub call_fitting : (x : List ℕ) → Typed x
   call_fitting x = by (is_word x)

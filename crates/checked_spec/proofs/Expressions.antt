@@ -14,12 +14,12 @@ use Rattle.tsl_value.specs.declared.scalar.ValueType.{ValueType}
 use Rattle.tsl_value.specs.declared.scalar.ValueType.TheVariants as value_type
 use Rattle.flat_core.specs.Typed.{is_aggregate}
 use Rattle.lift_func.specs.declared.body.Unary.TheVariants as unary
-use Rattle.lift_func.specs.Tree.{One, Two}
-use Rattle.spec_parser.specs.Tree as tree
-use Rattle.spec_parser.specs.Tree.{Expr, Exprs, Links, no_links, more_links}
-use Rattle.spec_parser.specs.declared.tree.Level.{Level}
-use Rattle.spec_parser.specs.declared.tree.Operator.{Operator}
-use Rattle.spec_parser.specs.declared.tree.Comparison.{Comparison}
+use Rattle.lift_func.specs.BodyTree.{One, Two}
+use Rattle.syntax_tree.specs.Tree as tree
+use Rattle.syntax_tree.specs.Tree.{Expr, Exprs, Links, no_links, more_links}
+use Rattle.syntax_tree.specs.declared.tree.Level.{Level}
+use Rattle.syntax_tree.specs.declared.tree.Operator.{Operator}
+use Rattle.syntax_tree.specs.declared.tree.Comparison.{Comparison}
 use Rattle.vocabulary.specs.declared.dotted.Dotted.{Dotted}
 use Rattle.vocabulary.specs.declared.signature.Role.{Role}
 use Rattle.vocabulary.specs.declared.signature.Role.TheVariants as role
@@ -44,7 +44,7 @@ use Rattle.stream_constructs.specs.Agree.{Fits}
 use Rattle.spec_meaning.specs.Occurrence.{Call, Occurrence, scope_at, stands_for}
 use Rattle.spec_meaning.specs.Function.{comparison_of, operation_of, role_tree}
 use Rattle.spec_meaning.specs.Shape.{Shape, expressions, all_but_last, last_operator, last_operand, left_of, with_parts, one_operand, two_operands, role_shape, same_as, name_shape, empty_shape, expr_shape}
-use Rattle.flatten_rules.specs.Makes.{is_own, with_itself}
+use Rattle.spec_meaning.specs.Makes.{is_own, with_itself}
 use Rattle.checked_spec.specs.inner.Formed.{AreOfLevel}
 use Rattle.checked_spec.proofs.Asks.{same_stream}
 use Rattle.checked_spec.proofs.FunctionRead.{one_part, two_parts, three_parts, arguments_are, types_count}

@@ -6,10 +6,10 @@ use Rattle.std.proofs.lemmas.Option.{same_Some}
 use Rattle.tsl_value.specs.declared.scalar.ValueType.{ValueType}
 use Rattle.tsl_value.specs.declared.scalar.ValueType.TheVariants as value_type
 use Rattle.flat_core.specs.Typed.{is_aggregate}
-use Rattle.lift_func.specs.Tree.{Tree}
-use Rattle.lift_func.specs.Typing.{Kind, Value, HasKind}
-use Rattle.spec_parser.specs.Tree as tree
-use Rattle.spec_parser.specs.Tree.{Expr}
+use Rattle.lift_func.specs.BodyTree.{BodyTree}
+use Rattle.lift_func.specs.Typing.{ValueKind, Value, HasKind}
+use Rattle.syntax_tree.specs.Tree as tree
+use Rattle.syntax_tree.specs.Tree.{Expr}
 use Rattle.type_rules.specs.declared.rule.ExprType.{ExprType}
 use Rattle.expr_types.specs.Around.{Around}
 use Rattle.stream_constructs.specs.declared.construct.Stream.{Stream}
@@ -18,7 +18,7 @@ use Rattle.stream_constructs.specs.Construct.{Construct, operand_trees}
 use Rattle.stream_constructs.specs.Agree.{Updates, IsScalar, Fits}
 use Rattle.spec_meaning.specs.Occurrence.{Call}
 use Rattle.spec_meaning.specs.Shape.{Shape, operands, with_parts, signal_of, update_of}
-use Rattle.flatten_rules.specs.Makes.{is_choice, with_itself, IsAsWritten}
+use Rattle.spec_meaning.specs.Makes.{is_choice, with_itself, IsAsWritten}
 use Rattle.checked_spec.specs.inner.Matches.{HaveTheirTypes}
 use Rattle.checked_spec.proofs.Read.{AreTyped}
 use Rattle.stream_constructs.proofs.LiftingHangs.{operands_few}
@@ -32,12 +32,12 @@ pub record IsPlain (c : Construct) (args : List ExprType) (t : ValueType) : Type
   pub fits : (n : ℕ) (parts : List Stream) → AreOf parts ts → Fits c (with_itself c n parts) t
 
 -- a body over operands; of a choice the type may be an aggregate
-pub record IsSignal (chosen : Bool) (body : List Tree → Tree) (args : List ExprType) (t : ValueType) : Type 0 where
+pub record IsSignal (chosen : Bool) (body : List BodyTree → BodyTree) (args : List ExprType) (t : ValueType) : Type 0 where
   pub ts : List ValueType
   pub are : args ≡ streams ts
   pub few : length ts ≤ 8
   pub scalar : (chosen && is_aggregate t) ≡ false → is_aggregate t ≡ false
-  pub typed : (ks : List Kind) (fs : List Tree) → AreTrees ks fs ts → HasKind ks (body fs) (Value t)
+  pub typed : (ks : List ValueKind) (fs : List BodyTree) → AreTrees ks fs ts → HasKind ks (body fs) (Value t)
 
 pub record IsUpdate (o : UpdateOp) (args : List ExprType) (t : ValueType) : Type 0 where
   pub ts : List ValueType
@@ -45,18 +45,18 @@ pub record IsUpdate (o : UpdateOp) (args : List ExprType) (t : ValueType) : Type
   pub updates : Updates o ts t
 
 -- ---- trees by their number
-pub one_tree : (P : List Tree → Type 0) (ks : List Kind) (fs : List Tree) (t : ValueType) → AreTrees ks fs (t ∷ []) → ((a : Tree) → HasKind ks a (Value t) → P (a ∷ [])) → P fs
+pub one_tree : (P : List BodyTree → Type 0) (ks : List ValueKind) (fs : List BodyTree) (t : ValueType) → AreTrees ks fs (t ∷ []) → ((a : BodyTree) → HasKind ks a (Value t) → P (a ∷ [])) → P fs
 one_tree P ks [] t h f = absurd h
 one_tree P ks (a ∷ []) t h f = f a h.0
 one_tree P ks (a ∷ b ∷ fs) t h f = absurd h.1
 
-pub two_trees : (P : List Tree → Type 0) (ks : List Kind) (fs : List Tree) (t u : ValueType) → AreTrees ks fs (t ∷ u ∷ []) → ((a b : Tree) → HasKind ks a (Value t) → HasKind ks b (Value u) → P (a ∷ b ∷ [])) → P fs
+pub two_trees : (P : List BodyTree → Type 0) (ks : List ValueKind) (fs : List BodyTree) (t u : ValueType) → AreTrees ks fs (t ∷ u ∷ []) → ((a b : BodyTree) → HasKind ks a (Value t) → HasKind ks b (Value u) → P (a ∷ b ∷ [])) → P fs
 two_trees P ks [] t u h f = absurd h
 two_trees P ks (a ∷ []) t u h f = absurd h.1
 two_trees P ks (a ∷ b ∷ []) t u h f = f a b h.0 h.1.0
 two_trees P ks (a ∷ b ∷ c ∷ fs) t u h f = absurd h.1.1
 
-pub three_trees : (P : List Tree → Type 0) (ks : List Kind) (fs : List Tree) (t u v : ValueType) → AreTrees ks fs (t ∷ u ∷ v ∷ []) → ((a b c : Tree) → HasKind ks a (Value t) → HasKind ks b (Value u) → HasKind ks c (Value v) → P (a ∷ b ∷ c ∷ [])) → P fs
+pub three_trees : (P : List BodyTree → Type 0) (ks : List ValueKind) (fs : List BodyTree) (t u v : ValueType) → AreTrees ks fs (t ∷ u ∷ v ∷ []) → ((a b c : BodyTree) → HasKind ks a (Value t) → HasKind ks b (Value u) → HasKind ks c (Value v) → P (a ∷ b ∷ c ∷ [])) → P fs
 three_trees P ks [] t u v h f = absurd h
 three_trees P ks (a ∷ []) t u v h f = absurd h.1
 three_trees P ks (a ∷ b ∷ []) t u v h f = absurd h.1.1
@@ -98,7 +98,7 @@ module _ (items : List tree.Item) (cs : List Call) (at : Around) (e : Expr) (t :
         fits = λ n parts theirs other. (h.fits n parts (all_of (standard items cs at) cs es h.ts parts have theirs), written);
       })
 
-  pub signal_fits : (body : List Tree → Tree) → IsSignal (is_choice e) body args t → signal_of cs body es ≡ Some sh → IsFitting (standard items cs at) e t sh
+  pub signal_fits : (body : List BodyTree → BodyTree) → IsSignal (is_choice e) body args t → signal_of cs body es ≡ Some sh → IsFitting (standard items cs at) e t sh
   signal_fits body h is =
       let have = subst (AreTyped (standard items cs at) es) h.are typed in
       subst (IsFitting (standard items cs at) e t) (same_Some _ sh is) (record {

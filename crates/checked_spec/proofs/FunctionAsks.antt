@@ -11,8 +11,8 @@ use Rattle.type_rules.specs.declared.rule.Setting.TheVariants as setting
 use Rattle.type_rules.specs.declared.rule.Asked.{Asked}
 use Rattle.type_rules.specs.declared.rule.Asked.TheVariants as asked
 use Rattle.type_rules.specs.declared.rule.Clash.{Clash}
-use Rattle.type_rules.specs.Asked.{is_in, fits, Check, Verdict, ask, and_then, lifted, lifted_of, inner, key_of, unit}
-use Rattle.type_rules.specs.Rules.{ask_two, ask_both, ask_key}
+use Rattle.type_rules.specs.Asked.{is_in, fits, Check, Verdict, ask, and_then, lifted, lifted_of, inner, unit}
+use Rattle.type_rules.specs.Rules.{ask_two, ask_both}
 use Rattle.checked_spec.proofs.SameLemmas.{exactly}
 
 -- ---- tests that go on
@@ -64,27 +64,9 @@ alike at f a b h =
     let one = of_family at f a two.0 in
     record { of = one.of; first = one.is; second = exactly a b two.1 ∙ one.is; within = one.within }
 
--- an aggregate and its key
-inner_lifted : (at : Setting) (t : ValueType) → inner (lifted at t) ≡ t
+pub inner_lifted : (at : Setting) (t : ValueType) → inner (lifted at t) ≡ t
 inner_lifted setting.Streams t = refl
 inner_lifted setting.Values t = refl
-
-pub record HasKey (at : Setting) (f : Family) (m k : ExprType) : Type 0 where
-  pub of : ValueType
-  pub first : m ≡ lifted at of
-  pub second : k ≡ lifted at (key_of of)
-  pub within : is_in f of ≡ true
-
-pub keyed : (at : Setting) (f : Family) (m k : ExprType) → ask_key at (lifted_of at f) m k ≡ Ok tt → HasKey at f m k
-keyed at f m k h =
-    let two = checked (ask (lifted_of at f) m) (ask (asked.Exactly (lifted at (key_of (inner m)))) k) tt h in
-    let one = of_family at f m two.0 in
-    record {
-      of = one.of;
-      first = one.is;
-      second = exactly (lifted at (key_of (inner m))) k two.1 ∙ ap (λ v. lifted at (key_of v)) (ap inner one.is ∙ inner_lifted at one.of);
-      within = one.within;
-    }
 
 -- ---- what is allowed
 abbrev type_in : Verdict → ExprType

@@ -11,11 +11,11 @@ use Rattle.tsl_value.specs.declared.scalar.ScalarType.{ScalarType}
 use Rattle.tsl_value.specs.declared.scalar.KeyType.{KeyType}
 use Rattle.tsl_value.specs.declared.scalar.ValueType.{ValueType}
 use Rattle.tsl_value.specs.declared.scalar.ValueType.TheVariants as value_type
-use Rattle.lift_func.specs.Tree.{Tree, Two}
-use Rattle.lift_func.specs.Typing.{Kind, literal, absent}
-use Rattle.spec_parser.specs.Tree as tree
-use Rattle.spec_parser.specs.Tree.{Expr, Exprs, no_exprs, more_exprs, Links, no_links, more_links}
-use Rattle.spec_parser.specs.declared.tree.Level.{Level}
+use Rattle.lift_func.specs.BodyTree.{BodyTree, Two}
+use Rattle.lift_func.specs.Typing.{ValueKind, literal, absent}
+use Rattle.syntax_tree.specs.Tree as tree
+use Rattle.syntax_tree.specs.Tree.{Expr, Exprs, no_exprs, more_exprs, Links, no_links, more_links}
+use Rattle.syntax_tree.specs.declared.tree.Level.{Level}
 use Rattle.name_check.specs.declared.declaration.Declaration.{Declaration}
 use Rattle.name_check.specs.declared.declaration.Declaration.TheVariants as declaration
 use Rattle.name_check.specs.Builtin.{is_unit, is_lift}
@@ -91,18 +91,18 @@ module _ (items : List tree.Item) (kinds : Kinds) (number : ℕ) (ps : List tree
   abbrev pub here : Around
   here = record { items = items; kinds = kinds; scope = inside (top items) ps; setting = setting.Values; number = number; params = ps }
 
-  module _ (ks : List Kind) (args : List Tree) (call : ℕ → List Tree → Tree) (root : Expr) where
+  module _ (ks : List ValueKind) (args : List BodyTree) (call : ℕ → List BodyTree → BodyTree) (root : Expr) where
     -- its parameters and the functions that it calls have trees of their types
     pub record IsKnown : Type 0 where
       pub formed : (part : Expr) → Contains (parts root) (Operand part) → IsFormed items here.scope part
       pub named : (n : List ℕ) (d : Declaration) → meaning here.scope n ≡ Some d → IsNamed items n d
       pub params : (k : ℕ) (u : ExprType) → declared_type here (declaration.Parameter k) ≡ Some u → Fits ks (slice_index_or args k no_tree) u
-      pub calls : (p : Place) (n : List ℕ) (es : Exprs) (j : ℕ) → Contains (parts root) (Operand (tree.Call p n es)) → meaning here.scope n ≡ Some (declaration.Function j) → (c : Callee) (ts : List Tree) → callee items kinds j ≡ Some c → HaveTypes ks ts c.params → HasType ks (call j ts) c.result
+      pub calls : (p : Place) (n : List ℕ) (es : Exprs) (j : ℕ) → Contains (parts root) (Operand (tree.Call p n es)) → meaning here.scope n ≡ Some (declaration.Function j) → (c : Callee) (ts : List BodyTree) → callee items kinds j ≡ Some c → HaveTypes ks ts c.params → HasType ks (call j ts) c.result
 
-    abbrev pub tree_in : Expr → Tree
+    abbrev pub tree_in : Expr → BodyTree
     tree_in e = tree_of here.scope args call e
 
-    abbrev pub trees_in : Exprs → List Tree
+    abbrev pub trees_in : Exprs → List BodyTree
     trees_in es = trees_of here.scope args call es
 
     abbrev Within : List Part → Type 0
@@ -165,13 +165,13 @@ module _ (items : List tree.Item) (kinds : Kinds) (number : ℕ) (ps : List tree
           subst (Fits ks (call j (trees_in es))) c.gives (fits_type ks (call j (trees_in es)) f.of.result (known.calls p n es j there is f.of (trees_in es) f.is have))
 
       -- ---- calls of the language's own names
-      constant_fits : (t : Tree) (es : Exprs) (o : Option (List ExprType)) (u : ExprType) → of_verdict (const_call es o) ≡ Some u → Fits ks t u
+      constant_fits : (t : BodyTree) (es : Exprs) (o : Option (List ExprType)) (u : ExprType) → of_verdict (const_call es o) ≡ Some u → Fits ks t u
       constant_fits t no_exprs o u h = absurd (none-some u h)
       constant_fits t (more_exprs v es) (Some (a ∷ b ∷ [])) u h =
           const_fits ks t (is_literal v) a b u (same_Some (const_rule (is_literal v) a b) (Ok u) (verdict_is (Some (const_rule (is_literal v) a b)) u h))
       constant_fits t (more_exprs v es) o u h = absurd (none-some u h)
 
-      lifted_fits : (t : Tree) (x : Option (List ExprType)) (y : Option Callee) (u : ExprType) → of_verdict (lifted_by x y) ≡ Some u → Fits ks t u
+      lifted_fits : (t : BodyTree) (x : Option (List ExprType)) (y : Option Callee) (u : ExprType) → of_verdict (lifted_by x y) ≡ Some u → Fits ks t u
       lifted_fits t (Some streams) (Some f) u h =
           let rule = lift_rule streams f.params f.result in
           lift_fits ks t streams f.params f.result u (same_Some rule (Ok u) (verdict_is (Some rule) u h))
@@ -211,22 +211,22 @@ module _ (items : List tree.Item) (kinds : Kinds) (number : ℕ) (ps : List tree
             by false is h = plain_name (is_const n) is h
 
       -- ---- what has no parts
-      just_fits : (t : Tree) (v : ValueType) (u : ExprType) → Some (expr_type.Value v) ≡ Some u → Fits ks t (expr_type.Value v) → Fits ks t u
+      just_fits : (t : BodyTree) (v : ValueType) (u : ExprType) → Some (expr_type.Value v) ≡ Some u → Fits ks t (expr_type.Value v) → Fits ks t u
       just_fits t v u h f = subst (Fits ks t) (same_Some (expr_type.Value v) u h) f
 
       none_fits : (o : Option ValueType) (u : ExprType) → of_verdict (is_just (option_map expr_type.Optional o)) ≡ Some u → Fits ks (absent_tree o) u
       none_fits (Some v) u h = subst (Fits ks (absent_tree (Some v))) (same_Some (expr_type.Optional v) u h) absent
       none_fits None u h = absurd (none-some u h)
 
-      nil_fits : (t : Tree) (o : Option ValueType) (u : ExprType) → of_verdict (is_just (option_map expr_type.Stream o)) ≡ Some u → Fits ks t u
+      nil_fits : (t : BodyTree) (o : Option ValueType) (u : ExprType) → of_verdict (is_just (option_map expr_type.Stream o)) ≡ Some u → Fits ks t u
       nil_fits t (Some v) u h = stream_fits ks t u v (sym (same_Some (expr_type.Stream v) u h))
       nil_fits t None u h = absurd (none-some u h)
 
-      set_fits : (t : Tree) (o : Option KeyType) (u : ExprType) → of_verdict (is_just (option_map (λ key. expr_type.Stream (value_type.Set key)) o)) ≡ Some u → Fits ks t u
+      set_fits : (t : BodyTree) (o : Option KeyType) (u : ExprType) → of_verdict (is_just (option_map (λ key. expr_type.Stream (value_type.Set key)) o)) ≡ Some u → Fits ks t u
       set_fits t (Some k) u h = stream_fits ks t u (value_type.Set k) (sym (same_Some (expr_type.Stream (value_type.Set k)) u h))
       set_fits t None u h = absurd (none-some u h)
 
-      map_fits : (t : Tree) (o : Option KeyType) (s : Option ScalarType) (u : ExprType) → of_verdict (is_just (option_and_then (λ key. option_map (λ of. expr_type.Stream (value_type.Map key of)) s) o)) ≡ Some u → Fits ks t u
+      map_fits : (t : BodyTree) (o : Option KeyType) (s : Option ScalarType) (u : ExprType) → of_verdict (is_just (option_and_then (λ key. option_map (λ of. expr_type.Stream (value_type.Map key of)) s) o)) ≡ Some u → Fits ks t u
       map_fits t (Some k) (Some s) u h = stream_fits ks t u (value_type.Map k s) (sym (same_Some (expr_type.Stream (value_type.Map k s)) u h))
       map_fits t (Some k) None u h = absurd (none-some u h)
       map_fits t None s u h = absurd (none-some u h)
@@ -286,7 +286,7 @@ module _ (items : List tree.Item) (kinds : Kinds) (number : ℕ) (ps : List tree
             subst (FitAll ks (tree_in e ∷ trees_in es)) (sym c.are)
             (expr_fits e (left (parts e) (argument_parts es) w) c.a c.first, trees_fit es (right (parts e) (argument_parts es) w) c.rest c.more)
 
-        links_fit : (ls : Links) (l : Level) → Within (link_parts ls) → AreOfLevel l ls → (t : Tree) (a u : ExprType) → Fits ks t a → judge_links here l a ls ≡ Some (Ok u) → Fits ks (chain_tree here.scope args call t ls) u
+        links_fit : (ls : Links) (l : Level) → Within (link_parts ls) → AreOfLevel l ls → (t : BodyTree) (a u : ExprType) → Fits ks t a → judge_links here l a ls ≡ Some (Ok u) → Fits ks (chain_tree here.scope args call t ls) u
         links_fit no_links l w level t a u f h = subst (Fits ks t) (same_Ok a u (same_Some (Ok a) (Ok u) h)) f
         links_fit (more_links o e ls) l w level t a u f h =
             let n = next_is setting.Values l a (type_of here e) (λ v. judge_links here l v ls) u h in

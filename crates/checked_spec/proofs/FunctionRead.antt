@@ -3,7 +3,7 @@ use Rattle.std.proofs.Common.{◌≡◌, suc, List, [], ◌∷◌, length, Optio
 use Rattle.std.specs.Prelude.{Ok, Err}
 use Rattle.std.specs.Option.{option_map}
 use Rattle.std.proofs.lemmas.Option.{same_Some, none-some}
-use Rattle.spec_parser.specs.Tree.{Exprs, no_exprs, more_exprs}
+use Rattle.syntax_tree.specs.Tree.{Exprs, no_exprs, more_exprs}
 use Rattle.type_rules.specs.declared.rule.ExprType.{ExprType}
 use Rattle.type_rules.specs.Asked.{Verdict}
 use Rattle.form_check.specs.Arity.{count}

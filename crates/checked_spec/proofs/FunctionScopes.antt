@@ -9,7 +9,7 @@ use Rattle.std.proofs.lemmas.Bool.{true≢false, false≢true}
 use Rattle.std.proofs.lemmas.Option.{same_Some, none-some}
 use Rattle.std.proofs.lemmas.Slice.Eq.{bytes_eq-Decides}
 use Rattle.tsl_value.specs.declared.place.Place.{Place}
-use Rattle.spec_parser.specs.Tree as tree
+use Rattle.syntax_tree.specs.Tree as tree
 use Rattle.name_check.specs.declared.declaration.Declaration.{Declaration}
 use Rattle.name_check.specs.declared.declaration.Declaration.TheVariants as declaration
 use Rattle.name_check.specs.Builtin.{is_built_in}
@@ -21,6 +21,10 @@ use Rattle.flat_core.proofs.Members.{all_append}
 use Rattle.checked_spec.specs.inner.Formed.{IsDeclared, is_input, is_stream}
 use Rattle.checked_spec.proofs.OwnNames.{not_again}
 use Rattle.tsl_value.proofs.Lists.{append_empty, none_all}
+
+-- the first of the rest of a list stands where the rest begins
+pub first_there : {A : Type 0} (xs : List A) (i : ℕ) (x : A) (rest : List A) → ((k : ℕ) → slice_get xs (i + k) ≡ slice_get (x ∷ rest) k) → slice_get xs i ≡ Some x
+first_there xs i x rest same = let e : i ≡ i + 0 = omega arith in ap (slice_get xs) e ∙ same 0
 
 -- ---- a name stands for the item that its declaration says
 module _ (items : List tree.Item) where
@@ -34,12 +38,9 @@ module _ (items : List tree.Item) where
 
   declared_right : (i : ℕ) (rest : List tree.Item) → ((k : ℕ) → slice_get items (i + k) ≡ slice_get rest k) → AreDeclared (declared_from i rest)
   declared_right i [] same = tt
-  declared_right i (item ∷ rest) same = each item (same_here item same)
+  declared_right i (item ∷ rest) same = each item (first_there items i item rest same)
       (declared_right (suc i) rest (λ k. let e : suc i + k ≡ i + suc k = omega arith in ap (slice_get items) e ∙ same (suc k)))
     where
-      same_here : (item : tree.Item) → ((k : ℕ) → slice_get items (i + k) ≡ slice_get (item ∷ rest) k) → slice_get items i ≡ Some item
-      same_here item same = let e : i ≡ i + 0 = omega arith in ap (slice_get items) e ∙ same 0
-
       each : (item : tree.Item) → slice_get items i ≡ Some item → AreDeclared (declared_from (suc i) rest) → AreDeclared (declared_from i (item ∷ rest))
       each (tree.Input p q n y) is more = (ap is_input is, more)
       each (tree.Defined p (tree.Define q n [] w b)) is more = (ap is_stream is, more)

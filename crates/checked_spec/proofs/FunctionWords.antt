@@ -1,6 +1,6 @@
 -- The language's own names in value functions.
 use Rattle.std.proofs.Common.{◌≡◌, ℕ, Bool, true, false, ◌||◌, cond, List, [], ◌∷◌, Some, None, refl, ap, sym, subst, ◌∙◌}
-use Rattle.std.specs.Prelude.{Ok, codes}
+use Rattle.std.specs.Prelude.{Ok}
 use Rattle.std.specs.List.{AllByRecursion, list_any, find}
 use Rattle.std.specs.Option.{option_map}
 use Rattle.std.specs.Str.{bytes_eq}
@@ -8,9 +8,11 @@ use Rattle.std.proofs.lemmas.Bool.{or_parts}
 use Rattle.std.proofs.lemmas.Option.{same_Some, none-some}
 use Rattle.std.proofs.lemmas.Slice.Eq.{bytes_eq-Decides}
 use Rattle.lift_func.specs.declared.body.Unary.TheVariants as unary
-use Rattle.lift_func.specs.Tree.{Tree, One}
-use Rattle.lift_func.specs.Typing.{Kind, HasKind, one}
+use Rattle.lift_func.specs.BodyTree.{BodyTree, One}
+use Rattle.lift_func.specs.Typing.{ValueKind, HasKind, one}
 use Rattle.lift_func.specs.Typing as typing
+use Rattle.vocabulary.specs.declared.plain.Plain.TheVariants as language
+use Rattle.vocabulary.specs.PlainTable.{spelling}
 use Rattle.name_check.specs.Builtin.{is_built_in, is_unit}
 use Rattle.name_check.specs.Builtin as own
 use Rattle.name_check.specs.Scope.{Scope}
@@ -44,7 +46,7 @@ pub record TakesItsOwn (n : List ℕ) : Type 0 where
 pub takes_its_own : (n : List ℕ) → is_built_in n ≡ false → TakesItsOwn n
 unfolding is_built_in is_unit takes_one takes_two
 takes_its_own n none =
-    let a = none_of (bytes_eq n) (own.unit_name ∷ own.called) (or_parts (list_any (bytes_eq n) (own.unit_name ∷ own.called)) (list_any (bytes_eq n) own.prefixes) none).0 in
+    let a = none_of (bytes_eq n) (own.unit_name ∷ own.callable_names) (or_parts (list_any (bytes_eq n) (own.unit_name ∷ own.callable_names)) (list_any (bytes_eq n) own.prefixes) none).0 in
     let names = a.1 in
     let time = names.0 in
     let last = names.1.0 in
@@ -65,10 +67,10 @@ takes_its_own n none =
 
 -- ---- names that are
 abbrev IsSpelled : Builtin → List ℕ → Type 0
-IsSpelled builtin.IsSome n = n ≡ codes "isSome"
-IsSpelled builtin.IsNone n = n ≡ codes "isNone"
-IsSpelled builtin.GetSome n = n ≡ codes "getSome"
-IsSpelled builtin.Some n = n ≡ codes "Some"
+IsSpelled builtin.IsSome n = n ≡ spelling language.IsSome
+IsSpelled builtin.IsNone n = n ≡ spelling language.IsNone
+IsSpelled builtin.GetSome n = n ≡ spelling language.GetSome
+IsSpelled builtin.Some n = n ≡ spelling language.Some
 IsSpelled o n = Unit {0}
 
 pub record IsOwn (o : Builtin) (n : List ℕ) : Type 0 where
@@ -96,11 +98,11 @@ own_name n o is =
     record { built_in = builtin_found (λ o n. is_built_in n ≡ true) n o builtins all_built_in is; spelled = builtin_found IsSpelled n o builtins all_spelled is }
 
 -- ---- what their rules allow
-module _ (ks : List Kind) where
-  option_fits : (t s : Tree) (a u : ExprType) (y : ExprType) → Fits ks t a → a ≡ expr_type.Optional (inner a) → y ≡ u → (HasKind ks t (typing.Optional (inner a)) → Fits ks s y) → Fits ks s u
+module _ (ks : List ValueKind) where
+  option_fits : (t s : BodyTree) (a u : ExprType) (y : ExprType) → Fits ks t a → a ≡ expr_type.Optional (inner a) → y ≡ u → (HasKind ks t (typing.Optional (inner a)) → Fits ks s y) → Fits ks s u
   option_fits t s a u y f is gives typed = subst (Fits ks s) gives (typed (subst (Fits ks t) is f))
 
-  one_fits : (o : Builtin) (n : List ℕ) (t : Tree) (a u : ExprType) → IsSpelled o n → Fits ks t a → builtin_one o a ≡ Ok u → Fits ks (option_tree n t) u
+  one_fits : (o : Builtin) (n : List ℕ) (t : BodyTree) (a u : ExprType) → IsSpelled o n → Fits ks t a → builtin_one o a ≡ Ok u → Fits ks (option_tree n t) u
   one_fits builtin.IsSome n t a u spelled f h =
       let c = checked (ask (asked.OptionOf family.Any) a) (Ok (expr_type.Value bool)) u h in
       subst (λ x. Fits ks (option_tree x t) u) (sym spelled)
@@ -120,13 +122,13 @@ module _ (ks : List Kind) where
       subst (λ x. Fits ks (option_tree x t) u) (sym spelled)
       (subst (Fits ks (One unary.Some t)) (same_Ok (expr_type.Optional (inner a)) u c.1) (some_typed t a (subst (Fits ks t) same f)))
     where
-      some_typed : (t : Tree) (a : ExprType) → HasKind ks t (typing.Value (inner a)) → HasKind ks (One unary.Some t) (typing.Optional (inner a))
+      some_typed : (t : BodyTree) (a : ExprType) → HasKind ks t (typing.Value (inner a)) → HasKind ks (One unary.Some t) (typing.Optional (inner a))
       some_typed t a k = one k typing.some
   one_fits builtin.Time n t a u spelled f h =
       stream_fits ks (option_tree n t) u int (sym (same_Ok (stream int) u (checked (ask any_stream a) (Ok (stream int)) u h).1))
   one_fits o n t a u spelled f h = stream_fits ks (option_tree n t) u unit (sym (same_Ok (stream unit) u h))
 
-  two_fit : (o : Builtin) (t : Tree) (a b u : ExprType) → builtin_two o a b ≡ Ok u → Fits ks t u
+  two_fit : (o : Builtin) (t : BodyTree) (a b u : ExprType) → builtin_two o a b ≡ Ok u → Fits ks t u
   two_fit builtin.Last t a b u h =
       let c = checked (ask any_stream a) (and_then (ask any_stream b) (Ok a)) u h in
       let d = checked (ask any_stream b) (Ok a) u c.1 in
@@ -145,7 +147,7 @@ module _ (ks : List Kind) where
       asked_stream ks t family.Any a u c.0 (same_Ok a u d.1)
   two_fit o t a b u h = stream_fits ks t u unit (sym (same_Ok (stream unit) u h))
 
-  pub own_fits : (scope : Scope) (args : List Tree) (call : ℕ → List Tree → Tree) (o : Builtin) (n : List ℕ) (ts : List Tree) (us : List ExprType) (u : ExprType) → IsOwn o n → FitAll ks ts us → builtin_rule o us ≡ Ok u → Fits ks (call_tree scope args call None n ts) u
+  pub own_fits : (scope : Scope) (args : List BodyTree) (call : ℕ → List BodyTree → BodyTree) (o : Builtin) (n : List ℕ) (ts : List BodyTree) (us : List ExprType) (u : ExprType) → IsOwn o n → FitAll ks ts us → builtin_rule o us ≡ Ok u → Fits ks (call_tree scope args call None n ts) u
   own_fits scope args call o n ts [] u own f h = stream_fits ks (call_tree scope args call None n ts) u unit (sym (same_Ok (stream unit) u h))
   own_fits scope args call o n [] (a ∷ []) u own f h = absurd f
   own_fits scope args call o n (t ∷ []) (a ∷ []) u own f h = one_fits o n t a u own.spelled f.0 h
@@ -154,13 +156,13 @@ module _ (ks : List Kind) where
   own_fits scope args call o n ts (a ∷ b ∷ c ∷ us) u own f h = stream_fits ks (call_tree scope args call None n ts) u unit (sym (same_Ok (stream unit) u h))
 
   -- a constant and a lifted function are streams
-  pub const_fits : (t : Tree) (literal : Bool) (a b u : ExprType) → const_rule literal a b ≡ Ok u → Fits ks t u
+  pub const_fits : (t : BodyTree) (literal : Bool) (a b u : ExprType) → const_rule literal a b ≡ Ok u → Fits ks t u
   const_fits t true a b u h =
       let c = checked (ask any_stream b) (Ok (stream (inner a))) u h in
       stream_fits ks t u (inner a) (sym (same_Ok (stream (inner a)) u c.1))
   const_fits t false a b u h = (cc)
 
-  pub lift_fits : (t : Tree) (streams params : List ExprType) (result u : ExprType) → lift_rule streams params result ≡ Ok u → Fits ks t u
+  pub lift_fits : (t : BodyTree) (streams params : List ExprType) (result u : ExprType) → lift_rule streams params result ≡ Ok u → Fits ks t u
   lift_fits t streams params result u h =
       let last = and_then (ask (asked.Exactly (expr_type.Optional (inner result))) result) (Ok (stream (inner result))) in
       let c = checked (ask_streams streams) (and_then (ask_options streams params) last) u h in

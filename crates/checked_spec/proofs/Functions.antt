@@ -6,9 +6,9 @@ use Rattle.std.proofs.lemmas.Bool.{true≢false, or_parts}
 use Rattle.tsl_value.specs.declared.scalar.ValueType.{ValueType}
 use Rattle.tsl_value.specs.declared.scalar.ValueType.TheVariants as value_type
 use Rattle.flat_core.specs.Typed.{is_aggregate}
-use Rattle.lift_func.specs.Tree.{Tree}
-use Rattle.lift_func.specs.Typing.{Kind}
-use Rattle.spec_parser.specs.Tree as tree
+use Rattle.lift_func.specs.BodyTree.{BodyTree}
+use Rattle.lift_func.specs.Typing.{ValueKind}
+use Rattle.syntax_tree.specs.Tree as tree
 use Rattle.name_check.specs.Scope.{are_values}
 use Rattle.type_rules.specs.declared.rule.ExprType.{ExprType}
 use Rattle.type_rules.specs.declared.rule.ExprType.TheVariants as expr_type
@@ -30,19 +30,19 @@ record AreLifted (ps args : List ExprType) : Type 0 where
   ts : List ValueType
   are : args ≡ streams ts
   long : length ts ≡ length args
-  typed : (ks : List Kind) (fs : List Tree) → AreTrees ks fs ts → HaveTypes ks fs ps
+  typed : (ks : List ValueKind) (fs : List BodyTree) → AreTrees ks fs ts → HaveTypes ks fs ps
 
 lifted_more : (v : ValueType) (ps args : List ExprType) (a : ExprType) → a ≡ expr_type.Stream v → AreLifted ps args → AreLifted (expr_type.Value v ∷ ps) (a ∷ args)
 lifted_more v ps args a is more = record { ts = v ∷ more.ts; are = λ i. is i ∷ more.are i; long = ap suc more.long; typed = typed }
   where
-    typed : (ks : List Kind) (fs : List Tree) → AreTrees ks fs (v ∷ more.ts) → HaveTypes ks fs (expr_type.Value v ∷ ps)
+    typed : (ks : List ValueKind) (fs : List BodyTree) → AreTrees ks fs (v ∷ more.ts) → HaveTypes ks fs (expr_type.Value v ∷ ps)
     typed ks [] h = absurd h
     typed ks (f ∷ fs) h = (h.0, more.typed ks fs h.1)
 
 arguments_lifted : (ps args : List ExprType) → AllByRecursion IsNoStream ps → list_any is_optional ps ≡ false → length args ≡ length ps → ask_each (map (lifted_type setting.Streams) ps) args ≡ Ok tt → AreLifted ps args
 arguments_lifted [] [] values plain long h = record { ts = []; are = refl; long = refl; typed = λ ks fs k. none ks fs k }
   where
-    none : (ks : List Kind) (fs : List Tree) → AreTrees ks fs [] → HaveTypes ks fs []
+    none : (ks : List ValueKind) (fs : List BodyTree) → AreTrees ks fs [] → HaveTypes ks fs []
     none ks [] k = tt
     none ks (f ∷ fs) k = absurd k
 arguments_lifted [] (a ∷ args) values plain long h = absurd (omega arith)

@@ -7,8 +7,8 @@ use Rattle.std.proofs.lemmas.Bool.{false≢true, and_parts}
 use Rattle.std.proofs.lemmas.Option.{same_Some, none-some}
 use Rattle.tsl_value.specs.declared.place.Place.{Place}
 use Rattle.tsl_value.specs.declared.scalar.ValueType.{ValueType}
-use Rattle.spec_parser.specs.Tree as tree
-use Rattle.spec_parser.specs.Tree.{Expr, Exprs, no_exprs, more_exprs, Param}
+use Rattle.syntax_tree.specs.Tree as tree
+use Rattle.syntax_tree.specs.Tree.{Expr, Exprs, no_exprs, more_exprs, Param}
 use Rattle.name_check.specs.declared.declaration.Declaration.{Declaration}
 use Rattle.name_check.specs.declared.declaration.Declaration.TheVariants as declaration
 use Rattle.name_check.specs.Builtin.{is_unit, is_called}
@@ -28,8 +28,8 @@ use Rattle.expr_types.specs.Bodies.{in_definition, within_block, setting_of, may
 use Rattle.stream_constructs.specs.declared.construct.Stream.{Stream}
 use Rattle.spec_meaning.specs.Occurrence.{body_of, block_of}
 use Rattle.spec_meaning.specs.Shape.{expressions}
-use Rattle.flatten_rules.specs.Makes.{Standing, Stands, inside_call, AreLocals}
-use Rattle.flatten_rules.specs.Makes as makes
+use Rattle.spec_meaning.specs.Makes.{Standing, Stands, inside_call, AreLocals}
+use Rattle.spec_meaning.specs.Makes as makes
 use Rattle.checked_spec.specs.inner.Formed.{IsDeclared}
 use Rattle.checked_spec.specs.inner.Functions.{callee}
 use Rattle.checked_spec.specs.inner.Matches.{Matches, IsTypedAt, HaveTheirTypes}

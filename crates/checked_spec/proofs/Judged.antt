@@ -1,6 +1,6 @@
 -- An expression in which nothing is wrong is of a type, where all the names in it stand for something.
 use Rattle.std.proofs.Common.{◌≡◌, ℕ, suc, ◌<◌, Bool, true, false, cond, not, ◌||◌, ◌&&◌, if◌then◌else◌, List, [], ◌∷◌, ◌++◌, length, Option, Some, None, Ok, Err, Contains, refl, sym, ap, ◌∙◌, inl, inr, arith}
-use Rattle.std.specs.Prelude.{codes, nat_le, ◌==◌}
+use Rattle.std.specs.Prelude.{nat_le, ◌==◌}
 use Rattle.std.specs.Option.{option_map, option_and_then}
 use Rattle.std.specs.List.{AllByRecursion, find, list_any}
 use Rattle.std.specs.Str.{bytes_eq}
@@ -10,9 +10,11 @@ use Rattle.std.proofs.lemmas.Slice.Eq.{bytes_eq-Decides}
 use Rattle.tsl_value.proofs.Lists.{none_in_nil, cons_cases, append_empty}
 use Rattle.tsl_value.specs.declared.scalar.KeyType.{KeyType}
 use Rattle.tsl_value.specs.declared.scalar.ValueType.TheVariants as value_type
-use Rattle.spec_parser.specs.Tree as tree
-use Rattle.spec_parser.specs.Tree.{Expr, Exprs, no_exprs, more_exprs, Links, no_links, more_links}
-use Rattle.spec_parser.specs.declared.tree.Level.{Level}
+use Rattle.syntax_tree.specs.Tree as tree
+use Rattle.syntax_tree.specs.Tree.{Expr, Exprs, no_exprs, more_exprs, Links, no_links, more_links}
+use Rattle.syntax_tree.specs.declared.tree.Level.{Level}
+use Rattle.vocabulary.specs.declared.plain.Plain.TheVariants as language
+use Rattle.vocabulary.specs.PlainTable.{spelling}
 use Rattle.name_check.specs.declared.declaration.Declaration.{Declaration}
 use Rattle.name_check.specs.declared.declaration.Declaration.TheVariants as declaration
 use Rattle.name_check.specs.Builtin.{is_unit, is_lift}
@@ -147,26 +149,26 @@ takes_by false false false (Some m) k ha hb h = record { it = m; is = refl }
 
 const_takes : (items : List tree.Item) (scope : Scope) (n : List ℕ) → is_const n ≡ true → takes items scope n ≡ Some 2
 unfolding is_unit takes_one takes_two
-const_takes items scope n h = ap (takes items scope) ((bytes_eq-Decides n (codes "const")).0 h)
+const_takes items scope n h = ap (takes items scope) ((bytes_eq-Decides n (spelling language.Const)).0 h)
 
 not_one : (n : List ℕ) → builtin_of n ≡ None → takes_one n ≡ false
 unfolding builtin_of takes_one
 not_one n h =
-    let time = none_found n builtins h (codes "time") builtin.Time (0, omega arith, refl) in
-    let is_some = none_found n builtins h (codes "isSome") builtin.IsSome (6, omega arith, refl) in
-    let is_none = none_found n builtins h (codes "isNone") builtin.IsNone (7, omega arith, refl) in
-    let get_some = none_found n builtins h (codes "getSome") builtin.GetSome (8, omega arith, refl) in
-    let some = none_found n builtins h (codes "Some") builtin.Some (9, omega arith, refl) in
+    let time = none_found n builtins h (spelling language.Time) builtin.Time (0, omega arith, refl) in
+    let is_some = none_found n builtins h (spelling language.IsSome) builtin.IsSome (6, omega arith, refl) in
+    let is_none = none_found n builtins h (spelling language.IsNone) builtin.IsNone (7, omega arith, refl) in
+    let get_some = none_found n builtins h (spelling language.GetSome) builtin.GetSome (8, omega arith, refl) in
+    let some = none_found n builtins h (spelling language.Some) builtin.Some (9, omega arith, refl) in
     any_false n names_of_one (time, (is_some, (is_none, (get_some, (some, tt)))))
 
 not_two : (n : List ℕ) → builtin_of n ≡ None → is_const n ≡ false → takes_two n ≡ false
 unfolding builtin_of takes_two
 not_two n h other =
-    let last = none_found n builtins h (codes "last") builtin.Last (1, omega arith, refl) in
-    let delay = none_found n builtins h (codes "delay") builtin.Delay (2, omega arith, refl) in
-    let merge = none_found n builtins h (codes "merge") builtin.Merge (3, omega arith, refl) in
-    let default = none_found n builtins h (codes "default") builtin.Merge (4, omega arith, refl) in
-    let filter = none_found n builtins h (codes "filter") builtin.Filter (5, omega arith, refl) in
+    let last = none_found n builtins h (spelling language.Last) builtin.Last (1, omega arith, refl) in
+    let delay = none_found n builtins h (spelling language.Delay) builtin.Delay (2, omega arith, refl) in
+    let merge = none_found n builtins h (spelling language.Merge) builtin.Merge (3, omega arith, refl) in
+    let default = none_found n builtins h (spelling language.Default) builtin.Merge (4, omega arith, refl) in
+    let filter = none_found n builtins h (spelling language.Filter) builtin.Filter (5, omega arith, refl) in
     any_false n names_of_two (last, (delay, (merge, (default, (other, (filter, tt))))))
 
 fits_with : (m k : ℕ) (o : Option ℕ) → o ≡ Some m → not (call_fits o k) ≡ false → m ≡ k

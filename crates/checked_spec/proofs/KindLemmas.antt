@@ -6,8 +6,8 @@ use Rattle.std.specs.Option.{option_and_then}
 use Rattle.std.proofs.lemmas.Bool.{false≢true}
 use Rattle.std.proofs.lemmas.Option.{slice_get_within}
 use Rattle.tsl_value.specs.declared.place.Place.{Place}
-use Rattle.spec_parser.specs.Tree as tree
-use Rattle.spec_parser.specs.Tree.{Expr, TypeName}
+use Rattle.syntax_tree.specs.Tree as tree
+use Rattle.syntax_tree.specs.Tree.{Expr, TypeName}
 use Rattle.name_check.specs.declared.declaration.Declaration.{Declaration}
 use Rattle.name_check.specs.declared.declaration.Declaration.TheVariants as declaration
 use Rattle.name_check.specs.Scope.{Scope, top, inside, in_block, are_values}
@@ -84,10 +84,10 @@ params_there (p ∷ ps) h =
     by None ts h k = absurd (let i = h.is in cc)
     by (Some t) None h k = absurd (let i = k.is in cc)
 
-called : (ps : Option (List ExprType)) (t : Option ExprType) → Has ps → Has t → Has (callee_of ps t)
-called (Some ps) (Some t) h k = record { it = _; is = refl }
-called None t h k = absurd (let i = h.is in cc)
-called (Some ps) None h k = absurd (let i = k.is in cc)
+callee_has : (ps : Option (List ExprType)) (t : Option ExprType) → Has ps → Has t → Has (callee_of ps t)
+callee_has (Some ps) (Some t) h k = record { it = _; is = refl }
+callee_has None t h k = absurd (let i = h.is in cc)
+callee_has (Some ps) None h k = absurd (let i = k.is in cc)
 
 -- what a name stands for is a definition without a written type: its node, and its body
 record IsUntyped (items : List tree.Item) (kinds : Kinds) (i : ℕ) (d : Declaration) : Type 0 where
@@ -226,8 +226,8 @@ module _ (items : List tree.Item) (kinds : Kinds) (checked : IsChecked items kin
   of_known : (i : ℕ) (o : Option tree.Item) (d : Declaration) → IsSeen items o d → Has (known kinds i d) → IsThere (around items kinds i o) d
   of_known i o (declaration.Input j) seen h = h
   of_known i o (declaration.Stream j) seen h = h
-  of_known i o (declaration.Macro j) seen h = called (param_types (params_of (slice_get items j))) (kinds.item j) (params_of_item j) h
-  of_known i o (declaration.Function j) seen h = called (param_types (params_of (slice_get items j))) (kinds.item j) (params_of_item j) h
+  of_known i o (declaration.Macro j) seen h = callee_has (param_types (params_of (slice_get items j))) (kinds.item j) (params_of_item j) h
+  of_known i o (declaration.Function j) seen h = callee_has (param_types (params_of (slice_get items j))) (kinds.item j) (params_of_item j) h
   of_known i o (declaration.Mixed j) seen h = absurd seen
   of_known i o (declaration.Parameter k) seen h = absurd (let e = h.is in cc)
   of_known i o (declaration.Local k) seen h = h

@@ -4,9 +4,9 @@ use Rattle.std.specs.Prelude.{Ok, slice_get}
 use Rattle.std.proofs.lemmas.Option.{same_Some}
 use Rattle.tsl_value.specs.declared.scalar.ValueType.{ValueType}
 use Rattle.tsl_value.specs.declared.scalar.ValueType.TheVariants as value_type
-use Rattle.lift_func.specs.Typing.{Kind, Optional, HasKind, argument}
-use Rattle.spec_parser.specs.Tree as tree
-use Rattle.spec_parser.specs.Tree.{Expr, Exprs, no_exprs, more_exprs}
+use Rattle.lift_func.specs.Typing.{ValueKind, Optional, HasKind, argument}
+use Rattle.syntax_tree.specs.Tree as tree
+use Rattle.syntax_tree.specs.Tree.{Expr, Exprs, no_exprs, more_exprs}
 use Rattle.type_rules.specs.declared.rule.ExprType.{ExprType}
 use Rattle.type_rules.specs.declared.rule.ExprType.TheVariants as expr_type
 use Rattle.type_rules.specs.declared.rule.Family.TheVariants as family
@@ -101,7 +101,7 @@ options_asked (t ∷ ts) (p ∷ ps) long h =
     λ i. is i ∷ more i
 
 -- ---- the arguments of a body are what its parts are
-abbrev kinds_of : List ValueType → List Kind
+abbrev kinds_of : List ValueType → List ValueKind
 kinds_of ts = map Optional ts
 
 kinds_are : (parts : List Stream) (ts : List ValueType) → AreOf parts ts → kinds_of ts ≡ map (λ a. Optional a.of) parts
@@ -116,7 +116,7 @@ parts_long [] (t ∷ ts) h = absurd h
 parts_long (a ∷ parts) [] h = absurd h
 parts_long (a ∷ parts) (t ∷ ts) h = ap suc (parts_long parts ts h.1)
 
-arguments_typed : {A : Type 0} (ks : List Kind) (k : ℕ) (xs : List A) (ts : List ValueType) → length xs ≡ length ts → ((j : ℕ) → slice_get ks (k + j) ≡ slice_get (kinds_of ts) j) → HaveTypes ks (arguments_from k xs) (options ts)
+arguments_typed : {A : Type 0} (ks : List ValueKind) (k : ℕ) (xs : List A) (ts : List ValueType) → length xs ≡ length ts → ((j : ℕ) → slice_get ks (k + j) ≡ slice_get (kinds_of ts) j) → HaveTypes ks (arguments_from k xs) (options ts)
 arguments_typed ks k [] [] long same = tt
 arguments_typed ks k [] (t ∷ ts) long same = absurd (omega arith)
 arguments_typed ks k (x ∷ xs) [] long same = absurd (omega arith)

@@ -2,7 +2,7 @@
 use Rattle.std.proofs.Common.{◌≡◌, ℕ, zero, suc, ◌+◌, List, [], ◌∷◌, length, take, Some, ap, subst, ◌∙◌, arith}
 use Rattle.std.specs.Prelude.{slice_get}
 use Rattle.std.proofs.lemmas.List.Sums.{sum_by-cons}
-use Rattle.spec_parser.specs.Tree as tree
+use Rattle.syntax_tree.specs.Tree as tree
 use Rattle.name_check.specs.Scope.{Scope, top}
 use Rattle.definition_cycles.specs.Nodes.{Node, item_nodes, nodes_from, nodes, first_node, count_of}
 use Rattle.definition_cycles.proofs.FoundLemmas.{length_item}

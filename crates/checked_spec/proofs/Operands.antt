@@ -9,10 +9,10 @@ use Rattle.tsl_value.specs.declared.scalar.ScalarType.{ScalarType}
 use Rattle.tsl_value.specs.declared.scalar.ScalarType.TheVariants as scalar_type
 use Rattle.tsl_value.specs.declared.scalar.ValueType.{ValueType}
 use Rattle.tsl_value.specs.declared.scalar.ValueType.TheVariants as value_type
-use Rattle.lift_func.specs.Tree.{Tree, Literal}
-use Rattle.lift_func.specs.Typing.{Kind, Value, HasKind, literal, argument}
-use Rattle.spec_parser.specs.Tree as tree
-use Rattle.spec_parser.specs.Tree.{Expr}
+use Rattle.lift_func.specs.BodyTree.{BodyTree, Literal}
+use Rattle.lift_func.specs.Typing.{ValueKind, Value, HasKind, literal, argument}
+use Rattle.syntax_tree.specs.Tree as tree
+use Rattle.syntax_tree.specs.Tree.{Expr}
 use Rattle.type_rules.specs.declared.rule.ExprType.{ExprType}
 use Rattle.type_rules.specs.declared.rule.ExprType.TheVariants as expr_type
 use Rattle.type_rules.specs.declared.rule.Setting.TheVariants as setting
@@ -44,7 +44,7 @@ AreOf [] [] = Unit {0}
 AreOf (a ∷ parts) (t ∷ ts) = (a.of ≡ t) × AreOf parts ts
 AreOf _ _ = ⊥
 
-abbrev pub AreTrees : List Kind → List Tree → List ValueType → Type 0
+abbrev pub AreTrees : List ValueKind → List BodyTree → List ValueType → Type 0
 AreTrees ks [] [] = Unit {0}
 AreTrees ks (f ∷ fs) (t ∷ ts) = HasKind ks f (Value t) × AreTrees ks fs ts
 AreTrees ks _ _ = ⊥
@@ -103,10 +103,10 @@ operands_are items cs at (e ∷ es) (t ∷ ts) parts h have =
     either None (a ∷ rest) fixed have more = (inner_is (type_of (standard items cs at) e) t a.of h.0 have.0, more rest have.1)
 
 -- ---- trees of operands
-abbrev pub values : List Stream → List Kind
+abbrev pub values : List Stream → List ValueKind
 values parts = map (λ a. Value a.of) parts
 
-trees_from : (ks : List Kind) (k : ℕ) (os : List Operand) (parts : List Stream) (ts : List ValueType) → ((j : ℕ) → slice_get ks (k + j) ≡ slice_get (values parts) j) → AreOperands os parts ts → AreTrees ks (operand_trees k os) ts
+trees_from : (ks : List ValueKind) (k : ℕ) (os : List Operand) (parts : List Stream) (ts : List ValueType) → ((j : ℕ) → slice_get ks (k + j) ≡ slice_get (values parts) j) → AreOperands os parts ts → AreTrees ks (operand_trees k os) ts
 trees_from ks k [] [] [] same h = tt
 trees_from ks k [] [] (t ∷ ts) same h = absurd h
 trees_from ks k [] (a ∷ parts) ts same h = absurd h

@@ -1,7 +1,7 @@
 -- A name of a scope stands for the item that its declaration says.
 use Rattle.std.proofs.Common.{◌≡◌, ℕ, suc, ◌+◌, Bool, true, false, cond, List, [], ◌∷◌, Some}
 use Rattle.std.specs.Prelude.{if◌then◌else◌, slice_get}
-use Rattle.spec_parser.specs.Tree as tree
+use Rattle.syntax_tree.specs.Tree as tree
 use Rattle.name_check.specs.declared.declaration.Declaration.{Declaration}
 use Rattle.name_check.specs.Scope.{count_in, Scope, meaning, top, parameters_from, locals_from, is_function, are_values, functions_of, inside}
 use Rattle.expr_types.specs.Around.{params_of}

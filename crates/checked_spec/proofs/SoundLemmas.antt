@@ -5,8 +5,8 @@ use Rattle.std.specs.List.{flat_map}
 use Rattle.std.proofs.lemmas.List.Elements.{Contains-append_left, Contains-push}
 use Rattle.tsl_value.proofs.Lists.{here, append_empty, contains_at}
 use Rattle.tsl_value.specs.declared.place.Place.{Place}
-use Rattle.spec_parser.specs.Tree as tree
-use Rattle.spec_parser.specs.Tree.{Expr, TypeName}
+use Rattle.syntax_tree.specs.Tree as tree
+use Rattle.syntax_tree.specs.Tree.{Expr, TypeName}
 use Rattle.name_check.specs.Scope.{Scope, top, inside, in_block}
 use Rattle.name_check.specs.Parts.{Part, Operand, parts, part_place}
 use Rattle.name_check.specs.Bodies.{Seen, bodies, block_bodies, item_bodies}

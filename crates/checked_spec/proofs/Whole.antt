@@ -5,8 +5,8 @@ use Rattle.std.proofs.lemmas.Bool.{false≢true}
 use Rattle.std.proofs.lemmas.Option.{same_Some, none-some}
 use Rattle.tsl_value.specs.declared.scalar.ValueType.{ValueType}
 use Rattle.flat_core.specs.Typed.{is_aggregate}
-use Rattle.spec_parser.specs.Tree as tree
-use Rattle.spec_parser.specs.Tree.{Expr, no_links, more_links}
+use Rattle.syntax_tree.specs.Tree as tree
+use Rattle.syntax_tree.specs.Tree.{Expr, no_links, more_links}
 use Rattle.type_rules.specs.declared.rule.ExprType.TheVariants as expr_type
 use Rattle.type_rules.specs.declared.rule.Setting.TheVariants as setting
 use Rattle.type_rules.specs.Asked.{bool}
@@ -17,7 +17,7 @@ use Rattle.stream_constructs.specs.declared.construct.Stream.{Stream}
 use Rattle.stream_constructs.specs.Agree.{Fits, FitsChoice}
 use Rattle.spec_meaning.specs.Occurrence.{Call, scope_at}
 use Rattle.spec_meaning.specs.Shape.{Shape, shape, beside, same_as, expr_shape}
-use Rattle.flatten_rules.specs.Makes.{Standing, occurrence, is_own, is_choice, choice_operands, with_itself, IsAsWritten}
+use Rattle.spec_meaning.specs.Makes.{Standing, occurrence, is_own, is_choice, choice_operands, with_itself, IsAsWritten}
 use Rattle.checked_spec.specs.inner.Formed.{IsFormed}
 use Rattle.checked_spec.specs.inner.Functions.{AreTypedFunctions}
 use Rattle.checked_spec.specs.inner.Matches.{Matches, IsTypedAt, HaveTheirTypes}

@@ -5,10 +5,10 @@ use Rattle.std.specs.List.{Contains}
 use Rattle.std.proofs.lemmas.Bool.{false≢true}
 use Rattle.std.proofs.lemmas.Option.{same_Some, slice_get_within}
 use Rattle.tsl_value.specs.declared.place.Place.{Place}
-use Rattle.lift_func.specs.Tree.{Tree}
-use Rattle.lift_func.specs.Typing.{Kind}
-use Rattle.spec_parser.specs.Tree as tree
-use Rattle.spec_parser.specs.Tree.{Expr, Exprs}
+use Rattle.lift_func.specs.BodyTree.{BodyTree}
+use Rattle.lift_func.specs.Typing.{ValueKind}
+use Rattle.syntax_tree.specs.Tree as tree
+use Rattle.syntax_tree.specs.Tree.{Expr, Exprs}
 use Rattle.name_check.specs.declared.declaration.Declaration.TheVariants as declaration
 use Rattle.name_check.specs.Parts.{Operand, parts}
 use Rattle.name_check.specs.Scope.{top, inside, meaning, are_values}
@@ -42,8 +42,8 @@ function_below items i h = by (slice_get items i) refl h
 
 module _ (items : List tree.Item) (kinds : Kinds) (checked : IsChecked items kinds) (bodies : (i : ℕ) → IsFunction items i → IsFunctionBody items kinds i) where
   -- a call in the expression of value function i
-  called : (i : ℕ) → IsFunction items i → (e : Expr) → body_of (slice_get items i) ≡ Some (tree.Plain e) → (p : Place) (n : List ℕ) (es : Exprs) (j : ℕ) → Contains (parts e) (Operand (tree.Call p n es)) → meaning (inside (top items) (params_of (slice_get items i))) n ≡ Some (declaration.Function j) → Calls items i j
-  called i values e body p n es j there is =
+  calls_there : (i : ℕ) → IsFunction items i → (e : Expr) → body_of (slice_get items i) ≡ Some (tree.Plain e) → (p : Place) (n : List ℕ) (es : Exprs) (j : ℕ) → Contains (parts e) (Operand (tree.Call p n es)) → meaning (inside (top items) (params_of (slice_get items i))) n ≡ Some (declaration.Function j) → Calls items i j
+  calls_there i values e body p n es j there is =
       let d = plain_item items i e body in
       record {
         place = d.place;
@@ -59,7 +59,7 @@ module _ (items : List tree.Item) (kinds : Kinds) (checked : IsChecked items kin
 
   -- the tree of value function i has the type of what a call gives, where calls nest no deeper
   abbrev IsTypedTree : ℕ → ℕ → Type 0
-  IsTypedTree deep i = (c : Callee) (ks : List Kind) (ts : List Tree) → callee items kinds i ≡ Some c → HaveTypes ks ts c.params → HasType ks (function_tree items deep i ts) c.result
+  IsTypedTree deep i = (c : Callee) (ks : List ValueKind) (ts : List BodyTree) → callee items kinds i ≡ Some c → HaveTypes ks ts c.params → HasType ks (function_tree items deep i ts) c.result
 
   -- what the body is
   result_is : (i : ℕ) (b : IsFunctionBody items kinds i) (c : Callee) → callee items kinds i ≡ Some c → b.of ≡ c.result
@@ -78,7 +78,7 @@ module _ (items : List tree.Item) (kinds : Kinds) (checked : IsChecked items kin
         formed = b.typed.formed;
         named = names_in items checked.names_once i values;
         params = parameter_fits ks ts ps c.params (callee_is items kinds i c is).types have;
-        calls = λ p n es j there stands d us found these. calls j (called i values b.expr b.plain p n es j there stands) (names_in items checked.names_once i values n (declaration.Function j) stands).seen d ks us found these;
+        calls = λ p n es j there stands d us found these. calls j (calls_there i values b.expr b.plain p n es j there stands) (names_in items checked.names_once i values n (declaration.Function j) stands).seen d ks us found these;
       } in
       let judged = (λ k. type_of (record { items = items; kinds = kinds; scope = inside (top items) ps; setting = sym (values_here ps values) k; number = i; params = ps }) b.expr) ∙ b.typed.is in
       let fits = expr_fits items kinds i ps ks ts (function_tree items deep) b.expr known b.expr (λ part c. c) b.of judged in

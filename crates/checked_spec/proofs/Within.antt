@@ -1,6 +1,6 @@
 -- What stands in the parts of an expression stands in the expression itself.
 use Rattle.std.proofs.Common.{◌≡◌, ℕ, Bool, true, false, cond, List, [], ◌∷◌, ◌++◌, map, Option, Some, None, refl, sym, subst, ◌∙◌}
-use Rattle.std.specs.Prelude.{codes, is_none, if◌then◌else◌}
+use Rattle.std.specs.Prelude.{is_none, if◌then◌else◌}
 use Rattle.std.specs.List.{AllByRecursion, Contains, filter}
 use Rattle.std.specs.Option.{option_map, option_and_then}
 use Rattle.std.proofs.lemmas.Bool.{true≢false}
@@ -11,12 +11,15 @@ use Rattle.tsl_value.specs.declared.scalar.Scalar.TheVariants as scalar
 use Rattle.tsl_value.specs.declared.scalar.ValueType.{ValueType}
 use Rattle.tsl_value.specs.declared.scalar.ValueType.TheVariants as value_type
 use Rattle.flat_core.proofs.Members.{contains_tail, all_at}
-use Rattle.spec_parser.specs.Tree as tree
-use Rattle.spec_parser.specs.Tree.{Expr, Exprs, no_exprs, more_exprs, Links, no_links, more_links}
-use Rattle.spec_parser.specs.declared.tree.Level.{Level}
+use Rattle.syntax_tree.specs.Tree as tree
+use Rattle.syntax_tree.specs.Tree.{Expr, Exprs, no_exprs, more_exprs, Links, no_links, more_links}
+use Rattle.syntax_tree.specs.declared.tree.Level.{Level}
 use Rattle.vocabulary.specs.declared.signature.Role.{Role}
 use Rattle.vocabulary.specs.declared.signature.Role.TheVariants as role
 use Rattle.vocabulary.specs.Table.{role_of}
+use Rattle.vocabulary.specs.declared.plain.Plain.{Plain}
+use Rattle.vocabulary.specs.declared.plain.Plain.TheVariants as language
+use Rattle.vocabulary.specs.PlainTable.{spelling}
 use Rattle.name_check.specs.declared.declaration.Declaration.{Declaration}
 use Rattle.name_check.specs.declared.declaration.Declaration.TheVariants as declaration
 use Rattle.name_check.specs.Builtin.{is_unit, is_lift, is_called}
@@ -25,14 +28,14 @@ use Rattle.name_check.specs.Parts.{Part, Operand, parts, argument_parts, lift_pa
 use Rattle.type_rules.specs.Written.{key_of, scalar_of}
 use Rattle.stream_constructs.specs.Construct.{Construct}
 use Rattle.stream_constructs.specs.Construct as construct
-use Rattle.spec_meaning.specs.Occurrence.{Call, Occurrence, scope_at, called}
+use Rattle.spec_meaning.specs.Occurrence.{Call, Occurrence, scope_at, macro_result}
 use Rattle.spec_meaning.specs.Function.{literal}
 use Rattle.spec_meaning.specs.Shape.{Shape, expressions, is_part, beside, with_parts, role_shape, plain_name, is_delay, is_const, is_filter, const_shape, filtered_by, filter_shape, lift_by, function_named, lift_shape, name_shape, declared_shape, empty_shape, same_as, expr_shape}
-use Rattle.flatten_rules.specs.Makes.{is_own}
+use Rattle.spec_meaning.specs.Makes.{is_own}
 use Rattle.checked_spec.specs.inner.Inner.{StandsIn, has_links, operands_after}
 use Rattle.checked_spec.proofs.Expressions.{IsNotOwn, same_not_own, name_not_own}
 use Rattle.checked_spec.proofs.Words as words
-use Rattle.checked_spec.proofs.Words.{Word, spelling, IsWord, is_word}
+use Rattle.checked_spec.proofs.Words.{IsWord, is_word}
 use Rattle.checked_spec.proofs.Calls.{declared_name, declared_made}
 use Rattle.checked_spec.proofs.Lifts.{front, final, shape_final}
 
@@ -133,7 +136,7 @@ module _ (items : List tree.Item) (cs : List Call) where
       (lift_by_parts (lift_parts (more_exprs e es)) (front e es) (final e es) (function_named items (scope_at items cs) (final e es)) (front_in e es))
 
   declared_parts : (d : Option Declaration) (es : Exprs) → PartsIn (argument_parts es) (declared_shape items cs d es)
-  declared_parts (Some (declaration.Macro i)) es = no_parts (argument_parts es) (same_as (called items cs i es)) (same_not_own (called items cs i es))
+  declared_parts (Some (declaration.Macro i)) es = no_parts (argument_parts es) (same_as (macro_result items cs i es)) (same_not_own (macro_result items cs i es))
   declared_parts (Some (declaration.Function i)) es = λ own. some_parts cs (argument_parts es) (expressions es) (arguments_in es)
   declared_parts d es = tt
 
@@ -144,20 +147,20 @@ module _ (items : List tree.Item) (cs : List Call) where
     plain_parts : (c : Construct) → PartsIn (argument_parts es) (with_parts cs c (expressions es))
     plain_parts c = λ own. all_parts cs (argument_parts es) (expressions es) (arguments_in es)
 
-    word_parts : (w : Word) → CallIn (spelling w)
+    word_parts : (w : Plain) → CallIn (spelling w)
     unfolding is_lift plain_name is_delay is_const is_filter
-    word_parts words.Time = plain_parts construct.Time
-    word_parts words.Last = plain_parts construct.Last
-    word_parts words.Delay = plain_parts construct.Delay
-    word_parts words.Merge = plain_parts construct.Merge
-    word_parts words.Default = plain_parts construct.Merge
-    word_parts words.Lift = lifted_parts es
-    word_parts words.Const = const_parts cs (argument_parts es) (expressions es) (arguments_in es)
-    word_parts words.Filter = filter_parts cs (argument_parts es) (expressions es) (arguments_in es)
-    word_parts words.IsSome = declared_parts (meaning (scope_at items cs) (codes "isSome")) es
-    word_parts words.IsNone = declared_parts (meaning (scope_at items cs) (codes "isNone")) es
-    word_parts words.GetSome = declared_parts (meaning (scope_at items cs) (codes "getSome")) es
-    word_parts words.Some = declared_parts (meaning (scope_at items cs) (codes "Some")) es
+    word_parts language.Time = plain_parts construct.Time
+    word_parts language.Last = plain_parts construct.Last
+    word_parts language.Delay = plain_parts construct.Delay
+    word_parts language.Merge = plain_parts construct.Merge
+    word_parts language.Default = plain_parts construct.Merge
+    word_parts language.Lift = lifted_parts es
+    word_parts language.Const = const_parts cs (argument_parts es) (expressions es) (arguments_in es)
+    word_parts language.Filter = filter_parts cs (argument_parts es) (expressions es) (arguments_in es)
+    word_parts language.IsSome = declared_parts (meaning (scope_at items cs) (spelling language.IsSome)) es
+    word_parts language.IsNone = declared_parts (meaning (scope_at items cs) (spelling language.IsNone)) es
+    word_parts language.GetSome = declared_parts (meaning (scope_at items cs) (spelling language.GetSome)) es
+    word_parts language.Some = declared_parts (meaning (scope_at items cs) (spelling language.Some)) es
 
     other_parts : (x : List ℕ) → is_called x ≡ false → CallIn x
     other_parts x none =

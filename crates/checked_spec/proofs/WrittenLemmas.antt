@@ -4,8 +4,8 @@ use Rattle.std.specs.Prelude.{is_some, is_none, slice_get}
 use Rattle.std.specs.Option.{option_map, option_and_then}
 use Rattle.tsl_value.specs.declared.place.Place.{Place}
 use Rattle.tsl_value.specs.declared.scalar.ValueType.TheVariants as value_type
-use Rattle.spec_parser.specs.Tree as tree
-use Rattle.spec_parser.specs.Tree.{TypeName}
+use Rattle.syntax_tree.specs.Tree as tree
+use Rattle.syntax_tree.specs.Tree.{TypeName}
 use Rattle.type_rules.specs.Written.{key_of, scalar_of, value_of, as_written, as_stream, bad_key, bad_scalar, bad_inside, bad_as_written, bad_as_stream}
 use Rattle.type_rules.proofs.WrittenLemmas.{written_or_bad, stream_or_bad}
 use Rattle.tsl_value.proofs.Lists.{append_empty}

@@ -7,11 +7,11 @@ use Rattle.std.proofs.lemmas.List.{length-map}
 use Rattle.std.proofs.lemmas.List.Elements.{Contains-append_left, Contains-append_right, Contains-append_cases, All-contains_itself, All-weaker, All-same}
 use Rattle.std.proofs.lemmas.Option.{slice_get-map, slice_get-get_or, slice_get_within, some_pair_parts}
 use Rattle.tsl_value.specs.declared.place.Place.{Place}
-use Rattle.spec_parser.specs.Tree as tree
-use Rattle.spec_parser.specs.declared.tree.Item.{Item}
-use Rattle.spec_parser.specs.inner.Shape.{item_of}
+use Rattle.syntax_tree.specs.Tree as tree
+use Rattle.syntax_tree.specs.declared.tree.Item.{Item}
+use Rattle.syntax_tree.specs.inner.OneLevel.{item_of}
 use Rattle.translation_order.specs.OnCycle.{AreBetween, IsLeast, OnCycle}
-use Rattle.tsl_value.proofs.Lists.{here, later, none_in_nil, cons_cases}
+use Rattle.tsl_value.proofs.Lists.{here, later, none_in_nil, cons_cases, contains_at}
 use Rattle.translation_order.proofs.Paths.{first_edge}
 use Rattle.name_check.specs.declared.declaration.Declaration.{Declaration}
 use Rattle.name_check.specs.declared.declaration.Declaration.TheVariants as declaration
@@ -26,7 +26,7 @@ use Rattle.definition_cycles.specs.Calls.{is_call, Calls, name_place}
 use Rattle.definition_cycles.specs.Cycles.{FunctionCycle, IsPlaceOfLeast}
 use Rattle.definition_cycles.specs.inner.Walk.{mentions_from, Kept, with_nodes, nothing_kept}
 use Rattle.definition_cycles.specs.inner.Edges.{AreEdges, IsOfSmall, edge_of_call, call_edge}
-use Rattle.definition_cycles.proofs.ListLemmas.{contains_at, at_contains, in_filtered, from_filtered}
+use Rattle.definition_cycles.proofs.ListLemmas.{at_contains, in_filtered, from_filtered}
 use Rattle.definition_cycles.proofs.MentionLemmas.{all_kept, mentioned, is_kept}
 use Rattle.definition_cycles.proofs.RangeLemmas.{called_below}
 use Rattle.definition_cycles.proofs.CycleLemmas.{are_between, least_on_cycle}

@@ -4,10 +4,10 @@ use Rattle.std.specs.List.{cons_option}
 use Rattle.std.specs.Option.{option_map}
 use Rattle.std.proofs.lemmas.List.{append-nil, drop_all, length_push}
 use Rattle.tsl_value.specs.declared.place.Place.{Place}
-use Rattle.spec_parser.specs.Tree as tree
-use Rattle.spec_parser.specs.declared.tree.Item.{Item}
-use Rattle.spec_parser.specs.declared.tree.Param.{Param}
-use Rattle.spec_parser.specs.inner.Shape.{params_in, definitions_of, item_of}
+use Rattle.syntax_tree.specs.Tree as tree
+use Rattle.syntax_tree.specs.declared.tree.Item.{Item}
+use Rattle.syntax_tree.specs.declared.tree.Param.{Param}
+use Rattle.syntax_tree.specs.inner.OneLevel.{params_in, definitions_of, item_of}
 use Rattle.name_check.specs.Scope.{Scope, Agree, seen, count_in, counts, locals_from, parameters_from, are_values, functions_of, inside, in_block}
 use Rattle.name_check.specs.Parts.{Part, Operand, Function, parts}
 use Rattle.name_check.specs.Bodies.{Seen}

@@ -1,9 +1,9 @@
 -- The order of edges that are turned round, and their cycles.
 use Rattle.std.proofs.Common.{◌≡◌, ℕ, List, map, length, sym, ap, subst}
-use Rattle.spec_parser.specs.Tree as tree
+use Rattle.syntax_tree.specs.Tree as tree
 use Rattle.translation_order.specs.Graph as flat
 use Rattle.translation_order.specs.Graph.{IsAcyclic}
-use Rattle.flat_core.proofs.Members.{contains_map, map_contains}
+use Rattle.tsl_value.proofs.Lists.{contains_map, map_contains}
 use Rattle.translation_order.specs.OnCycle.{Path, one, more}
 use Rattle.translation_order.proofs.Paths.{path_join}
 use Rattle.translation_order.specs.Order.{Before, AreOfSteps, MayFollow, IsLeastOrder}

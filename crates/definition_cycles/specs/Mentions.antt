@@ -1,8 +1,8 @@
 -- Which nodes are mentioned in the expression of a node.
 use Rattle.std.specs.Prelude.{◌≡◌, ℕ, false, List, Option, Some, None, slice_get}
 use Rattle.std.specs.List.{Contains}
-use Rattle.spec_parser.specs.Tree as tree
-use Rattle.spec_parser.specs.Tree.{Expr}
+use Rattle.syntax_tree.specs.Tree as tree
+use Rattle.syntax_tree.specs.Tree.{Expr}
 use Rattle.name_check.specs.declared.declaration.Declaration.{Declaration}
 use Rattle.name_check.specs.Scope.{Scope, meaning}
 use Rattle.name_check.specs.Parts.{Part, Operand, Function, parts}

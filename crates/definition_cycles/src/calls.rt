@@ -2,7 +2,7 @@
 
 ghost use Rattle.std.specs.Prelude.{◌≡◌, IfOk, map};
 ghost use Rattle.std.specs.List.{All, filter_map};
-ghost use Rattle.spec_parser.specs.inner.Shape.{item_of};
+ghost use Rattle.syntax_tree.specs.inner.OneLevel.{item_of};
 ghost use Rattle.definition_cycles.specs.inner.Edges.{AreEdges, IsOfSmall, call_edge};
 ghost use Rattle.definition_cycles.specs.Calls.{Calls};
 ghost use Rattle.definition_cycles.specs.Nodes.{HasFewNodes};
@@ -11,8 +11,8 @@ use crate::graph::{Graph, to_node};
 use crate::list::push_some;
 use crate::mention::Mention;
 use name_check::declaration::Declaration;
-use spec_parser::tree::Item;
 use std::alloc::Global;
+use syntax_tree::tree::Item;
 use tsl_value::memory::NoMemory;
 
 /// The pair of an item and a value function that is called in it.
@@ -24,7 +24,7 @@ fn call_edge(mention: &Mention) -> Option<(u32, u32)>
         return None;
     }
     match mention.is {
-        Declaration::Function(called) => Some((to_node(mention.item), to_node(called))),
+        Declaration::Function(callee) => Some((to_node(mention.item), to_node(callee))),
         _ => None,
     }
 }

@@ -1,7 +1,8 @@
 // The nodes of a specification, one after the other.
 
-ghost use Rattle.std.specs.Prelude.{◌≡◌, ◌∷◌, [], ◌++◌, true, OnOk, Some};
-ghost use Rattle.spec_parser.specs.inner.Shape.{definition_of, definitions_of, item_of};
+ghost use Rattle.std.specs.Prelude.{◌≡◌, ◌+◌, ◌^◌, ◌<◌, ◌∷◌, [], ◌++◌, true, OnOk, Some};
+ghost use Rattle.syntax_tree.specs.inner.OneLevel.{body_of, definition_of, definitions_of, item_of};
+ghost use Rattle.syntax_tree.specs.Counts.{HasFewInside, count_in, counts};
 ghost use Rattle.name_check.specs.Scope.{Scope as Entries, seen, inside};
 ghost use Rattle.definition_cycles.specs.Nodes.{definition_nodes, block_nodes, item_nodes, parameters_of};
 ghost use Rattle.definition_cycles.specs.inner.Seen.{IsTop};
@@ -11,9 +12,9 @@ use crate::mention::{Mention, add_mentions};
 use crate::top::Top;
 use name_check::count::number_after;
 use name_check::scope::{Scope, locals, parameters};
-use spec_parser::tree::{Body, Definition, DefinitionParts, Expr, Item};
 use std::alloc::Global;
 use std::marker::Model;
+use syntax_tree::tree::{Body, Definition, DefinitionParts, Expr, Item};
 use tsl_value::memory::NoMemory;
 use tsl_value::place::Place;
 
@@ -108,6 +109,7 @@ impl Found {
         parts: &DefinitionParts,
         scope: &Scope<'_>,
     ) -> Result<(), NoMemory>
+        requires { number + count_in (body_of parts.now.body) < 2 ^ 64 }
         ensures { OnOk result (self.new ≡ with_nodes self.old (definition_nodes item number (seen scope.now) (definition_of parts.now))) }
     {
         let head = Head {
@@ -134,12 +136,13 @@ impl Found {
         definitions: &[Definition],
         scope: &Scope<'_>,
     ) -> Result<(), NoMemory>
+        requires { first + counts (definitions_of definitions.now) < 2 ^ 64 }
         ensures { OnOk result (self.new ≡ with_nodes self.old (block_nodes item first (seen scope.now) (definitions_of definitions.now))) }
     {
         let mut number = first;
         for definition in definitions {
             let parts = definition.parts();
-            let behind = number_after(number, &parts.body)?;
+            let behind = number_after(number, &parts.body);
             self.add_definition(alloc, item, number + 1, parts, scope)?;
             number = behind;
         }
@@ -154,6 +157,7 @@ impl Found {
         item: usize,
         parts: &DefinitionParts,
     ) -> Result<(), NoMemory>
+        requires { HasFewInside (body_of parts.now.body) }
         ensures { OnOk result ((names : Entries)
             → IsTop names top.now
             → self.new ≡ with_nodes self.old

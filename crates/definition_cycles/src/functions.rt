@@ -1,15 +1,15 @@
 // Cycles of value functions.
 
 ghost use Rattle.std.specs.Prelude.{◌≡◌, IfOk};
-ghost use Rattle.spec_parser.specs.inner.Shape.{item_of, items_of};
+ghost use Rattle.syntax_tree.specs.inner.OneLevel.{item_of, items_of};
 ghost use Rattle.definition_cycles.specs.Calls.{name_place};
 ghost use Rattle.definition_cycles.specs.Cycles.{IsFirstFunctionCycle};
 ghost use Rattle.definition_cycles.specs.Nodes.{HasFewNodes};
 
 use crate::calls::calls;
 use crate::graph::to_node;
-use spec_parser::tree::{Item, Tree};
 use std::alloc::Global;
+use syntax_tree::tree::{Item, Tree};
 use translation_order::on_cycle::first_on_cycle;
 use tsl_value::memory::NoMemory;
 use tsl_value::place::Place;

@@ -1,14 +1,14 @@
 // The nodes of a specification, with the numbers of items.
 
 ghost use Rattle.std.specs.Prelude.{◌≡◌, ◌^◌, ◌<◌, map, IfOk};
-ghost use Rattle.spec_parser.specs.inner.Shape.{item_of};
+ghost use Rattle.syntax_tree.specs.inner.OneLevel.{item_of};
 ghost use Rattle.definition_cycles.specs.Nodes.{nodes};
 ghost use Rattle.definition_cycles.specs.inner.Walk.{with_nodes, nothing_kept, firsts_from};
 
 use crate::found::Found;
 use crate::top::Top;
-use spec_parser::tree::Item;
 use std::alloc::Global;
+use syntax_tree::tree::Item;
 use tsl_value::memory::NoMemory;
 
 /// The nodes of a specification.

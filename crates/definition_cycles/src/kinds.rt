@@ -1,7 +1,7 @@
 // Definitions without a written type: their cycles, and an order.
 
 ghost use Rattle.std.specs.Prelude.{◌≡◌, map, IfOk, OnOk, IfErr};
-ghost use Rattle.spec_parser.specs.inner.Shape.{items_of};
+ghost use Rattle.syntax_tree.specs.inner.OneLevel.{items_of};
 ghost use Rattle.translation_order.specs.Cycle.{IsCycle};
 ghost use Rattle.translation_order.specs.inner.Answer.{OnCycle};
 ghost use Rattle.definition_cycles.specs.Cycles.{IsFirstUntypedCycle};
@@ -9,8 +9,8 @@ ghost use Rattle.definition_cycles.specs.Nodes.{HasFewNodes};
 ghost use Rattle.definition_cycles.specs.inner.Order.{IsKindOrder, Precedes, NoneNeedsType, SomeNeedsType};
 
 use crate::untyped::Untyped;
-use spec_parser::tree::Tree;
 use std::alloc::Global;
+use syntax_tree::tree::Tree;
 use translation_order::on_cycle::first_on_cycle;
 use translation_order::order::{OrderFault, order};
 use translation_order::steps::{Edges, Steps};

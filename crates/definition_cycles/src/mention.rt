@@ -12,8 +12,8 @@ use crate::list::push_some;
 use name_check::declaration::Declaration;
 use name_check::parts::{Part, parts};
 use name_check::scope::Scope;
-use spec_parser::tree::{Expr, Node};
 use std::alloc::Global;
+use syntax_tree::tree::{Expr, Node};
 use tsl_value::memory::NoMemory;
 
 /// A declared name that stands in the expression of a node.

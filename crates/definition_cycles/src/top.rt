@@ -1,15 +1,15 @@
 // What is seen at the top of a specification.
 
 ghost use Rattle.std.specs.Prelude.{◌≡◌, [], ◌∷◌, map, if◌then◌else◌, IfOk};
-ghost use Rattle.spec_parser.specs.inner.Shape.{params_in, item_of};
+ghost use Rattle.syntax_tree.specs.inner.OneLevel.{params_in, item_of};
 ghost use Rattle.name_check.specs.Scope.{are_values, top};
 ghost use Rattle.definition_cycles.specs.inner.Seen.{IsTop};
 
 use name_check::names::Names;
 use name_check::scope::{Scope, are_values};
 use name_check::top::{top_functions, top_names};
-use spec_parser::tree::{Item, Param};
 use std::alloc::Global;
+use syntax_tree::tree::{Item, Param};
 use tsl_value::memory::NoMemory;
 
 /// The names of the top, and the value functions among them. Where a name is declared twice, its first declaration counts, and

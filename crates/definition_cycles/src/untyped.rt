@@ -2,7 +2,7 @@
 
 ghost use Rattle.std.specs.Prelude.{◌≡◌, ◌+◌, ◌^◌, ◌<◌, Some, length, map, IfOk};
 ghost use Rattle.std.specs.List.{filter_map};
-ghost use Rattle.spec_parser.specs.inner.Shape.{item_of};
+ghost use Rattle.syntax_tree.specs.inner.OneLevel.{item_of};
 ghost use Rattle.definition_cycles.specs.Nodes.{HasFewNodes, nodes};
 ghost use Rattle.definition_cycles.specs.Mentions.{MentionsUntyped};
 ghost use Rattle.definition_cycles.specs.inner.Walk.{head_of};
@@ -13,8 +13,8 @@ use crate::graph::{Graph, to_node};
 use crate::list::push_some;
 use crate::mention::Mention;
 use name_check::declaration::Declaration;
-use spec_parser::tree::Item;
 use std::alloc::Global;
+use syntax_tree::tree::Item;
 use tsl_value::memory::NoMemory;
 
 fn is_untyped(heads: &[Head], node: usize) -> bool

@@ -2,9 +2,9 @@
 use Rattle.std.proofs.Common.{◌≡◌, ℕ, Bool, true, false, if◌then◌else◌, List, [], ◌∷◌, ◌++◌, slice_get, Option, Some, None, Ok, refl, ap, ◌∙◌}
 use Rattle.std.specs.Option.{option_map, option_and_then}
 use Rattle.std.specs.List.{AllByRecursion}
-use Rattle.spec_parser.specs.Tree as tree
-use Rattle.spec_parser.specs.Tree.{Expr, Exprs, no_exprs, more_exprs, Links, no_links, more_links}
-use Rattle.spec_parser.specs.declared.tree.Level.{Level}
+use Rattle.syntax_tree.specs.Tree as tree
+use Rattle.syntax_tree.specs.Tree.{Expr, Exprs, no_exprs, more_exprs, Links, no_links, more_links}
+use Rattle.syntax_tree.specs.declared.tree.Level.{Level}
 use Rattle.name_check.specs.declared.declaration.Declaration.{Declaration}
 use Rattle.name_check.specs.declared.declaration.Declaration.TheVariants as declaration
 use Rattle.name_check.specs.Builtin.{is_unit, is_lift}
@@ -17,7 +17,7 @@ use Rattle.type_rules.specs.Asked.{lifted, unit, int, bool, text}
 use Rattle.type_rules.specs.Rules.{body_rule, compare_rule, negate_rule, not_rule, if_rule, dotted_rule, builtin_rule, macro_rule, function_rule}
 use Rattle.expr_types.specs.Around.{Around, Kinds, declared_type, params_of, param_types, callee_of, cons}
 use Rattle.expr_types.specs.Judge.{judge, types_of, judge_links, streams_of, last_of, function_of, function_at, type_of, of_verdict, with_one, with_two, with_three, is_just, lifted_by, named_call, own_call, const_call, call_rule, is_const, builtin_of, next_link}
-use Rattle.expr_types.specs.inner.Alike.{called, IsAlike, IsPartAlike, MentionsAlike, known, IsKnownAlike, IsPartKnownAlike}
+use Rattle.expr_types.specs.inner.Alike.{declared_callee, IsAlike, IsPartAlike, MentionsAlike, known, IsKnownAlike, IsPartKnownAlike}
 use Rattle.expr_types.specs.Bodies.{fitting, expr_kind}
 
 abbrev All : Around → Around → List Part → Type 0
@@ -34,12 +34,12 @@ mentioned_by at to (Some d) f = f d refl
 mention_alike : (at to : Around) (n : List ℕ) → IsAlike at to n → option_and_then (declared_type at) (meaning at.scope n) ≡ option_and_then (declared_type to) (meaning to.scope n)
 mention_alike at to n h = mentioned_by at to (meaning at.scope n) h.types ∙ ap (option_and_then (declared_type to)) h.stands
 
-rule_alike : (at to : Around) (d : Declaration) (ts : List ExprType) → at.setting ≡ to.setting → called at d ≡ called to d → call_rule at d ts ≡ call_rule to d ts
+rule_alike : (at to : Around) (d : Declaration) (ts : List ExprType) → at.setting ≡ to.setting → declared_callee at d ≡ declared_callee to d → call_rule at d ts ≡ call_rule to d ts
 rule_alike at to (declaration.Macro k) ts s e = λ i. option_map (λ c. macro_rule c.params c.result ts) (e i)
 rule_alike at to (declaration.Function k) ts s e = λ i. option_map (λ c. function_rule (s i) c.params c.result ts) (e i)
 rule_alike at to d ts s e = refl
 
-called_by : (at to : Around) (m : Option Declaration) (ts : List ExprType) → at.setting ≡ to.setting → ((d : Declaration) → m ≡ Some d → called at d ≡ called to d) → option_and_then (λ d. call_rule at d ts) m ≡ option_and_then (λ d. call_rule to d ts) m
+called_by : (at to : Around) (m : Option Declaration) (ts : List ExprType) → at.setting ≡ to.setting → ((d : Declaration) → m ≡ Some d → declared_callee at d ≡ declared_callee to d) → option_and_then (λ d. call_rule at d ts) m ≡ option_and_then (λ d. call_rule to d ts) m
 called_by at to None ts s f = refl
 called_by at to (Some d) ts s f = rule_alike at to d ts s (f d refl)
 
@@ -56,7 +56,7 @@ named_alike : (at to : Around) (n : List ℕ) (es : Exprs) (ts us : Option (List
 named_alike at to n es ts us s h e =
     λ i. if is_const n then const_call es (e i) else own_alike at to n (builtin_of n) ts us s h e i
 
-function_by : (at to : Around) (m : Option Declaration) → ((d : Declaration) → m ≡ Some d → called at d ≡ called to d) → function_at at m ≡ function_at to m
+function_by : (at to : Around) (m : Option Declaration) → ((d : Declaration) → m ≡ Some d → declared_callee at d ≡ declared_callee to d) → function_at at m ≡ function_at to m
 function_by at to (Some (declaration.Function k)) f = f (declaration.Function k) refl
 function_by at to m f = refl
 
@@ -155,7 +155,7 @@ type_known at kinds (declaration.Stream j) e = e
 type_known at kinds (declaration.Local k) e = e
 type_known at kinds d e = refl
 
-call_known : (at : Around) (kinds : Kinds) (d : Declaration) → known at.kinds at.number d ≡ known kinds at.number d → called at d ≡ called (knowing at kinds) d
+call_known : (at : Around) (kinds : Kinds) (d : Declaration) → known at.kinds at.number d ≡ known kinds at.number d → declared_callee at d ≡ declared_callee (knowing at kinds) d
 call_known at kinds (declaration.Macro j) e = ap (callee_of (param_types (params_of (slice_get at.items j)))) e
 call_known at kinds (declaration.Function j) e = ap (callee_of (param_types (params_of (slice_get at.items j)))) e
 call_known at kinds d e = refl

@@ -2,10 +2,10 @@
 use Rattle.std.proofs.Common.{◌≡◌, ℕ, zero, suc, ◌+◌, ◌-◌, ◌<◌, ◌≤◌, ◌&&◌, Bool, true, false, if◌then◌else◌, List, [], ◌∷◌, ◌++◌, map, replicate, length, drop, get_or, slice_get, Option, Some, None, option_and_then, option_map, Result, IfOk, Box, Global, Bor, refl, sym, ap, subst, ◌∙◌, append_assoc, zero-add, inl, inr, arith}
 use Rattle.std.proofs.lemmas.Bool.{cases_lt, eq-eqb, ne_eqb}
 use Rattle.std.proofs.lemmas.List.{append-nil, drop_all, map-append, replicate_more}
-use Rattle.spec_parser.specs.Tree as tree
-use Rattle.spec_parser.specs.declared.tree.DefinitionParts.{DefinitionParts}
-use Rattle.spec_parser.specs.declared.tree.Item.{Item}
-use Rattle.spec_parser.specs.inner.Shape.{body_of, definition_of, definitions_of, item_of, params_in}
+use Rattle.syntax_tree.specs.Tree as tree
+use Rattle.syntax_tree.specs.declared.tree.DefinitionParts.{DefinitionParts}
+use Rattle.syntax_tree.specs.declared.tree.Item.{Item}
+use Rattle.syntax_tree.specs.inner.OneLevel.{body_of, definition_of, definitions_of, item_of, params_in}
 use Rattle.name_check.specs.Scope.{Scope, top, functions_of, is_events, are_values, count_in, parameters_from, locals_from, inside, in_block, seen, Agree}
 use Rattle.name_check.proofs.AgreeLemmas.{agree_same, agree_append}
 use Rattle.tsl_value.proofs.Lists.{left_at}
@@ -41,8 +41,8 @@ at_rest (suc c) zero ds h = absurd (omega arith)
 at_rest (suc c) (suc k) ds h = let e : k - c ≡ suc k - suc c = omega arith in at_rest c k ds (omega arith) ∙ ap (At ds) e
 
 module _ (at : Around) where
-  abbrev Kind : Option tree.Definition → Option ExprType
-  Kind d = option_and_then (kind_of_local at) d
+  abbrev LocalType : Option tree.Definition → Option ExprType
+  LocalType d = option_and_then (kind_of_local at) d
 
   too_early : (k i : ℕ) (ds : tree.Definitions) → k < i → local_from at k i ds ≡ None
   too_early k i tree.no_definitions h = refl
@@ -50,13 +50,13 @@ module _ (at : Around) where
       ap (λ t. if t then definition_kind at [] w b else local_from at k (suc i + count_in b) ds) (ne_eqb i k (λ e. omega arith)) ∙ too_early k (suc i + count_in b) ds (omega arith)
 
   -- after a definition whose body has so many
-  behind : (c i k : ℕ) (ds : tree.Definitions) → ((j : ℕ) → local_from at (suc i + c + j) (suc i + c) ds ≡ Kind (At (numbered ds) j)) → local_from at (i + suc k) (suc i + c) ds ≡ Kind (At (replicate c None ++ numbered ds) k)
+  behind : (c i k : ℕ) (ds : tree.Definitions) → ((j : ℕ) → local_from at (suc i + c + j) (suc i + c) ds ≡ LocalType (At (numbered ds) j)) → local_from at (i + suc k) (suc i + c) ds ≡ LocalType (At (replicate c None ++ numbered ds) k)
   behind c i k ds each = elim (cases_lt k c) [
-    | inl less ↦ too_early (i + suc k) (suc i + c) ds (omega arith) ∙ sym (ap Kind (at_none c k (numbered ds) less))
-    | inr more ↦ let e : i + suc k ≡ suc i + c + (k - c) = omega arith in ap (λ m. local_from at m (suc i + c) ds) e ∙ each (k - c) ∙ sym (ap Kind (at_rest c k (numbered ds) more))
+    | inl less ↦ too_early (i + suc k) (suc i + c) ds (omega arith) ∙ sym (ap LocalType (at_none c k (numbered ds) less))
+    | inr more ↦ let e : i + suc k ≡ suc i + c + (k - c) = omega arith in ap (λ m. local_from at m (suc i + c) ds) e ∙ each (k - c) ∙ sym (ap LocalType (at_rest c k (numbered ds) more))
   ]
 
-  numbered_kind : (i k : ℕ) (ds : tree.Definitions) → local_from at (i + k) i ds ≡ Kind (At (numbered ds) k)
+  numbered_kind : (i k : ℕ) (ds : tree.Definitions) → local_from at (i + k) i ds ≡ LocalType (At (numbered ds) k)
   numbered_kind i k tree.no_definitions = refl
   numbered_kind i zero (tree.more_definitions (tree.Define q n ps w b) ds) =
       let same : i ≡ i + zero = omega arith in
@@ -66,12 +66,12 @@ module _ (at : Around) where
       ∙ behind (count_in b) i k ds (λ j. numbered_kind (suc i + count_in b) j ds)
 
   -- the definition of a number, as the code finds it
-  numbered_is : (ds : tree.Definitions) (found : List (Option (Bor tree.Definition))) (k : ℕ) → definitions_in found ≡ numbered ds → Kind (definition_at found k) ≡ local_kind at k ds
+  numbered_is : (ds : tree.Definitions) (found : List (Option (Bor tree.Definition))) (k : ℕ) → definitions_in found ≡ numbered ds → LocalType (definition_at found k) ≡ local_kind at k ds
   numbered_is ds found k h =
-      ap Kind (shown_at found k ∙ ap (λ l. At l k) h) ∙ sym (numbered_kind 0 k ds) ∙ ap (λ m. local_from at m 0 ds) (zero-add k)
+      ap LocalType (shown_at found k ∙ ap (λ l. At l k) h) ∙ sym (numbered_kind 0 k ds) ∙ ap (λ m. local_from at m 0 ds) (zero-add k)
 
 -- ---- what is seen in a block
-braces_streams : (ps : List tree.Param) → may_have_braces ps ≡ true → are_values ps ≡ false
+pub braces_streams : (ps : List tree.Param) → may_have_braces ps ≡ true → are_values ps ≡ false
 braces_streams [] h = refl
 braces_streams (p ∷ ps) h = by (is_events p.of) _ _ h
   where

@@ -4,14 +4,14 @@ use Rattle.std.specs.Option.{option_map, option_and_then}
 use Rattle.std.specs.List.{list_all}
 use Rattle.std.proofs.lemmas.List.{append-nil}
 use Rattle.tsl_value.specs.declared.place.Place.{Place}
-use Rattle.spec_parser.specs.Tree as tree
-use Rattle.spec_parser.specs.Tree.{Expr, place_of}
-use Rattle.spec_parser.specs.declared.tree.Body.{Body}
-use Rattle.spec_parser.specs.declared.tree.Body.TheVariants as body
-use Rattle.spec_parser.specs.declared.tree.Item.{Item}
-use Rattle.spec_parser.specs.declared.tree.Item.TheVariants as item
-use Rattle.spec_parser.specs.declared.tree.Param.{Param}
-use Rattle.spec_parser.specs.inner.Shape.{body_of, definitions_of, item_of, params_in}
+use Rattle.syntax_tree.specs.Tree as tree
+use Rattle.syntax_tree.specs.Tree.{Expr, place_of}
+use Rattle.syntax_tree.specs.declared.tree.Body.{Body}
+use Rattle.syntax_tree.specs.declared.tree.Body.TheVariants as body
+use Rattle.syntax_tree.specs.declared.tree.Item.{Item}
+use Rattle.syntax_tree.specs.declared.tree.Item.TheVariants as item
+use Rattle.syntax_tree.specs.declared.tree.Param.{Param}
+use Rattle.syntax_tree.specs.inner.OneLevel.{body_of, definitions_of, item_of, params_in}
 use Rattle.name_check.specs.Builtin.{is_unit}
 use Rattle.name_check.specs.Scope.{Scope, meaning, is_events, top, inside, seen, are_values, functions_of, parameters_from, locals_from, Agree}
 use Rattle.name_check.proofs.AgreeLemmas.{agree_same, agree_append, agree_trans}

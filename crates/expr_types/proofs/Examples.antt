@@ -1,9 +1,9 @@
 -- What the definitions say of some expressions.
 use Rattle.std.proofs.Common.{◌≡◌, true, [], ◌∷◌, Some, None, codes, refl}
 use Rattle.tsl_value.specs.declared.place.Place.{Place}
-use Rattle.spec_parser.specs.Tree as tree
-use Rattle.spec_parser.specs.declared.tree.Level.TheVariants as level
-use Rattle.spec_parser.specs.declared.tree.Operator.TheVariants as operator
+use Rattle.syntax_tree.specs.Tree as tree
+use Rattle.syntax_tree.specs.declared.tree.Level.TheVariants as level
+use Rattle.syntax_tree.specs.declared.tree.Operator.TheVariants as operator
 use Rattle.name_check.specs.Builtin.{is_unit}
 use Rattle.type_rules.specs.declared.rule.ExprType.TheVariants as expr_type
 use Rattle.type_rules.specs.declared.rule.Setting.TheVariants as setting

@@ -1,6 +1,6 @@
 pub mod AlikeLemmas
 mod ArgumentLemmas
-mod BlockLemmas
+pub mod BlockLemmas
 mod BodyLemmas
 mod CallLemmas
 mod ChainLemmas

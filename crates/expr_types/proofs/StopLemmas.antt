@@ -1,6 +1,6 @@
 -- Walks over parts, one after the other, that end at the first that is wrong.
 use Rattle.std.proofs.Common.{◌≡◌, List, [], ◌∷◌, ◌++◌, Option, Some, None, Ok, Err, refl, sym, ap, subst, ◌∙◌}
-use Rattle.spec_parser.specs.Tree.{Expr}
+use Rattle.syntax_tree.specs.Tree.{Expr}
 use Rattle.type_rules.specs.declared.rule.ExprType.{ExprType}
 use Rattle.type_rules.specs.Asked.{Verdict}
 use Rattle.expr_types.specs.declared.wrong.Wrong.{Wrong}

@@ -1,13 +1,16 @@
 -- What expressions are: an expression is something where all its parts are and fit the rule of its construct. An expression of which
 -- a part is nothing is not judged.
-use Rattle.std.specs.Prelude.{ℕ, Bool, true, false, if◌then◌else◌, List, [], ◌∷◌, Option, Some, None, Ok, Err, codes}
+use Rattle.std.specs.Prelude.{ℕ, Bool, true, false, if◌then◌else◌, List, [], ◌∷◌, Option, Some, None, Ok, Err}
 use Rattle.std.specs.Option.{option_map, option_and_then}
-use Rattle.std.specs.List.{find, flat_map}
+use Rattle.std.specs.List.{flat_map}
 use Rattle.std.specs.Str.{bytes_eq}
 use Rattle.tsl_value.specs.declared.scalar.ValueType.TheVariants as value_type
-use Rattle.spec_parser.specs.Tree as tree
-use Rattle.spec_parser.specs.Tree.{Expr, Exprs, no_exprs, more_exprs, Links, no_links, more_links, place_of}
-use Rattle.spec_parser.specs.declared.tree.Level.{Level}
+use Rattle.syntax_tree.specs.Tree as tree
+use Rattle.syntax_tree.specs.Tree.{Expr, Exprs, no_exprs, more_exprs, Links, no_links, more_links, place_of}
+use Rattle.syntax_tree.specs.declared.tree.Level.{Level}
+use Rattle.vocabulary.specs.declared.plain.Plain.{Plain}
+use Rattle.vocabulary.specs.declared.plain.Plain.TheVariants as plain
+use Rattle.vocabulary.specs.PlainTable.{spelling, entries, look_up}
 use Rattle.name_check.specs.declared.declaration.Declaration.{Declaration}
 use Rattle.name_check.specs.declared.declaration.Declaration.TheVariants as declaration
 use Rattle.name_check.specs.Builtin.{is_unit, is_lift}
@@ -54,18 +57,29 @@ is_literal (tree.Text p t) = true
 is_literal (tree.Boolean p b) = true
 is_literal e = false
 
--- the names of the language that are called, but for `lift` and `const`
+-- the rule of a name of the language; `lift` and `const` ask for more than types
+abbrev pub rule_of : Plain → Option Builtin
+rule_of plain.Time = Some builtin.Time
+rule_of plain.Last = Some builtin.Last
+rule_of plain.Delay = Some builtin.Delay
+rule_of plain.Merge = Some builtin.Merge
+rule_of plain.Default = Some builtin.Merge
+rule_of plain.Lift = None
+rule_of plain.Const = None
+rule_of plain.Filter = Some builtin.Filter
+rule_of plain.IsSome = Some builtin.IsSome
+rule_of plain.IsNone = Some builtin.IsNone
+rule_of plain.GetSome = Some builtin.GetSome
+rule_of plain.Some = Some builtin.Some
+
 abbrev pub builtins : List (List ℕ × Builtin)
-builtins =
-    (codes "time", builtin.Time) ∷ (codes "last", builtin.Last) ∷ (codes "delay", builtin.Delay) ∷ (codes "merge", builtin.Merge)
-    ∷ (codes "default", builtin.Merge) ∷ (codes "filter", builtin.Filter) ∷ (codes "isSome", builtin.IsSome)
-    ∷ (codes "isNone", builtin.IsNone) ∷ (codes "getSome", builtin.GetSome) ∷ (codes "Some", builtin.Some) ∷ []
+builtins = entries rule_of
 
 unfoldable pub builtin_of : List ℕ → Option Builtin
-builtin_of n = option_map (λ b. b.1) (find (λ b. bytes_eq n b.0) builtins)
+builtin_of n = look_up builtins n
 
 abbrev pub is_const : List ℕ → Bool
-is_const n = bytes_eq n (codes "const")
+is_const n = bytes_eq n (spelling plain.Const)
 
 -- a call of a declared name, at its arguments
 abbrev pub call_rule : Around → Declaration → List ExprType → Option Verdict

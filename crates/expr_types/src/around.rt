@@ -2,7 +2,7 @@
 
 ghost use Rattle.std.specs.Prelude.{◌≡◌, IfOk, map, slice_get};
 ghost use Rattle.std.specs.Option.{option_map};
-ghost use Rattle.spec_parser.specs.inner.Shape.{item_of, params_in};
+ghost use Rattle.syntax_tree.specs.inner.OneLevel.{item_of, params_in};
 ghost use Rattle.name_check.specs.Scope.{seen};
 ghost use Rattle.expr_types.specs.Around.{declared_type, callee_at, callee_of, param_types, params_of};
 ghost use Rattle.expr_types.specs.Judge.{function_at, function_of};
@@ -12,8 +12,8 @@ ghost use Rattle.expr_types.specs.inner.Answers.{types_in};
 use crate::kinds::KindTable;
 use name_check::declaration::Declaration;
 use name_check::scope::Scope;
-use spec_parser::tree::{Expr, Item, Node, Param};
 use std::alloc::Global;
+use syntax_tree::tree::{Expr, Item, Node, Param};
 use tsl_value::memory::NoMemory;
 use type_rules::rule::{ExprType, Setting};
 use type_rules::written::as_written;

@@ -2,7 +2,8 @@
 
 ghost use Rattle.std.specs.Prelude.{◌≡◌, ◌++◌, None, map, replicate, IfOk, OnOk};
 ghost use Rattle.std.specs.Option.{option_map};
-ghost use Rattle.spec_parser.specs.inner.Shape.{definition_of, definitions_of, item_of, params_in};
+ghost use Rattle.syntax_tree.specs.Counts.{AreFew, HasFewInside};
+ghost use Rattle.syntax_tree.specs.inner.OneLevel.{body_of, definition_of, definitions_of, item_of, params_in};
 ghost use Rattle.expr_types.specs.inner.Blocks.{AreBlocks, IsBlock, IsBlockAt, IsBlockIn, IsBlockOf, block_at};
 ghost use Rattle.expr_types.specs.inner.Blocks.{definition_at, definition_in, definitions_in, numbered};
 
@@ -10,8 +11,8 @@ use crate::body::may_have_braces;
 use name_check::count::count_in;
 use name_check::names::Names;
 use name_check::scope::{locals, parameters};
-use spec_parser::tree::{Body, Definition, DefinitionParts, Item, Param};
 use std::alloc::Global;
+use syntax_tree::tree::{Body, Definition, DefinitionParts, Item, Param};
 use tsl_value::memory::NoMemory;
 
 /// The block of a macro, and what is seen in it.
@@ -39,6 +40,7 @@ impl<'a> Block<'a> {
         params: &'a [Param],
         definitions: &'a [Definition],
     ) -> Result<Block<'a>, NoMemory>
+        requires { AreFew (definitions_of definitions.now) }
         ensures { IfOk result (λ block. IsBlock block (params_in params.now) (definitions_of definitions.now)) }
     {
         Ok(Block {
@@ -104,7 +106,7 @@ fn numbered<'a>(
     let mut all = Vec::new(alloc);
     for definition in definitions {
         all.push(Some(definition))?;
-        leave_out(&mut all, count_in(&definition.parts().body)?)?;
+        leave_out(&mut all, count_in(&definition.parts().body))?;
     }
     Ok(all)
 }
@@ -115,6 +117,7 @@ fn block_of<'a>(
     params: &'a [Param],
     definitions: &'a [Definition],
 ) -> Result<Option<Box<Block<'a>>>, NoMemory>
+    requires { AreFew (definitions_of definitions.now) }
     ensures { IfOk result (λ found. IsBlockOf found (params_in params.now) (definitions_of definitions.now)) }
 {
     if may_have_braces(params) {
@@ -129,6 +132,7 @@ fn block_of_definition<'a>(
     alloc: Global,
     parts: &'a DefinitionParts,
 ) -> Result<Option<Box<Block<'a>>>, NoMemory>
+    requires { HasFewInside (body_of parts.now.body) }
     ensures { IfOk result (λ found. IsBlockIn found (definition_of parts.now)) }
 {
     match &parts.body {

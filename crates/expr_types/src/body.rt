@@ -3,8 +3,9 @@
 ghost use Rattle.std.specs.Prelude.{◌≡◌, ◌++◌, IfOk, None};
 ghost use Rattle.std.specs.List.{list_all};
 ghost use Rattle.std.specs.Option.{option_and_then, option_map};
-ghost use Rattle.spec_parser.specs.inner.Shape.{body_of, definition_of, definitions_of, params_in};
-ghost use Rattle.spec_parser.specs.Tree as tree;
+ghost use Rattle.syntax_tree.specs.Counts.{HasFewInside};
+ghost use Rattle.syntax_tree.specs.inner.OneLevel.{body_of, definition_of, definitions_of, params_in};
+ghost use Rattle.syntax_tree.specs.Tree as tree;
 ghost use Rattle.name_check.specs.Scope.{is_events as has_events};
 ghost use Rattle.type_rules.specs.Written.{as_stream as stream_that_is, as_written as just_what_is};
 ghost use Rattle.expr_types.specs.Bodies.{setting_of, may_have_braces, written_of, expr_wrongs, braces_place, plain_wrongs, local_wrongs};
@@ -19,8 +20,8 @@ use crate::judge::expression;
 use crate::leaf::mentioned;
 use crate::wrong::Wrong;
 use name_check::scope::{Scope, are_values, is_events, locals};
-use spec_parser::tree::{Body, Definition, DefinitionParts, Expr, Param, TypeName};
 use std::alloc::Global;
+use syntax_tree::tree::{Body, Definition, DefinitionParts, Expr, Param, TypeName};
 use tsl_value::memory::NoMemory;
 use tsl_value::place::Place;
 use type_rules::call::body_rule;
@@ -204,6 +205,7 @@ fn find_in_macro(
     written: Option<ExprType>,
     body: &Body,
 ) -> Result<Option<Wrong>, NoMemory>
+    requires { HasFewInside (body_of body.now) }
     ensures { IfOk result (λ found. found ≡ first (macro_wrongs (around_of at.now) written (body_of body.now))) }
 {
     match body {
@@ -221,6 +223,7 @@ pub(crate) fn find_in_body(
     at: &Around<'_>,
     parts: &DefinitionParts,
 ) -> Result<Option<Wrong>, NoMemory>
+    requires { HasFewInside (body_of parts.now.body) }
     ensures { IfOk result (λ found. found ≡ first (definition_wrongs (around_of at.now) (definition_of parts.now))) }
 {
     let written = written_of(&parts.params, &parts.written);

@@ -2,20 +2,22 @@
 
 ghost use Rattle.std.specs.Prelude.{◌≡◌, IfOk};
 ghost use Rattle.std.specs.Option.{option_map, option_and_then};
-ghost use Rattle.spec_parser.specs.inner.Shape.{exprs_of};
+ghost use Rattle.syntax_tree.specs.inner.OneLevel.{exprs_of};
 ghost use Rattle.name_check.specs.Scope.{meaning};
-ghost use Rattle.expr_types.specs.Judge.{is_literal, builtin_of, is_const, call_rule, lifted_by, const_call, own_call, named_call};
+ghost use Rattle.expr_types.specs.Judge.{is_literal, rule_of, call_rule, lifted_by, const_call, own_call, named_call};
 ghost use Rattle.expr_types.specs.inner.Shown.{around_of, callee_in};
 ghost use Rattle.expr_types.specs.inner.Answers.{types_in};
+ghost use Rattle.expr_types.specs.inner.Steps.{plain_call};
 
 use crate::around::{Around, Callee};
 use crate::judge::Verdict;
 use name_check::declaration::Declaration;
-use spec_parser::tree::{Expr, Node};
 use std::alloc::Global;
+use syntax_tree::tree::{Expr, Node};
 use tsl_value::memory::NoMemory;
 use type_rules::call::{builtin_rule, const_rule, function_rule, lift_rule, macro_rule};
 use type_rules::rule::{Builtin, ExprType};
+use vocabulary::plain::{Plain, plain_named};
 
 /// A literal, as `const` asks it: a number with or without a minus, a text or a truth value.
 fn is_literal(expression: &Expr) -> bool
@@ -30,29 +32,22 @@ fn is_literal(expression: &Expr) -> bool
     }
 }
 
-/// The names of the language that are called, but for `lift` and `const`.
-#[tactic(auto, unfolding(crate::specs::Judge::builtin_of))]
-fn builtin_of(name: &str) -> Option<Builtin>
-    ensures { result ≡ builtin_of name.now }
+/// The rule of a name of the language. `lift` and `const` ask for more than types.
+fn rule_of(plain: Plain) -> Option<Builtin>
+    ensures { result ≡ rule_of plain }
 {
-    match name {
-        "time" => Some(Builtin::Time),
-        "last" => Some(Builtin::Last),
-        "delay" => Some(Builtin::Delay),
-        "merge" | "default" => Some(Builtin::Merge),
-        "filter" => Some(Builtin::Filter),
-        "isSome" => Some(Builtin::IsSome),
-        "isNone" => Some(Builtin::IsNone),
-        "getSome" => Some(Builtin::GetSome),
-        "Some" => Some(Builtin::Some),
-        _ => None,
+    match plain {
+        Plain::Time => Some(Builtin::Time),
+        Plain::Last => Some(Builtin::Last),
+        Plain::Delay => Some(Builtin::Delay),
+        Plain::Merge | Plain::Default => Some(Builtin::Merge),
+        Plain::Lift | Plain::Const => None,
+        Plain::Filter => Some(Builtin::Filter),
+        Plain::IsSome => Some(Builtin::IsSome),
+        Plain::IsNone => Some(Builtin::IsNone),
+        Plain::GetSome => Some(Builtin::GetSome),
+        Plain::Some => Some(Builtin::Some),
     }
-}
-
-fn is_const(name: &str) -> bool
-    ensures { result ≡ is_const name.now }
-{
-    name == "const"
 }
 
 /// A `lift` of streams that may be nothing by a function that may be nothing.
@@ -108,20 +103,39 @@ fn declared_call(
     }
 }
 
+/// A call of a name that has this rule, or of a declared one.
 fn own_call(
     alloc: Global,
     at: &Around<'_>,
+    rule: Option<Builtin>,
     name: &str,
     types: &[ExprType],
 ) -> Result<Option<Verdict>, NoMemory>
-    ensures { IfOk result (λ verdict. verdict ≡ own_call (builtin_of name.now) (around_of at.now) name.now (Some types.now)) }
+    ensures { IfOk result (λ verdict. verdict ≡ own_call rule (around_of at.now) name.now (Some types.now)) }
 {
-    match builtin_of(name) {
+    match rule {
         Some(builtin) => Ok(Some(builtin_rule(builtin, types))),
         None => match at.scope.find(name) {
             Some(declaration) => declared_call(alloc, at, declaration, types),
             None => Ok(None),
         },
+    }
+}
+
+/// A call of a name of the language other than `lift`.
+fn plain_call(
+    alloc: Global,
+    at: &Around<'_>,
+    plain: Plain,
+    name: &str,
+    arguments: &[Expr],
+    types: &[ExprType],
+) -> Result<Option<Verdict>, NoMemory>
+    ensures { IfOk result (λ verdict. verdict ≡ plain_call (around_of at.now) plain name.now (exprs_of arguments.now) (Some types.now)) }
+{
+    match plain {
+        Plain::Const => Ok(const_call(arguments, types)),
+        _ => own_call(alloc, at, rule_of(plain), name, types),
     }
 }
 
@@ -135,10 +149,9 @@ fn judged_call(
 ) -> Result<Option<Verdict>, NoMemory>
     ensures { IfOk result (λ verdict. verdict ≡ named_call (around_of at.now) name.now (exprs_of arguments.now) (Some types.now)) }
 {
-    if is_const(name) {
-        Ok(const_call(arguments, types))
-    } else {
-        own_call(alloc, at, name, types)
+    match plain_named(name) {
+        Some(plain) => plain_call(alloc, at, plain, name, arguments, types),
+        None => own_call(alloc, at, None, name, types),
     }
 }
 

@@ -2,7 +2,8 @@
 
 ghost use Rattle.std.specs.Prelude.{◌≡◌, IfOk, None, map, slice_get};
 ghost use Rattle.std.specs.Option.{option_and_then};
-ghost use Rattle.spec_parser.specs.inner.Shape.{body_of, definition_of, item_of};
+ghost use Rattle.syntax_tree.specs.Counts.{HasFewInside};
+ghost use Rattle.syntax_tree.specs.inner.OneLevel.{body_of, definition_of, item_of};
 ghost use Rattle.name_check.specs.Scope.{top};
 ghost use Rattle.type_rules.specs.Rules.{body_rule as what_is_asked};
 ghost use Rattle.expr_types.specs.Bodies.{fitting, expr_kind, body_kind, item_kind, block_kind};
@@ -17,8 +18,8 @@ use crate::judge::expression;
 use crate::kinds::KindTable;
 use name_check::names::Names;
 use name_check::scope::{Scope, locals, parameters};
-use spec_parser::tree::{Body, DefinitionParts, Expr, Item};
 use std::alloc::Global;
+use syntax_tree::tree::{Body, DefinitionParts, Expr, Item};
 use tsl_value::memory::NoMemory;
 use type_rules::call::body_rule;
 use type_rules::rule::{ExprType, Setting};
@@ -60,6 +61,7 @@ fn body_kind(
     braces: bool,
     body: &Body,
 ) -> Result<Option<ExprType>, NoMemory>
+    requires { HasFewInside (body_of body.now) }
     ensures { IfOk result (λ kind. kind ≡ body_kind (around_of at.now) braces (body_of body.now)) }
 {
     match body {
@@ -82,6 +84,7 @@ pub fn definition_kind(
     at: &Around<'_>,
     parts: &DefinitionParts,
 ) -> Result<Option<ExprType>, NoMemory>
+    requires { HasFewInside (body_of parts.now.body) }
     ensures { IfOk result (λ kind. kind ≡ kind_of_definition (around_of at.now) (definition_of parts.now)) }
 {
     match &parts.written {
@@ -97,6 +100,7 @@ pub fn local_definition_kind(
     at: &Around<'_>,
     parts: &DefinitionParts,
 ) -> Result<Option<ExprType>, NoMemory>
+    requires { HasFewInside (body_of parts.now.body) }
     ensures { IfOk result (λ kind. kind ≡ kind_of_local (around_of at.now) (definition_of parts.now)) }
 {
     match &parts.written {
@@ -144,7 +148,8 @@ fn kind_in_definition(
     number: usize,
     parts: &DefinitionParts,
 ) -> Result<Option<ExprType>, NoMemory>
-    requires { names.now ≡ top (map item_of items.now) }
+    requires names { names.now ≡ top (map item_of items.now) }
+    requires few { HasFewInside (body_of parts.now.body) }
     ensures { IfOk result (λ kind. kind ≡ kind_in_definition (map item_of items.now) (kinds_of kinds.now) number
         (definition_of parts.now)) }
 {

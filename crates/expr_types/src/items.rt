@@ -1,7 +1,8 @@
 // What is wrong in a specification, and what its items are.
 
 ghost use Rattle.std.specs.Prelude.{◌≡◌, [], IfOk, map};
-ghost use Rattle.spec_parser.specs.inner.Shape.{definition_of, item_of};
+ghost use Rattle.syntax_tree.specs.Counts.{HasFewInside};
+ghost use Rattle.syntax_tree.specs.inner.OneLevel.{body_of, definition_of, item_of};
 ghost use Rattle.name_check.specs.Scope.{seen, top};
 ghost use Rattle.type_rules.specs.declared.rule.Setting.TheVariants as setting;
 ghost use Rattle.expr_types.specs.Bodies.{item_wrongs, all_wrongs, aggregate_results_from, is_aggregate, holds_aggregate};
@@ -15,8 +16,8 @@ use crate::kinds::KindTable;
 use crate::wrong::Wrong;
 use name_check::names::Names;
 use name_check::scope::{Scope, are_values, parameters};
-use spec_parser::tree::{DefinitionParts, Item};
 use std::alloc::Global;
+use syntax_tree::tree::{DefinitionParts, Item};
 use tsl_value::memory::NoMemory;
 use tsl_value::place::Place;
 use tsl_value::scalar::ValueType;
@@ -30,7 +31,8 @@ fn find_in_definition(
     number: usize,
     parts: &DefinitionParts,
 ) -> Result<Option<Wrong>, NoMemory>
-    requires { names.now ≡ top (map item_of items.now) }
+    requires names { names.now ≡ top (map item_of items.now) }
+    requires few { HasFewInside (body_of parts.now.body) }
     ensures { IfOk result (λ found. found
         ≡ first (wrongs_in_definition (map item_of items.now) (kinds_of kinds.now) number (definition_of parts.now))) }
 {

@@ -2,8 +2,8 @@
 
 ghost use Rattle.std.specs.Prelude.{◌≡◌, IfOk, ◌++◌};
 ghost use Rattle.std.specs.Option.{option_map};
-ghost use Rattle.spec_parser.specs.inner.Shape.{exprs_of, links_in, expr_of};
-ghost use Rattle.spec_parser.specs.Tree as tree;
+ghost use Rattle.syntax_tree.specs.inner.OneLevel.{exprs_of, links_in, expr_of};
+ghost use Rattle.syntax_tree.specs.Tree as tree;
 ghost use Rattle.name_check.specs.inner.Shown.{nowhere};
 ghost use Rattle.type_rules.specs.Rules.{if_rule, compare_rule};
 ghost use Rattle.expr_types.specs.Around.{cons};
@@ -22,8 +22,8 @@ use crate::leaf::{
 use crate::stop::Stop;
 use crate::wrong::Wrong;
 use name_check::builtin::is_lift;
-use spec_parser::tree::{Comparison, Expr, Level, Link, Node};
 use std::alloc::Global;
+use syntax_tree::tree::{Comparison, Expr, Level, Link, Node};
 use tsl_value::memory::NoMemory;
 use type_rules::asked::{BOOL, INT, TEXT, UNIT};
 use type_rules::rule::{Clash, ExprType};

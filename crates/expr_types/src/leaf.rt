@@ -18,7 +18,7 @@ ghost use Rattle.expr_types.specs.inner.Answers.{types_in};
 use crate::around::Around;
 use crate::judge::Verdict;
 use name_check::builtin::is_unit;
-use spec_parser::tree::{Comparison, Level, TypeName};
+use syntax_tree::tree::{Comparison, Level, TypeName};
 use tsl_value::scalar::ValueType;
 use type_rules::asked::UNIT;
 use type_rules::operation::{compare_rule, dotted_rule, if_rule, link_rule, negate_rule, not_rule};

@@ -2,3 +2,4 @@ mod AnyLemmas
 mod ArityLemmas
 mod CountLemmas
 mod OutputLemmas
+pub mod OwnLemmas

@@ -1,13 +1,16 @@
 -- Calls with another number of arguments than they take, and value functions of too many parameters: their places, in the order
 -- of the source.
 use Rattle.std.specs.Prelude.{ℕ, suc, Bool, false, not, ◌&&◌, nat_lt, nat_le, ◌==◌, if◌then◌else◌, List, [], ◌∷◌, ◌++◌, map, filter, length}
-use Rattle.std.specs.Prelude.{codes, slice_get, Option, Some, None}
+use Rattle.std.specs.Prelude.{slice_get, Option, Some, None}
 use Rattle.std.specs.List.{list_any, flat_map}
+use Rattle.std.specs.Option.{option_map_or}
 use Rattle.std.specs.Str.{bytes_eq}
 use Rattle.tsl_value.specs.declared.place.Place.{Place}
-use Rattle.spec_parser.specs.Tree as tree
-use Rattle.spec_parser.specs.Tree.{Expr, Exprs, no_exprs, more_exprs}
+use Rattle.syntax_tree.specs.Tree as tree
+use Rattle.syntax_tree.specs.Tree.{Expr, Exprs, no_exprs, more_exprs}
 use Rattle.vocabulary.specs.Table.{takes_of}
+use Rattle.vocabulary.specs.declared.plain.Plain.{Plain}
+use Rattle.vocabulary.specs.PlainTable.{plains, spelling, plain_takes}
 use Rattle.name_check.specs.declared.declaration.Declaration.{Declaration}
 use Rattle.name_check.specs.declared.declaration.Declaration.TheVariants as declaration
 use Rattle.name_check.specs.Builtin.{is_unit, is_lift}
@@ -26,11 +29,14 @@ last_of (more_exprs e no_exprs) = Some e
 last_of (more_exprs e (more_exprs f es)) = last_of (more_exprs f es)
 
 -- ---- names of the language, `lift` aside
+abbrev pub takes_so_many : ℕ → Plain → Bool
+takes_so_many k p = option_map_or (λ m. m == k) (plain_takes p) false
+
 abbrev pub names_of_one : List (List ℕ)
-names_of_one = codes "time" ∷ codes "isSome" ∷ codes "isNone" ∷ codes "getSome" ∷ codes "Some" ∷ []
+names_of_one = map spelling (filter (takes_so_many 1) plains)
 
 abbrev pub names_of_two : List (List ℕ)
-names_of_two = codes "last" ∷ codes "delay" ∷ codes "merge" ∷ codes "default" ∷ codes "const" ∷ codes "filter" ∷ []
+names_of_two = map spelling (filter (takes_so_many 2) plains)
 
 -- those that take one argument, and those that take two
 unfoldable pub takes_one : List ℕ → Bool

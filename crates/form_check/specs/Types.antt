@@ -3,8 +3,8 @@
 use Rattle.std.specs.Prelude.{List, [], ◌∷◌, ◌++◌, Option, Some, None}
 use Rattle.std.specs.List.{flat_map}
 use Rattle.tsl_value.specs.declared.place.Place.{Place}
-use Rattle.spec_parser.specs.Tree as tree
-use Rattle.spec_parser.specs.Tree.{Expr, TypeName}
+use Rattle.syntax_tree.specs.Tree as tree
+use Rattle.syntax_tree.specs.Tree.{Expr, TypeName}
 use Rattle.name_check.specs.Parts.{Part, Operand, Function, parts}
 use Rattle.type_rules.specs.Written.{bad_key, bad_scalar, bad_inside, bad_as_written, bad_as_stream}
 

@@ -2,8 +2,9 @@
 
 ghost use Rattle.std.specs.Prelude.{◌≡◌, map, IfOk};
 ghost use Rattle.std.specs.List.{flat_map};
-ghost use Rattle.spec_parser.specs.Tree as tree;
-ghost use Rattle.spec_parser.specs.inner.Shape.{body_of, definition_of, definitions_of, item_of};
+ghost use Rattle.syntax_tree.specs.Tree as tree;
+ghost use Rattle.syntax_tree.specs.Counts.{AreFew, HasFewInside};
+ghost use Rattle.syntax_tree.specs.inner.OneLevel.{body_of, definition_of, definitions_of, item_of};
 ghost use Rattle.name_check.specs.Scope.{seen};
 ghost use Rattle.name_check.specs.Bodies.{item_bodies};
 ghost use Rattle.name_check.specs.Faults.{first};
@@ -15,8 +16,8 @@ use crate::call::is_wrong;
 use name_check::names::Names;
 use name_check::parts::parts;
 use name_check::scope::{Scope, are_values, locals, parameters};
-use spec_parser::tree::{Body, Definition, DefinitionParts, Expr, Item};
 use std::alloc::Global;
+use syntax_tree::tree::{Body, Definition, DefinitionParts, Expr, Item};
 use tsl_value::memory::NoMemory;
 use tsl_value::place::Place;
 
@@ -45,6 +46,7 @@ fn find_in_body(
     body: &Body,
     scope: &Scope<'_>,
 ) -> Result<Option<Place>, NoMemory>
+    requires { HasFewInside (body_of body.now) }
     ensures { IfOk result (λ found. found ≡ first (wrong_in_body (map item_of items.now) (seen scope.now) (body_of body.now))) }
 {
     match body {
@@ -61,6 +63,7 @@ fn find_in_block(
     last: &Expr,
     scope: &Scope<'_>,
 ) -> Result<Option<Place>, NoMemory>
+    requires { AreFew (definitions_of definitions.now) }
     ensures { IfOk result (λ found. found
         ≡ first (wrong_in_body (map item_of items.now) (seen scope.now) (tree.Block (definitions_of definitions.now) last.now))) }
 {
@@ -98,6 +101,7 @@ fn find_in_local(
     parts: &DefinitionParts,
     scope: &Scope<'_>,
 ) -> Result<Option<Place>, NoMemory>
+    requires { HasFewInside (body_of parts.now.body) }
     ensures { IfOk result (λ found. found
         ≡ first (wrong_in_body (map item_of items.now) (seen scope.now) (local_body (definition_of parts.now)))) }
 {
@@ -111,6 +115,7 @@ fn find_in_definition(
     parts: &DefinitionParts,
     names: &Names,
 ) -> Result<Option<Place>, NoMemory>
+    requires { HasFewInside (body_of parts.now.body) }
     ensures { IfOk result (λ found. found ≡ first (wrong_in_definition (map item_of items.now) names.now (definition_of parts.now))) }
 {
     let outer = Scope::around(names, &parts.params);

@@ -1,10 +1,12 @@
 // How many arguments a call takes.
 
 ghost use Rattle.std.specs.Prelude.{◌≡◌, not, map};
-ghost use Rattle.spec_parser.specs.inner.Shape.{exprs_of, definition_of, item_of};
+ghost use Rattle.std.specs.Option.{option_and_then};
+ghost use Rattle.vocabulary.specs.PlainTable.{plain_of, plain_takes};
+ghost use Rattle.syntax_tree.specs.inner.OneLevel.{exprs_of, definition_of, item_of};
 ghost use Rattle.name_check.specs.Scope.{meaning, seen};
 ghost use Rattle.name_check.specs.inner.Shown.{part_of};
-ghost use Rattle.form_check.specs.Arity.{last_of, takes_one, takes_two, definition_params, item_params, params_at};
+ghost use Rattle.form_check.specs.Arity.{last_of, definition_params, item_params, params_at};
 ghost use Rattle.form_check.specs.Arity.{declared_takes, function_takes, takes, call_fits, lifted_takes, lift_may_have, lift_fits};
 ghost use Rattle.form_check.specs.Arity.{is_wrong_lift, is_wrong_call, is_wrong};
 
@@ -12,25 +14,14 @@ use name_check::builtin::{is_lift, is_unit};
 use name_check::declaration::Declaration;
 use name_check::parts::Part;
 use name_check::scope::Scope;
-use spec_parser::tree::{DefinitionParts, Expr, Item, Node};
+use syntax_tree::tree::{DefinitionParts, Expr, Item, Node};
+use vocabulary::plain::plain_named;
 
-/// A name of the language that takes one argument.
-#[tactic(auto, unfolding(crate::specs::Arity::takes_one))]
-fn takes_one(name: &str) -> bool
-    ensures { result ≡ takes_one name.now }
+/// How many arguments a name of the language takes, `lift` aside.
+fn own_takes(name: &str) -> Option<usize>
+    ensures { result ≡ option_and_then plain_takes (plain_of name.now) }
 {
-    matches!(name, "time" | "isSome" | "isNone" | "getSome" | "Some")
-}
-
-/// A name of the language that takes two arguments.
-#[tactic(auto, unfolding(crate::specs::Arity::takes_two))]
-fn takes_two(name: &str) -> bool
-    ensures { result ≡ takes_two name.now }
-{
-    matches!(
-        name,
-        "last" | "delay" | "merge" | "default" | "const" | "filter"
-    )
+    plain_named(name)?.takes()
 }
 
 fn definition_params(parts: &DefinitionParts) -> usize
@@ -97,13 +88,11 @@ fn takes(items: &[Item], scope: &Scope<'_>, name: &str) -> Option<usize>
     ensures { result ≡ takes (map item_of items.now) (seen scope.now) name.now }
 {
     if is_unit(name) {
-        None
-    } else if takes_one(name) {
-        Some(1)
-    } else if takes_two(name) {
-        Some(2)
-    } else {
-        declared_takes(items, scope.find(name))
+        return None;
+    }
+    match own_takes(name) {
+        Some(number) => Some(number),
+        None => declared_takes(items, scope.find(name)),
     }
 }
 

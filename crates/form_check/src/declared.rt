@@ -2,14 +2,14 @@
 
 ghost use Rattle.std.specs.Prelude.{◌≡◌, not, map};
 ghost use Rattle.std.specs.List.{list_any, flat_map};
-ghost use Rattle.spec_parser.specs.inner.Shape.{params_in, definition_of, item_of};
+ghost use Rattle.syntax_tree.specs.inner.OneLevel.{params_in, definition_of, item_of};
 ghost use Rattle.name_check.specs.Scope.{is_events as is_events_type};
 ghost use Rattle.name_check.specs.Faults.{first};
 ghost use Rattle.form_check.specs.Declared.{are_mixed, mixed_in_definition, mixed_in_item, mixed_parameters, is_aggregate};
 ghost use Rattle.form_check.specs.Declared.{is_of_aggregates, aggregate_in_item, aggregate_inputs};
 
 use name_check::scope::{is_events, some_are_streams};
-use spec_parser::tree::{DefinitionParts, Item, Param, TypeName, TypeShape};
+use syntax_tree::tree::{DefinitionParts, Item, Param, TypeName, TypeShape};
 use tsl_value::place::Place;
 
 fn some_are_values(params: &[Param]) -> bool

@@ -3,13 +3,13 @@
 ghost use Rattle.std.specs.Prelude.{◌≡◌, ◌∷◌, [], ◌++◌, map, IfOk, IfNone};
 ghost use Rattle.std.specs.List.{list_any};
 ghost use Rattle.std.specs.String.{string_bytes};
-ghost use Rattle.spec_parser.specs.inner.Shape.{item_of, items_of};
+ghost use Rattle.syntax_tree.specs.inner.OneLevel.{item_of, items_of};
 ghost use Rattle.name_check.specs.Faults.{first};
 ghost use Rattle.form_check.specs.Outputs.{printed_again, printed_name, printed_again_by, outputs_twice, is_output, without_output};
 
 use indexmap::IndexSet;
-use spec_parser::tree::{Item, Tree};
 use std::alloc::Global;
+use syntax_tree::tree::{Item, Tree};
 use tsl_value::memory::NoMemory;
 use tsl_value::place::Place;
 

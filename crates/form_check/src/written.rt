@@ -2,16 +2,16 @@
 
 ghost use Rattle.std.specs.Prelude.{◌≡◌, map, IfOk};
 ghost use Rattle.std.specs.List.{flat_map};
-ghost use Rattle.spec_parser.specs.Tree as tree;
-ghost use Rattle.spec_parser.specs.inner.Shape.{params_in, body_of, definition_of, definitions_of, item_of};
+ghost use Rattle.syntax_tree.specs.Tree as tree;
+ghost use Rattle.syntax_tree.specs.inner.OneLevel.{params_in, body_of, definition_of, definitions_of, item_of};
 ghost use Rattle.name_check.specs.Faults.{first};
 ghost use Rattle.name_check.specs.inner.Shown.{part_of};
 ghost use Rattle.form_check.specs.Types.{bad_in_part, bad_in_expression, bad_stream, bad_written, bad_in_body, bad_in_locals, bad_in_local};
 ghost use Rattle.form_check.specs.Types.{bad_in_params, bad_in_definition, bad_in_item, bad_types};
 
 use name_check::parts::{Part, parts};
-use spec_parser::tree::{Body, Definition, DefinitionParts, Expr, Item, Node, Param, TypeName};
 use std::alloc::Global;
+use syntax_tree::tree::{Body, Definition, DefinitionParts, Expr, Item, Node, Param, TypeName};
 use tsl_value::memory::NoMemory;
 use tsl_value::place::Place;
 use type_rules::written::{bad_as_stream, bad_as_written, bad_inside, bad_key, bad_scalar};

@@ -1,8 +1,8 @@
 -- No tree has two answers, other than out of memory.
 use Rattle.std.proofs.Common.{◌≡◌, List, [], ◌∷◌, Some, Result, Ok, Err, sym, ap, ◌∙◌}
 use Rattle.tsl_value.specs.declared.place.Place.{Place}
-use Rattle.spec_parser.specs.Tree as tree
-use Rattle.spec_parser.specs.inner.Shape.{items_of}
+use Rattle.syntax_tree.specs.Tree as tree
+use Rattle.syntax_tree.specs.inner.OneLevel.{items_of}
 use Rattle.name_check.specs.declared.check.NameFault.{NameFault}
 use Rattle.name_check.specs.declared.check.NameFault.TheVariants as fault
 use Rattle.name_check.specs.Scope.{Scope}

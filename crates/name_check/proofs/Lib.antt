@@ -1,5 +1,6 @@
 pub mod AgreeLemmas
 pub mod FirstLemmas
+pub mod CountLemmas
 mod LawLemmas
 mod PartsLemmas
 mod TableLemmas

@@ -2,11 +2,11 @@
 use Rattle.std.proofs.Common.{◌≡◌, ℕ, ◌+◌, ◌<◌, ◌≤◌, List, [], ◌∷◌, ◌++◌, length, get_or, drop, refl, sym, ap, ◌∙◌, append_assoc, arith}
 use Rattle.std.proofs.lemmas.List.{append-nil, map-append, drop_all}
 use Rattle.tsl_value.specs.declared.place.Place.{Place}
-use Rattle.spec_parser.specs.Tree.{Expr, place_of}
-use Rattle.spec_parser.specs.declared.tree.Link.{Link}
-use Rattle.spec_parser.specs.declared.tree.Node.{Node}
-use Rattle.spec_parser.specs.declared.tree.Node.TheVariants as node
-use Rattle.spec_parser.specs.inner.Shape.{exprs_of, links_in, expr_of}
+use Rattle.syntax_tree.specs.Tree.{Expr, place_of}
+use Rattle.syntax_tree.specs.declared.tree.Link.{Link}
+use Rattle.syntax_tree.specs.declared.tree.Node.{Node}
+use Rattle.syntax_tree.specs.declared.tree.Node.TheVariants as node
+use Rattle.syntax_tree.specs.inner.OneLevel.{exprs_of, links_in, expr_of}
 use Rattle.name_check.specs.Parts as spec
 use Rattle.name_check.specs.Parts.{parts, argument_parts, lift_parts, link_parts}
 use Rattle.name_check.specs.declared.parts.Part.{Part}

@@ -2,8 +2,8 @@
 use Rattle.std.proofs.Common.{◌≡◌, ℕ, ◌+◌, ◌<◌, ◌≤◌, List, [], ◌∷◌, ◌++◌, map, length, get_or, drop, is_none, if◌then◌else◌, Bool, refl, sym, ap, ◌∙◌, append_assoc, add-one}
 use Rattle.std.proofs.lemmas.List.{append-nil, drop_all}
 use Rattle.std.proofs.lemmas.List.Elements.{filter-append}
-use Rattle.spec_parser.specs.declared.tree.Item.{Item}
-use Rattle.spec_parser.specs.inner.Shape.{item_of}
+use Rattle.syntax_tree.specs.declared.tree.Item.{Item}
+use Rattle.syntax_tree.specs.inner.OneLevel.{item_of}
 use Rattle.name_check.specs.Scope.{Scope, Entry, meaning, Agree, is_function, functions_of, declared_from}
 use Rattle.name_check.specs.inner.Steps.{declared_by}
 use Rattle.name_check.proofs.AgreeLemmas.{agree_same, agree_trans, agree_append, declared_agrees}

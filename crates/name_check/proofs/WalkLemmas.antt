@@ -5,9 +5,9 @@ use Rattle.std.specs.List.{flat_map}
 use Rattle.std.proofs.lemmas.List.{append-nil}
 use Rattle.std.proofs.lemmas.List.Concat.{flat_map-append}
 use Rattle.tsl_value.specs.declared.place.Place.{Place}
-use Rattle.spec_parser.specs.Tree as tree
-use Rattle.spec_parser.specs.Tree.{Expr}
-use Rattle.spec_parser.specs.inner.Shape.{definitions_of}
+use Rattle.syntax_tree.specs.Tree as tree
+use Rattle.syntax_tree.specs.Tree.{Expr}
+use Rattle.syntax_tree.specs.inner.OneLevel.{definitions_of}
 use Rattle.name_check.specs.Scope.{Scope, are_values, functions_of, parameters_from, count_in, locals_from, inside, in_block, Agree}
 use Rattle.name_check.specs.Bodies.{Seen, bodies, block_bodies}
 use Rattle.name_check.specs.Faults.{first}

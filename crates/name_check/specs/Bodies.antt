@@ -1,7 +1,7 @@
 -- The expressions of a specification's items, with what is seen in each, in the order of the source.
 use Rattle.std.specs.Prelude.{ℕ, suc, ◌+◌, List, [], ◌∷◌, ◌++◌}
-use Rattle.spec_parser.specs.Tree as tree
-use Rattle.spec_parser.specs.Tree.{Expr}
+use Rattle.syntax_tree.specs.Tree as tree
+use Rattle.syntax_tree.specs.Tree.{Expr}
 use Rattle.name_check.specs.Scope.{Scope, count_in, inside, in_block}
 
 pub record Seen : Type 0 where

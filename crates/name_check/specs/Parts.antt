@@ -1,8 +1,8 @@
 -- The expressions that stand in an expression, itself first, in the order of the source.
 use Rattle.std.specs.Prelude.{List, [], ◌∷◌, ◌++◌, if◌then◌else◌}
 use Rattle.tsl_value.specs.declared.place.Place.{Place}
-use Rattle.spec_parser.specs.Tree as tree
-use Rattle.spec_parser.specs.Tree.{Expr, Exprs, no_exprs, more_exprs, Links, no_links, more_links, place_of}
+use Rattle.syntax_tree.specs.Tree as tree
+use Rattle.syntax_tree.specs.Tree.{Expr, Exprs, no_exprs, more_exprs, Links, no_links, more_links, place_of}
 use Rattle.name_check.specs.Builtin.{is_lift}
 
 -- An expression, or what stands where `lift` has the name of its function. That is no expression of its own: what it has in it is

@@ -4,8 +4,9 @@ use Rattle.std.specs.Prelude.{ℕ, suc, ◌+◌, ◌≡◌, Bool, true, false, i
 use Rattle.std.specs.Option.{option_map}
 use Rattle.std.specs.List.{find, list_any, list_all}
 use Rattle.std.specs.Str.{bytes_eq}
-use Rattle.spec_parser.specs.Tree as tree
-use Rattle.spec_parser.specs.Tree.{TypeName}
+use Rattle.syntax_tree.specs.Tree as tree
+use Rattle.syntax_tree.specs.Tree.{TypeName}
+pub use Rattle.syntax_tree.specs.Counts.{count_in, counts}
 use Rattle.name_check.specs.declared.declaration.Declaration.{Declaration}
 use Rattle.name_check.specs.declared.declaration.Declaration.TheVariants as declaration
 
@@ -49,16 +50,6 @@ top items = declared_from 0 items
 abbrev pub parameters_from : ℕ → List tree.Param → Scope
 parameters_from k [] = []
 parameters_from k (p ∷ ps) = record { name = p.name; is = declaration.Parameter k } ∷ parameters_from (suc k) ps
-
-abbrev mutual
-  -- how many definitions stand in the blocks of a body
-  pub count_in : tree.Body → ℕ
-  count_in (tree.Plain e) = 0
-  count_in (tree.Block ds e) = counts ds
-
-  pub counts : tree.Definitions → ℕ
-  counts tree.no_definitions = 0
-  counts (tree.more_definitions (tree.Define q n ps w b) ds) = suc (count_in b + counts ds)
 
 -- The definitions of a block, the first of which has number k. Those in the body of a definition have the numbers after its own.
 abbrev pub locals_from : ℕ → tree.Definitions → Scope

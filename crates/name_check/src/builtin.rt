@@ -1,28 +1,18 @@
 // The names that the language has itself.
 
 ghost use Rattle.std.specs.Prelude.{◌≡◌};
-ghost use Rattle.name_check.specs.Builtin.{is_called, is_unit, is_lift, is_built_in};
+ghost use Rattle.std.specs.List.{list_any};
+ghost use Rattle.std.specs.Str.{bytes_eq};
+ghost use Rattle.name_check.specs.Builtin.{is_called, is_unit, is_lift, is_built_in, prefixes};
+
+use vocabulary::dotted::family_named;
+use vocabulary::plain::{Plain, plain_named};
 
 /// A built-in name that is called with arguments.
-#[tactic(auto, unfolding(crate::specs::Builtin::is_called))]
 pub fn is_called(name: &str) -> bool
     ensures { result ≡ is_called name.now }
 {
-    matches!(
-        name,
-        "time"
-            | "last"
-            | "delay"
-            | "merge"
-            | "default"
-            | "lift"
-            | "const"
-            | "filter"
-            | "isSome"
-            | "isNone"
-            | "getSome"
-            | "Some"
-    )
+    plain_named(name).is_some()
 }
 
 /// The name of the one value of type Unit.
@@ -38,7 +28,14 @@ pub fn is_unit(name: &str) -> bool
 pub fn is_lift(name: &str) -> bool
     ensures { result ≡ is_lift name.now }
 {
-    name == "lift"
+    name == Plain::Lift.name()
+}
+
+/// A built-in name that stands before a bracket or a dot alone.
+fn is_prefix(name: &str) -> bool
+    ensures { result ≡ list_any (bytes_eq name.now) prefixes }
+{
+    name == "nil" || name == "None" || family_named(name).is_some()
 }
 
 /// A name that the language has itself.
@@ -46,5 +43,5 @@ pub fn is_lift(name: &str) -> bool
 pub fn is_built_in(name: &str) -> bool
     ensures { result ≡ is_built_in name.now }
 {
-    is_unit(name) || is_called(name) || matches!(name, "nil" | "None" | "Set" | "Map" | "String")
+    is_unit(name) || is_called(name) || is_prefix(name)
 }

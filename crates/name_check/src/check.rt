@@ -5,8 +5,8 @@ ghost use Rattle.name_check.specs.inner.Answer.{IsAnswer};
 use crate::names::Names;
 use crate::twice::declare_items;
 use crate::unknown::find_in_items;
-use spec_parser::tree::Tree;
 use std::alloc::Global;
+use syntax_tree::tree::Tree;
 use tsl_value::memory::NoMemory;
 use tsl_value::place::Place;
 

@@ -1,14 +1,14 @@
 // The expressions that stand in an expression.
 
 ghost use Rattle.std.specs.Prelude.{◌≡◌, ◌++◌, [], ◌∷◌, IfOk, OnOk, if◌then◌else◌};
-ghost use Rattle.spec_parser.specs.inner.Shape.{exprs_of, links_in, expr_of};
+ghost use Rattle.syntax_tree.specs.inner.OneLevel.{exprs_of, links_in, expr_of};
 ghost use Rattle.name_check.specs.Builtin.{is_lift as is_lift_name};
 ghost use Rattle.name_check.specs.Parts.{parts, part_place, argument_parts, lift_parts, link_parts};
 ghost use Rattle.name_check.specs.inner.Shown.{part_of, parts_in, nowhere, inner_parts};
 
 use crate::builtin::is_lift;
-use spec_parser::tree::{Expr, Link, Node};
 use std::alloc::Global;
+use syntax_tree::tree::{Expr, Link, Node};
 use tsl_value::memory::NoMemory;
 use tsl_value::place::Place;
 

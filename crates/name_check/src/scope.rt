@@ -1,16 +1,17 @@
 // What is seen where.
 
-ghost use Rattle.std.specs.Prelude.{◌≡◌, [], ◌∷◌, if◌then◌else◌, IfOk};
+ghost use Rattle.std.specs.Prelude.{◌≡◌, ◌+◌, ◌^◌, ◌<◌, [], ◌∷◌, if◌then◌else◌, IfOk};
 ghost use Rattle.std.specs.List.{list_all, list_any};
-ghost use Rattle.spec_parser.specs.inner.Shape.{params_in, definitions_of};
+ghost use Rattle.syntax_tree.specs.inner.OneLevel.{params_in, definitions_of};
+ghost use Rattle.syntax_tree.specs.Counts.{counts};
 ghost use Rattle.name_check.specs.Scope.{meaning, seen, functions_of, is_events, are_values, parameters_from, locals_from, Agree};
 
 use crate::count::number_after;
 use crate::declaration::Declaration;
 use crate::names::Names;
-use spec_parser::tree::{Definition, Param, TypeName, TypeShape};
 use std::alloc::Global;
 use std::marker::Model;
+use syntax_tree::tree::{Definition, Param, TypeName, TypeShape};
 use tsl_value::memory::NoMemory;
 
 /// What is seen at a place: the names around it, where inner names hide outer ones. Contracts see the levels, the innermost of
@@ -158,6 +159,7 @@ pub fn parameters(alloc: Global, params: &[Param]) -> Result<Names, NoMemory>
 
 /// The names of a block's definitions, the first of which has this number. The first of two equal names counts.
 pub fn locals(alloc: Global, first: usize, definitions: &[Definition]) -> Result<Names, NoMemory>
+    requires { first + counts (definitions_of definitions.now) < 2 ^ 64 }
     ensures { IfOk result (λ names. Agree names (locals_from first (definitions_of definitions.now))) }
 {
     let mut names = Names::new(alloc);
@@ -165,7 +167,7 @@ pub fn locals(alloc: Global, first: usize, definitions: &[Definition]) -> Result
     for definition in definitions {
         let parts = definition.parts();
         let _new = names.declare(parts.name.as_str(), Declaration::Local(number))?;
-        number = number_after(number, &parts.body)?;
+        number = number_after(number, &parts.body);
     }
     Ok(names)
 }

@@ -1,15 +1,15 @@
 // The names of the top of any specification, where names may be declared twice.
 
 ghost use Rattle.std.specs.Prelude.{◌≡◌, [], ◌∷◌, ◌++◌, map, IfOk, OnOk};
-ghost use Rattle.spec_parser.specs.inner.Shape.{definition_of, item_of};
+ghost use Rattle.syntax_tree.specs.inner.OneLevel.{definition_of, item_of};
 ghost use Rattle.name_check.specs.Scope.{Agree, functions_of, top};
 ghost use Rattle.name_check.specs.inner.Steps.{declared_by, declared_by_definition};
 
 use crate::declaration::Declaration;
 use crate::names::Names;
 use crate::twice::declared_as;
-use spec_parser::tree::{DefinitionParts, Item};
 use std::alloc::Global;
+use syntax_tree::tree::{DefinitionParts, Item};
 use tsl_value::memory::NoMemory;
 
 /// The names that items declare, the first of which has number 0. The first of two equal names counts.

@@ -1,7 +1,7 @@
 // Names that are declared twice.
 
 ghost use Rattle.std.specs.Prelude.{◌≡◌, [], ◌∷◌, ◌++◌, map, IfOk, IfNone};
-ghost use Rattle.spec_parser.specs.inner.Shape.{params_in, body_of, definition_of, definitions_of, item_of};
+ghost use Rattle.syntax_tree.specs.inner.OneLevel.{params_in, body_of, definition_of, definitions_of, item_of};
 ghost use Rattle.name_check.specs.Scope.{declared_as};
 ghost use Rattle.name_check.specs.Faults.{first, again, twice_in_params, twice_in_body, twice_in_block};
 ghost use Rattle.name_check.specs.inner.Steps.{names_of, local_name, twice_in_local, declared_by_definition, declared_by};
@@ -14,8 +14,8 @@ use crate::check::NameFault;
 use crate::declaration::Declaration;
 use crate::names::Names;
 use crate::scope::{all_are_streams, some_are_streams};
-use spec_parser::tree::{Body, Definition, DefinitionParts, Item, Param};
 use std::alloc::Global;
+use syntax_tree::tree::{Body, Definition, DefinitionParts, Item, Param};
 use tsl_value::memory::NoMemory;
 use tsl_value::place::Place;
 

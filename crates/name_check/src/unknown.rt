@@ -2,8 +2,9 @@
 
 ghost use Rattle.std.specs.Prelude.{◌≡◌, map, not, ◌||◌, IfOk};
 ghost use Rattle.std.specs.List.{flat_map};
-ghost use Rattle.spec_parser.specs.Tree as tree;
-ghost use Rattle.spec_parser.specs.inner.Shape.{body_of, definition_of, definitions_of, item_of};
+ghost use Rattle.syntax_tree.specs.Tree as tree;
+ghost use Rattle.syntax_tree.specs.Counts.{AreFew, HasFewInside};
+ghost use Rattle.syntax_tree.specs.inner.OneLevel.{body_of, definition_of, definitions_of, item_of};
 ghost use Rattle.name_check.specs.Builtin.{is_called as is_called_name, is_unit as is_unit_name};
 ghost use Rattle.name_check.specs.Scope.{meaning, seen};
 ghost use Rattle.name_check.specs.inner.Shown.{part_of};
@@ -14,8 +15,8 @@ use crate::builtin::{is_called, is_unit};
 use crate::names::Names;
 use crate::parts::{Part, parts};
 use crate::scope::{Scope, locals, parameters};
-use spec_parser::tree::{Body, Definition, DefinitionParts, Expr, Item, Node};
 use std::alloc::Global;
+use syntax_tree::tree::{Body, Definition, DefinitionParts, Expr, Item, Node};
 use tsl_value::memory::NoMemory;
 use tsl_value::place::Place;
 
@@ -84,6 +85,7 @@ fn find_in_expression(
 
 #[cycle(unknown)]
 fn find_in_body(alloc: Global, body: &Body, scope: &Scope<'_>) -> Result<Option<Place>, NoMemory>
+    requires { HasFewInside (body_of body.now) }
     ensures { IfOk result (λ found. found ≡ first (unknown_in_body (seen scope.now) (body_of body.now))) }
 {
     match body {
@@ -99,6 +101,7 @@ fn find_in_block(
     last: &Expr,
     scope: &Scope<'_>,
 ) -> Result<Option<Place>, NoMemory>
+    requires { AreFew (definitions_of definitions.now) }
     ensures { IfOk result (λ found. found
         ≡ first (unknown_in_body (seen scope.now) (tree.Block (definitions_of definitions.now) last.now))) }
 {
@@ -133,6 +136,7 @@ fn find_in_local(
     parts: &DefinitionParts,
     scope: &Scope<'_>,
 ) -> Result<Option<Place>, NoMemory>
+    requires { HasFewInside (body_of parts.now.body) }
     ensures { IfOk result (λ found. found ≡ first (unknown_in_body (seen scope.now) (local_body (definition_of parts.now)))) }
 {
     find_in_body(alloc, &parts.body, scope)
@@ -143,6 +147,7 @@ fn find_in_definition(
     parts: &DefinitionParts,
     names: &Names,
 ) -> Result<Option<Place>, NoMemory>
+    requires { HasFewInside (body_of parts.now.body) }
     ensures { IfOk result (λ found. found ≡ first (unknown_in_definition names.now (definition_of parts.now))) }
 {
     let outer = Scope::around(names, &parts.params);

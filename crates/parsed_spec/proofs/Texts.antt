@@ -4,16 +4,16 @@ use Rattle.std.specs.List.{AllByRecursion}
 use Rattle.std.proofs.lemmas.Bool.{false≢true}
 use Rattle.tsl_value.specs.declared.place.Place.{Place}
 use Rattle.tsl_value.specs.declared.limits.TheConstants.{MOST_TEXT_BYTES}
-use Rattle.spec_lexer.specs.declared.token.Kind.{Kind}
-use Rattle.spec_lexer.specs.declared.token.Kind.TheVariants as kind
+use Rattle.spec_lexer.specs.declared.token.TokenKind.{TokenKind}
+use Rattle.spec_lexer.specs.declared.token.TokenKind.TheVariants as kind
 use Rattle.spec_lexer.specs.declared.token.Token.{Token}
 use Rattle.spec_lexer.specs.Pieces.{Makes}
 use Rattle.spec_lexer.specs.Pieces as pieces
 use Rattle.spec_lexer.specs.Source.{Lexes, HasTokens}
 use Rattle.spec_lexer.specs.Source as source
 use Rattle.spec_lexer.specs.Tokens.{Spelled}
-use Rattle.spec_parser.specs.Tree as tree
-use Rattle.spec_parser.specs.Tree.{Expr}
+use Rattle.syntax_tree.specs.Tree as tree
+use Rattle.syntax_tree.specs.Tree.{Expr}
 use Rattle.parsed_spec.specs.inner.TextLaws.{SpelledHaveShortTexts}
 use Rattle.parsed_spec.proofs.SpelledParts.{is_other, FromTokens, spelled_parts}
 
@@ -21,7 +21,7 @@ use Rattle.parsed_spec.proofs.SpelledParts.{is_other, FromTokens, spelled_parts}
 abbrev ShortToken : Token → Type 0
 ShortToken t = (n : List ℕ) → t.kind ≡ kind.Text n → length n ≤ MOST_TEXT_BYTES
 
-made_short : {front rest : List ℕ} {k : Kind} → Makes front rest k → (n : List ℕ) → k ≡ kind.Text n → length n ≤ MOST_TEXT_BYTES
+made_short : {front rest : List ℕ} {k : TokenKind} → Makes front rest k → (n : List ℕ) → k ≡ kind.Text n → length n ≤ MOST_TEXT_BYTES
 made_short (pieces.Makes.word name spelled) n is = cc
 made_short (pieces.Makes.name name no_word few) n is = cc
 made_short (pieces.Makes.number number fits) n is = cc

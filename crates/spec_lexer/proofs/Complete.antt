@@ -17,8 +17,8 @@ use Rattle.spec_lexer.specs.declared.fault.LexFault.{LexFault}
 use Rattle.spec_lexer.specs.declared.fault.LexFault.TheVariants.{BadCharacter, OpenText, BadEscape}
 use Rattle.spec_lexer.specs.declared.piece.Piece.{Piece}
 use Rattle.spec_lexer.specs.declared.piece.Piece.TheVariants.{Blank, LineEnd, Made}
-use Rattle.spec_lexer.specs.declared.token.Kind.{Kind}
-use Rattle.spec_lexer.specs.declared.token.Kind.TheVariants as kind
+use Rattle.spec_lexer.specs.declared.token.TokenKind.{TokenKind}
+use Rattle.spec_lexer.specs.declared.token.TokenKind.TheVariants as kind
 use Rattle.spec_lexer.specs.declared.token.Word.{Word}
 use Rattle.spec_lexer.specs.declared.token.Symbol.{Symbol}
 use Rattle.spec_lexer.specs.declared.token.Symbol.TheVariants as symbol
@@ -29,12 +29,12 @@ use Rattle.spec_lexer.proofs.Choices.{not_true, no_such, one_passes}
 use Rattle.spec_lexer.proofs.Places.{place_after-within}
 use Rattle.spec_lexer.proofs.Runs.{prefix_len-run}
 use Rattle.spec_lexer.proofs.Sound.{means_within}
-use Rattle.spec_lexer.proofs.Symbols.{pair_of-spells, single_of-spells, Shape, shape, double, single, symbol_character, symbol_characters, no_nul}
+use Rattle.spec_lexer.proofs.Symbols.{pair_of-spells, single_of-spells, SymbolLength, shape, double, single, symbol_character, symbol_characters, no_nul}
 use Rattle.spec_lexer.proofs.Words.{word_of-spells, word_of-word_spelling, words_are_short}
 use Rattle.spec_lexer.specs.declared.limits.TheConstants.{MOST_NAME_BYTES}
 
 -- a piece of so many characters is found, a token of this kind or none
-abbrev pub Reads : Result Piece LexFault → ℕ → Option Kind → Type 0
+abbrev pub Reads : Result Piece LexFault → ℕ → Option TokenKind → Type 0
 Reads (Ok (Blank m)) n None = m ≡ n
 Reads (Ok (Blank m)) n (Some k) = ⊥
 Reads (Ok LineEnd) n None = 1 ≡ n
@@ -43,7 +43,7 @@ Reads (Ok (Made l m)) n None = ⊥
 Reads (Ok (Made l m)) n (Some k) = (m ≡ n) × (l ≡ k)
 Reads (Err e) n o = ⊥
 
-abbrev pub ReadsFront : Place → List ℕ → ℕ → Option Kind → Type 0
+abbrev pub ReadsFront : Place → List ℕ → ℕ → Option TokenKind → Type 0
 ReadsFront at [] n o = ⊥
 ReadsFront at (c ∷ cs) n o = Reads (found at c cs) n o
 
@@ -67,13 +67,13 @@ no_blank p a b d c h = λ i. (no_such p 32 a c h i || no_such p 9 b c h i) || no
 no_comment : (p : ℕ → Bool) → p 35 ≡ false → p 45 ≡ false → (c next : ℕ) → p c ≡ true → begins_comment c next ≡ false
 no_comment p a b c next h = λ i. no_such p 35 a c h i || (no_such p 45 b c h i && next == 45)
 
-digit_low : (c : ℕ) → is_ascii_digit c ≡ true → c < 128
+pub digit_low : (c : ℕ) → is_ascii_digit c ≡ true → c < 128
 digit_low c h = grind arith
 
 digit_no_letter : (c : ℕ) → is_ascii_digit c ≡ true → is_ascii_alphabetic c ≡ false
 digit_no_letter c h = grind arith
 
-symbol_low : (c : ℕ) → symbol_character c ≡ true → c < 128
+pub symbol_low : (c : ℕ) → symbol_character c ≡ true → c < 128
 symbol_low c h = grind arith
 
 symbol_no_letter : (c : ℕ) → symbol_character c ≡ true → is_ascii_alphabetic c ≡ false
@@ -131,7 +131,7 @@ found-line_end : (at : Place) (cs : List ℕ) → found at 10 cs ≡ Ok LineEnd
 unfolding found
 found-line_end at cs = refl
 
-reads_by : {r s : Result Piece LexFault} (n : ℕ) (o : Option Kind) → r ≡ s → Reads s n o → Reads r n o
+reads_by : {r s : Result Piece LexFault} (n : ℕ) (o : Option TokenKind) → r ≡ s → Reads s n o → Reads r n o
 reads_by n o is h = subst (λ r. Reads r n o) (sym is) h
 
 -- ---- blanks and comments
@@ -231,7 +231,7 @@ next_is : (rest : List ℕ) → next_of rest ≡ 45 → (more : List ℕ) × (re
 next_is [] h = cc
 next_is (d ∷ ds) h = (ds, ap (λ d. d ∷ ds) h)
 
-symbol_reads : (at : Place) (s : Symbol) (rest : List ℕ) → IsSymbol s rest → Shape s → ReadsFront at (symbol_spelling s ++ rest) (length (symbol_spelling s)) (Some (kind.Symbol s))
+symbol_reads : (at : Place) (s : Symbol) (rest : List ℕ) → IsSymbol s rest → SymbolLength s → ReadsFront at (symbol_spelling s ++ rest) (length (symbol_spelling s)) (Some (kind.Symbol s))
 unfolding symbol_found
 symbol_reads at s rest symbol (double {k = k} {l = l} spelled is) =
     let passes = sym (ap (list_all symbol_character) spelled) ∙ symbol_characters s in
@@ -245,7 +245,7 @@ symbol_reads at s rest symbol (single {k = k} spelled is) =
     subst (λ f. ReadsFront at (f ++ rest) (length f) (Some (kind.Symbol s))) (sym spelled)
     (reads_by 1 (Some (kind.Symbol s)) (found-symbol at k rest (and_parts (symbol_character k) _ passes).0 quiet ∙ (λ i. symbol_as at (no_pairs i) (is i))) (refl, refl))
 
-pub make_reads : (at : Place) {front rest : List ℕ} {k : Kind} → Makes front rest k → ReadsFront at (front ++ rest) (length front) (Some k)
+pub make_reads : (at : Place) {front rest : List ℕ} {k : TokenKind} → Makes front rest k → ReadsFront at (front ++ rest) (length front) (Some k)
 make_reads at (a_word {first = first} {more = more} {rest = rest} {w = w} named is) =
     reads_by (length (first ∷ more)) (Some (kind.Word w)) (name_reads at first more rest named ∙ ap (λ o. name_as at o (encode_utf8_all (first ∷ more)) (length (first ∷ more))) (ap word_of is ∙ word_of-word_spelling w)) (refl, refl)
 make_reads at (a_name {first = first} {more = more} {rest = rest} named none short) =

@@ -11,7 +11,7 @@ use Rattle.std.proofs.lemmas.Fmt.{IsAscii-from_digits}
 use Rattle.std.proofs.lemmas.Str.{encodes-IsAscii}
 use Rattle.std.proofs.lemmas.Str.Parse.{IsNumeralModel, numerals_by_value, parse_digits}
 use Rattle.tsl_value.specs.declared.place.Place.{Place}
-use Rattle.spec_lexer.specs.declared.token.Kind.TheVariants as kind
+use Rattle.spec_lexer.specs.declared.token.TokenKind.TheVariants as kind
 use Rattle.spec_lexer.specs.declared.fault.LexFault.TheVariants.{LiteralTooWide}
 use Rattle.spec_lexer.specs.declared.piece.Piece.TheVariants.{Made}
 use Rattle.spec_lexer.specs.Found.{number_as}

@@ -6,7 +6,7 @@ use Rattle.tsl_value.specs.declared.place.Place.{Place}
 use Rattle.spec_lexer.specs.declared.fault.LexFault.{LexFault}
 use Rattle.spec_lexer.specs.declared.piece.Piece.{Piece}
 use Rattle.spec_lexer.specs.declared.piece.Piece.TheVariants.{Blank, LineEnd, Made}
-use Rattle.spec_lexer.specs.declared.token.Kind.{Kind}
+use Rattle.spec_lexer.specs.declared.token.TokenKind.{TokenKind}
 use Rattle.spec_lexer.specs.declared.token.Token.{Token}
 use Rattle.spec_lexer.specs.Found.{found}
 use Rattle.spec_lexer.specs.Pieces.{place_after, IsSkipped, Makes, IsWrong}
@@ -14,18 +14,18 @@ use Rattle.spec_lexer.specs.Source.{Lexes, end, skip, token, Fails, here, past_s
 use Rattle.spec_lexer.proofs.Complete.{Reads, ReadsFront, FailsFront, skip_reads, make_reads, wrong_reads}
 
 -- a piece, a token of a kind or none
-data IsPiece : List ℕ → List ℕ → Option Kind → Type 0 where
+data IsPiece : List ℕ → List ℕ → Option TokenKind → Type 0 where
   skipped : {front rest : List ℕ} → IsSkipped front rest → IsPiece front rest None
-  made : {front rest : List ℕ} {k : Kind} → Makes front rest k → IsPiece front rest (Some k)
+  made : {front rest : List ℕ} {k : TokenKind} → Makes front rest k → IsPiece front rest (Some k)
 
-piece_reads : {all front rest : List ℕ} {o : Option Kind} (at : Place) → all ≡ front ++ rest → IsPiece front rest o → ReadsFront at all (length front) o
+piece_reads : {all front rest : List ℕ} {o : Option TokenKind} (at : Place) → all ≡ front ++ rest → IsPiece front rest o → ReadsFront at all (length front) o
 piece_reads at is (skipped {front = front} s) = subst (λ l. ReadsFront at l (length front) None) (sym is) (skip_reads at s)
 piece_reads at is (made {front = front} {k = k} m) = subst (λ l. ReadsFront at l (length front) (Some k)) (sym is) (make_reads at m)
 
 fault_reads : {all front rest : List ℕ} {e : LexFault} (at : Place) → all ≡ front ++ rest → IsWrong at front rest e → FailsFront at all e
 fault_reads {e = e} at is w = subst (λ l. FailsFront at l e) (sym is) (wrong_reads at w)
 
-same_reads : (r : Result Piece LexFault) (n m : ℕ) (o p : Option Kind) → Reads r n o → Reads r m p → (n ≡ m) × (o ≡ p)
+same_reads : (r : Result Piece LexFault) (n m : ℕ) (o p : Option TokenKind) → Reads r n o → Reads r m p → (n ≡ m) × (o ≡ p)
 same_reads (Ok (Blank l)) n m None None a b = (sym a ∙ b, refl)
 same_reads (Ok (Blank l)) n m None (Some k) a b = absurd b
 same_reads (Ok (Blank l)) n m (Some k) p a b = absurd a
@@ -37,11 +37,11 @@ same_reads (Ok (Made l j)) n m (Some k) None a b = absurd b
 same_reads (Ok (Made l j)) n m (Some k) (Some q) a b = (sym a.0 ∙ b.0, ap Some (sym a.1 ∙ b.1))
 same_reads (Err e) n m o p a b = absurd a
 
-same_size : (at : Place) (all : List ℕ) (n m : ℕ) (o p : Option Kind) → ReadsFront at all n o → ReadsFront at all m p → (n ≡ m) × (o ≡ p)
+same_size : (at : Place) (all : List ℕ) (n m : ℕ) (o p : Option TokenKind) → ReadsFront at all n o → ReadsFront at all m p → (n ≡ m) × (o ≡ p)
 same_size at [] n m o p a b = absurd a
 same_size at (c ∷ cs) n m o p a b = same_reads (found at c cs) n m o p a b
 
-same_piece : (all f r g s : List ℕ) (o p : Option Kind) → all ≡ f ++ r → IsPiece f r o → all ≡ g ++ s → IsPiece g s p → (f ≡ g) × (r ≡ s) × (o ≡ p)
+same_piece : (all f r g s : List ℕ) (o p : Option TokenKind) → all ≡ f ++ r → IsPiece f r o → all ≡ g ++ s → IsPiece g s p → (f ≡ g) × (r ≡ s) × (o ≡ p)
 same_piece all f r g s o p is piece same other =
     let parts = same_size start all (length f) (length g) o p (piece_reads start is piece) (piece_reads start same other) in
     let fronts : f ≡ g = sym (take-append_seam f r) ∙ (λ i. take (parts.0 i) ((sym is ∙ same) i)) ∙ take-append_seam g s in
@@ -49,7 +49,7 @@ same_piece all f r g s o p is piece same other =
     (fronts, rests, parts.1)
 
 -- a fault and a piece never stand in one front
-clash : (at : Place) (all : List ℕ) (n : ℕ) (o : Option Kind) (e : LexFault) → ReadsFront at all n o → FailsFront at all e → ⊥
+clash : (at : Place) (all : List ℕ) (n : ℕ) (o : Option TokenKind) (e : LexFault) → ReadsFront at all n o → FailsFront at all e → ⊥
 clash at [] n o e a b = a
 clash at (c ∷ cs) n o e a b = subst (λ r. Reads r n o) b a
 

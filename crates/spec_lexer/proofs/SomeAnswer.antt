@@ -5,7 +5,7 @@ use Rattle.spec_lexer.specs.declared.fault.LexFault.{LexFault}
 use Rattle.spec_lexer.specs.declared.fault.LexFault.TheVariants.{SpecTooLong, BadUtf8}
 use Rattle.spec_lexer.specs.declared.piece.Piece.{Piece}
 use Rattle.spec_lexer.specs.declared.piece.Piece.TheVariants.{Blank, LineEnd, Made}
-use Rattle.spec_lexer.specs.declared.token.Kind.{Kind}
+use Rattle.spec_lexer.specs.declared.token.TokenKind.{TokenKind}
 use Rattle.spec_lexer.specs.declared.token.Token.{Token}
 use Rattle.spec_lexer.specs.Found.{found}
 use Rattle.spec_lexer.specs.Pieces.{place_after, IsSkipped, line_end, Makes}
@@ -24,7 +24,7 @@ past : (at : Place) (last : ℕ) (all front rest : List ℕ) → all ≡ front +
 past at last all front rest is s (inl l) = inl (l.0, skip is s l.1)
 past at last all front rest is s (inr f) = inr (f.0, past_skip is s f.1)
 
-behind : (at : Place) (last : ℕ) (all front rest : List ℕ) (k : Kind) → all ≡ front ++ rest → Makes front rest k → Answer (place_after at front) at.line rest → Answer at last all
+behind : (at : Place) (last : ℕ) (all front rest : List ℕ) (k : TokenKind) → all ≡ front ++ rest → Makes front rest k → Answer (place_after at front) at.line rest → Answer at last all
 behind at last all front rest k is m (inl l) = inl (_, token is m l.1)
 behind at last all front rest k is m (inr f) = inr (f.0, past_token is m f.1)
 

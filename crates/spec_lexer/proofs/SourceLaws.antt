@@ -7,7 +7,7 @@ use Rattle.std.proofs.lemmas.List.{append-nil}
 use Rattle.std.proofs.lemmas.Str.{encode_same, encodes_same, length-encode, len_utf8_bounds}
 use Rattle.tsl_value.specs.declared.place.Place.{Place}
 use Rattle.spec_lexer.specs.declared.token.Token.{Token}
-use Rattle.spec_lexer.specs.declared.token.Kind.{Kind}
+use Rattle.spec_lexer.specs.declared.token.TokenKind.{TokenKind}
 use Rattle.spec_lexer.specs.declared.fault.LexFault.TheVariants as fault
 use Rattle.spec_lexer.specs.declared.fault.LexFault.{LexFault}
 use Rattle.spec_lexer.specs.declared.fault.LexFault.TheVariants.{BadUtf8}
@@ -74,7 +74,7 @@ tokens_or_fault bytes a e (lexed {characters = ds} short other l ends) (bad_utf8
 tokens_or_fault bytes a e (lexed {characters = cs} short text l ends) (fails {characters = ds} short' other f) = never_both l (subst (λ cs. Fails start cs e) (sym (same_text bytes cs ds text other)) f)
 
 -- ---- no more tokens than bytes
-made_length : {front rest : List ℕ} {k : Kind} → Makes front rest k → 0 < length front
+made_length : {front rest : List ℕ} {k : TokenKind} → Makes front rest k → 0 < length front
 made_length (a_word named is) = omega arith
 made_length (a_name named none short) = omega arith
 made_length (a_number number low) = omega arith

@@ -4,7 +4,7 @@ use Rattle.std.specs.Prelude.{nat_lt}
 use Rattle.std.proofs.Math.Seq.{drop-append_seam}
 use Rattle.tsl_value.specs.declared.place.Place.{Place}
 use Rattle.spec_lexer.specs.declared.token.Token.{Token}
-use Rattle.spec_lexer.specs.declared.token.Kind.{Kind}
+use Rattle.spec_lexer.specs.declared.token.TokenKind.{TokenKind}
 use Rattle.spec_lexer.specs.declared.fault.LexFault.{LexFault}
 use Rattle.spec_lexer.specs.declared.fault.LexFault.TheVariants as fault
 use Rattle.spec_lexer.specs.declared.piece.Piece.TheVariants.{Blank, LineEnd, Made}
@@ -44,7 +44,7 @@ module _ (at : Place) (c : ℕ) (after rest : List ℕ) (is : rest ≡ c ∷ aft
   blank_front : Ok (Blank n) ≡ found at c after → Fronts c after n IsSkipped
   blank_front h = subst (Stands at c after) (sym h) (sound at c after)
 
-  made_front : (k : Kind) → Ok (Made k n) ≡ found at c after → Fronts c after n (λ front rest. Makes front rest k)
+  made_front : (k : TokenKind) → Ok (Made k n) ≡ found at c after → Fronts c after n (λ front rest. Makes front rest k)
   made_front k h = subst (Stands at c after) (sym h) (sound at c after)
 
   pub blank_fits : Ok (Blank n) ≡ found at c after → (0 < n) × (n ≤ length rest)
@@ -59,16 +59,16 @@ module _ (at : Place) (c : ℕ) (after rest : List ℕ) (is : rest ≡ c ∷ aft
   pub fail_blank : (e : LexFault) → Ok (Blank n) ≡ found at c after → Fails (moved at n) (drop n rest) e → Fails at rest e
   fail_blank e h l = let f = blank_front h in past_skip (whole IsSkipped f) (holds IsSkipped f) (subst (λ p. Fails p (drop n rest) e) (sym (there IsSkipped f)) l)
 
-  pub made_fits : (k : Kind) → Ok (Made k n) ≡ found at c after → (0 < n) × (n ≤ length rest)
+  pub made_fits : (k : TokenKind) → Ok (Made k n) ≡ found at c after → (0 < n) × (n ≤ length rest)
   made_fits k h = fits (λ front rest. Makes front rest k) (made_front k h)
 
-  pub made_ends : (k : Kind) → Ok (Made k n) ≡ found at c after → place_after (moved at n) (drop n rest) ≡ place_after at rest
+  pub made_ends : (k : TokenKind) → Ok (Made k n) ≡ found at c after → place_after (moved at n) (drop n rest) ≡ place_after at rest
   made_ends k h = ends (λ front rest. Makes front rest k) (made_front k h)
 
-  pub lex_made : (k : Kind) (last : ℕ) (tokens : List Token) → Ok (Made k n) ≡ found at c after → Lexes (moved at n) at.line (drop n rest) tokens → Lexes at last rest (record { kind = k; place = at; first = nat_lt last at.line } ∷ tokens)
+  pub lex_made : (k : TokenKind) (last : ℕ) (tokens : List Token) → Ok (Made k n) ≡ found at c after → Lexes (moved at n) at.line (drop n rest) tokens → Lexes at last rest (record { kind = k; place = at; first = nat_lt last at.line } ∷ tokens)
   lex_made k last tokens h l = let f = made_front k h in token (whole (λ front rest. Makes front rest k) f) (holds (λ front rest. Makes front rest k) f) (subst (λ p. Lexes p at.line (drop n rest) tokens) (sym (there (λ front rest. Makes front rest k) f)) l)
 
-  pub fail_made : (k : Kind) (e : LexFault) → Ok (Made k n) ≡ found at c after → Fails (moved at n) (drop n rest) e → Fails at rest e
+  pub fail_made : (k : TokenKind) (e : LexFault) → Ok (Made k n) ≡ found at c after → Fails (moved at n) (drop n rest) e → Fails at rest e
   fail_made k e h l = let f = made_front k h in past_token (whole (λ front rest. Makes front rest k) f) (holds (λ front rest. Makes front rest k) f) (subst (λ p. Fails p (drop n rest) e) (sym (there (λ front rest. Makes front rest k) f)) l)
 
 module _ (at : Place) (c : ℕ) (after rest : List ℕ) (is : rest ≡ c ∷ after) where

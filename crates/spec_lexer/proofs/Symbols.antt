@@ -51,11 +51,11 @@ single_of-spells c =
     (tell_next _ _ symbol.Not _ (one c 33) (λ s is. cc))))))))))))))))))
 
 -- what is found in front of a symbol's spelling
-pub data Shape : Symbol → Type 0 where
-  double : {s : Symbol} {k l : ℕ} → symbol_spelling s ≡ k ∷ l ∷ [] → pair_of k l ≡ Some s → Shape s
-  single : {s : Symbol} {k : ℕ} → symbol_spelling s ≡ k ∷ [] → single_of k ≡ Some s → Shape s
+pub data SymbolLength : Symbol → Type 0 where
+  double : {s : Symbol} {k l : ℕ} → symbol_spelling s ≡ k ∷ l ∷ [] → pair_of k l ≡ Some s → SymbolLength s
+  single : {s : Symbol} {k : ℕ} → symbol_spelling s ≡ k ∷ [] → single_of k ≡ Some s → SymbolLength s
 
-pub shape : (s : Symbol) → Shape s
+pub shape : (s : Symbol) → SymbolLength s
 unfolding pair_of single_of
 shape symbol.Define = double refl refl
 shape symbol.Equals = single refl refl

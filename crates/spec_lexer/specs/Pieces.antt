@@ -9,8 +9,8 @@ use Rattle.tsl_value.specs.declared.place.Place.{Place}
 use Rattle.tsl_value.specs.declared.limits.TheConstants.{MOST_TEXT_BYTES}
 use Rattle.spec_lexer.specs.declared.token.Word.{Word}
 use Rattle.spec_lexer.specs.declared.token.Symbol.{Symbol}
-use Rattle.spec_lexer.specs.declared.token.Kind.{Kind}
-use Rattle.spec_lexer.specs.declared.token.Kind.TheVariants as kind
+use Rattle.spec_lexer.specs.declared.token.TokenKind.{TokenKind}
+use Rattle.spec_lexer.specs.declared.token.TokenKind.TheVariants as kind
 use Rattle.spec_lexer.specs.declared.fault.LexFault.{LexFault}
 use Rattle.spec_lexer.specs.declared.fault.LexFault.TheVariants.{BadCharacter, OpenText, BadEscape, LiteralTooWide, TextTooLong}
 use Rattle.spec_lexer.specs.declared.fault.LexFault.TheVariants.{NameTooLong}
@@ -78,7 +78,7 @@ abbrev pub quoted : List ℕ → List ℕ
 quoted written = 34 ∷ (written ++ 34 ∷ [])
 
 -- the front makes a token of this kind
-pub data Makes : List ℕ → List ℕ → Kind → Type 0 where
+pub data Makes : List ℕ → List ℕ → TokenKind → Type 0 where
   word :
       {first : ℕ} {more rest : List ℕ} {w : Word} →
       IsName first more rest →

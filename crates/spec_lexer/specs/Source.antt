@@ -2,7 +2,7 @@
 use Rattle.std.specs.Prelude.{◌≡◌, ◌⊎◌, Result, Ok, Err, ◌≤◌, ◌<◌, ℕ, nat_lt, true, List, [], ◌∷◌, ◌++◌, length, encode_utf8_all}
 use Rattle.std.specs.Str.{all_scalars, StartsWithNoChar}
 use Rattle.tsl_value.specs.declared.place.Place.{Place}
-use Rattle.spec_lexer.specs.declared.token.Kind.{Kind}
+use Rattle.spec_lexer.specs.declared.token.TokenKind.{TokenKind}
 use Rattle.spec_lexer.specs.declared.token.Token.{Token}
 use Rattle.spec_lexer.specs.declared.fault.LexFault.{LexFault}
 use Rattle.spec_lexer.specs.declared.fault.LexFault.TheVariants.{SpecTooLong, BadUtf8, Memory}
@@ -21,7 +21,7 @@ pub data Lexes : Place → ℕ → List ℕ → List Token → Type 0 where
       Lexes (place_after at front) last rest tokens →
       Lexes at last all tokens
   token :
-      {at : Place} {last : ℕ} {all front rest : List ℕ} {kind : Kind} {tokens : List Token} →
+      {at : Place} {last : ℕ} {all front rest : List ℕ} {kind : TokenKind} {tokens : List Token} →
       all ≡ front ++ rest →
       Makes front rest kind →
       Lexes (place_after at front) at.line rest tokens →
@@ -41,7 +41,7 @@ pub data Fails : Place → List ℕ → LexFault → Type 0 where
       Fails (place_after at front) rest fault →
       Fails at all fault
   past_token :
-      {at : Place} {all front rest : List ℕ} {kind : Kind} {fault : LexFault} →
+      {at : Place} {all front rest : List ℕ} {kind : TokenKind} {fault : LexFault} →
       all ≡ front ++ rest →
       Makes front rest kind →
       Fails (place_after at front) rest fault →

@@ -10,7 +10,7 @@ use crate::characters::text_of;
 use crate::fault::LexFault;
 use crate::limits::MOST_NAME_BYTES;
 use crate::piece::Piece;
-use crate::token::{Kind, Word};
+use crate::token::{TokenKind, Word};
 use std::alloc::Global;
 use tsl_value::place::Place;
 
@@ -60,10 +60,10 @@ pub(crate) fn name_at(
     let count = 1 + continued(after);
     let name = text_of(alloc, &characters[..count])?;
     if let Some(word) = word(name.as_str()) {
-        return Ok(Piece::Made(Kind::Word(word), count));
+        return Ok(Piece::Made(TokenKind::Word(word), count));
     }
     if name.len() > MOST_NAME_BYTES {
         return Err(LexFault::NameTooLong { place: at });
     }
-    Ok(Piece::Made(Kind::Name(name), count))
+    Ok(Piece::Made(TokenKind::Name(name), count))
 }

@@ -10,7 +10,7 @@ use crate::characters::text_of;
 use crate::fault::LexFault;
 use crate::natural::Natural;
 use crate::piece::Piece;
-use crate::token::Kind;
+use crate::token::TokenKind;
 use std::alloc::Global;
 use tsl_value::place::Place;
 
@@ -44,7 +44,7 @@ pub(crate) fn number_at(
     let digits = text_of(alloc, &characters[..count])?;
     match digits.as_str().parse::<u64>() {
         Ok(number) if number <= MAX_NUMBER => {
-            let kind = Kind::Number(Natural::new(number));
+            let kind = TokenKind::Number(Natural::new(number));
             Ok(Piece::Made(kind, count))
         }
         _ => Err(LexFault::LiteralTooWide { place: at }),

@@ -11,7 +11,7 @@ use crate::name::name_at;
 use crate::number::number_at;
 use crate::quoted::text_at;
 use crate::symbol::symbol_at;
-use crate::token::Kind;
+use crate::token::TokenKind;
 use std::alloc::Global;
 use tsl_value::place::Place;
 
@@ -21,7 +21,7 @@ pub(crate) enum Piece {
     /// A blank or a comment.
     Blank(usize),
     LineEnd,
-    Made(Kind, usize),
+    Made(TokenKind, usize),
 }
 
 /// Whether it is a blank. LF ends a line, and is a piece of its own.

@@ -7,7 +7,7 @@ ghost use Rattle.spec_lexer.specs.Source.{IfFault};
 
 use crate::fault::LexFault;
 use crate::piece::Piece;
-use crate::token::Kind;
+use crate::token::TokenKind;
 use std::alloc::Global;
 use tsl_value::limits::MOST_TEXT_BYTES;
 use tsl_value::place::Place;
@@ -75,6 +75,6 @@ fn made(at: Place, text: Text, count: usize) -> Result<Piece, LexFault>
     if text.len() > MOST_TEXT_BYTES {
         Err(LexFault::TextTooLong { place: at })
     } else {
-        Ok(Piece::Made(Kind::Text(text), count))
+        Ok(Piece::Made(TokenKind::Text(text), count))
     }
 }

@@ -6,7 +6,7 @@ ghost use Rattle.spec_lexer.specs.Source.{IfFault};
 
 use crate::fault::LexFault;
 use crate::piece::Piece;
-use crate::token::{Kind, Symbol};
+use crate::token::{Symbol, TokenKind};
 use tsl_value::place::Place;
 
 /// The symbol that two characters spell.
@@ -61,9 +61,9 @@ pub(crate) fn symbol_at(at: Place, c: char, next: char) -> Result<Piece, LexFaul
     ensures fault { IfFault result (λ e. Err e ≡ symbol_found at c next) }
 {
     if let Some(symbol) = pair(c, next) {
-        Ok(Piece::Made(Kind::Symbol(symbol), 2))
+        Ok(Piece::Made(TokenKind::Symbol(symbol), 2))
     } else if let Some(symbol) = single(c) {
-        Ok(Piece::Made(Kind::Symbol(symbol), 1))
+        Ok(Piece::Made(TokenKind::Symbol(symbol), 1))
     } else {
         Err(LexFault::BadCharacter { place: at })
     }

@@ -75,7 +75,7 @@ pub enum Symbol {
 
 /// What a token is.
 #[derive(Drop)]
-pub enum Kind {
+pub enum TokenKind {
     /// A name as it is written, of at most 255 bytes.
     Name(Text),
     /// The number that the digits spell, at most 9,223,372,036,854,775,807.
@@ -89,7 +89,7 @@ pub enum Kind {
 /// A token, where it begins, and whether it is the first of its line.
 #[derive(Drop)]
 pub struct Token {
-    pub kind: Kind,
+    pub kind: TokenKind,
     pub place: Place,
     pub first: bool,
 }

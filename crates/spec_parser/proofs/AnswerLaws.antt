@@ -1,9 +1,9 @@
 -- Each list of tokens has an answer.
-use Rattle.std.proofs.Common.{ℕ, List, [], ◌∷◌, ◌++◌, refl, sym, subst, ◌∙◌, inl, inr, append_assoc}
+use Rattle.std.proofs.Common.{ℕ, List, [], ◌∷◌, refl, sym, subst, ◌∙◌, inl, inr, append_assoc}
 use Rattle.spec_lexer.specs.declared.token.Token.{Token}
 use Rattle.token_reader.specs.inner.Reader.{Unexpected, TooDeep, Outcome, Read, Stopped}
 use Rattle.token_reader.proofs.Meets.{Meets}
-use Rattle.spec_parser.specs.Tree.{Item}
+use Rattle.syntax_tree.specs.Tree.{Item}
 use Rattle.spec_parser.specs.inner.Reading.{specification}
 use Rattle.spec_parser.specs.Grammar.{Spells}
 use Rattle.spec_parser.specs.Refusals.{IsUnexpected, IsTooDeep, HasAnswer}

@@ -1,41 +1,37 @@
 -- What is spelled so is read: types and expressions.
-use Rattle.std.proofs.Common.{◌≡◌, ℕ, zero, suc, Bool, true, false, not, List, [], ◌∷◌, Option, Some, None, is_some, refl, sym, ap, subst, ◌∙◌}
+use Rattle.std.proofs.Common.{◌≡◌, ℕ, suc, Bool, true, false, List, [], ◌∷◌, Option, Some, None, is_some, refl, sym, ap, ◌∙◌}
 use Rattle.std.specs.Prelude.{codes}
 use Rattle.std.specs.Option.{option_map}
 use Rattle.tsl_value.specs.declared.place.Place.{Place}
 use Rattle.spec_lexer.specs.declared.token.Token.{Token}
-use Rattle.spec_lexer.specs.declared.token.Kind.{Kind}
-use Rattle.spec_lexer.specs.declared.token.Kind.TheVariants as kind
+use Rattle.spec_lexer.specs.declared.token.TokenKind.{TokenKind}
+use Rattle.spec_lexer.specs.declared.token.TokenKind.TheVariants as kind
 use Rattle.spec_lexer.specs.declared.token.Word.TheVariants as word
 use Rattle.spec_lexer.specs.declared.token.Symbol.TheVariants as symbol
-use Rattle.token_reader.specs.inner.Reader.{Unexpected, Outcome, Read, Stopped, Turn, Lister, give, and_then, ◌>>=◌, when, taken, take_by, expect, tried, if_next, chosen, or_else, opened, many}
+use Rattle.token_reader.specs.inner.Reader.{Unexpected, Outcome, Read, Stopped, give, and_then, ◌>>=◌, when, taken, if_next, chosen, opened, many}
 use Rattle.token_reader.proofs.ManyLaws.{many_none}
 use Rattle.token_reader.proofs.Meets.{expect_is, passes_by, taken_by, tried_by, not_tried, many_stop, many_go}
-use Rattle.spec_parser.specs.declared.tree.Level.{Level}
-use Rattle.spec_parser.specs.declared.tree.Level.TheVariants as level
-use Rattle.spec_parser.specs.declared.tree.Operator.{Operator}
-use Rattle.spec_parser.specs.declared.tree.Comparison.{Comparison}
-use Rattle.vocabulary.specs.declared.dotted.Dotted.{Dotted}
+use Rattle.syntax_tree.specs.declared.tree.Level.{Level}
+use Rattle.syntax_tree.specs.declared.tree.Level.TheVariants as level
+use Rattle.syntax_tree.specs.declared.tree.Operator.{Operator}
 use Rattle.spec_parser.specs.declared.words.TypedWord.{TypedWord}
 use Rattle.vocabulary.specs.declared.dotted.Family.{Family}
 use Rattle.spec_parser.specs.declared.words.Member.{Member}
 use Rattle.spec_parser.specs.declared.words.Member.TheVariants as member
 use Rattle.vocabulary.specs.declared.dotted.Family.TheVariants as family
-use Rattle.spec_parser.specs.Tree as tree
-use Rattle.spec_parser.specs.Tree.{TypeName, Expr, Exprs, no_exprs, more_exprs, Links, no_links, more_links, place_of}
+use Rattle.syntax_tree.specs.Tree as tree
+use Rattle.syntax_tree.specs.Tree.{TypeName, Expr, Exprs, no_exprs, more_exprs, Links, no_links, more_links, place_of}
 use Rattle.vocabulary.specs.Table.{family_of, family_name, family_in, member_name}
 use Rattle.spec_parser.specs.Words.{operator_at, comparison_at, opens_call, is_number, is_close, is_open_bracket, is_close_bracket, is_open_brace, is_comma, is_if, is_then, is_else, typed_word_of, goes_on}
 use Rattle.spec_parser.specs.Grammar.{Is, IsNamed, IsPast, IsPastLevel, IsPastComparison, IsPastName, IsType, unit, int, bool, string, set, map, option, events, chained, IsExpr, choice, chain, IsLevel, operands, AreLinks, no_link, one_link, IsOperand, conjunction, no_comparison, comparison, product, unary, IsUnary, negative, negate, negation, primary, IsPrimary, number, text, truth, falsity, parens, nothing, name, call, call_dotted, nil, none, empty_set, empty_map, AreOthers, no_other, one_other}
 use Rattle.spec_parser.specs.inner.Reading as read
-use Rattle.spec_parser.specs.inner.Reading.{Reader, must, in_brackets, two_in_brackets, type_after, at_type, a_type, type_in, link, links_of, after_operand, others_of, after_argument, arguments, typed, member_of, must_call, member_after, at_member, a_member, after_name, called, at_number, negated, in_parens, at_unary, second_sum, compared, if_false, if_true, all_levels, expression, within, prefixed, unary_at, operand_at}
+use Rattle.spec_parser.specs.inner.Reading.{Reader, must, in_brackets, two_in_brackets, type_after, at_type, a_type, type_in, link, links_of, after_operand, others_of, after_argument, arguments, typed, member_of, must_call, member_after, at_member, a_member, after_name, name_or_call, at_number, negated, in_parens, at_unary, second_sum, compared, if_false, if_true, all_levels, expression, within, prefixed, unary_at, operand_at}
 use Rattle.spec_parser.proofs.Ends.{signs, if_is, close_is, open_brace_is}
 use Rattle.spec_parser.proofs.Names.{family_again, member_again, empty_set_again, empty_map_again}
-use Rattle.spec_parser.proofs.ExprLaws.{turn_others}
-use Rattle.spec_parser.proofs.LevelLaws.{within_known}
 use Rattle.spec_parser.proofs.Levels.{links_local, others_local}
 
 -- a token of a kind that has to come
-pub must_is : {A : Type 0} (test : Kind → Bool) (p : Reader A) (k : Kind) (v : Token) (ts : List Token) → v.kind ≡ k → test k ≡ true → must test p (v ∷ ts) ≡ p ts
+pub must_is : {A : Type 0} (test : TokenKind → Bool) (p : Reader A) (k : TokenKind) (v : Token) (ts : List Token) → v.kind ≡ k → test k ≡ true → must test p (v ∷ ts) ≡ p ts
 must_is test p k v ts is fits = expect_is (λ t. test t.kind) p v ts (ap test is ∙ fits)
 
 module _ {A : Type 0} (i : Reader TypeName) where
@@ -78,14 +74,14 @@ arguments_is room f ts us rest v e es h k closes =
     ∙ must_is is_close (give (f (more_exprs e es))) (kind.Symbol symbol.Close) v rest closes refl
 
 -- names
-unary_name : (room : ℕ) (t : Token) (n : List ℕ) (ts : List Token) → IsNamed t n → unary_at room (t ∷ ts) ≡ called room (type_in room) (within room) t.place n ts
+unary_name : (room : ℕ) (t : Token) (n : List ℕ) (ts : List Token) → IsNamed t n → unary_at room (t ∷ ts) ≡ name_or_call room (type_in room) (within room) t.place n ts
 unary_name room t n ts is = λ k. taken (at_unary room (type_in room) (within room) (prefixed room) (is k) t.place) t ts
 
 some_none : {A : Type 0} (o : Option A) → is_some o ≡ false → o ≡ None
 some_none None h = refl
 some_none (Some a) h = cc
 
-nothing_on : (room : ℕ) (place : Place) (n : List ℕ) (k : Kind) (first : Bool) → goes_on n k first ≡ false → after_name room (type_in room) (within room) place n k first ≡ None
+nothing_on : (room : ℕ) (place : Place) (n : List ℕ) (k : TokenKind) (first : Bool) → goes_on n k first ≡ false → after_name room (type_in room) (within room) place n k first ≡ None
 nothing_on room place n (kind.Symbol symbol.Open) first h = λ i. when (h i) (opened room (arguments (within room) (tree.Call place n)))
 nothing_on room place n (kind.Symbol symbol.OpenBracket) first h = ap (option_map (typed room (type_in room) place)) (some_none (typed_word_of n) h)
 nothing_on room place n (kind.Symbol symbol.Dot) first h = ap (option_map (a_member room (type_in room) (within room) place)) (some_none (family_of n) h)
@@ -95,11 +91,11 @@ nothing_on room place n (kind.Name m) first h = refl
 nothing_on room place n (kind.Number m) first h = refl
 nothing_on room place n (kind.Text m) first h = refl
 
-name_alone : (room : ℕ) (place : Place) (n : List ℕ) (ts : List Token) → IsPastName n ts → called room (type_in room) (within room) place n ts ≡ Read (tree.Name place n) ts
+name_alone : (room : ℕ) (place : Place) (n : List ℕ) (ts : List Token) → IsPastName n ts → name_or_call room (type_in room) (within room) place n ts ≡ Read (tree.Name place n) ts
 name_alone room place n [] h = refl
 name_alone room place n (u ∷ ts) h = not_tried (λ t. after_name room (type_in room) (within room) place n t.kind t.first) (tree.Name place n) u ts (nothing_on room place n u.kind u.first h)
 
-call_turn : (room : ℕ) (place : Place) (n : List ℕ) (k : Kind) (first : Bool) → opens_call k first ≡ true → after_name room (type_in room) (within room) place n k first ≡ Some (opened room (arguments (within room) (tree.Call place n)))
+call_turn : (room : ℕ) (place : Place) (n : List ℕ) (k : TokenKind) (first : Bool) → opens_call k first ≡ true → after_name room (type_in room) (within room) place n k first ≡ Some (opened room (arguments (within room) (tree.Call place n)))
 call_turn room place n (kind.Symbol symbol.Open) first h = λ i. when (h i) (opened room (arguments (within room) (tree.Call place n)))
 call_turn room place n (kind.Symbol _) first h = cc
 call_turn room place n (kind.Word w) first h = cc
@@ -164,7 +160,7 @@ minus_other : (room : ℕ) (place : Place) (ts rest : List Token) (e : Expr) →
 minus_other room place [] rest e h is = ap (λ q. and_then q (λ e. give (tree.Negate place e))) is
 minus_other room place (u ∷ ts) rest e h is = by u.kind h ∙ ap (λ q. and_then q (λ e. give (tree.Negate place e))) is
   where
-    by : (k : Kind) → is_number k ≡ false → chosen (at_number place k) (prefixed (suc room) >>= λ e. give (tree.Negate place e)) u ts ≡ and_then (prefixed (suc room) (u ∷ ts)) (λ e. give (tree.Negate place e))
+    by : (k : TokenKind) → is_number k ≡ false → chosen (at_number place k) (prefixed (suc room) >>= λ e. give (tree.Negate place e)) u ts ≡ and_then (prefixed (suc room) (u ∷ ts)) (λ e. give (tree.Negate place e))
     by (kind.Number n) h = cc
     by (kind.Name n) h = refl
     by (kind.Text n) h = refl

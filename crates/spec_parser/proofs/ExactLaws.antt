@@ -1,10 +1,10 @@
 -- What is answered wherever tokens spell a tree or are refused.
-use Rattle.std.proofs.Common.{◌≡◌, List, [], ◌∷◌, Err, ap, ◌∙◌}
+use Rattle.std.proofs.Common.{List, Err, ap, ◌∙◌}
 use Rattle.tsl_value.specs.declared.place.Place.{Place}
 use Rattle.spec_lexer.specs.declared.token.Token.{Token}
 use Rattle.spec_parser.specs.declared.parse.ParseFault.{ParseFault}
 use Rattle.spec_parser.specs.declared.parse.ParseFault.TheVariants as fault
-use Rattle.spec_parser.specs.Tree.{Item}
+use Rattle.syntax_tree.specs.Tree.{Item}
 use Rattle.spec_parser.specs.Grammar.{Spells}
 use Rattle.spec_parser.specs.Refusals.{IsUnexpected, IsTooDeep}
 use Rattle.spec_parser.specs.Answers.{place_at, IsFaultOf, IsTreeUnlessMemory, IsUnexpectedUnlessMemory, IsTooDeepUnlessMemory}

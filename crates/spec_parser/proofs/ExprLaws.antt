@@ -4,21 +4,16 @@ use Rattle.std.specs.Prelude.{codes}
 use Rattle.std.specs.Option.{option_map}
 use Rattle.tsl_value.specs.declared.place.Place.{Place}
 use Rattle.spec_lexer.specs.declared.token.Token.{Token}
-use Rattle.spec_lexer.specs.declared.token.Kind.{Kind}
-use Rattle.spec_lexer.specs.declared.token.Kind.TheVariants as kind
+use Rattle.spec_lexer.specs.declared.token.TokenKind.{TokenKind}
+use Rattle.spec_lexer.specs.declared.token.TokenKind.TheVariants as kind
 use Rattle.spec_lexer.specs.declared.token.Word.TheVariants as word
 use Rattle.spec_lexer.specs.declared.token.Symbol.TheVariants as symbol
-use Rattle.token_reader.specs.inner.Reader.{TooDeep, Lister, give, refuse, and_then, ◌>>=◌, when, taken, take_by, expect, if_next, chosen, or_else, opened, many}
-use Rattle.token_reader.proofs.LocalLaws.{CarefulAt, IsCareful, IsLocal, IsLocalTurn, IsEager, Declines, Stays, eagerly, declining, calmly, local-give, local-take_by, local-bind, local-expect, local-or_else, local_when, declines_when, eager-take_by, eager-bind, eager-or_else, eager-refuse}
+use Rattle.token_reader.specs.inner.Reader.{TooDeep, give, refuse, and_then, ◌>>=◌, when, chosen, opened, many}
+use Rattle.token_reader.proofs.LocalLaws.{CarefulAt, IsCareful, IsLocal, IsLocalTurn, IsEager, Declines, Stays, eagerly, calmly, local-give, local-bind, local-expect, local-or_else, local_when, eager-take_by, eager-bind}
 use Rattle.token_reader.proofs.ManyLaws.{many_end, careful-many, local-many}
-use Rattle.token_reader.proofs.CarefulLaws.{careful-give, careful-test, careful-take_by, careful-bind, careful-if_next, careful-or_else, local-closed, local-mapped}
-use Rattle.token_reader.proofs.ViableLaws.{Passes, plainly, opening, unless, Completes, CompletesAt, CompletesAll, CompletesEach, Begins, Skips, completes-give, completes-bind, completes-begins, begins-bind, begins-or_else, each-give, each-bind, all-expect, all-skips, skips-if_next}
-use Rattle.token_reader.proofs.Fine.{IsFine, IsFineTurn, GoesOn, fine-give, fine-too_deep, fine-bind, fine-take_by, fine-if_next, fine-or_else, fine-many, fine-expect, fine_when, fine_opened, mapped, careful-turns, careful-deeper, careful-may, careful-may_deeper, careful-all, careful-all_deeper, skips-many, skips-deeper, on-give, on-expect, on-close, on-skips, on-if_next, closed, passes_opened, turn_local, turn_deeper}
-use Rattle.spec_parser.specs.declared.tree.Level.{Level}
-use Rattle.spec_parser.specs.declared.tree.Level.TheVariants as level
-use Rattle.spec_parser.specs.declared.tree.Operator.{Operator}
-use Rattle.spec_parser.specs.declared.tree.Comparison.{Comparison}
-use Rattle.vocabulary.specs.declared.dotted.Dotted.{Dotted}
+use Rattle.token_reader.proofs.CarefulLaws.{careful-give, careful-test, careful-bind, careful-or_else, local-closed, local-mapped}
+use Rattle.token_reader.proofs.ViableLaws.{Passes, plainly, opening, unless, Completes, CompletesAt, CompletesEach, Begins, Skips, completes-give, completes-bind, completes-begins, each-give, each-bind, all-expect, all-skips}
+use Rattle.token_reader.proofs.Fine.{IsFine, IsFineTurn, GoesOn, fine-give, fine-bind, fine-take_by, fine-if_next, fine-or_else, fine-many, fine-expect, fine_when, fine_opened, mapped, careful-turns, careful-deeper, careful-may, on-expect, on-close, on-skips, closed, passes_opened, turn_local, turn_deeper}
 use Rattle.vocabulary.specs.declared.dotted.Dotted.TheVariants as dotted
 use Rattle.spec_parser.specs.declared.words.TypedWord.{TypedWord}
 use Rattle.spec_parser.specs.declared.words.TypedWord.TheVariants as typed_word
@@ -26,14 +21,13 @@ use Rattle.vocabulary.specs.declared.dotted.Family.{Family}
 use Rattle.vocabulary.specs.declared.dotted.Family.TheVariants as family
 use Rattle.spec_parser.specs.declared.words.Member.{Member}
 use Rattle.spec_parser.specs.declared.words.Member.TheVariants as member
-use Rattle.spec_parser.specs.Tree as tree
-use Rattle.spec_parser.specs.Tree.{TypeName, Expr, Exprs, no_exprs, more_exprs, Links, no_links, more_links, place_of}
+use Rattle.syntax_tree.specs.Tree as tree
+use Rattle.syntax_tree.specs.Tree.{TypeName, Expr, Exprs, no_exprs, more_exprs, Links, no_links, more_links, place_of}
 use Rattle.vocabulary.specs.Table.{family_of, dotted_of}
-use Rattle.spec_parser.specs.Words.{operator_at, comparison_at, opens_call, is_number, is_close, is_open_bracket, is_comma, is_if, is_then, is_else, may_open, is_minus, is_number_next, opens_level, typed_word_of}
-use Rattle.spec_parser.specs.Grammar.{chained}
-use Rattle.spec_parser.specs.inner.Reading.{Reader, must, in_brackets, two_in_brackets, type_in, link, links_of, after_operand, chain, others_of, after_argument, arguments, typed, member_of, must_call, member_after, at_member, a_member, after_name, called, at_number, negated, in_parens, at_unary, unary, second_sum, compared, if_false, if_true, choice, all_levels, expression, within, prefixed}
-use Rattle.spec_parser.proofs.Ends.{ends, signs, start, sample, a_name, a_truth, comma_goes_on, if_goes_on, operator_goes_on, comparison_goes_on, close_is, comma_is, else_is, if_is, then_is, open_bracket_is, call_is}
-use Rattle.spec_parser.proofs.TypeLaws.{Opens, opens_as, any_token, type_brackets, type_brackets_pass, must_type, must_types, must_type_careful, must_types_careful, type_completes, no_room}
+use Rattle.spec_parser.specs.Words.{opens_call, is_number, is_close, is_comma, is_then, is_else, may_open, is_minus, is_number_next, opens_level, typed_word_of}
+use Rattle.spec_parser.specs.inner.Reading.{Reader, must, type_in, others_of, after_argument, arguments, typed, member_of, member_after, at_member, a_member, after_name, name_or_call, at_number, negated, in_parens, at_unary, unary, if_false, if_true, choice}
+use Rattle.spec_parser.proofs.Ends.{ends, signs, start, sample, a_truth, comma_goes_on, close_is, comma_is, else_is, then_is, call_is}
+use Rattle.spec_parser.proofs.TypeLaws.{Opens, opens_as, type_brackets, type_brackets_pass, must_type, must_types, must_type_careful, must_types_careful, no_room}
 
 abbrev a_close : Token
 a_close = sample (kind.Symbol symbol.Close)
@@ -189,7 +183,7 @@ module _ (room : ℕ) (i j : Reader Expr) (inner : Known room i j) where
   member_turn t place plain None = tt
   member_turn t place plain (Some m) = (member_fine place m, plainly plain (member_careful place m))
 
-  at_member_turn : (t : Token) (place : Place) (f : Family) (k : Kind) → t.kind ≡ k → IsFineTurn signs t (at_member room (type_in room) i place f k) (at_member (suc room) (type_in (suc room)) j place f k)
+  at_member_turn : (t : Token) (place : Place) (f : Family) (k : TokenKind) → t.kind ≡ k → IsFineTurn signs t (at_member room (type_in room) i place f k) (at_member (suc room) (type_in (suc room)) j place f k)
   at_member_turn t place f (kind.Name n) e = member_turn t place (ap may_open e) (member_of f n)
   at_member_turn t place f (kind.Number n) e = tt
   at_member_turn t place f (kind.Text n) e = tt
@@ -213,13 +207,13 @@ module _ (room : ℕ) (i j : Reader Expr) (inner : Known room i j) where
   dot_turn t place plain None = tt
   dot_turn t place plain (Some f) = (a_member_fine place f, plainly plain (a_member_careful place f))
 
-  name_turn : (t : Token) (place : Place) (n : List ℕ) (k : Kind) → t.kind ≡ k → IsFineTurn signs t (after_name room (type_in room) i place n k t.first) (after_name (suc room) (type_in (suc room)) j place n k t.first)
+  name_turn : (t : Token) (place : Place) (n : List ℕ) (k : TokenKind) → t.kind ≡ k → IsFineTurn signs t (after_name room (type_in room) i place n k t.first) (after_name (suc room) (type_in (suc room)) j place n k t.first)
   name_turn t place n (kind.Symbol symbol.Open) e = fine_when signs t (opened room (arguments i (tree.Call place n))) (arguments j (tree.Call place n)) (opened_arguments (tree.Call place n)) (not t.first) (λ h. arguments_pass (tree.Call place n) t (opens_as t (kind.Symbol symbol.Open) e refl refl))
   name_turn t place n (kind.Symbol symbol.OpenBracket) e = typed_turn t place (opens_as t (kind.Symbol symbol.OpenBracket) e refl refl) (typed_word_of n)
   name_turn t place n (kind.Symbol symbol.Dot) e = dot_turn t place (ap may_open e) (family_of n)
   name_turn t place n _ e = tt
 
-  name_declines : (types : Reader TypeName) (x : Reader Expr) (room : ℕ) (place : Place) (n : List ℕ) (k : Kind) (first : Bool) → ends k ≡ true → after_name room types x place n k first ≡ None
+  name_declines : (types : Reader TypeName) (x : Reader Expr) (room : ℕ) (place : Place) (n : List ℕ) (k : TokenKind) (first : Bool) → ends k ≡ true → after_name room types x place n k first ≡ None
   name_declines types x room place n (kind.Symbol symbol.Open) first h = cc
   name_declines types x room place n (kind.Symbol symbol.OpenBracket) first h = cc
   name_declines types x room place n (kind.Symbol symbol.Dot) first h = cc
@@ -229,10 +223,10 @@ module _ (room : ℕ) (i j : Reader Expr) (inner : Known room i j) where
   name_declines types x room place n (kind.Number m) first h = refl
   name_declines types x room place n (kind.Text m) first h = refl
 
-  called_fine : (place : Place) (n : List ℕ) → IsFine signs (called room (type_in room) i place n) (called (suc room) (type_in (suc room)) j place n)
+  called_fine : (place : Place) (n : List ℕ) → IsFine signs (name_or_call room (type_in room) i place n) (name_or_call (suc room) (type_in (suc room)) j place n)
   called_fine place n = fine-if_next signs (λ t. after_name room (type_in room) i place n t.kind t.first) (λ t. after_name (suc room) (type_in (suc room)) j place n t.kind t.first) (λ t. name_turn t place n t.kind refl) (λ t h. name_declines (type_in room) i room place n t.kind t.first h) (λ t h. name_declines (type_in (suc room)) j (suc room) place n t.kind t.first h) (tree.Name place n)
 
-  called_careful : (place : Place) (n : List ℕ) → IsCareful signs (called room (type_in room) i place n)
+  called_careful : (place : Place) (n : List ℕ) → IsCareful signs (name_or_call room (type_in room) i place n)
   called_careful place n = careful-may signs (λ t. after_name room (type_in room) i place n t.kind t.first) (λ t. after_name (suc room) (type_in (suc room)) j place n t.kind t.first) (λ t. name_turn t place n t.kind refl) (tree.Name place n)
 
 -- prefix operators
@@ -244,28 +238,28 @@ module _ (room : ℕ) (p q : Reader Expr) (operand : Known room p q) where
     prefix_pass : (t : Token) → Opens t → Passes signs t (opened room (p >>= λ e. give (h e)))
     prefix_pass t o = passes_opened signs t room (p >>= λ e. give (h e)) o.0 o.1 (λ r e. careful-bind signs p (λ e. give (h e)) operand.fine.local (operand.careful r e) (λ e. careful-give signs (h e))) (λ r e. completes-bind signs p (λ e. give (h e)) (completes-give signs h) (operand.completes r e))
 
-  number_turn : (t : Token) (place : Place) (k : Kind) → t.kind ≡ k → IsFineTurn signs t (at_number place k) (at_number place k)
+  number_turn : (t : Token) (place : Place) (k : TokenKind) → t.kind ≡ k → IsFineTurn signs t (at_number place k) (at_number place k)
   number_turn t place (kind.Number n) e = (fine-give signs (tree.Negative place n), plainly (ap may_open e) (careful-give signs (tree.Negative place n)))
   number_turn t place (kind.Name n) e = tt
   number_turn t place (kind.Text n) e = tt
   number_turn t place (kind.Word w) e = tt
   number_turn t place (kind.Symbol s) e = tt
 
-  number_declines : (place : Place) (k : Kind) → ends k ≡ true → at_number place k ≡ None
+  number_declines : (place : Place) (k : TokenKind) → ends k ≡ true → at_number place k ≡ None
   number_declines place (kind.Number n) h = cc
   number_declines place (kind.Name n) h = refl
   number_declines place (kind.Text n) h = refl
   number_declines place (kind.Word w) h = refl
   number_declines place (kind.Symbol s) h = refl
 
-  number_calm : (place : Place) (k : Kind) → is_number k ≡ false → at_number place k ≡ None
+  number_calm : (place : Place) (k : TokenKind) → is_number k ≡ false → at_number place k ≡ None
   number_calm place (kind.Number n) h = cc
   number_calm place (kind.Name n) h = refl
   number_calm place (kind.Text n) h = refl
   number_calm place (kind.Word w) h = refl
   number_calm place (kind.Symbol s) h = refl
 
-  number_none : (place : Place) (k : Kind) → at_number place k ≡ None → is_number k ≡ false
+  number_none : (place : Place) (k : TokenKind) → at_number place k ≡ None → is_number k ≡ false
   number_none place (kind.Number n) h = cc
   number_none place (kind.Name n) h = refl
   number_none place (kind.Text n) h = refl
@@ -301,7 +295,7 @@ module _ (room : ℕ) (p q : Reader Expr) (operand : Known room p q) where
     at_number_careful [] h = cc
     at_number_careful (u ∷ ts) h = by u.kind h
       where
-        by : (k : Kind) → is_number k ≡ true → CarefulAt signs (u ∷ ts) (chosen (at_number t.place k) (refuse TooDeep) u ts)
+        by : (k : TokenKind) → is_number k ≡ true → CarefulAt signs (u ∷ ts) (chosen (at_number t.place k) (refuse TooDeep) u ts)
         by (kind.Number n) h = tt
         by (kind.Name n) h = cc
         by (kind.Text n) h = cc
@@ -328,7 +322,7 @@ module _ (room : ℕ) (p q : Reader Expr) (operand : Known room p q) where
     negated_pass = pass_at room refl
 
   module _ (i j : Reader Expr) (inner : Known room i j) where
-    unary_turn : (t : Token) (k : Kind) → t.kind ≡ k → IsFineTurn signs t (at_unary room (type_in room) i p k t.place) (at_unary (suc room) (type_in (suc room)) j q k t.place)
+    unary_turn : (t : Token) (k : TokenKind) → t.kind ≡ k → IsFineTurn signs t (at_unary room (type_in room) i p k t.place) (at_unary (suc room) (type_in (suc room)) j q k t.place)
     unary_turn t (kind.Number n) e = (fine-give signs (tree.Number t.place n), plainly (ap may_open e) (careful-give signs (tree.Number t.place n)))
     unary_turn t (kind.Text n) e = (fine-give signs (tree.Text t.place n), plainly (ap may_open e) (careful-give signs (tree.Text t.place n)))
     unary_turn t (kind.Word word.True) e = (fine-give signs (tree.Boolean t.place true), plainly (ap may_open e) (careful-give signs (tree.Boolean t.place true)))

@@ -1,21 +1,21 @@
 -- The laws of the readers of definitions and items.
-use Rattle.std.proofs.Common.{◌≡◌, ℕ, zero, suc, Bool, true, false, List, [], ◌∷◌, ◌++◌, Option, Some, None, refl, sym, ap, ◌∙◌, inl}
+use Rattle.std.proofs.Common.{◌≡◌, ℕ, zero, suc, Bool, true, false, List, [], ◌∷◌, ◌++◌, Option, Some, None, refl, ap, inl}
 use Rattle.std.specs.Prelude.{codes}
 use Rattle.tsl_value.specs.declared.place.Place.{Place}
 use Rattle.spec_lexer.specs.declared.token.Token.{Token}
-use Rattle.spec_lexer.specs.declared.token.Kind.{Kind}
-use Rattle.spec_lexer.specs.declared.token.Kind.TheVariants as kind
+use Rattle.spec_lexer.specs.declared.token.TokenKind.{TokenKind}
+use Rattle.spec_lexer.specs.declared.token.TokenKind.TheVariants as kind
 use Rattle.spec_lexer.specs.declared.token.Word.TheVariants as word
 use Rattle.spec_lexer.specs.declared.token.Symbol.TheVariants as symbol
-use Rattle.token_reader.specs.inner.Reader.{Signs, TooDeep, Read, give, refuse, and_then, ◌>>=◌, when, take_by, if_next, or_else, or_given, alone, opened, many}
-use Rattle.token_reader.proofs.LocalLaws.{IsEnd, IsCareful, IsLocal, IsLocalTurn, Declines, Stays, declining, local-give, local-take_by, local-bind, local-expect, local_when, declines_when}
+use Rattle.token_reader.specs.inner.Reader.{Signs, TooDeep, Read, give, refuse, ◌>>=◌, when, or_given, alone, opened, many}
+use Rattle.token_reader.proofs.LocalLaws.{IsCareful, IsLocal, IsLocalTurn, Declines, declining, local-give, local-take_by, local-bind, local-expect, local_when}
 use Rattle.token_reader.proofs.ManyLaws.{many_end, careful-many, local-many}
 use Rattle.token_reader.proofs.CarefulLaws.{careful-give, careful-test, careful-take_by, careful-bind, careful-or_else, careful-alone, local-closed, local-mapped}
-use Rattle.token_reader.proofs.ViableLaws.{Passes, plainly, opening, at_once, Completes, CompletesAll, CompletesEach, Begins, Skips, completes-give, completes-bind, completes-begins, begins-bind, begins-or_else, each-give, each-one, each-bind, all-expect, all-skips, skips-if_next}
-use Rattle.token_reader.proofs.Fine.{IsFine, IsFineTurn, GoesOn, fine-give, fine-too_deep, fine-bind, fine-take_by, fine-if_next, fine-or_else, fine-many, fine-expect, fine_when, fine-alone, fine_opened, mapped, careful-turns, careful-deeper, careful-may, careful-may_deeper, careful-all, careful-all_deeper, skips-many, skips-deeper, on-give, on-expect, on-close, on-skips, on-begins, closed, passes_opened, turn_local}
+use Rattle.token_reader.proofs.ViableLaws.{Passes, plainly, opening, at_once, Completes, CompletesEach, Begins, Skips, completes-give, completes-bind, completes-begins, begins-bind, begins-or_else, each-give, each-bind, all-expect, all-skips, skips-if_next}
+use Rattle.token_reader.proofs.Fine.{IsFine, IsFineTurn, GoesOn, fine-give, fine-too_deep, fine-bind, fine-take_by, fine-if_next, fine-or_else, fine-many, fine-expect, fine_when, fine-alone, fine_opened, mapped, careful-turns, careful-may, careful-may_deeper, careful-all, skips-many, skips-deeper, on-expect, on-close, on-skips, on-begins, passes_opened, turn_local}
 use Rattle.token_reader.proofs.Fewer.{fine_fewer, fine_after}
-use Rattle.spec_parser.specs.Tree as tree
-use Rattle.spec_parser.specs.Tree.{TypeName, Expr, Param, Body, Definition, Definitions, no_definitions, more_definitions, Item}
+use Rattle.syntax_tree.specs.Tree as tree
+use Rattle.syntax_tree.specs.Tree.{TypeName, Expr, Param, Body, Definition, Definitions, no_definitions, more_definitions, Item}
 use Rattle.spec_parser.specs.Words.{is_open, is_close, is_comma, is_colon, defines, is_as, is_def, is_open_brace, is_close_brace, is_number, may_open, opens_level}
 use Rattle.spec_parser.specs.inner.Reading.{Reader, must, at_name, named, type_in, within, param_by, a_param, other_params_of, after_param, params, may_have_params, may_have_type, defined_as, after_params, inner_definition, definitions_of, after_definitions, a_body, block, input_after, whole_definition, definition_after, plain_output, printed_as, after_output, output_after, at_item, items_at}
 use Rattle.spec_parser.proofs.Ends.{ends, ends_quiet, signs, signs_by, as_is, close_is, close_brace_is, comma_is, start, sample, a_name, a_truth, comma_goes_on, open_goes_on, colon_goes_on, open_brace_goes_on, def_goes_on, open_is, colon_is, open_brace_is, def_is}
@@ -28,14 +28,14 @@ open_opens t h = opens_as t (kind.Symbol symbol.Open) (open_is t.kind h) refl re
 brace_opens : (t : Token) → is_open_brace t.kind ≡ true → Opens t
 brace_opens t h = opens_as t (kind.Symbol symbol.OpenBrace) (open_brace_is t.kind h) refl refl
 
-defines_plain : (k : Kind) → defines k ≡ true → may_open k ≡ false
+defines_plain : (k : TokenKind) → defines k ≡ true → may_open k ≡ false
 defines_plain (kind.Symbol symbol.Define) h = refl
 defines_plain (kind.Symbol symbol.Equals) h = refl
 defines_plain _ h = cc
 
 -- a name that has to come
 module _ {A : Type 0} (s : Signs Token) (f g : Place → List ℕ → Reader A) (fine : (place : Place) (n : List ℕ) → IsFine s (f place n) (g place n)) where
-  name_turn : (careful : (place : Place) (n : List ℕ) → IsCareful s (f place n)) → (plain : (t : Token) (n : List ℕ) → t.kind ≡ kind.Name n → s.opens t ≡ false) → (t : Token) (k : Kind) → t.kind ≡ k → IsFineTurn s t (at_name (f t.place) k) (at_name (g t.place) k)
+  name_turn : (careful : (place : Place) (n : List ℕ) → IsCareful s (f place n)) → (plain : (t : Token) (n : List ℕ) → t.kind ≡ kind.Name n → s.opens t ≡ false) → (t : Token) (k : TokenKind) → t.kind ≡ k → IsFineTurn s t (at_name (f t.place) k) (at_name (g t.place) k)
   name_turn careful plain t (kind.Name n) e = (fine t.place n, plainly (plain t n e) (careful t.place n))
   name_turn careful plain t (kind.Number n) e = tt
   name_turn careful plain t (kind.Text n) e = tt
@@ -43,7 +43,7 @@ module _ {A : Type 0} (s : Signs Token) (f g : Place → List ℕ → Reader A) 
   name_turn careful plain t (kind.Symbol x) e = tt
 
 module _ {A : Type 0} (f : Place → List ℕ → Reader A) where
-  local_name : (s : Signs Token) → ((place : Place) (n : List ℕ) → IsLocal s (f place n)) → (t : Token) (k : Kind) → IsLocalTurn s (at_name (f t.place) k)
+  local_name : (s : Signs Token) → ((place : Place) (n : List ℕ) → IsLocal s (f place n)) → (t : Token) (k : TokenKind) → IsLocalTurn s (at_name (f t.place) k)
   local_name s lf t (kind.Name n) = lf t.place n
   local_name s lf t (kind.Number n) = tt
   local_name s lf t (kind.Text n) = tt
@@ -59,7 +59,7 @@ module _ {A : Type 0} (f : Place → List ℕ → Reader A) where
   named_complete : (s : Signs Token) → Completes s (f start (codes "Int")) → Completes s (named f)
   named_complete s c r h = let d = c r h in (a_name ∷ d.0, d.1, d.2)
 
-named_fine : {A : Type 0} (test : Kind → Bool) (quiet : (k : Kind) → test k ≡ true → is_number k ≡ false) (f g : Place → List ℕ → Reader A) → ((place : Place) (n : List ℕ) → IsFine (signs_by test quiet) (f place n) (g place n)) → ((place : Place) (n : List ℕ) → IsCareful (signs_by test quiet) (f place n)) → Completes (signs_by test quiet) (g start (codes "Int")) → IsFine (signs_by test quiet) (named f) (named g)
+named_fine : {A : Type 0} (test : TokenKind → Bool) (quiet : (k : TokenKind) → test k ≡ true → is_number k ≡ false) (f g : Place → List ℕ → Reader A) → ((place : Place) (n : List ℕ) → IsFine (signs_by test quiet) (f place n) (g place n)) → ((place : Place) (n : List ℕ) → IsCareful (signs_by test quiet) (f place n)) → Completes (signs_by test quiet) (g start (codes "Int")) → IsFine (signs_by test quiet) (named f) (named g)
 named_fine test quiet f g fine careful c = fine-take_by (signs_by test quiet) (λ t. at_name (f t.place) t.kind) (λ t. at_name (g t.place) t.kind) (λ t. name_turn (signs_by test quiet) f g fine careful (λ t n e. ap may_open e) t t.kind refl) (named_complete g (signs_by test quiet) c)
 
 abbrev a_colon : Token
@@ -358,10 +358,10 @@ block_known (suc room) = record {
 }
 
 -- items, at which nothing goes on but at the end
-abbrev pub none_end : Kind → Bool
+abbrev pub none_end : TokenKind → Bool
 none_end k = false
 
-pub none_quiet : (k : Kind) → none_end k ≡ true → is_number k ≡ false
+pub none_quiet : (k : TokenKind) → none_end k ≡ true → is_number k ≡ false
 none_quiet k h = cc
 
 abbrev pub item_signs : Signs Token
@@ -464,7 +464,7 @@ module _ (room : ℕ) where
     output_careful : IsCareful item_signs (output_after room place)
     output_careful = careful-bind item_signs (alone (within (suc room))) (after_output place) (fine_item (alone (within (suc room))) (alone (within (suc (suc room)))) (fine-alone signs (within (suc room)) (within (suc (suc room))) (within_operand room).fine)).local (careful-alone signs (within (suc room)) (within_operand room).careful) (λ x. given_careful x.0 (plain_output place x))
 
-  item_turn : (t : Token) (k : Kind) → t.kind ≡ k → IsFineTurn item_signs t (at_item room t.place k) (at_item (suc room) t.place k)
+  item_turn : (t : Token) (k : TokenKind) → t.kind ≡ k → IsFineTurn item_signs t (at_item room t.place k) (at_item (suc room) t.place k)
   item_turn t (kind.Word word.In) e = (fine_item (input_after room t.place) (input_after (suc room) t.place) (input_item t.place), plainly (ap may_open e) (input_careful t.place))
   item_turn t (kind.Word word.Def) e = (fine_item (definition_after room t.place) (definition_after (suc room) t.place) (definition_item t.place), plainly (ap may_open e) (definition_item_careful t.place))
   item_turn t (kind.Word word.Out) e = (output_item t.place, plainly (ap may_open e) (output_careful t.place))

@@ -1,22 +1,23 @@
 -- Reading parameters, definitions and items one after the other, as the loops do.
-use Rattle.std.proofs.Common.{◌≡◌, ℕ, zero, suc, ◌+◌, ◌==◌, ◌<◌, ◌≤◌, Bool, true, false, List, [], ◌∷◌, ◌++◌, length, Option, Some, None, Ok, Err, map, refl, sym, ap, subst, ◌∙◌, arith, append_assoc}
+use Rattle.std.proofs.Common.{◌≡◌, ℕ, suc, ◌≤◌, true, false, List, [], ◌∷◌, ◌++◌, length, Option, Some, None, Ok, Err, map, refl, sym, ap, subst, ◌∙◌, append_assoc}
 use Rattle.std.proofs.lemmas.List.{append-nil, map_push}
 use Rattle.std.specs.Borrow.{Bor}
 use Rattle.spec_lexer.specs.declared.token.Token.{Token}
-use Rattle.token_reader.specs.inner.Reader.{Unexpected, TooDeep, Outcome, Read, Stopped, give, and_then, when, many, with_list}
-use Rattle.token_reader.proofs.LocalLaws.{Leads, IsLocal, IsLocalTurn, shorter}
+use Rattle.token_reader.specs.inner.Reader.{Unexpected, TooDeep, Outcome, Read, Stopped, and_then, when, many, with_list}
+use Rattle.token_reader.proofs.LocalLaws.{Leads, IsLocalTurn, shorter}
 use Rattle.token_reader.proofs.Loop.{loop_passes, loop_fails, loop_ends, loop_empty}
-use Rattle.spec_parser.specs.declared.tree.Param.{Param}
-use Rattle.spec_parser.specs.declared.tree.Item.{Item}
+use Rattle.syntax_tree.specs.declared.tree.Param.{Param}
+use Rattle.syntax_tree.specs.declared.tree.Item.{Item}
 use Rattle.spec_parser.specs.declared.stop.Stop.{Stop}
 use Rattle.spec_parser.specs.declared.stop.Stop.TheVariants as stop
-use Rattle.spec_parser.specs.Tree as tree
-use Rattle.spec_parser.specs.Tree.{Definition, Definitions, no_definitions, more_definitions}
-use Rattle.spec_parser.specs.inner.Shape.{param_of, params_in, definitions_of, item_of}
+use Rattle.syntax_tree.specs.Tree as tree
+use Rattle.syntax_tree.specs.Tree.{Definition, Definitions, no_definitions, more_definitions}
+use Rattle.syntax_tree.specs.inner.OneLevel.{param_of, params_in, definitions_of, item_of}
 use Rattle.spec_parser.specs.Words.{is_comma, is_def}
 use Rattle.spec_parser.specs.inner.Reading as read
 use Rattle.spec_parser.specs.inner.Reading.{Reader, type_in, within, a_param, other_params_of, inner_definition, a_body, at_item, items_at, ended}
-use Rattle.spec_parser.specs.inner.Gives.{Fails, TurnGives, join_params, join_definitions}
+use Rattle.spec_parser.specs.inner.Gives.{Fails, TurnGives}
+use Rattle.syntax_tree.specs.inner.Joins.{join_params, join_definitions}
 use Rattle.spec_parser.proofs.Ends.{signs}
 use Rattle.spec_parser.proofs.TypeLaws.{type_fine}
 use Rattle.spec_parser.proofs.ItemLaws.{turn_params, param_local, defs_local, definition_local, item_signs, local_items}

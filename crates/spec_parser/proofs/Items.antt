@@ -2,16 +2,16 @@
 use Rattle.std.proofs.Common.{◌≡◌, ℕ, zero, suc, ◌+◌, ◌==◌, Bool, true, false, List, [], ◌∷◌, ◌++◌, length, Option, Some, None, refl, sym, ap, subst, ◌∙◌, arith, length-append}
 use Rattle.tsl_value.specs.declared.place.Place.{Place}
 use Rattle.spec_lexer.specs.declared.token.Token.{Token}
-use Rattle.spec_lexer.specs.declared.token.Kind.{Kind}
-use Rattle.spec_lexer.specs.declared.token.Kind.TheVariants as kind
+use Rattle.spec_lexer.specs.declared.token.TokenKind.{TokenKind}
+use Rattle.spec_lexer.specs.declared.token.TokenKind.TheVariants as kind
 use Rattle.spec_lexer.specs.declared.token.Word.TheVariants as word
 use Rattle.spec_lexer.specs.declared.token.Symbol.TheVariants as symbol
-use Rattle.token_reader.specs.inner.Reader.{Unexpected, Outcome, Read, Stopped, Lister, give, and_then, ◌>>=◌, when, taken, take_by, expect, tried, if_next, chosen, or_else, or_given, noted, alone, opened, looped, many, rest_of}
+use Rattle.token_reader.specs.inner.Reader.{Unexpected, Outcome, Read, Stopped, Lister, give, and_then, ◌>>=◌, when, taken, take_by, tried, if_next, chosen, or_given, noted, alone, opened, many}
 use Rattle.token_reader.proofs.LocalLaws.{Leads, IsLocalTurn}
-use Rattle.token_reader.proofs.ManyLaws.{many_again, many_none}
-use Rattle.token_reader.proofs.Meets.{Meets, meets_bind, weaker, meets_expect, meets-many, expect_is, passes_by, taken_by, tried_by, not_tried, chosen_by, not_chosen, many_stop, many_go}
-use Rattle.spec_parser.specs.Tree as tree
-use Rattle.spec_parser.specs.Tree.{TypeName, Expr, Param, Body, Definition, Definitions, no_definitions, more_definitions, Item}
+use Rattle.token_reader.proofs.ManyLaws.{many_none}
+use Rattle.token_reader.proofs.Meets.{Meets, meets_bind, weaker, meets_expect, meets-many, expect_is, passes_by, many_stop, many_go}
+use Rattle.syntax_tree.specs.Tree as tree
+use Rattle.syntax_tree.specs.Tree.{TypeName, Expr, Param, Body, Definition, Definitions, no_definitions, more_definitions, Item}
 use Rattle.spec_parser.specs.Words.{is_open, is_close, is_comma, is_colon, defines, is_as, is_def, is_open_brace, is_close_brace}
 use Rattle.spec_parser.specs.Grammar.{Is, IsNamed, IsPast, IsType, IsExpr, IsParam, param, AreOtherParams, no_param, one_param, MayHaveParams, without_params, with_params, MayHaveType, without_type, with_type, IsBody, plain, block, AreDefinitions, no_definition, one_definition, IsItem, input, definition, output, output_as, Spells, empty, item}
 use Rattle.spec_parser.specs.inner.Reading as read
@@ -19,7 +19,7 @@ use Rattle.spec_parser.specs.inner.Reading.{Reader, must, at_name, named, type_i
 use Rattle.spec_parser.proofs.Ends.{signs, open_is, close_is, comma_is, colon_is, open_brace_is, close_brace_is, def_is, as_is}
 use Rattle.spec_parser.proofs.TypeLaws.{type_fine}
 use Rattle.spec_parser.proofs.LevelLaws.{within_operand}
-use Rattle.spec_parser.proofs.ItemLaws.{turn_params, defs_turn, block_known, item_signs, local_items, defs_local}
+use Rattle.spec_parser.proofs.ItemLaws.{turn_params, item_signs, local_items, defs_local}
 use Rattle.spec_parser.proofs.Sound.{type_sound, expr_sound}
 use Rattle.spec_parser.proofs.Complete.{must_is, type_complete, expr_complete, brace_nothing}
 
@@ -35,7 +35,7 @@ meets_named : {A : Type 0} (f : Place → List ℕ → Reader A) (P : List Token
 meets_named f P Q [] h m = tt
 meets_named f P Q (v ∷ vs) h m = by v.kind refl
   where
-    by : (k : Kind) → v.kind ≡ k → Meets Q (taken (at_name (f v.place) k) v vs)
+    by : (k : TokenKind) → v.kind ≡ k → Meets Q (taken (at_name (f v.place) k) v vs)
     by (kind.Name n) is = m v n vs h is
     by (kind.Number n) is = tt
     by (kind.Text n) is = tt
@@ -145,7 +145,7 @@ module _ (room : ℕ) where
   abbrev body_in : Reader Body
   body_in = a_body (read.block room) (within (suc room))
 
-  body_sound : ((ts : List Token) → Meets (IsBlock room ts) (read.block room ts)) → (ts : List Token) → Meets (IsBody room ts) (body_in ts)
+  pub body_sound : ((ts : List Token) → Meets (IsBlock room ts) (read.block room ts)) → (ts : List Token) → Meets (IsBody room ts) (body_in ts)
   body_sound sound [] = meets_bind (IsExpr room []) (IsBody room []) (within (suc room) []) (λ e. give (tree.Plain e)) (expr_sound room []) (λ e rest d. plain d)
   body_sound sound (t ∷ ts) = by (is_open_brace t.kind) refl
     where
@@ -305,7 +305,7 @@ module _ (room : ℕ) where
       params_after_sound room (body_in room) (body_sound room (block_sound room)) u.place n (λ d rest. IsItem room (t ∷ u ∷ us) (tree.Defined t.place d) rest) ps vs (λ w b a ws rest dw h db. definition is named_so dp dw h db))))
 
   -- items
-  item_sound : (t : Token) (k : Kind) → t.kind ≡ k → (ts : List Token) → Meets (IsItem room (t ∷ ts)) (taken (at_item room t.place k) t ts)
+  item_sound : (t : Token) (k : TokenKind) → t.kind ≡ k → (ts : List Token) → Meets (IsItem room (t ∷ ts)) (taken (at_item room t.place k) t ts)
   item_sound t (kind.Word word.In) is ts = meets_named (λ place n. must is_colon (type_in (suc room) >>= λ y. give (tree.Input t.place place n y))) (λ us. ts ≡ us) (IsItem room (t ∷ ts)) ts refl (λ u n us e named_so.
       subst (λ ws. Meets (IsItem room (t ∷ ws)) (must is_colon (type_in (suc room) >>= λ y. give (tree.Input t.place u.place n y)) us)) (sym e)
       (typed_sound room (tree.Input t.place u.place n) (IsItem room (t ∷ u ∷ us)) (λ vs. us ≡ vs) us refl (λ c vs rest y e colon d. subst (λ ws. IsItem room (t ∷ u ∷ ws) (tree.Input t.place u.place n y) rest) (sym e) (input is named_so colon d))))

@@ -1,27 +1,25 @@
 -- The laws of the readers of chains, and of whole expressions.
-use Rattle.std.proofs.Common.{◌≡◌, ℕ, zero, suc, Bool, true, false, List, [], ◌∷◌, Option, Some, None, refl, sym, ap, ◌∙◌}
+use Rattle.std.proofs.Common.{◌≡◌, ℕ, zero, suc, List, [], ◌∷◌, Option, Some, None, refl, ap}
 use Rattle.std.specs.Option.{option_map}
-use Rattle.tsl_value.specs.declared.place.Place.{Place}
 use Rattle.spec_lexer.specs.declared.token.Token.{Token}
-use Rattle.spec_lexer.specs.declared.token.Kind.{Kind}
-use Rattle.spec_lexer.specs.declared.token.Kind.TheVariants as kind
+use Rattle.spec_lexer.specs.declared.token.TokenKind.TheVariants as kind
 use Rattle.spec_lexer.specs.declared.token.Word.TheVariants as word
-use Rattle.token_reader.specs.inner.Reader.{TooDeep, Read, give, refuse, and_then, ◌>>=◌, when, take_by, if_next, or_else, opened, many}
-use Rattle.token_reader.proofs.LocalLaws.{IsEnd, IsCareful, IsLocal, IsLocalTurn, IsEager, Declines, Stays, declining, local-give, local-take_by, declines_when, eager-take_by, eager-bind, eager-or_else, eager-refuse}
-use Rattle.token_reader.proofs.ManyLaws.{many_end, careful-many, local-many}
+use Rattle.token_reader.specs.inner.Reader.{TooDeep, Read, give, refuse, and_then, when, if_next, or_else, opened, many}
+use Rattle.token_reader.proofs.LocalLaws.{IsEnd, IsCareful, IsLocal, IsLocalTurn, IsEager, Declines, declining, local-give, local-take_by, eager-take_by, eager-bind, eager-or_else}
+use Rattle.token_reader.proofs.ManyLaws.{many_end}
 use Rattle.token_reader.proofs.CarefulLaws.{careful-give, careful-take_by, careful-bind, careful-or_else, local-mapped}
-use Rattle.token_reader.proofs.ViableLaws.{Completes, Begins, completes-give, completes-bind, completes-begins, begins-bind, begins-or_else, skips-if_next}
+use Rattle.token_reader.proofs.ViableLaws.{Completes, Begins, completes-begins, begins-bind, begins-or_else, skips-if_next}
 use Rattle.token_reader.proofs.Fine.{IsFine, IsFineTurn, GoesOn, fine-too_deep, fine-bind, fine-or_else, fine-many, fine_when, mapped, careful-all, careful-all_deeper, skips-many, skips-deeper, on-give, on-skips, on-if_next, passes_begun, turn_local, turn_deeper}
-use Rattle.spec_parser.specs.declared.tree.Level.{Level}
-use Rattle.spec_parser.specs.declared.tree.Level.TheVariants as level
-use Rattle.spec_parser.specs.declared.tree.Operator.{Operator}
-use Rattle.spec_parser.specs.declared.tree.Comparison.{Comparison}
-use Rattle.spec_parser.specs.Tree as tree
-use Rattle.spec_parser.specs.Tree.{Expr, Links, no_links, more_links, place_of}
-use Rattle.spec_parser.specs.Words.{operator_at, comparison_at, is_if, may_open}
+use Rattle.syntax_tree.specs.declared.tree.Level.{Level}
+use Rattle.syntax_tree.specs.declared.tree.Level.TheVariants as level
+use Rattle.syntax_tree.specs.declared.tree.Operator.{Operator}
+use Rattle.syntax_tree.specs.declared.tree.Comparison.{Comparison}
+use Rattle.syntax_tree.specs.Tree as tree
+use Rattle.syntax_tree.specs.Tree.{Expr, Links, no_links, more_links, place_of}
+use Rattle.spec_parser.specs.Words.{operator_at, comparison_at, is_if}
 use Rattle.spec_parser.specs.Grammar.{chained}
 use Rattle.spec_parser.specs.inner.Reading.{Reader, type_in, link, links_of, after_operand, chain, unary, second_sum, compared, choice, all_levels, expression, within, prefixed}
-use Rattle.spec_parser.proofs.Ends.{ends, signs, start, a_name, a_truth, if_goes_on, operator_goes_on, comparison_goes_on, if_is}
+use Rattle.spec_parser.proofs.Ends.{signs, start, a_name, a_truth, if_goes_on, operator_goes_on, comparison_goes_on, if_is}
 use Rattle.spec_parser.proofs.TypeLaws.{opens_as, any_token, no_room}
 use Rattle.spec_parser.proofs.ExprLaws.{Known, opened_choice, choice_pass, unary_fine, unary_begins, unary_deeper, unary_careful, unary_deeper_careful, unary_eager, unary_deeper_eager}
 

@@ -1,9 +1,9 @@
 -- The readers of each level, by the room of the grammar.
 use Rattle.std.proofs.Common.{ℕ, suc}
-use Rattle.spec_parser.specs.declared.tree.Level.{Level}
-use Rattle.spec_parser.specs.declared.tree.Level.TheVariants as level
-use Rattle.spec_parser.specs.inner.Reading.{type_in, chain, compared, within, prefixed, unary_at, operand_at}
-use Rattle.token_reader.proofs.LocalLaws.{IsLocal, IsLocalTurn}
+use Rattle.syntax_tree.specs.declared.tree.Level.{Level}
+use Rattle.syntax_tree.specs.declared.tree.Level.TheVariants as level
+use Rattle.spec_parser.specs.inner.Reading.{chain, compared, within, prefixed, unary_at, operand_at}
+use Rattle.token_reader.proofs.LocalLaws.{IsLocalTurn}
 use Rattle.spec_lexer.specs.declared.token.Token.{Token}
 use Rattle.spec_parser.specs.inner.Reading.{links_of, others_of}
 use Rattle.spec_parser.proofs.Ends.{signs}

@@ -13,9 +13,9 @@ pub mod RefusalLaws
 pub mod TurnLaws
 pub mod LoopLaws
 pub mod ItemLoops
+pub mod CountLaws
 pub mod ParseLaws
 pub mod AnswerLaws
 pub mod OneRefusal
 pub mod ExactLaws
-pub mod Sizes
 pub mod Operators

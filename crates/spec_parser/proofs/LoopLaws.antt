@@ -1,27 +1,27 @@
 -- Reading items one after the other, as the loops do.
-use Rattle.std.proofs.Common.{◌≡◌, ℕ, ◌<◌, ◌≤◌, Bool, true, false, List, [], ◌∷◌, ◌++◌, length, Option, Some, None, Ok, Err, map, refl, sym, ap, subst, ◌∙◌, arith, append_assoc}
-use Rattle.std.proofs.lemmas.List.{append-nil, map_push}
+use Rattle.std.proofs.Common.{◌≡◌, ℕ, ◌<◌, ◌≤◌, true, false, List, [], ◌∷◌, ◌++◌, length, Some, None, refl, sym, ap, subst, ◌∙◌, arith}
 use Rattle.std.specs.Option.{option_map}
-use Rattle.std.specs.Borrow.{Bor}
 use Rattle.spec_lexer.specs.declared.token.Token.{Token}
-use Rattle.token_reader.specs.inner.Reader.{Unexpected, TooDeep, Outcome, Read, Stopped, give, and_then, when, many, with_list}
-use Rattle.token_reader.proofs.LocalLaws.{Leads, IsLocal, IsLocalTurn, shorter}
+use Rattle.token_reader.specs.inner.Reader.{Unexpected, TooDeep, Outcome, Read, give, and_then, when, many, with_list}
+use Rattle.token_reader.proofs.LocalLaws.{Leads, shorter}
 use Rattle.token_reader.proofs.Loop.{loop_passes, loop_fails, loop_ends, loop_empty}
-use Rattle.spec_parser.specs.declared.tree.Level.{Level}
-use Rattle.spec_parser.specs.declared.tree.Operator.{Operator}
-use Rattle.spec_parser.specs.declared.tree.Link.{Link}
+use Rattle.syntax_tree.specs.declared.tree.Level.{Level}
+use Rattle.syntax_tree.specs.declared.tree.Operator.{Operator}
+use Rattle.syntax_tree.specs.declared.tree.Link.{Link}
 use Rattle.spec_parser.specs.declared.stop.Stop.{Stop}
 use Rattle.spec_parser.specs.declared.stop.Stop.TheVariants as stop
-use Rattle.spec_parser.specs.Tree as tree
-use Rattle.spec_parser.specs.Tree.{Expr, Exprs, no_exprs, more_exprs, Links, no_links, more_links, place_of}
-use Rattle.spec_parser.specs.inner.Shape.{exprs_of, links_in}
+use Rattle.syntax_tree.specs.Tree as tree
+use Rattle.syntax_tree.specs.Tree.{Expr, Exprs, no_exprs, more_exprs, Links, no_links, more_links, place_of}
+use Rattle.syntax_tree.specs.inner.OneLevel.{exprs_of, links_in}
 use Rattle.spec_parser.specs.Words.{operator_at, is_comma}
 use Rattle.spec_parser.specs.Grammar.{chained}
 use Rattle.spec_parser.specs.inner.Reading.{Reader, link, links_of, others_of, within, operand_at}
-use Rattle.spec_parser.specs.inner.Gives.{Fails, join_exprs, join_links}
+use Rattle.spec_parser.specs.inner.Gives.{Fails}
+use Rattle.syntax_tree.specs.inner.Joins.{join_exprs, join_links}
 use Rattle.spec_parser.proofs.Ends.{signs}
-use Rattle.spec_parser.proofs.LevelLaws.{Operand, within_known}
+use Rattle.spec_parser.proofs.LevelLaws.{within_known}
 use Rattle.spec_parser.proofs.Levels.{operand_known, links_local, others_local}
+use Rattle.syntax_tree.proofs.Joins.{join_none}
 
 pub none_is : (ts : List Token) → length ts ≡ 0 → ts ≡ []
 none_is [] h = refl
@@ -34,10 +34,6 @@ chained_none l e (x ∷ ls) h = absurd (omega arith)
 pub chained_some : (l : Level) (e : Expr) (ls : List Link) → 0 < length ls → chained l e (links_in ls) ≡ tree.Chain (place_of e) l e (links_in ls)
 chained_some l e [] h = absurd (omega arith)
 chained_some l e (x ∷ ls) h = refl
-
-join_none : (ls : Links) → join_links ls no_links ≡ ls
-join_none no_links = refl
-join_none (more_links o e ls) = ap (more_links o e) (join_none ls)
 
 -- one more link at the end
 join_more : (ls : List Link) (l : Link) (us : Links) → join_links (links_in (ls ++ l ∷ [])) us ≡ join_links (links_in ls) (more_links l.operator l.operand us)

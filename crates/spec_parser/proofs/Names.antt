@@ -1,7 +1,6 @@
 -- Names that the grammar knows: from the reader's tests to their spelling.
-use Rattle.std.proofs.Common.{◌≡◌, ℕ, Bool, true, false, not, if◌then◌else◌, List, Option, Some, None, is_some, refl, sym, ap, subst, ◌∙◌, arith}
+use Rattle.std.proofs.Common.{◌≡◌, ℕ, Bool, true, false, if◌then◌else◌, List, Option, Some, None, refl, ap, subst, arith}
 use Rattle.std.specs.Prelude.{codes}
-use Rattle.std.specs.Option.{option_map}
 use Rattle.std.specs.Str.{bytes_eq}
 use Rattle.std.proofs.lemmas.Slice.Eq.{bytes_eq-Decides}
 use Rattle.vocabulary.specs.declared.dotted.Dotted.{Dotted}
@@ -13,9 +12,9 @@ use Rattle.vocabulary.specs.declared.dotted.Family.{Family}
 use Rattle.vocabulary.specs.declared.dotted.Family.TheVariants as family
 use Rattle.spec_parser.specs.declared.words.Member.{Member}
 use Rattle.spec_parser.specs.declared.words.Member.TheVariants as member
-use Rattle.vocabulary.specs.Table.{family_of, family_name, family_in, member_name, dotted_of}
+use Rattle.vocabulary.specs.Table.{family_of, family_name, family_in, member_name, dotted_of, dotted_again}
 use Rattle.spec_parser.specs.Words.{type_word_of, typed_word_of}
-use Rattle.vocabulary.proofs.Listed.{dotted_is, dotted_again}
+use Rattle.vocabulary.proofs.Listed.{dotted_is}
 use Rattle.spec_parser.specs.inner.Reading.{empty_of, empty_member, called_or, member_of}
 
 bytes_are : (n a : List ℕ) → bytes_eq n a ≡ true → n ≡ a

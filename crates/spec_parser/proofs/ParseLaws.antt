@@ -1,12 +1,12 @@
 -- From the outcome of reading to what the parser answers.
-use Rattle.std.proofs.Common.{◌≡◌, ℕ, zero, suc, ◌+◌, ◌-◌, ◌<◌, ◌≤◌, Some, List, [], ◌∷◌, ◌++◌, length, get_or, refl, ap, subst, ◌∙◌, arith, length-append}
+use Rattle.std.proofs.Common.{◌≡◌, ℕ, ◌+◌, ◌-◌, ◌<◌, ◌≤◌, Some, List, [], ◌∷◌, ◌++◌, length, get_or, refl, ap, subst, ◌∙◌, arith, length-append}
 use Rattle.tsl_value.specs.declared.place.Place.{Place}
 use Rattle.spec_lexer.specs.declared.token.Token.{Token}
 use Rattle.token_reader.specs.inner.Reader.{Unexpected, TooDeep, Outcome, Read, Stopped, many, rest_of}
 use Rattle.token_reader.proofs.LocalLaws.{IsLocal, IsLocalTurn, shorter}
 use Rattle.token_reader.proofs.Meets.{Meets, meets_bind, meets-many}
 use Rattle.spec_parser.specs.declared.parse.ParseFault.TheVariants as fault
-use Rattle.spec_parser.specs.Tree.{Item}
+use Rattle.syntax_tree.specs.Tree.{Item}
 use Rattle.spec_parser.specs.inner.Reading.{Reader, at_item, items_at, ended, specification}
 use Rattle.spec_parser.specs.Grammar.{Spells}
 use Rattle.spec_parser.specs.Answers.{place_at, IsFaultOf}

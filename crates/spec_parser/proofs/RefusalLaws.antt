@@ -1,5 +1,5 @@
 -- Where reading stops, the tokens are refused, and nowhere else.
-use Rattle.std.proofs.Common.{◌≡◌, ℕ, suc, ◌≤◌, Bool, true, false, not, ◌&&◌, List, [], ◌∷◌, ◌++◌, length, Some, refl, sym, ap, subst, ◌∙◌, inl, inr, arith, append_assoc}
+use Rattle.std.proofs.Common.{◌≡◌, ℕ, suc, Bool, true, false, not, ◌&&◌, List, [], ◌∷◌, ◌++◌, length, Some, refl, sym, ap, subst, ◌∙◌, inl, inr, arith, append_assoc}
 use Rattle.std.specs.Prelude.{◌⊎◌}
 use Rattle.std.proofs.lemmas.Bool.{cases_lt}
 use Rattle.std.proofs.lemmas.List.{append_cancel_right, append-nil}
@@ -9,7 +9,7 @@ use Rattle.token_reader.proofs.LocalLaws.{CarefulAt, Leads, is_calm}
 use Rattle.token_reader.proofs.ViableLaws.{ArePlain as reader_plain, Alike, alike_end, ViableAt, Goes, Reaches, near, far, Barred}
 use Rattle.token_reader.proofs.RoomLaws.{RisesTo, DeepAt}
 use Rattle.token_reader.proofs.Meets.{Meets}
-use Rattle.spec_parser.specs.Tree.{Item}
+use Rattle.syntax_tree.specs.Tree.{Item}
 use Rattle.spec_parser.specs.Words.{is_minus, is_number_next, may_open, opens_level}
 use Rattle.spec_parser.specs.inner.Reading.{Reader, items_at, ended, specification}
 use Rattle.spec_parser.specs.Grammar.{Spells, empty}

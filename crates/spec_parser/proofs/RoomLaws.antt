@@ -1,9 +1,8 @@
 -- More room changes no outcome but that of a level too deep.
-use Rattle.std.proofs.Common.{◌≡◌, ℕ, zero, suc, ◌+◌, ◌-◌, ◌≤◌, List, [], subst, arith}
+use Rattle.std.proofs.Common.{◌≡◌, ℕ, zero, suc, ◌+◌, ◌-◌, ◌≤◌, List, subst, arith}
 use Rattle.spec_lexer.specs.declared.token.Token.{Token}
-use Rattle.token_reader.specs.inner.Reader.{Outcome, many}
+use Rattle.token_reader.specs.inner.Reader.{many}
 use Rattle.token_reader.proofs.RoomLaws.{RisesTo, IsBelow, rises_same, rises_on, below_same, below-bind}
-use Rattle.spec_parser.specs.Tree.{Item}
 use Rattle.spec_parser.specs.inner.Reading.{items_at, ended, specification}
 use Rattle.spec_parser.proofs.ItemLaws.{items_fine}
 

@@ -1,20 +1,17 @@
 -- What is read is spelled so: types and expressions.
 use Rattle.std.proofs.Common.{◌≡◌, ℕ, zero, suc, Bool, true, false, not, List, [], ◌∷◌, Option, Some, None, is_some, refl, sym, ap, subst, ◌∙◌}
-use Rattle.std.specs.Prelude.{codes}
 use Rattle.std.specs.Option.{option_map}
-use Rattle.tsl_value.specs.declared.place.Place.{Place}
 use Rattle.spec_lexer.specs.declared.token.Token.{Token}
-use Rattle.spec_lexer.specs.declared.token.Kind.{Kind}
-use Rattle.spec_lexer.specs.declared.token.Kind.TheVariants as kind
+use Rattle.spec_lexer.specs.declared.token.TokenKind.{TokenKind}
+use Rattle.spec_lexer.specs.declared.token.TokenKind.TheVariants as kind
 use Rattle.spec_lexer.specs.declared.token.Word.TheVariants as word
 use Rattle.spec_lexer.specs.declared.token.Symbol.TheVariants as symbol
-use Rattle.token_reader.specs.inner.Reader.{Outcome, Read, Stopped, Turn, Lister, give, and_then, ◌>>=◌, when, taken, take_by, expect, tried, if_next, chosen, or_else, opened, many}
-use Rattle.token_reader.proofs.LocalLaws.{IsLocalTurn}
-use Rattle.token_reader.proofs.Meets.{Meets, meets_bind, weaker, meets_opened, meets_expect, meets-many}
-use Rattle.spec_parser.specs.declared.tree.Level.{Level}
-use Rattle.spec_parser.specs.declared.tree.Level.TheVariants as level
-use Rattle.spec_parser.specs.declared.tree.Operator.{Operator}
-use Rattle.spec_parser.specs.declared.tree.Comparison.{Comparison}
+use Rattle.token_reader.specs.inner.Reader.{Outcome, give, ◌>>=◌, when, taken, tried, if_next, chosen, opened, many}
+use Rattle.token_reader.proofs.Meets.{Meets, meets_bind, weaker, meets_expect, meets-many}
+use Rattle.syntax_tree.specs.declared.tree.Level.{Level}
+use Rattle.syntax_tree.specs.declared.tree.Level.TheVariants as level
+use Rattle.syntax_tree.specs.declared.tree.Operator.{Operator}
+use Rattle.syntax_tree.specs.declared.tree.Comparison.{Comparison}
 use Rattle.vocabulary.specs.declared.dotted.Dotted.{Dotted}
 use Rattle.spec_parser.specs.declared.words.TypeWord.{TypeWord}
 use Rattle.spec_parser.specs.declared.words.TypeWord.TheVariants as type_word
@@ -23,17 +20,17 @@ use Rattle.spec_parser.specs.declared.words.TypedWord.TheVariants as typed_word
 use Rattle.vocabulary.specs.declared.dotted.Family.{Family}
 use Rattle.spec_parser.specs.declared.words.Member.{Member}
 use Rattle.spec_parser.specs.declared.words.Member.TheVariants as member
-use Rattle.spec_parser.specs.Tree as tree
-use Rattle.spec_parser.specs.Tree.{TypeName, Expr, Exprs, no_exprs, more_exprs, Links, no_links, more_links, place_of}
+use Rattle.syntax_tree.specs.Tree as tree
+use Rattle.syntax_tree.specs.Tree.{TypeName, Expr, Exprs, no_exprs, more_exprs, Links, no_links, more_links, place_of}
 use Rattle.vocabulary.specs.Table.{family_of, family_name, family_in, member_name}
 use Rattle.spec_parser.specs.Words.{operator_at, comparison_at, opens_call, is_number, is_close, is_open_bracket, is_close_bracket, is_comma, is_if, is_then, is_else, type_word_of, typed_word_of, goes_on}
-use Rattle.spec_parser.specs.Grammar.{Is, IsNamed, IsPast, IsPastLevel, IsPastComparison, IsPastName, IsType, unit, int, bool, string, set, map, option, events, chained, IsExpr, choice, chain, IsLevel, operands, AreLinks, no_link, one_link, IsOperand, conjunction, no_comparison, comparison, product, unary, IsUnary, negative, negate, negation, primary, IsPrimary, number, text, truth, falsity, parens, nothing, name, call, call_dotted, nil, none, empty_set, empty_map, AreOthers, no_other, one_other}
+use Rattle.spec_parser.specs.Grammar.{Is, IsNamed, IsPast, IsType, unit, int, bool, string, set, map, option, events, chained, IsExpr, choice, chain, IsLevel, operands, AreLinks, no_link, one_link, IsOperand, conjunction, no_comparison, comparison, product, unary, IsUnary, negative, negate, negation, primary, IsPrimary, number, text, truth, falsity, parens, nothing, name, call, call_dotted, nil, none, empty_set, empty_map, AreOthers, no_other, one_other}
 use Rattle.spec_parser.specs.inner.Reading as read
-use Rattle.spec_parser.specs.inner.Reading.{Reader, must, in_brackets, two_in_brackets, type_after, at_type, a_type, type_in, link, links_of, after_operand, others_of, after_argument, arguments, typed, member_of, member_after, at_member, a_member, after_name, called, at_number, negated, in_parens, at_unary, second_sum, compared, if_false, if_true, all_levels, expression, within, prefixed, unary_at, operand_at}
-use Rattle.spec_parser.proofs.Ends.{signs, close_is, open_bracket_is, close_bracket_is, comma_is, if_is, call_is, then_is, else_is}
+use Rattle.spec_parser.specs.inner.Reading.{Reader, must, in_brackets, two_in_brackets, type_after, at_type, a_type, type_in, link, links_of, after_operand, others_of, after_argument, arguments, typed, member_of, member_after, at_member, a_member, after_name, name_or_call, at_number, negated, in_parens, at_unary, second_sum, compared, if_false, if_true, all_levels, expression, within, prefixed, unary_at, operand_at}
+use Rattle.spec_parser.proofs.Ends.{signs, close_is, open_bracket_is, close_bracket_is, comma_is, if_is, then_is, else_is}
 use Rattle.spec_parser.proofs.Names.{type_name, type_word_is, typed_name, typed_word_is, family_is, member_spelling, member_family, member_is}
 use Rattle.spec_parser.proofs.ExprLaws.{turn_others}
-use Rattle.spec_parser.proofs.LevelLaws.{within_known, prefixed_known}
+use Rattle.spec_parser.proofs.LevelLaws.{within_known}
 use Rattle.spec_parser.proofs.Levels.{links_local}
 
 some_reader : {A : Type 0} (p q : Reader A) → Some p ≡ Some q → p ≡ q
@@ -86,7 +83,7 @@ module _ (room : ℕ) (sound : (ts : List Token) → Meets (IsIn room ts) (type_
   of_option n is None h us = tt
   of_option n is (Some w) h us = of_word w (is ∙ ap kind.Name (type_word_is n w h)) us
 
-  of_kind : (k : Kind) → t.kind ≡ k → (us : List Token) → Meets (IsType room (t ∷ us)) (taken (at_type room (type_in room) t.place k) t us)
+  of_kind : (k : TokenKind) → t.kind ≡ k → (us : List Token) → Meets (IsType room (t ∷ us)) (taken (at_type room (type_in room) t.place k) t us)
   of_kind (kind.Name n) is us = of_option n is (type_word_of n) refl us
   of_kind (kind.Number n) is us = tt
   of_kind (kind.Text n) is us = tt
@@ -178,7 +175,7 @@ module _ (room : ℕ) (sound : Sound room) (t : Token) where
   member_option d m f n is dot named None h us = tt
   member_option d m f n is dot named (Some w) h us = let k = member_is f n w h in member_sound d m w (is ∙ ap (λ g. kind.Name (family_name g)) k.0) dot (named ∙ ap kind.Name k.1) us
 
-  member_kind : (d m : Token) (f : Family) → IsNamed t (family_name f) → Is d symbol.Dot → (k : Kind) → m.kind ≡ k → (us : List Token) → Meets (Here (d ∷ m ∷ us)) (taken (at_member room (type_in room) (within room) t.place f k) m us)
+  member_kind : (d m : Token) (f : Family) → IsNamed t (family_name f) → Is d symbol.Dot → (k : TokenKind) → m.kind ≡ k → (us : List Token) → Meets (Here (d ∷ m ∷ us)) (taken (at_member room (type_in room) (within room) t.place f k) m us)
   member_kind d m f is dot (kind.Name n) named us = member_option d m f n is dot named (member_of f n) refl us
   member_kind d m f is dot (kind.Number n) named us = tt
   member_kind d m f is dot (kind.Text n) named us = tt
@@ -212,13 +209,13 @@ module _ (room : ℕ) (sound : Sound room) (t : Token) where
     at_dot u us dot None h = alone u us (ap (λ k. goes_on n k u.first) dot ∙ ap is_some h)
     at_dot u us dot (Some f) h = a_member_sound u f (is ∙ ap kind.Name (family_is n f h)) dot us
 
-    next_sound : (u : Token) (us : List Token) (k : Kind) → u.kind ≡ k → Answer u us (after_name room (type_in room) (within room) t.place n k u.first)
+    next_sound : (u : Token) (us : List Token) (k : TokenKind) → u.kind ≡ k → Answer u us (after_name room (type_in room) (within room) t.place n k u.first)
     next_sound u us (kind.Symbol symbol.Open) e = at_open u us e (not u.first) refl
     next_sound u us (kind.Symbol symbol.OpenBracket) e = at_bracket u us e (typed_word_of n) refl
     next_sound u us (kind.Symbol symbol.Dot) e = at_dot u us e (family_of n) refl
     next_sound u us _ e = alone u us (ap (λ k. goes_on n k u.first) e)
 
-    name_sound : (ts : List Token) → Meets (Here ts) (called room (type_in room) (within room) t.place n ts)
+    name_sound : (ts : List Token) → Meets (Here ts) (name_or_call room (type_in room) (within room) t.place n ts)
     name_sound [] = name is tt
     name_sound (u ∷ us) = next_sound u us u.kind refl
 
@@ -253,7 +250,7 @@ module _ (room : ℕ) (sound : Sound room) (prefix_sound : SoundPrefix room) whe
         other : is_number u.kind ≡ false → Meets (IsUnary room (t ∷ u ∷ ts)) (opened room (prefixed room >>= λ e. give (tree.Negate t.place e)) (u ∷ ts))
         other h = negate_of room prefix_sound t is (u ∷ ts) h
 
-        by : (k : Kind) → u.kind ≡ k → Meets (IsUnary room (t ∷ u ∷ ts)) (chosen (at_number t.place k) (opened room (prefixed room >>= λ e. give (tree.Negate t.place e))) u ts)
+        by : (k : TokenKind) → u.kind ≡ k → Meets (IsUnary room (t ∷ u ∷ ts)) (chosen (at_number t.place k) (opened room (prefixed room >>= λ e. give (tree.Negate t.place e))) u ts)
         by (kind.Number n) h = negative is h
         by (kind.Name n) h = other (ap is_number h)
         by (kind.Text n) h = other (ap is_number h)
@@ -263,12 +260,12 @@ module _ (room : ℕ) (sound : Sound room) (prefix_sound : SoundPrefix room) whe
     as_unary : (ts : List Token) (o : Outcome Token Expr) → Meets (IsPrimary room (t ∷ ts)) o → Meets (IsUnary room (t ∷ ts)) o
     as_unary ts o m = weaker (IsPrimary room (t ∷ ts)) (IsUnary room (t ∷ ts)) o (λ e us d. primary d) m
 
-    unary_kind : (ts : List Token) (k : Kind) → t.kind ≡ k → Meets (IsUnary room (t ∷ ts)) (taken (at_unary room (type_in room) (within room) (prefixed room) k t.place) t ts)
+    unary_kind : (ts : List Token) (k : TokenKind) → t.kind ≡ k → Meets (IsUnary room (t ∷ ts)) (taken (at_unary room (type_in room) (within room) (prefixed room) k t.place) t ts)
     unary_kind ts (kind.Number n) is = primary (number is)
     unary_kind ts (kind.Text n) is = primary (text is)
     unary_kind ts (kind.Word word.True) is = primary (truth is)
     unary_kind ts (kind.Word word.False) is = primary (falsity is)
-    unary_kind ts (kind.Name n) is = as_unary ts (called room (type_in room) (within room) t.place n ts) (name_sound room sound t n is ts)
+    unary_kind ts (kind.Name n) is = as_unary ts (name_or_call room (type_in room) (within room) t.place n ts) (name_sound room sound t n is ts)
     unary_kind ts (kind.Symbol symbol.Open) is = as_unary ts (opened room (in_parens (within room) t.place) ts) (parens_sound room sound t is ts)
     unary_kind ts (kind.Symbol symbol.Minus) is = minus_sound is ts
     unary_kind ts (kind.Symbol symbol.Not) is = negation_of room prefix_sound t is ts

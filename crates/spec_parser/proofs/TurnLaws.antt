@@ -3,12 +3,12 @@ use Rattle.std.proofs.Common.{◌≡◌, ℕ, zero, suc, ◌+◌, ◌==◌, ◌<
 use Rattle.tsl_value.specs.declared.place.Place.{Place}
 use Rattle.spec_lexer.specs.declared.token.Token.{Token}
 use Rattle.token_reader.specs.inner.Reader.{Outcome, Read, and_then, chosen, give, noted, or_given, opened, taken, tried, when}
-use Rattle.spec_parser.specs.declared.tree.Level.TheVariants as level
-use Rattle.spec_parser.specs.Tree as tree
-use Rattle.spec_parser.specs.Tree.{Expr, Item, Param, TypeName}
+use Rattle.syntax_tree.specs.declared.tree.Level.TheVariants as level
+use Rattle.syntax_tree.specs.Tree as tree
+use Rattle.syntax_tree.specs.Tree.{Expr, Item, Param, TypeName}
 use Rattle.spec_parser.specs.Words.{is_as, is_close, is_if}
 use Rattle.spec_parser.specs.inner.Reading.{Reader, type_in, chain, operand_at, unary_at, all_levels, choice, expression, closed, in_parens, within, prefixed, may_have_type, after_params, defined_as, a_body, block, plain_output, printed_as, after_output, output_after}
-use Rattle.spec_parser.specs.inner.Parts.{given}
+use Rattle.spec_parser.specs.inner.PartReaders.{given}
 
 pub within_is : (room below : ℕ) (ts : List Token) → room ≡ suc below → within room ts ≡ expression below (type_in below) (within below) (prefixed below) ts
 unfolding within prefixed

@@ -1,22 +1,21 @@
 -- The laws of the readers of types.
-use Rattle.std.proofs.Common.{◌≡◌, ℕ, zero, suc, Bool, true, false, List, [], ◌∷◌, Option, Some, None, refl, sym, ap, ◌∙◌}
+use Rattle.std.proofs.Common.{◌≡◌, ℕ, zero, suc, true, false, List, [], ◌∷◌, Option, Some, None, refl, ap, ◌∙◌}
 use Rattle.std.specs.Option.{option_map}
 use Rattle.tsl_value.specs.declared.place.Place.{Place}
 use Rattle.spec_lexer.specs.declared.token.Token.{Token}
-use Rattle.spec_lexer.specs.declared.token.Kind.{Kind}
-use Rattle.spec_lexer.specs.declared.token.Kind.TheVariants as kind
-use Rattle.spec_lexer.specs.declared.token.Word.TheVariants as word
+use Rattle.spec_lexer.specs.declared.token.TokenKind.{TokenKind}
+use Rattle.spec_lexer.specs.declared.token.TokenKind.TheVariants as kind
 use Rattle.spec_lexer.specs.declared.token.Symbol.TheVariants as symbol
-use Rattle.token_reader.specs.inner.Reader.{TooDeep, give, refuse, and_then, ◌>>=◌, when, taken, take_by, expect, opened}
-use Rattle.token_reader.proofs.LocalLaws.{IsCareful, IsLocal, IsEager, local-give, local-take_by, local-bind, local-expect, eager-take_by}
+use Rattle.token_reader.specs.inner.Reader.{TooDeep, give, refuse, take_by, opened}
+use Rattle.token_reader.proofs.LocalLaws.{IsCareful, IsLocal, local-give, local-take_by, local-bind, local-expect}
 use Rattle.token_reader.proofs.CarefulLaws.{careful-give, careful-test, careful-take_by, careful-bind, local-closed}
-use Rattle.token_reader.proofs.ViableLaws.{Passes, plainly, opening, at_once, unless, Completes, CompletesAll, completes-bind, completes-each, each-give, each-one, each-bind, each-expect, all-expect, each-all}
-use Rattle.token_reader.proofs.Fine.{IsFine, IsFineTurn, GoesOn, fine-give, fine-too_deep, fine-bind, fine-take_by, fine-expect, fine_opened, passes_opened, on-expect, on-close, closed, turn_local}
-use Rattle.token_reader.proofs.Fewer.{fine_fewer, local_fewer, completes_fewer, at_fewer}
+use Rattle.token_reader.proofs.ViableLaws.{Passes, plainly, opening, at_once, unless, Completes, CompletesAll, completes-bind, each-give, each-bind, all-expect}
+use Rattle.token_reader.proofs.Fine.{IsFine, IsFineTurn, fine-give, fine-too_deep, fine-bind, fine-take_by, fine-expect, fine_opened, passes_opened, closed, turn_local}
+use Rattle.token_reader.proofs.Fewer.{fine_fewer, completes_fewer, at_fewer}
 use Rattle.spec_parser.specs.declared.words.TypeWord.{TypeWord}
 use Rattle.spec_parser.specs.declared.words.TypeWord.TheVariants as type_word
-use Rattle.spec_parser.specs.Tree as tree
-use Rattle.spec_parser.specs.Tree.{TypeName}
+use Rattle.syntax_tree.specs.Tree as tree
+use Rattle.syntax_tree.specs.Tree.{TypeName}
 use Rattle.spec_parser.specs.Words.{is_open_bracket, is_close_bracket, is_comma, is_number, may_open, opens_level, is_minus, type_word_of}
 use Rattle.spec_parser.specs.inner.Reading.{Reader, must, in_brackets, two_in_brackets, type_after, at_type, a_type, type_in}
 use Rattle.spec_parser.proofs.Ends.{ends, ends_type, ends_fewer, ends_quiet, type_quiet, close_bracket_is, comma_is, signs, type_signs, start, sample, a_name, open_bracket_is, opens_by}
@@ -25,7 +24,7 @@ use Rattle.spec_parser.proofs.Ends.{ends, ends_type, ends_fewer, ends_quiet, typ
 abbrev pub Opens : Token → Type 0
 Opens t = (may_open t.kind ≡ true) × ((more : List Token) → opens_level t more ≡ true)
 
-pub opens_as : (t : Token) (k : Kind) → t.kind ≡ k → may_open k ≡ true → is_minus k ≡ false → Opens t
+pub opens_as : (t : Token) (k : TokenKind) → t.kind ≡ k → may_open k ≡ true → is_minus k ≡ false → Opens t
 opens_as t k e o m = (ap may_open e ∙ o, λ more. opens_by k k refl o m t e more)
 
 pub bracket_opens : (t : Token) → is_open_bracket t.kind ≡ true → Opens t
@@ -123,7 +122,7 @@ module _ (room : ℕ) (i j : Reader TypeName) (ij : IsFine type_signs i j) (ci :
   type_turn t plain None = tt
   type_turn t plain (Some w) = (type_after_fine t.place w, plainly plain (type_after_careful t.place w))
 
-  at_type_turn : (t : Token) (k : Kind) → t.kind ≡ k → IsFineTurn type_signs t (at_type room i t.place k) (at_type (suc room) j t.place k)
+  at_type_turn : (t : Token) (k : TokenKind) → t.kind ≡ k → IsFineTurn type_signs t (at_type room i t.place k) (at_type (suc room) j t.place k)
   at_type_turn t (kind.Name n) e = type_turn t (ap may_open e) (type_word_of n)
   at_type_turn t (kind.Number n) e = tt
   at_type_turn t (kind.Text n) e = tt

@@ -2,11 +2,11 @@
 use Rattle.std.specs.Prelude.{◌≡◌, List, [], ◌∷◌, Result, Ok, Err}
 use Rattle.tsl_value.specs.declared.place.Place.{Place}
 use Rattle.spec_lexer.specs.declared.token.Token.{Token}
-use Rattle.spec_parser.specs.declared.tree.Tree.{Tree}
+use Rattle.syntax_tree.specs.declared.tree.Tree.{Tree}
 use Rattle.spec_parser.specs.declared.parse.ParseFault.{ParseFault}
 use Rattle.spec_parser.specs.declared.parse.ParseFault.TheVariants as fault
-use Rattle.spec_parser.specs.Tree.{Item}
-use Rattle.spec_parser.specs.inner.Shape.{items_of}
+use Rattle.syntax_tree.specs.Tree.{Item}
+use Rattle.syntax_tree.specs.inner.OneLevel.{items_of}
 use Rattle.spec_parser.specs.Refusals.{IsUnexpected, IsTooDeep}
 use Rattle.spec_parser.specs.declared.limits.TheConstants.{MOST_LEVELS}
 

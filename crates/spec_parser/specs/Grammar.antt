@@ -3,20 +3,20 @@
 -- bracket, a brace, the word `if` and a prefix operator.
 use Rattle.std.specs.Prelude.{◌≡◌, ℕ, suc, Bool, true, false, List, [], ◌∷◌, Option, Some, None, codes}
 use Rattle.spec_lexer.specs.declared.token.Token.{Token}
-use Rattle.spec_lexer.specs.declared.token.Kind.{Kind}
-use Rattle.spec_lexer.specs.declared.token.Kind.TheVariants as kind
+use Rattle.spec_lexer.specs.declared.token.TokenKind.{TokenKind}
+use Rattle.spec_lexer.specs.declared.token.TokenKind.TheVariants as kind
 use Rattle.spec_lexer.specs.declared.token.Word.TheVariants as word
 use Rattle.spec_lexer.specs.declared.token.Symbol.{Symbol}
 use Rattle.spec_lexer.specs.declared.token.Symbol.TheVariants as symbol
 use Rattle.tsl_value.specs.declared.place.Place.{Place}
-use Rattle.spec_parser.specs.declared.tree.Level.{Level}
-use Rattle.spec_parser.specs.declared.tree.Level.TheVariants as level
-use Rattle.spec_parser.specs.declared.tree.Operator.{Operator}
-use Rattle.spec_parser.specs.declared.tree.Comparison.{Comparison}
+use Rattle.syntax_tree.specs.declared.tree.Level.{Level}
+use Rattle.syntax_tree.specs.declared.tree.Level.TheVariants as level
+use Rattle.syntax_tree.specs.declared.tree.Operator.{Operator}
+use Rattle.syntax_tree.specs.declared.tree.Comparison.{Comparison}
 use Rattle.vocabulary.specs.declared.dotted.Dotted.{Dotted}
-use Rattle.spec_parser.specs.Tree as tree
-use Rattle.spec_parser.specs.Tree.{TypeName, Expr, Exprs, no_exprs, more_exprs, Links, no_links, more_links, place_of, Param, Body}
-use Rattle.spec_parser.specs.Tree.{Definition, Definitions, no_definitions, more_definitions, Item}
+use Rattle.syntax_tree.specs.Tree as tree
+use Rattle.syntax_tree.specs.Tree.{TypeName, Expr, Exprs, no_exprs, more_exprs, Links, no_links, more_links, place_of, Param, Body}
+use Rattle.syntax_tree.specs.Tree.{Definition, Definitions, no_definitions, more_definitions, Item}
 use Rattle.spec_parser.specs.Words.{operator_at, comparison_at, opens_call, is_number, is_open, is_comma, is_colon, defines, is_as, is_def}
 use Rattle.vocabulary.specs.Table.{family_name, family_in, member_name}
 use Rattle.spec_parser.specs.Words.{goes_on}
@@ -29,7 +29,7 @@ abbrev pub IsNamed : Token → List ℕ → Type 0
 IsNamed t n = t.kind ≡ kind.Name n
 
 -- the next token, if there is one, fails the test
-abbrev pub IsPast : (Kind → Bool) → List Token → Type 0
+abbrev pub IsPast : (TokenKind → Bool) → List Token → Type 0
 IsPast test [] = Unit {0}
 IsPast test (t ∷ ts) = test t.kind ≡ false
 

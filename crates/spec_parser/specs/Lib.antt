@@ -1,5 +1,3 @@
-pub mod Tree
-pub mod Places
 pub mod Words
 pub mod Grammar
 pub mod Refusals

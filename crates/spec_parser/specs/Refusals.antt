@@ -1,7 +1,7 @@
 -- Which tokens are refused, and where.
 use Rattle.std.specs.Prelude.{◌≡◌, ◌⊎◌, ℕ, suc, true, false, List, [], ◌∷◌, ◌++◌}
 use Rattle.spec_lexer.specs.declared.token.Token.{Token}
-use Rattle.spec_parser.specs.Tree.{Item}
+use Rattle.syntax_tree.specs.Tree.{Item}
 use Rattle.spec_parser.specs.Words.{may_open, opens_level}
 use Rattle.spec_parser.specs.Grammar.{Spells}
 

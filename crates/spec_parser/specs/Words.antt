@@ -2,32 +2,22 @@
 use Rattle.std.specs.Prelude.{ℕ, Bool, true, false, not, ◌&&◌, if◌then◌else◌, List, [], ◌∷◌, Option, Some, None, is_some, codes}
 use Rattle.std.specs.Str.{bytes_eq}
 use Rattle.spec_lexer.specs.declared.token.Token.{Token}
-use Rattle.spec_lexer.specs.declared.token.Kind.{Kind}
-use Rattle.spec_lexer.specs.declared.token.Kind.TheVariants as kind
+use Rattle.spec_lexer.specs.declared.token.TokenKind.{TokenKind}
+use Rattle.spec_lexer.specs.declared.token.TokenKind.TheVariants as kind
 use Rattle.spec_lexer.specs.declared.token.Word.TheVariants as word
 use Rattle.spec_lexer.specs.declared.token.Symbol.{Symbol}
 use Rattle.spec_lexer.specs.declared.token.Symbol.TheVariants as symbol
 use Rattle.vocabulary.specs.Table.{family_of}
-use Rattle.spec_parser.specs.declared.tree.Level.{Level}
-use Rattle.spec_parser.specs.declared.tree.Level.TheVariants as level
-use Rattle.spec_parser.specs.declared.tree.Operator.{Operator}
-use Rattle.spec_parser.specs.declared.tree.Operator.TheVariants as operator
-use Rattle.spec_parser.specs.declared.tree.Comparison.{Comparison}
-use Rattle.spec_parser.specs.declared.tree.Comparison.TheVariants as comparison
+use Rattle.syntax_tree.specs.declared.tree.Level.{Level}
+use Rattle.syntax_tree.specs.declared.tree.Level.TheVariants as level
+use Rattle.syntax_tree.specs.declared.tree.Operator.{Operator}
+use Rattle.syntax_tree.specs.declared.tree.Operator.TheVariants as operator
+use Rattle.syntax_tree.specs.declared.tree.Comparison.{Comparison}
+use Rattle.syntax_tree.specs.declared.tree.Comparison.TheVariants as comparison
 use Rattle.spec_parser.specs.declared.words.TypeWord.{TypeWord}
 use Rattle.spec_parser.specs.declared.words.TypeWord.TheVariants as type_word
 use Rattle.spec_parser.specs.declared.words.TypedWord.{TypedWord}
 use Rattle.spec_parser.specs.declared.words.TypedWord.TheVariants as typed_word
-
--- the level of an operator
-abbrev pub level_of : Operator → Level
-level_of operator.Or = level.Disjunction
-level_of operator.And = level.Conjunction
-level_of operator.Add = level.Sum
-level_of operator.Subtract = level.Sum
-level_of operator.Multiply = level.Product
-level_of operator.Divide = level.Product
-level_of operator.Remainder = level.Product
 
 -- the binary operators of each level; a minus that is the first of its line is none
 abbrev pub symbol_at : Level → Symbol → Bool → Option Operator
@@ -40,7 +30,7 @@ symbol_at level.Product symbol.Divide first = Some operator.Divide
 symbol_at level.Product symbol.Remainder first = Some operator.Remainder
 symbol_at _ _ first = None
 
-abbrev pub operator_at : Level → Kind → Bool → Option Operator
+abbrev pub operator_at : Level → TokenKind → Bool → Option Operator
 operator_at l (kind.Symbol s) first = symbol_at l s first
 operator_at l _ first = None
 
@@ -53,74 +43,74 @@ compares symbol.Below = Some comparison.Below
 compares symbol.Above = Some comparison.Above
 compares _ = None
 
-abbrev pub comparison_at : Kind → Option Comparison
+abbrev pub comparison_at : TokenKind → Option Comparison
 comparison_at (kind.Symbol s) = compares s
 comparison_at _ = None
 
 -- an opening parenthesis that is not the first of its line
-abbrev pub opens_call : Kind → Bool → Bool
+abbrev pub opens_call : TokenKind → Bool → Bool
 opens_call (kind.Symbol symbol.Open) first = not first
 opens_call _ first = false
 
-abbrev pub is_number : Kind → Bool
+abbrev pub is_number : TokenKind → Bool
 is_number (kind.Number n) = true
 is_number _ = false
 
-abbrev pub is_open : Kind → Bool
+abbrev pub is_open : TokenKind → Bool
 is_open (kind.Symbol symbol.Open) = true
 is_open _ = false
 
-abbrev pub is_close : Kind → Bool
+abbrev pub is_close : TokenKind → Bool
 is_close (kind.Symbol symbol.Close) = true
 is_close _ = false
 
-abbrev pub is_open_bracket : Kind → Bool
+abbrev pub is_open_bracket : TokenKind → Bool
 is_open_bracket (kind.Symbol symbol.OpenBracket) = true
 is_open_bracket _ = false
 
-abbrev pub is_close_bracket : Kind → Bool
+abbrev pub is_close_bracket : TokenKind → Bool
 is_close_bracket (kind.Symbol symbol.CloseBracket) = true
 is_close_bracket _ = false
 
-abbrev pub is_open_brace : Kind → Bool
+abbrev pub is_open_brace : TokenKind → Bool
 is_open_brace (kind.Symbol symbol.OpenBrace) = true
 is_open_brace _ = false
 
-abbrev pub is_close_brace : Kind → Bool
+abbrev pub is_close_brace : TokenKind → Bool
 is_close_brace (kind.Symbol symbol.CloseBrace) = true
 is_close_brace _ = false
 
-abbrev pub is_comma : Kind → Bool
+abbrev pub is_comma : TokenKind → Bool
 is_comma (kind.Symbol symbol.Comma) = true
 is_comma _ = false
 
-abbrev pub is_colon : Kind → Bool
+abbrev pub is_colon : TokenKind → Bool
 is_colon (kind.Symbol symbol.Colon) = true
 is_colon _ = false
 
 -- what stands between the head of a definition and its body
-abbrev pub defines : Kind → Bool
+abbrev pub defines : TokenKind → Bool
 defines (kind.Symbol symbol.Define) = true
 defines (kind.Symbol symbol.Equals) = true
 defines _ = false
 
-abbrev pub is_if : Kind → Bool
+abbrev pub is_if : TokenKind → Bool
 is_if (kind.Word word.If) = true
 is_if _ = false
 
-abbrev pub is_then : Kind → Bool
+abbrev pub is_then : TokenKind → Bool
 is_then (kind.Word word.Then) = true
 is_then _ = false
 
-abbrev pub is_else : Kind → Bool
+abbrev pub is_else : TokenKind → Bool
 is_else (kind.Word word.Else) = true
 is_else _ = false
 
-abbrev pub is_as : Kind → Bool
+abbrev pub is_as : TokenKind → Bool
 is_as (kind.Word word.As) = true
 is_as _ = false
 
-abbrev pub is_def : Kind → Bool
+abbrev pub is_def : TokenKind → Bool
 is_def (kind.Word word.Def) = true
 is_def _ = false
 
@@ -144,14 +134,14 @@ typed_word_of n =
     else None
 
 -- the token goes on with a name before it
-abbrev pub goes_on : List ℕ → Kind → Bool → Bool
+abbrev pub goes_on : List ℕ → TokenKind → Bool → Bool
 goes_on n (kind.Symbol symbol.Open) first = not first
 goes_on n (kind.Symbol symbol.OpenBracket) first = is_some (typed_word_of n)
 goes_on n (kind.Symbol symbol.Dot) first = is_some (family_of n)
 goes_on n _ first = false
 
 -- what may open a level: a minus opens none before a number, and where it stands between operands
-abbrev pub may_open : Kind → Bool
+abbrev pub may_open : TokenKind → Bool
 may_open (kind.Symbol symbol.Open) = true
 may_open (kind.Symbol symbol.OpenBracket) = true
 may_open (kind.Symbol symbol.OpenBrace) = true
@@ -160,7 +150,7 @@ may_open (kind.Symbol symbol.Not) = true
 may_open (kind.Word word.If) = true
 may_open _ = false
 
-abbrev pub is_minus : Kind → Bool
+abbrev pub is_minus : TokenKind → Bool
 is_minus (kind.Symbol symbol.Minus) = true
 is_minus _ = false
 

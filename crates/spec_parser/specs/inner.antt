@@ -1,7 +1,4 @@
-pub mod Code
-pub mod Shape
-pub mod Falls
 pub mod Reading
-pub mod Parts
+pub mod PartReaders
 pub mod Gives
 pub mod Marks

@@ -2,23 +2,24 @@
 
 ghost use Rattle.std.specs.Prelude.{◌≡◌, ◌<◌, ◌^◌, suc};
 ghost use Rattle.token_reader.specs.inner.Reader.{opened, many, with_list};
-ghost use Rattle.spec_parser.specs.Tree as tree;
-ghost use Rattle.spec_parser.specs.inner.Shape.{param_of, params_in, body_of, definitions_of as definitions_in};
+ghost use Rattle.syntax_tree.specs.Tree as tree;
+ghost use Rattle.syntax_tree.specs.inner.OneLevel.{param_of, params_in, body_of, definitions_of as definitions_in};
 ghost use Rattle.spec_parser.specs.inner.Reading.{type_in, within, a_param, after_param, other_params_of, params as reading_params};
 ghost use Rattle.spec_parser.specs.inner.Reading.{may_have_params, may_have_type, after_params, defined_as};
 ghost use Rattle.spec_parser.specs.inner.Reading.{inner_definition as reading_definition, definitions_of, a_body, a_block};
 ghost use Rattle.spec_parser.specs.inner.Reading.{block as reading_block, whole_definition};
-ghost use Rattle.spec_parser.specs.inner.Parts.{plain_body};
+ghost use Rattle.spec_parser.specs.inner.PartReaders.{plain_body};
 ghost use Rattle.spec_parser.specs.Words.{is_def};
-ghost use Rattle.spec_parser.specs.inner.Gives.{Gives, join_definitions, join_params};
+ghost use Rattle.spec_parser.specs.inner.Gives.{Gives};
+ghost use Rattle.syntax_tree.specs.inner.Joins.{join_definitions, join_params};
 
 use crate::expression::within_room;
 use crate::mark::{Mark, fits, pass};
 use crate::stop::Stop;
-use crate::tree::{Body, Definition, DefinitionParts, Param, TypeName};
 use crate::type_name::type_in_room;
-use spec_lexer::token::{Kind, Symbol, Token, Word};
+use spec_lexer::token::{Symbol, Token, TokenKind, Word};
 use std::alloc::Global;
+use syntax_tree::tree::{Body, Definition, DefinitionParts, Param, TypeName};
 use tsl_value::place::Place;
 use tsl_value::text::Text;
 
@@ -37,7 +38,7 @@ fn param(alloc: Global, room: u32, tokens: &[Token]) -> Result<(Param, &[Token])
     match tokens {
         [] => Err(Stop::Unexpected(tokens)),
         [token, rest @ ..] => match &token.kind {
-            Kind::Name(name) => {
+            TokenKind::Name(name) => {
                 let rest = pass(Mark::Colon, rest)?;
                 let (of, rest) = type_in_room(alloc, room, rest)?;
                 let name = name.copy()?;
@@ -113,7 +114,7 @@ fn may_be_params(
     match tokens {
         [] => Ok((Vec::new(alloc), tokens)),
         [token, rest @ ..] => match &token.kind {
-            Kind::Symbol(Symbol::Open) => opened_params(alloc, room, rest),
+            TokenKind::Symbol(Symbol::Open) => opened_params(alloc, room, rest),
             _ => Ok((Vec::new(alloc), tokens)),
         },
     }
@@ -130,7 +131,7 @@ fn may_be_type(
     match tokens {
         [] => Ok((None, tokens)),
         [token, rest @ ..] => match &token.kind {
-            Kind::Symbol(Symbol::Colon) => {
+            TokenKind::Symbol(Symbol::Colon) => {
                 let (of, rest) = type_in_room(alloc, room, rest)?;
                 Ok((Some(of), rest))
             }
@@ -151,7 +152,7 @@ fn plain(alloc: Global, room: u32, tokens: &[Token]) -> Result<(Body, &[Token]),
 fn begins_definition(token: &Token) -> bool
     ensures { result ≡ is_def token.now.kind }
 {
-    matches!(&token.kind, Kind::Word(Word::Def))
+    matches!(&token.kind, TokenKind::Word(Word::Def))
 }
 
 /// A body, or a block in braces.
@@ -163,7 +164,7 @@ fn body(alloc: Global, room: u32, tokens: &[Token]) -> Result<(Body, &[Token]), 
     match tokens {
         [] => plain(alloc, room, tokens),
         [token, rest @ ..] => match &token.kind {
-            Kind::Symbol(Symbol::OpenBrace) => block(alloc, room, rest),
+            TokenKind::Symbol(Symbol::OpenBrace) => block(alloc, room, rest),
             _ => plain(alloc, room, tokens),
         },
     }
@@ -231,7 +232,7 @@ fn inner_definition(
     match tokens {
         [] => Err(Stop::Unexpected(tokens)),
         [token, rest @ ..] => match &token.kind {
-            Kind::Name(name) => {
+            TokenKind::Name(name) => {
                 let params = Vec::new(alloc);
                 after_head(alloc, room, token.place, name, params, rest)
             }
@@ -277,6 +278,8 @@ fn defined<'a>(
         (tree.Define head.place name.now (params_in head.params.items) head.written) tokens.now) }
 {
     let rest = pass(Mark::Defines, tokens)?;
+    // no more definitions stand in a body than tokens, and these are counted
+    prove!(rest.len() <= usize::MAX);
     let (body, rest) = body(alloc, room, rest)?;
     let parts = DefinitionParts {
         place: head.place,
@@ -285,7 +288,7 @@ fn defined<'a>(
         written: head.written,
         body,
     };
-    Ok((Definition { parts }, rest))
+    Ok((Definition::new(parts), rest))
 }
 
 /// A definition of a specification, after the word `def`.
@@ -300,7 +303,7 @@ pub(crate) fn definition(
     match tokens {
         [] => Err(Stop::Unexpected(tokens)),
         [token, rest @ ..] => match &token.kind {
-            Kind::Name(name) => {
+            TokenKind::Name(name) => {
                 let (params, rest) = may_be_params(alloc, room, rest)?;
                 after_head(alloc, room, token.place, name, params, rest)
             }

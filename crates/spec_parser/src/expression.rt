@@ -2,25 +2,26 @@
 
 ghost use Rattle.std.specs.Prelude.{◌≡◌};
 ghost use Rattle.token_reader.specs.inner.Reader.{opened, many, with_list};
-ghost use Rattle.spec_parser.specs.Tree as tree;
-ghost use Rattle.spec_parser.specs.Tree.{place_of};
-ghost use Rattle.spec_parser.specs.inner.Shape.{exprs_of, links_in};
+ghost use Rattle.syntax_tree.specs.Tree as tree;
+ghost use Rattle.syntax_tree.specs.Tree.{place_of};
+ghost use Rattle.syntax_tree.specs.inner.OneLevel.{exprs_of, links_in};
 ghost use Rattle.spec_parser.specs.Words.{operator_at, comparison_at, opens_call, is_if, is_open_bracket};
 ghost use Rattle.spec_parser.specs.Grammar.{chained};
 ghost use Rattle.spec_parser.specs.inner.Reading.{must, in_brackets, two_in_brackets, type_in, typed_as, called_as, links_of};
-ghost use Rattle.spec_parser.specs.inner.Reading.{chain as reading_chain, others_of, arguments, a_member, must_call, called, negated};
+ghost use Rattle.spec_parser.specs.inner.Reading.{chain as reading_chain, others_of, arguments, a_member, must_call, name_or_call, negated};
 ghost use Rattle.spec_parser.specs.inner.Reading.{opposed};
 ghost use Rattle.spec_parser.specs.inner.Reading.{denied, in_parens, closed, unary_at, operand_at, after_sum, after_argument, if_false};
 ghost use Rattle.spec_parser.specs.inner.Reading.{if_true, choice as reading_choice, expression, within, prefixed};
-ghost use Rattle.spec_parser.specs.inner.Gives.{Gives, IfOkOrMemory, join_exprs};
+ghost use Rattle.spec_parser.specs.inner.Gives.{Gives, IfOkOrMemory};
+ghost use Rattle.syntax_tree.specs.inner.Joins.{join_exprs};
 
 use crate::mark::{Mark, fits, pass};
 use crate::stop::Stop;
-use crate::tree::{Comparison, Expr, Level, Link, Node, Operator, TypeName};
 use crate::type_name::type_in_room;
 use crate::words::{Callee, Member, TypedWord, member_named, typed_word};
-use spec_lexer::token::{Kind, Symbol, Token, Word};
+use spec_lexer::token::{Symbol, Token, TokenKind, Word};
 use std::alloc::Global;
+use syntax_tree::tree::{Comparison, Expr, Level, Link, Node, Operator, TypeName};
 use tsl_value::place::Place;
 use tsl_value::text::Text;
 use vocabulary::dotted::{Dotted, Family, family_named};
@@ -30,13 +31,13 @@ fn operator(level: Level, token: &Token) -> Option<Operator>
     ensures { result ≡ operator_at level token.now.kind token.now.first }
 {
     match (level, &token.kind) {
-        (Level::Disjunction, Kind::Symbol(Symbol::Or)) => Some(Operator::Or),
-        (Level::Conjunction, Kind::Symbol(Symbol::And)) => Some(Operator::And),
-        (Level::Sum, Kind::Symbol(Symbol::Plus)) => Some(Operator::Add),
-        (Level::Sum, Kind::Symbol(Symbol::Minus)) if !token.first => Some(Operator::Subtract),
-        (Level::Product, Kind::Symbol(Symbol::Times)) => Some(Operator::Multiply),
-        (Level::Product, Kind::Symbol(Symbol::Divide)) => Some(Operator::Divide),
-        (Level::Product, Kind::Symbol(Symbol::Remainder)) => Some(Operator::Remainder),
+        (Level::Disjunction, TokenKind::Symbol(Symbol::Or)) => Some(Operator::Or),
+        (Level::Conjunction, TokenKind::Symbol(Symbol::And)) => Some(Operator::And),
+        (Level::Sum, TokenKind::Symbol(Symbol::Plus)) => Some(Operator::Add),
+        (Level::Sum, TokenKind::Symbol(Symbol::Minus)) if !token.first => Some(Operator::Subtract),
+        (Level::Product, TokenKind::Symbol(Symbol::Times)) => Some(Operator::Multiply),
+        (Level::Product, TokenKind::Symbol(Symbol::Divide)) => Some(Operator::Divide),
+        (Level::Product, TokenKind::Symbol(Symbol::Remainder)) => Some(Operator::Remainder),
         _ => None,
     }
 }
@@ -45,12 +46,12 @@ fn comparison(token: &Token) -> Option<Comparison>
     ensures { result ≡ comparison_at token.now.kind }
 {
     match &token.kind {
-        Kind::Symbol(Symbol::Same) => Some(Comparison::Same),
-        Kind::Symbol(Symbol::Differs) => Some(Comparison::Differs),
-        Kind::Symbol(Symbol::AtMost) => Some(Comparison::AtMost),
-        Kind::Symbol(Symbol::AtLeast) => Some(Comparison::AtLeast),
-        Kind::Symbol(Symbol::Below) => Some(Comparison::Below),
-        Kind::Symbol(Symbol::Above) => Some(Comparison::Above),
+        TokenKind::Symbol(Symbol::Same) => Some(Comparison::Same),
+        TokenKind::Symbol(Symbol::Differs) => Some(Comparison::Differs),
+        TokenKind::Symbol(Symbol::AtMost) => Some(Comparison::AtMost),
+        TokenKind::Symbol(Symbol::AtLeast) => Some(Comparison::AtLeast),
+        TokenKind::Symbol(Symbol::Below) => Some(Comparison::Below),
+        TokenKind::Symbol(Symbol::Above) => Some(Comparison::Above),
         _ => None,
     }
 }
@@ -58,14 +59,14 @@ fn comparison(token: &Token) -> Option<Comparison>
 fn begins_choice(token: &Token) -> bool
     ensures { result ≡ is_if token.now.kind }
 {
-    matches!(&token.kind, Kind::Word(Word::If))
+    matches!(&token.kind, TokenKind::Word(Word::If))
 }
 
 /// A parenthesis that is not the first of its line.
 fn begins_arguments(token: &Token) -> bool
     ensures { result ≡ opens_call token.now.kind token.now.first }
 {
-    matches!(&token.kind, Kind::Symbol(Symbol::Open)) && !token.first
+    matches!(&token.kind, TokenKind::Symbol(Symbol::Open)) && !token.first
 }
 
 /// The operand, or a chain where links follow it.
@@ -83,7 +84,7 @@ fn chain_of(
     }
     let place = first.place();
     let node = Node::Chain(level, Box::new(alloc, first)?, links);
-    Ok(Expr { place, node })
+    Ok(Expr::new(place, node))
 }
 
 fn compared(
@@ -96,7 +97,7 @@ fn compared(
 {
     let place = left.place();
     let node = Node::Compare(comparison, Box::new(alloc, left)?, Box::new(alloc, right)?);
-    Ok(Expr { place, node })
+    Ok(Expr::new(place, node))
 }
 
 fn chosen(
@@ -113,14 +114,14 @@ fn chosen(
         Box::new(alloc, yes)?,
         Box::new(alloc, no)?,
     );
-    Ok(Expr { place, node })
+    Ok(Expr::new(place, node))
 }
 
 fn named(place: Place, name: &Text) -> Result<Expr, Stop<'static>>
     ensures { IfOkOrMemory result (λ e. e ≡ tree.Name place name.now) }
 {
     let node = Node::Name(name.copy()?);
-    Ok(Expr { place, node })
+    Ok(Expr::new(place, node))
 }
 
 /// A name with a type in brackets after it.
@@ -142,7 +143,7 @@ fn with_type(
         TypedWord::Nil => Node::Nil(of),
         TypedWord::None => Node::None(of),
     };
-    Ok((Expr { place, node }, rest))
+    Ok((Expr::new(place, node), rest))
 }
 
 fn empty_set(
@@ -161,7 +162,7 @@ fn empty_set(
     let (of, rest) = type_in_room(alloc, room, rest)?;
     let rest = pass(Mark::CloseBracket, rest)?;
     let node = Node::EmptySet(of);
-    Ok((Expr { place, node }, rest))
+    Ok((Expr::new(place, node), rest))
 }
 
 fn empty_map(
@@ -194,7 +195,7 @@ fn map_after_key(
     let (value, rest) = type_in_room(alloc, room, tokens)?;
     let rest = pass(Mark::CloseBracket, rest)?;
     let node = Node::EmptyMap(key, value);
-    Ok((Expr { place, node }, rest))
+    Ok((Expr::new(place, node), rest))
 }
 
 fn call_of(place: Place, callee: Callee, all: Vec<Expr>) -> Expr
@@ -204,7 +205,7 @@ fn call_of(place: Place, callee: Callee, all: Vec<Expr>) -> Expr
         Callee::Name(name) => Node::Call(name, all),
         Callee::Dotted(function) => Node::CallDotted(function, all),
     };
-    Expr { place, node }
+    Expr::new(place, node)
 }
 
 /// An expression inside a level that was opened.
@@ -385,36 +386,15 @@ fn unary(alloc: Global, room: u32, tokens: &[Token]) -> Result<(Expr, &[Token]),
     match tokens {
         [] => Err(Stop::Unexpected(tokens)),
         [token, rest @ ..] => match &token.kind {
-            Kind::Symbol(Symbol::Open) => parens(alloc, room, token.place, rest),
-            Kind::Symbol(Symbol::Minus) => minus(alloc, room, token.place, rest),
-            Kind::Symbol(Symbol::Not) => negation(alloc, room, token.place, rest),
-            Kind::Name(name) => name_after(alloc, room, token.place, name, rest),
-            Kind::Number(n) => Ok((
-                Expr {
-                    place: token.place,
-                    node: Node::Number(*n),
-                },
-                rest,
-            )),
-            Kind::Text(text) => Ok((
-                Expr {
-                    place: token.place,
-                    node: Node::Text(text.copy()?),
-                },
-                rest,
-            )),
-            Kind::Word(Word::True) => Ok((
-                Expr {
-                    place: token.place,
-                    node: Node::Boolean(true),
-                },
-                rest,
-            )),
-            Kind::Word(Word::False) => Ok((
-                Expr {
-                    place: token.place,
-                    node: Node::Boolean(false),
-                },
+            TokenKind::Symbol(Symbol::Open) => parens(alloc, room, token.place, rest),
+            TokenKind::Symbol(Symbol::Minus) => minus(alloc, room, token.place, rest),
+            TokenKind::Symbol(Symbol::Not) => negation(alloc, room, token.place, rest),
+            TokenKind::Name(name) => name_after(alloc, room, token.place, name, rest),
+            TokenKind::Number(n) => Ok((Expr::new(token.place, Node::Number(*n)), rest)),
+            TokenKind::Text(text) => Ok((Expr::new(token.place, Node::Text(text.copy()?)), rest)),
+            TokenKind::Word(Word::True) => Ok((Expr::new(token.place, Node::Boolean(true)), rest)),
+            TokenKind::Word(Word::False) => Ok((
+                Expr::new(token.place, Node::Boolean(false)),
                 rest,
             )),
             _ => Err(Stop::Unexpected(tokens)),
@@ -440,7 +420,7 @@ fn parens(
         Some((token, rest)) => {
             if fits(Mark::Close, token) {
                 let node = Node::Unit;
-                Ok((Expr { place, node }, rest))
+                Ok((Expr::new(place, node), rest))
             } else {
                 inside(alloc, room, tokens)
             }
@@ -471,9 +451,9 @@ fn minus(
     match tokens {
         [] => opposite(alloc, room, place, tokens),
         [token, rest @ ..] => match &token.kind {
-            Kind::Number(n) => {
+            TokenKind::Number(n) => {
                 let node = Node::Negative(*n);
-                Ok((Expr { place, node }, rest))
+                Ok((Expr::new(place, node), rest))
             }
             _ => opposite(alloc, room, place, tokens),
         },
@@ -496,7 +476,7 @@ fn opposite(
     }
     let (operand, rest) = unary(alloc, room - 1, tokens)?;
     let node = Node::Negate(Box::new(alloc, operand)?);
-    Ok((Expr { place, node }, rest))
+    Ok((Expr::new(place, node), rest))
 }
 
 /// What stands after the operator `!`.
@@ -515,7 +495,7 @@ fn negation(
     }
     let (operand, rest) = unary(alloc, room - 1, tokens)?;
     let node = Node::Not(Box::new(alloc, operand)?);
-    Ok((Expr { place, node }, rest))
+    Ok((Expr::new(place, node), rest))
 }
 
 /// An expression that begins with a name.
@@ -527,23 +507,23 @@ fn name_after<'a>(
     name: &Text,
     tokens: &'a [Token],
 ) -> Result<(Expr, &'a [Token]), Stop<'a>>
-    ensures { Gives (λ x. (x.0, x.1.now)) result (called room (type_in room) (within room) place name.now tokens.now) }
+    ensures { Gives (λ x. (x.0, x.1.now)) result (name_or_call room (type_in room) (within room) place name.now tokens.now) }
 {
     match tokens {
         [] => Ok((named(place, name)?, tokens)),
         [token, rest @ ..] => match &token.kind {
-            Kind::Symbol(Symbol::Open) => {
+            TokenKind::Symbol(Symbol::Open) => {
                 if token.first {
                     return Ok((named(place, name)?, tokens));
                 }
                 let callee = Callee::Name(name.copy()?);
                 call(alloc, room, place, callee, rest)
             }
-            Kind::Symbol(Symbol::OpenBracket) => match typed_word(name.as_str()) {
+            TokenKind::Symbol(Symbol::OpenBracket) => match typed_word(name.as_str()) {
                 Some(word) => with_type(alloc, room, place, word, rest),
                 None => Ok((named(place, name)?, tokens)),
             },
-            Kind::Symbol(Symbol::Dot) => match family_named(name.as_str()) {
+            TokenKind::Symbol(Symbol::Dot) => match family_named(name.as_str()) {
                 Some(family) => member_after_dot(alloc, room, place, family, rest),
                 None => Ok((named(place, name)?, tokens)),
             },
@@ -566,7 +546,7 @@ fn member_after_dot(
     match tokens {
         [] => Err(Stop::Unexpected(tokens)),
         [token, rest @ ..] => match &token.kind {
-            Kind::Name(name) => match member_named(family, name.as_str()) {
+            TokenKind::Name(name) => match member_named(family, name.as_str()) {
                 Some(Member::Called(function)) => call_dotted(alloc, room, place, function, rest),
                 Some(Member::EmptySet) => empty_set(alloc, room, place, rest),
                 Some(Member::EmptyMap) => empty_map(alloc, room, place, rest),

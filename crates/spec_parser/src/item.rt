@@ -1,10 +1,10 @@
 // Items, and all of them.
 
 ghost use Rattle.std.specs.Prelude.{◌≡◌, ◌<◌, ◌^◌, [], map, option_map};
-ghost use Rattle.spec_parser.specs.inner.Shape.{item_of};
+ghost use Rattle.syntax_tree.specs.inner.OneLevel.{item_of};
 ghost use Rattle.spec_parser.specs.inner.Reading.{input_after, plain_output, printed_as as reading_printed, after_output, output_after};
 ghost use Rattle.spec_parser.specs.inner.Reading.{at_item, specification};
-ghost use Rattle.spec_parser.specs.inner.Parts.{given};
+ghost use Rattle.spec_parser.specs.inner.PartReaders.{given};
 ghost use Rattle.spec_parser.specs.Words.{is_as};
 ghost use Rattle.spec_parser.specs.inner.Gives.{Gives, TurnGives};
 
@@ -12,10 +12,10 @@ use crate::definition::definition;
 use crate::expression::within_room;
 use crate::mark::{Mark, pass};
 use crate::stop::Stop;
-use crate::tree::{Expr, Item, Node};
 use crate::type_name::type_in_room;
-use spec_lexer::token::{Kind, Token, Word};
+use spec_lexer::token::{Token, TokenKind, Word};
 use std::alloc::Global;
+use syntax_tree::tree::{Expr, Item, Node};
 use tsl_value::place::Place;
 
 fn input(
@@ -30,7 +30,7 @@ fn input(
     match tokens {
         [] => Err(Stop::Unexpected(tokens)),
         [token, rest @ ..] => match &token.kind {
-            Kind::Name(name) => {
+            TokenKind::Name(name) => {
                 let rest = pass(Mark::Colon, rest)?;
                 let (of, rest) = type_in_room(alloc, room + 1, rest)?;
                 Ok((Item::Input(place, token.place, name.copy()?, of), rest))
@@ -47,8 +47,8 @@ fn plain(place: Place, expression: Expr, alone: bool) -> Option<Item>
     if !alone {
         return None;
     }
-    let at = expression.place;
-    match expression.node {
+    let at = expression.place();
+    match expression.into_node() {
         Node::Name(name) => Some(Item::Output(place, at, name)),
         _ => None,
     }
@@ -61,7 +61,7 @@ fn printed(place: Place, expression: Expr, tokens: &[Token]) -> Result<(Item, &[
     match tokens {
         [] => Err(Stop::Unexpected(tokens)),
         [token, rest @ ..] => match &token.kind {
-            Kind::Name(name) => {
+            TokenKind::Name(name) => {
                 let name = name.copy()?;
                 Ok((Item::OutputAs(place, expression, token.place, name), rest))
             }
@@ -73,7 +73,7 @@ fn printed(place: Place, expression: Expr, tokens: &[Token]) -> Result<(Item, &[
 fn begins_printed_name(token: &Token) -> bool
     ensures { result ≡ is_as token.now.kind }
 {
-    matches!(&token.kind, Kind::Word(Word::As))
+    matches!(&token.kind, TokenKind::Word(Word::As))
 }
 
 /// An output without `as`.
@@ -137,12 +137,12 @@ fn item_at<'a>(
     ensures { TurnGives (λ x. (item_of x.0, x.1.now)) result (at_item room token.now.place token.now.kind) after.now }
 {
     match &token.kind {
-        Kind::Word(Word::In) => Ok(Some(input(alloc, room, token.place, after)?)),
-        Kind::Word(Word::Def) => {
+        TokenKind::Word(Word::In) => Ok(Some(input(alloc, room, token.place, after)?)),
+        TokenKind::Word(Word::Def) => {
             let (definition, rest) = definition(alloc, room, after)?;
             Ok(Some((Item::Defined(token.place, definition), rest)))
         }
-        Kind::Word(Word::Out) => Ok(Some(output(alloc, room, token.place, after)?)),
+        TokenKind::Word(Word::Out) => Ok(Some(output(alloc, room, token.place, after)?)),
         _ => Ok(None),
     }
 }

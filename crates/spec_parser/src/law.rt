@@ -2,7 +2,7 @@
 
 ghost use Rattle.std.specs.Prelude.{◌≡◌, ◌∷◌, ℕ, List};
 ghost use Rattle.spec_lexer.specs.declared.token.Token.{Token};
-ghost use Rattle.spec_parser.specs.Tree as tree;
+ghost use Rattle.syntax_tree.specs.Tree as tree;
 ghost use Rattle.spec_parser.specs.Grammar.{Spells};
 ghost use Rattle.spec_parser.specs.Refusals.{HasAnswer, IsTooDeep, IsUnexpected};
 

@@ -9,6 +9,5 @@ pub mod limits;
 mod mark;
 pub mod parse;
 mod stop;
-pub mod tree;
 mod type_name;
 mod words;

@@ -7,7 +7,7 @@ ghost use Rattle.spec_parser.specs.inner.Gives.{Gives};
 ghost use Rattle.spec_parser.specs.inner.Marks.{test_of};
 
 use crate::stop::Stop;
-use spec_lexer::token::{Kind, Symbol, Token, Word};
+use spec_lexer::token::{Symbol, Token, TokenKind, Word};
 
 #[derive(Clone, Copy, PartialEq, Eq, Debug)]
 pub(crate) enum Mark {
@@ -27,16 +27,16 @@ pub(crate) fn fits(mark: Mark, token: &Token) -> bool
     ensures { result ≡ test_of mark token.now.kind }
 {
     match (mark, &token.kind) {
-        (Mark::Close, Kind::Symbol(Symbol::Close)) => true,
-        (Mark::OpenBracket, Kind::Symbol(Symbol::OpenBracket)) => true,
-        (Mark::CloseBracket, Kind::Symbol(Symbol::CloseBracket)) => true,
-        (Mark::CloseBrace, Kind::Symbol(Symbol::CloseBrace)) => true,
-        (Mark::Comma, Kind::Symbol(Symbol::Comma)) => true,
-        (Mark::Colon, Kind::Symbol(Symbol::Colon)) => true,
-        (Mark::Defines, Kind::Symbol(Symbol::Define)) => true,
-        (Mark::Defines, Kind::Symbol(Symbol::Equals)) => true,
-        (Mark::Then, Kind::Word(Word::Then)) => true,
-        (Mark::Else, Kind::Word(Word::Else)) => true,
+        (Mark::Close, TokenKind::Symbol(Symbol::Close)) => true,
+        (Mark::OpenBracket, TokenKind::Symbol(Symbol::OpenBracket)) => true,
+        (Mark::CloseBracket, TokenKind::Symbol(Symbol::CloseBracket)) => true,
+        (Mark::CloseBrace, TokenKind::Symbol(Symbol::CloseBrace)) => true,
+        (Mark::Comma, TokenKind::Symbol(Symbol::Comma)) => true,
+        (Mark::Colon, TokenKind::Symbol(Symbol::Colon)) => true,
+        (Mark::Defines, TokenKind::Symbol(Symbol::Define)) => true,
+        (Mark::Defines, TokenKind::Symbol(Symbol::Equals)) => true,
+        (Mark::Then, TokenKind::Word(Word::Then)) => true,
+        (Mark::Else, TokenKind::Word(Word::Else)) => true,
         _ => false,
     }
 }

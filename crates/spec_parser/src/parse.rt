@@ -2,19 +2,19 @@
 
 ghost use Rattle.std.specs.Prelude.{◌≡◌, List, ◌-◌, ◌<◌, ◌≤◌, length, IfOk, IfErr, slice_index_or};
 ghost use Rattle.spec_lexer.specs.declared.token.Token.{Token as Spot};
-ghost use Rattle.spec_parser.specs.Tree.{Item};
+ghost use Rattle.syntax_tree.specs.Tree.{Item};
 ghost use Rattle.spec_parser.specs.Grammar.{Spells};
-ghost use Rattle.spec_parser.specs.inner.Shape.{items_of};
+ghost use Rattle.syntax_tree.specs.inner.OneLevel.{items_of};
 ghost use Rattle.spec_parser.specs.Refusals.{IsUnexpected, IsTooDeep};
 ghost use Rattle.spec_parser.specs.Answers.{place_at, IsFaultOf, IsTreeUnlessMemory, IsUnexpectedUnlessMemory, IsTooDeepUnlessMemory};
 
 use crate::item::items;
 use crate::limits::MOST_LEVELS;
 use crate::stop::Stop;
-use crate::tree::Tree;
 use spec_lexer::token::Token;
 use spec_lexer::tokens::Tokens;
 use std::alloc::Global;
+use syntax_tree::tree::Tree;
 use tsl_value::place::Place;
 
 /// Why tokens have no tree.
@@ -64,10 +64,7 @@ pub fn parse(alloc: Global, tokens: &Tokens) -> Result<Tree, ParseFault>
 {
     let all = tokens.as_slice();
     match items(alloc, MOST_LEVELS, all) {
-        Ok(items) => Ok(Tree {
-            items,
-            end: tokens.end(),
-        }),
+        Ok(items) => Ok(Tree::new(items, tokens.end())),
         Err(Stop::Unexpected(rest)) => {
             let place = place_of(rest, tokens.end());
             Err(ParseFault::Unexpected { place })

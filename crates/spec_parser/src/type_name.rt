@@ -2,17 +2,17 @@
 
 ghost use Rattle.std.specs.Prelude.{◌≡◌};
 ghost use Rattle.token_reader.specs.inner.Reader.{opened};
-ghost use Rattle.spec_parser.specs.Tree as tree;
+ghost use Rattle.syntax_tree.specs.Tree as tree;
 ghost use Rattle.spec_parser.specs.Words.{is_open_bracket};
 ghost use Rattle.spec_parser.specs.inner.Reading.{must, in_brackets, two_in_brackets, a_type, type_after, type_in, wrapped};
 ghost use Rattle.spec_parser.specs.inner.Gives.{Gives, IfOkOrMemory};
 
 use crate::mark::{Mark, pass};
 use crate::stop::Stop;
-use crate::tree::{TypeName, TypeShape};
 use crate::words::{TypeWord, Wrapper, type_word};
-use spec_lexer::token::{Kind, Token};
+use spec_lexer::token::{Token, TokenKind};
 use std::alloc::Global;
+use syntax_tree::tree::{TypeName, TypeShape};
 use tsl_value::place::Place;
 
 #[cycle(type_name)]
@@ -37,7 +37,7 @@ fn any_type(alloc: Global, room: u32, tokens: &[Token]) -> Result<(TypeName, &[T
     match tokens {
         [] => Err(Stop::Unexpected(tokens)),
         [token, rest @ ..] => match &token.kind {
-            Kind::Name(name) => match type_word(name.as_str()) {
+            TokenKind::Name(name) => match type_word(name.as_str()) {
                 Some(word) => after_word(alloc, room, token.place, word, rest),
                 None => Err(Stop::Unexpected(tokens)),
             },
@@ -58,34 +58,10 @@ fn after_word(
     ensures { Gives (λ x. (x.0, x.1.now)) result (type_after room (type_in room) place word tokens.now) }
 {
     match word {
-        TypeWord::Unit => Ok((
-            TypeName {
-                place,
-                shape: TypeShape::Unit,
-            },
-            tokens,
-        )),
-        TypeWord::Int => Ok((
-            TypeName {
-                place,
-                shape: TypeShape::Int,
-            },
-            tokens,
-        )),
-        TypeWord::Bool => Ok((
-            TypeName {
-                place,
-                shape: TypeShape::Bool,
-            },
-            tokens,
-        )),
-        TypeWord::Text => Ok((
-            TypeName {
-                place,
-                shape: TypeShape::Text,
-            },
-            tokens,
-        )),
+        TypeWord::Unit => Ok((TypeName::new(place, TypeShape::Unit), tokens)),
+        TypeWord::Int => Ok((TypeName::new(place, TypeShape::Int), tokens)),
+        TypeWord::Bool => Ok((TypeName::new(place, TypeShape::Bool), tokens)),
+        TypeWord::Text => Ok((TypeName::new(place, TypeShape::Text), tokens)),
         TypeWord::Set => with_one(alloc, room, place, Wrapper::Set, tokens),
         TypeWord::Map => map_of(alloc, room, place, tokens),
         TypeWord::Option => with_one(alloc, room, place, Wrapper::Option, tokens),
@@ -107,7 +83,7 @@ fn wrap(
         Wrapper::Option => TypeShape::Option(inner),
         Wrapper::Events => TypeShape::Events(inner),
     };
-    Ok(TypeName { place, shape })
+    Ok(TypeName::new(place, shape))
 }
 
 fn map(
@@ -119,7 +95,7 @@ fn map(
     ensures { IfOkOrMemory result (λ t. t ≡ tree.MapType place key value) }
 {
     let shape = TypeShape::Map(Box::new(alloc, key)?, Box::new(alloc, value)?);
-    Ok(TypeName { place, shape })
+    Ok(TypeName::new(place, shape))
 }
 
 /// A type with one type in brackets, after its word.

@@ -2,17 +2,18 @@
 use Rattle.std.proofs.Common.{◌≡◌, ℕ, zero, suc, ◌<◌, ◌≤◌, Bool, true, false, List, [], ◌∷◌, ◌++◌, Some, refl, sym, ap, subst, ◌∙◌, append_assoc, inl, inr, arith}
 use Rattle.std.proofs.lemmas.Bool.{cases_lt, leb-true}
 use Rattle.spec_lexer.specs.declared.token.Token.{Token}
-use Rattle.spec_lexer.specs.declared.token.Kind.{Kind}
-use Rattle.spec_lexer.specs.declared.token.Kind.TheVariants as kind
+use Rattle.spec_lexer.specs.declared.token.TokenKind.{TokenKind}
+use Rattle.spec_lexer.specs.declared.token.TokenKind.TheVariants as kind
 use Rattle.spec_lexer.specs.declared.token.Word.TheVariants as word
 use Rattle.spec_lexer.specs.declared.token.Symbol.TheVariants as symbol
-use Rattle.spec_parser.specs.declared.tree.Level.{Level}
-use Rattle.spec_parser.specs.declared.tree.Level.TheVariants as level
-use Rattle.spec_parser.specs.declared.tree.Operator.{Operator}
-use Rattle.spec_parser.specs.declared.tree.Comparison.{Comparison}
-use Rattle.spec_parser.specs.Tree as tree
-use Rattle.spec_parser.specs.Tree.{TypeName, Expr, Exprs, no_exprs, more_exprs, Links, no_links, more_links, place_of}
-use Rattle.spec_parser.specs.Words.{operator_at, comparison_at, opens_call, is_number, is_comma, level_of}
+use Rattle.syntax_tree.specs.declared.tree.Level.{Level}
+use Rattle.syntax_tree.specs.declared.tree.Level.TheVariants as level
+use Rattle.syntax_tree.specs.declared.tree.Operator.{Operator}
+use Rattle.syntax_tree.specs.declared.tree.Comparison.{Comparison}
+use Rattle.syntax_tree.specs.Tree as tree
+use Rattle.syntax_tree.specs.Tree.{TypeName, Expr, Exprs, no_exprs, more_exprs, Links, no_links, more_links, place_of}
+use Rattle.spec_parser.specs.Words.{operator_at, comparison_at, opens_call, is_number, is_comma}
+use Rattle.syntax_tree.specs.Levels.{level_of}
 use Rattle.spec_parser.specs.Grammar as grammar
 use Rattle.spec_parser.specs.Grammar.{Is, IsPast, IsType, IsExpr, IsLevel, AreLinks, IsOperand, IsUnary, IsPrimary, AreOthers}
 use Rattle.spec_printer.specs.inner.Same.{nowhere, bare_type, bare, bare_exprs, bare_links}
@@ -28,7 +29,7 @@ pub regroup : {first : Bool} (a b c : List Mark) {ts : List Token} → Follow fi
 regroup {first = first} a b c {ts = ts} h = subst (λ m. Follow first m ts) (append_assoc a b c) h
 
 -- the next token, where one follows
-pub with_token : {k : Kind} {first : Bool} {ms : List Mark} (P : List Token → Type 0) → ((t : Token) (rest : List Token) → t.kind ≡ k → t.first ≡ first → Follow false ms rest → P (t ∷ rest)) → (ts : List Token) → Follow first (token k ∷ ms) ts → P ts
+pub with_token : {k : TokenKind} {first : Bool} {ms : List Mark} (P : List Token → Type 0) → ((t : Token) (rest : List Token) → t.kind ≡ k → t.first ≡ first → Follow false ms rest → P (t ∷ rest)) → (ts : List Token) → Follow first (token k ∷ ms) ts → P ts
 with_token P f ts (next_token {t = t} {ts = rest} is first h) = f t rest is first h
 
 -- the tokens after an end of a line
@@ -229,7 +230,7 @@ comparison_back {room = room} p o a b back_a back_b first ms ts k h =
     x.1 x.4 x.2
 
 -- ---- prefix operators
-begins_otherwise : {k : Kind} {first : Bool} {ms : List Mark} → is_number k ≡ false → (ts : List Token) → Follow first (token k ∷ ms) ts → IsPast is_number ts
+begins_otherwise : {k : TokenKind} {first : Bool} {ms : List Mark} → is_number k ≡ false → (ts : List Token) → Follow first (token k ∷ ms) ts → IsPast is_number ts
 begins_otherwise q = with_token (IsPast is_number) (λ t rest is first h. ap is_number is ∙ q)
 
 no_number : (e : Expr) (b : Bool) → holds (least_negated e) e ≡ b → (ms : List Mark) (ts : List Token) → Follow false (enclosed b (expr_marks e) ++ ms) ts → IsPast is_number ts
@@ -291,7 +292,7 @@ negative_again {room = room} p n first ms ts k h =
     (tree.Negative t.place n, rest, grammar.negative is number, refl, h)) ts h) ts h
 
 -- ---- what stands alone
-one_token : {room : ℕ} (k : Kind) (e : Expr) (made : Token → Expr) → ((t : Token) (ts : List Token) → t.kind ≡ k → IsPrimary room (t ∷ ts) (made t) ts) → ((t : Token) → bare (made t) ≡ bare e) → Returns 7 room (token k ∷ []) e
+one_token : {room : ℕ} (k : TokenKind) (e : Expr) (made : Token → Expr) → ((t : Token) (ts : List Token) → t.kind ≡ k → IsPrimary room (t ∷ ts) (made t) ts) → ((t : Token) → bare (made t) ≡ bare e) → Returns 7 room (token k ∷ []) e
 one_token {room = room} k e made reads same first ms ts h = with_token (λ ts. Comes (IsPrimary room) ts e ms) (λ t rest is first h. (made t, rest, reads t rest is, same t, h)) ts
 
 number_again : {room : ℕ} (p : _) (n : ℕ) → Returns 7 room (expr_marks (tree.Number p n)) (tree.Number p n)

@@ -1,14 +1,14 @@
 -- What is printed of a part, and its size, are the same wherever it stands.
 use Rattle.std.proofs.Common.{◌≡◌, refl, sym, ap, ◌∙◌}
 use Rattle.tsl_value.specs.declared.place.Place.{Place}
-use Rattle.spec_parser.specs.declared.tree.TypeShape.{TypeShape}
-use Rattle.spec_parser.specs.declared.tree.TypeShape.TheVariants as shape
-use Rattle.spec_parser.specs.declared.tree.Node.{Node}
-use Rattle.spec_parser.specs.declared.tree.Node.TheVariants as node
-use Rattle.spec_parser.specs.inner.Shape.{type_of, size_of_type, expr_of, size_of}
-use Rattle.spec_parser.specs.Tree.{TypeName, Expr, place_of}
-use Rattle.spec_parser.specs.Places.{type_place}
-use Rattle.spec_parser.proofs.Sizes as sizes
+use Rattle.syntax_tree.specs.declared.tree.TypeShape.{TypeShape}
+use Rattle.syntax_tree.specs.declared.tree.TypeShape.TheVariants as shape
+use Rattle.syntax_tree.specs.declared.tree.Node.{Node}
+use Rattle.syntax_tree.specs.declared.tree.Node.TheVariants as node
+use Rattle.syntax_tree.specs.inner.OneLevel.{type_of, size_of_type, expr_of, size_of}
+use Rattle.syntax_tree.specs.Tree.{TypeName, Expr, place_of}
+use Rattle.syntax_tree.specs.Places.{type_place}
+use Rattle.syntax_tree.proofs.Sizes as sizes
 use Rattle.spec_printer.specs.inner.Same.{nowhere}
 use Rattle.spec_printer.specs.inner.Print.{type_marks, expr_marks, shape_marks, node_marks}
 

@@ -1,11 +1,11 @@
 -- The first mark of what begins a line.
 use Rattle.std.proofs.Common.{◌≡◌, ◌<◌, Bool, true, false, List, ◌∷◌, ◌++◌, refl, ap, subst, ◌∙◌, arith}
 use Rattle.spec_lexer.specs.declared.token.Token.{Token}
-use Rattle.spec_lexer.specs.declared.token.Kind.{Kind}
-use Rattle.spec_lexer.specs.declared.token.Kind.TheVariants as kind
+use Rattle.spec_lexer.specs.declared.token.TokenKind.{TokenKind}
+use Rattle.spec_lexer.specs.declared.token.TokenKind.TheVariants as kind
 use Rattle.spec_lexer.specs.declared.token.Symbol.TheVariants as symbol
-use Rattle.spec_parser.specs.Tree as tree
-use Rattle.spec_parser.specs.Tree.{Expr}
+use Rattle.syntax_tree.specs.Tree as tree
+use Rattle.syntax_tree.specs.Tree.{Expr}
 use Rattle.spec_parser.specs.Words.{is_def}
 use Rattle.spec_parser.specs.Grammar.{IsPast}
 use Rattle.spec_printer.specs.inner.Marks.{Mark, token}
@@ -16,13 +16,13 @@ use Rattle.spec_printer.proofs.Again.{with_token}
 
 -- a token that begins an expression, and goes on with nothing where it is the first of its line
 pub record Begins (ms : List Mark) : Type 0 where
-  pub kind : Kind
+  pub kind : TokenKind
   pub more : List Mark
   pub is : ms ≡ token kind ∷ more
   pub weak : kind_strength kind true ≡ 0
   pub no_def : is_def kind ≡ false
 
-begins_as : (k : Kind) (more : List Mark) → kind_strength k true ≡ 0 → is_def k ≡ false → Begins (token k ∷ more)
+begins_as : (k : TokenKind) (more : List Mark) → kind_strength k true ≡ 0 → is_def k ≡ false → Begins (token k ∷ more)
 begins_as k more weak no_def = record { kind = k; more = more; is = refl; weak = weak; no_def = no_def }
 
 begins_enclosed : (b : Bool) (ms : List Mark) → Begins ms → Begins (enclosed b ms)

@@ -2,17 +2,18 @@
 -- operator, and 8 where it goes on with a name.
 use Rattle.std.proofs.Common.{◌≡◌, ℕ, ◌<◌, Bool, true, false, List, [], ◌∷◌, Option, Some, None, refl, arith}
 use Rattle.spec_lexer.specs.declared.token.Token.{Token}
-use Rattle.spec_lexer.specs.declared.token.Kind.{Kind}
-use Rattle.spec_lexer.specs.declared.token.Kind.TheVariants as kind
+use Rattle.spec_lexer.specs.declared.token.TokenKind.{TokenKind}
+use Rattle.spec_lexer.specs.declared.token.TokenKind.TheVariants as kind
 use Rattle.spec_lexer.specs.declared.token.Symbol.{Symbol}
 use Rattle.spec_lexer.specs.declared.token.Symbol.TheVariants as symbol
-use Rattle.spec_parser.specs.declared.tree.Level.{Level}
-use Rattle.spec_parser.specs.declared.tree.Level.TheVariants as level
-use Rattle.spec_parser.specs.declared.tree.Operator.{Operator}
-use Rattle.spec_parser.specs.declared.tree.Operator.TheVariants as operator
-use Rattle.spec_parser.specs.declared.tree.Comparison.{Comparison}
-use Rattle.spec_parser.specs.declared.tree.Comparison.TheVariants as comparison
-use Rattle.spec_parser.specs.Words.{operator_at, symbol_at, comparison_at, compares, goes_on, level_of}
+use Rattle.syntax_tree.specs.declared.tree.Level.{Level}
+use Rattle.syntax_tree.specs.declared.tree.Level.TheVariants as level
+use Rattle.syntax_tree.specs.declared.tree.Operator.{Operator}
+use Rattle.syntax_tree.specs.declared.tree.Operator.TheVariants as operator
+use Rattle.syntax_tree.specs.declared.tree.Comparison.{Comparison}
+use Rattle.syntax_tree.specs.declared.tree.Comparison.TheVariants as comparison
+use Rattle.spec_parser.specs.Words.{operator_at, symbol_at, comparison_at, compares, goes_on}
+use Rattle.syntax_tree.specs.Levels.{level_of}
 use Rattle.spec_parser.specs.Grammar.{IsPastLevel, IsPastComparison, IsPastName}
 use Rattle.spec_printer.specs.inner.Marks.{Mark, token, line_end}
 use Rattle.spec_printer.specs.inner.Follow.{Follow, nothing, next_line, next_token}
@@ -39,7 +40,7 @@ symbol_strength symbol.OpenBracket first = 8
 symbol_strength symbol.Dot first = 8
 symbol_strength _ first = 0
 
-abbrev pub kind_strength : Kind → Bool → ℕ
+abbrev pub kind_strength : TokenKind → Bool → ℕ
 kind_strength (kind.Symbol s) first = symbol_strength s first
 kind_strength _ first = 0
 
@@ -68,7 +69,7 @@ symbol_at_strength level.Product symbol.Divide first o h = refl
 symbol_at_strength level.Product symbol.Remainder first o h = refl
 symbol_at_strength _ _ first o h = cc
 
-operator_strength : (l : Level) (k : Kind) (first : Bool) (o : Operator) → operator_at l k first ≡ Some o → kind_strength k first ≡ level_strength l
+operator_strength : (l : Level) (k : TokenKind) (first : Bool) (o : Operator) → operator_at l k first ≡ Some o → kind_strength k first ≡ level_strength l
 operator_strength l (kind.Symbol s) first o h = symbol_at_strength l s first o h
 operator_strength l (kind.Word w) first o h = cc
 operator_strength l (kind.Name n) first o h = cc
@@ -92,7 +93,7 @@ compares_strength symbol.Below first o h = refl
 compares_strength symbol.Above first o h = refl
 compares_strength _ first o h = cc
 
-comparison_strength : (k : Kind) (first : Bool) (o : Comparison) → comparison_at k ≡ Some o → kind_strength k first ≡ 3
+comparison_strength : (k : TokenKind) (first : Bool) (o : Comparison) → comparison_at k ≡ Some o → kind_strength k first ≡ 3
 comparison_strength (kind.Symbol s) first o h = compares_strength s first o h
 comparison_strength (kind.Word w) first o h = cc
 comparison_strength (kind.Name n) first o h = cc
@@ -107,7 +108,7 @@ past_comparison (t ∷ ts) h = none (comparison_at t.kind) refl
     none None is = is
     none (Some o) is = let same = comparison_strength t.kind t.first o is in absurd (omega arith)
 
-goes_on_strength : (n : List ℕ) (k : Kind) (first : Bool) → goes_on n k first ≡ true → kind_strength k first ≡ 8
+goes_on_strength : (n : List ℕ) (k : TokenKind) (first : Bool) → goes_on n k first ≡ true → kind_strength k first ≡ 8
 goes_on_strength n (kind.Symbol symbol.Open) true h = cc
 goes_on_strength n (kind.Symbol symbol.Open) false h = refl
 goes_on_strength n (kind.Symbol symbol.OpenBracket) first h = refl

@@ -1,15 +1,15 @@
 -- Trees that tokens spell, as they are printed: each holds within so many levels, with parentheses only where they matter,
 -- and each of its names, numbers and texts is printable.
 use Rattle.std.proofs.Common.{◌≡◌, ℕ, suc, Bool, true, false, List, [], ◌∷◌, Option, Some, None}
-use Rattle.spec_lexer.specs.declared.token.Kind.TheVariants as kind
-use Rattle.spec_parser.specs.declared.tree.Level.{Level}
-use Rattle.spec_parser.specs.declared.tree.Operator.{Operator}
-use Rattle.spec_parser.specs.declared.tree.Comparison.{Comparison}
+use Rattle.spec_lexer.specs.declared.token.TokenKind.TheVariants as kind
+use Rattle.syntax_tree.specs.declared.tree.Level.{Level}
+use Rattle.syntax_tree.specs.declared.tree.Operator.{Operator}
+use Rattle.syntax_tree.specs.declared.tree.Comparison.{Comparison}
 use Rattle.vocabulary.specs.declared.dotted.Dotted.{Dotted}
 use Rattle.tsl_value.specs.declared.place.Place.{Place}
-use Rattle.spec_parser.specs.Tree as tree
-use Rattle.spec_parser.specs.Tree.{TypeName, Expr, Exprs, no_exprs, more_exprs, Links, no_links, more_links, Param, Body, Definitions, no_definitions, more_definitions, Item}
-use Rattle.spec_parser.specs.Words.{level_of}
+use Rattle.syntax_tree.specs.Tree as tree
+use Rattle.syntax_tree.specs.Tree.{TypeName, Expr, Exprs, no_exprs, more_exprs, Links, no_links, more_links, Param, Body, Definitions, no_definitions, more_definitions, Item}
+use Rattle.syntax_tree.specs.Levels.{level_of}
 use Rattle.spec_printer.specs.inner.Print.{least_operand, least_negated, holds}
 use Rattle.spec_printer.proofs.Printable.{Printable}
 

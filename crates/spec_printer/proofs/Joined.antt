@@ -1,5 +1,5 @@
 -- Texts that are printed one after the other.
-use Rattle.std.proofs.Common.{◌≡◌, ℕ, List, ◌++◌, length, take, drop, sym, ap, ◌∙◌, append_assoc, Result, Ok, Err, OnErr}
+use Rattle.std.proofs.Common.{◌≡◌, ℕ, List, ◌++◌, length, take, drop, sym, ap, ◌∙◌, append_assoc}
 use Rattle.std.proofs.lemmas.Grind.{flat_map-append}
 use Rattle.std.proofs.lemmas.List.{take-append-drop}
 use Rattle.std.proofs.Math.Seq.{take-append_seam}
@@ -18,7 +18,3 @@ pub kept : (a b c : List ℕ) (ms : List Mark) → b ≡ a ++ text_of ms → tak
 kept a b c ms h k =
     let whole : c ≡ a ++ (text_of ms ++ drop (length b) c) = sym (take-append-drop (length b) c) ∙ ap (λ x. x ++ drop (length b) c) (k ∙ h) ∙ append_assoc a (text_of ms) (drop (length b) c) in
     ap (take (length a)) whole ∙ take-append_seam a (text_of ms ++ drop (length b) c)
-
-pub on_err : {T E P : Type 0} (r : Result T E) → P → OnErr r P
-on_err (Ok x) p = tt
-on_err (Err e) p = p

@@ -7,7 +7,7 @@ use Rattle.std.proofs.lemmas.Bool.{lt-ltb, le-ltb, and_parts}
 use Rattle.std.proofs.lemmas.Str.{encode_ascii, encodes-append}
 use Rattle.tsl_value.specs.declared.place.Place.{Place}
 use Rattle.spec_lexer.specs.declared.token.Token.{Token}
-use Rattle.spec_lexer.specs.declared.token.Kind.{Kind}
+use Rattle.spec_lexer.specs.declared.token.TokenKind.{TokenKind}
 use Rattle.spec_lexer.specs.Pieces.{place_after, blank, line_end as lf}
 use Rattle.spec_lexer.specs.Source.{Lexes, end, skip, token as one_token}
 use Rattle.spec_lexer.proofs.Places.{place_after-within}
@@ -43,7 +43,7 @@ line_more at last ms h l = record {
   follow = next_line (subst (λ b. Follow b ms l.tokens) (lt-ltb last (at.line + 1) (omega arith)) l.follow);
 }
 
-token_more : (at : Place) (last : ℕ) (k : Kind) (ms : List Mark) (p : Printable k) → Lexed (place_after (place_after at p.characters) (32 ∷ [])) at.line ms → Lexed at last (token k ∷ ms)
+token_more : (at : Place) (last : ℕ) (k : TokenKind) (ms : List Mark) (p : Printable k) → Lexed (place_after (place_after at p.characters) (32 ∷ [])) at.line ms → Lexed at last (token k ∷ ms)
 token_more at last k ms p l =
     let stays : (place_after at p.characters).line ≡ at.line = ap (λ (q : Place). q.line) (place_after-within at p.characters p.within) in
     record {

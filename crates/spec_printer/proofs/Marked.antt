@@ -5,20 +5,20 @@ use Rattle.std.specs.List.{list_all}
 use Rattle.std.specs.Char.{is_ascii_alphabetic}
 use Rattle.std.proofs.lemmas.Bool.{and_parts, false≢true, leb-true}
 use Rattle.spec_lexer.specs.declared.limits.TheConstants.{MOST_NAME_BYTES}
-use Rattle.spec_lexer.specs.declared.token.Kind.TheVariants as kind
+use Rattle.spec_lexer.specs.declared.token.TokenKind.TheVariants as kind
 use Rattle.spec_lexer.specs.declared.token.Word.{Word}
 use Rattle.spec_lexer.specs.declared.token.Word.TheVariants as word
 use Rattle.spec_lexer.specs.declared.token.Symbol.{Symbol}
 use Rattle.spec_lexer.specs.declared.token.Symbol.TheVariants as symbol
-use Rattle.spec_parser.specs.declared.tree.Level.{Level}
+use Rattle.syntax_tree.specs.declared.tree.Level.{Level}
 use Rattle.spec_lexer.specs.Found.{word_of}
 use Rattle.vocabulary.specs.declared.dotted.Family.{Family}
 use Rattle.vocabulary.specs.declared.dotted.Family.TheVariants as family
 use Rattle.vocabulary.specs.declared.dotted.Dotted.{Dotted}
 use Rattle.vocabulary.specs.Table.{family_name, family_in, member_name}
 use Rattle.vocabulary.proofs.Listed.{all_true}
-use Rattle.spec_parser.specs.Tree as tree
-use Rattle.spec_parser.specs.Tree.{TypeName, Expr, Exprs, Links, Param, Body, Definition, Definitions, Item}
+use Rattle.syntax_tree.specs.Tree as tree
+use Rattle.syntax_tree.specs.Tree.{TypeName, Expr, Exprs, Links, Param, Body, Definition, Definitions, Item}
 use Rattle.spec_printer.specs.inner.Marks as mark
 use Rattle.spec_printer.specs.inner.Marks.{Mark, line_end}
 use Rattle.spec_printer.specs.inner.Print.{truth_word, type_marks, bracketed, both_bracketed, enclosed, operand_marks, expr_marks, expr_marks_after, link_marks, least_operand, param_marks, param_marks_after, params_marks, written_marks, head_marks, body_marks, definition_marks, definitions_marks, item_marks, items_marks}

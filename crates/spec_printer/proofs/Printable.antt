@@ -18,8 +18,8 @@ use Rattle.tsl_value.specs.Print.{escaped as printed, quoted_text}
 use Rattle.tsl_value.proofs.Digits.{own}
 use Rattle.tsl_value.proofs.Utf8.{are_high, are_high-encode}
 use Rattle.tsl_value.specs.declared.limits.TheConstants.{MOST_TEXT_BYTES}
-use Rattle.spec_lexer.specs.declared.token.Kind.{Kind}
-use Rattle.spec_lexer.specs.declared.token.Kind.TheVariants as kind
+use Rattle.spec_lexer.specs.declared.token.TokenKind.{TokenKind}
+use Rattle.spec_lexer.specs.declared.token.TokenKind.TheVariants as kind
 use Rattle.spec_lexer.specs.declared.token.Word.{Word}
 use Rattle.spec_lexer.specs.declared.token.Word.TheVariants as word
 use Rattle.spec_lexer.specs.declared.token.Symbol.{Symbol}
@@ -32,10 +32,11 @@ use Rattle.spec_lexer.proofs.Sound.{means_within, all_within}
 use Rattle.spec_lexer.proofs.Symbols.{shape, double, single, symbol_character, symbol_characters, spelled_within, at_most_two}
 use Rattle.spec_lexer.proofs.Words.{word_of-word_spelling}
 use Rattle.spec_lexer.specs.declared.limits.TheConstants.{MOST_NAME_BYTES}
+use Rattle.spec_lexer.proofs.Complete.{digit_low, symbol_low}
 use Rattle.spec_printer.specs.inner.Marks.{kind_text}
 use lib.Utf8.{scalar, low_scalar}
 
-pub record Printable (k : Kind) : Type 0 where
+pub record Printable (k : TokenKind) : Type 0 where
   pub characters : List ℕ
   pub scalars : all_scalars characters ≡ true
   pub encoded : encode_utf8_all characters ≡ kind_text k
@@ -58,12 +59,6 @@ low_scalars p low (c ∷ cs) h =
 
 letter_low : (c : ℕ) → is_ascii_alphabetic c ≡ true → c < 128
 letter_low c h = grind arith
-
-digit_low : (c : ℕ) → is_ascii_digit c ≡ true → c < 128
-digit_low c h = grind arith
-
-symbol_low : (c : ℕ) → symbol_character c ≡ true → c < 128
-symbol_low c h = grind arith
 
 -- ---- names and words
 no_line_end : begins_name 10 ≡ false
@@ -363,7 +358,7 @@ front_scalars : (a b : List ℕ) → all_scalars (a ++ b) ≡ true → all_scala
 front_scalars [] b h = refl
 front_scalars (c ∷ cs) b h = let parts = and_parts _ (all_scalars (cs ++ b)) h in both_true parts.0 (front_scalars cs b parts.1)
 
-pub made_printable : {front rest : List ℕ} {k : Kind} → Makes front rest k → all_scalars front ≡ true → Printable k
+pub made_printable : {front rest : List ℕ} {k : TokenKind} → Makes front rest k → all_scalars front ≡ true → Printable k
 made_printable (a_word {w = w} n is) h = word_printable w
 made_printable (a_name {first = first} {more = more} n none short) h = record {
   characters = first ∷ more;

@@ -1,8 +1,8 @@
 // Definitions.
 
 ghost use Rattle.std.specs.Prelude.{◌≡◌, ◌++◌, length, take, OnOk, OnErr};
-ghost use Rattle.spec_parser.specs.Tree as tree;
-ghost use Rattle.spec_parser.specs.inner.Shape.{body_of, param_of, params_in, definition_of, definitions_of};
+ghost use Rattle.syntax_tree.specs.Tree as tree;
+ghost use Rattle.syntax_tree.specs.inner.OneLevel.{body_of, param_of, params_in, definition_of, definitions_of};
 ghost use Rattle.spec_printer.specs.inner.Marks.{text_of};
 ghost use Rattle.spec_printer.specs.inner.Print.{param_marks, params_marks, written_marks, head_marks, body_marks, definition_marks};
 ghost use Rattle.spec_printer.specs.inner.Print.{definitions_marks};
@@ -11,7 +11,7 @@ use crate::expression::put_expression;
 use crate::mark::{end_line, put_name, put_symbol, put_word};
 use crate::type_name::put_type;
 use spec_lexer::token::{Symbol, Word};
-use spec_parser::tree::{Body, Definition, DefinitionParts, Expr, Param, TypeName};
+use syntax_tree::tree::{Body, Definition, DefinitionParts, Expr, Param, TypeName};
 use tsl_value::bytes::Bytes;
 use tsl_value::memory::NoMemory;
 

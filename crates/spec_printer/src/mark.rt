@@ -1,7 +1,7 @@
 // Tokens, each with a blank after it, and ends of lines.
 
 ghost use Rattle.std.specs.Prelude.{◌≡◌, [], ◌∷◌, ◌++◌, length, take, OnOk, OnErr};
-ghost use Rattle.spec_lexer.specs.declared.token.Kind.TheVariants as kind;
+ghost use Rattle.spec_lexer.specs.declared.token.TokenKind.TheVariants as kind;
 ghost use Rattle.spec_lexer.specs.Spelling.{word_spelling, symbol_spelling};
 ghost use Rattle.spec_printer.specs.inner.Marks.{token, line_end, word as a_word, symbol as a_symbol, named, text_of};
 

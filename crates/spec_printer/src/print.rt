@@ -1,8 +1,8 @@
 // The source of a tree.
 
 ghost use Rattle.std.specs.Prelude.{◌≡◌, ◌++◌, length, map, take, OnOk, OnErr};
-ghost use Rattle.spec_parser.specs.Tree as tree;
-ghost use Rattle.spec_parser.specs.inner.Shape.{item_of, items_of};
+ghost use Rattle.syntax_tree.specs.Tree as tree;
+ghost use Rattle.syntax_tree.specs.inner.OneLevel.{item_of, items_of};
 ghost use Rattle.spec_printer.specs.inner.Same.{nowhere};
 ghost use Rattle.spec_printer.specs.inner.Marks.{text_of};
 ghost use Rattle.spec_printer.specs.inner.Print.{item_marks, line_marks, source_of};
@@ -12,7 +12,7 @@ use crate::expression::put_expression;
 use crate::mark::{end_line, put_name, put_symbol, put_word};
 use crate::type_name::put_type;
 use spec_lexer::token::{Symbol, Word};
-use spec_parser::tree::{Expr, Item, Tree, TypeName};
+use syntax_tree::tree::{Expr, Item, Tree, TypeName};
 use tsl_value::bytes::Bytes;
 use tsl_value::memory::NoMemory;
 use tsl_value::text::Text;

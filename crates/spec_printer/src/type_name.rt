@@ -6,7 +6,7 @@ ghost use Rattle.spec_printer.specs.inner.Print.{type_marks, shape_marks, bracke
 
 use crate::mark::{put_name, put_symbol};
 use spec_lexer::token::Symbol;
-use spec_parser::tree::{TypeName, TypeShape};
+use syntax_tree::tree::{TypeName, TypeShape};
 use tsl_value::bytes::Bytes;
 use tsl_value::memory::NoMemory;
 

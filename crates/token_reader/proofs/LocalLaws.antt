@@ -2,10 +2,8 @@
 -- ends each construct: no reader goes on at such a token.
 use Rattle.std.proofs.Common.{◌≡◌, ◌+◌, ◌==◌, ◌<◌, ◌≤◌, Bool, true, false, List, [], ◌∷◌, ◌++◌, length, Option, Some, None, refl, sym, ap, ◌∙◌, inl, inr, arith, append_assoc, length-append}
 use Rattle.std.specs.Prelude.{◌⊎◌, IsTrue}
+use Rattle.std.proofs.lemmas.Option.{same_Some}
 use Rattle.token_reader.specs.inner.Reader.{Signs, Refusal, Unexpected, TooDeep, Outcome, Read, Stopped, Reader, Turn, give, refuse, and_then, ◌>>=◌, when, taken, take_by, expect, tried, if_next, chosen, or_else, noted, alone, head, rest_of, with_rest}
-
-pub some_is : {T : Type 0} (x t : T) → Some x ≡ Some t → x ≡ t
-some_is x t e = cc
 
 module _ {T : Type 0} (s : Signs T) where
   abbrev pub IsEnd : List T → Type 0
@@ -93,7 +91,7 @@ module _ {T : Type 0} (s : Signs T) where
       where
         stops : (more : List T) → head more ≡ Some t → take_by f more ≡ Stopped Unexpected more
         stops [] h = cc
-        stops (x ∷ xs) h = λ k. taken ((ap f (some_is x t h) ∙ is) k) x xs
+        stops (x ∷ xs) h = λ k. taken ((ap f (same_Some x t h) ∙ is) k) x xs
 
     pub local-take_by : ((t : T) → IsLocalTurn (f t)) → IsLocal (take_by f)
     local-take_by local [] = record { front = []; whole = refl; again = stops }
@@ -118,7 +116,7 @@ module _ {T : Type 0} (s : Signs T) where
         where
           stops : (more : List T) → (head more ≡ Some t) ⊎ IsEnd more → if_next f a more ≡ Read a more
           stops [] h = refl
-          stops (x ∷ xs) (inl h) = λ k. tried ((ap f (some_is x t h) ∙ is) k) a x xs
+          stops (x ∷ xs) (inl h) = λ k. tried ((ap f (same_Some x t h) ∙ is) k) a x xs
           stops (x ∷ xs) (inr h) = λ k. tried (declines x h k) a x xs
 
       pub local-if_next : ((t : T) → IsLocalTurn (f t)) → IsLocal (if_next f a)
@@ -199,7 +197,7 @@ module _ {T : Type 0} (s : Signs T) where
     passes_on : (us : List T) → or_else f q us ≡ q us → ((t : T) (ts : List T) → us ≡ t ∷ ts → f t ≡ None) → (more : List T) → head more ≡ head us → or_else f q more ≡ q more
     passes_on us here none [] h = refl
     passes_on [] here none (x ∷ xs) h = cc
-    passes_on (t ∷ ts) here none (x ∷ xs) h = λ k. chosen ((ap f (some_is x t h) ∙ none t ts refl) k) q x xs
+    passes_on (t ∷ ts) here none (x ∷ xs) h = λ k. chosen ((ap f (same_Some x t h) ∙ none t ts refl) k) q x xs
 
     ending : Declines f → (more : List T) → IsEnd more → or_else f q more ≡ q more
     ending declines [] h = refl
@@ -239,7 +237,7 @@ module _ {T : Type 0} (s : Signs T) where
         go [] whole again more h = at_front us none here o e c whole more h ∙ again more h
 
     first_token_is : (x t : T) (xs ts : List T) → t ∷ ts ≡ x ∷ xs → x ≡ t
-    first_token_is x t xs ts e = some_is x t (sym (ap head e))
+    first_token_is x t xs ts e = same_Some x t (sym (ap head e))
 
     chosen_leads : (t : T) (o : Option (Reader T A)) → f t ≡ o → IsLocalTurn o → (ts : List T) → Leads (or_else f q) (t ∷ ts) (chosen o q t ts)
     chosen_leads t (Some p) is local ts = let l = local ts in record {

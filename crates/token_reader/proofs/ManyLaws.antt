@@ -1,8 +1,9 @@
 -- Laws of reading as many items as come.
 use Rattle.std.proofs.Common.{◌≡◌, ℕ, zero, suc, ◌≤◌, List, [], ◌∷◌, ◌++◌, length, Option, Some, None, refl, sym, ap, subst, ◌∙◌, inl, inr, arith, append_assoc}
 use Rattle.std.specs.Prelude.{◌⊎◌}
+use Rattle.std.proofs.lemmas.Option.{same_Some}
 use Rattle.token_reader.specs.inner.Reader.{Signs, Unexpected, TooDeep, Outcome, Read, Stopped, Reader, Lister, give, and_then, ◌>>=◌, loop, looped, many, head, rest_of}
-use Rattle.token_reader.proofs.LocalLaws.{IsEnd, CarefulAt, IsCareful, Leads, IsLocal, IsLocalTurn, Declines, follows_front, some_is, shorter}
+use Rattle.token_reader.proofs.LocalLaws.{IsEnd, CarefulAt, IsCareful, Leads, IsLocal, IsLocalTurn, Declines, follows_front, shorter}
 
 module _ {T : Type 0} (s : Signs T) where
   module _ {A L : Type 0} (l : Lister T A L) where
@@ -113,7 +114,7 @@ module _ {T : Type 0} (s : Signs T) where
             where
               stops : (more : List T) → (head more ≡ Some t) ⊎ IsEnd s more → many l more ≡ Read l.none more
               stops [] h = many_none
-              stops (x ∷ xs) (inl h) = many_again x xs ∙ (λ k. looped l (many l) ((ap l.turn (some_is x t h) ∙ is) k) x xs)
+              stops (x ∷ xs) (inl h) = many_again x xs ∙ (λ k. looped l (many l) ((ap l.turn (same_Some x t h) ∙ is) k) x xs)
               stops (x ∷ xs) (inr h) = many_end (x ∷ xs) h
 
         many_leads : (n : ℕ) (ts : List T) → length ts ≤ n → Leads s (many l) ts (many l ts)

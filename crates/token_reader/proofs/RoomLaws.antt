@@ -1,7 +1,8 @@
 -- More room changes no outcome but that of a level too deep, which one level more completes.
 use Rattle.std.proofs.Common.{◌≡◌, ℕ, zero, suc, ◌≤◌, Bool, true, false, List, [], ◌∷◌, ◌++◌, length, Option, Some, None, refl, sym, ap, subst, ◌∙◌, arith}
+use Rattle.std.proofs.lemmas.Option.{same_Some}
 use Rattle.token_reader.specs.inner.Reader.{Signs, Unexpected, TooDeep, Outcome, Read, Stopped, Reader, Turn, Lister, give, refuse, and_then, ◌>>=◌, when, taken, take_by, tried, if_next, chosen, or_else, noted, alone, looped, loop, many, head, rest_of}
-use Rattle.token_reader.proofs.LocalLaws.{IsEnd, Leads, IsLocal, IsLocalTurn, Declines, some_is, shorter}
+use Rattle.token_reader.proofs.LocalLaws.{IsEnd, Leads, IsLocal, IsLocalTurn, Declines, shorter}
 use Rattle.token_reader.proofs.ManyLaws.{many_again, many_none, many_end}
 use Rattle.token_reader.proofs.ViableLaws.{Completion, Goes, Completes, CompletesAll, goes_alone, second_goes_on, first_viable, goes_on}
 
@@ -183,7 +184,7 @@ module _ {T : Type 0} (s : Signs T) where
         where
           passes : (vs : List T) → head vs ≡ Some t → or_else g q vs ≡ q vs
           passes [] h = cc
-          passes (x ∷ xs) h = λ k. chosen ((ap g (some_is x t h) ∙ is) k) q x xs
+          passes (x ∷ xs) h = λ k. chosen ((ap g (same_Some x t h) ∙ is) k) q x xs
 
       pub deepens-or_else : Deepens (or_else f r) (or_else g q)
       deepens-or_else [] = other_deep [] (r []) passes (rq [])

@@ -1,8 +1,9 @@
 -- Where a reader stops for want of a fitting token, what it passed can be completed.
 use Rattle.std.proofs.Common.{◌≡◌, ℕ, zero, suc, ◌≤◌, Bool, true, false, List, [], ◌∷◌, ◌++◌, length, Option, Some, None, refl, sym, ap, subst, ◌∙◌, inl, inr, arith, append_assoc, length-append}
 use Rattle.std.specs.Prelude.{◌⊎◌, IsTrue}
+use Rattle.std.proofs.lemmas.Option.{same_Some}
 use Rattle.token_reader.specs.inner.Reader.{Signs, Unexpected, TooDeep, Outcome, Read, Stopped, Reader, Turn, Lister, give, refuse, and_then, ◌>>=◌, when, taken, take_by, expect, tried, if_next, chosen, or_else, noted, alone, looped, many, head, rest_of}
-use Rattle.token_reader.proofs.LocalLaws.{IsEnd, is_calm, CarefulAt, IsCareful, Leads, IsLocal, IsLocalTurn, Declines, some_is, shorter}
+use Rattle.token_reader.proofs.LocalLaws.{IsEnd, is_calm, CarefulAt, IsCareful, Leads, IsLocal, IsLocalTurn, Declines, shorter}
 use Rattle.token_reader.proofs.CarefulLaws.{bind_careful, careful-bind, careful-give}
 use Rattle.token_reader.proofs.ManyLaws.{many_again, many_none, many_end, careful-many, local-many}
 
@@ -384,7 +385,7 @@ module _ {T : Type 0} (s : Signs T) where
         where
           passes : (vs : List T) → head vs ≡ Some t → or_else f q vs ≡ q vs
           passes [] h = cc
-          passes (x ∷ xs) h = λ k. chosen ((ap f (some_is x t h) ∙ is) k) q x xs
+          passes (x ∷ xs) h = λ k. chosen ((ap f (same_Some x t h) ∙ is) k) q x xs
 
       pub viable-or_else : ((t : T) → IsViableTurn t (f t)) → IsViable (or_else f q)
       viable-or_else v [] = other_viable [] (q []) passes (vq [])

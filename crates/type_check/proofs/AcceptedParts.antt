@@ -1,7 +1,7 @@
 -- What a specification that is accepted has none of, fault by fault.
 use Rattle.std.proofs.Common.{◌≡◌, List, [], ◌∷◌, ◌++◌, map, None, refl}
 use Rattle.tsl_value.specs.declared.place.Place.{Place}
-use Rattle.spec_parser.specs.Tree as tree
+use Rattle.syntax_tree.specs.Tree as tree
 use Rattle.name_check.specs.Faults.{declared_twice, unknown_names}
 use Rattle.form_check.specs.Types.{bad_types}
 use Rattle.form_check.specs.Declared.{mixed_parameters, aggregate_inputs}

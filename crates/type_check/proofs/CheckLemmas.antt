@@ -2,14 +2,14 @@
 use Rattle.std.specs.Prelude.{◌≡◌, List, [], ◌∷◌, ◌++◌, Some}
 use Rattle.std.proofs.Common.{ap, sym, ◌∙◌}
 use Rattle.tsl_value.specs.declared.place.Place.{Place}
-use Rattle.spec_parser.specs.Tree as tree
+use Rattle.syntax_tree.specs.Tree as tree
 use Rattle.expr_types.specs.Around.{Kinds}
 use Rattle.expr_types.specs.Bodies.{AreKinds}
 use Rattle.type_check.specs.declared.fault.TypeFault.{TypeFault}
 use Rattle.type_check.specs.declared.fault.TypeFault.TheVariants as fault
 use Rattle.type_check.specs.inner.Answer.{IsFaultOf}
 use Rattle.type_check.specs.Faults.{first_fault, name_faults, form_faults, early, late, HasNoCycle, IsFirstFault, before_cycles, cycle, after_cycles}
-use Rattle.type_check.specs.inner.Parts.{IsFirstOf, IsCycleOf}
+use Rattle.type_check.specs.inner.FirstFault.{IsFirstOf, IsCycleOf}
 
 -- the first of some faults is that of them and of others after them, and where there are none it is that of the others
 first_in_front : (xs ys : List TypeFault) (f : TypeFault) → first_fault xs ≡ Some f → first_fault (xs ++ ys) ≡ Some f

@@ -5,7 +5,7 @@ use Rattle.std.proofs.lemmas.Bool.{cases_lt}
 use Rattle.std.proofs.lemmas.List.{take_all}
 use Rattle.std.proofs.lemmas.Option.{slice_get-get_or, slice_get_within}
 use Rattle.tsl_value.proofs.Lists.{none_in_nil}
-use Rattle.spec_parser.specs.Tree as tree
+use Rattle.syntax_tree.specs.Tree as tree
 use Rattle.type_rules.specs.declared.rule.ExprType.{ExprType}
 use Rattle.definition_cycles.specs.Nodes.{nodes}
 use Rattle.definition_cycles.specs.inner.Order.{IsKindOrder}

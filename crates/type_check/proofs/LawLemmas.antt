@@ -3,7 +3,7 @@ use Rattle.std.proofs.Common.{◌≡◌, ℕ, List, [], length, true, Option, So
 use Rattle.std.specs.Prelude.{slice_get, IfOk, IfErr}
 use Rattle.std.proofs.lemmas.Option.{slice_get-get_or, slice_get_within}
 use Rattle.tsl_value.specs.declared.place.Place.{Place}
-use Rattle.spec_parser.specs.Tree as tree
+use Rattle.syntax_tree.specs.Tree as tree
 use Rattle.translation_order.specs.OnCycle.{Path}
 use Rattle.definition_cycles.specs.Nodes.{Node, nodes}
 use Rattle.definition_cycles.specs.Mentions.{Mentions, MentionsUntyped}
@@ -79,7 +79,7 @@ one_kinds items a b clear is_a is_b = record {
 }
 
 -- ---- the first fault
-kinds_same : (a b : Kinds) → SameKinds a b → a ≡ b
+pub kinds_same : (a b : Kinds) → SameKinds a b → a ≡ b
 kinds_same a b s = λ j. record { item = λ i. s.items_same i j; local = λ i k. s.locals_same i k j }
 
 late_same : (items : List tree.Item) (end : Place) (a b : Kinds) → HasNoCycle items → AreKinds items a → AreKinds items b → late items end a ≡ late items end b

@@ -1,7 +1,7 @@
 -- The refusals of a specification, of its items and of where its source ends, in the order in which they are checked.
 use Rattle.std.specs.Prelude.{◌≡◌, List, [], ◌∷◌, ◌++◌, map, Option, Some, None}
 use Rattle.tsl_value.specs.declared.place.Place.{Place}
-use Rattle.spec_parser.specs.Tree as tree
+use Rattle.syntax_tree.specs.Tree as tree
 use Rattle.name_check.specs.Faults.{declared_twice, unknown_names}
 use Rattle.form_check.specs.Types.{bad_types}
 use Rattle.form_check.specs.Declared.{mixed_parameters, aggregate_inputs}

@@ -1,4 +1,4 @@
 pub mod Answer
 pub mod Laws
-pub mod Parts
+pub mod FirstFault
 pub mod Slots

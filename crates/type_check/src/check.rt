@@ -1,7 +1,7 @@
 // The check.
 
 ghost use Rattle.std.specs.Prelude.{◌≡◌, [], map, IfOk, IfErr, OnOk};
-ghost use Rattle.spec_parser.specs.inner.Shape.{item_of, items_of};
+ghost use Rattle.syntax_tree.specs.inner.OneLevel.{item_of, items_of};
 ghost use Rattle.name_check.specs.Scope.{top};
 ghost use Rattle.definition_cycles.specs.Nodes.{HasFewNodes};
 ghost use Rattle.definition_cycles.specs.inner.Order.{IsKindOrder};
@@ -9,7 +9,7 @@ ghost use Rattle.expr_types.specs.Around.{Kinds};
 ghost use Rattle.expr_types.specs.inner.Shown.{kinds_of};
 ghost use Rattle.type_check.specs.inner.Answer.{IsAcceptedUnlessMemory, IsFaultOf, IsRefusedUnlessMemory};
 ghost use Rattle.type_check.specs.Faults.{HasNoCycle, IsAccepted, IsCycleFault, IsFirstFault, form_faults, late, name_faults};
-ghost use Rattle.type_check.specs.inner.Parts.{IsCycleOf, IsFirstOf};
+ghost use Rattle.type_check.specs.inner.FirstFault.{IsCycleOf, IsFirstOf};
 ghost use Rattle.type_check.specs.declared.fault.TypeFault.{TypeFault as Fault};
 
 use crate::fault::{TypeFault, wrong_type};
@@ -25,8 +25,8 @@ use form_check::output::{find_missing_output, find_output_twice};
 use form_check::written::find_bad_type;
 use name_check::check::{NameFault, check_names};
 use name_check::names::Names;
-use spec_parser::tree::{Item, Tree};
 use std::alloc::Global;
+use syntax_tree::tree::{Item, Tree};
 use translation_order::order::OrderFault;
 use translation_order::steps::Steps;
 

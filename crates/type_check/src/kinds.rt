@@ -1,7 +1,7 @@
 // What the declared names are.
 
 ghost use Rattle.std.specs.Prelude.{◌≡◌, map, IfOk, OnOk};
-ghost use Rattle.spec_parser.specs.inner.Shape.{item_of};
+ghost use Rattle.syntax_tree.specs.inner.OneLevel.{item_of};
 ghost use Rattle.name_check.specs.Scope.{top};
 ghost use Rattle.definition_cycles.specs.inner.Order.{IsKindOrder};
 ghost use Rattle.expr_types.specs.inner.Blocks.{AreBlocks};
@@ -14,8 +14,8 @@ use expr_types::block::Blocks;
 use expr_types::define::{block_kind, item_kind};
 use expr_types::kinds::KindTable;
 use name_check::names::Names;
-use spec_parser::tree::Item;
 use std::alloc::Global;
+use syntax_tree::tree::Item;
 use translation_order::steps::Steps;
 use tsl_value::memory::NoMemory;
 use type_rules::rule::ExprType;

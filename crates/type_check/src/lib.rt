@@ -6,7 +6,5 @@ pub mod fault;
 mod kinds;
 pub mod laws;
 pub mod print;
-#[cfg(test)]
-mod print_tests;
 mod slot;
 pub mod typed;

@@ -1,12 +1,12 @@
 // The places of a table of kinds.
 
 ghost use Rattle.std.specs.Prelude.{◌≡◌, ◌++◌, IfOk, OnOk, map, vec_len};
-ghost use Rattle.spec_parser.specs.inner.Shape.{item_of};
+ghost use Rattle.syntax_tree.specs.inner.OneLevel.{item_of};
 ghost use Rattle.type_check.specs.inner.Slots.{block_count, local_slots, slots};
 
 use name_check::count::count_in;
-use spec_parser::tree::Item;
 use std::alloc::Global;
+use syntax_tree::tree::Item;
 use tsl_value::memory::NoMemory;
 
 /// An item by its number, or a definition of an item's block by the item's number and its own.
@@ -17,14 +17,14 @@ pub enum Slot {
 }
 
 /// How many definitions stand in the block of an item.
-fn block_count(item: &Item) -> Result<usize, NoMemory>
-    ensures { IfOk result (λ n. n ≡ block_count (item_of item.now)) }
+fn block_count(item: &Item) -> usize
+    ensures { result ≡ block_count (item_of item.now) }
 {
     match item {
         Item::Defined(_, definition) => count_in(&definition.parts().body),
-        Item::Input(_, _, _, _) => Ok(0),
-        Item::Output(_, _, _) => Ok(0),
-        Item::OutputAs(_, _, _, _) => Ok(0),
+        Item::Input(_, _, _, _) => 0,
+        Item::Output(_, _, _) => 0,
+        Item::OutputAs(_, _, _, _) => 0,
     }
 }
 
@@ -45,7 +45,7 @@ pub fn slots_of(alloc: Global, items: &[Item]) -> Result<Vec<Slot>, NoMemory>
     let mut slots = Vec::new(alloc);
     for (number, item) in items.iter().enumerate() {
         slots.push(Slot::Item(number))?;
-        add_locals(&mut slots, number, block_count(item)?)?;
+        add_locals(&mut slots, number, block_count(item))?;
     }
     Ok(slots)
 }

@@ -4,10 +4,10 @@ use Rattle.std.specs.Prelude.{Bool, true, false, ◌||◌, List, [], ◌∷◌, 
 use Rattle.std.specs.List.{list_any}
 use Rattle.tsl_value.specs.declared.scalar.ValueType.{ValueType}
 use Rattle.tsl_value.specs.declared.scalar.ValueType.TheVariants as value_type
-use Rattle.spec_parser.specs.declared.tree.Level.{Level}
-use Rattle.spec_parser.specs.declared.tree.Level.TheVariants as level
-use Rattle.spec_parser.specs.declared.tree.Comparison.{Comparison}
-use Rattle.spec_parser.specs.declared.tree.Comparison.TheVariants as comparison
+use Rattle.syntax_tree.specs.declared.tree.Level.{Level}
+use Rattle.syntax_tree.specs.declared.tree.Level.TheVariants as level
+use Rattle.syntax_tree.specs.declared.tree.Comparison.{Comparison}
+use Rattle.syntax_tree.specs.declared.tree.Comparison.TheVariants as comparison
 use Rattle.vocabulary.specs.declared.dotted.Dotted.{Dotted}
 use Rattle.vocabulary.specs.declared.signature.Term.{Term}
 use Rattle.vocabulary.specs.declared.signature.Term.TheVariants as term
@@ -40,10 +40,6 @@ ask_two q a b = and_then (ask q a) (ask (asked.Exactly a) b)
 -- two parts of a type that is given
 abbrev pub ask_both : ExprType → ExprType → ExprType → Check
 ask_both t a b = and_then (ask (asked.Exactly t) a) (ask (asked.Exactly t) b)
-
--- an aggregate and a key of its type
-abbrev pub ask_key : Setting → Asked → ExprType → ExprType → Check
-ask_key at q m k = and_then (ask q m) (ask (asked.Exactly (lifted at (key_of (inner m)))) k)
 
 -- ---- operators
 -- the operands of a level of a chain

@@ -123,7 +123,7 @@ impl ExprType {
     }
 
     /// A value is lifted where it stands among streams.
-    fn lifted(self, at: Setting) -> ExprType
+    fn lifted_type(self, at: Setting) -> ExprType
         ensures { result ≡ lifted_type at self }
     {
         match (at, self) {
@@ -152,7 +152,7 @@ fn ask_each_lifted(at: Setting, params: &[ExprType], args: &[ExprType]) -> Resul
     ensures { result ≡ ask_each (map (lifted_type at) params.now) args.now }
 {
     for (param, arg) in params.iter().zip(args.iter()) {
-        ask(Asked::Exactly(param.lifted(at)), *arg)?;
+        ask(Asked::Exactly(param.lifted_type(at)), *arg)?;
     }
     Ok(())
 }
@@ -170,7 +170,7 @@ pub fn function_rule(
         macro_rule(params, of, args)
     } else {
         ask_each_lifted(at, params, args)?;
-        Ok(of.lifted(at))
+        Ok(of.lifted_type(at))
     }
 }
 

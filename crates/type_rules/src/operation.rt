@@ -9,7 +9,7 @@ ghost use Rattle.type_rules.specs.Rules.{dotted_rule};
 
 use crate::asked::{BOOL, INT, UNIT, ask, entry_of, key_of};
 use crate::rule::{Asked, Clash, ExprType, Family, Setting};
-use spec_parser::tree::{Comparison, Level};
+use syntax_tree::tree::{Comparison, Level};
 use tsl_value::scalar::ValueType;
 use vocabulary::dotted::Dotted;
 use vocabulary::signature::{Parameters, Role, Term};

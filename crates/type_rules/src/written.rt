@@ -7,7 +7,7 @@ ghost use Rattle.type_rules.specs.Written.{scalar_of, key_of, value_of, as_writt
 ghost use Rattle.type_rules.specs.Written.{bad_as_written, bad_as_stream};
 
 use crate::rule::ExprType;
-use spec_parser::tree::{TypeName, TypeShape};
+use syntax_tree::tree::{TypeName, TypeShape};
 use tsl_value::place::Place;
 use tsl_value::scalar::{KeyType, ScalarType, ValueType};
 

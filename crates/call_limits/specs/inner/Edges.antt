@@ -5,7 +5,7 @@ use Rattle.name_check.specs.declared.declaration.Declaration.{Declaration}
 use Rattle.name_check.specs.declared.declaration.Declaration.TheVariants as declaration
 use Rattle.name_check.specs.Scope.{Scope}
 use Rattle.name_check.specs.Parts.{parts}
-use Rattle.spec_parser.specs.Tree as tree
+use Rattle.syntax_tree.specs.Tree as tree
 use Rattle.translation_order.specs.OnCycle.{Edge, OnCycle, AreBetween}
 use Rattle.definition_cycles.specs.declared.mention.Mention.{Mention}
 use Rattle.definition_cycles.specs.inner.Edges.{IsOfSmall}

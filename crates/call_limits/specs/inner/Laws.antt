@@ -1,7 +1,7 @@
 -- Laws of the two refusals.
 use Rattle.std.specs.Prelude.{◌≡◌, List, Option}
 use Rattle.tsl_value.specs.declared.place.Place.{Place}
-use Rattle.spec_parser.specs.Tree as tree
+use Rattle.syntax_tree.specs.Tree as tree
 use Rattle.call_limits.specs.Nesting.{IsFirstMacroCycle, IsFirstTooDeep}
 
 -- at most one place is that of the first cycle of macros

@@ -1,8 +1,8 @@
 -- Specifications that have none of the faults that are checked before flattening, and what is known of their expressions then.
 use Rattle.std.specs.Prelude.{◌≡◌, false, List, [], Some, None}
 use Rattle.std.specs.List.{Contains}
-use Rattle.spec_parser.specs.Tree as tree
-use Rattle.spec_parser.specs.Tree.{Expr}
+use Rattle.syntax_tree.specs.Tree as tree
+use Rattle.syntax_tree.specs.Tree.{Expr}
 use Rattle.name_check.specs.Faults.{declared_twice, unknown_names, is_unknown}
 use Rattle.name_check.specs.Parts.{Part, Operand, parts}
 use Rattle.form_check.specs.Types.{bad_types}

@@ -4,8 +4,8 @@ use Rattle.std.specs.List.{AllByRecursion}
 use Rattle.tsl_value.specs.declared.place.Place.{Place}
 use Rattle.tsl_value.specs.declared.scalar.ValueType.{ValueType}
 use Rattle.flat_core.specs.Typed.{is_aggregate}
-use Rattle.spec_parser.specs.Tree as tree
-use Rattle.spec_parser.specs.Tree.{Expr, Exprs}
+use Rattle.syntax_tree.specs.Tree as tree
+use Rattle.syntax_tree.specs.Tree.{Expr, Exprs}
 use Rattle.name_check.specs.declared.declaration.Declaration.{Declaration}
 use Rattle.name_check.specs.declared.declaration.Declaration.TheVariants as declaration
 use Rattle.name_check.specs.Builtin.{is_unit, is_called}
@@ -18,8 +18,8 @@ use Rattle.stream_constructs.specs.declared.construct.Stream.{Stream}
 use Rattle.stream_constructs.specs.Agree.{Fits, FitsChoice}
 use Rattle.spec_meaning.specs.Occurrence.{body_of, block_of}
 use Rattle.spec_meaning.specs.Shape.{Shape, shape, expressions}
-use Rattle.flatten_rules.specs.Makes.{Standing, Stands, occurrence, inside_call, is_own, is_choice, choice_operands, with_itself}
-use Rattle.flatten_rules.specs.Makes.{IsAsWritten, AreLocals}
+use Rattle.spec_meaning.specs.Makes.{Standing, Stands, occurrence, inside_call, is_own, is_choice, choice_operands, with_itself}
+use Rattle.spec_meaning.specs.Makes.{IsAsWritten, AreLocals}
 use Rattle.checked_spec.specs.inner.Matches.{Matches, IsTypedAt, HaveTheirTypes}
 
 -- the parts of a typed stream are streams

@@ -1,6 +1,6 @@
 -- The value functions of a checked specification have typed bodies.
 use Rattle.std.specs.Prelude.{List}
-use Rattle.spec_parser.specs.Tree as tree
+use Rattle.syntax_tree.specs.Tree as tree
 use Rattle.expr_types.specs.Around.{Kinds}
 use Rattle.checked_spec.specs.inner.Checked.{IsChecked}
 use Rattle.checked_spec.specs.inner.Functions.{AreTypedFunctions}

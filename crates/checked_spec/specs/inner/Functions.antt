@@ -1,9 +1,9 @@
 -- Value functions of which the bodies are typed.
 use Rattle.std.specs.Prelude.{◌≡◌, ℕ, ◌≤◌, true, List, [], ◌∷◌, length, Option, Some, slice_get}
 use Rattle.tsl_value.specs.declared.scalar.ValueType.TheVariants as value_type
-use Rattle.lift_func.specs.Tree.{Tree}
-use Rattle.lift_func.specs.Typing.{Kind, Value, Optional, HasKind}
-use Rattle.spec_parser.specs.Tree as tree
+use Rattle.lift_func.specs.BodyTree.{BodyTree}
+use Rattle.lift_func.specs.Typing.{ValueKind, Value, Optional, HasKind}
+use Rattle.syntax_tree.specs.Tree as tree
 use Rattle.name_check.specs.Scope.{are_values}
 use Rattle.type_rules.specs.declared.rule.ExprType.{ExprType}
 use Rattle.type_rules.specs.declared.rule.ExprType.TheVariants as expr_type
@@ -11,13 +11,13 @@ use Rattle.expr_types.specs.Around.{Kinds, Callee, params_of, param_types, calle
 use Rattle.spec_meaning.specs.Function.{function_at}
 
 -- a tree is a value or an option of a type; it is no stream
-abbrev pub HasType : List Kind → Tree → ExprType → Type 0
+abbrev pub HasType : List ValueKind → BodyTree → ExprType → Type 0
 HasType ks t (expr_type.Value v) = HasKind ks t (Value v)
 HasType ks t (expr_type.Optional v) = HasKind ks t (Optional v)
 HasType ks t (expr_type.Stream v) = ⊥
 
 -- trees, each of its type
-abbrev pub HaveTypes : List Kind → List Tree → List ExprType → Type 0
+abbrev pub HaveTypes : List ValueKind → List BodyTree → List ExprType → Type 0
 HaveTypes ks [] [] = Unit {0}
 HaveTypes ks (t ∷ ts) (p ∷ ps) = HasType ks t p × HaveTypes ks ts ps
 HaveTypes ks _ _ = ⊥
@@ -38,7 +38,7 @@ pub record IsTypedFunction (items : List tree.Item) (kinds : Kinds) (i : ℕ) : 
   pub few : length (params_of (slice_get items i)) ≤ 8
   pub result : (c : Callee) → callee items kinds i ≡ Some c → IsScalarResult c.result
   pub body :
-      (c : Callee) (ks : List Kind) (ts : List Tree) →
+      (c : Callee) (ks : List ValueKind) (ts : List BodyTree) →
       callee items kinds i ≡ Some c →
       HaveTypes ks ts c.params →
       HasType ks (function_at items i ts) c.result

@@ -2,14 +2,14 @@
 use Rattle.std.specs.Prelude.{◌≡◌, ℕ, Bool, true, false, List, [], ◌∷◌, Some}
 use Rattle.std.specs.List.{AllByRecursion, Contains}
 use Rattle.tsl_value.specs.declared.place.Place.{Place}
-use Rattle.spec_parser.specs.Tree as tree
-use Rattle.spec_parser.specs.Tree.{Expr, Exprs, Links, no_links, more_links}
-use Rattle.spec_parser.specs.declared.tree.Level.{Level}
+use Rattle.syntax_tree.specs.Tree as tree
+use Rattle.syntax_tree.specs.Tree.{Expr, Exprs, Links, no_links, more_links}
+use Rattle.syntax_tree.specs.declared.tree.Level.{Level}
 use Rattle.name_check.specs.Builtin.{is_lift}
 use Rattle.name_check.specs.Parts.{Part, parts}
 use Rattle.spec_meaning.specs.Occurrence.{Occurrence}
 use Rattle.spec_meaning.specs.Shape.{Shape, shape, expressions}
-use Rattle.flatten_rules.specs.Makes.{is_own}
+use Rattle.spec_meaning.specs.Makes.{is_own}
 
 -- all that stands in an expression is among these
 abbrev pub StandsIn : List Part → Expr → Type 0

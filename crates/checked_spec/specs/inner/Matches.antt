@@ -1,8 +1,8 @@
 -- Where expressions are typed and where they stand are the same place.
 use Rattle.std.specs.Prelude.{◌≡◌, ℕ, List, [], ◌∷◌, Some}
 use Rattle.tsl_value.specs.declared.scalar.ValueType.{ValueType}
-use Rattle.spec_parser.specs.Tree as tree
-use Rattle.spec_parser.specs.Tree.{Expr}
+use Rattle.syntax_tree.specs.Tree as tree
+use Rattle.syntax_tree.specs.Tree.{Expr}
 use Rattle.name_check.specs.declared.declaration.Declaration.{Declaration}
 use Rattle.type_rules.specs.declared.rule.ExprType.TheVariants as expr_type
 use Rattle.type_rules.specs.declared.rule.Setting.TheVariants as setting
@@ -10,7 +10,7 @@ use Rattle.expr_types.specs.Around.{Around, declared_type}
 use Rattle.expr_types.specs.Judge.{type_of}
 use Rattle.stream_constructs.specs.declared.construct.Stream.{Stream}
 use Rattle.spec_meaning.specs.Occurrence.{scope_at}
-use Rattle.flatten_rules.specs.Makes.{Standing, Stands}
+use Rattle.spec_meaning.specs.Makes.{Standing, Stands}
 use Rattle.checked_spec.specs.inner.Formed.{IsDeclared, IsFormed}
 use Rattle.checked_spec.specs.inner.Functions.{AreTypedFunctions}
 

@@ -1,6 +1,6 @@
 -- The order in which kinds are found: a definition without a written type stands after those that it mentions.
 use Rattle.std.specs.Prelude.{ℕ, List, length}
-use Rattle.spec_parser.specs.Tree as tree
+use Rattle.syntax_tree.specs.Tree as tree
 use Rattle.translation_order.specs.Order.{IsLeastOrder}
 use Rattle.definition_cycles.specs.Nodes.{nodes}
 use Rattle.definition_cycles.specs.Mentions.{MentionsUntyped}

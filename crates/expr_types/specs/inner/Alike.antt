@@ -1,8 +1,8 @@
 -- Where names stand for the same, and the same is known of what they stand for.
 use Rattle.std.specs.Prelude.{◌≡◌, ℕ, List, Option, Some, None}
 use Rattle.std.specs.List.{AllByRecursion}
-use Rattle.spec_parser.specs.Tree as tree
-use Rattle.spec_parser.specs.Tree.{Expr}
+use Rattle.syntax_tree.specs.Tree as tree
+use Rattle.syntax_tree.specs.Tree.{Expr}
 use Rattle.name_check.specs.declared.declaration.Declaration.{Declaration}
 use Rattle.name_check.specs.declared.declaration.Declaration.TheVariants as declaration
 use Rattle.name_check.specs.Scope.{meaning}
@@ -12,15 +12,15 @@ use Rattle.expr_types.specs.Around.{Around, Callee, Kinds, callee_at, declared_t
 use Rattle.expr_types.specs.Judge.{judge}
 
 -- what a call of a name takes and gives
-abbrev pub called : Around → Declaration → Option Callee
-called at (declaration.Macro i) = callee_at at i
-called at (declaration.Function i) = callee_at at i
-called at d = None
+abbrev pub declared_callee : Around → Declaration → Option Callee
+declared_callee at (declaration.Macro i) = callee_at at i
+declared_callee at (declaration.Function i) = callee_at at i
+declared_callee at d = None
 
 pub record IsAlike (at to : Around) (n : List ℕ) : Type 0 where
   pub stands : meaning at.scope n ≡ meaning to.scope n
   pub types : (d : Declaration) → meaning at.scope n ≡ Some d → declared_type at d ≡ declared_type to d
-  pub calls : (d : Declaration) → meaning at.scope n ≡ Some d → called at d ≡ called to d
+  pub calls : (d : Declaration) → meaning at.scope n ≡ Some d → declared_callee at d ≡ declared_callee to d
 
 -- the name that a part mentions, if it mentions one
 abbrev pub IsPartAlike : Around → Around → Part → Type 0

@@ -3,8 +3,8 @@ use Rattle.std.specs.Prelude.{◌≡◌, ℕ, true, false, List, [], ◌∷◌, 
 use Rattle.std.specs.Global.{Global}
 use Rattle.std.specs.Borrow.{Bor}
 use Rattle.std.specs.Option.{option_and_then, option_map}
-use Rattle.spec_parser.specs.Tree as tree
-use Rattle.spec_parser.specs.inner.Shape.{params_in}
+use Rattle.syntax_tree.specs.Tree as tree
+use Rattle.syntax_tree.specs.inner.OneLevel.{params_in}
 use Rattle.name_check.specs.Scope.{top, count_in, parameters_from, locals_from, Agree}
 use Rattle.type_rules.specs.declared.rule.ExprType.{ExprType}
 use Rattle.type_rules.specs.declared.rule.Setting.TheVariants as setting

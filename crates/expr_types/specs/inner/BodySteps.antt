@@ -1,7 +1,7 @@
 -- What one definition, or one item, adds to what is wrong, and what it is.
 use Rattle.std.specs.Prelude.{ℕ, ◌&&◌, if◌then◌else◌, List, [], ◌∷◌, Option, Some, None, Ok, Err}
 use Rattle.tsl_value.specs.declared.place.Place.{Place}
-use Rattle.spec_parser.specs.Tree as tree
+use Rattle.syntax_tree.specs.Tree as tree
 use Rattle.name_check.specs.Scope.{are_values}
 use Rattle.type_rules.specs.declared.rule.Clash.{Clash}
 use Rattle.type_rules.specs.declared.rule.ExprType.{ExprType}

@@ -2,7 +2,7 @@
 use Rattle.std.specs.Prelude.{ℕ, List, Option, Vec, map, slice_get}
 use Rattle.std.specs.Global.{Global}
 use Rattle.std.specs.Option.{option_and_then}
-use Rattle.spec_parser.specs.inner.Shape.{params_in, item_of}
+use Rattle.syntax_tree.specs.inner.OneLevel.{params_in, item_of}
 use Rattle.name_check.specs.Scope.{seen}
 use Rattle.type_rules.specs.declared.rule.ExprType.{ExprType}
 use Rattle.expr_types.specs.declared.kinds.KindTable.{KindTable}

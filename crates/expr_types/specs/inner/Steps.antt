@@ -1,16 +1,20 @@
 -- What is wrong inside of an expression, by its parts.
-use Rattle.std.specs.Prelude.{List, [], ◌∷◌, ◌++◌, if◌then◌else◌, Option, Some, None, Err}
+use Rattle.std.specs.Prelude.{ℕ, List, [], ◌∷◌, ◌++◌, if◌then◌else◌, Option, Some, None, Err}
 use Rattle.std.specs.Option.{option_and_then}
-use Rattle.spec_parser.specs.Tree as tree
-use Rattle.spec_parser.specs.Tree.{Expr, Exprs, no_exprs, more_exprs, Links, no_links, more_links}
-use Rattle.spec_parser.specs.declared.tree.Level.{Level}
+use Rattle.std.specs.Str.{bytes_eq}
+use Rattle.syntax_tree.specs.Tree as tree
+use Rattle.syntax_tree.specs.Tree.{Expr, Exprs, no_exprs, more_exprs, Links, no_links, more_links}
+use Rattle.syntax_tree.specs.declared.tree.Level.{Level}
+use Rattle.vocabulary.specs.declared.plain.Plain.{Plain}
+use Rattle.vocabulary.specs.declared.plain.Plain.TheVariants as plain
+use Rattle.vocabulary.specs.PlainTable.{spelling}
 use Rattle.name_check.specs.Builtin.{is_lift}
 use Rattle.type_rules.specs.declared.rule.Clash.{Clash}
 use Rattle.type_rules.specs.declared.rule.ExprType.{ExprType}
 use Rattle.type_rules.specs.Asked.{Verdict}
 use Rattle.expr_types.specs.declared.wrong.Wrong.{Wrong}
 use Rattle.expr_types.specs.Around.{Around}
-use Rattle.expr_types.specs.Judge.{wrongs, judge_links}
+use Rattle.expr_types.specs.Judge.{wrongs, judge_links, rule_of, const_call, own_call}
 
 abbrev pub argument_wrongs : Around → Exprs → List Wrong
 argument_wrongs at no_exprs = []
@@ -53,3 +57,7 @@ joined _ _ = None
 abbrev pub one_more : Option (List ExprType) → Option ExprType → Option (List ExprType)
 one_more (Some ts) (Some t) = Some (ts ++ t ∷ [])
 one_more _ _ = None
+
+-- a call of a name of the language other than `lift`
+abbrev pub plain_call : Around → Plain → List ℕ → Exprs → Option (List ExprType) → Option Verdict
+plain_call at p n es ts = if bytes_eq (spelling p) (spelling plain.Const) then const_call es ts else own_call (rule_of p) at n ts

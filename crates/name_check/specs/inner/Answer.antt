@@ -1,8 +1,8 @@
 -- What the check of the names of a specification answers.
 use Rattle.std.specs.Prelude.{◌≡◌, List, [], Some, Result, Ok, Err}
-use Rattle.spec_parser.specs.Tree as tree
-use Rattle.spec_parser.specs.declared.tree.Tree.{Tree}
-use Rattle.spec_parser.specs.inner.Shape.{items_of}
+use Rattle.syntax_tree.specs.Tree as tree
+use Rattle.syntax_tree.specs.declared.tree.Tree.{Tree}
+use Rattle.syntax_tree.specs.inner.OneLevel.{items_of}
 use Rattle.name_check.specs.declared.check.NameFault.{NameFault}
 use Rattle.name_check.specs.declared.check.NameFault.TheVariants as fault
 use Rattle.name_check.specs.Scope.{Scope, top}

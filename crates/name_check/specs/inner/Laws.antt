@@ -1,6 +1,6 @@
 -- What holds of all answers.
 use Rattle.std.specs.Prelude.{◌≡◌, Result, Ok, Err}
-use Rattle.spec_parser.specs.declared.tree.Tree.{Tree}
+use Rattle.syntax_tree.specs.declared.tree.Tree.{Tree}
 use Rattle.name_check.specs.declared.check.NameFault.{NameFault}
 use Rattle.name_check.specs.declared.check.NameFault.TheVariants as fault
 use Rattle.name_check.specs.Scope.{Scope}

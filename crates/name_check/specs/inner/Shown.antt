@@ -1,7 +1,7 @@
 -- Parts of expressions, without where these lie in memory.
 use Rattle.std.specs.Prelude.{List, [], ◌∷◌, map}
 use Rattle.tsl_value.specs.declared.place.Place.{Place}
-use Rattle.spec_parser.specs.Tree.{Expr}
+use Rattle.syntax_tree.specs.Tree.{Expr}
 use Rattle.name_check.specs.Parts as spec
 use Rattle.name_check.specs.Parts.{parts}
 use Rattle.name_check.specs.declared.parts.Part.{Part}

@@ -3,7 +3,7 @@ use Rattle.std.specs.Prelude.{ℕ, ◌≤◌, List, length}
 use Rattle.std.specs.List.{Contains}
 use Rattle.tsl_value.specs.declared.place.Place.{Place}
 use Rattle.tsl_value.specs.declared.limits.TheConstants.{MOST_TEXT_BYTES}
-use Rattle.spec_parser.specs.Tree as tree
+use Rattle.syntax_tree.specs.Tree as tree
 use Rattle.name_check.specs.Bodies.{Seen, item_bodies}
 use Rattle.name_check.specs.Parts.{Operand, parts}
 use Rattle.name_check.specs.Scope.{top}

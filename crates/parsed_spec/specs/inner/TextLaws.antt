@@ -2,7 +2,7 @@
 use Rattle.std.specs.Prelude.{ℕ, List}
 use Rattle.spec_lexer.specs.Source.{HasTokens}
 use Rattle.spec_lexer.specs.Tokens.{Spelled}
-use Rattle.spec_parser.specs.Tree as tree
+use Rattle.syntax_tree.specs.Tree as tree
 use Rattle.spec_parser.specs.Grammar.{Spells}
 use Rattle.spec_parser.specs.declared.limits.TheConstants.{MOST_LEVELS}
 use Rattle.parsed_spec.specs.inner.Short.{HaveShortTexts}

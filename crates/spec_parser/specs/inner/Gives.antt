@@ -1,14 +1,9 @@
 -- What a function of the parser returns, against the outcome of reading.
-use Rattle.std.specs.Prelude.{◌≡◌, List, [], ◌∷◌, ◌++◌, Option, Some, None, Result, Ok, Err}
+use Rattle.std.specs.Prelude.{◌≡◌, List, Option, Some, None, Result, Ok, Err}
 use Rattle.spec_lexer.specs.declared.token.Token.{Token}
 use Rattle.token_reader.specs.inner.Reader.{Unexpected, TooDeep, Outcome, Read, Stopped}
 use Rattle.spec_parser.specs.declared.stop.Stop.{Stop}
 use Rattle.spec_parser.specs.declared.stop.Stop.TheVariants as stop
-use Rattle.spec_parser.specs.Tree.{Expr, Exprs, no_exprs, more_exprs, Links, no_links, more_links, Definition, Definitions, no_definitions}
-use Rattle.spec_parser.specs.Tree.{more_definitions}
-use Rattle.spec_parser.specs.Tree as tree
-use Rattle.spec_parser.specs.declared.tree.Param.{Param}
-use Rattle.spec_parser.specs.inner.Shape.{params_in}
 use Rattle.spec_parser.specs.inner.Reading.{Reader}
 
 abbrev pub Fails : {B : Type 0} → Stop → Outcome Token B → Type 0
@@ -38,19 +33,3 @@ TurnGives view (Ok (Some x)) None ts = ⊥
 TurnGives view (Ok (Some x)) (Some p) ts = p ts ≡ Read (view x).0 (view x).1
 TurnGives view (Err e) None ts = IsMemory e
 TurnGives view (Err e) (Some p) ts = Fails e (p ts)
-
--- before all that is read after them
-abbrev pub join_exprs : List Expr → Exprs → Exprs
-join_exprs [] es = es
-join_exprs (x ∷ xs) es = more_exprs x (join_exprs xs es)
-
-abbrev pub join_links : Links → Links → Links
-join_links no_links es = es
-join_links (more_links o e ls) es = more_links o e (join_links ls es)
-
-abbrev pub join_params : List Param → List tree.Param → List tree.Param
-join_params ps us = params_in ps ++ us
-
-abbrev pub join_definitions : List Definition → Definitions → Definitions
-join_definitions [] ds = ds
-join_definitions (x ∷ xs) ds = more_definitions x (join_definitions xs ds)

@@ -4,17 +4,17 @@ use Rattle.std.specs.Option.{option_map}
 use Rattle.std.specs.Str.{bytes_eq}
 use Rattle.tsl_value.specs.declared.place.Place.{Place}
 use Rattle.spec_lexer.specs.declared.token.Token.{Token}
-use Rattle.spec_lexer.specs.declared.token.Kind.{Kind}
-use Rattle.spec_lexer.specs.declared.token.Kind.TheVariants as kind
+use Rattle.spec_lexer.specs.declared.token.TokenKind.{TokenKind}
+use Rattle.spec_lexer.specs.declared.token.TokenKind.TheVariants as kind
 use Rattle.spec_lexer.specs.declared.token.Word.TheVariants as word
 use Rattle.spec_lexer.specs.declared.token.Symbol.TheVariants as symbol
 use Rattle.token_reader.specs.inner.Reader as reader
 use Rattle.token_reader.specs.inner.Reader.{Unexpected, TooDeep, Read, Stopped, Lister, give, refuse, ◌>>=◌, when, take_by, expect, if_next}
 use Rattle.token_reader.specs.inner.Reader.{or_else, or_given, alone, opened, many}
-use Rattle.spec_parser.specs.declared.tree.Level.{Level}
-use Rattle.spec_parser.specs.declared.tree.Level.TheVariants as level
-use Rattle.spec_parser.specs.declared.tree.Operator.{Operator}
-use Rattle.spec_parser.specs.declared.tree.Comparison.{Comparison}
+use Rattle.syntax_tree.specs.declared.tree.Level.{Level}
+use Rattle.syntax_tree.specs.declared.tree.Level.TheVariants as level
+use Rattle.syntax_tree.specs.declared.tree.Operator.{Operator}
+use Rattle.syntax_tree.specs.declared.tree.Comparison.{Comparison}
 use Rattle.vocabulary.specs.declared.dotted.Dotted.{Dotted}
 use Rattle.spec_parser.specs.declared.words.TypeWord.{TypeWord}
 use Rattle.spec_parser.specs.declared.words.TypeWord.TheVariants as type_word
@@ -28,9 +28,9 @@ use Rattle.spec_parser.specs.declared.words.Callee.{Callee}
 use Rattle.spec_parser.specs.declared.words.Callee.TheVariants as callee
 use Rattle.spec_parser.specs.declared.words.Member.{Member}
 use Rattle.spec_parser.specs.declared.words.Member.TheVariants as member
-use Rattle.spec_parser.specs.Tree as tree
-use Rattle.spec_parser.specs.Tree.{TypeName, Expr, Exprs, no_exprs, more_exprs, Links, no_links, more_links, place_of, Param, Body}
-use Rattle.spec_parser.specs.Tree.{Definition, Definitions, no_definitions, more_definitions, Item}
+use Rattle.syntax_tree.specs.Tree as tree
+use Rattle.syntax_tree.specs.Tree.{TypeName, Expr, Exprs, no_exprs, more_exprs, Links, no_links, more_links, place_of, Param, Body}
+use Rattle.syntax_tree.specs.Tree.{Definition, Definitions, no_definitions, more_definitions, Item}
 use Rattle.spec_parser.specs.Words.{operator_at, comparison_at, opens_call, is_open, is_close, is_open_bracket, is_close_bracket}
 use Rattle.spec_parser.specs.Words.{is_open_brace, is_close_brace, is_comma, is_colon, defines, is_if, is_then, is_else, is_as, is_def}
 use Rattle.vocabulary.specs.Table.{family_of, dotted_of}
@@ -41,10 +41,10 @@ abbrev pub Reader : Type 0 → Type 0
 Reader A = reader.Reader Token A
 
 -- a token of a kind that has to come
-abbrev pub must : {A : Type 0} → (Kind → Bool) → Reader A → Reader A
+abbrev pub must : {A : Type 0} → (TokenKind → Bool) → Reader A → Reader A
 must test p = expect (λ t. test t.kind) p
 
-abbrev pub at_name : {A : Type 0} → (List ℕ → Reader A) → Kind → Option (Reader A)
+abbrev pub at_name : {A : Type 0} → (List ℕ → Reader A) → TokenKind → Option (Reader A)
 at_name f (kind.Name n) = Some (f n)
 at_name f _ = None
 
@@ -75,7 +75,7 @@ wrapped place wrapper.Set = tree.SetType place
 wrapped place wrapper.Option = tree.OptionType place
 wrapped place wrapper.Events = tree.EventsType place
 
-abbrev pub at_type : ℕ → Reader TypeName → Place → Kind → Option (Reader TypeName)
+abbrev pub at_type : ℕ → Reader TypeName → Place → TokenKind → Option (Reader TypeName)
 at_type room inner place (kind.Name n) = option_map (type_after room inner place) (type_word_of n)
 at_type room inner place _ = None
 
@@ -148,7 +148,7 @@ member_after room types inner place (member.Called o) = must_call (opened room (
 member_after room types inner place member.EmptySet = must is_open_bracket (opened room (in_brackets types (tree.EmptySet place)))
 member_after room types inner place member.EmptyMap = must is_open_bracket (opened room (two_in_brackets types (tree.EmptyMap place)))
 
-abbrev pub at_member : ℕ → Reader TypeName → Reader Expr → Place → Family → Kind → Option (Reader Expr)
+abbrev pub at_member : ℕ → Reader TypeName → Reader Expr → Place → Family → TokenKind → Option (Reader Expr)
 at_member room types inner place f (kind.Name n) = option_map (member_after room types inner place) (member_of f n)
 at_member room types inner place f _ = None
 
@@ -156,16 +156,16 @@ abbrev pub a_member : ℕ → Reader TypeName → Reader Expr → Place → Fami
 a_member room types inner place f = take_by (λ t. at_member room types inner place f t.kind)
 
 -- what goes on with a name
-abbrev pub after_name : ℕ → Reader TypeName → Reader Expr → Place → List ℕ → Kind → Bool → Option (Reader Expr)
+abbrev pub after_name : ℕ → Reader TypeName → Reader Expr → Place → List ℕ → TokenKind → Bool → Option (Reader Expr)
 after_name room types inner place n (kind.Symbol symbol.Open) first = when (not first) (opened room (arguments inner (tree.Call place n)))
 after_name room types inner place n (kind.Symbol symbol.OpenBracket) first = option_map (typed room types place) (typed_word_of n)
 after_name room types inner place n (kind.Symbol symbol.Dot) first = option_map (a_member room types inner place) (family_of n)
 after_name room types inner place n _ first = None
 
-abbrev pub called : ℕ → Reader TypeName → Reader Expr → Place → List ℕ → Reader Expr
-called room types inner place n = if_next (λ t. after_name room types inner place n t.kind t.first) (tree.Name place n)
+abbrev pub name_or_call : ℕ → Reader TypeName → Reader Expr → Place → List ℕ → Reader Expr
+name_or_call room types inner place n = if_next (λ t. after_name room types inner place n t.kind t.first) (tree.Name place n)
 
-abbrev pub at_number : Place → Kind → Option (Reader Expr)
+abbrev pub at_number : Place → TokenKind → Option (Reader Expr)
 at_number place (kind.Number n) = Some (give (tree.Negative place n))
 at_number place _ = None
 
@@ -189,12 +189,12 @@ closed inner = inner >>= λ e. must is_close (give e)
 abbrev pub in_parens : Reader Expr → Place → Reader Expr
 in_parens inner place = or_else (λ t. when (is_close t.kind) (give (tree.Unit place))) (inner >>= λ e. must is_close (give e))
 
-abbrev pub at_unary : ℕ → Reader TypeName → Reader Expr → Reader Expr → Kind → Place → Option (Reader Expr)
+abbrev pub at_unary : ℕ → Reader TypeName → Reader Expr → Reader Expr → TokenKind → Place → Option (Reader Expr)
 at_unary room types inner operand (kind.Number n) place = Some (give (tree.Number place n))
 at_unary room types inner operand (kind.Text n) place = Some (give (tree.Text place n))
 at_unary room types inner operand (kind.Word word.True) place = Some (give (tree.Boolean place true))
 at_unary room types inner operand (kind.Word word.False) place = Some (give (tree.Boolean place false))
-at_unary room types inner operand (kind.Name n) place = Some (called room types inner place n)
+at_unary room types inner operand (kind.Name n) place = Some (name_or_call room types inner place n)
 at_unary room types inner operand (kind.Symbol symbol.Open) place = Some (opened room (in_parens inner place))
 at_unary room types inner operand (kind.Symbol symbol.Minus) place = Some (negated room operand place)
 at_unary room types inner operand (kind.Symbol symbol.Not) place = Some (opened room (operand >>= λ e. give (tree.Not place e)))
@@ -330,7 +330,7 @@ after_output place x = or_given (λ t. when (is_as t.kind) (printed_as place x.0
 abbrev pub output_after : ℕ → Place → Reader Item
 output_after room place = alone (within (suc room)) >>= after_output place
 
-abbrev pub at_item : ℕ → Place → Kind → Option (Reader Item)
+abbrev pub at_item : ℕ → Place → TokenKind → Option (Reader Item)
 at_item room place (kind.Word word.In) = Some (input_after room place)
 at_item room place (kind.Word word.Def) = Some (definition_after room place)
 at_item room place (kind.Word word.Out) = Some (output_after room place)

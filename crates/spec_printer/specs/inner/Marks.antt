@@ -3,14 +3,14 @@ use Rattle.std.specs.Prelude.{ℕ, List, ◌++◌, codes}
 use Rattle.std.specs.Fmt.{decimal}
 use Rattle.std.specs.List.{flat_map}
 use Rattle.tsl_value.specs.Print.{quoted_text}
-use Rattle.spec_lexer.specs.declared.token.Kind.{Kind}
-use Rattle.spec_lexer.specs.declared.token.Kind.TheVariants as kind
+use Rattle.spec_lexer.specs.declared.token.TokenKind.{TokenKind}
+use Rattle.spec_lexer.specs.declared.token.TokenKind.TheVariants as kind
 use Rattle.spec_lexer.specs.declared.token.Word.{Word}
 use Rattle.spec_lexer.specs.declared.token.Symbol.{Symbol}
 use Rattle.spec_lexer.specs.Spelling.{word_spelling, symbol_spelling}
 
 pub data Mark : Type 0 where
-  token : Kind → Mark
+  token : TokenKind → Mark
   line_end : Mark
 
 abbrev pub word : Word → Mark
@@ -23,7 +23,7 @@ abbrev pub named : List ℕ → Mark
 named n = token (kind.Name n)
 
 -- how a token is written
-abbrev pub kind_text : Kind → List ℕ
+abbrev pub kind_text : TokenKind → List ℕ
 kind_text (kind.Name n) = n
 kind_text (kind.Number n) = decimal n
 kind_text (kind.Text t) = quoted_text t

@@ -3,24 +3,24 @@
 -- block and the result of a block begins a line, so that a parenthesis or a minus there begins an expression.
 use Rattle.std.specs.Prelude.{ℕ, suc, Bool, true, false, nat_le, List, [], ◌∷◌, ◌++◌, Option, Some, None, codes}
 use Rattle.std.specs.List.{flat_map}
-use Rattle.spec_lexer.specs.declared.token.Kind.TheVariants as kind
+use Rattle.spec_lexer.specs.declared.token.TokenKind.TheVariants as kind
 use Rattle.spec_lexer.specs.declared.token.Word.{Word}
 use Rattle.spec_lexer.specs.declared.token.Word.TheVariants as word
 use Rattle.spec_lexer.specs.declared.token.Symbol.{Symbol}
 use Rattle.spec_lexer.specs.declared.token.Symbol.TheVariants as symbol
-use Rattle.spec_parser.specs.declared.tree.Level.{Level}
-use Rattle.spec_parser.specs.declared.tree.Level.TheVariants as level
-use Rattle.spec_parser.specs.declared.tree.Operator.{Operator}
-use Rattle.spec_parser.specs.declared.tree.Operator.TheVariants as operator
-use Rattle.spec_parser.specs.declared.tree.Comparison.{Comparison}
-use Rattle.spec_parser.specs.declared.tree.Comparison.TheVariants as comparison
-use Rattle.spec_parser.specs.Tree as tree
-use Rattle.spec_parser.specs.Tree.{TypeName, Expr, Exprs, no_exprs, more_exprs, Links, no_links, more_links, Param, Body, Definition}
-use Rattle.spec_parser.specs.Tree.{Definitions, no_definitions, more_definitions, Item}
+use Rattle.syntax_tree.specs.declared.tree.Level.{Level}
+use Rattle.syntax_tree.specs.declared.tree.Level.TheVariants as level
+use Rattle.syntax_tree.specs.declared.tree.Operator.{Operator}
+use Rattle.syntax_tree.specs.declared.tree.Operator.TheVariants as operator
+use Rattle.syntax_tree.specs.declared.tree.Comparison.{Comparison}
+use Rattle.syntax_tree.specs.declared.tree.Comparison.TheVariants as comparison
+use Rattle.syntax_tree.specs.Tree as tree
+use Rattle.syntax_tree.specs.Tree.{TypeName, Expr, Exprs, no_exprs, more_exprs, Links, no_links, more_links, Param, Body, Definition}
+use Rattle.syntax_tree.specs.Tree.{Definitions, no_definitions, more_definitions, Item}
 use Rattle.vocabulary.specs.Table.{family_name, family_in, member_name}
-use Rattle.spec_parser.specs.declared.tree.TypeShape.{TypeShape}
-use Rattle.spec_parser.specs.declared.tree.Node.{Node}
-use Rattle.spec_parser.specs.inner.Shape.{type_of, expr_of}
+use Rattle.syntax_tree.specs.declared.tree.TypeShape.{TypeShape}
+use Rattle.syntax_tree.specs.declared.tree.Node.{Node}
+use Rattle.syntax_tree.specs.inner.OneLevel.{type_of, expr_of}
 use Rattle.spec_printer.specs.inner.Same.{nowhere}
 use Rattle.spec_printer.specs.inner.Marks as mark
 use Rattle.spec_printer.specs.inner.Marks.{Mark, token, line_end, named, text_of}

@@ -1,9 +1,9 @@
 -- The same trees, places aside: they are equal once each place is forgotten.
 use Rattle.std.specs.Prelude.{◌≡◌, List, map, Option, Some, None}
 use Rattle.tsl_value.specs.declared.place.Place.{Place}
-use Rattle.spec_parser.specs.Tree as tree
-use Rattle.spec_parser.specs.Tree.{TypeName, Expr, Exprs, no_exprs, more_exprs, Links, no_links, more_links, Param, Body, Definition}
-use Rattle.spec_parser.specs.Tree.{Definitions, no_definitions, more_definitions, Item}
+use Rattle.syntax_tree.specs.Tree as tree
+use Rattle.syntax_tree.specs.Tree.{TypeName, Expr, Exprs, no_exprs, more_exprs, Links, no_links, more_links, Param, Body, Definition}
+use Rattle.syntax_tree.specs.Tree.{Definitions, no_definitions, more_definitions, Item}
 
 abbrev pub nowhere : Place
 nowhere = record { line = 0; column = 0 }

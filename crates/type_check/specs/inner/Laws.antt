@@ -1,7 +1,7 @@
 -- Laws of the check of types.
 use Rattle.std.specs.Prelude.{◌≡◌, ℕ, List}
 use Rattle.tsl_value.specs.declared.place.Place.{Place}
-use Rattle.spec_parser.specs.Tree as tree
+use Rattle.syntax_tree.specs.Tree as tree
 use Rattle.expr_types.specs.Around.{Kinds}
 use Rattle.expr_types.specs.Bodies.{AreKinds}
 use Rattle.type_check.specs.declared.fault.TypeFault.{TypeFault}

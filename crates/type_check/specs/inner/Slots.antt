@@ -1,6 +1,6 @@
 -- The places of a table of kinds, and what stands there.
 use Rattle.std.specs.Prelude.{◌≡◌, ℕ, zero, suc, List, [], ◌∷◌, ◌++◌, Option, Some, None, slice_get}
-use Rattle.spec_parser.specs.Tree as tree
+use Rattle.syntax_tree.specs.Tree as tree
 use Rattle.type_rules.specs.declared.rule.ExprType.{ExprType}
 use Rattle.name_check.specs.Scope.{count_in}
 use Rattle.expr_types.specs.Around.{Kinds}

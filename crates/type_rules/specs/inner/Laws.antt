@@ -1,6 +1,6 @@
 -- A written type stands for something just where nothing in it may not stand.
 use Rattle.std.specs.Prelude.{◌≡◌, is_some, is_none, slice_get}
-use Rattle.spec_parser.specs.Tree.{TypeName}
+use Rattle.syntax_tree.specs.Tree.{TypeName}
 use Rattle.type_rules.specs.Written.{as_written, as_stream, bad_as_written, bad_as_stream}
 
 abbrev pub WrittenOrBad : Type 0

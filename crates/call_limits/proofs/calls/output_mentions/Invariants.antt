@@ -1,5 +1,5 @@
 use Rattle.std.proofs.Common.{◌≡◌, ◌++◌, map, drop}
-use Rattle.spec_parser.specs.inner.Shape.{item_of}
+use Rattle.syntax_tree.specs.inner.OneLevel.{item_of}
 use Rattle.name_check.specs.Scope.{top}
 use Rattle.call_limits.specs.inner.Edges.{mentions_in_outputs}
 use Rattle.call_limits.proofs.calls.output_mentions.Given as goal

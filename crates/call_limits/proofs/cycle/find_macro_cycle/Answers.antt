@@ -1,6 +1,6 @@
 use Rattle.std.proofs.Common.{map, sym, subst, ◌∙◌, arith}
 use Rattle.std.proofs.lemmas.List.{length-map}
-use Rattle.spec_parser.specs.inner.Shape.{item_of}
+use Rattle.syntax_tree.specs.inner.OneLevel.{item_of}
 use Rattle.translation_order.specs.OnCycle.{IsFirstOnCycle}
 use Rattle.definition_cycles.proofs.CountLemmas.{fewer_items}
 use Rattle.definition_cycles.proofs.CycleLemmas.{none_on_cycle, found_least, same_edges}

@@ -1,6 +1,6 @@
 use Rattle.std.proofs.Common.{rules, arith, ◌≡◌, ◌<◌, map, length, sym, subst, ◌∙◌}
 use Rattle.std.proofs.lemmas.List.{length-map}
-use Rattle.spec_parser.specs.inner.Shape.{item_of}
+use Rattle.syntax_tree.specs.inner.OneLevel.{item_of}
 use Rattle.definition_cycles.proofs.CountLemmas.{fewer_items}
 use Rattle.call_limits.specs.Nesting.{IsTooDeep, deep_place}
 use Rattle.call_limits.specs.inner.Depths.{IsFirst}

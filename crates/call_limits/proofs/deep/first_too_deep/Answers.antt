@@ -4,8 +4,8 @@ use Rattle.call_limits.specs.inner.Depths.{AreAfter}
 use Rattle.call_limits.proofs.DepthLemmas.{same_successors, same_depths, order_leads, order_swapped, first_too_deep}
 use Rattle.call_limits.proofs.deep.first_too_deep.Goals as goal
 
-pub depths-requires-clause-behind : goal.depths-requires-clause-behind
-depths-requires-clause-behind c =
+pub depths-requires-clause-after : goal.depths-requires-clause-after
+depths-requires-clause-after c =
     let macros = c.args.calls.now.macros.items in
     let functions = c.args.calls.now.functions.items in
     order_leads c.args.count macros functions c.deref-3.result.now c.deref-4.result.now
@@ -13,8 +13,8 @@ depths-requires-clause-behind c =
     (same_successors c.args.count functions c.deref-2.result.now c.deref-4.result.now c.in_ok-functions.functions.items c.deref-2.ensures.value c.deref-4.ensures.value c.in_ok-functions.ensures)
     c.as_slice.result.now (subst (AreAfter (Edge macros) (Edge functions) c.args.count) (sym c.as_slice.ensures) c.in_ok-order.ensures)
 
-pub depths-requires-2-clause-behind : goal.depths-requires-2-clause-behind
-depths-requires-2-clause-behind c =
+pub depths-requires-2-clause-after : goal.depths-requires-2-clause-after
+depths-requires-2-clause-after c =
     let macros = c.args.calls.now.macros.items in
     let functions = c.args.calls.now.functions.items in
     order_swapped c.args.count macros functions c.deref-6.result.now c.deref-5.result.now

@@ -1,7 +1,7 @@
 use Rattle.std.proofs.Common.{◌≡◌, map, ap, ◌∙◌}
 use Rattle.std.specs.List.{filter_map}
 use Rattle.std.proofs.lemmas.Result.{IfOk-weaker}
-use Rattle.spec_parser.specs.inner.Shape.{item_of}
+use Rattle.syntax_tree.specs.inner.OneLevel.{item_of}
 use Rattle.definition_cycles.specs.Calls.{Calls}
 use Rattle.definition_cycles.specs.inner.Edges.{AreEdges, call_edge}
 use Rattle.definition_cycles.proofs.CallLemmas.{call_edges, small_calls}

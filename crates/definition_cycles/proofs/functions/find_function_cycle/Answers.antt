@@ -1,7 +1,7 @@
 use Rattle.std.proofs.Common.{ℕ, ◌<◌, List, map, length, sym, ap, subst, ◌∙◌, arith}
 use Rattle.std.proofs.lemmas.List.{length-map}
-use Rattle.spec_parser.specs.Tree as tree
-use Rattle.spec_parser.specs.inner.Shape.{item_of, items_of}
+use Rattle.syntax_tree.specs.Tree as tree
+use Rattle.syntax_tree.specs.inner.OneLevel.{item_of, items_of}
 use Rattle.translation_order.specs.OnCycle.{IsFirstOnCycle}
 use Rattle.definition_cycles.specs.Nodes.{HasFewNodes}
 use Rattle.definition_cycles.specs.Calls.{Calls, name_place}

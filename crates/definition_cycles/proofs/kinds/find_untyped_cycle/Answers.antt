@@ -1,6 +1,6 @@
 use Rattle.std.proofs.Common.{ℕ, ◌<◌, false, List, length, get_or, map, sym, subst}
-use Rattle.spec_parser.specs.Tree as tree
-use Rattle.spec_parser.specs.inner.Shape.{item_of}
+use Rattle.syntax_tree.specs.Tree as tree
+use Rattle.syntax_tree.specs.inner.OneLevel.{item_of}
 use Rattle.translation_order.specs.OnCycle.{IsFirstOnCycle}
 use Rattle.definition_cycles.specs.declared.found.Head.{Head}
 use Rattle.definition_cycles.specs.Nodes.{HasFewNodes, nodes}

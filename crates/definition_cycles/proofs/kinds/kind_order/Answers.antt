@@ -1,7 +1,7 @@
 use Rattle.std.proofs.Common.{List, map, IfOk, OnOk, IfErr, sym, subst}
 use Rattle.std.proofs.lemmas.Result.{IfOk-weaker, IfErr-weaker, on_ok_weaker}
-use Rattle.spec_parser.specs.Tree as tree
-use Rattle.spec_parser.specs.inner.Shape.{item_of}
+use Rattle.syntax_tree.specs.Tree as tree
+use Rattle.syntax_tree.specs.inner.OneLevel.{item_of}
 use Rattle.translation_order.specs.Order.{Before, IsLeastOrder}
 use Rattle.translation_order.specs.Cycle.{IsCycle}
 use Rattle.translation_order.specs.inner.Answer.{OnCycle}

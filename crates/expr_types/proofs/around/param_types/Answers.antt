@@ -1,5 +1,5 @@
 use Rattle.std.proofs.Common.{rules}
-use Rattle.spec_parser.specs.inner.Shape.{params_in}
+use Rattle.syntax_tree.specs.inner.OneLevel.{params_in}
 use Rattle.expr_types.specs.Around.{param_types}
 use Rattle.expr_types.proofs.ArgumentLemmas.{params_none}
 use Rattle.expr_types.proofs.around.param_types.Goals as goal

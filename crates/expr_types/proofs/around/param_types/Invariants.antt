@@ -1,5 +1,5 @@
 use Rattle.std.proofs.Common.{◌≡◌, Some, drop}
-use Rattle.spec_parser.specs.inner.Shape.{params_in}
+use Rattle.syntax_tree.specs.inner.OneLevel.{params_in}
 use Rattle.expr_types.specs.Around.{param_types}
 use Rattle.expr_types.specs.inner.Steps.{joined}
 use Rattle.expr_types.proofs.around.param_types.Given as goal

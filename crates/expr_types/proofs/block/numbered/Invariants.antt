@@ -1,5 +1,5 @@
 use Rattle.std.proofs.Common.{◌≡◌, ◌++◌, drop}
-use Rattle.spec_parser.specs.inner.Shape.{definitions_of}
+use Rattle.syntax_tree.specs.inner.OneLevel.{definitions_of}
 use Rattle.expr_types.specs.inner.Blocks.{definitions_in, numbered}
 use Rattle.expr_types.proofs.block.numbered.Given as goal
 

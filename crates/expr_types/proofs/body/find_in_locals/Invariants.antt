@@ -1,5 +1,5 @@
 use Rattle.std.proofs.Common.{◌≡◌, drop}
-use Rattle.spec_parser.specs.inner.Shape.{definitions_of}
+use Rattle.syntax_tree.specs.inner.OneLevel.{definitions_of}
 use Rattle.expr_types.specs.Bodies.{local_wrongs}
 use Rattle.expr_types.specs.inner.Shown.{around_of}
 use Rattle.expr_types.specs.inner.Answers.{first}

@@ -1,5 +1,5 @@
 use Rattle.std.proofs.Common.{map}
-use Rattle.spec_parser.specs.inner.Shape.{item_of}
+use Rattle.syntax_tree.specs.inner.OneLevel.{item_of}
 use Rattle.expr_types.specs.inner.Shown.{kinds_of}
 use Rattle.expr_types.proofs.BlockLemmas.{found_is, none_found}
 use Rattle.expr_types.proofs.define.block_kind.Goals as goal

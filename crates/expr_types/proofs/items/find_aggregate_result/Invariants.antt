@@ -1,5 +1,5 @@
 use Rattle.std.proofs.Common.{◌≡◌, map, drop}
-use Rattle.spec_parser.specs.inner.Shape.{item_of}
+use Rattle.syntax_tree.specs.inner.OneLevel.{item_of}
 use Rattle.expr_types.specs.Bodies.{aggregate_results_from}
 use Rattle.expr_types.specs.inner.Shown.{kinds_of}
 use Rattle.expr_types.specs.inner.Answers.{first}

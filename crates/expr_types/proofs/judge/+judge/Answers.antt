@@ -1,11 +1,11 @@
 use Rattle.std.proofs.Common.{◌≡◌, false, [], ◌∷◌, ◌++◌, None, rules, sym, ◌∙◌}
 use Rattle.std.specs.Option.{option_map}
 use Rattle.std.proofs.lemmas.Result.{err_from_is_err_and}
-use Rattle.spec_parser.specs.inner.Shape.{exprs_of, links_in}
-use Rattle.spec_parser.specs.declared.tree.Node.TheVariants as node
+use Rattle.syntax_tree.specs.inner.OneLevel.{exprs_of, links_in}
+use Rattle.syntax_tree.specs.declared.tree.Node.TheVariants as node
 use Rattle.name_check.specs.Builtin.{is_lift}
 use Rattle.name_check.specs.inner.Shown.{nowhere}
-use Rattle.spec_parser.proofs.Sizes.{argument_smaller, link_smaller, front_within, size_of_node}
+use Rattle.syntax_tree.proofs.Sizes.{argument_smaller, link_smaller, front_within, size_of_node}
 use Rattle.expr_types.specs.Judge.{types_of}
 use Rattle.expr_types.specs.inner.Shown.{around_of, callee_in}
 use Rattle.expr_types.specs.inner.Steps.{argument_wrongs, link_wrongs, chain_verdict}

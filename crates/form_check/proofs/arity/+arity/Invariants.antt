@@ -1,5 +1,5 @@
 use Rattle.std.proofs.Common.{◌≡◌, ◌+◌, ◌*◌, map, drop}
-use Rattle.spec_parser.specs.inner.Shape.{body_of, definition_of, definitions_of, item_of, size_of_definition, size_of_body, size_of_definitions}
+use Rattle.syntax_tree.specs.inner.OneLevel.{body_of, definition_of, definitions_of, item_of, size_of_definition, size_of_body, size_of_definitions}
 use Rattle.name_check.specs.Scope.{seen}
 use Rattle.name_check.specs.Faults.{first}
 use Rattle.form_check.specs.inner.Steps.{wrong_in_locals}

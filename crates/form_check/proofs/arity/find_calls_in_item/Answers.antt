@@ -1,6 +1,6 @@
 use Rattle.std.proofs.Common.{map, sym, ap, ◌∙◌}
 use Rattle.std.specs.List.{flat_map}
-use Rattle.spec_parser.specs.inner.Shape.{item_of}
+use Rattle.syntax_tree.specs.inner.OneLevel.{item_of}
 use Rattle.name_check.specs.Scope.{seen}
 use Rattle.name_check.specs.Bodies.{item_bodies}
 use Rattle.name_check.specs.Faults.{first}

@@ -1,6 +1,6 @@
 use Rattle.std.proofs.Common.{◌≡◌, [], ◌∷◌, if◌then◌else◌, map, refl, ap, subst, ◌∙◌}
-use Rattle.spec_parser.specs.inner.Shape.{params_in, body_of, item_of}
-use Rattle.spec_parser.specs.declared.tree.Param.{Param}
+use Rattle.syntax_tree.specs.inner.OneLevel.{params_in, body_of, item_of}
+use Rattle.syntax_tree.specs.declared.tree.Param.{Param}
 use Rattle.std.specs.Prelude.{List}
 use Rattle.name_check.specs.Scope.{seen, are_values, functions_of, parameters_from, Agree}
 use Rattle.name_check.specs.Faults.{first}

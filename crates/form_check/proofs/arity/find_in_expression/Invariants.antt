@@ -1,5 +1,5 @@
 use Rattle.std.proofs.Common.{◌≡◌, map, filter, drop}
-use Rattle.spec_parser.specs.inner.Shape.{item_of}
+use Rattle.syntax_tree.specs.inner.OneLevel.{item_of}
 use Rattle.name_check.specs.Scope.{seen}
 use Rattle.name_check.specs.Parts.{part_place}
 use Rattle.name_check.specs.inner.Shown.{parts_in}

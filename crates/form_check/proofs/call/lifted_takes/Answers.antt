@@ -1,6 +1,6 @@
 use Rattle.std.proofs.Common.{map, sym, ap, ◌∙◌}
-use Rattle.spec_parser.specs.Tree.{place_of}
-use Rattle.spec_parser.specs.inner.Shape.{expr_of, item_of}
+use Rattle.syntax_tree.specs.Tree.{place_of}
+use Rattle.syntax_tree.specs.inner.OneLevel.{expr_of, item_of}
 use Rattle.name_check.specs.Scope.{seen, meaning}
 use Rattle.form_check.proofs.CountLemmas.{named, unnamed}
 use Rattle.form_check.proofs.call.lifted_takes.Goals as goal

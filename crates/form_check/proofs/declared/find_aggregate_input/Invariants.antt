@@ -1,5 +1,5 @@
 use Rattle.std.proofs.Common.{◌≡◌, map, drop}
-use Rattle.spec_parser.specs.inner.Shape.{item_of}
+use Rattle.syntax_tree.specs.inner.OneLevel.{item_of}
 use Rattle.name_check.specs.Faults.{first}
 use Rattle.form_check.specs.Declared.{aggregate_inputs}
 use Rattle.form_check.proofs.declared.find_aggregate_input.Given as goal

@@ -1,6 +1,6 @@
 use Rattle.std.proofs.Common.{◌≡◌, map, drop}
 use Rattle.std.specs.String.{string_bytes}
-use Rattle.spec_parser.specs.inner.Shape.{item_of}
+use Rattle.syntax_tree.specs.inner.OneLevel.{item_of}
 use Rattle.name_check.specs.Faults.{first}
 use Rattle.form_check.specs.Outputs.{twice_after, outputs_twice}
 use Rattle.form_check.proofs.output.find_output_twice.Given as goal

@@ -1,5 +1,5 @@
 use Rattle.std.proofs.Common.{◌≡◌, map, drop}
-use Rattle.spec_parser.specs.inner.Shape.{item_of}
+use Rattle.syntax_tree.specs.inner.OneLevel.{item_of}
 use Rattle.name_check.specs.Faults.{first}
 use Rattle.form_check.specs.Types.{bad_types}
 use Rattle.form_check.proofs.written.find_bad_type.Given as goal

@@ -1,5 +1,5 @@
 use Rattle.std.proofs.Common.{◌≡◌, drop}
-use Rattle.spec_parser.specs.inner.Shape.{params_in}
+use Rattle.syntax_tree.specs.inner.OneLevel.{params_in}
 use Rattle.name_check.specs.Faults.{first}
 use Rattle.form_check.specs.Types.{bad_in_params}
 use Rattle.form_check.proofs.written.find_in_params.Given as goal

@@ -1,5 +1,5 @@
 use Rattle.std.proofs.Common.{◌≡◌, ◌+◌, ◌*◌, drop}
-use Rattle.spec_parser.specs.inner.Shape.{body_of, definitions_of, size_of_body, size_of_definitions}
+use Rattle.syntax_tree.specs.inner.OneLevel.{body_of, definitions_of, size_of_body, size_of_definitions}
 use Rattle.name_check.specs.Scope.{counts}
 use Rattle.name_check.proofs.count.+count.Given as goal
 

@@ -1,7 +1,7 @@
 use Rattle.std.proofs.Common.{◌≡◌, [], ◌∷◌, ◌++◌, rules, ap, ◌∙◌}
 use Rattle.name_check.specs.declared.parts.Part.TheVariants as part
 use Rattle.name_check.specs.inner.Shown.{parts_in}
-use Rattle.spec_parser.proofs.Sizes.{argument_smaller, link_smaller, front_within}
+use Rattle.syntax_tree.proofs.Sizes.{argument_smaller, link_smaller, front_within}
 use Rattle.name_check.proofs.PartsLemmas.{lift_added, parts_more}
 use Rattle.name_check.proofs.parts.+parts.Goals as goal
 

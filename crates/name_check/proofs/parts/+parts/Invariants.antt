@@ -1,5 +1,5 @@
 use Rattle.std.proofs.Common.{◌≡◌, ◌+◌, ◌*◌, ◌++◌, drop}
-use Rattle.spec_parser.specs.inner.Shape.{exprs_of, links_in, expr_of, size_of, size_of_exprs, size_of_links}
+use Rattle.syntax_tree.specs.inner.OneLevel.{exprs_of, links_in, expr_of, size_of, size_of_exprs, size_of_links}
 use Rattle.name_check.specs.Parts.{argument_parts, link_parts}
 use Rattle.name_check.specs.inner.Shown.{parts_in, nowhere}
 use Rattle.name_check.proofs.parts.+parts.Given as goal

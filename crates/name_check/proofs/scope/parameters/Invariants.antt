@@ -1,5 +1,5 @@
 use Rattle.std.proofs.Common.{◌++◌, drop}
-use Rattle.spec_parser.specs.inner.Shape.{params_in}
+use Rattle.syntax_tree.specs.inner.OneLevel.{params_in}
 use Rattle.name_check.specs.Scope.{parameters_from, Agree}
 use Rattle.name_check.proofs.scope.parameters.Given as goal
 

@@ -1,5 +1,5 @@
 use Rattle.std.proofs.Common.{◌++◌, map, drop}
-use Rattle.spec_parser.specs.inner.Shape.{item_of}
+use Rattle.syntax_tree.specs.inner.OneLevel.{item_of}
 use Rattle.name_check.specs.Scope.{Agree, declared_from, top}
 use Rattle.name_check.proofs.top.top_names.Given as goal
 

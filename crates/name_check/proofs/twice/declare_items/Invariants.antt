@@ -1,5 +1,5 @@
 use Rattle.std.proofs.Common.{◌≡◌, ◌++◌, map, drop}
-use Rattle.spec_parser.specs.inner.Shape.{item_of}
+use Rattle.syntax_tree.specs.inner.OneLevel.{item_of}
 use Rattle.name_check.specs.Scope.{top, declared_from}
 use Rattle.name_check.specs.Faults.{first, twice_from, declared_twice}
 use Rattle.name_check.specs.inner.Steps.{names_of}

@@ -1,9 +1,9 @@
 use Rattle.std.proofs.Common.{rules, sym, ap, ◌∙◌}
-use Rattle.spec_parser.specs.inner.Shape.{definition_of, definitions_of}
+use Rattle.syntax_tree.specs.inner.OneLevel.{definition_of, definitions_of}
 use Rattle.name_check.specs.Scope.{seen}
 use Rattle.name_check.specs.Faults.{first, unknown_in}
 use Rattle.name_check.specs.inner.Steps.{unknown_in_locals}
-use Rattle.spec_parser.proofs.Sizes.{definition_smaller}
+use Rattle.syntax_tree.proofs.Sizes.{definition_smaller}
 use Rattle.name_check.proofs.UnknownLemmas.{unknown_same}
 use Rattle.name_check.proofs.WalkLemmas.{block_hit, block_rest, locals_hit, locals_turn, ok_same}
 use Rattle.name_check.proofs.unknown.+unknown.Goals as goal
@@ -25,15 +25,15 @@ find_in_block-returns t c =
 
 pub find_in_locals-find_in_local-requires : goal.find_in_locals-find_in_local-requires
 find_in_locals-find_in_local-requires t c =
-    let smaller = definition_smaller c.args.definitions.now c.loop-definition.definition-index c.definition-item.result (definition_of c.parts.result.now) c.loop-definition-test.true c.definition-item.is c.parts.ensures in
-    search rules
+    let smaller = definition_smaller c.args.definitions.now c.loop-definition.definition-index c.definition-item.result (definition_of c.parts.result.now) c.loop-definition-test.true c.definition-item.is c.parts.ensures.is in
+    (search rules, c.parts.ensures.few)
 
 pub find_in_locals-returns-in-Some : goal.find_in_locals-returns-in-Some
 find_in_locals-returns-in-Some t c =
-    locals_hit unknown_in unknown_same (seen c.args.scope.now) c.args.definitions.now c.loop-definition.definition-index c.definition-item.result (definition_of c.parts.result.now) c.in-Some.place _ c.loop-definition-test.true c.definition-item.is c.parts.ensures c.loop-definition.invariant
+    locals_hit unknown_in unknown_same (seen c.args.scope.now) c.args.definitions.now c.loop-definition.definition-index c.definition-item.result (definition_of c.parts.result.now) c.in-Some.place _ c.loop-definition-test.true c.definition-item.is c.parts.ensures.is c.loop-definition.invariant
     (sym c.in-Some.is ∙ c.in_ok-place.ensures)
 
 pub find_in_locals-loop-definition-preserved : goal.find_in_locals-loop-definition-preserved
 find_in_locals-loop-definition-preserved t c =
-    locals_turn unknown_in unknown_same (seen c.args.scope.now) c.args.definitions.now c.loop-definition.definition-index c.definition-item.result (definition_of c.parts.result.now) _ c.loop-definition-test.true c.definition-item.is c.parts.ensures c.loop-definition.invariant
+    locals_turn unknown_in unknown_same (seen c.args.scope.now) c.args.definitions.now c.loop-definition.definition-index c.definition-item.result (definition_of c.parts.result.now) _ c.loop-definition-test.true c.definition-item.is c.parts.ensures.is c.loop-definition.invariant
     (sym c.in_default.is ∙ c.in_ok-place.ensures)

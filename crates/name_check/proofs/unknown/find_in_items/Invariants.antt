@@ -1,6 +1,6 @@
 use Rattle.std.proofs.Common.{◌≡◌, map, drop}
 use Rattle.std.specs.List.{flat_map}
-use Rattle.spec_parser.specs.inner.Shape.{item_of}
+use Rattle.syntax_tree.specs.inner.OneLevel.{item_of}
 use Rattle.name_check.specs.Faults.{first}
 use Rattle.name_check.specs.inner.Steps.{unknown_in_item}
 use Rattle.name_check.proofs.unknown.find_in_items.Given as goal

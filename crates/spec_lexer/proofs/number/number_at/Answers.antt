@@ -5,7 +5,7 @@ use Rattle.std.specs.Prelude.{encode_utf8_all}
 use Rattle.std.specs.Str.Parse.{ParsesUnsigned}
 use Rattle.spec_lexer.specs.Found.{number_found}
 use Rattle.spec_lexer.specs.declared.piece.Piece.TheVariants.{Made}
-use Rattle.spec_lexer.specs.declared.token.Kind.TheVariants.{Number}
+use Rattle.spec_lexer.specs.declared.token.TokenKind.TheVariants.{Number}
 use Rattle.spec_lexer.proofs.Digits.{encode-digits, front_of_digits, number_read, number_refused}
 use Rattle.spec_lexer.proofs.number.number_at.Goals as goal
 use Rattle.spec_lexer.proofs.number.number_at.Goals.{in_default-via-in-Ok+else-number-le-MAX_NUMBER, in_default-via-in_default}

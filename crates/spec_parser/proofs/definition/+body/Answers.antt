@@ -1,7 +1,8 @@
 use Rattle.std.proofs.Common.{◌+◌, arith}
 use Rattle.std.proofs.lemmas.Result.{err_from_is_err_and}
-use Rattle.spec_parser.specs.inner.Shape.{params_in}
+use Rattle.syntax_tree.specs.inner.OneLevel.{body_of, params_in}
 use Rattle.spec_parser.proofs.TurnLaws.{what_follows_is}
+use Rattle.spec_parser.proofs.CountLaws.{read_counted}
 use Rattle.spec_parser.proofs.ItemLoops.{definition_shorter, definition_passes, definition_fails, definitions_end, definitions_empty}
 use Rattle.spec_parser.proofs.definition.+body.Goals as goal
 use Rattle.spec_parser.proofs.definition.+body.Goals.{definitions-in-Some+then-not-begins_definition, definitions-in_default}
@@ -28,3 +29,8 @@ definitions-returns t c = elim c.match-split_first.branch [
 
 pub after_head-returns : goal.after_head-returns
 after_head-returns t c = rw (what_follows_is c.args.room (c.args.room + 1) c.args.place c.args.name.now (params_in c.args.params.items) c.args.tokens.now c.in_ok-written.written c.in_ok-written.rest.now (omega arith) c.in_ok-written.ensures) c.defined.ensures
+
+pub defined-new-requires : goal.defined-new-requires
+defined-new-requires t c =
+    let few = read_counted c.args.room c.in_ok-rest.rest.now c.in_ok-body.rest.now (body_of c.in_ok-body.body) c.in_ok-body.ensures in
+    omega (arith, few)

@@ -1,7 +1,7 @@
 use Rattle.std.proofs.Common.{◌≡◌, suc, ◌+◌, ◌*◌, length}
 use Rattle.token_reader.specs.inner.Reader.{many, with_list}
 use Rattle.spec_parser.specs.inner.Reading.{type_in, within, definitions_of, a_body, block}
-use Rattle.spec_parser.specs.inner.Gives.{join_definitions}
+use Rattle.syntax_tree.specs.inner.Joins.{join_definitions}
 use Rattle.spec_parser.proofs.definition.+body.Given as goal
 
 abbrev pub decreases-body : goal.decreases-body

@@ -1,6 +1,6 @@
 use Rattle.std.proofs.Common.{arith}
 use Rattle.std.proofs.lemmas.Result.{err_from_is_err_and}
-use Rattle.spec_parser.specs.inner.Shape.{param_of}
+use Rattle.syntax_tree.specs.inner.OneLevel.{param_of}
 use Rattle.spec_parser.proofs.ItemLoops.{param_shorter, param_passes, param_fails, params_end, params_empty}
 use Rattle.spec_parser.proofs.definition.more_params.Goals as goal
 use Rattle.spec_parser.proofs.definition.more_params.Goals.{in-Some+then-not-fits, in_default}

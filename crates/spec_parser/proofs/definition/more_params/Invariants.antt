@@ -1,7 +1,7 @@
 use Rattle.std.proofs.Common.{◌≡◌, length}
 use Rattle.token_reader.specs.inner.Reader.{many, with_list}
 use Rattle.spec_parser.specs.inner.Reading.{type_in, other_params_of}
-use Rattle.spec_parser.specs.inner.Gives.{join_params}
+use Rattle.syntax_tree.specs.inner.Joins.{join_params}
 use Rattle.spec_parser.proofs.definition.more_params.Given as goal
 
 abbrev pub invariant-params : goal.invariant-params

@@ -1,5 +1,6 @@
-use Rattle.std.proofs.Common.{◌-◌, arith}
+use Rattle.std.proofs.Common.{◌-◌, ap, sym, ◌∙◌, arith}
 use Rattle.std.proofs.lemmas.Result.{err_from_is_err_and}
+use Rattle.token_reader.specs.inner.Reader.{Read}
 use Rattle.spec_parser.proofs.TurnLaws.{within_is, no_choice, nothing_left, unit_read, inside_read}
 use Rattle.spec_parser.proofs.LoopLaws.{operand_shorter, link_passes, link_fails, link_ends, links_empty, within_shorter, comma_passes, comma_fails, comma_ends, comma_empty}
 use Rattle.spec_parser.proofs.expression.+parser.Goals as goal
@@ -56,7 +57,9 @@ pub parens-returns-in-None : goal.parens-returns-in-None
 parens-returns-in-None t c = rw (nothing_left c.args.room c.args.place c.args.tokens.now (omega arith) c.in-None.ensures.cases) c.inside.ensures
 
 pub parens-returns-then-fits : goal.parens-returns-then-fits
-parens-returns-then-fits t c = unit_read c.args.room c.args.place c.args.tokens.now (omega arith) c.in-Some.token.now c.in-Some.rest.now c.in-Some.ensures.cases.0 c.if-fits.ensures
+parens-returns-then-fits t c =
+    unit_read c.args.room c.args.place c.args.tokens.now (omega arith) c.in-Some.token.now c.in-Some.rest.now c.in-Some.ensures.cases.0 c.if-fits.ensures
+    ∙ ap (λ e. Read e c.in-Some.rest.now) (sym c.new.ensures)
 
 pub parens-returns-else-fits : goal.parens-returns-else-fits
 parens-returns-else-fits t c = rw (inside_read c.args.room c.args.place c.args.tokens.now (omega arith) c.in-Some.token.now c.in-Some.rest.now c.in-Some.ensures.cases.0 c.if-fits.ensures) c.inside-else-fits.ensures

@@ -1,10 +1,10 @@
 use Rattle.std.proofs.Common.{◌≡◌, ℕ, ◌+◌, ◌*◌, length}
 use Rattle.token_reader.specs.inner.Reader.{many, with_list}
-use Rattle.spec_parser.specs.declared.tree.Level.{Level}
-use Rattle.spec_parser.specs.declared.tree.Level.TheVariants as level
-use Rattle.spec_parser.specs.inner.Shape.{links_in}
+use Rattle.syntax_tree.specs.declared.tree.Level.{Level}
+use Rattle.syntax_tree.specs.declared.tree.Level.TheVariants as level
+use Rattle.syntax_tree.specs.inner.OneLevel.{links_in}
 use Rattle.spec_parser.specs.inner.Reading.{links_of, others_of, within, operand_at}
-use Rattle.spec_parser.specs.inner.Gives.{join_exprs, join_links}
+use Rattle.syntax_tree.specs.inner.Joins.{join_exprs, join_links}
 use Rattle.spec_parser.proofs.expression.+parser.Given as goal
 
 -- weaker levels call stronger ones

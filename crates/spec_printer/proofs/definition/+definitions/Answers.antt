@@ -1,8 +1,9 @@
 use Rattle.std.proofs.Common.{rules, refl, take}
-use Rattle.spec_parser.specs.inner.Shape.{definitions_of}
+use Rattle.tsl_value.proofs.Results.{on_err}
+use Rattle.syntax_tree.specs.inner.OneLevel.{definitions_of}
 use Rattle.spec_printer.specs.inner.Print.{definition_marks, definitions_marks}
-use Rattle.spec_printer.proofs.Joined.{kept, on_err}
-use Rattle.spec_parser.proofs.Sizes.{definition_smaller}
+use Rattle.spec_printer.proofs.Joined.{kept}
+use Rattle.syntax_tree.proofs.Sizes.{definition_smaller}
 use Rattle.spec_printer.proofs.Turns.{definitions_turn}
 use Rattle.spec_printer.proofs.definition.+definitions.Goals as goal
 

@@ -1,5 +1,5 @@
 use Rattle.std.proofs.Common.{◌≡◌, ◌+◌, ◌*◌, ◌++◌, take}
-use Rattle.spec_parser.specs.inner.Shape.{body_of, definition_of, definitions_of, size_of_definition, size_of_body, size_of_definitions}
+use Rattle.syntax_tree.specs.inner.OneLevel.{body_of, definition_of, definitions_of, size_of_definition, size_of_body, size_of_definitions}
 use Rattle.spec_printer.specs.inner.Marks.{text_of}
 use Rattle.spec_printer.specs.inner.Print.{definitions_marks}
 use Rattle.spec_printer.proofs.definition.+definitions.Given as goal

@@ -1,10 +1,11 @@
 use Rattle.std.specs.Prelude.{[], ◌∷◌, take}
 use Rattle.std.proofs.lemmas.Result.{on_err_weaker}
+use Rattle.tsl_value.proofs.Results.{on_err}
 use Rattle.spec_lexer.specs.declared.token.Symbol.TheVariants as symbol
-use Rattle.spec_parser.specs.inner.Shape.{params_in}
+use Rattle.syntax_tree.specs.inner.OneLevel.{params_in}
 use Rattle.spec_printer.specs.inner.Marks as mark
 use Rattle.spec_printer.specs.inner.Print.{param_marks_after}
-use Rattle.spec_printer.proofs.Joined.{kept, on_err}
+use Rattle.spec_printer.proofs.Joined.{kept}
 use Rattle.spec_printer.proofs.Turns.{params_turn}
 use Rattle.spec_printer.proofs.definition.put_params.Goals as goal
 

@@ -1,6 +1,6 @@
 use Rattle.std.proofs.Common.{◌≡◌, ◌++◌, take}
 use Rattle.spec_lexer.specs.declared.token.Symbol.TheVariants as symbol
-use Rattle.spec_parser.specs.inner.Shape.{params_in}
+use Rattle.syntax_tree.specs.inner.OneLevel.{params_in}
 use Rattle.spec_printer.specs.inner.Marks.{text_of}
 use Rattle.spec_printer.specs.inner.Print.{param_marks_after}
 use Rattle.spec_printer.proofs.Turns.{separator}

@@ -1,12 +1,13 @@
 use Rattle.std.proofs.Common.{rules, [], ◌∷◌, take}
 use Rattle.std.proofs.lemmas.Result.{on_err_weaker}
+use Rattle.tsl_value.proofs.Results.{on_err}
 use Rattle.spec_lexer.specs.declared.token.Symbol.TheVariants as symbol
-use Rattle.spec_parser.specs.inner.Shape.{exprs_of, links_in}
+use Rattle.syntax_tree.specs.inner.OneLevel.{exprs_of, links_in}
 use Rattle.spec_printer.specs.inner.Marks as mark
 use Rattle.spec_printer.specs.inner.Print.{link_marks, expr_marks_after}
 use Rattle.spec_printer.proofs.Anywhere.{marks_of_node}
-use Rattle.spec_printer.proofs.Joined.{kept, on_err}
-use Rattle.spec_parser.proofs.Sizes.{argument_smaller, link_smaller}
+use Rattle.spec_printer.proofs.Joined.{kept}
+use Rattle.syntax_tree.proofs.Sizes.{argument_smaller, link_smaller}
 use Rattle.spec_printer.proofs.Turns.{arguments_turn, links_turn}
 use Rattle.spec_printer.proofs.expression.+printer.Goals as goal
 

@@ -1,6 +1,6 @@
 use Rattle.std.proofs.Common.{◌≡◌, ◌+◌, ◌*◌, ◌++◌, take}
 use Rattle.spec_lexer.specs.declared.token.Symbol.TheVariants as symbol
-use Rattle.spec_parser.specs.inner.Shape.{exprs_of, links_in, expr_of, size_of, size_of_exprs, size_of_links}
+use Rattle.syntax_tree.specs.inner.OneLevel.{exprs_of, links_in, expr_of, size_of, size_of_exprs, size_of_links}
 use Rattle.spec_printer.specs.inner.Same.{nowhere}
 use Rattle.spec_printer.specs.inner.Marks.{text_of}
 use Rattle.spec_printer.specs.inner.Print.{link_marks, expr_marks_after}

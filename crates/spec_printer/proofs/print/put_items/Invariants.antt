@@ -1,5 +1,5 @@
 use Rattle.std.proofs.Common.{◌≡◌, ◌++◌, map, take}
-use Rattle.spec_parser.specs.inner.Shape.{item_of}
+use Rattle.syntax_tree.specs.inner.OneLevel.{item_of}
 use Rattle.spec_printer.specs.inner.Print.{source_of}
 use Rattle.spec_printer.proofs.print.put_items.Given as goal
 

@@ -1,5 +1,5 @@
 use Rattle.std.proofs.Common.{◌+◌, ◌*◌}
-use Rattle.spec_parser.specs.inner.Shape.{type_of, size_of_type}
+use Rattle.syntax_tree.specs.inner.OneLevel.{type_of, size_of_type}
 use Rattle.spec_printer.specs.inner.Same.{nowhere}
 use Rattle.spec_printer.proofs.type_name.+types.Given as goal
 

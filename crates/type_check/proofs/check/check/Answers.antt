@@ -1,4 +1,4 @@
-use Rattle.spec_parser.specs.inner.Shape.{items_of}
+use Rattle.syntax_tree.specs.inner.OneLevel.{items_of}
 use Rattle.expr_types.specs.inner.Shown.{kinds_of}
 use Rattle.type_check.proofs.LawLemmas.{only_accepted, only_fault}
 use Rattle.type_check.proofs.check.check.Goals as goal

@@ -1,7 +1,7 @@
 use Rattle.std.specs.Prelude.{map}
 use Rattle.std.proofs.Common.{subst}
 use Rattle.std.proofs.lemmas.Result.{err_from_is_err_and}
-use Rattle.spec_parser.specs.inner.Shape.{item_of, items_of}
+use Rattle.syntax_tree.specs.inner.OneLevel.{item_of, items_of}
 use Rattle.expr_types.specs.Bodies.{AreKinds}
 use Rattle.expr_types.specs.inner.Shown.{kinds_of}
 use Rattle.type_check.proofs.CheckLemmas.{from_names, from_forms, from_cycle, from_late}

@@ -1,5 +1,5 @@
 use Rattle.std.proofs.Common.{map}
-use Rattle.spec_parser.specs.inner.Shape.{item_of}
+use Rattle.syntax_tree.specs.inner.OneLevel.{item_of}
 use Rattle.expr_types.specs.inner.Shown.{kinds_of}
 use Rattle.type_check.proofs.KindLemmas.{nothing_else, are_kinds}
 use Rattle.type_check.proofs.kinds.find_kinds.Goals as goal

@@ -1,5 +1,5 @@
 use Rattle.std.proofs.Common.{◌≡◌, ◌++◌, map, drop}
-use Rattle.spec_parser.specs.inner.Shape.{item_of}
+use Rattle.syntax_tree.specs.inner.OneLevel.{item_of}
 use Rattle.type_check.specs.inner.Slots.{slots, slots_from}
 use Rattle.type_check.proofs.slot.slots_of.Given as goal
 

@@ -1,5 +1,5 @@
 use Rattle.std.proofs.Common.{map, ◌∙◌}
-use Rattle.spec_parser.specs.inner.Shape.{item_of}
+use Rattle.syntax_tree.specs.inner.OneLevel.{item_of}
 use Rattle.call_limits.proofs.CallLemmas.{macros_are, functions_are, small_kept, small_outputs}
 use Rattle.call_limits.proofs.calls.Calls.of_items.Goals as goal
 

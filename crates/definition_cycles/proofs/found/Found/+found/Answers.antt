@@ -1,8 +1,9 @@
-use Rattle.std.proofs.Common.{rules, sym, ap, ◌∙◌}
-use Rattle.spec_parser.specs.Tree as tree
-use Rattle.spec_parser.specs.inner.Shape.{params_in, body_of, definition_of}
+use Rattle.std.proofs.Common.{rules, sym, ap, ◌∙◌, arith}
+use Rattle.syntax_tree.specs.Tree as tree
+use Rattle.syntax_tree.specs.inner.OneLevel.{params_in, body_of, definition_of}
 use Rattle.name_check.specs.Scope.{seen}
-use Rattle.spec_parser.proofs.Sizes.{definition_smaller}
+use Rattle.syntax_tree.proofs.Sizes.{definition_smaller}
+use Rattle.name_check.proofs.CountLemmas.{next_counted}
 use Rattle.std.proofs.lemmas.Result.{on_ok_weaker}
 use Rattle.definition_cycles.specs.Nodes.{definition_nodes}
 use Rattle.definition_cycles.specs.inner.Walk.{with_nodes}
@@ -11,19 +12,28 @@ use Rattle.definition_cycles.proofs.found.Found.+found.Goals as goal
 
 pub add_block-add_definition-requires : goal.add_block-add_definition-requires
 add_block-add_definition-requires t c =
-    let smaller = definition_smaller c.args.definitions.now c.loop-definition.definition-index c.definition-item.result (definition_of c.parts-parts.result.now) c.loop-definition-test.true c.definition-item.is c.parts-parts.ensures in
-    search rules
+    let smaller = definition_smaller c.args.definitions.now c.loop-definition.definition-index c.definition-item.result (definition_of c.parts-parts.result.now) c.loop-definition-test.true c.definition-item.is c.parts-parts.ensures.is in
+    let next = next_counted c.args.definitions.now c.loop-definition.definition-index c.definition-item.result (definition_of c.parts-parts.result.now) c.loop-definition-test.true c.definition-item.is c.parts-parts.ensures.is in
+    (search rules, omega (arith, next, c.loop-definition.invariant.counted, c.requires))
+
+pub add_block-number_after-behind-requires : goal.add_block-number_after-behind-requires
+add_block-number_after-behind-requires t c =
+    let next = next_counted c.args.definitions.now c.loop-definition.definition-index c.definition-item.result (definition_of c.parts-parts.result.now) c.loop-definition-test.true c.definition-item.is c.parts-parts.ensures.is in
+    omega (arith, next, c.loop-definition.invariant.counted, c.requires)
 
 pub add_block-loop-definition-preserved : goal.add_block-loop-definition-preserved
 add_block-loop-definition-preserved t c =
-    block_turn c.args.definitions.now c.loop-definition.definition-index c.definition-item.result (definition_of c.parts-parts.result.now) c.args.item c.loop-definition.number c.in_ok-behind.behind (seen c.args.scope.now) c.loop-definition.self c.add_definition.new.self _ c.loop-definition-test.true c.definition-item.is c.parts-parts.ensures
-    c.in_ok-behind.ensures
-    c.loop-definition.invariant
-    c.in_ok-add_definition.ensures
+    let next = next_counted c.args.definitions.now c.loop-definition.definition-index c.definition-item.result (definition_of c.parts-parts.result.now) c.loop-definition-test.true c.definition-item.is c.parts-parts.ensures.is in record {
+      added = block_turn c.args.definitions.now c.loop-definition.definition-index c.definition-item.result (definition_of c.parts-parts.result.now) c.args.item c.loop-definition.number c.number_after-behind.result (seen c.args.scope.now) c.loop-definition.self c.add_definition.new.self _ c.loop-definition-test.true c.definition-item.is c.parts-parts.ensures.is
+          c.number_after-behind.ensures
+          c.loop-definition.invariant.added
+          c.in_ok-add_definition.ensures;
+      counted = omega (arith, next, c.loop-definition.invariant.counted, c.number_after-behind.ensures);
+    }
 
 pub add_block-returns : goal.add_block-returns
 add_block-returns t c =
-    block_end c.args.definitions.now c.loop-definition.definition-index c.args.item c.loop-definition.number (seen c.args.scope.now) c.loop-definition.self _ c.loop-definition-test.false c.loop-definition.invariant
+    block_end c.args.definitions.now c.loop-definition.definition-index c.args.item c.loop-definition.number (seen c.args.scope.now) c.loop-definition.self _ c.loop-definition-test.false c.loop-definition.invariant.added
 
 pub add_definition-returns-in_ok-add_node-in-Block : goal.add_definition-returns-in_ok-add_node-in-Block
 add_definition-returns-in_ok-add_node-in-Block t c =

@@ -1,5 +1,5 @@
 use Rattle.std.proofs.lemmas.Result.{on_ok_weaker}
-use Rattle.spec_parser.specs.inner.Shape.{definition_of}
+use Rattle.syntax_tree.specs.inner.OneLevel.{definition_of}
 use Rattle.definition_cycles.proofs.FoundLemmas.{top_learned}
 use Rattle.definition_cycles.proofs.found.Found.add_top.Goals as goal
 

@@ -1,5 +1,5 @@
 use Rattle.std.proofs.Common.{◌≡◌, length, map, ap}
-use Rattle.spec_parser.specs.inner.Shape.{item_of}
+use Rattle.syntax_tree.specs.inner.OneLevel.{item_of}
 use Rattle.name_check.specs.Scope.{top}
 use Rattle.definition_cycles.specs.Nodes.{item_nodes}
 use Rattle.definition_cycles.specs.inner.Walk.{with_nodes}

@@ -1,6 +1,6 @@
 use Rattle.std.proofs.Common.{ap, ◌∙◌, length, arith}
 use Rattle.definition_cycles.proofs.EdgeLemmas.{untyped_edges, heads_are, heads_length}
-use Rattle.spec_parser.specs.inner.Shape.{item_of}
+use Rattle.syntax_tree.specs.inner.OneLevel.{item_of}
 use Rattle.std.specs.Prelude.{map}
 use Rattle.definition_cycles.proofs.untyped.Untyped.of_items.Goals as goal
 

@@ -1,6 +1,6 @@
 -- What the parts of the check answer.
 use Rattle.std.specs.Prelude.{◌≡◌, List, Some}
-use Rattle.spec_parser.specs.Tree as tree
+use Rattle.syntax_tree.specs.Tree as tree
 use Rattle.type_check.specs.declared.fault.TypeFault.{TypeFault}
 use Rattle.type_check.specs.declared.fault.TypeFault.TheVariants as fault
 use Rattle.type_check.specs.Faults.{first_fault, IsCycleFault}

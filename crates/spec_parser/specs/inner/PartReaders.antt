@@ -1,8 +1,8 @@
 -- Readers of parts of constructs, as single functions of the parser read them.
 use Rattle.std.specs.Prelude.{Option, Some, None}
 use Rattle.token_reader.specs.inner.Reader.{Unexpected, give, refuse, ◌>>=◌}
-use Rattle.spec_parser.specs.Tree as tree
-use Rattle.spec_parser.specs.Tree.{Body, Expr}
+use Rattle.syntax_tree.specs.Tree as tree
+use Rattle.syntax_tree.specs.Tree.{Body, Expr}
 use Rattle.spec_parser.specs.inner.Reading.{Reader}
 
 -- a body without braces

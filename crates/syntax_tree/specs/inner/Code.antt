@@ -3,20 +3,20 @@ use Rattle.std.specs.Prelude.{◌≡◌, ◌⊎◌, ℕ, zero, suc, Bool, true, 
 use Rattle.std.proofs.Common.{ap, ◌∙◌, inl, inr}
 use Rattle.std.specs.Coded.{Coded, code_by, coded_list, coded_option, coded⊎, coded_ℕ}
 use Rattle.tsl_value.specs.declared.place.Place.{Place}
-use Rattle.spec_parser.specs.declared.tree.Level.{Level}
-use Rattle.spec_parser.specs.declared.tree.Level.TheVariants as level
-use Rattle.spec_parser.specs.declared.tree.Operator.{Operator}
-use Rattle.spec_parser.specs.declared.tree.Operator.TheVariants as operator
-use Rattle.spec_parser.specs.declared.tree.Comparison.{Comparison}
-use Rattle.spec_parser.specs.declared.tree.Comparison.TheVariants as comparison
+use Rattle.syntax_tree.specs.declared.tree.Level.{Level}
+use Rattle.syntax_tree.specs.declared.tree.Level.TheVariants as level
+use Rattle.syntax_tree.specs.declared.tree.Operator.{Operator}
+use Rattle.syntax_tree.specs.declared.tree.Operator.TheVariants as operator
+use Rattle.syntax_tree.specs.declared.tree.Comparison.{Comparison}
+use Rattle.syntax_tree.specs.declared.tree.Comparison.TheVariants as comparison
 use Rattle.vocabulary.specs.declared.dotted.Dotted.{Dotted}
 use Rattle.vocabulary.specs.declared.dotted.Dotted.TheVariants as dotted
 use Rattle.vocabulary.specs.contracts.dotted.Dotted as dotted_row
-use Rattle.spec_parser.specs.contracts.tree.Level as level_row
-use Rattle.spec_parser.specs.contracts.tree.Operator as operator_row
-use Rattle.spec_parser.specs.contracts.tree.Comparison as comparison_row
-use Rattle.spec_parser.specs.Tree as tree
-use Rattle.spec_parser.specs.Tree.{TypeName, Expr, Exprs, no_exprs, Links, no_links, Param, Body, Definition, Definitions}
+use Rattle.syntax_tree.specs.contracts.tree.Level as level_row
+use Rattle.syntax_tree.specs.contracts.tree.Operator as operator_row
+use Rattle.syntax_tree.specs.contracts.tree.Comparison as comparison_row
+use Rattle.syntax_tree.specs.Tree as tree
+use Rattle.syntax_tree.specs.Tree.{TypeName, Expr, Exprs, no_exprs, Links, no_links, Param, Body, Definition, Definitions}
 
 -- a level, an operator, a comparison, or a function with a dot
 abbrev pub Word : Type 0

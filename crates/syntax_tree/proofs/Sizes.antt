@@ -1,12 +1,12 @@
 -- Parts that are smaller than their list, and sizes that do not hang on places.
 use Rattle.std.proofs.Common.{◌≡◌, ℕ, zero, suc, ◌<◌, ◌≤◌, List, [], ◌∷◌, ◌++◌, length, get_or, refl, sym, ap, ◌∙◌, arith}
 use Rattle.tsl_value.specs.declared.place.Place.{Place}
-use Rattle.spec_parser.specs.Tree as tree
-use Rattle.spec_parser.specs.Tree.{Expr, place_of}
-use Rattle.spec_parser.specs.declared.tree.Link.{Link}
-use Rattle.spec_parser.specs.declared.tree.Node.{Node}
-use Rattle.spec_parser.specs.declared.tree.Node.TheVariants as node
-use Rattle.spec_parser.specs.inner.Shape.{exprs_of, links_in, expr_of, definitions_of, size_of, size_of_exprs, size_of_links, size_of_definition, size_of_definitions}
+use Rattle.syntax_tree.specs.Tree as tree
+use Rattle.syntax_tree.specs.Tree.{Expr, place_of}
+use Rattle.syntax_tree.specs.declared.tree.Link.{Link}
+use Rattle.syntax_tree.specs.declared.tree.Node.{Node}
+use Rattle.syntax_tree.specs.declared.tree.Node.TheVariants as node
+use Rattle.syntax_tree.specs.inner.OneLevel.{exprs_of, links_in, expr_of, definitions_of, size_of, size_of_exprs, size_of_links, size_of_definition, size_of_definitions}
 
 argument_within : (es : List Expr) (i : ℕ) (d : Expr) → i < length es → size_of (get_or es i d) < size_of_exprs (exprs_of es)
 argument_within [] i d h = absurd (omega arith)

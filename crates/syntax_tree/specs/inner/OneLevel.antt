@@ -1,20 +1,20 @@
 -- One level of a tree.
 use Rattle.std.specs.Prelude.{◌≡◌, ℕ, ◌+◌, List, [], ◌∷◌, map, refl}
 use Rattle.tsl_value.specs.declared.place.Place.{Place}
-use Rattle.spec_parser.specs.Tree as tree
-use Rattle.spec_parser.specs.Tree.{TypeName, Expr, Exprs, no_exprs, more_exprs, Links, no_links, more_links, place_of}
-use Rattle.spec_parser.specs.declared.tree.TypeShape.{TypeShape}
-use Rattle.spec_parser.specs.declared.tree.TypeShape.TheVariants as shape
-use Rattle.spec_parser.specs.declared.tree.Node.{Node}
-use Rattle.spec_parser.specs.declared.tree.Node.TheVariants as node
-use Rattle.spec_parser.specs.declared.tree.Link.{Link}
-use Rattle.spec_parser.specs.declared.tree.Param.{Param}
-use Rattle.spec_parser.specs.declared.tree.DefinitionParts.{DefinitionParts}
-use Rattle.spec_parser.specs.declared.tree.Body.{Body}
-use Rattle.spec_parser.specs.declared.tree.Body.TheVariants as body
-use Rattle.spec_parser.specs.declared.tree.Item.{Item}
-use Rattle.spec_parser.specs.declared.tree.Item.TheVariants as item
-use Rattle.spec_parser.specs.declared.tree.Tree.{Tree}
+use Rattle.syntax_tree.specs.Tree as tree
+use Rattle.syntax_tree.specs.Tree.{TypeName, Expr, Exprs, no_exprs, more_exprs, Links, no_links, more_links, place_of}
+use Rattle.syntax_tree.specs.declared.tree.TypeShape.{TypeShape}
+use Rattle.syntax_tree.specs.declared.tree.TypeShape.TheVariants as shape
+use Rattle.syntax_tree.specs.declared.tree.Node.{Node}
+use Rattle.syntax_tree.specs.declared.tree.Node.TheVariants as node
+use Rattle.syntax_tree.specs.declared.tree.Link.{Link}
+use Rattle.syntax_tree.specs.declared.tree.Param.{Param}
+use Rattle.syntax_tree.specs.declared.tree.DefinitionParts.{DefinitionParts}
+use Rattle.syntax_tree.specs.declared.tree.Body.{Body}
+use Rattle.syntax_tree.specs.declared.tree.Body.TheVariants as body
+use Rattle.syntax_tree.specs.declared.tree.Item.{Item}
+use Rattle.syntax_tree.specs.declared.tree.Item.TheVariants as item
+use Rattle.syntax_tree.specs.declared.tree.Tree.{Tree}
 
 abbrev pub type_of : Place → TypeShape → TypeName
 type_of p shape.Unit = tree.UnitType p

@@ -1,11 +1,11 @@
 -- Where types begin.
 use Rattle.std.specs.Prelude.{◌≡◌, refl}
 use Rattle.tsl_value.specs.declared.place.Place.{Place}
-use Rattle.spec_parser.specs.Tree as tree
-use Rattle.spec_parser.specs.Tree.{TypeName}
-use Rattle.spec_parser.specs.inner.Shape.{type_of}
-use Rattle.spec_parser.specs.declared.tree.TypeShape.{TypeShape}
-use Rattle.spec_parser.specs.declared.tree.TypeShape.TheVariants as shape
+use Rattle.syntax_tree.specs.Tree as tree
+use Rattle.syntax_tree.specs.Tree.{TypeName}
+use Rattle.syntax_tree.specs.inner.OneLevel.{type_of}
+use Rattle.syntax_tree.specs.declared.tree.TypeShape.{TypeShape}
+use Rattle.syntax_tree.specs.declared.tree.TypeShape.TheVariants as shape
 
 abbrev pub type_place : TypeName → Place
 type_place (tree.UnitType p) = p

@@ -1,9 +1,10 @@
 // The tree of a specification.
 
 ghost use Rattle.std.specs.Prelude.{◌≡◌, map};
-ghost use Rattle.spec_parser.specs.Tree.{place_of};
-ghost use Rattle.spec_parser.specs.Places.{type_place};
-ghost use Rattle.spec_parser.specs.inner.Shape.{type_of, expr_of, definition_of, item_of, items_of};
+ghost use Rattle.syntax_tree.specs.Tree.{place_of};
+ghost use Rattle.syntax_tree.specs.Counts.{HasFewInside};
+ghost use Rattle.syntax_tree.specs.Places.{type_place};
+ghost use Rattle.syntax_tree.specs.inner.OneLevel.{type_of, expr_of, body_of, definition_of, item_of, items_of};
 
 use spec_lexer::natural::Natural;
 use std::marker::Model;
@@ -45,8 +46,8 @@ pub enum Comparison {
 #[cycle(types)]
 #[derive(Drop)]
 pub struct TypeName {
-    pub(crate) place: Place,
-    pub(crate) shape: TypeShape,
+    place: Place,
+    shape: TypeShape,
 }
 
 #[cycle(types)]
@@ -63,27 +64,33 @@ pub enum TypeShape {
 }
 
 impl Model for TypeName {
-    ghost use Rattle.spec_parser.specs.Tree.{TypeName as Tree};
-    ghost use Rattle.spec_parser.specs.inner.Code.{type_code};
+    ghost use Rattle.syntax_tree.specs.Tree.{TypeName as TypeTree};
+    ghost use Rattle.syntax_tree.specs.inner.Code.{type_code};
 
-    ghost Value = { Tree };
+    ghost Value = { TypeTree };
 
     ghost coded = { type_code };
 
-    ghost use Rattle.spec_parser.specs.inner.Shape.{type_of, size_of_type};
+    ghost use Rattle.syntax_tree.specs.inner.OneLevel.{type_of, size_of_type};
 
     ghost view = { λ t. type_of t.place t.shape };
 
     ghost size = { size_of_type };
 
     ghost use Rattle.std.proofs.Common.{arith};
-    ghost use Rattle.spec_parser.specs.inner.Falls.{type_falls};
+    ghost use Rattle.syntax_tree.specs.inner.Falls.{type_falls};
 
     ghost size_decreases = { λ a h. Prim.grind (arith, type_falls a.place a.shape) };
 }
 
 #[tactic(auto, using(crate::specs::Places::type_place_again))]
 impl TypeName {
+    pub fn new(place: Place, shape: TypeShape) -> TypeName
+        ensures { result ≡ type_of place shape }
+    {
+        TypeName { place, shape }
+    }
+
     /// The place of the first token.
     pub fn place(&self) -> Place
         ensures { result ≡ type_place self.now }
@@ -102,8 +109,8 @@ impl TypeName {
 #[cycle(tree)]
 #[derive(Drop)]
 pub struct Expr {
-    pub(crate) place: Place,
-    pub(crate) node: Node,
+    place: Place,
+    node: Node,
 }
 
 #[cycle(tree)]
@@ -140,27 +147,33 @@ pub struct Link {
 }
 
 impl Model for Expr {
-    ghost use Rattle.spec_parser.specs.Tree.{Expr as Tree};
-    ghost use Rattle.spec_parser.specs.inner.Code.{expr_code};
+    ghost use Rattle.syntax_tree.specs.Tree.{Expr as ExprTree};
+    ghost use Rattle.syntax_tree.specs.inner.Code.{expr_code};
 
-    ghost Value = { Tree };
+    ghost Value = { ExprTree };
 
     ghost coded = { expr_code };
 
-    ghost use Rattle.spec_parser.specs.inner.Shape.{expr_of, size_of};
+    ghost use Rattle.syntax_tree.specs.inner.OneLevel.{expr_of, size_of};
 
     ghost view = { λ e. expr_of e.place e.node };
 
     ghost size = { size_of };
 
     ghost use Rattle.std.proofs.Common.{arith};
-    ghost use Rattle.spec_parser.specs.inner.Falls.{node_falls};
+    ghost use Rattle.syntax_tree.specs.inner.Falls.{node_falls};
 
     ghost size_decreases = { λ a h. Prim.grind (arith, node_falls a.place a.node) };
 }
 
-#[tactic(auto, using(crate::specs::inner::Shape::place_again))]
+#[tactic(auto, using(crate::specs::inner::OneLevel::place_again))]
 impl Expr {
+    pub fn new(place: Place, node: Node) -> Expr
+        ensures { result ≡ expr_of place node }
+    {
+        Expr { place, node }
+    }
+
     /// The place of the first token.
     pub fn place(&self) -> Place
         ensures { result ≡ place_of self.now }
@@ -172,6 +185,12 @@ impl Expr {
         ensures { expr_of (place_of self.now) result.now ≡ self.now }
     {
         &self.node
+    }
+
+    pub fn into_node(self) -> Node
+        ensures { expr_of (place_of self) result ≡ self }
+    {
+        self.node
     }
 }
 
@@ -187,7 +206,7 @@ pub struct Param {
 #[cycle(definitions)]
 #[derive(Drop)]
 pub struct Definition {
-    pub(crate) parts: DefinitionParts,
+    parts: DefinitionParts,
 }
 
 #[cycle(definitions)]
@@ -210,28 +229,39 @@ pub enum Body {
 }
 
 impl Model for Definition {
-    ghost use Rattle.spec_parser.specs.Tree.{Definition as Tree};
-    ghost use Rattle.spec_parser.specs.inner.Code.{definition_code};
+    ghost use Rattle.syntax_tree.specs.Tree.{Definition as DefinitionTree};
+    ghost use Rattle.syntax_tree.specs.inner.Code.{definition_code};
 
-    ghost Value = { Tree };
+    ghost Value = { DefinitionTree };
 
     ghost coded = { definition_code };
 
-    ghost use Rattle.spec_parser.specs.inner.Shape.{definition_of, size_of_definition};
+    ghost use Rattle.syntax_tree.specs.inner.OneLevel.{body_of, definition_of, size_of_definition};
+    ghost use Rattle.syntax_tree.specs.Counts.{HasFewInside};
 
     ghost view = { λ d. definition_of d.parts };
+
+    ghost invariant = { λ d. HasFewInside (body_of d.parts.body) };
 
     ghost size = { size_of_definition };
 
     ghost use Rattle.std.proofs.Common.{arith};
-    ghost use Rattle.spec_parser.specs.inner.Falls.{definition_falls};
+    ghost use Rattle.syntax_tree.specs.inner.Falls.{definition_falls};
 
     ghost size_decreases = { λ a h. Prim.grind (arith, definition_falls a.parts) };
 }
 
 impl Definition {
+    pub fn new(parts: DefinitionParts) -> Definition
+        requires { HasFewInside (body_of parts.body) }
+        ensures { result ≡ definition_of parts }
+    {
+        Definition { parts }
+    }
+
     pub fn parts(&self) -> &DefinitionParts
-        ensures { definition_of result.now ≡ self.now }
+        ensures is { definition_of result.now ≡ self.now }
+        ensures few { HasFewInside (body_of result.now.body) }
     {
         &self.parts
     }
@@ -250,7 +280,7 @@ pub enum Item {
 }
 
 impl Item {
-    ghost use Rattle.spec_parser.specs.Places.{first_place};
+    ghost use Rattle.syntax_tree.specs.Places.{first_place};
 
     /// The place of the item's first token.
     pub fn place(&self) -> Place
@@ -268,11 +298,17 @@ impl Item {
 /// The items of a specification, and where its source ends.
 #[derive(Drop)]
 pub struct Tree {
-    pub(crate) items: Vec<Item>,
-    pub(crate) end: Place,
+    items: Vec<Item>,
+    end: Place,
 }
 
 impl Tree {
+    pub fn new(items: Vec<Item>, end: Place) -> Tree
+        ensures { result ≡ record { items = items; end = end } }
+    {
+        Tree { items, end }
+    }
+
     /// All of them, in the order of the source.
     pub fn items(&self) -> &[Item]
         ensures { map item_of result.now ≡ items_of self.now }

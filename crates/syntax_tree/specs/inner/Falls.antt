@@ -3,21 +3,21 @@ use Rattle.std.specs.Prelude.{◌+◌, ◌≤◌, List, [], ◌∷◌}
 use Rattle.std.proofs.Common.{arith}
 use denote.Param.Weighed.{most}
 use Rattle.tsl_value.specs.declared.place.Place.{Place}
-use Rattle.spec_parser.specs.Tree.{Expr}
-use Rattle.spec_parser.specs.declared.tree.Link.{Link}
-use Rattle.spec_parser.specs.inner.Shape.{type_of, size_of_type, expr_of, exprs_of, links_in, size_of, size_of_exprs, size_of_links}
-use Rattle.spec_parser.specs.declared.tree.TypeShape.{TypeShape}
-use Rattle.spec_parser.specs.declared.tree.TypeShape.TheVariants as shape
-use Rattle.spec_parser.specs.declared.tree.TypeName.TheDeep.{deep-TypeShape}
-use Rattle.spec_parser.specs.Tree as tree
-use Rattle.spec_parser.specs.inner.Shape.{body_of, definition_of, definitions_of, size_of_definition, size_of_body, size_of_definitions}
-use Rattle.spec_parser.specs.declared.tree.Body.{Body}
-use Rattle.spec_parser.specs.declared.tree.Body.TheVariants as body
-use Rattle.spec_parser.specs.declared.tree.DefinitionParts.{DefinitionParts}
-use Rattle.spec_parser.specs.declared.tree.Definition.TheDeep.{deep-DefinitionParts, deep-Body}
-use Rattle.spec_parser.specs.declared.tree.Node.{Node}
-use Rattle.spec_parser.specs.declared.tree.Node.TheVariants as node
-use Rattle.spec_parser.specs.declared.tree.Expr.TheDeep.{deep-Node, deep-Link}
+use Rattle.syntax_tree.specs.Tree.{Expr}
+use Rattle.syntax_tree.specs.declared.tree.Link.{Link}
+use Rattle.syntax_tree.specs.inner.OneLevel.{type_of, size_of_type, expr_of, exprs_of, links_in, size_of, size_of_exprs, size_of_links}
+use Rattle.syntax_tree.specs.declared.tree.TypeShape.{TypeShape}
+use Rattle.syntax_tree.specs.declared.tree.TypeShape.TheVariants as shape
+use Rattle.syntax_tree.specs.declared.tree.TypeName.TheDeep.{deep-TypeShape}
+use Rattle.syntax_tree.specs.Tree as tree
+use Rattle.syntax_tree.specs.inner.OneLevel.{body_of, definition_of, definitions_of, size_of_definition, size_of_body, size_of_definitions}
+use Rattle.syntax_tree.specs.declared.tree.Body.{Body}
+use Rattle.syntax_tree.specs.declared.tree.Body.TheVariants as body
+use Rattle.syntax_tree.specs.declared.tree.DefinitionParts.{DefinitionParts}
+use Rattle.syntax_tree.specs.declared.tree.Definition.TheDeep.{deep-DefinitionParts, deep-Body}
+use Rattle.syntax_tree.specs.declared.tree.Node.{Node}
+use Rattle.syntax_tree.specs.declared.tree.Node.TheVariants as node
+use Rattle.syntax_tree.specs.declared.tree.Expr.TheDeep.{deep-Node, deep-Link}
 
 pub type_falls : (p : Place) (s : TypeShape) → deep-TypeShape s ≤ size_of_type (type_of p s)
 type_falls p shape.Unit = omega arith

@@ -1,9 +1,9 @@
 -- Trees of specifications, without where they lie in memory. Each part begins with its place.
 use Rattle.std.specs.Prelude.{ℕ, List, Bool, Option}
 use Rattle.tsl_value.specs.declared.place.Place.{Place}
-use Rattle.spec_parser.specs.declared.tree.Level.{Level}
-use Rattle.spec_parser.specs.declared.tree.Operator.{Operator}
-use Rattle.spec_parser.specs.declared.tree.Comparison.{Comparison}
+use Rattle.syntax_tree.specs.declared.tree.Level.{Level}
+use Rattle.syntax_tree.specs.declared.tree.Operator.{Operator}
+use Rattle.syntax_tree.specs.declared.tree.Comparison.{Comparison}
 use Rattle.vocabulary.specs.declared.dotted.Dotted.{Dotted}
 
 pub data TypeName : Type 0 where

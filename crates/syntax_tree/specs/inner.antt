@@ -1,0 +1,4 @@
+pub mod Code
+pub mod OneLevel
+pub mod Falls
+pub mod Joins

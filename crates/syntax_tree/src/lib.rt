@@ -1,0 +1,4 @@
+//! The syntax tree of a specification.
+#![tactic(auto)]
+
+pub mod tree;
