@@ -3,10 +3,11 @@ use Rattle.std.proofs.Common.{◌≡◌, ℕ, suc, Bool, true, false, List, [], 
 use Rattle.std.specs.Prelude.{if◌then◌else◌}
 use Rattle.tsl_value.specs.declared.place.Place.{Place}
 use Rattle.tsl_value.specs.declared.scalar.Scalar.TheVariants as scalar
-use Rattle.spec_parser.specs.Tree as tree
-use Rattle.spec_parser.specs.Tree.{Expr, Exprs, no_exprs, more_exprs, Links, no_links, more_links, place_of}
-use Rattle.vocabulary.specs.declared.dotted.Dotted.{Dotted}
-use Rattle.vocabulary.specs.declared.dotted.Dotted.TheVariants as dotted
+use Rattle.syntax_tree.specs.Tree as tree
+use Rattle.syntax_tree.specs.Tree.{Expr, Exprs, no_exprs, more_exprs, Links, no_links, more_links, place_of}
+use Rattle.vocabulary.specs.declared.signature.Role.{Role}
+use Rattle.vocabulary.specs.declared.signature.Role.TheVariants as role
+use Rattle.vocabulary.specs.Table.{role_of}
 use Rattle.name_check.specs.declared.declaration.Declaration.{Declaration}
 use Rattle.name_check.specs.declared.declaration.Declaration.TheVariants as declaration
 use Rattle.name_check.specs.Builtin.{is_lift}
@@ -16,14 +17,13 @@ use Rattle.expr_types.specs.Judge.{type_of}
 use Rattle.expr_types.specs.inner.Alike.{IsAlike}
 use Rattle.expr_types.proofs.AlikeLemmas.{type_alike, names_alike}
 use Rattle.expr_types.proofs.SameLemmas.{moved}
-use Rattle.vocabulary.specs.declared.signature.Update.TheVariants as update
 use Rattle.stream_constructs.specs.Construct.{Construct}
 use Rattle.stream_constructs.specs.Construct as construct
 use Rattle.spec_meaning.specs.Function.{no_tree}
 use Rattle.spec_meaning.specs.Occurrence.{result_of}
 use Rattle.spec_meaning.specs.Shape.{expressions, plain_name, is_delay, is_const, is_filter}
-use Rattle.flatten_rules.specs.Makes.{is_name}
-use Rattle.equation_marks.specs.Marks.{Mark, own_marks, alias_own_marks, marks, each_marks, link_marks, signal_marks, update_marks, varying_count, unless_literal, joined, all_but_last, operands_marks, filter_marks, declared_marks, named_marks, dotted_marks, choice_marks, holds_aggregate, body_marks, block_marks}
+use Rattle.spec_meaning.specs.Makes.{is_name}
+use Rattle.equation_marks.specs.Marks.{Mark, own_marks, alias_own_marks, marks, each_marks, link_marks, signal_marks, update_marks, varying_count, unless_literal, joined, all_but_last, operands_marks, filter_marks, declared_marks, named_marks, role_marks, choice_marks, holds_aggregate, body_marks, block_marks}
 
 -- each name stands for the same in both, and the same is known of it
 pub record AreAlike (at to : Around) : Type 0 where
@@ -50,12 +50,9 @@ module _ (at to : Around) (call : ℕ → List Mark) (h : AreAlike at to) where
       else if is_lift n then joined (all_but_last (same k)) ++ own_marks p (construct.Lift no_tree) (length (all_but_last (same k)))
       else declared k
 
-  dotted_same : (p : Place) (d : Dotted) (es : List Expr) (xs ys : List (List Mark)) → xs ≡ ys → dotted_marks at call p d es xs ≡ dotted_marks to call p d es ys
-  dotted_same p dotted.SetAdd es xs ys same = λ k. operands_marks es (same k) ++ update_marks p update.SetAdd es
-  dotted_same p dotted.SetRemove es xs ys same = λ k. operands_marks es (same k) ++ update_marks p update.SetRemove es
-  dotted_same p dotted.MapAdd es xs ys same = λ k. operands_marks es (same k) ++ update_marks p update.MapAdd es
-  dotted_same p dotted.MapRemove es xs ys same = λ k. operands_marks es (same k) ++ update_marks p update.MapRemove es
-  dotted_same p d es xs ys same = λ k. operands_marks es (same k) ++ signal_marks p es
+  role_same : (p : Place) (r : Role) (es : List Expr) (xs ys : List (List Mark)) → xs ≡ ys → role_marks at call p r es xs ≡ role_marks to call p r es ys
+  role_same p (role.Update o) es xs ys same = λ k. operands_marks es (same k) ++ update_marks p o es
+  role_same p r es xs ys same = λ k. operands_marks es (same k) ++ signal_marks p es
 
   choice_same : (p : Place) (b : Bool) (es : List Expr) → choice_marks at call p b es ≡ choice_marks to call p b es
   choice_same p true es = refl
@@ -80,7 +77,7 @@ module _ (at to : Around) (call : ℕ → List Mark) (h : AreAlike at to) where
     marks_alike (tree.Unit p) = refl
     marks_alike (tree.Name p n) = refl
     marks_alike (tree.Call p n es) = named_same p n (expressions es) (each_marks at call es) (each_marks to call es) (plain_name n) (each_alike es)
-    marks_alike (tree.CallDotted p d es) = dotted_same p d (expressions es) (each_marks at call es) (each_marks to call es) (each_alike es)
+    marks_alike (tree.CallDotted p d es) = role_same p (role_of d) (expressions es) (each_marks at call es) (each_marks to call es) (each_alike es)
     marks_alike (tree.Nil p y) = refl
     marks_alike (tree.None p y) = refl
     marks_alike (tree.EmptySet p y) = refl

@@ -12,11 +12,12 @@ use Rattle.tsl_value.specs.declared.scalar.Scalar.{Scalar}
 use Rattle.tsl_value.specs.declared.scalar.Scalar.TheVariants as scalar
 use Rattle.flat_core.specs.Typed.{unit_type}
 use Rattle.lift_func.specs.declared.body.Unary.TheVariants as unary
-use Rattle.lift_func.specs.Tree.{Tree, One, Two}
-use Rattle.spec_parser.specs.Tree as tree
-use Rattle.spec_parser.specs.Tree.{Expr, Exprs, no_exprs, more_exprs, no_links, more_links, place_of}
-use Rattle.vocabulary.specs.declared.dotted.Dotted.{Dotted}
-use Rattle.vocabulary.specs.declared.dotted.Dotted.TheVariants as dotted
+use Rattle.lift_func.specs.BodyTree.{BodyTree, One, Two}
+use Rattle.syntax_tree.specs.Tree as tree
+use Rattle.syntax_tree.specs.Tree.{Expr, Exprs, no_exprs, more_exprs, no_links, more_links, place_of}
+use Rattle.vocabulary.specs.declared.signature.Role.{Role}
+use Rattle.vocabulary.specs.declared.signature.Role.TheVariants as role
+use Rattle.vocabulary.specs.Table.{role_of}
 use Rattle.name_check.specs.declared.declaration.Declaration.{Declaration}
 use Rattle.name_check.specs.declared.declaration.Declaration.TheVariants as declaration
 use Rattle.name_check.specs.Builtin.{is_unit, is_lift}
@@ -24,20 +25,19 @@ use Rattle.name_check.specs.Scope.{meaning, Agree}
 use Rattle.expr_types.specs.Around.{Around}
 use Rattle.expr_types.specs.Judge.{type_of}
 use Rattle.vocabulary.specs.declared.signature.Update.{Update as UpdateOp}
-use Rattle.vocabulary.specs.declared.signature.Update.TheVariants as update
 use Rattle.stream_constructs.specs.Construct.{Construct, operand_trees}
 use Rattle.stream_constructs.specs.Construct as construct
 use Rattle.stream_constructs.specs.Equations.{choice}
-use Rattle.spec_meaning.specs.Occurrence.{Call, Occurrence, scope_at, stands_for, called}
-use Rattle.spec_meaning.specs.Function.{literal, no_tree, dotted_tree, function_at, function_body, operation_of, comparison_of}
+use Rattle.spec_meaning.specs.Occurrence.{Call, Occurrence, scope_at, stands_for, macro_result}
+use Rattle.spec_meaning.specs.Function.{literal, no_tree, role_tree, function_at, function_body, operation_of, comparison_of}
 use Rattle.spec_meaning.specs.Shape as spec_meaning
-use Rattle.spec_meaning.specs.Shape.{Shape, is_part, expressions, beside, with_parts, signal_of, update_of, operands, left_of, all_but_last, last_operator, last_operand, dotted_shape, plain_name, is_delay, is_const, is_filter, const_shape, filtered_by, filter_shape, same_as, name_shape, declared_shape, lift_by, function_named, lift_shape, call_shape, literal_shape, empty_shape, expr_shape, shape}
-use Rattle.flatten_rules.specs.Makes.{is_own, is_choice, choice_operands}
-use Rattle.equation_marks.specs.Marks.{Mark, own_marks, choice_own_marks, marks, each_marks, joined, unless_literal, operands_marks, signal_marks, update_marks, varying_count, filter_marks, filter_marks_by, declared_marks, named_marks, dotted_marks, choice_marks, holds_aggregate}
+use Rattle.spec_meaning.specs.Shape.{Shape, is_part, expressions, beside, with_parts, signal_of, update_of, operands, left_of, all_but_last, last_operator, last_operand, role_shape, plain_name, is_delay, is_const, is_filter, const_shape, filtered_by, filter_shape, same_as, name_shape, declared_shape, lift_by, function_named, lift_shape, call_shape, literal_shape, empty_shape, expr_shape, shape}
+use Rattle.spec_meaning.specs.Makes.{is_own, is_choice, choice_operands}
+use Rattle.equation_marks.specs.Marks.{Mark, own_marks, choice_own_marks, marks, each_marks, joined, unless_literal, operands_marks, signal_marks, update_marks, varying_count, filter_marks, filter_marks_by, declared_marks, named_marks, role_marks, choice_marks, holds_aggregate}
 use Rattle.equation_marks.specs.Marks as spec
 use Rattle.equation_marks.specs.inner.Own.{marks_of_shape}
 use Rattle.equation_marks.proofs.OwnMarks.{signal_any}
-use Rattle.equation_marks.proofs.Parts.{one_operand, two_operands, three_operands, joined_each, operands_each}
+use Rattle.equation_marks.proofs.PartMarks.{one_operand, two_operands, three_operands, joined_each, operands_each}
 use Rattle.equation_marks.proofs.ChainMarks.{chain_by_last}
 
 -- ---- whatever marks parts have
@@ -58,7 +58,7 @@ module _ (of : Expr → List Mark) (cs : List Call) where
   with_own : (p : Place) (c : Construct) (es : List Expr) (before own : List Mark) → before ≡ flat_map of es → own ≡ own_marks p c (length es) → AreOf p c es (before ++ own)
   with_own p c es before own first second = with_count (own_marks p c) es before own first second
 
-  signal_own : (p : Place) (f : Tree) (es : List Expr) (before : List Mark) → before ≡ flat_map of (filter is_part es) → AreOf p (construct.Signal f) (filter is_part es) (before ++ signal_marks p es)
+  signal_own : (p : Place) (f : BodyTree) (es : List Expr) (before : List Mark) → before ≡ flat_map of (filter is_part es) → AreOf p (construct.Signal f) (filter is_part es) (before ++ signal_marks p es)
   signal_own p f es before first = with_own p (construct.Signal f) (filter is_part es) before (signal_marks p es) first (signal_any p no_tree f (varying_count es))
 
   update_own : (p : Place) (o : UpdateOp) (es : List Expr) (before : List Mark) → before ≡ flat_map of (filter is_part es) → AreOf p (construct.Update o (operands es)) (filter is_part es) (before ++ update_marks p o es)
@@ -121,18 +121,15 @@ module _ (items : List tree.Item) (cs : List Call) (at : Around) (call : ℕ →
       subst (λ ms. Has p (ms ++ own_marks p (construct.Lift no_tree) 0) (lift_shape items cs (streams ++ e ∷ []) (f ∷ expressions es))) whole (lift_has p (streams ++ e ∷ []) (more_exprs f es))
 
   declared_has : (p : Place) (d : Option Declaration) (es : Exprs) → Has p (declared_marks at call p d (expressions es) (each_marks at call es)) (declared_shape items cs d es)
-  declared_has p (Some (declaration.Macro i)) es = same_has p _ (called items cs i es)
+  declared_has p (Some (declaration.Macro i)) es = same_has p _ (macro_result items cs i es)
   declared_has p (Some (declaration.Function i)) es =
       λ _. signal_own (marks at call) cs p (function_at items i (operand_trees 0 (operands (expressions es)))) (expressions es) (operands_marks (expressions es) (each_marks at call es)) (operands_each at call es)
   declared_has p d es = tt
 
-  dotted_has : (p : Place) (d : Dotted) (es : Exprs) → Has p (dotted_marks at call p d (expressions es) (each_marks at call es)) (dotted_shape cs d (expressions es))
-  dotted_has p dotted.SetAdd es = λ _. update_own (marks at call) cs p update.SetAdd (expressions es) _ (operands_each at call es)
-  dotted_has p dotted.SetRemove es = λ _. update_own (marks at call) cs p update.SetRemove (expressions es) _ (operands_each at call es)
-  dotted_has p dotted.MapAdd es = λ _. update_own (marks at call) cs p update.MapAdd (expressions es) _ (operands_each at call es)
-  dotted_has p dotted.MapRemove es = λ _. update_own (marks at call) cs p update.MapRemove (expressions es) _ (operands_each at call es)
-  dotted_has p d es =
-      λ _. signal_own (marks at call) cs p (dotted_tree d (operand_trees 0 (operands (expressions es)))) (expressions es) (operands_marks (expressions es) (each_marks at call es)) (operands_each at call es)
+  role_has : (p : Place) (r : Role) (es : Exprs) → Has p (role_marks at call p r (expressions es) (each_marks at call es)) (role_shape cs r (expressions es))
+  role_has p (role.Update o) es = λ _. update_own (marks at call) cs p o (expressions es) _ (operands_each at call es)
+  role_has p r es =
+      λ _. signal_own (marks at call) cs p (role_tree r (operand_trees 0 (operands (expressions es)))) (expressions es) (operands_marks (expressions es) (each_marks at call es)) (operands_each at call es)
 
   call_has : (p : Place) (n : List ℕ) (es : Exprs) (o : Option Construct) → Agree at.scope (scope_at items cs) → Has p (named_marks at call p n (expressions es) (each_marks at call es) o) (call_shape items cs n es o)
   call_has p n es (Some c) same =
@@ -152,7 +149,7 @@ module _ (items : List tree.Item) (cs : List Call) (at : Around) (call : ℕ →
   leaf : (p : Place) (c : Construct) (ms : List Mark) → ms ≡ own_marks p c 0 → Has p ms (with_parts cs c [])
   leaf p c ms h = λ _. h
 
-  signal_has : (p : Place) (body : List Tree → Tree) (es : List Expr) (before : List Mark) → before ≡ flat_map (marks at call) (filter is_part es) → Has p (before ++ signal_marks p es) (signal_of cs body es)
+  signal_has : (p : Place) (body : List BodyTree → BodyTree) (es : List Expr) (before : List Mark) → before ≡ flat_map (marks at call) (filter is_part es) → Has p (before ++ signal_marks p es) (signal_of cs body es)
   signal_has p body es before first = λ _. signal_own (marks at call) cs p (body (operand_trees 0 (operands es))) es before first
 
   -- ---- expressions but for a choice
@@ -175,7 +172,7 @@ module _ (items : List tree.Item) (cs : List Call) (at : Around) (call : ℕ →
   expr_has (tree.Unit p) same other = λ _. refl
   expr_has (tree.Name p n) same other = if_has p (is_unit n) (own_marks p construct.Unit 0) [] _ _ (λ _. refl) (name_has p [] (meaning (scope_at items cs) n))
   expr_has (tree.Call p n es) same other = call_has p n es (plain_name n) same
-  expr_has (tree.CallDotted p d es) same other = dotted_has p d es
+  expr_has (tree.CallDotted p d es) same other = role_has p (role_of d) es
   expr_has (tree.Nil p y) same other = λ _. refl
   expr_has (tree.None p y) same other = tt
   expr_has (tree.EmptySet p k) same other = option_has p (own_marks p (construct.Empty unit_type) 0) (λ t. with_parts cs (construct.Empty t) []) (λ t _. refl) _
@@ -185,7 +182,7 @@ module _ (items : List tree.Item) (cs : List Call) (at : Around) (call : ℕ →
   abbrev choice_parts : Expr → Expr → Expr → List Mark
   choice_parts c a b = unless_literal c (marks at call c) ++ unless_literal a (marks at call a) ++ unless_literal b (marks at call b)
 
-  if_marked : (p : Place) (c a b : Expr) (f : Tree) → marks at call (tree.If p c a b) ≡ flat_map (λ o. marks at call o.expr) (map (beside cs) (filter is_part (c ∷ a ∷ b ∷ []))) ++ marks_of_shape at (tree.If p c a b) (record { construct = construct.Signal f; parts = map (beside cs) (filter is_part (c ∷ a ∷ b ∷ [])) })
+  if_marked : (p : Place) (c a b : Expr) (f : BodyTree) → marks at call (tree.If p c a b) ≡ flat_map (λ o. marks at call o.expr) (map (beside cs) (filter is_part (c ∷ a ∷ b ∷ []))) ++ marks_of_shape at (tree.If p c a b) (record { construct = construct.Signal f; parts = map (beside cs) (filter is_part (c ∷ a ∷ b ∷ [])) })
   if_marked p c a b f = by (holds_aggregate (type_of at (tree.If p c a b)))
     where
       by : (h : Bool) → choice_parts c a b ++ choice_marks at call p h (c ∷ a ∷ b ∷ []) ≡ flat_map (λ o. marks at call o.expr) (map (beside cs) (filter is_part (c ∷ a ∷ b ∷ []))) ++ (if h then choice_own_marks p (length (map (beside cs) (filter is_part (c ∷ a ∷ b ∷ [])))) (operands (c ∷ a ∷ b ∷ [])) else own_marks p (construct.Signal f) (length (map (beside cs) (filter is_part (c ∷ a ∷ b ∷ [])))))

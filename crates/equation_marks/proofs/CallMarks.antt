@@ -6,9 +6,9 @@ use Rattle.std.proofs.lemmas.List.{append-nil, drop_all}
 use Rattle.tsl_value.specs.declared.place.Place.{Place}
 use Rattle.tsl_value.specs.declared.scalar.Scalar.TheVariants as scalar
 use Rattle.flat_core.specs.declared.equation.Equation.{Equation}
-use Rattle.spec_parser.specs.Tree as tree
-use Rattle.spec_parser.specs.Tree.{Expr, Exprs, place_of}
-use Rattle.spec_parser.specs.inner.Shape.{definitions_of}
+use Rattle.syntax_tree.specs.Tree as tree
+use Rattle.syntax_tree.specs.Tree.{Expr, Exprs, place_of}
+use Rattle.syntax_tree.specs.inner.OneLevel.{definitions_of}
 use Rattle.name_check.specs.declared.declaration.Declaration.TheVariants as declaration
 use Rattle.name_check.specs.Builtin.{is_unit, is_called}
 use Rattle.name_check.specs.Scope.{meaning}
@@ -19,12 +19,12 @@ use Rattle.stream_constructs.specs.Construct as construct
 use Rattle.spec_meaning.specs.Occurrence.{result_of, block_of, body_of}
 use Rattle.spec_meaning.specs.Function.{no_tree}
 use Rattle.spec_meaning.specs.Shape.{expressions}
-use Rattle.flatten_rules.specs.Makes.{is_name}
-use Rattle.flatten_rules.specs.Flat.{named}
+use Rattle.spec_meaning.specs.Makes.{is_name}
+use Rattle.spec_meaning.specs.Flat.{named}
 use Rattle.checked_spec.specs.Laws.{in_macro}
 use Rattle.equation_marks.specs.Marks.{Mark, mark_of, own_marks, alias_own_marks, marks, each_marks, joined, named_marks, declared_marks, filter_marks, all_but_last, body_marks, block_marks, macro_marks, macro_body_marks}
 use Rattle.spec_meaning.proofs.Names.{no_builtin}
-use Rattle.equation_marks.proofs.Parts.{joined_each}
+use Rattle.equation_marks.proofs.PartMarks.{joined_each}
 
 -- the name of an equation is no mark
 pub named_marks_are : (x : List ℕ) (es : List Equation) → map mark_of (named x es) ≡ map mark_of es

@@ -2,22 +2,18 @@
 use Rattle.std.proofs.Common.{◌≡◌, ℕ, suc, List, [], ◌∷◌, ◌++◌, refl, sym, ap, ◌∙◌, append_assoc}
 use Rattle.std.proofs.lemmas.List.{append-nil}
 use Rattle.tsl_value.specs.declared.place.Place.{Place}
-use Rattle.spec_parser.specs.Tree as tree
-use Rattle.spec_parser.specs.Tree.{Expr, Links, no_links, more_links}
-use Rattle.spec_parser.specs.inner.Gives.{join_links}
-use Rattle.spec_parser.specs.inner.Shape.{links_in}
-use Rattle.spec_parser.specs.declared.tree.Link.{Link}
-use Rattle.spec_parser.specs.declared.tree.Level.{Level}
-use Rattle.spec_parser.specs.declared.tree.Operator.{Operator}
+use Rattle.syntax_tree.specs.Tree as tree
+use Rattle.syntax_tree.specs.Tree.{Expr, Links, no_links, more_links}
+use Rattle.syntax_tree.specs.inner.Joins.{join_links}
+use Rattle.syntax_tree.specs.inner.OneLevel.{links_in}
+use Rattle.syntax_tree.specs.declared.tree.Link.{Link}
+use Rattle.syntax_tree.specs.declared.tree.Level.{Level}
+use Rattle.syntax_tree.specs.declared.tree.Operator.{Operator}
 use Rattle.expr_types.specs.Around.{Around}
 use Rattle.stream_constructs.specs.Construct as construct
 use Rattle.spec_meaning.specs.Function.{no_tree}
 use Rattle.spec_meaning.specs.Shape.{left_of, all_but_last, last_operator, last_operand}
 use Rattle.equation_marks.specs.Marks.{Mark, own_marks, marks, link_marks, unless_literal, signal_marks, varying_count}
-
-pub join_nil : (ls : Links) → join_links ls no_links ≡ ls
-join_nil no_links = refl
-join_nil (more_links o e ls) = ap (more_links o e) (join_nil ls)
 
 pub join_assoc : (ls ms ns : Links) → join_links (join_links ls ms) ns ≡ join_links ls (join_links ms ns)
 join_assoc no_links ms ns = refl

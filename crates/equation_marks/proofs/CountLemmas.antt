@@ -6,29 +6,30 @@ use Rattle.std.specs.List.{filter, flat_map}
 use Rattle.std.proofs.lemmas.List.{drop_all}
 use Rattle.std.proofs.lemmas.Result.{IfOk-weaker}
 use Rattle.tsl_value.specs.declared.place.Place.{Place}
-use Rattle.spec_parser.specs.Tree as tree
-use Rattle.spec_parser.specs.Tree.{Expr, Links, no_links, more_links}
-use Rattle.spec_parser.specs.inner.Shape.{exprs_of, links_in}
-use Rattle.spec_parser.specs.declared.tree.Level.{Level}
-use Rattle.spec_parser.specs.declared.tree.Link.{Link}
-use Rattle.spec_parser.specs.declared.tree.Comparison.{Comparison}
+use Rattle.syntax_tree.specs.Tree as tree
+use Rattle.syntax_tree.specs.Tree.{Expr, Links, no_links, more_links}
+use Rattle.syntax_tree.specs.inner.OneLevel.{exprs_of, links_in}
+use Rattle.syntax_tree.specs.declared.tree.Level.{Level}
+use Rattle.syntax_tree.specs.declared.tree.Link.{Link}
+use Rattle.syntax_tree.specs.declared.tree.Comparison.{Comparison}
 use Rattle.vocabulary.specs.declared.dotted.Dotted.{Dotted}
-use Rattle.vocabulary.specs.declared.dotted.Dotted.TheVariants as dotted
+use Rattle.vocabulary.specs.declared.signature.Role.{Role}
+use Rattle.vocabulary.specs.declared.signature.Role.TheVariants as role
+use Rattle.vocabulary.specs.Table.{role_of}
 use Rattle.tsl_value.proofs.Lists.{left_at}
 use Rattle.expr_types.specs.Around.{Around}
 use Rattle.expr_types.specs.Judge.{type_of}
 use Rattle.vocabulary.specs.declared.signature.Update.{Update as UpdateOp}
-use Rattle.vocabulary.specs.declared.signature.Update.TheVariants as update
 use Rattle.stream_constructs.specs.Construct as construct
 use Rattle.spec_meaning.specs.Function.{no_tree}
 use Rattle.spec_meaning.specs.Shape.{is_part, expressions, operands}
-use Rattle.equation_marks.specs.Marks.{Mark, marks, each_marks, link_marks, own_marks, unless_literal, operands_marks, signal_marks, update_marks, choice_marks, dotted_marks, holds_aggregate, varying_count}
-use Rattle.equation_marks.specs.inner.Counted.{counted, own_count, choice_count, dotted_count, signal_count}
+use Rattle.equation_marks.specs.Marks.{Mark, marks, each_marks, link_marks, own_marks, unless_literal, operands_marks, signal_marks, update_marks, choice_marks, role_marks, dotted_marks, holds_aggregate, varying_count}
+use Rattle.equation_marks.specs.inner.Counted.{counted, own_count, choice_count, role_count, dotted_count, signal_count}
 use Rattle.equation_marks.specs.inner.Calls.{call_parts, callee_marks}
 use Rattle.equation_marks.proofs.Counts.{length-signal, length-choice}
 use Rattle.equation_marks.proofs.OwnMarks.{own_many}
-use Rattle.equation_marks.proofs.Parts.{listed_again, operands_listed}
-use Rattle.equation_marks.proofs.PartsLemmas.{call_length}
+use Rattle.equation_marks.proofs.PartMarks.{listed_again, operands_listed}
+use Rattle.equation_marks.proofs.CallPartsLemmas.{call_length}
 
 -- ---- numbers that are counted no further than 4,097
 two_more : (count a b x r : ℕ) → x ≡ min (count + a) ENOUGH → r ≡ min (x + b) ENOUGH → r ≡ min (count + (a + b)) ENOUGH
@@ -132,7 +133,7 @@ module _ (at : Around) (call : ℕ → List Mark) where
 
   -- a function with a dot
   dotted_length : (p : Place) (d : Dotted) (es : List Expr) → length (dotted_marks at call p d (expressions (exprs_of es)) (each_marks at call (exprs_of es))) ≡ length (flat_map (marks at call) (filter is_part es)) + dotted_count d es
-  dotted_length p d es = by d
+  dotted_length p d es = by (role_of d)
     where
       operation : (o : UpdateOp) → length (operands_marks (expressions (exprs_of es)) (each_marks at call (exprs_of es)) ++ update_marks p o (expressions (exprs_of es))) ≡ length (flat_map (marks at call) (filter is_part es)) + own_count (construct.Update o (operands es)) (varying_count es)
       operation o =
@@ -142,12 +143,9 @@ module _ (at : Around) (call : ℕ → List Mark) where
       signal =
           omega (arith, length-append (operands_marks (expressions (exprs_of es)) (each_marks at call (exprs_of es))) (signal_marks p (expressions (exprs_of es))), ap length (operands_listed at call es), ap (λ l. length (signal_marks p l)) (listed_again es), length-signal p es)
 
-      by : (d : Dotted) → length (dotted_marks at call p d (expressions (exprs_of es)) (each_marks at call (exprs_of es))) ≡ length (flat_map (marks at call) (filter is_part es)) + dotted_count d es
-      by dotted.SetAdd = operation update.SetAdd
-      by dotted.SetRemove = operation update.SetRemove
-      by dotted.MapAdd = operation update.MapAdd
-      by dotted.MapRemove = operation update.MapRemove
-      by d = signal
+      by : (r : Role) → length (role_marks at call p r (expressions (exprs_of es)) (each_marks at call (exprs_of es))) ≡ length (flat_map (marks at call) (filter is_part es)) + role_count r es
+      by (role.Update o) = operation o
+      by r = signal
 
   pub dotted_counted : (p : Place) (d : Dotted) (e : Expr) (es : List Expr) (count x own r : ℕ) → tree.CallDotted p d (exprs_of es) ≡ e → x ≡ counted count (flat_map (marks at call) (filter is_part es)) → own ≡ min (dotted_count d es) ENOUGH → r ≡ min (x + own) ENOUGH → r ≡ counted count (marks at call e)
   dotted_counted p d e es count x own r is first owns last =

@@ -1,22 +1,21 @@
 -- How many marks there are.
 use Rattle.equation_marks.specs.declared.own.TheConstants.{ENOUGH}
-use Rattle.std.proofs.Common.{◌≡◌, ◌⊎◌, inl, inr, ℕ, zero, suc, ◌+◌, ◌-◌, ◌*◌, ◌<◌, min, Bool, true, false, cond, not, List, [], ◌∷◌, ◌++◌, length, refl, sym, ap, ◌∙◌, arith, length-append}
+use Rattle.std.proofs.Common.{◌≡◌, ℕ, zero, suc, ◌+◌, ◌-◌, ◌*◌, ◌<◌, min, Bool, true, false, cond, not, List, [], ◌∷◌, ◌++◌, length, refl, sym, ap, ◌∙◌, arith, length-append}
 use Rattle.std.specs.List.{filter}
 use Rattle.tsl_value.specs.declared.place.Place.{Place}
-use Rattle.spec_parser.specs.Tree.{Expr}
-use Rattle.vocabulary.specs.declared.dotted.Dotted.{Dotted}
-use Rattle.vocabulary.specs.declared.dotted.Dotted.TheVariants as dotted
+use Rattle.syntax_tree.specs.Tree.{Expr}
+use Rattle.vocabulary.specs.declared.signature.Role.{Role}
+use Rattle.vocabulary.specs.declared.signature.Role.TheVariants as role
 use Rattle.name_check.specs.inner.Shown.{nowhere}
 use Rattle.expr_types.specs.Around.{Around}
 use Rattle.vocabulary.specs.declared.signature.Update.{Update as UpdateOp}
-use Rattle.vocabulary.specs.declared.signature.Update.TheVariants as update
 use Rattle.stream_constructs.specs.Construct as construct
 use Rattle.spec_meaning.specs.Function.{no_tree}
 use Rattle.spec_meaning.specs.Shape.{is_part, operands}
 use Rattle.equation_marks.specs.Marks.{Mark, signal_marks, choice_marks, varying_count}
-use Rattle.equation_marks.specs.inner.Counted.{counted, own_count, choice_count, dotted_count, lifting_count, signal_count, fixed_count}
+use Rattle.equation_marks.specs.inner.Counted.{counted, own_count, choice_count, role_count, lifting_count, signal_count, fixed_count}
 use Rattle.equation_marks.proofs.OwnMarks.{literal_count, lifting_more, length-lift, length-update, length-choice_own, own_many}
-use Rattle.equation_marks.proofs.Parts.{fixed_are_literals}
+use Rattle.equation_marks.proofs.PartMarks.{fixed_are_literals}
 
 -- ---- operands that vary, and those that do not
 count_more : (b : Bool) (e : Expr) (es : List Expr) → length (cond b (e ∷ es) es) ≡ length (cond b (e ∷ []) []) + length es
@@ -81,11 +80,8 @@ lifting_counted k r some is = is ∙ ap (λ n. min n ENOUGH) (sym (lifting_some 
 update_counted : (o : UpdateOp) (es : List Expr) (r : ℕ) → r ≡ min (lifting_count (varying_count es) + fixed_count es + 1) ENOUGH → r ≡ min (own_count (construct.Update o (operands es)) (varying_count es)) ENOUGH
 update_counted o es r is = is ∙ ap (λ n. min n ENOUGH) (sym (update_count o es))
 
-pub updates_counted : (d : Dotted) (es : List Expr) (r : ℕ) → (d ≡ dotted.SetAdd) ⊎ ((d ≡ dotted.SetRemove) ⊎ ((d ≡ dotted.MapAdd) ⊎ (d ≡ dotted.MapRemove))) → r ≡ min (lifting_count (varying_count es) + fixed_count es + 1) ENOUGH → r ≡ min (dotted_count d es) ENOUGH
-updates_counted d es r (inl h) is = update_counted update.SetAdd es r is ∙ ap (λ f. min (dotted_count f es) ENOUGH) (sym h)
-updates_counted d es r (inr (inl h)) is = update_counted update.SetRemove es r is ∙ ap (λ f. min (dotted_count f es) ENOUGH) (sym h)
-updates_counted d es r (inr (inr (inl h))) is = update_counted update.MapAdd es r is ∙ ap (λ f. min (dotted_count f es) ENOUGH) (sym h)
-updates_counted d es r (inr (inr (inr h))) is = update_counted update.MapRemove es r is ∙ ap (λ f. min (dotted_count f es) ENOUGH) (sym h)
+pub updates_counted : (r : Role) (o : UpdateOp) (es : List Expr) (n : ℕ) → r ≡ role.Update o → n ≡ min (lifting_count (varying_count es) + fixed_count es + 1) ENOUGH → n ≡ min (role_count r es) ENOUGH
+updates_counted r o es n h is = update_counted o es n is ∙ ap (λ f. min (role_count f es) ENOUGH) (sym h)
 
 pub choice_counted : (a b c : Expr) (aggregate : Bool) (varying r : ℕ) → aggregate ≡ true → varying ≡ varying_count (a ∷ b ∷ c ∷ []) → r ≡ min (lifting_count varying + (3 - varying) + 1) ENOUGH → r ≡ min (choice_count aggregate (a ∷ b ∷ c ∷ [])) ENOUGH
 choice_counted a b c aggregate varying r chosen count is =

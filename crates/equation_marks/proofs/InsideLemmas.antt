@@ -1,12 +1,13 @@
 -- Inside of a macro: what the code sees there is what its body is judged at.
-use Rattle.std.proofs.Common.{◌≡◌, ℕ, suc, List, [], ◌∷◌, ◌++◌, Some, sym, ap, ◌∙◌}
+use Rattle.std.proofs.Common.{◌≡◌, ℕ, suc, List, [], ◌∷◌, ◌++◌, Some, refl, sym, ap, ◌∙◌}
 use Rattle.std.specs.Prelude.{if◌then◌else◌, slice_get}
 use Rattle.std.proofs.lemmas.List.{append-nil}
-use Rattle.spec_parser.specs.Tree as tree
-use Rattle.spec_parser.specs.Tree.{Expr, Param}
-use Rattle.spec_parser.specs.declared.tree.DefinitionParts.{DefinitionParts}
-use Rattle.spec_parser.specs.inner.Shape.{params_in}
-use Rattle.spec_parser.specs.inner.Shape as code
+use Rattle.syntax_tree.specs.Counts.{count_in, counts}
+use Rattle.syntax_tree.specs.Tree as tree
+use Rattle.syntax_tree.specs.Tree.{Expr, Param}
+use Rattle.syntax_tree.specs.declared.tree.DefinitionParts.{DefinitionParts}
+use Rattle.syntax_tree.specs.inner.OneLevel.{params_in}
+use Rattle.syntax_tree.specs.inner.OneLevel as code
 use Rattle.name_check.specs.Scope.{Scope, Agree, top, inside, in_block, seen, are_values, functions_of, parameters_from, locals_from}
 use Rattle.name_check.proofs.AgreeLemmas.{agree_same, agree_trans, agree_append}
 use Rattle.type_rules.specs.declared.rule.Setting.{Setting}
@@ -31,6 +32,11 @@ agree_inside items names block level levels qs ps ds es declared params definiti
     (agree_append level (parameters_from 0 ps) (around ++ []) (if are_values ps then functions_of (top items) else top items)
     (agree_trans level (parameters_from 0 qs) (parameters_from 0 ps) parameters (agree_same _ _ (ap (parameters_from 0) params)))
     (agree_same _ _ (append-nil around ∙ (λ k. if are_values (params k) then functions_of (declared k) else declared k)))))
+
+-- the definitions of the block of a body are those in it
+pub block_counted : (b : tree.Body) → counts (block_of (Some b)) ≡ count_in b
+block_counted (tree.Plain e) = refl
+block_counted (tree.Block ds e) = refl
 
 module _ (items : List tree.Item) (kinds : Kinds) (i : ℕ) where
   abbrev pub inside_at : Setting → List Param → Scope → Around

@@ -1,5 +1,5 @@
 pub mod OwnMarks
-pub mod Parts
+pub mod PartMarks
 pub mod ChainMarks
 pub mod ByShape
 pub mod CallMarks
@@ -7,7 +7,8 @@ pub mod Refusing
 pub mod AgreeMarks
 pub mod MadeMarks
 pub mod Counts
-mod PartsLemmas
+mod CallPartsLemmas
 pub mod Weights
 mod CountLemmas
 mod InsideLemmas
+mod PlainParts

@@ -8,8 +8,8 @@ use Rattle.tsl_value.specs.declared.place.Place.{Place}
 use Rattle.tsl_value.specs.declared.scalar.ValueType.{ValueType}
 use Rattle.flat_core.specs.declared.equation.Equation.{Equation}
 use Rattle.flat_core.specs.Typed.{is_aggregate}
-use Rattle.spec_parser.specs.Tree as tree
-use Rattle.spec_parser.specs.Tree.{Expr, Exprs, place_of}
+use Rattle.syntax_tree.specs.Tree as tree
+use Rattle.syntax_tree.specs.Tree.{Expr, Exprs, place_of}
 use Rattle.name_check.specs.declared.declaration.Declaration.TheVariants as declaration
 use Rattle.name_check.specs.Builtin.{is_called}
 use Rattle.name_check.specs.Scope.{meaning}
@@ -22,7 +22,7 @@ use Rattle.stream_constructs.specs.Equations.{own_equations, choice_equations}
 use Rattle.stream_constructs.specs.Agree.{Fits, FitsChoice}
 use Rattle.spec_meaning.specs.Occurrence.{Call, scope_at, result_of, block_of, body_of}
 use Rattle.spec_meaning.specs.Shape.{Shape, shape, expressions}
-use Rattle.flatten_rules.specs.Makes.{with_itself, is_own, is_choice, choice_operands}
+use Rattle.spec_meaning.specs.Makes.{with_itself, is_own, is_choice, choice_operands}
 use Rattle.checked_spec.specs.Laws.{in_macro}
 use Rattle.equation_marks.specs.Marks.{Mark, mark_of, own_marks, choice_own_marks, marks, holds_aggregate, body_marks, block_marks, macro_marks}
 use Rattle.equation_marks.proofs.OwnMarks.{own_equations_marks, choice_equations_marks}

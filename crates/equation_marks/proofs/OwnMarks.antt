@@ -6,17 +6,17 @@ use Rattle.tsl_value.specs.declared.scalar.ValueType.{ValueType}
 use Rattle.flat_core.specs.declared.equation.Op.{Op}
 use Rattle.flat_core.specs.declared.equation.Op.TheVariants as op
 use Rattle.flat_core.specs.Typed.{unit_type}
-use Rattle.lift_func.specs.Tree.{Tree}
+use Rattle.lift_func.specs.BodyTree.{BodyTree}
 use Rattle.stream_constructs.specs.declared.construct.Stream.{Stream}
 use Rattle.vocabulary.specs.declared.signature.Update.{Update as UpdateOp}
 use Rattle.vocabulary.specs.declared.signature.Update.TheVariants as update
 use Rattle.stream_constructs.specs.Construct.{Construct, Operand, Fixed, Varying}
 use Rattle.stream_constructs.specs.Construct as construct
-use Rattle.stream_constructs.specs.Equations.{equation, strict_lift, held_each, lifting, lifted, literal_equations, operand_numbers, first_number, numbers, with_literals, update_op, own_equations, choice_equations, alias_equation}
+use Rattle.stream_constructs.specs.Equations.{equation, strict_lift, held_each, lifting, lifted_streams, literal_equations, operand_numbers, first_number, numbers, with_literals, update_op, own_equations, choice_equations, alias_equation}
 use Rattle.stream_constructs.specs.Agree.{Fits, FitsChoice}
-use Rattle.stream_constructs.specs.Limits.{is_update}
+use Rattle.flat_core.specs.Updates.{is_update}
 use Rattle.name_check.specs.inner.Shown.{nowhere}
-use Rattle.flatten_rules.specs.Makes.{with_itself}
+use Rattle.spec_meaning.specs.Makes.{with_itself}
 use Rattle.equation_marks.specs.Marks.{Mark, mark_of, any_streams, own_marks, choice_own_marks, alias_own_marks}
 use Rattle.equation_marks.specs.inner.Counted.{lifting_count, own_count}
 
@@ -84,7 +84,7 @@ literals_marks p first [] = refl
 literals_marks p first (Fixed s ∷ os) = ap (λ ms. record { place = p; is_update = false } ∷ ms) (literals_marks p first os)
 literals_marks p first (Varying ∷ os) = literals_marks p first os
 
-signal_made_marks : (p : Place) (n : ℕ) (f : Tree) (of : ValueType) (args : List ℕ) (parts : List Stream) → map mark_of (lifting p n parts ++ strict_lift p f args of ∷ []) ≡ plain (lifting_count (length parts) + 1) p
+signal_made_marks : (p : Place) (n : ℕ) (f : BodyTree) (of : ValueType) (args : List ℕ) (parts : List Stream) → map mark_of (lifting p n parts ++ strict_lift p f args of ∷ []) ≡ plain (lifting_count (length parts) + 1) p
 signal_made_marks p n f of args parts =
     map-append mark_of (lifting p n parts) (strict_lift p f args of ∷ [])
     ∙ ap (λ ms. ms ++ record { place = p; is_update = false } ∷ []) (lifting_marks p n parts)
@@ -93,12 +93,12 @@ signal_made_marks p n f of args parts =
 with_literals_marks : (p : Place) (o : Op) (of : ValueType) (n : ℕ) (os : List Operand) (parts : List Stream) → map mark_of (with_literals p o of n os parts) ≡ operation_of_marks p (length parts) os (is_update o)
 with_literals_marks p o of n os parts =
     let lift = lifting p n parts in
-    let literals = literal_equations p (first_number (lifted n parts)) os in
-    let last = equation p o (operand_numbers (n + length lift) os (numbers (lifted n parts))) of ∷ [] in
+    let literals = literal_equations p (first_number (lifted_streams n parts)) os in
+    let last = equation p o (operand_numbers (n + length lift) os (numbers (lifted_streams n parts))) of ∷ [] in
     map-append mark_of (lift ++ literals) last
     ∙ ap (λ ms. ms ++ record { place = p; is_update = is_update o } ∷ [])
     (map-append mark_of lift literals
-    ∙ (λ i. lifting_marks p n parts i ++ literals_marks p (first_number (lifted n parts)) os i)
+    ∙ (λ i. lifting_marks p n parts i ++ literals_marks p (first_number (lifted_streams n parts)) os i)
     ∙ sym (plain-add (lifting_count (length parts)) (literal_count os) p))
 
 update_is_update : (o : UpdateOp) → is_update (update_op o) ≡ true
@@ -109,13 +109,13 @@ update_is_update update.MapRemove = refl
 
 -- ---- where the parts are any streams
 -- a signal lift of some
-signal_plain : (p : Place) (f : Tree) (k : ℕ) → own_marks p (construct.Signal f) (suc k) ≡ plain (lifting_count (suc k) + 1) p
+signal_plain : (p : Place) (f : BodyTree) (k : ℕ) → own_marks p (construct.Signal f) (suc k) ≡ plain (lifting_count (suc k) + 1) p
 signal_plain p f k =
-    signal_made_marks p 0 f unit_type (numbers (lifted 0 (any_streams (suc k)))) (any_streams (suc k))
+    signal_made_marks p 0 f unit_type (numbers (lifted_streams 0 (any_streams (suc k)))) (any_streams (suc k))
     ∙ ap (λ n. plain (lifting_count n + 1) p) (many (suc k))
 
 -- whatever its function is
-pub signal_any : (p : Place) (f g : Tree) (k : ℕ) → own_marks p (construct.Signal f) k ≡ own_marks p (construct.Signal g) k
+pub signal_any : (p : Place) (f g : BodyTree) (k : ℕ) → own_marks p (construct.Signal f) k ≡ own_marks p (construct.Signal g) k
 signal_any p f g zero = refl
 signal_any p f g (suc k) = signal_plain p f k ∙ sym (signal_plain p g k)
 
@@ -142,7 +142,7 @@ made_marks p of n (construct.FilterBy b) (e ∷ []) fits = refl
 made_marks p of n (construct.Lift f) parts fits = refl
 made_marks p of n (construct.Signal f) [] fits = refl
 made_marks p of n (construct.Signal f) (a ∷ parts) fits =
-    signal_made_marks p n f of (numbers (lifted n (a ∷ parts))) (a ∷ parts) ∙ sym (signal_plain p f (length parts))
+    signal_made_marks p n f of (numbers (lifted_streams n (a ∷ parts))) (a ∷ parts) ∙ sym (signal_plain p f (length parts))
 made_marks p of n (construct.Update o os) parts fits =
     with_literals_marks p (update_op o) of n os parts ∙ ap (operation_of_marks p (length parts) os) (update_is_update o)
     ∙ sym (update_plain p o os (length parts))
@@ -168,7 +168,7 @@ pub length-plain : (n : ℕ) (p : Place) → length (plain n p) ≡ n
 length-plain zero p = refl
 length-plain (suc n) p = ap suc (length-plain n p)
 
-pub length-lift : (p : Place) (f : Tree) (k : ℕ) → length (own_marks p (construct.Signal f) (suc k)) ≡ lifting_count (suc k) + 1
+pub length-lift : (p : Place) (f : BodyTree) (k : ℕ) → length (own_marks p (construct.Signal f) (suc k)) ≡ lifting_count (suc k) + 1
 length-lift p f k = ap length (signal_plain p f k) ∙ length-plain (lifting_count (suc k) + 1) p
 
 length-operation : (p : Place) (k : ℕ) (os : List Operand) (update : Bool) → length (operation_of_marks p k os update) ≡ lifting_count k + literal_count os + 1

@@ -3,7 +3,8 @@ use Rattle.std.proofs.Common.{◌≡◌, ◌==◌, ℕ, suc, ◌+◌, Bool, true
 use Rattle.std.specs.Prelude.{if◌then◌else◌}
 use Rattle.flat_core.specs.declared.equation.Equation.{Equation}
 use Rattle.flat_core.specs.declared.limits.TheConstants.{MOST_EQUATIONS}
-use Rattle.stream_constructs.specs.Limits.{is_update, one_if, refusal_from, refusal, IsRefusal}
+use Rattle.flat_core.specs.Updates.{is_update}
+use Rattle.stream_constructs.specs.Limits.{one_if, refusal_from, refusal, IsRefusal}
 use Rattle.stream_constructs.specs.declared.maker.MakeFault.{MakeFault}
 use Rattle.stream_constructs.specs.declared.maker.MakeFault.TheVariants as fault
 use Rattle.stream_constructs.specs.declared.limits.TheConstants.{MOST_UPDATES}

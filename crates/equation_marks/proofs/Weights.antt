@@ -1,9 +1,9 @@
 -- How large bodies are, together: a call of a macro goes on in one of them, and calls nest no deeper than is said.
 use Rattle.std.proofs.Common.{◌≡◌, ℕ, zero, suc, ◌+◌, ◌-◌, ◌*◌, ◌<◌, ◌≤◌, ◌≢◌, List, [], ◌∷◌, length, get_or, Option, Some, None, refl, ap, arith}
 use Rattle.std.specs.Prelude.{slice_get}
-use Rattle.spec_parser.specs.Tree as tree
-use Rattle.spec_parser.specs.Tree.{Expr}
-use Rattle.spec_parser.specs.inner.Shape.{size_of, definitions_of}
+use Rattle.syntax_tree.specs.Tree as tree
+use Rattle.syntax_tree.specs.Tree.{Expr}
+use Rattle.syntax_tree.specs.inner.OneLevel.{size_of, definitions_of}
 use Rattle.name_check.specs.inner.Steps.{local_body}
 use Rattle.spec_meaning.specs.Occurrence.{result_of, block_of, body_of}
 

@@ -7,10 +7,12 @@ use Rattle.tsl_value.specs.declared.scalar.Scalar.{Scalar}
 use Rattle.tsl_value.specs.declared.scalar.Scalar.TheVariants as scalar
 use Rattle.flat_core.specs.declared.equation.Equation.{Equation}
 use Rattle.flat_core.specs.Typed.{is_aggregate, unit_type}
-use Rattle.spec_parser.specs.Tree as tree
-use Rattle.spec_parser.specs.Tree.{Expr, Exprs, no_exprs, more_exprs, Links, no_links, more_links, place_of}
+use Rattle.syntax_tree.specs.Tree as tree
+use Rattle.syntax_tree.specs.Tree.{Expr, Exprs, no_exprs, more_exprs, Links, no_links, more_links, place_of}
 use Rattle.vocabulary.specs.declared.dotted.Dotted.{Dotted}
-use Rattle.vocabulary.specs.declared.dotted.Dotted.TheVariants as dotted
+use Rattle.vocabulary.specs.declared.signature.Role.{Role}
+use Rattle.vocabulary.specs.declared.signature.Role.TheVariants as role
+use Rattle.vocabulary.specs.Table.{role_of}
 use Rattle.name_check.specs.declared.declaration.Declaration.{Declaration}
 use Rattle.name_check.specs.declared.declaration.Declaration.TheVariants as declaration
 use Rattle.name_check.specs.Builtin.{is_unit, is_lift}
@@ -22,8 +24,7 @@ use Rattle.expr_types.specs.Bodies.{in_definition, at_top}
 use Rattle.expr_types.specs.Judge.{type_of}
 use Rattle.stream_constructs.specs.declared.construct.Stream.{Stream}
 use Rattle.vocabulary.specs.declared.signature.Update.{Update as UpdateOp}
-use Rattle.vocabulary.specs.declared.signature.Update.TheVariants as update
-use Rattle.stream_constructs.specs.Limits.{is_update}
+use Rattle.flat_core.specs.Updates.{is_update}
 use Rattle.stream_constructs.specs.Construct.{Construct, Operand}
 use Rattle.stream_constructs.specs.Construct as construct
 use Rattle.stream_constructs.specs.Equations.{own_equations, choice_equations, alias_equation}
@@ -31,7 +32,7 @@ use Rattle.stream_constructs.specs.Made.{input_equation}
 use Rattle.spec_meaning.specs.Function.{literal, no_tree}
 use Rattle.spec_meaning.specs.Occurrence.{result_of, block_of, body_of}
 use Rattle.spec_meaning.specs.Shape.{is_part, operands, expressions, plain_name, is_delay, is_const, is_filter}
-use Rattle.flatten_rules.specs.Makes.{is_name}
+use Rattle.spec_meaning.specs.Makes.{is_name}
 use Rattle.checked_spec.specs.Laws.{in_macro}
 use Rattle.definition_cycles.specs.declared.limits.TheConstants.{MOST_CALLS}
 
@@ -133,12 +134,12 @@ module _ (at : Around) (call : ℕ → List Mark) where
       else if is_lift n then joined (all_but_last each) ++ own_marks p (construct.Lift no_tree) (length (all_but_last each))
       else declared_marks p (meaning at.scope n) es each
 
+  abbrev pub role_marks : Place → Role → List Expr → List (List Mark) → List Mark
+  role_marks p (role.Update o) es each = operands_marks es each ++ update_marks p o es
+  role_marks p r es each = operands_marks es each ++ signal_marks p es
+
   abbrev pub dotted_marks : Place → Dotted → List Expr → List (List Mark) → List Mark
-  dotted_marks p dotted.SetAdd es each = operands_marks es each ++ update_marks p update.SetAdd es
-  dotted_marks p dotted.SetRemove es each = operands_marks es each ++ update_marks p update.SetRemove es
-  dotted_marks p dotted.MapAdd es each = operands_marks es each ++ update_marks p update.MapAdd es
-  dotted_marks p dotted.MapRemove es each = operands_marks es each ++ update_marks p update.MapRemove es
-  dotted_marks p d es each = operands_marks es each ++ signal_marks p es
+  dotted_marks p d es each = role_marks p (role_of d) es each
 
   -- a choice between sets or maps is an operation of its own, another is a signal lift
   abbrev pub choice_marks : Place → Bool → List Expr → List Mark

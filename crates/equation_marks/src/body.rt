@@ -1,20 +1,20 @@
 // Bodies, and the definitions of items.
 
 ghost use Rattle.std.specs.Prelude.{◌≡◌, MatchOption, Some, None, map, slice_get};
-ghost use Rattle.spec_parser.specs.inner.Shape.{item_of, params_in, definitions_of};
-ghost use Rattle.spec_parser.specs.inner.Shape as code;
+ghost use Rattle.syntax_tree.specs.inner.OneLevel.{item_of, params_in, definitions_of};
+ghost use Rattle.syntax_tree.specs.inner.OneLevel as code;
 ghost use Rattle.expr_types.specs.Bodies.{setting_of};
 ghost use Rattle.spec_meaning.specs.Occurrence.{result_of, block_of, body_of};
-ghost use Rattle.flatten_rules.specs.Makes.{is_name};
+ghost use Rattle.spec_meaning.specs.Makes.{is_name};
 ghost use Rattle.equation_marks.specs.inner.Counters.{IsDefinitionAt};
 
 use name_check::builtin::is_unit;
 use name_check::scope::are_values;
-use spec_parser::tree::{Body, Definition, DefinitionParts, Expr, Item, Node, Param};
+use syntax_tree::tree::{Body, Definition, DefinitionParts, Expr, Item, Node, Param};
 use type_rules::rule::Setting;
 
 /// An expression that is only a name, also in a chain of one operand.
-pub(crate) fn is_only_name(expression: &Expr) -> bool
+pub fn is_only_name(expression: &Expr) -> bool
     ensures { result ≡ is_name expression.now }
 {
     match expression.node() {
@@ -37,7 +37,8 @@ pub(crate) fn block_of(body: &Body) -> &[Definition]
     }
 }
 
-pub(crate) fn result_of(body: &Body) -> &Expr
+/// The result of a body.
+pub fn result_of(body: &Body) -> &Expr
     ensures { result.now ≡ result_of (code.body_of body.now) }
 {
     match body {

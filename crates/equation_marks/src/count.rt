@@ -3,9 +3,9 @@
 ghost use Rattle.std.specs.Prelude.{◌≡◌, ◌++◌, suc, IfOk, map};
 ghost use Rattle.std.specs.List.{flat_map, filter};
 ghost use Rattle.tsl_value.specs.declared.place.Place.{Place};
-ghost use Rattle.spec_parser.specs.Tree as tree;
-ghost use Rattle.spec_parser.specs.declared.tree.Level.{Level as Levels};
-ghost use Rattle.spec_parser.specs.inner.Shape.{definition_of, definitions_of, exprs_of, links_in, item_of};
+ghost use Rattle.syntax_tree.specs.Tree as tree;
+ghost use Rattle.syntax_tree.specs.declared.tree.Level.{Level as Levels};
+ghost use Rattle.syntax_tree.specs.inner.OneLevel.{definition_of, definitions_of, exprs_of, links_in, item_of};
 ghost use Rattle.name_check.specs.inner.Steps.{local_body};
 ghost use Rattle.name_check.specs.inner.Shown.{nowhere};
 ghost use Rattle.expr_types.specs.Judge.{type_of};
@@ -27,8 +27,8 @@ use expr_types::stop::Stop;
 use name_check::builtin::is_unit;
 use name_check::names::Names;
 use name_check::scope::{Scope, locals, parameters};
-use spec_parser::tree::{Definition, DefinitionParts, Expr, Item, Link, Node};
 use std::alloc::Global;
+use syntax_tree::tree::{Definition, DefinitionParts, Expr, Item, Link, Node};
 use tsl_value::memory::NoMemory;
 use tsl_value::scalar::ValueType;
 use type_rules::rule::ExprType;
@@ -231,14 +231,14 @@ impl Counter<'_> {
         let count = self.operands(at, deep, parts.operands, count)?;
         let count = more(count, parts.own);
         match parts.callee {
-            Some(number) => self.called(deep, number, count),
+            Some(number) => self.callee_count(deep, number, count),
             None => Ok(count),
         }
     }
 
     /// With those that a call of the macro of this number makes besides its arguments.
     #[cycle(counting)]
-    pub fn called(&self, deep: u32, number: usize, count: u32) -> Result<u32, NoMemory>
+    pub fn callee_count(&self, deep: u32, number: usize, count: u32) -> Result<u32, NoMemory>
         requires { HasNames self.now }
         ensures { IfOk result (λ n. n ≡ counted count (calls_of self.now deep number)) }
     {

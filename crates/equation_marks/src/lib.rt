@@ -1,7 +1,7 @@
 //! How many equations a specification makes, and where they pass the limits.
 #![tactic(auto)]
 
-mod body;
+pub mod body;
 mod call;
 pub mod count;
 mod own;

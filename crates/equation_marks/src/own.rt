@@ -3,11 +3,12 @@
 ghost use Rattle.std.specs.Prelude.{◌≡◌, ◌+◌, ◌≤◌, suc, min, [], ◌∷◌};
 ghost use Rattle.spec_meaning.specs.Shape.{is_part};
 ghost use Rattle.equation_marks.specs.Marks.{varying_count};
-ghost use Rattle.equation_marks.specs.inner.Counted.{lifting_count, signal_count, fixed_count, choice_count, dotted_count};
+ghost use Rattle.equation_marks.specs.inner.Counted.{lifting_count, signal_count, fixed_count, choice_count, role_count, dotted_count};
 
 use flat_core::limits::MOST_EQUATIONS;
-use spec_parser::tree::{Expr, Node};
+use syntax_tree::tree::{Expr, Node};
 use vocabulary::dotted::Dotted;
+use vocabulary::signature::Role;
 
 /// More than any system has. Nothing is counted beyond.
 pub const ENOUGH: u32 = MOST_EQUATIONS + 1;
@@ -148,16 +149,19 @@ pub(crate) fn choice(aggregate: bool, condition: &Expr, yes: &Expr, no: &Expr) -
     }
 }
 
+fn role_over(role: Role, operands: &[Expr]) -> u32
+    ensures { result ≡ min (role_count role operands.now) ENOUGH }
+{
+    match role {
+        Role::Update(_) => operation_over(operands),
+        Role::Unary(_) => signal_over(operands),
+        Role::Binary(_) => signal_over(operands),
+    }
+}
+
 /// A function with a dot, besides its operands.
 pub(crate) fn dotted_over(function: Dotted, operands: &[Expr]) -> u32
     ensures { result ≡ min (dotted_count function operands.now) ENOUGH }
 {
-    match function {
-        Dotted::SetAdd | Dotted::SetRemove | Dotted::MapAdd | Dotted::MapRemove => {
-            operation_over(operands)
-        }
-        Dotted::SetContains | Dotted::SetSize => signal_over(operands),
-        Dotted::MapContains | Dotted::MapGet | Dotted::MapSize => signal_over(operands),
-        Dotted::StringConcat | Dotted::StringSize => signal_over(operands),
-    }
+    role_over(function.role(), operands)
 }

@@ -6,7 +6,7 @@ use Rattle.std.proofs.lemmas.Bool.{false≢true}
 use Rattle.std.proofs.lemmas.Option.{same_Some, none-some}
 use Rattle.tsl_value.specs.declared.place.Place.{Place}
 use Rattle.tsl_value.specs.declared.scalar.ValueType.{ValueType}
-use Rattle.lift_func.specs.Tree.{Tree}
+use Rattle.lift_func.specs.BodyTree.{BodyTree}
 use Rattle.flat_core.specs.declared.equation.Op.TheVariants as op
 use Rattle.flat_core.specs.declared.equation.Equation.{Equation}
 use Rattle.flat_core.specs.Case.{root_fault, outcome_of}
@@ -15,8 +15,8 @@ use Rattle.flat_core.specs.Needed.{HasArgument}
 use Rattle.flat_core.specs.System.{System}
 use Rattle.flat_core.specs.Typed.{unit_type}
 use Rattle.flat_core.proofs.Uniqueness.{all_by}
-use Rattle.spec_parser.specs.Tree as tree
-use Rattle.spec_parser.specs.Tree.{Expr, place_of}
+use Rattle.syntax_tree.specs.Tree as tree
+use Rattle.syntax_tree.specs.Tree.{Expr, place_of}
 use Rattle.expr_types.specs.Around.{Kinds}
 use Rattle.stream_constructs.specs.declared.construct.Stream.{Stream}
 use Rattle.stream_constructs.specs.Construct.{Construct, outcome, root, operand_trees}
@@ -25,7 +25,7 @@ use Rattle.stream_constructs.specs.Equations.{equation, own_equations, choice_eq
 use Rattle.stream_constructs.specs.Agree.{Makes as MakesConstruct, HangTogether, IsItself, Fits, FitsChoice, last_number, ConstructsAreMade, ConstructsHangTogether, ChoicesAreMade, ChoicesHangTogether, AliasesAreMade, AliasesHangTogether}
 use Rattle.spec_meaning.specs.Occurrence.{Occurrence}
 use Rattle.spec_meaning.specs.Shape.{Shape, shape, itself}
-use Rattle.flatten_rules.specs.Makes.{Standing, MakesAll, is_own, is_choice, choice_operands, with_itself}
+use Rattle.spec_meaning.specs.Makes.{Standing, MakesAll, is_own, is_choice, choice_operands, with_itself}
 use Rattle.flat_meaning.proofs.Plain.{plain, Within, IsNameless, stands}
 use Rattle.flat_meaning.proofs.OwnEquations.{IsOwn, own_made, choice_made, own_some, choice_some, IsOneDelay, delay_own}
 use Rattle.flat_meaning.proofs.Shapes.{parts_beside, choice_construct}
@@ -102,7 +102,7 @@ module _ (items : List tree.Item) (kinds : Kinds) (top : ℕ → Stream) (s : Sy
   pub choice_built : (at : Standing) (e : Expr) (n m : ℕ) (sh : Shape) (parts : List Stream) (before : List Equation) (of : ValueType) (stream : Stream) → Entered items kinds top s at → shape items (record { calls = at.calls; expr = e }) ≡ Some sh → is_choice e ≡ true → MakesAll items kinds top at (map (λ o. o.expr) sh.parts) n before parts → Within s n before → FitsChoice (choice_operands e) parts of → Within s m (choice_equations (place_of e) of m (choice_operands e) parts) → stream.id ≡ last_number m (choice_equations (place_of e) of m (choice_operands e) parts) → IsBuilt items kinds top s (record { calls = at.calls; expr = e }) stream.id
   choice_built at e n m sh parts before of stream entered is chosen makes before_within fits within number =
       let o : Occurrence = record { calls = at.calls; expr = e } in
-      let body : Tree = choice (operand_trees 0 (choice_operands e)) in
+      let body : BodyTree = choice (operand_trees 0 (choice_operands e)) in
       let same : sh.construct ≡ construct.Signal body = choice_construct items at.calls e sh chosen is in
       let own_sh : is_own sh.construct ≡ true = ap is_own same in
       let own : List Equation = choice_equations (place_of e) of m (choice_operands e) parts in
@@ -126,7 +126,7 @@ module _ (items : List tree.Item) (kinds : Kinds) (top : ℕ → Stream) (s : Sy
         one_delay = λ delay. absurd (signal_delay body (sym same ∙ delay));
       }
     where
-      signal_delay : (body : Tree) → construct.Signal body ≡ construct.Delay → ⊥
+      signal_delay : (body : BodyTree) → construct.Signal body ≡ construct.Delay → ⊥
       signal_delay body h = cc
 
   -- a definition that is only a name

@@ -9,9 +9,10 @@ use Rattle.flat_core.specs.declared.equation.Output.{Output}
 use Rattle.flat_core.specs.Complete.{IsFlat}
 use Rattle.flat_core.specs.Needed.{HasArgument, RunsNeeded}
 use Rattle.flat_core.specs.System.{System, runs, IsProper}
-use Rattle.flat_core.proofs.Members.{contains_head, contains_tail, contains_map, all_at}
+use Rattle.tsl_value.proofs.Lists.{contains_map}
+use Rattle.flat_core.proofs.Members.{contains_head, contains_tail, all_at}
 use Rattle.translation_order.proofs.PathLemmas.{walk_keeps}
-use Rattle.spec_parser.specs.Tree as tree
+use Rattle.syntax_tree.specs.Tree as tree
 use Rattle.expr_types.specs.Around.{Kinds}
 use Rattle.stream_constructs.specs.declared.construct.Stream.{Stream}
 use Rattle.stream_constructs.specs.Construct.{Construct}
@@ -21,8 +22,8 @@ use Rattle.spec_meaning.specs.Shape.{Shape, shape, all_parts, itself}
 use Rattle.spec_meaning.specs.Happens.{IsNeeded}
 use Rattle.spec_meaning.specs.Happens as meaning
 use Rattle.spec_meaning.specs.Due.{Printed, outputs_of}
-use Rattle.flatten_rules.specs.Flat.{outermost, named, MakesPrinted, MakesOutputs}
-use Rattle.flatten_rules.specs.Flat as flat
+use Rattle.spec_meaning.specs.Flat.{outermost, named, MakesPrinted, MakesOutputs}
+use Rattle.spec_meaning.specs.Flat as flat
 use Rattle.flat_meaning.proofs.ListLemmas.{at_place}
 use Rattle.flat_meaning.proofs.Plain.{unnamed, original, Within, within_left, within_right, within_named}
 use Rattle.flat_meaning.proofs.Placed.{Each, each_from, each_to, outside, IsMade, Placed, placed, IsPlaced, IsBuilt, Leads, here, onward}

@@ -12,8 +12,8 @@ use Rattle.flat_core.specs.Typed.{unit_type, is_aggregate}
 use Rattle.flat_core.specs.TypedSystem.{IsTypedEquation}
 use Rattle.flat_core.proofs.Members.{all_append, all_map}
 use Rattle.flat_core.proofs.Uniqueness.{all_with}
-use Rattle.spec_parser.specs.Tree as tree
-use Rattle.spec_parser.specs.Tree.{Expr, place_of}
+use Rattle.syntax_tree.specs.Tree as tree
+use Rattle.syntax_tree.specs.Tree.{Expr, place_of}
 use Rattle.name_check.specs.Scope.{functions_of, top}
 use Rattle.expr_types.specs.Around.{Kinds}
 use Rattle.stream_constructs.specs.declared.construct.Stream.{Stream}
@@ -22,8 +22,8 @@ use Rattle.stream_constructs.specs.Construct as construct
 use Rattle.stream_constructs.specs.Equations.{own_equations, choice_equations, alias_equation}
 use Rattle.stream_constructs.specs.Agree.{Fits, FitsChoice, last_number}
 use Rattle.spec_meaning.specs.Occurrence.{Occurrence, block_of}
-use Rattle.flatten_rules.specs.Makes.{Standing, Makes, MakesAll, MakesBody, MakesBlock, inside_call, is_own, is_choice, with_itself, choice_operands}
-use Rattle.flatten_rules.specs.Makes as makes
+use Rattle.spec_meaning.specs.Makes.{Standing, Makes, MakesAll, MakesBody, MakesBlock, inside_call, is_own, is_choice, with_itself, choice_operands}
+use Rattle.spec_meaning.specs.Makes as makes
 use Rattle.flat_meaning.proofs.Built.{TheLaws, is_itself, one_number, nameless}
 use Rattle.flat_meaning.proofs.OwnEquations.{own_made, choice_made, delay_own}
 use Rattle.flat_meaning.proofs.Plain.{plain, Within, within_left, within_right, stands}

@@ -22,12 +22,12 @@ use Rattle.flat_core.specs.WellFormed.{IsWellFormed}
 use Rattle.flat_core.proofs.Members.{contains_head, contains_tail, some_from, some_in}
 use Rattle.flat_core.proofs.PendingLemmas.{some_before_gives, some_before_from}
 use Rattle.flat_core.proofs.Instants.{in_instants, instants_have}
-use Rattle.spec_parser.specs.Tree as tree
-use Rattle.spec_parser.specs.Tree.{place_of}
+use Rattle.syntax_tree.specs.Tree as tree
+use Rattle.syntax_tree.specs.Tree.{place_of}
 use Rattle.expr_types.specs.Around.{Kinds}
 use Rattle.spec_meaning.specs.Due.{Printed, outputs_of, IsInstant, IsFaulty, AreInstants, AreDue, IsTextAt, IsTextOf, IsDueText}
 use Rattle.spec_meaning.specs.Due as due
-use Rattle.flatten_rules.specs.Flat.{IsFlatOf}
+use Rattle.spec_meaning.specs.Flat.{IsFlatOf}
 use Rattle.flat_meaning.specs.inner.Laws.{IsExpiry, MeansTheSame}
 use Rattle.tsl_value.proofs.Lists.{kept_in, in_kept}
 use Rattle.tsl_value.specs.View.{View}

@@ -9,7 +9,7 @@ use Rattle.flat_core.specs.TypedSystem.{IsOfType}
 use Rattle.stream_constructs.specs.declared.construct.Stream.{Stream}
 use Rattle.stream_constructs.specs.Construct.{Construct, Operand}
 use Rattle.stream_constructs.specs.Construct as construct
-use Rattle.stream_constructs.specs.Equations.{lifting, lifted, literal_equations, first_number, held, own_equations, choice_equations}
+use Rattle.stream_constructs.specs.Equations.{lifting, lifted_streams, literal_equations, first_number, held, own_equations, choice_equations}
 use Rattle.stream_constructs.specs.Agree.{Fits, last_number}
 use Rattle.stream_constructs.proofs.Making.{last_of_push}
 use Rattle.flat_meaning.proofs.Plain.{plain, unnamed, Within}
@@ -39,11 +39,11 @@ own_ends p of n (construct.FilterBy b) (e ∷ []) fits = ends (_ ∷ []) _ (sym 
 own_ends p of n (construct.Lift f) parts fits = ends [] _ refl
 own_ends p of n (construct.Signal f) [] fits = ends (_ ∷ []) _ refl
 own_ends p of n (construct.Signal f) (a ∷ parts) fits = ends (lifting p n (a ∷ parts)) _ refl
-own_ends p of n (construct.Update o os) parts fits = ends (lifting p n parts ++ literal_equations p (first_number (lifted n parts)) os) _ refl
+own_ends p of n (construct.Update o os) parts fits = ends (lifting p n parts ++ literal_equations p (first_number (lifted_streams n parts)) os) _ refl
 own_ends p of n c parts fits = absurd fits
 
 pub choice_ends : (p : Place) (of : ValueType) (n : ℕ) (os : List Operand) (parts : List Stream) → EndsWith (choice_equations p of n os parts) of
-choice_ends p of n os parts = ends (lifting p n parts ++ literal_equations p (first_number (lifted n parts)) os) _ refl
+choice_ends p of n os parts = ends (lifting p n parts ++ literal_equations p (first_number (lifted_streams n parts)) os) _ refl
 
 -- where they stand in a system, it has this type there
 pub ends_there : (s : System) (n : ℕ) (own : List Equation) (of : ValueType) → EndsWith own of → Within s n own → IsOfType (plain s).equations (last_number n own) of

@@ -11,7 +11,7 @@ use Rattle.flat_core.specs.System.{System}
 use Rattle.flat_core.specs.Typed.{IsTyped}
 use Rattle.flat_core.specs.Typed as typed
 use Rattle.flat_core.proofs.Members.{all_append}
-use Rattle.spec_parser.specs.Tree as tree
+use Rattle.syntax_tree.specs.Tree as tree
 use Rattle.name_check.specs.Scope.{functions_of, top}
 use Rattle.type_rules.specs.Written.{value_of}
 use Rattle.form_check.specs.Declared.{is_aggregate, is_of_aggregates, aggregate_in_item, aggregate_inputs}
@@ -20,8 +20,8 @@ use Rattle.stream_constructs.specs.declared.construct.Stream.{Stream}
 use Rattle.stream_constructs.specs.Equations.{equation}
 use Rattle.stream_constructs.specs.Agree.{IsScalar}
 use Rattle.spec_meaning.specs.Occurrence.{body_of}
-use Rattle.flatten_rules.specs.Flat.{outermost, named, event_type, MakesInputs, MakesStreams}
-use Rattle.flatten_rules.specs.Flat as flat
+use Rattle.spec_meaning.specs.Flat.{outermost, named, event_type, MakesInputs, MakesStreams}
+use Rattle.spec_meaning.specs.Flat as flat
 use Rattle.tsl_value.proofs.Lists.{append_empty}
 use Rattle.flat_meaning.proofs.Built.{TheLaws}
 use Rattle.flat_meaning.proofs.Plain.{plain, unnamed, Within, within_left, within_right, within_named, named_length}
@@ -133,7 +133,7 @@ module _ (items : List tree.Item) (kinds : Kinds) (at_top : ℕ → Stream) (s :
         let short = result_short b (bodies.body i b (ap body_of (first_item i _ rest same))) in
         subst AllGood (sym all_is)
         (all_append Good (named x first) made (named_good x first (body_good items kinds at_top s laws tops bodies no_lift nowhere short one here)) (streams_good (other_items i _ rest same) more there))
-    streams_good {i} same (flat.MakesStreams.called {rest = rest} more) within = streams_good (other_items i _ rest same) more within
+    streams_good {i} same (flat.MakesStreams.with_parameters {rest = rest} more) within = streams_good (other_items i _ rest same) more within
     streams_good {i} same (flat.MakesStreams.input {rest = rest} more) within = streams_good (other_items i _ rest same) more within
     streams_good {i} same (flat.MakesStreams.output {rest = rest} more) within = streams_good (other_items i _ rest same) more within
     streams_good {i} same (flat.MakesStreams.output_as {rest = rest} more) within = streams_good (other_items i _ rest same) more within

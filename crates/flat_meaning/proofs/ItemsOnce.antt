@@ -6,14 +6,14 @@ use Rattle.std.proofs.lemmas.Option.{same_Some, none-some}
 use Rattle.flat_core.specs.declared.equation.Op.TheVariants as op
 use Rattle.flat_core.specs.declared.equation.Equation.{Equation}
 use Rattle.flat_core.specs.declared.equation.Output.{Output}
-use Rattle.spec_parser.specs.Tree as tree
-use Rattle.spec_parser.specs.Tree.{Expr}
+use Rattle.syntax_tree.specs.Tree as tree
+use Rattle.syntax_tree.specs.Tree.{Expr}
 use Rattle.type_rules.specs.declared.rule.ExprType.TheVariants as expr_type
 use Rattle.expr_types.specs.Around.{Kinds}
 use Rattle.stream_constructs.specs.declared.construct.Stream.{Stream}
 use Rattle.stream_constructs.specs.Equations.{equation}
-use Rattle.flatten_rules.specs.Flat.{outermost, named, MakesInputs, MakesStreams, MakesPrinted, MakesOutputs}
-use Rattle.flatten_rules.specs.Flat as flat
+use Rattle.spec_meaning.specs.Flat.{outermost, named, MakesInputs, MakesStreams, MakesPrinted, MakesOutputs}
+use Rattle.spec_meaning.specs.Flat as flat
 use Rattle.flat_meaning.proofs.Scopes.{IsInputItem, IsStreamItem}
 use Rattle.flat_meaning.specs.inner.OneFlat.{SameKinds}
 use Rattle.flat_meaning.proofs.Once.{Alike, IsSame, Agree, IsOne}
@@ -68,7 +68,7 @@ module _ (items : List tree.Item) (kinds : Kinds) (top : ℕ → Stream) where
   streams_pinned {i} (flat.MakesStreams.stream {p = p} {q = q} {x = x} {w = w} {b = b} {rest = rest} s first made top_is pin one more all_is) =
       let here : IsPinned i = pin ∙ ap (λ (v : Stream). Some (expr_type.Stream v.of)) (sym top_is) in
       record { each = with_first IsStreamItem IsPinned i (tree.Defined p (tree.Define q x [] w b)) rest (λ is. here) (streams_pinned more).each }
-  streams_pinned (flat.MakesStreams.called more) = not_pinned _ (λ is. let e = is.is in (cc)) (streams_pinned more)
+  streams_pinned (flat.MakesStreams.with_parameters more) = not_pinned _ (λ is. let e = is.is in (cc)) (streams_pinned more)
   streams_pinned (flat.MakesStreams.input more) = not_pinned _ (λ is. let e = is.is in (cc)) (streams_pinned more)
   streams_pinned (flat.MakesStreams.output more) = not_pinned _ (λ is. let e = is.is in (cc)) (streams_pinned more)
   streams_pinned (flat.MakesStreams.output_as more) = not_pinned _ (λ is. let e = is.is in (cc)) (streams_pinned more)
@@ -97,7 +97,7 @@ module _ (items : List tree.Item) (a b : Kinds) (same : SameKinds a b) (top othe
         agreed = with_first IsStreamItem (λ j. top j ≡ other j) i (tree.Defined p (tree.Define q x [] w c)) rest (λ is. top_is ∙ head.numbered n_same ∙ sym other_is) tail.agreed;
         whole = λ exact. all_is ∙ (λ k. named x ((head.once.whole exact n_same top_same).0 k) ++ tail.whole exact k) ∙ sym all_too;
       }
-  streams_once n_same (flat.MakesStreams.called more) (flat.MakesStreams.called less) = no_stream _ (λ is. let e = is.is in (cc)) (streams_once n_same more less)
+  streams_once n_same (flat.MakesStreams.with_parameters more) (flat.MakesStreams.with_parameters less) = no_stream _ (λ is. let e = is.is in (cc)) (streams_once n_same more less)
   streams_once n_same (flat.MakesStreams.input more) (flat.MakesStreams.input less) = no_stream _ (λ is. let e = is.is in (cc)) (streams_once n_same more less)
   streams_once n_same (flat.MakesStreams.output more) (flat.MakesStreams.output less) = no_stream _ (λ is. let e = is.is in (cc)) (streams_once n_same more less)
   streams_once n_same (flat.MakesStreams.output_as more) (flat.MakesStreams.output_as less) = no_stream _ (λ is. let e = is.is in (cc)) (streams_once n_same more less)

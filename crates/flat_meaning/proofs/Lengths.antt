@@ -9,7 +9,7 @@ use Rattle.flat_core.specs.Typed.{unit_type}
 use Rattle.stream_constructs.specs.declared.construct.Stream.{Stream}
 use Rattle.stream_constructs.specs.Construct.{Construct, Operand, Fixed, Varying}
 use Rattle.stream_constructs.specs.Construct as construct
-use Rattle.stream_constructs.specs.Equations.{equation, numbers, operand_numbers, held_each, lifting, lifted, first_number, literal_equations, with_literals, update_op, own_equations, choice_equations}
+use Rattle.stream_constructs.specs.Equations.{equation, numbers, operand_numbers, held_each, lifting, lifted_streams, first_number, literal_equations, with_literals, update_op, own_equations, choice_equations}
 use Rattle.flat_meaning.proofs.OneType.{types}
 
 -- streams of these types, without numbers
@@ -45,13 +45,13 @@ literals_length p first other (Varying ∷ os) = literals_length p first other o
 with_literals_length : (p : Place) (o : Op) (of at : ValueType) (n : ℕ) (os : List Operand) (parts : List Stream) → length (with_literals p o of n os parts) ≡ length (with_literals p o at 0 os (streams_of (types parts)))
 with_literals_length p o of at n os parts =
     let blank : List Stream = streams_of (types parts) in
-    let last : Equation = equation p o (operand_numbers (n + length (lifting p n parts)) os (numbers (lifted n parts))) of in
-    let other : Equation = equation p o (operand_numbers (0 + length (lifting p 0 blank)) os (numbers (lifted 0 blank))) at in
+    let last : Equation = equation p o (operand_numbers (n + length (lifting p n parts)) os (numbers (lifted_streams n parts))) of in
+    let other : Equation = equation p o (operand_numbers (0 + length (lifting p 0 blank)) os (numbers (lifted_streams 0 blank))) at in
     let lift : List Equation = lifting p n parts in
     let lift_blank : List Equation = lifting p 0 blank in
-    let fixed : List Equation = literal_equations p (first_number (lifted n parts)) os in
-    let fixed_blank : List Equation = literal_equations p (first_number (lifted 0 blank)) os in
-    let front = both_lengths lift lift_blank fixed fixed_blank (lifting_length p n parts) (literals_length p (first_number (lifted n parts)) (first_number (lifted 0 blank)) os) in
+    let fixed : List Equation = literal_equations p (first_number (lifted_streams n parts)) os in
+    let fixed_blank : List Equation = literal_equations p (first_number (lifted_streams 0 blank)) os in
+    let front = both_lengths lift lift_blank fixed fixed_blank (lifting_length p n parts) (literals_length p (first_number (lifted_streams n parts)) (first_number (lifted_streams 0 blank)) os) in
     both_lengths (lift ++ fixed) (lift_blank ++ fixed_blank) (last ∷ []) (other ∷ []) front refl
 
 own_length_from : (p : Place) (of : ValueType) (n : ℕ) (c : Construct) (parts : List Stream) → length (own_equations p of n c parts) ≡ length (own_equations p unit_type 0 c (streams_of (types parts)))

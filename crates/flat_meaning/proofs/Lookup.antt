@@ -7,16 +7,16 @@ use Rattle.tsl_value.specs.declared.scalar.ValueType.{ValueType}
 use Rattle.flat_core.specs.declared.equation.Op.TheVariants as op
 use Rattle.flat_core.specs.declared.equation.Equation.{Equation}
 use Rattle.flat_core.specs.System.{System}
-use Rattle.spec_parser.specs.Tree as tree
-use Rattle.spec_parser.specs.Tree.{Expr, Exprs, no_exprs, more_exprs}
+use Rattle.syntax_tree.specs.Tree as tree
+use Rattle.syntax_tree.specs.Tree.{Expr, Exprs, no_exprs, more_exprs}
 use Rattle.expr_types.specs.Around.{Kinds}
 use Rattle.stream_constructs.specs.declared.construct.Stream.{Stream}
 use Rattle.stream_constructs.specs.Equations.{equation}
 use Rattle.spec_meaning.specs.Occurrence.{Occurrence, argument, local, result_of}
 use Rattle.spec_meaning.specs.Shape.{expressions, input_number}
-use Rattle.flatten_rules.specs.Makes.{Standing, MakesAll, MakesBody, MakesBlock, no_part, part, no_definition, definition}
-use Rattle.flatten_rules.specs.Flat.{outermost, named, MakesInputs, MakesStreams}
-use Rattle.flatten_rules.specs.Flat as flat
+use Rattle.spec_meaning.specs.Makes.{Standing, MakesAll, MakesBody, MakesBlock, no_part, part, no_definition, definition}
+use Rattle.spec_meaning.specs.Flat.{outermost, named, MakesInputs, MakesStreams}
+use Rattle.spec_meaning.specs.Flat as flat
 use Rattle.flat_meaning.proofs.Plain.{unnamed, Within, within_left, within_right, within_named, named_length}
 use Rattle.flat_meaning.proofs.Placed.{Each, Entered, IsMade, IsMadeBody, Placed, placed, IsPlaced}
 use Rattle.flat_meaning.proofs.Shapes.{AreBeside}
@@ -93,8 +93,8 @@ module _ (items : List tree.Item) (kinds : Kinds) (top : ℕ → Stream) (s : Sy
       let rest = within_right s n (named y first) made (subst (Within s n) all_is within) in
       let there = subst (λ m. Within s (n + m) made) (named_length y first) rest in
       next_is i k (λ j. IsMadeBody items kinds top s outermost (result_of b) (top j)) (stream_at more there k p q x w b is)
-  stream_at {i} (flat.MakesStreams.called more) within zero p q x w b is = cc
-  stream_at {i} (flat.MakesStreams.called more) within (suc k) p q x w b is = next_is i k (λ j. IsMadeBody items kinds top s outermost (result_of b) (top j)) (stream_at more within k p q x w b is)
+  stream_at {i} (flat.MakesStreams.with_parameters more) within zero p q x w b is = cc
+  stream_at {i} (flat.MakesStreams.with_parameters more) within (suc k) p q x w b is = next_is i k (λ j. IsMadeBody items kinds top s outermost (result_of b) (top j)) (stream_at more within k p q x w b is)
   stream_at {i} (flat.MakesStreams.input more) within zero p q x w b is = cc
   stream_at {i} (flat.MakesStreams.input more) within (suc k) p q x w b is = next_is i k (λ j. IsMadeBody items kinds top s outermost (result_of b) (top j)) (stream_at more within k p q x w b is)
   stream_at {i} (flat.MakesStreams.output more) within zero p q x w b is = cc

@@ -6,8 +6,8 @@ use Rattle.std.proofs.lemmas.Bool.{true≢false, false≢true}
 use Rattle.std.proofs.lemmas.Option.{same_Some, slice_get-map}
 use Rattle.tsl_value.specs.declared.scalar.ValueType.{ValueType}
 use Rattle.flat_core.specs.declared.equation.Equation.{Equation}
-use Rattle.spec_parser.specs.Tree as tree
-use Rattle.spec_parser.specs.Tree.{Expr, place_of}
+use Rattle.syntax_tree.specs.Tree as tree
+use Rattle.syntax_tree.specs.Tree.{Expr, place_of}
 use Rattle.name_check.specs.declared.declaration.Declaration.{Declaration}
 use Rattle.name_check.specs.declared.declaration.Declaration.TheVariants as declaration
 use Rattle.name_check.specs.Scope.{meaning}
@@ -18,8 +18,8 @@ use Rattle.stream_constructs.specs.declared.construct.Stream.{Stream}
 use Rattle.stream_constructs.specs.Equations.{alias_equation}
 use Rattle.spec_meaning.specs.Occurrence.{Call, scope_at, body_of, block_of, result_of}
 use Rattle.spec_meaning.specs.Shape.{Shape, expr_shape}
-use Rattle.flatten_rules.specs.Makes.{Standing, Stands, Makes, MakesAll, MakesBody, MakesBlock, AreLocals, inside_call}
-use Rattle.flatten_rules.specs.Makes as makes
+use Rattle.spec_meaning.specs.Makes.{Standing, Stands, Makes, MakesAll, MakesBody, MakesBlock, AreLocals, inside_call}
+use Rattle.spec_meaning.specs.Makes as makes
 use Rattle.flat_meaning.proofs.Scopes.{IsRight, meaning_right}
 use Rattle.flat_meaning.specs.inner.OneFlat.{SameKinds}
 use Rattle.flat_meaning.proofs.OneType.{types}

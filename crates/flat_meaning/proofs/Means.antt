@@ -20,8 +20,8 @@ use Rattle.flat_core.specs.Solution.{Solves}
 use Rattle.flat_core.specs.System.{System, runs, equation}
 use Rattle.flat_core.specs.WellFormed.{IsWellFormed}
 use Rattle.flat_core.proofs.Members.{all_at}
-use Rattle.spec_parser.specs.Tree as tree
-use Rattle.spec_parser.specs.Tree.{place_of}
+use Rattle.syntax_tree.specs.Tree as tree
+use Rattle.syntax_tree.specs.Tree.{place_of}
 use Rattle.expr_types.specs.Around.{Kinds}
 use Rattle.stream_constructs.specs.declared.construct.Stream.{Stream}
 use Rattle.stream_constructs.specs.Construct.{Construct, root, is_blocked}
@@ -31,8 +31,8 @@ use Rattle.spec_meaning.specs.Occurrence.{Occurrence, result_of}
 use Rattle.spec_meaning.specs.Shape.{Shape, all_parts, input_number}
 use Rattle.spec_meaning.specs.Happens.{history, Happens, IsNeeded, HasRoot}
 use Rattle.spec_meaning.specs.Due.{Printed, outputs_of, Expires}
-use Rattle.flatten_rules.specs.Makes.{is_own}
-use Rattle.flatten_rules.specs.Flat.{outermost, IsFlatOf}
+use Rattle.spec_meaning.specs.Makes.{is_own}
+use Rattle.spec_meaning.specs.Flat.{outermost, IsFlatOf}
 use Rattle.flat_meaning.specs.inner.Laws.{IsRootAt, IsRootOf, IsExpiry, MeansTheSame}
 use Rattle.tsl_value.proofs.Lists.{contains_at, all_by_place}
 use Rattle.flat_meaning.proofs.ListLemmas.{at_place}

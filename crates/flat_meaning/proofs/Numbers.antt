@@ -3,13 +3,13 @@ use Rattle.std.proofs.Common.{◌≡◌, ℕ, ◌+◌, true, false, List, ◌++�
 use Rattle.std.specs.Prelude.{if◌then◌else◌}
 use Rattle.std.proofs.lemmas.Bool.{true≢false}
 use Rattle.flat_core.specs.declared.equation.Equation.{Equation}
-use Rattle.spec_parser.specs.Tree as tree
-use Rattle.spec_parser.specs.Tree.{Expr}
+use Rattle.syntax_tree.specs.Tree as tree
+use Rattle.syntax_tree.specs.Tree.{Expr}
 use Rattle.expr_types.specs.Around.{Kinds}
 use Rattle.stream_constructs.specs.declared.construct.Stream.{Stream}
 use Rattle.stream_constructs.specs.Agree.{last_number}
-use Rattle.flatten_rules.specs.Makes.{Standing, Makes, MakesBody, is_name}
-use Rattle.flatten_rules.specs.Makes as makes
+use Rattle.spec_meaning.specs.Makes.{Standing, Makes, MakesBody, is_name}
+use Rattle.spec_meaning.specs.Makes as makes
 
 -- the last one of two lists after each other
 last_after : (n : ℕ) (before after made : List Equation) (s : Stream) → made ≡ before ++ after → s.id ≡ last_number (n + length before) after → s.id ≡ last_number n made

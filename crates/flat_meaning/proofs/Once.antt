@@ -7,8 +7,8 @@ use Rattle.std.proofs.lemmas.Option.{same_Some}
 use Rattle.tsl_value.specs.declared.scalar.ValueType.{ValueType}
 use Rattle.flat_core.specs.declared.equation.Equation.{Equation}
 use Rattle.flat_core.specs.Typed.{unit_type, is_aggregate}
-use Rattle.spec_parser.specs.Tree as tree
-use Rattle.spec_parser.specs.Tree.{Expr, place_of}
+use Rattle.syntax_tree.specs.Tree as tree
+use Rattle.syntax_tree.specs.Tree.{Expr, place_of}
 use Rattle.stream_constructs.specs.declared.construct.Stream.{Stream}
 use Rattle.stream_constructs.specs.Construct.{Construct, operand_trees}
 use Rattle.stream_constructs.specs.Construct as construct
@@ -16,7 +16,7 @@ use Rattle.stream_constructs.specs.Equations.{own_equations, choice_equations}
 use Rattle.stream_constructs.specs.Agree.{Fits, FitsChoice}
 use Rattle.spec_meaning.specs.Occurrence.{Call}
 use Rattle.spec_meaning.specs.Shape.{Shape, expr_shape}
-use Rattle.flatten_rules.specs.Makes.{Standing, last_of, with_itself, is_choice, choice_operands, IsAsWritten}
+use Rattle.spec_meaning.specs.Makes.{Standing, last_of, with_itself, is_choice, choice_operands, IsAsWritten}
 use Rattle.flat_meaning.proofs.Scopes.{IsInputItem, IsStreamItem}
 use Rattle.flat_meaning.proofs.Shapes.{choice_construct}
 use Rattle.flat_meaning.proofs.Lengths.{both_lengths, own_length, choice_length}

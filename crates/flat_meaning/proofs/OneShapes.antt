@@ -8,9 +8,9 @@ use Rattle.std.proofs.lemmas.Bool.{true≢false}
 use Rattle.tsl_value.specs.declared.place.Place.{Place}
 use Rattle.tsl_value.specs.declared.scalar.Scalar.{Scalar}
 use Rattle.tsl_value.specs.declared.scalar.Scalar.TheVariants as scalar
-use Rattle.spec_parser.specs.Tree as tree
-use Rattle.spec_parser.specs.Tree.{Expr, Exprs, no_links, more_links}
-use Rattle.spec_parser.specs.declared.tree.Level.{Level}
+use Rattle.syntax_tree.specs.Tree as tree
+use Rattle.syntax_tree.specs.Tree.{Expr, Exprs, no_links, more_links}
+use Rattle.syntax_tree.specs.declared.tree.Level.{Level}
 use Rattle.vocabulary.specs.declared.signature.Role.{Role}
 use Rattle.vocabulary.specs.declared.signature.Role.TheVariants as role
 use Rattle.vocabulary.specs.Table.{role_of}
@@ -23,7 +23,7 @@ use Rattle.stream_constructs.specs.Construct as construct
 use Rattle.spec_meaning.specs.Occurrence.{Call, Occurrence, scope_at, stands_for, body_of}
 use Rattle.spec_meaning.specs.Function.{literal}
 use Rattle.spec_meaning.specs.Shape.{Shape, with_parts, role_shape, plain_names, plain_name, is_delay, is_const, is_filter, const_shape, filtered_by, filter_shape, same_as, name_shape, declared_shape, lift_by, function_named, lift_shape, call_shape, expr_shape, expressions}
-use Rattle.flatten_rules.specs.Makes.{is_own}
+use Rattle.spec_meaning.specs.Makes.{is_own}
 use Rattle.flat_meaning.proofs.Shapes.{call_is}
 use Rattle.flat_meaning.proofs.OneType.{is_nil}
 

@@ -4,14 +4,15 @@ use Rattle.std.specs.List.{Contains}
 use Rattle.flat_core.specs.Stream.{event}
 use Rattle.flat_core.specs.Line.{Line, inputs_of}
 use Rattle.flat_core.specs.Text.{event_line}
-use Rattle.spec_parser.specs.Tree as tree
+use Rattle.syntax_tree.specs.Tree as tree
 use Rattle.spec_meaning.specs.Due.{Printed, outputs_of, IsFaulty, AreInstants, AreDue, IsTextAt, IsTextOf, IsDueText}
 use Rattle.spec_meaning.specs.Due as due
 use Rattle.flat_meaning.proofs.OneThing.{one_thing}
 use Rattle.flat_meaning.proofs.Rising.{rising, same_rising}
 
 module _ (items : List tree.Item) (lines : List Line) where
-  same_instants : (bound : ℕ) (xs ys : List ℕ) → AreInstants items lines bound xs → AreInstants items lines bound ys → xs ≡ ys
+  -- the instants below a bound
+  pub same_instants : (bound : ℕ) (xs ys : List ℕ) → AreInstants items lines bound xs → AreInstants items lines bound ys → xs ≡ ys
   same_instants bound xs ys a b = same_rising 0 0 xs ys (rising xs a.rising) (rising ys b.rising) (λ t c. (b.each t).1 ((a.each t).0 c)) (λ t c. (a.each t).1 ((b.each t).0 c))
 
   same_due : (bound limit : ℕ) (xs ys : List ℕ) → AreDue items lines bound limit xs → AreDue items lines bound limit ys → xs ≡ ys

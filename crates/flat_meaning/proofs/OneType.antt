@@ -6,7 +6,7 @@ use Rattle.std.proofs.lemmas.Option.{same_Some}
 use Rattle.tsl_value.specs.View.{type_of}
 use Rattle.tsl_value.specs.declared.scalar.ValueType.{ValueType}
 use Rattle.tsl_value.specs.declared.scalar.ValueType.TheVariants as value_type
-use Rattle.lift_func.specs.Typing.{Kind, Value, Optional, HasKind}
+use Rattle.lift_func.specs.Typing.{ValueKind, Value, Optional, HasKind}
 use Rattle.lift_func.specs.Typing as typing
 use Rattle.flat_core.specs.Typed.{unit_type, int_type, bool_type}
 use Rattle.stream_constructs.specs.declared.construct.Stream.{Stream}
@@ -63,7 +63,7 @@ IsOfType (construct.Signal f) ts of = HasKind (map Value ts) f (Value of)
 IsOfType (construct.Update o os) ts of = first_type (operand_types os ts) ≡ Some of
 IsOfType c ts of = first_type ts ≡ Some of
 
-abbrev value_in : Kind → ValueType
+abbrev value_in : ValueKind → ValueType
 value_in (Value of) = of
 value_in (Optional of) = of
 
@@ -78,7 +78,7 @@ one_is (construct.Lift f) ts of at g h = ap value_in (one_kind g h)
 one_is (construct.Signal f) ts of at g h = ap value_in (one_kind g h)
 one_is c ts of at g h = same_Some of at (sym g ∙ h)
 
-kinds_of : (k : ValueType → Kind) (parts : List Stream) → map (λ a. k a.of) parts ≡ map k (types parts)
+kinds_of : (k : ValueType → ValueKind) (parts : List Stream) → map (λ a. k a.of) parts ≡ map k (types parts)
 kinds_of k [] = refl
 kinds_of k (a ∷ parts) = ap (λ ks. k a.of ∷ ks) (kinds_of k parts)
 

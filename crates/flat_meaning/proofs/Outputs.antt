@@ -14,15 +14,15 @@ use Rattle.flat_core.specs.Complete.{HaveDifferentNames}
 use Rattle.flat_core.specs.System.{System}
 use Rattle.flat_core.proofs.Members.{all_append, contains_head, contains_tail}
 use Rattle.flat_core.proofs.Uniqueness.{all_by}
-use Rattle.spec_parser.specs.Tree as tree
-use Rattle.spec_parser.specs.Tree.{Expr}
+use Rattle.syntax_tree.specs.Tree as tree
+use Rattle.syntax_tree.specs.Tree.{Expr}
 use Rattle.name_check.specs.Scope.{functions_of, top}
 use Rattle.form_check.specs.Outputs.{printed_again, twice_after}
 use Rattle.expr_types.specs.Around.{Kinds}
 use Rattle.stream_constructs.specs.declared.construct.Stream.{Stream}
 use Rattle.spec_meaning.specs.Due.{outputs_of}
-use Rattle.flatten_rules.specs.Flat.{named, MakesPrinted, MakesOutputs}
-use Rattle.flatten_rules.specs.Flat as flat
+use Rattle.spec_meaning.specs.Flat.{named, MakesPrinted, MakesOutputs}
+use Rattle.spec_meaning.specs.Flat as flat
 use Rattle.tsl_value.proofs.Lists.{append_empty}
 use Rattle.flat_meaning.proofs.Built.{TheLaws}
 use Rattle.flat_meaning.proofs.Plain.{plain, unnamed, Within, within_left, within_right, within_named}

@@ -13,7 +13,7 @@ use Rattle.vocabulary.specs.declared.signature.Update.{Update as UpdateOp}
 use Rattle.vocabulary.specs.declared.signature.Update.TheVariants as update
 use Rattle.stream_constructs.specs.Construct.{Construct, Operand, Fixed, Varying}
 use Rattle.stream_constructs.specs.Construct as construct
-use Rattle.stream_constructs.specs.Equations.{equation, strict_lift, held, held_each, lifting, lifted, literal_equations, operand_numbers, first_number, numbers, with_literals, update_op, own_equations, choice_equations}
+use Rattle.stream_constructs.specs.Equations.{equation, strict_lift, held, held_each, lifting, lifted_streams, literal_equations, operand_numbers, first_number, numbers, with_literals, update_op, own_equations, choice_equations}
 use Rattle.stream_constructs.specs.Agree.{Fits}
 
 -- an equation of a construct at a place
@@ -49,8 +49,8 @@ module _ (c : Construct) (p : Place) where
 
   with_literals_made : (o : Op) → is_delay_op o ≡ false → (of : ValueType) (n : ℕ) (os : List Operand) (parts : List Stream) → AllByRecursion (IsOwn c p) (with_literals p o of n os parts)
   with_literals_made o other of n os parts =
-      all_append (IsOwn c p) (lifting p n parts ++ literal_equations p (first_number (lifted n parts)) os) (equation p o (operand_numbers (n + length (lifting p n parts)) os (numbers (lifted n parts))) of ∷ [])
-      (all_append (IsOwn c p) (lifting p n parts) (literal_equations p (first_number (lifted n parts)) os) (lifting_made n parts) (literals_made (first_number (lifted n parts)) os))
+      all_append (IsOwn c p) (lifting p n parts ++ literal_equations p (first_number (lifted_streams n parts)) os) (equation p o (operand_numbers (n + length (lifting p n parts)) os (numbers (lifted_streams n parts))) of ∷ [])
+      (all_append (IsOwn c p) (lifting p n parts) (literal_equations p (first_number (lifted_streams n parts)) os) (lifting_made n parts) (literals_made (first_number (lifted_streams n parts)) os))
       (plain_one o _ of other, tt)
 
 update_no_delay : (o : UpdateOp) → is_delay_op (update_op o) ≡ false
@@ -74,7 +74,7 @@ own_made p of n (construct.FilterBy b) (e ∷ []) = (plain_one (construct.Filter
 own_made p of n (construct.Lift f) parts = (plain_one (construct.Lift f) p _ _ _ refl, tt)
 own_made p of n (construct.Signal f) [] = (plain_one (construct.Signal f) p _ _ _ refl, (plain_one (construct.Signal f) p _ _ _ refl, tt))
 own_made p of n (construct.Signal f) (a ∷ parts) =
-    all_append (IsOwn (construct.Signal f) p) (lifting p n (a ∷ parts)) (strict_lift p f (numbers (lifted n (a ∷ parts))) of ∷ []) (lifting_made (construct.Signal f) p n (a ∷ parts)) (plain_one (construct.Signal f) p _ _ _ refl, tt)
+    all_append (IsOwn (construct.Signal f) p) (lifting p n (a ∷ parts)) (strict_lift p f (numbers (lifted_streams n (a ∷ parts))) of ∷ []) (lifting_made (construct.Signal f) p n (a ∷ parts)) (plain_one (construct.Signal f) p _ _ _ refl, tt)
 own_made p of n (construct.Update o os) parts = with_literals_made (construct.Update o os) p (update_op o) (update_no_delay o) of n os parts
 own_made p of n c parts = tt
 
@@ -85,7 +85,7 @@ some_last : (xs : List Equation) (x : Equation) → 0 < length (xs ++ x ∷ [])
 some_last xs x = omega (arith, length-append xs (x ∷ []))
 
 pub choice_some : (p : Place) (of : ValueType) (n : ℕ) (os : List Operand) (parts : List Stream) → 0 < length (choice_equations p of n os parts)
-choice_some p of n os parts = some_last (lifting p n parts ++ literal_equations p (first_number (lifted n parts)) os) _
+choice_some p of n os parts = some_last (lifting p n parts ++ literal_equations p (first_number (lifted_streams n parts)) os) _
 
 pub own_some : (p : Place) (of : ValueType) (n : ℕ) (c : Construct) (parts : List Stream) → Fits c parts of → 0 < length (own_equations p of n c parts)
 own_some p of n construct.Nil [] fits = omega arith
@@ -102,7 +102,7 @@ own_some p of n (construct.FilterBy b) (e ∷ []) fits = omega arith
 own_some p of n (construct.Lift f) parts fits = omega arith
 own_some p of n (construct.Signal f) [] fits = omega arith
 own_some p of n (construct.Signal f) (a ∷ parts) fits = some_last (lifting p n (a ∷ parts)) _
-own_some p of n (construct.Update o os) parts fits = some_last (lifting p n parts ++ literal_equations p (first_number (lifted n parts)) os) _
+own_some p of n (construct.Update o os) parts fits = some_last (lifting p n parts ++ literal_equations p (first_number (lifted_streams n parts)) os) _
 own_some p of n c parts fits = absurd fits
 
 -- a delay is one equation

@@ -12,8 +12,8 @@ use Rattle.flat_core.specs.Needed.{HasArgument}
 use Rattle.flat_core.specs.System.{System}
 use Rattle.flat_core.specs.WellFormed.{Needs}
 use Rattle.flat_core.proofs.Members.{contains_head, contains_tail}
-use Rattle.spec_parser.specs.Tree as tree
-use Rattle.spec_parser.specs.Tree.{Expr, Exprs, place_of}
+use Rattle.syntax_tree.specs.Tree as tree
+use Rattle.syntax_tree.specs.Tree.{Expr, Exprs, place_of}
 use Rattle.expr_types.specs.Around.{Kinds}
 use Rattle.stream_constructs.specs.declared.construct.Stream.{Stream}
 use Rattle.stream_constructs.specs.Construct.{Construct}
@@ -22,8 +22,8 @@ use Rattle.stream_constructs.specs.Agree.{StandsAt, Makes as MakesConstruct, las
 use Rattle.spec_meaning.specs.Occurrence.{Occurrence, body_of, block_of}
 use Rattle.spec_meaning.specs.Happens.{history}
 use Rattle.spec_meaning.specs.Shape.{Shape, shape, all_parts, expressions}
-use Rattle.flatten_rules.specs.Makes.{Standing, Makes, MakesAll, MakesBody, MakesBlock, inside_call, is_own}
-use Rattle.flatten_rules.specs.Flat.{outermost}
+use Rattle.spec_meaning.specs.Makes.{Standing, Makes, MakesAll, MakesBody, MakesBlock, inside_call, is_own}
+use Rattle.spec_meaning.specs.Flat.{outermost}
 use Rattle.flat_meaning.proofs.Plain.{plain, Within}
 use Rattle.flat_meaning.proofs.OwnEquations.{IsOneDelay}
 

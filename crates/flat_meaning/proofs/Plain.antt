@@ -14,7 +14,7 @@ use Rattle.flat_core.proofs.Members.{all_at}
 use Rattle.translation_order.proofs.PathLemmas.{walk_keeps}
 use Rattle.flat_core.proofs.WellFormedRank.{rank_of, rank_falls}
 use Rattle.stream_constructs.specs.Agree.{StandsAt}
-use Rattle.flatten_rules.specs.Flat.{named}
+use Rattle.spec_meaning.specs.Flat.{named}
 use Rattle.tsl_value.proofs.Lists.{all_by_place, get_left, get_right}
 
 abbrev pub unnamed : Equation → Equation

@@ -8,8 +8,8 @@ use Rattle.tsl_value.specs.declared.scalar.ValueType.{ValueType}
 use Rattle.flat_core.specs.declared.equation.Equation.{Equation}
 use Rattle.flat_core.specs.System.{System}
 use Rattle.flat_core.specs.Typed.{is_aggregate}
-use Rattle.spec_parser.specs.Tree as tree
-use Rattle.spec_parser.specs.Tree.{Expr, Exprs, place_of, no_links}
+use Rattle.syntax_tree.specs.Tree as tree
+use Rattle.syntax_tree.specs.Tree.{Expr, Exprs, place_of, no_links}
 use Rattle.name_check.specs.declared.declaration.Declaration.{Declaration}
 use Rattle.name_check.specs.declared.declaration.Declaration.TheVariants as declaration
 use Rattle.expr_types.specs.Around.{Kinds}
@@ -19,9 +19,9 @@ use Rattle.stream_constructs.specs.Equations.{own_equations, choice_equations, a
 use Rattle.stream_constructs.specs.Agree.{Fits, FitsChoice, last_number}
 use Rattle.spec_meaning.specs.Occurrence.{Occurrence, stands_for, result_of, body_of, block_of, local}
 use Rattle.spec_meaning.specs.Shape.{Shape, shape, same_as, name_shape, input_number}
-use Rattle.flatten_rules.specs.Makes.{Standing, Stands, Makes, MakesAll, MakesBody, MakesBlock, last_of, is_name, is_own, is_choice, choice_operands, with_itself, IsAsWritten, inside_call}
-use Rattle.flatten_rules.specs.Makes as makes
-use Rattle.flatten_rules.specs.Flat.{outermost}
+use Rattle.spec_meaning.specs.Makes.{Standing, Stands, Makes, MakesAll, MakesBody, MakesBlock, last_of, is_name, is_own, is_choice, choice_operands, with_itself, IsAsWritten, inside_call}
+use Rattle.spec_meaning.specs.Makes as makes
+use Rattle.spec_meaning.specs.Flat.{outermost}
 use Rattle.flat_meaning.proofs.Plain.{Within, within_left, within_right}
 use Rattle.flat_meaning.proofs.Shapes.{call_is, name_is}
 use Rattle.flat_meaning.proofs.Scopes.{IsInputItem, IsStreamItem, IsRight, meaning_right}

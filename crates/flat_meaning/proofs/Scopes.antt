@@ -6,12 +6,13 @@ use Rattle.std.specs.Option.{option_map}
 use Rattle.std.specs.Str.{bytes_eq}
 use Rattle.std.proofs.lemmas.Option.{same_Some, none-some}
 use Rattle.tsl_value.specs.declared.place.Place.{Place}
-use Rattle.spec_parser.specs.Tree as tree
+use Rattle.syntax_tree.specs.Tree as tree
 use Rattle.name_check.specs.declared.declaration.Declaration.{Declaration}
 use Rattle.name_check.specs.declared.declaration.Declaration.TheVariants as declaration
 use Rattle.name_check.specs.Scope.{count_in, Scope, meaning, is_events, declared_from, top, parameters_from, locals_from, is_function, are_values, functions_of, inside}
 use Rattle.spec_meaning.specs.Occurrence.{Call, scope_at, params_of, body_of, block_of}
 use Rattle.flat_core.proofs.Members.{all_append}
+use Rattle.checked_spec.proofs.FunctionScopes.{first_there}
 
 pub record IsInputItem (item : Option tree.Item) : Type 0 where
   pub place : Place
@@ -44,12 +45,9 @@ module _ (items : List tree.Item) where
 
   declared_right : (i : ℕ) (rest : List tree.Item) → ((k : ℕ) → slice_get items (i + k) ≡ slice_get rest k) → AreRight (declared_from i rest)
   declared_right i [] same = tt
-  declared_right i (item ∷ rest) same = each item (same_here item same)
+  declared_right i (item ∷ rest) same = each item (first_there items i item rest same)
       (declared_right (suc i) rest (λ k. let e : suc i + k ≡ i + suc k = omega arith in ap (slice_get items) e ∙ same (suc k)))
     where
-      same_here : (item : tree.Item) → ((k : ℕ) → slice_get items (i + k) ≡ slice_get (item ∷ rest) k) → slice_get items i ≡ Some item
-      same_here item same = let e : i ≡ i + 0 = omega arith in ap (slice_get items) e ∙ same 0
-
       each : (item : tree.Item) → slice_get items i ≡ Some item → AreRight (declared_from (suc i) rest) → AreRight (declared_from i (item ∷ rest))
       each (tree.Input p q n y) is more = (record { place = p; at = q; name = n; of = y; is = is }, more)
       each (tree.Defined p (tree.Define q n [] w b)) is more = (record { place = p; at = q; name = n; written = w; body = b; is = is }, more)

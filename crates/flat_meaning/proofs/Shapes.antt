@@ -8,8 +8,8 @@ use Rattle.std.proofs.lemmas.Option.{same_Some}
 use Rattle.tsl_value.specs.declared.scalar.Scalar.{Scalar}
 use Rattle.tsl_value.specs.declared.scalar.Scalar.TheVariants as scalar
 use Rattle.tsl_value.specs.declared.place.Place.{Place}
-use Rattle.spec_parser.specs.Tree as tree
-use Rattle.spec_parser.specs.Tree.{Expr, Exprs, no_links, more_links}
+use Rattle.syntax_tree.specs.Tree as tree
+use Rattle.syntax_tree.specs.Tree.{Expr, Exprs, no_links, more_links}
 use Rattle.vocabulary.specs.declared.signature.Role.{Role}
 use Rattle.vocabulary.specs.declared.signature.Role.TheVariants as role
 use Rattle.vocabulary.specs.Table.{role_of}
@@ -24,7 +24,7 @@ use Rattle.spec_meaning.specs.Occurrence.{Call, Occurrence, scope_at, stands_for
 use Rattle.spec_meaning.specs.Function.{literal}
 use Rattle.spec_meaning.specs.Shape.{Shape, is_part, left_of, all_but_last, last_operand, beside, with_parts, role_shape, plain_name, is_delay, is_const, is_filter, const_shape, filtered_by, filter_shape, same_as, name_shape, declared_shape, lift_by, function_named, lift_shape, call_shape, expr_shape, shape, expressions}
 use Rattle.spec_meaning.proofs.Names.{no_builtin}
-use Rattle.flatten_rules.specs.Makes.{is_own, is_choice, choice_operands}
+use Rattle.spec_meaning.specs.Makes.{is_own, is_choice, choice_operands}
 
 -- the parts stand in these calls
 abbrev pub AreBeside : List Call → List Occurrence → Type 0

@@ -13,7 +13,7 @@ use Rattle.vocabulary.specs.declared.signature.Update.{Update as UpdateOp}
 use Rattle.vocabulary.specs.declared.signature.Update.TheVariants as update
 use Rattle.stream_constructs.specs.Construct.{Construct, Operand, Fixed, Varying}
 use Rattle.stream_constructs.specs.Construct as construct
-use Rattle.stream_constructs.specs.Equations.{held_each, lifting, lifted, literal_equations, first_number, with_literals, update_op, own_equations, choice_equations}
+use Rattle.stream_constructs.specs.Equations.{held_each, lifting, lifted_streams, literal_equations, first_number, with_literals, update_op, own_equations, choice_equations}
 use Rattle.flat_meaning.proofs.ShortShapes.{ShortConstruct, ShortOperands}
 
 abbrev pub ShortEquations : List Equation → Type 0
@@ -39,8 +39,8 @@ literals_short p first (Varying ∷ os) all = literals_short p first os all.1
 
 with_literals_short : (p : Place) (o : Op) (of : ValueType) (n : ℕ) (os : List Operand) (parts : List Stream) → HasShortBody o → ShortOperands os → ShortEquations (with_literals p o of n os parts)
 with_literals_short p o of n os parts here all =
-    join (lifting p n parts ++ literal_equations p (first_number (lifted n parts)) os) _
-    (join (lifting p n parts) (literal_equations p (first_number (lifted n parts)) os) (lifting_short p n parts) (literals_short p (first_number (lifted n parts)) os all)) (here, tt)
+    join (lifting p n parts ++ literal_equations p (first_number (lifted_streams n parts)) os) _
+    (join (lifting p n parts) (literal_equations p (first_number (lifted_streams n parts)) os) (lifting_short p n parts) (literals_short p (first_number (lifted_streams n parts)) os all)) (here, tt)
 
 update_short : (o : UpdateOp) → HasShortBody (update_op o)
 update_short update.SetAdd = tt

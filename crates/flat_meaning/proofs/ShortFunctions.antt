@@ -1,20 +1,21 @@
 -- The bodies of value functions have the texts of the source alone.
-use Rattle.std.proofs.Common.{◌≡◌, ℕ, zero, suc, length, Bool, true, false, cond, List, [], ◌∷◌, ◌++◌, Option, Some, None, refl, ap, sym, subst, ◌∙◌}
-use Rattle.std.specs.Prelude.{slice_get, slice_index_or, codes, if◌then◌else◌}
+use Rattle.std.proofs.Common.{◌≡◌, ℕ, zero, suc, length, Bool, true, false, cond, if◌then◌else◌, List, [], ◌∷◌, ◌++◌, Option, Some, None, refl, ap, sym, subst, ◌∙◌}
+use Rattle.std.specs.Prelude.{slice_get, slice_index_or}
 use Rattle.std.specs.List.{AllByRecursion, find}
-use Rattle.std.specs.Option.{option_map}
+use Rattle.std.specs.Option.{option_map, option_map_or}
 use Rattle.std.specs.Str.{bytes_eq}
 use Rattle.std.proofs.lemmas.Bool.{true≢false}
 use Rattle.std.proofs.lemmas.Option.{same_Some}
 use Rattle.std.proofs.lemmas.Slice.Eq.{bytes_eq-Decides}
 use Rattle.tsl_value.specs.declared.scalar.ValueType.{ValueType}
-use Rattle.lift_func.specs.Tree.{Tree, Two}
+use Rattle.lift_func.specs.BodyTree.{BodyTree, Two}
 use Rattle.flat_core.specs.Complete.{HasShortTexts}
-use Rattle.spec_parser.specs.Tree as tree
-use Rattle.spec_parser.specs.Tree.{Expr, Exprs, no_exprs, more_exprs, Links, no_links, more_links}
+use Rattle.syntax_tree.specs.Tree as tree
+use Rattle.syntax_tree.specs.Tree.{Expr, Exprs, no_exprs, more_exprs, Links, no_links, more_links}
 use Rattle.vocabulary.specs.declared.signature.Role.{Role}
 use Rattle.vocabulary.specs.declared.signature.Role.TheVariants as role
 use Rattle.vocabulary.specs.Table.{role_of}
+use Rattle.vocabulary.specs.PlainTable.{plain_role, entries, look_up}
 use Rattle.name_check.specs.declared.declaration.Declaration.{Declaration}
 use Rattle.name_check.specs.declared.declaration.Declaration.TheVariants as declaration
 use Rattle.name_check.specs.Builtin.{is_lift, lift_name}
@@ -63,14 +64,14 @@ inside_none scope ps h = record { none = λ j is. either (are_values ps) j (no_p
     either false j is = let found = among_functions scope lift_name j is in h.none found.0 found.1
 
 -- ---- trees of expressions
-abbrev pub AreShortTrees : List Tree → Type 0
+abbrev pub AreShortTrees : List BodyTree → Type 0
 AreShortTrees ts = AllByRecursion HasShortTexts ts
 
 arguments_short : {A : Type 0} (k : ℕ) (xs : List A) → AreShortTrees (arguments_from k xs)
 arguments_short k [] = tt
 arguments_short k (x ∷ xs) = (tt, arguments_short (suc k) xs)
 
-at_short : (ts : List Tree) (k : ℕ) → AreShortTrees ts → HasShortTexts (slice_index_or ts k no_tree)
+at_short : (ts : List BodyTree) (k : ℕ) → AreShortTrees ts → HasShortTexts (slice_index_or ts k no_tree)
 at_short [] k h = tt
 at_short (t ∷ ts) zero h = h.0
 at_short (t ∷ ts) (suc k) h = at_short ts k h.1
@@ -79,38 +80,36 @@ absent_short : (of : Option ValueType) → HasShortTexts (absent of)
 absent_short None = tt
 absent_short (Some t) = tt
 
-pub role_short : (r : Role) (ts : List Tree) → AreShortTrees ts → HasShortTexts (role_tree r ts)
+pub role_short : (r : Role) (ts : List BodyTree) → AreShortTrees ts → HasShortTexts (role_tree r ts)
 role_short (role.Unary o) (a ∷ []) h = h.0
 role_short (role.Binary o) (a ∷ b ∷ []) h = (h.0, h.1.0)
 role_short r ts h = tt
 
-either_short : (b : Bool) (t u : Tree) → HasShortTexts t → HasShortTexts u → HasShortTexts (if b then t else u)
-either_short true t u first second = first
-either_short false t u first second = second
-
-option_short : (n : List ℕ) (a : Tree) → HasShortTexts a → HasShortTexts (option_tree n a)
-option_short n a h =
-    either_short (bytes_eq n (codes "Some")) _ _ h
-    (either_short (bytes_eq n (codes "isSome")) _ _ h (either_short (bytes_eq n (codes "isNone")) _ _ h (either_short (bytes_eq n (codes "getSome")) _ _ h tt)))
+option_short : (n : List ℕ) (a : BodyTree) → HasShortTexts a → HasShortTexts (option_tree n a)
+option_short n a h = by (look_up (entries plain_role) n)
+  where
+    by : (o : Option Role) → HasShortTexts (option_map_or (λ r. role_tree r (a ∷ [])) o no_tree)
+    by None = tt
+    by (Some r) = role_short r (a ∷ []) (h, tt)
 
 -- where value functions have short texts
-module _ (scope : Scope) (args : List Tree) (call : ℕ → List Tree → Tree) (no_lift : HasNoLift scope) (args_short : AreShortTrees args) (call_short : (i : ℕ) (ts : List Tree) → AreShortTrees ts → HasShortTexts (call i ts)) where
+module _ (scope : Scope) (args : List BodyTree) (call : ℕ → List BodyTree → BodyTree) (no_lift : HasNoLift scope) (args_short : AreShortTrees args) (call_short : (i : ℕ) (ts : List BodyTree) → AreShortTrees ts → HasShortTexts (call i ts)) where
   named_short : (d : Option Declaration) → HasShortTexts (named_tree scope args call d)
   named_short (Some (declaration.Parameter k)) = at_short args k args_short
   named_short d = tt
 
-  called_short : (d : Option Declaration) (n : List ℕ) (ts : List Tree) → AreShortTrees ts → HasShortTexts (call_tree scope args call d n ts)
+  called_short : (d : Option Declaration) (n : List ℕ) (ts : List BodyTree) → AreShortTrees ts → HasShortTexts (call_tree scope args call d n ts)
   called_short (Some (declaration.Function i)) n ts h = call_short i ts h
   called_short None n (a ∷ []) h = option_short n a h.0
   called_short d n ts h = tt
 
   -- a `lift` in a value function is none
-  lifted_short : (d : Option Declaration) (ts : List Tree) → ((j : ℕ) → d ≡ Some (declaration.Function j) → ⊥) → HasShortTexts (call_tree scope args call d lift_name ts)
+  lifted_short : (d : Option Declaration) (ts : List BodyTree) → ((j : ℕ) → d ≡ Some (declaration.Function j) → ⊥) → HasShortTexts (call_tree scope args call d lift_name ts)
   lifted_short (Some (declaration.Function i)) ts none = absurd (none i refl)
   lifted_short None (a ∷ []) none = tt
   lifted_short d ts none = tt
 
-  by_name : (n : List ℕ) (ts : List Tree) → (is_lift n ≡ false → AreShortTrees ts) → HasShortTexts (call_tree scope args call (meaning scope n) n ts)
+  by_name : (n : List ℕ) (ts : List BodyTree) → (is_lift n ≡ false → AreShortTrees ts) → HasShortTexts (call_tree scope args call (meaning scope n) n ts)
   by_name n ts h = either (is_lift n) refl
     where
       either : (b : Bool) → is_lift n ≡ b → HasShortTexts (call_tree scope args call (meaning scope n) n ts)
@@ -135,13 +134,13 @@ module _ (scope : Scope) (args : List Tree) (call : ℕ → List Tree → Tree) 
     trees_short no_exprs h = tt
     trees_short (more_exprs e es) h = (tree_short e h.0, trees_short es h.1)
 
-    chain_short : (t : Tree) (ls : Links) → HasShortTexts t → ShortLinks ls → HasShortTexts (chain_tree scope args call t ls)
+    chain_short : (t : BodyTree) (ls : Links) → HasShortTexts t → ShortLinks ls → HasShortTexts (chain_tree scope args call t ls)
     chain_short t no_links here h = here
     chain_short t (more_links o e ls) here h = chain_short (Two (operation_of o) t (tree_of scope args call e)) ls (here, tree_short e h.0) h.1
 
 -- ---- value functions
 module _ (items : List tree.Item) (bodies : AreBodiesShort items) (no_lift : HasNoLift (functions_of (top items))) where
-  function_short : (deep i : ℕ) (args : List Tree) → AreShortTrees args → HasShortTexts (function_tree items deep i args)
+  function_short : (deep i : ℕ) (args : List BodyTree) → AreShortTrees args → HasShortTexts (function_tree items deep i args)
   function_short zero i args h = tt
   function_short (suc deep) i args h =
       at_body (function_tree items deep) (λ j ts short. function_short deep j ts short) (body_of (slice_get items i)) refl
@@ -149,13 +148,13 @@ module _ (items : List tree.Item) (bodies : AreBodiesShort items) (no_lift : Has
       scope : Scope
       scope = inside (top items) (params_of (slice_get items i))
 
-      at_body : (call : ℕ → List Tree → Tree) → ((j : ℕ) (ts : List Tree) → AreShortTrees ts → HasShortTexts (call j ts)) → (b : Option tree.Body) → body_of (slice_get items i) ≡ b → HasShortTexts (body_tree scope args call b)
+      at_body : (call : ℕ → List BodyTree → BodyTree) → ((j : ℕ) (ts : List BodyTree) → AreShortTrees ts → HasShortTexts (call j ts)) → (b : Option tree.Body) → body_of (slice_get items i) ≡ b → HasShortTexts (body_tree scope args call b)
       at_body call short None is = tt
       at_body call short (Some b) is =
           tree_short scope args call (inside_none (top items) (params_of (slice_get items i)) no_lift) h short
           (result_of b) (result_short b (bodies.body i b is))
 
-  pub call_short : (i : ℕ) (operands : List Tree) → AreShortTrees operands → HasShortTexts (function_at items i operands)
+  pub call_short : (i : ℕ) (operands : List BodyTree) → AreShortTrees operands → HasShortTexts (function_at items i operands)
   call_short i operands h = function_short (length items) i operands h
 
   pub body_short : (i : ℕ) → HasShortTexts (function_body items i)

@@ -13,13 +13,13 @@ use Rattle.tsl_value.specs.declared.scalar.ValueType.{ValueType}
 use Rattle.lift_func.specs.declared.body.Unary.{Unary}
 use Rattle.lift_func.specs.declared.body.Unary.TheVariants as unary
 use Rattle.lift_func.specs.declared.body.Binary.{Binary}
-use Rattle.lift_func.specs.Tree.{Tree, One, Two}
+use Rattle.lift_func.specs.BodyTree.{BodyTree, One, Two}
 use Rattle.flat_core.specs.Complete.{IsShort, HasShortTexts}
 use Rattle.flat_core.proofs.Members.{all_append}
-use Rattle.spec_parser.specs.Tree as tree
-use Rattle.spec_parser.specs.Tree.{Expr, Exprs, no_exprs, more_exprs, Links, no_links, more_links}
-use Rattle.spec_parser.specs.declared.tree.Level.{Level}
-use Rattle.spec_parser.specs.declared.tree.Operator.{Operator}
+use Rattle.syntax_tree.specs.Tree as tree
+use Rattle.syntax_tree.specs.Tree.{Expr, Exprs, no_exprs, more_exprs, Links, no_links, more_links}
+use Rattle.syntax_tree.specs.declared.tree.Level.{Level}
+use Rattle.syntax_tree.specs.declared.tree.Operator.{Operator}
 use Rattle.vocabulary.specs.declared.signature.Role.{Role}
 use Rattle.vocabulary.specs.declared.signature.Role.TheVariants as role
 use Rattle.vocabulary.specs.Table.{role_of}
@@ -31,10 +31,10 @@ use Rattle.stream_constructs.specs.Construct.{Construct, Operand, Fixed, Varying
 use Rattle.stream_constructs.specs.Construct as construct
 use Rattle.stream_constructs.specs.Equations.{choice}
 use Rattle.vocabulary.specs.declared.signature.Update.{Update as UpdateOp}
-use Rattle.spec_meaning.specs.Occurrence.{Call, Occurrence, scope_at, stands_for, called}
+use Rattle.spec_meaning.specs.Occurrence.{Call, Occurrence, scope_at, stands_for, macro_result}
 use Rattle.spec_meaning.specs.Function.{literal, operation_of, comparison_of, role_tree, function_at, function_body}
 use Rattle.spec_meaning.specs.Shape.{Shape, expressions, all_but_last, last_operator, last_operand, left_of, operand, operands, is_part, beside, with_parts, signal_of, update_of, two_operands, one_operand, role_shape, plain_names, plain_name, is_delay, is_const, is_filter, const_shape, filtered_by, filter_shape, same_as, name_shape, declared_shape, lift_by, function_named, lift_shape, call_shape, empty_shape, expr_shape}
-use Rattle.flatten_rules.specs.Makes.{is_own, choice_operands}
+use Rattle.spec_meaning.specs.Makes.{is_own, choice_operands}
 use Rattle.flat_meaning.proofs.ShortTexts.{ShortExpr, ShortExprs, ShortFront, ShortLinks, exprs_short, AreBodiesShort}
 use Rattle.flat_meaning.proofs.ShortFunctions.{AreShortTrees, HasNoLift, lift_is, role_short, call_short, body_short}
 
@@ -99,22 +99,22 @@ with_short : (cs : List Call) (c : Construct) (es : List Expr) → ShortConstruc
 with_short cs c es here all = record { construct = here; parts = λ own. beside_short cs es all }
 
 -- a body that has no texts but those of its operands
-signal_short : (cs : List Call) (body : List Tree → Tree) (es : List Expr) → ((ts : List Tree) → AreShortTrees ts → HasShortTexts (body ts)) → AllShort es → ShortShape (signal_of cs body es)
+signal_short : (cs : List Call) (body : List BodyTree → BodyTree) (es : List Expr) → ((ts : List BodyTree) → AreShortTrees ts → HasShortTexts (body ts)) → AllShort es → ShortShape (signal_of cs body es)
 signal_short cs body es keeps all =
     with_short cs (construct.Signal (body (operand_trees 0 (operands es)))) (filter is_part es) (keeps (operand_trees 0 (operands es)) (trees_short 0 (operands es) (operands_short es all))) (filter_short is_part es all)
 
 update_short : (cs : List Call) (o : UpdateOp) (es : List Expr) → AllShort es → ShortShape (update_of cs o es)
 update_short cs o es all = with_short cs (construct.Update o (operands es)) (filter is_part es) (operands_short es all) (filter_short is_part es all)
 
-choice_keeps : (ts : List Tree) → AreShortTrees ts → HasShortTexts (choice ts)
+choice_keeps : (ts : List BodyTree) → AreShortTrees ts → HasShortTexts (choice ts)
 choice_keeps (c ∷ a ∷ b ∷ []) all = (all.0, all.1.0, all.1.1.0)
 choice_keeps ts all = tt
 
-two_keep : (o : Binary) (ts : List Tree) → AreShortTrees ts → HasShortTexts (two_operands (Two o) ts)
+two_keep : (o : Binary) (ts : List BodyTree) → AreShortTrees ts → HasShortTexts (two_operands (Two o) ts)
 two_keep o (a ∷ b ∷ ts) all = (all.0, all.1.0)
 two_keep o ts all = tt
 
-one_keeps : (o : Unary) (ts : List Tree) → AreShortTrees ts → HasShortTexts (one_operand (One o) ts)
+one_keeps : (o : Unary) (ts : List BodyTree) → AreShortTrees ts → HasShortTexts (one_operand (One o) ts)
 one_keeps o (a ∷ ts) all = all.0
 one_keeps o [] all = tt
 
@@ -198,7 +198,7 @@ module _ (items : List tree.Item) (bodies : AreBodiesShort items) (no_lift : Has
   name_short cs None = tt
 
   declared_short : (cs : List Call) (d : Option Declaration) (es : Exprs) → ShortExprs es → ShortShape (declared_shape items cs d es)
-  declared_short cs (Some (declaration.Macro i)) es h = same_short (called items cs i es)
+  declared_short cs (Some (declaration.Macro i)) es h = same_short (macro_result items cs i es)
   declared_short cs (Some (declaration.Function i)) es h = signal_short cs (function_at items i) (expressions es) (call_short items bodies no_lift i) (exprs_short es h)
   declared_short cs d es h = tt
 

@@ -7,16 +7,16 @@ use Rattle.tsl_value.specs.declared.scalar.ValueType.{ValueType}
 use Rattle.flat_core.specs.declared.equation.Equation.{Equation}
 use Rattle.flat_core.specs.System.{System}
 use Rattle.flat_core.specs.TypedSystem.{IsOfType}
-use Rattle.spec_parser.specs.Tree as tree
-use Rattle.spec_parser.specs.Tree.{Expr, place_of}
+use Rattle.syntax_tree.specs.Tree as tree
+use Rattle.syntax_tree.specs.Tree.{Expr, place_of}
 use Rattle.name_check.specs.declared.declaration.Declaration.{Declaration}
 use Rattle.name_check.specs.Scope.{meaning}
 use Rattle.expr_types.specs.Around.{Kinds}
 use Rattle.stream_constructs.specs.declared.construct.Stream.{Stream}
 use Rattle.stream_constructs.specs.Equations.{alias_equation}
 use Rattle.spec_meaning.specs.Occurrence.{scope_at}
-use Rattle.flatten_rules.specs.Makes.{Standing, Stands, Makes, MakesAll, MakesBody, MakesBlock, last_of, with_itself, is_name, choice_operands}
-use Rattle.flatten_rules.specs.Makes as makes
+use Rattle.spec_meaning.specs.Makes.{Standing, Stands, Makes, MakesAll, MakesBody, MakesBlock, last_of, with_itself, is_name, choice_operands}
+use Rattle.spec_meaning.specs.Makes as makes
 use Rattle.tsl_value.proofs.Lists.{all_by_place}
 use Rattle.flat_meaning.proofs.Plain.{plain, Within, within_left, within_right}
 use Rattle.flat_meaning.proofs.Scopes.{IsInputItem, IsStreamItem, IsRight, meaning_right}

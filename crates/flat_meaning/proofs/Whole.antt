@@ -9,10 +9,10 @@ use Rattle.flat_core.specs.System.{System}
 use Rattle.flat_core.specs.TypedSystem.{IsOfType, AreOfTypes, IsTypedEquation, IsTypedSystem}
 use Rattle.flat_core.proofs.Members.{all_append}
 use Rattle.flat_core.proofs.Uniqueness.{all_by}
-use Rattle.spec_parser.specs.Tree as tree
+use Rattle.syntax_tree.specs.Tree as tree
 use Rattle.name_check.specs.Scope.{functions_of, top}
 use Rattle.expr_types.specs.Around.{Kinds}
-use Rattle.flatten_rules.specs.Flat.{IsFlatOf}
+use Rattle.spec_meaning.specs.Flat.{IsFlatOf}
 use Rattle.checked_spec.specs.inner.Checked.{IsChecked}
 use Rattle.checked_spec.proofs.OwnNames.{lift_is_no_function}
 use Rattle.flat_meaning.proofs.Built.{TheLaws}

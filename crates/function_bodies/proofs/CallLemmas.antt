@@ -3,11 +3,11 @@ use Rattle.std.proofs.Common.{◌≡◌, ℕ, zero, suc, ◌<◌, ◌≤◌, Lis
 use Rattle.std.specs.Prelude.{slice_index_or}
 use Rattle.std.proofs.lemmas.List.{length-map}
 use Rattle.lift_func.specs.declared.limits.TheConstants.{MOST_NODES}
-use Rattle.lift_func.specs.Tree.{Tree, Literal, Argument, Absent, One, Two, Choice, node_count}
+use Rattle.lift_func.specs.BodyTree.{BodyTree, Literal, Argument, Absent, One, Two, Choice, node_count}
 use Rattle.lift_func.specs.inner.Placed.{placed, within}
 use Rattle.lift_func.proofs.PlacedLemmas.{within_large}
-use Rattle.spec_parser.specs.declared.tree.Param.{Param}
-use Rattle.spec_parser.specs.inner.Shape.{param_of, params_in}
+use Rattle.syntax_tree.specs.declared.tree.Param.{Param}
+use Rattle.syntax_tree.specs.inner.OneLevel.{param_of, params_in}
 use Rattle.spec_meaning.specs.Function.{no_tree, arguments_from}
 use Rattle.function_bodies.specs.inner.Around.{negated, too_large, tree_or, call_of}
 use Rattle.function_bodies.proofs.LawLemmas.{argument_at}
@@ -25,7 +25,7 @@ pub parameter_at : (ps : List Param) (k m : ℕ) → m ≡ k → k < length ps �
 parameter_at ps k m is h = let same : length (params_in ps) ≡ length ps = length-map ps param_of in ap within (sym (argument_at 0 (params_in ps) k (omega arith) ∙ ap Argument (omega arith)))
 
 -- ---- a body that is too large
-at_least_one : (t : Tree) → 1 ≤ node_count t
+at_least_one : (t : BodyTree) → 1 ≤ node_count t
 at_least_one (Literal s) = omega arith
 at_least_one (Argument n) = omega arith
 at_least_one (Absent t) = omega arith
@@ -33,7 +33,7 @@ at_least_one (One o a) = omega arith
 at_least_one (Two o a b) = omega arith
 at_least_one (Choice c a b) = omega arith
 
-placed_grows : (ts : List Tree) (t : Tree) → node_count t ≤ node_count (placed ts t)
+placed_grows : (ts : List BodyTree) (t : BodyTree) → node_count t ≤ node_count (placed ts t)
 placed_grows ts (Literal s) = omega arith
 placed_grows ts (Argument n) = at_least_one (placed ts (Argument n))
 placed_grows ts (Absent t) = omega arith
@@ -41,7 +41,7 @@ placed_grows ts (One o a) = omega (arith, placed_grows ts a)
 placed_grows ts (Two o a b) = omega (arith, placed_grows ts a, placed_grows ts b)
 placed_grows ts (Choice c a b) = omega (arith, placed_grows ts c, placed_grows ts a, placed_grows ts b)
 
-pub large_stays : (ts : List Tree) (t : Tree) → MOST_NODES < node_count t → within (placed ts t) ≡ None
+pub large_stays : (ts : List BodyTree) (t : BodyTree) → MOST_NODES < node_count t → within (placed ts t) ≡ None
 large_stays ts t h = within_large (placed ts t) (omega (arith, placed_grows ts t))
 
 negated_count : (n : ℕ) → node_count (negated n) ≡ suc n
@@ -53,5 +53,5 @@ unfolding too_large
 too_large_is = let count = negated_count MOST_NODES in omega arith
 
 -- a call of a body that is not there is too large
-pub missing : (functions : List (Option Tree)) (i : ℕ) (ts : List Tree) → slice_index_or functions i None ≡ None → None ≡ within (call_of functions i ts)
+pub missing : (functions : List (Option BodyTree)) (i : ℕ) (ts : List BodyTree) → slice_index_or functions i None ≡ None → None ≡ within (call_of functions i ts)
 missing functions i ts h = sym (ap (λ o. within (placed ts (tree_or o))) h ∙ large_stays ts too_large too_large_is)

@@ -5,11 +5,12 @@ use Rattle.std.proofs.lemmas.Bool.{eqb-true}
 use Rattle.std.proofs.lemmas.Bool.Decides.{nat_tests}
 use Rattle.std.proofs.lemmas.List.Elements.{Contains-append_cases, Contains-append_right}
 use Rattle.std.proofs.lemmas.List.{append-nil}
-use Rattle.spec_parser.specs.Tree as tree
+use Rattle.syntax_tree.specs.Tree as tree
 use Rattle.definition_cycles.specs.Calls.{Calls}
 use Rattle.definition_cycles.proofs.RangeLemmas.{called_below}
 use Rattle.function_bodies.specs.inner.Calls.{IsCallOrder}
 use Rattle.function_bodies.specs.inner.Laws.{NestsWithin}
+use Rattle.tsl_value.proofs.Lists.{only}
 
 -- ---- how many of the numbers below a bound are listed
 abbrev has : List ℕ → ℕ → Bool
@@ -81,10 +82,6 @@ has_there (y ∷ ys) x h = by (eqb x y) refl h (has_there ys x)
     by true e h f = (0, omega arith, sym (eqb-true x y e))
     by false e h f = Contains-append_right (y ∷ []) ys x (f h)
 
-only_one : (x y : ℕ) → Contains (x ∷ []) y → x ≡ y
-only_one x y (zero, h, is) = is
-only_one x y (suc k, h, is) = absurd (omega arith)
-
 -- ---- calls of what stands in front nest no deeper than how many items stand there
 pub nests_more : (items : List tree.Item) (d e i : ℕ) → d ≤ e → NestsWithin items d i → NestsWithin items e i
 nests_more items zero e i h n = absurd n
@@ -110,7 +107,7 @@ module _ (items : List tree.Item) (order : List ℕ) (is_order : IsCallOrder ite
       by : Contains front i ⊎ Contains (x ∷ []) i → NestsWithin items (listed (front ++ x ∷ []) (length items)) i
       by (inl c) = nests_more items _ _ i (listed_more front x (length items)) (before i lt c)
       by (inr c) =
-          let same : x ≡ i = only_one x i c in
+          let same : x ≡ i = only x i c in
           let P : ℕ → Type 0 = λ y. NestsWithin items (listed (front ++ x ∷ []) (length items)) y in
           let below : x < length items = omega arith in
           subst P same (first_nests front rest x is before below (has front x) refl)

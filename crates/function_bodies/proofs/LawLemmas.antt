@@ -3,9 +3,9 @@ use Rattle.std.proofs.Common.{◌≡◌, ℕ, zero, suc, ◌+◌, ◌<◌, List,
 use Rattle.std.specs.Prelude.{slice_get, slice_index_or}
 use Rattle.std.specs.List.{AllZip}
 use Rattle.tsl_value.specs.declared.scalar.Scalar.TheVariants as scalar
-use Rattle.spec_parser.specs.Tree as tree
-use Rattle.spec_parser.specs.Tree.{Expr}
-use Rattle.lift_func.specs.Tree.{Tree, Argument, One, Two, Choice}
+use Rattle.syntax_tree.specs.Tree as tree
+use Rattle.syntax_tree.specs.Tree.{Expr}
+use Rattle.lift_func.specs.BodyTree.{BodyTree, Argument, One, Two, Choice}
 use Rattle.lift_func.specs.inner.Placed.{placed}
 use Rattle.name_check.specs.declared.declaration.Declaration.TheVariants as declaration
 use Rattle.name_check.specs.Scope.{meaning, inside, top}
@@ -19,12 +19,12 @@ use Rattle.function_bodies.proofs.ScopeLemmas.{within_function, scope_same, seen
 use Rattle.function_bodies.proofs.DepthLemmas.{nests}
 
 -- the tree of a value function is that of its expression
-pub at_body : (items : List tree.Item) (d i : ℕ) (us : List Tree) (e : Expr) → IsFunction items i → body_of (slice_get items i) ≡ Some (tree.Plain e) → function_tree items (suc d) i us ≡ tree_of (within_function items (params_of (slice_get items i))) us (function_tree items d) e
+pub at_body : (items : List tree.Item) (d i : ℕ) (us : List BodyTree) (e : Expr) → IsFunction items i → body_of (slice_get items i) ≡ Some (tree.Plain e) → function_tree items (suc d) i us ≡ tree_of (within_function items (params_of (slice_get items i))) us (function_tree items d) e
 at_body items d i us e function body =
     ap (λ b. body_tree (inside (top items) (params_of (slice_get items i))) us (function_tree items d) b) body
     ∙ ap (λ s. tree_of s us (function_tree items d) e) (scope_same items (params_of (slice_get items i)) function)
 
-pub zip_at : (R : Tree → Tree → Type 0) → IsCongruence R → (us vs : List Tree) → AllZip R us vs → (k : ℕ) → R (slice_index_or us k no_tree) (slice_index_or vs k no_tree)
+pub zip_at : (R : BodyTree → BodyTree → Type 0) → IsCongruence R → (us vs : List BodyTree) → AllZip R us vs → (k : ℕ) → R (slice_index_or us k no_tree) (slice_index_or vs k no_tree)
 zip_at R r [] [] h k = r.literal scalar.Unit
 zip_at R r [] (v ∷ vs) h k = absurd h
 zip_at R r (u ∷ us) [] h k = absurd h
@@ -32,7 +32,7 @@ zip_at R r (u ∷ us) (v ∷ vs) h zero = h.0
 zip_at R r (u ∷ us) (v ∷ vs) h (suc k) = zip_at R r us vs h.1 k
 
 -- whatever the number is that says how deep calls nest, if it is large enough
-pub functions_alike : (items : List tree.Item) → ArePlain items → (R : Tree → Tree → Type 0) → IsCongruence R → (d e i : ℕ) → NestsWithin items d i → NestsWithin items e i → IsFunction items i → (us vs : List Tree) → ((n : List ℕ) (k : ℕ) → meaning (within_function items (params_of (slice_get items i))) n ≡ Some (declaration.Parameter k) → R (slice_index_or us k no_tree) (slice_index_or vs k no_tree)) → R (function_tree items d i us) (function_tree items e i vs)
+pub functions_alike : (items : List tree.Item) → ArePlain items → (R : BodyTree → BodyTree → Type 0) → IsCongruence R → (d e i : ℕ) → NestsWithin items d i → NestsWithin items e i → IsFunction items i → (us vs : List BodyTree) → ((n : List ℕ) (k : ℕ) → meaning (within_function items (params_of (slice_get items i))) n ≡ Some (declaration.Parameter k) → R (slice_index_or us k no_tree) (slice_index_or vs k no_tree)) → R (function_tree items d i us) (function_tree items e i vs)
 functions_alike items plain R r zero e i n m function us vs args = absurd n
 functions_alike items plain R r (suc d) zero i n m function us vs args = absurd m
 functions_alike items plain R r (suc d) (suc e) i n m function us vs args =
@@ -51,8 +51,8 @@ functions_alike items plain R r (suc d) (suc e) i n m function us vs args =
     })
     expr
     (good_parts items i expr function body good (λ j calls f. (n j calls, m j calls, f))) in
-    let P : Tree → Type 0 = λ t. R t (function_tree items (suc e) i vs) in
-    let Q : Tree → Type 0 = λ t. R (tree_of (within_function items ps) us (function_tree items d) expr) t in
+    let P : BodyTree → Type 0 = λ t. R t (function_tree items (suc e) i vs) in
+    let Q : BodyTree → Type 0 = λ t. R (tree_of (within_function items ps) us (function_tree items d) expr) t in
     subst P (sym (at_body items d i us expr function body)) (subst Q (sym (at_body items e i vs expr function body)) whole)
 
 -- ---- the laws
@@ -69,7 +69,7 @@ pub depth_is_enough : DepthIsEnough
 depth_is_enough items order is_order plain deep i ts function n =
     functions_alike items plain (λ a b. a ≡ b) equal_congruence deep (length items) i n (nests items order is_order i (function_below items i function)) function ts ts (λ n k is. refl)
 
-pub placed_congruence : (ts : List Tree) → IsCongruence (λ a b. placed ts a ≡ b)
+pub placed_congruence : (ts : List BodyTree) → IsCongruence (λ a b. placed ts a ≡ b)
 placed_congruence ts = record {
   literal = λ s. refl;
   absent = λ t. refl;

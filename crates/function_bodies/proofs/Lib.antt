@@ -8,3 +8,4 @@ pub mod MadeLemmas
 pub mod EndLemmas
 pub mod SizeLemmas
 pub mod OrderLemmas
+mod OptionLemmas

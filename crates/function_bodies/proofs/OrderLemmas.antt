@@ -1,7 +1,7 @@
 -- The order of items that is made of calls, and that calls without a cycle have one.
 use Rattle.std.proofs.Common.{◌≡◌, ℕ, ◌<◌, List, None, length, sym, subst, arith}
 use Rattle.std.proofs.lemmas.Option.{slice_get_within}
-use Rattle.spec_parser.specs.Tree as tree
+use Rattle.syntax_tree.specs.Tree as tree
 use Rattle.translation_order.specs.Order.{Before, AreOfSteps, IsLeastOrder}
 use Rattle.translation_order.specs.Cycle.{IsCycle}
 use Rattle.translation_order.proofs.Alike.{path_alike}
@@ -23,7 +23,7 @@ module _ (items : List tree.Item) (edges pairs : List (ℕ × ℕ)) (e : AreEdge
 
   between : (n : ℕ) → n ≡ length items → (a b : ℕ) → Calls items b a → (a < n) × (b < n)
   between n is a b calls =
-      let called = called_is_item items b a calls in
+      let callee = called_is_item items b a calls in
       let calling = slice_get_within items b (tree.Defined calls.place calls.definition) calls.is_item in
       (omega arith, omega arith)
 

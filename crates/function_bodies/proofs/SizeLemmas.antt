@@ -8,10 +8,10 @@ use Rattle.std.proofs.lemmas.List.Elements.{All-get_or}
 use Rattle.tsl_value.specs.declared.place.Place.{Place}
 use Rattle.tsl_value.proofs.Lists.{append_empty}
 use Rattle.lift_func.specs.declared.limits.TheConstants.{MOST_NODES}
-use Rattle.lift_func.specs.Tree.{Tree, Literal, Argument, Absent, One, Two, Choice, node_count}
+use Rattle.lift_func.specs.BodyTree.{BodyTree, Literal, Argument, Absent, One, Two, Choice, node_count}
 use Rattle.lift_func.specs.inner.Placed.{placed, within}
 use Rattle.lift_func.proofs.PlacedLemmas.{within_small}
-use Rattle.spec_parser.specs.Tree as tree
+use Rattle.syntax_tree.specs.Tree as tree
 use Rattle.name_check.specs.Scope.{are_values}
 use Rattle.name_check.specs.Faults.{first}
 use Rattle.name_check.proofs.FirstLemmas.{empty_without_first}
@@ -32,7 +32,7 @@ each_small items n (x ∷ rest) h (suc k) item is =
     ap (λ m. too_large_in items m item) number
     ∙ each_small items (suc n) rest (append_empty (too_large_in items n x) (too_large_from items (suc n) rest) h).1 k item is
 
-small_by : (q : Place) (body : Tree) (v b : Bool) → v ≡ true → ltb MOST_NODES (node_count body) ≡ b → (if v && ltb MOST_NODES (node_count body) then q ∷ [] else []) ≡ [] → node_count body ≤ MOST_NODES
+small_by : (q : Place) (body : BodyTree) (v b : Bool) → v ≡ true → ltb MOST_NODES (node_count body) ≡ b → (if v && ltb MOST_NODES (node_count body) then q ∷ [] else []) ≡ [] → node_count body ≤ MOST_NODES
 small_by q body false b is e h = cc
 small_by q body true true is e h = absurd (cc)
 small_by q body true false is e h = ltb-false MOST_NODES (node_count body) e
@@ -56,13 +56,13 @@ pub none_too_large : (items : List tree.Item) → first (too_large_bodies items)
 none_too_large items h = empty_without_first (too_large_bodies items) h
 
 -- ---- operands of one node each, such as literals and arguments
-one_at : (ts : List Tree) (n : ℕ) → All (λ t. node_count t ≡ 1) ts → node_count (slice_index_or ts n no_tree) ≡ 1
+one_at : (ts : List BodyTree) (n : ℕ) → All (λ t. node_count t ≡ 1) ts → node_count (slice_index_or ts n no_tree) ≡ 1
 one_at ts n h = elim (cases_lt n (length ts)) [
   | inl lt ↦ All-get_or (λ t. node_count t ≡ 1) ts n no_tree lt h
   | inr past ↦ ap node_count (get_or_past ts n no_tree past)
 ]
 
-pub placed_count : (ts : List Tree) (t : Tree) → All (λ u. node_count u ≡ 1) ts → node_count (placed ts t) ≡ node_count t
+pub placed_count : (ts : List BodyTree) (t : BodyTree) → All (λ u. node_count u ≡ 1) ts → node_count (placed ts t) ≡ node_count t
 placed_count ts (Literal s) h = refl
 placed_count ts (Argument n) h = one_at ts n h
 placed_count ts (Absent t) h = refl
@@ -71,7 +71,7 @@ placed_count ts (Two o a b) h = omega (arith, placed_count ts a h, placed_count 
 placed_count ts (Choice c a b) h = omega (arith, placed_count ts c h, placed_count ts a h, placed_count ts b h)
 
 -- a value function at such operands is there wherever its body is
-pub call_is_there : (items : List tree.Item) (bodies : List (Option Tree)) → AreBodies items bodies → (i : ℕ) (ts : List Tree) → IsFunction items i → All (λ u. node_count u ≡ 1) ts → node_count (function_body items i) ≤ MOST_NODES → within (function_at items i ts) ≡ Some (placed ts (function_body items i))
+pub call_is_there : (items : List tree.Item) (bodies : List (Option BodyTree)) → AreBodies items bodies → (i : ℕ) (ts : List BodyTree) → IsFunction items i → All (λ u. node_count u ≡ 1) ts → node_count (function_body items i) ≤ MOST_NODES → within (function_at items i ts) ≡ Some (placed ts (function_body items i))
 call_is_there items bodies right i ts function one few =
     ap within (right.placed i ts function)
     ∙ within_small (placed ts (function_body items i)) (omega (arith, placed_count ts (function_body items i) one))

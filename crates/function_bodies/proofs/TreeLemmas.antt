@@ -1,8 +1,8 @@
 -- Trees of one expression, where arguments and calls are alike.
-use Rattle.std.proofs.Common.{◌≡◌, ℕ, Bool, true, false, if◌then◌else◌, List, [], ◌∷◌, ◌++◌, Option, Some, None, refl, sym, subst, codes}
+use Rattle.std.proofs.Common.{◌≡◌, ℕ, Bool, true, false, if◌then◌else◌, List, [], ◌∷◌, ◌++◌, Option, Some, None, refl, sym, subst}
 use Rattle.std.specs.Prelude.{slice_index_or}
 use Rattle.std.specs.List.{AllZip, AllByRecursion}
-use Rattle.std.specs.Str.{bytes_eq}
+use Rattle.std.specs.Option.{option_map_or}
 use Rattle.std.proofs.lemmas.Slice.Eq.{bytes_eq-Decides}
 use Rattle.tsl_value.specs.declared.scalar.Scalar.{Scalar}
 use Rattle.tsl_value.specs.declared.scalar.Scalar.TheVariants as scalar
@@ -10,12 +10,13 @@ use Rattle.tsl_value.specs.declared.scalar.ValueType.{ValueType}
 use Rattle.lift_func.specs.declared.body.Unary.{Unary}
 use Rattle.lift_func.specs.declared.body.Unary.TheVariants as unary
 use Rattle.lift_func.specs.declared.body.Binary.{Binary}
-use Rattle.lift_func.specs.Tree.{Tree, Literal, Absent, One, Two, Choice}
-use Rattle.spec_parser.specs.Tree as tree
-use Rattle.spec_parser.specs.Tree.{Expr, Exprs, no_exprs, more_exprs, Links, no_links, more_links}
+use Rattle.lift_func.specs.BodyTree.{BodyTree, Literal, Absent, One, Two, Choice}
+use Rattle.syntax_tree.specs.Tree as tree
+use Rattle.syntax_tree.specs.Tree.{Expr, Exprs, no_exprs, more_exprs, Links, no_links, more_links}
 use Rattle.vocabulary.specs.declared.signature.Role.{Role}
 use Rattle.vocabulary.specs.declared.signature.Role.TheVariants as role
 use Rattle.vocabulary.specs.Table.{role_of}
+use Rattle.vocabulary.specs.PlainTable.{plain_role, entries, look_up}
 use Rattle.type_rules.specs.Written.{value_of}
 use Rattle.name_check.specs.declared.declaration.Declaration.{Declaration}
 use Rattle.name_check.specs.declared.declaration.Declaration.TheVariants as declaration
@@ -41,29 +42,18 @@ split scope good [] qs h = (tt, h)
 split scope good (p ∷ ps) qs h = let both = split scope good ps qs h.1 in ((h.0, both.0), both.1)
 
 -- ---- a relation of trees that goes on from parts to the whole
-pub record IsCongruence (R : Tree → Tree → Type 0) : Type 0 where
+pub record IsCongruence (R : BodyTree → BodyTree → Type 0) : Type 0 where
   pub literal : (s : Scalar) → R (Literal s) (Literal s)
   pub absent : (t : ValueType) → R (Absent t) (Absent t)
-  pub one : (o : Unary) (a b : Tree) → R a b → R (One o a) (One o b)
-  pub two : (o : Binary) (a b c d : Tree) → R a b → R c d → R (Two o a c) (Two o b d)
-  pub choice : (a b c d e f : Tree) → R a b → R c d → R e f → R (Choice a c e) (Choice b d f)
+  pub one : (o : Unary) (a b : BodyTree) → R a b → R (One o a) (One o b)
+  pub two : (o : Binary) (a b c d : BodyTree) → R a b → R c d → R (Two o a c) (Two o b d)
+  pub choice : (a b c d e f : BodyTree) → R a b → R c d → R e f → R (Choice a c e) (Choice b d f)
 
-if_alike : (R : Tree → Tree → Type 0) (b : Bool) (x y u v : Tree) → R x y → R u v → R (if b then x else u) (if b then y else v)
-if_alike R true x y u v h k = h
-if_alike R false x y u v h k = k
-
-option_alike : (R : Tree → Tree → Type 0) → IsCongruence R → (n : List ℕ) (a b : Tree) → R a b → R (option_tree n a) (option_tree n b)
-option_alike R r n a b h =
-    if_alike R (bytes_eq n (codes "Some")) _ _ _ _ (r.one unary.Some a b h)
-    (if_alike R (bytes_eq n (codes "isSome")) _ _ _ _ (r.one unary.IsSome a b h)
-    (if_alike R (bytes_eq n (codes "isNone")) _ _ _ _ (r.one unary.IsNone a b h)
-    (if_alike R (bytes_eq n (codes "getSome")) _ _ _ _ (r.one unary.GetSome a b h) (r.literal scalar.Unit))))
-
-absent_alike : (R : Tree → Tree → Type 0) → IsCongruence R → (t : Option ValueType) → R (absent t) (absent t)
+absent_alike : (R : BodyTree → BodyTree → Type 0) → IsCongruence R → (t : Option ValueType) → R (absent t) (absent t)
 absent_alike R r None = r.literal scalar.Unit
 absent_alike R r (Some t) = r.absent t
 
-role_alike : (R : Tree → Tree → Type 0) → IsCongruence R → (o : Role) (us vs : List Tree) → AllZip R us vs → R (role_tree o us) (role_tree o vs)
+role_alike : (R : BodyTree → BodyTree → Type 0) → IsCongruence R → (o : Role) (us vs : List BodyTree) → AllZip R us vs → R (role_tree o us) (role_tree o vs)
 role_alike R r (role.Unary o) [] [] h = r.literal scalar.Unit
 role_alike R r (role.Unary o) [] (x ∷ vs) h = absurd h
 role_alike R r (role.Unary o) (a ∷ us) [] h = absurd h
@@ -83,15 +73,22 @@ role_alike R r (role.Binary o) (a ∷ b ∷ c ∷ us) (x ∷ y ∷ []) h = absur
 role_alike R r (role.Binary o) (a ∷ b ∷ c ∷ us) (x ∷ y ∷ z ∷ vs) h = r.literal scalar.Unit
 role_alike R r (role.Update o) us vs h = r.literal scalar.Unit
 
+option_alike : (R : BodyTree → BodyTree → Type 0) → IsCongruence R → (n : List ℕ) (a b : BodyTree) → R a b → R (option_tree n a) (option_tree n b)
+option_alike R r n a b h = by (look_up (entries plain_role) n)
+  where
+    by : (o : Option Role) → R (option_map_or (λ x. role_tree x (a ∷ [])) o no_tree) (option_map_or (λ x. role_tree x (b ∷ [])) o no_tree)
+    by None = r.literal scalar.Unit
+    by (Some o) = role_alike R r o (a ∷ []) (b ∷ []) (h, tt)
+
 -- ---- where names, arguments and calls are alike
-pub record AreAlike (R : Tree → Tree → Type 0) (good : ℕ → Type 0) (from to : Scope) (args others : List Tree) (call other : ℕ → List Tree → Tree) : Type 0 where
+pub record AreAlike (R : BodyTree → BodyTree → Type 0) (good : ℕ → Type 0) (from to : Scope) (args others : List BodyTree) (call other : ℕ → List BodyTree → BodyTree) : Type 0 where
   pub congruence : IsCongruence R
   pub names : Agree from to
   pub arguments : (n : List ℕ) (k : ℕ) → meaning from n ≡ Some (declaration.Parameter k) → R (slice_index_or args k no_tree) (slice_index_or others k no_tree)
-  pub calls : (j : ℕ) → good j → (us vs : List Tree) → AllZip R us vs → R (call j us) (other j vs)
+  pub calls : (j : ℕ) → good j → (us vs : List BodyTree) → AllZip R us vs → R (call j us) (other j vs)
   pub no_lift : (j : ℕ) → meaning from lift_name ≡ Some (declaration.Function j) → ⊥
 
-module _ (R : Tree → Tree → Type 0) (good : ℕ → Type 0) (from to : Scope) (args others : List Tree) (call other : ℕ → List Tree → Tree) (s : AreAlike R good from to args others call other) where
+module _ (R : BodyTree → BodyTree → Type 0) (good : ℕ → Type 0) (from to : Scope) (args others : List BodyTree) (call other : ℕ → List BodyTree → BodyTree) (s : AreAlike R good from to args others call other) where
   named_by : (n : List ℕ) (d : Option Declaration) → meaning from n ≡ d → R (named_tree from args call d) (named_tree to others other d)
   named_by n (Some (declaration.Parameter k)) h = s.arguments n k h
   named_by n d h = s.congruence.literal scalar.Unit
@@ -101,7 +98,7 @@ module _ (R : Tree → Tree → Type 0) (good : ℕ → Type 0) (from to : Scope
       let P : Option Declaration → Type 0 = λ d. R (named_tree from args call (meaning from n)) (named_tree to others other d) in
       subst P (s.names.at n) (named_by n (meaning from n) refl)
 
-  called_none : (n : List ℕ) (us vs : List Tree) → AllZip R us vs → R (call_tree from args call None n us) (call_tree to others other None n vs)
+  called_none : (n : List ℕ) (us vs : List BodyTree) → AllZip R us vs → R (call_tree from args call None n us) (call_tree to others other None n vs)
   called_none n [] [] h = s.congruence.literal scalar.Unit
   called_none n [] (x ∷ vs) h = absurd h
   called_none n (a ∷ us) [] h = absurd h
@@ -110,12 +107,12 @@ module _ (R : Tree → Tree → Type 0) (good : ℕ → Type 0) (from to : Scope
   called_none n (a ∷ b ∷ us) (x ∷ []) h = absurd h.1
   called_none n (a ∷ b ∷ us) (x ∷ y ∷ vs) h = s.congruence.literal scalar.Unit
 
-  called_by : (n : List ℕ) (us vs : List Tree) (d : Option Declaration) → MayCall d good → AllZip R us vs → R (call_tree from args call d n us) (call_tree to others other d n vs)
+  called_by : (n : List ℕ) (us vs : List BodyTree) (d : Option Declaration) → MayCall d good → AllZip R us vs → R (call_tree from args call d n us) (call_tree to others other d n vs)
   called_by n us vs None may h = called_none n us vs h
   called_by n us vs (Some (declaration.Function j)) may h = s.calls j may us vs h
   called_by n us vs (Some d) may h = s.congruence.literal scalar.Unit
 
-  called_alike : (n : List ℕ) (us vs : List Tree) → MayCall (meaning from n) good → AllZip R us vs → R (call_tree from args call (meaning from n) n us) (call_tree to others other (meaning to n) n vs)
+  called_alike : (n : List ℕ) (us vs : List BodyTree) → MayCall (meaning from n) good → AllZip R us vs → R (call_tree from args call (meaning from n) n us) (call_tree to others other (meaning to n) n vs)
   called_alike n us vs may h =
       let P : Option Declaration → Type 0 = λ d. R (call_tree from args call (meaning from n) n us) (call_tree to others other d n vs) in
       subst P (s.names.at n) (called_by n us vs (meaning from n) may h)
@@ -182,11 +179,11 @@ module _ (R : Tree → Tree → Type 0) (good : ℕ → Type 0) (from to : Scope
         let both = split from good (parts e) (argument_parts es) h in
         (alike e both.0, all_alike es both.1)
 
-    chain_alike : (ls : Links) (t u : Tree) → R t u → AreGood from good (link_parts ls) → R (chain_tree from args call t ls) (chain_tree to others other u ls)
+    chain_alike : (ls : Links) (t u : BodyTree) → R t u → AreGood from good (link_parts ls) → R (chain_tree from args call t ls) (chain_tree to others other u ls)
     chain_alike no_links t u r h = r
     chain_alike (more_links o e ls) t u r h =
         let both = split from good (parts e) (link_parts ls) h in
         chain_alike ls _ _ (s.congruence.two (operation_of o) t u _ _ r (alike e both.0)) both.1
 
-pub trees_alike : (R : Tree → Tree → Type 0) (good : ℕ → Type 0) (from to : Scope) (args others : List Tree) (call other : ℕ → List Tree → Tree) → AreAlike R good from to args others call other → (e : Expr) → AreGood from good (parts e) → R (tree_of from args call e) (tree_of to others other e)
+pub trees_alike : (R : BodyTree → BodyTree → Type 0) (good : ℕ → Type 0) (from to : Scope) (args others : List BodyTree) (call other : ℕ → List BodyTree → BodyTree) → AreAlike R good from to args others call other → (e : Expr) → AreGood from good (parts e) → R (tree_of from args call e) (tree_of to others other e)
 trees_alike R good from to args others call other s e h = alike R good from to args others call other s e h

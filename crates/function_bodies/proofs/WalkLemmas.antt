@@ -1,13 +1,13 @@
 -- Expressions, one level or one part after the other.
 use Rattle.std.proofs.Common.{◌≡◌, List, Option, refl, ap, ◌∙◌}
 use Rattle.tsl_value.specs.declared.place.Place.{Place}
-use Rattle.lift_func.specs.Tree.{Tree}
+use Rattle.lift_func.specs.BodyTree.{BodyTree}
 use Rattle.lift_func.specs.inner.Placed.{within}
-use Rattle.spec_parser.specs.Tree.{Expr, place_of}
-use Rattle.spec_parser.specs.declared.tree.Node.{Node}
-use Rattle.spec_parser.specs.declared.tree.Node.TheVariants as node
-use Rattle.spec_parser.specs.declared.tree.Link.{Link}
-use Rattle.spec_parser.specs.inner.Shape.{expr_of, links_in}
+use Rattle.syntax_tree.specs.Tree.{Expr, place_of}
+use Rattle.syntax_tree.specs.declared.tree.Node.{Node}
+use Rattle.syntax_tree.specs.declared.tree.Node.TheVariants as node
+use Rattle.syntax_tree.specs.declared.tree.Link.{Link}
+use Rattle.syntax_tree.specs.inner.OneLevel.{expr_of, links_in}
 use Rattle.name_check.specs.inner.Shown.{nowhere}
 use Rattle.function_bodies.specs.declared.around.Around.{Around}
 use Rattle.function_bodies.specs.inner.Around.{tree_at, chain_at}
@@ -36,7 +36,7 @@ pub tree_of_node : (at : Around) (e : Expr) (n : Node) → expr_of (place_of e) 
 tree_of_node at e n is = tree_anywhere at nowhere (place_of e) n ∙ ap (tree_at at) is
 
 -- ---- the operands of a chain: what is chained so far, and the links that are left
-pub record IsChained (at : Around) (whole : Tree) (rest : List Link) (chained : Option Tree) : Type 0 where
-  pub so_far : Tree
+pub record IsChained (at : Around) (whole : BodyTree) (rest : List Link) (chained : Option BodyTree) : Type 0 where
+  pub so_far : BodyTree
   pub is : chained ≡ within so_far
   pub goes_on : chain_at at so_far (links_in rest) ≡ whole

@@ -1,19 +1,19 @@
 // Where an expression of a value function stands, and what stands alone there.
 
 ghost use Rattle.std.specs.Prelude.{◌≡◌, IfOk, List, map, slice_index_or};
-ghost use Rattle.lift_func.specs.Tree.{Tree, One};
+ghost use Rattle.lift_func.specs.BodyTree.{BodyTree, One};
 ghost use Rattle.lift_func.specs.inner.Placed.{within};
 ghost use Rattle.name_check.specs.Scope.{meaning, seen};
 ghost use Rattle.spec_meaning.specs.Function.{no_tree, named_tree, absent};
 ghost use Rattle.type_rules.specs.Written.{value_of};
-ghost use Rattle.spec_parser.specs.inner.Shape.{params_in};
+ghost use Rattle.syntax_tree.specs.inner.OneLevel.{params_in};
 ghost use Rattle.function_bodies.specs.inner.Around.{args_at, call_of};
 
 use lift_func::body::Body;
 use name_check::declaration::Declaration;
 use name_check::scope::Scope;
-use spec_parser::tree::{Param, TypeName};
 use std::alloc::Global;
+use syntax_tree::tree::{Param, TypeName};
 use tsl_value::memory::NoMemory;
 use tsl_value::scalar::Scalar;
 use type_rules::written::value_of;
@@ -72,13 +72,13 @@ impl Around<'_> {
 }
 
 /// The value function of an item at operands, from bodies of which those that are too large are missing.
-pub(crate) fn called(
+pub(crate) fn call_body(
     alloc: Global,
     functions: &[Option<Body>],
     number: usize,
     operands: &[Option<Body>],
 ) -> Result<Option<Body>, NoMemory>
-    ensures { IfOk result (λ b. (ts : List Tree) → operands.now ≡ map within ts → b ≡ within (call_of functions.now number ts)) }
+    ensures { IfOk result (λ b. (ts : List BodyTree) → operands.now ≡ map within ts → b ≡ within (call_of functions.now number ts)) }
 {
     match functions.get(number) {
         Some(Some(body)) => body.placed(alloc, operands),

@@ -1,7 +1,7 @@
 // What value functions become.
 
 ghost use Rattle.std.specs.Prelude.{◌≡◌, IfOk, IfSome, Some, None};
-ghost use Rattle.spec_parser.specs.inner.Shape.{body_of, definition_of, item_of};
+ghost use Rattle.syntax_tree.specs.inner.OneLevel.{body_of, definition_of, item_of};
 ghost use Rattle.spec_meaning.specs.Occurrence.{result_of};
 ghost use Rattle.function_bodies.specs.inner.Made.{IsDefinitionMade, IsItemMade, function_places, item_places};
 ghost use Rattle.name_check.specs.Faults.{first};
@@ -11,8 +11,8 @@ use crate::expression::expression;
 use lift_func::body::Body;
 use name_check::names::Names;
 use name_check::scope::{Scope, are_values, parameters};
-use spec_parser::tree::{Body as Written, DefinitionParts, Expr, Item};
 use std::alloc::Global;
+use syntax_tree::tree::{Body as Written, DefinitionParts, Expr, Item};
 use tsl_value::memory::NoMemory;
 use tsl_value::place::Place;
 

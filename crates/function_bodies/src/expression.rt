@@ -1,36 +1,23 @@
 // What expressions of value functions become.
 
 ghost use Rattle.std.specs.Prelude.{◌≡◌, IfOk, map};
-ghost use Rattle.lift_func.specs.Tree.{Tree, One, Two, Choice};
+ghost use Rattle.lift_func.specs.BodyTree.{One, Two, Choice};
 ghost use Rattle.lift_func.specs.inner.Placed.{within};
 ghost use Rattle.name_check.specs.Scope.{meaning, seen};
 ghost use Rattle.name_check.specs.inner.Shown.{nowhere};
-ghost use Rattle.spec_parser.specs.inner.Shape.{expr_of, exprs_of, links_in};
-ghost use Rattle.spec_meaning.specs.Function.{call_tree, dotted_tree, option_tree};
-ghost use Rattle.function_bodies.specs.inner.Around.{args_at, call_of, chain_at, tree_at, trees_at, one_or};
+ghost use Rattle.syntax_tree.specs.inner.OneLevel.{expr_of, exprs_of, links_in};
+ghost use Rattle.spec_meaning.specs.Function.{call_tree, dotted_tree};
+ghost use Rattle.function_bodies.specs.inner.Around.{args_at, call_of, chain_at, tree_at, trees_at};
 
-use crate::around::{Around, absent, called, unit};
-use crate::operation::{comparison_of, dotted_one, dotted_two, operation_of};
+use crate::around::{Around, absent, call_body, unit};
+use crate::operation::{comparison_of, dotted_one, dotted_two, operation_of, option_operation};
 use lift_func::body::{Binary, Body, Unary};
 use name_check::declaration::Declaration;
-use spec_parser::tree::{Expr, Link, Node};
 use std::alloc::Global;
+use syntax_tree::tree::{Expr, Link, Node};
 use tsl_value::memory::NoMemory;
 use tsl_value::scalar::Scalar;
 use vocabulary::dotted::Dotted;
-
-/// The operation on options of this name.
-fn option_operation(name: &str) -> Option<Unary>
-    ensures { (a : Tree) → option_tree name.now a ≡ one_or result a }
-{
-    match name {
-        "Some" => Some(Unary::Some),
-        "isSome" => Some(Unary::IsSome),
-        "isNone" => Some(Unary::IsNone),
-        "getSome" => Some(Unary::GetSome),
-        _ => None,
-    }
-}
 
 /// The body that an expression becomes, if it has not too many nodes.
 #[cycle(expression)]
@@ -151,7 +138,7 @@ fn call(
     match at.scope.find(name) {
         Some(Declaration::Function(number)) => {
             let operands = operands(alloc, at, arguments)?;
-            called(alloc, at.functions, number, &operands)
+            call_body(alloc, at.functions, number, &operands)
         }
         Some(Declaration::Input(_)) | Some(Declaration::Stream(_)) => Ok(unit()),
         Some(Declaration::Macro(_)) | Some(Declaration::Mixed(_)) => Ok(unit()),

@@ -3,8 +3,8 @@
 ghost use Rattle.std.specs.Prelude.{◌≡◌, List, None, Some, length, map, IfOk, OnOk, slice_get, slice_index_or};
 ghost use Rattle.std.specs.Option.{option_copied};
 ghost use Rattle.lift_func.specs.inner.Placed.{within};
-ghost use Rattle.spec_parser.specs.Tree as tree;
-ghost use Rattle.spec_parser.specs.inner.Shape.{item_of};
+ghost use Rattle.syntax_tree.specs.Tree as tree;
+ghost use Rattle.syntax_tree.specs.inner.OneLevel.{item_of};
 ghost use Rattle.name_check.specs.Scope.{top};
 ghost use Rattle.name_check.specs.Faults.{first};
 ghost use Rattle.spec_meaning.specs.Function.{function_at};
@@ -12,13 +12,13 @@ ghost use Rattle.function_bodies.specs.inner.Calls.{ArePlain, IsCallOrder, IsFun
 ghost use Rattle.function_bodies.specs.Bodies.{AreBodies, too_large_bodies, too_large_in};
 ghost use Rattle.function_bodies.specs.inner.Made.{IsStep};
 
-use crate::around::called;
+use crate::around::call_body;
 use crate::definition::{item_body, item_place};
 use lift_func::body::Body;
 use name_check::names::Names;
-use spec_parser::tree::Item;
 use std::alloc::Global;
 use std::marker::Model;
+use syntax_tree::tree::Item;
 use translation_order::steps::Steps;
 use tsl_value::memory::NoMemory;
 use tsl_value::place::Place;
@@ -32,12 +32,12 @@ pub struct Functions {
 
 impl Model for Functions {
     ghost use Rattle.std.specs.Prelude.{List, Option};
-    ghost use Rattle.lift_func.specs.Tree.{Tree};
+    ghost use Rattle.lift_func.specs.BodyTree.{BodyTree};
 
-    ghost Value = { List (Option Tree) };
+    ghost Value = { List (Option BodyTree) };
 
     ghost use Rattle.std.specs.Coded.{codes};
-    ghost use Rattle.lift_func.specs.Tree.{tree_code};
+    ghost use Rattle.lift_func.specs.BodyTree.{tree_code};
 
     ghost coded = { Prim.hlevel (codes, tree_code) };
 
@@ -87,21 +87,6 @@ fn copies(alloc: Global, bodies: &[Body]) -> Result<Vec<Option<Body>>, NoMemory>
     Ok(copies)
 }
 
-/// The bodies of items in any order, where nothing is known of them.
-#[cfg(test)]
-pub(crate) fn along(
-    alloc: Global,
-    items: &[Item],
-    names: &Names,
-    order: &Steps,
-) -> Result<Functions, NoMemory> {
-    let mut bodies = missing(alloc, items.len())?;
-    for number in order.as_slice() {
-        make(alloc, items, names, *number as usize, &mut bodies)?;
-    }
-    Ok(Functions { bodies })
-}
-
 impl Functions {
     /// The bodies of the value functions among items. Each is made once, after those that it calls.
     pub fn of(
@@ -146,7 +131,7 @@ impl Functions {
             → b ≡ within (function_at items number operands.now)) }
     {
         let operands = copies(alloc, operands)?;
-        called(alloc, self.bodies.as_slice(), number, &operands)
+        call_body(alloc, self.bodies.as_slice(), number, &operands)
     }
 
     /// Where the name of an item stands, if it is a value function whose body has too many nodes.

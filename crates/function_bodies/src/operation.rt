@@ -1,13 +1,16 @@
-// The operations that operators, comparisons and functions with a dot stand for.
+// The operations that operators, comparisons and functions of the language stand for.
 
 ghost use Rattle.std.specs.Prelude.{◌≡◌, [], ◌∷◌};
-ghost use Rattle.lift_func.specs.Tree.{Tree};
-ghost use Rattle.spec_meaning.specs.Function.{comparison_of, dotted_tree, operation_of, role_tree};
+ghost use Rattle.std.specs.Option.{option_and_then};
+ghost use Rattle.lift_func.specs.BodyTree.{BodyTree};
+ghost use Rattle.vocabulary.specs.PlainTable.{plain_of, plain_role};
+ghost use Rattle.spec_meaning.specs.Function.{comparison_of, dotted_tree, operation_of, option_tree, role_tree};
 ghost use Rattle.function_bodies.specs.inner.Around.{one_or, two_or};
 
 use lift_func::body::{Binary, Unary};
-use spec_parser::tree::{Comparison, Operator};
+use syntax_tree::tree::{Comparison, Operator};
 use vocabulary::dotted::Dotted;
+use vocabulary::plain::plain_named;
 use vocabulary::signature::Role;
 
 pub fn operation_of(operator: Operator) -> Binary
@@ -38,7 +41,7 @@ pub fn comparison_of(comparison: Comparison) -> Binary
 }
 
 fn one_of(role: Role) -> Option<Unary>
-    ensures { (a : Tree) → role_tree role (a ∷ []) ≡ one_or result a }
+    ensures { (a : BodyTree) → role_tree role (a ∷ []) ≡ one_or result a }
 {
     match role {
         Role::Unary(operation) => Some(operation),
@@ -48,7 +51,7 @@ fn one_of(role: Role) -> Option<Unary>
 }
 
 fn two_of(role: Role) -> Option<Binary>
-    ensures { (a b : Tree) → role_tree role (a ∷ b ∷ []) ≡ two_or result a b }
+    ensures { (a b : BodyTree) → role_tree role (a ∷ b ∷ []) ≡ two_or result a b }
 {
     match role {
         Role::Unary(_) => None,
@@ -57,16 +60,32 @@ fn two_of(role: Role) -> Option<Binary>
     }
 }
 
+fn role_named(name: &str) -> Option<Role>
+    ensures { result ≡ option_and_then plain_role (plain_of name.now) }
+{
+    plain_named(name)?.role()
+}
+
+/// The operation on an option of this name.
+pub fn option_operation(name: &str) -> Option<Unary>
+    ensures { (a : BodyTree) → option_tree name.now a ≡ one_or result a }
+{
+    match role_named(name) {
+        Some(role) => one_of(role),
+        None => None,
+    }
+}
+
 /// The operation of a function with a dot that has one operand, if a value function has it.
 pub fn dotted_one(function: Dotted) -> Option<Unary>
-    ensures { (a : Tree) → dotted_tree function (a ∷ []) ≡ one_or result a }
+    ensures { (a : BodyTree) → dotted_tree function (a ∷ []) ≡ one_or result a }
 {
     one_of(function.role())
 }
 
 /// The operation of a function with a dot that has two operands, if a value function has it.
 pub fn dotted_two(function: Dotted) -> Option<Binary>
-    ensures { (a b : Tree) → dotted_tree function (a ∷ b ∷ []) ≡ two_or result a b }
+    ensures { (a b : BodyTree) → dotted_tree function (a ∷ b ∷ []) ≡ two_or result a b }
 {
     two_of(function.role())
 }

@@ -1,7 +1,7 @@
 // The bodies of all value functions, in an order in which called functions come first.
 
 ghost use Rattle.std.specs.Prelude.{◌≡◌, None, map, IfOk};
-ghost use Rattle.spec_parser.specs.inner.Shape.{item_of};
+ghost use Rattle.syntax_tree.specs.inner.OneLevel.{item_of};
 ghost use Rattle.name_check.specs.Scope.{top};
 ghost use Rattle.definition_cycles.specs.Cycles.{IsFirstFunctionCycle};
 ghost use Rattle.definition_cycles.specs.Nodes.{HasFewNodes};
@@ -13,8 +13,8 @@ use definition_cycles::calls::calls;
 use definition_cycles::graph::to_node;
 use definition_cycles::kinds::turned;
 use name_check::names::Names;
-use spec_parser::tree::Item;
 use std::alloc::Global;
+use syntax_tree::tree::Item;
 use translation_order::order::{OrderFault, order};
 use translation_order::steps::Steps;
 use tsl_value::memory::NoMemory;

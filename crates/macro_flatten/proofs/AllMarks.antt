@@ -7,15 +7,15 @@ use Rattle.std.proofs.lemmas.Bool.{true≢false}
 use Rattle.std.proofs.lemmas.List.{map-append}
 use Rattle.flat_core.specs.declared.equation.Equation.{Equation}
 use Rattle.flat_core.specs.declared.equation.Output.{Output}
-use Rattle.spec_parser.specs.Tree as tree
-use Rattle.spec_parser.specs.Tree.{Expr}
+use Rattle.syntax_tree.specs.Tree as tree
+use Rattle.syntax_tree.specs.Tree.{Expr}
 use Rattle.type_rules.specs.declared.rule.ExprType.TheVariants as expr_type
 use Rattle.expr_types.specs.Around.{Kinds}
 use Rattle.expr_types.specs.Bodies.{at_top, item_kind}
 use Rattle.stream_constructs.specs.declared.construct.Stream.{Stream}
 use Rattle.spec_meaning.specs.Occurrence.{result_of}
-use Rattle.flatten_rules.specs.Flat.{IsFlatOf, MakesInputs, MakesOutputs, MakesPrinted, MakesStreams, named, outermost}
-use Rattle.flatten_rules.specs.Flat as flat
+use Rattle.spec_meaning.specs.Flat.{IsFlatOf, MakesInputs, MakesOutputs, MakesPrinted, MakesStreams, named, outermost}
+use Rattle.spec_meaning.specs.Flat as flat
 use Rattle.checked_spec.specs.inner.Checked.{IsChecked}
 use Rattle.checked_spec.specs.inner.Formed.{is_input, is_stream}
 use Rattle.equation_marks.specs.Marks.{input_marks, macro_marks, mark_of, marks, output_marks, printed_marks, stream_marks}
@@ -68,8 +68,8 @@ module _ (items : List tree.Item) (kinds : Kinds) (streams : ℕ → Stream) (is
   definitions_typed {i} (flat.MakesStreams.stream s first made top_is typed one more all_is) zero is =
       here i (typed ∙ ap (λ (a : Stream). Some (expr_type.Stream a.of)) (sym top_is))
   definitions_typed {i} (flat.MakesStreams.stream s first made top_is typed one more all_is) (suc k) is = later i k (definitions_typed more k is)
-  definitions_typed (flat.MakesStreams.called more) zero is = absurd (true≢false (sym is))
-  definitions_typed {i} (flat.MakesStreams.called more) (suc k) is = later i k (definitions_typed more k is)
+  definitions_typed (flat.MakesStreams.with_parameters more) zero is = absurd (true≢false (sym is))
+  definitions_typed {i} (flat.MakesStreams.with_parameters more) (suc k) is = later i k (definitions_typed more k is)
   definitions_typed (flat.MakesStreams.input more) zero is = absurd (true≢false (sym is))
   definitions_typed {i} (flat.MakesStreams.input more) (suc k) is = later i k (definitions_typed more k is)
   definitions_typed (flat.MakesStreams.output more) zero is = absurd (true≢false (sym is))
@@ -95,7 +95,7 @@ module _ (items : List tree.Item) (kinds : Kinds) (streams : ℕ → Stream) (is
         let head = named_marks_are x first ∙ (body_marked items kinds streams is_checked placed one).marks_are in
         let tail = streams_marked (other_items items i _ rest same) more in
         ap (map mark_of) all_is ∙ map-append mark_of (named x first) made ∙ (λ k. head k ++ tail k)
-    streams_marked {i} same (flat.MakesStreams.called {rest = rest} more) = streams_marked (other_items items i _ rest same) more
+    streams_marked {i} same (flat.MakesStreams.with_parameters {rest = rest} more) = streams_marked (other_items items i _ rest same) more
     streams_marked {i} same (flat.MakesStreams.input {rest = rest} more) = streams_marked (other_items items i _ rest same) more
     streams_marked {i} same (flat.MakesStreams.output {rest = rest} more) = streams_marked (other_items items i _ rest same) more
     streams_marked {i} same (flat.MakesStreams.output_as {rest = rest} more) = streams_marked (other_items items i _ rest same) more

@@ -10,8 +10,8 @@ use Rattle.std.proofs.lemmas.Option.{same_Some, none-some}
 use Rattle.tsl_value.specs.declared.place.Place.{Place}
 use Rattle.tsl_value.specs.declared.scalar.ValueType.{ValueType}
 use Rattle.flat_core.proofs.Members.{contains_head}
-use Rattle.spec_parser.specs.Tree as tree
-use Rattle.spec_parser.specs.Tree.{Expr}
+use Rattle.syntax_tree.specs.Tree as tree
+use Rattle.syntax_tree.specs.Tree.{Expr}
 use Rattle.name_check.specs.declared.declaration.Declaration.{Declaration}
 use Rattle.name_check.specs.Bodies.{block_bodies, bodies, item_bodies}
 use Rattle.name_check.specs.Parts.{Part, parts}
@@ -22,9 +22,9 @@ use Rattle.expr_types.specs.Around.{Around, Kinds, declared_type, params_of}
 use Rattle.expr_types.specs.Bodies.{at_top, may_have_braces}
 use Rattle.stream_constructs.specs.declared.construct.Stream.{Stream}
 use Rattle.spec_meaning.specs.Occurrence.{block_of, body_of, local, result_of}
-use Rattle.flatten_rules.specs.Flat.{outermost}
-use Rattle.flatten_rules.specs.Makes.{Standing, Stands}
-use Rattle.flatten_rules.specs.Makes as makes
+use Rattle.spec_meaning.specs.Flat.{outermost}
+use Rattle.spec_meaning.specs.Makes.{Standing, Stands}
+use Rattle.spec_meaning.specs.Makes as makes
 use Rattle.call_limits.specs.Nesting.{CallsMacro, Chain}
 use Rattle.checked_spec.specs.inner.Checked.{IsChecked, IsTyped}
 use Rattle.checked_spec.specs.inner.Formed.{IsDeclared, is_input, is_stream}

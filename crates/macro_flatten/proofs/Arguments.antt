@@ -4,12 +4,12 @@ use Rattle.std.specs.Prelude.{Ok, Err, Result, Vec, slice_get}
 use Rattle.std.proofs.lemmas.Bool.{true≢false}
 use Rattle.tsl_value.specs.declared.place.Place.{Place}
 use Rattle.flat_core.specs.System.{System}
-use Rattle.spec_parser.specs.Tree as tree
-use Rattle.spec_parser.specs.Tree.{Expr, Exprs}
-use Rattle.spec_parser.specs.inner.Shape as code
-use Rattle.spec_parser.specs.declared.tree.Item.{Item}
-use Rattle.spec_parser.specs.inner.Shape.{definition_of, exprs_of, item_of}
-use Rattle.spec_parser.specs.declared.tree.DefinitionParts.{DefinitionParts}
+use Rattle.syntax_tree.specs.Tree as tree
+use Rattle.syntax_tree.specs.Tree.{Expr, Exprs}
+use Rattle.syntax_tree.specs.inner.OneLevel as code
+use Rattle.syntax_tree.specs.declared.tree.Item.{Item}
+use Rattle.syntax_tree.specs.inner.OneLevel.{definition_of, exprs_of, item_of}
+use Rattle.syntax_tree.specs.declared.tree.DefinitionParts.{DefinitionParts}
 use Rattle.name_check.specs.inner.Steps.{local_body}
 use Rattle.expr_types.specs.Around.{params_of}
 use Rattle.expr_types.specs.Bodies.{may_have_braces}
@@ -17,7 +17,7 @@ use Rattle.stream_constructs.specs.declared.construct.Stream.{Stream}
 use Rattle.stream_constructs.specs.declared.maker.MakeFault.{MakeFault}
 use Rattle.spec_meaning.specs.Occurrence.{body_of}
 use Rattle.spec_meaning.specs.Shape.{expressions}
-use Rattle.equation_marks.proofs.Parts.{listed_again}
+use Rattle.equation_marks.proofs.PartMarks.{listed_again}
 use Rattle.equation_marks.proofs.Weights.{body_weight, body_within}
 use Rattle.macro_flatten.specs.declared.context.Context.{Context}
 use Rattle.macro_flatten.specs.declared.context.Here.{Here}
@@ -69,6 +69,7 @@ module _ (context : Context) (here : Here) (i : ℕ) (arguments : List Expr) whe
       place = defined.place;
       is_item = item_is can.site can.is_here;
       entered = entered can.site can.is_here.known.checked here.deep can.place can.name es i can.call less deeper params.items (all_made can.site can.place can.name can.is_here can.call).typed context can.is_here.known;
+      few = defined.few;
     }
 
     answer : (site : Site) (p : Place) (x : List ℕ) (is_here : IsHere context here site) (call : IsCall site here.deep p x es i) (new : System) (r : Result Stream MakeFault) → IsMacroAnswer (entry_of site is_here.known.checked here.deep p x es i call) i (local_body (definition_of parts)) params.items less mid new r → IsAnswer site here.deep (tree.Call p x es) old new r
@@ -77,8 +78,8 @@ module _ (context : Context) (here : Here) (i : ℕ) (arguments : List Expr) whe
     answer site p x is_here call new (Err f) h =
         inside_refused site is_here.known.checked here.deep p x es i call less deeper old mid params.items (all_made site p x is_here call) f h
 
-    pub called : (new : System) (r : Result Stream MakeFault) → IsInside context i (definition_of parts) params.items less mid new r → IsCalled context here i es old new r
-    called new r h = record {
+    pub macro_called : (new : System) (r : Result Stream MakeFault) → IsInside context i (definition_of parts) params.items less mid new r → IsCalled context here i es old new r
+    macro_called new r h = record {
       at = λ site p x is_here call.
           answer site p x is_here call new r
           (h.at (entry_of site is_here.known.checked here.deep p x es i call) defined.place (item_is site is_here)

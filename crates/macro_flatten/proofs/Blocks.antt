@@ -6,11 +6,11 @@ use Rattle.std.proofs.lemmas.Option.{same_Some, none-some}
 use Rattle.tsl_value.specs.declared.place.Place.{Place}
 use Rattle.flat_core.specs.System.{System}
 use Rattle.flat_core.specs.declared.limits.TheConstants.{MOST_EQUATIONS}
-use Rattle.spec_parser.specs.Tree as tree
-use Rattle.spec_parser.specs.Tree.{Expr}
-use Rattle.spec_parser.specs.inner.Shape as code
-use Rattle.spec_parser.specs.inner.Shape.{definition_of, definitions_of}
-use Rattle.spec_parser.specs.declared.tree.DefinitionParts.{DefinitionParts}
+use Rattle.syntax_tree.specs.Tree as tree
+use Rattle.syntax_tree.specs.Tree.{Expr}
+use Rattle.syntax_tree.specs.inner.OneLevel as code
+use Rattle.syntax_tree.specs.inner.OneLevel.{definition_of, definitions_of}
+use Rattle.syntax_tree.specs.declared.tree.DefinitionParts.{DefinitionParts}
 use Rattle.name_check.specs.inner.Steps.{local_body}
 use Rattle.type_rules.specs.declared.rule.ExprType.TheVariants as expr_type
 use Rattle.expr_types.specs.Around.{Around}
@@ -18,8 +18,8 @@ use Rattle.expr_types.specs.Judge.{type_of}
 use Rattle.stream_constructs.specs.declared.construct.Stream.{Stream}
 use Rattle.stream_constructs.specs.declared.maker.MakeFault.{MakeFault}
 use Rattle.spec_meaning.specs.Occurrence.{block_of, body_of, result_of}
-use Rattle.flatten_rules.specs.Makes as makes
-use Rattle.flatten_rules.specs.Makes.{AreLocals, MakesBlock, MakesBody, inside_call}
+use Rattle.spec_meaning.specs.Makes as makes
+use Rattle.spec_meaning.specs.Makes.{AreLocals, MakesBlock, MakesBody, inside_call}
 use Rattle.checked_spec.specs.Laws.{in_macro}
 use Rattle.checked_spec.proofs.BlockLemmas.{nth}
 use Rattle.checked_spec.proofs.Read.{inner_is}

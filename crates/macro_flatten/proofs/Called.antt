@@ -9,8 +9,8 @@ use Rattle.tsl_value.specs.declared.place.Place.{Place}
 use Rattle.tsl_value.specs.declared.scalar.ValueType.{ValueType}
 use Rattle.flat_core.specs.System.{System}
 use Rattle.flat_core.proofs.Members.{all_at}
-use Rattle.spec_parser.specs.Tree as tree
-use Rattle.spec_parser.specs.Tree.{Expr, Exprs, no_exprs, more_exprs}
+use Rattle.syntax_tree.specs.Tree as tree
+use Rattle.syntax_tree.specs.Tree.{Expr, Exprs, no_exprs, more_exprs}
 use Rattle.name_check.specs.declared.declaration.Declaration.TheVariants as declaration
 use Rattle.name_check.specs.Builtin.{is_unit}
 use Rattle.name_check.specs.Parts.{Operand, parts}
@@ -29,8 +29,8 @@ use Rattle.stream_constructs.specs.declared.construct.Stream.{Stream}
 use Rattle.stream_constructs.specs.declared.maker.MakeFault.{MakeFault}
 use Rattle.spec_meaning.specs.Occurrence.{block_of, body_of, result_of}
 use Rattle.spec_meaning.specs.Shape.{expressions}
-use Rattle.flatten_rules.specs.Makes as makes
-use Rattle.flatten_rules.specs.Makes.{AreLocals, MakesAll, MakesBlock, MakesBody, inside_call}
+use Rattle.spec_meaning.specs.Makes as makes
+use Rattle.spec_meaning.specs.Makes.{AreLocals, MakesAll, MakesBlock, MakesBody, inside_call}
 use Rattle.call_limits.specs.Nesting.{CallsMacro, Chain}
 use Rattle.call_limits.specs.Nesting as nesting
 use Rattle.call_limits.proofs.ChainLemmas.{called_less}

@@ -5,17 +5,17 @@ use Rattle.std.specs.List.{Contains, filter}
 use Rattle.std.proofs.lemmas.List.{append-nil, take-append-drop, take_more}
 use Rattle.tsl_value.specs.declared.place.Place.{Place}
 use Rattle.tsl_value.specs.declared.scalar.ValueType.{ValueType}
-use Rattle.lift_func.specs.Tree.{Two}
+use Rattle.lift_func.specs.BodyTree.{Two}
 use Rattle.flat_core.specs.declared.equation.Equation.{Equation}
 use Rattle.flat_core.specs.System.{System}
 use Rattle.flat_core.proofs.Members.{contains_head, contains_tail}
-use Rattle.spec_parser.specs.Tree as tree
-use Rattle.spec_parser.specs.Tree.{Expr, Links, no_links, more_links}
-use Rattle.spec_parser.specs.inner.Gives.{join_links}
-use Rattle.spec_parser.specs.inner.Shape.{links_in}
-use Rattle.spec_parser.specs.declared.tree.Level.{Level}
-use Rattle.spec_parser.specs.declared.tree.Link.{Link}
-use Rattle.spec_parser.specs.declared.tree.Operator.{Operator}
+use Rattle.syntax_tree.specs.Tree as tree
+use Rattle.syntax_tree.specs.Tree.{Expr, Links, no_links, more_links}
+use Rattle.syntax_tree.specs.inner.Joins.{join_links}
+use Rattle.syntax_tree.specs.inner.OneLevel.{links_in}
+use Rattle.syntax_tree.specs.declared.tree.Level.{Level}
+use Rattle.syntax_tree.specs.declared.tree.Link.{Link}
+use Rattle.syntax_tree.specs.declared.tree.Operator.{Operator}
 use Rattle.tsl_value.proofs.Lists.{left_at}
 use Rattle.type_rules.specs.declared.rule.ExprType.TheVariants as expr_type
 use Rattle.type_rules.specs.Rules.{operand_type}
@@ -31,7 +31,7 @@ use Rattle.stream_constructs.specs.Made.{equations_for, stream_of, with_equation
 use Rattle.spec_meaning.specs.Occurrence.{Call}
 use Rattle.spec_meaning.specs.Function.{literal, operation_of}
 use Rattle.spec_meaning.specs.Shape.{Shape, all_but_last, beside, expr_shape, is_part, last_operand, last_operator, left_of, operand, operands, shape, signal_of, two_operands}
-use Rattle.flatten_rules.specs.Makes.{occurrence}
+use Rattle.spec_meaning.specs.Makes.{occurrence}
 use Rattle.checked_spec.specs.inner.Chains.{HaveOperands}
 use Rattle.checked_spec.specs.inner.Inner.{operands_after}
 use Rattle.checked_spec.specs.inner.Matches.{IsTypedAt}

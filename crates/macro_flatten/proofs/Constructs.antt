@@ -6,10 +6,11 @@ use Rattle.std.proofs.lemmas.Bool.{true≢false}
 use Rattle.tsl_value.specs.declared.scalar.ValueType.{ValueType}
 use Rattle.flat_core.specs.declared.equation.Equation.{Equation}
 use Rattle.flat_core.specs.System.{System}
-use Rattle.flat_core.proofs.Members.{all_at, contains_map}
-use Rattle.spec_parser.specs.Tree as tree
-use Rattle.spec_parser.specs.Tree.{Expr, no_links, more_links}
-use Rattle.spec_parser.specs.inner.Shape.{size_of}
+use Rattle.tsl_value.proofs.Lists.{contains_map}
+use Rattle.flat_core.proofs.Members.{all_at}
+use Rattle.syntax_tree.specs.Tree as tree
+use Rattle.syntax_tree.specs.Tree.{Expr, no_links, more_links}
+use Rattle.syntax_tree.specs.inner.OneLevel.{size_of}
 use Rattle.name_check.specs.Parts.{parts}
 use Rattle.name_check.specs.Scope.{seen}
 use Rattle.name_check.proofs.AgreeLemmas.{agree_same, agree_trans}
@@ -22,7 +23,7 @@ use Rattle.stream_constructs.specs.Limits.{IsRefusal}
 use Rattle.stream_constructs.specs.Made.{stream_of, with_equations}
 use Rattle.spec_meaning.specs.Occurrence.{Call, Occurrence, scope_at}
 use Rattle.spec_meaning.specs.Shape.{beside}
-use Rattle.flatten_rules.specs.Makes.{is_own, occurrence}
+use Rattle.spec_meaning.specs.Makes.{is_own, occurrence}
 use Rattle.checked_spec.specs.inner.Formed.{IsFormed}
 use Rattle.checked_spec.specs.inner.Inner.{StandsIn, has_links}
 use Rattle.checked_spec.specs.inner.Matches.{IsTypedAt}

@@ -8,11 +8,11 @@ use Rattle.tsl_value.specs.declared.place.Place.{Place}
 use Rattle.flat_core.specs.declared.equation.Equation.{Equation}
 use Rattle.flat_core.specs.System.{System, with_name}
 use Rattle.flat_core.specs.declared.limits.TheConstants.{MOST_EQUATIONS}
-use Rattle.spec_parser.specs.Tree as tree
-use Rattle.spec_parser.specs.Tree.{Expr}
-use Rattle.spec_parser.specs.inner.Shape.{body_of, item_of}
-use Rattle.spec_parser.specs.declared.tree.DefinitionParts.{DefinitionParts}
-use Rattle.spec_parser.specs.declared.tree.Item.{Item}
+use Rattle.syntax_tree.specs.Tree as tree
+use Rattle.syntax_tree.specs.Tree.{Expr}
+use Rattle.syntax_tree.specs.inner.OneLevel.{body_of, item_of}
+use Rattle.syntax_tree.specs.declared.tree.DefinitionParts.{DefinitionParts}
+use Rattle.syntax_tree.specs.declared.tree.Item.{Item}
 use Rattle.type_rules.specs.declared.rule.ExprType.TheVariants as expr_type
 use Rattle.type_rules.specs.Asked.{inner}
 use Rattle.expr_types.specs.Bodies.{at_top, in_definition}
@@ -21,8 +21,8 @@ use Rattle.stream_constructs.specs.declared.construct.Stream.{Stream}
 use Rattle.stream_constructs.specs.declared.maker.MakeFault.{MakeFault}
 use Rattle.stream_constructs.specs.Made.{with_equations}
 use Rattle.spec_meaning.specs.Occurrence.{result_of}
-use Rattle.flatten_rules.specs.Flat.{MakesStreams, named}
-use Rattle.flatten_rules.specs.Flat as flat
+use Rattle.spec_meaning.specs.Flat.{MakesStreams, named}
+use Rattle.spec_meaning.specs.Flat as flat
 use Rattle.flat_meaning.proofs.Plain.{named_length}
 use Rattle.flat_meaning.proofs.Numbers.{body_number}
 use Rattle.checked_spec.specs.inner.Formed.{is_stream}
@@ -36,10 +36,11 @@ use Rattle.macro_flatten.specs.declared.context.Here.{Here}
 use Rattle.macro_flatten.specs.inner.Answers.{CanMake, IsBody, IsBodyAnswer, IsBodyMade, IsRefusedAfter}
 use Rattle.macro_flatten.specs.inner.Here.{IsHere, MayMakeAt}
 use Rattle.macro_flatten.specs.inner.Items.{AreTopNumbered, AreStreamsMade, IsReady, IsStreamDefinition, IsStreamMade, IsTopHere, items_in, kinds_in, top_in, top_site}
-use Rattle.macro_flatten.proofs.Lists.{items_before, items_more, items_split, item_there, no_stream_marks, stream_marks-append, stream_marks_after, streams_join, streams_moved, with_both}
+use Rattle.macro_flatten.proofs.Lists.{items_before, items_more, items_split, no_stream_marks, stream_marks-append, stream_marks_after, streams_join, streams_moved, with_both}
 use Rattle.macro_flatten.proofs.Named.{body_some, with_named}
 use Rattle.macro_flatten.proofs.TopPlaces.{body_may, is_here, plain_body}
 use Rattle.definition_cycles.specs.declared.limits.TheConstants.{MOST_CALLS}
+use Rattle.function_bodies.proofs.EndLemmas.{item_at}
 
 -- after what is refused more is refused
 pub refused_after : (old : System) (xs ys : List Mark) (f : MakeFault) → IsRefusedAfter old xs f → IsRefusedAfter old (xs ++ ys) f
@@ -97,7 +98,7 @@ module _ (context : Context) where
       makes_none : (item : tree.Item) → is_stream (Some item) ≡ false → MakesStreams items (kinds_in context) (top_in context) i (item ∷ []) (length old.equations) []
       makes_none (tree.Input p q x y) h = flat.MakesStreams.input flat.MakesStreams.end
       makes_none (tree.Defined p (tree.Define q x [] w b)) h = absurd (true≢false h)
-      makes_none (tree.Defined p (tree.Define q x (a ∷ ps) w b)) h = flat.MakesStreams.called flat.MakesStreams.end
+      makes_none (tree.Defined p (tree.Define q x (a ∷ ps) w b)) h = flat.MakesStreams.with_parameters flat.MakesStreams.end
       makes_none (tree.Output p q x) h = flat.MakesStreams.output flat.MakesStreams.end
       makes_none (tree.OutputAs p e q x) h = flat.MakesStreams.output_as flat.MakesStreams.end
 
@@ -175,7 +176,7 @@ module _ (context : Context) where
 
         ends : AreTopNumbered context (length old.equations) → (made : ℕ) → is_stream (Some (item_of item)) ≡ true → length (stream_marks items (kinds_in context) 0 (take (suc k) items)) ≡ made → length old.equations + made ≤ MOST_EQUATIONS → (all : ℕ) → length old.equations + made ≡ all → (top_in context k).id ≡ all - 1
         ends numbered made h many few all same =
-            let id : (top_in context k).id ≡ min (length old.equations + length (stream_marks items (kinds_in context) 0 (take (suc k) items))) ENOUGH - 1 = numbered k (ap is_stream (item_there context.items.now k item lt is) ∙ h) in
+            let id : (top_in context k).id ≡ min (length old.equations + length (stream_marks items (kinds_in context) 0 (take (suc k) items))) ENOUGH - 1 = numbered k (ap is_stream (item_at context.items.now k item lt is) ∙ h) in
             omega arith
 
     -- a refusal

@@ -5,11 +5,11 @@ use Rattle.std.proofs.lemmas.List.{append-nil}
 use Rattle.std.proofs.lemmas.Option.{same_Some, none-some}
 use Rattle.tsl_value.specs.declared.place.Place.{Place}
 use Rattle.tsl_value.specs.declared.scalar.ValueType.{ValueType}
-use Rattle.spec_parser.specs.Tree as tree
-use Rattle.spec_parser.specs.Tree.{Expr}
-use Rattle.spec_parser.specs.inner.Shape as code
-use Rattle.spec_parser.specs.inner.Shape.{definition_of, definitions_of, item_of, params_in}
-use Rattle.spec_parser.specs.declared.tree.DefinitionParts.{DefinitionParts}
+use Rattle.syntax_tree.specs.Tree as tree
+use Rattle.syntax_tree.specs.Tree.{Expr}
+use Rattle.syntax_tree.specs.inner.OneLevel as code
+use Rattle.syntax_tree.specs.inner.OneLevel.{definition_of, definitions_of, item_of, params_in}
+use Rattle.syntax_tree.specs.declared.tree.DefinitionParts.{DefinitionParts}
 use Rattle.name_check.specs.declared.declaration.Declaration.{Declaration}
 use Rattle.name_check.specs.declared.declaration.Declaration.TheVariants as declaration
 use Rattle.name_check.specs.Parts.{Operand}
@@ -23,8 +23,8 @@ use Rattle.expr_types.specs.Judge.{type_of}
 use Rattle.expr_types.specs.inner.Shown.{around_of, kinds_of}
 use Rattle.stream_constructs.specs.declared.construct.Stream.{Stream}
 use Rattle.spec_meaning.specs.Occurrence.{block_of, body_of, local, result_of}
-use Rattle.flatten_rules.specs.Makes as makes
-use Rattle.flatten_rules.specs.Makes.{AreLocals, Stands, inside_call}
+use Rattle.spec_meaning.specs.Makes as makes
+use Rattle.spec_meaning.specs.Makes.{AreLocals, Stands, inside_call}
 use Rattle.checked_spec.specs.Laws.{IsMacro, IsStreamBody, in_macro}
 use Rattle.checked_spec.proofs.BlockLemmas.{nth}
 use Rattle.checked_spec.proofs.BodyLaws.{macros_are_typed}

@@ -5,10 +5,10 @@ use Rattle.std.specs.Option.{option_map}
 use Rattle.std.proofs.lemmas.Bool.{true≢false}
 use Rattle.std.proofs.lemmas.List.{append-nil, length-map, take-map}
 use Rattle.std.proofs.lemmas.Option.{slice_get_within}
-use Rattle.spec_parser.specs.Tree as tree
-use Rattle.spec_parser.specs.inner.Shape.{body_of, item_of}
-use Rattle.spec_parser.specs.declared.tree.DefinitionParts.{DefinitionParts}
-use Rattle.spec_parser.specs.declared.tree.Item.{Item}
+use Rattle.syntax_tree.specs.Tree as tree
+use Rattle.syntax_tree.specs.inner.OneLevel.{body_of, item_of}
+use Rattle.syntax_tree.specs.declared.tree.DefinitionParts.{DefinitionParts}
+use Rattle.syntax_tree.specs.declared.tree.Item.{Item}
 use Rattle.type_rules.specs.Asked.{inner}
 use Rattle.expr_types.specs.Around.{Around, Kinds}
 use Rattle.expr_types.specs.Bodies.{at_top}
@@ -19,9 +19,10 @@ use Rattle.equation_marks.specs.inner.Counted.{counted}
 use Rattle.equation_marks.specs.Marks.{Mark, body_marks, macro_marks, stream_marks}
 use Rattle.equation_marks.proofs.Counts.{counted_then}
 use Rattle.macro_flatten.specs.inner.Items.{AreForeseen, IsStreamDefinition, count_to}
-use Rattle.macro_flatten.proofs.Lists.{item_there, items_more, no_stream_marks, stream_marks_after}
+use Rattle.macro_flatten.proofs.Lists.{items_more, no_stream_marks, stream_marks_after}
 use Rattle.definition_cycles.specs.declared.limits.TheConstants.{MOST_CALLS}
 use Rattle.flat_core.specs.declared.limits.TheConstants.{MOST_EQUATIONS}
+use Rattle.function_bodies.proofs.EndLemmas.{item_at}
 
 -- ---- a write in a list
 pub set_same : {X : Type 0} (xs : List X) (i : ℕ) (x : X) → i < length xs → slice_get (set xs i x) i ≡ Some x
@@ -81,7 +82,7 @@ module _ (xs : List Item) (kinds : Kinds) (n k count : ℕ) (old now : List (Opt
   none_more other = record {
     count_is = h.count_is ∙ ap (counted n) (sym (marks_more ∙ ap (λ ms. front ++ ms) (no_stream_marks items kinds k (item_of item) other) ∙ append-nil front));
     same_length = h.same_length;
-    definitions = below_more (λ i. is_stream (slice_get items i) ≡ true → slice_get now i ≡ Some (foreseen items kinds n i)) k h.definitions (λ stream. absurd (true≢false (sym stream ∙ ap is_stream (item_there xs k item lt is) ∙ other)));
+    definitions = below_more (λ i. is_stream (slice_get items i) ≡ true → slice_get now i ≡ Some (foreseen items kinds n i)) k h.definitions (λ stream. absurd (true≢false (sym stream ∙ ap is_stream (item_at xs k item lt is) ∙ other)));
     others = h.others;
   }
 
@@ -109,7 +110,7 @@ module _ (xs : List Item) (kinds : Kinds) (n k count : ℕ) (old now : List (Opt
     count_here = next_is ∙ ap (counted n) (sym up_to ∙ ap (stream_marks items kinds 0) (sym (ap (λ m. take m items) (sym (add-one k)) ∙ take-map item_of (k + 1) xs)))
 
     here : is_stream (slice_get items k) ≡ true
-    here = ap is_stream (item_there xs k item lt is ∙ ap Some def.is)
+    here = ap is_stream (item_at xs k item lt is ∙ ap Some def.is)
 
     pub stream_turn : IsForeseenTo xs kinds n (k + 1) next old new
     stream_turn = record {

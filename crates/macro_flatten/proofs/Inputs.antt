@@ -9,9 +9,9 @@ use Rattle.tsl_value.specs.declared.place.Place.{Place}
 use Rattle.tsl_value.specs.declared.scalar.ValueType.{ValueType}
 use Rattle.flat_core.specs.System.{System}
 use Rattle.flat_core.proofs.Members.{contains_head, contains_tail}
-use Rattle.spec_parser.specs.Tree as tree
-use Rattle.spec_parser.specs.inner.Shape.{item_of}
-use Rattle.spec_parser.specs.declared.tree.Item.{Item}
+use Rattle.syntax_tree.specs.Tree as tree
+use Rattle.syntax_tree.specs.inner.OneLevel.{item_of}
+use Rattle.syntax_tree.specs.declared.tree.Item.{Item}
 use Rattle.type_rules.specs.declared.rule.ExprType.TheVariants as expr_type
 use Rattle.type_rules.specs.Written.{as_stream, bad_as_stream}
 use Rattle.form_check.specs.Types.{bad_in_item, bad_types}
@@ -22,8 +22,8 @@ use Rattle.stream_constructs.specs.Limits.{IsRefusal}
 use Rattle.stream_constructs.specs.Made.{input_equation, stream_of, with_equations}
 use Rattle.stream_constructs.proofs.Refusals.{IsRefusal_longer}
 use Rattle.tsl_value.proofs.Lists.{left_at}
-use Rattle.flatten_rules.specs.Flat.{MakesInputs, event_type}
-use Rattle.flatten_rules.specs.Flat as flat
+use Rattle.spec_meaning.specs.Flat.{MakesInputs, event_type}
+use Rattle.spec_meaning.specs.Flat as flat
 use Rattle.checked_spec.specs.inner.Formed.{is_input}
 use Rattle.checked_spec.proofs.ListLemmas.{flat_empty}
 use Rattle.checked_spec.proofs.WrittenLemmas.{Has, value_there}

@@ -5,12 +5,12 @@ use Rattle.std.proofs.lemmas.Option.{same_Some, none-some}
 use Rattle.tsl_value.specs.declared.place.Place.{Place}
 use Rattle.flat_core.specs.System.{System}
 use Rattle.flat_core.specs.declared.limits.TheConstants.{MOST_EQUATIONS}
-use Rattle.spec_parser.specs.Tree as tree
-use Rattle.spec_parser.specs.Tree.{Expr}
-use Rattle.spec_parser.specs.inner.Shape as code
-use Rattle.spec_parser.specs.inner.Shape.{definition_of, definitions_of, item_of, params_in}
-use Rattle.spec_parser.specs.declared.tree.DefinitionParts.{DefinitionParts}
-use Rattle.spec_parser.specs.declared.tree.Param.{Param}
+use Rattle.syntax_tree.specs.Tree as tree
+use Rattle.syntax_tree.specs.Tree.{Expr}
+use Rattle.syntax_tree.specs.inner.OneLevel as code
+use Rattle.syntax_tree.specs.inner.OneLevel.{definition_of, definitions_of, item_of, params_in}
+use Rattle.syntax_tree.specs.declared.tree.DefinitionParts.{DefinitionParts}
+use Rattle.syntax_tree.specs.declared.tree.Param.{Param}
 use Rattle.name_check.specs.Scope.{Agree, Scope, are_values, functions_of, inside, locals_from, parameters_from, seen, top}
 use Rattle.name_check.proofs.AgreeLemmas.{agree_same, agree_trans}
 use Rattle.type_rules.specs.declared.rule.Setting.TheVariants as setting
@@ -20,7 +20,7 @@ use Rattle.expr_types.specs.inner.Shown.{around_of, kinds_of}
 use Rattle.stream_constructs.specs.declared.construct.Stream.{Stream}
 use Rattle.stream_constructs.specs.declared.maker.MakeFault.{MakeFault}
 use Rattle.spec_meaning.specs.Occurrence.{block_of, body_of, local, result_of}
-use Rattle.flatten_rules.specs.Makes.{AreLocals}
+use Rattle.spec_meaning.specs.Makes.{AreLocals}
 use Rattle.checked_spec.specs.Laws.{in_macro}
 use Rattle.checked_spec.proofs.BlockLemmas.{nth}
 use Rattle.equation_marks.specs.Marks.{Mark, body_marks, macro_marks}

@@ -9,12 +9,12 @@ use Rattle.tsl_value.specs.declared.scalar.ValueType.{ValueType}
 use Rattle.flat_core.specs.declared.equation.Equation.{Equation}
 use Rattle.flat_core.specs.System.{System}
 use Rattle.flat_core.proofs.Members.{contains_head, contains_tail}
-use Rattle.spec_parser.specs.Tree as tree
-use Rattle.spec_parser.specs.Tree.{Expr, Links, no_links, more_links}
-use Rattle.spec_parser.specs.inner.Gives.{join_links}
-use Rattle.spec_parser.specs.inner.Shape.{links_in}
-use Rattle.spec_parser.specs.declared.tree.Level.{Level}
-use Rattle.spec_parser.specs.declared.tree.Link.{Link}
+use Rattle.syntax_tree.specs.Tree as tree
+use Rattle.syntax_tree.specs.Tree.{Expr, Links, no_links, more_links}
+use Rattle.syntax_tree.specs.inner.Joins.{join_links}
+use Rattle.syntax_tree.specs.inner.OneLevel.{links_in}
+use Rattle.syntax_tree.specs.declared.tree.Level.{Level}
+use Rattle.syntax_tree.specs.declared.tree.Link.{Link}
 use Rattle.type_rules.specs.declared.rule.ExprType.TheVariants as expr_type
 use Rattle.type_rules.specs.Rules.{operand_type}
 use Rattle.expr_types.specs.Judge.{type_of}

@@ -1,16 +1,14 @@
 -- Items one after the other: their marks, and what they make.
 use Rattle.std.proofs.Common.{◌≡◌, ℕ, suc, ◌+◌, ◌<◌, List, [], ◌∷◌, ◌++◌, map, length, get_or, take, drop, false, Some, Result, Ok, Err, refl, ap, sym, subst, ◌∙◌, append_assoc, arith, length-append}
-use Rattle.std.specs.Prelude.{IfErr, slice_get}
-use Rattle.std.specs.Option.{option_map}
+use Rattle.std.specs.Prelude.{IfErr}
 use Rattle.std.proofs.lemmas.List.{length-map, length-take-le, map-append, take-append-drop, take_more}
 use Rattle.std.proofs.lemmas.Bool.{true≢false}
-use Rattle.std.proofs.lemmas.Option.{slice_get-map, slice_get_read}
 use Rattle.flat_core.specs.declared.equation.Equation.{Equation}
 use Rattle.flat_core.specs.declared.equation.Output.{Output}
 use Rattle.flat_core.specs.System.{System}
-use Rattle.spec_parser.specs.Tree as tree
-use Rattle.spec_parser.specs.inner.Shape.{item_of}
-use Rattle.spec_parser.specs.declared.tree.Item.{Item}
+use Rattle.syntax_tree.specs.Tree as tree
+use Rattle.syntax_tree.specs.inner.OneLevel.{item_of}
+use Rattle.syntax_tree.specs.declared.tree.Item.{Item}
 use Rattle.expr_types.specs.Around.{Kinds}
 use Rattle.expr_types.specs.Bodies.{in_definition}
 use Rattle.stream_constructs.specs.declared.construct.Stream.{Stream}
@@ -20,8 +18,8 @@ use Rattle.stream_constructs.specs.Limits.{IsRefusal}
 use Rattle.stream_constructs.specs.Made.{with_equations}
 use Rattle.tsl_value.proofs.Lists.{left_at}
 use Rattle.spec_meaning.specs.Occurrence.{result_of}
-use Rattle.flatten_rules.specs.Flat.{MakesOutputs, MakesStreams, named}
-use Rattle.flatten_rules.specs.Flat as flat
+use Rattle.spec_meaning.specs.Flat.{MakesOutputs, MakesStreams, named}
+use Rattle.spec_meaning.specs.Flat as flat
 use Rattle.flat_meaning.proofs.Plain.{named_length}
 use Rattle.checked_spec.specs.inner.Formed.{is_stream}
 use Rattle.equation_marks.specs.Marks.{Mark, body_marks, macro_marks, output_marks, printed_marks, stream_marks}
@@ -37,9 +35,6 @@ with_both s xs ys = ap (λ es. record s { equations = es }) (append_assoc s.equa
 pub items_more : (xs : List Item) (k : ℕ) (x : Item) → k < length xs → x ≡ get_or xs k x → map item_of (take (k + 1) xs) ≡ map item_of (take k xs) ++ item_of x ∷ []
 items_more xs k x lt is =
     ap (map item_of) (take_more xs k x lt ∙ ap (λ y. take k xs ++ y ∷ []) (sym is)) ∙ map-append item_of (take k xs) (x ∷ [])
-
-pub item_there : (xs : List Item) (k : ℕ) (x : Item) → k < length xs → x ≡ get_or xs k x → slice_get (map item_of xs) k ≡ Some (item_of x)
-item_there xs k x lt is = slice_get-map item_of xs k ∙ ap (option_map item_of) (slice_get_read xs (length xs) k x refl lt is)
 
 -- what comes before it, it, and what comes after it
 pub items_split : (xs : List Item) (k : ℕ) (x : Item) → k < length xs → x ≡ get_or xs k x → map item_of xs ≡ map item_of (take k xs) ++ (item_of x ∷ map item_of (drop (k + 1) xs))
@@ -148,7 +143,7 @@ module _ (items : List tree.Item) (kinds : Kinds) (top : ℕ → Stream) where
       let e : i + suc (length xs) ≡ suc i + length xs = omega arith in
       let f : n + length front ≡ n + length first + length made = omega (arith, ap length all_is, length-append (named x first) made, named_length x first) in
       flat.MakesStreams.stream s first (made ++ bs) is kind body (streams_join more (streams_moved (i + suc (length xs)) (suc i + length xs) (n + length front) (n + length first + length made) ys bs e f rest)) (ap (λ es. es ++ bs) all_is ∙ append_assoc (named x first) made bs)
-  streams_join {i} {n} {ys = ys} {front = front} {bs = bs} (flat.MakesStreams.called {rest = xs} more) rest = flat.MakesStreams.called (streams_join more (next_streams i n xs ys front bs rest))
+  streams_join {i} {n} {ys = ys} {front = front} {bs = bs} (flat.MakesStreams.with_parameters {rest = xs} more) rest = flat.MakesStreams.with_parameters (streams_join more (next_streams i n xs ys front bs rest))
   streams_join {i} {n} {ys = ys} {front = front} {bs = bs} (flat.MakesStreams.input {rest = xs} more) rest = flat.MakesStreams.input (streams_join more (next_streams i n xs ys front bs rest))
   streams_join {i} {n} {ys = ys} {front = front} {bs = bs} (flat.MakesStreams.output {rest = xs} more) rest = flat.MakesStreams.output (streams_join more (next_streams i n xs ys front bs rest))
   streams_join {i} {n} {ys = ys} {front = front} {bs = bs} (flat.MakesStreams.output_as {rest = xs} more) rest = flat.MakesStreams.output_as (streams_join more (next_streams i n xs ys front bs rest))

@@ -7,7 +7,7 @@ use Rattle.tsl_value.specs.declared.scalar.ValueType.{ValueType}
 use Rattle.flat_core.specs.declared.equation.Equation.{Equation}
 use Rattle.flat_core.specs.System.{System}
 use Rattle.flat_core.specs.Typed.{is_aggregate}
-use Rattle.spec_parser.specs.Tree.{Expr, place_of}
+use Rattle.syntax_tree.specs.Tree.{Expr, place_of}
 use Rattle.name_check.specs.Scope.{Agree}
 use Rattle.name_check.proofs.AgreeLemmas.{agree_same}
 use Rattle.type_rules.specs.declared.rule.ExprType.TheVariants as expr_type
@@ -21,8 +21,8 @@ use Rattle.stream_constructs.specs.Limits.{IsRefusal}
 use Rattle.stream_constructs.specs.Made.{stream_of, with_equations}
 use Rattle.spec_meaning.specs.Occurrence.{Occurrence, scope_at}
 use Rattle.spec_meaning.specs.Shape.{Shape, shape}
-use Rattle.flatten_rules.specs.Makes as makes
-use Rattle.flatten_rules.specs.Makes.{IsAsWritten, Makes, MakesAll, MakesBody, choice_operands, is_choice, is_name, is_own, last_of, occurrence, with_itself}
+use Rattle.spec_meaning.specs.Makes as makes
+use Rattle.spec_meaning.specs.Makes.{IsAsWritten, Makes, MakesAll, MakesBody, choice_operands, is_choice, is_name, is_own, last_of, occurrence, with_itself}
 use Rattle.checked_spec.specs.inner.Matches.{HaveTheirTypes, IsTypedAt}
 use Rattle.checked_spec.proofs.Whole.{choice_fits, construct_fits}
 use Rattle.equation_marks.specs.Marks.{Mark, alias_own_marks, body_marks, choice_own_marks, holds_aggregate, mark_of, own_marks}

@@ -11,11 +11,12 @@ use Rattle.tsl_value.specs.declared.scalar.ValueType.{ValueType}
 use Rattle.flat_core.specs.declared.equation.Equation.{Equation}
 use Rattle.flat_core.specs.Typed.{is_aggregate}
 use Rattle.flat_core.proofs.Members.{all_from, contains_head, contains_tail}
-use Rattle.spec_parser.specs.inner.Gives.{join_links}
-use Rattle.spec_parser.specs.Tree as tree
-use Rattle.spec_parser.specs.Tree.{Expr, Links, no_links, more_links, place_of}
-use Rattle.spec_parser.specs.declared.tree.Level.{Level}
-use Rattle.spec_parser.specs.declared.tree.Operator.{Operator}
+use Rattle.syntax_tree.specs.inner.Joins.{join_links}
+use Rattle.syntax_tree.specs.Tree as tree
+use Rattle.syntax_tree.specs.Tree.{Expr, Links, no_links, more_links, place_of}
+use Rattle.syntax_tree.specs.declared.tree.Level.{Level}
+use Rattle.syntax_tree.specs.declared.tree.Operator.{Operator}
+use Rattle.syntax_tree.proofs.Joins.{join_none}
 use Rattle.name_check.specs.Parts.{parts}
 use Rattle.name_check.specs.Scope.{meaning}
 use Rattle.type_rules.specs.Rules.{operand_type}
@@ -26,8 +27,8 @@ use Rattle.stream_constructs.specs.declared.construct.Stream.{Stream}
 use Rattle.spec_meaning.specs.Occurrence.{Call, Occurrence, block_of, body_of, local, result_of}
 use Rattle.spec_meaning.specs.Shape.{Shape, all_but_last, beside, expressions, is_part, last_operand, last_operator, left_of, shape}
 use Rattle.spec_meaning.specs.Function.{literal}
-use Rattle.flatten_rules.specs.Makes.{AreLocals, Makes, MakesAll, MakesBlock, MakesBody, Standing, inside_call, is_choice, is_name, is_own, last_of, occurrence}
-use Rattle.flatten_rules.specs.Makes as makes
+use Rattle.spec_meaning.specs.Makes.{AreLocals, Makes, MakesAll, MakesBlock, MakesBody, Standing, inside_call, is_choice, is_name, is_own, last_of, occurrence}
+use Rattle.spec_meaning.specs.Makes as makes
 use Rattle.flat_meaning.proofs.Shapes.{choice_construct}
 use Rattle.flat_meaning.proofs.Once.{IsChoice, IsOwn, OneList, choice_of, choice_once, no_choice, own_of, own_once}
 use Rattle.flat_meaning.proofs.OneShapes.{no_own_chain}
@@ -43,7 +44,7 @@ use Rattle.checked_spec.proofs.Whole.{choice_fits, construct_fits, parts_typed}
 use Rattle.checked_spec.proofs.Within.{operand_in, subs_stand_in}
 use Rattle.equation_marks.specs.Marks.{Mark, block_marks, body_marks, macro_marks, mark_of, marks}
 use Rattle.equation_marks.proofs.CallMarks.{body_of_name, body_of_other, name_has_none}
-use Rattle.equation_marks.proofs.ChainMarks.{join_assoc, join_nil, last_after}
+use Rattle.equation_marks.proofs.ChainMarks.{join_assoc, last_after}
 use Rattle.equation_marks.proofs.MadeMarks.{call_made_marks, choice_made_marks, own_made_marks}
 use Rattle.equation_marks.proofs.OwnMarks.{alias_marks}
 use Rattle.macro_flatten.specs.inner.Answers.{IsCall}
@@ -76,8 +77,8 @@ module _ (items : List tree.Item) (kinds : Kinds) (streams : ℕ → Stream) (is
   abbrev pub site : Around → Standing → Site
   site at st = record { items = items; kinds = kinds; top = streams; at = at; st = st }
 
-  abbrev pub called : ℕ → ℕ → List Mark
-  called deep = macro_marks items kinds deep
+  abbrev pub marks_of_macros : ℕ → ℕ → List Mark
+  marks_of_macros deep = macro_marks items kinds deep
 
   -- ---- where expressions stand: each may be made, or it is the beginning of a chain that may be
   abbrev pub IsPlaced : Around → Standing → ℕ → Expr → Type 0
@@ -86,7 +87,7 @@ module _ (items : List tree.Item) (kinds : Kinds) (streams : ℕ → Stream) (is
 
   module _ (at : Around) (st : Standing) (deep : ℕ) where
     pub placed_of : (e : Expr) → MayMake items kinds streams at st deep e → IsPlaced at st deep e
-    placed_of (tree.Chain p l e ls) may = (no_links, subst (λ ks. MayMake items kinds streams at st deep (tree.Chain p l e ks)) (sym (join_nil ls)) may)
+    placed_of (tree.Chain p l e ls) may = (no_links, subst (λ ks. MayMake items kinds streams at st deep (tree.Chain p l e ks)) (sym (join_none ls)) may)
     placed_of e may = may
 
     typed_there : (e : Expr) → IsPlaced at st deep e → (t : ValueType) × IsTypedAt items streams at st e t
@@ -149,15 +150,15 @@ module _ (items : List tree.Item) (kinds : Kinds) (streams : ℕ → Stream) (is
 
   -- ---- what is shown
   pub record IsMarked (at : Around) (deep : ℕ) (e : Expr) (made : List Equation) (s : Stream) : Type 0 where
-    pub marks_are : map mark_of made ≡ marks at (called deep) e
+    pub marks_are : map mark_of made ≡ marks at (marks_of_macros deep) e
     pub of_is : type_of at e ≡ Some (expr_type.Stream s.of)
 
   record AreMarked (at : Around) (deep : ℕ) (es : List Expr) (made : List Equation) (ss : List Stream) : Type 0 where
-    pub marks_are : map mark_of made ≡ flat_map (marks at (called deep)) es
+    pub marks_are : map mark_of made ≡ flat_map (marks at (marks_of_macros deep)) es
     typed : HaveTheirTypes at es ss
 
   pub record IsBodyMarked (at : Around) (deep : ℕ) (e : Expr) (made : List Equation) (s : Stream) : Type 0 where
-    pub marks_are : map mark_of made ≡ body_marks at (called deep) e
+    pub marks_are : map mark_of made ≡ body_marks at (marks_of_macros deep) e
     pub of_is : type_of at e ≡ Some (expr_type.Stream s.of)
 
   -- ---- an expression with equations of its own, where those of its parts are known
@@ -215,7 +216,7 @@ module _ (items : List tree.Item) (kinds : Kinds) (streams : ℕ → Stream) (is
         record {
           marks_are =
               ap (map mark_of) (g.behind.made_is ∙ ap (λ es. before ++ es) g.behind.after_is)
-              ∙ own_made_marks items st.calls at (called deep) typed.matches.scope_is e g.of sh k ps before is own (typed_as g.of of_is) g.no_choice count inner.marks_are g.fits;
+              ∙ own_made_marks items st.calls at (marks_of_macros deep) typed.matches.scope_is e g.of sh k ps before is own (typed_as g.of of_is) g.no_choice count inner.marks_are g.fits;
           of_is = typed_as s.of same;
         }
 
@@ -226,7 +227,7 @@ module _ (items : List tree.Item) (kinds : Kinds) (streams : ℕ → Stream) (is
         record {
           marks_are =
               ap (map mark_of) (g.behind.made_is ∙ ap (λ es. before ++ es) g.behind.after_is)
-              ∙ choice_made_marks items st.calls at (called deep) typed.matches.scope_is e g.of sh k ps before is own (typed_as g.of of_is) g.chosen count inner.marks_are g.fits;
+              ∙ choice_made_marks items st.calls at (marks_of_macros deep) typed.matches.scope_is e g.of sh k ps before is own (typed_as g.of of_is) g.chosen count inner.marks_are g.fits;
           of_is = typed_as s.of same;
         }
 
@@ -296,7 +297,7 @@ module _ (items : List tree.Item) (kinds : Kinds) (streams : ℕ → Stream) (is
   mutual
     pub marked : {at : Around} {st : Standing} {deep : ℕ} {e : Expr} {n : ℕ} {made : List Equation} {s : Stream} → IsPlaced at st deep e → Makes items kinds streams st e n made s → IsMarked at deep e made s
     marked {at} {st} {deep} {s = s} placed (makes.Makes.name {p = p} {x = x} d other is stands) = record {
-      marks_are = sym (name_has_none at (called deep) p x other);
+      marks_are = sym (name_has_none at (marks_of_macros deep) p x other);
       of_is = name_typed items streams at st p x d s placed.matches other (ap (λ scope. meaning scope x) placed.matches.scope_is ∙ is) stands;
     }
     marked {at} {st} {deep} {made = made} {s = s} placed (makes.Makes.chain {p = p} {l = l} {e = e} one) =
@@ -336,15 +337,15 @@ module _ (items : List tree.Item) (kinds : Kinds) (streams : ℕ → Stream) (is
 
     pub body_marked : {at : Around} {st : Standing} {deep : ℕ} {e : Expr} {n : ℕ} {made : List Equation} {s : Stream} → IsPlaced at st deep e → MakesBody items kinds streams st e n made s → IsBodyMarked at deep e made s
     body_marked {at} {deep = deep} {e = e} placed (makes.MakesBody.plain no_name one) =
-        let h = marked placed one in record { marks_are = h.marks_are ∙ sym (body_of_other at (called deep) e no_name); of_is = h.of_is }
+        let h = marked placed one in record { marks_are = h.marks_are ∙ sym (body_of_other at (marks_of_macros deep) e no_name); of_is = h.of_is }
     body_marked {at} {deep = deep} {e = e} placed (makes.MakesBody.alias a only_name one made_is s_is) =
         let h = marked placed one in
         record {
-          marks_are = ap (map mark_of) made_is ∙ alias_marks (place_of e) a ∙ sym (body_of_name at (called deep) e only_name);
+          marks_are = ap (map mark_of) made_is ∙ alias_marks (place_of e) a ∙ sym (body_of_name at (marks_of_macros deep) e only_name);
           of_is = h.of_is ∙ ap (λ v. Some (expr_type.Stream v)) (sym (ap (λ (t : Stream). t.of) s_is));
         }
 
-    block_marked : {at : Around} {st : Standing} {deep : ℕ} {ds : tree.Definitions} {n : ℕ} {made : List Equation} {ss : List Stream} → ((k : ℕ) (b : tree.Body) → local k ds ≡ Some b → IsPlaced at st deep (result_of b)) → MakesBlock items kinds streams st ds n made ss → map mark_of made ≡ block_marks at (called deep) ds
+    block_marked : {at : Around} {st : Standing} {deep : ℕ} {ds : tree.Definitions} {n : ℕ} {made : List Equation} {ss : List Stream} → ((k : ℕ) (b : tree.Body) → local k ds ≡ Some b → IsPlaced at st deep (result_of b)) → MakesBlock items kinds streams st ds n made ss → map mark_of made ≡ block_marks at (marks_of_macros deep) ds
     block_marked placed makes.MakesBlock.no_definition = refl
     block_marked placed (makes.MakesBlock.definition {b = b} first rest one more made_is) =
         let head = body_marked (placed 0 b refl) one in

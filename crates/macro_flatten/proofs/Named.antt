@@ -5,16 +5,16 @@ use Rattle.std.specs.Option.{option_map_or}
 use Rattle.std.proofs.lemmas.Bool.{true≢false}
 use Rattle.flat_core.specs.declared.equation.Equation.{Equation}
 use Rattle.flat_core.specs.System.{System, with_name}
-use Rattle.spec_parser.specs.Tree as tree
-use Rattle.spec_parser.specs.Tree.{Expr, no_links, place_of}
+use Rattle.syntax_tree.specs.Tree as tree
+use Rattle.syntax_tree.specs.Tree.{Expr, no_links, place_of}
 use Rattle.name_check.specs.Builtin.{is_unit}
 use Rattle.expr_types.specs.Around.{Around, Kinds}
 use Rattle.stream_constructs.specs.declared.construct.Stream.{Stream}
 use Rattle.stream_constructs.specs.Construct as construct
 use Rattle.stream_constructs.specs.Made.{with_equations}
-use Rattle.flatten_rules.specs.Makes.{Makes, MakesBody, Standing, choice_operands, is_name, with_itself}
-use Rattle.flatten_rules.specs.Makes as makes
-use Rattle.flatten_rules.specs.Flat.{named}
+use Rattle.spec_meaning.specs.Makes.{Makes, MakesBody, Standing, choice_operands, is_name, with_itself}
+use Rattle.spec_meaning.specs.Makes as makes
+use Rattle.spec_meaning.specs.Flat.{named}
 use Rattle.flat_meaning.proofs.OwnEquations.{choice_some, own_some}
 use Rattle.equation_marks.specs.Marks.{Mark, mark_of, marks, own_marks}
 

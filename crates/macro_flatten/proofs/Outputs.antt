@@ -6,10 +6,10 @@ use Rattle.tsl_value.specs.declared.place.Place.{Place}
 use Rattle.flat_core.specs.declared.equation.Op.TheVariants as op
 use Rattle.flat_core.specs.System.{System, with_name}
 use Rattle.flat_core.specs.Typed.{unit_type}
-use Rattle.spec_parser.specs.Tree as tree
-use Rattle.spec_parser.specs.Tree.{Expr}
-use Rattle.spec_parser.specs.inner.Shape.{item_of}
-use Rattle.spec_parser.specs.declared.tree.Item.{Item}
+use Rattle.syntax_tree.specs.Tree as tree
+use Rattle.syntax_tree.specs.Tree.{Expr}
+use Rattle.syntax_tree.specs.inner.OneLevel.{item_of}
+use Rattle.syntax_tree.specs.declared.tree.Item.{Item}
 use Rattle.name_check.specs.Builtin.{is_unit}
 use Rattle.name_check.specs.Scope.{meaning, top}
 use Rattle.expr_types.specs.Bodies.{at_top}
@@ -20,10 +20,10 @@ use Rattle.stream_constructs.specs.Equations.{equation}
 use Rattle.stream_constructs.specs.Limits.{IsRefusal}
 use Rattle.stream_constructs.specs.Made.{equations_for, stream_of, with_equations}
 use Rattle.spec_meaning.specs.Shape.{Shape, name_shape, with_parts}
-use Rattle.flatten_rules.specs.Makes.{Makes, is_name}
-use Rattle.flatten_rules.specs.Makes as makes
-use Rattle.flatten_rules.specs.Flat.{MakesOutputs, MakesPrinted, outermost}
-use Rattle.flatten_rules.specs.Flat as flat
+use Rattle.spec_meaning.specs.Makes.{Makes, is_name}
+use Rattle.spec_meaning.specs.Makes as makes
+use Rattle.spec_meaning.specs.Flat.{MakesOutputs, MakesPrinted, outermost}
+use Rattle.spec_meaning.specs.Flat as flat
 use Rattle.equation_marks.specs.Marks.{Mark, macro_marks, mark_of, marks, output_marks, own_marks, printed_marks}
 use Rattle.equation_marks.specs.Refused.{AreRefused}
 use Rattle.equation_marks.proofs.CallMarks.{named_marks_are}

@@ -8,8 +8,8 @@ use Rattle.tsl_value.specs.declared.scalar.ValueType.{ValueType}
 use Rattle.flat_core.specs.declared.equation.Equation.{Equation}
 use Rattle.flat_core.specs.System.{System}
 use Rattle.flat_core.specs.Typed.{is_aggregate}
-use Rattle.spec_parser.specs.Tree as tree
-use Rattle.spec_parser.specs.Tree.{Expr, place_of}
+use Rattle.syntax_tree.specs.Tree as tree
+use Rattle.syntax_tree.specs.Tree.{Expr, place_of}
 use Rattle.stream_constructs.specs.declared.construct.Stream.{Stream}
 use Rattle.stream_constructs.specs.declared.maker.MakeFault.{MakeFault}
 use Rattle.stream_constructs.specs.Construct.{Construct}
@@ -17,7 +17,7 @@ use Rattle.stream_constructs.specs.Equations.{choice_equations, own_equations}
 use Rattle.stream_constructs.specs.Limits.{IsRefusal}
 use Rattle.stream_constructs.specs.Made.{stream_of, with_equations}
 use Rattle.spec_meaning.specs.Shape.{operand}
-use Rattle.flatten_rules.specs.Makes.{choice_operands, is_choice, with_itself}
+use Rattle.spec_meaning.specs.Makes.{choice_operands, is_choice, with_itself}
 use Rattle.macro_flatten.specs.inner.Own.{own_of}
 
 -- ---- choices

@@ -9,8 +9,8 @@ use Rattle.tsl_value.specs.declared.place.Place.{Place}
 use Rattle.tsl_value.specs.declared.scalar.ValueType.{ValueType}
 use Rattle.flat_core.specs.System.{System}
 use Rattle.flat_core.proofs.Members.{contains_head}
-use Rattle.spec_parser.specs.Tree as tree
-use Rattle.spec_parser.specs.Tree.{Expr}
+use Rattle.syntax_tree.specs.Tree as tree
+use Rattle.syntax_tree.specs.Tree.{Expr}
 use Rattle.name_check.specs.declared.declaration.Declaration.{Declaration}
 use Rattle.name_check.specs.Builtin.{is_unit}
 use Rattle.name_check.specs.Parts.{Operand, parts}
@@ -27,8 +27,8 @@ use Rattle.expr_types.specs.Judge.{is_just, of_verdict, type_of}
 use Rattle.expr_types.specs.inner.Shown.{around_of}
 use Rattle.expr_types.proofs.AlikeLemmas.{names_alike, type_alike}
 use Rattle.stream_constructs.specs.declared.construct.Stream.{Stream}
-use Rattle.flatten_rules.specs.Makes as makes
-use Rattle.flatten_rules.specs.Makes.{Stands}
+use Rattle.spec_meaning.specs.Makes as makes
+use Rattle.spec_meaning.specs.Makes.{Stands}
 use Rattle.checked_spec.specs.inner.Checked.{IsChecked}
 use Rattle.checked_spec.specs.inner.Formed.{IsDeclared}
 use Rattle.checked_spec.specs.inner.Inner.{StandsIn}

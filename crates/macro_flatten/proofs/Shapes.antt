@@ -12,11 +12,14 @@ use Rattle.tsl_value.specs.declared.scalar.KeyType.{KeyType}
 use Rattle.tsl_value.specs.declared.scalar.ScalarType.{ScalarType}
 use Rattle.tsl_value.specs.declared.scalar.ValueType.{ValueType}
 use Rattle.tsl_value.specs.declared.scalar.ValueType.TheVariants as value_type
-use Rattle.spec_parser.specs.Tree as tree
-use Rattle.spec_parser.specs.Tree.{Expr, Exprs, no_exprs, more_exprs}
+use Rattle.syntax_tree.specs.Tree as tree
+use Rattle.syntax_tree.specs.Tree.{Expr, Exprs, no_exprs, more_exprs}
 use Rattle.vocabulary.specs.declared.signature.Role.{Role}
 use Rattle.vocabulary.specs.declared.signature.Role.TheVariants as role
 use Rattle.vocabulary.specs.Table.{role_of}
+use Rattle.vocabulary.specs.declared.plain.Plain.{Plain}
+use Rattle.vocabulary.specs.declared.plain.Plain.TheVariants as language
+use Rattle.vocabulary.specs.PlainTable.{spelling}
 use Rattle.name_check.specs.declared.declaration.Declaration.{Declaration}
 use Rattle.name_check.specs.declared.declaration.Declaration.TheVariants as declaration
 use Rattle.name_check.specs.Builtin.{is_unit, is_lift, is_called}
@@ -38,13 +41,13 @@ use Rattle.stream_constructs.specs.Construct as construct
 use Rattle.spec_meaning.specs.Occurrence.{Call, scope_at}
 use Rattle.spec_meaning.specs.Function.{literal, function_body}
 use Rattle.spec_meaning.specs.Shape.{Shape, expressions, is_part, operands, with_parts, role_shape, plain_name, is_delay, is_const as is_const_word, is_filter, const_shape, filtered_by, filter_shape, lift_by, function_named, lift_shape, declared_shape, empty_shape, expr_shape}
-use Rattle.flatten_rules.specs.Makes.{is_own}
+use Rattle.spec_meaning.specs.Makes.{is_own}
 use Rattle.checked_spec.specs.inner.Formed.{IsFormed}
 use Rattle.checked_spec.proofs.FunctionAsks.{checked, same_Ok}
 use Rattle.checked_spec.proofs.FunctionRead.{arguments_are, types_count, verdict_is}
 use Rattle.checked_spec.proofs.Operands.{standard}
 use Rattle.checked_spec.proofs.Words as words
-use Rattle.checked_spec.proofs.Words.{Word, spelling, IsWord, is_word}
+use Rattle.checked_spec.proofs.Words.{IsWord, is_word}
 use Rattle.checked_spec.proofs.Calls.{declared_name, declared_judged, declared_made, no_value, no_option, by_one}
 use Rattle.checked_spec.proofs.Lifts.{front, final, judged_final, shape_final}
 
@@ -168,20 +171,20 @@ module _ (items : List tree.Item) (cs : List Call) (at : Around) (t : ValueType)
         let n = declared_name x other in
         own_along _ _ (sym (declared_made items cs p x es n)) (declared_own (meaning (scope_at items cs) x) es (none other) (sym (declared_judged here p x es n) ∙ h))
 
-    word_own : (w : Word) → OwnCall (spelling w)
+    word_own : (w : Plain) → OwnCall (spelling w)
     unfolding is_unit is_lift builtin_of takes_one takes_two plain_name is_delay is_const_word is_filter
-    word_own words.Time fits h none = parts_own cs construct.Time (expressions es) refl
-    word_own words.Last fits h none = parts_own cs construct.Last (expressions es) refl
-    word_own words.Delay fits h none = parts_own cs construct.Delay (expressions es) refl
-    word_own words.Merge fits h none = parts_own cs construct.Merge (expressions es) refl
-    word_own words.Default fits h none = parts_own cs construct.Merge (expressions es) refl
-    word_own words.Lift fits h none = lift_own es h
-    word_own words.Const fits h none = const_own es fits h
-    word_own words.Filter fits h none = filter_own es fits
-    word_own words.IsSome fits h none = refused_word _ builtin.IsSome es (λ a. is_some_refused _ a t) fits h
-    word_own words.IsNone fits h none = refused_word _ builtin.IsNone es (λ a. is_none_refused _ a t) fits h
-    word_own words.GetSome fits h none = refused_word _ builtin.GetSome es (λ a. get_some_refused _ a t) fits h
-    word_own words.Some fits h none = refused_word _ builtin.Some es (λ a. some_refused _ a t) fits h
+    word_own language.Time fits h none = parts_own cs construct.Time (expressions es) refl
+    word_own language.Last fits h none = parts_own cs construct.Last (expressions es) refl
+    word_own language.Delay fits h none = parts_own cs construct.Delay (expressions es) refl
+    word_own language.Merge fits h none = parts_own cs construct.Merge (expressions es) refl
+    word_own language.Default fits h none = parts_own cs construct.Merge (expressions es) refl
+    word_own language.Lift fits h none = lift_own es h
+    word_own language.Const fits h none = const_own es fits h
+    word_own language.Filter fits h none = filter_own es fits
+    word_own language.IsSome fits h none = refused_word _ builtin.IsSome es (λ a. is_some_refused _ a t) fits h
+    word_own language.IsNone fits h none = refused_word _ builtin.IsNone es (λ a. is_none_refused _ a t) fits h
+    word_own language.GetSome fits h none = refused_word _ builtin.GetSome es (λ a. get_some_refused _ a t) fits h
+    word_own language.Some fits h none = refused_word _ builtin.Some es (λ a. some_refused _ a t) fits h
 
     call_own : (x : List ℕ) → OwnCall x
     call_own x = by (is_word x)

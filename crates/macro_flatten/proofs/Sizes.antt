@@ -1,6 +1,6 @@
 -- The parts of an expression with a construct of its own are smaller than it, all together.
 use Rattle.std.proofs.Common.{◌≡◌, ℕ, zero, suc, ◌+◌, ◌*◌, ◌≤◌, ◌<◌, Bool, true, false, cond, List, [], ◌∷◌, map, length, get_or, Option, Some, None, refl, ap, sym, subst, ◌∙◌, arith}
-use Rattle.std.specs.Prelude.{codes, if◌then◌else◌}
+use Rattle.std.specs.Prelude.{if◌then◌else◌}
 use Rattle.std.specs.List.{filter}
 use Rattle.std.specs.Option.{option_map, option_and_then}
 use Rattle.std.proofs.lemmas.Bool.{true≢false}
@@ -9,13 +9,16 @@ use Rattle.tsl_value.specs.declared.scalar.Scalar.{Scalar}
 use Rattle.tsl_value.specs.declared.scalar.Scalar.TheVariants as scalar
 use Rattle.tsl_value.specs.declared.scalar.ValueType.{ValueType}
 use Rattle.tsl_value.specs.declared.scalar.ValueType.TheVariants as value_type
-use Rattle.spec_parser.specs.Tree as tree
-use Rattle.spec_parser.specs.Tree.{Expr, Exprs, no_exprs, more_exprs, no_links, more_links}
-use Rattle.spec_parser.specs.inner.Shape.{item_of, size_of, size_of_exprs}
-use Rattle.spec_parser.specs.declared.tree.Item.{Item}
+use Rattle.syntax_tree.specs.Tree as tree
+use Rattle.syntax_tree.specs.Tree.{Expr, Exprs, no_exprs, more_exprs, no_links, more_links}
+use Rattle.syntax_tree.specs.inner.OneLevel.{item_of, size_of, size_of_exprs}
+use Rattle.syntax_tree.specs.declared.tree.Item.{Item}
 use Rattle.vocabulary.specs.declared.signature.Role.{Role}
 use Rattle.vocabulary.specs.declared.signature.Role.TheVariants as role
 use Rattle.vocabulary.specs.Table.{role_of}
+use Rattle.vocabulary.specs.declared.plain.Plain.{Plain}
+use Rattle.vocabulary.specs.declared.plain.Plain.TheVariants as language
+use Rattle.vocabulary.specs.PlainTable.{spelling}
 use Rattle.name_check.specs.declared.declaration.Declaration.{Declaration}
 use Rattle.name_check.specs.declared.declaration.Declaration.TheVariants as declaration
 use Rattle.name_check.specs.Builtin.{is_unit, is_lift}
@@ -23,15 +26,15 @@ use Rattle.name_check.specs.Scope.{meaning}
 use Rattle.type_rules.specs.Written.{key_of, scalar_of}
 use Rattle.stream_constructs.specs.Construct.{Construct}
 use Rattle.stream_constructs.specs.Construct as construct
-use Rattle.spec_meaning.specs.Occurrence.{Call, Occurrence, scope_at, called}
+use Rattle.spec_meaning.specs.Occurrence.{Call, Occurrence, scope_at, macro_result}
 use Rattle.spec_meaning.specs.Function.{literal}
 use Rattle.spec_meaning.specs.Shape.{Shape, expressions, is_part, beside, with_parts, role_shape, plain_name, is_delay, is_const, is_filter, const_shape, filtered_by, filter_shape, lift_by, function_named, lift_shape, name_shape, declared_shape, empty_shape, same_as, expr_shape}
-use Rattle.flatten_rules.specs.Makes.{is_own}
+use Rattle.spec_meaning.specs.Makes.{is_own}
 use Rattle.checked_spec.specs.inner.Inner.{has_links}
 use Rattle.equation_marks.proofs.Weights.{items_weight}
 use Rattle.checked_spec.proofs.Expressions.{IsNotOwn, same_not_own, name_not_own}
 use Rattle.checked_spec.proofs.Words as words
-use Rattle.checked_spec.proofs.Words.{Word, spelling, IsWord, is_word}
+use Rattle.checked_spec.proofs.Words.{IsWord, is_word}
 use Rattle.checked_spec.proofs.Calls.{declared_name, declared_made}
 use Rattle.checked_spec.proofs.Lifts.{front, final, shape_final}
 
@@ -122,7 +125,7 @@ module _ (items : List tree.Item) (cs : List Call) where
       (lift_by_within (size_of_exprs (more_exprs e es)) (front e es) (final e es) (function_named items (scope_at items cs) (final e es)) (front_size e es))
 
   declared_within : (d : Option Declaration) (es : Exprs) → Within (size_of_exprs es) (declared_shape items cs d es)
-  declared_within (Some (declaration.Macro i)) es = never (size_of_exprs es) (same_as (called items cs i es)) (same_not_own (called items cs i es))
+  declared_within (Some (declaration.Macro i)) es = never (size_of_exprs es) (same_as (macro_result items cs i es)) (same_not_own (macro_result items cs i es))
   declared_within (Some (declaration.Function i)) es = λ own. some_less (size_of_exprs es) cs (expressions es) (arguments_size es)
   declared_within d es = tt
 
@@ -130,20 +133,20 @@ module _ (items : List tree.Item) (cs : List Call) where
     abbrev CallWithin : List ℕ → Type 0
     CallWithin x = Within (size_of_exprs es) (expr_shape items cs (tree.Call p x es))
 
-    word_within : (w : Word) → CallWithin (spelling w)
+    word_within : (w : Plain) → CallWithin (spelling w)
     unfolding is_lift plain_name is_delay is_const is_filter
-    word_within words.Time = λ own. all_less (size_of_exprs es) cs (expressions es) (arguments_size es)
-    word_within words.Last = λ own. all_less (size_of_exprs es) cs (expressions es) (arguments_size es)
-    word_within words.Delay = λ own. all_less (size_of_exprs es) cs (expressions es) (arguments_size es)
-    word_within words.Merge = λ own. all_less (size_of_exprs es) cs (expressions es) (arguments_size es)
-    word_within words.Default = λ own. all_less (size_of_exprs es) cs (expressions es) (arguments_size es)
-    word_within words.Lift = lifted_within es
-    word_within words.Const = const_within cs es
-    word_within words.Filter = filter_within cs es
-    word_within words.IsSome = declared_within (meaning (scope_at items cs) (codes "isSome")) es
-    word_within words.IsNone = declared_within (meaning (scope_at items cs) (codes "isNone")) es
-    word_within words.GetSome = declared_within (meaning (scope_at items cs) (codes "getSome")) es
-    word_within words.Some = declared_within (meaning (scope_at items cs) (codes "Some")) es
+    word_within language.Time = λ own. all_less (size_of_exprs es) cs (expressions es) (arguments_size es)
+    word_within language.Last = λ own. all_less (size_of_exprs es) cs (expressions es) (arguments_size es)
+    word_within language.Delay = λ own. all_less (size_of_exprs es) cs (expressions es) (arguments_size es)
+    word_within language.Merge = λ own. all_less (size_of_exprs es) cs (expressions es) (arguments_size es)
+    word_within language.Default = λ own. all_less (size_of_exprs es) cs (expressions es) (arguments_size es)
+    word_within language.Lift = lifted_within es
+    word_within language.Const = const_within cs es
+    word_within language.Filter = filter_within cs es
+    word_within language.IsSome = declared_within (meaning (scope_at items cs) (spelling language.IsSome)) es
+    word_within language.IsNone = declared_within (meaning (scope_at items cs) (spelling language.IsNone)) es
+    word_within language.GetSome = declared_within (meaning (scope_at items cs) (spelling language.GetSome)) es
+    word_within language.Some = declared_within (meaning (scope_at items cs) (spelling language.Some)) es
 
     call_within : (x : List ℕ) → CallWithin x
     call_within x = by (is_word x)

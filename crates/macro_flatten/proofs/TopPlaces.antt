@@ -6,8 +6,8 @@ use Rattle.std.proofs.lemmas.List.{append-nil}
 use Rattle.std.proofs.lemmas.Option.{none-some}
 use Rattle.tsl_value.specs.declared.place.Place.{Place}
 use Rattle.tsl_value.specs.declared.scalar.ValueType.{ValueType}
-use Rattle.spec_parser.specs.Tree as tree
-use Rattle.spec_parser.specs.Tree.{Expr}
+use Rattle.syntax_tree.specs.Tree as tree
+use Rattle.syntax_tree.specs.Tree.{Expr}
 use Rattle.name_check.specs.declared.declaration.Declaration.{Declaration}
 use Rattle.name_check.specs.declared.declaration.Declaration.TheVariants as declaration
 use Rattle.name_check.specs.Scope.{seen, top}
@@ -16,7 +16,7 @@ use Rattle.type_rules.specs.declared.rule.ExprType.TheVariants as expr_type
 use Rattle.expr_types.specs.Around.{Around, Kinds, declared_type, params_of}
 use Rattle.expr_types.specs.Bodies.{at_top, block_kind, in_definition, local_kind, may_have_braces, within_block}
 use Rattle.spec_meaning.specs.Occurrence.{result_of}
-use Rattle.flatten_rules.specs.Makes as makes
+use Rattle.spec_meaning.specs.Makes as makes
 use Rattle.checked_spec.specs.Laws.{IsStreamBody}
 use Rattle.checked_spec.proofs.BodyLaws.{streams_are_typed}
 use Rattle.macro_flatten.specs.declared.context.Context.{Context}

@@ -6,9 +6,9 @@ use Rattle.std.specs.List.{Contains}
 use Rattle.std.proofs.lemmas.List.{append-nil, drop_all, length-map, map-append}
 use Rattle.flat_core.specs.declared.equation.Equation.{Equation}
 use Rattle.flat_core.specs.System.{System}
-use Rattle.spec_parser.specs.Tree as tree
-use Rattle.spec_parser.specs.Tree.{Expr}
-use Rattle.spec_parser.specs.inner.Shape.{definitions_of}
+use Rattle.syntax_tree.specs.Tree as tree
+use Rattle.syntax_tree.specs.Tree.{Expr}
+use Rattle.syntax_tree.specs.inner.OneLevel.{definitions_of}
 use Rattle.name_check.specs.inner.Steps.{local_body}
 use Rattle.tsl_value.proofs.Lists.{left_at}
 use Rattle.expr_types.specs.Judge.{type_of}
@@ -16,8 +16,8 @@ use Rattle.stream_shapes.specs.inner.Shape.{expressions_in}
 use Rattle.stream_constructs.specs.declared.construct.Stream.{Stream}
 use Rattle.stream_constructs.specs.declared.maker.MakeFault.{MakeFault}
 use Rattle.spec_meaning.specs.Occurrence.{local, result_of}
-use Rattle.flatten_rules.specs.Makes as makes
-use Rattle.flatten_rules.specs.Makes.{MakesBlock}
+use Rattle.spec_meaning.specs.Makes as makes
+use Rattle.spec_meaning.specs.Makes.{MakesBlock}
 use Rattle.flat_meaning.proofs.Numbers.{body_number}
 use Rattle.equation_marks.specs.Marks.{Mark, block_marks, body_marks, mark_of}
 use Rattle.equation_marks.proofs.CallMarks.{block_left, definition_first}

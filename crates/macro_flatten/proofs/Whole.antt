@@ -8,7 +8,7 @@ use Rattle.tsl_value.specs.declared.scalar.ValueType.{ValueType}
 use Rattle.flat_core.specs.Complete.{IsComplete}
 use Rattle.flat_core.specs.System.{System}
 use Rattle.flat_core.specs.declared.limits.TheConstants.{MOST_EQUATIONS}
-use Rattle.spec_parser.specs.Tree as tree
+use Rattle.syntax_tree.specs.Tree as tree
 use Rattle.name_check.specs.Scope.{top}
 use Rattle.type_rules.specs.declared.rule.ExprType.TheVariants as expr_type
 use Rattle.type_rules.specs.Asked.{inner}
@@ -18,9 +18,8 @@ use Rattle.stream_constructs.specs.declared.construct.Stream.{Stream}
 use Rattle.stream_constructs.specs.declared.maker.MakeFault.{MakeFault}
 use Rattle.stream_constructs.specs.Limits.{IsRefusal, refusal}
 use Rattle.stream_constructs.specs.Made.{with_equations}
-use Rattle.flatten_rules.specs.Flat.{IsFlatOf, MakesOutputs}
+use Rattle.spec_meaning.specs.Flat.{IsFlatOf, MakesOutputs}
 use Rattle.flat_meaning.proofs.Scopes.{IsStreamItem}
-use Rattle.call_limits.specs.Nesting.{CallsMacro, Chain}
 use Rattle.checked_spec.specs.inner.Checked.{IsChecked}
 use Rattle.checked_spec.specs.inner.Formed.{is_input, is_stream}
 use Rattle.tsl_value.proofs.Lists.{contains_at}
@@ -33,6 +32,7 @@ use Rattle.equation_marks.specs.Marks.{Mark, all_marks, input_marks, mark_of, ou
 use Rattle.equation_marks.specs.Refused.{AreRefused, refused}
 use Rattle.equation_marks.proofs.Refusing.{are_refused_of, are_refused-append, refusal_marks}
 use Rattle.macro_flatten.specs.declared.context.Context.{Context}
+use Rattle.macro_flatten.specs.inner.Laws.{NestsWithin}
 use Rattle.macro_flatten.specs.inner.Answers.{IsRefusedAfter}
 use Rattle.macro_flatten.specs.inner.Items.{AreForeseen, AreOutputsMade, AreStreamsMade, AreTopNumbered, Follows, IsBegun, IsReady, count_to, input_equations, input_streams, items_in, kinds_in, stream_or_any, top_in, type_or_unit}
 use Rattle.macro_flatten.proofs.Inputs.{event_stream, have_event_types, input_at, input_equations_marks, input_here, inputs_made}
@@ -115,7 +115,7 @@ module _ (context : Context) (names : context.names.now ≡ top (items_in contex
       let kind = definition_kind i h in
       ap (λ (s : Stream). s.id) (its_own i (record { id = count_to items (kinds_in context) n i - 1; of = kind.0 }) (definition_there i h kind.0 kind.1))
 
-  pub is_ready : AreBodies items context.functions.now → too_large_bodies items ≡ [] → ((i to : ℕ) → Chain (CallsMacro items) 65 i to → ⊥) → IsReady context
+  pub is_ready : AreBodies items context.functions.now → too_large_bodies items ≡ [] → NestsWithin items → IsReady context
   is_ready bodies small nests = record {
     known = record {
       items_are = refl;
@@ -218,7 +218,7 @@ module _ (context : Context) (second : System) (begun : IsBegun context second) 
 
 -- ---- what is known before the definitions are made
 -- where an empty system got the inputs, and the table of streams what is foreseen after them
-begun_at : (context : Context) (n : ℕ) (first second : System) (table : List (Option Stream)) → context.names.now ≡ top (items_in context) → IsChecked (items_in context) (kinds_in context) → first.equations ≡ [] → first.outputs ≡ [] → second ≡ with_equations first (input_equations (items_in context)) → n ≡ length second.equations → table ≡ input_streams (length first.equations) (items_in context) → AreForeseen (items_in context) (kinds_in context) n table context.streams.now → AreBodies (items_in context) context.functions.now → too_large_bodies (items_in context) ≡ [] → ((i to : ℕ) → Chain (CallsMacro (items_in context)) 65 i to → ⊥) → IsBegun context second
+begun_at : (context : Context) (n : ℕ) (first second : System) (table : List (Option Stream)) → context.names.now ≡ top (items_in context) → IsChecked (items_in context) (kinds_in context) → first.equations ≡ [] → first.outputs ≡ [] → second ≡ with_equations first (input_equations (items_in context)) → n ≡ length second.equations → table ≡ input_streams (length first.equations) (items_in context) → AreForeseen (items_in context) (kinds_in context) n table context.streams.now → AreBodies (items_in context) context.functions.now → too_large_bodies (items_in context) ≡ [] → NestsWithin (items_in context) → IsBegun context second
 begun_at context n first second table names checked none no_output inputs count table_is foreseen bodies small nests =
     let m = length first.equations in
     record {
@@ -230,6 +230,6 @@ begun_at context n first second table names checked none no_output inputs count 
     }
 
 -- the streams are those of a vector
-pub is_begun : (context : Context) (n : ℕ) (first second : System) (table streams : List (Option Stream)) → context.streams.now ≡ streams → context.names.now ≡ top (items_in context) → IsChecked (items_in context) (kinds_in context) → first.equations ≡ [] → first.outputs ≡ [] → second ≡ with_equations first (input_equations (items_in context)) → n ≡ length second.equations → table ≡ input_streams (length first.equations) (items_in context) → AreForeseen (items_in context) (kinds_in context) n table streams → AreBodies (items_in context) context.functions.now → too_large_bodies (items_in context) ≡ [] → ((i to : ℕ) → Chain (CallsMacro (items_in context)) 65 i to → ⊥) → IsBegun context second
+pub is_begun : (context : Context) (n : ℕ) (first second : System) (table streams : List (Option Stream)) → context.streams.now ≡ streams → context.names.now ≡ top (items_in context) → IsChecked (items_in context) (kinds_in context) → first.equations ≡ [] → first.outputs ≡ [] → second ≡ with_equations first (input_equations (items_in context)) → n ≡ length second.equations → table ≡ input_streams (length first.equations) (items_in context) → AreForeseen (items_in context) (kinds_in context) n table streams → AreBodies (items_in context) context.functions.now → too_large_bodies (items_in context) ≡ [] → NestsWithin (items_in context) → IsBegun context second
 is_begun context n first second table streams same names checked none no_output inputs count table_is foreseen bodies small nests =
     begun_at context n first second table names checked none no_output inputs count table_is (subst (AreForeseen (items_in context) (kinds_in context) n table) (sym same) foreseen) bodies small nests

@@ -2,25 +2,25 @@
 
 ghost use Rattle.std.specs.Prelude.{◌≡◌, ◌-◌, ◌<◌, false, map, length, slice_get, IfOk, IfErr, MatchOption};
 ghost use Rattle.std.specs.Option.{option_map};
-ghost use Rattle.spec_parser.specs.inner.Shape.{body_of, definition_of, definitions_of, exprs_of, item_of};
+ghost use Rattle.syntax_tree.specs.inner.OneLevel.{definition_of, definitions_of, exprs_of, item_of};
 ghost use Rattle.name_check.specs.Scope.{top};
 ghost use Rattle.type_rules.specs.Asked.{inner};
 ghost use Rattle.expr_types.specs.Around.{params_of};
 ghost use Rattle.expr_types.specs.Bodies.{may_have_braces};
 ghost use Rattle.expr_types.specs.inner.Shown.{around_of, kinds_of};
 ghost use Rattle.stream_constructs.specs.declared.maker.MakeFault.TheVariants as fault;
-ghost use Rattle.spec_meaning.specs.Occurrence.{result_of};
 ghost use Rattle.equation_marks.specs.Marks.{macro_marks};
 ghost use Rattle.macro_flatten.specs.inner.Answers.{AreExpressions, AreNumbered, AreStreams, CanCall, CanEnter, CanMakeAll, CanMakeBlock};
 ghost use Rattle.macro_flatten.specs.inner.Answers.{IsBlock, IsCalled, IsDefinedAt, IsInside, to_enough};
 
 use crate::context::{Context, Here};
+use equation_marks::body::result_of;
 use expr_types::around::Around;
 use flat_core::limits::MOST_EQUATIONS;
 use name_check::scope::{Scope, locals, parameters};
-use spec_parser::tree::{Body, Definition, DefinitionParts, Expr, Item};
 use stream_constructs::construct::Stream;
 use stream_constructs::maker::{MakeFault, Maker};
+use syntax_tree::tree::{Body, Definition, DefinitionParts, Expr, Item};
 use tsl_value::ids::EqId;
 use type_rules::rule::{ExprType, Setting};
 
@@ -34,15 +34,6 @@ pub(crate) fn ending_at(count: u32, kind: Option<ExprType>) -> Option<Stream>
             of: kind.inner(),
         }),
         None => None,
-    }
-}
-
-pub(crate) fn result_of(body: &Body) -> &Expr
-    ensures { result.now ≡ result_of (body_of body.now) }
-{
-    match body {
-        Body::Plain(result) => result,
-        Body::Block(_, result) => result,
     }
 }
 

@@ -1,8 +1,8 @@
 // The equations of a chain of operators.
 
 ghost use Rattle.std.specs.Prelude.{◌≡◌, ◌<◌, ◌++◌, [], length, IfOk, OnOk, IfErr};
-ghost use Rattle.spec_parser.specs.Tree as tree;
-ghost use Rattle.spec_parser.specs.inner.Shape.{links_in};
+ghost use Rattle.syntax_tree.specs.Tree as tree;
+ghost use Rattle.syntax_tree.specs.inner.OneLevel.{links_in};
 ghost use Rattle.type_rules.specs.Rules.{operand_type as type_of_operands};
 ghost use Rattle.stream_constructs.specs.Agree.{Fits};
 ghost use Rattle.stream_constructs.specs.Equations.{own_equations};
@@ -12,7 +12,6 @@ ghost use Rattle.macro_flatten.specs.inner.Answers.{CanMake, IsExpression};
 ghost use Rattle.macro_flatten.specs.inner.Sides.{IsSide, link_construct, side_streams};
 
 use crate::context::{Context, Here};
-use spec_parser::tree::{Expr, Level, Link, Operator};
 use std::alloc::Global;
 use stream_constructs::construct::Stream;
 use stream_constructs::maker::{MakeFault, Maker};
@@ -20,6 +19,7 @@ use stream_shapes::body::link_body;
 use stream_shapes::construct::Construct;
 use stream_shapes::literal::literal;
 use stream_shapes::make::make;
+use syntax_tree::tree::{Expr, Level, Link, Operator};
 use tsl_value::place::Place;
 use tsl_value::scalar::{Scalar, ScalarType, ValueType};
 

@@ -10,9 +10,9 @@ use expr_types::kinds::KindTable;
 use function_bodies::functions::Functions;
 use name_check::declaration::Declaration;
 use name_check::names::Names;
-use spec_parser::tree::Item;
 use std::alloc::Global;
 use stream_constructs::construct::Stream;
+use syntax_tree::tree::Item;
 
 /// A specification, what is known of it, and the streams of its inputs and of its definitions of the top, by the numbers of their
 /// items.

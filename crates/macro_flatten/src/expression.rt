@@ -2,7 +2,7 @@
 
 ghost use Rattle.std.specs.Prelude.{◌≡◌, ◌++◌, true, length, IfOk, OnOk, IfErr};
 ghost use Rattle.flat_core.specs.Typed.{is_aggregate as holds_elements};
-ghost use Rattle.flatten_rules.specs.Makes.{is_name, is_own};
+ghost use Rattle.spec_meaning.specs.Makes.{is_own};
 ghost use Rattle.stream_constructs.specs.Limits.{IsRefusal};
 ghost use Rattle.stream_constructs.specs.Made.{stream_of, with_equations};
 ghost use Rattle.stream_constructs.specs.declared.maker.MakeFault.TheVariants as fault;
@@ -12,34 +12,18 @@ ghost use Rattle.macro_flatten.specs.inner.Answers.{AreExpressions, CanConstruct
 ghost use Rattle.macro_flatten.specs.inner.Answers.{IsExpression, IsNamed, IsTypeOf};
 
 use crate::context::{Context, Here, macro_named};
+use equation_marks::body::is_only_name;
 use expr_types::judge::expression as judge;
 use expr_types::stop::Stop;
 use name_check::builtin::{is_called, is_unit};
-use spec_parser::tree::{Expr, Node};
 use std::alloc::Global;
 use stream_constructs::construct::Stream;
 use stream_constructs::maker::{MakeFault, Maker};
 use stream_shapes::construct::Construct;
 use stream_shapes::make::{choice_operands, make, make_choice};
 use stream_shapes::shape::shape;
+use syntax_tree::tree::{Expr, Node};
 use tsl_value::scalar::ValueType;
-
-/// An expression that is only a name, also in a chain of one operand.
-pub(crate) fn is_only_name(expression: &Expr) -> bool
-    ensures { result ≡ is_name expression.now }
-{
-    match expression.node() {
-        Node::Name(name) => !is_unit(name.as_str()),
-        Node::Chain(_, first, links) => {
-            if links.is_empty() {
-                is_only_name(first)
-            } else {
-                false
-            }
-        }
-        _ => false,
-    }
-}
 
 fn is_aggregate(of: ValueType) -> bool
     ensures { result ≡ holds_elements of }

@@ -1,13 +1,12 @@
 // The flattening.
 
-ghost use Rattle.std.specs.Prelude.{◌≡◌, ◌<◌, ◌^◌, ℕ, [], length, map, None, IfOk, IfErr, OnOk};
+ghost use Rattle.std.specs.Prelude.{◌≡◌, ◌<◌, ◌^◌, [], length, map, None, IfOk, IfErr, OnOk};
 ghost use Rattle.flat_core.specs.Complete.{IsFlat};
 ghost use Rattle.flat_core.specs.Needed.{RunsNeeded};
-ghost use Rattle.spec_parser.specs.inner.Shape.{item_of};
+ghost use Rattle.syntax_tree.specs.inner.OneLevel.{item_of};
 ghost use Rattle.name_check.specs.Scope.{top};
 ghost use Rattle.expr_types.specs.inner.Shown.{kinds_of};
-ghost use Rattle.flatten_rules.specs.Flat.{IsFlatOf};
-ghost use Rattle.call_limits.specs.Nesting.{CallsMacro, Chain};
+ghost use Rattle.spec_meaning.specs.Flat.{IsFlatOf};
 ghost use Rattle.checked_spec.specs.inner.Checked.{IsChecked};
 ghost use Rattle.function_bodies.specs.Bodies.{AreBodies, too_large_bodies};
 ghost use Rattle.parsed_spec.specs.inner.Short.{HaveShortTexts};
@@ -15,6 +14,7 @@ ghost use Rattle.flat_meaning.specs.inner.Complete.{HasOutputs};
 ghost use Rattle.equation_marks.specs.Marks.{all_marks, mark_of};
 ghost use Rattle.equation_marks.specs.Refused.{AreRefused, refused};
 ghost use Rattle.macro_flatten.specs.inner.Items.{IsBegun, items_in, kinds_in};
+ghost use Rattle.macro_flatten.specs.inner.Laws.{NestsWithin};
 
 use crate::context::Context;
 use crate::top::{foresee, inputs};
@@ -24,9 +24,9 @@ use flat_core::flat::Flat;
 use flat_core::limits::MOST_EQUATIONS;
 use function_bodies::functions::Functions;
 use name_check::names::Names;
-use spec_parser::tree::Item;
 use std::alloc::Global;
 use stream_constructs::maker::{MakeFault, Maker};
+use syntax_tree::tree::Item;
 
 /// Makes the flat system of a checked specification: first its inputs, then its definitions of the top that are streams, then its
 /// outputs, each in the order of the source.
@@ -43,7 +43,7 @@ pub fn flatten(
     requires short { HaveShortTexts (map item_of items.now) }
     requires bodies { AreBodies (map item_of items.now) functions.now }
     requires small { too_large_bodies (map item_of items.now) ≡ [] }
-    requires nests { (i to : ℕ) → Chain (CallsMacro (map item_of items.now)) 65 i to → ⊥ }
+    requires nests { NestsWithin (map item_of items.now) }
     requires few { length items.now < 2 ^ 31 }
     ensures flat { IfOk result (λ f. IsFlatOf (map item_of items.now) (kinds_of kinds.now) f.equations f.outputs) }
     ensures marks { IfOk result (λ f. map mark_of f.equations ≡ all_marks (map item_of items.now) (kinds_of kinds.now)) }

@@ -6,10 +6,9 @@ use Rattle.std.specs.List.Sorted.{IsStrictlyIncreasing}
 use Rattle.tsl_value.specs.View.{View}
 use Rattle.lift_func.specs.declared.fault.FaultKind.{FaultKind}
 use Rattle.flat_core.specs.Stream.{Outcome, Event, event}
-use Rattle.flat_core.specs.Case.{Inputs}
 use Rattle.flat_core.specs.Line.{Line, inputs_of, is_line_on}
 use Rattle.flat_core.specs.Text.{event_line}
-use Rattle.spec_parser.specs.Tree as tree
+use Rattle.syntax_tree.specs.Tree as tree
 use Rattle.stream_constructs.specs.Construct.{Delay}
 use Rattle.spec_meaning.specs.Occurrence.{Occurrence}
 use Rattle.spec_meaning.specs.Shape.{Shape, shape}

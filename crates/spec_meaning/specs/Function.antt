@@ -1,25 +1,25 @@
 -- Value functions as bodies: a call of another value function stands for its body with the arguments in the place of the parameters.
-use Rattle.std.specs.Prelude.{ℕ, zero, suc, Bool, true, false, if◌then◌else◌, pos, neg_ℤ, List, [], ◌∷◌, length, Option, Some, None}
-use Rattle.std.specs.Prelude.{slice_get, slice_index_or, codes}
-use Rattle.std.specs.Option.{option_map}
-use Rattle.std.specs.Str.{bytes_eq}
+use Rattle.std.specs.Prelude.{ℕ, zero, suc, pos, neg_ℤ, List, [], ◌∷◌, length, Option, Some, None}
+use Rattle.std.specs.Prelude.{slice_get, slice_index_or}
+use Rattle.std.specs.Option.{option_map_or}
 use Rattle.tsl_value.specs.declared.scalar.Scalar.{Scalar}
 use Rattle.tsl_value.specs.declared.scalar.Scalar.TheVariants as scalar
 use Rattle.tsl_value.specs.declared.scalar.ValueType.{ValueType}
 use Rattle.lift_func.specs.declared.body.Unary.TheVariants as unary
 use Rattle.lift_func.specs.declared.body.Binary.{Binary}
 use Rattle.lift_func.specs.declared.body.Binary.TheVariants as binary
-use Rattle.lift_func.specs.Tree.{Tree, Literal, Argument, Absent, One, Two, Choice}
-use Rattle.spec_parser.specs.Tree as tree
-use Rattle.spec_parser.specs.Tree.{Expr, Exprs, no_exprs, more_exprs, Links, no_links, more_links}
-use Rattle.spec_parser.specs.declared.tree.Operator.{Operator}
-use Rattle.spec_parser.specs.declared.tree.Operator.TheVariants as operator
-use Rattle.spec_parser.specs.declared.tree.Comparison.{Comparison}
-use Rattle.spec_parser.specs.declared.tree.Comparison.TheVariants as comparison
+use Rattle.lift_func.specs.BodyTree.{BodyTree, Literal, Argument, Absent, One, Two, Choice}
+use Rattle.syntax_tree.specs.Tree as tree
+use Rattle.syntax_tree.specs.Tree.{Expr, Exprs, no_exprs, more_exprs, Links, no_links, more_links}
+use Rattle.syntax_tree.specs.declared.tree.Operator.{Operator}
+use Rattle.syntax_tree.specs.declared.tree.Operator.TheVariants as operator
+use Rattle.syntax_tree.specs.declared.tree.Comparison.{Comparison}
+use Rattle.syntax_tree.specs.declared.tree.Comparison.TheVariants as comparison
 use Rattle.vocabulary.specs.declared.dotted.Dotted.{Dotted}
 use Rattle.vocabulary.specs.declared.signature.Role.{Role}
 use Rattle.vocabulary.specs.declared.signature.Role.TheVariants as role
 use Rattle.vocabulary.specs.Table.{role_of}
+use Rattle.vocabulary.specs.PlainTable.{plain_role, entries, look_up}
 use Rattle.name_check.specs.declared.declaration.Declaration.{Declaration}
 use Rattle.name_check.specs.declared.declaration.Declaration.TheVariants as declaration
 use Rattle.name_check.specs.Scope.{Scope, top, inside, meaning}
@@ -54,44 +54,39 @@ comparison_of comparison.Below = binary.Lt
 comparison_of comparison.Above = binary.Gt
 
 -- what stands for an expression that no value function has
-abbrev pub no_tree : Tree
+abbrev pub no_tree : BodyTree
 no_tree = Literal scalar.Unit
 
 -- what a function with a dot is, at as many operands as its operation has; an update is an operation of streams alone
-abbrev pub role_tree : Role → List Tree → Tree
+abbrev pub role_tree : Role → List BodyTree → BodyTree
 role_tree (role.Unary o) (a ∷ []) = One o a
 role_tree (role.Binary o) (a ∷ b ∷ []) = Two o a b
 role_tree r ts = no_tree
 
-abbrev pub dotted_tree : Dotted → List Tree → Tree
+abbrev pub dotted_tree : Dotted → List BodyTree → BodyTree
 dotted_tree d ts = role_tree (role_of d) ts
 
 -- the operations on options
-abbrev pub option_tree : List ℕ → Tree → Tree
-option_tree n a =
-    if bytes_eq n (codes "Some") then One unary.Some a
-    else if bytes_eq n (codes "isSome") then One unary.IsSome a
-    else if bytes_eq n (codes "isNone") then One unary.IsNone a
-    else if bytes_eq n (codes "getSome") then One unary.GetSome a
-    else no_tree
+abbrev pub option_tree : List ℕ → BodyTree → BodyTree
+option_tree n a = option_map_or (λ r. role_tree r (a ∷ [])) (look_up (entries plain_role) n) no_tree
 
-abbrev pub absent : Option ValueType → Tree
+abbrev pub absent : Option ValueType → BodyTree
 absent None = no_tree
 absent (Some t) = Absent t
 
 -- ---- the tree of an expression, where parameters have these trees and a call of item i at trees is `call i`
-module _ (scope : Scope) (args : List Tree) (call : ℕ → List Tree → Tree) where
-  abbrev pub named_tree : Option Declaration → Tree
+module _ (scope : Scope) (args : List BodyTree) (call : ℕ → List BodyTree → BodyTree) where
+  abbrev pub named_tree : Option Declaration → BodyTree
   named_tree (Some (declaration.Parameter k)) = slice_index_or args k no_tree
   named_tree d = no_tree
 
-  abbrev pub call_tree : Option Declaration → List ℕ → List Tree → Tree
+  abbrev pub call_tree : Option Declaration → List ℕ → List BodyTree → BodyTree
   call_tree (Some (declaration.Function i)) n ts = call i ts
   call_tree None n (a ∷ []) = option_tree n a
   call_tree d n ts = no_tree
 
   abbrev mutual
-    pub tree_of : Expr → Tree
+    pub tree_of : Expr → BodyTree
     tree_of (tree.If p c a b) = Choice (tree_of c) (tree_of a) (tree_of b)
     tree_of (tree.Chain p l e ls) = chain_tree (tree_of e) ls
     tree_of (tree.Compare p o a b) = Two (comparison_of o) (tree_of a) (tree_of b)
@@ -110,34 +105,34 @@ module _ (scope : Scope) (args : List Tree) (call : ℕ → List Tree → Tree) 
     tree_of (tree.EmptySet p k) = no_tree
     tree_of (tree.EmptyMap p k v) = no_tree
 
-    pub trees_of : Exprs → List Tree
+    pub trees_of : Exprs → List BodyTree
     trees_of no_exprs = []
     trees_of (more_exprs e es) = tree_of e ∷ trees_of es
 
     -- the operators of a chain group to the left
-    pub chain_tree : Tree → Links → Tree
+    pub chain_tree : BodyTree → Links → BodyTree
     chain_tree t no_links = t
     chain_tree t (more_links o e ls) = chain_tree (Two (operation_of o) t (tree_of e)) ls
 
-  abbrev pub body_tree : Option tree.Body → Tree
+  abbrev pub body_tree : Option tree.Body → BodyTree
   body_tree None = no_tree
   body_tree (Some b) = tree_of (result_of b)
 
 -- The body of value function i where its parameters have these trees. Calls nest no deeper than the number says.
-abbrev pub function_tree : List tree.Item → ℕ → ℕ → List Tree → Tree
+abbrev pub function_tree : List tree.Item → ℕ → ℕ → List BodyTree → BodyTree
 function_tree items zero i args = no_tree
 function_tree items (suc deep) i args =
     body_tree (inside (top items) (params_of (slice_get items i))) args (function_tree items deep) (body_of (slice_get items i))
 
 -- Value function i at operands. Where no function calls itself, calls nest no deeper than there are items.
-abbrev pub function_at : List tree.Item → ℕ → List Tree → Tree
+abbrev pub function_at : List tree.Item → ℕ → List BodyTree → BodyTree
 function_at items i operands = function_tree items (length items) i operands
 
 -- the arguments of a body, as many as a list has, the first of which has this number
-abbrev pub arguments_from : {A : Type 0} → ℕ → List A → List Tree
+abbrev pub arguments_from : {A : Type 0} → ℕ → List A → List BodyTree
 arguments_from k [] = []
 arguments_from k (x ∷ xs) = Argument k ∷ arguments_from (suc k) xs
 
 -- the body of value function i over its parameters
-abbrev pub function_body : List tree.Item → ℕ → Tree
+abbrev pub function_body : List tree.Item → ℕ → BodyTree
 function_body items i = function_at items i (arguments_from 0 (params_of (slice_get items i)))

@@ -1,12 +1,12 @@
 -- What happens in the streams that a specification means, for the events of its inputs.
-use Rattle.std.specs.Prelude.{◌≡◌, ℕ, zero, suc, ◌<◌, List, [], ◌∷◌, length, Option, Some, None, slice_get, slice_index_or}
+use Rattle.std.specs.Prelude.{◌≡◌, ℕ, zero, suc, ◌<◌, List, [], length, Option, Some, None, slice_get, slice_index_or}
 use Rattle.std.specs.List.{Contains}
 use Rattle.tsl_value.specs.declared.place.Place.{Place}
 use Rattle.lift_func.specs.declared.fault.FaultKind.{FaultKind}
 use Rattle.flat_core.specs.Stream.{Outcome, History}
 use Rattle.flat_core.specs.Case.{Inputs}
-use Rattle.spec_parser.specs.Tree as tree
-use Rattle.spec_parser.specs.Tree.{place_of}
+use Rattle.syntax_tree.specs.Tree as tree
+use Rattle.syntax_tree.specs.Tree.{place_of}
 use Rattle.spec_meaning.specs.Occurrence.{Occurrence}
 use Rattle.stream_constructs.specs.Construct.{Construct, Last, Delay, outcome, root}
 use Rattle.spec_meaning.specs.Shape.{Shape, shape, all_parts}

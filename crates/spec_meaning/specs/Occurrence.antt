@@ -1,11 +1,11 @@
 -- Occurrences of expressions: an expression of a specification, with the calls of macros in which it stands.
 use Rattle.std.specs.Prelude.{ℕ, zero, suc, List, [], ◌∷◌, Option, Some, None, slice_get}
-use Rattle.std.specs.Option.{option_map, option_and_then}
-use Rattle.spec_parser.specs.Tree as tree
-use Rattle.spec_parser.specs.Tree.{Expr, Exprs, no_exprs, more_exprs}
+use Rattle.std.specs.Option.{option_map}
+use Rattle.syntax_tree.specs.Tree as tree
+use Rattle.syntax_tree.specs.Tree.{Expr, Exprs, no_exprs, more_exprs}
 use Rattle.name_check.specs.declared.declaration.Declaration.{Declaration}
 use Rattle.name_check.specs.declared.declaration.Declaration.TheVariants as declaration
-use Rattle.name_check.specs.Scope.{Scope, top, inside, in_block, meaning}
+use Rattle.name_check.specs.Scope.{Scope, top, inside, in_block}
 
 -- a call of a macro: the number of its item, and what it is called with
 pub record Call : Type 0 where
@@ -68,5 +68,5 @@ module _ (items : List tree.Item) where
   stands_for cs d = None
 
   -- the result of a macro that is called with these arguments
-  abbrev pub called : List Call → ℕ → Exprs → Option Occurrence
-  called cs i es = option_map (λ e. record { calls = record { item = i; arguments = es } ∷ cs; expr = e }) (result i)
+  abbrev pub macro_result : List Call → ℕ → Exprs → Option Occurrence
+  macro_result cs i es = option_map (λ e. record { calls = record { item = i; arguments = es } ∷ cs; expr = e }) (result i)

@@ -1,7 +1,6 @@
 -- Which construct an occurrence is, and the occurrences of its parts.
-use Rattle.std.specs.Prelude.{ℕ, zero, suc, Bool, true, false, if◌then◌else◌, List, [], ◌∷◌, ◌++◌, map, Option, Some, None, is_none, Ok}
-use Rattle.std.specs.Prelude.{codes, slice_get}
-use Rattle.std.specs.List.{find, filter}
+use Rattle.std.specs.Prelude.{ℕ, zero, suc, Bool, if◌then◌else◌, List, [], ◌∷◌, ◌++◌, map, Option, Some, None, is_none}
+use Rattle.std.specs.List.{filter}
 use Rattle.std.specs.Option.{option_map, option_and_then}
 use Rattle.std.specs.Str.{bytes_eq}
 use Rattle.tsl_value.specs.declared.scalar.Scalar.{Scalar}
@@ -9,16 +8,16 @@ use Rattle.tsl_value.specs.declared.scalar.Scalar.TheVariants as scalar
 use Rattle.tsl_value.specs.declared.scalar.ValueType.{ValueType}
 use Rattle.tsl_value.specs.declared.scalar.ValueType.TheVariants as value_type
 use Rattle.lift_func.specs.declared.body.Unary.TheVariants as unary
-use Rattle.lift_func.specs.Tree.{Tree, One, Two}
-use Rattle.spec_parser.specs.Tree as tree
-use Rattle.spec_parser.specs.Tree.{Expr, Exprs, no_exprs, more_exprs, Links, no_links, more_links}
-use Rattle.spec_parser.specs.declared.tree.Operator.{Operator}
+use Rattle.lift_func.specs.BodyTree.{BodyTree, One, Two}
+use Rattle.syntax_tree.specs.Tree as tree
+use Rattle.syntax_tree.specs.Tree.{Expr, Exprs, no_exprs, more_exprs, Links, no_links, more_links}
+use Rattle.syntax_tree.specs.declared.tree.Operator.{Operator}
 use Rattle.vocabulary.specs.declared.dotted.Dotted.{Dotted}
 use Rattle.name_check.specs.declared.declaration.Declaration.{Declaration}
 use Rattle.name_check.specs.declared.declaration.Declaration.TheVariants as declaration
 use Rattle.name_check.specs.Builtin.{is_unit, is_lift}
 use Rattle.name_check.specs.Scope.{Scope, meaning}
-use Rattle.spec_meaning.specs.Occurrence.{Call, Occurrence, scope_at, stands_for, called}
+use Rattle.spec_meaning.specs.Occurrence.{Call, Occurrence, scope_at, stands_for, macro_result}
 use Rattle.spec_meaning.specs.Function.{literal, operation_of, comparison_of, role_tree, no_tree, function_at, function_body}
 use Rattle.stream_constructs.specs.Construct.{Construct, Operand, operand_trees}
 use Rattle.stream_constructs.specs.Construct as construct
@@ -27,6 +26,9 @@ use Rattle.vocabulary.specs.declared.signature.Update.{Update as UpdateOp}
 use Rattle.vocabulary.specs.declared.signature.Role.{Role}
 use Rattle.vocabulary.specs.declared.signature.Role.TheVariants as role
 use Rattle.vocabulary.specs.Table.{role_of}
+use Rattle.vocabulary.specs.declared.plain.Plain.{Plain}
+use Rattle.vocabulary.specs.declared.plain.Plain.TheVariants as plain
+use Rattle.vocabulary.specs.PlainTable.{spelling, entries, look_up}
 use Rattle.type_rules.specs.Written.{key_of, scalar_of}
 
 pub record Shape : Type 0 where
@@ -81,17 +83,17 @@ abbrev pub with_parts : List Call → Construct → List Expr → Option Shape
 with_parts cs c es = Some (record { construct = c; parts = map (beside cs) es })
 
 -- a body over its operands, and an update
-abbrev pub signal_of : List Call → (List Tree → Tree) → List Expr → Option Shape
+abbrev pub signal_of : List Call → (List BodyTree → BodyTree) → List Expr → Option Shape
 signal_of cs body es = with_parts cs (construct.Signal (body (operand_trees 0 (operands es)))) (filter is_part es)
 
 abbrev pub update_of : List Call → UpdateOp → List Expr → Option Shape
 update_of cs o es = with_parts cs (construct.Update o (operands es)) (filter is_part es)
 
-abbrev pub one_operand : (Tree → Tree) → List Tree → Tree
+abbrev pub one_operand : (BodyTree → BodyTree) → List BodyTree → BodyTree
 one_operand f (a ∷ ts) = f a
 one_operand f [] = no_tree
 
-abbrev pub two_operands : (Tree → Tree → Tree) → List Tree → Tree
+abbrev pub two_operands : (BodyTree → BodyTree → BodyTree) → List BodyTree → BodyTree
 two_operands f (a ∷ b ∷ ts) = f a b
 two_operands f ts = no_tree
 
@@ -104,23 +106,28 @@ abbrev pub dotted_shape : List Call → Dotted → List Expr → Option Shape
 dotted_shape cs d es = role_shape cs (role_of d) es
 
 -- ---- the language's own names
--- those whose parts are all streams
+-- those whose parts are all streams, but for `delay`
+abbrev pub plain_construct : Plain → Option Construct
+plain_construct plain.Time = Some construct.Time
+plain_construct plain.Last = Some construct.Last
+plain_construct plain.Merge = Some construct.Merge
+plain_construct plain.Default = Some construct.Merge
+plain_construct p = None
+
 abbrev pub plain_names : List (List ℕ × Construct)
-plain_names =
-    (codes "time", construct.Time) ∷ (codes "last", construct.Last) ∷ (codes "merge", construct.Merge)
-    ∷ (codes "default", construct.Merge) ∷ []
+plain_names = entries plain_construct
 
 unfoldable pub plain_name : List ℕ → Option Construct
-plain_name n = option_map (λ c. c.1) (find (λ c. bytes_eq n c.0) plain_names)
+plain_name n = look_up plain_names n
 
 unfoldable pub is_delay : List ℕ → Bool
-is_delay n = bytes_eq n (codes "delay")
+is_delay n = bytes_eq n (spelling plain.Delay)
 
 unfoldable pub is_const : List ℕ → Bool
-is_const n = bytes_eq n (codes "const")
+is_const n = bytes_eq n (spelling plain.Const)
 
 unfoldable pub is_filter : List ℕ → Bool
-is_filter n = bytes_eq n (codes "filter")
+is_filter n = bytes_eq n (spelling plain.Filter)
 
 abbrev pub const_shape : List Call → List Expr → Option Shape
 const_shape cs (v ∷ e ∷ []) = option_and_then (λ s. with_parts cs (construct.Const s) (e ∷ [])) (literal v)
@@ -146,7 +153,7 @@ module _ (items : List tree.Item) where
 
   -- a call of a macro, and of a value function
   abbrev pub declared_shape : List Call → Option Declaration → Exprs → Option Shape
-  declared_shape cs (Some (declaration.Macro i)) es = same_as (called items cs i es)
+  declared_shape cs (Some (declaration.Macro i)) es = same_as (macro_result items cs i es)
   declared_shape cs (Some (declaration.Function i)) es = signal_of cs (function_at items i) (expressions es)
   declared_shape cs d es = None
 

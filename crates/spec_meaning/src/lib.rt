@@ -1,2 +1,3 @@
-//! What a specification means: what happens in the streams of its expressions, each from those of its parts. It has no code.
+//! What a specification means: what happens in the streams of its expressions, each from those of its parts; and which equations it
+//! makes. It has no code.
 #![tactic(auto)]

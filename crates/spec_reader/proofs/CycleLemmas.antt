@@ -9,14 +9,15 @@ use Rattle.flat_core.specs.declared.equation.Equation.{Equation}
 use Rattle.flat_core.specs.Complete.{IsFlat}
 use Rattle.flat_core.specs.System.{System, equation}
 use Rattle.flat_core.specs.WellFormed.{IsWellFormed}
-use Rattle.spec_parser.specs.Tree as tree
+use Rattle.syntax_tree.specs.Tree as tree
 use Rattle.translation_order.specs.Order.{Before}
 use Rattle.translation_order.specs.Cycle.{Through, IsCycle, IsCycleOfWalk}
 use Rattle.translation_order.proofs.Alike.{cycle_alike}
 use Rattle.translation_order.proofs.Cycles.{walked_cycle}
 use Rattle.recursion_check.specs.Feeds.{Feeds}
 use Rattle.recursion_check.proofs.FeedLemmas.{pairs, from_feeds, not_well_formed}
-use Rattle.spec_reader.specs.Source.{HasSystem, IsCyclic, called}
+use Rattle.spec_reader.specs.Source.{HasSystem, IsCyclic}
+use Rattle.program_text.specs.Text.{label_text}
 
 module _ (s : System) where
   abbrev pub IsThere : ℕ → Type 0
@@ -59,7 +60,7 @@ module _ (s : System) where
     no_order flat = not_well_formed s flat cycle (cycle_alike (Feeds s) (Before (pairs s flat)) (from_feeds s flat) cycle as_cycle)
 
     -- with what its equations are called, and the place of the first
-    pub is_cyclic : (source : List ℕ) (items : List tree.Item) (place : Place) (names : List (List ℕ)) (first : ℕ) (e : Equation) → HasSystem source items s → names ≡ map (called s) cycle → slice_get cycle 0 ≡ Some first → equation s first ≡ Some e → place ≡ e.place → IsCyclic source place names
+    pub is_cyclic : (source : List ℕ) (items : List tree.Item) (place : Place) (names : List (List ℕ)) (first : ℕ) (e : Equation) → HasSystem source items s → names ≡ map (label_text s) cycle → slice_get cycle 0 ≡ Some first → equation s first ≡ Some e → place ≡ e.place → IsCyclic source place names
     is_cyclic source items place names first e has names_are at there place_is = record {
       items = items;
       system = s;

@@ -9,7 +9,7 @@ use Rattle.spec_lexer.specs.declared.fault.LexFault.TheVariants as lex_fault
 use Rattle.spec_lexer.specs.Tokens.{Spelled}
 use Rattle.spec_lexer.specs.Source.{HasTokens, HasFault}
 use Rattle.spec_lexer.proofs.SourceLaws.{one_list as one_spelled, one_refusal as one_fault, tokens_or_fault}
-use Rattle.spec_parser.specs.Tree as tree
+use Rattle.syntax_tree.specs.Tree as tree
 use Rattle.spec_parser.specs.declared.parse.ParseFault.{ParseFault}
 use Rattle.spec_parser.specs.declared.parse.ParseFault.TheVariants as parse_fault
 use Rattle.spec_parser.specs.Grammar.{Spells}
@@ -24,15 +24,14 @@ use Rattle.expr_types.specs.Bodies.{AreKinds}
 use Rattle.type_check.specs.declared.fault.TypeFault.{TypeFault}
 use Rattle.type_check.specs.declared.fault.TypeFault.TheVariants as type_fault
 use Rattle.type_check.specs.Faults.{IsFirstFault}
-use Rattle.type_check.specs.inner.Laws.{SameKinds}
-use Rattle.type_check.proofs.LawLemmas.{one_kinds, one_fault as one_type_fault, accepted_has_no_fault}
+use Rattle.type_check.proofs.LawLemmas.{one_kinds, one_fault as one_type_fault, accepted_has_no_fault, kinds_same}
 use Rattle.call_limits.specs.Nesting.{IsFirstMacroCycle, IsFirstTooDeep}
 use Rattle.call_limits.proofs.LawLemmas.{one_macro_cycle, one_too_deep}
 use Rattle.function_bodies.specs.Bodies.{too_large_bodies}
 use Rattle.stream_constructs.specs.declared.maker.MakeFault.TheVariants as make_fault
 use Rattle.equation_marks.specs.Marks.{all_marks}
 use Rattle.equation_marks.specs.Refused.{refused}
-use Rattle.flatten_rules.specs.Flat.{IsFlatOf}
+use Rattle.spec_meaning.specs.Flat.{IsFlatOf}
 use Rattle.flat_meaning.proofs.LawLemmas.{one_system as one_flat_system}
 use Rattle.translation_order.specs.Cycle.{IsCycleOfWalk}
 use Rattle.translation_order.proofs.Cycles.{one_cycle}
@@ -40,7 +39,8 @@ use Rattle.recursion_check.specs.Feeds.{Feeds}
 use Rattle.spec_reader.specs.declared.fault.FlatFault.{FlatFault}
 use Rattle.spec_reader.specs.declared.fault.FlatFault.TheVariants as flat_fault
 use Rattle.spec_reader.specs.declared.fault.SpecFault.TheVariants as fault
-use Rattle.spec_reader.specs.Source.{IsSpelled, IsWellTyped, Specifies, HasSystem, SpellsSystem, IsLexFault, IsParseFault, IsMisspelled, IsTypeFault, IsMistyped, IsFlatFault, HasNoFlat, called, IsCyclic}
+use Rattle.spec_reader.specs.Source.{IsSpelled, IsWellTyped, Specifies, HasSystem, SpellsSystem, IsLexFault, IsParseFault, IsMisspelled, IsTypeFault, IsMistyped, IsFlatFault, HasNoFlat, IsCyclic}
+use Rattle.program_text.specs.Text.{label_text}
 use Rattle.spec_reader.specs.inner.Laws.{OneSystem, RefusedSpellsNone, OneRefusal}
 use Rattle.spec_reader.proofs.CycleLemmas.{as_cycle, first_there, no_order}
 
@@ -109,9 +109,6 @@ module _ (source : List ℕ) where
   typed_or_refused e items kinds m t = accepted_has_no_fault items t.end kinds e t.accepted (same_fault e items t.end m t.spelled)
 
   -- ---- what the declared names are
-  kinds_same : (a b : Kinds) → SameKinds a b → a ≡ b
-  kinds_same a b s = λ k. record { item = λ i. s.items_same i k; local = λ i j. s.locals_same i j k }
-
   module _ (items others : List tree.Item) (kinds again : Kinds) (g : IsWellTyped source items kinds) (h : IsWellTyped source others again) where
     typed_items : items ≡ others
     typed_items = same_items items others g.end h.end g.spelled h.spelled
@@ -182,7 +179,7 @@ module _ (source : List ℕ) where
         g.place_is c.first c.rest e.0 (one_walk ∙ c.is) (ap (λ s. equation s c.first) one ∙ e.1) ∙ sym (h.place_is c.first c.rest e.0 c.is e.1)
 
     same_names : names ≡ others
-    same_names = g.names_are ∙ ((λ k. map (called (one k)) (one_walk k)) ∙ sym h.names_are)
+    same_names = g.names_are ∙ ((λ k. map (label_text (one k)) (one_walk k)) ∙ sym h.names_are)
 
   ordered_or_cyclic : (place : Place) (names : List (List ℕ)) (items : List tree.Item) (s : System) → IsCyclic source place names → SpellsSystem source items s → ⊥
   ordered_or_cyclic place names items s c spells =

@@ -1,4 +1,5 @@
 pub mod NameLemmas
+pub mod CountLemmas
 pub mod SourceLemmas
 pub mod TypedLemmas
 pub mod CycleLemmas

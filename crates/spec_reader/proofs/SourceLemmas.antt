@@ -10,11 +10,11 @@ use Rattle.spec_lexer.specs.declared.fault.LexFault.{LexFault}
 use Rattle.spec_lexer.specs.declared.fault.LexFault.TheVariants as lex_fault
 use Rattle.spec_lexer.specs.Tokens.{Spelled}
 use Rattle.spec_lexer.specs.Source.{HasTokens, HasFault, IsFaultAnd}
-use Rattle.spec_parser.specs.Tree as tree
+use Rattle.syntax_tree.specs.Tree as tree
 use Rattle.spec_parser.specs.declared.parse.ParseFault.{ParseFault}
 use Rattle.spec_parser.specs.declared.parse.ParseFault.TheVariants as parse_fault
-use Rattle.spec_parser.specs.declared.tree.Tree.{Tree}
-use Rattle.spec_parser.specs.inner.Shape.{items_of}
+use Rattle.syntax_tree.specs.declared.tree.Tree.{Tree}
+use Rattle.syntax_tree.specs.inner.OneLevel.{items_of}
 use Rattle.spec_parser.specs.Grammar.{Spells}
 use Rattle.spec_parser.specs.Answers.{IsFaultOf}
 use Rattle.spec_parser.specs.declared.limits.TheConstants.{MOST_LEVELS}
@@ -29,7 +29,7 @@ use Rattle.call_limits.specs.Nesting.{IsFirstMacroCycle, IsFirstTooDeep}
 use Rattle.function_bodies.specs.Bodies.{too_large_bodies}
 use Rattle.equation_marks.specs.Marks.{all_marks}
 use Rattle.equation_marks.specs.Refused.{refused, AreRefused}
-use Rattle.flatten_rules.specs.Flat.{IsFlatOf}
+use Rattle.spec_meaning.specs.Flat.{IsFlatOf}
 use Rattle.spec_reader.specs.declared.fault.SpecFault.{SpecFault}
 use Rattle.spec_reader.specs.declared.fault.SpecFault.TheVariants as fault
 use Rattle.spec_reader.specs.declared.read.Specification.{Specification}

@@ -3,14 +3,14 @@ use Rattle.std.proofs.Common.{◌≡◌, ℕ, ◌<◌, ◌≤◌, List, [], ◌�
 use Rattle.tsl_value.specs.declared.place.Place.{Place}
 use Rattle.spec_lexer.proofs.SourceLaws.{few_tokens}
 use Rattle.spec_lexer.specs.declared.limits.TheConstants.{MOST_SOURCE_BYTES}
-use Rattle.spec_parser.specs.Tree as tree
+use Rattle.syntax_tree.specs.Tree as tree
 use Rattle.spec_parser.proofs.Items.{complete}
 use Rattle.spec_parser.proofs.ParseLaws.{size_is}
 use Rattle.spec_parser.specs.declared.limits.TheConstants.{MOST_LEVELS}
 use Rattle.form_check.specs.Outputs.{without_output}
 use Rattle.definition_cycles.specs.Cycles.{IsFirstFunctionCycle}
 use Rattle.definition_cycles.specs.Nodes.{HasFewNodes}
-use Rattle.definition_cycles.proofs.CountLemmas.{few_bytes, few_nodes}
+use Rattle.spec_reader.proofs.CountLemmas.{few_bytes, few_nodes}
 use Rattle.expr_types.specs.Around.{Kinds}
 use Rattle.spec_meaning.specs.Due.{outputs_of}
 use Rattle.checked_spec.specs.inner.Checked.{IsChecked}

@@ -1,7 +1,5 @@
 -- Which specification a source is, what system it means, and how another source is refused.
-use Rattle.std.specs.Prelude.{◌≡◌, ℕ, List, [], ◌∷◌, ◌++◌, length, map, Some, None, codes}
-use Rattle.std.specs.Fmt.{decimal}
-use Rattle.std.specs.Option.{option_map_or, option_and_then}
+use Rattle.std.specs.Prelude.{◌≡◌, ℕ, List, [], ◌∷◌, length, map, Some, None}
 use Rattle.tsl_value.specs.declared.place.Place.{Place}
 use Rattle.flat_core.specs.declared.equation.Equation.{Equation}
 use Rattle.flat_core.specs.Complete.{IsFlat}
@@ -13,7 +11,7 @@ use Rattle.spec_lexer.specs.declared.fault.LexFault.{LexFault}
 use Rattle.spec_lexer.specs.declared.fault.LexFault.TheVariants as lex_fault
 use Rattle.spec_lexer.specs.Tokens.{Spelled}
 use Rattle.spec_lexer.specs.Source.{HasTokens, HasFault}
-use Rattle.spec_parser.specs.Tree as tree
+use Rattle.syntax_tree.specs.Tree as tree
 use Rattle.spec_parser.specs.declared.parse.ParseFault.{ParseFault}
 use Rattle.spec_parser.specs.declared.parse.ParseFault.TheVariants as parse_fault
 use Rattle.spec_parser.specs.Grammar.{Spells}
@@ -30,8 +28,9 @@ use Rattle.stream_constructs.specs.declared.maker.MakeFault.{MakeFault}
 use Rattle.stream_constructs.specs.declared.maker.MakeFault.TheVariants as make_fault
 use Rattle.equation_marks.specs.Marks.{all_marks}
 use Rattle.equation_marks.specs.Refused.{refused}
-use Rattle.flatten_rules.specs.Flat.{IsFlatOf}
+use Rattle.spec_meaning.specs.Flat.{IsFlatOf}
 use Rattle.translation_order.specs.Cycle.{IsCycleOfWalk}
+use Rattle.program_text.specs.Text.{label_text}
 use Rattle.recursion_check.specs.Feeds.{Feeds}
 use Rattle.spec_reader.specs.declared.fault.FlatFault.{FlatFault}
 use Rattle.spec_reader.specs.declared.fault.FlatFault.TheVariants as flat_fault
@@ -127,10 +126,6 @@ pub record HasNoFlat (source : List ℕ) (e : FlatFault) : Type 0 where
   pub typed : IsWellTyped source items kinds
   pub refused : IsFlatFault items kinds e
 
--- what an equation is called: its name, or else its number
-abbrev pub called : System → ℕ → List ℕ
-called s i = option_map_or (λ name. name) (option_and_then (λ e. e.name) (equation s i)) (codes "%" ++ decimal i)
-
 -- The equations have a cycle without a guard: this one, at the place of its first equation.
 pub record IsCyclic (source : List ℕ) (place : Place) (names : List (List ℕ)) : Type 0 where
   pub items : List tree.Item
@@ -138,7 +133,7 @@ pub record IsCyclic (source : List ℕ) (place : Place) (names : List (List ℕ)
   pub is_system : HasSystem source items system
   pub cycle : List ℕ
   pub walked : IsCycleOfWalk (length system.equations) (Feeds system) cycle
-  pub names_are : names ≡ map (called system) cycle
+  pub names_are : names ≡ map (label_text system) cycle
   pub place_is : (i : ℕ) (rest : List ℕ) (e : Equation) → cycle ≡ i ∷ rest → equation system i ≡ Some e → place ≡ e.place
 
 -- The source is refused in this way. Out of memory says nothing of it.

@@ -4,8 +4,8 @@ ghost use Rattle.std.specs.Prelude.{◌≡◌, ℕ, List, [], None, map, IfOk, O
 ghost use Rattle.flat_core.specs.Complete.{IsFlat};
 ghost use Rattle.flat_core.specs.inner.Dependency.{IsRunOrder};
 ghost use Rattle.flat_core.specs.WellFormed.{IsWellFormed};
-ghost use Rattle.spec_parser.specs.inner.Shape.{item_of, items_of};
-ghost use Rattle.spec_parser.specs.Tree.{Item as Tree};
+ghost use Rattle.syntax_tree.specs.inner.OneLevel.{item_of, items_of};
+ghost use Rattle.syntax_tree.specs.Tree.{Item as ItemTree};
 ghost use Rattle.name_check.specs.Scope.{top};
 ghost use Rattle.expr_types.specs.Around.{Kinds};
 ghost use Rattle.expr_types.specs.inner.Shown.{kinds_of};
@@ -28,8 +28,8 @@ use name_check::names::Names;
 use recursion_check::check::{CycleFault, run_order};
 use spec_lexer::lex::lex;
 use spec_parser::parse::parse;
-use spec_parser::tree::Item;
 use std::alloc::Global;
+use syntax_tree::tree::Item;
 use translation_order::steps::Steps;
 use type_check::check::check;
 use type_check::typed::Typed;
@@ -102,7 +102,7 @@ fn in_order(alloc: Global, flat: Flat) -> Result<Specification, SpecFault>
     ensures flat { IfOk result (λ c. c.flat ≡ flat) }
     ensures ordered { IfOk result (λ c. IsRunOrder c.flat c.order) }
     ensures well_formed { IfOk result (λ c. IsWellFormed c.flat) }
-    ensures cyclic { (source : List ℕ) (items : List Tree) → HasSystem source items flat → IfErr result (IsRefused source) }
+    ensures cyclic { (source : List ℕ) (items : List ItemTree) → HasSystem source items flat → IfErr result (IsRefused source) }
 {
     match run_order(alloc, &flat) {
         Ok(order) => Ok(Specification { flat, order }),

@@ -9,20 +9,13 @@ use Rattle.tsl_value.specs.declared.scalar.Scalar.{Scalar}
 use Rattle.lift_func.specs.Apply.{Answer}
 use Rattle.flat_core.specs.Stream.{Outcome, Event, Fault, event, has_event, is_fault}
 use Rattle.flat_core.specs.Case.{merged, outcome_of}
+use Rattle.flat_core.proofs.Answered.{event_of_value, value_is_no_fault}
 
 -- the outcome of an operand with this value: there is a fault, or some event, or neither
 abbrev pub fetched : Bool → Bool → Option View → Option Outcome
 fetched true some v = Some Fault
 fetched false true v = outcome_of (Ok v)
 fetched false false v = None
-
-event_of_value : (v : Option View) → event (outcome_of (Ok v)) ≡ v
-event_of_value None = refl
-event_of_value (Some v) = refl
-
-value_is_no_fault : (v : Option View) → is_fault (outcome_of (Ok v)) ≡ false
-value_is_no_fault None = refl
-value_is_no_fault (Some v) = refl
 
 -- ---- operations on such operands
 abbrev pub nones : List (Option View) → List (Option View)

@@ -9,7 +9,7 @@ use Rattle.flat_core.specs.System.{System}
 use Rattle.flat_core.specs.TypedSystem.{IsOfType, IsTypedEquation}
 use Rattle.flat_core.specs.Needed.{HasArgument}
 use Rattle.flat_core.specs.WellFormed.{Needs, unguarded_of}
-use Rattle.flat_core.proofs.Members.{all_from, all_at, all_append, map_contains}
+use Rattle.flat_core.proofs.Members.{all_from, all_at, all_append}
 use Rattle.translation_order.proofs.PathLemmas.{walk_on, path_on}
 use Rattle.flat_core.proofs.Depth.{unguarded_in}
 use Rattle.stream_constructs.specs.declared.construct.Stream.{Stream}
@@ -17,7 +17,7 @@ use Rattle.stream_constructs.specs.Construct.{Construct}
 use Rattle.stream_constructs.specs.Agree.{HangTogether, is_used_part, last_number}
 use Rattle.stream_constructs.proofs.Numbered.{At, at_none, at_more, at_first, at_front, at_back, at_both, at_number}
 use Rattle.stream_constructs.proofs.Making.{last_of_push}
-use Rattle.tsl_value.proofs.Lists.{all_by_place}
+use Rattle.tsl_value.proofs.Lists.{all_by_place, map_contains}
 
 module _ (s : System) where
   abbrev pub Stands : ℕ → Equation → Type 0

@@ -9,8 +9,8 @@ use Rattle.tsl_value.specs.declared.place.Place.{Place}
 use Rattle.tsl_value.specs.declared.scalar.Scalar.{Scalar}
 use Rattle.tsl_value.specs.declared.scalar.Scalar.TheVariants as scalar
 use Rattle.tsl_value.specs.declared.scalar.ValueType.{ValueType}
-use Rattle.lift_func.specs.Tree.{Tree}
-use Rattle.lift_func.specs.Typing.{Kind, Value, Optional, HasKind, literal, argument, absent, one, two, choice}
+use Rattle.lift_func.specs.BodyTree.{BodyTree}
+use Rattle.lift_func.specs.Typing.{ValueKind, Value, Optional, HasKind, literal, argument, absent, one, two, choice}
 use Rattle.flat_core.specs.declared.equation.Op.{Op}
 use Rattle.flat_core.specs.declared.equation.Op.TheVariants as op
 use Rattle.translation_order.specs.Graph.{Path, edge}
@@ -24,7 +24,7 @@ use Rattle.flat_core.proofs.Uniqueness.{all_by}
 use Rattle.stream_constructs.specs.declared.construct.Stream.{Stream}
 use Rattle.stream_constructs.specs.Construct as construct
 use Rattle.stream_constructs.specs.Construct.{Construct, Operand}
-use Rattle.stream_constructs.specs.Equations.{numbers, equation, lifting, lifted, literal_equations, first_number, with_literals, own_equations, alias_equation}
+use Rattle.stream_constructs.specs.Equations.{numbers, equation, lifting, lifted_streams, literal_equations, first_number, with_literals, own_equations, alias_equation}
 use Rattle.stream_constructs.specs.Made.{varying_count}
 use Rattle.stream_constructs.specs.Agree.{AreOperands, IsScalar, Fits, HangTogether, is_used_part}
 use Rattle.stream_constructs.proofs.Numbered.{At, at_none, at_more, at_two, at_first, at_second, at_front, at_back, at_both}
@@ -32,7 +32,7 @@ use Rattle.stream_constructs.proofs.Hanging.{Stands, hang, hang_from}
 use Rattle.stream_constructs.proofs.LiftingHangs.{HasType, types_lifted, operands_vary, spread_held, lifting_spread, spread_literals, all_numbers, know_lifting, know_literals, know_operands, type_at, types_at, typed_lifting, typed_literal, typed_literals, typed_operands}
 
 -- a body without arguments is typed in front of any
-weaker : (args : List Kind) (f : Tree) (k : Kind) → HasKind [] f k → HasKind args f k
+weaker : (args : List ValueKind) (f : BodyTree) (k : ValueKind) → HasKind [] f k → HasKind args f k
 weaker args f k (literal same) = literal same
 weaker args f k (argument is) = absurd (none-some _ is)
 weaker args f k absent = absent
@@ -44,20 +44,20 @@ kinds_of : (strict : Bool) (parts : List Stream) → map (λ a. kind_of strict a
 kinds_of strict [] = refl
 kinds_of strict (a ∷ rest) = ap (λ ks. kind_of strict a.of ∷ ks) (kinds_of strict rest)
 
-lift_typed : (f : Tree) (strict : Bool) (ts : List ValueType) (of : ValueType) → IsScalar of → 1 ≤ length ts → length ts ≤ 8 → HasKind (map (kind_of strict) ts) f (kind_of strict of) → IsTyped (op.Lift f strict) ts of
+lift_typed : (f : BodyTree) (strict : Bool) (ts : List ValueType) (of : ValueType) → IsScalar of → 1 ≤ length ts → length ts ≤ 8 → HasKind (map (kind_of strict) ts) f (kind_of strict of) → IsTyped (op.Lift f strict) ts of
 lift_typed f strict ts of scalar_is low high kind = subst (λ u. IsTyped (op.Lift f strict) ts u) (sym scalar_is.is) (typed.lift low high (subst (λ u. HasKind (map (kind_of strict) ts) f (kind_of strict u)) scalar_is.is kind))
 
 from_numbers : (Q : ℕ → Type 0) (parts : List Stream) → AllByRecursion Q (numbers parts) → AllByRecursion (λ a. Q a.id) parts
 from_numbers Q [] all = tt
 from_numbers Q (a ∷ rest) all = (all.0, from_numbers Q rest all.1)
 
-first_known : (K : ℕ → Type 0) (n : ℕ) (a : Stream) (rest : List Stream) → AllByRecursion (λ b. K b.id) (lifted n (a ∷ rest)) → K (first_number (lifted n (a ∷ rest)))
+first_known : (K : ℕ → Type 0) (n : ℕ) (a : Stream) (rest : List Stream) → AllByRecursion (λ b. K b.id) (lifted_streams n (a ∷ rest)) → K (first_number (lifted_streams n (a ∷ rest)))
 first_known K n a [] all = all.0
 first_known K n a (b ∷ []) all = all.0
 first_known K n a (b ∷ c ∷ rest) all = all.0
 
-pub lifted_length : (n : ℕ) (parts : List Stream) → length (lifted n parts) ≡ length parts
-lifted_length n parts = sym (length-map (lifted n parts) (λ (b : Stream). b.of)) ∙ ap length (types_lifted n parts) ∙ length-map parts (λ (b : Stream). b.of)
+pub lifted_length : (n : ℕ) (parts : List Stream) → length (lifted_streams n parts) ≡ length parts
+lifted_length n parts = sym (length-map (lifted_streams n parts) (λ (b : Stream). b.of)) ∙ ap length (types_lifted n parts) ∙ length-map parts (λ (b : Stream). b.of)
 
 -- a name as a definition
 pub alias_hangs : (p : Place) (n : ℕ) (a : Stream) (s : System) → At (Stands s) n (alias_equation p a ∷ []) → HangTogether construct.Same (alias_equation p a ∷ []) n (a ∷ []) s
@@ -143,7 +143,7 @@ module _ (p : Place) (of : ValueType) (n : ℕ) (s : System) where
       (λ K parts own. (at_more parts at_none, (parts.0, (at_first own, tt))))
       (λ all. ((typed_literal s p (scalar.Bool b) e.id e.of all.0, tt), record { types = e.of ∷ bool_type ∷ []; arguments = (all.0, (type_at s n _ (at_first stands), tt)); typed = typed.filter }))
 
-  pub lift_hangs : (f : Tree) (parts : List Stream) → Hangs (construct.Lift f) parts
+  pub lift_hangs : (f : BodyTree) (parts : List Stream) → Hangs (construct.Lift f) parts
   lift_hangs f parts fits stands =
       let count = length-map parts (λ (a : Stream). a.of) in
       let low = fits.1 in
@@ -158,18 +158,18 @@ module _ (p : Place) (of : ValueType) (n : ℕ) (s : System) where
         },
       ))
 
-  pub signal_alone_hangs : (f : Tree) → Hangs (construct.Signal f) []
+  pub signal_alone_hangs : (f : BodyTree) → Hangs (construct.Signal f) []
   signal_alone_hangs f fits stands =
       hang s (construct.Signal f) n [] (_ ∷ []) _ stands refl
       (λ Q along all. (at_more all.0 at_none, tt))
       (λ K parts own. (at_more tt at_none, (at_first own, tt)))
       (λ all. ((unit_typed, tt), record { types = unit_type ∷ []; arguments = (type_at s n _ (at_first stands), tt); typed = lift_typed f true (unit_type ∷ []) of fits.0 (omega arith) (omega arith) (weaker _ f (Value of) fits.2) }))
 
-  pub signal_hangs : (f : Tree) (a : Stream) (rest : List Stream) → Hangs (construct.Signal f) (a ∷ rest)
+  pub signal_hangs : (f : BodyTree) (a : Stream) (rest : List Stream) → Hangs (construct.Signal f) (a ∷ rest)
   signal_hangs f a rest fits stands =
       let parts = a ∷ rest in
       let lift = lifting p n parts in
-      let up = lifted n parts in
+      let up = lifted_streams n parts in
       let standing = at_front lift _ stands in
       let high = fits.1 in
       let count = length-map parts (λ (b : Stream). b.of) in
@@ -194,7 +194,7 @@ pub literals_hang :
 literals_hang c p o of n os a rest ts s unguarded operands few is_typed stands =
     let parts = a ∷ rest in
     let lift = lifting p n parts in
-    let up = lifted n parts in
+    let up = lifted_streams n parts in
     let first = first_number up in
     let m = n + length lift in
     let literals = literal_equations p first os in

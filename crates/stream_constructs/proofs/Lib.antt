@@ -5,6 +5,7 @@ pub mod Making
 pub mod Simple
 pub mod SignalsMade
 pub mod Operands
+pub mod Partly
 pub mod Updates
 pub mod Made
 pub mod Hanging

@@ -15,7 +15,7 @@ use Rattle.flat_core.specs.Case.{Inputs, Streams, unit, outcome_of, case_of}
 use Rattle.flat_core.specs.Typed.{unit_type}
 use Rattle.stream_constructs.specs.declared.construct.Stream.{Stream}
 use Rattle.stream_constructs.specs.Construct.{Operand, Fixed, Varying, now}
-use Rattle.stream_constructs.specs.Equations.{numbers, equation, held_each, merges, lifting, lifted, literal_equations, operand_numbers}
+use Rattle.stream_constructs.specs.Equations.{numbers, equation, held_each, merges, lifting, lifted_streams, literal_equations, operand_numbers}
 use Rattle.stream_constructs.specs.Agree.{history_of}
 use Rattle.stream_constructs.proofs.Numbered.{At, at_first, at_rest, at_second, at_after, at_from}
 use Rattle.stream_constructs.proofs.Fetched.{fetched, nones, over_fetched, merge_case, held_case, held_first, held_second, held_one, alone, literal_case, literal_fetched}
@@ -81,7 +81,7 @@ module _ (inputs : Inputs) (z : Streams) (t : ℕ) where
       here ∙ (λ k. if fault_numbers parts k then Some Fault else outcome_of (Ok (if event_numbers parts k then Some unit else None))) ∙ any_case (some_fault parts) (some_event parts)
 
   -- the lifted operands
-  pub lifted_are : (p : Place) (n : ℕ) (parts : List Stream) → At HasCase n (lifting p n parts) → outcomes_of (lifted n parts) ≡ map (fetched (some_fault parts) (some_event parts)) (values_of parts)
+  pub lifted_are : (p : Place) (n : ℕ) (parts : List Stream) → At HasCase n (lifting p n parts) → outcomes_of (lifted_streams n parts) ≡ map (fetched (some_fault parts) (some_event parts)) (values_of parts)
   lifted_are p n [] at = refl
   lifted_are p n (a ∷ []) at = λ k. alone (z a.id t) (latest (z a.id) t) k ∷ []
   lifted_are p n (a ∷ b ∷ []) at =

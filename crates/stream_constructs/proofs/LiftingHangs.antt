@@ -14,14 +14,14 @@ use Rattle.flat_core.specs.TypedSystem.{IsOfType, AreOfTypes, IsTypedEquation}
 use Rattle.flat_core.proofs.Members.{contains_head, contains_tail}
 use Rattle.stream_constructs.specs.declared.construct.Stream.{Stream}
 use Rattle.stream_constructs.specs.Construct.{Operand, Fixed, Varying}
-use Rattle.stream_constructs.specs.Equations.{numbers, equation, literal_over, held_each, merges, lifting, lifted, literal_equations, operand_numbers}
+use Rattle.stream_constructs.specs.Equations.{numbers, equation, literal_over, held_each, merges, lifting, lifted_streams, literal_equations, operand_numbers}
 use Rattle.stream_constructs.specs.Made.{varying_count}
 use Rattle.stream_constructs.specs.Agree.{AreOperands}
 use Rattle.stream_constructs.proofs.Numbered.{At, at_none, at_more, at_two, at_first, at_rest, at_second, at_after, at_from}
 use Rattle.stream_constructs.proofs.Hanging.{Stands, Spreads, Reached}
 
 -- ---- lists that are as long as others
-pub types_lifted : (n : ℕ) (parts : List Stream) → map (λ b. b.of) (lifted n parts) ≡ map (λ a. a.of) parts
+pub types_lifted : (n : ℕ) (parts : List Stream) → map (λ b. b.of) (lifted_streams n parts) ≡ map (λ a. a.of) parts
 types_lifted n [] = refl
 types_lifted n (a ∷ []) = refl
 types_lifted n (a ∷ b ∷ []) = refl
@@ -59,7 +59,7 @@ module _ (s : System) where
         let more = spread_each p (n + 2) trigger rest (at_after at) all.1 in
         (at_two here.1 all.0 more.0, (here.0, more.1))
 
-    pub lifting_spread : (p : Place) (n : ℕ) (parts : List Stream) → At (Stands s) n (lifting p n parts) → AllByRecursion (λ b. Q b.id) (lifted n parts) → Reached s Q n parts (lifting p n parts)
+    pub lifting_spread : (p : Place) (n : ℕ) (parts : List Stream) → At (Stands s) n (lifting p n parts) → AllByRecursion (λ b. Q b.id) (lifted_streams n parts) → Reached s Q n parts (lifting p n parts)
     lifting_spread p n [] at all = (at_none, tt)
     lifting_spread p n (a ∷ []) at all = (at_none, all)
     lifting_spread p n (a ∷ b ∷ []) at all =
@@ -95,7 +95,7 @@ module _ (s : System) where
     all_numbers [] all = tt
     all_numbers (a ∷ rest) all = (all.0, all_numbers rest all.1)
 
-    pub know_lifting : (p : Place) (n : ℕ) (parts : List Stream) → AllByRecursion (λ a. K a.id) parts → At (λ i f. K i) n (lifting p n parts) → At Arguments n (lifting p n parts) × AllByRecursion (λ b. K b.id) (lifted n parts)
+    pub know_lifting : (p : Place) (n : ℕ) (parts : List Stream) → AllByRecursion (λ a. K a.id) parts → At (λ i f. K i) n (lifting p n parts) → At Arguments n (lifting p n parts) × AllByRecursion (λ b. K b.id) (lifted_streams n parts)
     know_lifting p n [] all at = (at_none, tt)
     know_lifting p n (a ∷ []) all at = (at_none, all)
     know_lifting p n (a ∷ b ∷ []) all at =
@@ -141,7 +141,7 @@ module _ (s : System) where
       let more = typed_each p (n + 2) trigger u rest there all.1 (at_after at) in
       ((typed_last p trigger u a there all.0, (typed_merge p n a (type_at n _ (at_first at)) all.0, more.0)), (type_at (n + 1) _ (at_second at), more.1))
 
-  pub typed_lifting : (p : Place) (n : ℕ) (parts : List Stream) → length parts ≤ 8 → AllByRecursion HasType parts → At (Stands s) n (lifting p n parts) → AllByRecursion (IsTypedEquation s.equations) (lifting p n parts) × AllByRecursion HasType (lifted n parts)
+  pub typed_lifting : (p : Place) (n : ℕ) (parts : List Stream) → length parts ≤ 8 → AllByRecursion HasType parts → At (Stands s) n (lifting p n parts) → AllByRecursion (IsTypedEquation s.equations) (lifting p n parts) × AllByRecursion HasType (lifted_streams n parts)
   typed_lifting p n [] few all at = (tt, tt)
   typed_lifting p n (a ∷ []) few all at = (tt, all)
   typed_lifting p n (a ∷ b ∷ []) few all at =

@@ -9,7 +9,8 @@ use Rattle.flat_core.specs.System.{System, equation, with_name}
 use Rattle.flat_core.specs.declared.limits.TheConstants.{MOST_EQUATIONS}
 use Rattle.stream_constructs.specs.declared.maker.MakeFault.{MakeFault}
 use Rattle.stream_constructs.specs.declared.maker.MakeFault.TheVariants as fault
-use Rattle.stream_constructs.specs.Limits.{is_update, one_if, update_count, refusal_from, refusal, IsRefusal}
+use Rattle.flat_core.specs.Updates.{is_update}
+use Rattle.stream_constructs.specs.Limits.{one_if, update_count, refusal_from, refusal, IsRefusal}
 use Rattle.stream_constructs.specs.declared.limits.TheConstants.{MOST_UPDATES}
 
 -- a choice of two refusals before another

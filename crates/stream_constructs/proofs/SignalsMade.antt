@@ -6,16 +6,16 @@ use Rattle.std.proofs.lemmas.Option.{none-some}
 use Rattle.tsl_value.specs.View.{View}
 use Rattle.tsl_value.specs.declared.place.Place.{Place}
 use Rattle.tsl_value.specs.declared.scalar.ValueType.{ValueType}
-use Rattle.lift_func.specs.Tree.{Tree}
+use Rattle.lift_func.specs.BodyTree.{BodyTree}
 use Rattle.lift_func.specs.Apply.{Answer, and_then, chosen, of_one, of_two, apply}
-use Rattle.lift_func.specs.Typing.{Kind, HasKind, literal, argument, absent, one, two, choice}
+use Rattle.lift_func.specs.Typing.{ValueKind, HasKind, literal, argument, absent, one, two, choice}
 use Rattle.flat_core.specs.declared.equation.Op.{Op}
 use Rattle.flat_core.specs.Stream.{Outcome, Fault, event, is_fault}
 use Rattle.flat_core.specs.Case.{Inputs, Streams, unit, at_zero, at_once, outcome_of, fault_of, case_of, root_fault}
 use Rattle.stream_constructs.specs.declared.construct.Stream.{Stream}
 use Rattle.stream_constructs.specs.Construct as construct
 use Rattle.stream_constructs.specs.Construct.{Construct, Operand, now, signal, outcome, root}
-use Rattle.stream_constructs.specs.Equations.{numbers, equation, held_each, lifting, lifted, literal_equations, operand_numbers, first_number, with_literals, own_equations}
+use Rattle.stream_constructs.specs.Equations.{numbers, equation, held_each, lifting, lifted_streams, literal_equations, operand_numbers, first_number, with_literals, own_equations}
 use Rattle.stream_constructs.specs.Agree.{history_of, MakesStream}
 use Rattle.stream_constructs.proofs.Numbered.{At, at_none, at_more, at_first, at_second, at_from, at_front, at_back, at_both}
 use Rattle.stream_constructs.proofs.Fetched.{fetched, nones}
@@ -23,7 +23,7 @@ use Rattle.stream_constructs.proofs.LiftedOutcomes.{HasCase, some_fault, some_ev
 use Rattle.stream_constructs.proofs.Making.{IsQuiet, no_root, no_literal_root, makes}
 
 -- a body without arguments has the same answer at all values
-pub closed : (f : Tree) (k : Kind) → HasKind [] f k → (vs : List (Option View)) → apply f vs ≡ apply f []
+pub closed : (f : BodyTree) (k : ValueKind) → HasKind [] f k → (vs : List (Option View)) → apply f vs ≡ apply f []
 closed f k (literal same) vs = refl
 closed f k (argument is) vs = absurd (none-some _ is)
 closed f k absent vs = refl
@@ -69,11 +69,11 @@ module _ (inputs : Inputs) (z : Streams) (t : ℕ) where
   current_all (a ∷ rest) = ap (λ b. is_some (now (z a.id) t) && b) (current_all rest)
 
   -- an operation on some part
-  pub signal_made : (p : Place) (of : ValueType) (n : ℕ) (f : Tree) (a : Stream) (parts : List Stream) → At (HasCase inputs z t) n (own_equations p of n (construct.Signal f) (a ∷ parts)) → MakesStream (construct.Signal f) (own_equations p of n (construct.Signal f) (a ∷ parts)) n (a ∷ parts) inputs z t
+  pub signal_made : (p : Place) (of : ValueType) (n : ℕ) (f : BodyTree) (a : Stream) (parts : List Stream) → At (HasCase inputs z t) n (own_equations p of n (construct.Signal f) (a ∷ parts)) → MakesStream (construct.Signal f) (own_equations p of n (construct.Signal f) (a ∷ parts)) n (a ∷ parts) inputs z t
   signal_made p of n f a rest at =
       let parts = a ∷ rest in
       let lift = lifting p n parts in
-      let up = lifted n parts in
+      let up = lifted_streams n parts in
       let fault = some_fault inputs z t parts in
       let some = some_event inputs z t parts in
       let g : List (Option View) → Answer = λ vs. if list_all is_some vs then apply f vs else Ok None in
@@ -89,7 +89,7 @@ module _ (inputs : Inputs) (z : Streams) (t : ℕ) where
       ∙ ap (λ w. if fault then None else fault_of w) answer)
 
   -- and on none
-  alone_at : (f : Tree) (k : Kind) → HasKind [] f k → (t : ℕ) (o : Option Outcome) → o ≡ outcome_of (Ok (at_zero t unit)) → (if is_some (event o) && true then apply f (event o ∷ []) else Ok None) ≡ signal (apply f) [] t
+  alone_at : (f : BodyTree) (k : ValueKind) → HasKind [] f k → (t : ℕ) (o : Option Outcome) → o ≡ outcome_of (Ok (at_zero t unit)) → (if is_some (event o) && true then apply f (event o ∷ []) else Ok None) ≡ signal (apply f) [] t
   alone_at f k kind zero o is = (λ i. if is_some (event (is i)) && true then apply f (event (is i) ∷ []) else Ok None) ∙ closed f k kind (Some unit ∷ [])
   alone_at f k kind (suc u) o is = λ i. if is_some (event (is i)) && true then apply f (event (is i) ∷ []) else Ok None
 
@@ -97,7 +97,7 @@ module _ (inputs : Inputs) (z : Streams) (t : ℕ) where
   no_fault_at zero = refl
   no_fault_at (suc u) = refl
 
-  pub signal_alone_made : (p : Place) (of : ValueType) (n : ℕ) (f : Tree) (k : Kind) → HasKind [] f k → At (HasCase inputs z t) n (own_equations p of n (construct.Signal f) []) → MakesStream (construct.Signal f) (own_equations p of n (construct.Signal f) []) n [] inputs z t
+  pub signal_alone_made : (p : Place) (of : ValueType) (n : ℕ) (f : BodyTree) (k : ValueKind) → HasKind [] f k → At (HasCase inputs z t) n (own_equations p of n (construct.Signal f) []) → MakesStream (construct.Signal f) (own_equations p of n (construct.Signal f) []) n [] inputs z t
   signal_alone_made p of n f k kind at =
       let is : z n t ≡ outcome_of (Ok (at_zero t unit)) = at_first at in
       let clear : (is_fault (z n t) || false) ≡ false = ap (λ o. is_fault o || false) is ∙ no_fault_at t in
@@ -124,7 +124,7 @@ module _ (inputs : Inputs) (z : Streams) (t : ℕ) where
   literals_made p o of n os a rest case_is root_is w ws values answer is c outcome_is root_of at =
       let parts = a ∷ rest in
       let lift = lifting p n parts in
-      let up = lifted n parts in
+      let up = lifted_streams n parts in
       let fault = some_fault inputs z t parts in
       let some = some_event inputs z t parts in
       let literals = literal_equations p (first_number up) os in

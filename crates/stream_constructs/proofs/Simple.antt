@@ -8,7 +8,7 @@ use Rattle.tsl_value.specs.declared.place.Place.{Place}
 use Rattle.tsl_value.specs.declared.scalar.Scalar.{Scalar}
 use Rattle.tsl_value.specs.declared.scalar.Scalar.TheVariants as scalar
 use Rattle.tsl_value.specs.declared.scalar.ValueType.{ValueType}
-use Rattle.lift_func.specs.Tree.{Tree}
+use Rattle.lift_func.specs.BodyTree.{BodyTree}
 use Rattle.lift_func.specs.Apply.{Answer, apply}
 use Rattle.flat_core.specs.Stream.{Outcome, Event, Fault, event, has_event, is_fault, latest}
 use Rattle.flat_core.specs.Case.{Inputs, Streams, unit, filtered, outcome_of, fault_of, expires}
@@ -120,7 +120,7 @@ module _ (p : Place) (of : ValueType) (n : ℕ) (inputs : Inputs) (z : Streams) 
   event_parts [] = refl
   event_parts (a ∷ rest) = ap (λ vs. event (z a.id t) ∷ vs) (event_parts rest)
 
-  pub lift_made : (f : Tree) (parts : List Stream) → Has (construct.Lift f) parts
+  pub lift_made : (f : BodyTree) (parts : List Stream) → Has (construct.Lift f) parts
   lift_made f parts at =
       let blocked = fault_parts parts in
       let values = event_parts parts in

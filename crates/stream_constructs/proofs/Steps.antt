@@ -5,7 +5,7 @@ use Rattle.std.proofs.lemmas.Bool.{true≢false}
 use Rattle.std.proofs.lemmas.List.{append_assoc}
 use Rattle.tsl_value.specs.declared.place.Place.{Place}
 use Rattle.tsl_value.specs.declared.scalar.ValueType.{ValueType}
-use Rattle.lift_func.specs.Tree.{Tree}
+use Rattle.lift_func.specs.BodyTree.{BodyTree}
 use Rattle.flat_core.specs.declared.equation.Op.TheVariants as op
 use Rattle.flat_core.specs.declared.equation.Equation.{Equation}
 use Rattle.flat_core.specs.System.{System}
@@ -15,7 +15,7 @@ use Rattle.stream_constructs.specs.declared.construct.Operand.{Operand}
 use Rattle.stream_constructs.specs.declared.construct.Operand.TheVariants as given
 use Rattle.stream_constructs.specs.declared.maker.MakeFault.{MakeFault}
 use Rattle.stream_constructs.specs.Construct as construct
-use Rattle.stream_constructs.specs.Equations.{numbers, equation, strict_lift, held_each, lifting, lifted, own_equations}
+use Rattle.stream_constructs.specs.Equations.{numbers, equation, strict_lift, held_each, lifting, lifted_streams, own_equations}
 use Rattle.stream_constructs.specs.Limits.{IsRefusal}
 use Rattle.stream_constructs.specs.Made.{with_equations, operands_of, varying_of, varying_count}
 use Rattle.stream_constructs.proofs.Refusals.{IsRefusal_longer}
@@ -48,7 +48,7 @@ lifting_many p n (a ∷ []) many = absurd (omega arith)
 lifting_many p n (a ∷ b ∷ []) many = absurd (omega arith)
 lifting_many p n (a ∷ b ∷ c ∷ rest) many = refl
 
-pub signal_on_some : (p : Place) (of : ValueType) (n : ℕ) (f : Tree) (parts : List Stream) → (length parts == 0) ≡ false → lifting p n parts ++ strict_lift p f (numbers (lifted n parts)) of ∷ [] ≡ own_equations p of n (construct.Signal f) parts
+pub signal_on_some : (p : Place) (of : ValueType) (n : ℕ) (f : BodyTree) (parts : List Stream) → (length parts == 0) ≡ false → lifting p n parts ++ strict_lift p f (numbers (lifted_streams n parts)) of ∷ [] ≡ own_equations p of n (construct.Signal f) parts
 signal_on_some p of n f [] some = absurd (true≢false some)
 signal_on_some p of n f (a ∷ rest) some = refl
 

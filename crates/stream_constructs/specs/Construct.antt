@@ -7,8 +7,8 @@ use Rattle.tsl_value.specs.declared.scalar.Scalar.{Scalar}
 use Rattle.tsl_value.specs.declared.scalar.Scalar.TheVariants as scalar
 use Rattle.tsl_value.specs.declared.scalar.ValueType.{ValueType}
 use Rattle.lift_func.specs.declared.fault.FaultKind.{FaultKind}
-use Rattle.lift_func.specs.Tree as body
-use Rattle.lift_func.specs.Tree.{Tree}
+use Rattle.lift_func.specs.BodyTree as body
+use Rattle.lift_func.specs.BodyTree.{BodyTree}
 use Rattle.lift_func.specs.Apply.{Answer, apply}
 use Rattle.lift_func.specs.Update.{with_key, without_key, with_entry}
 use Rattle.flat_core.specs.Stream.{Outcome, Fault, History, event, has_event, is_fault, latest}
@@ -42,14 +42,14 @@ pub data Construct : Type 0 where
   Filter : Construct
   FilterBy : Bool → Construct
   -- `lift`, with the body of its function
-  Lift : Tree → Construct
+  Lift : BodyTree → Construct
   -- an operation on streams: a body over the current values of its parts. Operands that are literals stand in the body.
-  Signal : Tree → Construct
+  Signal : BodyTree → Construct
   -- an update of a set or a map
   Update : UpdateOp → List Operand → Construct
 
 -- operands in a body: a literal is itself, and the others are arguments, the first of which has this number
-abbrev pub operand_trees : ℕ → List Operand → List Tree
+abbrev pub operand_trees : ℕ → List Operand → List BodyTree
 operand_trees k [] = []
 operand_trees k (Fixed s ∷ os) = body.Literal s ∷ operand_trees k os
 operand_trees k (Varying ∷ os) = body.Argument k ∷ operand_trees (suc k) os
@@ -82,8 +82,8 @@ signal f (h ∷ hs) t =
     then f (map (λ g. now g t) (h ∷ hs)) else Ok None
 
 -- a function of options: where some part has an event
-abbrev pub lifted : Tree → List (Option View) → Answer
-lifted f vs = if list_any is_some vs then apply f vs else Ok None
+abbrev pub lift_of_options : BodyTree → List (Option View) → Answer
+lift_of_options f vs = if list_any is_some vs then apply f vs else Ok None
 
 -- The own case of a construct. The last line stands for other numbers of parts, which no accepted specification has.
 abbrev pub own : Inputs → Construct → List History → ℕ → Answer
@@ -100,7 +100,7 @@ own inputs Merge (a ∷ b ∷ []) t = Ok (merged (event (a t)) (event (b t)))
 own inputs (Const s) (a ∷ []) t = Ok (option_map (λ _. Plain s) (event (a t)))
 own inputs Filter (a ∷ c ∷ []) t = Ok (filtered (event (a t)) (now c t))
 own inputs (FilterBy b) (a ∷ []) t = Ok (if b then event (a t) else None)
-own inputs (Lift f) hs t = lifted f (map (λ h. event (h t)) hs)
+own inputs (Lift f) hs t = lift_of_options f (map (λ h. event (h t)) hs)
 own inputs (Signal f) hs t = signal (apply f) hs t
 own inputs (Update o os) hs t = signal (λ vs. Ok (updated o (operand_values os vs))) hs t
 own inputs c hs t = Ok None

@@ -6,8 +6,8 @@ use Rattle.tsl_value.specs.declared.scalar.Scalar.{Scalar}
 use Rattle.tsl_value.specs.declared.scalar.Scalar.TheVariants as scalar
 use Rattle.tsl_value.specs.declared.scalar.ValueType.{ValueType}
 use Rattle.tsl_value.specs.declared.scalar.ValueType.TheVariants as value_type
-use Rattle.lift_func.specs.Tree as body
-use Rattle.lift_func.specs.Tree.{Tree}
+use Rattle.lift_func.specs.BodyTree as body
+use Rattle.lift_func.specs.BodyTree.{BodyTree}
 use Rattle.flat_core.specs.declared.equation.Op.{Op}
 use Rattle.flat_core.specs.declared.equation.Op.TheVariants as op
 use Rattle.flat_core.specs.declared.equation.Equation.{Equation}
@@ -25,7 +25,7 @@ numbers parts = map (λ a. a.id) parts
 abbrev pub equation : Place → Op → List ℕ → ValueType → Equation
 equation p o args of = record { op = o; args = args; of = of; place = p; name = None }
 
-abbrev pub strict_lift : Place → Tree → List ℕ → ValueType → Equation
+abbrev pub strict_lift : Place → BodyTree → List ℕ → ValueType → Equation
 strict_lift p f args of = equation p (op.Lift f true) args of
 
 abbrev pub literal_over : Place → Scalar → ℕ → Equation
@@ -51,11 +51,11 @@ lifting p n (a ∷ []) = []
 lifting p n (a ∷ b ∷ []) = held p n b.id a ++ held p (n + 2) a.id b
 lifting p n (a ∷ b ∷ c ∷ rest) = equation p op.Any (numbers (a ∷ b ∷ c ∷ rest)) unit_type ∷ held_each p (n + 1) n (a ∷ b ∷ c ∷ rest)
 
-abbrev pub lifted : ℕ → List Stream → List Stream
-lifted n [] = []
-lifted n (a ∷ []) = a ∷ []
-lifted n (a ∷ b ∷ []) = merges n (a ∷ b ∷ [])
-lifted n (a ∷ b ∷ c ∷ rest) = merges (n + 1) (a ∷ b ∷ c ∷ rest)
+abbrev pub lifted_streams : ℕ → List Stream → List Stream
+lifted_streams n [] = []
+lifted_streams n (a ∷ []) = a ∷ []
+lifted_streams n (a ∷ b ∷ []) = merges n (a ∷ b ∷ [])
+lifted_streams n (a ∷ b ∷ c ∷ rest) = merges (n + 1) (a ∷ b ∷ c ∷ rest)
 
 -- ---- operands of which some are literals: after the lifting a literal becomes an equation over the first lifted operand
 abbrev pub literal_equations : Place → ℕ → List Operand → List Equation
@@ -78,7 +78,7 @@ first_number (a ∷ rest) = a.id
 abbrev pub with_literals : Place → Op → ValueType → ℕ → List Operand → List Stream → List Equation
 with_literals p o of n os parts =
     let lift : List Equation = lifting p n parts in
-    let up : List Stream = lifted n parts in
+    let up : List Stream = lifted_streams n parts in
     lift ++ literal_equations p (first_number up) os ++ equation p o (operand_numbers (n + length lift) os (numbers up)) of ∷ []
 
 abbrev pub update_op : UpdateOp → Op
@@ -102,7 +102,8 @@ own_equations p of n construct.Filter (e ∷ c ∷ []) = held p n e.id c ++ equa
 own_equations p of n (construct.FilterBy b) (e ∷ []) = literal_over p (scalar.Bool b) e.id ∷ equation p op.Filter (e.id ∷ n ∷ []) e.of ∷ []
 own_equations p of n (construct.Lift f) parts = equation p (op.Lift f false) (numbers parts) of ∷ []
 own_equations p of n (construct.Signal f) [] = equation p op.Unit [] unit_type ∷ strict_lift p f (n ∷ []) of ∷ []
-own_equations p of n (construct.Signal f) (a ∷ parts) = lifting p n (a ∷ parts) ++ strict_lift p f (numbers (lifted n (a ∷ parts))) of ∷ []
+own_equations p of n (construct.Signal f) (a ∷ parts) =
+    lifting p n (a ∷ parts) ++ strict_lift p f (numbers (lifted_streams n (a ∷ parts))) of ∷ []
 own_equations p of n (construct.Update o os) parts = with_literals p (update_op o) of n os parts
 own_equations p of n c parts = []
 
@@ -110,7 +111,7 @@ own_equations p of n c parts = []
 abbrev pub choice_equations : Place → ValueType → ℕ → List Operand → List Stream → List Equation
 choice_equations p of n os parts = with_literals p op.Pick of n os parts
 
-abbrev pub choice : List Tree → Tree
+abbrev pub choice : List BodyTree → BodyTree
 choice (c ∷ a ∷ b ∷ []) = body.Choice c a b
 choice ts = body.Argument 0
 

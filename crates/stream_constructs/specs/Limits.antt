@@ -1,19 +1,12 @@
 -- How many equations and updates are made.
 use Rattle.std.specs.Prelude.{◌≡◌, ◌==◌, ℕ, suc, ◌+◌, Bool, true, false, ◌&&◌, if◌then◌else◌, List, [], ◌∷◌, Option, Some, None}
-use Rattle.flat_core.specs.declared.equation.Op.{Op}
 use Rattle.flat_core.specs.declared.equation.Op.TheVariants as op
 use Rattle.flat_core.specs.declared.equation.Equation.{Equation}
+use Rattle.flat_core.specs.Updates.{is_update}
 use Rattle.flat_core.specs.declared.limits.TheConstants.{MOST_EQUATIONS}
 use Rattle.stream_constructs.specs.declared.maker.MakeFault.{MakeFault}
 use Rattle.stream_constructs.specs.declared.maker.MakeFault.TheVariants as fault
 use Rattle.stream_constructs.specs.declared.limits.TheConstants.{MOST_UPDATES}
-
-abbrev pub is_update : Op → Bool
-is_update op.SetAdd = true
-is_update op.SetRemove = true
-is_update op.MapAdd = true
-is_update op.MapRemove = true
-is_update o = false
 
 abbrev pub one_if : Bool → ℕ
 one_if true = 1

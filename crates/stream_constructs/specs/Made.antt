@@ -1,5 +1,5 @@
 -- A system to which equations were added.
-use Rattle.std.specs.Prelude.{ℕ, suc, List, [], ◌∷◌, ◌++◌, length, Some}
+use Rattle.std.specs.Prelude.{◌≡◌, ℕ, suc, List, [], ◌∷◌, ◌++◌, length, Some}
 use Rattle.tsl_value.specs.declared.place.Place.{Place}
 use Rattle.tsl_value.specs.declared.scalar.ValueType.{ValueType}
 use Rattle.flat_core.specs.declared.equation.Op.TheVariants as op
@@ -14,6 +14,13 @@ use Rattle.stream_constructs.specs.Agree.{last_number}
 
 abbrev pub with_equations : System → List Equation → System
 with_equations s own = record s { equations = s.equations ++ own }
+
+-- after an error: the system with the first of some equations, and with nothing else that is new
+pub record HasFirst (s : System) (own : List Equation) (after : System) : Type 0 where
+  pub made : List Equation
+  pub rest : List Equation
+  pub split : own ≡ made ++ rest
+  pub is : after ≡ with_equations s made
 
 -- the stream of the last of equations that are numbered from n on
 abbrev pub last_of : ℕ → List Equation → ValueType → Stream

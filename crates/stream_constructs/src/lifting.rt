@@ -1,9 +1,9 @@
 // Operands that are lifted: each gets its current value where one of them has an event.
 
-ghost use Rattle.std.specs.Prelude.{◌≡◌, ◌+◌, ◌≤◌, [], ◌∷◌, ◌++◌, length, IfOk, OnOk, IfErr};
+ghost use Rattle.std.specs.Prelude.{◌≡◌, ◌+◌, ◌≤◌, [], ◌∷◌, ◌++◌, length, IfOk, OnOk, IfErr, OnErr};
 ghost use Rattle.stream_constructs.specs.Limits.{IsRefusal};
-ghost use Rattle.stream_constructs.specs.Made.{with_equations};
-ghost use Rattle.stream_constructs.specs.Equations.{held, held_each, merges, lifting, lifted};
+ghost use Rattle.stream_constructs.specs.Made.{HasFirst, with_equations};
+ghost use Rattle.stream_constructs.specs.Equations.{held, held_each, merges, lifting, lifted_streams};
 
 use crate::arguments;
 use crate::construct::Stream;
@@ -24,6 +24,7 @@ impl Maker {
         ensures made { OnOk result (self.new ≡ with_equations self.old (held place (length self.old.equations) trigger part.now)) }
         ensures stream { IfOk result (λ s. s ≡ record { id = length self.old.equations + 1; of = part.now.of }) }
         ensures refused { IfErr result (IsRefusal (self.old.equations ++ held place (length self.old.equations) trigger part.now)) }
+        ensures partly { OnErr result (HasFirst self.old (held place (length self.old.equations) trigger part.now) self.new) }
     {
         let args = arguments::two(self.alloc, part.id, trigger)?;
         let last = self.make(place, Op::Last, args, part.of)?;
@@ -40,27 +41,29 @@ impl Maker {
         ensures made { OnOk result (self.new ≡ with_equations self.old (held_each place (length self.old.equations) trigger parts.now)) }
         ensures streams { IfOk result (λ v. v.items ≡ merges (length self.old.equations) parts.now) }
         ensures refused { IfErr result (IsRefusal (self.old.equations ++ held_each place (length self.old.equations) trigger parts.now)) }
+        ensures partly { OnErr result (HasFirst self.old (held_each place (length self.old.equations) trigger parts.now) self.new) }
     {
-        let mut lifted = Vec::new(self.alloc);
+        let mut lifted_streams = Vec::new(self.alloc);
         for part in parts {
             let stream = self.hold(place, trigger, part)?;
-            lifted.push(stream)?;
+            lifted_streams.push(stream)?;
         }
-        Ok(lifted)
+        Ok(lifted_streams)
     }
 
     /// Two parts, which are each other's triggers.
     fn hold_both(&mut self, place: Place, a: &Stream, b: &Stream) -> Result<Vec<Stream>, MakeFault>
         ensures made { OnOk result (self.new ≡ with_equations self.old (lifting place (length self.old.equations) (a.now ∷ b.now ∷ []))) }
-        ensures streams { IfOk result (λ v. v.items ≡ lifted (length self.old.equations) (a.now ∷ b.now ∷ [])) }
+        ensures streams { IfOk result (λ v. v.items ≡ lifted_streams (length self.old.equations) (a.now ∷ b.now ∷ [])) }
         ensures refused { IfErr result (IsRefusal (self.old.equations ++ lifting place (length self.old.equations) (a.now ∷ b.now ∷ []))) }
+        ensures partly { OnErr result (HasFirst self.old (lifting place (length self.old.equations) (a.now ∷ b.now ∷ [])) self.new) }
     {
         let first = self.hold(place, b.id, a)?;
         let second = self.hold(place, a.id, b)?;
-        let mut lifted = Vec::new(self.alloc);
-        lifted.push(first)?;
-        lifted.push(second)?;
-        Ok(lifted)
+        let mut lifted_streams = Vec::new(self.alloc);
+        lifted_streams.push(first)?;
+        lifted_streams.push(second)?;
+        Ok(lifted_streams)
     }
 
     /// The lifted parts: one needs nothing, two are each other's triggers, and the trigger of more is an event of any.
@@ -70,8 +73,9 @@ impl Maker {
         parts: &[Stream],
     ) -> Result<Vec<Stream>, MakeFault>
         ensures made { OnOk result (self.new ≡ with_equations self.old (lifting place (length self.old.equations) parts.now)) }
-        ensures streams { IfOk result (λ v. v.items ≡ lifted (length self.old.equations) parts.now) }
+        ensures streams { IfOk result (λ v. v.items ≡ lifted_streams (length self.old.equations) parts.now) }
         ensures refused { IfErr result (IsRefusal (self.old.equations ++ lifting place (length self.old.equations) parts.now)) }
+        ensures partly { OnErr result (HasFirst self.old (lifting place (length self.old.equations) parts.now) self.new) }
     {
         if parts.len() < 2 {
             return Ok(Vec::from_slice(self.alloc, parts)?);

@@ -2,7 +2,7 @@
 
 ghost use Rattle.std.specs.Prelude.{◌≡◌, ◌+◌, ◌-◌, ◌<◌, ◌≤◌, ◌^◌, List, [], ◌∷◌, ◌++◌, None, length, is_ok, if◌then◌else◌, IfOk, OnOk};
 ghost use Rattle.std.specs.Prelude.{IfErr, OnErr};
-ghost use Rattle.stream_constructs.specs.Limits.{is_update, refusal, IsRefusal};
+ghost use Rattle.stream_constructs.specs.Limits.{refusal, IsRefusal};
 ghost use Rattle.stream_constructs.specs.Made.{with_equations, stream_of};
 ghost use Rattle.stream_constructs.specs.Equations as equations;
 
@@ -65,6 +65,7 @@ impl<T: Drop> From<AllocFailed<T>> for MakeFault {
 }
 
 /// Makes the equations of constructs, one after the other. Contracts see it as the system that is made.
+/// Where a construct of several equations is refused, the first of them may stand, and nothing else has changed.
 #[derive(Drop)]
 pub struct Maker {
     pub(crate) alloc: Global,
@@ -86,12 +87,6 @@ impl Model for Maker {
     ghost view = { λ m. m.builder };
 
     ghost invariant = { λ m. (refusal m.builder.equations ≡ None) × (m.updates ≡ update_count m.builder.equations) };
-}
-
-fn is_update(op: &Op) -> bool
-    ensures { result ≡ is_update op.now }
-{
-    matches!(op, Op::SetAdd | Op::SetRemove | Op::MapAdd | Op::MapRemove)
 }
 
 impl Maker {
@@ -132,7 +127,7 @@ impl Maker {
         if self.builder.count() == MOST_EQUATIONS {
             return Err(MakeFault::TooManyEquations { place });
         }
-        if !is_update(&equation.op) {
+        if !equation.op.is_update() {
             return Ok(self.builder.add(equation)?);
         }
         if self.updates == MOST_UPDATES {
@@ -155,6 +150,7 @@ impl Maker {
         ensures stream { IfOk result (λ s. s ≡ stream_of self.old (equations.equation place op args of ∷ []) of) }
         ensures made { OnOk result (self.new ≡ with_equations self.old (equations.equation place op args of ∷ [])) }
         ensures refused { IfErr result (IsRefusal (self.old.equations ++ equations.equation place op args of ∷ [])) }
+        ensures err { OnErr result (self.new ≡ self.old) }
     {
         let id = self.add(Equation {
             op,

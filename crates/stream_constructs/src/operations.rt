@@ -1,8 +1,8 @@
 // The constructs of one operation or two.
 
-ghost use Rattle.std.specs.Prelude.{◌≡◌, ◌+◌, ◌≤◌, [], ◌∷◌, ◌++◌, length, IfOk, OnOk, IfErr};
+ghost use Rattle.std.specs.Prelude.{◌≡◌, ◌+◌, ◌≤◌, [], ◌∷◌, ◌++◌, length, IfOk, OnOk, IfErr, OnErr};
 ghost use Rattle.stream_constructs.specs.Limits.{IsRefusal};
-ghost use Rattle.stream_constructs.specs.Made.{with_equations, equations_for, stream_of};
+ghost use Rattle.stream_constructs.specs.Made.{HasFirst, with_equations, equations_for, stream_of};
 ghost use Rattle.tsl_value.specs.View.{type_of};
 ghost use Rattle.flat_core.specs.Typed.{int_type, unit_type};
 ghost use Rattle.stream_constructs.specs.Construct as construct;
@@ -24,6 +24,7 @@ impl Maker {
         ensures stream { IfOk result (λ s. s ≡ stream_of self.old
             (equations_for self.old place int_type construct.Time (a ∷ [])) int_type) }
         ensures refused { IfErr result (IsRefusal (self.old.equations ++ equations_for self.old place int_type construct.Time (a ∷ []))) }
+        ensures err { OnErr result (self.new ≡ self.old) }
     {
         let args = arguments::one(self.alloc, a.id)?;
         self.make(place, Op::Time, args, INT)
@@ -34,6 +35,7 @@ impl Maker {
         ensures made { OnOk result (self.new ≡ with_equations self.old (equations_for self.old place v.of construct.Last (v ∷ r ∷ []))) }
         ensures stream { IfOk result (λ s. s ≡ stream_of self.old (equations_for self.old place v.of construct.Last (v ∷ r ∷ [])) v.of) }
         ensures refused { IfErr result (IsRefusal (self.old.equations ++ equations_for self.old place v.of construct.Last (v ∷ r ∷ []))) }
+        ensures err { OnErr result (self.new ≡ self.old) }
     {
         let args = arguments::two(self.alloc, v.id, r.id)?;
         self.make(place, Op::Last, args, v.of)
@@ -47,6 +49,7 @@ impl Maker {
             (d ∷ r ∷ record { id = length self.old.equations; of = unit_type } ∷ [])) unit_type) }
         ensures refused { IfErr result (IsRefusal (self.old.equations ++ equations_for self.old place unit_type construct.Delay
             (d ∷ r ∷ record { id = length self.old.equations; of = unit_type } ∷ []))) }
+        ensures err { OnErr result (self.new ≡ self.old) }
     {
         let args = arguments::two(self.alloc, d.id, r.id)?;
         self.make(place, Op::Delay, args, UNIT)
@@ -57,6 +60,7 @@ impl Maker {
         ensures made { OnOk result (self.new ≡ with_equations self.old (equations_for self.old place a.of construct.Merge (a ∷ b ∷ []))) }
         ensures stream { IfOk result (λ s. s ≡ stream_of self.old (equations_for self.old place a.of construct.Merge (a ∷ b ∷ [])) a.of) }
         ensures refused { IfErr result (IsRefusal (self.old.equations ++ equations_for self.old place a.of construct.Merge (a ∷ b ∷ []))) }
+        ensures err { OnErr result (self.new ≡ self.old) }
     {
         let args = arguments::two(self.alloc, a.id, b.id)?;
         self.make(place, Op::Merge, args, a.of)
@@ -70,6 +74,7 @@ impl Maker {
             (equations_for self.old place (ValueType.Scalar (type_of s)) (construct.Const s) (e ∷ [])) (ValueType.Scalar (type_of s))) }
         ensures refused { IfErr result (IsRefusal (self.old.equations
             ++ equations_for self.old place (ValueType.Scalar (type_of s)) (construct.Const s) (e ∷ []))) }
+        ensures err { OnErr result (self.new ≡ self.old) }
     {
         self.literal_over(place, s, e.id)
     }
@@ -79,6 +84,7 @@ impl Maker {
         ensures made { OnOk result (self.new ≡ with_equations self.old (equations_for self.old place e.of construct.Filter (e ∷ c ∷ []))) }
         ensures stream { IfOk result (λ s. s ≡ stream_of self.old (equations_for self.old place e.of construct.Filter (e ∷ c ∷ [])) e.of) }
         ensures refused { IfErr result (IsRefusal (self.old.equations ++ equations_for self.old place e.of construct.Filter (e ∷ c ∷ []))) }
+        ensures partly { OnErr result (HasFirst self.old (equations_for self.old place e.of construct.Filter (e ∷ c ∷ [])) self.new) }
     {
         let held = self.hold(place, e.id, &c)?;
         let args = arguments::two(self.alloc, e.id, held.id)?;
@@ -93,6 +99,7 @@ impl Maker {
             (equations_for self.old place e.of (construct.FilterBy holds) (e ∷ [])) e.of) }
         ensures refused { IfErr result (IsRefusal (self.old.equations
             ++ equations_for self.old place e.of (construct.FilterBy holds) (e ∷ []))) }
+        ensures partly { OnErr result (HasFirst self.old (equations_for self.old place e.of (construct.FilterBy holds) (e ∷ [])) self.new) }
     {
         let condition = self.literal_over(place, Scalar::Bool(holds), e.id)?;
         let args = arguments::two(self.alloc, e.id, condition.id)?;
@@ -110,6 +117,7 @@ impl Maker {
         ensures made { OnOk result (self.new ≡ with_equations self.old (equations_for self.old place of (construct.Lift body) parts.now)) }
         ensures stream { IfOk result (λ s. s ≡ stream_of self.old (equations_for self.old place of (construct.Lift body) parts.now) of) }
         ensures refused { IfErr result (IsRefusal (self.old.equations ++ equations_for self.old place of (construct.Lift body) parts.now)) }
+        ensures err { OnErr result (self.new ≡ self.old) }
     {
         let args = arguments::all(self.alloc, parts)?;
         let op = Op::Lift {
@@ -124,6 +132,7 @@ impl Maker {
         ensures made { OnOk result (self.new ≡ with_equations self.old (alias_equation place a ∷ [])) }
         ensures stream { IfOk result (λ s. s ≡ stream_of self.old (alias_equation place a ∷ []) a.of) }
         ensures refused { IfErr result (IsRefusal (self.old.equations ++ alias_equation place a ∷ [])) }
+        ensures err { OnErr result (self.new ≡ self.old) }
     {
         let args = arguments::two(self.alloc, a.id, a.id)?;
         self.make(place, Op::Merge, args, a.of)

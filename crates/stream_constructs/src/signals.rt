@@ -1,11 +1,11 @@
 // Operations on current values, of which some operands may be literals.
 
-ghost use Rattle.std.specs.Prelude.{◌≡◌, ◌+◌, ◌≤◌, [], ◌∷◌, ◌++◌, length, IfOk, OnOk, IfErr};
+ghost use Rattle.std.specs.Prelude.{◌≡◌, ◌+◌, ◌≤◌, [], ◌∷◌, ◌++◌, length, IfOk, OnOk, IfErr, OnErr};
 ghost use Rattle.stream_constructs.specs.Limits.{IsRefusal};
 ghost use Rattle.stream_constructs.specs.Construct as construct;
 ghost use Rattle.stream_constructs.specs.Equations.{equation, numbers, first_number, literal_equations, operand_numbers, with_literals};
 ghost use Rattle.stream_constructs.specs.Equations.{choice_equations};
-ghost use Rattle.stream_constructs.specs.Made.{with_equations, equations_for, stream_of, operands_of, varying_of, varying_count};
+ghost use Rattle.stream_constructs.specs.Made.{HasFirst, with_equations, equations_for, stream_of, operands_of, varying_of, varying_count};
 ghost use Rattle.flat_core.specs.Typed.{unit_type};
 
 use crate::arguments;
@@ -50,6 +50,8 @@ impl Maker {
             (equation place Op.Unit [] unit_type ∷ equation place op (length self.old.equations ∷ []) of ∷ []) of) }
         ensures refused { IfErr result (IsRefusal (self.old.equations
             ++ equation place Op.Unit [] unit_type ∷ equation place op (length self.old.equations ∷ []) of ∷ [])) }
+        ensures partly { OnErr result (HasFirst self.old
+            (equation place Op.Unit [] unit_type ∷ equation place op (length self.old.equations ∷ []) of ∷ []) self.new) }
     {
         let start = self.unit(place)?;
         let args = arguments::one(self.alloc, start.id)?;
@@ -69,13 +71,14 @@ impl Maker {
         ensures stream { IfOk result (λ s. s ≡ stream_of self.old (equations_for self.old place of (construct.Signal body) parts.now) of) }
         ensures refused { IfErr result (IsRefusal (self.old.equations
             ++ equations_for self.old place of (construct.Signal body) parts.now)) }
+        ensures partly { OnErr result (HasFirst self.old (equations_for self.old place of (construct.Signal body) parts.now) self.new) }
     {
         let op = Op::Lift { body, strict: true };
         if parts.is_empty() {
             return self.once(place, op, of);
         }
-        let lifted = self.lift_parts(place, parts)?;
-        let args = arguments::all(self.alloc, &lifted)?;
+        let lifted_streams = self.lift_parts(place, parts)?;
+        let args = arguments::all(self.alloc, &lifted_streams)?;
         self.make(place, op, args, of)
     }
 
@@ -85,13 +88,14 @@ impl Maker {
         place: Place,
         first: EqId,
         operands: &[Operand],
-        lifted: &[Stream],
+        lifted_streams: &[Stream],
     ) -> Result<Args, MakeFault>
-        requires { varying_count (operands_of operands.now) ≡ length lifted.now }
+        requires { varying_count (operands_of operands.now) ≡ length lifted_streams.now }
         ensures made { OnOk result (self.new ≡ with_equations self.old (literal_equations place first (operands_of operands.now))) }
         ensures args { IfOk result (λ args. args ≡ operand_numbers (length self.old.equations)
-            (operands_of operands.now) (numbers lifted.now)) }
+            (operands_of operands.now) (numbers lifted_streams.now)) }
         ensures refused { IfErr result (IsRefusal (self.old.equations ++ literal_equations place first (operands_of operands.now))) }
+        ensures partly { OnErr result (HasFirst self.old (literal_equations place first (operands_of operands.now)) self.new) }
     {
         let mut args = Args::new(self.alloc);
         let mut next = 0;
@@ -102,7 +106,7 @@ impl Maker {
                     args.push(literal.id)?;
                 }
                 Operand::Varying(_) => {
-                    args.push(lifted[next].id)?;
+                    args.push(lifted_streams[next].id)?;
                     next += 1;
                 }
             }
@@ -124,10 +128,12 @@ impl Maker {
             (with_literals place op of (length self.old.equations) (operands_of operands.now) (varying_of operands.now)) of) }
         ensures refused { IfErr result (IsRefusal (self.old.equations
             ++ with_literals place op of (length self.old.equations) (operands_of operands.now) (varying_of operands.now))) }
+        ensures partly { OnErr result (HasFirst self.old
+            (with_literals place op of (length self.old.equations) (operands_of operands.now) (varying_of operands.now)) self.new) }
     {
         let parts = varying(self.alloc, operands)?;
-        let lifted = self.lift_parts(place, &parts)?;
-        let args = self.operand_args(place, first_id(&lifted), operands, &lifted)?;
+        let lifted_streams = self.lift_parts(place, &parts)?;
+        let args = self.operand_args(place, first_id(&lifted_streams), operands, &lifted_streams)?;
         self.make(place, op, args, of)
     }
 
@@ -145,6 +151,8 @@ impl Maker {
             (equations_for self.old place of (construct.Update op (operands_of operands.now)) (varying_of operands.now)) of) }
         ensures refused { IfErr result (IsRefusal (self.old.equations
             ++ equations_for self.old place of (construct.Update op (operands_of operands.now)) (varying_of operands.now))) }
+        ensures partly { OnErr result (HasFirst self.old
+            (equations_for self.old place of (construct.Update op (operands_of operands.now)) (varying_of operands.now)) self.new) }
     {
         self.over_operands(place, operation_of(op), operands, of)
     }
@@ -162,6 +170,8 @@ impl Maker {
             (choice_equations place of (length self.old.equations) (operands_of operands.now) (varying_of operands.now)) of) }
         ensures refused { IfErr result (IsRefusal (self.old.equations
             ++ choice_equations place of (length self.old.equations) (operands_of operands.now) (varying_of operands.now))) }
+        ensures partly { OnErr result (HasFirst self.old
+            (choice_equations place of (length self.old.equations) (operands_of operands.now) (varying_of operands.now)) self.new) }
     {
         self.over_operands(place, Op::Pick, operands, of)
     }

@@ -1,8 +1,8 @@
 // The constructs without parts.
 
-ghost use Rattle.std.specs.Prelude.{◌≡◌, ◌+◌, ◌≤◌, [], ◌∷◌, ◌++◌, length, IfOk, OnOk, IfErr};
+ghost use Rattle.std.specs.Prelude.{◌≡◌, ◌+◌, ◌≤◌, [], ◌∷◌, ◌++◌, length, IfOk, OnOk, IfErr, OnErr};
 ghost use Rattle.stream_constructs.specs.Limits.{IsRefusal};
-ghost use Rattle.stream_constructs.specs.Made.{with_equations, equations_for, stream_of};
+ghost use Rattle.stream_constructs.specs.Made.{HasFirst, with_equations, equations_for, stream_of};
 ghost use Rattle.tsl_value.specs.View.{type_of};
 ghost use Rattle.flat_core.specs.Typed.{unit_type};
 ghost use Rattle.stream_constructs.specs.Construct as construct;
@@ -41,6 +41,7 @@ impl Maker {
         ensures made { OnOk result (self.new ≡ with_equations self.old (input_equation place name of ∷ [])) }
         ensures stream { IfOk result (λ s. s ≡ stream_of self.old (input_equation place name of ∷ []) of) }
         ensures refused { IfErr result (IsRefusal (self.old.equations ++ input_equation place name of ∷ [])) }
+        ensures err { OnErr result (self.new ≡ self.old) }
     {
         let id = self.add(Equation {
             op: Op::Input,
@@ -57,6 +58,7 @@ impl Maker {
         ensures made { OnOk result (self.new ≡ with_equations self.old (equations_for self.old place of construct.Nil [])) }
         ensures stream { IfOk result (λ s. s ≡ stream_of self.old (equations_for self.old place of construct.Nil []) of) }
         ensures refused { IfErr result (IsRefusal (self.old.equations ++ equations_for self.old place of construct.Nil [])) }
+        ensures err { OnErr result (self.new ≡ self.old) }
     {
         self.make(place, Op::Nil, Args::new(self.alloc), of)
     }
@@ -66,6 +68,7 @@ impl Maker {
         ensures made { OnOk result (self.new ≡ with_equations self.old (equations_for self.old place unit_type construct.Unit [])) }
         ensures stream { IfOk result (λ s. s ≡ stream_of self.old (equations_for self.old place unit_type construct.Unit []) unit_type) }
         ensures refused { IfErr result (IsRefusal (self.old.equations ++ equations_for self.old place unit_type construct.Unit [])) }
+        ensures err { OnErr result (self.new ≡ self.old) }
     {
         self.make(place, Op::Unit, Args::new(self.alloc), UNIT)
     }
@@ -81,6 +84,7 @@ impl Maker {
         ensures made { OnOk result (self.new ≡ with_equations self.old (literal_over place s over ∷ [])) }
         ensures stream { IfOk result (λ t. t ≡ stream_of self.old (literal_over place s over ∷ []) (ValueType.Scalar (type_of s))) }
         ensures refused { IfErr result (IsRefusal (self.old.equations ++ literal_over place s over ∷ [])) }
+        ensures err { OnErr result (self.new ≡ self.old) }
     {
         let of = scalar_type(&s);
         let op = Op::Lift {
@@ -99,6 +103,8 @@ impl Maker {
             (equations_for self.old place (ValueType.Scalar (type_of s)) (construct.Literal s) []) (ValueType.Scalar (type_of s))) }
         ensures refused { IfErr result (IsRefusal (self.old.equations
             ++ equations_for self.old place (ValueType.Scalar (type_of s)) (construct.Literal s) [])) }
+        ensures partly { OnErr result (HasFirst self.old
+            (equations_for self.old place (ValueType.Scalar (type_of s)) (construct.Literal s) []) self.new) }
     {
         let start = self.unit(place)?;
         self.literal_over(place, s, start.id)
@@ -109,6 +115,7 @@ impl Maker {
         ensures made { OnOk result (self.new ≡ with_equations self.old (equations_for self.old place of (construct.Empty of) [])) }
         ensures stream { IfOk result (λ s. s ≡ stream_of self.old (equations_for self.old place of (construct.Empty of) []) of) }
         ensures refused { IfErr result (IsRefusal (self.old.equations ++ equations_for self.old place of (construct.Empty of) [])) }
+        ensures err { OnErr result (self.new ≡ self.old) }
     {
         self.make(place, Op::Empty, Args::new(self.alloc), of)
     }

@@ -1,8 +1,8 @@
 -- Functions with a dot at a number of operands that they do not take.
 use Rattle.std.proofs.Common.{◌≡◌, ℕ, suc, List, [], ◌∷◌, Result, refl, sym, ap, subst, ◌∙◌}
 use Rattle.std.specs.Prelude.{IfOk}
-use Rattle.lift_func.specs.Tree.{Tree, Literal, Argument}
-use Rattle.spec_parser.specs.Tree.{Expr}
+use Rattle.lift_func.specs.BodyTree.{BodyTree, Literal, Argument}
+use Rattle.syntax_tree.specs.Tree.{Expr}
 use Rattle.vocabulary.specs.declared.dotted.Dotted.{Dotted}
 use Rattle.vocabulary.specs.declared.signature.Role.{Role}
 use Rattle.vocabulary.specs.declared.signature.Role.TheVariants as role
@@ -16,7 +16,7 @@ use Rattle.stream_shapes.specs.inner.Shape.{HasShape}
 
 -- an operand before others
 record IsFront (k : ℕ) (o : Operand) (os : List Operand) : Type 0 where
-  pub first : Tree
+  pub first : BodyTree
   pub next : ℕ
   pub is : operand_trees k (o ∷ os) ≡ first ∷ operand_trees next os
 
@@ -24,7 +24,7 @@ front : (k : ℕ) (o : Operand) (os : List Operand) → IsFront k o os
 front k (Fixed s) os = record { first = Literal s; next = k; is = refl }
 front k Varying os = record { first = Argument k; next = suc k; is = refl }
 
-many : (r : Role) (a b c : Tree) (ts : List Tree) → role_tree r (a ∷ b ∷ c ∷ ts) ≡ no_tree
+many : (r : Role) (a b c : BodyTree) (ts : List BodyTree) → role_tree r (a ∷ b ∷ c ∷ ts) ≡ no_tree
 many (role.Unary o) a b c ts = refl
 many (role.Binary o) a b c ts = refl
 many (role.Update o) a b c ts = refl
@@ -43,7 +43,7 @@ no_tree_of_many d es a b c rest is =
     sym (ap (λ xs. dotted_tree d (operand_trees 0 (operands xs))) is ∙ many_at d (operand (literal a)) (operand (literal b)) (operand (literal c)) (operands rest))
 
 -- two operands or more, where two are too many
-pub no_tree_of_two : (d : Dotted) (es : List Expr) (a b : Expr) (rest : List Expr) → es ≡ a ∷ b ∷ rest → ((x y : Tree) → dotted_tree d (x ∷ y ∷ []) ≡ no_tree) → no_tree ≡ dotted_tree d (operand_trees 0 (operands es))
+pub no_tree_of_two : (d : Dotted) (es : List Expr) (a b : Expr) (rest : List Expr) → es ≡ a ∷ b ∷ rest → ((x y : BodyTree) → dotted_tree d (x ∷ y ∷ []) ≡ no_tree) → no_tree ≡ dotted_tree d (operand_trees 0 (operands es))
 no_tree_of_two d es a b [] is none =
     let one = front 0 (operand (literal a)) (operand (literal b) ∷ []) in
     let two = front one.next (operand (literal b)) [] in
@@ -51,5 +51,5 @@ no_tree_of_two d es a b [] is none =
 no_tree_of_two d es a b (c ∷ rest) is none = no_tree_of_many d es a b c rest is
 
 -- the shape of equal bodies
-pub shape_of_body : {E : Type 0} (r : Result Shape E) (t u : Tree) (es : List Expr) → t ≡ u → IfOk r (λ s. HasShape s (construct.Signal t) es) → IfOk r (λ s. HasShape s (construct.Signal u) es)
-shape_of_body r t u es is h = let P : Tree → Type 0 = λ v. IfOk r (λ s. HasShape s (construct.Signal v) es) in subst P is h
+pub shape_of_body : {E : Type 0} (r : Result Shape E) (t u : BodyTree) (es : List Expr) → t ≡ u → IfOk r (λ s. HasShape s (construct.Signal t) es) → IfOk r (λ s. HasShape s (construct.Signal u) es)
+shape_of_body r t u es is h = let P : BodyTree → Type 0 = λ v. IfOk r (λ s. HasShape s (construct.Signal v) es) in subst P is h

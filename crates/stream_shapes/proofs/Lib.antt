@@ -4,3 +4,4 @@ pub mod DottedLemmas
 pub mod ScopeLemmas
 pub mod ShapeLemmas
 pub mod NodeLemmas
+pub mod PlainLemmas

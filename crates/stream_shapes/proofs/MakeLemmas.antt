@@ -4,7 +4,7 @@ use Rattle.tsl_value.specs.declared.scalar.ValueType.{ValueType}
 use Rattle.stream_constructs.specs.declared.construct.Stream.{Stream}
 use Rattle.stream_constructs.specs.Construct as construct
 use Rattle.stream_constructs.specs.Agree.{Fits}
-use Rattle.flatten_rules.specs.Makes.{with_itself}
+use Rattle.spec_meaning.specs.Makes.{with_itself}
 use Rattle.stream_shapes.specs.declared.construct.Construct.{Construct}
 use Rattle.stream_shapes.specs.inner.Shape.{construct_of}
 

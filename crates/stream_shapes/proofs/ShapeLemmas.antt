@@ -1,25 +1,24 @@
 -- From what is found to the shape of an occurrence.
-use Rattle.std.proofs.Common.{◌≡◌, ℕ, suc, Bool, true, false, List, [], ◌∷◌, ◌++◌, map, filter, length, Option, Some, None, refl, sym, ap, ◌∙◌, append_assoc, arith}
+use Rattle.std.proofs.Common.{◌≡◌, ℕ, suc, Bool, true, List, [], ◌∷◌, ◌++◌, map, filter, length, Option, Some, None, refl, sym, ap, ◌∙◌, append_assoc, arith}
 use Rattle.std.specs.Prelude.{slice_index_or}
 use Rattle.std.specs.List.{AllByRecursion}
 use Rattle.std.proofs.lemmas.Bool.{false≢true}
 use Rattle.std.proofs.lemmas.Option.{same_Some, none-some}
 use Rattle.std.proofs.lemmas.List.Elements.{All-from_recursion}
 use Rattle.std.proofs.lemmas.List.{append-nil}
-use Rattle.lift_func.specs.Tree.{Tree, node_count}
+use Rattle.lift_func.specs.BodyTree.{BodyTree, node_count}
 use Rattle.lift_func.specs.inner.Placed.{within}
-use Rattle.spec_parser.specs.Tree as tree
-use Rattle.spec_parser.specs.Tree.{Expr, Exprs}
-use Rattle.spec_parser.specs.inner.Shape.{exprs_of}
+use Rattle.syntax_tree.specs.Tree as tree
+use Rattle.syntax_tree.specs.Tree.{Expr, Exprs}
+use Rattle.syntax_tree.specs.inner.OneLevel.{exprs_of}
 use Rattle.name_check.specs.declared.declaration.Declaration.{Declaration}
 use Rattle.name_check.specs.declared.declaration.Declaration.TheVariants as declaration
-use Rattle.name_check.specs.Builtin.{is_lift}
 use Rattle.name_check.specs.Scope.{Scope, meaning, seen, Agree}
-use Rattle.spec_meaning.specs.Occurrence.{Call, Occurrence, scope_at, called}
+use Rattle.spec_meaning.specs.Occurrence.{Call, Occurrence, scope_at, macro_result}
 use Rattle.spec_meaning.specs.Function.{function_at, function_body}
 use Rattle.spec_meaning.specs.Shape as meaning
 use Rattle.spec_meaning.specs.Shape.{beside, with_parts, same_as, expressions, operands, is_part, is_delay, is_const, is_filter, const_shape, filter_shape, lift_by, lift_shape, function_named, declared_shape, call_shape}
-use Rattle.flatten_rules.specs.Makes.{is_own}
+use Rattle.spec_meaning.specs.Makes.{is_own}
 use Rattle.stream_constructs.specs.Construct as construct
 use Rattle.stream_constructs.specs.Construct.{Operand, Fixed, Varying, operand_trees}
 use Rattle.function_bodies.specs.Bodies.{AreBodies, too_large_bodies}
@@ -39,13 +38,13 @@ beside_found found c es cs sh h is =
     }
 
 -- what is found wherever it is looked for
-pub anywhere : (functions : List (Option Tree)) (scope : List Scope) (f g : List tree.Item → List Call → Option meaning.Shape) (found : Shape) → ((items : List tree.Item) (cs : List Call) → f items cs ≡ g items cs) → IsShapeAt g found → IsShapeWhere functions scope f found
+pub anywhere : (functions : List (Option BodyTree)) (scope : List Scope) (f g : List tree.Item → List Call → Option meaning.Shape) (found : Shape) → ((items : List tree.Item) (cs : List Call) → f items cs ≡ g items cs) → IsShapeAt g found → IsShapeWhere functions scope f found
 anywhere functions scope f g found same h = record { at = λ items cs sh bodies small agree is own. h.at items cs sh (sym (same items cs) ∙ is) own }
 
 pub over_at : (f : List tree.Item → List Call → Option meaning.Shape) (found : Shape) (c : construct.Construct) (es : List Expr) → ((items : List tree.Item) (cs : List Call) → f items cs ≡ with_parts cs c es) → HasShape found c es → IsShapeAt f found
 over_at f found c es same h = record { at = λ items cs sh is own. beside_found found c es cs sh h (sym (same items cs) ∙ is) }
 
-pub same_where : (functions : List (Option Tree)) (scope : List Scope) (f g : List tree.Item → List Call → Option meaning.Shape) (found : Shape) → ((items : List tree.Item) (cs : List Call) → f items cs ≡ g items cs) → IsShapeWhere functions scope g found → IsShapeWhere functions scope f found
+pub same_where : (functions : List (Option BodyTree)) (scope : List Scope) (f g : List tree.Item → List Call → Option meaning.Shape) (found : Shape) → ((items : List tree.Item) (cs : List Call) → f items cs ≡ g items cs) → IsShapeWhere functions scope g found → IsShapeWhere functions scope f found
 same_where functions scope f g found same h = record { at = λ items cs sh bodies small agree is own. h.at items cs sh bodies small agree (sym (same items cs) ∙ is) own }
 
 pub listed : (es : List Expr) → expressions (exprs_of es) ≡ es
@@ -58,16 +57,16 @@ singles k [] = tt
 singles k (Fixed s ∷ os) = (refl, singles k os)
 singles k (Varying ∷ os) = (refl, singles (suc k) os)
 
-pub call_found : (items : List tree.Item) (functions : List (Option Tree)) (i : ℕ) (os : List Operand) → AreBodies items functions → too_large_bodies items ≡ [] → IsFunction items i → within (function_at items i (operand_trees 0 os)) ≡ Some (function_at items i (operand_trees 0 os))
+pub call_found : (items : List tree.Item) (functions : List (Option BodyTree)) (i : ℕ) (os : List Operand) → AreBodies items functions → too_large_bodies items ≡ [] → IsFunction items i → within (function_at items i (operand_trees 0 os)) ≡ Some (function_at items i (operand_trees 0 os))
 call_found items functions i os right small function =
     call_is_there items functions right i (operand_trees 0 os) function (All-from_recursion (λ t. node_count t ≡ 1) (operand_trees 0 os) (singles 0 os)) (few_nodes items small i function)
     ∙ ap Some (sym (right.placed i (operand_trees 0 os) function))
 
-pub body_found : (items : List tree.Item) (functions : List (Option Tree)) (i : ℕ) → AreBodies items functions → too_large_bodies items ≡ [] → IsFunction items i → slice_index_or functions i None ≡ Some (function_body items i)
+pub body_found : (items : List tree.Item) (functions : List (Option BodyTree)) (i : ℕ) → AreBodies items functions → too_large_bodies items ≡ [] → IsFunction items i → slice_index_or functions i None ≡ Some (function_body items i)
 body_found items functions i right small function = right.at i ∙ body_is_there items small i function
 
 -- a call of a value function
-pub function_where : (functions : List (Option Tree)) (scope : List Scope) (n : List ℕ) (i : ℕ) (es : List Expr) (found : Shape) → meaning (seen scope) n ≡ Some (declaration.Function i) → ((items : List tree.Item) → AreBodies items functions → too_large_bodies items ≡ [] → IsFunction items i → HasShape found (construct.Signal (function_at items i (operand_trees 0 (operands es)))) (filter is_part es)) → IsShapeWhere functions scope (λ items cs. declared_shape items cs (meaning (scope_at items cs) n) (exprs_of es)) found
+pub function_where : (functions : List (Option BodyTree)) (scope : List Scope) (n : List ℕ) (i : ℕ) (es : List Expr) (found : Shape) → meaning (seen scope) n ≡ Some (declaration.Function i) → ((items : List tree.Item) → AreBodies items functions → too_large_bodies items ≡ [] → IsFunction items i → HasShape found (construct.Signal (function_at items i (operand_trees 0 (operands es)))) (filter is_part es)) → IsShapeWhere functions scope (λ items cs. declared_shape items cs (meaning (scope_at items cs) n) (exprs_of es)) found
 function_where functions scope n i es found meant h = record { at = at }
   where
     at : (items : List tree.Item) (cs : List Call) (sh : meaning.Shape) → AreBodies items functions → too_large_bodies items ≡ [] → Agree (seen scope) (scope_at items cs) → declared_shape items cs (meaning (scope_at items cs) n) (exprs_of es) ≡ Some sh → is_own sh.construct ≡ true → IsBeside cs sh found
@@ -84,10 +83,10 @@ same_no_own (Some a) sh is own =
 
 no_own : (items : List tree.Item) (cs : List Call) (d : Option Declaration) (es : Exprs) (sh : meaning.Shape) → ((i : ℕ) → d ≡ Some (declaration.Function i) → ⊥) → declared_shape items cs d es ≡ Some sh → is_own sh.construct ≡ true → ⊥
 no_own items cs (Some (declaration.Function i)) es sh none is own = none i refl
-no_own items cs (Some (declaration.Macro i)) es sh none is own = same_no_own (called items cs i es) sh is own
+no_own items cs (Some (declaration.Macro i)) es sh none is own = same_no_own (macro_result items cs i es) sh is own
 no_own items cs d es sh none is own = none-some sh is
 
-pub no_function_where : (functions : List (Option Tree)) (scope : List Scope) (n : List ℕ) (es : Exprs) (found : Shape) → ((i : ℕ) → meaning (seen scope) n ≡ Some (declaration.Function i) → ⊥) → IsShapeWhere functions scope (λ items cs. declared_shape items cs (meaning (scope_at items cs) n) es) found
+pub no_function_where : (functions : List (Option BodyTree)) (scope : List Scope) (n : List ℕ) (es : Exprs) (found : Shape) → ((i : ℕ) → meaning (seen scope) n ≡ Some (declaration.Function i) → ⊥) → IsShapeWhere functions scope (λ items cs. declared_shape items cs (meaning (scope_at items cs) n) es) found
 no_function_where functions scope n es found none = record {
   at = λ items cs sh right small agree is own.
       absurd (no_own items cs (meaning (scope_at items cs) n) es sh (λ i h. none i (agree.at n ∙ h)) is own);
@@ -110,7 +109,7 @@ named_function : (items : List tree.Item) (cs : List Call) (f : Expr) (i : ℕ) 
 named_function items cs (tree.Name p n) i h = function_meant items cs n i h
 named_function items cs f i h = absurd (none-some _ h)
 
-pub lift_where : (functions : List (Option Tree)) (scope : List Scope) (es before : List Expr) (f : Expr) (i : ℕ) (found : Shape) → es ≡ before ++ f ∷ [] → ((items : List tree.Item) → function_named items (seen scope) f ≡ Some (declaration.Function i)) → ((items : List tree.Item) → AreBodies items functions → too_large_bodies items ≡ [] → IsFunction items i → HasShape found (construct.Lift (function_body items i)) before) → IsShapeWhere functions scope (λ items cs. lift_shape items cs [] es) found
+pub lift_where : (functions : List (Option BodyTree)) (scope : List Scope) (es before : List Expr) (f : Expr) (i : ℕ) (found : Shape) → es ≡ before ++ f ∷ [] → ((items : List tree.Item) → function_named items (seen scope) f ≡ Some (declaration.Function i)) → ((items : List tree.Item) → AreBodies items functions → too_large_bodies items ≡ [] → IsFunction items i → HasShape found (construct.Lift (function_body items i)) before) → IsShapeWhere functions scope (λ items cs. lift_shape items cs [] es) found
 lift_where functions scope es before f i found whole named h = record { at = at }
   where
     at : (items : List tree.Item) (cs : List Call) (sh : meaning.Shape) → AreBodies items functions → too_large_bodies items ≡ [] → Agree (seen scope) (scope_at items cs) → lift_shape items cs [] es ≡ Some sh → is_own sh.construct ≡ true → IsBeside cs sh found
@@ -124,7 +123,7 @@ no_lift : (items : List tree.Item) (cs : List Call) (streams : List Expr) (f : E
 no_lift items cs streams f (Some (declaration.Function i)) none = absurd (none i refl)
 no_lift items cs streams f d none = refl
 
-pub no_lift_where : (functions : List (Option Tree)) (scope : List Scope) (es before : List Expr) (f : Expr) (found : Shape) → es ≡ before ++ f ∷ [] → ((items : List tree.Item) (i : ℕ) → function_named items (seen scope) f ≡ Some (declaration.Function i) → ⊥) → IsShapeWhere functions scope (λ items cs. lift_shape items cs [] es) found
+pub no_lift_where : (functions : List (Option BodyTree)) (scope : List Scope) (es before : List Expr) (f : Expr) (found : Shape) → es ≡ before ++ f ∷ [] → ((items : List tree.Item) (i : ℕ) → function_named items (seen scope) f ≡ Some (declaration.Function i) → ⊥) → IsShapeWhere functions scope (λ items cs. lift_shape items cs [] es) found
 no_lift_where functions scope es before f found whole none = record {
   at = λ items cs sh right small agree is own.
       (let shape = ap (lift_shape items cs []) whole ∙ front_and_last items cs [] before f in
@@ -143,20 +142,3 @@ filtered es [] c found whole one is h = absurd (omega arith)
 filtered es (e ∷ []) c found whole one is h =
     over_at _ found construct.Filter es (λ items cs. ap (filter_shape cs) whole ∙ is cs e ∙ ap (with_parts cs construct.Filter) (sym whole)) h
 filtered es (e ∷ f ∷ streams) c found whole one is h = absurd (omega arith)
-
--- ---- calls of the language's names
-module _ (items : List tree.Item) (cs : List Call) (n : List ℕ) (es : List Expr) where
-  pub delay_call : is_delay n ≡ true → call_shape items cs n (exprs_of es) None ≡ with_parts cs construct.Delay es
-  delay_call delay = rw delay (ap (with_parts cs construct.Delay) (listed es))
-
-  pub const_call : is_delay n ≡ false → is_const n ≡ true → call_shape items cs n (exprs_of es) None ≡ const_shape cs es
-  const_call delay const = rw (delay, const) (ap (const_shape cs) (listed es))
-
-  pub filter_call : is_delay n ≡ false → is_const n ≡ false → is_filter n ≡ true → call_shape items cs n (exprs_of es) None ≡ filter_shape cs es
-  filter_call delay const by = rw (delay, const, by) (ap (filter_shape cs) (listed es))
-
-  pub lift_call : is_delay n ≡ false → is_const n ≡ false → is_filter n ≡ false → is_lift n ≡ true → call_shape items cs n (exprs_of es) None ≡ lift_shape items cs [] es
-  lift_call delay const by lift = rw (delay, const, by, lift) (ap (lift_shape items cs []) (listed es))
-
-  pub declared_call : is_delay n ≡ false → is_const n ≡ false → is_filter n ≡ false → is_lift n ≡ false → call_shape items cs n (exprs_of es) None ≡ declared_shape items cs (meaning (scope_at items cs) n) (exprs_of es)
-  declared_call delay const by lift = rw (delay, const, by, lift) refl

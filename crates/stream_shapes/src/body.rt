@@ -1,7 +1,7 @@
 // Bodies of one operation, over operands of which some are literals.
 
 ghost use Rattle.std.specs.Prelude.{◌≡◌, ◌≤◌, [], ◌∷◌, IfOk};
-ghost use Rattle.lift_func.specs.Tree.{One, Two, node_count};
+ghost use Rattle.lift_func.specs.BodyTree.{One, Two, node_count};
 ghost use Rattle.spec_meaning.specs.Function.{operation_of};
 ghost use Rattle.spec_meaning.specs.Shape.{operand, one_operand, two_operands};
 ghost use Rattle.stream_constructs.specs.Construct.{operand_trees};
@@ -10,8 +10,8 @@ ghost use Rattle.stream_shapes.specs.inner.Operands.{operand_tree, argument_coun
 
 use function_bodies::operation::operation_of;
 use lift_func::body::{Binary, Body, Unary};
-use spec_parser::tree::Operator;
 use std::alloc::Global;
+use syntax_tree::tree::Operator;
 use tsl_value::memory::NoMemory;
 use tsl_value::scalar::Scalar;
 

@@ -1,20 +1,18 @@
 // Calls.
 
-ghost use Rattle.std.specs.Prelude.{◌≡◌, ℕ, List, [], ◌∷◌, None, MatchOption, filter, IfOk};
-ghost use Rattle.std.specs.Option.{option_map};
-ghost use Rattle.spec_parser.specs.Tree as tree;
-ghost use Rattle.spec_parser.specs.inner.Shape.{exprs_of};
+ghost use Rattle.std.specs.Prelude.{◌≡◌, ℕ, List, [], ◌∷◌, MatchOption, filter, IfOk};
+ghost use Rattle.syntax_tree.specs.Tree as tree;
+ghost use Rattle.syntax_tree.specs.inner.OneLevel.{exprs_of};
 ghost use Rattle.name_check.specs.Scope.{meaning, seen};
 ghost use Rattle.spec_meaning.specs.Occurrence.{Call, scope_at};
 ghost use Rattle.spec_meaning.specs.Function.{function_at, function_body};
 ghost use Rattle.spec_meaning.specs.Shape.{call_shape, const_shape, declared_shape, filter_shape, lift_shape, function_named, plain_name};
-ghost use Rattle.spec_meaning.specs.Shape.{is_const as is_const_name, is_delay as is_delay_name, is_filter as is_filter_name, is_part};
-ghost use Rattle.spec_meaning.specs.Shape.{operands};
+ghost use Rattle.spec_meaning.specs.Shape.{is_part, operands};
 ghost use Rattle.function_bodies.specs.Bodies.{AreBodies, too_large_bodies};
 ghost use Rattle.function_bodies.specs.inner.Calls.{IsFunction};
 ghost use Rattle.stream_constructs.specs.Construct.{operand_trees};
 ghost use Rattle.stream_constructs.specs.Construct as construct;
-ghost use Rattle.stream_shapes.specs.inner.Shape.{HasShape, IsShapeAt, IsShapeWhere, construct_of, filter_by};
+ghost use Rattle.stream_shapes.specs.inner.Shape.{HasShape, IsShapeAt, IsShapeWhere, filter_by, plain_shape};
 
 use crate::construct::{Construct, Shape};
 use crate::leaf::{nothing, over};
@@ -22,46 +20,12 @@ use crate::literal::literal;
 use crate::operands::{all, operand_bodies};
 use crate::operation::signal;
 use function_bodies::functions::Functions;
-use name_check::builtin::is_lift;
 use name_check::declaration::Declaration;
 use name_check::scope::Scope;
-use spec_parser::tree::{Expr, Node};
 use std::alloc::Global;
+use syntax_tree::tree::{Expr, Node};
 use tsl_value::memory::NoMemory;
-
-/// The constructs of the language whose arguments are all parts, but for `delay`.
-#[tactic(auto, unfolding(spec_meaning::specs::Shape::plain_name))]
-fn plain_construct(name: &str) -> Option<Construct>
-    ensures { option_map construct_of result ≡ plain_name name.now }
-{
-    match name {
-        "time" => Some(Construct::Time),
-        "last" => Some(Construct::Last),
-        "merge" | "default" => Some(Construct::Merge),
-        _ => None,
-    }
-}
-
-#[tactic(auto, unfolding(spec_meaning::specs::Shape::is_delay))]
-fn is_delay(name: &str) -> bool
-    ensures { result ≡ is_delay_name name.now }
-{
-    name == "delay"
-}
-
-#[tactic(auto, unfolding(spec_meaning::specs::Shape::is_const))]
-fn is_const(name: &str) -> bool
-    ensures { result ≡ is_const_name name.now }
-{
-    name == "const"
-}
-
-#[tactic(auto, unfolding(spec_meaning::specs::Shape::is_filter))]
-fn is_filter(name: &str) -> bool
-    ensures { result ≡ is_filter_name name.now }
-{
-    name == "filter"
-}
+use vocabulary::plain::{Plain, plain_named};
 
 /// A literal at each event of a stream. The literal is no part.
 fn constant<'a>(alloc: Global, arguments: &'a [Expr]) -> Result<Shape<'a>, NoMemory>
@@ -204,26 +168,29 @@ fn declared_call<'a>(
     }
 }
 
-/// A call of a name that is no construct whose arguments are all parts.
-fn other_call<'a>(
+/// A call of a name of the language. An operation on an option is none of streams, and no name of the language is declared.
+fn own_call<'a>(
     alloc: Global,
     functions: &Functions,
     scope: &Scope<'_>,
+    plain: Plain,
     name: &str,
     arguments: &'a [Expr],
 ) -> Result<Shape<'a>, NoMemory>
-    ensures { IfOk result (IsShapeWhere functions.now scope.now (λ items cs. call_shape items cs name.now (exprs_of arguments.now) None)) }
+    ensures { IfOk result (IsShapeWhere functions.now scope.now (λ items cs. plain_shape items cs name.now arguments.now (Some plain))) }
 {
-    if is_delay(name) {
-        over(alloc, Construct::Delay, arguments)
-    } else if is_const(name) {
-        constant(alloc, arguments)
-    } else if is_filter(name) {
-        filter(alloc, arguments)
-    } else if is_lift(name) {
-        lift(alloc, functions, scope, arguments)
-    } else {
-        declared_call(alloc, functions, scope, name, arguments)
+    match plain {
+        Plain::Time => over(alloc, Construct::Time, arguments),
+        Plain::Last => over(alloc, Construct::Last, arguments),
+        Plain::Delay => over(alloc, Construct::Delay, arguments),
+        Plain::Merge => over(alloc, Construct::Merge, arguments),
+        Plain::Default => over(alloc, Construct::Merge, arguments),
+        Plain::Lift => lift(alloc, functions, scope, arguments),
+        Plain::Const => constant(alloc, arguments),
+        Plain::Filter => filter(alloc, arguments),
+        Plain::IsSome | Plain::IsNone | Plain::GetSome | Plain::Some => {
+            declared_call(alloc, functions, scope, name, arguments)
+        }
     }
 }
 
@@ -238,8 +205,8 @@ pub(crate) fn call<'a>(
     ensures { IfOk result (IsShapeWhere functions.now scope.now
         (λ items cs. call_shape items cs name.now (exprs_of arguments.now) (plain_name name.now))) }
 {
-    match plain_construct(name) {
-        Some(construct) => over(alloc, construct, arguments),
-        None => other_call(alloc, functions, scope, name, arguments),
+    match plain_named(name) {
+        Some(plain) => own_call(alloc, functions, scope, plain, name, arguments),
+        None => declared_call(alloc, functions, scope, name, arguments),
     }
 }

@@ -1,7 +1,7 @@
 // Constructs over streams, and the expressions of their parts.
 
 use lift_func::body::Body;
-use spec_parser::tree::Expr;
+use syntax_tree::tree::Expr;
 use tsl_value::scalar::{Scalar, ValueType};
 use vocabulary::signature::Update;
 

@@ -2,7 +2,7 @@
 
 ghost use Rattle.std.specs.Prelude.{◌≡◌, List, filter, IfOk};
 ghost use Rattle.vocabulary.specs.Table.{role_of};
-ghost use Rattle.spec_parser.specs.Tree.{Expr as ExprTree};
+ghost use Rattle.syntax_tree.specs.Tree.{Expr as ExprTree};
 ghost use Rattle.spec_meaning.specs.Occurrence.{Call};
 ghost use Rattle.spec_meaning.specs.Function.{dotted_tree, no_tree};
 ghost use Rattle.spec_meaning.specs.Shape.{dotted_shape, role_shape, is_part, operands};
@@ -15,8 +15,8 @@ use crate::operands::all;
 use crate::operation::{binary, signal, unary, update};
 use function_bodies::operation::{dotted_one, dotted_two};
 use lift_func::body::Body;
-use spec_parser::tree::Expr;
 use std::alloc::Global;
+use syntax_tree::tree::Expr;
 use tsl_value::memory::NoMemory;
 use tsl_value::scalar::Scalar;
 use vocabulary::dotted::Dotted;

@@ -3,15 +3,15 @@
 ghost use Rattle.std.specs.Prelude.{[], IfOk};
 ghost use Rattle.spec_meaning.specs.Function.{literal};
 ghost use Rattle.spec_meaning.specs.Shape.{literal_shape, empty_shape};
-ghost use Rattle.spec_parser.specs.inner.Shape.{expr_of};
+ghost use Rattle.syntax_tree.specs.inner.OneLevel.{expr_of};
 ghost use Rattle.name_check.specs.inner.Shown.{nowhere};
 ghost use Rattle.stream_shapes.specs.inner.Shape.{HasShape, IsShapeAt, construct_of};
 
 use crate::construct::{Construct, Shape};
 use crate::literal::literal_of;
 use crate::operands::all;
-use spec_parser::tree::{Expr, Node};
 use std::alloc::Global;
+use syntax_tree::tree::{Expr, Node};
 use tsl_value::memory::NoMemory;
 use tsl_value::scalar::ValueType;
 

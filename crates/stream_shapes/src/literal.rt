@@ -3,10 +3,10 @@
 ghost use Rattle.std.specs.Prelude.{◌≡◌, IfOk};
 ghost use Rattle.spec_meaning.specs.Function.{literal};
 ghost use Rattle.spec_meaning.specs.Shape.{is_part};
-ghost use Rattle.spec_parser.specs.inner.Shape.{expr_of};
+ghost use Rattle.syntax_tree.specs.inner.OneLevel.{expr_of};
 ghost use Rattle.name_check.specs.inner.Shown.{nowhere};
 
-use spec_parser::tree::{Expr, Node};
+use syntax_tree::tree::{Expr, Node};
 use tsl_value::memory::NoMemory;
 use tsl_value::scalar::Scalar;
 

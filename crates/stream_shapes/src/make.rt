@@ -1,20 +1,20 @@
 // Making the equations of constructs.
 
-ghost use Rattle.std.specs.Prelude.{◌≡◌, ◌++◌, true, length, map, IfOk, OnOk, IfErr};
+ghost use Rattle.std.specs.Prelude.{◌≡◌, ◌++◌, true, length, map, IfOk, OnOk, IfErr, OnErr};
 ghost use Rattle.spec_meaning.specs.Shape.{operand};
-ghost use Rattle.flatten_rules.specs.Makes.{choice_operands, is_own, last_of, with_itself};
+ghost use Rattle.spec_meaning.specs.Makes.{choice_operands, is_own, last_of, with_itself};
 ghost use Rattle.stream_constructs.specs.Agree.{Fits, FitsChoice};
 ghost use Rattle.stream_constructs.specs.Equations.{choice_equations, own_equations};
 ghost use Rattle.stream_constructs.specs.Limits.{IsRefusal};
-ghost use Rattle.stream_constructs.specs.Made.{operands_of, varying_count, varying_of, with_equations};
+ghost use Rattle.stream_constructs.specs.Made.{HasFirst, operands_of, varying_count, varying_of, with_equations};
 ghost use Rattle.stream_shapes.specs.inner.Shape.{construct_of};
 
 use crate::construct::Construct;
 use crate::literal::literal;
-use spec_parser::tree::{Expr, Node};
 use std::alloc::Global;
 use stream_constructs::construct::{Operand, Stream};
 use stream_constructs::maker::{MakeFault, Maker};
+use syntax_tree::tree::{Expr, Node};
 use tsl_value::memory::NoMemory;
 use tsl_value::place::Place;
 use tsl_value::scalar::{Scalar, ValueType};
@@ -59,6 +59,8 @@ pub fn make(
         (construct_of construct) (with_itself (construct_of construct) (length maker.old.equations) parts.now)) of) }
     ensures refused { IfErr result (IsRefusal (maker.old.equations ++ own_equations place of (length maker.old.equations)
         (construct_of construct) (with_itself (construct_of construct) (length maker.old.equations) parts.now))) }
+    ensures partly { OnErr result (HasFirst maker.old (own_equations place of (length maker.old.equations)
+        (construct_of construct) (with_itself (construct_of construct) (length maker.old.equations) parts.now)) maker.new) }
 {
     match construct {
         Construct::Nil => maker.nil(place, of),
@@ -97,6 +99,8 @@ pub fn make_choice(
         (choice_equations place of (length maker.old.equations) (map operand operands.items) parts.now) of) }
     ensures refused { IfErr result (IsRefusal (maker.old.equations
         ++ choice_equations place of (length maker.old.equations) (map operand operands.items) parts.now)) }
+    ensures partly { OnErr result (HasFirst maker.old
+        (choice_equations place of (length maker.old.equations) (map operand operands.items) parts.now) maker.new) }
 {
     let operands = with_streams(*operands.allocator(), operands, parts)?;
     maker.choice(place, &operands, of)

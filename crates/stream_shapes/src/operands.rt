@@ -7,8 +7,8 @@ ghost use Rattle.stream_shapes.specs.inner.Shape.{expressions_in};
 
 use crate::literal::{literal, varies};
 use lift_func::body::Body;
-use spec_parser::tree::Expr;
 use std::alloc::Global;
+use syntax_tree::tree::Expr;
 use tsl_value::memory::NoMemory;
 use tsl_value::scalar::Scalar;
 

@@ -1,7 +1,7 @@
 // Operations on current values, and updates.
 
 ghost use Rattle.std.specs.Prelude.{[], ◌∷◌, filter, IfOk};
-ghost use Rattle.lift_func.specs.Tree.{One, Two};
+ghost use Rattle.lift_func.specs.BodyTree.{One, Two};
 ghost use Rattle.spec_meaning.specs.Shape.{is_part, operands, one_operand, two_operands};
 ghost use Rattle.stream_constructs.specs.Construct.{operand_trees};
 ghost use Rattle.stream_constructs.specs.Construct as construct;
@@ -13,8 +13,8 @@ use crate::construct::{Construct, Shape};
 use crate::literal::literal;
 use crate::operands::{all, literals, varying};
 use lift_func::body::{Binary, Body, Unary};
-use spec_parser::tree::Expr;
 use std::alloc::Global;
+use syntax_tree::tree::Expr;
 use tsl_value::memory::NoMemory;
 use vocabulary::signature::Update;
 

@@ -2,11 +2,12 @@
 use Rattle.equation_marks.specs.declared.own.TheConstants.{ENOUGH}
 use Rattle.std.specs.Prelude.{ℕ, ◌+◌, min, Bool, true, false, not, List, length}
 use Rattle.std.specs.List.{filter}
-use Rattle.spec_parser.specs.Tree.{Expr}
+use Rattle.syntax_tree.specs.Tree.{Expr}
 use Rattle.vocabulary.specs.declared.dotted.Dotted.{Dotted}
-use Rattle.vocabulary.specs.declared.dotted.Dotted.TheVariants as dotted
+use Rattle.vocabulary.specs.declared.signature.Role.{Role}
+use Rattle.vocabulary.specs.declared.signature.Role.TheVariants as role
+use Rattle.vocabulary.specs.Table.{role_of}
 use Rattle.name_check.specs.inner.Shown.{nowhere}
-use Rattle.vocabulary.specs.declared.signature.Update.TheVariants as update
 use Rattle.stream_constructs.specs.Construct.{Construct}
 use Rattle.stream_constructs.specs.Construct as construct
 use Rattle.stream_constructs.specs.Equations.{lifting}
@@ -40,10 +41,10 @@ abbrev pub choice_count : Bool → List Expr → ℕ
 choice_count true es = length (choice_own_marks nowhere (varying_count es) (operands es))
 choice_count false es = signal_count (varying_count es)
 
--- a function with a dot
+-- a function with a dot, by what it is
+abbrev pub role_count : Role → List Expr → ℕ
+role_count (role.Update o) es = own_count (construct.Update o (operands es)) (varying_count es)
+role_count r es = signal_count (varying_count es)
+
 abbrev pub dotted_count : Dotted → List Expr → ℕ
-dotted_count dotted.SetAdd es = own_count (construct.Update update.SetAdd (operands es)) (varying_count es)
-dotted_count dotted.SetRemove es = own_count (construct.Update update.SetRemove (operands es)) (varying_count es)
-dotted_count dotted.MapAdd es = own_count (construct.Update update.MapAdd (operands es)) (varying_count es)
-dotted_count dotted.MapRemove es = own_count (construct.Update update.MapRemove (operands es)) (varying_count es)
-dotted_count d es = signal_count (varying_count es)
+dotted_count d es = role_count (role_of d) es

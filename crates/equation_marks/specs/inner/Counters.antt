@@ -1,9 +1,10 @@
 -- What a counter counts by.
 use Rattle.std.specs.Prelude.{◌≡◌, ℕ, List, map, Some, slice_get}
-use Rattle.spec_parser.specs.Tree as tree
-use Rattle.spec_parser.specs.inner.Shape.{item_of, params_in}
-use Rattle.spec_parser.specs.inner.Shape as code
-use Rattle.spec_parser.specs.declared.tree.DefinitionParts.{DefinitionParts}
+use Rattle.syntax_tree.specs.Tree as tree
+use Rattle.syntax_tree.specs.Counts.{HasFewInside}
+use Rattle.syntax_tree.specs.inner.OneLevel.{item_of, params_in}
+use Rattle.syntax_tree.specs.inner.OneLevel as code
+use Rattle.syntax_tree.specs.declared.tree.DefinitionParts.{DefinitionParts}
 use Rattle.name_check.specs.Scope.{top}
 use Rattle.expr_types.specs.Around.{params_of}
 use Rattle.expr_types.specs.inner.Shown.{kinds_of}
@@ -23,3 +24,4 @@ calls_of c deep = macro_marks (map item_of c.items.now) (kinds_of c.kinds.now) d
 pub record IsDefinitionAt (items : List tree.Item) (i : ℕ) (d : DefinitionParts) : Type 0 where
   pub body_is : body_of (slice_get items i) ≡ Some (code.body_of d.body)
   pub params_are : params_of (slice_get items i) ≡ params_in d.params.items
+  pub few : HasFewInside (code.body_of d.body)

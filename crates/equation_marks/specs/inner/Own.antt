@@ -1,10 +1,10 @@
 -- The marks of an expression of some shape.
 use Rattle.std.specs.Prelude.{◌&&◌, if◌then◌else◌, List, length}
-use Rattle.spec_parser.specs.Tree.{Expr, place_of}
+use Rattle.syntax_tree.specs.Tree.{Expr, place_of}
 use Rattle.expr_types.specs.Around.{Around}
 use Rattle.expr_types.specs.Judge.{type_of}
 use Rattle.spec_meaning.specs.Shape.{Shape}
-use Rattle.flatten_rules.specs.Makes.{is_choice, choice_operands}
+use Rattle.spec_meaning.specs.Makes.{is_choice, choice_operands}
 use Rattle.equation_marks.specs.Marks.{Mark, own_marks, choice_own_marks, holds_aggregate}
 
 -- besides those of its parts

@@ -2,11 +2,11 @@
 use Rattle.std.specs.Prelude.{◌≡◌, ◌<◌, List, [], length}
 use Rattle.flat_core.specs.Complete.{IsComplete}
 use Rattle.flat_core.specs.System.{System}
-use Rattle.spec_parser.specs.Tree as tree
+use Rattle.syntax_tree.specs.Tree as tree
 use Rattle.form_check.specs.Outputs.{outputs_twice}
 use Rattle.expr_types.specs.Around.{Kinds}
 use Rattle.spec_meaning.specs.Due.{outputs_of}
-use Rattle.flatten_rules.specs.Flat.{IsFlatOf}
+use Rattle.spec_meaning.specs.Flat.{IsFlatOf}
 use Rattle.checked_spec.specs.inner.Checked.{IsChecked}
 use Rattle.parsed_spec.specs.inner.Short.{HaveShortTexts}
 

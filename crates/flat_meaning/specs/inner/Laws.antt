@@ -16,13 +16,13 @@ use Rattle.flat_core.specs.Solution.{Solves}
 use Rattle.flat_core.specs.System.{System, runs, equation}
 use Rattle.flat_core.specs.Text.{due_text}
 use Rattle.flat_core.specs.WellFormed.{IsWellFormed}
-use Rattle.spec_parser.specs.Tree as tree
-use Rattle.spec_parser.specs.Tree.{place_of}
+use Rattle.syntax_tree.specs.Tree as tree
+use Rattle.syntax_tree.specs.Tree.{place_of}
 use Rattle.expr_types.specs.Around.{Kinds}
 use Rattle.spec_meaning.specs.Occurrence.{Occurrence}
 use Rattle.spec_meaning.specs.Happens.{Happens, HasRoot}
 use Rattle.spec_meaning.specs.Due.{Printed, outputs_of, Expires, IsDueText}
-use Rattle.flatten_rules.specs.Flat.{IsFlatOf}
+use Rattle.spec_meaning.specs.Flat.{IsFlatOf}
 
 -- at most one thing happens at an occurrence at a time
 abbrev pub OneThingHappens : Type 0

@@ -5,9 +5,9 @@ use Rattle.flat_core.specs.declared.equation.Output.{Output}
 use Rattle.flat_core.specs.Complete.{IsFlat}
 use Rattle.flat_core.specs.Needed.{RunsNeeded}
 use Rattle.flat_core.specs.System.{System}
-use Rattle.spec_parser.specs.Tree as tree
+use Rattle.syntax_tree.specs.Tree as tree
 use Rattle.expr_types.specs.Around.{Kinds}
-use Rattle.flatten_rules.specs.Flat.{IsFlatOf}
+use Rattle.spec_meaning.specs.Flat.{IsFlatOf}
 
 -- two tables say the same of each item and of each definition in a block
 pub record SameKinds (a b : Kinds) : Type 0 where

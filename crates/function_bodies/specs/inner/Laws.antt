@@ -1,7 +1,7 @@
 -- Laws of value functions that have an order in which called functions come first.
 use Rattle.std.specs.Prelude.{◌≡◌, ℕ, zero, suc, List, length}
-use Rattle.spec_parser.specs.Tree as tree
-use Rattle.lift_func.specs.Tree.{Tree}
+use Rattle.syntax_tree.specs.Tree as tree
+use Rattle.lift_func.specs.BodyTree.{BodyTree}
 use Rattle.lift_func.specs.inner.Placed.{placed}
 use Rattle.spec_meaning.specs.Function.{function_tree, function_at, function_body}
 use Rattle.definition_cycles.specs.Calls.{Calls}
@@ -18,7 +18,7 @@ DepthIsEnough =
     (items : List tree.Item) (order : List ℕ) →
     IsCallOrder items order →
     ArePlain items →
-    (deep i : ℕ) (ts : List Tree) → IsFunction items i →
+    (deep i : ℕ) (ts : List BodyTree) → IsFunction items i →
     NestsWithin items deep i →
     function_tree items deep i ts ≡ function_tree items (length items) i ts
 
@@ -28,5 +28,5 @@ BodiesArePlaced =
     (items : List tree.Item) (order : List ℕ) →
     IsCallOrder items order →
     ArePlain items →
-    (i : ℕ) (ts : List Tree) → IsFunction items i →
+    (i : ℕ) (ts : List BodyTree) → IsFunction items i →
     function_at items i ts ≡ placed ts (function_body items i)

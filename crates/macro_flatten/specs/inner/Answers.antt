@@ -6,10 +6,11 @@ use Rattle.tsl_value.specs.declared.place.Place.{Place}
 use Rattle.tsl_value.specs.declared.scalar.ValueType.{ValueType}
 use Rattle.flat_core.specs.declared.equation.Equation.{Equation}
 use Rattle.flat_core.specs.System.{System}
-use Rattle.spec_parser.specs.Tree as tree
-use Rattle.spec_parser.specs.Tree.{Expr, Exprs}
-use Rattle.spec_parser.specs.inner.Shape.{definition_of}
-use Rattle.spec_parser.specs.declared.tree.DefinitionParts.{DefinitionParts}
+use Rattle.syntax_tree.specs.Tree as tree
+use Rattle.syntax_tree.specs.Tree.{Expr, Exprs}
+use Rattle.syntax_tree.specs.Counts.{HasFewInside}
+use Rattle.syntax_tree.specs.inner.OneLevel.{body_of, definition_of}
+use Rattle.syntax_tree.specs.declared.tree.DefinitionParts.{DefinitionParts}
 use Rattle.name_check.specs.declared.declaration.Declaration.TheVariants as declaration
 use Rattle.name_check.specs.Builtin.{is_called, is_unit}
 use Rattle.name_check.specs.Scope.{meaning}
@@ -22,7 +23,7 @@ use Rattle.stream_constructs.specs.declared.maker.MakeFault.{MakeFault}
 use Rattle.stream_constructs.specs.Made.{with_equations}
 use Rattle.spec_meaning.specs.Occurrence.{block_of, local, result_of}
 use Rattle.spec_meaning.specs.Shape.{Shape, shape}
-use Rattle.flatten_rules.specs.Makes.{AreLocals, MakesAll, MakesBlock, MakesBody, inside_call, is_own, occurrence}
+use Rattle.spec_meaning.specs.Makes.{AreLocals, MakesAll, MakesBlock, MakesBody, inside_call, is_own, occurrence}
 use Rattle.checked_spec.specs.inner.Matches.{HaveTheirTypes}
 use Rattle.equation_marks.specs.Marks.{Mark, block_marks, body_marks, macro_marks, mark_of, marks}
 use Rattle.equation_marks.specs.Refused.{AreRefused}
@@ -168,12 +169,14 @@ pub record IsCalled (context : Context) (here : Here) (i : ℕ) (es : Exprs) (ol
 pub record IsDefinedAt (items : List tree.Item) (i : ℕ) (d : DefinitionParts) : Type 0 where
   pub place : Place
   pub is : slice_get items i ≡ Some (tree.Defined place (definition_of d))
+  pub few : HasFewInside (body_of d.body)
 
 pub record CanEnter (context : Context) (i : ℕ) (d : tree.Definition) (params : List Stream) (deep : ℕ) : Type 0 where
   pub entry : Entry
   pub place : Place
   pub is_item : slice_get entry.items i ≡ Some (tree.Defined place d)
   pub entered : IsEntered context i params deep entry
+  pub few : HasFewInside (local_body d)
 
 -- the equations of the block and then those of the result
 pub record IsMacroMade (entry : Entry) (i : ℕ) (b : tree.Body) (params : List Stream) (deep : ℕ) (old new : System)

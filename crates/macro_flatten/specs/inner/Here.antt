@@ -3,9 +3,9 @@ use Rattle.std.specs.Prelude.{◌≡◌, ℕ, suc, true, List, [], map, Option, 
 use Rattle.std.specs.Option.{option_and_then}
 use Rattle.std.specs.List.{Contains}
 use Rattle.tsl_value.specs.declared.scalar.ValueType.{ValueType}
-use Rattle.spec_parser.specs.Tree as tree
-use Rattle.spec_parser.specs.Tree.{Expr, Exprs}
-use Rattle.spec_parser.specs.inner.Shape.{item_of}
+use Rattle.syntax_tree.specs.Tree as tree
+use Rattle.syntax_tree.specs.Tree.{Expr, Exprs}
+use Rattle.syntax_tree.specs.inner.OneLevel.{item_of}
 use Rattle.name_check.specs.declared.declaration.Declaration.{Declaration}
 use Rattle.name_check.specs.declared.declaration.Declaration.TheVariants as declaration
 use Rattle.name_check.specs.Scope as scope
@@ -15,7 +15,7 @@ use Rattle.expr_types.specs.Around.{Around, Kinds, declared_type, params_of}
 use Rattle.expr_types.specs.Bodies.{may_have_braces}
 use Rattle.expr_types.specs.inner.Shown.{around_of, kinds_of}
 use Rattle.stream_constructs.specs.declared.construct.Stream.{Stream}
-use Rattle.flatten_rules.specs.Makes.{AreLocals, Standing, Stands, inside_call}
+use Rattle.spec_meaning.specs.Makes.{AreLocals, Standing, Stands, inside_call}
 use Rattle.call_limits.specs.Nesting.{CallsMacro, Chain}
 use Rattle.checked_spec.specs.inner.Checked.{IsChecked}
 use Rattle.checked_spec.specs.inner.Formed.{is_input, is_stream}

@@ -11,10 +11,10 @@ use Rattle.flat_core.specs.declared.equation.Output.{Output}
 use Rattle.flat_core.specs.System.{System}
 use Rattle.flat_core.specs.Typed.{unit_type}
 use Rattle.flat_core.specs.declared.limits.TheConstants.{MOST_EQUATIONS}
-use Rattle.spec_parser.specs.Tree as tree
-use Rattle.spec_parser.specs.Tree.{Expr}
-use Rattle.spec_parser.specs.inner.Shape.{body_of, item_of}
-use Rattle.spec_parser.specs.declared.tree.DefinitionParts.{DefinitionParts}
+use Rattle.syntax_tree.specs.Tree as tree
+use Rattle.syntax_tree.specs.Tree.{Expr}
+use Rattle.syntax_tree.specs.inner.OneLevel.{body_of, item_of}
+use Rattle.syntax_tree.specs.declared.tree.DefinitionParts.{DefinitionParts}
 use Rattle.type_rules.specs.Asked.{inner}
 use Rattle.type_rules.specs.declared.rule.ExprType.TheVariants as expr_type
 use Rattle.expr_types.specs.Around.{Kinds, params_of}
@@ -22,7 +22,7 @@ use Rattle.expr_types.specs.Bodies.{at_top}
 use Rattle.expr_types.specs.inner.Shown.{around_of, kinds_of}
 use Rattle.stream_constructs.specs.declared.construct.Stream.{Stream}
 use Rattle.stream_constructs.specs.Made.{input_equation, with_equations}
-use Rattle.flatten_rules.specs.Flat.{event_type, outermost, MakesOutputs, MakesPrinted, MakesStreams}
+use Rattle.spec_meaning.specs.Flat.{event_type, outermost, MakesOutputs, MakesPrinted, MakesStreams}
 use Rattle.call_limits.specs.Nesting.{CallsMacro, Chain}
 use Rattle.checked_spec.specs.inner.Formed.{is_input, is_stream}
 use Rattle.equation_marks.specs.inner.Counted.{counted}

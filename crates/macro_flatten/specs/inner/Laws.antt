@@ -1,19 +1,20 @@
 -- The marks of a specification are those of the equations that it makes, beyond the limits too.
-use Rattle.std.specs.Prelude.{◌≡◌, ℕ, List, map}
+use Rattle.std.specs.Prelude.{◌≡◌, ℕ, suc, List, map}
 use Rattle.flat_core.specs.declared.equation.Equation.{Equation}
 use Rattle.flat_core.specs.declared.equation.Output.{Output}
-use Rattle.spec_parser.specs.Tree as tree
+use Rattle.syntax_tree.specs.Tree as tree
 use Rattle.expr_types.specs.Around.{Kinds}
 use Rattle.stream_constructs.specs.Limits.{refusal}
-use Rattle.flatten_rules.specs.Flat.{IsFlatOf}
+use Rattle.spec_meaning.specs.Flat.{IsFlatOf}
+use Rattle.definition_cycles.specs.declared.limits.TheConstants.{MOST_CALLS}
 use Rattle.call_limits.specs.Nesting.{CallsMacro, Chain}
 use Rattle.checked_spec.specs.inner.Checked.{IsChecked}
 use Rattle.equation_marks.specs.Marks.{all_marks, mark_of}
 use Rattle.equation_marks.specs.Refused.{refused}
 
--- no calls of macros nest deeper than 64
+-- no calls of macros nest deeper than they may
 abbrev pub NestsWithin : List tree.Item → Type 0
-NestsWithin items = (i to : ℕ) → Chain (CallsMacro items) 65 i to → ⊥
+NestsWithin items = (i to : ℕ) → Chain (CallsMacro items) (suc MOST_CALLS) i to → ⊥
 
 -- the equations of a checked specification have its marks, however many they are
 abbrev pub FlatsHaveTheMarks : Type 0

@@ -3,8 +3,8 @@ use Rattle.std.specs.Prelude.{◌≡◌, ℕ, suc, List, ◌++◌, length, map, 
 use Rattle.std.specs.List.{Contains}
 use Rattle.flat_core.specs.declared.equation.Equation.{Equation}
 use Rattle.flat_core.specs.System.{System}
-use Rattle.spec_parser.specs.Tree as tree
-use Rattle.spec_parser.specs.Tree.{Expr}
+use Rattle.syntax_tree.specs.Tree as tree
+use Rattle.syntax_tree.specs.Tree.{Expr}
 use Rattle.name_check.specs.Bodies.{Seen, item_bodies}
 use Rattle.name_check.specs.Parts.{Part, parts}
 use Rattle.name_check.specs.Scope.{Scope, top}
@@ -14,7 +14,7 @@ use Rattle.expr_types.specs.Judge.{type_of}
 use Rattle.stream_constructs.specs.declared.construct.Stream.{Stream}
 use Rattle.stream_constructs.specs.declared.maker.MakeFault.{MakeFault}
 use Rattle.stream_constructs.specs.Made.{with_equations}
-use Rattle.flatten_rules.specs.Makes.{Standing, Makes}
+use Rattle.spec_meaning.specs.Makes.{Standing, Makes}
 use Rattle.call_limits.specs.Nesting.{Chain, CallsMacro}
 use Rattle.checked_spec.specs.inner.Checked.{IsTyped}
 use Rattle.checked_spec.specs.inner.Matches.{Matches}

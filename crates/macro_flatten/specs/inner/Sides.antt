@@ -2,9 +2,9 @@
 use Rattle.std.specs.Prelude.{◌≡◌, ℕ, List, [], ◌∷◌, Option, Some, None, Result, Ok, Err}
 use Rattle.tsl_value.specs.declared.scalar.Scalar.{Scalar}
 use Rattle.flat_core.specs.System.{System}
-use Rattle.lift_func.specs.Tree.{Two}
-use Rattle.spec_parser.specs.Tree.{Expr}
-use Rattle.spec_parser.specs.declared.tree.Operator.{Operator}
+use Rattle.lift_func.specs.BodyTree.{Two}
+use Rattle.syntax_tree.specs.Tree.{Expr}
+use Rattle.syntax_tree.specs.declared.tree.Operator.{Operator}
 use Rattle.stream_constructs.specs.declared.construct.Stream.{Stream}
 use Rattle.stream_constructs.specs.declared.maker.MakeFault.{MakeFault}
 use Rattle.stream_constructs.specs.Construct.{Construct, operand_trees}

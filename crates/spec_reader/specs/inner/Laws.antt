@@ -1,7 +1,7 @@
 -- Laws of sources.
 use Rattle.std.specs.Prelude.{◌≡◌, ◌≢◌, ℕ, List}
 use Rattle.flat_core.specs.System.{System}
-use Rattle.spec_parser.specs.Tree as tree
+use Rattle.syntax_tree.specs.Tree as tree
 use Rattle.spec_reader.specs.declared.fault.SpecFault.{SpecFault}
 use Rattle.spec_reader.specs.declared.fault.SpecFault.TheVariants as fault
 use Rattle.spec_reader.specs.declared.fault.SpecFault.TheVariants.{Memory}

@@ -1,10 +1,10 @@
 -- Operands of a body.
 use Rattle.std.specs.Prelude.{ℕ, Option, Some, None}
 use Rattle.tsl_value.specs.declared.scalar.Scalar.{Scalar}
-use Rattle.lift_func.specs.Tree.{Tree, Literal, Argument}
+use Rattle.lift_func.specs.BodyTree.{BodyTree, Literal, Argument}
 
 -- a literal, or else the argument of this number
-abbrev pub operand_tree : Option Scalar → ℕ → Tree
+abbrev pub operand_tree : Option Scalar → ℕ → BodyTree
 operand_tree (Some s) number = Literal s
 operand_tree None number = Argument number
 

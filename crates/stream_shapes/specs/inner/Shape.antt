@@ -1,18 +1,22 @@
 -- Constructs and shapes as the code has them, and what they say of an expression.
-use Rattle.std.specs.Prelude.{◌≡◌, Bool, true, false, List, [], ◌∷◌, map, Option, Some, None}
+use Rattle.std.specs.Prelude.{◌≡◌, ℕ, Bool, true, false, List, [], ◌∷◌, map, Option, Some, None}
 use Rattle.std.specs.Borrow.{Bor}
-use Rattle.lift_func.specs.Tree.{Tree}
-use Rattle.spec_parser.specs.Tree as tree
-use Rattle.spec_parser.specs.Tree.{Expr}
+use Rattle.lift_func.specs.BodyTree.{BodyTree}
+use Rattle.syntax_tree.specs.Tree as tree
+use Rattle.syntax_tree.specs.Tree.{Expr}
+use Rattle.syntax_tree.specs.inner.OneLevel.{exprs_of}
+use Rattle.vocabulary.specs.declared.plain.Plain.{Plain}
 use Rattle.vocabulary.specs.declared.signature.Role.{Role}
-use Rattle.name_check.specs.Scope.{Scope, seen, Agree}
+use Rattle.name_check.specs.Scope.{Scope, meaning as meant, seen, Agree}
 use Rattle.spec_meaning.specs.Occurrence.{Call, scope_at}
 use Rattle.spec_meaning.specs.Function.{role_tree}
 use Rattle.spec_meaning.specs.Shape as meaning
-use Rattle.spec_meaning.specs.Shape.{operand, beside, shape, with_parts, signal_of, update_of}
+use Rattle.spec_meaning.specs.Shape.{operand, beside, shape, with_parts, signal_of, update_of, const_shape, filter_shape, lift_shape}
+use Rattle.spec_meaning.specs.Shape.{declared_shape}
+use Rattle.spec_meaning.specs.inner.Plain.{by_plain}
 use Rattle.vocabulary.specs.declared.signature.Update.{Update as UpdateOp}
 use Rattle.stream_constructs.specs.Construct as construct
-use Rattle.flatten_rules.specs.Makes.{is_own}
+use Rattle.spec_meaning.specs.Makes.{is_own}
 use Rattle.function_bodies.specs.Bodies.{AreBodies, too_large_bodies}
 use Rattle.stream_shapes.specs.declared.construct.Construct.{Construct}
 use Rattle.stream_shapes.specs.declared.construct.Construct.TheVariants as given
@@ -57,8 +61,8 @@ pub record IsShapeAt (shape : List tree.Item → List Call → Option meaning.Sh
       IsBeside cs sh found
 
 -- the same in a specification whose value functions have these bodies, none of which is too large, where these names are seen
-pub record IsShapeWhere (functions : List (Option Tree)) (scope : List Scope) (shape : List tree.Item → List Call → Option meaning.Shape)
-    (found : Shape) : Type 0 where
+pub record IsShapeWhere (functions : List (Option BodyTree)) (scope : List Scope)
+    (shape : List tree.Item → List Call → Option meaning.Shape) (found : Shape) : Type 0 where
   pub at :
       (items : List tree.Item) (cs : List Call) (sh : meaning.Shape) →
       AreBodies items functions →
@@ -73,7 +77,7 @@ is_chain (tree.Chain p l e ls) = true
 is_chain e = false
 
 -- The shape of an expression that is no chain: the left operands of a chain are no expression of their own.
-abbrev pub IsShapeOf : List (Option Tree) → List Scope → Expr → Shape → Type 0
+abbrev pub IsShapeOf : List (Option BodyTree) → List Scope → Expr → Shape → Type 0
 IsShapeOf functions scope e found =
     is_chain e ≡ false → IsShapeWhere functions scope (λ items cs. shape items (record { calls = cs; expr = e })) found
 
@@ -86,3 +90,9 @@ update_or None r cs es = signal_of cs (role_tree r) es
 abbrev pub filter_by : Option Bool → List Call → Expr → Expr → Option meaning.Shape
 filter_by (Some b) cs e c = with_parts cs (construct.FilterBy b) (e ∷ [])
 filter_by None cs e c = with_parts cs construct.Filter (e ∷ c ∷ [])
+
+-- a call of a name, by what is found of the name among the language's own
+abbrev pub plain_shape : List tree.Item → List Call → List ℕ → List Expr → Option Plain → Option meaning.Shape
+plain_shape items cs n es =
+    by_plain (λ c. with_parts cs c es) (with_parts cs construct.Delay es) (const_shape cs es) (filter_shape cs es)
+    (lift_shape items cs [] es) (declared_shape items cs (meant (scope_at items cs) n) (exprs_of es))

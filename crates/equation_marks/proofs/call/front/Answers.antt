@@ -1,6 +1,6 @@
 use Rattle.std.proofs.Common.{◌≡◌, [], ◌∷◌, ◌++◌, rules, sym, ap, ◌∙◌}
 use Rattle.equation_marks.specs.inner.Calls.{front}
-use Rattle.equation_marks.proofs.PartsLemmas.{front-append}
+use Rattle.equation_marks.proofs.CallPartsLemmas.{front-append}
 use Rattle.equation_marks.proofs.call.front.Goals as goal
 
 pub returns-in-Some : goal.returns-in-Some

@@ -1,5 +1,5 @@
 use Rattle.std.proofs.Common.{rules}
-use Rattle.spec_parser.proofs.Sizes.{argument_smaller, link_smaller}
+use Rattle.syntax_tree.proofs.Sizes.{argument_smaller, link_smaller}
 use Rattle.function_bodies.proofs.expression.+expression.Goals as goal
 
 pub operands-expression-requires : goal.operands-expression-requires

@@ -1,6 +1,6 @@
 use Rattle.std.proofs.Common.{◌≡◌, ◌+◌, ◌*◌, ◌++◌, map, drop}
 use Rattle.lift_func.specs.inner.Placed.{within}
-use Rattle.spec_parser.specs.inner.Shape.{expr_of, exprs_of, links_in, size_of, size_of_exprs, size_of_links}
+use Rattle.syntax_tree.specs.inner.OneLevel.{expr_of, exprs_of, links_in, size_of, size_of_exprs, size_of_links}
 use Rattle.name_check.specs.inner.Shown.{nowhere}
 use Rattle.function_bodies.specs.inner.Around.{tree_at, trees_at, chain_at}
 use Rattle.function_bodies.proofs.WalkLemmas.{IsChained}

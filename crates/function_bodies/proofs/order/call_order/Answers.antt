@@ -1,6 +1,6 @@
 use Rattle.std.proofs.Common.{map, sym, subst, ◌∙◌, arith}
 use Rattle.std.proofs.lemmas.List.{length-map}
-use Rattle.spec_parser.specs.inner.Shape.{item_of}
+use Rattle.syntax_tree.specs.inner.OneLevel.{item_of}
 use Rattle.translation_order.specs.Order.{Before}
 use Rattle.translation_order.specs.Cycle.{IsCycle}
 use Rattle.translation_order.specs.inner.Answer.{OnCycle}

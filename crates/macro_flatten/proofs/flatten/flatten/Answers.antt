@@ -1,7 +1,7 @@
 use Rattle.std.proofs.Common.{ap, length, map, ◌∙◌}
 use Rattle.std.proofs.lemmas.List.{length-map}
 use Rattle.std.proofs.lemmas.Result.{err_from_is_err_and}
-use Rattle.spec_parser.specs.inner.Shape.{item_of}
+use Rattle.syntax_tree.specs.inner.OneLevel.{item_of}
 use Rattle.expr_types.specs.inner.Shown.{kinds_of}
 use Rattle.equation_marks.specs.Marks.{all_marks}
 use Rattle.macro_flatten.specs.declared.context.Context.{Context}

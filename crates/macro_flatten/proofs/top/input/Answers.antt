@@ -1,5 +1,5 @@
 use Rattle.std.proofs.Common.{None, refl, ap}
-use Rattle.spec_parser.specs.inner.Shape.{item_of}
+use Rattle.syntax_tree.specs.inner.OneLevel.{item_of}
 use Rattle.macro_flatten.proofs.Inputs.{has_type}
 use Rattle.macro_flatten.proofs.top.input.Goals as goal
 

@@ -1,15 +1,16 @@
 use Rattle.std.proofs.Common.{◌++◌, map}
 use Rattle.std.proofs.lemmas.Result.{err_from_is_err_and}
-use Rattle.spec_parser.specs.inner.Shape.{item_of}
+use Rattle.syntax_tree.specs.inner.OneLevel.{item_of}
 use Rattle.tsl_value.proofs.Lists.{contains_at}
 use Rattle.macro_flatten.specs.inner.Items.{input_equations}
 use Rattle.macro_flatten.proofs.Inputs.{left_all, left_none, left_refused, left_turn}
-use Rattle.macro_flatten.proofs.Lists.{item_there, refusal_at}
+use Rattle.macro_flatten.proofs.Lists.{refusal_at}
 use Rattle.macro_flatten.proofs.top.inputs.Goals as goal
+use Rattle.function_bodies.proofs.EndLemmas.{item_at}
 
 pub input-requires : goal.input-requires
 input-requires c =
-    c.requires.each (item_of c.item-item.result) (contains_at (map item_of c.args.items.now) c.loop-item.item-index (item_of c.item-item.result) (item_there c.args.items.now c.loop-item.item-index c.item-item.result c.loop-item-test.true c.item-item.is))
+    c.requires.each (item_of c.item-item.result) (contains_at (map item_of c.args.items.now) c.loop-item.item-index (item_of c.item-item.result) (item_at c.args.items.now c.loop-item.item-index c.item-item.result c.loop-item-test.true c.item-item.is))
 
 pub loop-item-init : goal.loop-item-init
 loop-item-init c = left_all (map item_of c.args.items.now) c.args.maker.now c.new-streams.result.items c.new-streams.ensures.items

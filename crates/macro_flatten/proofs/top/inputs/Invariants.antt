@@ -1,5 +1,5 @@
 use Rattle.std.proofs.Common.{drop, map}
-use Rattle.spec_parser.specs.inner.Shape.{item_of}
+use Rattle.syntax_tree.specs.inner.OneLevel.{item_of}
 use Rattle.macro_flatten.proofs.Inputs.{AreLeft}
 use Rattle.macro_flatten.proofs.top.inputs.Given as goal
 

@@ -1,4 +1,4 @@
-use Rattle.std.proofs.Common.{sym}
+use Rattle.std.proofs.Common.{◌<◌, length, sym, subst}
 use Rattle.spec_reader.proofs.CycleLemmas.{walked_there, walked_some, there_at}
 use Rattle.spec_reader.proofs.cycle.cyclic.Goals as goal
 
@@ -9,4 +9,5 @@ pub unreachable-requires : goal.unreachable-requires
 unreachable-requires c = walked_some c.args.flat.now c.args.equations.now c.requires (sym c.in-None.ensures)
 
 pub equation-requires : goal.equation-requires
-equation-requires c = there_at c.args.flat.now c.args.equations.now c.requires 0 c.in-Some.first.now (sym c.in-Some.ensures)
+equation-requires c =
+    subst (λ i. i < length c.args.flat.now.equations) (sym c.new.ensures) (there_at c.args.flat.now c.args.equations.now c.requires 0 c.in-Some.first.now (sym c.in-Some.ensures))

@@ -1,7 +1,7 @@
 use Rattle.std.proofs.Common.{map, arith}
 use Rattle.std.proofs.lemmas.List.{length-map}
 use Rattle.std.proofs.lemmas.Result.{err_from_is_err_and}
-use Rattle.spec_parser.specs.inner.Shape.{item_of}
+use Rattle.syntax_tree.specs.inner.OneLevel.{item_of}
 use Rattle.call_limits.proofs.ChainLemmas.{macros_limited}
 use Rattle.spec_reader.proofs.SourceLemmas.{flat_refused, make_refused, has_system}
 use Rattle.spec_reader.proofs.TypedLemmas.{is_checked, has_outputs, have_short_texts, has_few_nodes, few_items, are_plain}

@@ -1,6 +1,6 @@
 use Rattle.std.proofs.lemmas.Result.{err_from_is_err_and}
-use Rattle.spec_parser.specs.inner.Shape.{items_of}
-use Rattle.definition_cycles.proofs.CountLemmas.{few_nodes}
+use Rattle.syntax_tree.specs.inner.OneLevel.{items_of}
+use Rattle.spec_reader.proofs.CountLemmas.{few_nodes}
 use Rattle.expr_types.specs.inner.Shown.{kinds_of}
 use Rattle.spec_reader.proofs.SourceLemmas.{tree_typed, spells_something}
 use Rattle.spec_reader.proofs.read.read_spec.Goals as goal

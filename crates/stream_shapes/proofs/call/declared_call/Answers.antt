@@ -1,6 +1,6 @@
 use Rattle.std.proofs.Common.{◌∙◌, sym}
 use Rattle.std.proofs.lemmas.Result.{IfOk-weaker}
-use Rattle.spec_parser.specs.inner.Shape.{exprs_of}
+use Rattle.syntax_tree.specs.inner.OneLevel.{exprs_of}
 use Rattle.stream_shapes.proofs.ShapeLemmas.{function_where, no_function_where}
 use Rattle.stream_shapes.proofs.call.declared_call.Goals as goal
 

@@ -1,5 +1,8 @@
-use Rattle.std.proofs.Common.{◌≡◌, length, map, rules}
+use Rattle.std.proofs.Common.{◌≡◌, length, map, refl, rules}
+use Rattle.std.proofs.lemmas.Result.{on_err_weaker}
+use Rattle.tsl_value.proofs.Results.{on_err}
 use Rattle.spec_meaning.specs.Shape.{operand}
+use Rattle.stream_constructs.proofs.Partly.{has_none}
 use Rattle.stream_shapes.specs.declared.construct.Construct.TheVariants as given
 use Rattle.stream_constructs.proofs.LiftingHangs.{operands_vary}
 use Rattle.stream_shapes.proofs.MakeLemmas.{fits_as, last_type, merge_type, filter_type, empty_type}
@@ -29,3 +32,33 @@ pub returns-in-Filter-clause-stream : goal.returns-in-Filter-clause-stream
 returns-in-Filter-clause-stream c =
     let same : c.index-parts-0-in-Filter.result.of ≡ c.args.of = filter_type c.args.parts.now c.args.of c.index-parts-0-in-Filter.result (fits_as c.args.construct given.Filter (length c.args.maker.now.equations) c.args.parts.now c.args.of c.in-Filter.is c.requires.fits) c.index-parts-0-in-Filter.is in
     search rules
+
+pub returns-in-Nil-clause-partly : goal.returns-in-Nil-clause-partly
+returns-in-Nil-clause-partly c = on_err_weaker c.nil.result (has_none c.args.maker.now c.nil.new.self _) c.nil.ensures.err
+
+pub returns-in-Unit-clause-partly : goal.returns-in-Unit-clause-partly
+returns-in-Unit-clause-partly c = on_err_weaker c.unit.result (has_none c.args.maker.now c.unit.new.self _) c.unit.ensures.err
+
+pub returns-in-Empty-clause-partly : goal.returns-in-Empty-clause-partly
+returns-in-Empty-clause-partly c = on_err_weaker c.empty.result (has_none c.args.maker.now c.empty.new.self _) c.empty.ensures.err
+
+pub returns-in-Time-clause-partly : goal.returns-in-Time-clause-partly
+returns-in-Time-clause-partly c = on_err_weaker c.time.result (has_none c.args.maker.now c.time.new.self _) c.time.ensures.err
+
+pub returns-in-Last-clause-partly : goal.returns-in-Last-clause-partly
+returns-in-Last-clause-partly c = on_err_weaker c.last.result (has_none c.args.maker.now c.last.new.self _) c.last.ensures.err
+
+pub returns-in-Delay-clause-partly : goal.returns-in-Delay-clause-partly
+returns-in-Delay-clause-partly c = on_err_weaker c.delay.result (has_none c.args.maker.now c.delay.new.self _) c.delay.ensures.err
+
+pub returns-in-Merge-clause-partly : goal.returns-in-Merge-clause-partly
+returns-in-Merge-clause-partly c = on_err_weaker c.merge.result (has_none c.args.maker.now c.merge.new.self _) c.merge.ensures.err
+
+pub returns-in-Const-clause-partly : goal.returns-in-Const-clause-partly
+returns-in-Const-clause-partly c = on_err_weaker c.constant.result (has_none c.args.maker.now c.constant.new.self _) c.constant.ensures.err
+
+pub returns-in-Lift-clause-partly : goal.returns-in-Lift-clause-partly
+returns-in-Lift-clause-partly c = on_err_weaker c.lift.result (has_none c.args.maker.now c.lift.new.self _) c.lift.ensures.err
+
+pub returns-in_err-operands-in-Update-clause-partly : goal.returns-in_err-operands-in-Update-clause-partly
+returns-in_err-operands-in-Update-clause-partly c = on_err _ (has_none c.args.maker.now c.args.maker.now _ refl)

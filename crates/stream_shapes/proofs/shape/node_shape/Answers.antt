@@ -1,8 +1,8 @@
 use Rattle.std.proofs.Common.{◌∙◌, ap, sym}
 use Rattle.std.proofs.lemmas.Result.{IfOk-weaker}
-use Rattle.spec_parser.specs.inner.Shape.{expr_of, exprs_of}
-use Rattle.spec_parser.specs.declared.tree.Node.TheVariants as node
-use Rattle.spec_parser.specs.Tree as tree
+use Rattle.syntax_tree.specs.inner.OneLevel.{expr_of, exprs_of}
+use Rattle.syntax_tree.specs.declared.tree.Node.TheVariants as node
+use Rattle.syntax_tree.specs.Tree as tree
 use Rattle.name_check.specs.inner.Shown.{nowhere}
 use Rattle.spec_meaning.specs.Function.{literal}
 use Rattle.spec_meaning.specs.Shape.{expr_shape, literal_shape, empty_shape, dotted_shape, call_shape, plain_name}

@@ -3,14 +3,15 @@ use Rattle.std.specs.List.{flat_map, filter}
 use Rattle.std.proofs.lemmas.List.{nil_from_length}
 use Rattle.std.proofs.lemmas.Result.{IfOk-weaker}
 use Rattle.tsl_value.specs.declared.place.Place.{Place}
-use Rattle.spec_parser.specs.Tree as tree
-use Rattle.spec_parser.specs.Tree.{Expr, Definition, place_of}
-use Rattle.spec_parser.specs.declared.tree.Level.{Level}
-use Rattle.spec_parser.specs.inner.Shape.{expr_of, exprs_of, links_in, item_of, definitions_of, params_in, size_of, size_of_exprs}
-use Rattle.spec_parser.specs.inner.Shape as code
+use Rattle.syntax_tree.specs.Tree as tree
+use Rattle.syntax_tree.specs.Tree.{Expr, Definition, place_of}
+use Rattle.syntax_tree.specs.declared.tree.Level.{Level}
+use Rattle.syntax_tree.specs.inner.OneLevel.{expr_of, exprs_of, links_in, item_of, definitions_of, params_in, size_of, size_of_exprs}
+use Rattle.syntax_tree.specs.inner.OneLevel as code
+use Rattle.syntax_tree.specs.Counts.{counts}
 use Rattle.name_check.specs.Scope.{seen}
 use Rattle.name_check.specs.inner.Steps.{local_body}
-use Rattle.spec_parser.proofs.Sizes.{argument_smaller, link_smaller}
+use Rattle.syntax_tree.proofs.Sizes.{argument_smaller, link_smaller}
 use Rattle.expr_types.specs.inner.Shown.{around_of, kinds_of}
 use Rattle.spec_meaning.specs.Occurrence.{result_of}
 use Rattle.spec_meaning.specs.Shape.{is_part}
@@ -18,10 +19,10 @@ use Rattle.equation_marks.specs.Marks.{marks, link_marks, body_marks, varying_co
 use Rattle.equation_marks.specs.inner.Counted.{counted, choice_count, dotted_count, signal_count}
 use Rattle.equation_marks.specs.inner.Counters.{calls_of}
 use Rattle.equation_marks.specs.inner.Calls.{callee_marks}
-use Rattle.equation_marks.proofs.PartsLemmas.{small_parts}
+use Rattle.equation_marks.proofs.CallPartsLemmas.{small_parts}
 use Rattle.equation_marks.proofs.Weights.{items_weight, block_weight, body_weight, definition_lighter, body_within, one_call}
 use Rattle.equation_marks.proofs.CountLemmas.{call_counted, no_more, alone_counted, chain_counted, link_counted, links_counted, if_equal, if_at, if_each, same_operand, if_counted, compare_counted, dotted_counted}
-use Rattle.equation_marks.proofs.InsideLemmas.{inside_at, inside_counted}
+use Rattle.equation_marks.proofs.InsideLemmas.{inside_at, inside_counted, block_counted}
 use Rattle.equation_marks.proofs.count.Counter.+counting.Goals as goal
 use Rattle.equation_marks.specs.declared.own.TheConstants.{ENOUGH}
 
@@ -45,7 +46,7 @@ pub block-body-requires : goal.block-body-requires
 block-body-requires t c =
     let d = c.definition-item.result in
     let same : size_of c.result_of.result.now ≡ size_of (result_of (local_body d)) =
-    ap size_of c.result_of.ensures ∙ ap (λ (x : Definition). size_of (result_of (local_body x))) c.parts.ensures in
+    ap size_of c.result_of.ensures ∙ ap (λ (x : Definition). size_of (result_of (local_body x))) c.parts.ensures.is in
     let lighter = definition_lighter c.args.definitions.now c.loop-definition.definition-index d c.loop-definition-test.true c.definition-item.is in
     let smaller : size_of c.result_of.result.now ≤ block_weight (definitions_of c.args.definitions.now) = omega (arith, same, lighter) in
     search rules
@@ -64,8 +65,8 @@ call-operands-requires t c =
     let smaller : size_of_exprs (exprs_of c.call_parts-parts.result.operands.now) ≤ size_of_exprs (exprs_of c.args.arguments.now) = omega (arith, same, small.operands) in
     search rules
 
-pub called-inside-requires : goal.called-inside-requires
-called-inside-requires t c =
+pub callee_count-inside-requires : goal.callee_count-inside-requires
+callee_count-inside-requires t c =
     let items = map item_of c.args.self.now.items.now in
     let b = code.body_of c.in-Some.parts.now.body in
     let within = body_within items c.args.number b c.in-Some.ensures.body_is in
@@ -156,9 +157,9 @@ call-returns-in-Some t c =
     let at = around_of c.args.at.now in
     let call = calls_of c.args.self.now c.args.deep in
     let parts = c.call_parts-parts in
-    if_each c.called.result (counted c.more-count.result (call c.in-Some.number)) (λ (p : Place). counted c.args.count (marks at call (tree.Call p c.args.name.now (exprs_of c.args.arguments.now))))
+    if_each c.callee_count.result (counted c.more-count.result (call c.in-Some.number)) (λ (p : Place). counted c.args.count (marks at call (tree.Call p c.args.name.now (exprs_of c.args.arguments.now))))
     (λ p. call_counted at call p c.args.name.now c.args.arguments.now parts.result.streams.now parts.result.operands.now parts.result.own parts.result.callee c.args.count _ _ c.more-count.result _ parts.ensures.streams parts.ensures.operands parts.ensures.own parts.ensures.callee c.in_ok-count.ensures c.in_ok-count-2.ensures c.more-count.ensures (ap (λ o. counted c.more-count.result (callee_marks call o)) (sym c.in-Some.is)))
-    c.called.ensures
+    c.callee_count.ensures
 
 pub call-returns-in-None : goal.call-returns-in-None
 call-returns-in-None t c =
@@ -167,8 +168,8 @@ call-returns-in-None t c =
     let parts = c.call_parts-parts in
     λ p. call_counted at call p c.args.name.now c.args.arguments.now parts.result.streams.now parts.result.operands.now parts.result.own parts.result.callee c.args.count _ _ c.more-count.result _ parts.ensures.streams parts.ensures.operands parts.ensures.own parts.ensures.callee c.in_ok-count.ensures c.in_ok-count-2.ensures c.more-count.ensures (no_more _ _ _ _ c.more-count.ensures refl (ap (callee_marks call) c.in-None.is))
 
-pub called-returns-in-Some : goal.called-returns-in-Some
-called-returns-in-Some t c =
+pub callee_count-returns-in-Some : goal.callee_count-returns-in-Some
+callee_count-returns-in-Some t c =
     let some = c.if-deep-eq0.false in
     let deeper : suc (c.args.deep - 1) ≡ c.args.deep = omega arith in
     if_equal c.inside.result (counted c.args.count (calls_of c.args.self.now (suc (c.args.deep - 1)) c.args.number)) (counted c.args.count (calls_of c.args.self.now c.args.deep c.args.number))
@@ -186,3 +187,7 @@ inside-returns t c =
     if_equal c.body.result (counted c.in_ok-count.count (body_marks at (calls_of c.args.self.now c.args.deep) e)) (counted c.args.count (calls_of c.args.self.now (suc c.args.deep) c.args.number))
     (inside_counted items kinds c.args.number c.args.parts.now c.args.deep c.args.self.now.names.now c.in_ok-locals.field-0 c.in_ok-parameters.field-0 c.inner-block.result qs c.setting_of.result ds e c.args.count c.in_ok-count.count _ c.requires.definition c.requires.names (ap params_in c.as_slice-params.ensures.value) c.setting_of.ensures c.block_of-definitions.ensures c.result_of.ensures c.in_ok-locals.ensures c.in_ok-parameters.ensures levels c.in_ok-count.ensures refl)
     c.body.ensures
+
+-- ---- the definitions of a block are few, as its body has few
+pub inside-locals-requires : goal.inside-locals-requires
+inside-locals-requires t c = omega (arith, ap counts c.block_of-definitions.ensures, block_counted (code.body_of c.args.parts.now.body), c.requires.definition.few)

@@ -1,8 +1,8 @@
 use Rattle.std.proofs.Common.{◌≡◌, ℕ, ◌+◌, ◌*◌, map, drop}
 use Rattle.std.specs.List.{flat_map, filter}
 use Rattle.tsl_value.specs.declared.place.Place.{Place}
-use Rattle.spec_parser.specs.inner.Shape.{definitions_of, exprs_of, links_in, item_of, size_of, size_of_exprs, size_of_links}
-use Rattle.spec_parser.specs.inner.Shape as code
+use Rattle.syntax_tree.specs.inner.OneLevel.{definitions_of, exprs_of, links_in, item_of, size_of, size_of_exprs, size_of_links}
+use Rattle.syntax_tree.specs.inner.OneLevel as code
 use Rattle.expr_types.specs.inner.Shown.{around_of}
 use Rattle.spec_meaning.specs.Shape.{is_part}
 use Rattle.equation_marks.specs.Marks.{marks, link_marks, block_marks}
@@ -40,8 +40,8 @@ decreases-operands l = calls_weight l.self.now l.deep + 16 * size_of_exprs (expr
 abbrev pub decreases-call : goal.decreases-call
 decreases-call l = calls_weight l.self.now l.deep + 16 * size_of_exprs (exprs_of l.arguments.now) + 3
 
-abbrev pub decreases-called : goal.decreases-called
-decreases-called l = calls_weight l.self.now l.deep + 15
+abbrev pub decreases-callee_count : goal.decreases-callee_count
+decreases-callee_count l = calls_weight l.self.now l.deep + 15
 
 abbrev pub decreases-inside : goal.decreases-inside
 decreases-inside l = calls_weight l.self.now l.deep + 16 * body_weight (code.body_of l.parts.now.body) + 4

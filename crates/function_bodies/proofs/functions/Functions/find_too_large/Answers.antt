@@ -1,5 +1,5 @@
 use Rattle.std.proofs.Common.{◌≡◌, None, map, rules}
-use Rattle.spec_parser.specs.inner.Shape.{item_of}
+use Rattle.syntax_tree.specs.inner.OneLevel.{item_of}
 use Rattle.name_check.specs.Faults.{first}
 use Rattle.function_bodies.specs.Bodies.{too_large_bodies}
 use Rattle.function_bodies.proofs.EndLemmas.{found_turn, none_turn}

@@ -1,5 +1,5 @@
 use Rattle.std.proofs.Common.{map}
-use Rattle.spec_parser.specs.inner.Shape.{item_of}
+use Rattle.syntax_tree.specs.inner.OneLevel.{item_of}
 use Rattle.function_bodies.proofs.MadeLemmas.{none_made}
 use Rattle.function_bodies.proofs.EndLemmas.{one_more_made, all_made}
 use Rattle.function_bodies.proofs.functions.Functions.of.Goals as goal

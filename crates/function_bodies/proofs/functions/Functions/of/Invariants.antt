@@ -1,5 +1,5 @@
 use Rattle.std.proofs.Common.{map, take}
-use Rattle.spec_parser.specs.inner.Shape.{item_of}
+use Rattle.syntax_tree.specs.inner.OneLevel.{item_of}
 use Rattle.function_bodies.specs.inner.Made.{AreMade}
 use Rattle.function_bodies.proofs.functions.Functions.of.Given as goal
 

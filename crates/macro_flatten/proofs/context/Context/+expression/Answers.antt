@@ -4,16 +4,16 @@ use Rattle.std.specs.Prelude.{Ok, Err}
 use Rattle.std.proofs.lemmas.Bool.{eqb-true}
 use Rattle.std.proofs.lemmas.List.{length-map}
 use Rattle.std.proofs.lemmas.Result.{err_from_is_err_and}
-use Rattle.spec_parser.specs.Tree as tree
-use Rattle.spec_parser.specs.Tree.{Expr, place_of}
-use Rattle.spec_parser.specs.inner.Shape as code
-use Rattle.spec_parser.specs.inner.Shape.{definition_of, definitions_of, expr_of, exprs_of, item_of, links_in, size_of, size_of_exprs}
-use Rattle.spec_parser.specs.declared.tree.Node.{Node}
-use Rattle.spec_parser.specs.declared.tree.Node.TheVariants as node
+use Rattle.syntax_tree.specs.Tree as tree
+use Rattle.syntax_tree.specs.Tree.{Expr, place_of}
+use Rattle.syntax_tree.specs.inner.OneLevel as code
+use Rattle.syntax_tree.specs.inner.OneLevel.{definition_of, definitions_of, expr_of, exprs_of, item_of, links_in, size_of, size_of_exprs}
+use Rattle.syntax_tree.specs.declared.tree.Node.{Node}
+use Rattle.syntax_tree.specs.declared.tree.Node.TheVariants as node
 use Rattle.name_check.specs.Builtin.{is_called, is_unit}
 use Rattle.name_check.specs.Scope.{meaning, seen}
 use Rattle.name_check.specs.inner.Steps.{local_body}
-use Rattle.spec_parser.proofs.Sizes.{argument_smaller, link_smaller}
+use Rattle.syntax_tree.proofs.Sizes.{argument_smaller, link_smaller}
 use Rattle.type_rules.specs.declared.rule.Setting.TheVariants as setting
 use Rattle.spec_meaning.specs.Occurrence.{result_of}
 use Rattle.equation_marks.specs.Marks.{macro_marks}
@@ -25,7 +25,7 @@ use Rattle.macro_flatten.specs.inner.Here.{macro_in}
 use Rattle.macro_flatten.proofs.Inside.{block_can, block_stopped, final_answer, final_can, plain_answer, plain_can, streams_there}
 use Rattle.macro_flatten.proofs.Linked as linked
 use Rattle.macro_flatten.proofs.Turns.{AreBegun, all_made, block_done, body_can, body_more, body_refused, one_can, one_more, one_refused, shown_at}
-use Rattle.macro_flatten.proofs.Arguments.{arguments_can, arguments_stopped, callee_room, called, deeper_room, enter_can, never_deepest, no_other}
+use Rattle.macro_flatten.proofs.Arguments.{arguments_can, arguments_stopped, callee_room, macro_called, deeper_room, enter_can, never_deepest, no_other}
 use Rattle.macro_flatten.proofs.Constructs.{own_answers, own_may, parts_can, parts_stopped, smaller_parts}
 use Rattle.macro_flatten.proofs.Expressions.{body_is, body_stopped, call_can, called_is, construct_can, constructed_is, first_can, first_is, name_can, named_is, other_alone, other_call_alone, own_call_alone, unit_alone}
 use Rattle.macro_flatten.proofs.Sizes.{one_within, room, total_size}
@@ -86,7 +86,7 @@ call-inside-requires t c =
 
 pub call-returns : goal.call-returns
 call-returns t c =
-    called c.args.self.now c.args.here.now c.args.number c.args.arguments.now c.args.maker.now c.arguments.new.maker c.in_ok-params.params c.in_ok-params.ensures c.in-Some.parts.now c.in-Some.ensures (c.args.here.now.deep - 1) (deep_more c.args.here.now.deep c.if-here-eq0.false) c.inside.new.maker c.inside.result
+    macro_called c.args.self.now c.args.here.now c.args.number c.args.arguments.now c.args.maker.now c.arguments.new.maker c.in_ok-params.params c.in_ok-params.ensures c.in-Some.parts.now c.in-Some.ensures (c.args.here.now.deep - 1) (deep_more c.args.here.now.deep c.if-here-eq0.false) c.inside.new.maker c.inside.result
     (subst (λ ss. IsInside c.args.self.now c.args.number (definition_of c.in-Some.parts.now) ss (c.args.here.now.deep - 1) c.arguments.new.maker c.inside.new.maker c.inside.result) c.deref.ensures.value c.inside.ensures)
 
 -- ---- constructs
@@ -270,7 +270,7 @@ parts-returns t c =
 pub block-body-requires : goal.block-body-requires
 block-body-requires t c =
     let d = c.definition-item.result in
-    let same : c.result_of.result.now ≡ result_of (local_body c.definition-item.result) = c.result_of.ensures ∙ ap (λ (x : tree.Definition). result_of (local_body x)) c.parts.ensures in
+    let same : c.result_of.result.now ≡ result_of (local_body c.definition-item.result) = c.result_of.ensures ∙ ap (λ (x : tree.Definition). result_of (local_body x)) c.parts.ensures.is in
     let may : CanMake c.args.self.now c.args.here.now c.result_of.result.now =
     subst (CanMake c.args.self.now c.args.here.now) (sym same) (body_can c.args.self.now c.args.here.now c.args.definitions.now c.loop-definition.definition-index d c.loop-definition-test.true c.definition-item.is c.requires) in
     let smaller : size_of c.result_of.result.now ≤ block_weight (definitions_of c.args.definitions.now) =
@@ -279,13 +279,13 @@ block-body-requires t c =
 
 pub block-loop-definition-preserved : goal.block-loop-definition-preserved
 block-loop-definition-preserved t c =
-    let same : c.result_of.result.now ≡ result_of (local_body c.definition-item.result) = c.result_of.ensures ∙ ap (λ (x : tree.Definition). result_of (local_body x)) c.parts.ensures in
+    let same : c.result_of.result.now ≡ result_of (local_body c.definition-item.result) = c.result_of.ensures ∙ ap (λ (x : tree.Definition). result_of (local_body x)) c.parts.ensures.is in
     body_more c.args.self.now c.args.here.now c.args.definitions.now c.loop-definition.definition-index c.definition-item.result c.loop-definition-test.true c.definition-item.is c.args.maker.now c.loop-definition.maker c.body.new.maker c.in_ok-_stream._stream c.loop-definition.invariant
     (subst (λ e. IsBody c.args.self.now c.args.here.now e c.loop-definition.maker c.body.new.maker (Ok c.in_ok-_stream._stream)) same c.in_ok-_stream.ensures)
 
 pub block-returns-in_err-_stream : goal.block-returns-in_err-_stream
 block-returns-in_err-_stream t c =
-    let same : c.result_of.result.now ≡ result_of (local_body c.definition-item.result) = c.result_of.ensures ∙ ap (λ (x : tree.Definition). result_of (local_body x)) c.parts.ensures in
+    let same : c.result_of.result.now ≡ result_of (local_body c.definition-item.result) = c.result_of.ensures ∙ ap (λ (x : tree.Definition). result_of (local_body x)) c.parts.ensures.is in
     let is : c.from_residual.result ≡ Err c.in_err-_stream.field-0.0 = search rules in
     subst (IsBlock c.args.self.now c.args.here.now (definitions_of c.args.definitions.now) c.args.maker.now c.body.new.maker) (sym is)
     (body_refused c.args.self.now c.args.here.now c.args.definitions.now c.loop-definition.definition-index c.definition-item.result c.loop-definition-test.true c.definition-item.is c.args.maker.now c.loop-definition.maker c.body.new.maker c.in_err-_stream.field-0.0 c.loop-definition.invariant

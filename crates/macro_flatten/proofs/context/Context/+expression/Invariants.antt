@@ -1,6 +1,6 @@
 use Rattle.std.proofs.Common.{◌+◌, ◌*◌}
-use Rattle.spec_parser.specs.inner.Shape as code
-use Rattle.spec_parser.specs.inner.Shape.{definitions_of, exprs_of, links_in, size_of, size_of_exprs, size_of_links}
+use Rattle.syntax_tree.specs.inner.OneLevel as code
+use Rattle.syntax_tree.specs.inner.OneLevel.{definitions_of, exprs_of, links_in, size_of, size_of_exprs, size_of_links}
 use Rattle.equation_marks.proofs.Weights.{block_weight, body_weight}
 use Rattle.stream_shapes.specs.inner.Shape.{expressions_in}
 use Rattle.macro_flatten.proofs.Linked.{IsBegun}

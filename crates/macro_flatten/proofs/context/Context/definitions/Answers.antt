@@ -2,11 +2,12 @@ use Rattle.std.proofs.lemmas.Result.{err_from_is_err_and}
 use Rattle.equation_marks.specs.Marks.{stream_marks}
 use Rattle.macro_flatten.specs.inner.Items.{items_in, kinds_in}
 use Rattle.macro_flatten.proofs.Definitions.{none_made, streams_end, streams_refused, streams_turn}
-use Rattle.macro_flatten.proofs.Lists.{after_at, item_there}
+use Rattle.macro_flatten.proofs.Lists.{after_at}
 use Rattle.macro_flatten.proofs.context.Context.definitions.Goals as goal
+use Rattle.function_bodies.proofs.EndLemmas.{item_at}
 
 pub definition-requires-clause-item : goal.definition-requires-clause-item
-definition-requires-clause-item c = item_there c.args.self.now.items.now c.loop-number.number c.index-items-number.result c.loop-number-test.true c.index-items-number.is
+definition-requires-clause-item c = item_at c.args.self.now.items.now c.loop-number.number c.index-items-number.result c.loop-number-test.true c.index-items-number.is
 
 pub loop-number-init : goal.loop-number-init
 loop-number-init c = none_made c.args.self.now c.args.maker.now

@@ -1,5 +1,5 @@
 use Rattle.std.proofs.Common.{map, take}
-use Rattle.spec_parser.specs.inner.Shape.{item_of}
+use Rattle.syntax_tree.specs.inner.OneLevel.{item_of}
 use Rattle.macro_flatten.specs.inner.Items.{AreStreamsMade}
 use Rattle.macro_flatten.proofs.context.Context.definitions.Given as goal
 

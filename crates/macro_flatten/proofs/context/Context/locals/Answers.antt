@@ -1,5 +1,5 @@
 use Rattle.std.proofs.Common.{length, map, sym, ◌∙◌}
-use Rattle.spec_parser.specs.inner.Shape.{item_of}
+use Rattle.syntax_tree.specs.inner.OneLevel.{item_of}
 use Rattle.name_check.specs.inner.Steps.{local_body}
 use Rattle.expr_types.specs.inner.Shown.{around_of, kinds_of}
 use Rattle.spec_meaning.specs.Occurrence.{result_of}

@@ -1,5 +1,5 @@
 use Rattle.std.proofs.Common.{List, ◌++◌, drop, map}
-use Rattle.spec_parser.specs.inner.Shape.{definitions_of, item_of}
+use Rattle.syntax_tree.specs.inner.OneLevel.{definitions_of, item_of}
 use Rattle.expr_types.specs.inner.Shown.{around_of, kinds_of}
 use Rattle.stream_constructs.specs.declared.construct.Stream.{Stream}
 use Rattle.equation_marks.specs.Marks.{macro_marks}

@@ -1,7 +1,7 @@
 use Rattle.std.proofs.Common.{[], ◌∷◌, ◌-◌, ap, length, ◌∙◌}
 use Rattle.std.proofs.lemmas.Result.{err_from_is_err_and}
 use Rattle.flat_core.specs.System.{with_name}
-use Rattle.spec_parser.specs.inner.Shape.{item_of}
+use Rattle.syntax_tree.specs.inner.OneLevel.{item_of}
 use Rattle.equation_marks.specs.Marks.{stream_marks}
 use Rattle.macro_flatten.specs.inner.Items.{items_in, kinds_in}
 use Rattle.macro_flatten.proofs.Definitions.{can_define, definition_made, definition_refused, other_made}

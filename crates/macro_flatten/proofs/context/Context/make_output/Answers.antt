@@ -1,6 +1,6 @@
 use Rattle.std.proofs.Common.{ap}
 use Rattle.std.proofs.lemmas.Result.{on_ok_weaker}
-use Rattle.spec_parser.specs.inner.Shape.{item_of}
+use Rattle.syntax_tree.specs.inner.OneLevel.{item_of}
 use Rattle.macro_flatten.proofs.Outputs.{definition_no_output, input_no_output, named_output_can, named_output_made, output_can, output_made, printed_room}
 use Rattle.macro_flatten.proofs.context.Context.make_output.Goals as goal
 

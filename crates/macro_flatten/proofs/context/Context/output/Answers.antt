@@ -1,7 +1,7 @@
 use Rattle.std.proofs.Common.{[], ◌∷◌, ap, subst, ◌∙◌}
 use Rattle.std.specs.Prelude.{slice_get}
 use Rattle.std.proofs.lemmas.Result.{IfErr-weaker, on_ok_weaker}
-use Rattle.spec_parser.specs.inner.Shape.{item_of}
+use Rattle.syntax_tree.specs.inner.OneLevel.{item_of}
 use Rattle.equation_marks.specs.Marks.{output_marks}
 use Rattle.macro_flatten.specs.inner.Answers.{IsRefusedAfter}
 use Rattle.macro_flatten.specs.inner.Items.{AreOutputsMade, items_in, kinds_in}

@@ -2,12 +2,13 @@ use Rattle.std.proofs.Common.{◌+◌, ◌≤◌, length, arith}
 use Rattle.std.proofs.lemmas.Result.{err_from_is_err_and}
 use Rattle.equation_marks.specs.Marks.{output_marks}
 use Rattle.macro_flatten.specs.inner.Items.{items_in, kinds_in}
-use Rattle.macro_flatten.proofs.Lists.{after_at, item_there}
+use Rattle.macro_flatten.proofs.Lists.{after_at}
 use Rattle.macro_flatten.proofs.Outputs.{none_printed, outputs_end, outputs_refused, outputs_turn, room_turn}
 use Rattle.macro_flatten.proofs.context.Context.outputs.Goals as goal
+use Rattle.function_bodies.proofs.EndLemmas.{item_at}
 
 pub output-requires-clause-item : goal.output-requires-clause-item
-output-requires-clause-item c = item_there c.args.self.now.items.now c.loop-number.number c.index-items-number.result c.loop-number-test.true c.index-items-number.is
+output-requires-clause-item c = item_at c.args.self.now.items.now c.loop-number.number c.index-items-number.result c.loop-number-test.true c.index-items-number.is
 
 pub output-requires-clause-room : goal.output-requires-clause-room
 output-requires-clause-room c =

@@ -6,9 +6,9 @@ use Rattle.std.proofs.lemmas.List.{append-nil}
 use Rattle.tsl_value.specs.declared.place.Place.{Place}
 use Rattle.tsl_value.specs.declared.scalar.Scalar.{Scalar}
 use Rattle.tsl_value.specs.declared.scalar.Scalar.TheVariants as scalar
-use Rattle.spec_parser.specs.Tree as tree
-use Rattle.spec_parser.specs.Tree.{Expr}
-use Rattle.spec_parser.specs.inner.Shape.{exprs_of, size_of_exprs}
+use Rattle.syntax_tree.specs.Tree as tree
+use Rattle.syntax_tree.specs.Tree.{Expr}
+use Rattle.syntax_tree.specs.inner.OneLevel.{exprs_of, size_of_exprs}
 use Rattle.name_check.specs.declared.declaration.Declaration.{Declaration}
 use Rattle.name_check.specs.declared.declaration.Declaration.TheVariants as declaration
 use Rattle.name_check.specs.Builtin.{is_lift}
@@ -20,10 +20,10 @@ use Rattle.spec_meaning.specs.Function.{literal, no_tree}
 use Rattle.spec_meaning.specs.Shape.{is_part, expressions, plain_name, is_delay, is_const, is_filter}
 use Rattle.equation_marks.specs.Marks.{Mark, own_marks, marks, each_marks, joined, all_but_last, operands_marks, signal_marks, varying_count, filter_marks, filter_marks_by, declared_marks, named_marks}
 use Rattle.equation_marks.specs.inner.Counted.{own_count, signal_count}
-use Rattle.equation_marks.specs.inner.Calls.{Parts, of_streams, is_truth, filter_parts, front, declared_parts, named_parts, call_parts, callee_marks}
+use Rattle.equation_marks.specs.inner.Calls.{CallParts, of_streams, is_truth, filter_parts, front, declared_parts, named_parts, call_parts, callee_marks}
 use Rattle.equation_marks.proofs.Counts.{length-signal}
 use Rattle.equation_marks.proofs.OwnMarks.{own_many}
-use Rattle.equation_marks.proofs.Parts.{listed_again, joined_listed, operands_listed}
+use Rattle.equation_marks.proofs.PartMarks.{listed_again, joined_listed, operands_listed}
 
 pub front-append : (es : List Expr) (f : Expr) → front (es ++ f ∷ []) ≡ es
 front-append [] f = refl
@@ -45,11 +45,11 @@ none_size [] = omega arith
 none_size (e ∷ es) = omega arith
 
 -- streams and operands that are no larger than all the arguments
-pub record AreSmall (c : Parts) (es : List Expr) : Type 0 where
+pub record AreSmall (c : CallParts) (es : List Expr) : Type 0 where
   pub streams : size_of_exprs (exprs_of c.streams) ≤ size_of_exprs (exprs_of es)
   pub operands : size_of_exprs (exprs_of c.operands) ≤ size_of_exprs (exprs_of es)
 
-small_if : (b : Bool) (c d : Parts) (es : List Expr) → AreSmall c es → AreSmall d es → AreSmall (if b then c else d) es
+small_if : (b : Bool) (c d : CallParts) (es : List Expr) → AreSmall c es → AreSmall d es → AreSmall (if b then c else d) es
 small_if true c d es first second = first
 small_if false c d es first second = second
 
@@ -84,13 +84,13 @@ small_parts scope n es = small_named scope n es (plain_name n)
 -- ---- as many equations
 module _ (at : Around) (call : ℕ → List Mark) where
   -- the arguments, those that are no literals among the operands, its own, and those of the macro
-  abbrev pub count_of_parts : Parts → ℕ
+  abbrev pub count_of_parts : CallParts → ℕ
   count_of_parts c = length (flat_map (marks at call) c.streams) + length (flat_map (marks at call) (filter is_part c.operands)) + c.own + length (callee_marks call c.callee)
 
-  abbrev Made : List Mark → Parts → Type 0
+  abbrev Made : List Mark → CallParts → Type 0
   Made ms c = length ms ≡ count_of_parts c
 
-  made_if : (b : Bool) (xs ys : List Mark) (c d : Parts) → Made xs c → Made ys d → Made (if b then xs else ys) (if b then c else d)
+  made_if : (b : Bool) (xs ys : List Mark) (c d : CallParts) → Made xs c → Made ys d → Made (if b then xs else ys) (if b then c else d)
   made_if true xs ys c d first second = first
   made_if false xs ys c d first second = second
 

@@ -1,20 +1,20 @@
 -- The flat system of a specification: first its inputs, then the definitions of the top that are streams, then the outputs, each in
 -- the order of the source.
-use Rattle.std.specs.Prelude.{◌≡◌, ℕ, zero, suc, ◌+◌, Bool, true, false, List, [], ◌∷◌, ◌++◌, length, Option, Some, None, slice_get}
+use Rattle.std.specs.Prelude.{◌≡◌, ℕ, suc, ◌+◌, true, false, List, [], ◌∷◌, ◌++◌, length, Option, Some}
 use Rattle.tsl_value.specs.declared.place.Place.{Place}
 use Rattle.tsl_value.specs.declared.scalar.ValueType.{ValueType}
 use Rattle.flat_core.specs.declared.equation.Op.TheVariants as op
 use Rattle.flat_core.specs.declared.equation.Equation.{Equation}
 use Rattle.flat_core.specs.declared.equation.Output.{Output}
-use Rattle.spec_parser.specs.Tree as tree
-use Rattle.spec_parser.specs.Tree.{Expr}
+use Rattle.syntax_tree.specs.Tree as tree
+use Rattle.syntax_tree.specs.Tree.{Expr}
 use Rattle.type_rules.specs.Written.{value_of}
 use Rattle.stream_constructs.specs.declared.construct.Stream.{Stream}
 use Rattle.stream_constructs.specs.Equations.{equation}
 use Rattle.type_rules.specs.declared.rule.ExprType.TheVariants as expr_type
 use Rattle.expr_types.specs.Around.{Kinds}
 use Rattle.spec_meaning.specs.Occurrence.{result_of}
-use Rattle.flatten_rules.specs.Makes.{Standing, Makes, MakesBody, is_name}
+use Rattle.spec_meaning.specs.Makes.{Standing, Makes, MakesBody, is_name}
 
 -- outside of all calls
 abbrev pub outermost : Standing
@@ -74,7 +74,7 @@ module _ (items : List tree.Item) (kinds : Kinds) (top : ℕ → Stream) where
         all ≡ named x first ++ made →
         MakesStreams i (tree.Defined p (tree.Define q x [] w b) ∷ rest) n all
     -- def NAME ( a , .. ) := b makes nothing by itself
-    called :
+    with_parameters :
         {i n : ℕ} {p q : Place} {x : List ℕ} {a : tree.Param} {ps : List tree.Param} {w : Option tree.TypeName} {b : tree.Body}
         {rest : List tree.Item} {made : List Equation} →
         MakesStreams (suc i) rest n made →

@@ -1,7 +1,7 @@
 use Rattle.std.proofs.Common.{◌≡◌, None, rules}
 use Rattle.std.specs.Prelude.{slice_index_or}
 use Rattle.function_bodies.proofs.CallLemmas.{missing}
-use Rattle.function_bodies.proofs.around.called.Goals as goal
+use Rattle.function_bodies.proofs.around.call_body.Goals as goal
 
 pub returns-in-Some-None : goal.returns-in-Some-None
 returns-in-Some-None c =

@@ -4,8 +4,8 @@ use Rattle.std.specs.Prelude.{if◌then◌else◌, Option, Some, None, is_none}
 use Rattle.std.specs.List.{filter, flat_map}
 use Rattle.std.proofs.lemmas.List.{append-nil}
 use Rattle.tsl_value.specs.declared.scalar.Scalar.{Scalar}
-use Rattle.spec_parser.specs.Tree.{Expr, Exprs, no_exprs, more_exprs}
-use Rattle.spec_parser.specs.inner.Shape.{exprs_of}
+use Rattle.syntax_tree.specs.Tree.{Expr, Exprs, no_exprs, more_exprs}
+use Rattle.syntax_tree.specs.inner.OneLevel.{exprs_of}
 use Rattle.expr_types.specs.Around.{Around}
 use Rattle.spec_meaning.specs.Function.{literal}
 use Rattle.spec_meaning.specs.Shape.{is_part, expressions, operand, operands}

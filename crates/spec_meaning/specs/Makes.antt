@@ -1,14 +1,14 @@
 -- The equations that an occurrence makes, and its stream, in the order in which they are made: the parts from left to right, and then
 -- the construct's own. A name makes none, and stands for the stream of its definition.
-use Rattle.std.specs.Prelude.{◌≡◌, ℕ, zero, suc, ◌+◌, Bool, true, false, ◌&&◌, if◌then◌else◌, map, List, [], ◌∷◌, ◌++◌, length, Option}
-use Rattle.std.specs.Prelude.{Some, None, slice_get}
+use Rattle.std.specs.Prelude.{◌≡◌, ℕ, ◌+◌, Bool, true, false, ◌&&◌, if◌then◌else◌, map, List, [], ◌∷◌, ◌++◌, length, Option}
+use Rattle.std.specs.Prelude.{Some, slice_get}
 use Rattle.tsl_value.specs.declared.scalar.ValueType.{ValueType}
 use Rattle.flat_core.specs.declared.equation.Equation.{Equation}
 use Rattle.tsl_value.specs.declared.place.Place.{Place}
 use Rattle.flat_core.specs.Typed.{is_aggregate, unit_type}
-use Rattle.spec_parser.specs.Tree as tree
-use Rattle.spec_parser.specs.Tree.{Expr, Exprs, no_links, place_of}
-use Rattle.spec_parser.specs.declared.tree.Level.{Level}
+use Rattle.syntax_tree.specs.Tree as tree
+use Rattle.syntax_tree.specs.Tree.{Expr, Exprs, no_links, place_of}
+use Rattle.syntax_tree.specs.declared.tree.Level.{Level}
 use Rattle.name_check.specs.declared.declaration.Declaration.{Declaration}
 use Rattle.name_check.specs.declared.declaration.Declaration.TheVariants as declaration
 use Rattle.name_check.specs.Builtin.{is_unit, is_called}
@@ -18,7 +18,7 @@ use Rattle.stream_constructs.specs.Construct.{Construct, Operand}
 use Rattle.stream_constructs.specs.Construct as construct
 use Rattle.stream_constructs.specs.Equations.{own_equations, choice_equations, alias_equation}
 use Rattle.stream_constructs.specs.Agree.{last_number, Fits, FitsChoice}
-use Rattle.spec_meaning.specs.Occurrence.{Call, Occurrence, params_of, body_of, result_of, block_of, scope_at}
+use Rattle.spec_meaning.specs.Occurrence.{Call, Occurrence, body_of, result_of, block_of, scope_at}
 use Rattle.spec_meaning.specs.Shape.{Shape, shape, operands, expressions}
 use Rattle.type_rules.specs.declared.rule.ExprType.TheVariants as expr_type
 use Rattle.type_rules.specs.Written.{value_of}

@@ -1,2 +1,0 @@
-//! The flat system of a specification.
-#![tactic(auto)]
