@@ -1,7 +1,6 @@
 // Which steps have to stand before others.
 
 ghost use Rattle.std.specs.Prelude.{◌≡◌, ◌↔◌, ◌<◌, ◌^◌, length, IfOk, OnOk, IsTrue};
-ghost use Rattle.flat_core.specs.WellFormed.{unguarded_of};
 ghost use Rattle.translation_order.specs.Order.{AreOfSteps};
 ghost use Rattle.alias_rules.specs.Uses.{AreUpdates};
 ghost use Rattle.alias_rules.specs.Conflict.{StandsBefore};
@@ -18,8 +17,7 @@ use crate::bypass::bypassed;
 use crate::conflict::update_at;
 use crate::pairs::push_if;
 use crate::paths::Paths;
-use crate::uses::{Uses, after_the_first};
-use flat_core::equation::{Equation, Op};
+use crate::uses::Uses;
 use flat_core::flat::Flat;
 use flat_core::lists::EqSet;
 use std::alloc::Global;
@@ -27,31 +25,6 @@ use translation_order::steps::Edges;
 use trigger_formulas::triggers::Triggers;
 use tsl_value::ids::EqId;
 use tsl_value::memory::NoMemory;
-
-/// All arguments but the first of a last or of a delay.
-fn unguarded(equation: &Equation) -> &[EqId]
-    ensures { result.now ≡ unguarded_of equation.now.op equation.now.args }
-{
-    let arguments = equation.args.ids();
-    match &equation.op {
-        Op::Last => after_the_first(arguments),
-        Op::Delay => after_the_first(arguments),
-        Op::Input => arguments,
-        Op::Nil => arguments,
-        Op::Unit => arguments,
-        Op::Lift { body: _, strict: _ } => arguments,
-        Op::Any => arguments,
-        Op::Time => arguments,
-        Op::Merge => arguments,
-        Op::Filter => arguments,
-        Op::Pick => arguments,
-        Op::Empty => arguments,
-        Op::MapAdd => arguments,
-        Op::MapRemove => arguments,
-        Op::SetAdd => arguments,
-        Op::SetRemove => arguments,
-    }
-}
 
 /// Appends a pair of each of these arguments and the equation that has them, if it runs.
 fn push_arguments(
@@ -74,7 +47,7 @@ fn push_needed(pairs: &mut Edges, flat: &Flat) -> Result<(), NoMemory>
 {
     for number in 0..flat.count() {
         let id = EqId::new(number);
-        push_arguments(pairs, unguarded(flat.equation(id)), number, flat.runs(id))?;
+        push_arguments(pairs, flat.equation(id).unguarded(), number, flat.runs(id))?;
     }
     Ok(())
 }

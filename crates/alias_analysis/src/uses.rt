@@ -1,6 +1,6 @@
 // Which equations take the content of aggregates.
 
-ghost use Rattle.std.specs.Prelude.{◌≡◌, ◌↔◌, ◌<◌, length, drop, IfOk, OnOk, IsTrue};
+ghost use Rattle.std.specs.Prelude.{◌≡◌, ◌↔◌, ◌<◌, length, IfOk, OnOk, IsTrue};
 ghost use Rattle.flat_core.specs.Typed.{is_aggregate};
 ghost use Rattle.alias_rules.specs.Uses.{IsVariable, first_of, read_of, passed_of, last_of, written_of};
 ghost use Rattle.alias_analysis.specs.inner.Pairs.{Adds};
@@ -59,16 +59,6 @@ fn first_of(arguments: &[EqId]) -> &[EqId]
     }
 }
 
-/// The arguments after the first.
-pub fn after_the_first(arguments: &[EqId]) -> &[EqId]
-    ensures { result.now ≡ drop 1 arguments.now }
-{
-    match arguments.split_first() {
-        Some((_, rest)) => rest,
-        None => arguments,
-    }
-}
-
 /// Which arguments of an equation are taken in which way.
 fn taken_of(equation: &Equation) -> Taken<'_>
     ensures read { result.read.now ≡ read_of equation.now.op equation.now.args }
@@ -83,7 +73,7 @@ fn taken_of(equation: &Equation) -> Taken<'_>
         Op::Lift { body: _, strict: _ } => (all, none, none, none),
         Op::Merge => (none, all, none, none),
         Op::Filter => (none, first, none, none),
-        Op::Pick => (none, after_the_first(all), none, none),
+        Op::Pick => (none, equation.other_args(), none, none),
         Op::Last => (none, none, first, none),
         Op::MapAdd => (none, none, none, first),
         Op::MapRemove => (none, none, none, first),

@@ -10,7 +10,8 @@ use Rattle.flat_core.specs.Members.{is_in}
 use Rattle.flat_core.specs.System.{System}
 use Rattle.alias_rules.specs.Bypass.{GoesAround, Bypasses}
 use Rattle.alias_rules.specs.Roots.{begins_content, IsOrigin}
-use Rattle.alias_rules.specs.Uses.{is_update, first_of, written_of, IsWritten}
+use Rattle.flat_core.specs.Updates.{is_update}
+use Rattle.alias_rules.specs.Uses.{first_of, written_of, IsWritten}
 
 where_some : (b : Bool) (xs : List ℕ) (x : ℕ) → Contains (if b then xs else []) x → b ≡ true
 where_some true xs x c = refl

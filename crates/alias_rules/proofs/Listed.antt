@@ -1,5 +1,5 @@
 -- The listed set: there is one at most, and it is fine where the empty set is.
-use Rattle.std.proofs.Common.{◌≡◌, ◌==◌, ℕ, zero, suc, ◌<◌, Bool, true, false, cond, nat_lt, List, [], ◌∷◌, ◌++◌, refl, sym, ap, subst, ◌∙◌, arith}
+use Rattle.std.proofs.Common.{◌≡◌, ◌==◌, ℕ, zero, suc, ◌<◌, Bool, true, cond, nat_lt, List, [], ◌∷◌, ◌++◌, sym, ap, subst, ◌∙◌, arith}
 use Rattle.std.specs.Prelude.{IsTrue}
 use Rattle.std.specs.List.{filter}
 use Rattle.std.proofs.lemmas.Bool.{and_parts, and_from, le-ltb, lt-ltb, ltb-true, or_right}
@@ -9,6 +9,7 @@ use Rattle.flat_core.specs.System.{System}
 use Rattle.alias_rules.specs.Fine.{IsFine, with_tried, IsListed}
 use Rattle.alias_rules.specs.inner.Laws.{IsFit}
 use Rattle.flat_core.proofs.Rising.{Rises, rest_rises, above, head_in, same_rising, in_filter}
+use Rattle.flat_core.proofs.Members.{same_truth}
 
 abbrev pub below : ℕ → ℕ → Bool
 below y x = nat_lt x y
@@ -29,11 +30,6 @@ also_listed : (s : System) (set other : List ℕ) → IsListed s set → IsListe
 also_listed s set other a b y same h =
     let found = (a.each y).0 h in
     (b.each y).1 (found.0, subst (λ front. IsFine s (front ++ y ∷ [])) same found.1)
-
-same_truth : (a b : Bool) → (a ≡ true → b ≡ true) → (b ≡ true → a ≡ true) → a ≡ b
-same_truth true b to from = sym (to refl)
-same_truth false true to from = from refl
-same_truth false false to from = refl
 
 module _ (s : System) (set other : List ℕ) (a : IsListed s set) (b : IsListed s other) where
   rises : Rises set

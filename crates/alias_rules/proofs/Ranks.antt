@@ -1,7 +1,7 @@
 -- The place in an order of the steps is a rank of the running equations.
 use Rattle.std.proofs.Common.{◌≡◌, ◌==◌, ℕ, zero, suc, ◌<◌, ◌≤◌, Bool, true, false, ◌||◌, List, [], ◌∷◌, length, get_or, take, Some, refl, sym, ap, subst, ◌∙◌, inl, inr, arith}
 use Rattle.std.proofs.lemmas.Bool.{cases_Bool, cases_lt, eq-eqb, eqb-true, or_left, or_right, true≢false, false≢true}
-use Rattle.std.proofs.lemmas.Option.{get_or_from_slice_get, slice_get-get_or, slice_get_within}
+use Rattle.std.proofs.lemmas.Option.{get_or_from_slice_get, slice_get-get_or, slice_get_within, same_Some}
 use Rattle.std.specs.Prelude.{if◌then◌else◌, slice_get, slice_index_or, eqb}
 use Rattle.std.specs.List.{IsDistinct}
 use Rattle.flat_core.specs.Members.{is_in}
@@ -10,13 +10,10 @@ use Rattle.flat_core.specs.WellFormed.{IsRanked, unguarded_of}
 use Rattle.flat_core.proofs.Members.{all_at, all_from}
 use Rattle.alias_rules.specs.Steps.{argument, IsOrderBy, MustPrecede}
 
-some_same : (a b : ℕ) → Some a ≡ Some b → a ≡ b
-some_same a b is = cc
-
 pub in_take : (xs : List ℕ) (k m x : ℕ) → m < k → slice_get xs m ≡ Some x → is_in (take k xs) x ≡ true
 in_take [] k m x lt is = let within = slice_get_within [] m x is in absurd (omega arith)
 in_take (y ∷ xs) zero m x lt is = absurd (omega arith)
-in_take (y ∷ xs) (suc k) zero x lt is = or_left (y == x) (is_in (take k xs) x) (eq-eqb y x (some_same y x is))
+in_take (y ∷ xs) (suc k) zero x lt is = or_left (y == x) (is_in (take k xs) x) (eq-eqb y x (same_Some y x is))
 in_take (y ∷ xs) (suc k) (suc m) x lt is = or_right (y == x) (is_in (take k xs) x) (in_take xs k m x (omega arith) is)
 
 both_false : (a b : Bool) → a ≡ false → b ≡ false → (a || b) ≡ false
@@ -59,7 +56,7 @@ place_le (x ∷ xs) m i is = elim (cases_Bool (x == i)) [
 ]
   where
     later : ((k : ℕ) → slice_get xs k ≡ Some i → place xs i ≤ k) → (k : ℕ) → slice_get (x ∷ xs) k ≡ Some i → (x == i) ≡ false → (if x == i then 0 else suc (place xs i)) ≤ k
-    later rest zero at other = absurd (true≢false (sym (eq-eqb x i (some_same x i at)) ∙ other))
+    later rest zero at other = absurd (true≢false (sym (eq-eqb x i (same_Some x i at)) ∙ other))
     later rest (suc k) at other = let deeper = rest k at in let is_next : (if x == i then 0 else suc (place xs i)) ≡ suc (place xs i) = λ j. if other j then 0 else suc (place xs i) in omega arith
 
 place_there : (xs : List ℕ) (m i : ℕ) → slice_get xs m ≡ Some i → slice_get xs (place xs i) ≡ Some i
@@ -71,7 +68,7 @@ place_there (x ∷ xs) m i is = elim (cases_Bool (x == i)) [
 ]
   where
     later : ((k : ℕ) → slice_get xs k ≡ Some i → slice_get xs (place xs i) ≡ Some i) → (k : ℕ) → slice_get (x ∷ xs) k ≡ Some i → (x == i) ≡ false → slice_get xs (place xs i) ≡ Some i
-    later rest zero at other = absurd (true≢false (sym (eq-eqb x i (some_same x i at)) ∙ other))
+    later rest zero at other = absurd (true≢false (sym (eq-eqb x i (same_Some x i at)) ∙ other))
     later rest (suc k) at other = rest k at
 
 -- each order that agrees with what must precede ranks the running equations, whatever else it agrees with

@@ -7,7 +7,8 @@ use Rattle.flat_core.specs.declared.equation.Op.TheVariants as op
 use Rattle.translation_order.specs.Graph.{Walk}
 use Rattle.flat_core.specs.Members.{is_in}
 use Rattle.flat_core.specs.System.{System, equation}
-use Rattle.alias_rules.specs.Uses.{is_update, IsVariable, IsPassed, IsLast, IsWritten}
+use Rattle.flat_core.specs.Updates.{is_update}
+use Rattle.alias_rules.specs.Uses.{IsVariable, IsPassed, IsLast, IsWritten}
 
 -- where content begins at a time, by the operation and whether the equation is in the set
 abbrev pub begins_content : Op → Bool → Bool

@@ -1,6 +1,6 @@
 -- Which equations take the content of an aggregate, and how. An argument of another kind, or at another place, only says whether there
 -- is an event.
-use Rattle.std.specs.Prelude.{◌≡◌, ℕ, Bool, true, false, if◌then◌else◌, List, [], ◌∷◌, drop, Some, IsTrue, slice_get}
+use Rattle.std.specs.Prelude.{◌≡◌, ℕ, if◌then◌else◌, List, [], ◌∷◌, drop, Some, IsTrue, slice_get}
 use Rattle.std.specs.List.{Contains}
 use Rattle.flat_core.specs.declared.equation.Equation.{Equation}
 use Rattle.flat_core.specs.declared.equation.Output.{Output}
@@ -9,13 +9,7 @@ use Rattle.flat_core.specs.declared.equation.Op.TheVariants as op
 use Rattle.flat_core.specs.Members.{is_in}
 use Rattle.flat_core.specs.System.{System, runs, equation}
 use Rattle.flat_core.specs.Typed.{is_aggregate}
-
-abbrev pub is_update : Op → Bool
-is_update op.SetAdd = true
-is_update op.SetRemove = true
-is_update op.MapAdd = true
-is_update op.MapRemove = true
-is_update _ = false
+use Rattle.flat_core.specs.Updates.{is_update}
 
 abbrev pub first_of : List ℕ → List ℕ
 first_of [] = []

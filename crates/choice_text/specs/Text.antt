@@ -1,48 +1,25 @@
 -- What is told of the updates of a system.
-use Rattle.std.specs.Prelude.{ℕ, ◌-◌, ◌==◌, Bool, false, ◌&&◌, if◌then◌else◌, nat_lt, List, [], ◌∷◌, ◌++◌, Option, Some, None, codes, find}
+use Rattle.std.specs.Prelude.{ℕ, ◌-◌, ◌==◌, if◌then◌else◌, nat_lt, List, [], ◌∷◌, ◌++◌, Option, Some, None, codes, find}
 use Rattle.std.specs.Prelude.{length, slice_get}
-use Rattle.std.specs.List.{filter, flat_map}
+use Rattle.std.specs.List.{flat_map}
 use Rattle.event_writer.specs.Text.{place_text}
 use Rattle.flat_core.specs.declared.equation.Equation.{Equation}
 use Rattle.flat_core.specs.declared.equation.Output.{Output}
-use Rattle.flat_core.specs.System.{System, equation, runs}
-use Rattle.program_text.specs.Text.{number_text, numbers}
-use Rattle.alias_rules.specs.Uses.{is_update}
+use Rattle.flat_core.specs.System.{System, equation}
+use Rattle.program_text.specs.Text.{label_text, name_or_number}
+use Rattle.flat_core.specs.Updates.{running_updates}
 use Rattle.alias_analysis.specs.declared.reason.Reason.{Reason}
 use Rattle.alias_analysis.specs.declared.reason.Reason.TheVariants as reason
 
--- the updates that run, by number
-abbrev pub is_update_at : Option Equation → Bool
-is_update_at None = false
-is_update_at (Some e) = is_update e.op
-
-abbrev pub is_running_update : System → ℕ → Bool
-is_running_update s i = runs s i && is_update_at (equation s i)
-
-abbrev pub running_updates : System → List ℕ
-running_updates s = filter (is_running_update s) (numbers s)
-
--- what an equation is called: its name, or its number where it has none
-abbrev pub called_text : ℕ → Option (List ℕ) → List ℕ
-called_text i None = number_text i
-called_text i (Some name) = name
-
-abbrev pub label_at : ℕ → Option Equation → List ℕ
-label_at i None = number_text i
-label_at i (Some e) = called_text i e.name
-
-abbrev pub label_text : System → ℕ → List ℕ
-label_text s i = label_at i (equation s i)
-
 -- what the print of an output is called
-abbrev pub print_label : Option Output → List ℕ
-print_label None = []
-print_label (Some o) = codes "out " ++ o.name
+abbrev pub print_text : Option Output → List ℕ
+print_text None = []
+print_text (Some o) = codes "out " ++ o.name
 
 -- what a step is called: an equation, or the print of an output
 abbrev pub step_label : System → ℕ → List ℕ
 step_label s x =
-    if nat_lt x (length s.equations) then label_text s x else print_label (slice_get s.outputs (x - length s.equations))
+    if nat_lt x (length s.equations) then label_text s x else print_text (slice_get s.outputs (x - length s.equations))
 
 -- the steps of a cycle, of which the first stands again at the end
 abbrev pub cycle_text : System → List ℕ → List ℕ
@@ -67,7 +44,7 @@ how_text s (Some r) = codes "copied: " ++ reason_text s r.1
 -- what an update is called, and where it stands
 abbrev pub update_at : ℕ → Option Equation → List ℕ
 update_at u None = []
-update_at u (Some e) = called_text u e.name ++ (codes " " ++ place_text e.place)
+update_at u (Some e) = name_or_number u e.name ++ (codes " " ++ place_text e.place)
 
 -- the line of an update
 abbrev pub update_line : System → List (ℕ × Reason) → ℕ → List ℕ

@@ -1,69 +1,26 @@
 // The lines of the updates.
 
-ghost use Rattle.std.specs.Prelude.{◌≡◌, ◌<◌, ◌∷◌, [], ◌++◌, codes, if◌then◌else◌, length, option_map, take, OnOk, OnErr};
+ghost use Rattle.std.specs.Prelude.{◌≡◌, ◌<◌, [], ◌++◌, codes, if◌then◌else◌, length, option_map, take, OnOk, OnErr};
 ghost use Rattle.std.specs.List.{flat_map};
 ghost use Rattle.flat_core.specs.System.{equation};
-ghost use Rattle.alias_rules.specs.Uses.{is_update};
-ghost use Rattle.choice_text.specs.Text.{called_text, cycle_text, how_text, is_running_update, label_text, print_label, reason_of};
-ghost use Rattle.choice_text.specs.Text.{reason_text, running_updates, show_text, step_label, update_at, update_line};
+ghost use Rattle.flat_core.specs.Updates.{is_running_update};
+ghost use Rattle.program_text.specs.Text.{label_text};
+ghost use Rattle.choice_text.specs.Text.{cycle_text, how_text, print_text, reason_of};
+ghost use Rattle.choice_text.specs.Text.{reason_text, show_text, step_label, update_at, update_line};
 
 use alias_analysis::reason::Reason;
 use event_writer::place::print_place;
-use flat_core::equation::{Equation, Op, Output};
+use flat_core::equation::{Equation, Output};
 use flat_core::flat::Flat;
-use program_text::print::print_id;
+use program_text::print::{print_label, print_name_or_id};
 use tsl_value::bytes::Bytes;
 use tsl_value::ids::EqId;
 use tsl_value::memory::NoMemory;
 use tsl_value::text::Text;
 
-/// Whether an operation changes an aggregate.
-fn is_update(op: &Op) -> bool
-    ensures { result ≡ is_update op.now }
-{
-    match op {
-        Op::SetAdd => true,
-        Op::SetRemove => true,
-        Op::MapAdd => true,
-        Op::MapRemove => true,
-        _ => false,
-    }
-}
-
-/// Whether an equation is an update that runs.
-fn is_running_update(flat: &Flat, id: EqId) -> bool
-    requires { id < length flat.now.equations }
-    ensures { result ≡ is_running_update flat.now id }
-{
-    flat.runs(id) && is_update(&flat.equation(id).op)
-}
-
-/// Appends a name, or the number of its equation where there is none.
-fn put_called(id: EqId, name: &Option<Text>, out: &mut Bytes) -> Result<(), NoMemory>
-    ensures ok { OnOk result (out.new ≡ out.old ++ called_text id name.now) }
-    ensures err { OnErr result (take (length out.old) out.new ≡ out.old) }
-{
-    match name {
-        Some(name) => out.append(name.as_str().as_bytes()),
-        None => print_id(id, out),
-    }
-}
-
-/// Appends what an equation is called.
-fn put_label(flat: &Flat, id: EqId, out: &mut Bytes) -> Result<(), NoMemory>
-    ensures ok { OnOk result (out.new ≡ out.old ++ label_text flat.now id) }
-    ensures err { OnErr result (take (length out.old) out.new ≡ out.old) }
-{
-    if id.get() < flat.count() {
-        put_called(id, &flat.equation(id).name, out)
-    } else {
-        print_id(id, out)
-    }
-}
-
 /// Appends what the print of an output is called.
 fn put_print(output: Option<&Output>, out: &mut Bytes) -> Result<(), NoMemory>
-    ensures ok { OnOk result (out.new ≡ out.old ++ print_label (option_map (λ o. o.now) output.entry)) }
+    ensures ok { OnOk result (out.new ≡ out.old ++ print_text (option_map (λ o. o.now) output.entry)) }
     ensures err { OnErr result (take (length out.old) out.new ≡ out.old) }
 {
     match output {
@@ -82,7 +39,7 @@ fn put_step(flat: &Flat, step: u32, out: &mut Bytes) -> Result<(), NoMemory>
 {
     let count = flat.count();
     if step < count {
-        return put_label(flat, EqId::new(step), out);
+        return print_label(flat, EqId::new(step), out);
     }
     put_print(flat.outputs().get((step - count) as usize), out)
 }
@@ -122,9 +79,9 @@ fn put_pair(
     ensures ok { OnOk result (out.new ≡ out.old ++ (label_text flat.now first ++ (text.now ++ label_text flat.now second))) }
     ensures err { OnErr result (take (length out.old) out.new ≡ out.old) }
 {
-    put_label(flat, first, out)?;
+    print_label(flat, first, out)?;
     out.append(text)?;
-    put_label(flat, second, out)
+    print_label(flat, second, out)
 }
 
 /// Appends why an update copies.
@@ -179,7 +136,7 @@ fn put_head(id: EqId, equation: &Equation, out: &mut Bytes) -> Result<(), NoMemo
     ensures ok { OnOk result (out.new ≡ out.old ++ update_at id (Some equation.now)) }
     ensures err { OnErr result (take (length out.old) out.new ≡ out.old) }
 {
-    put_called(id, &equation.name, out)?;
+    print_name_or_id(id, &equation.name, out)?;
     out.push(b' ')?;
     print_place(equation.place, out)
 }
@@ -211,7 +168,7 @@ fn put_if_update(
     ensures ok { OnOk result (out.new ≡ out.old ++ (if is_running_update flat.now id then update_line flat.now reasons.now id else [])) }
     ensures err { OnErr result (take (length out.old) out.new ≡ out.old) }
 {
-    if is_running_update(flat, id) {
+    if flat.is_running_update(id) {
         put_line(flat, reasons, id, out)
     } else {
         Ok(())

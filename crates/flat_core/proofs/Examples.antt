@@ -8,7 +8,7 @@ use Rattle.tsl_value.specs.declared.scalar.ScalarType.TheVariants as scalar_type
 use Rattle.tsl_value.specs.declared.scalar.KeyType.TheVariants as key_type
 use Rattle.tsl_value.specs.declared.scalar.ValueType.{ValueType}
 use Rattle.tsl_value.specs.declared.scalar.ValueType.TheVariants as value_type
-use Rattle.lift_func.specs.Tree.{Literal, Argument, One, Two}
+use Rattle.lift_func.specs.BodyTree.{Literal, Argument, One, Two}
 use Rattle.lift_func.specs.declared.body.Unary.TheVariants as unary
 use Rattle.lift_func.specs.declared.body.Binary.TheVariants as binary
 use Rattle.lift_func.specs.declared.fault.FaultKind.{FaultKind}

@@ -9,6 +9,7 @@ pub mod Depth
 pub mod Members
 pub mod Rising
 pub mod Shapes
+pub mod Answered
 pub mod MarkLemmas
 pub mod Spreads
 pub mod Finished
@@ -28,4 +29,3 @@ pub mod SameMeaning
 pub mod TypedCase
 pub mod TypedEvents
 mod Examples
-pub mod BuildExample

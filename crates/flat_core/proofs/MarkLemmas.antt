@@ -15,7 +15,8 @@ use Rattle.translation_order.specs.Graph.{Walk}
 use Rattle.flat_core.specs.Members.{is_in}
 use Rattle.flat_core.specs.Needed.{HasArgument, IsReached, IsReachedFrom}
 use Rattle.flat_core.specs.inner.Marks.{has_mark, is_marked, is_waiting, AreBelow, ArgumentsThere, Marked, Spread}
-use Rattle.flat_core.proofs.Members.{Contains-in, in-Contains, contains_map, map_contains}
+use Rattle.tsl_value.proofs.Lists.{contains_map, map_contains}
+use Rattle.flat_core.proofs.Members.{Contains-in, in-Contains}
 use Rattle.translation_order.proofs.PathLemmas.{walk_keeps}
 
 or_turn : (x y m : Bool) → (y || (x || m)) ≡ ((x || y) || m)

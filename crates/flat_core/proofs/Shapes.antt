@@ -11,7 +11,7 @@ use Rattle.flat_core.specs.Complete.{IsFlat}
 use Rattle.flat_core.specs.System.{System, runs, equation, IsProper}
 use Rattle.flat_core.specs.Typed.{IsTyped, input, nil, unit, empty, time, any, last, delay, merge, filter, pick, set_add, set_remove, map_add, map_remove, lift}
 use Rattle.flat_core.specs.TypedSystem.{AreOfTypes}
-use Rattle.flat_core.specs.inner.Shape.{HasShape}
+use Rattle.flat_core.specs.inner.Arity.{HasArity}
 use Rattle.flat_core.proofs.Finished.{typed_there}
 
 -- an equation stands at its number alone
@@ -55,28 +55,28 @@ module _ (equations : List Equation) (P : List ℕ → Type 0) where
   three_of t u v (a ∷ b ∷ c ∷ []) of p = p a b c
   three_of t u v (a ∷ b ∷ c ∷ d ∷ args) of p = absurd of.1.1.1
 
-typed_shape : (equations : List Equation) (o : Op) (args : List ℕ) (ts : List ValueType) (t : ValueType) → IsTyped o ts t → AreOfTypes equations args ts → HasShape o args
-typed_shape equations op.Input args ts t input of = none_of equations (HasShape op.Input) args of tt
-typed_shape equations op.Nil args ts t nil of = none_of equations (HasShape op.Nil) args of tt
-typed_shape equations op.Unit args ts t unit of = none_of equations (HasShape op.Unit) args of tt
-typed_shape equations op.Empty args ts t (empty is) of = none_of equations (HasShape op.Empty) args of tt
-typed_shape equations op.Time args ts t time of = one_of equations (HasShape op.Time) _ args of (λ a. tt)
+typed_shape : (equations : List Equation) (o : Op) (args : List ℕ) (ts : List ValueType) (t : ValueType) → IsTyped o ts t → AreOfTypes equations args ts → HasArity o args
+typed_shape equations op.Input args ts t input of = none_of equations (HasArity op.Input) args of tt
+typed_shape equations op.Nil args ts t nil of = none_of equations (HasArity op.Nil) args of tt
+typed_shape equations op.Unit args ts t unit of = none_of equations (HasArity op.Unit) args of tt
+typed_shape equations op.Empty args ts t (empty is) of = none_of equations (HasArity op.Empty) args of tt
+typed_shape equations op.Time args ts t time of = one_of equations (HasArity op.Time) _ args of (λ a. tt)
 typed_shape equations op.Any args ts t (any low high) of = tt
-typed_shape equations op.Last args ts t last of = two_of equations (HasShape op.Last) _ _ args of (λ a b. tt)
-typed_shape equations op.Delay args ts t delay of = two_of equations (HasShape op.Delay) _ _ args of (λ a b. tt)
-typed_shape equations op.Merge args ts t merge of = two_of equations (HasShape op.Merge) _ _ args of (λ a b. tt)
-typed_shape equations op.Filter args ts t filter of = two_of equations (HasShape op.Filter) _ _ args of (λ a b. tt)
-typed_shape equations op.Pick args ts t (pick is) of = three_of equations (HasShape op.Pick) _ _ _ args of (λ a b c. tt)
-typed_shape equations op.SetAdd args ts t (set_add is) of = two_of equations (HasShape op.SetAdd) _ _ args of (λ a b. tt)
-typed_shape equations op.SetRemove args ts t (set_remove is) of = two_of equations (HasShape op.SetRemove) _ _ args of (λ a b. tt)
-typed_shape equations op.MapAdd args ts t (map_add is) of = three_of equations (HasShape op.MapAdd) _ _ _ args of (λ a b c. tt)
-typed_shape equations op.MapRemove args ts t (map_remove is) of = two_of equations (HasShape op.MapRemove) _ _ args of (λ a b. tt)
+typed_shape equations op.Last args ts t last of = two_of equations (HasArity op.Last) _ _ args of (λ a b. tt)
+typed_shape equations op.Delay args ts t delay of = two_of equations (HasArity op.Delay) _ _ args of (λ a b. tt)
+typed_shape equations op.Merge args ts t merge of = two_of equations (HasArity op.Merge) _ _ args of (λ a b. tt)
+typed_shape equations op.Filter args ts t filter of = two_of equations (HasArity op.Filter) _ _ args of (λ a b. tt)
+typed_shape equations op.Pick args ts t (pick is) of = three_of equations (HasArity op.Pick) _ _ _ args of (λ a b c. tt)
+typed_shape equations op.SetAdd args ts t (set_add is) of = two_of equations (HasArity op.SetAdd) _ _ args of (λ a b. tt)
+typed_shape equations op.SetRemove args ts t (set_remove is) of = two_of equations (HasArity op.SetRemove) _ _ args of (λ a b. tt)
+typed_shape equations op.MapAdd args ts t (map_add is) of = three_of equations (HasArity op.MapAdd) _ _ _ args of (λ a b c. tt)
+typed_shape equations op.MapRemove args ts t (map_remove is) of = two_of equations (HasArity op.MapRemove) _ _ args of (λ a b. tt)
 typed_shape equations (op.Lift body strict) [] [] t (lift low high kind) of = absurd (omega arith)
 typed_shape equations (op.Lift body strict) [] (x ∷ ts) t (lift low high kind) of = absurd of
 typed_shape equations (op.Lift body strict) (a ∷ args) ts t (lift low high kind) of = tt
 
 -- an equation has as many arguments as its operation
-pub shape_of : (s : System) → IsFlat s → (i : ℕ) (e : Equation) → equation s i ≡ Some e → HasShape e.op e.args
+pub shape_of : (s : System) → IsFlat s → (i : ℕ) (e : Equation) → equation s i ≡ Some e → HasArity e.op e.args
 shape_of s flat i e is =
     let typed = flat.complete.typed.each i e is in
     typed_shape s.equations e.op e.args typed.types e.of typed.typed typed.arguments

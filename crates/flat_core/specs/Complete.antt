@@ -5,7 +5,7 @@ use Rattle.std.specs.List.Sorted.{IsStrictlyIncreasing}
 use Rattle.tsl_value.specs.declared.scalar.Scalar.{Scalar}
 use Rattle.tsl_value.specs.declared.scalar.Scalar.TheVariants as scalar
 use Rattle.tsl_value.specs.declared.limits.TheConstants.{MOST_TEXT_BYTES}
-use Rattle.lift_func.specs.Tree.{Tree, Literal, Argument, Absent, One, Two, Choice}
+use Rattle.lift_func.specs.BodyTree.{BodyTree, Literal, Argument, Absent, One, Two, Choice}
 use Rattle.flat_core.specs.declared.equation.Op.{Op}
 use Rattle.flat_core.specs.declared.equation.Op.TheVariants as op
 use Rattle.flat_core.specs.declared.equation.Output.{Output}
@@ -19,7 +19,7 @@ IsShort (scalar.Text bytes) = length bytes ≤ MOST_TEXT_BYTES
 IsShort _ = Unit {0}
 
 -- each text of a body has
-abbrev pub HasShortTexts : Tree → Type 0
+abbrev pub HasShortTexts : BodyTree → Type 0
 HasShortTexts (Literal s) = IsShort s
 HasShortTexts (Argument n) = Unit {0}
 HasShortTexts (Absent t) = Unit {0}

@@ -1,5 +1,6 @@
 pub mod Members
 pub mod System
+pub mod Updates
 pub mod Stream
 pub mod Case
 pub mod Line

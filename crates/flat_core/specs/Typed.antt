@@ -5,8 +5,8 @@ use Rattle.tsl_value.specs.declared.scalar.ScalarType.TheVariants as scalar_type
 use Rattle.tsl_value.specs.declared.scalar.KeyType.{KeyType}
 use Rattle.tsl_value.specs.declared.scalar.ValueType.{ValueType}
 use Rattle.tsl_value.specs.declared.scalar.ValueType.TheVariants as value_type
-use Rattle.lift_func.specs.Tree.{Tree}
-use Rattle.lift_func.specs.Typing.{Kind, Value, Optional, HasKind, scalar_of}
+use Rattle.lift_func.specs.BodyTree.{BodyTree}
+use Rattle.lift_func.specs.Typing.{ValueKind, Value, Optional, HasKind, scalar_of}
 use Rattle.flat_core.specs.declared.equation.Op.{Op}
 use Rattle.flat_core.specs.declared.equation.Op.TheVariants as op
 
@@ -23,7 +23,7 @@ int_type = value_type.Scalar scalar_type.Int
 abbrev pub bool_type : ValueType
 bool_type = value_type.Scalar scalar_type.Bool
 
-abbrev pub kind_of : Bool → ValueType → Kind
+abbrev pub kind_of : Bool → ValueType → ValueKind
 kind_of true of = Value of
 kind_of false of = Optional of
 
@@ -62,7 +62,7 @@ pub data IsTyped : Op → List ValueType → ValueType → Type 0 where
       IsTyped op.MapRemove (value_type.Map k x ∷ value_type.Scalar t ∷ []) (value_type.Map k x)
   -- Lift BODY a ..
   lift :
-      {body : Tree} {strict : Bool} {ts : List ValueType} {t : ScalarType} →
+      {body : BodyTree} {strict : Bool} {ts : List ValueType} {t : ScalarType} →
       1 ≤ length ts →
       length ts ≤ 8 →
       HasKind (map (kind_of strict) ts) body (kind_of strict (value_type.Scalar t)) →

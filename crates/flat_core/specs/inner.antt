@@ -5,4 +5,5 @@ pub mod Marks
 pub mod BoundLaws
 pub mod TypedLines
 pub mod TypedEvents
-pub mod Shape
+pub mod Arity
+pub mod OpGroups

@@ -1,6 +1,8 @@
 // Equations and outputs.
 
-ghost use Rattle.std.specs.Prelude.{◌≡◌, IfOk};
+ghost use Rattle.std.specs.Prelude.{◌≡◌, drop, IfOk};
+ghost use Rattle.flat_core.specs.Updates.{is_update};
+ghost use Rattle.flat_core.specs.WellFormed.{unguarded_of};
 
 use crate::lists::Args;
 use lift_func::body::Body;
@@ -51,6 +53,16 @@ pub struct Output {
 }
 
 impl Op {
+    /// Whether it changes a set or a map.
+    pub fn is_update(&self) -> bool
+        ensures { result ≡ is_update self.now }
+    {
+        matches!(
+            self,
+            Op::SetAdd | Op::SetRemove | Op::MapAdd | Op::MapRemove
+        )
+    }
+
     fn copy(&self) -> Result<Op, NoMemory>
         ensures { IfOk result (λ o. o ≡ self.now) }
     {
@@ -88,6 +100,27 @@ fn copied_name(name: &Option<Text>) -> Result<Option<Text>, NoMemory>
 }
 
 impl Equation {
+    /// The arguments after the first.
+    pub fn other_args(&self) -> &[EqId]
+        ensures { result.now ≡ drop 1 self.now.args }
+    {
+        let arguments = self.args.ids();
+        match arguments.split_first() {
+            Some((_, rest)) => rest,
+            None => arguments,
+        }
+    }
+
+    /// The arguments that an event may need at its own time: all, but of a last and of a delay all but the first.
+    pub fn unguarded(&self) -> &[EqId]
+        ensures { result.now ≡ unguarded_of self.now.op self.now.args }
+    {
+        match &self.op {
+            Op::Last | Op::Delay => self.other_args(),
+            _ => self.args.ids(),
+        }
+    }
+
     /// An equal equation.
     pub fn copy(&self) -> Result<Equation, NoMemory>
         ensures { IfOk result (λ e. e ≡ self.now) }

@@ -60,6 +60,7 @@ impl Flat {
     ghost use Rattle.flat_core.specs.Members.{is_in};
     ghost use Rattle.flat_core.specs.Needed.{IsReachedFrom};
     ghost use Rattle.flat_core.specs.System.{equation, runs, OutputsRun, IsProper};
+    ghost use Rattle.flat_core.specs.Updates.{is_running_update};
     ghost use Rattle.flat_core.specs.Complete.{IsFlat};
     ghost use Rattle.flat_core.specs.Renumbered.{renumbered, AreReplacements};
 
@@ -86,6 +87,14 @@ impl Flat {
         ensures { result ≡ runs self.now id }
     {
         self.running.contains(id)
+    }
+
+    /// Whether the equation is an update that runs.
+    pub fn is_running_update(&self, id: EqId) -> bool
+        requires { id < length self.now.equations }
+        ensures { result ≡ is_running_update self.now id }
+    {
+        self.runs(id) && self.equation(id).op.is_update()
     }
 
     /// The outputs in the order in which they were added.

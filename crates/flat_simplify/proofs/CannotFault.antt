@@ -1,20 +1,16 @@
 -- An equation that cannot fault has no root fault.
-use Rattle.std.proofs.Common.{◌≡◌, ℕ, Bool, true, false, ◌||◌, List, [], ◌∷◌, map, Option, Some, None, Ok, Err, refl, ap, ◌∙◌}
-use Rattle.std.specs.Prelude.{ℤ, IsFalse, if◌then◌else◌, is_some}
+use Rattle.std.proofs.Common.{◌≡◌, ℕ, Bool, true, false, ◌||◌, List, [], ◌∷◌, map, Option, None, Ok, Err, refl, ap, ◌∙◌}
+use Rattle.std.specs.Prelude.{IsFalse, if◌then◌else◌, is_some}
 use Rattle.std.specs.List.{list_any, list_all}
 use Rattle.std.proofs.lemmas.Bool.{or_parts, true≢false}
-use Rattle.tsl_value.specs.View.{View, Plain, Keyed, Mapped}
-use Rattle.tsl_value.specs.declared.scalar.Scalar.{Scalar}
-use Rattle.tsl_value.specs.declared.scalar.Scalar.TheVariants as scalar
+use Rattle.tsl_value.specs.View.{View}
 use Rattle.tsl_value.specs.declared.scalar.ValueType.{ValueType}
 use Rattle.lift_func.specs.declared.fault.FaultKind.{FaultKind}
-use Rattle.lift_func.specs.declared.body.Unary.{Unary}
-use Rattle.lift_func.specs.declared.body.Unary.TheVariants as unary
-use Rattle.lift_func.specs.declared.body.Binary.{Binary}
-use Rattle.lift_func.specs.declared.body.Binary.TheVariants as binary
-use Rattle.lift_func.specs.Apply.{Answer, bool, and_then, of_one, on_ints, on_scalars, contained, chosen, both, of_two, apply}
-use Rattle.lift_func.specs.Tree.{Tree, Literal, Argument, Absent, One, Two, Choice}
-use Rattle.lift_func.specs.Typing.{can_fault_one, can_fault_two, can_fault}
+use Rattle.lift_func.specs.Apply.{Answer, of_one, chosen, apply}
+use Rattle.lift_func.specs.BodyTree.{BodyTree, Literal, Argument, Absent, One, Two, Choice}
+use Rattle.lift_func.specs.Operations.{can_fault_one, can_fault_two}
+use Rattle.lift_func.specs.Typing.{can_fault}
+use Rattle.lift_func.proofs.Fits.{HasNoFault, then_safe, chosen_safe, one_safe, two_safe}
 use Rattle.flat_core.specs.declared.equation.Equation.{Equation}
 use Rattle.flat_core.specs.declared.equation.Op.{Op}
 use Rattle.flat_core.specs.declared.equation.Op.TheVariants as op
@@ -26,78 +22,35 @@ use Rattle.flat_simplify.specs.CanFault.{can_fault_op}
 abbrev IsSound : Answer → Type 0
 IsSound answer = fault_of answer ≡ None
 
-then_sound : (x : Answer) (next : Option View → Answer) → IsSound x → ((v : Option View) → IsSound (next v)) → IsSound (and_then x next)
-then_sound (Ok v) next sound each = each v
-then_sound (Err kind) next sound each = sound
-
-both_sound : (f : Option View → Option View → Answer) (x y : Answer) → IsSound x → IsSound y → ((a b : Option View) → IsSound (f a b)) → IsSound (both f x y)
-both_sound f x y first second each = then_sound x (λ a. and_then y (λ b. f a b)) first (λ a. then_sound y (λ b. f a b) second (λ b. each a b))
-
-chosen_sound : (v : Option View) (x y : Answer) → IsSound x → IsSound y → IsSound (chosen v x y)
-chosen_sound (Some (Plain (scalar.Bool true))) x y first second = first
-chosen_sound (Some (Plain (scalar.Bool false))) x y first second = second
-chosen_sound _ x y first second = refl
-
-ints_sound : (f : ℤ → ℤ → Answer) → ((a b : ℤ) → IsSound (f a b)) → (a b : Option View) → IsSound (on_ints f a b)
-ints_sound f each (Some (Plain (scalar.Int a))) (Some (Plain (scalar.Int b))) = each a b
-ints_sound f each _ _ = refl
-
-scalars_sound : (f : Scalar → Scalar → Answer) → ((a b : Scalar) → IsSound (f a b)) → (a b : Option View) → IsSound (on_scalars f a b)
-scalars_sound f each (Some (Plain a)) (Some (Plain b)) = each a b
-scalars_sound f each _ _ = refl
-
-contained_sound : (a b : Option View) → IsSound (contained a b)
-contained_sound (Some (Keyed s)) (Some (Plain k)) = refl
-contained_sound (Some (Mapped m)) (Some (Plain k)) = refl
-contained_sound _ _ = refl
-
-one_sound : (o : Unary) (v : Option View) → IsFalse (can_fault_one o) → IsSound (of_one o v)
-one_sound unary.Neg v never = absurd (true≢false never)
-one_sound unary.Size v never = absurd (true≢false never)
-one_sound unary.GetSome v never = absurd (true≢false never)
-one_sound unary.Not (Some (Plain (scalar.Bool a))) never = refl
-one_sound unary.Not _ never = refl
-one_sound unary.Length (Some (Plain (scalar.Text a))) never = refl
-one_sound unary.Length _ never = refl
-one_sound _ v never = refl
-
-two_sound : (o : Binary) (x y : Answer) → IsFalse (can_fault_two o) → IsSound x → IsSound y → IsSound (of_two o x y)
-two_sound binary.Eq x y never first second = both_sound _ x y first second (scalars_sound _ (λ a b. refl))
-two_sound binary.Ne x y never first second = both_sound _ x y first second (scalars_sound _ (λ a b. refl))
-two_sound binary.Lt x y never first second = both_sound _ x y first second (ints_sound _ (λ a b. refl))
-two_sound binary.Le x y never first second = both_sound _ x y first second (ints_sound _ (λ a b. refl))
-two_sound binary.Gt x y never first second = both_sound _ x y first second (ints_sound _ (λ a b. refl))
-two_sound binary.Ge x y never first second = both_sound _ x y first second (ints_sound _ (λ a b. refl))
-two_sound binary.And x y never first second = then_sound x (λ a. chosen a y (bool false)) first (λ a. chosen_sound a y (bool false) second refl)
-two_sound binary.Or x y never first second = then_sound x (λ a. chosen a (bool true) y) first (λ a. chosen_sound a (bool true) y refl second)
-two_sound binary.Contains x y never first second = both_sound contained x y first second contained_sound
-two_sound _ x y never first second = absurd (true≢false never)
+sound : (x : Answer) → HasNoFault x → IsSound x
+sound (Ok v) safe = refl
+sound (Err kind) safe = absurd safe
 
 -- a body without an operation that can fault
-apply_sound : (t : Tree) (values : List (Option View)) → IsFalse (can_fault t) → IsSound (apply t values)
-apply_sound (Literal s) values never = refl
-apply_sound (Argument n) values never = refl
-apply_sound (Absent of) values never = refl
-apply_sound (One o a) values never =
+apply_safe : (t : BodyTree) (values : List (Option View)) → IsFalse (can_fault t) → HasNoFault (apply t values)
+apply_safe (Literal s) values never = tt
+apply_safe (Argument n) values never = tt
+apply_safe (Absent of) values never = tt
+apply_safe (One o a) values never =
     let parts = or_parts (can_fault_one o) (can_fault a) never in
-    then_sound (apply a values) (of_one o) (apply_sound a values parts.1) (λ v. one_sound o v parts.0)
-apply_sound (Two o a b) values never =
+    then_safe (apply a values) (of_one o) (apply_safe a values parts.1) (λ v. one_safe o v parts.0)
+apply_safe (Two o a b) values never =
     let parts = or_parts (can_fault_two o || can_fault a) (can_fault b) never in
     let more = or_parts (can_fault_two o) (can_fault a) parts.0 in
-    two_sound o (apply a values) (apply b values) more.0 (apply_sound a values more.1) (apply_sound b values parts.1)
-apply_sound (Choice c a b) values never =
+    two_safe o (apply a values) (apply b values) more.0 (apply_safe a values more.1) (apply_safe b values parts.1)
+apply_safe (Choice c a b) values never =
     let parts = or_parts (can_fault c || can_fault a) (can_fault b) never in
     let more = or_parts (can_fault c) (can_fault a) parts.0 in
-    then_sound (apply c values) (λ v. chosen v (apply a values) (apply b values)) (apply_sound c values more.0)
-    (λ v. chosen_sound v (apply a values) (apply b values) (apply_sound a values more.1) (apply_sound b values parts.1))
+    then_safe (apply c values) (λ v. chosen v (apply a values) (apply b values)) (apply_safe c values more.0)
+    (λ v. chosen_safe v (apply a values) (apply b values) (apply_safe a values more.1) (apply_safe b values parts.1))
 
 either_sound : (b : Bool) (answer : Answer) → IsSound answer → IsSound (if b then answer else Ok None)
 either_sound true answer sound = sound
 either_sound false answer sound = refl
 
 at_once_sound : (o : Op) (of : ValueType) (values : List (Option View)) (t : ℕ) → IsFalse (can_fault_op o) → IsSound (at_once o of values t)
-at_once_sound (op.Lift body true) of values t never = either_sound (list_all is_some values) (apply body values) (apply_sound body values never)
-at_once_sound (op.Lift body false) of values t never = either_sound (list_any is_some values) (apply body values) (apply_sound body values never)
+at_once_sound (op.Lift body true) of values t never = either_sound (list_all is_some values) (apply body values) (sound (apply body values) (apply_safe body values never))
+at_once_sound (op.Lift body false) of values t never = either_sound (list_any is_some values) (apply body values) (sound (apply body values) (apply_safe body values never))
 at_once_sound o of [] t never = refl
 at_once_sound o of (a ∷ []) t never = refl
 at_once_sound o of (a ∷ b ∷ []) t never = refl

@@ -18,7 +18,8 @@ use Rattle.flat_core.specs.Renumbered.{new_number, with_new_args, with_new_equat
 use Rattle.flat_core.specs.System.{System, runs, equation, OutputsRun, IsProper}
 use Rattle.flat_core.specs.TypedSystem.{IsOfType, AreOfTypes, IsTypedEquation, IsTypedSystem}
 use Rattle.flat_core.specs.WellFormed.{unguarded_of, Needs, IsWellFormed}
-use Rattle.flat_core.proofs.Members.{contains_head, all_from, all_at, all_map, contains_map, map_contains}
+use Rattle.tsl_value.proofs.Lists.{contains_map, map_contains}
+use Rattle.flat_core.proofs.Members.{contains_head, all_from, all_at, all_map}
 use Rattle.flat_core.proofs.Uniqueness.{all_by}
 use Rattle.flat_core.proofs.WellFormedOrder.{ranked_solution}
 use Rattle.flat_core.proofs.WellFormedRank.{rank_of, well_formed_ranked}

@@ -12,4 +12,3 @@ pub mod Named
 pub mod Ends
 pub mod Kept
 mod Examples
-pub mod SampleLemmas

@@ -20,17 +20,14 @@ use Rattle.flat_core.specs.Renumbered.{new_number, with_new_args, with_new_equat
 use Rattle.flat_core.specs.System.{System, runs, equation}
 use Rattle.flat_core.specs.TypedSystem.{IsOfType}
 use Rattle.flat_core.specs.WellFormed.{IsWellFormed}
-use Rattle.flat_core.proofs.Members.{all_at, contains_head, contains_map, map_contains}
+use Rattle.flat_core.proofs.Members.{all_at, contains_head}
 use Rattle.flat_simplify.specs.CanFault.{can_fault_op, CanFault}
 use Rattle.flat_simplify.specs.Replaced.{IsReplaced, StandsFor, IsReplacement}
 use Rattle.flat_simplify.specs.Simplified.{IsStart, Remains, IsRenumbered, IsSimplified}
 use Rattle.flat_simplify.specs.inner.Laws.{IsFit}
 use Rattle.flat_simplify.proofs.Fit.{fit}
 use Rattle.flat_simplify.proofs.Stands.{same_type, new_stands_at}
-
-contains_one : (n i : ℕ) → Contains (n ∷ []) i → n ≡ i
-contains_one n i (zero, lt, is) = is
-contains_one n i (suc k, lt, is) = absurd (omega arith)
+use Rattle.tsl_value.proofs.Lists.{only, contains_map, map_contains}
 
 -- ---- the numbers
 module _ (s : System) (flat : IsFlat s) (formed : IsWellFormed s) (replaced : List ℕ) (replacement : IsReplacement s replaced) where
@@ -106,7 +103,7 @@ faulting_more s old new n h f = record { each = λ i. (to i, from i) }
     to : (i : ℕ) → Contains (new ++ n ∷ []) i → Contains old i ⊎ (CanFault s i × (i < n + 1))
     to i c = elim (Contains-append_cases new (n ∷ []) i c) [
       | inl before ↦ elim ((h.each i).0 before) [ inl o ↦ inl o | inr g ↦ inr (g.0, let low = g.1 in omega arith) ]
-      | inr here ↦ let same = contains_one n i here in inr (subst (CanFault s) same f, omega arith)
+      | inr here ↦ let same = only n i here in inr (subst (CanFault s) same f, omega arith)
     ]
 
     from : (i : ℕ) → Contains old i ⊎ (CanFault s i × (i < n + 1)) → Contains (new ++ n ∷ []) i

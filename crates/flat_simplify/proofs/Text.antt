@@ -1,14 +1,12 @@
 -- The instants up to the fault time stay, and so does the text that is due.
-use Rattle.std.proofs.Common.{◌≡◌, ◌==◌, ℕ, zero, suc, ◌<◌, ◌≤◌, Bool, true, false, not, ◌&&◌, ◌||◌, List, [], ◌∷◌, ◌++◌, take, Option, Some, None, Ok, cond, refl, sym, ap, ◌∙◌, inl, inr, arith}
+use Rattle.std.proofs.Common.{◌≡◌, ◌==◌, ℕ, zero, suc, ◌<◌, ◌≤◌, Bool, true, false, not, ◌&&◌, ◌||◌, List, [], ◌∷◌, ◌++◌, take, Some, cond, refl, sym, ap, ◌∙◌, inl, inr, arith}
 use Rattle.std.specs.Prelude.{IsTrue, if◌then◌else◌}
 use Rattle.std.specs.List.{AllByRecursion, list_any, filter, flat_map}
-use Rattle.std.proofs.lemmas.Bool.{and_from, and_parts, false≢true}
+use Rattle.std.proofs.lemmas.Bool.{and_from, and_parts}
 use Rattle.std.proofs.lemmas.List.Folds.{flat_map-map}
-use Rattle.tsl_value.specs.View.{View}
 use Rattle.tsl_value.proofs.Lists.{all_take, filter_none, flat_map_same}
 use Rattle.flat_core.specs.declared.equation.Equation.{Equation}
 use Rattle.flat_core.specs.declared.equation.Output.{Output}
-use Rattle.flat_core.specs.declared.equation.Op.{Op}
 use Rattle.flat_core.specs.declared.equation.Op.TheVariants as op
 use Rattle.flat_core.specs.Stream.{Fault, event, has_event, is_fault}
 use Rattle.flat_core.specs.Case.{Streams, Inputs, delayed, own_of, used_of, outcome_of}
@@ -17,7 +15,7 @@ use Rattle.flat_core.specs.Instant.{is_delay_op, is_delay, is_instant, instants}
 use Rattle.flat_core.specs.Line.{Line, inputs_of, is_line_on}
 use Rattle.flat_core.specs.System.{System, runs, equation}
 use Rattle.flat_core.specs.Text.{event_line, text_at, due_instants, due_text}
-use Rattle.flat_core.proofs.Members.{all_at, all_from, some_from, some_in}
+use Rattle.flat_core.proofs.Members.{all_at, all_from, some_from, some_in, same_truth}
 use Rattle.flat_core.proofs.PendingLemmas.{some_before_from, none_before_from}
 use Rattle.flat_core.proofs.SmallerBound.{instants_first}
 use Rattle.flat_core.proofs.Uniqueness.{all_by}
@@ -25,17 +23,13 @@ use Rattle.flat_simplify.specs.CanFault.{can_fault_op}
 use Rattle.flat_simplify.specs.Replaced.{itself}
 use Rattle.flat_core.specs.Renumbered.{new_number, with_new_equation}
 use Rattle.flat_core.proofs.Instants.{instants_below}
+use Rattle.flat_core.proofs.Answered.{value_is_no_fault, delay_op}
 use Rattle.flat_simplify.specs.inner.Solved.{AreSolved, IsSoundBefore}
 use Rattle.flat_simplify.specs.inner.Laws.{IsFit, KeepsText}
 use Rattle.flat_simplify.proofs.Faults.{first_fault, sound_after, keeps_faults}
 use Rattle.flat_simplify.proofs.Streams.{fit, new_equation_at, new_for, sound_kept, kept}
 
 -- ---- lists
-
-same_test : (b c : Bool) → (b ≡ true → c ≡ true) → (c ≡ true → b ≡ true) → b ≡ c
-same_test true c to from = sym (to refl)
-same_test false true to from = absurd (false≢true (from refl))
-same_test false false to from = refl
 
 -- where a test holds in front and not after, those of the first that pass it are the first in front
 filter_front : (p : ℕ → Bool) (n : ℕ) (xs ys : List ℕ) → AllByRecursion (λ x. p x ≡ true) xs → AllByRecursion (λ y. p y ≡ false) ys → filter p (take n (xs ++ ys)) ≡ take n xs
@@ -54,14 +48,6 @@ due_front s lines z bound f limit le sound over =
     let behind = all_by (λ t. (f ≤ t) × (t < bound)) (λ t. due t ≡ false) (λ t between. ap not (over t between.0 between.1)) parts.0 parts.2 in
     ap (λ ts. filter due (take limit ts)) parts.1 ∙ filter_front due limit (instants s lines z f) parts.0 front behind
 
-value_clear : (o : Option View) → is_fault (outcome_of (Ok o)) ≡ false
-value_clear None = refl
-value_clear (Some x) = refl
-
-delay_op : (o : Op) → is_delay_op o ≡ true → o ≡ op.Delay
-delay_op op.Delay h = refl
-delay_op _ h = absurd (false≢true h)
-
 module _ (s u : System) (lines : List Line) (bound : ℕ) (z w : Streams) (both : AreSolved s u (inputs_of lines) bound z w) where
   abbrev inputs : Inputs
   inputs = inputs_of lines
@@ -74,7 +60,7 @@ module _ (s u : System) (lines : List Line) (bound : ℕ) (z w : Streams) (both 
   delay_clear i e run is delays t lt =
       ap is_fault (both.solves.each i e run is t lt)
       ∙ (λ k. is_fault (if list_any (λ a. is_fault (z a t)) (used_of (delays k) e.args) then Some Fault else outcome_of (own_of inputs z i (delays k) e.args e.of t)))
-      ∙ value_clear (delayed z i e.args t)
+      ∙ value_is_no_fault (delayed z i e.args t)
 
   -- the delays that ran run, with the outcomes that they had
   module _ (t : ℕ) (lt : t < bound) (sound : IsSoundBefore s inputs z t) where
@@ -106,7 +92,7 @@ module _ (s u : System) (lines : List Line) (bound : ℕ) (z w : Streams) (both 
     delays_same =
         let p = λ (i : ℕ). is_delay (equation s i) && has_event (z i t) in
         let q = λ (i : ℕ). is_delay (equation u i) && has_event (w i t) in
-        same_test (list_any q u.running) (list_any p s.running)
+        same_truth (list_any q u.running) (list_any p s.running)
         (λ h. let found = some_in q u.running h in let it = event_from found.0 found.1 found.2 in some_from p s.running found.0 it.0 it.1)
         (λ h. let found = some_in p s.running h in let it = event_to found.0 found.1 found.2 in some_from q u.running found.0 it.0 it.1)
 

@@ -1,3 +1,2 @@
 pub mod Solved
 pub mod Laws
-pub mod Sample

@@ -9,7 +9,8 @@ use Rattle.flat_core.specs.Complete.{IsFlat}
 use Rattle.flat_core.specs.Members.{is_in}
 use Rattle.flat_core.specs.System.{System}
 use Rattle.flat_core.specs.WellFormed.{IsWellFormed}
-use Rattle.flat_core.proofs.Members.{in-Contains, map_contains}
+use Rattle.tsl_value.proofs.Lists.{map_contains}
+use Rattle.flat_core.proofs.Members.{in-Contains}
 use Rattle.alias_rules.specs.Fine.{IsFine, with_tried, IsListed}
 use Rattle.alias_rules.specs.Uses.{IsUpdate, AreUpdates}
 use Rattle.alias_rules.proofs.Below.{none_listed, listed_low, tried_is, listed_same, listed_more, update_low, all_listed}

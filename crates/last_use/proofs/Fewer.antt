@@ -12,6 +12,7 @@ use Rattle.flat_core.specs.Members.{is_in}
 use Rattle.flat_core.specs.System.{System, equation, runs}
 use Rattle.flat_core.specs.WellFormed.{unguarded_of, Needs, IsWellFormed}
 use Rattle.flat_core.proofs.Members.{all_at}
+use Rattle.flat_core.proofs.Depth.{unguarded_in}
 use Rattle.translation_order.proofs.PathLemmas.{walk_on, path_on}
 use Rattle.translation_order.proofs.Alike.{path_alike}
 use Rattle.trigger_rules.specs.Question.{Together}
@@ -20,12 +21,13 @@ use Rattle.alias_rules.specs.Conflict.{StandsBefore, needed, bypasses, takes}
 use Rattle.alias_rules.specs.Fine.{IsFine}
 use Rattle.alias_rules.specs.Roots.{begins_content, Carries, passed, written, IsOrigin, IsRoot, ComesFromLast}
 use Rattle.alias_rules.specs.Sharing.{Shares, itself, turned, common_root, last_roots, last_root, Alias, same, lasts}
-use Rattle.alias_rules.specs.Uses.{is_update, IsVariable, IsLast, IsWritten}
+use Rattle.flat_core.specs.Updates.{is_update}
+use Rattle.alias_rules.specs.Uses.{IsVariable, IsLast, IsWritten}
 use Rattle.alias_analysis.proofs.Rooting.{walk_as}
 use Rattle.alias_analysis.proofs.Sharers.{last_origin}
 use Rattle.last_use.specs.inner.Beginning.{NoneIsNil}
 use Rattle.translation_order.proofs.Descent.{descend}
-use Rattle.last_use.proofs.Ways.{IsAggregateAt, Way, begins, is_nil, passes, writes, way, passed_needed, written_needed, unguarded_argument, begins_outside}
+use Rattle.last_use.proofs.Ways.{IsAggregateAt, Way, begins, is_nil, passes, writes, way, passed_needed, written_needed, begins_outside}
 
 walk_join : {E : ℕ → ℕ → Type 0} {a b c : ℕ} → Walk E a b → Walk E b c → Walk E a c
 walk_join stay more = more
@@ -56,7 +58,7 @@ module _ (s : System) (flat : IsFlat s) (formed : IsWellFormed s) (some : NoneIs
       let found = flat.proper.runs_all n running in
       let same : found.0 ≡ e = same_Some found.0 e (sym found.1 ∙ is) in
       let all = subst (λ (d : Equation). AllByRecursion (λ m. IsTrue (runs s m)) d.args) same found.2 in
-      record { at = aggregate.at; is = aggregate.is; running = all_at (λ m. IsTrue (runs s m)) e.args all a (unguarded_argument e.op e.args a argument); aggregate = aggregate.aggregate }
+      record { at = aggregate.at; is = aggregate.is; running = all_at (λ m. IsTrue (runs s m)) e.args all a (unguarded_in e.op e.args a argument); aggregate = aggregate.aggregate }
 
   -- it begins at an equation, or where it begins for one of its arguments
   begun_by : (n : ℕ) (v : IsVariable s n) → ((m : ℕ) → Needs s n m → IsVariable s m → IsBegun m) → Way s.equations v.at.op v.at.args → IsBegun n

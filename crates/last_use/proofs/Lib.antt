@@ -5,4 +5,3 @@ pub mod Blocking
 pub mod Choosing
 pub mod Trying
 pub mod Ordering
-pub mod SampleLemmas

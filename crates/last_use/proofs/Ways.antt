@@ -11,7 +11,8 @@ use Rattle.flat_core.specs.TypedSystem.{IsOfType, AreOfTypes}
 use Rattle.flat_core.specs.WellFormed.{unguarded_of}
 use Rattle.tsl_value.proofs.Lists.{here, later, none_in_nil, cons_cases}
 use Rattle.alias_rules.specs.Roots.{begins_content}
-use Rattle.alias_rules.specs.Uses.{is_update, first_of, passed_of, written_of}
+use Rattle.flat_core.specs.Updates.{is_update}
+use Rattle.alias_rules.specs.Uses.{first_of, passed_of, written_of}
 
 -- ---- what is passed on or written is an argument that is not guarded
 
@@ -35,11 +36,6 @@ written_needed op.SetRemove args x c = in_first args x c
 written_needed op.MapAdd args x c = in_first args x c
 written_needed op.MapRemove args x c = in_first args x c
 written_needed o args x c = absurd (none_in_nil x c)
-
-pub unguarded_argument : (o : Op) (args : List ℕ) (x : ℕ) → Contains (unguarded_of o args) x → Contains args x
-unguarded_argument op.Last args x c = in_rest args x c
-unguarded_argument op.Delay args x c = in_rest args x c
-unguarded_argument o args x c = c
 
 -- an update outside the set begins content
 pub begins_outside : (o : Op) → is_update o ≡ true → begins_content o false ≡ true

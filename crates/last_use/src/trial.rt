@@ -10,12 +10,11 @@ ghost use Rattle.translation_order.specs.Order.{IsLeastOrder};
 ghost use Rattle.alias_rules.specs.Conflict.{StandsBefore};
 ghost use Rattle.alias_rules.specs.Fine.{with_tried};
 ghost use Rattle.alias_rules.specs.Steps.{step_count};
-ghost use Rattle.alias_rules.specs.Uses.{is_update as seen_update, IsUpdate, AreUpdates};
+ghost use Rattle.alias_rules.specs.Uses.{IsUpdate, AreUpdates};
 ghost use Rattle.last_use.specs.inner.Choosing.{IsRefusal};
 
 use alias_analysis::graph::Graph;
 use alias_analysis::reason::Reason;
-use flat_core::equation::Op;
 use flat_core::flat::Flat;
 use flat_core::lists::EqSet;
 use std::alloc::Global;
@@ -24,21 +23,12 @@ use translation_order::steps::Steps;
 use tsl_value::ids::EqId;
 use tsl_value::memory::NoMemory;
 
-fn is_update(operation: &Op) -> bool
-    ensures { result ≡ seen_update operation.now }
-{
-    match operation {
-        Op::SetAdd | Op::SetRemove | Op::MapAdd | Op::MapRemove => true,
-        _ => false,
-    }
-}
-
 /// Whether an equation runs and is an update.
 pub fn is_running_update(flat: &Flat, id: EqId) -> bool
     requires { id < length flat.now.equations }
     ensures { IsTrue result ↔ IsUpdate flat.now id }
 {
-    flat.runs(id) && is_update(&flat.equation(id).op)
+    flat.runs(id) && flat.equation(id).op.is_update()
 }
 
 /// The update at a place of a set.

@@ -1,6 +1,6 @@
 -- Two solutions of a system with an order to run it in agree.
-use Rattle.std.proofs.Common.{◌≡◌, ℕ, zero, suc, ◌<◌, ◌≤◌, Bool, false, List, [], ◌∷◌, Some, sym, ap, subst, ◌∙◌, inl, inr, arith}
-use Rattle.std.proofs.lemmas.Bool.{cases_lt, false≢true}
+use Rattle.std.proofs.Common.{◌≡◌, ℕ, ◌<◌, Bool, false, List, [], ◌∷◌, Some, sym, ap, ◌∙◌, inl, inr, arith}
+use Rattle.std.proofs.lemmas.Bool.{false≢true}
 use Rattle.std.proofs.lemmas.Option.{slice_get_within}
 use Rattle.std.specs.Prelude.{IsTrue}
 use Rattle.std.specs.List.{AllByRecursion}
@@ -11,7 +11,7 @@ use Rattle.flat_core.specs.System.{System, runs, equation, IsProper}
 use Rattle.flat_core.specs.Solution.{Solves}
 use Rattle.flat_core.proofs.Existence.{one_or_done}
 use Rattle.flat_core.proofs.Locality.{AgreeBefore, case_of-same}
-use Rattle.flat_core.proofs.Uniqueness.{all_by, all_with, used_all}
+use Rattle.flat_core.proofs.Uniqueness.{agree_past, all_by, all_with, used_all}
 use Rattle.flat_core.proofs.Shapes.{running_args}
 use Rattle.plain_solver.proofs.OrderLemmas.{listed_done}
 
@@ -41,14 +41,5 @@ module _ (s : System) (inputs : Inputs) (order : List ℕ) (run_order : IsRunOrd
         let found = proper.runs_all i run in
         agree_along order (λ j. false) run_order.ordered (λ j h r. absurd (false≢true h)) i (listed_done order (λ j. false) i (run_order.all i (slice_get_within s.equations i found.0 found.1))) run
 
-  agree_before : (t : ℕ) → t ≤ bound → (i : ℕ) → IsTrue (runs s i) → AgreeBefore (z i) (w i) t
-  agree_before zero le i run u lt = absurd (omega arith)
-  agree_before (suc t) le i run u lt =
-      let earlier = agree_before t (omega arith) in
-      elim (cases_lt u t) [
-        | inl before ↦ earlier i run u before
-        | inr here ↦ let e : t ≡ u = omega arith in subst (λ n. z i n ≡ w i n) e (agree_at t (omega arith) earlier i run)
-      ]
-
   pub agree : (i : ℕ) → IsTrue (runs s i) → (t : ℕ) → t < bound → z i t ≡ w i t
-  agree i run t lt = agree_before bound (omega arith) i run t lt
+  agree i run t lt = agree_past s bound z w agree_at bound (omega arith) i run t lt

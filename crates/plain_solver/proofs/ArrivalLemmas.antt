@@ -13,7 +13,7 @@ use Rattle.flat_core.specs.Instant.{is_delay_op, is_delay, is_instant, is_due, e
 use Rattle.flat_core.specs.Line.{Line, inputs_of}
 use Rattle.flat_core.specs.System.{System, runs, equation}
 use Rattle.flat_core.proofs.Locality.{AgreeBefore, expires-same}
-use Rattle.flat_core.specs.inner.Shape.{HasShape}
+use Rattle.flat_core.specs.inner.Arity.{HasArity}
 use Rattle.flat_core.proofs.Shapes.{shape_of}
 use Rattle.flat_core.proofs.DueLemmas.{delay_event}
 use Rattle.flat_core.proofs.Members.{some_from, some_in}
@@ -22,7 +22,7 @@ use Rattle.std.proofs.lemmas.Bool.{or_cases}
 module _ (s : System) (lines : List Line) (whole : IsFlat s) (z w : Streams) (t : ℕ)
     (past : (i : ℕ) (e : Equation) → IsTrue (runs s i) → equation s i ≡ Some e → AgreeBefore (z i) (w i) t × AllByRecursion (λ a. AgreeBefore (z a) (w a) t) e.args)
     (here : (i : ℕ) (e : Equation) → IsTrue (runs s i) → equation s i ≡ Some e → w i t ≡ case_of (inputs_of lines) w i e t) where
-  expiry_event : (i : ℕ) (e : Equation) (o : Op) (args : List ℕ) → IsTrue (runs s i) → equation s i ≡ Some e → e.op ≡ o → e.args ≡ args → HasShape o args → (is_delay_op o && is_some (delayed z i args t)) ≡ true → (is_delay_op o && has_event (w i t)) ≡ true
+  expiry_event : (i : ℕ) (e : Equation) (o : Op) (args : List ℕ) → IsTrue (runs s i) → equation s i ≡ Some e → e.op ≡ o → e.args ≡ args → HasArity o args → (is_delay_op o && is_some (delayed z i args t)) ≡ true → (is_delay_op o && has_event (w i t)) ≡ true
   expiry_event i e op.Delay (d ∷ r ∷ []) running is op_is args_are shape due =
       let before = past i e running is in
       let args = subst (AllByRecursion (λ a. AgreeBefore (z a) (w a) t)) args_are before.1 in

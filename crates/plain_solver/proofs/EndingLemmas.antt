@@ -24,7 +24,7 @@ use Rattle.plain_solver.specs.declared.solve.End.{End}
 use Rattle.plain_solver.specs.declared.solve.End.TheVariants as end
 use Rattle.flat_core.specs.Ending.{EndsInFault, EndsAtLimit, EndsAtBound}
 use Rattle.plain_solver.specs.inner.Ending.{EndsSo, IsEnding}
-use Rattle.plain_solver.specs.inner.Shape.{streams_of}
+use Rattle.plain_solver.specs.inner.Streams.{streams_of}
 use Rattle.plain_solver.specs.inner.Solved.{IsSolved, IsWhole, IsFaulted, IsLimited, IsEnded}
 use Rattle.flat_core.specs.Text.{due_instants}
 use Rattle.flat_core.proofs.Shapes.{running_args}

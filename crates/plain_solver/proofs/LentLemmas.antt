@@ -11,7 +11,7 @@ use Rattle.tsl_value.specs.declared.scalar.Scalar.TheVariants as scalar
 use Rattle.lift_func.specs.declared.register.Register.TheVariants as register
 use Rattle.lift_func.specs.inner.Cells.{Cells, HoldsLive, IsAggregate, arguments, held}
 use Rattle.lift_func.specs.inner.Evaluable.{IsEvaluable}
-use Rattle.lift_func.specs.Tree.{Tree}
+use Rattle.lift_func.specs.BodyTree.{BodyTree}
 use Rattle.lift_func.specs.Typing.{AllFit}
 use Rattle.event_writer.specs.Text.{IsPrintable}
 use Rattle.flat_core.proofs.Members.{all_true}
@@ -119,7 +119,7 @@ numbers_low k (suc n) =
     let same : suc k + n ≡ k + suc n = omega arith in
     (omega arith, subst (λ m. AllByRecursion (λ a. a < m) (numbers_from (suc k) n)) same (numbers_low (suc k) n))
 
-pub evaluable : (tree : Tree) (values : List (Option View)) → IsEvaluableAt tree values → IsEvaluable (cells_of values) (registers_from 0 values) (numbers_from 0 (length values)) tree
+pub evaluable : (tree : BodyTree) (values : List (Option View)) → IsEvaluableAt tree values → IsEvaluable (cells_of values) (registers_from 0 values) (numbers_from 0 (length values)) tree
 evaluable tree values e =
     let args = numbers_from 0 (length values) in
     let room : 0 + length values ≡ length (registers_from 0 values) = (let many = many_registers 0 values in omega arith) in

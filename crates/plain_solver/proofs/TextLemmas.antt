@@ -9,7 +9,7 @@ use Rattle.flat_core.specs.System.{System, runs}
 use Rattle.flat_core.proofs.Uniqueness.{all_by}
 use Rattle.plain_solver.specs.declared.events.Moment.{Moment}
 use Rattle.plain_solver.specs.declared.solve.End.{End}
-use Rattle.plain_solver.specs.inner.Shape.{streams_of}
+use Rattle.plain_solver.specs.inner.Streams.{streams_of}
 use Rattle.flat_core.specs.Text.{event_line, text_at}
 use Rattle.plain_solver.specs.inner.Ending.{IsDueText}
 use Rattle.plain_solver.proofs.EndingLemmas.{all_ran, due_ran, ran_to, solved_to}

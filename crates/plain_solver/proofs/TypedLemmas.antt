@@ -3,7 +3,7 @@ use Rattle.std.proofs.Common.{◌≡◌, ℕ, suc, Bool, true, false, List, [], 
 use Rattle.std.specs.Prelude.{IsTrue}
 use Rattle.tsl_value.specs.declared.scalar.ValueType.{ValueType}
 use Rattle.tsl_value.specs.View.{View, is_of}
-use Rattle.lift_func.specs.Tree.{Tree}
+use Rattle.lift_func.specs.BodyTree.{BodyTree}
 use Rattle.flat_core.specs.declared.equation.Equation.{Equation}
 use Rattle.flat_core.specs.declared.equation.Op.TheVariants as op
 use Rattle.flat_core.specs.Case.{Streams, Inputs, used_of, case_of}
@@ -17,7 +17,7 @@ use Rattle.flat_core.proofs.TypedCase as typed_case
 use Rattle.flat_core.proofs.TypedCase.{IsTypedAt, IsTypedBefore, is_of_at, is_of_from, all_there_fit, options_fit, values_typed}
 use Rattle.flat_core.proofs.TypedEvents.{given_typed}
 use Rattle.plain_solver.specs.inner.Lent.{IsEvaluableAt}
-use Rattle.plain_solver.specs.inner.Parts.{counts}
+use Rattle.flat_core.specs.inner.OpGroups.{counts}
 use Rattle.plain_solver.specs.inner.Typed.{AreTyped, TakesTyped}
 
 -- ---- what equations have at their arguments
@@ -46,7 +46,7 @@ as_many [] (v ∷ values) of = absurd of
 as_many (t ∷ types) [] of = absurd of
 as_many (t ∷ types) (v ∷ values) of = ap suc (as_many types values of.1)
 
-lift_evaluable : (body : Tree) (strict : Bool) (ts : List ValueType) (of : ValueType) → IsTyped (op.Lift body strict) ts of → (values : List (Option View)) → AreOf ts values → IsTrue (counts strict values) → IsEvaluableAt body values
+lift_evaluable : (body : BodyTree) (strict : Bool) (ts : List ValueType) (of : ValueType) → IsTyped (op.Lift body strict) ts of → (values : List (Option View)) → AreOf ts values → IsTrue (counts strict values) → IsEvaluableAt body values
 lift_evaluable body true ts of (lift low high kind) values fit all =
     let many = as_many ts values fit in
     record { kinds = map (kind_of true) ts; kind = kind_of true of; fit = all_there_fit ts values fit all; typed = kind; scalar = tt; few = omega arith }
@@ -55,6 +55,6 @@ lift_evaluable body false ts of (lift low high kind) values fit some =
     record { kinds = map (kind_of false) ts; kind = kind_of false of; fit = options_fit ts values fit; typed = kind; scalar = tt; few = omega arith }
 
 -- a lift that counts can be evaluated
-pub liftable : (z : Streams) (e : Equation) (t : ℕ) (body : Tree) (strict : Bool) → e.op ≡ op.Lift body strict → TakesTyped z e t → (values : List (Option View)) → values ≡ map (λ a. event (z a t)) e.args → IsTrue (counts strict values) → IsEvaluableAt body values
+pub liftable : (z : Streams) (e : Equation) (t : ℕ) (body : BodyTree) (strict : Bool) → e.op ≡ op.Lift body strict → TakesTyped z e t → (values : List (Option View)) → values ≡ map (λ a. event (z a t)) e.args → IsTrue (counts strict values) → IsEvaluableAt body values
 liftable z e t body strict op_is takes values is some =
     lift_evaluable body strict takes.types e.of (subst (λ o. IsTyped o takes.types e.of) op_is takes.typed) values (subst (AreOf takes.types) (sym is) takes.values) some

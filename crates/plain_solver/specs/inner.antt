@@ -1,12 +1,11 @@
 pub mod ValueView
 pub mod Moments
 pub mod Lines
-pub mod Shape
+pub mod Streams
 pub mod Instant
-pub mod Parts
+pub mod PassedOn
 pub mod Lent
 pub mod Typed
 pub mod Next
 pub mod Solved
 pub mod Ending
-pub mod Sample

@@ -7,7 +7,7 @@ ghost use Rattle.flat_core.specs.Line.{IsSorted, inputs_of};
 ghost use Rattle.flat_core.specs.System.{runs};
 ghost use Rattle.plain_solver.specs.inner.Moments.{AllBefore};
 ghost use Rattle.plain_solver.specs.inner.Instant.{AreBefore, IsFirstRoot, IsOneMore, IsRun};
-ghost use Rattle.plain_solver.specs.inner.Shape.{streams_of};
+ghost use Rattle.plain_solver.specs.inner.Streams.{streams_of};
 ghost use Rattle.flat_core.specs.inner.TypedLines.{AreTypedLines};
 ghost use Rattle.plain_solver.specs.inner.Typed.{AreTyped};
 ghost use Rattle.flat_core.specs.inner.Kept.{AreKept};

@@ -4,8 +4,8 @@ ghost use Rattle.std.specs.Prelude.{◌≡◌, ◌≤◌, ◌<◌, ◌^◌, leng
 ghost use Rattle.flat_core.specs.Line.{IsSorted};
 ghost use Rattle.plain_solver.specs.inner.Lines.{IsLeast};
 ghost use Rattle.plain_solver.specs.inner.Next.{due_of, is_expiry, is_next, IsFirst};
-ghost use Rattle.flat_core.specs.inner.Shape.{HasShape};
-ghost use Rattle.plain_solver.specs.inner.Shape.{streams_of};
+ghost use Rattle.flat_core.specs.inner.Arity.{HasArity};
+ghost use Rattle.plain_solver.specs.inner.Streams.{streams_of};
 ghost use Rattle.flat_core.specs.Pending.{option_is};
 
 use crate::delay::pending_before;
@@ -20,7 +20,7 @@ use tsl_value::time::Time;
 
 /// What is pending before a time, of a delay.
 fn due_before(e: &Equation, i: EqId, streams: &[Events], from: Time) -> Option<u64>
-    requires shape { HasShape e.now.op e.now.args }
+    requires shape { HasArity e.now.op e.now.args }
     requires known { All (λ a. a < length streams.now) e.now.args }
     requires there { i < length streams.now }
     ensures { result ≡ due_of (streams_of streams.now) i e.now.op e.now.args from }

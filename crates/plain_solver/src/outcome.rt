@@ -10,10 +10,11 @@ ghost use Rattle.flat_core.specs.Case.{case_of, delayed, filtered, is_blocked, l
 ghost use Rattle.flat_core.specs.Line.{IsSorted, inputs_of};
 ghost use Rattle.flat_core.specs.inner.Kept.{IsKept};
 ghost use Rattle.plain_solver.specs.inner.Lent.{IsEvaluableAt};
-ghost use Rattle.plain_solver.specs.inner.Parts.{chosen_of, counts, lifted, updated_of};
+ghost use Rattle.plain_solver.specs.inner.PassedOn.{chosen_of};
+ghost use Rattle.flat_core.specs.inner.OpGroups.{counts, lift_answer, updated_of};
 ghost use Rattle.plain_solver.specs.inner.Moments.{seen};
-ghost use Rattle.flat_core.specs.inner.Shape.{HasShape};
-ghost use Rattle.plain_solver.specs.inner.Shape.{streams_of};
+ghost use Rattle.flat_core.specs.inner.Arity.{HasArity};
+ghost use Rattle.plain_solver.specs.inner.Streams.{streams_of};
 ghost use Rattle.plain_solver.specs.inner.Typed.{TakesTyped};
 ghost use Rattle.plain_solver.specs.inner.ValueView.{IsAnswer};
 
@@ -124,14 +125,14 @@ fn is_one_there(values: &[Option<Value>]) -> bool
 }
 
 /// The value of a lifted body: where all its arguments are there, or of a body of options where one of them is.
-fn lifted(
+fn lift_value(
     alloc: Global,
     body: &Body,
     strict: bool,
     values: &[Option<Value>],
 ) -> Result<Option<Value>, EvalFault>
     requires { IsTrue (counts strict values.now) → IsEvaluableAt body.now values.now }
-    ensures { IsAnswer result (lifted body.now strict values.now) }
+    ensures { IsAnswer result (lift_answer body.now strict values.now) }
 {
     if !do_count(strict, values) {
         return Ok(None);
@@ -209,7 +210,7 @@ fn passed<'a>(value: Option<&'a Value>, condition: Option<&Value>) -> Option<&'a
 
 /// The unit event of a delay that expires.
 fn expired(e: &Equation, i: EqId, streams: &[Events], t: Time) -> Option<Value>
-    requires shape { HasShape e.now.op e.now.args }
+    requires shape { HasArity e.now.op e.now.args }
     requires delay { e.now.op ≡ Op.Delay }
     requires known { All (λ a. a < length streams.now) e.now.args }
     requires there { i < length streams.now }
@@ -229,7 +230,7 @@ fn expired(e: &Equation, i: EqId, streams: &[Events], t: Time) -> Option<Value>
 
 /// The event of an argument before a time, where the other argument has one at that time.
 fn lasting<'a>(e: &Equation, streams: &'a [Events], t: Time) -> Option<&'a Value>
-    requires shape { HasShape Op.Last e.now.args }
+    requires shape { HasArity Op.Last e.now.args }
     requires known { All (λ a. a < length streams.now) e.now.args }
     ensures { option_copied result ≡ lasting (streams_of streams.now) e.now.args t }
 {
@@ -241,7 +242,7 @@ fn lasting<'a>(e: &Equation, streams: &'a [Events], t: Time) -> Option<&'a Value
 
 /// The event of an argument that an operation passes on.
 fn chosen<'a>(e: &Equation, streams: &'a [Events], t: Time) -> Option<&'a Value>
-    requires shape { HasShape e.now.op e.now.args }
+    requires shape { HasArity e.now.op e.now.args }
     requires known { All (λ a. a < length streams.now) e.now.args }
     ensures { option_copied result ≡ chosen_of e.now.op (map (λ a. event (streams_of streams.now a t)) e.now.args) }
 {
@@ -265,7 +266,7 @@ fn updated(
     streams: &[Events],
     t: Time,
 ) -> Result<Option<Value>, NoMemory>
-    requires shape { HasShape e.now.op e.now.args }
+    requires shape { HasArity e.now.op e.now.args }
     requires known { All (λ a. a < length streams.now) e.now.args }
     ensures { IfOk result (λ v. v ≡ updated_of e.now.op (map (λ a. event (streams_of streams.now a t)) e.now.args)) }
 {
@@ -300,7 +301,7 @@ pub fn own_of(
     lines: &[TraceLine],
     t: Time,
 ) -> Result<Option<Value>, EvalFault>
-    requires shape { HasShape e.now.op e.now.args }
+    requires shape { HasArity e.now.op e.now.args }
     requires known { All (λ a. a < length streams.now) e.now.args }
     requires there { i < length streams.now }
     requires kept { IsKept (streams_of streams.now) i e.now.op e.now.args t }
@@ -315,7 +316,7 @@ pub fn own_of(
         Op::Unit => Ok(unit_if(t.get() == 0)),
         Op::Lift { body, strict } => {
             let values = values_at(alloc, args.ids(), streams, t)?;
-            lifted(alloc, body, *strict, &values)
+            lift_value(alloc, body, *strict, &values)
         }
         Op::Any => {
             let values = values_at(alloc, args.ids(), streams, t)?;
@@ -334,7 +335,7 @@ pub fn own_of(
 
 /// An argument that is used at the same time has a fault.
 fn is_blocked_at(e: &Equation, streams: &[Events], t: Time) -> bool
-    requires shape { HasShape e.now.op e.now.args }
+    requires shape { HasArity e.now.op e.now.args }
     requires known { All (λ a. a < length streams.now) e.now.args }
     ensures { result ≡ is_blocked (streams_of streams.now) e.now t }
 {
@@ -354,7 +355,7 @@ pub fn outcome_of(
     lines: &[TraceLine],
     t: Time,
 ) -> Result<Option<Outcome>, NoMemory>
-    requires shape { HasShape e.now.op e.now.args }
+    requires shape { HasArity e.now.op e.now.args }
     requires known { All (λ a. a < length streams.now) e.now.args }
     requires there { i < length streams.now }
     requires kept { IsKept (streams_of streams.now) i e.now.op e.now.args t }
@@ -401,7 +402,7 @@ pub fn root_of(
     lines: &[TraceLine],
     t: Time,
 ) -> Result<Option<FaultKind>, NoMemory>
-    requires shape { HasShape e.now.op e.now.args }
+    requires shape { HasArity e.now.op e.now.args }
     requires known { All (λ a. a < length streams.now) e.now.args }
     requires there { i < length streams.now }
     requires kept { IsKept (streams_of streams.now) i e.now.op e.now.args t }

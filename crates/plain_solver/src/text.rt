@@ -4,7 +4,7 @@ ghost use Rattle.std.specs.Prelude.{◌≡◌, ◌++◌, Some, OnOk, OnErr, IfOk
 ghost use Rattle.std.specs.List.{flat_map};
 ghost use Rattle.flat_core.specs.Stream.{event};
 ghost use Rattle.flat_core.specs.Text.{event_line, text_at};
-ghost use Rattle.plain_solver.specs.inner.Shape.{streams_of};
+ghost use Rattle.plain_solver.specs.inner.Streams.{streams_of};
 ghost use Rattle.plain_solver.specs.inner.Ending.{IsDueText};
 
 use crate::events::Events;

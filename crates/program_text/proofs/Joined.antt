@@ -1,5 +1,5 @@
 -- Texts that are printed one after the other.
-use Rattle.std.proofs.Common.{◌≡◌, ℕ, List, ◌++◌, length, take, drop, sym, ap, ◌∙◌, append_assoc, Result, Ok, Err, OnErr}
+use Rattle.std.proofs.Common.{◌≡◌, ℕ, List, ◌++◌, length, take, drop, sym, ap, ◌∙◌, append_assoc}
 use Rattle.std.proofs.lemmas.List.{take-append-drop}
 use Rattle.std.proofs.Math.Seq.{take-append_seam}
 
@@ -8,7 +8,3 @@ pub kept : (a b c more : List ℕ) → b ≡ a ++ more → take (length b) c ≡
 kept a b c more h k =
     let whole : c ≡ a ++ (more ++ drop (length b) c) = sym (take-append-drop (length b) c) ∙ ap (λ x. x ++ drop (length b) c) (k ∙ h) ∙ append_assoc a more (drop (length b) c) in
     ap (take (length a)) whole ∙ take-append_seam a (more ++ drop (length b) c)
-
-pub on_err : {T E P : Type 0} (r : Result T E) → P → OnErr r P
-on_err (Ok x) p = tt
-on_err (Err e) p = p

@@ -9,11 +9,8 @@ use Rattle.tsl_value.specs.declared.scalar.KeyType.{KeyType}
 use Rattle.tsl_value.specs.declared.scalar.KeyType.TheVariants as key_type
 use Rattle.tsl_value.specs.declared.scalar.ValueType.{ValueType}
 use Rattle.tsl_value.specs.declared.scalar.ValueType.TheVariants as value_type
-use Rattle.lift_func.specs.declared.body.Unary.{Unary}
-use Rattle.lift_func.specs.declared.body.Unary.TheVariants as unary
-use Rattle.lift_func.specs.declared.body.Binary.{Binary}
-use Rattle.lift_func.specs.declared.body.Binary.TheVariants as binary
-use Rattle.lift_func.specs.Tree.{Tree, Literal, Argument, Absent, One, Two, Choice}
+use Rattle.lift_func.specs.Operations.{unary_name, binary_name}
+use Rattle.lift_func.specs.BodyTree.{BodyTree, Literal, Argument, Absent, One, Two, Choice}
 use Rattle.flat_core.specs.declared.equation.Op.{Op}
 use Rattle.flat_core.specs.declared.equation.Op.TheVariants as op
 use Rattle.flat_core.specs.declared.equation.Equation.{Equation}
@@ -37,46 +34,17 @@ type_text (value_type.Scalar s) = scalar_type_text s
 type_text (value_type.Set k) = codes "Set[" ++ (key_type_text k ++ codes "]")
 type_text (value_type.Map k s) = codes "Map[" ++ (key_type_text k ++ (codes ", " ++ (scalar_type_text s ++ codes "]")))
 
--- the names of operations in bodies
-abbrev pub unary_text : Unary → List ℕ
-unary_text unary.Neg = codes "neg"
-unary_text unary.Not = codes "not"
-unary_text unary.Size = codes "size"
-unary_text unary.Length = codes "length"
-unary_text unary.Some = codes "some"
-unary_text unary.IsSome = codes "issome"
-unary_text unary.IsNone = codes "isnone"
-unary_text unary.GetSome = codes "getsome"
-
-abbrev pub binary_text : Binary → List ℕ
-binary_text binary.Add = codes "add"
-binary_text binary.Sub = codes "sub"
-binary_text binary.Mul = codes "mul"
-binary_text binary.Div = codes "div"
-binary_text binary.Rem = codes "rem"
-binary_text binary.Eq = codes "eq"
-binary_text binary.Ne = codes "ne"
-binary_text binary.Lt = codes "lt"
-binary_text binary.Le = codes "le"
-binary_text binary.Gt = codes "gt"
-binary_text binary.Ge = codes "ge"
-binary_text binary.And = codes "and"
-binary_text binary.Or = codes "or"
-binary_text binary.Contains = codes "contains"
-binary_text binary.Get = codes "get"
-binary_text binary.Concat = codes "concat"
-
 -- an operation of some parts: its name, and the parts in parentheses with a comma and a blank between them
 abbrev pub applied_text : List ℕ → List (List ℕ) → List ℕ
 applied_text name parts = name ++ (codes "(" ++ (listed parts ++ codes ")"))
 
 -- a body: a literal, an argument as `$` and its number, an operation's name alone where it has no part, or an operation of its parts
-abbrev pub body_text : Tree → List ℕ
+abbrev pub body_text : BodyTree → List ℕ
 body_text (Literal s) = scalar_text s
 body_text (Argument n) = codes "$" ++ decimal n
 body_text (Absent t) = codes "none"
-body_text (One o a) = applied_text (unary_text o) (body_text a ∷ [])
-body_text (Two o a b) = applied_text (binary_text o) (body_text a ∷ body_text b ∷ [])
+body_text (One o a) = applied_text (unary_name o) (body_text a ∷ [])
+body_text (Two o a b) = applied_text (binary_name o) (body_text a ∷ body_text b ∷ [])
 body_text (Choice c a b) = applied_text (codes "if") (body_text c ∷ body_text a ∷ body_text b ∷ [])
 
 abbrev pub op_name : Op → List ℕ
@@ -112,6 +80,18 @@ op_text o t = op_name o ++ after_op_text o t
 -- an equation by its number
 abbrev pub number_text : ℕ → List ℕ
 number_text i = codes "%" ++ decimal i
+
+-- what an equation is called: its name, or its number where it has none
+abbrev pub name_or_number : ℕ → Option (List ℕ) → List ℕ
+name_or_number i None = number_text i
+name_or_number i (Some name) = name
+
+abbrev pub label_at : ℕ → Option Equation → List ℕ
+label_at i None = number_text i
+label_at i (Some e) = name_or_number i e.name
+
+abbrev pub label_text : System → ℕ → List ℕ
+label_text s i = label_at i (equation s i)
 
 -- a name with a blank after it, where there is one
 abbrev pub name_text : Option (List ℕ) → List ℕ

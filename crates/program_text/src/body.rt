@@ -1,10 +1,9 @@
 // The text of bodies.
 
 ghost use Rattle.std.specs.Prelude.{◌≡◌, ◌++◌, codes, length, take, OnOk, OnErr};
-ghost use Rattle.lift_func.specs.inner.Shape.{tree_of};
+ghost use Rattle.lift_func.specs.inner.OneLevel.{tree_of};
 ghost use Rattle.program_text.specs.Text.{body_text};
 
-use crate::names::{binary_name, unary_name};
 use lift_func::body::{Body, Node};
 use tsl_value::bytes::Bytes;
 use tsl_value::memory::NoMemory;
@@ -32,11 +31,11 @@ fn put_node(node: &Node, out: &mut Bytes) -> Result<(), NoMemory>
         }
         Node::Absent(_) => out.append(b"none"),
         Node::One(operation, a) => {
-            put_first(unary_name(*operation), a, out)?;
+            put_first(operation.name(), a, out)?;
             out.push(b')')
         }
         Node::Two(operation, a, b) => {
-            put_first(binary_name(*operation), a, out)?;
+            put_first(operation.name(), a, out)?;
             put_next(b, out)?;
             out.push(b')')
         }

@@ -1,10 +1,9 @@
 // The names of types and operations.
 
 ghost use Rattle.std.specs.Prelude.{◌≡◌};
-ghost use Rattle.program_text.specs.Text.{binary_text, key_type_text, op_name as op_text_name, scalar_type_text, unary_text};
+ghost use Rattle.program_text.specs.Text.{key_type_text, op_name as op_text_name, scalar_type_text};
 
 use flat_core::equation::Op;
-use lift_func::body::{Binary, Unary};
 use tsl_value::scalar::{KeyType, ScalarType};
 
 pub(crate) fn scalar_type_name(of: ScalarType) -> &'static [u8]
@@ -25,44 +24,6 @@ pub(crate) fn key_type_name(of: KeyType) -> &'static [u8]
         KeyType::Int => b"Int",
         KeyType::Bool => b"Bool",
         KeyType::Text => b"String",
-    }
-}
-
-pub(crate) fn unary_name(operation: Unary) -> &'static [u8]
-    ensures { result.now ≡ unary_text operation }
-{
-    match operation {
-        Unary::Neg => b"neg",
-        Unary::Not => b"not",
-        Unary::Size => b"size",
-        Unary::Length => b"length",
-        Unary::Some => b"some",
-        Unary::IsSome => b"issome",
-        Unary::IsNone => b"isnone",
-        Unary::GetSome => b"getsome",
-    }
-}
-
-pub(crate) fn binary_name(operation: Binary) -> &'static [u8]
-    ensures { result.now ≡ binary_text operation }
-{
-    match operation {
-        Binary::Add => b"add",
-        Binary::Sub => b"sub",
-        Binary::Mul => b"mul",
-        Binary::Div => b"div",
-        Binary::Rem => b"rem",
-        Binary::Eq => b"eq",
-        Binary::Ne => b"ne",
-        Binary::Lt => b"lt",
-        Binary::Le => b"le",
-        Binary::Gt => b"gt",
-        Binary::Ge => b"ge",
-        Binary::And => b"and",
-        Binary::Or => b"or",
-        Binary::Contains => b"contains",
-        Binary::Get => b"get",
-        Binary::Concat => b"concat",
     }
 }
 

@@ -4,7 +4,7 @@ ghost use Rattle.std.specs.Prelude.{◌≡◌, ◌<◌, [], ◌++◌, codes, if�
 ghost use Rattle.std.specs.List.{flat_map};
 ghost use Rattle.flat_core.specs.System.{runs};
 ghost use Rattle.program_text.specs.Text.{args_text, after_op_text, definition_text, equation_line, text_of, flat_text, name_text};
-ghost use Rattle.program_text.specs.Text.{number_text, op_text, output_line, running, type_text};
+ghost use Rattle.program_text.specs.Text.{label_text, name_or_number, number_text, op_text, output_line, running, type_text};
 
 use crate::body::put_body;
 use crate::names::{key_type_name, op_name, scalar_type_name};
@@ -51,6 +51,29 @@ pub fn print_id(id: EqId, out: &mut Bytes) -> Result<(), NoMemory>
             out.truncate(before);
             Err(none)
         }
+    }
+}
+
+/// Appends a name, or the number of its equation where there is none, or leaves `out` as it was.
+pub fn print_name_or_id(id: EqId, name: &Option<Text>, out: &mut Bytes) -> Result<(), NoMemory>
+    ensures ok { OnOk result (out.new ≡ out.old ++ name_or_number id name.now) }
+    ensures err { OnErr result (out.new ≡ out.old) }
+{
+    match name {
+        Some(name) => out.append(name.as_str().as_bytes()),
+        None => print_id(id, out),
+    }
+}
+
+/// Appends what an equation is called, its name or else its number, or leaves `out` as it was.
+pub fn print_label(flat: &Flat, id: EqId, out: &mut Bytes) -> Result<(), NoMemory>
+    ensures ok { OnOk result (out.new ≡ out.old ++ label_text flat.now id) }
+    ensures err { OnErr result (out.new ≡ out.old) }
+{
+    if id.get() < flat.count() {
+        print_name_or_id(id, &flat.equation(id).name, out)
+    } else {
+        print_id(id, out)
     }
 }
 

@@ -113,12 +113,12 @@ module _ (s : System) (flat : IsFlat s) where
   pub not_well_formed : (cycle : List ℕ) → IsCycle (Before pairs) cycle → IsWellFormed s → ⊥
   not_well_formed cycle c good = let fed = feeds_cycle cycle c in good fed.first (path_turned fed.first fed.first (cycle_path (Feeds s) cycle fed))
 
-  pub cycle_from : (edges : List (ℕ × ℕ)) → edges ≡ pairs → (steps equations : List ℕ) → equations ≡ steps → IsCycle (Before edges) steps → IsCycle (Feeds s) equations
-  cycle_from edges is steps equations same c = subst (IsCycle (Feeds s)) (sym same) (feeds_cycle steps (subst (λ p. IsCycle (Before p) steps) is c))
+  pub cycle_from : (edges : List (ℕ × ℕ)) → edges ≡ pairs → (steps : List ℕ) → IsCycle (Before edges) steps → IsCycle (Feeds s) steps
+  cycle_from edges is steps c = feeds_cycle steps (subst (λ p. IsCycle (Before p) steps) is c)
 
-  pub walk_from : (count : ℕ) → count ≡ length s.equations → (edges : List (ℕ × ℕ)) → edges ≡ pairs → (steps equations : List ℕ) → equations ≡ steps → IsCycleOfWalk count (Before edges) steps → IsCycleOfWalk (length s.equations) (Feeds s) equations
-  walk_from count all edges is steps equations same c =
-      subst (IsCycleOfWalk (length s.equations) (Feeds s)) (sym same) (feeds_walk steps (subst (λ p. IsCycleOfWalk (length s.equations) (Before p) steps) is (subst (λ n. IsCycleOfWalk n (Before edges) steps) all c)))
+  pub walk_from : (count : ℕ) → count ≡ length s.equations → (edges : List (ℕ × ℕ)) → edges ≡ pairs → (steps : List ℕ) → IsCycleOfWalk count (Before edges) steps → IsCycleOfWalk (length s.equations) (Feeds s) steps
+  walk_from count all edges is steps c =
+      feeds_walk steps (subst (λ p. IsCycleOfWalk (length s.equations) (Before p) steps) is (subst (λ n. IsCycleOfWalk n (Before edges) steps) all c))
 
   pub cyclic_from : (edges : List (ℕ × ℕ)) → edges ≡ pairs → (steps : List ℕ) → IsCycle (Before edges) steps → IsWellFormed s → ⊥
   cyclic_from edges is steps c = not_well_formed steps (subst (λ p. IsCycle (Before p) steps) is c)

@@ -1,6 +1,6 @@
 // Whether a flat system is well-formed, and a cycle where it is not.
 
-ghost use Rattle.std.specs.Prelude.{◌≡◌, length, IfOk, OnOk, IfErr};
+ghost use Rattle.std.specs.Prelude.{length, IfOk, OnOk, IfErr};
 ghost use Rattle.flat_core.specs.inner.Dependency.{IsRunOrder};
 ghost use Rattle.flat_core.specs.WellFormed.{IsWellFormed};
 ghost use Rattle.translation_order.specs.Cycle.{IsCycle, IsCycleOfWalk};
@@ -8,12 +8,10 @@ ghost use Rattle.recursion_check.specs.Feeds.{Feeds};
 ghost use Rattle.recursion_check.specs.inner.Answer.{OnCycle};
 
 use crate::edges::edges;
-use crate::equations::EqList;
 use flat_core::flat::Flat;
 use std::alloc::Global;
 use translation_order::order::{OrderFault, order};
 use translation_order::steps::Steps;
-use tsl_value::ids::EqId;
 use tsl_value::memory::NoMemory;
 
 /// Why a flat system is refused.
@@ -21,7 +19,7 @@ use tsl_value::memory::NoMemory;
 pub enum CycleFault {
     /// Each of these equations is an argument of the next, and the last of the first, and none of these arguments is the
     /// first of a last or of a delay.
-    Cycle { equations: EqList },
+    Cycle { equations: Steps },
     Memory,
 }
 
@@ -31,17 +29,6 @@ impl From<NoMemory> for CycleFault {
     fn from(_error: NoMemory) -> CycleFault {
         CycleFault::Memory
     }
-}
-
-/// The equations of these numbers.
-fn equations(alloc: Global, numbers: &[u32]) -> Result<EqList, NoMemory>
-    ensures { IfOk result (λ l. l ≡ numbers.now) }
-{
-    let mut equations = EqList::new(alloc);
-    for number in numbers {
-        equations.push(EqId::new(*number))?;
-    }
-    Ok(equations)
 }
 
 /// Lists all equations of a well-formed system in an order to run it in, whether they run or not: at each place stands the least
@@ -58,9 +45,7 @@ pub fn run_order(alloc: Global, flat: &Flat) -> Result<Steps, CycleFault>
     let edges = edges(alloc, flat)?;
     match order(alloc, flat.count(), &edges) {
         Ok(steps) => Ok(steps),
-        Err(OrderFault::CycleOf { steps }) => Err(CycleFault::Cycle {
-            equations: equations(alloc, steps.as_slice())?,
-        }),
+        Err(OrderFault::CycleOf { steps }) => Err(CycleFault::Cycle { equations: steps }),
         Err(OrderFault::Memory) => Err(CycleFault::Memory),
     }
 }

@@ -3,5 +3,4 @@
 
 pub mod check;
 mod edges;
-pub mod equations;
 pub mod laws;

@@ -2,5 +2,4 @@ pub mod Filtered
 pub mod Gathered
 pub mod PairLemmas
 pub mod PlanOrders
-pub mod SampleLemmas
 pub mod PlanLaws

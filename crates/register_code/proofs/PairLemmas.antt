@@ -12,10 +12,9 @@ use Rattle.flat_core.specs.declared.equation.Output.{Output}
 use Rattle.flat_core.specs.Complete.{IsFlat}
 use Rattle.flat_core.specs.System.{System, equation, runs}
 use Rattle.flat_core.specs.WellFormed.{Needs}
-use Rattle.flat_core.proofs.Members.{contains_map, map_contains}
 use Rattle.flat_core.proofs.Depth.{runs_below}
 use Rattle.translation_order.specs.Order.{Before, AreOfSteps}
-use Rattle.tsl_value.proofs.Lists.{here, later, none_in_nil, cons_cases}
+use Rattle.tsl_value.proofs.Lists.{here, later, none_in_nil, cons_cases, contains_map, map_contains}
 use Rattle.alias_rules.specs.Steps.{step_count, is_print, is_step, MustPrecede, argument, printed}
 use Rattle.alias_rules.proofs.Empty.{source_within}
 use Rattle.register_code.specs.inner.Pairs.{unguarded_at, pairs_to, pairs_at, argument_pairs, print_pairs, all_pairs}

@@ -1,12 +1,11 @@
 -- The order of a plan has the least step that may stand at each place, and is the only one.
 use Rattle.std.proofs.Common.{◌≡◌, ℕ, true, Contains, subst, sym, ap, ◌∙◌}
 use Rattle.std.specs.List.{filter}
-use Rattle.translation_order.proofs.Lists.{middle}
 use Rattle.translation_order.proofs.Orders.{one_order}
 use Rattle.alias_rules.specs.Steps.{step_count, is_step, MustPrecede}
 use Rattle.alias_rules.proofs.Empty.{source_runs}
 use Rattle.register_code.specs.inner.Laws.{LeastStepsFirst, OnePlanOrder}
-use Rattle.tsl_value.proofs.Lists.{kept_in, in_kept}
+use Rattle.tsl_value.proofs.Lists.{kept_in, in_kept, middle}
 use Rattle.register_code.proofs.Filtered.{filter_split}
 use Rattle.register_code.proofs.PairLemmas.{step_runs, step_low}
 

@@ -1,35 +1,14 @@
 // The pairs of steps of which the first has to stand before the second.
 
-ghost use Rattle.std.specs.Prelude.{◌≡◌, ◌<◌, ◌≤◌, ◌+◌, ◌^◌, ◌++◌, length, drop, IfOk, OnOk};
-ghost use Rattle.flat_core.specs.WellFormed.{unguarded_of};
+ghost use Rattle.std.specs.Prelude.{◌≡◌, ◌<◌, ◌≤◌, ◌+◌, ◌^◌, ◌++◌, length, IfOk, OnOk};
 ghost use Rattle.register_code.specs.inner.Pairs.{all_pairs, pairs_at, pairs_to, print_pairs};
 
-use flat_core::equation::{Equation, Op, Output};
+use flat_core::equation::Output;
 use flat_core::flat::Flat;
 use std::alloc::Global;
 use translation_order::steps::Edges;
 use tsl_value::ids::EqId;
 use tsl_value::memory::NoMemory;
-
-/// The arguments after the first.
-fn after_the_first(arguments: &[EqId]) -> &[EqId]
-    ensures { result.now ≡ drop 1 arguments.now }
-{
-    match arguments.split_first() {
-        Some((_, rest)) => rest,
-        None => arguments,
-    }
-}
-
-/// All arguments but the first of a last or of a delay.
-fn unguarded(equation: &Equation) -> &[EqId]
-    ensures { result.now ≡ unguarded_of equation.now.op equation.now.args }
-{
-    match &equation.op {
-        Op::Last | Op::Delay => after_the_first(equation.args.ids()),
-        _ => equation.args.ids(),
-    }
-}
 
 /// Appends a pair of each of these arguments and the equation that has them.
 fn push_arguments(edges: &mut Edges, arguments: &[EqId], equation: u32) -> Result<(), NoMemory>
@@ -47,7 +26,7 @@ fn push_equation(edges: &mut Edges, flat: &Flat, id: EqId) -> Result<(), NoMemor
     ensures { OnOk result (edges.new ≡ edges.old ++ pairs_at flat.now id) }
 {
     if flat.runs(id) {
-        push_arguments(edges, unguarded(flat.equation(id)), id.get())
+        push_arguments(edges, flat.equation(id).unguarded(), id.get())
     } else {
         Ok(())
     }

@@ -5,22 +5,22 @@ use Rattle.std.specs.List.{Contains, filter}
 use Rattle.std.proofs.lemmas.Bool.{cases_Bool, cases_eq, true≢false, false≢true, eq-eqb, eqb-true, lt-ltb, le-ltb, ltb-true}
 use Rattle.flat_core.specs.System.{System}
 use Rattle.flat_core.specs.Members.{is_in}
-use Rattle.flat_core.proofs.Members.{Contains-in, in-Contains, map_contains}
+use Rattle.flat_core.proofs.Members.{Contains-in, in-Contains}
 use Rattle.trigger_rules.specs.declared.atom.Atom.{Atom}
 use Rattle.trigger_rules.specs.Formula.{Formula, Assignment, Of, Meets, always, atom, no_atom, through, both, first, second, started, unless, HasAtom, in_if, in_if_not, in_of, both_first, both_second, either_first, either_second, in_unless, Unless}
 use Rattle.trigger_rules.specs.Question.{Starts, Stands, Fires}
 use Rattle.trigger_rules.specs.Table.{formula}
-use Rattle.tsl_value.proofs.Lists.{here, later, cons_cases}
+use Rattle.tsl_value.proofs.Lists.{here, later, cons_cases, map_contains}
 use Rattle.trigger_diagram.specs.declared.arena.Branch.{Branch}
 use Rattle.trigger_diagram.specs.declared.join.Pair.{Pair}
 use Rattle.trigger_diagram.specs.declared.join.Split.{Split}
-use Rattle.trigger_diagram.specs.inner.Tree.{Tree, Leaf, Fork, Valuation, value, Agree, IsAfter, IsCanonical, with_value}
+use Rattle.trigger_diagram.specs.inner.DecisionTree.{DecisionTree, Leaf, Fork, Valuation, value, Agree, IsAfter, IsCanonical, with_value}
 use Rattle.trigger_diagram.specs.inner.Arena.{tree_at, AreCanonical, Grows, IsNode}
 use Rattle.trigger_diagram.specs.inner.Join.{AreNodes, IsSplit}
 use Rattle.trigger_diagram.specs.inner.Kept.{Kept, AreDiagramsOf, IsNodeIn, IsNodeOf}
 use Rattle.trigger_diagram.specs.inner.Truth.{variable_of, truth}
 use Rattle.trigger_diagram.specs.inner.Ways.{Occurs, OccursInOne, IsSide, Nests, none, one_more}
-use Rattle.trigger_diagram.proofs.Trees.{low_value, high_value, same_tree}
+use Rattle.trigger_diagram.proofs.DecisionTrees.{low_value, high_value, same_tree}
 use Rattle.trigger_diagram.proofs.Truths.{assignment_of, truth_is, valuation_is}
 
 -- ---- the numbers above one of them are fewer
@@ -64,11 +64,11 @@ is_above x y (z ∷ xs) lt there = elim (cons_cases z y xs there) [
 ]
 
 -- ---- variables
-occurs_after : (x y : ℕ) (t : Tree) → IsAfter x t → IsCanonical t → Occurs y t → x < y
-occurs_after x y (Leaf b) behind can deep = elim deep [ ]
-occurs_after x y (Fork z low high) behind can (inl same) = omega arith
-occurs_after x y (Fork z low high) behind can (inr (inl deep)) = let less = occurs_after z y low can.0 can.3 deep in omega arith
-occurs_after x y (Fork z low high) behind can (inr (inr deep)) = let less = occurs_after z y high can.1 can.4 deep in omega arith
+occurs_after : (x y : ℕ) (t : DecisionTree) → IsAfter x t → IsCanonical t → Occurs y t → x < y
+occurs_after x y (Leaf b) deeper can deep = elim deep [ ]
+occurs_after x y (Fork z low high) deeper can (inl same) = omega arith
+occurs_after x y (Fork z low high) deeper can (inr (inl deep)) = let less = occurs_after z y low can.0 can.3 deep in omega arith
+occurs_after x y (Fork z low high) deeper can (inr (inr deep)) = let less = occurs_after z y high can.1 can.4 deep in omega arith
 
 chosen_same : (b p q r : Bool) → p ≡ r → q ≡ r → (if b then p else q) ≡ r
 chosen_same true p q r e f = e
@@ -161,7 +161,7 @@ turned_by false false apart b c r = refl
 with_turned : (v : Valuation) (x y : ℕ) (b c : Bool) → (x ≡ y → ⊥) → with_value (with_value v y b) x c ≡ with_value (with_value v x c) y b
 with_turned v x y b c apart i z = turned_by (z == x) (z == y) (λ e f. apart (sym (eqb-true z x e) ∙ eqb-true z y f)) b c (v z) i
 
-depends : (y : ℕ) (t : Tree) → IsCanonical t → Occurs y t → ((v : Valuation) → value (with_value v y true) t ≡ value (with_value v y false) t) → ⊥
+depends : (y : ℕ) (t : DecisionTree) → IsCanonical t → Occurs y t → ((v : Valuation) → value (with_value v y true) t ≡ value (with_value v y false) t) → ⊥
 depends y (Leaf b) can deep alike = elim deep [ ]
 depends y (Fork x low high) can (inl same) alike =
     can.2 (same_tree low high can.3 can.4 (λ v. sym (low_value v x low high can) ∙ sym (subst (λ z. value (with_value v z true) (Fork x low high) ≡ value (with_value v z false) (Fork x low high)) same (alike v)) ∙ high_value v x low high can))
@@ -196,7 +196,7 @@ alike_by false true one two = absurd (two refl refl)
 alike_by false false one two = refl
 
 module _ (d : Kept) (s : System) (x n : ℕ) (atoms : List Atom) (can : AreCanonical d.branches) (are : AreDiagramsOf d s) (node : IsNodeIn d n) (exact : IsNodeOf d x n) (all : (a : Atom) → Stands s x a → Contains atoms a) (y : ℕ) where
-  abbrev tree : Tree
+  abbrev tree : DecisionTree
   tree = tree_at d.branches n
 
   -- the formula's value where it is that of the tree in a valuation

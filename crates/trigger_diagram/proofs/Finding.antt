@@ -2,14 +2,15 @@
 use Rattle.std.proofs.Common.{◌≡◌, ℕ, ◌==◌, ◌↔◌, ◌⊎◌, Bool, true, false, not, cond, if◌then◌else◌, List, Some, None, refl, sym, ap, subst, ◌∙◌, inl, inr, arith}
 use Rattle.std.specs.Prelude.{IsTrue}
 use Rattle.std.proofs.lemmas.Bool.{cases_Bool, true≢false, false≢true, eq-eqb, eqb-true}
+use Rattle.std.proofs.lemmas.Option.{same_Some}
 use Rattle.indexmap.specs.IndexSet.{IndexSet, contains}
 use Rattle.trigger_diagram.specs.declared.arena.Branch.{Branch}
 use Rattle.trigger_diagram.specs.declared.join.Pair.{Pair}
 use Rattle.trigger_diagram.specs.declared.join.Split.{Split}
-use Rattle.trigger_diagram.specs.inner.Tree.{Agree, Valuation, value, IsAfter, with_value}
+use Rattle.trigger_diagram.specs.inner.DecisionTree.{Agree, Valuation, value, IsAfter, with_value}
 use Rattle.trigger_diagram.specs.inner.Arena.{tree_at, IsNode, AreCanonical}
 use Rattle.trigger_diagram.specs.inner.Join.{asked, decided, same_pair, AreNodes, AreRefuted, AreTogether, IsFound, IsImplied, IsSplit}
-use Rattle.trigger_diagram.proofs.Trees.{has_other, same_tree, value_with, with_same}
+use Rattle.trigger_diagram.proofs.DecisionTrees.{has_other, same_tree, value_with, with_same}
 use Rattle.trigger_diagram.proofs.Joining.{pair_to, value_no, value_yes}
 
 asked_at : (both p q r s : Bool) → p ≡ r → q ≡ s → IsTrue (asked both r s) → IsTrue (asked both p q)
@@ -53,25 +54,22 @@ module _ (bs : List Branch) (can : AreCanonical bs) (both : Bool) (p : Pair) (no
   some_no : (n : ℕ) → IsNode bs n → (n ≡ 1 → ⊥) → (v : Valuation) × (at v n ≡ false)
   some_no n node other = has_other (tree_at bs n) true (can.canonical n node) (λ e. other (can.once n 1 node (omega arith) (e ∙ sym can.yes)))
 
-is_some : (a b : Bool) → Some a ≡ Some b → a ≡ b
-is_some a b e = cc
-
 decided_by : (bs : List Branch) (can : AreCanonical bs) (both : Bool) (p : Pair) (nodes : AreNodes bs p) (a0 b0 b1 a1 : Bool) (r : Bool) → (a0 ≡ true → p.first ≡ 0) → (a0 ≡ false → p.first ≡ 0 → ⊥) → (b0 ≡ true → p.second ≡ 0) → (b0 ≡ false → p.second ≡ 0 → ⊥) → (b1 ≡ true → p.second ≡ 1) → (b1 ≡ false → p.second ≡ 1 → ⊥) → (a1 ≡ true → p.first ≡ 1) → (if a0 then Some false else if b0 then Some (not both) else if b1 then Some both else if a1 then Some true else None) ≡ Some r → IsTrue r ↔ IsFound both bs p
-decided_by bs can both p nodes true b0 b1 a1 r f f' g g' h h' k e = subst (λ t. IsTrue t ↔ IsFound both bs p) (is_some false r e) (never bs can both p nodes (λ v yes other. false≢true (sym (value_no bs p.first v (f refl)) ∙ yes)))
-decided_by bs can true p nodes false true b1 a1 r f f' g g' h h' k e = subst (λ t. IsTrue t ↔ IsFound true bs p) (is_some false r e) (never bs can true p nodes (λ v yes other. false≢true (sym (value_no bs p.second v (g refl)) ∙ other)))
+decided_by bs can both p nodes true b0 b1 a1 r f f' g g' h h' k e = subst (λ t. IsTrue t ↔ IsFound both bs p) (same_Some false r e) (never bs can both p nodes (λ v yes other. false≢true (sym (value_no bs p.first v (f refl)) ∙ yes)))
+decided_by bs can true p nodes false true b1 a1 r f f' g g' h h' k e = subst (λ t. IsTrue t ↔ IsFound true bs p) (same_Some false r e) (never bs can true p nodes (λ v yes other. false≢true (sym (value_no bs p.second v (g refl)) ∙ other)))
 decided_by bs can false p nodes false true b1 a1 r f f' g g' h h' k e =
     let v = some_yes bs can false p nodes p.first nodes.0 (f' refl) in
-    subst (λ t. IsTrue t ↔ IsFound false bs p) (is_some true r e) (there bs can false p nodes v.0 v.1 (value_no bs p.second v.0 (g refl)))
+    subst (λ t. IsTrue t ↔ IsFound false bs p) (same_Some true r e) (there bs can false p nodes v.0 v.1 (value_no bs p.second v.0 (g refl)))
 decided_by bs can true p nodes false false true a1 r f f' g g' h h' k e =
     let v = some_yes bs can true p nodes p.first nodes.0 (f' refl) in
-    subst (λ t. IsTrue t ↔ IsFound true bs p) (is_some true r e) (there bs can true p nodes v.0 v.1 (value_yes bs p.second v.0 (h refl)))
-decided_by bs can false p nodes false false true a1 r f f' g g' h h' k e = subst (λ t. IsTrue t ↔ IsFound false bs p) (is_some false r e) (never bs can false p nodes (λ v yes other. true≢false (sym (value_yes bs p.second v (h refl)) ∙ other)))
+    subst (λ t. IsTrue t ↔ IsFound true bs p) (same_Some true r e) (there bs can true p nodes v.0 v.1 (value_yes bs p.second v.0 (h refl)))
+decided_by bs can false p nodes false false true a1 r f f' g g' h h' k e = subst (λ t. IsTrue t ↔ IsFound false bs p) (same_Some false r e) (never bs can false p nodes (λ v yes other. true≢false (sym (value_yes bs p.second v (h refl)) ∙ other)))
 decided_by bs can true p nodes false false false true r f f' g g' h h' k e =
     let v = some_yes bs can true p nodes p.second nodes.1 (g' refl) in
-    subst (λ t. IsTrue t ↔ IsFound true bs p) (is_some true r e) (there bs can true p nodes v.0 (value_yes bs p.first v.0 (k refl)) v.1)
+    subst (λ t. IsTrue t ↔ IsFound true bs p) (same_Some true r e) (there bs can true p nodes v.0 (value_yes bs p.first v.0 (k refl)) v.1)
 decided_by bs can false p nodes false false false true r f f' g g' h h' k e =
     let v = some_no bs can false p nodes p.second nodes.1 (h' refl) in
-    subst (λ t. IsTrue t ↔ IsFound false bs p) (is_some true r e) (there bs can false p nodes v.0 (value_yes bs p.first v.0 (k refl)) v.1)
+    subst (λ t. IsTrue t ↔ IsFound false bs p) (same_Some true r e) (there bs can false p nodes v.0 (value_yes bs p.first v.0 (k refl)) v.1)
 decided_by bs can both p nodes false false false false r f f' g g' h h' k e = cc
 
 differs : (a b : ℕ) → (a == b) ≡ false → a ≡ b → ⊥
@@ -87,12 +85,12 @@ module _ (bs : List Branch) (can : AreCanonical bs) (both : Bool) (p : Pair) (s 
   is v n = value v (tree_at bs n)
 
   side : (b : Bool) (v : Valuation) (n low high k : ℕ) → ((w : Valuation) → is w n ≡ (if w s.variable then is w high else is w low)) → k ≡ (if b then high else low) → IsNode bs k → IsAfter s.variable (tree_at bs k) → is (with_value v s.variable b) n ≡ is v k
-  side true v n low high k parts same node behind =
+  side true v n low high k parts same node deeper =
       parts (with_value v s.variable true) ∙ ap (λ t. if t then is (with_value v s.variable true) high else is (with_value v s.variable true) low) (with_same v s.variable true)
-      ∙ ap (λ m. is (with_value v s.variable true) m) (sym same) ∙ value_with v s.variable true (tree_at bs k) behind (can.canonical k node)
-  side false v n low high k parts same node behind =
+      ∙ ap (λ m. is (with_value v s.variable true) m) (sym same) ∙ value_with v s.variable true (tree_at bs k) deeper (can.canonical k node)
+  side false v n low high k parts same node deeper =
       parts (with_value v s.variable false) ∙ ap (λ t. if t then is (with_value v s.variable false) high else is (with_value v s.variable false) low) (with_same v s.variable false)
-      ∙ ap (λ m. is (with_value v s.variable false) m) (sym same) ∙ value_with v s.variable false (tree_at bs k) behind (can.canonical k node)
+      ∙ ap (λ m. is (with_value v s.variable false) m) (sym same) ∙ value_with v s.variable false (tree_at bs k) deeper (can.canonical k node)
 
   pub from_low : IsFound both bs s.low → IsFound both bs p
   from_low f = record {

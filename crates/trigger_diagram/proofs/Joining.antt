@@ -1,13 +1,14 @@
 -- The node of two nodes.
 use Rattle.std.proofs.Common.{◌≡◌, ℕ, ◌<◌, ◌==◌, Bool, true, false, cond, ◌&&◌, ◌||◌, if◌then◌else◌, List, Some, None, refl, sym, ap, subst, ◌∙◌, inl, inr, arith}
 use Rattle.std.proofs.lemmas.Bool.{cases_Bool, true≢false, false≢true, eqb-true}
+use Rattle.std.proofs.lemmas.Option.{same_Some}
 use Rattle.indexmap.specs.IndexMap.{IndexMap, get}
 use Rattle.trigger_diagram.specs.declared.arena.Branch.{Branch}
 use Rattle.trigger_diagram.specs.declared.join.Connective.{Connective}
 use Rattle.trigger_diagram.specs.declared.join.Connective.TheVariants as connective
 use Rattle.trigger_diagram.specs.declared.join.Pair.{Pair}
 use Rattle.trigger_diagram.specs.declared.join.Split.{Split}
-use Rattle.trigger_diagram.specs.inner.Tree.{Valuation, value, IsAfter}
+use Rattle.trigger_diagram.specs.inner.DecisionTree.{Valuation, value, IsAfter}
 use Rattle.trigger_diagram.specs.inner.Arena.{tree_at, IsNode, Grows}
 use Rattle.trigger_diagram.specs.inner.Join.{connected, settled, same_pair, AreNodes, AreJoined, IsJoin, IsSplit}
 use Rattle.trigger_diagram.proofs.Nodes.{no_is, yes_is, grows_on, both}
@@ -53,32 +54,29 @@ value_yes bs n v e = ap (value v) (ap (tree_at bs) e ∙ yes_is bs)
 
 module _ (bs : List Branch) (p : Pair) (nodes : AreNodes bs p) where
   join_no : (c : Connective) → ((v : Valuation) → false ≡ connected c (value v (tree_at bs p.first)) (value v (tree_at bs p.second))) → IsJoin c bs p 0
-  join_no c same = record { there = omega arith; exact = λ v. ap (value v) (no_is bs) ∙ same v; behind = λ x f s. subst (IsAfter x) (sym (no_is bs)) tt }
+  join_no c same = record { there = omega arith; exact = λ v. ap (value v) (no_is bs) ∙ same v; deeper = λ x f s. subst (IsAfter x) (sym (no_is bs)) tt }
 
   join_yes : (c : Connective) → ((v : Valuation) → true ≡ connected c (value v (tree_at bs p.first)) (value v (tree_at bs p.second))) → IsJoin c bs p 1
-  join_yes c same = record { there = omega arith; exact = λ v. ap (value v) (yes_is bs) ∙ same v; behind = λ x f s. subst (IsAfter x) (sym (yes_is bs)) tt }
+  join_yes c same = record { there = omega arith; exact = λ v. ap (value v) (yes_is bs) ∙ same v; deeper = λ x f s. subst (IsAfter x) (sym (yes_is bs)) tt }
 
   join_first : (c : Connective) → ((v : Valuation) → value v (tree_at bs p.first) ≡ connected c (value v (tree_at bs p.first)) (value v (tree_at bs p.second))) → IsJoin c bs p p.first
-  join_first c same = record { there = nodes.0; exact = same; behind = λ x f s. f }
+  join_first c same = record { there = nodes.0; exact = same; deeper = λ x f s. f }
 
   join_second : (c : Connective) → ((v : Valuation) → value v (tree_at bs p.second) ≡ connected c (value v (tree_at bs p.first)) (value v (tree_at bs p.second))) → IsJoin c bs p p.second
-  join_second c same = record { there = nodes.1; exact = same; behind = λ x f s. s }
-
-  some_is : (m n : ℕ) → Some m ≡ Some n → m ≡ n
-  some_is m n e = cc
+  join_second c same = record { there = nodes.1; exact = same; deeper = λ x f s. s }
 
   and_by : (a0 b0 a1 b1 : Bool) (n : ℕ) → (a0 ≡ true → p.first ≡ 0) → (b0 ≡ true → p.second ≡ 0) → (a1 ≡ true → p.first ≡ 1) → (b1 ≡ true → p.second ≡ 1) → (if a0 || b0 then Some 0 else if a1 then Some p.second else if b1 then Some p.first else None) ≡ Some n → IsJoin connective.And bs p n
-  and_by true b0 a1 b1 n f g h k e = subst (IsJoin connective.And bs p) (some_is 0 n e) (join_no connective.And (λ v. and_no (value v (tree_at bs p.first)) (value v (tree_at bs p.second)) (value_no bs p.first v (f refl))))
-  and_by false true a1 b1 n f g h k e = subst (IsJoin connective.And bs p) (some_is 0 n e) (join_no connective.And (λ v. and_no_second (value v (tree_at bs p.first)) (value v (tree_at bs p.second)) (value_no bs p.second v (g refl))))
-  and_by false false true b1 n f g h k e = subst (IsJoin connective.And bs p) (some_is p.second n e) (join_second connective.And (λ v. and_yes (value v (tree_at bs p.first)) (value v (tree_at bs p.second)) (value_yes bs p.first v (h refl))))
-  and_by false false false true n f g h k e = subst (IsJoin connective.And bs p) (some_is p.first n e) (join_first connective.And (λ v. and_yes_second (value v (tree_at bs p.first)) (value v (tree_at bs p.second)) (value_yes bs p.second v (k refl))))
+  and_by true b0 a1 b1 n f g h k e = subst (IsJoin connective.And bs p) (same_Some 0 n e) (join_no connective.And (λ v. and_no (value v (tree_at bs p.first)) (value v (tree_at bs p.second)) (value_no bs p.first v (f refl))))
+  and_by false true a1 b1 n f g h k e = subst (IsJoin connective.And bs p) (same_Some 0 n e) (join_no connective.And (λ v. and_no_second (value v (tree_at bs p.first)) (value v (tree_at bs p.second)) (value_no bs p.second v (g refl))))
+  and_by false false true b1 n f g h k e = subst (IsJoin connective.And bs p) (same_Some p.second n e) (join_second connective.And (λ v. and_yes (value v (tree_at bs p.first)) (value v (tree_at bs p.second)) (value_yes bs p.first v (h refl))))
+  and_by false false false true n f g h k e = subst (IsJoin connective.And bs p) (same_Some p.first n e) (join_first connective.And (λ v. and_yes_second (value v (tree_at bs p.first)) (value v (tree_at bs p.second)) (value_yes bs p.second v (k refl))))
   and_by false false false false n f g h k e = cc
 
   or_by : (a1 b1 a0 b0 : Bool) (n : ℕ) → (a1 ≡ true → p.first ≡ 1) → (b1 ≡ true → p.second ≡ 1) → (a0 ≡ true → p.first ≡ 0) → (b0 ≡ true → p.second ≡ 0) → (if a1 || b1 then Some 1 else if a0 then Some p.second else if b0 then Some p.first else None) ≡ Some n → IsJoin connective.Or bs p n
-  or_by true b1 a0 b0 n f g h k e = subst (IsJoin connective.Or bs p) (some_is 1 n e) (join_yes connective.Or (λ v. or_yes (value v (tree_at bs p.first)) (value v (tree_at bs p.second)) (value_yes bs p.first v (f refl))))
-  or_by false true a0 b0 n f g h k e = subst (IsJoin connective.Or bs p) (some_is 1 n e) (join_yes connective.Or (λ v. or_yes_second (value v (tree_at bs p.first)) (value v (tree_at bs p.second)) (value_yes bs p.second v (g refl))))
-  or_by false false true b0 n f g h k e = subst (IsJoin connective.Or bs p) (some_is p.second n e) (join_second connective.Or (λ v. or_no (value v (tree_at bs p.first)) (value v (tree_at bs p.second)) (value_no bs p.first v (h refl))))
-  or_by false false false true n f g h k e = subst (IsJoin connective.Or bs p) (some_is p.first n e) (join_first connective.Or (λ v. or_no_second (value v (tree_at bs p.first)) (value v (tree_at bs p.second)) (value_no bs p.second v (k refl))))
+  or_by true b1 a0 b0 n f g h k e = subst (IsJoin connective.Or bs p) (same_Some 1 n e) (join_yes connective.Or (λ v. or_yes (value v (tree_at bs p.first)) (value v (tree_at bs p.second)) (value_yes bs p.first v (f refl))))
+  or_by false true a0 b0 n f g h k e = subst (IsJoin connective.Or bs p) (same_Some 1 n e) (join_yes connective.Or (λ v. or_yes_second (value v (tree_at bs p.first)) (value v (tree_at bs p.second)) (value_yes bs p.second v (g refl))))
+  or_by false false true b0 n f g h k e = subst (IsJoin connective.Or bs p) (same_Some p.second n e) (join_second connective.Or (λ v. or_no (value v (tree_at bs p.first)) (value v (tree_at bs p.second)) (value_no bs p.first v (h refl))))
+  or_by false false false true n f g h k e = subst (IsJoin connective.Or bs p) (same_Some p.first n e) (join_first connective.Or (λ v. or_no_second (value v (tree_at bs p.first)) (value v (tree_at bs p.second)) (value_no bs p.second v (k refl))))
   or_by false false false false n f g h k e = cc
 
   pub settled_is : (c : Connective) (n : ℕ) → settled c p ≡ Some n → IsJoin c bs p n
@@ -101,12 +99,12 @@ join_on c a b p n grows nodes join = record {
   exact = λ v.
       value_kept a b n v grows join.there ∙ join.exact v
       ∙ connected_same c (value v (tree_at a p.first)) (value v (tree_at a p.second)) (value v (tree_at b p.first)) (value v (tree_at b p.second)) (sym (value_kept a b p.first v grows nodes.0)) (sym (value_kept a b p.second v grows nodes.1));
-  behind = λ x f s. subst (IsAfter x) (sym (grows.kept n join.there)) (join.behind x (subst (IsAfter x) (grows.kept p.first nodes.0) f) (subst (IsAfter x) (grows.kept p.second nodes.1) s));
+  deeper = λ x f s. subst (IsAfter x) (sym (grows.kept n join.there)) (join.deeper x (subst (IsAfter x) (grows.kept p.first nodes.0) f) (subst (IsAfter x) (grows.kept p.second nodes.1) s));
 }
 
 pub join_after : (c : Connective) (a b d : List Branch) (x : ℕ) (q : Pair) (n : ℕ) → Grows a b → Grows b d → AreNodes a q → IsAfter x (tree_at a q.first) × IsAfter x (tree_at a q.second) → IsJoin c b q n → IsAfter x (tree_at d n)
-join_after c a b d x q n one two nodes behind join =
-    subst (IsAfter x) (sym (two.kept n join.there)) (join.behind x (subst (IsAfter x) (sym (one.kept q.first nodes.0)) behind.0) (subst (IsAfter x) (sym (one.kept q.second nodes.1)) behind.1))
+join_after c a b d x q n one two nodes deeper join =
+    subst (IsAfter x) (sym (two.kept n join.there)) (join.deeper x (subst (IsAfter x) (sym (one.kept q.first nodes.0)) deeper.0) (subst (IsAfter x) (sym (one.kept q.second nodes.1)) deeper.1))
 
 spread : (c : Connective) (b p q r s : Bool) → (if b then connected c p q else connected c r s) ≡ connected c (if b then p else r) (if b then q else s)
 spread c true p q r s = refl
@@ -117,7 +115,7 @@ chosen true p q r s e f = e
 chosen false p q r s e f = f
 
 -- the step of the recursion
-module _ (c : Connective) (a b d e : List Branch) (p : Pair) (s : Split) (low high node : ℕ) (nodes : AreNodes a p) (split : IsSplit a p s) (one : Grows a b) (two : Grows b d) (three : Grows d e) (lows : IsJoin c b s.low low) (highs : IsJoin c d s.high high) (there : IsNode e node) (exact : (v : Valuation) → value v (tree_at e node) ≡ (if v s.variable then value v (tree_at d high) else value v (tree_at d low))) (behind : (x : ℕ) → x < s.variable → IsAfter x (tree_at e node)) where
+module _ (c : Connective) (a b d e : List Branch) (p : Pair) (s : Split) (low high node : ℕ) (nodes : AreNodes a p) (split : IsSplit a p s) (one : Grows a b) (two : Grows b d) (three : Grows d e) (lows : IsJoin c b s.low low) (highs : IsJoin c d s.high high) (there : IsNode e node) (exact : (v : Valuation) → value v (tree_at e node) ≡ (if v s.variable then value v (tree_at d high) else value v (tree_at d low))) (deeper : (x : ℕ) → x < s.variable → IsAfter x (tree_at e node)) where
   abbrev at : Valuation → List Branch → ℕ → Bool
   at v l n = value v (tree_at l n)
 
@@ -137,7 +135,7 @@ module _ (c : Connective) (a b d e : List Branch) (p : Pair) (s : Split) (low hi
         exact v ∙ chosen (v s.variable) _ _ _ _ (high_is v) (low_is v) ∙ spread c (v s.variable) (at v a s.high.first) (at v a s.high.second) (at v a s.low.first) (at v a s.low.second)
         ∙ connected_same c _ _ _ _ (sym (split.first v)) (sym (split.second v))
         ∙ connected_same c _ _ _ _ (sym (value_kept a e p.first v all_on nodes.0)) (sym (value_kept a e p.second v all_on nodes.1));
-    behind = λ x f g. behind x (split.before x (subst (IsAfter x) (all_on.kept p.first nodes.0) f) (subst (IsAfter x) (all_on.kept p.second nodes.1) g));
+    deeper = λ x f g. deeper x (split.before x (subst (IsAfter x) (all_on.kept p.first nodes.0) f) (subst (IsAfter x) (all_on.kept p.second nodes.1) g));
   }
 
 -- ---- what is known

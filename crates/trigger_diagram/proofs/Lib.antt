@@ -1,4 +1,4 @@
-pub mod Trees
+pub mod DecisionTrees
 pub mod Nodes
 pub mod Once
 pub mod Joining

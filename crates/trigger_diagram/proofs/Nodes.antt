@@ -8,10 +8,10 @@ use Rattle.std.proofs.lemmas.Bool.{true≢false, false≢true, eq-eqb, eqb-true}
 use Rattle.std.proofs.lemmas.List.{get_or_append_left, length-append}
 use Rattle.std.proofs.Math.Seq.{get_or-append_seam}
 use Rattle.trigger_diagram.specs.declared.arena.Branch.{Branch}
-use Rattle.trigger_diagram.specs.inner.Tree.{Tree, Leaf, Fork, Valuation, value, IsAfter}
+use Rattle.trigger_diagram.specs.inner.DecisionTree.{DecisionTree, Leaf, Fork, Valuation, value, IsAfter}
 use Rattle.trigger_diagram.specs.inner.Arena.{tree_in, fork_in, trees_from, trees_of, tree_at, IsNode, IsSound, same_branch, IsArena, Grows}
 
-length-trees_from : (ts : List Tree) (bs : List Branch) → length (trees_from ts bs) ≡ length ts + length bs
+length-trees_from : (ts : List DecisionTree) (bs : List Branch) → length (trees_from ts bs) ≡ length ts + length bs
 length-trees_from ts [] = omega arith
 length-trees_from ts (b ∷ bs) =
     let rest = length-trees_from (ts ++ fork_in ts b ∷ []) bs in
@@ -21,13 +21,13 @@ length-trees_from ts (b ∷ bs) =
 pub many : (bs : List Branch) → length (trees_of bs) ≡ length bs + 2
 many bs = let l = length-trees_from (Leaf false ∷ Leaf true ∷ []) bs in omega arith
 
-trees_kept : (ts : List Tree) (bs : List Branch) (n : ℕ) → n < length ts → tree_in (trees_from ts bs) n ≡ tree_in ts n
+trees_kept : (ts : List DecisionTree) (bs : List Branch) (n : ℕ) → n < length ts → tree_in (trees_from ts bs) n ≡ tree_in ts n
 trees_kept ts [] n lt = refl
 trees_kept ts (b ∷ bs) n lt =
     let one = length-append ts (fork_in ts b ∷ []) in
     trees_kept (ts ++ fork_in ts b ∷ []) bs n (omega arith) ∙ get_or_append_left ts (fork_in ts b ∷ []) (Leaf false) n lt
 
-trees_from_more : (ts : List Tree) (bs : List Branch) (b : Branch) → trees_from ts (bs ++ b ∷ []) ≡ trees_from ts bs ++ fork_in (trees_from ts bs) b ∷ []
+trees_from_more : (ts : List DecisionTree) (bs : List Branch) (b : Branch) → trees_from ts (bs ++ b ∷ []) ≡ trees_from ts bs ++ fork_in (trees_from ts bs) b ∷ []
 trees_from_more ts [] b = refl
 trees_from_more ts (c ∷ bs) b = trees_from_more (ts ++ fork_in ts c ∷ []) bs b
 

@@ -2,7 +2,7 @@
 use Rattle.std.proofs.Common.{◌≡◌, ℕ, zero, suc, ◌+◌, ◌<◌, true, false, List, [], ◌∷◌, length, Some, refl, sym, ap, subst, ◌∙◌, arith}
 use Rattle.std.specs.Prelude.{slice_get}
 use Rattle.trigger_diagram.specs.declared.arena.Branch.{Branch}
-use Rattle.trigger_diagram.specs.inner.Tree.{Tree, Leaf, Fork, IsCanonical}
+use Rattle.trigger_diagram.specs.inner.DecisionTree.{DecisionTree, Leaf, Fork, IsCanonical}
 use Rattle.trigger_diagram.specs.inner.Arena.{tree_at, IsNode, IsSound, IsArena, AreCanonical}
 use Rattle.trigger_diagram.proofs.Nodes.{no_is, yes_is, once_at}
 
@@ -12,23 +12,23 @@ read [] k lt = absurd (omega arith)
 read (x ∷ bs) zero lt = (x, refl)
 read (x ∷ bs) (suc k) lt = read bs k (omega arith)
 
-fork_variable : (x y : ℕ) (a b c d : Tree) → Fork x a b ≡ Fork y c d → x ≡ y
+fork_variable : (x y : ℕ) (a b c d : DecisionTree) → Fork x a b ≡ Fork y c d → x ≡ y
 fork_variable x y a b c d e = cc
 
-fork_low : (x y : ℕ) (a b c d : Tree) → Fork x a b ≡ Fork y c d → a ≡ c
+fork_low : (x y : ℕ) (a b c d : DecisionTree) → Fork x a b ≡ Fork y c d → a ≡ c
 fork_low x y a b c d e = cc
 
-fork_high : (x y : ℕ) (a b c d : Tree) → Fork x a b ≡ Fork y c d → b ≡ d
+fork_high : (x y : ℕ) (a b c d : DecisionTree) → Fork x a b ≡ Fork y c d → b ≡ d
 fork_high x y a b c d e = cc
 
 module _ (bs : List Branch) (arena : IsArena bs) where
   -- a node and its tree
-  data Kind (n : ℕ) : Type 0 where
-    no : n ≡ 0 → Kind n
-    yes : n ≡ 1 → Kind n
-    branch : (k : ℕ) (b : Branch) → n ≡ k + 2 → slice_get bs k ≡ Some b → IsSound bs n b → Kind n
+  data NodeKind (n : ℕ) : Type 0 where
+    no : n ≡ 0 → NodeKind n
+    yes : n ≡ 1 → NodeKind n
+    branch : (k : ℕ) (b : Branch) → n ≡ k + 2 → slice_get bs k ≡ Some b → IsSound bs n b → NodeKind n
 
-  kind : (n : ℕ) → IsNode bs n → Kind n
+  kind : (n : ℕ) → IsNode bs n → NodeKind n
   kind zero node = no refl
   kind (suc zero) node = yes refl
   kind (suc (suc k)) node =
@@ -44,7 +44,7 @@ module _ (bs : List Branch) (arena : IsArena bs) where
   same_branches : (a b : Branch) → a.variable ≡ b.variable → a.low ≡ b.low → a.high ≡ b.high → a ≡ b
   same_branches a b p q r = λ i. record { variable = p i; low = q i; high = r i }
 
-  by_kinds : (bound m n : ℕ) → m < suc bound → IsNode bs m → IsNode bs n → ((j k : ℕ) → j < bound → IsNode bs j → IsNode bs k → tree_at bs j ≡ tree_at bs k → j ≡ k) → tree_at bs m ≡ tree_at bs n → Kind m → Kind n → m ≡ n
+  by_kinds : (bound m n : ℕ) → m < suc bound → IsNode bs m → IsNode bs n → ((j k : ℕ) → j < bound → IsNode bs j → IsNode bs k → tree_at bs j ≡ tree_at bs k → j ≡ k) → tree_at bs m ≡ tree_at bs n → NodeKind m → NodeKind n → m ≡ n
   by_kinds bound m n lt node_m node_n before e (no p) (no q) = p ∙ sym q
   by_kinds bound m n lt node_m node_n before e (yes p) (yes q) = p ∙ sym q
   by_kinds bound m n lt node_m node_n before e (no p) (yes q) = let f : Leaf false ≡ Leaf true = sym (leaf_no m p) ∙ e ∙ leaf_yes n q in cc
@@ -71,7 +71,7 @@ module _ (bs : List Branch) (arena : IsArena bs) where
   pub once : (m n : ℕ) → IsNode bs m → IsNode bs n → tree_at bs m ≡ tree_at bs n → m ≡ n
   once m n = once_below (suc m) m n (omega arith)
 
-  canonical_by : (bound n : ℕ) → n < suc bound → IsNode bs n → ((k : ℕ) → k < bound → IsNode bs k → IsCanonical (tree_at bs k)) → Kind n → IsCanonical (tree_at bs n)
+  canonical_by : (bound n : ℕ) → n < suc bound → IsNode bs n → ((k : ℕ) → k < bound → IsNode bs k → IsCanonical (tree_at bs k)) → NodeKind n → IsCanonical (tree_at bs n)
   canonical_by bound n lt node before (no p) = subst IsCanonical (sym (leaf_no n p)) tt
   canonical_by bound n lt node before (yes p) = subst IsCanonical (sym (leaf_yes n p)) tt
   canonical_by bound n lt node before (branch k b p at s) =

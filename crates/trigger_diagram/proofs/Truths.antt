@@ -13,7 +13,7 @@ use Rattle.trigger_diagram.specs.declared.arena.Branch.{Branch}
 use Rattle.trigger_diagram.specs.declared.join.Connective.{Connective}
 use Rattle.trigger_diagram.specs.declared.join.Connective.TheVariants as connective
 use Rattle.trigger_diagram.specs.declared.join.Pair.{Pair}
-use Rattle.trigger_diagram.specs.inner.Tree.{Valuation, value}
+use Rattle.trigger_diagram.specs.inner.DecisionTree.{Valuation, value}
 use Rattle.trigger_diagram.specs.inner.Arena.{tree_at, IsNode, Grows}
 use Rattle.trigger_diagram.specs.inner.Join.{connected, AreNodes, IsJoin}
 use Rattle.trigger_diagram.specs.inner.Made.{node_at, value_at, AreThere}

@@ -1,4 +1,4 @@
-pub mod Tree
+pub mod DecisionTree
 pub mod Arena
 pub mod Join
 pub mod Truth

@@ -2,7 +2,7 @@
 
 ghost use Rattle.std.specs.Prelude.{◌≡◌, ℕ, ◌<◌, ◌≤◌, [], if◌then◌else◌, IfOk};
 ghost use Rattle.trigger_diagram.specs.inner.Arena.{tree_at, AreCanonical, Grows, IsNode, IsSound};
-ghost use Rattle.trigger_diagram.specs.inner.Tree.{IsAfter, Valuation, value};
+ghost use Rattle.trigger_diagram.specs.inner.DecisionTree.{IsAfter, Valuation, value};
 
 use indexmap::IndexSet;
 use std::alloc::Global;
@@ -71,7 +71,7 @@ impl Arena {
         ensures there { IfOk result (λ n. IsNode self.new n) }
         ensures exact { IfOk result (λ n. (v : Valuation) →
             value v (tree_at self.new n) ≡ (if v variable then value v (tree_at self.old high) else value v (tree_at self.old low))) }
-        ensures behind { IfOk result (λ n. (x : ℕ) → x < variable → IsAfter x (tree_at self.new n)) }
+        ensures deeper { IfOk result (λ n. (x : ℕ) → x < variable → IsAfter x (tree_at self.new n)) }
     {
         if low == high {
             return Ok(low);

@@ -3,7 +3,7 @@
 ghost use Rattle.std.specs.Prelude.{◌≡◌, ◌≤◌, not, IfOk, OnOk};
 ghost use Rattle.trigger_diagram.specs.inner.Arena.{tree_at, Grows, IsNode};
 ghost use Rattle.trigger_diagram.specs.inner.Join.{settled, sides_of, AreJoined, AreNodes, IsJoin, IsSplit};
-ghost use Rattle.trigger_diagram.specs.inner.Tree.{Valuation, value};
+ghost use Rattle.trigger_diagram.specs.inner.DecisionTree.{Valuation, value};
 
 use crate::arena::{Arena, Branch};
 use indexmap::IndexMap;

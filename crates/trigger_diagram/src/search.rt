@@ -3,7 +3,7 @@
 ghost use Rattle.std.specs.Prelude.{◌≡◌, ◌↔◌, IfOk, IsTrue, OnOk};
 ghost use Rattle.trigger_diagram.specs.inner.Arena.{tree_at, AreCanonical};
 ghost use Rattle.trigger_diagram.specs.inner.Join.{decided, AreNodes, AreRefuted, AreTogether, IsFound, IsImplied};
-ghost use Rattle.trigger_diagram.specs.inner.Tree.{Agree};
+ghost use Rattle.trigger_diagram.specs.inner.DecisionTree.{Agree};
 
 use crate::arena::Arena;
 use crate::join::Pair;

@@ -14,7 +14,8 @@ use Rattle.flat_core.specs.System.{System}
 use Rattle.flat_core.specs.Typed.{input, empty, last, merge, set_add, int_type}
 use Rattle.flat_core.specs.TypedSystem.{IsOfType, IsTypedEquation}
 use Rattle.flat_core.proofs.Finished.{typed_from_all}
-use Rattle.flat_core.proofs.Members.{all_at, all_from, contains_map}
+use Rattle.tsl_value.proofs.Lists.{contains_map}
+use Rattle.flat_core.proofs.Members.{all_at, all_from}
 use Rattle.trigger_starts.specs.inner.Sample.{equation_of, growing_equations, ints, merged_equation, merged_equations}
 
 abbrev an_input : Equation

@@ -1,7 +1,7 @@
 // Two systems that tests ask about, here and above.
 
 ghost use Rattle.std.specs.Prelude.{◌≡◌, ◌<◌, true, slice_get, IfOk};
-ghost use Rattle.lift_func.specs.Tree.{Argument, Two};
+ghost use Rattle.lift_func.specs.BodyTree.{Argument, Two};
 ghost use Rattle.trigger_starts.specs.inner.Sample.{equation_of, growing_equations, merged_equations, sample_equations};
 
 use flat_core::builder::FlatBuilder;

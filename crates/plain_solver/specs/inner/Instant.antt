@@ -8,7 +8,7 @@ use Rattle.flat_core.specs.Fault.{root_at}
 use Rattle.flat_core.specs.System.{System, runs, equation}
 use Rattle.plain_solver.specs.declared.events.Moment.{Moment}
 use Rattle.plain_solver.specs.inner.Moments.{AllBefore}
-use Rattle.plain_solver.specs.inner.Shape.{streams_of}
+use Rattle.plain_solver.specs.inner.Streams.{streams_of}
 use Rattle.plain_solver.specs.inner.Typed.{AreTyped}
 
 -- the new streams are the old ones with the outcome of equation i at t

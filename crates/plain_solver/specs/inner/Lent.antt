@@ -7,8 +7,8 @@ use Rattle.lift_func.specs.declared.register.Register.{Register}
 use Rattle.lift_func.specs.declared.register.Register.TheVariants as register
 use Rattle.lift_func.specs.inner.Cells.{Cells}
 use Rattle.lift_func.specs.inner.Evaluable.{IsScalarKind}
-use Rattle.lift_func.specs.Tree.{Tree}
-use Rattle.lift_func.specs.Typing.{Kind, HasKind, AllFit}
+use Rattle.lift_func.specs.BodyTree.{BodyTree}
+use Rattle.lift_func.specs.Typing.{ValueKind, HasKind, AllFit}
 
 -- the aggregate that a value is, if it is one
 abbrev pub aggregate_in : Option View → Option View
@@ -44,9 +44,9 @@ numbers_from k (suc n) = k ∷ numbers_from (suc k) n
 
 -- The body can be evaluated at these values: it has a kind where the arguments have some kinds, which the values fit, and that kind
 -- is one of scalars. There are few arguments.
-pub record IsEvaluableAt (tree : Tree) (values : List (Option View)) : Type 0 where
-  pub kinds : List Kind
-  pub kind : Kind
+pub record IsEvaluableAt (tree : BodyTree) (values : List (Option View)) : Type 0 where
+  pub kinds : List ValueKind
+  pub kind : ValueKind
   pub fit : AllFit kinds values
   pub typed : HasKind kinds tree kind
   pub scalar : IsScalarKind kind

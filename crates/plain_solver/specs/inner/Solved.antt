@@ -13,7 +13,7 @@ use Rattle.plain_solver.specs.declared.events.Moment.{Moment}
 use Rattle.plain_solver.specs.declared.solve.End.{End}
 use Rattle.plain_solver.specs.declared.solve.End.TheVariants as end
 use Rattle.plain_solver.specs.inner.Instant.{AreBefore}
-use Rattle.plain_solver.specs.inner.Shape.{streams_of}
+use Rattle.plain_solver.specs.inner.Streams.{streams_of}
 use Rattle.plain_solver.specs.inner.Typed.{AreTyped}
 
 -- a system with an order to run it in, and one stream for each equation: those of a solution below the bound for the running ones, and

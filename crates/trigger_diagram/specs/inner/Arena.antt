@@ -3,24 +3,24 @@ use Rattle.std.specs.Prelude.{◌≡◌, ℕ, ◌<◌, ◌≤◌, ◌+◌, Bool,
 use Rattle.std.specs.Prelude.{List, [], ◌∷◌, ◌++◌, length, Some, slice_get, slice_index_or}
 use Rattle.std.specs.List.{IsDistinct}
 use Rattle.trigger_diagram.specs.declared.arena.Branch.{Branch}
-use Rattle.trigger_diagram.specs.inner.Tree.{Tree, Leaf, Fork, IsAfter, IsCanonical}
+use Rattle.trigger_diagram.specs.inner.DecisionTree.{DecisionTree, Leaf, Fork, IsAfter, IsCanonical}
 
-abbrev pub tree_in : List Tree → ℕ → Tree
+abbrev pub tree_in : List DecisionTree → ℕ → DecisionTree
 tree_in trees n = slice_index_or trees n (Leaf false)
 
 -- the tree of a branch, by those of the nodes before it
-abbrev pub fork_in : List Tree → Branch → Tree
+abbrev pub fork_in : List DecisionTree → Branch → DecisionTree
 fork_in trees b = Fork b.variable (tree_in trees b.low) (tree_in trees b.high)
 
-abbrev pub trees_from : List Tree → List Branch → List Tree
+abbrev pub trees_from : List DecisionTree → List Branch → List DecisionTree
 trees_from trees [] = trees
 trees_from trees (b ∷ branches) = trees_from (trees ++ fork_in trees b ∷ []) branches
 
 -- the trees of all nodes, and that of one
-abbrev pub trees_of : List Branch → List Tree
+abbrev pub trees_of : List Branch → List DecisionTree
 trees_of branches = trees_from (Leaf false ∷ Leaf true ∷ []) branches
 
-unfoldable pub tree_at : List Branch → ℕ → Tree
+unfoldable pub tree_at : List Branch → ℕ → DecisionTree
 tree_at branches n = tree_in (trees_of branches) n
 
 -- the node is one of the arena

@@ -8,7 +8,7 @@ use Rattle.trigger_diagram.specs.declared.join.Connective.{Connective}
 use Rattle.trigger_diagram.specs.declared.join.Connective.TheVariants as connective
 use Rattle.trigger_diagram.specs.declared.join.Pair.{Pair}
 use Rattle.trigger_diagram.specs.declared.join.Split.{Split}
-use Rattle.trigger_diagram.specs.inner.Tree.{Valuation, value, IsAfter}
+use Rattle.trigger_diagram.specs.inner.DecisionTree.{Valuation, value, IsAfter}
 use Rattle.trigger_diagram.specs.inner.Arena.{tree_at, IsNode}
 
 abbrev pub connected : Connective → Bool → Bool → Bool
@@ -19,7 +19,7 @@ connected connective.Or p q = p || q
 pub record IsJoin (c : Connective) (bs : List Branch) (p : Pair) (n : ℕ) : Type 0 where
   pub there : IsNode bs n
   pub exact : (v : Valuation) → value v (tree_at bs n) ≡ connected c (value v (tree_at bs p.first)) (value v (tree_at bs p.second))
-  pub behind : (x : ℕ) → IsAfter x (tree_at bs p.first) → IsAfter x (tree_at bs p.second) → IsAfter x (tree_at bs n)
+  pub deeper : (x : ℕ) → IsAfter x (tree_at bs p.first) → IsAfter x (tree_at bs p.second) → IsAfter x (tree_at bs n)
 
 abbrev pub AreNodes : List Branch → Pair → Type 0
 AreNodes bs p = IsNode bs p.first × IsNode bs p.second

@@ -4,7 +4,7 @@ use Rattle.trigger_rules.specs.declared.atom.Atom.{Atom}
 use Rattle.trigger_rules.specs.declared.atom.Atom.TheVariants.{Start, Happens, Holds}
 use Rattle.trigger_rules.specs.Formula.{Assignment}
 use Rattle.trigger_diagram.specs.declared.arena.Branch.{Branch}
-use Rattle.trigger_diagram.specs.inner.Tree.{Valuation, value}
+use Rattle.trigger_diagram.specs.inner.DecisionTree.{Valuation, value}
 use Rattle.trigger_diagram.specs.inner.Arena.{tree_at, IsNode}
 
 -- the variable of an atom

@@ -8,14 +8,14 @@ use Rattle.trigger_rules.specs.Question.{Stands}
 use Rattle.trigger_diagram.specs.declared.arena.Branch.{Branch}
 use Rattle.trigger_diagram.specs.declared.join.Pair.{Pair}
 use Rattle.trigger_diagram.specs.declared.join.Split.{Split}
-use Rattle.trigger_diagram.specs.inner.Tree.{Tree, Leaf, Fork}
+use Rattle.trigger_diagram.specs.inner.DecisionTree.{DecisionTree, Leaf, Fork}
 use Rattle.trigger_diagram.specs.inner.Arena.{tree_at, AreCanonical, Grows}
 use Rattle.trigger_diagram.specs.inner.Join.{AreNodes, IsSplit}
 use Rattle.trigger_diagram.specs.inner.Kept.{Kept, AreDiagramsOf, IsNodeIn, IsNodeOf}
 use Rattle.trigger_diagram.specs.inner.Truth.{variable_of}
 
 -- a variable of a tree, and of one of two nodes
-abbrev pub Occurs : ℕ → Tree → Type 0
+abbrev pub Occurs : ℕ → DecisionTree → Type 0
 Occurs x (Leaf b) = ⊥
 Occurs x (Fork y low high) = (x ≡ y) ⊎ (Occurs x low ⊎ Occurs x high)
 

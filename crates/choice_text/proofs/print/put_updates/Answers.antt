@@ -1,6 +1,8 @@
 use Rattle.std.specs.List.{filter, flat_map, range_with_len}
-use Rattle.choice_text.specs.Text.{is_running_update, update_line}
-use Rattle.program_text.proofs.Joined.{kept, on_err}
+use Rattle.flat_core.specs.Updates.{is_running_update}
+use Rattle.choice_text.specs.Text.{update_line}
+use Rattle.tsl_value.proofs.Results.{on_err}
+use Rattle.program_text.proofs.Joined.{kept}
 use Rattle.program_text.proofs.Numbers.{text_more}
 use Rattle.choice_text.proofs.print.put_updates.Goals as goal
 

@@ -1,6 +1,7 @@
 use Rattle.std.proofs.Common.{◌≡◌, ◌++◌}
 use Rattle.std.specs.List.{filter, flat_map, range_with_len}
-use Rattle.choice_text.specs.Text.{is_running_update, update_line}
+use Rattle.flat_core.specs.Updates.{is_running_update}
+use Rattle.choice_text.specs.Text.{update_line}
 use Rattle.choice_text.proofs.print.put_updates.Given as goal
 
 abbrev pub invariant-loop-number : goal.invariant-loop-number

@@ -20,4 +20,4 @@ returns c =
     let values = c.args.values.now in
     let registers_are = c.deref.ensures.value ∙ c.in_ok-registers.ensures in
     let numbers_are = c.deref-2.ensures.value ∙ c.in_ok-arguments.ensures in
-    subst (λ xs. IsValue c.eval.result (apply c.args.body.now xs)) ((λ k. arguments (cells_of values) (registers_are k) (numbers_are k)) ∙ lent_arguments values) c.eval.ensures
+    subst (λ xs. IsValue c.eval.result (apply c.args.body.now xs)) ((λ k. arguments (cells_of values) (registers_are k) (numbers_are k)) ∙ lent_arguments values) c.eval.ensures.value

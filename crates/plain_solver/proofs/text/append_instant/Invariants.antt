@@ -2,7 +2,7 @@ use Rattle.std.proofs.Common.{◌≡◌, ◌++◌, drop}
 use Rattle.std.specs.List.{flat_map}
 use Rattle.flat_core.specs.Stream.{event}
 use Rattle.flat_core.specs.Text.{event_line}
-use Rattle.plain_solver.specs.inner.Shape.{streams_of}
+use Rattle.plain_solver.specs.inner.Streams.{streams_of}
 use Rattle.plain_solver.proofs.text.append_instant.Given as goal
 
 abbrev pub invariant-loop-output : goal.invariant-loop-output

@@ -1,6 +1,6 @@
 use Rattle.std.proofs.Common.{◌∙◌}
 use Rattle.std.specs.List.{flat_map}
-use Rattle.plain_solver.specs.inner.Shape.{streams_of}
+use Rattle.plain_solver.specs.inner.Streams.{streams_of}
 use Rattle.flat_core.specs.Text.{text_at}
 use Rattle.plain_solver.proofs.TextLemmas.{ran_due}
 use Rattle.plain_solver.proofs.text.print_due.Goals as goal

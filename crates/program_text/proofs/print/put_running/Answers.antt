@@ -1,7 +1,8 @@
 use Rattle.std.specs.List.{filter, flat_map, range_with_len}
+use Rattle.tsl_value.proofs.Results.{on_err}
 use Rattle.flat_core.specs.System.{runs}
 use Rattle.program_text.specs.Text.{equation_line}
-use Rattle.program_text.proofs.Joined.{kept, on_err}
+use Rattle.program_text.proofs.Joined.{kept}
 use Rattle.program_text.proofs.Numbers.{text_more}
 use Rattle.program_text.proofs.print.put_running.Goals as goal
 

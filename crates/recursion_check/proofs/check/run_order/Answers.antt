@@ -1,4 +1,4 @@
-use Rattle.std.proofs.Common.{length, sym, subst, ◌∙◌}
+use Rattle.std.proofs.Common.{length, sym, subst}
 use Rattle.translation_order.specs.Graph.{IsAcyclic}
 use Rattle.translation_order.specs.inner.Answer.{OnCycle}
 use Rattle.translation_order.specs.Order.{Before, AreOfSteps, IsLeastOrder}
@@ -19,12 +19,12 @@ returns-in-Ok-clause-well_formed c =
 pub returns-in-Err-CycleOf-clause-cycle : goal.returns-in-Err-CycleOf-clause-cycle
 returns-in-Err-CycleOf-clause-cycle c =
     let e = subst (OnCycle (IsCycle (Before c.in_ok-edges.edges))) c.in-Err-CycleOf.field-0-is c.in-Err-CycleOf.ensures.cycle in
-    cycle_from c.args.flat.now c.count.ensures.is_flat c.in_ok-edges.edges c.in_ok-edges.ensures c.in-Err-CycleOf.steps c.in_ok-equations-in-Err-CycleOf.field-0 (c.in_ok-equations-in-Err-CycleOf.ensures ∙ c.as_slice.ensures) e
+    cycle_from c.args.flat.now c.count.ensures.is_flat c.in_ok-edges.edges c.in_ok-edges.ensures c.in-Err-CycleOf.steps e
 
 pub returns-in-Err-CycleOf-clause-walked : goal.returns-in-Err-CycleOf-clause-walked
 returns-in-Err-CycleOf-clause-walked c =
     let e = subst (OnCycle (IsCycleOfWalk c.count.result (Before c.in_ok-edges.edges))) c.in-Err-CycleOf.field-0-is c.in-Err-CycleOf.ensures.walked in
-    walk_from c.args.flat.now c.count.ensures.is_flat c.count.result c.count.ensures.count c.in_ok-edges.edges c.in_ok-edges.ensures c.in-Err-CycleOf.steps c.in_ok-equations-in-Err-CycleOf.field-0 (c.in_ok-equations-in-Err-CycleOf.ensures ∙ c.as_slice.ensures) e
+    walk_from c.args.flat.now c.count.ensures.is_flat c.count.result c.count.ensures.count c.in_ok-edges.edges c.in_ok-edges.ensures c.in-Err-CycleOf.steps e
 
 pub returns-in-Err-CycleOf-clause-not_well_formed :
     goal.returns-in-Err-CycleOf-clause-not_well_formed

@@ -23,7 +23,7 @@ fork-requires-clause-high_after t c =
 pub returns-clause-exact : goal.returns-clause-exact
 returns-clause-exact t c =
     joined_is c.args.connective c.args.self.now c.joined.new.self c.joined-2.new.self c.fork.new.self c.args.pair c.split-split.result c.in_ok-low.low c.in_ok-high.high c.in_ok-node.node c.requires.there c.split-split.ensures c.joined.ensures.grows c.joined-2.ensures.grows c.fork.ensures.grows
-    c.in_ok-low.ensures.exact c.in_ok-high.ensures.exact c.in_ok-node.ensures.there c.in_ok-node.ensures.exact c.in_ok-node.ensures.behind
+    c.in_ok-low.ensures.exact c.in_ok-high.ensures.exact c.in_ok-node.ensures.there c.in_ok-node.ensures.exact c.in_ok-node.ensures.deeper
 
 pub returns-clause-known : goal.returns-clause-known
 returns-clause-known t c =

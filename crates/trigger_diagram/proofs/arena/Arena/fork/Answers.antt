@@ -27,8 +27,8 @@ returns-clause-exact c =
     let it = c.in_ok-index.ensures.stored in
     value_fork c.args.self.now c.insert_full.new.self.keys b it.0 c.in_ok-index.index (invariant_of-self-2 c) (returns-clause-grows c) c.requires.low c.requires.high it.1 it.2
 
-pub returns-clause-behind : goal.returns-clause-behind
-returns-clause-behind c =
+pub returns-clause-deeper : goal.returns-clause-deeper
+returns-clause-deeper c =
     let b : Branch = record { variable = c.args.variable; low = c.args.low; high = c.args.high } in
     let it = c.in_ok-index.ensures.stored in
     after_fork c.args.self.now c.insert_full.new.self.keys b it.0 c.in_ok-index.index (invariant_of-self-2 c) (returns-clause-grows c) c.requires.low c.requires.high it.1 it.2

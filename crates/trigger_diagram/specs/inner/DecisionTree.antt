@@ -6,26 +6,26 @@ abbrev pub Valuation : Type 0
 Valuation = ℕ → Bool
 
 -- `Fork x low high` is low where x is false, and high where it is true.
-pub data Tree : Type 0 where
-  Leaf : Bool → Tree
-  Fork : ℕ → Tree → Tree → Tree
+pub data DecisionTree : Type 0 where
+  Leaf : Bool → DecisionTree
+  Fork : ℕ → DecisionTree → DecisionTree → DecisionTree
 
-abbrev pub value : Valuation → Tree → Bool
+abbrev pub value : Valuation → DecisionTree → Bool
 value v (Leaf b) = b
 value v (Fork x low high) = if v x then value v high else value v low
 
 -- the first variable of a tree comes after x
-abbrev pub IsAfter : ℕ → Tree → Type 0
+abbrev pub IsAfter : ℕ → DecisionTree → Type 0
 IsAfter x (Leaf b) = Unit {0}
 IsAfter x (Fork y low high) = x < y
 
 -- On each way down the variables come in their order, and each fork has two different sides.
-abbrev pub IsCanonical : Tree → Type 0
+abbrev pub IsCanonical : DecisionTree → Type 0
 IsCanonical (Leaf b) = Unit {0}
 IsCanonical (Fork x low high) = IsAfter x low × IsAfter x high × (low ≡ high → ⊥) × IsCanonical low × IsCanonical high
 
 -- both are true in the same valuations
-abbrev pub Agree : Tree → Tree → Type 0
+abbrev pub Agree : DecisionTree → DecisionTree → Type 0
 Agree t u = (v : Valuation) → value v t ≡ value v u
 
 -- the valuation with another value at one variable

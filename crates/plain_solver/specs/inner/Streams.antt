@@ -1,4 +1,4 @@
--- Operations with their arguments.
+-- What solvers have at times, as streams.
 use Rattle.std.specs.Prelude.{ℕ, List, [], Option, Some, None, nat_lt, if◌then◌else◌, slice_index_or}
 use Rattle.flat_core.specs.Stream.{at}
 use Rattle.flat_core.specs.Case.{Streams}

@@ -1,10 +1,10 @@
 -- Canonical trees that agree are equal.
 use Rattle.std.proofs.Common.{◌≡◌, ℕ, zero, suc, ◌+◌, ◌<◌, ◌==◌, ◌⊎◌, Bool, true, false, not, if◌then◌else◌, refl, sym, ap, subst, ◌∙◌, inl, inr, arith}
 use Rattle.std.proofs.lemmas.Bool.{cases_eq, cases_lt, cases_Bool, eq-eqb, eqb-true}
-use Rattle.trigger_diagram.specs.inner.Tree.{Tree, Leaf, Fork, Valuation, value, IsAfter, IsCanonical, Agree, with_value}
+use Rattle.trigger_diagram.specs.inner.DecisionTree.{DecisionTree, Leaf, Fork, Valuation, value, IsAfter, IsCanonical, Agree, with_value}
 
 -- ---- behind a variable
-pub after_less : (x y : ℕ) (t : Tree) → x < y → IsAfter y t → IsAfter x t
+pub after_less : (x y : ℕ) (t : DecisionTree) → x < y → IsAfter y t → IsAfter x t
 after_less x y (Leaf b) lt h = tt
 after_less x y (Fork z low high) lt h = omega arith
 
@@ -25,40 +25,40 @@ chosen : (b : Bool) (p q r s : Bool) → p ≡ r → q ≡ s → (if b then p el
 chosen true p q r s same other = same
 chosen false p q r s same other = other
 
-pub value_with : (v : Valuation) (x : ℕ) (b : Bool) (t : Tree) → IsAfter x t → IsCanonical t → value (with_value v x b) t ≡ value v t
-value_with v x b (Leaf c) behind can = refl
-value_with v x b (Fork y low high) behind can =
-    ap (λ c. if c then value (with_value v x b) high else value (with_value v x b) low) (with_other v x b y behind)
-    ∙ chosen (v y) _ _ _ _ (value_with v x b high (after_less x y high behind can.1) can.4) (value_with v x b low (after_less x y low behind can.0) can.3)
+pub value_with : (v : Valuation) (x : ℕ) (b : Bool) (t : DecisionTree) → IsAfter x t → IsCanonical t → value (with_value v x b) t ≡ value v t
+value_with v x b (Leaf c) deeper can = refl
+value_with v x b (Fork y low high) deeper can =
+    ap (λ c. if c then value (with_value v x b) high else value (with_value v x b) low) (with_other v x b y deeper)
+    ∙ chosen (v y) _ _ _ _ (value_with v x b high (after_less x y high deeper can.1) can.4) (value_with v x b low (after_less x y low deeper can.0) can.3)
 
 -- ---- a fork with one side taken
-pub low_value : (v : Valuation) (x : ℕ) (low high : Tree) → IsCanonical (Fork x low high) → value (with_value v x false) (Fork x low high) ≡ value v low
+pub low_value : (v : Valuation) (x : ℕ) (low high : DecisionTree) → IsCanonical (Fork x low high) → value (with_value v x false) (Fork x low high) ≡ value v low
 low_value v x low high can = ap (λ c. if c then value (with_value v x false) high else value (with_value v x false) low) (with_same v x false) ∙ value_with v x false low can.0 can.3
 
-pub high_value : (v : Valuation) (x : ℕ) (low high : Tree) → IsCanonical (Fork x low high) → value (with_value v x true) (Fork x low high) ≡ value v high
+pub high_value : (v : Valuation) (x : ℕ) (low high : DecisionTree) → IsCanonical (Fork x low high) → value (with_value v x true) (Fork x low high) ≡ value v high
 high_value v x low high can = ap (λ c. if c then value (with_value v x true) high else value (with_value v x true) low) (with_same v x true) ∙ value_with v x true high can.1 can.4
 
-agree_low : (x : ℕ) (low high u : Tree) → IsCanonical (Fork x low high) → IsAfter x u → IsCanonical u → Agree (Fork x low high) u → Agree low u
-agree_low x low high u can behind can_u agree v = sym (low_value v x low high can) ∙ agree (with_value v x false) ∙ value_with v x false u behind can_u
+agree_low : (x : ℕ) (low high u : DecisionTree) → IsCanonical (Fork x low high) → IsAfter x u → IsCanonical u → Agree (Fork x low high) u → Agree low u
+agree_low x low high u can deeper can_u agree v = sym (low_value v x low high can) ∙ agree (with_value v x false) ∙ value_with v x false u deeper can_u
 
-agree_high : (x : ℕ) (low high u : Tree) → IsCanonical (Fork x low high) → IsAfter x u → IsCanonical u → Agree (Fork x low high) u → Agree high u
-agree_high x low high u can behind can_u agree v = sym (high_value v x low high can) ∙ agree (with_value v x true) ∙ value_with v x true u behind can_u
+agree_high : (x : ℕ) (low high u : DecisionTree) → IsCanonical (Fork x low high) → IsAfter x u → IsCanonical u → Agree (Fork x low high) u → Agree high u
+agree_high x low high u can deeper can_u agree v = sym (high_value v x low high can) ∙ agree (with_value v x true) ∙ value_with v x true u deeper can_u
 
-turned : (t u : Tree) → Agree t u → Agree u t
+turned : (t u : DecisionTree) → Agree t u → Agree u t
 turned t u agree v = sym (agree v)
 
 -- ---- one tree for all that agree
-abbrev pub size : Tree → ℕ
+abbrev pub size : DecisionTree → ℕ
 size (Leaf b) = 0
 size (Fork x low high) = suc (size low + size high)
 
-both_low : (x : ℕ) (a b c d : Tree) → IsCanonical (Fork x a b) → IsCanonical (Fork x c d) → Agree (Fork x a b) (Fork x c d) → Agree a c
+both_low : (x : ℕ) (a b c d : DecisionTree) → IsCanonical (Fork x a b) → IsCanonical (Fork x c d) → Agree (Fork x a b) (Fork x c d) → Agree a c
 both_low x a b c d left right agree v = sym (low_value v x a b left) ∙ agree (with_value v x false) ∙ low_value v x c d right
 
-both_high : (x : ℕ) (a b c d : Tree) → IsCanonical (Fork x a b) → IsCanonical (Fork x c d) → Agree (Fork x a b) (Fork x c d) → Agree b d
+both_high : (x : ℕ) (a b c d : DecisionTree) → IsCanonical (Fork x a b) → IsCanonical (Fork x c d) → Agree (Fork x a b) (Fork x c d) → Agree b d
 both_high x a b c d left right agree v = sym (high_value v x a b left) ∙ agree (with_value v x true) ∙ high_value v x c d right
 
-same_below : (n : ℕ) (t u : Tree) → size t + size u < n → IsCanonical t → IsCanonical u → Agree t u → t ≡ u
+same_below : (n : ℕ) (t u : DecisionTree) → size t + size u < n → IsCanonical t → IsCanonical u → Agree t u → t ≡ u
 same_below zero t u lt can_t can_u agree = absurd (omega arith)
 same_below (suc n) (Leaf b) (Leaf c) lt can_t can_u agree = ap Leaf (agree (λ x. false))
 same_below (suc n) (Fork x low high) (Leaf c) lt can_t can_u agree =
@@ -82,11 +82,11 @@ same_below (suc n) (Fork x a b) (Fork y c d) lt can_t can_u agree = elim (cases_
   ]
 ]
 
-pub same_tree : (t u : Tree) → IsCanonical t → IsCanonical u → Agree t u → t ≡ u
+pub same_tree : (t u : DecisionTree) → IsCanonical t → IsCanonical u → Agree t u → t ≡ u
 same_tree t u can_t can_u agree = same_below (suc (size t + size u)) t u (omega arith) can_t can_u agree
 
 -- ---- what is not a leaf has the other value somewhere
-pub has_other : (t : Tree) (b : Bool) → IsCanonical t → (t ≡ Leaf b → ⊥) → (v : Valuation) × (value v t ≡ not b)
+pub has_other : (t : DecisionTree) (b : Bool) → IsCanonical t → (t ≡ Leaf b → ⊥) → (v : Valuation) × (value v t ≡ not b)
 has_other (Leaf true) true can differ = absurd (differ refl)
 has_other (Leaf true) false can differ = (λ x. false, refl)
 has_other (Leaf false) true can differ = (λ x. false, refl)
@@ -100,7 +100,7 @@ has_other (Fork x low high) b can differ = elim (is_leaf low) [
       (with_value it.0 x false, low_value it.0 x low high can ∙ it.1)
 ]
   where
-    is_leaf : (t : Tree) → (t ≡ Leaf b) ⊎ (t ≡ Leaf b → ⊥)
+    is_leaf : (t : DecisionTree) → (t ≡ Leaf b) ⊎ (t ≡ Leaf b → ⊥)
     is_leaf (Fork y l h) = inr (λ e. cc)
     is_leaf (Leaf c) = elim (cases_Bool c) [
       | inl yes_c ↦ by_b yes_c
