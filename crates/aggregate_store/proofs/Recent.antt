@@ -7,6 +7,7 @@ use Rattle.std.specs.Cmp.{Equal-is, eq_by_cmp_equiv}
 use Rattle.std.specs.FinSet as set
 use Rattle.std.specs.List.{AllPass, Contains}
 use Rattle.std.specs.Ordering.{eq_by_cmp}
+use Rattle.std.proofs.Math.Bool.{or-true}
 use Rattle.tsl_value.specs.View.{Keys, scalar_cmp}
 use Rattle.tsl_value.specs.inner.ScalarOrder.{scalar_cmp_total}
 use Rattle.tsl_value.specs.declared.scalar.Scalar.{Scalar}
@@ -19,10 +20,6 @@ use Rattle.aggregate_store.proofs.FiniteMaps.{set-insert, set-remove}
 pub pass_found : (p : ℤ → Bool) (numbers : List ℤ) (n : ℤ) → AllPass p numbers → Contains numbers n → IsTrue (p n)
 pass_found p numbers n all found = subst (λ x. p x ≡ true) found.2 (all found.0 n found.1)
 
-or_true : (b : Bool) → (b || true) ≡ true
-or_true true = refl
-or_true false = refl
-
 pub there_added : (s : Keys) (k : Scalar) → set.contains (set.insert s k) k ≡ true
 there_added s k = set.contains-insert scalar_cmp_total s k k ∙ ap (λ b. b || set.contains s k) ((eq_by_cmp_equiv scalar_cmp_total).refl k)
 
@@ -30,7 +27,7 @@ there_added s k = set.contains-insert scalar_cmp_total s k k ∙ ap (λ b. b || 
 pub keys_still : (s : Keys) (k : Scalar) (numbers : List ℤ) → AreKeys s numbers → AreKeys (set.insert s k) numbers
 keys_still s k numbers are = λ i d lt.
     let q = scalar.Int (slice_index_or numbers i d) in
-    set.contains-insert scalar_cmp_total s k q ∙ ap (λ b. eq_by_cmp scalar_cmp q k || b) (are i d lt) ∙ or_true (eq_by_cmp scalar_cmp q k)
+    set.contains-insert scalar_cmp_total s k q ∙ ap (λ b. eq_by_cmp scalar_cmp q k || b) (are i d lt) ∙ or-true (eq_by_cmp scalar_cmp q k)
 
 -- a key that is there, added again
 pub insert_there : (s : Keys) (k : Scalar) → set.contains s k ≡ true → set.insert s k ≡ s

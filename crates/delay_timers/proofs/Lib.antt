@@ -1,2 +1,2 @@
-pub mod TreeLemmas
+pub mod TournamentLemmas
 pub mod TimesLemmas

@@ -10,8 +10,8 @@ use Rattle.std.specs.Cmp.{nat_cmp_is, nat_cmp_total}
 use Rattle.std.specs.FinMap as map
 use Rattle.delay_timers.specs.declared.tree.Due.{Due}
 use Rattle.delay_timers.specs.inner.Pending.{Times, NoneIsDueAt, IsLeastDueAt}
-use Rattle.delay_timers.specs.inner.Tree.{slot, time_at, IsOf, IsUpTo, IsTree, IsFirstDue, ChangesLeaf, NoLeafAt, IsFirstLeafAt, entries_from, times_of}
-use Rattle.delay_timers.proofs.TreeLemmas.{root_comes_first, root_is_a_leaf}
+use Rattle.delay_timers.specs.inner.Tournament.{slot, time_at, IsOf, IsUpTo, IsTree, IsFirstDue, ChangesLeaf, NoLeafAt, IsFirstLeafAt, entries_from, times_of}
+use Rattle.delay_timers.proofs.TournamentLemmas.{root_comes_first, root_is_a_leaf}
 
 pub tied : (a b : ℕ) → a ≡ b → eq_by_cmp nat_cmp a b ≡ true
 tied a b same = ap is_eq (sym (nat_cmp_is a b Equal same))

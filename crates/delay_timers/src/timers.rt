@@ -3,7 +3,7 @@
 ghost use Rattle.std.specs.Prelude.{◌≡◌, ◌+◌, ◌<◌, IfOk, IfNone, IfSome, MatchOption};
 ghost use Rattle.std.specs.FinMap as map;
 ghost use Rattle.delay_timers.specs.inner.Pending.{AreBelowCapacity, IsLeastTime, NoneIsDueAt, IsLeastDueAt};
-ghost use Rattle.delay_timers.specs.inner.Tree.{IsFirstDue};
+ghost use Rattle.delay_timers.specs.inner.Tournament.{IsFirstDue};
 
 use crate::tree::{Due, change_leaf, first_leaf_at};
 use std::alloc::Global;
@@ -27,7 +27,7 @@ impl Model for Timers {
 
     ghost coded = { pending_code };
 
-    ghost use Rattle.delay_timers.specs.inner.Tree.{IsTree, times_of};
+    ghost use Rattle.delay_timers.specs.inner.Tournament.{IsTree, times_of};
 
     ghost view = { λ t. record { capacity = t.delays; times = times_of (drop t.delays t.nodes.items) } };
 

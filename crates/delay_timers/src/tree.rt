@@ -2,8 +2,9 @@
 
 ghost use Rattle.std.specs.Prelude.{◌≡◌, ◌≢◌, ◌+◌, ◌<◌, ◌≤◌, ℕ, length, IsTrue, None, MatchOption};
 ghost use Rattle.std.specs.Option.{option_map};
-ghost use Rattle.delay_timers.specs.inner.Tree.{slot, IsOf, IsUpTo, IsFirstOf, IsTree, IsTreeBut, SameFrom, ChangesLeaf, IsFirstLeafAt};
-ghost use Rattle.delay_timers.specs.inner.Tree.{NoLeafAt};
+ghost use Rattle.delay_timers.specs.inner.Tournament.{slot, IsOf, IsUpTo, IsFirstOf, IsTree, IsTreeBut, SameFrom, ChangesLeaf};
+ghost use Rattle.delay_timers.specs.inner.Tournament.{IsFirstLeafAt};
+ghost use Rattle.delay_timers.specs.inner.Tournament.{NoLeafAt};
 
 use tsl_value::time::Time;
 

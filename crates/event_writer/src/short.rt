@@ -48,8 +48,8 @@ pub(crate) fn append_short(
     let mut text = [b'\n'; ROOM];
     let value = write_scalar(value, &mut text, ROOM - 1);
     let equals = write_before(b" = ", &mut text, value);
-    let called = write_before(name, &mut text, equals);
-    let colon = write_before(b": ", &mut text, called);
+    let from_name = write_before(name, &mut text, equals);
+    let colon = write_before(b": ", &mut text, from_name);
     let start = write_digits(time.get(), &mut text, colon);
     out.append(&text[start..])
 }

@@ -2,13 +2,14 @@
 use Rattle.std.proofs.Common.{◌≡◌, ℕ, zero, suc, ◌<◌, Bool, List, [], ◌∷◌, Option, Some, None, Ok, map, length, refl, sym, ap, subst, ◌∙◌, arith}
 use Rattle.std.specs.List.{All}
 use Rattle.std.specs.Prelude.{slice_get, slice_index_or}
+use Rattle.std.proofs.lemmas.Option.{same_Some}
 use Rattle.tsl_value.specs.View.{View, Plain}
 use Rattle.tsl_value.specs.declared.scalar.Scalar.{Scalar}
 use Rattle.tsl_value.specs.declared.scalar.Scalar.TheVariants as scalar
 use Rattle.lift_func.specs.Apply.{apply, contained, of_two}
 use Rattle.lift_func.specs.inner.Cells.{Cells, FitsKey, HoldsLive, IsLive, has_key, held, view_at}
 use Rattle.lift_func.specs.inner.Evaluable.{CanRead, IsEvaluable, IsHeld, IsTypedAt}
-use Rattle.lift_func.specs.Tree.{Tree, Two}
+use Rattle.lift_func.specs.BodyTree.{BodyTree, Two}
 use Rattle.lift_func.specs.declared.body.Binary.TheVariants as binary
 use Rattle.lift_func.specs.declared.register.Register.{Register}
 use Rattle.lift_func.specs.declared.register.Register.TheVariants as register
@@ -17,12 +18,9 @@ use Rattle.lift_func.proofs.Evaluation.{reads}
 use Rattle.monitor_run.specs.inner.Here.{IsNamed}
 use Rattle.monitor_run.specs.inner.Registers.{register_at, value_at}
 
-some_same : (x y : ℕ) → Some x ≡ Some y → x ≡ y
-some_same x y is = cc
-
 found_at : (args : List ℕ) (k a : ℕ) → slice_get args k ≡ Some a → (k < length args) × (slice_index_or args k a ≡ a)
 found_at [] k a is = absurd (cc)
-found_at (x ∷ args) zero a is = (omega arith, some_same x a is)
+found_at (x ∷ args) zero a is = (omega arith, same_Some x a is)
 found_at (x ∷ args) (suc k) a is = let found = found_at args k a is in (omega arith, found.1)
 
 -- what holds of all arguments does so of one
@@ -31,12 +29,12 @@ named_all P args k a is all = let found = found_at args k a is in subst P found.
 
 named_value : (f : ℕ → Option View) (args : List ℕ) (k a : ℕ) → slice_get args k ≡ Some a → slice_index_or (map f args) k None ≡ f a
 named_value f [] k a is = absurd (cc)
-named_value f (x ∷ args) zero a is = ap f (some_same x a is)
+named_value f (x ∷ args) zero a is = ap f (same_Some x a is)
 named_value f (x ∷ args) (suc k) a is = named_value f args k a is
 
-module _ (c : Cells) (registers : List Register) (args : List ℕ) (body first second : Tree) (a q handle : ℕ) (key : Scalar) (typed : IsEvaluable c registers args body) (is : body ≡ Two binary.Contains first second) (first_is : IsNamed first args a) (second_is : IsNamed second args q)
+module _ (c : Cells) (registers : List Register) (args : List ℕ) (body first second : BodyTree) (a q handle : ℕ) (key : Scalar) (typed : IsEvaluable c registers args body) (is : body ≡ Two binary.Contains first second) (first_is : IsNamed first args a) (second_is : IsNamed second args q)
     (aggregate : register.Aggregate handle ≡ register_at registers a) (scalar_is : register.Scalar key ≡ register_at registers q) where
-  gives : (tree : Tree) (n : ℕ) → IsNamed tree args n → IsHeld c (register_at registers n) (apply tree (map (value_at c registers) args))
+  gives : (tree : BodyTree) (n : ℕ) → IsNamed tree args n → IsHeld c (register_at registers n) (apply tree (map (value_at c registers) args))
   gives tree n named = (
     ap (λ t. apply t (map (value_at c registers) args)) named.1 ∙ ap Ok (named_value (value_at c registers) args named.0 n named.2),
     named_all (λ a. HoldsLive c (register_at registers a)) args named.0 n named.2 typed.body.live,

@@ -7,6 +7,7 @@ use Rattle.std.specs.List.{All, AllByRecursion, list_any}
 use Rattle.std.specs.Option.{option_and_then, option_or}
 use Rattle.std.proofs.lemmas.List.Elements.{recursion_from_All}
 use Rattle.std.specs.FinMap as finite_map
+use Rattle.std.proofs.lemmas.Option.{same_Some}
 use Rattle.tsl_value.specs.declared.scalar.ValueType.{ValueType}
 use Rattle.tsl_value.specs.declared.scalar.ValueType.TheVariants as value_type
 use Rattle.tsl_value.specs.View.{View}
@@ -18,7 +19,7 @@ use Rattle.lift_func.specs.declared.eval.EvalFault.TheVariants as eval_fault
 use Rattle.lift_func.specs.Apply.{Answer}
 use Rattle.lift_func.specs.inner.Evaluable.{IsEvaluable, IsHeldValue}
 use Rattle.tsl_value.specs.declared.scalar.Scalar.TheVariants as scalar
-use Rattle.lift_func.specs.Tree.{Tree}
+use Rattle.lift_func.specs.BodyTree.{BodyTree}
 use Rattle.aggregate_store.specs.inner.Stored.{Stored, IsAggregate, empty_view}
 use Rattle.flat_core.specs.declared.equation.Equation.{Equation}
 use Rattle.flat_core.specs.declared.equation.Op.{Op}
@@ -26,17 +27,18 @@ use Rattle.flat_core.specs.declared.equation.Op.TheVariants as op
 use Rattle.flat_core.specs.Case.{at_once, at_zero, empty_of, unit}
 use Rattle.flat_core.specs.Typed.{IsTyped, empty, is_aggregate, kind_of, lift}
 use Rattle.flat_core.specs.inner.TypedEvents.{AreOf}
-use Rattle.flat_core.specs.inner.Shape.{HasShape}
+use Rattle.flat_core.specs.inner.Arity.{HasArity}
 use Rattle.flat_core.proofs.TypedCase.{all_there_fit, options_fit}
-use Rattle.monitor_run.specs.inner.Here.{HasEffect, HasMade, HasMadeOne, IsBare, TakesTyped, counts, effect_here, lifted, source_of, truth_of}
-use Rattle.alias_rules.specs.Uses.{is_update}
+use Rattle.monitor_run.specs.inner.Here.{HasEffect, HasMade, HasMadeOne, IsBare, TakesTyped, effect_here, source_of, truth_of}
+use Rattle.flat_core.specs.inner.OpGroups.{counts, lift_answer}
+use Rattle.flat_core.specs.Updates.{is_update}
 use Rattle.register_machine.specs.Machine.{Held, Bare, Cell, slot_of, slot_of_answer, Config, view_of, value_in, where_either, Effect, Fill, Make, effect_of}
 use Rattle.register_machine.specs.Copied.{size_at}
 use Rattle.monitor_run.specs.inner.Registers.{register_at, value_at}
 use Rattle.monitor_run.specs.inner.Shown.{config_of, held_at, held_by}
 use Rattle.monitor_run.proofs.CellLemmas.{held_slot, seen_is}
 
-pub last_two : (args : List ℕ) → HasShape op.Last args → length args ≡ 2
+pub last_two : (args : List ℕ) → HasArity op.Last args → length args ≡ 2
 last_two [] shape = absurd shape
 last_two (v ∷ []) shape = absurd shape
 last_two (v ∷ r ∷ []) shape = refl
@@ -80,7 +82,7 @@ takes_empty c registers e t is = type_aggregate e.of (empty_typed e.op t.types e
 -- ---- lifts
 
 module _ (c : Cells) (registers : List Register) (args : List ℕ) (known : All (λ a. a < length registers) args) (live : All (λ a. HoldsLive c (register_at registers a)) args) where
-  lift_evaluable : (body : Tree) (strict : Bool) (ts : List ValueType) (of : ValueType) → IsTyped (op.Lift body strict) ts of → AreOf ts (map (value_at c registers) args) → IsTrue (counts strict (map (value_at c registers) args)) → IsEvaluable c registers args body
+  lift_evaluable : (body : BodyTree) (strict : Bool) (ts : List ValueType) (of : ValueType) → IsTyped (op.Lift body strict) ts of → AreOf ts (map (value_at c registers) args) → IsTrue (counts strict (map (value_at c registers) args)) → IsEvaluable c registers args body
   lift_evaluable body true ts of (lift low high kind) values all = record {
     body = record { kinds = map (kind_of true) ts; kind = kind_of true of; named = known; live = live; fit = all_there_fit ts (map (value_at c registers) args) values all; typed = kind };
     scalar = tt;
@@ -91,7 +93,7 @@ module _ (c : Cells) (registers : List Register) (args : List ℕ) (known : All 
   }
 
 -- a lift that counts can be evaluated
-pub liftable : (c : Cells) (registers : List Register) (e : Equation) (body : Tree) (strict : Bool) → All (λ a. a < length registers) e.args → TakesTyped c registers e → e.op ≡ op.Lift body strict → IsTrue (counts strict (map (value_at c registers) e.args)) → IsEvaluable c registers e.args body
+pub liftable : (c : Cells) (registers : List Register) (e : Equation) (body : BodyTree) (strict : Bool) → All (λ a. a < length registers) e.args → TakesTyped c registers e → e.op ≡ op.Lift body strict → IsTrue (counts strict (map (value_at c registers) e.args)) → IsEvaluable c registers e.args body
 liftable c registers e body strict known t is some = lift_evaluable c registers e.args known t.live body strict t.types e.of (subst (λ o. IsTyped o t.types e.of) is t.typed) t.values some
 
 -- ---- unit events
@@ -100,7 +102,7 @@ unit_at : (t : ℕ) → ◌≡◌ {A = Option View} (if t == 0 then Some unit el
 unit_at zero = refl
 unit_at (suc t) = λ k. if ne_eqb (suc t) 0 (λ same. absurd (omega arith)) k then Some unit else None
 
-no_args : (args : List ℕ) → HasShape op.Unit args → args ≡ []
+no_args : (args : List ℕ) → HasArity op.Unit args → args ≡ []
 no_args [] shape = refl
 no_args (a ∷ args) shape = absurd shape
 
@@ -149,7 +151,7 @@ values_seen registers last st args live = go args (recursion_from_All (λ a. Hol
     go [] all = refl
     go (a ∷ xs) all = let here = value_seen registers last st a all.0 in let rest = go xs all.1 in λ k. here k ∷ rest k
 
-lift_once : (body : Tree) (strict : Bool) (of : ValueType) (values : List (Option View)) (t : ℕ) → at_once (op.Lift body strict) of values t ≡ lifted body strict values
+lift_once : (body : BodyTree) (strict : Bool) (of : ValueType) (values : List (Option View)) (t : ℕ) → at_once (op.Lift body strict) of values t ≡ lift_answer body strict values
 lift_once body true of values t = refl
 lift_once body false of values t = refl
 
@@ -166,15 +168,15 @@ module _ (in_place : Bool) (i t : ℕ) (e : Equation) (registers last : List Reg
   bare_effect o is scalar r bare answer =
       subst (HasEffect in_place i e.op (source_of registers e.args) old old (Ok r)) (sym (scalar_answer o is scalar (Ok (held old.cells r)) answer ∙ ap Fill (bare_slot old.cells r bare))) (refl, refl)
 
-  pub unit_effect : (r : Register) (n : ℕ) → e.op ≡ op.Unit → HasShape e.op e.args → n ≡ t → IsBare r → held old.cells r ≡ (if n == 0 then Some unit else None) → HasEffect in_place i e.op (source_of registers e.args) old old (Ok r) (effect_here registers last old i t e)
+  pub unit_effect : (r : Register) (n : ℕ) → e.op ≡ op.Unit → HasArity e.op e.args → n ≡ t → IsBare r → held old.cells r ≡ (if n == 0 then Some unit else None) → HasEffect in_place i e.op (source_of registers e.args) old old (Ok r) (effect_here registers last old i t e)
   unit_effect r n is shape same bare value =
-      let none = no_args e.args (subst (λ p. HasShape p e.args) is shape) in
+      let none = no_args e.args (subst (λ p. HasArity p e.args) is shape) in
       bare_effect op.Unit is tt r bare ((λ k. at_once op.Unit e.of (map (value_at old.cells registers) (none k)) t) ∙ ap Ok (sym (value ∙ (λ k. if same k == 0 then Some unit else None) ∙ unit_at t)))
 
   pub any_effect : (r : Register) (b : Bool) → e.op ≡ op.Any → IsBare r → b ≡ list_any is_some (map (value_at old.cells registers) e.args) → held old.cells r ≡ (if b then Some unit else None) → HasEffect in_place i e.op (source_of registers e.args) old old (Ok r) (effect_here registers last old i t e)
   any_effect r b is bare some value = bare_effect op.Any is tt r bare (ap Ok (sym (value ∙ (λ k. if some k then Some unit else None))))
 
-  pub lift_effect : (result : Result Register EvalFault) (body : Tree) (strict : Bool) → e.op ≡ op.Lift body strict → IfOk result (λ r. IsBare r) → IsHeldValue old.cells result (lifted body strict (map (value_at old.cells registers) e.args))
+  pub lift_effect : (result : Result Register EvalFault) (body : BodyTree) (strict : Bool) → e.op ≡ op.Lift body strict → IfOk result (λ r. IsBare r) → IsHeldValue old.cells result (lift_answer body strict (map (value_at old.cells registers) e.args))
       → HasEffect in_place i e.op (source_of registers e.args) old old result (effect_here registers last old i t e)
   lift_effect (Ok r) body strict is bare value = bare_effect (op.Lift body strict) is tt r bare (lift_once body strict e.of (map (value_at old.cells registers) e.args) t ∙ value.0)
   lift_effect (Err (eval_fault.Fault kind)) body strict is bare value =
@@ -235,10 +237,7 @@ picks q None b p r = absurd (false≢true p)
 picks q (Some a) None p r = absurd (false≢true r)
 
 said : (d : Option Held) (q : Bool) → truth_of d ≡ Some q → d ≡ Some (Bare (scalar.Bool q))
-said (Some (Bare (scalar.Bool b))) q is = ap (λ x. Some (Bare (scalar.Bool x))) (some_same b q is)
-  where
-    some_same : (x y : Bool) → Some x ≡ Some y → x ≡ y
-    some_same x y p = cc
+said (Some (Bare (scalar.Bool b))) q is = ap (λ x. Some (Bare (scalar.Bool x))) (same_Some b q is)
 said None q is = absurd (cc)
 said (Some (Bare x)) q is = absurd (cc)
 said (Some (Cell h)) q is = absurd (cc)

@@ -1,7 +1,7 @@
 -- The delays of a system.
 use Rattle.std.proofs.Common.{◌≡◌, ◌==◌, ℕ, zero, suc, ◌+◌, ◌<◌, ◌≤◌, Bool, true, false, ◌||◌, List, [], ◌∷◌, length, get_or, map, take, Option, Some, None, refl, sym, ap, subst, ◌∙◌, inl, inr, arith}
-use Rattle.std.proofs.lemmas.Bool.{cases_Bool, eqb-true, eqb-false, and_parts, false≢true}
-use Rattle.std.proofs.Math.Bool.{or-false}
+use Rattle.std.proofs.lemmas.Bool.{cases_Bool, eqb-true, eqb-false, and_parts}
+use Rattle.std.proofs.Math.Bool.{or-false, or-true}
 use Rattle.std.proofs.lemmas.List.Folds.{list_any_more}
 use Rattle.std.proofs.lemmas.Option.{slice_get_within}
 use Rattle.std.specs.Prelude.{◌≢◌, if◌then◌else◌, is_some, IsTrue, slice_index}
@@ -12,27 +12,23 @@ use Rattle.lift_func.specs.declared.fault.FaultKind.{FaultKind}
 use Rattle.lift_func.specs.declared.register.Register.{Register}
 use Rattle.lift_func.specs.inner.Cells.{Cells, held}
 use Rattle.flat_core.specs.declared.equation.Equation.{Equation}
-use Rattle.flat_core.specs.declared.equation.Op.{Op}
 use Rattle.flat_core.specs.declared.equation.Op.TheVariants as op
 use Rattle.flat_core.specs.Case.{refused}
 use Rattle.flat_core.specs.Complete.{IsFlat}
-use Rattle.flat_core.specs.Instant.{is_delay, is_delay_op}
+use Rattle.flat_core.specs.Instant.{is_delay}
 use Rattle.flat_core.specs.Members.{is_in}
 use Rattle.flat_core.specs.Pending.{reached}
 use Rattle.flat_core.specs.System.{System, equation, runs}
 use Rattle.register_code.specs.Code.{is_timer}
 use Rattle.monitor_run.specs.declared.run.Root.{Root}
 use Rattle.register_machine.specs.Stands.{in_time}
-use Rattle.flat_core.specs.inner.Shape.{HasShape}
+use Rattle.flat_core.specs.inner.Arity.{HasArity}
 use Rattle.monitor_run.specs.inner.Here.{first_of}
 use Rattle.monitor_run.specs.inner.Instant.{IsLeastRoot, refusal_of, second_of, set_at, set_by}
 use Rattle.monitor_run.specs.inner.Registers.{register_at, value_at}
 use Rattle.flat_core.proofs.Shapes.{shape_of}
+use Rattle.flat_core.proofs.Answered.{delay_op}
 use Rattle.monitor_run.proofs.RootLemmas.{least-one, least-same}
-
-pub delay_op : (o : Op) → is_delay_op o ≡ true → o ≡ op.Delay
-delay_op op.Delay is = refl
-delay_op _ is = absurd (false≢true is)
 
 -- a running delay is there
 pub timer_there : (s : System) → IsFlat s → (i : ℕ) → IsTrue (is_timer s i) → i < length s.equations
@@ -44,24 +40,24 @@ timer_there s whole i h =
 pub timer_runs : (s : System) (i : ℕ) → IsTrue (is_timer s i) → IsTrue (runs s i)
 timer_runs s i h = (and_parts (runs s i) (is_delay (equation s i)) h).0
 
-pub timer_shape : (s : System) → IsFlat s → (i : ℕ) (e : Equation) → IsTrue (is_timer s i) → equation s i ≡ Some e → HasShape op.Delay e.args
+pub timer_shape : (s : System) → IsFlat s → (i : ℕ) (e : Equation) → IsTrue (is_timer s i) → equation s i ≡ Some e → HasArity op.Delay e.args
 timer_shape s whole i e h is =
     let parts = and_parts (runs s i) (is_delay (equation s i)) h in
-    subst (λ o. HasShape o e.args) (delay_op e.op (ap is_delay (sym is) ∙ parts.1)) (shape_of s whole i e is)
+    subst (λ o. HasArity o e.args) (delay_op e.op (ap is_delay (sym is) ∙ parts.1)) (shape_of s whole i e is)
 
-pub delay_two : (args : List ℕ) → HasShape op.Delay args → length args ≡ 2
+pub delay_two : (args : List ℕ) → HasArity op.Delay args → length args ≡ 2
 delay_two [] shape = absurd shape
 delay_two (d ∷ []) shape = absurd shape
 delay_two (d ∷ r ∷ []) shape = refl
 delay_two (d ∷ r ∷ a ∷ args) shape = absurd shape
 
-pub first_is : (c : Cells) (registers : List Register) (args : List ℕ) → HasShape op.Delay args → first_of (map (value_at c registers) args) ≡ held c (register_at registers (slice_index args 0))
+pub first_is : (c : Cells) (registers : List Register) (args : List ℕ) → HasArity op.Delay args → first_of (map (value_at c registers) args) ≡ held c (register_at registers (slice_index args 0))
 first_is c registers [] shape = absurd shape
 first_is c registers (d ∷ []) shape = absurd shape
 first_is c registers (d ∷ r ∷ []) shape = refl
 first_is c registers (d ∷ r ∷ a ∷ args) shape = absurd shape
 
-pub second_is : (c : Cells) (registers : List Register) (args : List ℕ) → HasShape op.Delay args → second_of (map (value_at c registers) args) ≡ held c (register_at registers (slice_index args 1))
+pub second_is : (c : Cells) (registers : List Register) (args : List ℕ) → HasArity op.Delay args → second_of (map (value_at c registers) args) ≡ held c (register_at registers (slice_index args 1))
 second_is c registers [] shape = absurd shape
 second_is c registers (d ∷ []) shape = absurd shape
 second_is c registers (d ∷ r ∷ []) shape = refl
@@ -69,7 +65,7 @@ second_is c registers (d ∷ r ∷ a ∷ args) shape = absurd shape
 
 -- ---- refused amounts
 module _ (s : System) (c : Cells) (registers : List Register) where
-  pub refused-more : (delays : List ℕ) (k d : ℕ) (e : Equation) → k < length delays → d ≡ get_or delays k 0 → equation s d ≡ Some e → HasShape op.Delay e.args → (root found result : Option Root)
+  pub refused-more : (delays : List ℕ) (k d : ℕ) (e : Equation) → k < length delays → d ≡ get_or delays k 0 → equation s d ≡ Some e → HasArity op.Delay e.args → (root found result : Option Root)
       → IsLeastRoot (is_in (take k delays)) (λ i. refusal_of (equation s i) c registers) root
       → found ≡ option_map (λ kind. record { equation = d; kind = kind }) (refused (held c (register_at registers (slice_index e.args 0))))
       → ((among besides : ℕ → Bool) (p : ℕ → Option FaultKind) → IsLeastRoot among p root → IsLeastRoot besides p found → IsLeastRoot (λ i. among i || besides i) p result)
@@ -102,22 +98,18 @@ module _ (s : System) (c : Cells) (registers : List Register) (t : ℕ) (delays 
         | inl now ↦
             let same = eqb-true d i now in
             subst (λ j. finite_map.get new j ≡ set_at (equation s j) c registers t j (finite_map.get first j)) same (set_here (is_in (take k delays) d) (before d))
-            ∙ sym (λ j. if (sym more ∙ (λ x. is_in (take k delays) i || now x) ∙ or_true (is_in (take k delays) i)) j then set_at (equation s i) c registers t i (finite_map.get first i) else finite_map.get first i)
+            ∙ sym (λ j. if (sym more ∙ (λ x. is_in (take k delays) i || now x) ∙ or-true (is_in (take k delays) i)) j then set_at (equation s i) c registers t i (finite_map.get first i) else finite_map.get first i)
         | inr other ↦
             others i (λ same. eqb-false d i other (sym same)) ∙ before i
             ∙ sym (λ j. if (sym more ∙ (λ x. is_in (take k delays) i || other x) ∙ or-false (is_in (take k delays) i)) j then set_at (equation s i) c registers t i (finite_map.get first i) else finite_map.get first i)
       ]
     where
-      or_true : (b : Bool) → (b || true) ≡ true
-      or_true true = refl
-      or_true false = refl
-
       set_here : (b : Bool) → finite_map.get mid d ≡ (if b then set_at (equation s d) c registers t d (finite_map.get first d) else finite_map.get first d) → finite_map.get new d ≡ set_at (equation s d) c registers t d (finite_map.get first d)
       set_here true was = here ∙ (λ j. set_at (sym there j) c registers t d (was j)) ∙ set_again (equation s d) c registers t d (finite_map.get first d)
       set_here false was = here ∙ (λ j. set_at (sym there j) c registers t d (was j))
 
 -- one delay
-module _ (c : Cells) (registers : List Register) (args : List ℕ) (shape : HasShape op.Delay args) (t i : ℕ) (amount reset own : Register) (b : Bool)
+module _ (c : Cells) (registers : List Register) (args : List ℕ) (shape : HasArity op.Delay args) (t i : ℕ) (amount reset own : Register) (b : Bool)
     (amount_is : amount ≡ register_at registers (slice_index args 0)) (reset_is : reset ≡ register_at registers (slice_index args 1)) (own_is : own ≡ register_at registers i) (sets : b ≡ (is_some (held c reset) || is_some (held c own))) where
   pub set_case : (due : Option ℕ) → set_by t (first_of (map (value_at c registers) args)) (second_of (map (value_at c registers) args)) (value_at c registers i) due ≡ (if b then in_time (reached t (held c amount)) else due)
   set_case due =

@@ -2,7 +2,7 @@
 use Rattle.std.proofs.Common.{◌≡◌, ◌==◌, ℕ, ◌+◌, ◌<◌, Bool, true, false, ◌||◌, List, length, get_or, set, take, refl, sym, subst, ◌∙◌, inl, inr}
 use Rattle.std.proofs.lemmas.Bool.{cases_Bool, eqb-true, eqb-false, eq-eqb, false≢true, true≢false}
 use Rattle.std.specs.FinMap as finite_map
-use Rattle.std.proofs.Math.Bool.{or-false}
+use Rattle.std.proofs.Math.Bool.{or-false, or-true}
 use Rattle.std.proofs.Common.{length-set}
 use Rattle.std.proofs.lemmas.List.{get_or-set_same, get_or-set_other}
 use Rattle.std.proofs.lemmas.List.Folds.{list_any_more}
@@ -28,11 +28,7 @@ module _ (keeps : List ℕ) (k d : ℕ) (lt : k < length keeps) (is : d ≡ get_
   more-other i other = more i ∙ (λ j. is_in (take k keeps) i || other j) ∙ or-false (is_in (take k keeps) i)
 
   more-same : is_in (take (k + 1) keeps) d ≡ true
-  more-same = more d ∙ (λ j. is_in (take k keeps) d || eq-eqb d d refl j) ∙ or_true (is_in (take k keeps) d)
-    where
-      or_true : (b : Bool) → (b || true) ≡ true
-      or_true true = refl
-      or_true false = refl
+  more-same = more d ∙ (λ j. is_in (take k keeps) d || eq-eqb d d refl j) ∙ or-true (is_in (take k keeps) d)
 
   module _ (now_next kept_next : List Register) (others_last : (i : ℕ) → i ≢ d → register_at kept_next i ≡ register_at kept i) (others_now : (i : ℕ) → i ≢ d → register_at now_next i ≡ register_at now i)
       (last_here : register_at kept_next d ≡ kept_register (register_at registers d) (register_at last d)) (now_here : register_at now_next d ≡ register.Empty) where

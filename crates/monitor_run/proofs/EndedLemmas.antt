@@ -9,6 +9,7 @@ use Rattle.std.specs.Cmp.{eq_by_cmp_equiv, nat_cmp_total}
 use Rattle.std.specs.Ordering.{eq_by_cmp, nat_cmp}
 use Rattle.std.specs.declared.cmp.Ordering.TheVariants.{Equal}
 use Rattle.std.proofs.Math.Bool.{or_assoc}
+use Rattle.std.proofs.lemmas.Option.{same_Some}
 use Rattle.tsl_value.specs.View.{View, Plain, Keyed, Mapped}
 use Rattle.tsl_value.specs.declared.scalar.Scalar.TheVariants as scalar
 use Rattle.tsl_value.specs.declared.scalar.ValueType.{ValueType}
@@ -201,15 +202,13 @@ module _ (s : System) (whole : IsFlat s) (plan : Plan) (t : ℕ) (given : List L
   ]
 
   -- timers
-  some_same : (a b : ℕ) → Some a ≡ Some b → a ≡ b
-  some_same a b p = cc
 
   in_time_some : (o : Option ℕ) (u : ℕ) → in_time o ≡ Some u → (o ≡ Some u) × (u < 2 ^ 63)
   in_time_some None u p = absurd (cc)
   in_time_some (Some v) u p = elim (cases_Bool (nat_lt v (2 ^ 63))) [
     | inl lt ↦
         let is : Some v ≡ Some u = sym (λ k. if lt k then Some v else None) ∙ p in
-        let same = some_same v u is in
+        let same = same_Some v u is in
         let fits_in = ltb-true v (2 ^ 63) lt in
         (is, omega arith)
     | inr late ↦ let nothing : None ≡ Some u = sym (λ k. if late k then Some v else None) ∙ p in absurd (cc)
@@ -217,7 +216,7 @@ module _ (s : System) (whole : IsFlat s) (plan : Plan) (t : ℕ) (given : List L
 
   reached_later : (v : Option View) (u : ℕ) → refused v ≡ None → reached t v ≡ Some u → suc t ≤ u
   reached_later (Some (Plain (scalar.Int (pos zero)))) u p q = absurd (cc)
-  reached_later (Some (Plain (scalar.Int (pos (suc n))))) u p q = let sum = some_same (t + suc n) u q in omega arith
+  reached_later (Some (Plain (scalar.Int (pos (suc n))))) u p q = let sum = same_Some (t + suc n) u q in omega arith
   reached_later v u p q = absurd (cc)
 
   set_later : (o : Option Equation) (c : Cells) (registers : List Register) (i u : ℕ) (due : Option ℕ) → ((v : ℕ) → due ≡ Some v → (suc t ≤ v) × (v < 2 ^ 63)) → refusal_of o c registers ≡ None → set_at o c registers t i due ≡ Some u → (suc t ≤ u) × (u < 2 ^ 63)

@@ -1,10 +1,11 @@
 -- Between two instants nothing happens, and what is kept goes on to the next.
-use Rattle.std.proofs.Common.{◌≡◌, ◌==◌, ℕ, zero, suc, ◌+◌, ◌<◌, ◌≤◌, ◌^◌, ◌-◌, Bool, true, false, ◌&&◌, ◌||◌, List, [], ◌∷◌, ◌++◌, Option, Some, None, refl, sym, ap, subst, ◌∙◌, append-nil, inl, inr, arith}
+use Rattle.std.proofs.Common.{◌≡◌, ◌==◌, ℕ, zero, suc, ◌+◌, ◌<◌, ◌≤◌, ◌^◌, ◌-◌, true, false, ◌&&◌, ◌||◌, List, [], ◌∷◌, ◌++◌, Option, Some, None, refl, sym, ap, subst, ◌∙◌, append-nil, inl, inr, arith}
 use Rattle.std.proofs.lemmas.Bool.{cases_Bool, cases_lt, eq-eqb, ne_eqb, lt-ltb, or_left, or_right, true≢false}
 use Rattle.std.proofs.lemmas.List.Folds.{list_any-append}
 use Rattle.std.specs.Prelude.{if◌then◌else◌, is_some, min, nat_lt, IsTrue}
 use Rattle.std.specs.List.{AllByRecursion, Contains, list_any}
 use Rattle.std.specs.FinMap as finite_map
+use Rattle.std.proofs.Math.Bool.{and-false}
 use Rattle.delay_timers.specs.inner.Pending.{Times}
 use Rattle.flat_core.specs.declared.equation.Equation.{Equation}
 use Rattle.flat_core.specs.declared.equation.Op.{Op}
@@ -32,19 +33,19 @@ use Rattle.flat_core.specs.Members.{is_in}
 use Rattle.register_machine.specs.Copied.{args_of, copied, copied_at, size_at, total_copied}
 use Rattle.monitor_run.proofs.DueTimes.{due_at, due_of, due_time}
 use Rattle.monitor_run.specs.inner.Given.{AreBefore, AreEventLines}
-use Rattle.flat_core.specs.inner.Shape.{HasShape}
+use Rattle.flat_core.specs.inner.Arity.{HasArity}
 use Rattle.monitor_run.specs.inner.Next.{Comes, NothingBefore}
-use Rattle.monitor_run.proofs.DelayLemmas.{delay_op}
 use Rattle.flat_core.proofs.Shapes.{running_args, shape_of}
+use Rattle.flat_core.proofs.Answered.{delay_op}
 
 pub plan_ranked : (s : System) (order : List ℕ) → IsPlanOrder s order → IsRanked s (place order)
 plan_ranked s order plan = order_ranked s (MustPrecede s) (λ a b must. must) order plan
 
 -- a delay has two arguments
 pub delay_args : (s : System) → IsFlat s → (i : ℕ) (e : Equation) → equation s i ≡ Some e → e.op ≡ op.Delay → (d : ℕ) × (r : ℕ) × (e.args ≡ d ∷ r ∷ [])
-delay_args s whole i e is op_is = from e.args (subst (λ o. HasShape o e.args) op_is (shape_of s whole i e is))
+delay_args s whole i e is op_is = from e.args (subst (λ o. HasArity o e.args) op_is (shape_of s whole i e is))
   where
-    from : (args : List ℕ) → HasShape op.Delay args → (d : ℕ) × (r : ℕ) × (args ≡ d ∷ r ∷ [])
+    from : (args : List ℕ) → HasArity op.Delay args → (d : ℕ) × (r : ℕ) × (args ≡ d ∷ r ∷ [])
     from [] shape = absurd shape
     from (d ∷ []) shape = absurd shape
     from (d ∷ r ∷ []) shape = (d, r, refl)
@@ -116,10 +117,6 @@ module _ (s : System) (whole : IsFlat s) (order : List ℕ) (plan : IsPlanOrder 
     not_zero : (k == 0) ≡ false
     not_zero = ne_eqb k 0 (λ is. let first = none.start (omega arith) in absurd (omega arith))
 
-    and_false : (b : Bool) → (b && false) ≡ false
-    and_false true = refl
-    and_false false = refl
-
     no_delay : (i : ℕ) → IsTrue (runs s i) → (is_delay (equation s i) && has_event (z i k)) ≡ false
     no_delay i run =
         let f = whole.proper.runs_all i run in
@@ -129,7 +126,7 @@ module _ (s : System) (whole : IsFlat s) (order : List ℕ) (plan : IsPlanOrder 
               let op_is = delay_op f.0.op timer in
               let two = delay_args s whole i f.0 f.1 op_is in
               let quiet_delay = event_is_due k from (omega arith) silent i f.0 run f.1 (omega arith) (omega arith) op_is two.0 two.1 two.2 ∙ not_before i k early in
-              (λ j. is_delay (equation s i) && quiet_delay j) ∙ and_false (is_delay (equation s i))
+              (λ j. is_delay (equation s i) && quiet_delay j) ∙ and-false (is_delay (equation s i))
         ]
 
     quiet_at : is_instant s lines z k ≡ false

@@ -9,7 +9,7 @@ use Rattle.aggregate_store.specs.inner.Stored.{Stored}
 use Rattle.flat_core.specs.declared.equation.Op.{Op}
 use Rattle.flat_core.specs.declared.equation.Op.TheVariants as op
 use Rattle.register_machine.specs.Machine.{Held, Blank, held, slot_of, where_either, where_true, Fill, effect_of}
-use Rattle.flat_core.specs.inner.Shape.{HasShape}
+use Rattle.flat_core.specs.inner.Arity.{HasArity}
 use Rattle.monitor_run.specs.inner.Here.{HasEffect, handed_of, hands_on}
 use Rattle.monitor_run.specs.inner.Shown.{config_of, held_at, held_by}
 use Rattle.monitor_run.proofs.CellLemmas.{held_slot}
@@ -23,7 +23,7 @@ module _ (registers last : List Register) (store : Stored) (i t : ℕ) where
   here a = held_slot (held_at registers a)
 
   -- the effect of such an operation
-  pub handed_effect : (o : Op) (args : List ℕ) (of : ValueType) → hands_on o ≡ true → HasShape o args → effect_of (λ j u. None) t (config_of registers last store) i o args of ≡ Fill (slot_of (handed_of registers last o args))
+  pub handed_effect : (o : Op) (args : List ℕ) (of : ValueType) → hands_on o ≡ true → HasArity o args → effect_of (λ j u. None) t (config_of registers last store) i o args of ≡ Fill (slot_of (handed_of registers last o args))
   handed_effect op.Last [] of is shape = absurd shape
   handed_effect op.Last (v ∷ []) of is shape = absurd shape
   handed_effect op.Last (v ∷ r ∷ x ∷ args) of is shape = absurd shape
@@ -44,7 +44,7 @@ module _ (registers last : List Register) (store : Stored) (i t : ℕ) where
   handed_effect op.Pick (a ∷ b ∷ x ∷ []) of is shape = λ k. Fill (slot_of (where_either (here a k) (here b k) (here x k)))
   handed_effect _ args of is shape = absurd (false≢true is)
 
-  pub hands_effect : (in_place : Bool) (o : Op) (args : List ℕ) (of : ValueType) (source : Register) (r : Register) → hands_on o ≡ true → HasShape o args → held_by r ≡ handed_of registers last o args
+  pub hands_effect : (in_place : Bool) (o : Op) (args : List ℕ) (of : ValueType) (source : Register) (r : Register) → hands_on o ≡ true → HasArity o args → held_by r ≡ handed_of registers last o args
       → HasEffect in_place i o source store store (Ok r) (effect_of (λ j u. None) t (config_of registers last store) i o args of)
   hands_effect in_place o args of source r is shape same =
       subst (HasEffect in_place i o source store store (Ok r)) (sym (handed_effect o args of is shape)) (ap slot_of (sym same), refl)

@@ -23,7 +23,8 @@ use Rattle.flat_core.specs.System.{System, runs, equation}
 use Rattle.flat_core.specs.Typed.{IsTyped, empty, last, merge, filter, pick, set_add, set_remove, map_add, map_remove, is_aggregate}
 use Rattle.flat_core.specs.TypedSystem.{AreOfTypes}
 use Rattle.register_machine.specs.Machine.{Held, Bare, Cell, Slot, Blank, held, slot_of, slot_of_answer, Config, value_in, where_true, where_either, Fill, Make, made, effect_of}
-use Rattle.flat_core.specs.inner.Shape.{HasShape}
+use Rattle.register_machine.proofs.FailedKinds.{fill_same}
+use Rattle.flat_core.specs.inner.Arity.{HasArity}
 use Rattle.monitor_run.specs.inner.Here.{effect_here, is_given_op}
 use Rattle.monitor_run.specs.inner.Registers.{AreHeld, IsHeldOf, register_at, value_at}
 use Rattle.monitor_run.specs.inner.Shown.{config_of, held_at, held_by}
@@ -38,9 +39,6 @@ abbrev pub HoldsAs : (ℕ → ValueType) → Cells → ValueType → Option Held
 HoldsAs types c of None = Unit {0}
 HoldsAs types c of (Some (Bare s)) = IsTrue (is_of of (Plain s))
 HoldsAs types c of (Some (Cell h)) = (types h ≡ of) × IsHeldOf c of (register.Aggregate h)
-
-fill_same : {x y : Slot} → Fill x ≡ Fill y → x ≡ y
-fill_same q = cc
 
 module _ (types : ℕ → ValueType) (c : Cells) where
   pub holds_as : (of : ValueType) (r : Register) → IsHeldOf c of r → ((h : ℕ) → r ≡ register.Aggregate h → types h ≡ of) → HoldsAs types c of (held_by r)
@@ -168,7 +166,7 @@ module _ (s : System) (whole : IsFlat s) (types : ℕ → ValueType) (st : Store
         (fills e.op g.types e.of g.typed other e.args all_run g.arguments (answer_fits g.types g.typed g.arguments) slot does)
 
     -- a view that is made
-    makes : (o : Op) (kinds : List ValueType) (of : ValueType) → IsTyped o kinds of → is_given_op o ≡ false → (args : List ℕ) → HasShape o args → (v : View) → effect_of (λ j u. None) t c i o args of ≡ Make v → (at_once o of (map (value_in c) args) t ≡ Ok (Some v)) × (is_aggregate of ≡ true)
+    makes : (o : Op) (kinds : List ValueType) (of : ValueType) → IsTyped o kinds of → is_given_op o ≡ false → (args : List ℕ) → HasArity o args → (v : View) → effect_of (λ j u. None) t c i o args of ≡ Make v → (at_once o of (map (value_in c) args) t ≡ Ok (Some v)) × (is_aggregate of ≡ true)
     makes op.Input kinds of typed other args shape v is = absurd (true≢false other)
     makes op.Delay kinds of typed other args shape v is = absurd (true≢false other)
     makes op.Nil kinds of typed other args shape v is = fill_make is

@@ -21,7 +21,7 @@ use Rattle.flat_core.specs.Line.{Line}
 use Rattle.flat_core.specs.Members.{is_in}
 use Rattle.flat_core.specs.Pending.{option_is, reached}
 use Rattle.flat_core.specs.System.{System, equation, runs}
-use Rattle.flat_core.proofs.Members.{all_from, in-Contains, none_from, some_from, some_in}
+use Rattle.flat_core.proofs.Members.{all_from, in-Contains, none_from, some_from, some_in, same_truth}
 use Rattle.flat_core.proofs.Depth.{runs_below}
 use Rattle.alias_rules.specs.Uses.{last_of}
 use Rattle.flat_core.proofs.Rising.{in_filter}
@@ -35,22 +35,17 @@ use Rattle.register_machine.specs.Stands.{in_time}
 use Rattle.register_machine.proofs.Cells.{with-here}
 use Rattle.monitor_run.specs.declared.machine.Machine.{Machine}
 use Rattle.monitor_run.specs.inner.Instant.{AreInputs, HasEnded, HasReached, HasRunRegisters, IsSound, cell_in, cells_in, kept_of, kept_register, left_at, second_of, set_at, set_by}
-use Rattle.flat_core.specs.inner.Shape.{HasShape}
+use Rattle.flat_core.specs.inner.Arity.{HasArity}
 use Rattle.monitor_run.specs.inner.Here.{first_of}
 use Rattle.monitor_run.specs.inner.Registers.{register_at, value_at}
 use Rattle.monitor_run.specs.inner.Shown.{held_at, held_by}
 use Rattle.monitor_run.proofs.CellLemmas.{seen_is}
-use Rattle.monitor_run.proofs.DelayLemmas.{delay_op, timer_runs, timer_shape}
+use Rattle.monitor_run.proofs.DelayLemmas.{timer_runs, timer_shape}
 use Rattle.monitor_run.proofs.EndedLemmas.{listed_append}
 use Rattle.monitor_run.proofs.EndingLemmas.{HasEnding, ending_goes, expiry_is, overwritten, timed_at}
 use Rattle.flat_core.proofs.Shapes.{running_args}
+use Rattle.flat_core.proofs.Answered.{delay_op}
 use Rattle.monitor_run.proofs.InstantLemmas.{filtered_running, in_numbers, kept_runs, listed_kept, listed_timer}
-
--- two tests that follow from one another
-pub both_ways : (x y : Bool) → (x ≡ true → y ≡ true) → (y ≡ true → x ≡ true) → x ≡ y
-both_ways true y there back = sym (there refl)
-both_ways false true there back = back refl
-both_ways false false there back = refl
 
 -- ---- what the code keeps and sets is what the machine does
 module _ (s : System) (whole : IsFlat s) where
@@ -68,7 +63,7 @@ module _ (s : System) (whole : IsFlat s) where
       by_op o args = refl
 
   pub kept_same : (v : ℕ) → is_in (keeps_of s) v ≡ is_in (kept s) v
-  kept_same v = both_ways (is_in (keeps_of s) v) (is_in (kept s) v) there back
+  kept_same v = same_truth (is_in (keeps_of s) v) (is_in (kept s) v) there back
     where
       there : is_in (keeps_of s) v ≡ true → is_in (kept s) v ≡ true
       there listed =
@@ -88,7 +83,7 @@ module _ (s : System) (whole : IsFlat s) where
           (in_numbers s v (runs_below s whole.proper v both.1))
 
   pub timers_same : (v : ℕ) → is_in (timers_of s) v ≡ is_in (delays s) v
-  timers_same v = both_ways (is_in (timers_of s) v) (is_in (delays s) v) there back
+  timers_same v = same_truth (is_in (timers_of s) v) (is_in (delays s) v) there back
     where
       there : is_in (timers_of s) v ≡ true → is_in (delays s) v ≡ true
       there listed =
@@ -109,7 +104,7 @@ module _ (s : System) (whole : IsFlat s) where
 -- any of two lists with the same members
 any_same : (p : ℕ → Bool) (xs ys : List ℕ) → ((v : ℕ) → is_in xs v ≡ is_in ys v) → list_any p xs ≡ list_any p ys
 any_same p xs ys same =
-    both_ways (list_any p xs) (list_any p ys) (λ so. let found = some_in p xs so in some_from p ys found.0 (sym (same found.0) ∙ found.1) found.2)
+    same_truth (list_any p xs) (list_any p ys) (λ so. let found = some_in p xs so in some_from p ys found.0 (sym (same found.0) ∙ found.1) found.2)
     (λ so. let found = some_in p ys so in some_from p xs found.0 (same found.0 ∙ found.1) found.2)
 
 -- the cells of last registers
@@ -201,7 +196,7 @@ module _ (s : System) (whole : IsFlat s) (plan : Plan) (t : ℕ) (given : List L
         due_some true = refl
         due_some false = refl
 
-    set_is : (args : List ℕ) → HasShape op.Delay args → AllByRecursion (λ a. IsTrue (runs s a)) args
+    set_is : (args : List ℕ) → HasArity op.Delay args → AllByRecursion (λ a. IsTrue (runs s a)) args
         → set_by t (first_of (map (value_at mid.store.cells mid.registers.items) args)) (second_of (map (value_at mid.store.cells mid.registers.items) args)) (value_at mid.store.cells mid.registers.items i) (finite_map.get mid.timers.times i) ≡ timed t r.reached i args i
     set_is [] shape all = absurd shape
     set_is (d ∷ []) shape all = absurd shape

@@ -21,7 +21,7 @@ use Rattle.flat_core.specs.Complete.{IsFlat}
 use Rattle.flat_core.specs.System.{System, runs, equation}
 use Rattle.flat_core.specs.Typed.{IsTyped, set_add, set_remove, map_add, map_remove}
 use Rattle.flat_core.specs.TypedSystem.{AreOfTypes}
-use Rattle.alias_rules.specs.Uses.{is_update}
+use Rattle.flat_core.specs.Updates.{is_update}
 use Rattle.register_machine.specs.Machine.{with, Effect, Fill, Make}
 use Rattle.register_machine.proofs.Cells.{with-here}
 use Rattle.monitor_run.specs.declared.machine.Machine.{Machine}
@@ -137,12 +137,18 @@ module _ (s : System) (whole : IsFlat s) (in_place : Bool) (t n : ℕ) (e : Equa
             by true so false place has = made_held v fits has.0
             by true so true place has = changed_held v fits so has.0 has.1 has.2 (ap (λ (st : Stored). st.cells) has.3)
 
+  -- a register is emptied
+  emptied_held : new.registers.items ≡ slice_set old.registers.items n register.Empty → new.store.cells ≡ old.store.cells → AllHeld s new
+  emptied_held registers cells_are =
+      set_new register.Empty registers all.types (subst (λ c. AreHeld s all.types c old.registers.items) (sym cells_are) all.held) (subst (λ c. AreHeld s all.types c old.last.items) (sym cells_are) all.last)
+      (record { typed = refl; live = tt }) (λ h is. absurd (cc))
+
   pub all_held : (root : Option Root) → HasRunOne in_place t n e old new root → AllHeld s new
   all_held root (was_given is same) = same_held (ap (λ (m : Machine). m.registers.items) same) (ap (λ (m : Machine). m.store.cells) same)
-  all_held root (was_barred other blocked registers marks store) = same_held (ap (λ v. v.items) registers) (ap (λ (st : Stored). st.cells) store)
+  all_held root (was_barred other blocked registers marks store) = emptied_held registers (ap (λ (st : Stored). st.cells) store)
   all_held root (was_filled r other sound has registers marks) = filled_held r registers other has
   all_held root (has_failed kind other sound has registers marks) = failed_held (effect_here old.registers.items old.last.items old.store n t e) has
     where
       failed_held : (does : Effect) → HasEffect in_place n e.op (source_of old.registers.items e.args) old.store new.store (Err (eval_fault.Fault kind)) does → AllHeld s new
-      failed_held (Fill slot) has = same_held (ap (λ v. v.items) registers) (ap (λ (st : Stored). st.cells) has.1)
+      failed_held (Fill slot) has = emptied_held registers (ap (λ (st : Stored). st.cells) has.1)
       failed_held (Make v) has = absurd has

@@ -13,7 +13,7 @@ use Rattle.flat_core.specs.Line.{Line, inputs_of}
 use Rattle.flat_core.specs.Solution.{Solves}
 use Rattle.flat_core.specs.System.{System}
 use Rattle.flat_core.specs.Text.{due_text, text_at}
-use Rattle.flat_core.proofs.Members.{all_at, contains_head, contains_tail, some_from}
+use Rattle.flat_core.proofs.Members.{all_at, some_from}
 use Rattle.flat_core.proofs.PendingLemmas.{none_before_from, some_before_from}
 use Rattle.flat_core.proofs.Uniqueness.{all_by}
 use Rattle.std.proofs.lemmas.Option.{slice_get_within}
@@ -26,7 +26,7 @@ use Rattle.monitor_run.specs.inner.State.{State, IsReady}
 use Rattle.monitor_run.specs.inner.Stands.{Stands, KeepsOf}
 use Rattle.monitor_run.specs.inner.Steps.{HasRun, HasFaulted, IsAtLimit, IsNextOf, NoneIsLeft}
 use Rattle.monitor_run.specs.inner.Written.{HasWritten}
-use Rattle.tsl_value.proofs.Lists.{filter_all, filter_none, get_seam}
+use Rattle.tsl_value.proofs.Lists.{filter_all, filter_none, get_seam, middle}
 
 -- ---- instants
 module _ (s : System) (lines : List Line) (z : Streams) where
@@ -80,10 +80,6 @@ all_take P [] zero all = tt
 all_take P [] (suc n) all = tt
 all_take P (x ∷ xs) zero all = tt
 all_take P (x ∷ xs) (suc n) all = (all.0, all_take P xs n all.1)
-
-contains_middle : (xs ys : List ℕ) (t : ℕ) → Contains (xs ++ t ∷ ys) t
-contains_middle [] ys t = contains_head t ys
-contains_middle (x ∷ xs) ys t = contains_tail x (xs ++ t ∷ ys) t (contains_middle xs ys t)
 
 module _ (old : State) (lines : List Line) (stands : Stands old lines) (w : Streams) (solves : Solves old.system (inputs_of lines) old.next w) where
   keeps : KeepsOf old lines w
@@ -175,7 +171,7 @@ module _ (old : State) (lines : List Line) (ready : IsReady old) (stands : Stand
         text_is
             ∙ ap (flat_map (text_at old.system w)) (sym (ap (filter (λ u. not (is_over old.system (inputs_of lines) w u))) taken.1
             ∙ filter-append (λ u. not (is_over old.system (inputs_of lines) w u)) (instants old.system lines w old.next) (t ∷ take taken.0 then_more.0) ∙ (λ k. all k ++ none k) ∙ append-nil (instants old.system lines w old.next))),
-        record { named = named; within = subst (λ ts. Contains ts t) (sym taken.1) (contains_middle (instants old.system lines w old.next) (take taken.0 then_more.0) t) },
+        record { named = named; within = subst (λ ts. Contains ts t) (sym taken.1) (middle (instants old.system lines w old.next) (take taken.0 then_more.0) t) },
       )
 
 -- the time of a stop is below the bound

@@ -6,6 +6,7 @@ pub mod PlanLemmas
 pub mod TypedLemmas
 pub mod BeginLemmas
 pub mod RunLemmas
+pub mod CurrentLemmas
 pub mod HandLemmas
 pub mod HoldLemmas
 pub mod KeptTypes

@@ -20,6 +20,7 @@ use Rattle.register_machine.proofs.LaterRuns.{later_leave}
 use Rattle.lift_func.specs.declared.register.Register.TheVariants as register
 use Rattle.std.specs.Ordering.{nat_cmp}
 use Rattle.flat_core.specs.inner.BoundLaws.{LeavesEarlier}
+use Rattle.monitor_run.specs.inner.Here.{is_marked}
 use Rattle.monitor_run.specs.inner.Begun.{IsBegunOf}
 use Rattle.flat_core.specs.Text.{text_at}
 use Rattle.flat_core.specs.Instant.{instants}
@@ -240,6 +241,11 @@ value_none : (n i : ℕ) → register_at (replicate n register.Empty) i ≡ regi
 value_none zero i = refl
 value_none (suc n) zero = refl
 value_none (suc n) (suc i) = value_none n i
+
+pub unmarked_new : (n i : ℕ) → is_marked (replicate n false) i ≡ false
+unmarked_new zero i = refl
+unmarked_new (suc n) zero = refl
+unmarked_new (suc n) (suc i) = unmarked_new n i
 
 number_none : (n i : ℕ) → slice_index (replicate n 0) i ≡ 0
 number_none zero i = refl

@@ -5,6 +5,7 @@ use Rattle.std.specs.Prelude.{◌⊎◌, ◌≢◌, if◌then◌else◌, MatchOp
 use Rattle.std.specs.List.{AllByRecursion, Contains}
 use Rattle.std.specs.FinMap as finite_map
 use Rattle.std.specs.Ordering.{nat_cmp}
+use Rattle.std.proofs.lemmas.Option.{same_Some}
 use Rattle.delay_timers.specs.inner.Pending.{Times, IsLeastTime}
 use Rattle.flat_core.specs.Line.{Line}
 use Rattle.flat_core.proofs.Members.{contains_head}
@@ -24,25 +25,22 @@ module _ (next : ℕ) (given : List Line) (timers : Times) where
   pub first_later : next ≢ 0 → (at : ℕ) → AreAt at given → (first : Option ℕ) → IsFirstTimer timers first → (t : ℕ) → earliest (time_if at given) first ≡ Some t → Comes next given timers t × NothingBefore next given timers t
   first_later later at all first timer t is = from given all first timer is
     where
-      some_same : (a b : ℕ) → Some a ≡ Some b → a ≡ b
-      some_same a b p = cc
-
       from : (lines : List Line) → AreAt at lines → (o : Option ℕ) → IsFirstTimer timers o → earliest (time_if at lines) o ≡ Some t → (((next ≡ 0) × (t ≡ 0)) ⊎ ((l : Line) × Contains lines l × (l.time ≡ t)) ⊎ ((i : ℕ) × (finite_map.get timers i ≡ Some t))) × NothingBefore next lines timers t
       from [] a None p q = absurd (cc)
       from [] a (Some u) p q =
-          let same = some_same u t q in
+          let same = same_Some u t q in
           let least : IsLeastTime timers t = subst (IsLeastTime timers) same p in
           (inr (inr least.is_due), record { start = λ zero. absurd (later zero); events = tt; delays = λ i v is. least.least i v is })
       from (l ∷ lines) a None p q =
-          let same = some_same at t q in
+          let same = same_Some at t q in
           (inr (inl (l, contains_head l lines, a.0 ∙ same)), record { start = λ zero. absurd (later zero); events = all_by (λ l. l.time ≡ at) (λ l. t ≤ l.time) (λ l there. omega arith) (l ∷ lines) a; delays = λ i v is. absurd (none_pending timers p i v is) })
       from (l ∷ lines) a (Some u) p q = elim (cases_lt u at) [
         | inl low ↦
-            let same = some_same u t (sym (λ k. if lt-ltb u at low k then Some u else Some at) ∙ q) in
+            let same = same_Some u t (sym (λ k. if lt-ltb u at low k then Some u else Some at) ∙ q) in
             let least : IsLeastTime timers t = subst (IsLeastTime timers) same p in
             (inr (inr least.is_due), record { start = λ zero. absurd (later zero); events = all_by (λ l. l.time ≡ at) (λ l. t ≤ l.time) (λ l there. omega arith) (l ∷ lines) a; delays = λ i v is. least.least i v is })
         | inr high ↦
-            let same = some_same at t (sym (λ k. if le-ltb u at high k then Some u else Some at) ∙ q) in
+            let same = same_Some at t (sym (λ k. if le-ltb u at high k then Some u else Some at) ∙ q) in
             (inr (inl (l, contains_head l lines, a.0 ∙ same)), record { start = λ zero. absurd (later zero); events = all_by (λ l. l.time ≡ at) (λ l. t ≤ l.time) (λ l there. omega arith) (l ∷ lines) a; delays = λ i v is. let from_first = p.least i v is in omega arith })
       ]
 

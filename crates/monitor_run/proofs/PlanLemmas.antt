@@ -19,7 +19,7 @@ use Rattle.flat_core.specs.declared.equation.Output.{Output}
 use Rattle.flat_core.proofs.Shapes.{one_equation}
 use Rattle.alias_rules.specs.Fine.{IsFinePlan}
 use Rattle.alias_rules.specs.Steps.{argument, printed, is_print, is_step, step_count}
-use Rattle.alias_rules.specs.Uses.{is_update}
+use Rattle.flat_core.specs.Updates.{is_update}
 use Rattle.alias_rules.proofs.Ranks.{in_take, not_in_take, one_place}
 use Rattle.register_machine.specs.Content.{print_of}
 use Rattle.register_code.specs.inner.Plan.{IsPlanOrder}

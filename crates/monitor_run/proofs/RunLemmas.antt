@@ -21,7 +21,7 @@ use Rattle.flat_core.specs.declared.equation.Op.{Op}
 use Rattle.flat_core.specs.declared.equation.Op.TheVariants as op
 use Rattle.flat_core.specs.Case.{Inputs, at_once, used_of}
 use Rattle.flat_core.specs.Pending.{option_is}
-use Rattle.alias_rules.specs.Uses.{is_update}
+use Rattle.flat_core.specs.Updates.{is_update}
 use Rattle.register_machine.specs.Copied.{size_at}
 use Rattle.register_machine.specs.Machine.{Held, Bare, Cell, Slot, Blank, Holds, Failed, held, is_failed, slot_of, slot_of_answer, Config, value_in, view_of, with, Effect, Fill, Make, effect_of, effect, is_barred, Ran, RanInPlace}
 use Rattle.register_machine.specs.Machine as machine
@@ -29,7 +29,7 @@ use Rattle.register_machine.specs.Run.{failed_by}
 use Rattle.register_machine.proofs.Cells.{with-here, with-there}
 use Rattle.monitor_run.specs.declared.machine.Machine.{Machine}
 use Rattle.monitor_run.specs.declared.run.Root.{Root}
-use Rattle.flat_core.specs.inner.Shape.{HasShape}
+use Rattle.flat_core.specs.inner.Arity.{HasArity}
 use Rattle.monitor_run.specs.inner.Here.{HasEffect, HasMade, effect_here, is_blocked_here, is_given_op, is_marked, source_of}
 use Rattle.monitor_run.specs.inner.Instant.{HasRunOne, was_given, was_barred, was_filled, has_failed, IsGivenEvent, IsShownAt, ShowsBeside}
 use Rattle.monitor_run.specs.inner.Machine.{IsFresh}
@@ -102,7 +102,7 @@ module _ (inputs : Inputs) (t i : ℕ) (c d : Config) (cells : c.cells ≡ d.cel
   values_same [] all = refl
   values_same (a ∷ args) all = let here = value_same a all.0 in let rest = values_same args all.1 in λ k. here k ∷ rest k
 
-  pub effect_same : (o : Op) (args : List ℕ) (of : ValueType) → is_given_op o ≡ false → HasShape o args → AllByRecursion (λ a. c.slots a ≡ d.slots a) (used_of o args) → effect_of inputs t c i o args of ≡ effect_of (λ j u. None) t d i o args of
+  pub effect_same : (o : Op) (args : List ℕ) (of : ValueType) → is_given_op o ≡ false → HasArity o args → AllByRecursion (λ a. c.slots a ≡ d.slots a) (used_of o args) → effect_of inputs t c i o args of ≡ effect_of (λ j u. None) t d i o args of
   effect_same op.Input args of other shape used = absurd (true≢false other)
   effect_same op.Delay args of other shape used = absurd (true≢false other)
   effect_same op.Last [] of other shape used = absurd shape
@@ -134,7 +134,7 @@ module _ (inputs : Inputs) (t i : ℕ) (c d : Config) (cells : c.cells ≡ d.cel
   effect_same op.Time args of other shape used = ap (λ vs. Fill (slot_of_answer (at_once op.Time of vs t))) (values_same args used)
 
 -- the first argument of an update is used
-source_used : (P : ℕ → Type 0) (o : Op) (m : ℕ) (args : List ℕ) → is_update o ≡ true → AllByRecursion P (used_of o (m ∷ args)) → P m
+pub source_used : (P : ℕ → Type 0) (o : Op) (m : ℕ) (args : List ℕ) → is_update o ≡ true → AllByRecursion P (used_of o (m ∷ args)) → P m
 source_used P op.SetAdd m args is all = all.0
 source_used P op.SetRemove m args is all = all.0
 source_used P op.MapAdd m args is all = all.0
@@ -152,7 +152,7 @@ with_same : (f g : ℕ → ℕ) (i x y u : ℕ) → ((n : ℕ) → f n ≡ g n) 
 with_same f g i x y u same is = λ k. if u == i then is k else same u k
 
 -- ---- one equation
-module _ (inputs : Inputs) (in_place : Bool) (t i : ℕ) (e : Equation) (old new : Machine) (c : Config) (can : CanRunOn inputs t i e old c) (shape : HasShape e.op e.args) (last : new.last.items ≡ old.last.items) where
+module _ (inputs : Inputs) (in_place : Bool) (t i : ℕ) (e : Equation) (old new : Machine) (c : Config) (can : CanRunOn inputs t i e old c) (shape : HasArity e.op e.args) (last : new.last.items ≡ old.last.items) where
   barred_is : is_barred c e ≡ is_blocked_here old.faulted.items e.op e.args
   barred_is = go (used_of e.op e.args) can.used
     where
@@ -224,13 +224,13 @@ module _ (inputs : Inputs) (in_place : Bool) (t i : ℕ) (e : Equation) (old new
       due_root true = refl
       due_root false = refl
 
-      no_args : (args : List ℕ) → HasShape op.Input args → args ≡ []
+      no_args : (args : List ℕ) → HasArity op.Input args → args ≡ []
       no_args [] s = refl
       no_args (a ∷ args) s = absurd s
 
       go : (o : Op) → e.op ≡ o → is_given_op o ≡ true → HasRunOn inputs in_place t i e c new None
       go op.Input at so =
-          let none = no_args e.args (subst (λ p. HasShape p e.args) at shape) in
+          let none = no_args e.args (subst (λ p. HasArity p e.args) at shape) in
           fill_step (slot_of_answer (Ok (inputs i t)))
           ((λ k. if list_any (λ a. is_failed (c.slots a)) (used_of (at k) (none k)) then Fill (Failed None) else effect_of inputs t c i (at k) (none k) e.of))
           store
@@ -249,22 +249,22 @@ module _ (inputs : Inputs) (in_place : Bool) (t i : ℕ) (e : Equation) (old new
   marked_now : i < length old.faulted.items → new.faulted.items ≡ slice_set old.faulted.items i true → is_marked new.faulted.items i ≡ true
   marked_now there is = ap (λ ms. is_marked ms i) is ∙ get_or-set_same old.faulted.items i true false there
 
-  blank_now : new.registers ≡ old.registers → register_at old.registers.items i ≡ register.Empty → held_at new.registers.items i ≡ None
-  blank_now same empty = ap held_by (ap (λ v. register_at v.items i) same ∙ empty)
+  blank_now : i < length old.registers.items → new.registers.items ≡ slice_set old.registers.items i register.Empty → held_at new.registers.items i ≡ None
+  blank_now placed is = ap held_by (ap (λ rs. register_at rs i) is ∙ get_or-set_same old.registers.items i register.Empty register.Empty placed)
 
-  barred_step : is_given_op e.op ≡ false → is_blocked_here old.faulted.items e.op e.args ≡ true → IsFresh old i e.op → i < length old.faulted.items → new.registers ≡ old.registers → new.faulted.items ≡ slice_set old.faulted.items i true → new.store ≡ old.store → HasRunOn inputs in_place t i e c new None
-  barred_step other blocked fresh there registers marks store =
-      fill_step (Failed None) (effect_is true blocked) store (record { holds = blank_now registers (fresh.empty other); fails = marked_now there marks }) None refl
+  barred_step : is_blocked_here old.faulted.items e.op e.args ≡ true → i < length old.faulted.items → i < length old.registers.items → new.registers.items ≡ slice_set old.registers.items i register.Empty → new.faulted.items ≡ slice_set old.faulted.items i true → new.store ≡ old.store → HasRunOn inputs in_place t i e c new None
+  barred_step blocked there placed registers marks store =
+      fill_step (Failed None) (effect_is true blocked) store (record { holds = blank_now placed registers; fails = marked_now there marks }) None refl
 
   -- the register is filled by the own case
   module _ (other : is_given_op e.op ≡ false) (sound : is_blocked_here old.faulted.items e.op e.args ≡ false) (fresh : IsFresh old i e.op) where
     failed_step : (kind : FaultKind) → HasEffect in_place i e.op (source_of old.registers.items e.args) old.store new.store (Err (eval_fault.Fault kind)) (effect_here old.registers.items old.last.items old.store i t e)
-        → i < length old.faulted.items → new.registers ≡ old.registers → new.faulted.items ≡ slice_set old.faulted.items i true → HasRunOn inputs in_place t i e c new (Some (record { equation = i; kind = kind }))
-    failed_step kind has there registers marks = go (effect_here old.registers.items old.last.items old.store i t e) (own_effect sound other) has
+        → i < length old.faulted.items → i < length old.registers.items → new.registers.items ≡ slice_set old.registers.items i register.Empty → new.faulted.items ≡ slice_set old.faulted.items i true → HasRunOn inputs in_place t i e c new (Some (record { equation = i; kind = kind }))
+    failed_step kind has there placed registers marks = go (effect_here old.registers.items old.last.items old.store i t e) (own_effect sound other) has
       where
         go : (does : Effect) → effect inputs t c i e ≡ does → HasEffect in_place i e.op (source_of old.registers.items e.args) old.store new.store (Err (eval_fault.Fault kind)) does → HasRunOn inputs in_place t i e c new (Some (record { equation = i; kind = kind }))
         go (Fill slot) is has =
-            fill_step (Failed (Some kind)) (is ∙ ap Fill has.0) has.1 (record { holds = blank_now registers (fresh.empty other); fails = marked_now there marks }) (Some (record { equation = i; kind = kind })) refl
+            fill_step (Failed (Some kind)) (is ∙ ap Fill has.0) has.1 (record { holds = blank_now placed registers; fails = marked_now there marks }) (Some (record { equation = i; kind = kind })) refl
         go (Make v) is has = absurd has
 
     module _ (r : Register) (there : i < length old.registers.items) (numbered : i < length old.store.ledger) (update : in_place ≡ true → is_update e.op ≡ true) (registers : new.registers.items ≡ slice_set old.registers.items i r) (marks : new.faulted ≡ old.faulted)
@@ -362,20 +362,20 @@ module _ (inputs : Inputs) (in_place : Bool) (t i : ℕ) (e : Equation) (old new
           go (Make v) is has = make_step in_place refl v is has
 
 -- an equation has run in one of its ways
-pub run_on : (inputs : Inputs) (in_place : Bool) (t i : ℕ) (e : Equation) (old new : Machine) (root : Option Root) → HasRunOne in_place t i e old new root → (c : Config) → CanRunOn inputs t i e old c → HasShape e.op e.args → new.last.items ≡ old.last.items → IsFresh old i e.op
+pub run_on : (inputs : Inputs) (in_place : Bool) (t i : ℕ) (e : Equation) (old new : Machine) (root : Option Root) → HasRunOne in_place t i e old new root → (c : Config) → CanRunOn inputs t i e old c → HasArity e.op e.args → new.last.items ≡ old.last.items → IsFresh old i e.op
     → i < length old.faulted.items → i < length old.registers.items → i < length old.store.ledger → (in_place ≡ true → is_update e.op ≡ true) → AllByRecursion (λ a. HoldsLive old.store.cells (register_at old.registers.items a)) e.args → HasRunOn inputs in_place t i e c new root
 run_on inputs in_place t i e old new root (was_given is same) c can shape last fresh marked there numbered update live = given_step inputs in_place t i e old new c can shape last is same fresh
-run_on inputs in_place t i e old new root (was_barred other blocked registers marks store) c can shape last fresh marked there numbered update live = barred_step inputs in_place t i e old new c can shape last other blocked fresh marked registers marks store
+run_on inputs in_place t i e old new root (was_barred other blocked registers marks store) c can shape last fresh marked there numbered update live = barred_step inputs in_place t i e old new c can shape last blocked marked there registers marks store
 run_on inputs in_place t i e old new root (was_filled r other sound has registers marks) c can shape last fresh marked there numbered update live = filled_step inputs in_place t i e old new c can shape last other sound fresh r there numbered update registers marks live has
-run_on inputs in_place t i e old new root (has_failed kind other sound has registers marks) c can shape last fresh marked there numbered update live = failed_step inputs in_place t i e old new c can shape last other sound fresh kind has marked registers marks
+run_on inputs in_place t i e old new root (has_failed kind other sound has registers marks) c can shape last fresh marked there numbered update live = failed_step inputs in_place t i e old new c can shape last other sound fresh kind has marked there registers marks
 
 -- ---- what is left as it was
 module _ (in_place : Bool) (t n : ℕ) (e : Equation) (old new : Machine) where
   pub others_same : (root : Option Root) → HasRunOne in_place t n e old new root → (j : ℕ) → j ≢ n → register_at new.registers.items j ≡ register_at old.registers.items j
   others_same root (was_given is same) j ne = ap (λ (m : Machine). register_at m.registers.items j) same
-  others_same root (was_barred other blocked registers marks store) j ne = ap (λ v. register_at v.items j) registers
+  others_same root (was_barred other blocked registers marks store) j ne = ap (λ rs. register_at rs j) registers ∙ get_or-set_other old.registers.items n j register.Empty register.Empty ne
   others_same root (was_filled r other sound has registers marks) j ne = ap (λ rs. register_at rs j) registers ∙ get_or-set_other old.registers.items n j r register.Empty ne
-  others_same root (has_failed kind other sound has registers marks) j ne = ap (λ v. register_at v.items j) registers
+  others_same root (has_failed kind other sound has registers marks) j ne = ap (λ rs. register_at rs j) registers ∙ get_or-set_other old.registers.items n j register.Empty register.Empty ne
 
   pub marks_same : (root : Option Root) → HasRunOne in_place t n e old new root → (j : ℕ) → j ≢ n → is_marked new.faulted.items j ≡ is_marked old.faulted.items j
   marks_same root (was_given is same) j ne = ap (λ (m : Machine). is_marked m.faulted.items j) same

@@ -24,6 +24,7 @@ use Rattle.flat_core.specs.Text.{event_line, text_at}
 use Rattle.flat_core.specs.inner.TypedLines.{AreTypedLines}
 use Rattle.flat_core.proofs.SmallerBound.{solves_less}
 use Rattle.flat_core.proofs.Shapes.{one_equation}
+use Rattle.flat_core.proofs.Answered.{delay_op}
 use Rattle.alias_rules.specs.Uses.{IsUpdate}
 use Rattle.register_code.specs.Code.{is_timer}
 use Rattle.register_code.specs.inner.Plan.{IsPlanOrder}
@@ -42,8 +43,7 @@ use Rattle.monitor_run.specs.inner.Instant.{IsInstantText, name_of}
 use Rattle.monitor_run.specs.inner.Next.{Comes, IsFirstInstant, NothingBefore}
 use Rattle.monitor_run.specs.inner.Stands.{KeepsOf, Stands}
 use Rattle.monitor_run.specs.inner.State.{State, IsReady, kept_state, plan_of}
-use Rattle.monitor_run.specs.Updates.{is_running_update, is_update}
-use Rattle.monitor_run.proofs.DelayLemmas.{delay_op}
+use Rattle.flat_core.specs.Updates.{is_running_update, is_update_at}
 use Rattle.monitor_run.proofs.DueTimes.{due_at, due_of, due_time}
 use Rattle.monitor_run.proofs.GapLemmas.{comes, delay_args, instants_gap, quiet, sound_gap}
 
@@ -98,9 +98,9 @@ concat_is f (o ∷ outputs) (x ∷ texts) size each =
 
 update_is : (s : System) → IsFlat s → (u : ℕ) → IsTrue (is_running_update s u) → IsUpdate s u
 update_is s whole u update =
-    let parts = and_parts (runs s u) (is_update (equation s u)) update in
+    let parts = and_parts (runs s u) (is_update_at (equation s u)) update in
     let f = whole.proper.runs_all u parts.0 in
-    record { at = f.0; is = f.1; running = parts.0; updates = ap is_update (sym f.1) ∙ parts.1 }
+    record { at = f.0; is = f.1; running = parts.0; updates = ap is_update_at (sym f.1) ∙ parts.1 }
 
 pub ready_order : (m : State) → IsReady m → IsPlanOrder m.system m.order
 ready_order m ready = needed_order m.system m.in_place m.order ready.fine.ordered

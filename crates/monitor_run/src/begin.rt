@@ -1,33 +1,56 @@
 // The registers with which an instant begins: the events of inputs and of delays.
 
-ghost use Rattle.std.specs.Prelude.{◌≡◌, ◌==◌, ◌<◌, ◌≤◌, ℕ, [], false, if◌then◌else◌, length, IsTrue};
+ghost use Rattle.std.specs.Prelude.{◌≡◌, ◌==◌, ◌<◌, ◌≤◌, ℕ, [], if◌then◌else◌, length, IfOk, IsTrue};
 ghost use Rattle.std.specs.FinMap as map;
 ghost use Rattle.flat_core.specs.Line.{inputs_of};
 ghost use Rattle.flat_core.specs.Members.{is_in};
+ghost use Rattle.flat_core.specs.System.{equation};
 ghost use Rattle.monitor_run.specs.inner.Given.{AreAt, AreThere, IsThere};
-ghost use Rattle.monitor_run.specs.inner.Here.{is_marked};
 ghost use Rattle.monitor_run.specs.inner.Instant.{expired_at, left_at, moved_in, with_event};
+ghost use Rattle.monitor_run.specs.inner.Machine.{givens_of, is_given_at};
 ghost use Rattle.monitor_run.specs.inner.Registers.{register_at};
 
 use crate::machine::put;
+use crate::run::is_given;
 use delay_timers::timers::Timers;
+use flat_core::flat::Flat;
 use flat_core::line::TraceLine;
 use lift_func::register::Register;
-use translation_order::steps::Steps;
+use std::alloc::Global;
+use tsl_value::ids::EqId;
+use tsl_value::memory::NoMemory;
 use tsl_value::scalar::Scalar;
 use tsl_value::time::Time;
 
-/// Empties the registers of the steps that are equations.
-pub(crate) fn clear(order: &Steps, registers: &mut [Register], faulted: &mut [bool])
-    requires { length faulted.old ≡ length registers.old }
-    ensures registers { (i : ℕ) → IsTrue (is_in order.now i) → i < length registers.old → register_at registers.new i ≡ Register.Empty }
-    ensures faulted { (i : ℕ) → IsTrue (is_in order.now i) → i < length registers.old → is_marked faulted.new i ≡ false }
+fn is_given_in(flat: &Flat, id: EqId) -> bool
+    requires { id < length flat.now.equations }
+    ensures { result ≡ is_given_at (equation flat.now id) }
 {
-    for step in order.as_slice() {
-        let i = *step as usize;
+    is_given(&flat.equation(id).op)
+}
+
+/// The inputs and the delays by number.
+pub(crate) fn givens(alloc: Global, flat: &Flat) -> Result<Vec<EqId>, NoMemory>
+    ensures { IfOk result (λ ids. ids.items ≡ givens_of flat.now) }
+{
+    let mut ids = Vec::new(alloc);
+    for number in 0..flat.count() {
+        let id = EqId::new(number);
+        if is_given_in(flat, id) {
+            ids.push(id)?;
+        }
+    }
+    Ok(ids)
+}
+
+/// Empties the registers of inputs and delays. Every other one is filled or emptied when the step of its equation comes.
+pub(crate) fn clear(givens: &[EqId], registers: &mut [Register])
+    ensures { (i : ℕ) → IsTrue (is_in givens.now i) → i < length registers.old → register_at registers.new i ≡ Register.Empty }
+{
+    for id in givens {
+        let i = id.get() as usize;
         if i < registers.len() {
             put(Register::Empty, i, registers);
-            faulted[i] = false;
         }
     }
 }

@@ -1,6 +1,6 @@
 // What an operation makes of the registers of its arguments.
 
-ghost use Rattle.std.specs.Prelude.{◌≡◌, ◌<◌, All, IfOk, IfSome, OnErr, IsTrue, None, Ok, Some, false, pos, if◌then◌else◌, is_some, length};
+ghost use Rattle.std.specs.Prelude.{◌≡◌, ◌<◌, All, IfErr, IfOk, IfSome, OnErr, IsTrue, None, Ok, Some, false, pos, if◌then◌else◌, is_some, length};
 ghost use Rattle.std.specs.Prelude.{map};
 ghost use Rattle.std.specs.Prelude.{List, slice_index};
 ghost use Rattle.std.specs.List.{list_all, list_any};
@@ -13,10 +13,11 @@ ghost use Rattle.flat_core.specs.Case.{at_zero, empty_of, unit};
 ghost use Rattle.flat_core.specs.Members.{is_in};
 ghost use Rattle.flat_core.specs.Typed.{is_aggregate};
 ghost use Rattle.aggregate_store.specs.inner.Stored.{IsAggregate};
-ghost use Rattle.flat_core.specs.inner.Shape.{HasShape};
-ghost use Rattle.monitor_run.specs.inner.Here.{HasEffect, HasMadeOne, IsBare, IsNamed, TakesTyped, counts, effect_here, hands_on};
+ghost use Rattle.flat_core.specs.inner.Arity.{HasArity};
+ghost use Rattle.monitor_run.specs.inner.Here.{HasEffect, HasMadeOne, HasUpdated, IsBare, IsNamed, TakesTyped, effect_here, hands_on};
+ghost use Rattle.flat_core.specs.inner.OpGroups.{counts, lift_answer, updated_of};
 ghost use Rattle.monitor_run.specs.inner.Here.{is_given_op};
-ghost use Rattle.monitor_run.specs.inner.Here.{lifted, source_of};
+ghost use Rattle.monitor_run.specs.inner.Here.{source_of};
 ghost use Rattle.monitor_run.specs.inner.Registers.{register_at, value_at};
 
 use crate::update::{Update, updated};
@@ -130,7 +131,7 @@ fn asked(body: &Body, args: &Args, registers: &[Register], store: &Store) -> Opt
 }
 
 /// The value of a lifted body: where all its arguments are there, or of a body of options where one of them is.
-fn lifted(
+fn lift_value(
     alloc: Global,
     body: &Body,
     strict: bool,
@@ -141,7 +142,8 @@ fn lifted(
     requires known { All (λ a. a < length registers.now) args.now }
     requires typed { IsTrue (counts strict (map (value_at store.now.cells registers.now) args.now))
         → IsEvaluable store.now.cells registers.now args.now body.now }
-    ensures value { IsHeldValue store.now.cells result (lifted body.now strict (map (value_at store.now.cells registers.now) args.now)) }
+    ensures value { IsHeldValue store.now.cells result
+        (lift_answer body.now strict (map (value_at store.now.cells registers.now) args.now)) }
     ensures bare { IfOk result (λ r. IsBare r) }
 {
     if !do_count(strict, args.ids(), registers) {
@@ -182,9 +184,10 @@ fn time_of(register: &Register, time: Time) -> Register
 }
 
 /// The empty aggregate of a type at time 0.
-fn empty_at(of: ValueType, time: Time, store: &mut Store) -> Result<Register, NoMemory>
+fn empty_at(of: ValueType, time: Time, store: &mut Store) -> Result<Register, EvalFault>
     requires { IsAggregate of }
     ensures made { IfOk result (λ r. HasMadeOne store.old store.new r (at_zero time (empty_of of))) }
+    ensures memory { IfErr result (λ fault. fault ≡ EvalFault.Memory) }
     ensures err { OnErr result (store.new ≡ store.old) }
 {
     if time.get() == 0 {
@@ -192,6 +195,25 @@ fn empty_at(of: ValueType, time: Time, store: &mut Store) -> Result<Register, No
     } else {
         Ok(Register::Empty)
     }
+}
+
+/// What an update has. An update has no fault.
+fn run_update(
+    e: &Equation,
+    update: Update,
+    registers: &[Register],
+    store: &mut Store,
+) -> Result<Register, EvalFault>
+    requires shape { HasArity e.now.op e.now.args }
+    requires known { All (λ a. a < length registers.now) e.now.args }
+    requires typed { TakesTyped store.old.cells registers.now e.now }
+    requires update { update.id < length store.old.ledger }
+    ensures updated { IfOk result (λ r. HasUpdated update.in_place update.id (source_of registers.now e.now.args) store.old store.new r
+        (updated_of e.now.op (map (value_at store.old.cells registers.now) e.now.args))) }
+    ensures memory { IfErr result (λ fault. fault ≡ EvalFault.Memory) }
+    ensures err { OnErr result (store.new ≡ store.old) }
+{
+    Ok(updated(e, update, registers, store)?)
 }
 
 /// What an equation has by its own case, an update in place if it is among these. Inputs and delays have their events in their
@@ -205,7 +227,7 @@ pub(crate) fn own_case(
     registers: &[Register],
     store: &mut Store,
 ) -> Result<Register, EvalFault>
-    requires shape { HasShape e.now.op e.now.args }
+    requires shape { HasArity e.now.op e.now.args }
     requires known { All (λ a. a < length registers.now) e.now.args }
     requires other { is_given_op e.now.op ≡ false }
     requires own { hands_on e.now.op ≡ false }
@@ -222,16 +244,16 @@ pub(crate) fn own_case(
         Op::Last | Op::Merge | Op::Filter | Op::Pick => unreachable!(),
         Op::Nil => Ok(Register::Empty),
         Op::Unit => Ok(unit_if(time.get() == 0)),
-        Op::Lift { body, strict } => lifted(alloc, body, *strict, args, registers, store),
+        Op::Lift { body, strict } => lift_value(alloc, body, *strict, args, registers, store),
         Op::Any => Ok(unit_if(is_one_there(args.ids(), registers))),
         Op::Time => Ok(time_of(argument(registers, args, 0), time)),
-        Op::Empty => Ok(empty_at(e.of, time, store)?),
+        Op::Empty => empty_at(e.of, time, store),
         Op::SetAdd | Op::SetRemove | Op::MapAdd | Op::MapRemove => {
             let update = Update {
                 id,
                 in_place: in_place.contains(id),
             };
-            Ok(updated(e, update, registers, store)?)
+            run_update(e, update, registers, store)
         }
     }
 }

@@ -12,7 +12,7 @@ ghost use Rattle.flat_core.specs.Pending.{reached};
 ghost use Rattle.flat_core.specs.System.{equation};
 ghost use Rattle.register_code.specs.Code.{is_timer};
 ghost use Rattle.register_machine.specs.Stands.{in_time};
-ghost use Rattle.flat_core.specs.inner.Shape.{HasShape};
+ghost use Rattle.flat_core.specs.inner.Arity.{HasArity};
 ghost use Rattle.monitor_run.specs.inner.Instant.{IsLeastRoot, refusal_of, set_at};
 ghost use Rattle.monitor_run.specs.inner.Registers.{AreHeld, register_at};
 
@@ -88,7 +88,7 @@ fn is_set(reset: &Register, delay: &Register) -> bool
 
 /// Sets a delay by its amount where it may be set, and cancels it there where it has no amount.
 fn set_one(e: &Equation, delay: EqId, time: Time, registers: &[Register], timers: &mut Timers)
-    requires shape { HasShape Op.Delay e.now.args }
+    requires shape { HasArity Op.Delay e.now.args }
     requires known { All (λ a. a < length registers.now) e.now.args }
     requires there { delay < length registers.now }
     requires timer { delay < timers.old.capacity }

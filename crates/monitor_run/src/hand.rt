@@ -3,7 +3,7 @@
 ghost use Rattle.std.specs.Prelude.{◌≡◌, ◌<◌, All, IfSome, OnOk, None, if◌then◌else◌, is_some, length, map, slice_index, slice_set};
 ghost use Rattle.std.specs.Option.{option_and_then, option_or};
 ghost use Rattle.register_machine.specs.Machine.{where_either, where_true};
-ghost use Rattle.flat_core.specs.inner.Shape.{HasShape};
+ghost use Rattle.flat_core.specs.inner.Arity.{HasArity};
 ghost use Rattle.monitor_run.specs.inner.Here.{HasHanded, chosen_of, handed_of, hands_on, truth_of};
 ghost use Rattle.monitor_run.specs.inner.Registers.{register_at};
 ghost use Rattle.monitor_run.specs.inner.Shown.{held_at, held_by};
@@ -118,7 +118,7 @@ fn picked(condition: EqId, a: EqId, b: EqId, registers: &[Register]) -> Option<E
 
 /// The argument whose event an operation hands on.
 fn chosen(e: &Equation, registers: &[Register]) -> Option<EqId>
-    requires shape { HasShape e.now.op e.now.args }
+    requires shape { HasArity e.now.op e.now.args }
     requires known { All (λ a. a < length registers.now) e.now.args }
     ensures handed { option_and_then (held_at registers.now) result ≡ chosen_of e.now.op (map (held_at registers.now) e.now.args) }
     ensures known { IfSome result (λ a. a < length registers.now) }
@@ -139,7 +139,7 @@ fn hand_last(
     registers: &mut [Register],
     last: &[Register],
 ) -> Result<(), NoMemory>
-    requires shape { HasShape Op.Last args.now }
+    requires shape { HasArity Op.Last args.now }
     requires known { All (λ a. a < length registers.old) args.now }
     requires one_each { length last.now ≡ length registers.old }
     requires place { place < length registers.old }
@@ -176,7 +176,7 @@ pub(crate) fn hand_on(
     registers: &mut [Register],
     last: &[Register],
 ) -> Result<(), NoMemory>
-    requires shape { HasShape e.now.op e.now.args }
+    requires shape { HasArity e.now.op e.now.args }
     requires known { All (λ a. a < length registers.old) e.now.args }
     requires one_each { length last.now ≡ length registers.old }
     requires place { place < length registers.old }

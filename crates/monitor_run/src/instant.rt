@@ -1,12 +1,12 @@
 // One instant.
 
-ghost use Rattle.std.specs.Prelude.{◌≡◌, ◌==◌, ℕ, [], if◌then◌else◌, IfOk, OnErr, OnOk};
+ghost use Rattle.std.specs.Prelude.{◌≡◌, ◌==◌, ℕ, [], None, if◌then◌else◌, IfOk, OnErr, OnOk};
 ghost use Rattle.flat_core.specs.Complete.{IsFlat};
 ghost use Rattle.register_code.specs.Code.{keeps_of, timers_of};
 ghost use Rattle.alias_rules.specs.Fine.{IsFinePlan};
 ghost use Rattle.monitor_run.specs.inner.Given.{AreAt, AreEventLines};
 ghost use Rattle.monitor_run.specs.inner.Instant.{Begins, HasEnded, HasRunRegisters, IsInstant, IsInstantBegun, IsSound};
-ghost use Rattle.monitor_run.specs.inner.Machine.{HasRoom};
+ghost use Rattle.monitor_run.specs.inner.Machine.{AreUnmarked, HasRoom, givens_of, with_current};
 ghost use Rattle.monitor_run.specs.inner.Shown.{plan_in};
 
 use crate::begin::{clear, expire, give};
@@ -25,17 +25,26 @@ use tsl_value::ids::EqId;
 use tsl_value::memory::NoMemory;
 use tsl_value::time::Time;
 
-/// Begins an instant: the registers have the events of inputs and delays.
-fn begin(flat: &Flat, plan: &Plan, time: Time, given: &mut Vec<TraceLine>, machine: &mut Machine)
+/// Begins an instant: inputs and delays have their events. Other registers may have what is left of an earlier instant.
+fn begin(
+    flat: &Flat,
+    givens: &[EqId],
+    time: Time,
+    given: &mut Vec<TraceLine>,
+    machine: &mut Machine,
+)
     requires whole { IsFlat flat.now }
-    requires fine { IsFinePlan flat.now plan.now.in_place plan.now.order }
+    requires givens { givens.now ≡ givens_of flat.now }
     requires room { HasRoom flat.now machine.old }
+    requires unmarked { AreUnmarked flat.now machine.old }
     requires one { (at : ℕ) × AreAt at given.old.items }
     requires events { AreEventLines flat.now given.old.items }
-    ensures begins { Begins flat.now time given.old.items machine.old machine.new }
+    requires sound { IsSound flat.now time machine.old }
+    ensures begins { Begins flat.now time given.old.items machine.old (with_current flat.now [] machine.new) }
+    ensures room { HasRoom flat.now machine.new }
     ensures given { (at : ℕ) → AreAt at given.old.items → given.new.items ≡ (if at == time then [] else given.old.items) }
 {
-    clear(&plan.order, &mut machine.registers, &mut machine.faulted);
+    clear(givens, &mut machine.registers);
     expire(time, &mut machine.timers, &mut machine.registers);
     give(time, given, &mut machine.registers);
 }
@@ -45,6 +54,7 @@ fn run_registers(
     alloc: Global,
     flat: &Flat,
     plan: &Plan,
+    givens: &[EqId],
     delays: &[EqId],
     time: Time,
     given: &mut Vec<TraceLine>,
@@ -52,16 +62,19 @@ fn run_registers(
 ) -> Result<Option<Root>, NoMemory>
     requires whole { IsFlat flat.now }
     requires fine { IsFinePlan flat.now plan.now.in_place plan.now.order }
+    requires givens { givens.now ≡ givens_of flat.now }
     requires delays { delays.now ≡ timers_of flat.now }
     requires room { HasRoom flat.now machine.old }
+    requires unmarked { AreUnmarked flat.now machine.old }
     requires one { (at : ℕ) × AreAt at given.old.items }
     requires events { AreEventLines flat.now given.old.items }
     requires sound { IsSound flat.now time machine.old }
     ensures room { HasRoom flat.now machine.new }
+    ensures unmarked { IfOk result (λ root. root ≡ None → AreUnmarked flat.now machine.new) }
     ensures given { (at : ℕ) → AreAt at given.old.items → given.new.items ≡ (if at == time then [] else given.old.items) }
     ensures ran { IfOk result (λ root. HasRunRegisters flat.now (plan_in plan.now) time given.old.items machine.old machine.new root) }
 {
-    begin(flat, plan, time, given, machine);
+    begin(flat, givens, time, given, machine);
     let found = run_steps(alloc, flat, plan, time, machine)?;
     let refused = first_refused(flat, delays, &machine.registers);
     Ok(least_root(found, refused))
@@ -80,6 +93,7 @@ fn end(
     requires delays { delays.now ≡ timers_of flat.now }
     requires room { HasRoom flat.now machine.old }
     ensures room { HasRoom flat.now machine.new }
+    ensures faulted { machine.new.faulted ≡ machine.old.faulted }
     ensures ended { OnOk result (HasEnded flat.now time machine.old machine.new) }
 {
     set_timers(flat, delays, time, &machine.registers, &mut machine.timers);
@@ -91,6 +105,7 @@ fn end(
 pub(crate) fn run_instant(
     alloc: Global,
     code: &Code,
+    givens: &[EqId],
     time: Time,
     given: &mut Vec<TraceLine>,
     machine: &mut Machine,
@@ -98,11 +113,14 @@ pub(crate) fn run_instant(
 ) -> Result<Option<Root>, NoMemory>
     requires whole { IsFlat code.now.system }
     requires fine { IsFinePlan code.now.system code.now.in_place code.now.order }
+    requires givens { givens.now ≡ givens_of code.now.system }
     requires room { HasRoom code.now.system machine.old }
+    requires unmarked { AreUnmarked code.now.system machine.old }
     requires one { (at : ℕ) × AreAt at given.old.items }
     requires events { AreEventLines code.now.system given.old.items }
     requires sound { IsSound code.now.system time machine.old }
     ensures room { HasRoom code.now.system machine.new }
+    ensures unmarked { IfOk result (λ root. root ≡ None → AreUnmarked code.now.system machine.new) }
     ensures given { (at : ℕ) → AreAt at given.old.items → given.new.items ≡ (if at == time then [] else given.old.items) }
     ensures ran { IfOk result (λ root. IsInstant code.now.system (record { in_place = code.now.in_place; order = code.now.order })
         time given.old.items machine.old machine.new out.old out.new root) }
@@ -113,6 +131,7 @@ pub(crate) fn run_instant(
         alloc,
         code.flat(),
         code.plan(),
+        givens,
         code.timers(),
         time,
         given,

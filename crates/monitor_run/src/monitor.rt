@@ -4,7 +4,7 @@ ghost use Rattle.std.specs.Prelude.{◌≡◌, ◌≤◌, ◌^◌, [], ◌∷◌
 ghost use Rattle.std.specs.Prelude.{List, ℕ, Ok, OnErr};
 ghost use Rattle.std.specs.FinMap as map;
 ghost use Rattle.flat_core.specs.Line.{Line};
-ghost use Rattle.monitor_run.specs.Updates.{is_running_update};
+ghost use Rattle.flat_core.specs.Updates.{is_running_update};
 ghost use Rattle.monitor_run.specs.inner.Given.{line_of};
 ghost use Rattle.monitor_run.specs.inner.Next.{IsIdle};
 ghost use Rattle.monitor_run.specs.inner.Stands.{Stands};
@@ -12,6 +12,7 @@ ghost use Rattle.monitor_run.specs.inner.State.{IsReady, bound_of};
 ghost use Rattle.monitor_run.specs.inner.Stored.{stored_count};
 ghost use Rattle.monitor_run.specs.inner.Steps.{AreAsSet, CanTake, HasStepped, IsStoppedAgain, stopped};
 
+use crate::begin::givens;
 use crate::instant::run_instant;
 use crate::machine::Machine;
 use crate::next::next_below;
@@ -75,6 +76,8 @@ pub struct Monitor<'c> {
     // The events of the open time.
     given: Vec<TraceLine>,
     machine: Machine,
+    // The inputs and the delays.
+    givens: Vec<EqId>,
     stop: Option<Stop>,
 }
 
@@ -83,7 +86,7 @@ impl<'c> Model for Monitor<'c> {
     ghost use Rattle.std.specs.Prelude.{◌≡◌, None};
     ghost use Rattle.lift_func.specs.contracts.body.Body as body;
     ghost use Rattle.monitor_run.specs.inner.Code.{cells_code, times_code};
-    ghost use Rattle.monitor_run.specs.inner.Machine.{HasRoom};
+    ghost use Rattle.monitor_run.specs.inner.Machine.{AreUnmarked, HasRoom, givens_of};
     ghost use Rattle.monitor_run.specs.inner.State.{State, IsReady};
 
     ghost Value = { State };
@@ -121,7 +124,9 @@ impl<'c> Model for Monitor<'c> {
           last = m.machine.last.items;
           timers = m.machine.timers.times;
           stop = m.stop;
-        })) };
+        }))
+        × (m.givens.items ≡ givens_of m.code.now.system)
+        × (m.stop ≡ None → AreUnmarked m.code.now.system m.machine) };
 }
 
 /// Keeps a stop.
@@ -165,6 +170,7 @@ impl<'c> Monitor<'c> {
             bound: 0,
             given: Vec::new(alloc),
             machine: Machine::new(alloc, code.flat().count(), code.flat().outputs().len())?,
+            givens: givens(alloc, code.flat())?,
             stop: None,
         })
     }
@@ -242,6 +248,7 @@ impl<'c> Monitor<'c> {
         match run_instant(
             self.alloc,
             self.code,
+            &self.givens,
             time,
             &mut self.given,
             &mut self.machine,

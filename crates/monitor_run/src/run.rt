@@ -1,23 +1,25 @@
 // The steps of an instant, in order.
 
-ghost use Rattle.std.specs.Prelude.{◌≡◌, ◌<◌, ◌||◌, ℕ, Bool, All, IfOk, OnOk, IsTrue, None, Option, false, length};
+ghost use Rattle.std.specs.Prelude.{◌≡◌, ◌<◌, ◌||◌, ℕ, [], Bool, All, IfOk, OnOk, IsTrue, None, Option, false, length};
 ghost use Rattle.std.specs.List.{list_any};
 ghost use Rattle.alias_rules.specs.Fine.{IsFinePlan};
 ghost use Rattle.tsl_value.specs.declared.scalar.ValueType.{ValueType};
 ghost use Rattle.lift_func.specs.declared.fault.FaultKind.{FaultKind};
+ghost use Rattle.lift_func.specs.inner.Cells.{HoldsLive};
 ghost use Rattle.flat_core.specs.Complete.{IsFlat};
-ghost use Rattle.flat_core.specs.inner.Shape.{HasShape};
+ghost use Rattle.flat_core.specs.inner.Arity.{HasArity};
 ghost use Rattle.flat_core.specs.Members.{is_in};
-ghost use Rattle.monitor_run.specs.inner.Here.{TakesTyped, is_blocked_here, is_given_op, is_marked};
+ghost use Rattle.register_machine.specs.Content.{print_of};
+ghost use Rattle.monitor_run.specs.inner.Here.{TakesTyped, hands_on, is_blocked_here, is_given_op, is_marked};
 ghost use Rattle.monitor_run.specs.inner.Instant.{HasPrinted, HasRunAll, HasRunOne, IsLeastRoot, SameBeside};
-ghost use Rattle.monitor_run.specs.inner.Machine.{AreFresh, HasRoom};
-ghost use Rattle.monitor_run.specs.inner.Registers.{AreHeld};
+ghost use Rattle.monitor_run.specs.inner.Machine.{AreFresh, AreUnmarked, HasRoom, with_current};
+ghost use Rattle.monitor_run.specs.inner.Registers.{AreHeld, register_at};
 ghost use Rattle.monitor_run.specs.inner.Shown.{plan_in};
 
 use crate::case::own_case;
 use crate::event::print_output;
 use crate::hand::{hand_on, hands_on};
-use crate::machine::{Machine, put};
+use crate::machine::{Machine, empty, put};
 use flat_core::equation::{Equation, Op};
 use flat_core::flat::Flat;
 use flat_core::lists::EqSet;
@@ -74,7 +76,7 @@ fn some_fault(ids: &[EqId], faulted: &[bool]) -> bool
 
 /// An argument that is used at the same time is a fault. While no equation is one, none has to be looked at.
 fn is_blocked(e: &Equation, is_sound: bool, faulted: &[bool]) -> bool
-    requires shape { HasShape e.now.op e.now.args }
+    requires shape { HasArity e.now.op e.now.args }
     requires known { All (λ a. a < length faulted.now) e.now.args }
     requires sound { IsTrue is_sound → is_blocked_here faulted.now e.now.op e.now.args ≡ false }
     ensures { result ≡ is_blocked_here faulted.now e.now.op e.now.args }
@@ -90,7 +92,7 @@ fn is_blocked(e: &Equation, is_sound: bool, faulted: &[bool]) -> bool
 }
 
 /// Inputs and delays have their events from the beginning of an instant.
-fn is_given(o: &Op) -> bool
+pub(crate) fn is_given(o: &Op) -> bool
     ensures { result ≡ is_given_op o.now }
 {
     match o {
@@ -99,42 +101,30 @@ fn is_given(o: &Op) -> bool
     }
 }
 
-/// Runs an equation: its register gets the event of its case, or it becomes a fault. A root fault is answered. `is_sound` may be set where
-/// no equation is a fault yet.
-pub(crate) fn run_one(
+/// Runs an equation that makes a value of its own. It stands apart since what is made ready at its beginning is not needed by those that
+/// only hand on an event, which are most.
+fn run_own(
     alloc: Global,
     e: &Equation,
     id: EqId,
     in_place: &EqSet,
     time: Time,
-    is_sound: bool,
     machine: &mut Machine,
 ) -> Result<Option<Root>, NoMemory>
-    requires shape { HasShape e.now.op e.now.args }
+    requires shape { HasArity e.now.op e.now.args }
     requires registers_known { All (λ a. a < length machine.old.registers.items) e.now.args }
-    requires faulted_known { All (λ a. a < length machine.old.faulted.items) e.now.args }
     requires register_there { id < length machine.old.registers.items }
     requires mark_there { id < length machine.old.faulted.items }
     requires number_there { id < length machine.old.store.ledger }
-    requires last_each { length machine.old.last.items ≡ length machine.old.registers.items }
     requires typed { TakesTyped machine.old.store.cells machine.old.registers.items e.now }
-    requires sound { IsTrue is_sound → is_blocked_here machine.old.faulted.items e.now.op e.now.args ≡ false }
+    requires other { is_given_op e.now.op ≡ false }
+    requires own { hands_on e.now.op ≡ false }
+    requires unblocked { is_blocked_here machine.old.faulted.items e.now.op e.now.args ≡ false }
     ensures same { SameBeside machine.old machine.new }
     ensures texts { machine.new.texts ≡ machine.old.texts }
     ensures ran { IfOk result (λ root. HasRunOne (is_in in_place.now id) time id e.now machine.old machine.new root) }
 {
-    if is_given(&e.op) {
-        return Ok(None);
-    }
     let place = id.get() as usize;
-    if is_blocked(e, is_sound, &machine.faulted) {
-        machine.faulted[place] = true;
-        return Ok(None);
-    }
-    if hands_on(&e.op) {
-        hand_on(e, place, &mut machine.registers, &machine.last)?;
-        return Ok(None);
-    }
     match own_case(
         alloc,
         e,
@@ -149,11 +139,54 @@ pub(crate) fn run_one(
             Ok(None)
         }
         Err(EvalFault::Fault(kind)) => {
+            empty(place, &mut machine.registers);
             machine.faulted[place] = true;
             Ok(Some(Root { equation: id, kind }))
         }
         Err(EvalFault::Memory) => Err(NoMemory),
     }
+}
+
+/// Runs an equation: its register gets the event of its case, or it becomes a fault. A root fault is answered. `is_sound` may be set where
+/// no equation is a fault yet.
+pub(crate) fn run_one(
+    alloc: Global,
+    e: &Equation,
+    id: EqId,
+    in_place: &EqSet,
+    time: Time,
+    is_sound: bool,
+    machine: &mut Machine,
+) -> Result<Option<Root>, NoMemory>
+    requires shape { HasArity e.now.op e.now.args }
+    requires registers_known { All (λ a. a < length machine.old.registers.items) e.now.args }
+    requires faulted_known { All (λ a. a < length machine.old.faulted.items) e.now.args }
+    requires register_there { id < length machine.old.registers.items }
+    requires mark_there { id < length machine.old.faulted.items }
+    requires number_there { id < length machine.old.store.ledger }
+    requires last_each { length machine.old.last.items ≡ length machine.old.registers.items }
+    requires typed { is_given_op e.now.op ≡ false
+        → hands_on e.now.op ≡ false
+        → TakesTyped machine.old.store.cells machine.old.registers.items e.now }
+    requires sound { IsTrue is_sound → is_blocked_here machine.old.faulted.items e.now.op e.now.args ≡ false }
+    ensures same { SameBeside machine.old machine.new }
+    ensures texts { machine.new.texts ≡ machine.old.texts }
+    ensures ran { IfOk result (λ root. HasRunOne (is_in in_place.now id) time id e.now machine.old machine.new root) }
+{
+    if is_given(&e.op) {
+        return Ok(None);
+    }
+    let place = id.get() as usize;
+    if is_blocked(e, is_sound, &machine.faulted) {
+        empty(place, &mut machine.registers);
+        machine.faulted[place] = true;
+        return Ok(None);
+    }
+    if hands_on(&e.op) {
+        hand_on(e, place, &mut machine.registers, &machine.last)?;
+        return Ok(None);
+    }
+    run_own(alloc, e, id, in_place, time, machine)
 }
 
 /// Prints an output.
@@ -162,7 +195,7 @@ fn print_step(flat: &Flat, place: usize, time: Time, machine: &mut Machine) -> R
     requires there { place < length flat.now.outputs }
     requires registers { length machine.old.registers.items ≡ length flat.now.equations }
     requires texts { length machine.old.texts.items ≡ length flat.now.outputs }
-    requires held { (types : ℕ → ValueType) × AreHeld flat.now types machine.old.store.cells machine.old.registers.items }
+    requires live { HoldsLive machine.old.store.cells (register_at machine.old.registers.items (print_of flat.now place)) }
     ensures same { SameBeside machine.old machine.new }
     ensures printed { OnOk result (HasPrinted flat.now time place machine.old machine.new) }
 {
@@ -176,7 +209,8 @@ fn print_step(flat: &Flat, place: usize, time: Time, machine: &mut Machine) -> R
     )
 }
 
-/// Runs the steps of a plan in its order, and answers the least root fault of an equation that is no delay.
+/// Runs the steps of a plan in its order, and answers the least root fault of an equation that is no delay. Registers of equations that are
+/// neither inputs nor delays may have what is left of an earlier instant; none of it is read.
 pub(crate) fn run_steps(
     alloc: Global,
     flat: &Flat,
@@ -188,11 +222,13 @@ pub(crate) fn run_steps(
     requires fine { IsFinePlan flat.now plan.now.in_place plan.now.order }
     requires room { HasRoom flat.now machine.old }
     requires held { (types : ℕ → ValueType)
-        × AreHeld flat.now types machine.old.store.cells machine.old.registers.items
+        × AreHeld flat.now types machine.old.store.cells (with_current flat.now [] machine.old).registers.items
         × AreHeld flat.now types machine.old.store.cells machine.old.last.items }
-    requires fresh { AreFresh flat.now machine.old }
+    requires fresh { AreFresh flat.now (with_current flat.now [] machine.old) }
     ensures same { SameBeside machine.old machine.new }
-    ensures ran { IfOk result (λ root. HasRunAll flat.now (plan_in plan.now) time machine.old machine.new root) }
+    ensures ran { IfOk result (λ root.
+        HasRunAll flat.now (plan_in plan.now) time (with_current flat.now [] machine.old) machine.new root) }
+    ensures unmarked { IfOk result (λ root. root ≡ None → AreUnmarked flat.now machine.new) }
 {
     let mut root = None;
     for step in plan.order.as_slice() {

@@ -6,9 +6,9 @@ ghost use Rattle.lift_func.specs.inner.Cells.{FitsKey, IsLive, held, view_at};
 ghost use Rattle.lift_func.specs.Update.{with_entry, with_key, without_key};
 ghost use Rattle.aggregate_store.specs.inner.Stored.{FitsValue, with_added};
 ghost use Rattle.flat_core.specs.Case.{of_both, of_three};
-ghost use Rattle.flat_core.specs.inner.Shape.{HasShape};
+ghost use Rattle.flat_core.specs.inner.Arity.{HasArity};
 ghost use Rattle.monitor_run.specs.inner.Here.{AreAggregateAndKey, AreMapAndEntry, AreSetAndKey, HasUpdated, TakesTyped, source_of};
-ghost use Rattle.monitor_run.specs.inner.Here.{updated_of};
+ghost use Rattle.flat_core.specs.inner.OpGroups.{updated_of};
 ghost use Rattle.monitor_run.specs.inner.Registers.{value_at};
 
 use crate::case::argument;
@@ -146,7 +146,7 @@ pub(crate) fn updated(
     registers: &[Register],
     store: &mut Store,
 ) -> Result<Register, NoMemory>
-    requires shape { HasShape e.now.op e.now.args }
+    requires shape { HasArity e.now.op e.now.args }
     requires known { All (λ a. a < length registers.now) e.now.args }
     requires typed { TakesTyped store.old.cells registers.now e.now }
     requires update { update.id < length store.old.ledger }

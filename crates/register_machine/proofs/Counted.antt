@@ -8,7 +8,7 @@ use Rattle.flat_core.specs.Case.{Inputs, Streams}
 use Rattle.flat_core.specs.System.{System, equation}
 use Rattle.flat_core.specs.Members.{is_in}
 use Rattle.tsl_value.proofs.Lists.{later, none_in_nil}
-use Rattle.alias_rules.specs.Uses.{is_update}
+use Rattle.flat_core.specs.Updates.{is_update}
 use Rattle.register_machine.specs.Run.{nothing_yet, Plan, State, started, body, ending, Instant, Runs}
 use Rattle.register_machine.specs.Copied.{size_at, copied_at, args_of, total_copied, copied}
 use Rattle.register_machine.proofs.Running.{Running}

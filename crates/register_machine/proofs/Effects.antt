@@ -19,6 +19,7 @@ use Rattle.flat_core.specs.Typed.{is_aggregate}
 use Rattle.flat_core.specs.Members.{is_in}
 use Rattle.flat_core.specs.Pending.{option_is}
 use Rattle.flat_core.specs.declared.equation.Op.TheVariants as op
+use Rattle.flat_core.proofs.Answered.{event_of_value}
 use Rattle.tsl_value.proofs.Lists.{later}
 use Rattle.alias_rules.specs.Uses.{passed_of, written_of, IsVariable, IsPassed, IsWritten, IsLast, IsRead}
 use Rattle.alias_rules.specs.Roots.{begins_content, IsOrigin}
@@ -31,10 +32,6 @@ use Rattle.register_machine.proofs.Middle.{SlotOf, Mid, IsNext, Fills, holds_eve
 use Rattle.register_machine.proofs.Moves.{Between, fills_bare, fills_passed, fills_last, fills_fresh, fills_in_place, held_spoiled, last_spoiled}
 use Rattle.register_machine.proofs.Setting.{is_keyed, aggregate, Fit, Setting, fires_is, value_is, present_is, handed, map_same, no_variable, variable_too}
 use Rattle.register_machine.proofs.Uses.{right_read, right_written, right_passed, right_last}
-
-pub event_outcome : (v : Option View) → event (outcome_of (Ok v)) ≡ v
-event_outcome None = refl
-event_outcome (Some v) = refl
 
 keyed_slot : (v : View) (h : ℕ) → is_keyed v ≡ true → SlotOf (Some (Event v)) (Holds (Cell h))
 keyed_slot (Plain v) h is = absurd (true≢false (sym is))
@@ -103,7 +100,7 @@ module _ (s : System) (set : List ℕ) (inputs : Inputs) (z : Streams) (t : ℕ)
           let variable = m.variable x h same in
           let takes : IsPassed s x i = record { at = e; is = running.is; running = running.runs_too; variable = variable; argument = passed } in
           let right = right_passed s set z t last old given.law steps rest all_steps c.slots c.cells m x h i same next.remains e running.is takes entered in
-          fills_passed s set z t last old given.law between steps rest c.slots c.cells m i next x h same e running.is (roots.passed takes) entered (variable_too s x i e running variable typed) (not_root e running.is no_root) (status (Holds (Cell h)) same) (right ∙ sym (event_outcome (event (z x t))) ∙ sym (ap event is))
+          fills_passed s set z t last old given.law between steps rest c.slots c.cells m i next x h same e running.is (roots.passed takes) entered (variable_too s x i e running variable typed) (not_root e running.is no_root) (status (Holds (Cell h)) same) (right ∙ sym (event_of_value (event (z x t))) ∙ sym (ap event is))
 
   no_cell : (a : ℕ) → aggregate s a ≡ false → (h : ℕ) → c.slots a ≡ Holds (Cell h) → ⊥
   no_cell a flat h holds = no_variable s a (m.variable a h holds) flat
@@ -198,7 +195,7 @@ module _ (s : System) (set : List ℕ) (inputs : Inputs) (z : Streams) (t : ℕ)
             let root : IsOrigin s set i = record { variable = variable_i; at = mk op.Last (v ∷ r ∷ []) of; is = running.is; begins = refl } in
             let happens = holds_event (z i t) (Holds (Cell h)) (Cell h) status refl in
             let right = right_last s set z t last old given.law steps rest all_steps c.slots c.cells m v h i same next.remains running.runs_too happens takes root variable_i in
-            fills_last s set z t last old given.law between steps rest c.slots c.cells m i next v h same takes root variable_i status (right ∙ sym (event_outcome (latest (z v) t)) ∙ sym (ap event is_v))
+            fills_last s set z t last old given.law between steps rest c.slots c.cells m i next v h same takes root variable_i status (right ∙ sym (event_of_value (latest (z v) t)) ∙ sym (ap event is_v))
 
         go : (b : Bool) → z i t ≡ outcome_of (Ok (if b then latest (z v) t else None)) → Filling (if b then slot_of (c.lasts v) else Blank) c.cells
         go true is_v = subst (λ k. Filling (slot_of k) c.cells) (sym (λ k. same_lasts k v)) (found is_v (last v) refl)

@@ -44,10 +44,6 @@ or_twice : (k l : Option Held) → option_or k (option_or k l) ≡ option_or k l
 or_twice None l = refl
 or_twice (Some k) l = refl
 
-or_true : (b : Bool) → (b || true) ≡ true
-or_true true = refl
-or_true false = refl
-
 over_again : (b : Bool) (k l : Option Held) → overwritten b k (option_or k l) ≡ option_or k l
 over_again true k l = or_twice k l
 over_again false k l = refl

@@ -6,7 +6,7 @@ use Rattle.std.proofs.lemmas.Bool.{cases_Bool, cases_eq, cases_lt, eq-eqb, ne_eq
 use Rattle.tsl_value.specs.View.{View, Plain}
 use Rattle.tsl_value.specs.declared.scalar.Scalar.TheVariants as scalar
 use Rattle.flat_core.specs.declared.equation.Equation.{Equation}
-use Rattle.flat_core.specs.Stream.{History, event, has_event, latest}
+use Rattle.flat_core.specs.Stream.{History, event, has_event}
 use Rattle.flat_core.specs.Case.{Inputs, expires}
 use Rattle.flat_core.specs.Pending.{pending, reached, option_is}
 use Rattle.flat_core.specs.System.{System, equation}
@@ -15,19 +15,10 @@ use Rattle.flat_core.proofs.PendingLemmas.{expires_pending, pending_expires}
 use Rattle.register_machine.specs.Machine.{Timer, Config, fires, value_in, with, timed, expiry, OfEquation, Step, Steps}
 use Rattle.register_machine.proofs.Cells.{with-here, with-there}
 use Rattle.register_machine.specs.Stands.{in_time}
-use Rattle.std.specs.Option.{option_or}
 
 pub expiry_is : (inputs : Inputs) (t : ℕ) (v : Option View) → expiry t v ≡ in_time (reached t v)
 expiry_is inputs t (Some (Plain (scalar.Int (pos n)))) = refl
 expiry_is inputs t _ = refl
-
--- gaps
-pub latest_quiet : (h : History) (u t : ℕ) → u ≤ t → ((w : ℕ) → u ≤ w → w < t → h w ≡ None) → latest h t ≡ latest h u
-latest_quiet h u zero le quiet = let same : zero ≡ u = omega arith in ap (latest h) same
-latest_quiet h u (suc t) le quiet = elim (cases_lt t u) [
-  | inl high ↦ let same : suc t ≡ u = omega arith in ap (latest h) same
-  | inr low ↦ (λ k. option_or (event (quiet t low (omega arith) k)) (latest h t)) ∙ latest_quiet h u t low (λ w above below. quiet w above (omega arith))
-]
 
 pub pending_quiet : (d r i : History) (u t : ℕ) → u ≤ t → ((w : ℕ) → u ≤ w → w < t → r w ≡ None) → ((w : ℕ) → u ≤ w → w < t → i w ≡ None) → pending d r i t ≡ pending d r i u
 pending_quiet d r i u zero le quiet_r quiet_i = let same : zero ≡ u = omega arith in ap (pending d r i) same
@@ -37,8 +28,6 @@ pending_quiet d r i u (suc t) le quiet_r quiet_i = elim (cases_lt t u) [
 ]
 
 -- a delay is due exactly where what is pending says so
-some_number : {a b : ℕ} → Some a ≡ Some b → a ≡ b
-some_number e = cc
 
 in_time_at : (p : Option ℕ) (t : ℕ) → option_is t (in_time p) ≡ true → p ≡ Some t
 in_time_at None t is = absurd (true≢false (sym is))

@@ -9,8 +9,8 @@ use Rattle.flat_core.specs.System.{System, equation}
 use Rattle.flat_core.specs.Members.{is_in}
 use Rattle.flat_core.specs.Instant.{is_delay}
 use Rattle.flat_core.proofs.Members.{in-Contains}
-use Rattle.tsl_value.proofs.Lists.{none_in_nil, in_kept}
-use Rattle.alias_rules.specs.Uses.{is_update}
+use Rattle.tsl_value.proofs.Lists.{none_in_nil, in_kept, contains_map}
+use Rattle.flat_core.specs.Updates.{is_update}
 use Rattle.alias_rules.specs.Conflict.{StandsBefore}
 use Rattle.register_machine.specs.Run.{Plan, State, started, body, ending, kept, delays, step_instr, Instant, ended}
 use Rattle.register_machine.proofs.Running.{Running}
@@ -22,7 +22,6 @@ use Rattle.register_machine.proofs.Steps.{step_good}
 use Rattle.register_machine.proofs.Walks.{IsEnding, cons_head, cons_tail, start_good, next_of, walk}
 use Rattle.register_machine.proofs.Progress.{ending_goes, body_goes}
 use Rattle.register_machine.proofs.Safety.{Course, Standing, setting_of, GoodAt, ending_is, roots_at, instant_leaves, fault_leaves}
-use Rattle.flat_core.proofs.Members.{contains_map}
 use Rattle.std.proofs.Common.{append-nil}
 
 module _ (s : System) (plan : Plan) (inputs : Inputs) (z : Streams) (bound : ℕ) (course : Course s plan inputs z bound) (updates : (y : ℕ) (e : Equation) → Running s y e → IsTrue (is_in plan.in_place y) → IsTrue (is_update e.op)) where

@@ -12,7 +12,8 @@ use Rattle.flat_core.specs.Case.{Inputs, Streams, of_both, of_three, used_of}
 use Rattle.flat_core.specs.System.{System, runs}
 use Rattle.flat_core.specs.Members.{is_in}
 use Rattle.flat_core.specs.declared.equation.Op.TheVariants as op
-use Rattle.alias_rules.specs.Uses.{is_update, written_of}
+use Rattle.flat_core.specs.Updates.{is_update}
+use Rattle.alias_rules.specs.Uses.{written_of}
 use Rattle.alias_rules.specs.Conflict.{StandsBefore}
 use Rattle.register_machine.specs.Run.{Plan, step_instr}
 use Rattle.register_machine.specs.Copied.{size_at, copied_at, args_of, total_copied, copied}
@@ -25,12 +26,10 @@ use Rattle.register_machine.proofs.Moves.{Between}
 use Rattle.register_machine.proofs.Setting.{each_update, Fit, Setting, fires_is}
 use Rattle.register_machine.proofs.Effects.{some_equation, source_value}
 use Rattle.register_machine.proofs.Steps.{Good, below, done_args, step_good}
+use Rattle.register_machine.proofs.FailedKinds.{fill_same}
 
 made_blank : (v : Option View) (new : Slot) → made (Ok v) ≡ Fill new → held new ≡ None
 made_blank None new is = ap held (fill_same (sym is))
-  where
-    fill_same : {x y : Slot} → Fill x ≡ Fill y → x ≡ y
-    fill_same e = cc
 made_blank (Some v) new is = absurd (make_fill is)
   where
     make_fill : {x : View} {y : Slot} → Make x ≡ Fill y → ⊥
@@ -60,9 +59,6 @@ module _ (s : System) (plan : Plan) (inputs : Inputs) (z : Streams) (t : ℕ) (l
     fill_blank : (e : Equation) → Running s i e → is_update e.op ≡ true → (new : Slot) → effect inputs t c i e ≡ Fill new → held new ≡ None
     fill_blank e running update new is = go (is_barred c e) is
       where
-        fill_same : {x y : Slot} → Fill x ≡ Fill y → x ≡ y
-        fill_same q = cc
-
         go : (b : Bool) → (if b then Fill (Failed None) else effect_of inputs t c i e.op e.args e.of) ≡ Fill new → held new ≡ None
         go true is_b = ap held (fill_same (sym is_b))
         go false is_b = update_blank e.op e.args e.of update (given.fitting i e running) new is_b
@@ -109,9 +105,6 @@ module _ (s : System) (plan : Plan) (inputs : Inputs) (z : Streams) (t : ℕ) (l
     ran_here : (e : Equation) → Running s i e → is_update e.op ≡ true → is_in plan.in_place i ≡ false → Ran i e c (effect inputs t c i e) d → c.ledger i ≡ copied s plan.in_place z i t → d.ledger i ≡ copied s plan.in_place z i (suc t)
     ran_here e running update listed ran before = go (effect inputs t c i e) refl ran
       where
-        some_slot : {x y : Slot} → Fill x ≡ Fill y → x ≡ y
-        some_slot q = cc
-
         go : (x : Effect) → effect inputs t c i e ≡ x → Ran i e c x d → d.ledger i ≡ copied s plan.in_place z i (suc t)
         go (Fill new) is ran_x =
             let none = no_event e running new (fill_blank e running update new is) (ap (λ q. q.slots i) ran_x ∙ with-here c.slots i new) in

@@ -20,7 +20,7 @@ use Rattle.flat_core.proofs.TypedEvents.{inputs_typed, events_typed}
 use Rattle.trigger_rules.specs.inner.Firing.{at_time, IsUpToFault}
 use Rattle.trigger_rules.proofs.Times.{exact, implied, all_are_clear}
 use Rattle.alias_rules.specs.Conflict.{StandsBefore, needed}
-use Rattle.alias_rules.specs.Uses.{is_update}
+use Rattle.flat_core.specs.Updates.{is_update}
 use Rattle.alias_rules.proofs.Ranks.{order_ranked, place}
 use Rattle.register_machine.specs.Run.{Plan}
 use Rattle.register_machine.specs.Stands.{IsGiven}

@@ -17,7 +17,7 @@ use Rattle.flat_core.specs.Case.{Inputs, Streams, of_both, of_three, used_of}
 use Rattle.flat_core.specs.System.{System, runs}
 use Rattle.flat_core.specs.Members.{is_in}
 use Rattle.tsl_value.proofs.Lists.{later}
-use Rattle.alias_rules.specs.Uses.{is_update}
+use Rattle.flat_core.specs.Updates.{is_update}
 use Rattle.alias_rules.specs.Conflict.{StandsBefore}
 use Rattle.register_machine.specs.Run.{Plan, step_instr}
 use Rattle.register_machine.proofs.Running.{Running}

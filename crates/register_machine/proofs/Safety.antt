@@ -19,7 +19,7 @@ use Rattle.flat_core.specs.Members.{is_in}
 use Rattle.flat_core.specs.Instant.{is_delay, is_delay_op}
 use Rattle.flat_core.proofs.Members.{all_at, in-Contains, Contains-in}
 use Rattle.flat_core.specs.declared.equation.Op.TheVariants as op
-use Rattle.tsl_value.proofs.Lists.{none_in_nil, kept_in}
+use Rattle.tsl_value.proofs.Lists.{none_in_nil, kept_in, contains_map, map_contains}
 use Rattle.alias_rules.specs.Uses.{last_of}
 use Rattle.alias_rules.specs.Conflict.{StandsBefore}
 use Rattle.alias_rules.specs.Fine.{IsFine}
@@ -39,9 +39,9 @@ use Rattle.register_machine.proofs.Walks.{IsEnding, cons_head, start_good, split
 use Rattle.register_machine.proofs.Still.{leaves_read}
 use Rattle.register_machine.proofs.End.{next_between, next_lasts}
 use Rattle.register_machine.proofs.Faults.{root_same, roots_are, prints_are}
-use Rattle.register_machine.proofs.Gaps.{timed_at, expiry_is, latest_quiet, pending_quiet, due_is, timers_pending}
+use Rattle.register_machine.proofs.Gaps.{timed_at, expiry_is, pending_quiet, due_is, timers_pending}
 use Rattle.std.specs.Option.{option_and_then, option_map_or}
-use Rattle.flat_core.proofs.Members.{contains_map, map_contains}
+use Rattle.flat_core.proofs.StillLemmas.{latest_still}
 use Rattle.register_machine.specs.Run.{nothing_yet}
 use Rattle.register_machine.specs.Machine.{view_of}
 use Rattle.register_machine.proofs.Effects.{some_equation}
@@ -112,10 +112,10 @@ module _ (s : System) (plan : Plan) (inputs : Inputs) (z : Streams) (bound : ℕ
     between = record {
       stored = standing.between.stored;
       lives = standing.between.lives;
-      view = λ v h is. standing.between.view v h is ∙ sym (latest_quiet (z v) u t le (quiet.silent v (standing.between.stored v h is).taken.variable.running));
+      view = λ v h is. standing.between.view v h is ∙ sym (latest_still (z v) u t le (quiet.silent v (standing.between.stored v h is).taken.variable.running));
       shares = standing.between.shares;
     };
-    lasts = λ v i e running argument. subst (λ l. SlotOf (outcome_of (Ok l)) (slot_of (a.lasts v))) (sym (latest_quiet (z v) u t le (quiet.silent v (kept_runs v i e running argument)))) (standing.lasts v i e running argument);
+    lasts = λ v i e running argument. subst (λ l. SlotOf (outcome_of (Ok l)) (slot_of (a.lasts v))) (sym (latest_still (z v) u t le (quiet.silent v (kept_runs v i e running argument)))) (standing.lasts v i e running argument);
     due = λ i d r e running is_op is_args. standing.due i d r e running is_op is_args ∙ ap in_time (sym (pending_quiet (z d) (z r) (z i) u t le (quiet.silent r (delay_args i d r e running is_args).1) (quiet.silent i running.runs_too)));
     sound = λ w lt. elim (cases_lt w u) [
       | inl before ↦ standing.sound w before

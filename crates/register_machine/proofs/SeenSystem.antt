@@ -18,7 +18,7 @@ use Rattle.flat_core.specs.Typed.{input, empty, merge, last, set_add}
 use Rattle.flat_core.specs.TypedSystem.{IsOfType, IsTypedEquation}
 use Rattle.flat_core.specs.WellFormed.{unguarded_of, Needs, IsWellFormed}
 use Rattle.flat_core.proofs.Members.{all_at, Contains-in}
-use Rattle.tsl_value.proofs.Lists.{none_in_nil, cons_cases}
+use Rattle.tsl_value.proofs.Lists.{none_in_nil, cons_cases, only}
 use Rattle.register_machine.proofs.Effects.{some_equation}
 
 abbrev pub made_of : Op → List ℕ → ValueType → Equation
@@ -121,12 +121,9 @@ unfolding place
 argument_place = each_equation (λ i e. (a : ℕ) → Contains (unguarded_of e.op e.args) a → place a < place i)
     (λ a found. absurd (none_in_nil a found))
     (λ a found. absurd (none_in_nil a found))
-    (λ a found. elim (cons_cases 4 a (1 ∷ []) found) [ inl is ↦ subst (λ n. place n < 5) is (omega arith) | inr more ↦ subst (λ n. place n < 5) (one_of 1 a more) (omega arith) ])
-    (λ a found. subst (λ n. place n < 2) (one_of 0 a found) (omega arith))
-    (λ a found. elim (cons_cases 3 a (0 ∷ []) found) [ inl is ↦ subst (λ n. place n < 4) is (omega arith) | inr more ↦ subst (λ n. place n < 4) (one_of 0 a more) (omega arith) ])
-  where
-    one_of : (x a : ℕ) → Contains (x ∷ []) a → x ≡ a
-    one_of x a found = elim (cons_cases x a [] found) [ inl is ↦ is | inr more ↦ absurd (none_in_nil a more) ]
+    (λ a found. elim (cons_cases 4 a (1 ∷ []) found) [ inl is ↦ subst (λ n. place n < 5) is (omega arith) | inr more ↦ subst (λ n. place n < 5) (only 1 a more) (omega arith) ])
+    (λ a found. subst (λ n. place n < 2) (only 0 a found) (omega arith))
+    (λ a found. elim (cons_cases 3 a (0 ∷ []) found) [ inl is ↦ subst (λ n. place n < 4) is (omega arith) | inr more ↦ subst (λ n. place n < 4) (only 0 a more) (omega arith) ])
 
 needs_place : (i j : ℕ) → Path (Needs sys) i j → place j < place i
 needs_place i j (edge n) = argument_place i n.at n.is j n.argument

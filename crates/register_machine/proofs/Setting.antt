@@ -15,7 +15,8 @@ use Rattle.flat_core.specs.Typed.{is_aggregate}
 use Rattle.flat_core.specs.Pending.{option_is}
 use Rattle.flat_core.specs.declared.equation.Op.TheVariants as op
 use Rattle.tsl_value.proofs.Lists.{later, none_in_nil}
-use Rattle.alias_rules.specs.Uses.{is_update, last_of, IsVariable}
+use Rattle.flat_core.specs.Updates.{is_update}
+use Rattle.alias_rules.specs.Uses.{last_of, IsVariable}
 use Rattle.register_machine.proofs.Running.{Running}
 use Rattle.register_machine.specs.Machine.{Held, Cell, Slot, Blank, Holds, Failed, Cells, held, is_failed, view_of, slot_of}
 use Rattle.register_machine.proofs.Cells.{blank_holds}

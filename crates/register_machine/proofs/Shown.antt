@@ -10,6 +10,7 @@ use Rattle.flat_core.specs.Instant.{is_instant, instants}
 use Rattle.flat_core.specs.Line.{Line, inputs_of}
 use Rattle.flat_core.specs.Stream.{latest}
 use Rattle.flat_core.specs.System.{System}
+use Rattle.flat_core.proofs.Answered.{event_of_value}
 use Rattle.register_machine.specs.Content.{print_of}
 use Rattle.register_machine.specs.Machine.{Held, Cell, Holds, held, view_of, slot_of}
 use Rattle.register_machine.specs.Run.{Plan, State, Runs, kept, nothing_yet}
@@ -18,7 +19,6 @@ use Rattle.register_machine.specs.Laws.{LeavesWhatIsRead, ShowsInstant, LookAlik
 use Rattle.register_machine.proofs.CellCount.{instant_cells}
 use Rattle.register_machine.proofs.Cells.{blank_holds, holds_same}
 use Rattle.register_machine.proofs.Counted.{HasCounted, body_counted, moved_counted, run_counted}
-use Rattle.register_machine.proofs.Effects.{event_outcome}
 use Rattle.register_machine.proofs.Instants.{so_far}
 use Rattle.register_machine.proofs.Kept.{kept_last}
 use Rattle.register_machine.proofs.InstantLaws.{sound_leaves, faulty_leaves, body_runs, instant_runs}
@@ -75,8 +75,8 @@ module _ (s : System) (plan : Plan) (lines : List Line) (bound : ℕ) (z : Strea
           let by = kept_last s given.flat.proper v found in
           let status = standing.lasts v by.0 by.1 by.2 by.3 in
           sym (ap (option_and_then (view_of a.cells)) (held_slot (a.lasts v)))
-          ∙ value_is a.cells (outcome_of (Ok (latest (z v) t))) (slot_of (a.lasts v)) status (λ h holds. standing.between.view v h (slot_holds (a.lasts v) (Cell h) holds) ∙ sym (event_outcome (latest (z v) t)))
-          ∙ event_outcome (latest (z v) t)
+          ∙ value_is a.cells (outcome_of (Ok (latest (z v) t))) (slot_of (a.lasts v)) status (λ h holds. standing.between.view v h (slot_holds (a.lasts v) (Cell h) holds) ∙ sym (event_of_value (latest (z v) t)))
+          ∙ event_of_value (latest (z v) t)
 
   counted_at : (t : ℕ) → t ≤ bound → (a : State) → RunsTo s plan lines z t a → HasCounted s plan z t a.ledger
   counted_at t le a ran =

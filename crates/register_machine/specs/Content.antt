@@ -10,7 +10,8 @@ use Rattle.flat_core.specs.declared.equation.Op.TheVariants as op
 use Rattle.flat_core.specs.declared.equation.Equation.{Equation}
 use Rattle.flat_core.specs.Case.{Inputs}
 use Rattle.flat_core.specs.System.{System, equation}
-use Rattle.alias_rules.specs.Uses.{is_update, first_of}
+use Rattle.flat_core.specs.Updates.{is_update}
+use Rattle.alias_rules.specs.Uses.{first_of}
 use Rattle.register_machine.specs.Machine.{Instr, Run, RunInPlace, Print, Keep, Timer, Held, Bare, Config, held, view_of, fires, is_barred}
 use Rattle.register_machine.specs.Machine.{Step, Steps}
 

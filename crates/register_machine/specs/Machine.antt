@@ -17,7 +17,7 @@ use Rattle.flat_core.specs.declared.equation.Equation.{Equation}
 use Rattle.flat_core.specs.Case.{Inputs, at_once, used_of}
 use Rattle.flat_core.specs.Pending.{option_is}
 use Rattle.flat_core.specs.System.{System, equation}
-use Rattle.alias_rules.specs.Uses.{is_update}
+use Rattle.flat_core.specs.Updates.{is_update}
 use Rattle.register_machine.specs.Copied.{size_at}
 
 -- The instructions: an equation is run, or run in place, an output is printed, a register is kept for later times, a delay is set.

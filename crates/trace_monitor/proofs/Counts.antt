@@ -14,7 +14,7 @@ use Rattle.flat_core.proofs.Silence.{happens_at_instants}
 use Rattle.flat_core.proofs.SmallerBound.{solves_less}
 use Rattle.monitor_run.specs.declared.monitor.Stop.TheVariants as stop
 use Rattle.register_machine.specs.Copied.{copied}
-use Rattle.monitor_run.specs.Updates.{is_update}
+use Rattle.flat_core.specs.Updates.{is_update_at}
 use Rattle.monitor_run.specs.inner.Next.{NoInstant}
 use Rattle.monitor_run.specs.inner.Stands.{KeepsOf, Stands}
 use Rattle.monitor_run.specs.inner.State as engine
@@ -57,7 +57,7 @@ module _ (m : engine.State) (ready : engine.IsReady m) (lines : List Line) (stan
     record {
       ledger = λ z zs u update.
           counted m ready lines stands m.bound ready.in_time ready.within z zs u update
-          ∙ sym (copies_still m.system lines z m.next m.in_place m.bound (happens z zs) u (both_first (runs m.system u) (is_update (equation m.system u)) update) t (none z zs).0 within (none z zs).1);
+          ∙ sym (copies_still m.system lines z m.next m.in_place m.bound (happens z zs) u (both_first (runs m.system u) (is_update_at (equation m.system u)) update) t (none z zs).0 within (none z zs).1);
     },
   )
 

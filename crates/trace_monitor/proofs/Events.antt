@@ -3,6 +3,7 @@ use Rattle.std.proofs.Common.{◌≡◌, ◌==◌, ℕ, zero, suc, Bool, true, f
 use Rattle.std.proofs.lemmas.Bool.{cases_Bool}
 use Rattle.std.specs.List.{list_any}
 use Rattle.std.specs.Option.{option_or}
+use Rattle.std.proofs.Math.Bool.{and-false}
 use Rattle.flat_core.specs.inner.BoundLaws.{HappensAlike}
 use Rattle.flat_core.specs.Case.{Streams}
 use Rattle.flat_core.specs.Fault.{root_at, is_faulty, is_over, IsNamed}
@@ -14,12 +15,8 @@ use Rattle.flat_core.specs.System.{System, equation}
 use Rattle.flat_core.proofs.StillLemmas.{no_event_on}
 use Rattle.trace_monitor.specs.inner.Kept.{events_of}
 
-and_false : (b : Bool) → (b && false) ≡ false
-and_false true = refl
-and_false false = refl
-
 not_on : (t : ℕ) (l : Line) → is_some l.event ≡ false → is_line_at t l ≡ false
-not_on t l none = ap (λ b. (l.time == t) && b) none ∙ and_false (l.time == t)
+not_on t l none = ap (λ b. (l.time == t) && b) none ∙ and-false (l.time == t)
 
 pub events_inputs : (ls : List Line) (i t : ℕ) → inputs_of (events_of ls) i t ≡ inputs_of ls i t
 events_inputs [] i t = refl

@@ -6,7 +6,7 @@ use Rattle.std.specs.List.{AllByRecursion, flat_map}
 use Rattle.std.specs.Option.{option_or}
 use Rattle.tsl_value.specs.View.{View}
 use Rattle.tsl_value.specs.declared.scalar.Scalar.{Scalar}
-use Rattle.flat_core.specs.Line.{Line, event_in, inputs_of, last_time}
+use Rattle.flat_core.specs.Line.{Line, event_in, inputs_of}
 use Rattle.flat_core.specs.System.{System}
 use Rattle.flat_core.specs.Text.{text_at}
 use Rattle.monitor_run.specs.declared.monitor.Stop.{Stop}
@@ -21,6 +21,7 @@ use Rattle.trace_monitor.specs.declared.halt.Halt.{Halt}
 use Rattle.trace_monitor.specs.declared.halt.Halt.TheVariants as halt
 use Rattle.trace_monitor.specs.inner.Reading.{bound_at}
 use Rattle.trace_monitor.specs.inner.Run.{HasRunOut, HasStopped, HasRunBelow, HasStoppedAt, HasTaken, CountsSo, MayFollow, StopsSo, closed_to}
+use Rattle.trace_reader.proofs.LineLemmas.{last_time-push}
 
 pub written_closed : (m : engine.State) (bound : ℕ) (lines : List Line) (text : List ℕ) → HasWritten m lines text → HasWritten (record m { bound = bound }) lines text
 written_closed m bound lines text w = record { stands = stands_closed m bound lines w.stands; text_is = w.text_is }
@@ -93,11 +94,6 @@ module _ (m mid new : engine.State) (time : ℕ) (later : m.bound ≤ time) (sam
       (stops lines text (subst (λ (e : engine.State). HasWritten e lines text) (sym same) (written_closed m (max m.bound time) lines text w))))
 
 -- ---- a line
-last_snoc : (lines : List Line) (l : Line) → last_time (lines ++ l ∷ []) ≡ l.time
-last_snoc [] l = refl
-last_snoc (x ∷ []) l = refl
-last_snoc (x ∷ y ∷ lines) l = last_snoc (y ∷ lines) l
-
 all_after : (P : Line → Type 0) (xs ys : List Line) → AllByRecursion P (xs ++ ys) → AllByRecursion P ys
 all_after P [] ys all = all
 all_after P (x ∷ xs) ys all = all_after P xs ys all.1
@@ -133,7 +129,7 @@ taken_line m mid new lines l text before after h given set = record {
   system_is = set.system ∙ h.system_is;
   limit_is = set.limit ∙ h.limit_is;
   has = record {
-    bound_is = set.bound ∙ h.bound_is ∙ sym (last_snoc lines l);
+    bound_is = set.bound ∙ h.bound_is ∙ sym (last_time-push lines l);
     written = subst (λ (ls : List Line). HasWritten new ls (text ++ h.added)) (sym (filter-append (λ x. is_some x.event) lines (l ∷ []))) (given (events_of lines) (text ++ h.added) h.written);
   };
 }

@@ -4,7 +4,7 @@ use Rattle.flat_core.specs.Instant.{instants}
 use Rattle.flat_core.specs.Case.{Streams}
 use Rattle.flat_core.specs.System.{System}
 use Rattle.register_machine.specs.Copied.{copied}
-use Rattle.monitor_run.specs.Updates.{is_running_update}
+use Rattle.flat_core.specs.Updates.{is_running_update}
 use Rattle.monitor_run.specs.inner.State as engine
 use Rattle.trace_monitor.specs.declared.ending.RunEnding.{RunEnding}
 use Rattle.trace_monitor.specs.declared.ending.RunEnding.TheVariants as ending

@@ -7,7 +7,7 @@ ghost use Rattle.trace_reader.specs.inner.Reader.{AwaitsMore};
 ghost use Rattle.tsl_value.specs.declared.scalar.Scalar.{Scalar};
 ghost use Rattle.tsl_value.specs.declared.limits.TheConstants.{MOST_TRACE_BYTES};
 ghost use Rattle.monitor_run.specs.inner.Steps.{AreAsSet, CanTake};
-ghost use Rattle.monitor_run.specs.Updates.{is_running_update};
+ghost use Rattle.flat_core.specs.Updates.{is_running_update};
 ghost use Rattle.trace_monitor.specs.Counted.{HasCounted};
 ghost use Rattle.trace_monitor.specs.Due.{IsDue};
 ghost use Rattle.trace_monitor.specs.inner.Kept.{Kept, events_of};

@@ -5,12 +5,13 @@ use Rattle.std.specs.Prelude.{if◌then◌else◌, codes}
 use Rattle.std.specs.Char.{is_ascii_digit}
 use Rattle.std.specs.List.{list_all}
 use Rattle.std.specs.Option.{option_and_then, option_map}
+use Rattle.std.proofs.lemmas.Option.{same_Some}
 use Rattle.tsl_value.specs.Literal.{are_digits}
 use Rattle.tsl_value.proofs.Digits.{are_digits-parts}
-use Rattle.trace_reader.specs.Form.{Parts, put_first, split_once, is_blank, is_end_blank, is_name, without_front, without_end, content, says_nothing, called, valued, named_by, after_time, timed, parts_of}
+use Rattle.trace_reader.specs.Form.{LineParts, put_first, split_once, is_blank, is_end_blank, is_name, without_front, without_end, content, says_nothing, line_of_name, valued, named_by, after_time, timed, parts_of}
 use Rattle.trace_reader.specs.inner.Spelling.{AreBlanks, AreDigits, AreEndBlanks, HasForm, IsSkippedLine, IsWhole, SpellsName}
 use Rattle.trace_reader.proofs.CutLemmas.{split_by, split_once-append}
-use Rattle.trace_reader.proofs.JudgedLemmas.{came, some_same}
+use Rattle.trace_reader.proofs.JudgedLemmas.{came}
 use Rattle.trace_reader.proofs.NameLemmas.{is_inner, name_inner, name_read, name_some, name_spelled}
 use Rattle.trace_reader.proofs.TrimLemmas.{EndTo, FrontTo, LastOf, StopsAt, all_joined, all_weaker, end_all, end_at, end_following, end_to, front_all, front_to, last_of, not_mark}
 
@@ -21,7 +22,7 @@ pub record Mapped {A B : Type 0} (f : A → B) (o : Option A) (y : B) : Type 0 w
 
 pub mapped : {A B : Type 0} (f : A → B) (o : Option A) (y : B) → option_map f o ≡ Some y → Mapped f o y
 mapped f None y is = absurd (cc)
-mapped f (Some x) y is = record { at = x; is = refl; gives = some_same (f x) y is }
+mapped f (Some x) y is = record { at = x; is = refl; gives = same_Some (f x) y is }
 
 -- Bytes that pass a test which the mark doesn't pass have no mark, and split off at one after them.
 module _ (p : ℕ → Bool) (mark : ℕ) (no_mark : p mark ≡ false) where
@@ -51,7 +52,7 @@ joined_step : (mark b : ℕ) (bytes : List ℕ) (p : List ℕ × List ℕ) (is_m
     (if is_mark then Some ([], bytes) else option_map (put_first b) (split_once mark bytes)) ≡ Some p →
     ((q : List ℕ × List ℕ) → split_once mark bytes ≡ Some q → bytes ≡ q.0 ++ mark ∷ q.1) → b ∷ bytes ≡ p.0 ++ mark ∷ p.1
 joined_step mark b bytes p true same is ih =
-    subst (λ (q : List ℕ × List ℕ). b ∷ bytes ≡ q.0 ++ mark ∷ q.1) (some_same ([], bytes) p is) (ap (λ c. c ∷ bytes) (eqb-true b mark same))
+    subst (λ (q : List ℕ × List ℕ). b ∷ bytes ≡ q.0 ++ mark ∷ q.1) (same_Some ([], bytes) p is) (ap (λ c. c ∷ bytes) (eqb-true b mark same))
 joined_step mark b bytes p false same is ih =
     let front = mapped (put_first b) (split_once mark bytes) p is in
     subst (λ (q : List ℕ × List ℕ). b ∷ bytes ≡ q.0 ++ mark ∷ q.1) front.gives (ap (λ bs. b ∷ bs) (ih front.at front.is))
@@ -119,11 +120,11 @@ after_some : (time bytes : List ℕ) → 0 < length bytes → after_time time by
 after_some time [] some = absurd (omega arith)
 after_some time (b ∷ bytes) some = refl
 
-valued_some : (time name value : List ℕ) → 0 < length value → valued time name value ≡ called time name (Some value)
+valued_some : (time name value : List ℕ) → 0 < length value → valued time name value ≡ line_of_name time name (Some value)
 valued_some time name [] some = absurd (omega arith)
 valued_some time name (b ∷ value) some = refl
 
-called_is : (time name : List ℕ) (value : Option (List ℕ)) → SpellsName name → called time name value ≡ Some (record { time = time; name = Some name; value = value })
+called_is : (time name : List ℕ) (value : Option (List ℕ)) → SpellsName name → line_of_name time name value ≡ Some (record { time = time; name = Some name; value = value })
 called_is time name value it = ap (λ ok. if ok then Some (record { time = time; name = Some name; value = value }) else None) (name_read name it)
 
 -- A line of a time and what stands after its colon, of which the end is not dropped.
@@ -155,7 +156,7 @@ module _ (line a time b rest z : List ℕ) (blanks : AreBlanks a) (digits : AreD
       ∙ ap (λ ok. if ok then after_time time (without_front is_blank rest) else None) digits
 
 -- Each form is cut into its parts.
-record IsCut (line : List ℕ) (parts : Parts) : Type 0 where
+record IsCut (line : List ℕ) (parts : LineParts) : Type 0 where
   says : says_nothing (content line) ≡ false
   parts_is : parts_of (content line) ≡ Some parts
 
@@ -247,16 +248,16 @@ cut_valued line a time b c name d e value z blanks digits between before named b
     some_longer [] ys lt = absurd (omega arith)
     some_longer (x ∷ xs) ys lt = omega arith
 
-is_cut : (line : List ℕ) (parts : Parts) → HasForm line parts → IsCut line parts
+is_cut : (line : List ℕ) (parts : LineParts) → HasForm line parts → IsCut line parts
 is_cut line parts (HasForm.time_alone a time b z blanks digits between end is parts_are) = subst (IsCut line) (sym parts_are) (cut_alone line a time b z blanks digits between end is)
 is_cut line parts (HasForm.named a time b c name z blanks digits between before named end is parts_are) = subst (IsCut line) (sym parts_are) (cut_named line a time b c name z blanks digits between before named end is)
 is_cut line parts (HasForm.valued a time b c name d e value z blanks digits between before named behind next whole end is parts_are) =
     subst (IsCut line) (sym parts_are) (cut_valued line a time b c name d e value z blanks digits between before named behind next whole end is)
 
-pub form_says : (line : List ℕ) (parts : Parts) → HasForm line parts → says_nothing (content line) ≡ false
+pub form_says : (line : List ℕ) (parts : LineParts) → HasForm line parts → says_nothing (content line) ≡ false
 form_says line parts it = let cut = is_cut line parts it in cut.says
 
-pub form_parts : (line : List ℕ) (parts : Parts) → HasForm line parts → parts_of (content line) ≡ Some parts
+pub form_parts : (line : List ℕ) (parts : LineParts) → HasForm line parts → parts_of (content line) ≡ Some parts
 form_parts line parts it = let cut = is_cut line parts it in cut.parts_is
 
 -- From the cuts to the relation. What is split at a mark, and without the blanks around it.
@@ -277,12 +278,12 @@ EndsFit bytes = (front : List ℕ) (b : ℕ) → bytes ≡ front ++ b ∷ [] →
 ends_fit : (bytes before rest : List ℕ) → bytes ≡ before ++ rest → EndsFit bytes → EndsFit rest
 ends_fit bytes before rest is fit front b last = fit (before ++ front) b (is ∙ ap (λ bs. before ++ bs) last ∙ sym (append_assoc before front (b ∷ [])))
 
-record Named (name : List ℕ) (made : Parts) (parts : Parts) : Type 0 where
+record Named (name : List ℕ) (made : LineParts) (parts : LineParts) : Type 0 where
   spelled : SpellsName name
   is : parts ≡ made
 
-called_by : (name : List ℕ) (made parts : Parts) (ok : Bool) → is_name name ≡ ok → (if ok then Some made else None) ≡ Some parts → Named name made parts
-called_by name made parts true named is = record { spelled = name_spelled name named; is = sym (some_same made parts is) }
+called_by : (name : List ℕ) (made parts : LineParts) (ok : Bool) → is_name name ≡ ok → (if ok then Some made else None) ≡ Some parts → Named name made parts
+called_by name made parts true named is = record { spelled = name_spelled name named; is = sym (same_Some made parts is) }
 called_by name made parts false named is = absurd (cc)
 
 head_same : (b c : ℕ) (xs ys : List ℕ) → b ∷ xs ≡ c ∷ ys → b ≡ c
@@ -299,14 +300,14 @@ module _ (line a time b z : List ℕ) (blanks : AreBlanks a) (digits : AreDigits
   abbrev AtRest : List ℕ → List ℕ → Type 0
   AtRest c rest = line ≡ a ++ (time ++ (b ++ (codes ":" ++ (c ++ (rest ++ z)))))
 
-  value_form : (c rest name d e : List ℕ) (parts : Parts) (value : List ℕ) → AreBlanks c → AreBlanks d → AreBlanks e → StopsAt is_blank value → EndsFit value →
+  value_form : (c rest name d e : List ℕ) (parts : LineParts) (value : List ℕ) → AreBlanks c → AreBlanks d → AreBlanks e → StopsAt is_blank value → EndsFit value →
       line ≡ a ++ (time ++ (b ++ (codes ":" ++ (c ++ (name ++ (d ++ (codes "=" ++ (e ++ (value ++ z))))))))) → valued time name value ≡ Some parts → HasForm line parts
   value_form c rest name d e parts [] before behind next stops fit is gives = absurd (cc)
   value_form c rest name d e parts (v ∷ value) before behind next stops fit is gives =
       let it = called_by name (record { time = time; name = Some name; value = Some (v ∷ value) }) parts (is_name name) refl gives in
       HasForm.valued a time b c name d e (v ∷ value) z blanks digits between before it.spelled behind next (whole_by v value stops fit) end is it.is
 
-  named_form : (c rest : List ℕ) (parts : Parts) (o : Option (List ℕ × List ℕ)) → split_once 61 rest ≡ o → AreBlanks c → AtRest c rest → EndsFit rest → named_by time rest o ≡ Some parts → HasForm line parts
+  named_form : (c rest : List ℕ) (parts : LineParts) (o : Option (List ℕ × List ℕ)) → split_once 61 rest ≡ o → AreBlanks c → AtRest c rest → EndsFit rest → named_by time rest o ≡ Some parts → HasForm line parts
   named_form c rest parts None split before is fit gives =
       let it = called_by rest (record { time = time; name = Some rest; value = None }) parts (is_name rest) refl gives in
       HasForm.named a time b c rest z blanks digits between before it.spelled end is it.is
@@ -319,13 +320,13 @@ module _ (line a time b z : List ℕ) (blanks : AreBlanks a) (digits : AreDigits
       (is ∙ ap (λ bs. a ++ (time ++ (b ++ (58 ∷ (c ++ bs))))) (parted 61 rest p.0 p.1 (without_end is_blank p.0) u.dropped w.dropped (without_front is_blank p.1) whole u.is w.is z))
       gives
 
-  rest_form : (c rest : List ℕ) (parts : Parts) → AreBlanks c → AtRest c rest → EndsFit rest → after_time time rest ≡ Some parts → HasForm line parts
+  rest_form : (c rest : List ℕ) (parts : LineParts) → AreBlanks c → AtRest c rest → EndsFit rest → after_time time rest ≡ Some parts → HasForm line parts
   rest_form c [] parts before is fit gives =
       HasForm.time_alone a time b (c ++ z) blanks digits between (all_joined is_end_blank c z (all_weaker is_blank is_end_blank c blank_end before) end) is
-      (sym (some_same (record { time = time; name = None; value = None }) parts gives))
+      (sym (same_Some (record { time = time; name = None; value = None }) parts gives))
   rest_form c (r ∷ rest) parts before is fit gives = named_form c (r ∷ rest) parts (split_once 61 (r ∷ rest)) refl before is fit gives
 
-timed_by : (ok : Bool) (o : Option Parts) (parts : Parts) → (if ok then o else None) ≡ Some parts → (ok ≡ true) × (o ≡ Some parts)
+timed_by : (ok : Bool) (o : Option LineParts) (parts : LineParts) → (if ok then o else None) ≡ Some parts → (ok ≡ true) × (o ≡ Some parts)
 timed_by true o parts is = (refl, is)
 timed_by false o parts is = absurd (cc)
 
@@ -340,7 +341,7 @@ module _ (line : List ℕ) where
   around : line ≡ at_front.dropped ++ (content line ++ at_end.dropped)
   around = at_end.is ∙ ap (λ bs. bs ++ at_end.dropped) at_front.is ∙ append_assoc at_front.dropped (content line) at_end.dropped
 
-  pub parts_form : (parts : Parts) → parts_of (content line) ≡ Some parts → HasForm line parts
+  pub parts_form : (parts : LineParts) → parts_of (content line) ≡ Some parts → HasForm line parts
   parts_form parts is =
       let split = came (λ (p : List ℕ × List ℕ). timed (without_end is_blank p.0) (without_front is_blank p.1)) (split_once 58 (content line)) parts is in
       let x = split.at.0 in

@@ -1,7 +1,7 @@
 -- What holds of a line that is judged to stand.
 use Rattle.std.proofs.Common.{◌≡◌, ◌≤◌, ◌<◌, ◌^◌, ℕ, suc, ◌+◌, Bool, true, false, ◌&&◌, List, [], ◌∷◌, length, nat_lt, Option, Some, None, Result, Ok, Err, refl, sym, ap, subst, ◌∙◌, arith}
 use Rattle.std.proofs.lemmas.Bool.{ltb-true, ltb-false}
-use Rattle.std.proofs.lemmas.Option.{slice_get_within}
+use Rattle.std.proofs.lemmas.Option.{slice_get_within, same_Some}
 use Rattle.std.specs.Prelude.{ℤ, if◌then◌else◌, slice_get}
 use Rattle.std.specs.List.{position_from}
 use Rattle.std.specs.Option.{option_and_then}
@@ -24,12 +24,9 @@ use Rattle.flat_core.specs.System.{System, equation}
 use Rattle.flat_core.specs.Line.{Line}
 use Rattle.trace_reader.specs.declared.fault.TraceFault.{TraceFault}
 use Rattle.trace_reader.specs.declared.fault.TraceFault.TheVariants as fault
-use Rattle.trace_reader.specs.Form.{Parts, content, is_long, parts_of, says_nothing, time_of}
+use Rattle.trace_reader.specs.Form.{LineParts, content, is_long, parts_of, says_nothing, time_of}
 use Rattle.trace_reader.specs.Reading.{is_input, is_input_called, input_called, value_of, value_at, as_read, placed, addressed, said, said_at, formed, judged_content, judged}
 use Rattle.trace_reader.specs.inner.Laws.{IsInputEvent, IsProperLine}
-
-pub some_same : {A : Type 0} (x y : A) → Some x ≡ Some y → x ≡ y
-some_same x y is = cc
 
 pub record Came {A B : Type 0} (f : A → Option B) (o : Option A) (y : B) : Type 0 where
   pub at : A
@@ -55,7 +52,7 @@ record IsFound (p : Equation → Bool) (es : List Equation) (from place : ℕ) :
 found_step : (p : Equation → Bool) (e : Equation) (es : List Equation) (from place : ℕ) (here : Bool) → p e ≡ here → (if here then Some from else position_from p (from + 1) es) ≡ Some place →
     (position_from p (from + 1) es ≡ Some place → IsFound p es (from + 1) place) → IsFound p (e ∷ es) from place
 found_step p e es from place true passes is later =
-    record { after = 0; place_is = let same = some_same from place is in omega arith; at = e; is = refl; passes = passes }
+    record { after = 0; place_is = let same = same_Some from place is in omega arith; at = e; is = refl; passes = passes }
 found_step p e es from place false passes is later =
     let it = later is in
     record { after = suc it.after; place_is = let at = it.place_is in omega arith; at = it.at; is = it.is; passes = it.passes }
@@ -80,7 +77,7 @@ record Fits (of : ScalarType) (v : Scalar) : Type 0 where
   short : (text : List ℕ) → v ≡ scalar.Text text → length text ≤ MOST_TEXT_BYTES
 
 fits_as : (of : ScalarType) (v w : Scalar) → Some v ≡ Some w → Fits of v → Fits of w
-fits_as of v w is fits = subst (Fits of) (some_same v w is) fits
+fits_as of v w is fits = subst (Fits of) (same_Some v w is) fits
 
 bool_fits : (a b : Bool) (f : LiteralFault) (v : Scalar) → result_ok (if a then Ok (scalar.Bool true) else (if b then Ok (scalar.Bool false) else Err f)) ≡ Some v → Fits scalar_type.Bool v
 bool_fits true b f v is = fits_as scalar_type.Bool (scalar.Bool true) v is (record { typed = refl; short = λ text same. absurd (cc) })
@@ -128,7 +125,7 @@ record FitsType (of : ValueType) (v : Scalar) : Type 0 where
 value_fits : (of : ValueType) (value : Option (List ℕ)) (v : Scalar) → value_of of value ≡ Some v → FitsType of v
 value_fits (value_type.Scalar of) (Some bytes) v is = let it = literal_fits of bytes v is in record { typed = it.typed; short = it.short }
 value_fits (value_type.Scalar scalar_type.Unit) None v is =
-    subst (FitsType (value_type.Scalar scalar_type.Unit)) (some_same scalar.Unit v is) (record { typed = refl; short = λ text same. absurd (cc) })
+    subst (FitsType (value_type.Scalar scalar_type.Unit)) (same_Some scalar.Unit v is) (record { typed = refl; short = λ text same. absurd (cc) })
 value_fits _ _ v is = absurd (cc)
 
 -- the event of an input
@@ -137,12 +134,12 @@ record IsEvent (s : System) (i : ℕ) (v : Scalar) : Type 0 where
   short : (text : List ℕ) → v ≡ scalar.Text text → length text ≤ MOST_TEXT_BYTES
 
 event_fits : (s : System) (name : List ℕ) (value : Option (List ℕ)) (i : ℕ) (v : Scalar) → input_called s name ≡ Some i → value_at s i value ≡ Some v → IsEvent s i v
-event_fits s name value i v called is =
-    let at = found (is_input_called name) s.equations 0 i called in
+event_fits s name value i v of_name is =
+    let at = found (is_input_called name) s.equations 0 i of_name in
     let place : at.after ≡ i = let it = at.place_is in omega arith in
     let here : equation s i ≡ Some at.at = ap (slice_get s.equations) (sym place) ∙ at.is in
     let one = came (λ (e : Equation). value_of e.of value) (equation s i) v is in
-    let same : at.at ≡ one.at = some_same at.at one.at (sym here ∙ one.is) in
+    let same : at.at ≡ one.at = same_Some at.at one.at (sym here ∙ one.is) in
     let fits = value_fits one.at.of value v one.gives in
     record {
       event = record {
@@ -179,7 +176,7 @@ module _ (s : System) (strict : Bool) (had : ℕ → ℕ → Bool) (last n : ℕ
 
   event_stands : (t i : ℕ) (v : Scalar) → t < 2 ^ 63 → last ≤ t → had t i ≡ false → IsEvent s i v → IfOne (Ok (record { time = t; event = Some (i, v) }))
   event_stands t i v small later new it =
-      let same : (j : ℕ) (w : Scalar) → Some (i, v) ≡ Some (j, w) → (i, v) ≡ (j, w) = λ j w is. some_same (i, v) (j, w) is in
+      let same : (j : ℕ) (w : Scalar) → Some (i, v) ≡ Some (j, w) → (i, v) ≡ (j, w) = λ j w is. same_Some (i, v) (j, w) is in
       record {
         later = later;
         new = λ j w is. ap (λ (e : ℕ × Scalar). had t e.0) (sym (same j w is)) ∙ new;
@@ -203,8 +200,8 @@ module _ (s : System) (strict : Bool) (had : ℕ → ℕ → Bool) (last n : ℕ
   unknown_stands false t small later = bare_stands t small later
 
   addressed_stands : (t : ℕ) (name : List ℕ) (value : Option (List ℕ)) (o : Option ℕ) → t < 2 ^ 63 → last ≤ t → input_called s name ≡ o → IfOne (addressed s strict had last n t name value o)
-  addressed_stands t name value None small later called = unknown_stands strict t small later
-  addressed_stands t name value (Some i) small later called = placed_stands t name i (value_at s i value) small later (λ v is. event_fits s name value i v called is)
+  addressed_stands t name value None small later of_name = unknown_stands strict t small later
+  addressed_stands t name value (Some i) small later of_name = placed_stands t name i (value_at s i value) small later (λ v is. event_fits s name value i v of_name is)
 
   said_stands : (t : ℕ) (name value : Option (List ℕ)) → t < 2 ^ 63 → last ≤ t → IfOne (said s strict had last n t name value)
   said_stands t None value small later = bare_stands t small later
@@ -214,11 +211,11 @@ module _ (s : System) (strict : Bool) (had : ℕ → ℕ → Bool) (last n : ℕ
   back_stands t name value true small is = tt
   back_stands t name value false small is = said_stands t name value small (ltb-false t last is)
 
-  said_at_stands : (parts : Parts) (t : ℕ) (low : Bool) → nat_lt t 0x8000_0000_0000_0000 ≡ low → IfOne (said_at s strict had last n parts (if low then Some t else None))
+  said_at_stands : (parts : LineParts) (t : ℕ) (low : Bool) → nat_lt t 0x8000_0000_0000_0000 ≡ low → IfOne (said_at s strict had last n parts (if low then Some t else None))
   said_at_stands parts t false is = tt
   said_at_stands parts t true is = back_stands t parts.name parts.value (nat_lt t last) (ltb-true t 0x8000_0000_0000_0000 is) refl
 
-  formed_stands : (o : Option Parts) → IfOne (formed s strict had last n o)
+  formed_stands : (o : Option LineParts) → IfOne (formed s strict had last n o)
   formed_stands None = tt
   formed_stands (Some parts) = said_at_stands parts (digits_value 10 parts.time) (nat_lt (digits_value 10 parts.time) 0x8000_0000_0000_0000) refl
 
@@ -269,11 +266,11 @@ module _ (s : System) (strict : Bool) (had : ℕ → ℕ → Bool) (last n : ℕ
   back_known true t name value = tt
   back_known false t name value = said_known t name value
 
-  said_at_known : (parts : Parts) (o : Option ℕ) → NotMemory (said_at s strict had last n parts o)
+  said_at_known : (parts : LineParts) (o : Option ℕ) → NotMemory (said_at s strict had last n parts o)
   said_at_known parts None = tt
   said_at_known parts (Some t) = back_known (nat_lt t last) t parts.name parts.value
 
-  formed_known : (o : Option Parts) → NotMemory (formed s strict had last n o)
+  formed_known : (o : Option LineParts) → NotMemory (formed s strict had last n o)
   formed_known None = tt
   formed_known (Some parts) = said_at_known parts (time_of parts.time)
 

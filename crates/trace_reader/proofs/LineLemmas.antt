@@ -4,6 +4,7 @@ use Rattle.std.proofs.lemmas.Bool.{true≢false, eq-eqb}
 use Rattle.std.proofs.lemmas.List.Folds.{list_any-append}
 use Rattle.std.specs.Prelude.{if◌then◌else◌, is_none, option_to_list, slice_get}
 use Rattle.std.specs.List.{AllByRecursion}
+use Rattle.std.proofs.Math.Bool.{or-true}
 use Rattle.tsl_value.specs.declared.scalar.Scalar.{Scalar}
 use Rattle.flat_core.specs.System.{System}
 use Rattle.flat_core.specs.Line.{Line, IsSorted, last_time}
@@ -91,10 +92,6 @@ had_still before later t i had =
     ap (λ is. is_among is i) (inputs_at-append t before later)
     ∙ list_any-append (λ j. j == i) (inputs_at t before) (inputs_at t later) ∙ ap (λ b. b || is_among (inputs_at t later) i) had
 
-or_true : (b : Bool) → (b || true) ≡ true
-or_true true = refl
-or_true false = refl
-
 had_here : (l : Line) (i : ℕ) (v : Scalar) → l.event ≡ Some (i, v) → had_event (l ∷ []) l.time i ≡ true
 had_here l i v is = (λ k. is_among ((if eq-eqb l.time l.time refl k then input_in (is k) else []) ++ []) i) ∙ ap (λ b. b || false) (eq-eqb i i refl)
 
@@ -103,7 +100,7 @@ had_now before l i v is =
     ap (λ js. is_among js i) (inputs_at-append l.time before (l ∷ []))
     ∙ list_any-append (λ j. j == i) (inputs_at l.time before) (inputs_at l.time (l ∷ []))
     ∙ ap (λ b. is_among (inputs_at l.time before) i || b) (had_here l i v is)
-    ∙ or_true (is_among (inputs_at l.time before) i)
+    ∙ or-true (is_among (inputs_at l.time before) i)
 
 none_at : {s : System} {before : List Line} (t i : ℕ) (ls : List Line) → had_event before t i ≡ true → StandAfter s before ls → NoneAt t i ls
 none_at t i [] had it = tt

@@ -7,6 +7,7 @@ use Rattle.std.specs.Str.{IsUtf8, is_utf8, encode_utf8_all}
 use Rattle.std.proofs.lemmas.Str.{IsUtf8-from_is_utf8, chars_from_encodes, encode_ascii, encodes-chars, is_utf8-from_IsUtf8, length-le-encodes, scalars-chars}
 use Rattle.std.specs.List.{list_all}
 use Rattle.std.proofs.lemmas.Str.{chars_past_char}
+use Rattle.std.proofs.Math.Bool.{and-false}
 use Rattle.unicode_ident.specs.Ident.{is_xid_continue, is_xid_start}
 use Rattle.unicode_ident.proofs.IdentLemmas.{is_xid_continue-ascii, is_xid_start-is_xid_continue}
 use Rattle.spec_lexer.specs.declared.token.Word.{Word}
@@ -46,13 +47,9 @@ not_named bytes is = ap (λ b. if b then Some bytes else None) (sym is)
 pub no_name : (bytes text : List ℕ) → text ≡ bytes → is_utf8 bytes ≡ true → false ≡ are_name_characters (chars text) → is_name bytes ≡ false
 no_name bytes text same utf8 are = name_is bytes false (is_some (word_of bytes)) utf8 (ap (λ bs. are_name_characters (chars bs)) (sym same) ∙ sym are) refl
 
-and_false : (b : Bool) → (b && false) ≡ false
-and_false true = refl
-and_false false = refl
-
 pub word_is_no_name : (bytes text : List ℕ) → text ≡ bytes → is_utf8 bytes ≡ true → true ≡ is_some (word_of text) → is_name bytes ≡ false
 word_is_no_name bytes text same utf8 word =
-    name_is bytes (are_name_characters (chars bytes)) true utf8 refl (ap (λ bs. is_some (word_of bs)) (sym same) ∙ sym word) ∙ and_false (are_name_characters (chars bytes))
+    name_is bytes (are_name_characters (chars bytes)) true utf8 refl (ap (λ bs. is_some (word_of bs)) (sym same) ∙ sym word) ∙ and-false (are_name_characters (chars bytes))
 
 -- a name's characters, as the relation has them
 record HasCharacters (cs : List ℕ) : Type 0 where

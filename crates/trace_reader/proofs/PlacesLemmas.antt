@@ -90,10 +90,10 @@ noted_place places name other i = by (is_none (place_in places other)) refl
     by true is = place_push places name other i
     by false is = or_self (place_in places name) (bytes_eq name other) i (λ same. ap (λ n. is_none (place_in places n)) ((bytes_eq-Decides name other).0 same) ∙ is)
 
-pub input_noted : (places new : Places) (called : List ℕ) (i : ℕ) (e : Equation) → e.op ≡ op.Input → e.name ≡ Some called → new ≡ noted places called i →
+pub input_noted : (places new : Places) (stream : List ℕ) (i : ℕ) (e : Equation) → e.op ≡ op.Input → e.name ≡ Some stream → new ≡ noted places stream i →
     (name : List ℕ) → place_in new name ≡ option_or (place_in places name) (if is_input_called name e then Some i else None)
-input_noted places new called i e input named is name =
-    ap (λ ps. place_in ps name) is ∙ noted_place places name called i
+input_noted places new stream i e input named is name =
+    ap (λ ps. place_in ps name) is ∙ noted_place places name stream i
     ∙ λ k. option_or (place_in places name) (if is_input (sym input k) && is_called name (sym named k) then Some i else None)
 
 pub on_ok : {A E : Type 0} {P Q : Type 0} (r : Result A E) → (P → Q) → OnOk r P → OnOk r Q

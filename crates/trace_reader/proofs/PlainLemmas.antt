@@ -11,6 +11,7 @@ use Rattle.std.specs.Str.Parse.{digits_value}
 use Rattle.std.proofs.lemmas.Int.Digits.{digits_value_push}
 use Rattle.std.proofs.lemmas.Slice.Eq.{bytes_eq-Decides}
 use Rattle.std.proofs.lemmas.Str.{digit_value_digit}
+use Rattle.std.proofs.lemmas.Option.{same_Some}
 use Rattle.tsl_value.specs.declared.scalar.Scalar.{Scalar}
 use Rattle.tsl_value.specs.declared.scalar.Scalar.TheVariants as scalar
 use Rattle.tsl_value.specs.declared.literal.LiteralFault.TheVariants.{BadLiteral, LiteralTooWide}
@@ -22,13 +23,12 @@ use Rattle.flat_core.specs.System.{System}
 use Rattle.flat_core.specs.Line.{Line}
 use Rattle.trace_reader.specs.declared.fault.TraceFault.TheVariants as fault
 use Rattle.trace_reader.specs.declared.plain.PlainLine.{PlainLine}
-use Rattle.trace_reader.specs.Form.{Parts, content, is_blank, is_end_blank, is_long, is_name, parts_of, put_first, says_nothing, split_once, time_of, without_end, without_front}
+use Rattle.trace_reader.specs.Form.{LineParts, content, is_blank, is_end_blank, is_long, is_name, parts_of, put_first, says_nothing, split_once, time_of, without_end, without_front}
 use Rattle.trace_reader.specs.inner.Plain.{BeginsWithInt, BeginsWithNumber, IsNumberInput, IsPlain, StandsPlain, begins_with_digit, is_of_int, plain}
 use Rattle.trace_reader.specs.inner.Reader.{IsFirstLine, Reader, StopsAtLine, had_now, is_skipped, last_counts}
 use Rattle.trace_reader.specs.Reading.{addressed, alone, as_read, formed, input_called, is_among, is_input, is_called, is_input_called, judged, judged_content, placed, said, said_at, value_at, value_of}
 use Rattle.trace_reader.specs.inner.Spelling.{HasForm, IsWhole}
 use Rattle.trace_reader.proofs.FormLemmas.{form_parts, form_says, says_digit, splits_off}
-use Rattle.trace_reader.proofs.JudgedLemmas.{some_same}
 use Rattle.trace_reader.proofs.NameLemmas.{is_inner, name_inner, name_spelled}
 use Rattle.trace_reader.proofs.TrimLemmas.{all_joined, all_weaker, end_following, front_kept, not_mark}
 use Rattle.trace_reader.proofs.UnreadLemmas.{is_split}
@@ -109,7 +109,7 @@ module _ (name bytes : List ℕ) (p : PlainLine) (it : IsPlain name bytes p) (sp
   pub plain_some : 0 < length bytes
   plain_some = let at = is_split 10 bytes (line, it.rest) splits in let lt = at.within in omega arith
 
-  abbrev parts : Parts
+  abbrev parts : LineParts
   parts = record { time = it.time; name = Some name; value = Some it.number }
 
   form : HasForm line parts
@@ -189,12 +189,12 @@ digit_stops (b ∷ bytes) ended is = λ front rest first. by (split_once 10 byte
     splits_later = ap (λ t. if t then Some ([], bytes) else option_map (put_first b) (split_once 10 bytes)) (not_mark is_ascii_digit b 10 is refl)
 
     alone_by : (counts : Bool) (front rest : List ℕ) → (if counts then alone (b ∷ bytes) else None) ≡ Some (front, rest) → b ∷ bytes ≡ front
-    alone_by true front rest same = ap (λ (q : List ℕ × List ℕ). q.0) (some_same (b ∷ bytes, []) (front, rest) same)
+    alone_by true front rest same = ap (λ (q : List ℕ × List ℕ). q.0) (same_Some (b ∷ bytes, []) (front, rest) same)
     alone_by false front rest same = absurd (cc)
 
     by : (o : Option (List ℕ × List ℕ)) (front rest : List ℕ) → option_or (option_map (put_first b) o) (if ended then alone (b ∷ bytes) else None) ≡ Some (front, rest) → is_skipped front ≡ false
     by None front rest same = digit_kept b bytes front is (alone_by ended front rest same)
-    by (Some q) front rest same = digit_kept b q.0 front is (ap (λ (p : List ℕ × List ℕ). p.0) (some_same (b ∷ q.0, q.1) (front, rest) same))
+    by (Some q) front rest same = digit_kept b q.0 front is (ap (λ (p : List ℕ × List ℕ). p.0) (same_Some (b ∷ q.0, q.1) (front, rest) same))
 
 -- Digits that are read one by one.
 pub record HasRead (bytes : List ℕ) (number : ℕ) (rest : List ℕ) : Type 0 where

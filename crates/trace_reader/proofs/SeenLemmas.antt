@@ -7,7 +7,7 @@ use Rattle.tsl_value.specs.declared.scalar.Scalar.{Scalar}
 use Rattle.flat_core.specs.System.{System}
 use Rattle.flat_core.specs.Line.{Line, IsSorted, last_time}
 use Rattle.trace_reader.specs.declared.fault.TraceFault.TheVariants as fault
-use Rattle.trace_reader.specs.Form.{Parts, content, is_long, parts_of, says_nothing, time_of}
+use Rattle.trace_reader.specs.Form.{LineParts, content, is_long, parts_of, says_nothing, time_of}
 use Rattle.trace_reader.specs.Reading.{input_in, inputs_at, is_among, had_event, input_called, value_at, as_read, placed, addressed, said, said_at, formed, judged}
 use Rattle.trace_reader.specs.inner.Reader.{had_now, seen_with}
 use Rattle.trace_reader.proofs.LineLemmas.{inputs_at-append}
@@ -78,11 +78,11 @@ module _ (s : System) (strict : Bool) (had other : ℕ → ℕ → Bool) (last n
   back_same true t name value is = refl
   back_same false t name value is = said_same t name value (ltb-false t last is)
 
-  said_at_same : (parts : Parts) (o : Option ℕ) → said_at s strict had last n parts o ≡ said_at s strict other last n parts o
+  said_at_same : (parts : LineParts) (o : Option ℕ) → said_at s strict had last n parts o ≡ said_at s strict other last n parts o
   said_at_same parts None = refl
   said_at_same parts (Some t) = back_same (nat_lt t last) t parts.name parts.value refl
 
-  formed_same : (o : Option Parts) → formed s strict had last n o ≡ formed s strict other last n o
+  formed_same : (o : Option LineParts) → formed s strict had last n o ≡ formed s strict other last n o
   formed_same None = refl
   formed_same (Some parts) = said_at_same parts (time_of parts.time)
 

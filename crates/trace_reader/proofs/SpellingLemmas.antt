@@ -8,6 +8,8 @@ use Rattle.std.specs.List.{position_from}
 use Rattle.std.specs.Option.{option_and_then}
 use Rattle.std.specs.Result.{result_ok}
 use Rattle.std.specs.Str.Parse.{digits_value}
+use Rattle.std.proofs.lemmas.Option.{same_Some}
+use Rattle.std.proofs.Math.Bool.{or-true}
 use Rattle.tsl_value.specs.declared.scalar.Scalar.{Scalar}
 use Rattle.tsl_value.specs.declared.scalar.Scalar.TheVariants as scalar
 use Rattle.tsl_value.specs.declared.scalar.ScalarType.TheVariants as scalar_type
@@ -20,12 +22,12 @@ use Rattle.flat_core.specs.System.{System}
 use Rattle.flat_core.specs.Line.{Line, last_time}
 use Rattle.trace_reader.specs.declared.fault.TraceFault.{TraceFault}
 use Rattle.trace_reader.specs.declared.fault.TraceFault.TheVariants as fault
-use Rattle.trace_reader.specs.Form.{Parts, content, is_long, parts_of, says_nothing, time_of}
+use Rattle.trace_reader.specs.Form.{LineParts, content, is_long, parts_of, says_nothing, time_of}
 use Rattle.trace_reader.specs.Reading.{is_input, is_called, is_input_called, input_called, value_of, value_at, input_in, inputs_at, is_among, had_event, as_read, placed, addressed, said, said_at, formed, judged_content, judged}
 use Rattle.trace_reader.specs.inner.Laws.{SpelledAgrees}
 use Rattle.trace_reader.specs.inner.Spelling.{HadEvent, HasForm, HasValue, IsInputNamed, IsSkippedLine, NamesInput, NamesNone, Says, SpellsForm, SpellsLine}
 use Rattle.trace_reader.proofs.FormLemmas.{form_parts, form_says, nothing_skipped, parts_form, skipped_nothing}
-use Rattle.trace_reader.proofs.JudgedLemmas.{only_input, some_same}
+use Rattle.trace_reader.proofs.JudgedLemmas.{only_input}
 use Rattle.trace_reader.specs.declared.limits.TheConstants.{MOST_LINE_BYTES}
 
 -- The first of a list that passes a test, and that none does.
@@ -42,14 +44,14 @@ record IsPlace (p : Equation → Bool) (es : List Equation) (from place : ℕ) :
 
 none_before : (p : Equation → Bool) (e : Equation) (es : List Equation) (k : ℕ) → p e ≡ false → IsFirst p es k →
     (j : ℕ) (f : Equation) → j < suc k → slice_get (e ∷ es) j ≡ Some f → p f ≡ true → ⊥
-none_before p e es k fails it zero f below is passes = false≢true (sym fails ∙ ap p (some_same e f is) ∙ passes)
+none_before p e es k fails it zero f below is passes = false≢true (sym fails ∙ ap p (same_Some e f is) ∙ passes)
 none_before p e es k fails it (suc j) f below is passes = it.first j f (omega arith) is passes
 
 place_step : (p : Equation → Bool) (e : Equation) (es : List Equation) (from place : ℕ) (here : Bool) → p e ≡ here → (if here then Some from else position_from p (from + 1) es) ≡ Some place →
     (position_from p (from + 1) es ≡ Some place → IsPlace p es (from + 1) place) → IsPlace p (e ∷ es) from place
 place_step p e es from place true passes is later = record {
   after = 0;
-  place_is = let same = some_same from place is in omega arith;
+  place_is = let same = same_Some from place is in omega arith;
   it = record { at = e; is = refl; passes = passes; first = λ j f below at passes. absurd (omega arith) };
 }
 place_step p e es from place false fails is later =
@@ -74,7 +76,7 @@ fails p e never = elim (cases_Bool (p e)) [
 place_is : (p : Equation → Bool) (es : List Equation) (from k : ℕ) → IsFirst p es k → position_from p from es ≡ Some (from + k)
 place_is p [] from k it = let none = it.is in absurd (cc)
 place_is p (e ∷ es) from zero it =
-    let here : p e ≡ true = ap p (some_same e it.at it.is) ∙ it.passes in
+    let here : p e ≡ true = ap p (same_Some e it.at it.is) ∙ it.passes in
     let same : from ≡ from + 0 = omega arith in
     (λ k. if here k then Some from else position_from p (from + 1) es) ∙ ap (λ n. Some n) same
 place_is p (e ∷ es) from (suc k) it =
@@ -90,7 +92,7 @@ NonePasses p es = (j : ℕ) (e : Equation) → slice_get es j ≡ Some e → p e
 no_place_step : (p : Equation → Bool) (e : Equation) (es : List Equation) (from : ℕ) (here : Bool) → p e ≡ here → (if here then Some from else position_from p (from + 1) es) ≡ None →
     (position_from p (from + 1) es ≡ None → NonePasses p es) → NonePasses p (e ∷ es)
 no_place_step p e es from true passes is later j f at has = absurd (cc)
-no_place_step p e es from false failed is later zero f at has = false≢true (sym failed ∙ ap p (some_same e f at) ∙ has)
+no_place_step p e es from false failed is later zero f at has = false≢true (sym failed ∙ ap p (same_Some e f at) ∙ has)
 no_place_step p e es from false failed is later (suc j) f at has = later is j f at has
 
 no_place : (p : Equation → Bool) (es : List Equation) (from : ℕ) → position_from p from es ≡ None → NonePasses p es
@@ -161,12 +163,12 @@ value_is s name of i value it = ap (option_and_then (λ (e : Equation). value_of
 
 -- the value of a type
 ok_same : (r : Result Scalar LiteralFault) (v : Scalar) → result_ok r ≡ Some v → r ≡ Ok v
-ok_same (Ok w) v is = ap (λ x. Ok x) (some_same w v is)
+ok_same (Ok w) v is = ap (λ x. Ok x) (same_Some w v is)
 ok_same (Err f) v is = absurd (cc)
 
 has_value : (of : ValueType) (value : Option (List ℕ)) (v : Scalar) → value_of of value ≡ Some v → HasValue of value v
 has_value (value_type.Scalar t) (Some bytes) v is = HasValue.written t bytes refl refl (ok_same (literal t bytes) v is)
-has_value (value_type.Scalar scalar_type.Unit) None v is = HasValue.nothing refl refl (sym (some_same scalar.Unit v is))
+has_value (value_type.Scalar scalar_type.Unit) None v is = HasValue.nothing refl refl (sym (same_Some scalar.Unit v is))
 has_value _ _ v is = absurd (cc)
 
 value_has : (of : ValueType) (value : Option (List ℕ)) (v : Scalar) → HasValue of value v → value_of of value ≡ Some v
@@ -200,14 +202,10 @@ had_found (l ∷ ls) t i is =
     (λ here. had_here l ls t i (l.time == t) refl here)
     (λ later. let it = had_found ls t i later in record { place = suc it.place; value = it.value; is = it.is })
 
-or_true : (b : Bool) → (b || true) ≡ true
-or_true true = refl
-or_true false = refl
-
 had_at : (before : List Line) (t i : ℕ) (v : Scalar) (k : ℕ) → slice_get before k ≡ Some (record { time = t; event = Some (i, v) }) → had_event before t i ≡ true
 had_at [] t i v k is = absurd (cc)
 had_at (l ∷ ls) t i v zero is =
-    let same = some_same l (record { time = t; event = Some (i, v) }) is in
+    let same = same_Some l (record { time = t; event = Some (i, v) }) is in
     list_any-append (λ j. j == i) (if l.time == t then input_in l.event else []) (inputs_at t ls)
     ∙ (λ k. is_among (if (same k).time == t then input_in (same k).event else []) i || had_event ls t i)
     ∙ (λ k. is_among (if eq-eqb t t refl k then i ∷ [] else []) i || had_event ls t i)
@@ -215,7 +213,7 @@ had_at (l ∷ ls) t i v zero is =
 had_at (l ∷ ls) t i v (suc k) is =
     list_any-append (λ j. j == i) (if l.time == t then input_in l.event else []) (inputs_at t ls)
     ∙ ap (λ b. is_among (if l.time == t then input_in l.event else []) i || b) (had_at ls t i v k is)
-    ∙ or_true (is_among (if l.time == t then input_in l.event else []) i)
+    ∙ or-true (is_among (if l.time == t then input_in l.event else []) i)
 
 had_there : (before : List Line) (t i : ℕ) → HadEvent before t i → had_event before t i ≡ true
 had_there before t i it = had_at before t i it.value it.place it.is
@@ -228,47 +226,47 @@ module _ (s : System) (strict : Bool) (before : List Line) (n : ℕ) where
   last = last_time before
 
   -- from the cuts to the relation
-  placed_says : (t : ℕ) (called : List ℕ) (value : Option (List ℕ)) (of : ValueType) (i : ℕ) (o : Option Scalar) → NamesInput s called of i → value_of of value ≡ o →
-      Says s strict before n t (Some called) value (as_read (placed s strict had last n t called i o))
-  placed_says t called value of i None names is = Says.wrong called of i refl names (λ v has. none_not_some (sym is ∙ value_has of value v has)) refl
+  placed_says : (t : ℕ) (stream : List ℕ) (value : Option (List ℕ)) (of : ValueType) (i : ℕ) (o : Option Scalar) → NamesInput s stream of i → value_of of value ≡ o →
+      Says s strict before n t (Some stream) value (as_read (placed s strict had last n t stream i o))
+  placed_says t stream value of i None names is = Says.wrong stream of i refl names (λ v has. none_not_some (sym is ∙ value_has of value v has)) refl
     where
       none_not_some : {v : Scalar} → None ≡ Some v → ⊥
       none_not_some is = cc
-  placed_says t called value of i (Some v) names is = by_twice (had t i) refl
+  placed_says t stream value of i (Some v) names is = by_twice (had t i) refl
     where
-      by_twice : (again : Bool) → had t i ≡ again → Says s strict before n t (Some called) value (as_read (if again then Err (fault.Twice n called) else Ok (record { time = t; event = Some (i, v) })))
-      by_twice true it = Says.twice called of i v refl names (has_value of value v is) (had_found before t i it) refl
-      by_twice false it = Says.event called of i v refl names (has_value of value v is) (λ again. true≢false (sym (had_there before t i again) ∙ it)) refl
+      by_twice : (again : Bool) → had t i ≡ again → Says s strict before n t (Some stream) value (as_read (if again then Err (fault.Twice n stream) else Ok (record { time = t; event = Some (i, v) })))
+      by_twice true it = Says.twice stream of i v refl names (has_value of value v is) (had_found before t i it) refl
+      by_twice false it = Says.event stream of i v refl names (has_value of value v is) (λ again. true≢false (sym (had_there before t i again) ∙ it)) refl
 
-  unknown_says : (t : ℕ) (called : List ℕ) (value : Option (List ℕ)) (refuse : Bool) → strict ≡ refuse → NamesNone s called →
-      Says s strict before n t (Some called) value (as_read (if refuse then Err (fault.UnknownStream n) else Ok (record { time = t; event = None })))
-  unknown_says t called value true is none = Says.refused called refl none is refl
-  unknown_says t called value false is none = Says.unknown called refl none is refl
+  unknown_says : (t : ℕ) (stream : List ℕ) (value : Option (List ℕ)) (refuse : Bool) → strict ≡ refuse → NamesNone s stream →
+      Says s strict before n t (Some stream) value (as_read (if refuse then Err (fault.UnknownStream n) else Ok (record { time = t; event = None })))
+  unknown_says t stream value true is none = Says.refused stream refl none is refl
+  unknown_says t stream value false is none = Says.unknown stream refl none is refl
 
-  addressed_says : (t : ℕ) (called : List ℕ) (value : Option (List ℕ)) (o : Option ℕ) → input_called s called ≡ o → Says s strict before n t (Some called) value (as_read (addressed s strict had last n t called value o))
-  addressed_says t called value None is = unknown_says t called value strict refl (no_input s called is)
-  addressed_says t called value (Some i) is =
-      let it = named_input s called i is in
-      placed_says t called value it.of i (value_at s i value) it.names (sym (value_is s called it.of i value it.names))
+  addressed_says : (t : ℕ) (stream : List ℕ) (value : Option (List ℕ)) (o : Option ℕ) → input_called s stream ≡ o → Says s strict before n t (Some stream) value (as_read (addressed s strict had last n t stream value o))
+  addressed_says t stream value None is = unknown_says t stream value strict refl (no_input s stream is)
+  addressed_says t stream value (Some i) is =
+      let it = named_input s stream i is in
+      placed_says t stream value it.of i (value_at s i value) it.names (sym (value_is s stream it.of i value it.names))
 
   said_says : (t : ℕ) (name value : Option (List ℕ)) → Says s strict before n t name value (as_read (said s strict had last n t name value))
   said_says t None value = Says.time_alone refl refl
-  said_says t (Some called) value = addressed_says t called value (input_called s called) refl
+  said_says t (Some stream) value = addressed_says t stream value (input_called s stream) refl
 
-  back_spells : (parts : Parts) (back : Bool) → nat_lt (digits_value 10 parts.time) last ≡ back → digits_value 10 parts.time < 2 ^ 63 →
+  back_spells : (parts : LineParts) (back : Bool) → nat_lt (digits_value 10 parts.time) last ≡ back → digits_value 10 parts.time < 2 ^ 63 →
       SpellsForm s strict before n parts (as_read (if back then Err (fault.TimeBack n last (digits_value 10 parts.time)) else said s strict had last n (digits_value 10 parts.time) parts.name parts.value))
   back_spells parts true is small = SpellsForm.back (digits_value 10 parts.time) refl small (ltb-true (digits_value 10 parts.time) last is) refl
   back_spells parts false is small = SpellsForm.says (digits_value 10 parts.time) refl small (ltb-false (digits_value 10 parts.time) last is) (said_says (digits_value 10 parts.time) parts.name parts.value)
 
-  time_spells : (parts : Parts) (small : Bool) → nat_lt (digits_value 10 parts.time) 0x8000_0000_0000_0000 ≡ small →
+  time_spells : (parts : LineParts) (small : Bool) → nat_lt (digits_value 10 parts.time) 0x8000_0000_0000_0000 ≡ small →
       SpellsForm s strict before n parts (as_read (said_at s strict had last n parts (if small then Some (digits_value 10 parts.time) else None)))
   time_spells parts true is = back_spells parts (nat_lt (digits_value 10 parts.time) last) refl (ltb-true (digits_value 10 parts.time) 0x8000_0000_0000_0000 is)
   time_spells parts false is = SpellsForm.too_large (ltb-false (digits_value 10 parts.time) 0x8000_0000_0000_0000 is) refl
 
-  formed_spells : (line : List ℕ) (o : Option Parts) → length line ≤ MOST_LINE_BYTES → (IsSkippedLine line → ⊥) → parts_of (content line) ≡ o → SpellsLine s strict before n line (as_read (formed s strict had last n o))
+  formed_spells : (line : List ℕ) (o : Option LineParts) → length line ≤ MOST_LINE_BYTES → (IsSkippedLine line → ⊥) → parts_of (content line) ≡ o → SpellsLine s strict before n line (as_read (formed s strict had last n o))
   formed_spells line None short says is = SpellsLine.no_form short says (λ parts form. none_not_some (sym is ∙ form_parts line parts form)) refl
     where
-      none_not_some : {parts : Parts} → None ≡ Some parts → ⊥
+      none_not_some : {parts : LineParts} → None ≡ Some parts → ⊥
       none_not_some is = cc
   formed_spells line (Some parts) short says is =
       SpellsLine.formed parts short (parts_form line parts is) (time_spells parts (nat_lt (digits_value 10 parts.time) 0x8000_0000_0000_0000) refl)
@@ -287,11 +285,11 @@ module _ (s : System) (strict : Bool) (before : List Line) (n : ℕ) where
   judged_spells line = long_spells line (is_long (length line)) refl
 
   -- from the relation to the cuts
-  input_says : (t i : ℕ) (called : List ℕ) (of : ValueType) (value : Option (List ℕ)) (o : Option Scalar) → NamesInput s called of i → value_of of value ≡ o →
-      said s strict had last n t (Some called) value ≡ placed s strict had last n t called i o
-  input_says t i called of value o names is =
-      ap (addressed s strict had last n t called value) (input_found s called of i names)
-      ∙ ap (placed s strict had last n t called i) (value_is s called of i value names ∙ is)
+  input_says : (t i : ℕ) (stream : List ℕ) (of : ValueType) (value : Option (List ℕ)) (o : Option Scalar) → NamesInput s stream of i → value_of of value ≡ o →
+      said s strict had last n t (Some stream) value ≡ placed s strict had last n t stream i o
+  input_says t i stream of value o names is =
+      ap (addressed s strict had last n t stream value) (input_found s stream of i names)
+      ∙ ap (placed s strict had last n t stream i) (value_is s stream of i value names ∙ is)
 
   no_value : (of : ValueType) (value : Option (List ℕ)) (o : Option Scalar) → value_of of value ≡ o → ((v : Scalar) → HasValue of value v → ⊥) → o ≡ None
   no_value of value None is never = refl
@@ -299,30 +297,30 @@ module _ (s : System) (strict : Bool) (before : List Line) (n : ℕ) where
 
   says_said : (t : ℕ) (name value : Option (List ℕ)) (answer : Result (Option Line) TraceFault) → Says s strict before n t name value answer → as_read (said s strict had last n t name value) ≡ answer
   says_said t name value answer (Says.time_alone none is) = ap (λ o. as_read (said s strict had last n t o value)) none ∙ sym is
-  says_said t name value answer (Says.unknown called has none loose is) =
-      ap (λ o. as_read (said s strict had last n t o value)) has ∙ ap (λ o. as_read (addressed s strict had last n t called value o)) (none_found s called none)
+  says_said t name value answer (Says.unknown stream has none loose is) =
+      ap (λ o. as_read (said s strict had last n t o value)) has ∙ ap (λ o. as_read (addressed s strict had last n t stream value o)) (none_found s stream none)
       ∙ ap (λ b. as_read (if b then Err (fault.UnknownStream n) else Ok (record { time = t; event = None }))) loose ∙ sym is
-  says_said t name value answer (Says.refused called has none tight is) =
-      ap (λ o. as_read (said s strict had last n t o value)) has ∙ ap (λ o. as_read (addressed s strict had last n t called value o)) (none_found s called none)
+  says_said t name value answer (Says.refused stream has none tight is) =
+      ap (λ o. as_read (said s strict had last n t o value)) has ∙ ap (λ o. as_read (addressed s strict had last n t stream value o)) (none_found s stream none)
       ∙ ap (λ b. as_read (if b then Err (fault.UnknownStream n) else Ok (record { time = t; event = None }))) tight ∙ sym is
-  says_said t name value answer (Says.wrong called of i has names never is) =
-      ap (λ o. as_read (said s strict had last n t o value)) has ∙ ap as_read (input_says t i called of value None names (no_value of value (value_of of value) refl never)) ∙ sym is
-  says_said t name value answer (Says.twice called of i v has names valued again is) =
-      ap (λ o. as_read (said s strict had last n t o value)) has ∙ ap as_read (input_says t i called of value (Some v) names (value_has of value v valued))
-      ∙ ap (λ b. as_read (if b then Err (fault.Twice n called) else Ok (record { time = t; event = Some (i, v) }))) (had_there before t i again) ∙ sym is
-  says_said t name value answer (Says.event called of i v has names valued once is) =
-      ap (λ o. as_read (said s strict had last n t o value)) has ∙ ap as_read (input_says t i called of value (Some v) names (value_has of value v valued))
-      ∙ ap (λ b. as_read (if b then Err (fault.Twice n called) else Ok (record { time = t; event = Some (i, v) }))) (not_had (had t i) refl) ∙ sym is
+  says_said t name value answer (Says.wrong stream of i has names never is) =
+      ap (λ o. as_read (said s strict had last n t o value)) has ∙ ap as_read (input_says t i stream of value None names (no_value of value (value_of of value) refl never)) ∙ sym is
+  says_said t name value answer (Says.twice stream of i v has names valued again is) =
+      ap (λ o. as_read (said s strict had last n t o value)) has ∙ ap as_read (input_says t i stream of value (Some v) names (value_has of value v valued))
+      ∙ ap (λ b. as_read (if b then Err (fault.Twice n stream) else Ok (record { time = t; event = Some (i, v) }))) (had_there before t i again) ∙ sym is
+  says_said t name value answer (Says.event stream of i v has names valued once is) =
+      ap (λ o. as_read (said s strict had last n t o value)) has ∙ ap as_read (input_says t i stream of value (Some v) names (value_has of value v valued))
+      ∙ ap (λ b. as_read (if b then Err (fault.Twice n stream) else Ok (record { time = t; event = Some (i, v) }))) (not_had (had t i) refl) ∙ sym is
     where
       not_had : (again : Bool) → had t i ≡ again → again ≡ false
       not_had true it = absurd (once (had_found before t i it))
       not_had false it = refl
 
   -- a time below 2^63
-  time_is : (parts : Parts) (t : ℕ) → digits_value 10 parts.time ≡ t → t < 2 ^ 63 → time_of parts.time ≡ Some t
+  time_is : (parts : LineParts) (t : ℕ) → digits_value 10 parts.time ≡ t → t < 2 ^ 63 → time_of parts.time ≡ Some t
   time_is parts t is small = let lower = lt-ltb t 0x8000_0000_0000_0000 small in (λ k. if nat_lt (is k) 0x8000_0000_0000_0000 then Some (is k) else None) ∙ ap (λ b. if b then Some t else None) lower
 
-  form_formed : (parts : Parts) (answer : Result (Option Line) TraceFault) → SpellsForm s strict before n parts answer → as_read (formed s strict had last n (Some parts)) ≡ answer
+  form_formed : (parts : LineParts) (answer : Result (Option Line) TraceFault) → SpellsForm s strict before n parts answer → as_read (formed s strict had last n (Some parts)) ≡ answer
   form_formed parts answer (SpellsForm.too_large large is) =
       ap (λ b. as_read (said_at s strict had last n parts (if b then Some (digits_value 10 parts.time) else None))) (le-ltb (digits_value 10 parts.time) 0x8000_0000_0000_0000 large) ∙ sym is
   form_formed parts answer (SpellsForm.back t value small low is) =
@@ -340,7 +338,7 @@ module _ (s : System) (strict : Bool) (before : List Line) (n : ℕ) where
       ap (λ b. if b then Err (fault.LineTooLong n) else judged_content s strict had last n (content line)) (le-ltb MOST_LINE_BYTES (length line) short)
       ∙ ap (λ b. if b then Ok None else as_read (formed s strict had last n (parts_of (content line)))) is
 
-  no_parts : (line : List ℕ) (o : Option Parts) → parts_of (content line) ≡ o → ((parts : Parts) → HasForm line parts → ⊥) → o ≡ None
+  no_parts : (line : List ℕ) (o : Option LineParts) → parts_of (content line) ≡ o → ((parts : LineParts) → HasForm line parts → ⊥) → o ≡ None
   no_parts line None is never = refl
   no_parts line (Some parts) is never = absurd (never parts (parts_form line parts is))
 

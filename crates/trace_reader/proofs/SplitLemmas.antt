@@ -5,6 +5,7 @@ use Rattle.std.proofs.lemmas.List.{take_all}
 use Rattle.std.specs.Prelude.{if◌then◌else◌, position}
 use Rattle.std.specs.List.{prefix_len}
 use Rattle.std.specs.Option.{option_map}
+use Rattle.std.proofs.lemmas.Option.{same_Some}
 use Rattle.trace_reader.specs.Form.{put_first, split_once}
 
 -- the bytes before a place and those after it, where it is within them
@@ -32,11 +33,8 @@ split_place : (mark : ℕ) (bytes : List ℕ) → split_once mark bytes ≡ at_p
 split_place mark [] = refl
 split_place mark (b ∷ bytes) = split_step mark b bytes (b == mark) (split_place mark bytes)
 
-some_same : {A : Type 0} (x y : A) → Some x ≡ Some y → x ≡ y
-some_same x y is = cc
-
 at_some : (within : Bool) (n at : ℕ) (bytes : List ℕ) → Some at ≡ (if within then Some n else None) → at_place within n bytes ≡ Some (take at bytes, drop (at + 1) bytes)
-at_some true n at bytes is = let same = some_same at n is in ap (λ m. Some (take m bytes, drop (m + 1) bytes)) (sym same)
+at_some true n at bytes is = let same = same_Some at n is in ap (λ m. Some (take m bytes, drop (m + 1) bytes)) (sym same)
 at_some false n at bytes is = absurd (cc)
 
 at_none : (within : Bool) (n : ℕ) (bytes : List ℕ) → None ≡ (if within then Some n else None) → at_place within n bytes ≡ None

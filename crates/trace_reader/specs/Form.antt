@@ -13,7 +13,7 @@ use Rattle.spec_lexer.specs.Found.{word_of}
 use Rattle.trace_reader.specs.declared.limits.TheConstants.{MOST_LINE_BYTES}
 
 -- the bytes of a line's time, its name and its value, where it has them
-pub record Parts : Type 0 where
+pub record LineParts : Type 0 where
   pub time : List ℕ
   pub name : Option (List ℕ)
   pub value : Option (List ℕ)
@@ -69,29 +69,29 @@ unfoldable pub is_name : List ℕ → Bool
 is_name bytes = is_utf8 bytes && (are_name_characters (chars bytes) && is_none (word_of bytes))
 
 -- a name, and perhaps a value, after a time
-abbrev pub called : List ℕ → List ℕ → Option (List ℕ) → Option Parts
-called time name value = if is_name name then Some (record { time = time; name = Some name; value = value }) else None
+abbrev pub line_of_name : List ℕ → List ℕ → Option (List ℕ) → Option LineParts
+line_of_name time name value = if is_name name then Some (record { time = time; name = Some name; value = value }) else None
 
 -- what stands after `=` is not empty
-abbrev pub valued : List ℕ → List ℕ → List ℕ → Option Parts
+abbrev pub valued : List ℕ → List ℕ → List ℕ → Option LineParts
 valued time name [] = None
-valued time name (b ∷ value) = called time name (Some (b ∷ value))
+valued time name (b ∷ value) = line_of_name time name (Some (b ∷ value))
 
 -- `NAME` or `NAME = VALUE`, by the first `=`
-abbrev pub named_by : List ℕ → List ℕ → Option (List ℕ × List ℕ) → Option Parts
-named_by time bytes None = called time bytes None
+abbrev pub named_by : List ℕ → List ℕ → Option (List ℕ × List ℕ) → Option LineParts
+named_by time bytes None = line_of_name time bytes None
 named_by time bytes (Some p) = valued time (without_end is_blank p.0) (without_front is_blank p.1)
 
 -- what stands after the colon
-abbrev pub after_time : List ℕ → List ℕ → Option Parts
+abbrev pub after_time : List ℕ → List ℕ → Option LineParts
 after_time time [] = Some (record { time = time; name = None; value = None })
 after_time time (b ∷ rest) = named_by time (b ∷ rest) (split_once 61 (b ∷ rest))
 
-abbrev pub timed : List ℕ → List ℕ → Option Parts
+abbrev pub timed : List ℕ → List ℕ → Option LineParts
 timed time rest = if are_digits time then after_time time rest else None
 
 -- the parts of a line without the blanks around it, where it is of one of the forms
-abbrev pub parts_of : List ℕ → Option Parts
+abbrev pub parts_of : List ℕ → Option LineParts
 parts_of line = option_and_then (λ p. timed (without_end is_blank p.0) (without_front is_blank p.1)) (split_once 58 line)
 
 -- the time that digits spell, where it is below 2^63

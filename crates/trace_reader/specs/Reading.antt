@@ -18,7 +18,7 @@ use Rattle.flat_core.specs.System.{System, equation}
 use Rattle.flat_core.specs.Line.{Line, last_time}
 use Rattle.trace_reader.specs.declared.fault.TraceFault.{TraceFault}
 use Rattle.trace_reader.specs.declared.fault.TraceFault.TheVariants as fault
-use Rattle.trace_reader.specs.Form.{Parts, content, is_long, parts_of, says_nothing, split_once, time_of}
+use Rattle.trace_reader.specs.Form.{LineParts, content, is_long, parts_of, says_nothing, split_once, time_of}
 
 -- the lines that were read, and why the next one is refused, where it is
 pub record Reading : Type 0 where
@@ -109,11 +109,11 @@ module _ (s : System) (strict : Bool) (had : ℕ → ℕ → Bool) (last n : ℕ
   said t None value = Ok (record { time = t; event = None })
   said t (Some name) value = addressed t name value (input_called s name)
 
-  abbrev pub said_at : Parts → Option ℕ → Result Line TraceFault
+  abbrev pub said_at : LineParts → Option ℕ → Result Line TraceFault
   said_at parts None = Err (fault.TimeTooLarge n)
   said_at parts (Some t) = if nat_lt t last then Err (fault.TimeBack n last t) else said t parts.name parts.value
 
-  abbrev pub formed : Option Parts → Result Line TraceFault
+  abbrev pub formed : Option LineParts → Result Line TraceFault
   formed None = Err (fault.BadLine n)
   formed (Some parts) = said_at parts (time_of parts.time)
 

@@ -7,7 +7,7 @@ ghost use Rattle.std.specs.Option.{SomeIff};
 ghost use Rattle.std.specs.Str.Parse.{digits_value};
 ghost use Rattle.tsl_value.specs.Literal.{are_digits};
 ghost use Rattle.trace_reader.specs.inner.Borrowed.{bytes_of};
-ghost use Rattle.trace_reader.specs.Form.{after_time, called, content, is_blank, is_end_blank, parts_of, says_nothing, split_once};
+ghost use Rattle.trace_reader.specs.Form.{after_time, line_of_name, content, is_blank, is_end_blank, parts_of, says_nothing, split_once};
 ghost use Rattle.trace_reader.specs.Form.{time_of, timed, valued, without_end, without_front};
 
 use crate::name::name_of;
@@ -15,7 +15,7 @@ use tsl_value::time::Time;
 
 /// The bytes of a line's time, its name and its value, where it has them.
 #[derive(Clone, Copy, Drop)]
-pub(crate) struct Parts<'a> {
+pub(crate) struct LineParts<'a> {
     pub(crate) time: &'a [u8],
     pub(crate) name: Option<&'a str>,
     pub(crate) value: Option<&'a [u8]>,
@@ -119,7 +119,7 @@ fn all_are_digits(bytes: &[u8]) -> bool
 }
 
 /// The parts of a line's content, where it is `TIME :`, `TIME : NAME` or `TIME : NAME = VALUE`.
-pub(crate) fn parts_of(content: &[u8]) -> Option<Parts<'_>>
+pub(crate) fn parts_of(content: &[u8]) -> Option<LineParts<'_>>
     ensures parts { option_map bytes_of result ≡ parts_of content.now }
     ensures digits { IfSome result (λ p. IsTrue (are_digits p.time.now)) }
 {
@@ -128,7 +128,7 @@ pub(crate) fn parts_of(content: &[u8]) -> Option<Parts<'_>>
 }
 
 /// The parts, by what stands before the colon and after it.
-fn timed<'a>(time: &'a [u8], rest: &'a [u8]) -> Option<Parts<'a>>
+fn timed<'a>(time: &'a [u8], rest: &'a [u8]) -> Option<LineParts<'a>>
     ensures parts { option_map bytes_of result ≡ timed time.now rest.now }
     ensures digits { IfSome result (λ p. IsTrue (are_digits p.time.now)) }
 {
@@ -140,11 +140,11 @@ fn timed<'a>(time: &'a [u8], rest: &'a [u8]) -> Option<Parts<'a>>
 }
 
 /// The parts, by what stands after the colon.
-fn after_time<'a>(time: &'a [u8], rest: &'a [u8]) -> Option<Parts<'a>>
+fn after_time<'a>(time: &'a [u8], rest: &'a [u8]) -> Option<LineParts<'a>>
     ensures { option_map bytes_of result ≡ after_time time.now rest.now }
 {
     if rest.is_empty() {
-        return Some(Parts {
+        return Some(LineParts {
             time,
             name: None,
             value: None,
@@ -156,25 +156,29 @@ fn after_time<'a>(time: &'a [u8], rest: &'a [u8]) -> Option<Parts<'a>>
             without_blanks_after(name),
             without_blanks_before(value),
         ),
-        None => called(time, rest, None),
+        None => line_of_name(time, rest, None),
     }
 }
 
 /// A name and a value, which is not empty, after a time.
-fn valued<'a>(time: &'a [u8], name: &'a [u8], value: &'a [u8]) -> Option<Parts<'a>>
+fn valued<'a>(time: &'a [u8], name: &'a [u8], value: &'a [u8]) -> Option<LineParts<'a>>
     ensures { option_map bytes_of result ≡ valued time.now name.now value.now }
 {
     if value.is_empty() {
         return None;
     }
-    called(time, name, Some(value))
+    line_of_name(time, name, Some(value))
 }
 
 /// A name, and perhaps a value, after a time.
-fn called<'a>(time: &'a [u8], name: &'a [u8], value: Option<&'a [u8]>) -> Option<Parts<'a>>
-    ensures { option_map bytes_of result ≡ called time.now name.now (option_map (λ b. b.now) value.entry) }
+fn line_of_name<'a>(
+    time: &'a [u8],
+    name: &'a [u8],
+    value: Option<&'a [u8]>,
+) -> Option<LineParts<'a>>
+    ensures { option_map bytes_of result ≡ line_of_name time.now name.now (option_map (λ b. b.now) value.entry) }
 {
-    Some(Parts {
+    Some(LineParts {
         time,
         name: Some(name_of(name)?),
         value,

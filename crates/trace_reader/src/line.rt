@@ -9,7 +9,7 @@ ghost use Rattle.trace_reader.specs.inner.Reader.{had_now, is_skipped};
 ghost use Rattle.trace_reader.specs.Reading.{addressed, as_read, formed, input_called, judged, placed, said, value_at, value_of};
 
 use crate::fault::TraceFault;
-use crate::form::{Parts, content, parts_of, says_nothing, time_of};
+use crate::form::{LineParts, content, parts_of, says_nothing, time_of};
 use crate::inputs::Inputs;
 use crate::int::small_int;
 use crate::limits::MOST_LINE_BYTES;
@@ -103,7 +103,7 @@ impl<'a> Judge<'a> {
     }
 
     /// What a line of these parts says.
-    fn said_at(&self, parts: &Parts<'_>) -> Result<Verdict, NoMemory>
+    fn said_at(&self, parts: &LineParts<'_>) -> Result<Verdict, NoMemory>
         requires { IsTrue (are_digits parts.now.time.now) }
         ensures { IfOk result (λ v. v ≡ formed self.now.inputs.now self.now.strict (had_now self.now.last self.now.seen.now) self.now.last
             self.now.number (Some (bytes_of parts.now))) }
@@ -120,7 +120,7 @@ impl<'a> Judge<'a> {
     }
 
     /// The line of a time, and perhaps of an event.
-    fn said(&self, time: Time, parts: &Parts<'_>) -> Result<Verdict, NoMemory>
+    fn said(&self, time: Time, parts: &LineParts<'_>) -> Result<Verdict, NoMemory>
         ensures { IfOk result (λ v. v ≡ said self.now.inputs.now self.now.strict (had_now self.now.last self.now.seen.now) self.now.last
             self.now.number time (bytes_of parts.now).name (bytes_of parts.now).value) }
     {

@@ -1,7 +1,7 @@
 -- What an equation has by the registers of its arguments.
 use Rattle.std.specs.Prelude.{◌≡◌, ℕ, Bool, true, false, List, [], ◌∷◌, map, Option, Some, None, Result, Ok, Err, is_some, IsTrue}
 use Rattle.std.specs.Prelude.{slice_get, slice_index, slice_index_or, slice_set, if◌then◌else◌}
-use Rattle.std.specs.List.{All, list_all, list_any}
+use Rattle.std.specs.List.{All, list_any}
 use Rattle.std.specs.Option.{option_or}
 use Rattle.std.specs.FinMap as finite_map
 use Rattle.tsl_value.specs.declared.scalar.KeyType.{KeyType}
@@ -10,23 +10,21 @@ use Rattle.tsl_value.specs.declared.scalar.ScalarType.{ScalarType}
 use Rattle.tsl_value.specs.declared.scalar.ValueType.{ValueType}
 use Rattle.tsl_value.specs.declared.scalar.ValueType.TheVariants as value_type
 use Rattle.tsl_value.specs.View.{View, is_of}
-use Rattle.lift_func.specs.Apply.{Answer, apply}
-use Rattle.lift_func.specs.Tree.{Tree, Argument}
+use Rattle.lift_func.specs.BodyTree.{BodyTree, Argument}
 use Rattle.lift_func.specs.declared.eval.EvalFault.{EvalFault}
 use Rattle.lift_func.specs.declared.eval.EvalFault.TheVariants as eval_fault
 use Rattle.lift_func.specs.declared.register.Register.{Register}
 use Rattle.lift_func.specs.declared.register.Register.TheVariants as register
 use Rattle.lift_func.specs.inner.Cells.{Cells, IsLive, HoldsLive, held, view_at}
 use Rattle.lift_func.specs.Typing.{scalar_of}
-use Rattle.lift_func.specs.Update.{with_key, without_key, with_entry}
 use Rattle.aggregate_store.specs.inner.Stored.{Stored, counted}
 use Rattle.flat_core.specs.declared.equation.Equation.{Equation}
 use Rattle.flat_core.specs.declared.equation.Op.{Op}
 use Rattle.flat_core.specs.declared.equation.Op.TheVariants as op
-use Rattle.flat_core.specs.Case.{of_both, of_three, used_of}
+use Rattle.flat_core.specs.Case.{used_of}
 use Rattle.flat_core.specs.Typed.{IsTyped}
 use Rattle.flat_core.specs.inner.TypedEvents.{AreOf}
-use Rattle.alias_rules.specs.Uses.{is_update}
+use Rattle.flat_core.specs.Updates.{is_update}
 use Rattle.register_machine.specs.Copied.{size_at}
 use Rattle.register_machine.specs.Machine.{Held, Bare, Failed, slot_of, where_true, where_either, Effect, Fill, Make, effect_of}
 use Rattle.monitor_run.specs.inner.Registers.{IsHeldOf, register_at, value_at}
@@ -54,17 +52,9 @@ pub record StayTyped (types : ℕ → ValueType) (old new : Cells) : Type 0 wher
       → IsTrue (is_of (types handle) (view_at old handle))
       → IsTrue (is_of (types handle) (view_at new handle))
 
--- the values of a lift count: all of them are there, or one of them is
-abbrev pub counts : Bool → List (Option View) → Bool
-counts true values = list_all is_some values
-counts false values = list_any is_some values
-
 -- the tree is an argument, and this is the one
-abbrev pub IsNamed : Tree → List ℕ → ℕ → Type 0
+abbrev pub IsNamed : BodyTree → List ℕ → ℕ → Type 0
 IsNamed tree args a = (k : ℕ) × (tree ≡ Argument k) × (slice_get args k ≡ Some a)
-
-abbrev pub lifted : Tree → Bool → List (Option View) → Answer
-lifted body strict values = if counts strict values then apply body values else Ok None
 
 -- what a condition says, if it has an event
 abbrev pub truth_of : Option Held → Option Bool
@@ -95,14 +85,6 @@ handed_of registers last o args = chosen_of o (map (held_at registers) args)
 -- the register at a place has what is handed on, and the others stay
 abbrev pub HasHanded : ℕ → Option Held → List Register → List Register → Type 0
 HasHanded place h old new = (r : Register) × (new ≡ slice_set old place r) × (held_by r ≡ h)
-
--- what an update makes of what its arguments have, if they are all there
-abbrev pub updated_of : Op → List (Option View) → Option View
-updated_of op.SetAdd (s ∷ k ∷ []) = of_both with_key s k
-updated_of op.SetRemove (s ∷ k ∷ []) = of_both without_key s k
-updated_of op.MapAdd (m ∷ k ∷ x ∷ []) = of_three with_entry m k x
-updated_of op.MapRemove (m ∷ k ∷ []) = of_both without_key m k
-updated_of _ _ = None
 
 -- a type of sets or maps with keys of a type
 abbrev pub HasKeys : KeyType → ValueType → Type 0

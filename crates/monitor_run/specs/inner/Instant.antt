@@ -91,12 +91,12 @@ pub record SameBeside (old new : Machine) : Type 0 where
   pub texts_each : length new.texts.items ≡ length old.texts.items
 
 -- The ways in which an equation runs: an input or a delay has its event already; a fault of an argument is passed on; the register is
--- filled as the own case has it; or the own case faults, which is the root fault that is answered.
+-- filled as the own case has it; or the own case faults, which is the root fault that is answered. The register of a fault is emptied.
 pub data HasRunOne (in_place : Bool) (t i : ℕ) (e : Equation) (old new : Machine) : Option Root → Type 0 where
   was_given : IsTrue (is_given_op e.op) → new ≡ old → HasRunOne in_place t i e old new None
   was_barred : IsFalse (is_given_op e.op)
       → IsTrue (is_blocked_here old.faulted.items e.op e.args)
-      → new.registers ≡ old.registers
+      → new.registers.items ≡ slice_set old.registers.items i register.Empty
       → new.faulted.items ≡ slice_set old.faulted.items i true
       → new.store ≡ old.store
       → HasRunOne in_place t i e old new None
@@ -113,7 +113,7 @@ pub data HasRunOne (in_place : Bool) (t i : ℕ) (e : Equation) (old new : Machi
       → IsFalse (is_blocked_here old.faulted.items e.op e.args)
       → HasEffect in_place i e.op (source_of old.registers.items e.args) old.store new.store (Err (eval_fault.Fault kind))
       (effect_here old.registers.items old.last.items old.store i t e)
-      → new.registers ≡ old.registers
+      → new.registers.items ≡ slice_set old.registers.items i register.Empty
       → new.faulted.items ≡ slice_set old.faulted.items i true
       → HasRunOne in_place t i e old new (Some (record { equation = i; kind = kind }))
 

@@ -16,7 +16,7 @@ use Rattle.register_machine.specs.Copied.{copied}
 use Rattle.register_machine.specs.Laws.{Reaches}
 use Rattle.register_machine.specs.Machine.{Config}
 use Rattle.register_machine.specs.Run.{Instant}
-use Rattle.monitor_run.specs.Updates.{is_running_update}
+use Rattle.flat_core.specs.Updates.{is_running_update}
 use Rattle.monitor_run.specs.inner.Given.{AreAt, IsInputOf}
 use Rattle.monitor_run.specs.inner.Next.{IsFirstInstant, NoInstant}
 use Rattle.monitor_run.specs.inner.Stands.{Stands}

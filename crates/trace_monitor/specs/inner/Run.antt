@@ -12,7 +12,7 @@ use Rattle.flat_core.specs.Text.{due_text}
 use Rattle.monitor_run.specs.declared.monitor.Stop.{Stop}
 use Rattle.monitor_run.specs.declared.monitor.Stop.TheVariants as stop
 use Rattle.register_machine.specs.Copied.{copied}
-use Rattle.monitor_run.specs.Updates.{is_running_update}
+use Rattle.flat_core.specs.Updates.{is_running_update}
 use Rattle.monitor_run.specs.inner.Given.{IsInputOf}
 use Rattle.monitor_run.specs.inner.Next.{IsIdle}
 use Rattle.monitor_run.specs.inner.State as engine

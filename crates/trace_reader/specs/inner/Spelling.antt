@@ -21,7 +21,7 @@ use Rattle.flat_core.specs.System.{System, equation}
 use Rattle.flat_core.specs.Line.{Line, last_time}
 use Rattle.trace_reader.specs.declared.fault.TraceFault.{TraceFault}
 use Rattle.trace_reader.specs.declared.fault.TraceFault.TheVariants as fault
-use Rattle.trace_reader.specs.Form.{Parts, is_blank, is_end_blank}
+use Rattle.trace_reader.specs.Form.{LineParts, is_blank, is_end_blank}
 use Rattle.trace_reader.specs.declared.limits.TheConstants.{MOST_LINE_BYTES}
 
 -- spaces and tabs; and what is dropped at a line's end, which may be CR too
@@ -57,7 +57,7 @@ pub record IsWhole (bytes : List ℕ) : Type 0 where
   pub some : bytes ≢ []
 
 -- a line of one of the three forms, and its parts
-pub data HasForm (line : List ℕ) (parts : Parts) : Type 0 where
+pub data HasForm (line : List ℕ) (parts : LineParts) : Type 0 where
   -- TIME :
   time_alone :
       (a time b z : List ℕ) →
@@ -121,38 +121,38 @@ module _ (s : System) (strict : Bool) (before : List Line) (n : ℕ) where
     time_alone : name ≡ None → answer ≡ Ok (Some (record { time = t; event = None })) → Says t name value answer
     -- TIME : NAME .. , where no input is called so, says its time alone
     unknown :
-        (called : List ℕ) →
-        name ≡ Some called →
-        NamesNone s called →
+        (stream : List ℕ) →
+        name ≡ Some stream →
+        NamesNone s stream →
         strict ≡ false →
         answer ≡ Ok (Some (record { time = t; event = None })) →
         Says t name value answer
     -- TIME : NAME .. , where no input is called so, is refused by a strict reader
     refused :
-        (called : List ℕ) →
-        name ≡ Some called →
-        NamesNone s called →
+        (stream : List ℕ) →
+        name ≡ Some stream →
+        NamesNone s stream →
         strict ≡ true →
         answer ≡ Err (fault.UnknownStream n) →
         Says t name value answer
     wrong :
-        (called : List ℕ) (of : ValueType) (i : ℕ) →
-        name ≡ Some called → NamesInput s called of i → ((v : Scalar) → HasValue of value v → ⊥) →
-        answer ≡ Err (fault.WrongValue n called) →
+        (stream : List ℕ) (of : ValueType) (i : ℕ) →
+        name ≡ Some stream → NamesInput s stream of i → ((v : Scalar) → HasValue of value v → ⊥) →
+        answer ≡ Err (fault.WrongValue n stream) →
         Says t name value answer
     twice :
-        (called : List ℕ) (of : ValueType) (i : ℕ) (v : Scalar) →
-        name ≡ Some called → NamesInput s called of i → HasValue of value v → HadEvent before t i →
-        answer ≡ Err (fault.Twice n called) →
+        (stream : List ℕ) (of : ValueType) (i : ℕ) (v : Scalar) →
+        name ≡ Some stream → NamesInput s stream of i → HasValue of value v → HadEvent before t i →
+        answer ≡ Err (fault.Twice n stream) →
         Says t name value answer
     event :
-        (called : List ℕ) (of : ValueType) (i : ℕ) (v : Scalar) →
-        name ≡ Some called → NamesInput s called of i → HasValue of value v → (HadEvent before t i → ⊥) →
+        (stream : List ℕ) (of : ValueType) (i : ℕ) (v : Scalar) →
+        name ≡ Some stream → NamesInput s stream of i → HasValue of value v → (HadEvent before t i → ⊥) →
         answer ≡ Ok (Some (record { time = t; event = Some (i, v) })) →
         Says t name value answer
 
   -- what a line of a form says: its time is below 2^63, and no earlier line's is above it
-  pub data SpellsForm (parts : Parts) (answer : Result (Option Line) TraceFault) : Type 0 where
+  pub data SpellsForm (parts : LineParts) (answer : Result (Option Line) TraceFault) : Type 0 where
     too_large : 2 ^ 63 ≤ digits_value 10 parts.time → answer ≡ Err (fault.TimeTooLarge n) → SpellsForm parts answer
     back :
         (t : ℕ) → digits_value 10 parts.time ≡ t → t < 2 ^ 63 → t < last_time before →
@@ -168,7 +168,7 @@ module _ (s : System) (strict : Bool) (before : List Line) (n : ℕ) where
     too_long : MOST_LINE_BYTES < length line → answer ≡ Err (fault.LineTooLong n) → SpellsLine line answer
     skipped : length line ≤ MOST_LINE_BYTES → IsSkippedLine line → answer ≡ Ok None → SpellsLine line answer
     no_form :
-        length line ≤ MOST_LINE_BYTES → (IsSkippedLine line → ⊥) → ((parts : Parts) → HasForm line parts → ⊥) →
+        length line ≤ MOST_LINE_BYTES → (IsSkippedLine line → ⊥) → ((parts : LineParts) → HasForm line parts → ⊥) →
         answer ≡ Err (fault.BadLine n) →
         SpellsLine line answer
-    formed : (parts : Parts) → length line ≤ MOST_LINE_BYTES → HasForm line parts → SpellsForm parts answer → SpellsLine line answer
+    formed : (parts : LineParts) → length line ≤ MOST_LINE_BYTES → HasForm line parts → SpellsForm parts answer → SpellsLine line answer

@@ -9,4 +9,4 @@ use Rattle.aggregate_store.proofs.cell.add_entry.Goals as goal
 pub returns-clause-ok : goal.returns-clause-ok
 returns-clause-ok c =
     table-insert scalar_cmp_total scalar_cmp-IsAntisymmetric c.args.entries.now c.insert.new.self c.in_ok-copy.field-0 c.in_ok-copy-2.field-0 c.in_ok-insert.ensures.updates
-    ∙ (λ k. map.insert (table_of c.args.entries.now) (c.in_ok-copy.ensures k) (c.in_ok-copy-2.ensures k))
+    ∙ (λ k. map.insert (table_of c.args.entries.now) (c.in_ok-copy.ensures.equal k) (c.in_ok-copy-2.ensures.equal k))

@@ -1,4 +1,4 @@
-use Rattle.delay_timers.proofs.TreeLemmas.{leaf_changed, ends_changed}
+use Rattle.delay_timers.proofs.TournamentLemmas.{leaf_changed, ends_changed}
 use Rattle.delay_timers.proofs.tree.change_leaf.Goals as goal
 
 pub mend-requires-clause-tree : goal.mend-requires-clause-tree

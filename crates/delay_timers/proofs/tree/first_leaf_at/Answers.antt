@@ -1,6 +1,6 @@
 use Rattle.std.proofs.Common.{sym, ◌∙◌}
 use Rattle.std.proofs.lemmas.Bool.{eqb-true}
-use Rattle.delay_timers.proofs.TreeLemmas.{leaf_read, leaf_found}
+use Rattle.delay_timers.proofs.TournamentLemmas.{leaf_read, leaf_found}
 use Rattle.delay_timers.proofs.tree.first_leaf_at.Goals as goal
 
 pub returns-in-Some : goal.returns-in-Some

@@ -1,6 +1,6 @@
 use Rattle.std.proofs.Common.{ℕ, ◌<◌, Some}
 use Rattle.std.specs.Prelude.{◌≢◌}
-use Rattle.delay_timers.specs.inner.Tree.{time_at}
+use Rattle.delay_timers.specs.inner.Tournament.{time_at}
 use Rattle.delay_timers.proofs.tree.first_leaf_at.Given as goal
 
 abbrev pub invariant-loop-leaf : goal.invariant-loop-leaf

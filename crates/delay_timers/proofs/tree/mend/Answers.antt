@@ -1,5 +1,5 @@
 use Rattle.std.proofs.Common.{arith}
-use Rattle.delay_timers.proofs.TreeLemmas.{mend_step, leaves_stay}
+use Rattle.delay_timers.proofs.TournamentLemmas.{mend_step, leaves_stay}
 use Rattle.delay_timers.proofs.tree.mend.Goals as goal
 
 pub loop-node-preserved : goal.loop-node-preserved

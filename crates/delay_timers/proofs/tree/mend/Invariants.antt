@@ -1,5 +1,5 @@
 use Rattle.std.proofs.Common.{◌<◌}
-use Rattle.delay_timers.specs.inner.Tree.{IsTreeBut, SameFrom}
+use Rattle.delay_timers.specs.inner.Tournament.{IsTreeBut, SameFrom}
 use Rattle.delay_timers.proofs.tree.mend.Given as goal
 
 abbrev pub invariant-loop-node : goal.invariant-loop-node

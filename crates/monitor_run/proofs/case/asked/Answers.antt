@@ -1,5 +1,5 @@
 use Rattle.std.proofs.Common.{rules, ◌≡◌, sym, subst, ◌∙◌}
-use Rattle.lift_func.specs.Tree.{Two}
+use Rattle.lift_func.specs.BodyTree.{Two}
 use Rattle.lift_func.specs.declared.body.Binary.TheVariants as binary
 use Rattle.monitor_run.specs.inner.Here.{IsNamed}
 use Rattle.monitor_run.proofs.AskedLemmas.{asked_fits, asked_is}

@@ -6,8 +6,8 @@ use Rattle.monitor_run.specs.inner.Registers.{value_at}
 use Rattle.monitor_run.proofs.CaseLemmas.{liftable, takes_empty, unit_effect, any_effect, lift_effect}
 use Rattle.monitor_run.proofs.case.own_case.Goals as goal
 
-pub lifted-requires-clause-typed : goal.lifted-requires-clause-typed
-lifted-requires-clause-typed c = liftable c.args.store.now.cells c.args.registers.now c.args.e.now c.in-Lift.body c.in-Lift.strict c.requires.known c.requires.typed c.in-Lift.is
+pub lift_value-requires-clause-typed : goal.lift_value-requires-clause-typed
+lift_value-requires-clause-typed c = liftable c.args.store.now.cells c.args.registers.now c.args.e.now c.in-Lift.body c.in-Lift.strict c.requires.known c.requires.typed c.in-Lift.is
 
 pub empty_at-requires : goal.empty_at-requires
 empty_at-requires c = takes_empty c.args.store.now.cells c.args.registers.now c.args.e.now c.requires.typed c.in-Empty.is
@@ -19,8 +19,8 @@ returns-in-Unit-clause-effect c =
 
 pub returns-in-Lift-clause-effect : goal.returns-in-Lift-clause-effect
 returns-in-Lift-clause-effect c =
-    λ last. lift_effect (is_in c.args.in_place.now c.args.id) c.args.id c.args.time c.args.e.now c.args.registers.now last c.args.store.now c.requires.typed c.lifted.result c.in-Lift.body c.in-Lift.strict
-    c.in-Lift.is c.lifted.ensures.bare c.lifted.ensures.value
+    λ last. lift_effect (is_in c.args.in_place.now c.args.id) c.args.id c.args.time c.args.e.now c.args.registers.now last c.args.store.now c.requires.typed c.lift_value.result c.in-Lift.body c.in-Lift.strict
+    c.in-Lift.is c.lift_value.ensures.bare c.lift_value.ensures.value
 
 pub returns-in-Any-clause-effect : goal.returns-in-Any-clause-effect
 returns-in-Any-clause-effect c =

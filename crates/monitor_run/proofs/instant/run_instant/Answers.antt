@@ -1,11 +1,12 @@
-use Rattle.std.proofs.Common.{◌≡◌, ◌++◌, ap, subst, ◌∙◌, refl}
+use Rattle.std.proofs.Common.{◌≡◌, ◌++◌, None, ap, subst, ◌∙◌, refl}
 use Rattle.std.specs.Prelude.{not}
 use Rattle.std.specs.List.{flat_map}
 use Rattle.flat_core.specs.System.{System}
 use Rattle.register_machine.specs.Run.{Plan}
 use Rattle.monitor_run.specs.inner.Begun.{IsBegunOf}
 use Rattle.monitor_run.specs.inner.Instant.{HasEnded, HasRunRegisters}
-use Rattle.monitor_run.specs.inner.Machine.{HasRoom}
+use Rattle.monitor_run.specs.inner.Here.{is_marked}
+use Rattle.monitor_run.specs.inner.Machine.{AreUnmarked, HasRoom}
 use Rattle.monitor_run.proofs.EventLemmas.{on_err}
 use Rattle.monitor_run.proofs.WholeLemmas.{begun_part, begun_whole, faulted_instant, sound_instant}
 use Rattle.monitor_run.proofs.instant.run_instant.Goals as goal
@@ -57,4 +58,12 @@ returns-clause-ran c =
           (sound_instant s c.requires.whole plan t given old mid new root before w.append_texts.new.out (c.is_none.ensures ∙ ap not w.if-is_none.true) c.requires.sound ran room ended room_new.last
           (subst (λ ts. w.append_texts.new.out ≡ before ++ flat_map (λ x. x) ts) w.deref.ensures.value w.in_ok-append_texts.ensures.ok))
       | else-is_none w ↦ rw (w.machine-is, w.out-is) (faulted_instant s plan t given old mid root before before (c.is_none.ensures ∙ ap not w.if-is_none.false) refl ran)
+    ]
+
+pub returns-clause-unmarked : goal.returns-clause-unmarked
+returns-clause-unmarked c =
+    let unmarked = subst (λ (q : System). c.in_ok-root.root ≡ None → AreUnmarked q c.run_registers.new.machine) c.flat.ensures.flat c.in_ok-root.ensures.unmarked in
+    elim c.if-is_none.branch [
+      | then-is_none+in_ok-append_texts+in_ok-end w ↦ rw w.machine-is (λ none i run. ap (λ v. is_marked v.items i) w.end.ensures.faulted ∙ unmarked none i run)
+      | else-is_none w ↦ rw w.machine-is unmarked
     ]

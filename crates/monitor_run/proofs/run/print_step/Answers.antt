@@ -5,7 +5,7 @@ use Rattle.std.specs.Prelude.{slice_set}
 use Rattle.lift_func.specs.inner.Cells.{HoldsLive}
 use Rattle.flat_core.specs.Text.{event_line}
 use Rattle.monitor_run.specs.inner.Registers.{register_at, value_at}
-use Rattle.monitor_run.proofs.EventLemmas.{name_is, output_live, print_is}
+use Rattle.monitor_run.proofs.EventLemmas.{name_is, print_is}
 use Rattle.monitor_run.proofs.run.print_step.Goals as goal
 
 pub print_output-requires-clause-live : goal.print_output-requires-clause-live
@@ -15,7 +15,7 @@ print_output-requires-clause-live c =
     let o = c.index-outputs-place.result in
     let is : o ≡ get_or s.outputs c.args.place o = c.index-outputs-place.is ∙ ap (λ xs. get_or xs c.args.place o) c.outputs.ensures in
     subst (λ rs. HoldsLive m.store.cells (register_at rs o.equation)) (sym c.deref.ensures.value)
-    (output_live s c.args.place o c.requires.there is c.requires.whole c.requires.held.0 m.store.cells m.registers.items c.requires.held.1)
+    (subst (λ j. HoldsLive m.store.cells (register_at m.registers.items j)) (print_is s c.args.place o c.requires.there is) c.requires.live)
 
 pub returns-clause-printed : goal.returns-clause-printed
 returns-clause-printed c =

@@ -1,16 +1,24 @@
-use Rattle.std.proofs.Common.{◌<◌, ◌≤◌, ◌-◌, not, length, get_or, ◌∙◌, ap, subst, arith}
+use Rattle.std.proofs.Common.{◌<◌, ◌≤◌, ◌-◌, [], not, length, get_or, refl, sym, ◌∙◌, ap, subst, arith}
+use Rattle.lift_func.specs.inner.Cells.{HoldsLive}
 use Rattle.alias_rules.proofs.Ordered.{needed_order}
+use Rattle.register_machine.specs.Content.{print_of}
 use Rattle.monitor_run.specs.inner.Instant.{HasPrinted}
+use Rattle.monitor_run.specs.inner.Machine.{with_current}
+use Rattle.monitor_run.specs.inner.Registers.{register_at}
 use Rattle.monitor_run.specs.inner.Shown.{plan_in}
 use Rattle.monitor_run.proofs.DelayLemmas.{take_whole}
-use Rattle.monitor_run.proofs.LoopLemmas.{IsPartly, equation_sound, equation_typed, no_root, partly_equation, partly_none, partly_printed, print_there, run_all}
+use Rattle.monitor_run.proofs.LoopLemmas.{IsPartlyRun, no_root, partly_none, print_live_now, print_there_now, printed_now, run_all_now, run_now, sound_now, takes_now}
 use Rattle.flat_core.proofs.Shapes.{args_there, shape_of}
 use Rattle.monitor_run.proofs.PlanLemmas.{in_order, prints_in}
 use Rattle.monitor_run.proofs.run.run_steps.Goals as goal
 use Rattle.monitor_run.proofs.run.run_steps.Goals.{then-step-count+in_ok-found, else-step-count+in_ok-print_step}
 
 pub loop-step-init : goal.loop-step-init
-loop-step-init c = partly_none c.args.flat.now c.requires.whole (plan_in c.args.plan.now) c.args.time c.args.machine.now (record { types = c.requires.held.0; held = c.requires.held.1; last = c.requires.held.2 }) c.requires.fresh
+loop-step-init c = record {
+  same = record { timers = refl; last = refl; registers_each = refl; faulted_each = refl; ledger_each = refl; texts_each = refl };
+  partly =
+      partly_none c.args.flat.now c.requires.whole (plan_in c.args.plan.now) c.args.time (with_current c.args.flat.now [] c.args.machine.now) (record { types = c.requires.held.0; held = c.requires.held.1; last = c.requires.held.2 }) c.requires.fresh;
+}
 
 pub run_one-requires-clause-shape : goal.run_one-requires-clause-shape
 run_one-requires-clause-shape c = shape_of c.args.flat.now c.requires.whole c.new-id.result c.equation-e.result.now c.equation-e.ensures
@@ -23,12 +31,12 @@ run_one-requires-clause-faulted_known c = args_there c.args.flat.now c.new-id.re
 
 pub run_one-requires-clause-typed : goal.run_one-requires-clause-typed
 run_one-requires-clause-typed c =
-    equation_typed c.args.flat.now c.requires.whole (plan_in c.args.plan.now) c.requires.fine c.args.time c.loop-step.step-index (subst (λ xs. c.loop-step.step-index < length xs) c.as_slice-step-items.ensures c.loop-step-test.true) c.args.machine.now c.loop-step.machine c.loop-step.root c.loop-step.invariant c.requires.room
+    takes_now c.args.flat.now c.requires.whole (plan_in c.args.plan.now) c.requires.fine c.args.time c.loop-step.step-index (subst (λ xs. c.loop-step.step-index < length xs) c.as_slice-step-items.ensures c.loop-step-test.true) c.args.machine.now c.loop-step.machine c.loop-step.root c.loop-step.invariant c.requires.room
     c.new-id.result (c.new-id.ensures ∙ ap (λ xs. get_or xs c.loop-step.step-index 0) c.as_slice-step-items.ensures) (rw (c.new-id.ensures, ← c.count.ensures.count) c.if-step-count.true) c.equation-e.result.now c.equation-e.ensures
 
 pub run_one-requires-clause-sound : goal.run_one-requires-clause-sound
 run_one-requires-clause-sound c = λ so.
-    equation_sound c.args.flat.now c.requires.whole (plan_in c.args.plan.now) c.requires.fine c.args.time c.loop-step.step-index (subst (λ xs. c.loop-step.step-index < length xs) c.as_slice-step-items.ensures c.loop-step-test.true) c.args.machine.now c.loop-step.machine c.loop-step.root c.loop-step.invariant c.requires.room
+    sound_now c.args.flat.now c.requires.whole (plan_in c.args.plan.now) c.requires.fine c.args.time c.loop-step.step-index (subst (λ xs. c.loop-step.step-index < length xs) c.as_slice-step-items.ensures c.loop-step-test.true) c.args.machine.now c.loop-step.machine c.loop-step.root c.loop-step.invariant c.requires.room
     c.new-id.result (c.new-id.ensures ∙ ap (λ xs. get_or xs c.loop-step.step-index 0) c.as_slice-step-items.ensures) (rw (c.new-id.ensures, ← c.count.ensures.count) c.if-step-count.true) c.equation-e.result.now c.equation-e.ensures (no_root c.loop-step.root (c.is_none-is_sound.ensures ∙ ap not so))
 
 pub print_step-requires-clause-there : goal.print_step-requires-clause-there
@@ -39,13 +47,22 @@ print_step-requires-clause-there c =
     let same = ap (λ xs. get_or xs k 0) c.as_slice-step-items.ensures in
     let high : length s.equations ≤ get_or order k 0 = rw (← c.count.ensures.count, ← same) c.if-step-count.false in
     let there =
-    print_there s c.requires.whole (plan_in c.args.plan.now) c.requires.fine c.args.time k (subst (λ xs. k < length xs) c.as_slice-step-items.ensures c.loop-step-test.true) c.args.machine.now c.loop-step.machine c.loop-step.root
+    print_there_now s c.requires.whole (plan_in c.args.plan.now) c.requires.fine c.args.time k (subst (λ xs. k < length xs) c.as_slice-step-items.ensures c.loop-step-test.true) c.args.machine.now c.loop-step.machine c.loop-step.root
     c.loop-step.invariant c.requires.room high in
     let count = c.count-else-step-count.ensures.count in
     omega arith
 
-pub print_step-requires-clause-held : goal.print_step-requires-clause-held
-print_step-requires-clause-held c = (c.loop-step.invariant.all.types, c.loop-step.invariant.all.held)
+pub print_step-requires-clause-live : goal.print_step-requires-clause-live
+print_step-requires-clause-live c =
+    let s = c.args.flat.now in
+    let order = c.args.plan.now.order in
+    let k = c.loop-step.step-index in
+    let m = c.loop-step.machine in
+    let same = ap (λ xs. get_or xs k 0) c.as_slice-step-items.ensures in
+    let high : length s.equations ≤ get_or order k 0 = rw (← c.count.ensures.count, ← same) c.if-step-count.false in
+    subst (λ j. HoldsLive m.store.cells (register_at m.registers.items (print_of s j))) (λ j. sym same j - sym c.count-else-step-count.ensures.count j)
+    (print_live_now s c.requires.whole (plan_in c.args.plan.now) c.requires.fine c.args.time k (subst (λ xs. k < length xs) c.as_slice-step-items.ensures c.loop-step-test.true) c.args.machine.now m c.loop-step.root
+    c.loop-step.invariant c.requires.room high)
 
 pub loop-step-preserved : goal.loop-step-preserved
 loop-step-preserved c =
@@ -58,14 +75,14 @@ loop-step-preserved c =
     elim c.if-step-count.branch [
       | then-step-count+in_ok-found w ↦
           rw (w.machine-is, w.root-is)
-          (partly_equation s c.requires.whole plan c.requires.fine c.args.time k lt c.args.machine.now mid c.loop-step.root c.loop-step.invariant c.requires.room
+          (run_now s c.requires.whole plan c.requires.fine c.args.time k lt c.args.machine.now mid c.loop-step.root c.loop-step.invariant c.requires.room
           w.new-id.result (w.new-id.ensures ∙ same) (rw (w.new-id.ensures, ← c.count.ensures.count) w.if-step-count.true) w.equation-e.result.now w.equation-e.ensures
           w.run_one.new.machine w.in_ok-found.found w.least_root-root.result w.run_one.ensures.same w.run_one.ensures.texts
           w.in_ok-found.ensures.ran w.least_root-root.ensures.least (λ none. (w.least_root-root.ensures.first none, w.least_root-root.ensures.none none)))
       | else-step-count+in_ok-print_step w ↦
           let high : length s.equations ≤ get_or plan.order k 0 = rw (← c.count.ensures.count, ← same) w.if-step-count.false in
           rw (w.machine-is, w.root-is)
-          (partly_printed s c.requires.whole plan c.requires.fine c.args.time k lt c.args.machine.now mid c.loop-step.root c.loop-step.invariant c.requires.room high
+          (printed_now s c.requires.whole plan c.requires.fine c.args.time k lt c.args.machine.now mid c.loop-step.root c.loop-step.invariant c.requires.room high
           w.print_step.new.machine w.print_step.ensures.same
           (subst (λ j. HasPrinted s c.args.time j mid w.print_step.new.machine) (λ j. same j - w.count-else-step-count.ensures.count j)
           w.in_ok-print_step.ensures.printed))
@@ -76,6 +93,9 @@ returns-clause-ran c =
     let s = c.args.flat.now in
     let order = c.args.plan.now.order in
     let plan = needed_order s c.args.plan.now.in_place order c.requires.fine.ordered in
-    run_all s c.requires.whole (plan_in c.args.plan.now) c.args.time c.args.machine.now c.loop-step.machine c.loop-step.root
-    (subst (λ front. IsPartly s (plan_in c.args.plan.now) c.args.time front c.args.machine.now c.loop-step.machine c.loop-step.root) (take_whole order c.loop-step.step-index (subst (λ xs. length xs ≤ c.loop-step.step-index) c.as_slice-step-items.ensures c.loop-step-test.false)) c.loop-step.invariant)
+    run_all_now s c.requires.whole (plan_in c.args.plan.now) c.args.time c.args.machine.now c.loop-step.machine c.loop-step.root
+    (subst (λ front. IsPartlyRun s (plan_in c.args.plan.now) c.args.time front c.args.machine.now c.loop-step.machine c.loop-step.root) (take_whole order c.loop-step.step-index (subst (λ xs. length xs ≤ c.loop-step.step-index) c.as_slice-step-items.ensures c.loop-step-test.false)) c.loop-step.invariant)
     (in_order s order plan) (prints_in s order plan)
+
+pub returns-clause-unmarked : goal.returns-clause-unmarked
+returns-clause-unmarked c = c.loop-step.invariant.partly.sound

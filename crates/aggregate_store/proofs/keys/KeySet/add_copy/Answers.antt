@@ -9,6 +9,6 @@ invariant_of-self-2 c = keys_added c.self.inside.keys c.insert.new.self c.in_ok-
 pub returns : goal.returns
 returns c = record {
   ok = set_added c.self.inside.keys c.insert.new.self c.in_ok-copy.field-0 c.in_ok-insert.ensures.updates c.args.self.now c.self.view_is
-      ∙ ap (set.insert c.args.self.now) c.in_ok-copy.ensures;
+      ∙ ap (set.insert c.args.self.now) c.in_ok-copy.ensures.equal;
   err = tt;
 }

@@ -3,7 +3,7 @@ use Rattle.std.proofs.lemmas.List.{with_items_is}
 use Rattle.std.specs.FinMap as map
 use Rattle.delay_timers.specs.declared.tree.Due.{Due}
 use Rattle.delay_timers.specs.inner.Pending.{Pending}
-use Rattle.delay_timers.specs.inner.Tree.{ChangesLeaf, times_of}
+use Rattle.delay_timers.specs.inner.Tournament.{ChangesLeaf, times_of}
 use Rattle.delay_timers.proofs.TimesLemmas.{is_cancelled}
 use Rattle.delay_timers.proofs.timers.Timers.cancel.Goals as goal
 

@@ -3,7 +3,7 @@ use Rattle.std.proofs.lemmas.List.{get_or_read}
 use Rattle.std.specs.Prelude.{MatchOption}
 use Rattle.std.specs.FinMap as map
 use Rattle.delay_timers.specs.inner.Pending.{Pending, AreBelowCapacity}
-use Rattle.delay_timers.specs.inner.Tree.{times_of, IsFirstDue}
+use Rattle.delay_timers.specs.inner.Tournament.{times_of, IsFirstDue}
 use Rattle.delay_timers.proofs.TimesLemmas.{root_is_first, all_below}
 use Rattle.delay_timers.proofs.timers.Timers.first.Goals as goal
 

@@ -2,7 +2,7 @@ use Rattle.std.proofs.Common.{List, Option, sym, subst}
 use Rattle.std.specs.Prelude.{MatchOption}
 use Rattle.delay_timers.specs.declared.tree.Due.{Due}
 use Rattle.delay_timers.specs.inner.Pending.{Pending, NoneIsDueAt, IsLeastDueAt}
-use Rattle.delay_timers.specs.inner.Tree.{NoLeafAt, IsFirstLeafAt}
+use Rattle.delay_timers.specs.inner.Tournament.{NoLeafAt, IsFirstLeafAt}
 use Rattle.delay_timers.proofs.TimesLemmas.{none_due_of_none, leaf_is_due}
 use Rattle.delay_timers.proofs.timers.Timers.first_at.Goals as goal
 

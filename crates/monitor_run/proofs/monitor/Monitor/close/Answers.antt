@@ -12,6 +12,8 @@ invariant_of-self c = (
       let small = ready.in_time in
       let upto = c.closed_below.ensures.in_time in
       ready_closed _ c.max-self-inside.result ready (omega (arith, c.max-self-inside.ensures)) (omega (arith, c.max-self-inside.ensures)),
+  c.self.invariant.2,
+  c.self.invariant.3,
 )
 
 pub returns-clause-stands : goal.returns-clause-stands

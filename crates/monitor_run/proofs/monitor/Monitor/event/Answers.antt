@@ -12,6 +12,8 @@ invariant_of-self c = (
   λ going.
       let can = subst (λ (m : State). CanTake m c.args.time c.args.input c.args.value) (sym c.self.view_is) (c.requires (ap (λ (m : State). m.stop) (sym c.self.view_is) ∙ going)) in
       ready_pushed _ c.args.time c.args.input c.args.value c.push.new.self.items (c.self.invariant.1 going) can c.in-Ok.ensures.items,
+  c.self.invariant.2,
+  c.self.invariant.3,
 )
 
 pub returns-clause-stands : goal.returns-clause-stands

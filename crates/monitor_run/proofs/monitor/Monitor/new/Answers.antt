@@ -1,7 +1,9 @@
 use Rattle.std.proofs.Common.{refl, length, replicate, ap, ◌∙◌}
 use Rattle.lift_func.specs.declared.register.Register.TheVariants.{Empty}
 use Rattle.flat_core.specs.System.{System}
-use Rattle.monitor_run.proofs.MonitorLemmas.{ready_new, room_new, stands_new}
+use Rattle.monitor_run.specs.inner.Here.{is_marked}
+use Rattle.monitor_run.specs.inner.Machine.{givens_of}
+use Rattle.monitor_run.proofs.MonitorLemmas.{ready_new, room_new, stands_new, unmarked_new}
 use Rattle.monitor_run.proofs.monitor.Monitor.new.Goals as goal
 
 pub invariant_of-result : goal.invariant_of-result
@@ -11,6 +13,8 @@ invariant_of-result c =
     let outputs = ap length (c.outputs.ensures ∙ ap (λ (q : System). q.outputs) c.flat-2.ensures.flat) in (
       room_new c.args.code.now.system c.in_ok-new.field-0 c.count.result size made.registers made.faulted made.last made.store made.timers _ outputs made.texts,
       λ going. ready_new _ c.count.result size c.flat.ensures.is_code.is_flat c.flat.ensures.is_code.fine c.requires.limit refl refl refl c.new.ensures.items made.last (ap (λ ts. ts.times) made.timers) (ap (λ st. st.cells) made.store),
+      c.in_ok-givens.ensures ∙ ap givens_of c.flat-3.ensures.flat,
+      λ going i run. ap (λ ms. is_marked ms i) made.faulted ∙ unmarked_new c.count.result i,
     )
 
 pub returns-clause-stands : goal.returns-clause-stands

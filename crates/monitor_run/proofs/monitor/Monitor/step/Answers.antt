@@ -51,6 +51,8 @@ invariant_of-self-in-Ok-None c = (
       let ran = subst (λ r. IsInstant inside.code.now.system (record { in_place = inside.code.now.in_place; order = inside.code.now.order }) t inside.given.items old after c.args.out.now c.run_instant.new.out r) c.in-Ok-None.field-0-is c.in-Ok-None.ensures.ran in
       let new : State = record { system = inside.code.now.system; in_place = inside.code.now.in_place; order = inside.code.now.order; limit = inside.limit; ran = inside.ran + 1; next = c.get.result + 1; bound = inside.bound; given = c.run_instant.new.given.items; cells = after.store.cells; ledger = after.store.ledger; last = after.last.items; timers = after.timers.times; stop = inside.stop } in
       ready_on _ ready t found.1 found.2 found.0 new old after c.args.out.now c.run_instant.new.out (record { cells = refl; last = refl; timers = refl; ledger = refl }) (record { system = refl; in_place = refl; order = refl; limit = refl; bound = refl }) (omega (arith, c.get.ensures.value)) refl (below_limit inside.ran inside.limit ready.room c.if-self.false) (c.run_instant.ensures.given ready.time ready.given_at) ran,
+  c.self.invariant.2,
+  λ going. c.in-Ok-None.ensures.unmarked c.in-Ok-None.field-0-is,
 )
 
 pub returns-in-Ok-None-clause-steps : goal.returns-in-Ok-None-clause-steps

@@ -1,8 +1,8 @@
 use Rattle.std.proofs.Common.{ap, map, subst, sym, ◌∙◌}
 use Rattle.lift_func.specs.inner.Evaluable.{IsEvaluable}
-use Rattle.monitor_run.specs.inner.Here.{counts}
+use Rattle.flat_core.specs.inner.OpGroups.{counts}
 use Rattle.monitor_run.specs.inner.Registers.{value_at}
-use Rattle.monitor_run.proofs.case.lifted.Goals as goal
+use Rattle.monitor_run.proofs.case.lift_value.Goals as goal
 
 pub eval-requires : goal.eval-requires
 eval-requires c =

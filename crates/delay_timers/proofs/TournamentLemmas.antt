@@ -4,7 +4,7 @@ use Rattle.std.proofs.lemmas.Bool.{cases_lt, cases_order}
 use Rattle.std.proofs.lemmas.List.{get_or_read, get_or-take, get_or-drop, length-take, length-drop}
 use Rattle.std.specs.Option.{option_map}
 use Rattle.delay_timers.specs.declared.tree.Due.{Due}
-use Rattle.delay_timers.specs.inner.Tree.{slot, IsOf, IsUpTo, IsFirstOf, IsHead, IsTree, IsTreeBut, SameFrom, ChangesLeaf, time_at, IsFirstLeafAt}
+use Rattle.delay_timers.specs.inner.Tournament.{slot, IsOf, IsUpTo, IsFirstOf, IsHead, IsTree, IsTreeBut, SameFrom, ChangesLeaf, time_at, IsFirstLeafAt}
 
 pub up_to_itself : (a : Option Due) → IsUpTo a a
 up_to_itself None = tt
