@@ -11,7 +11,7 @@ use Rattle.clap.specs.Walk.{Text}
 use Rattle.clap.specs.declared.parser.matches.Found.{Found}
 use Rattle.command_words.specs.inner.Reader.{Holds, IsRefused, run_found}
 use Rattle.command_words.specs.declared.words.Command.{Command as CodeCommand}
-use Rattle.command_words.specs.declared.words.Kind.{Kind}
+use Rattle.command_words.specs.declared.words.Workload.{Workload}
 use Rattle.command_words.specs.declared.words.Verb.{Verb}
 use Rattle.command_words.specs.declared.words.Verb.TheVariants as verb
 use Rattle.command_words.specs.Words.{IsLimited, IsLimitedRun, IsLimitedCount, Command, until_name, instants_name, bytes_name, strict_flag, stats_flag, Piece, plains, values, uses, are_plain, fits, read, spec_form, run_form, count_form, number, number_or, Run, run_by, run_of, spec_of, kind_of as trace_kind, counted_by, counted_of, first_verb, asked_by, command_asked, command_of, is_empty, check as checks, flat as flattens, show as shows, code as codes_of, run as runs, generate, bench}
@@ -132,13 +132,13 @@ limited_by spec trace until instants bytes strict stats run e =
     let size = or_within MOST_TRACE_BYTES 1 MOST_TRACE_BYTES bytes measured.0 (omega arith) (omega arith) measured.1 in
     subst IsLimitedRun measured.2 (record { until = omega arith; some_instants = count.0; instants = count.1; some_bytes = size.0; bytes = size.1 })
 
-counted_limited : (name count : Option Text) (c : Kind × ℕ) → counted_by name count ≡ Some c → IsLimitedCount c.1
+counted_limited : (name count : Option Text) (c : Workload × ℕ) → counted_by name count ≡ Some c → IsLimitedCount c.1
 counted_limited name count c e =
     let kind = then_some _ (option_and_then trace_kind name) c e in
     let n = map_some _ (option_and_then (number 1 MOST_LINES) count) c kind.2 in
     let told = then_some (number 1 MOST_LINES) count n.0 n.1 in
     let within = number_within 1 MOST_LINES told.0 n.0 told.2 in
-    subst (λ (d : Kind × ℕ). IsLimitedCount d.1) n.2 (record { some = within.0; most = within.1 })
+    subst (λ (d : Workload × ℕ). IsLimitedCount d.1) n.2 (record { some = within.0; most = within.1 })
 
 run_limited : (ps : List Piece) (r : Run) → run_of ps ≡ Some r → IsLimitedRun r
 run_limited ps r e =
@@ -155,11 +155,11 @@ asked_limited verb.Flat words c e = let r = map_some flattens _ c e in subst IsL
 asked_limited verb.Show words c e = let r = map_some shows _ c e in subst IsLimited r.2 tt
 asked_limited verb.Code words c e = let r = map_some codes_of _ c e in subst IsLimited r.2 tt
 asked_limited verb.Generate words c e =
-    let r = map_some (λ (d : Kind × ℕ). generate d.0 d.1) _ c e in
+    let r = map_some (λ (d : Workload × ℕ). generate d.0 d.1) _ c e in
     let ps = then_some counted_of (read count_form words) r.0 r.1 in
     subst IsLimited r.2 (counted_limited (slice_get (plains ps.0) 0) (slice_get (plains ps.0) 1) r.0 ps.2)
 asked_limited verb.Bench words c e =
-    let r = map_some (λ (d : Kind × ℕ). bench d.0 d.1) _ c e in
+    let r = map_some (λ (d : Workload × ℕ). bench d.0 d.1) _ c e in
     let ps = then_some counted_of (read count_form words) r.0 r.1 in
     subst IsLimited r.2 (counted_limited (slice_get (plains ps.0) 0) (slice_get (plains ps.0) 1) r.0 ps.2)
 

@@ -6,6 +6,7 @@ use Rattle.std.specs.Prelude.{⊤}
 use Rattle.std.proofs.lemmas.Bool.{eqb-true}
 use Rattle.std.proofs.lemmas.Slice.Eq.{bytes_eq-Decides}
 use Rattle.std.proofs.lemmas.Str.{IsUtf8-drop, IsCharBoundary-after_ascii, encodes-chars}
+use Rattle.std.proofs.Math.Bool.{and-false}
 use Rattle.clap.proofs.OnLiterals.{clap_on_literals}
 use Rattle.clap.specs.Walk.{Held, Row, Rule, Text, Waiting, Walk, idle, positional, option as taking, pushed, settled, after_flag, after_step, long_met, walked, value, arg_by_long, arg_by_index, settled_rows, to_positional, has_row}
 use Rattle.clap.specs.Lexer.{long_of, long_of_rest, short_of, short_of_rest, strip_byte}
@@ -62,13 +63,9 @@ short_of_one : (b : ℕ) (q : Bool) → option_and_then short_of_rest (if q then
 short_of_one b true = refl
 short_of_one b false = refl
 
-never : (q : Bool) → (q && false) ≡ false
-never true = refl
-never false = refl
-
 pub look : (word : Text) → Look word
 look [] = undashed [] refl refl refl refl
-look (b ∷ []) = undashed (b ∷ []) refl (never (b == 45)) (long_of_one b (b == 45)) (short_of_one b (b == 45))
+look (b ∷ []) = undashed (b ∷ []) refl (and-false (b == 45)) (long_of_one b (b == 45)) (short_of_one b (b == 45))
 look (b ∷ c ∷ more) = first (b == 45) refl
   where
     third : (t : Text) → Look (45 ∷ 45 ∷ t)

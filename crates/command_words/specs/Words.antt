@@ -8,8 +8,8 @@ use Rattle.tsl_value.specs.Literal.{are_digits}
 use Rattle.tsl_value.specs.declared.limits.TheConstants.{MOST_TRACE_BYTES}
 use Rattle.command_words.specs.declared.words.Command.{Command as CodeCommand}
 use Rattle.command_words.specs.declared.words.Command.TheVariants as asked
-use Rattle.command_words.specs.declared.words.Kind.{Kind}
-use Rattle.command_words.specs.declared.words.Kind.TheVariants as kind
+use Rattle.command_words.specs.declared.words.Workload.{Workload}
+use Rattle.command_words.specs.declared.words.Workload.TheVariants as kind
 use Rattle.command_words.specs.declared.words.Run.{Run as CodeRun}
 use Rattle.command_words.specs.declared.words.Verb.{Verb}
 use Rattle.command_words.specs.declared.words.Verb.TheVariants as verb
@@ -34,8 +34,8 @@ pub data Command : Type 0 where
   show : List ℕ → Command
   code : List ℕ → Command
   run : Run → Command
-  generate : Kind → ℕ → Command
-  bench : Kind → ℕ → Command
+  generate : Workload → ℕ → Command
+  bench : Workload → ℕ → Command
 
 -- the options that have a value
 pub data Name : Type 0 where
@@ -240,16 +240,16 @@ abbrev pub spec_of : List Piece → Option (List ℕ)
 spec_of ps = slice_get (plains ps) 0
 
 -- the kinds of traces
-abbrev pub kind_of : List ℕ → Option Kind
+abbrev pub kind_of : List ℕ → Option Workload
 kind_of word =
     if bytes_eq word (codes "seen") then Some kind.Seen else (if bytes_eq word (codes "copy") then Some kind.Copy else None)
 
-abbrev pub counted_by : Option (List ℕ) → Option (List ℕ) → Option (Kind × ℕ)
+abbrev pub counted_by : Option (List ℕ) → Option (List ℕ) → Option (Workload × ℕ)
 counted_by name count =
     option_and_then (λ k. option_map (λ n. (k, n)) (option_and_then (number 1 MOST_LINES) count)) (option_and_then kind_of name)
 
 -- the kind and the number that pieces ask for
-abbrev pub counted_of : List Piece → Option (Kind × ℕ)
+abbrev pub counted_of : List Piece → Option (Workload × ℕ)
 counted_of ps = counted_by (slice_get (plains ps) 0) (slice_get (plains ps) 1)
 
 -- which command a name is

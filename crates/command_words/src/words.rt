@@ -75,7 +75,7 @@ impl Words {
 
 /// A kind of generated traces.
 #[derive(Clone, Copy)]
-pub enum Kind {
+pub enum Workload {
     Seen,
     Copy,
 }
@@ -120,9 +120,9 @@ pub enum Command<'a> {
     Code { spec: &'a str },
     Run(Run<'a>),
     /// To print a trace with so many lines.
-    Generate { kind: Kind, count: u64 },
+    Generate { kind: Workload, count: u64 },
     /// To monitor that trace.
-    Bench { kind: Kind, count: u64 },
+    Bench { kind: Workload, count: u64 },
 }
 
 fn are_digits(word: &str) -> bool
@@ -247,18 +247,18 @@ fn spec_by<'a>(matches: &ArgMatches<'a>) -> Option<&'a str>
     matches.get_str("spec")
 }
 
-fn kind_of(word: &str) -> Option<Kind>
+fn kind_of(word: &str) -> Option<Workload>
     ensures { result ≡ kind_of word.now }
 {
     match word {
-        "seen" => Some(Kind::Seen),
-        "copy" => Some(Kind::Copy),
+        "seen" => Some(Workload::Seen),
+        "copy" => Some(Workload::Copy),
         _ => None,
     }
 }
 
 /// The kind and the number of lines that the matches ask for, where nothing else stands.
-fn counted_by(matches: &ArgMatches<'_>) -> Option<(Kind, u64)>
+fn counted_by(matches: &ArgMatches<'_>) -> Option<(Workload, u64)>
     ensures { (ps : List Piece) → Holds ps (found_of matches.now)
         → result ≡ option_and_then counted_of (if fits count_form ps then Some ps else None) }
 {

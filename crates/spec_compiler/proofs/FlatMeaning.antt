@@ -15,7 +15,7 @@ use Rattle.flat_core.proofs.Members.{all_at}
 use Rattle.flat_meaning.specs.inner.Laws.{MeansTheSame}
 use Rattle.flat_meaning.proofs.DueText.{are_instants, to_faulty, taken_low}
 use Rattle.spec_meaning.specs.Due.{IsFaulty}
-use Rattle.spec_parser.specs.Tree as tree
+use Rattle.syntax_tree.specs.Tree as tree
 use Rattle.spec_compiler.specs.Meant.{FaultTimeIsMeant, QuietIsMeant, LimitIsMeant}
 use Rattle.spec_compiler.proofs.FirstInstants.{Listed, first_sound, first_few}
 

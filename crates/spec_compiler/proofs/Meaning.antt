@@ -27,7 +27,7 @@ use Rattle.flat_simplify.proofs.Ends.{keeps_ends}
 use Rattle.flat_simplify.proofs.Fit.{new_equation, simplified_fit}
 use Rattle.flat_simplify.proofs.Text.{keeps_text}
 use Rattle.spec_meaning.specs.Due.{IsDueText}
-use Rattle.spec_parser.specs.Tree as tree
+use Rattle.syntax_tree.specs.Tree as tree
 use Rattle.spec_compiler.specs.Compiled.{Compiles}
 use Rattle.spec_compiler.specs.inner.Laws.{SaysWhatIsMeant, CompiledSaysWhatIsMeant}
 use Rattle.spec_compiler.specs.Meant.{FaultTimeIsMeant, IsFaultNamed}

@@ -19,7 +19,7 @@ use Rattle.flat_meaning.proofs.OneThing.{one_thing}
 use Rattle.spec_meaning.specs.Due.{IsFaulty}
 use Rattle.spec_meaning.specs.Happens.{IsNeeded}
 use Rattle.spec_meaning.specs.Occurrence.{Occurrence}
-use Rattle.spec_parser.specs.Tree as tree
+use Rattle.syntax_tree.specs.Tree as tree
 use Rattle.spec_compiler.specs.Compiled.{Compiles}
 use Rattle.spec_compiler.specs.inner.Laws.{OneHappens, SomethingHappens, FaultsAreDecided}
 use Rattle.spec_compiler.proofs.FlatMeaning.{root_is_meant}

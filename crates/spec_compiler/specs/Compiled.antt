@@ -2,7 +2,7 @@
 use Rattle.std.specs.Prelude.{◌≢◌, ℕ, List}
 use Rattle.flat_core.specs.System.{System}
 use Rattle.flat_simplify.specs.Simplified.{IsSimplified}
-use Rattle.spec_parser.specs.Tree as tree
+use Rattle.syntax_tree.specs.Tree as tree
 use Rattle.spec_reader.specs.declared.fault.SpecFault.{SpecFault}
 use Rattle.spec_reader.specs.declared.fault.SpecFault.TheVariants.{Memory}
 use Rattle.spec_reader.specs.Source.{SpellsSystem, IsRefused}

@@ -9,7 +9,7 @@ use Rattle.flat_core.specs.Line.{Line, inputs_of}
 use Rattle.flat_core.specs.Solution.{Solves}
 use Rattle.flat_core.specs.System.{System, equation}
 use Rattle.spec_meaning.specs.Due.{IsFaulty, AreInstants}
-use Rattle.spec_parser.specs.Tree as tree
+use Rattle.syntax_tree.specs.Tree as tree
 use Rattle.tsl_value.specs.declared.place.Place.{Place}
 
 -- for the lines of a trace, of which the times below a bound are closed, and a limit of instants

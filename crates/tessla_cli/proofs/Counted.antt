@@ -7,7 +7,7 @@ use Rattle.alias_rules.specs.Fine.{IsTakenPlan}
 use Rattle.flat_core.specs.Case.{Streams}
 use Rattle.flat_core.specs.System.{System}
 use Rattle.monitor_run.specs.inner.State as engine
-use Rattle.monitor_run.specs.Updates.{is_running_update}
+use Rattle.flat_core.specs.Updates.{is_running_update}
 use Rattle.program_text.specs.Text.{numbers}
 use Rattle.register_machine.specs.Copied.{copied}
 use Rattle.trace_monitor.specs.Counted.{copied_below}
@@ -17,8 +17,8 @@ use Rattle.tsl_world.specs.Journal.{taken, ended}
 use Rattle.tsl_world.specs.declared.outside.Did.{Did}
 use Rattle.tsl_world.specs.declared.outside.Slot.TheVariants.{Trace}
 use Rattle.tessla_cli.specs.declared.ending.Ending.{Ending}
-use Rattle.tessla_cli.specs.Parts.{WatchEnds}
-use Rattle.tessla_cli.specs.inner.Shape.{counted_text}
+use Rattle.tessla_cli.specs.Effects.{WatchEnds}
+use Rattle.tessla_cli.specs.inner.RunPhases.{counted_text}
 use Rattle.tessla_cli.specs.Statistics.{AreStatistics, statistics_text, update_line}
 
 -- texts of what is the same for all that pass

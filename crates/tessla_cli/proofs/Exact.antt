@@ -1,9 +1,8 @@
 -- The causes of the endings exclude each other.
 use Rattle.std.proofs.Common.{◌≡◌, ◌⊎◌, inl, inr, ℕ, ◌<◌, take, length, slice_get, arith, Bool, true, false, List, Option, Some, None, is_some, option_and_then, refl, sym, ◌∙◌, ap, subst}
 use Rattle.flat_core.specs.Line.{Line}
-use Rattle.flat_meaning.proofs.Rising.{rising, same_rising}
-use Rattle.spec_meaning.specs.Due.{AreInstants}
-use Rattle.spec_parser.specs.Tree as tree
+use Rattle.flat_meaning.proofs.OneText.{same_instants}
+use Rattle.syntax_tree.specs.Tree as tree
 use Rattle.std.specs.List.{Contains}
 use Rattle.std.proofs.lemmas.Bool.{true≢false}
 use Rattle.std.proofs.lemmas.Option.{slice_get_within}
@@ -32,7 +31,7 @@ use Rattle.tessla_cli.specs.Headline.{OfRun}
 use Rattle.tessla_cli.specs.Meant.{EndsAsMeant}
 use Rattle.tessla_cli.specs.Messages.{status_of}
 use Rattle.tessla_cli.specs.Outcome.{Concludes, Outcome, IsExact}
-use Rattle.tessla_cli.specs.Parts.{ending_of}
+use Rattle.tessla_cli.specs.Effects.{ending_of}
 use Rattle.tessla_cli.specs.Outcome.Outcome.{told, outside, memory}
 use Rattle.tessla_cli.specs.Tasks.{Alone, Request, Task, alone, alone_of, asked_of, benched, made, monitor, over, print, requested, with_spec, without_spec}
 
@@ -40,18 +39,14 @@ pub nothing_some : {A : Type 0} (x : Option A) (a : A) → x ≡ None → x ≡ 
 nothing_some x a none some = absurd (let e : false ≡ true = ap is_some (sym none ∙ some) in cc)
 
 module _ (items : List tree.Item) (lines : List Line) (bound limit : ℕ) where
-  -- the instants below the bound
-  one_list : (xs ys : List ℕ) → AreInstants items lines bound xs → AreInstants items lines bound ys → xs ≡ ys
-  one_list xs ys a b = same_rising 0 0 xs ys (rising xs a.rising) (rising ys b.rising) (λ t c. (b.each t).1 ((a.each t).0 c)) (λ t c. (a.each t).1 ((b.each t).0 c))
-
   pub loud : (t : ℕ) → QuietIsMeant items lines bound limit → FaultTimeIsMeant items lines bound limit t → ⊥
   loud t quiet fault =
-      let same = one_list fault.instants quiet.instants fault.are quiet.are in
+      let same = same_instants items lines bound fault.instants quiet.instants fault.are quiet.are in
       quiet.sound t (subst (λ (l : List ℕ). Contains (take limit l) t) same fault.within) fault.faulty
 
   pub long : (t : ℕ) → QuietIsMeant items lines bound limit → LimitIsMeant items lines bound limit t → ⊥
   long t quiet limited =
-      let same = one_list limited.instants quiet.instants limited.are quiet.are in
+      let same = same_instants items lines bound limited.instants quiet.instants limited.are quiet.are in
       let there : slice_get quiet.instants limit ≡ Some t = subst (λ (l : List ℕ). slice_get l limit ≡ Some t) same limited.next in
       let lt : limit < length quiet.instants = slice_get_within quiet.instants limit t there in
       let few = quiet.few in
@@ -59,7 +54,7 @@ module _ (items : List tree.Item) (lines : List Line) (bound limit : ℕ) where
 
   both : (t u : ℕ) → FaultTimeIsMeant items lines bound limit t → LimitIsMeant items lines bound limit u → ⊥
   both t u fault limited =
-      let same = one_list fault.instants limited.instants fault.are limited.are in
+      let same = same_instants items lines bound fault.instants limited.instants fault.are limited.are in
       limited.sound t (subst (λ (l : List ℕ). Contains (take limit l) t) same fault.within) fault.faulty
 
 module _ (items : List tree.Item) (s : System) (o : Options) (bytes : List ℕ) (end : Bool) where

@@ -14,9 +14,9 @@ use Rattle.tsl_world.specs.declared.outside.Channel.{Channel}
 use Rattle.tsl_world.specs.declared.outside.Channel.TheVariants.{Out, Err}
 use Rattle.tsl_world.specs.Journal.{given, taken, ended, opening, openings, creations, AtReads, StopsAtEnd, IsNoRead, IsNoGift, IsTransfer, IsWithin, Each}
 use Rattle.tsl_world.proofs.Journals.{openings-append, creations-append, Each-append, no_place, place}
-use Rattle.tsl_world.proofs.Parts.{gifts_read_none, gifts_transfer, gifts_within, gifts_elsewhere, taken_before, taken_after, ended_before, ended_after, given_after, given_none, openings_none, creations_none}
+use Rattle.tsl_world.proofs.Untouched.{gifts_read_none, gifts_transfer, gifts_within, gifts_elsewhere, taken_before, taken_after, ended_before, ended_after, given_after, given_none, openings_none, creations_none}
 use Rattle.tsl_world.proofs.Places.{at_none, at_no_read, at_join, at_more, at_after, at_weaker}
-use Rattle.spec_parser.specs.Tree as tree
+use Rattle.syntax_tree.specs.Tree as tree
 use Rattle.spec_compiler.specs.Compiled.{Compiles}
 use Rattle.trace_monitor.specs.declared.options.Options.{Options}
 use Rattle.trace_monitor.specs.Due.{IsDue}
@@ -26,9 +26,9 @@ use Rattle.tessla_cli.specs.declared.ending.Ending.{Ending}
 use Rattle.tessla_cli.specs.Conduct.{HasWhole, IsBeforeOpening, MakesNothing, ReadsSpecFirst, ReadsTraceLast, StopsAtLimit, ReadsPieces, OpensAsAsked, OfPrint, GoesOnAtReads, IsPartlyDue}
 use Rattle.tessla_cli.specs.Headline.{OfRun, IsDueAtReads}
 use Rattle.tessla_cli.specs.Meant.{IsDueAsMeant, GoesOnAsMeant, BeginsAsMeant, WatchEndsAsMeant}
-use Rattle.tessla_cli.specs.Parts.{IsTake, IsTraceWork, MayRead, BeginsDue, Watched, WatchEnds}
+use Rattle.tessla_cli.specs.Effects.{IsTake, IsTraceWork, MayRead, BeginsDue, Watched, WatchEnds}
 use Rattle.tessla_cli.specs.Statistics.{AreStatistics}
-use Rattle.tessla_cli.specs.inner.Shape.{counted_text, MayReadSpec, ReadsSpec, GivesSource, Prints, idle, no_trace, watched, uncompiled, compiled, prints, RunsSpec, unopened, no_spec, reading, whole, RunsWords, unasked, asked, samples, PrintsText, unmade, writes}
+use Rattle.tessla_cli.specs.inner.RunPhases.{counted_text, MayReadSpec, ReadsSpec, GivesSource, Prints, idle, no_trace, watched, uncompiled, compiled, prints, RunsSpec, unopened, no_spec, reading, whole, RunsWords, unasked, asked, samples, PrintsText, unmade, writes}
 use Rattle.tessla_cli.specs.Alone.{IsAloneText}
 use Rattle.tessla_cli.specs.Printed.{IsTextOf}
 use Rattle.tessla_cli.specs.Tasks.{Alone, Task, alone_of, print, monitor, asked_of, names_of, traces_of}

@@ -11,7 +11,7 @@ use Rattle.spec_compiler.specs.inner.Laws.{SaysWhatIsMeant}
 use Rattle.spec_compiler.specs.Meant.{QuietIsMeant, FaultTimeIsMeant, IsFaultNamed}
 use Rattle.spec_compiler.proofs.Meaning.{compiled_says_what_is_meant}
 use Rattle.spec_meaning.specs.Due.{IsDueText}
-use Rattle.spec_parser.specs.Tree as tree
+use Rattle.syntax_tree.specs.Tree as tree
 use Rattle.trace_monitor.specs.declared.ending.RunEnding.{RunEnding}
 use Rattle.trace_monitor.specs.declared.ending.RunEnding.TheVariants as run
 use Rattle.trace_monitor.specs.declared.options.Options.{Options}
@@ -25,7 +25,7 @@ use Rattle.tsl_world.specs.declared.outside.Did.{Did}
 use Rattle.tsl_world.specs.declared.outside.Slot.TheVariants.{Trace}
 use Rattle.tessla_cli.specs.declared.ending.Ending.{Ending}
 use Rattle.tessla_cli.specs.Meant.{IsDueAsMeant, GoesOnAsMeant, EndsAsMeant, BeginsAsMeant, WatchEndsAsMeant}
-use Rattle.tessla_cli.specs.Parts.{BeginsDue, WatchEnds, ending_of}
+use Rattle.tessla_cli.specs.Effects.{BeginsDue, WatchEnds, ending_of}
 use Rattle.tessla_cli.proofs.TypedLines.{typed_read}
 
 -- for a source that is compiled to this system

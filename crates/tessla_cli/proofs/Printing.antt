@@ -6,9 +6,9 @@ use Rattle.spec_compiler.specs.Compiled.{CompilesSomething}
 use Rattle.tsl_world.specs.declared.outside.Channel.TheVariants.{Out}
 use Rattle.tsl_world.specs.declared.outside.Did.{Did}
 use Rattle.tessla_cli.specs.declared.task.Form.{Form}
-use Rattle.tessla_cli.specs.Parts.{Gives}
+use Rattle.tessla_cli.specs.Effects.{Gives}
 use Rattle.tessla_cli.specs.Printed.{HasText, IsTextOf}
-use Rattle.tessla_cli.specs.inner.Shape.{Prints, HasPrinted, PrintsText, HasPrintedText}
+use Rattle.tessla_cli.specs.inner.RunPhases.{Prints, HasPrinted, PrintsText, HasPrintedText}
 
 -- any text
 module _ (P : List ℕ → Type 0) (text : List ℕ) (is : P text) where

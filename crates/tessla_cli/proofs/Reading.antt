@@ -8,11 +8,11 @@ use Rattle.tsl_world.specs.declared.outside.Slot.TheVariants.{Spec}
 use Rattle.tsl_world.specs.Journal.{taken, ended}
 use Rattle.tsl_world.specs.Runs.{Runs}
 use Rattle.tsl_world.specs.Standing.{Standing}
-use Rattle.tsl_world.proofs.Runs.{go_on, called}
+use Rattle.tsl_world.proofs.Runs.{go_on, one_call}
 use Rattle.tsl_world.proofs.Journals.{taken-append, ended-append, Each-append}
 use Rattle.trace_monitor.specs.Next.{is_nothing}
-use Rattle.tessla_cli.specs.Parts.{IsTake}
-use Rattle.tessla_cli.specs.inner.Shape.{MayReadSpec, ReadsSpec, GivesSource}
+use Rattle.tessla_cli.specs.Effects.{IsTake}
+use Rattle.tessla_cli.specs.inner.RunPhases.{MayReadSpec, ReadsSpec, GivesSource}
 use Rattle.tessla_cli.proofs.Watching.{not_zero}
 use Rattle.tsl_world.proofs.Places.{at_none, at_read}
 use Rattle.trace_reader.specs.declared.limits.TheConstants.{MOST_PIECE_BYTES}
@@ -71,7 +71,7 @@ module _ {W : Type 0} (told : W → Bool) (journal : W → List Did) (standing :
       → (IsTrue (told new) → journal new ≡ journal mid ++ Took Spec piece ∷ []) → Runs told journal standing old new P
   spec_read_on old mid new source piece P calls says kept stands adds =
       go_on told journal standing old mid new _ (λ q. q ≡ Took Spec piece ∷ []) P calls
-      (called told journal standing mid new (Took Spec piece) (λ q. q ≡ Took Spec piece ∷ []) kept stands adds refl)
+      (one_call told journal standing mid new (Took Spec piece) (λ q. q ≡ Took Spec piece ∷ []) kept stands adds refl)
       (λ p q at is. subst (λ (l : List Did). P (p ++ l)) (sym is) (says p at))
 
 above_zero : (n : ℕ) → (n ≡ 0 → ⊥) → nat_eq n 0 ≡ false

@@ -4,7 +4,7 @@ use Rattle.std.specs.Option.{option_map_or}
 use Rattle.alias_rules.specs.Fine.{IsTakenPlan}
 use Rattle.flat_core.specs.System.{System}
 use Rattle.monitor_run.specs.inner.State as engine
-use Rattle.spec_parser.specs.Tree as tree
+use Rattle.syntax_tree.specs.Tree as tree
 use Rattle.spec_reader.specs.declared.fault.SpecFault.{SpecFault}
 use Rattle.spec_compiler.specs.Compiled.{Compiles, IsRefusedBy}
 use Rattle.trace_monitor.specs.declared.ending.RunEnding.{RunEnding}
@@ -18,7 +18,7 @@ use Rattle.tsl_world.specs.declared.outside.Slot.TheVariants.{Spec, Trace}
 use Rattle.tsl_world.specs.declared.outside.Channel.TheVariants.{Out, Err}
 use Rattle.tsl_world.specs.Journal.{given, taken, ended, openings, IsNoRead, IsNoGift, IsTransfer, IsGift, Each}
 use Rattle.tsl_world.proofs.Journals.{given-append, place, Each-append}
-use Rattle.tsl_world.proofs.Parts.{gifts_read_none, gifts_transfer, gifts_within, gifts_elsewhere, taken_before, ended_before, given_before, given_after, given_none, openings_before, creations_before, openings_none}
+use Rattle.tsl_world.proofs.Untouched.{gifts_read_none, gifts_transfer, gifts_within, gifts_elsewhere, taken_before, ended_before, given_before, given_after, given_none, openings_before, creations_before, openings_none}
 use Rattle.tsl_world.proofs.Places.{at_more}
 use Rattle.tessla_cli.specs.declared.ending.Ended.{Ended}
 use Rattle.tessla_cli.specs.declared.ending.Ending.{Ending}
@@ -32,8 +32,8 @@ use Rattle.tessla_cli.specs.Headline.{OfRun}
 use Rattle.tessla_cli.specs.Meant.{IsDueAsMeant, EndsAsMeant, BeginsAsMeant, WatchEndsAsMeant}
 use Rattle.tessla_cli.specs.Messages.{ended_text, broken_line, status_of}
 use Rattle.tessla_cli.specs.Outcome.{Ends, Faulted, IsToldBefore, unasked, refused_before, counted, Limited, LineRefused, Refused, TellsFailure, told_failure, untold_ending, untold_memory, untold_failure, Outcome, told, outside, memory, ShowsAlways, Concludes, TellsBroken, all_of_broken, some_of_broken, TellsEnding, all_of_ending, some_of_ending, no_text}
-use Rattle.tessla_cli.specs.Parts.{ending_of, Watched, WatchEnds}
-use Rattle.tessla_cli.specs.inner.Shape.{ReadsSpec, GivesSource, counted_text, ends, SourceEnds, spec_refused, compiled_ends, printed, whole_ends, WordsEnd, words_refused, asked_ends, sampled, AloneIsDone, written, stopped}
+use Rattle.tessla_cli.specs.Effects.{ending_of, Watched, WatchEnds}
+use Rattle.tessla_cli.specs.inner.RunPhases.{ReadsSpec, GivesSource, counted_text, ends, SourceEnds, spec_refused, compiled_ends, printed, whole_ends, WordsEnd, words_refused, asked_ends, sampled, AloneIsDone, written, stopped}
 use Rattle.tessla_cli.specs.Printed.{IsTextOf}
 use Rattle.tessla_cli.specs.Statistics.{AreStatistics}
 use Rattle.tessla_cli.specs.Tasks.{Alone, Request, Task, alone, alone_of, asked_of, asks_statistics, benched, has_statistics, made, monitor, names_of, over, requested, with_spec, without_spec}

@@ -23,7 +23,7 @@ use Rattle.register_machine.specs.Run.{Plan}
 use Rattle.register_machine.specs.Stands.{IsGiven}
 use Rattle.register_machine.proofs.Shown.{counts, exists, leaves, shows}
 use Rattle.spec_compiler.specs.Compiled.{Compiles}
-use Rattle.spec_parser.specs.Tree as tree
+use Rattle.syntax_tree.specs.Tree as tree
 use Rattle.trace_monitor.specs.declared.options.Options.{Options}
 use Rattle.trace_monitor.specs.Due.{bound_in, lines_in}
 use Rattle.trace_reader.specs.inner.Laws.{IsProperLine}

@@ -12,8 +12,8 @@ use Rattle.tsl_world.specs.declared.outside.Channel.TheVariants as channel
 use Rattle.tsl_world.specs.Journal.{given, taken, ended, same_channel, AtReads, IsGift, Each}
 use Rattle.tsl_world.specs.Runs.{Runs}
 use Rattle.tsl_world.specs.Standing.{Standing}
-use Rattle.tsl_world.proofs.Runs.{go_on, called}
-use Rattle.tsl_world.proofs.Parts.{gifts_read_none, taken_before, ended_before}
+use Rattle.tsl_world.proofs.Runs.{go_on, one_call}
+use Rattle.tsl_world.proofs.Untouched.{gifts_read_none, taken_before, ended_before}
 use Rattle.tsl_world.proofs.Places.{at_none, at_more, at_read}
 use Rattle.tsl_world.proofs.Journals.{given-append, taken-append, ended-append, Each-append}
 use Rattle.tessla_cli.specs.declared.ending.Ending.{Ending}
@@ -26,7 +26,7 @@ use Rattle.trace_monitor.specs.Ending.{GoesOn}
 use Rattle.trace_monitor.specs.declared.ending.RunEnding.{RunEnding}
 use Rattle.trace_monitor.specs.Next.{EndsBy, IsNext, is_nothing}
 use Rattle.trace_monitor.specs.inner.State.{State}
-use Rattle.tessla_cli.specs.Parts.{Gives, IsTraceWork, MayRead, Watched, WatchEnds, ending_of}
+use Rattle.tessla_cli.specs.Effects.{Gives, IsTraceWork, MayRead, Watched, WatchEnds, ending_of}
 use Rattle.spec_compiler.specs.inner.Ready.{IsReady}
 use Rattle.tessla_cli.proofs.Dues.{due_more}
 use Rattle.trace_reader.specs.declared.limits.TheConstants.{MOST_PIECE_BYTES}
@@ -157,7 +157,7 @@ module _ {W : Type 0} (told : W → Bool) (journal : W → List Did) (standing :
       → (IsTrue (told new) → journal new ≡ journal mid ++ Took Trace piece ∷ []) → Runs told journal standing old new (λ part. Stands s o part (bytes ++ piece) text (is_nothing piece))
   read_on old mid new bytes text piece calls due goes_on short kept stands adds =
       go_on told journal standing old mid new _ (λ q. q ≡ Took Trace piece ∷ []) _ calls
-      (called told journal standing mid new (Took Trace piece) (λ q. q ≡ Took Trace piece ∷ []) kept stands adds refl)
+      (one_call told journal standing mid new (Took Trace piece) (λ q. q ≡ Took Trace piece ∷ []) kept stands adds refl)
       (λ p q at is. subst (λ (l : List Did). Stands s o (p ++ l) (bytes ++ piece) text (is_nothing piece)) (sym is) (read_more s o p bytes text piece at due goes_on short))
 
 -- What a monitor whose system and options are these says of it, by them.

@@ -20,7 +20,7 @@ use Rattle.spec_compiler.specs.Compiled.{Compiles}
 use Rattle.spec_compiler.specs.inner.Laws.{SaysWhatIsMeant}
 use Rattle.spec_compiler.specs.Meant.{QuietIsMeant}
 use Rattle.spec_compiler.proofs.Meaning.{compiled_says_what_is_meant}
-use Rattle.spec_parser.specs.Tree as tree
+use Rattle.syntax_tree.specs.Tree as tree
 use Rattle.trace_monitor.specs.declared.options.Options.{Options}
 use Rattle.trace_monitor.specs.Due.{SolvesClosed, bound_in, lines_in, refused_in}
 use Rattle.tsl_value.proofs.Lists.{all_take, take_append, get_left}

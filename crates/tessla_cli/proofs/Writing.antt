@@ -4,7 +4,7 @@ use Rattle.tsl_world.specs.Begins.{BeginsStrictly}
 use Rattle.tsl_world.specs.Journal.{given, IsGift, Each}
 use Rattle.tsl_world.specs.declared.outside.Channel.{Channel}
 use Rattle.tsl_world.specs.declared.outside.Did.{Did}
-use Rattle.tessla_cli.specs.Parts.{Gives}
+use Rattle.tessla_cli.specs.Effects.{Gives}
 
 -- something is left, so what was given is less
 less : {A : Type 0} (whole front rest : List A) → 0 < length rest → whole ≡ front ++ rest → BeginsStrictly front whole

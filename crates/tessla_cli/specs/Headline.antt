@@ -5,7 +5,7 @@ use Rattle.std.specs.Prelude.{◌≡◌, ℕ, Bool, false, List, Some}
 use Rattle.flat_core.specs.System.{System}
 use Rattle.spec_compiler.specs.Compiled.{Compiles}
 use Rattle.spec_meaning.specs.Due.{IsDueText}
-use Rattle.spec_parser.specs.Tree as tree
+use Rattle.syntax_tree.specs.Tree as tree
 use Rattle.trace_monitor.specs.declared.options.Options.{Options}
 use Rattle.trace_monitor.specs.Due.{lines_in, bound_in}
 use Rattle.tsl_world.specs.Journal.{given, taken, AtReads}

@@ -1,7 +1,7 @@
 pub mod Tasks
 pub mod Printed
 pub mod Messages
-pub mod Parts
+pub mod Effects
 pub mod Statistics
 pub mod Alone
 pub mod Meant

@@ -3,7 +3,7 @@ use Rattle.std.specs.Prelude.{◌≡◌, ℕ, Bool, true, false, List, Some, Non
 use Rattle.flat_core.specs.System.{System}
 use Rattle.spec_compiler.specs.Meant.{FaultTimeIsMeant, QuietIsMeant, LimitIsMeant, IsFaultNamed}
 use Rattle.spec_meaning.specs.Due.{IsDueText}
-use Rattle.spec_parser.specs.Tree as tree
+use Rattle.syntax_tree.specs.Tree as tree
 use Rattle.trace_monitor.specs.declared.options.Options.{Options}
 use Rattle.trace_monitor.specs.Due.{lines_in, refused_in, bound_in}
 use Rattle.tsl_world.specs.Begins.{Begins}

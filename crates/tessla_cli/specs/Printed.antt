@@ -10,8 +10,8 @@ use Rattle.register_code.specs.Code.{Code}
 use Rattle.register_code.specs.Text.{code_text}
 use Rattle.last_use.specs.Reasons.{AreReasons}
 use Rattle.spec_compiler.specs.Compiled.{Compiles}
-use Rattle.spec_parser.specs.Tree as tree
-use Rattle.trace_bench.specs.Ran.{running_updates}
+use Rattle.syntax_tree.specs.Tree as tree
+use Rattle.flat_core.specs.Updates.{running_updates}
 use Rattle.tessla_cli.specs.declared.task.Form.{Form}
 use Rattle.tessla_cli.specs.declared.task.Form.TheVariants as form
 

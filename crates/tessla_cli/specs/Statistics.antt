@@ -7,14 +7,14 @@ use Rattle.alias_rules.specs.Fine.{IsTakenPlan}
 use Rattle.flat_core.specs.declared.equation.Equation.{Equation}
 use Rattle.flat_core.specs.System.{System, equation}
 use Rattle.register_machine.specs.Copied.{copied}
-use Rattle.spec_reader.specs.Source.{called}
-use Rattle.trace_bench.specs.Ran.{running_updates}
+use Rattle.program_text.specs.Text.{label_text}
+use Rattle.flat_core.specs.Updates.{running_updates}
 use Rattle.trace_monitor.specs.Counted.{copied_below}
 use Rattle.trace_monitor.specs.declared.ending.RunEnding.{RunEnding}
 use Rattle.trace_monitor.specs.declared.options.Options.{Options}
 use Rattle.trace_monitor.specs.Ending.{InAll}
 use Rattle.tessla_cli.specs.declared.ending.Ending.{Ending}
-use Rattle.tessla_cli.specs.Parts.{ending_of}
+use Rattle.tessla_cli.specs.Effects.{ending_of}
 
 -- that so many elements were copied, with the end of the line
 abbrev pub copied_text : ℕ → List ℕ
@@ -27,7 +27,7 @@ place_of (Some e) = place_text e.place
 
 -- the line of an update, by its number, that has copied so many elements
 abbrev pub update_line : System → ℕ → ℕ → List ℕ
-update_line s u count = codes "stats " ++ (called s u ++ (codes " " ++ (place_of (equation s u) ++ copied_text count)))
+update_line s u count = codes "stats " ++ (label_text s u ++ (codes " " ++ (place_of (equation s u) ++ copied_text count)))
 
 -- the lines of the running updates by number
 abbrev pub statistics_text : System → (ℕ → ℕ) → List ℕ

@@ -2,7 +2,7 @@
 use Rattle.std.specs.Prelude.{ℕ, ◌<◌, ◌≤◌, ◌^◌, ⊤, Bool, false, List, [], ◌∷◌, Option, Some, None, option_and_then, option_map}
 use Rattle.std.specs.Option.{option_map_or}
 use Rattle.command_words.specs.Words.{Command, Run, check, flat, show, code, run, generate, bench, command_of}
-use Rattle.command_words.specs.declared.words.Kind.{Kind}
+use Rattle.command_words.specs.declared.words.Workload.{Workload}
 use Rattle.trace_monitor.specs.declared.options.Options.{Options}
 use Rattle.tsl_world.specs.declared.outside.Slot.{Slot}
 use Rattle.tsl_world.specs.declared.outside.Slot.TheVariants.{Spec, Trace}
@@ -24,7 +24,7 @@ pub data Task : Type 0 where
 -- Without a specification of the outside: the sample trace with so many lines is written, or what the specification of a kind does over it
 pub data Alone : Type 0 where
   made : ℕ → Alone
-  benched : Kind → ℕ → Alone
+  benched : Workload → ℕ → Alone
 
 -- what words ask for: something is done with the specification of this name, or without one
 pub data Request : Type 0 where

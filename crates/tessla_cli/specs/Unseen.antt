@@ -11,7 +11,7 @@ use Rattle.register_machine.specs.Machine.{Config}
 use Rattle.register_machine.specs.Run.{Plan, State}
 use Rattle.register_machine.specs.Stands.{RunsTo}
 use Rattle.spec_compiler.specs.Compiled.{Compiles}
-use Rattle.spec_parser.specs.Tree as tree
+use Rattle.syntax_tree.specs.Tree as tree
 use Rattle.trace_monitor.specs.declared.options.Options.{Options}
 use Rattle.trace_monitor.specs.Due.{bound_in, lines_in}
 use Rattle.trace_monitor.specs.Ending.{InAll}

@@ -7,7 +7,7 @@ ghost use Rattle.tessla_cli.specs.Tasks.{IsLimitedAlone, alone_seen, benched};
 use crate::ending::{Ending, refused};
 use crate::task::Alone;
 use crate::watch::ending_of;
-use command_words::words::Kind;
+use command_words::words::Workload;
 use sample_trace::trace::sample_trace;
 use std::alloc::Global;
 use trace_bench::bench::bench;
@@ -26,7 +26,7 @@ pub enum AloneOutcome {
 }
 
 /// What comes of the specification of a kind over the sample trace with so many lines.
-fn bench_outcome(alloc: Global, kind: Kind, lines: u64) -> Result<AloneOutcome, NoMemory>
+fn bench_outcome(alloc: Global, kind: Workload, lines: u64) -> Result<AloneOutcome, NoMemory>
     requires { lines < 2 ^ 63 }
     ensures { IfOk result (IsAloneOutcome (benched kind lines)) }
 {

@@ -6,7 +6,7 @@ ghost use Rattle.last_use.specs.Reasons.{AreReasons};
 ghost use Rattle.program_text.specs.Text.{flat_text, running};
 ghost use Rattle.register_code.specs.Text.{code_text};
 ghost use Rattle.tessla_cli.specs.Printed.{HasText, check_text, counts_text, updates_text};
-ghost use Rattle.trace_bench.specs.Ran.{running_updates};
+ghost use Rattle.flat_core.specs.Updates.{running_updates};
 
 use crate::task::Form;
 use choice_text::print::print_choice;
@@ -17,7 +17,6 @@ use register_code::code::Code;
 use register_code::print::print_code;
 use spec_compiler::compile::Compiled;
 use std::alloc::Global;
-use trace_bench::updates::is_running_update;
 use tsl_value::bytes::Bytes;
 use tsl_value::ids::EqId;
 use tsl_value::memory::NoMemory;
@@ -42,7 +41,7 @@ fn count_updates(flat: &Flat) -> u64
 {
     let mut count = 0;
     for number in 0..flat.count() {
-        if is_running_update(flat, EqId::new(number)) {
+        if flat.is_running_update(EqId::new(number)) {
             count += 1;
         }
     }

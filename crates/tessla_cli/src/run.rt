@@ -8,9 +8,9 @@ ghost use Rattle.spec_compiler.specs.inner.Ready.{IsReady};
 ghost use Rattle.tsl_world.specs.Standing.{at_first, is_open};
 ghost use Rattle.tsl_world.specs.Runs.{Grows};
 ghost use Rattle.tsl_world.specs.World.{RoseBy};
-ghost use Rattle.tessla_cli.specs.inner.Shape.{AloneIsDone, HasPrinted, RunsAlone, RunsSystem, SystemEnds, RunsSource, SourceEnds};
-ghost use Rattle.tessla_cli.specs.inner.Shape.{RunsSpec};
-ghost use Rattle.tessla_cli.specs.inner.Shape.{SpecEnds, RunsWords, WordsEnd};
+ghost use Rattle.tessla_cli.specs.inner.RunPhases.{AloneIsDone, HasPrinted, RunsAlone, RunsSystem, SystemEnds, RunsSource, SourceEnds};
+ghost use Rattle.tessla_cli.specs.inner.RunPhases.{RunsSpec};
+ghost use Rattle.tessla_cli.specs.inner.RunPhases.{SpecEnds, RunsWords, WordsEnd};
 ghost use Rattle.tessla_cli.specs.Tasks.{AreLimited, IsLimitedAlone, IsLimitedTask, alone_seen, print, task_seen};
 
 use crate::alone::{AloneOutcome, outcome_of};

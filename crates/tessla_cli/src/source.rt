@@ -4,7 +4,7 @@ ghost use Rattle.std.specs.Prelude.{◌≡◌, ◌<◌, ◌≤◌, true, length,
 ghost use Rattle.tsl_world.specs.Standing.{is_open};
 ghost use Rattle.tsl_world.specs.World.{RoseBy};
 ghost use Rattle.tsl_world.specs.Runs.{Runs};
-ghost use Rattle.tessla_cli.specs.inner.Shape.{ReadsSpec, GivesSource};
+ghost use Rattle.tessla_cli.specs.inner.RunPhases.{ReadsSpec, GivesSource};
 ghost use Rattle.trace_reader.specs.declared.limits.TheConstants.{MOST_PIECE_BYTES};
 
 use crate::ending::Broken;

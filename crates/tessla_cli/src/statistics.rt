@@ -2,33 +2,20 @@
 
 ghost use Rattle.std.specs.Prelude.{◌≡◌, ◌<◌, [], ◌++◌, codes, if◌then◌else◌, IfOk, OnOk, length, slice_index};
 ghost use Rattle.event_writer.specs.Text.{place_text};
-ghost use Rattle.monitor_run.specs.Updates.{is_running_update};
-ghost use Rattle.spec_reader.specs.Source.{called};
-ghost use Rattle.tessla_cli.specs.inner.Shape.{counted_text};
+ghost use Rattle.flat_core.specs.Updates.{is_running_update};
+ghost use Rattle.tessla_cli.specs.inner.RunPhases.{counted_text};
 ghost use Rattle.tessla_cli.specs.Statistics.{copied_text, statistics_text, update_line};
 
 use event_writer::place::print_place;
 use flat_core::flat::Flat;
-use program_text::print::print_id;
+use program_text::print::print_label;
 use std::alloc::Global;
-use trace_bench::updates::is_running_update;
 use trace_monitor::monitor::TraceMonitor;
 use tsl_value::bytes::Bytes;
 use tsl_value::ids::EqId;
 use tsl_value::memory::NoMemory;
 use tsl_value::place::Place;
 use tsl_value::print::print_number;
-
-/// Appends what an equation is called: its name, or else its number.
-fn print_called(flat: &Flat, id: EqId, out: &mut Bytes) -> Result<(), NoMemory>
-    requires { id < length flat.now.equations }
-    ensures { OnOk result (out.new ≡ out.old ++ called flat.now id) }
-{
-    match &flat.equation(id).name {
-        Some(name) => out.append(name.as_str().as_bytes()),
-        None => print_id(id, out),
-    }
-}
 
 /// Appends that so many elements were copied, with the end of the line.
 fn print_copied(count: u64, out: &mut Bytes) -> Result<(), NoMemory>
@@ -54,7 +41,7 @@ fn print_update(flat: &Flat, update: EqId, count: u64, out: &mut Bytes) -> Resul
     ensures { OnOk result (out.new ≡ out.old ++ update_line flat.now update count) }
 {
     out.append(b"stats ")?;
-    print_called(flat, update, out)?;
+    print_label(flat, update, out)?;
     print_counted(flat.equation(update).place, count, out)
 }
 
@@ -70,7 +57,7 @@ fn print_if_update(
     ensures { OnOk result (out.new ≡ out.old ++
         (if is_running_update flat.now id then update_line flat.now id (slice_index monitor.now.engine.ledger id) else [])) }
 {
-    if is_running_update(flat, id) {
+    if flat.is_running_update(id) {
         print_update(flat, id, monitor.copied(id), out)
     } else {
         Ok(())

@@ -4,7 +4,7 @@ ghost use Rattle.std.specs.Prelude.{◌≡◌, IfOk, IfSome, option_map};
 ghost use Rattle.command_words.specs.Words.{IsLimited, IsLimitedRun, command_asked, run_asked};
 ghost use Rattle.tessla_cli.specs.Tasks.{IsLimitedRequest, request_of, request_of_run, request_seen, requested};
 
-use command_words::words::{Command, Kind, Run, Words};
+use command_words::words::{Command, Run, Words, Workload};
 use std::alloc::Global;
 use trace_monitor::options::Options;
 use tsl_value::memory::NoMemory;
@@ -41,7 +41,7 @@ pub enum Alone {
     /// The sample trace with so many lines is written.
     Made { lines: u64 },
     /// It is told what the specification of a kind does over that trace.
-    Benched { kind: Kind, lines: u64 },
+    Benched { kind: Workload, lines: u64 },
 }
 
 /// What words ask for.

@@ -6,7 +6,7 @@ ghost use Rattle.trace_monitor.specs.inner.Kept.{Kept};
 ghost use Rattle.tsl_world.specs.Standing.{is_open};
 ghost use Rattle.tsl_world.specs.World.{RoseBy};
 ghost use Rattle.tsl_world.specs.Runs.{Runs};
-ghost use Rattle.tessla_cli.specs.Parts.{Watched, WatchEnds, ending_of};
+ghost use Rattle.tessla_cli.specs.Effects.{Watched, WatchEnds, ending_of};
 ghost use Rattle.trace_reader.specs.declared.limits.TheConstants.{MOST_PIECE_BYTES};
 ghost use Rattle.tsl_value.specs.declared.limits.TheConstants.{MOST_TRACE_BYTES};
 

@@ -4,7 +4,7 @@ ghost use Rattle.std.specs.Prelude.{◌≡◌, true, OnOk, OnErr};
 ghost use Rattle.tsl_world.specs.Standing.{is_writable};
 ghost use Rattle.tsl_world.specs.World.{IsHeard, RoseBy};
 ghost use Rattle.tsl_world.specs.Runs.{Runs};
-ghost use Rattle.tessla_cli.specs.Parts.{Gives};
+ghost use Rattle.tessla_cli.specs.Effects.{Gives};
 
 use tsl_world::{Channel, Failed, World};
 

@@ -5,7 +5,7 @@ use Rattle.std.specs.Prelude.{IsTrue, if◌then◌else◌}
 use Rattle.std.specs.List.{filter, range_with_len, sum_by}
 use Rattle.std.proofs.lemmas.List.Sums.{sum_by_push, sum_by-cons}
 use Rattle.flat_core.specs.System.{System}
-use Rattle.monitor_run.specs.Updates.{is_running_update}
+use Rattle.flat_core.specs.Updates.{is_running_update}
 use Rattle.program_text.proofs.Numbers.{numbers_with, numbers_without}
 use Rattle.trace_bench.specs.Ran.{up_to_most}
 

@@ -4,7 +4,7 @@ use Rattle.std.specs.Prelude.{IsTrue, slice_index}
 use Rattle.flat_core.specs.Case.{Streams}
 use Rattle.flat_core.specs.System.{System}
 use Rattle.monitor_run.specs.inner.State as engine
-use Rattle.monitor_run.specs.Updates.{is_running_update}
+use Rattle.flat_core.specs.Updates.{is_running_update}
 use Rattle.program_text.specs.Text.{numbers}
 use Rattle.register_machine.specs.Copied.{copied}
 use Rattle.sample_trace.specs.Trace.{trace_text}

@@ -1,7 +1,7 @@
 -- What comes of a specification that is run over the sample trace.
 use Rattle.std.specs.Prelude.{ℕ, List}
-use Rattle.command_words.specs.declared.words.Kind.{Kind}
-use Rattle.command_words.specs.declared.words.Kind.TheVariants as kind
+use Rattle.command_words.specs.declared.words.Workload.{Workload}
+use Rattle.command_words.specs.declared.words.Workload.TheVariants as kind
 use Rattle.alias_rules.specs.Fine.{IsTakenPlan}
 use Rattle.flat_core.specs.System.{System}
 use Rattle.sample_trace.specs.Source.{copy_source, seen_source}
@@ -10,7 +10,7 @@ use Rattle.trace_bench.specs.declared.outcome.Outcome.{Outcome}
 use Rattle.trace_bench.specs.Outcome.{IsOutcomeOf}
 
 -- the specification of a kind
-abbrev pub source_of : Kind → List ℕ
+abbrev pub source_of : Workload → List ℕ
 source_of kind.Seen = seen_source
 source_of kind.Copy = copy_source
 

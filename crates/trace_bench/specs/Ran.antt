@@ -1,10 +1,9 @@
 -- What a run over the sample trace has counted.
 use Rattle.std.specs.Prelude.{◌≡◌, ℕ, ◌-◌, ◌^◌, Bool, true, List, [], ◌++◌, length, min}
-use Rattle.std.specs.List.{filter, sum_by}
+use Rattle.std.specs.List.{sum_by}
 use Rattle.flat_core.specs.System.{System}
+use Rattle.flat_core.specs.Updates.{running_updates}
 use Rattle.monitor_run.specs.inner.State as engine
-use Rattle.monitor_run.specs.Updates.{is_running_update}
-use Rattle.program_text.specs.Text.{numbers}
 use Rattle.sample_trace.specs.Trace.{trace_text}
 use Rattle.trace_monitor.specs.Counted.{HasCounted}
 use Rattle.trace_monitor.specs.declared.ending.RunEnding.{RunEnding}
@@ -15,10 +14,6 @@ use Rattle.trace_monitor.specs.Next.{EndsBy}
 -- counts stop at 2^64 - 1
 abbrev pub up_to_most : ℕ → ℕ
 up_to_most n = min n (2 ^ 64 - 1)
-
--- the numbers of the updates that run
-abbrev pub running_updates : System → List ℕ
-running_updates s = filter (is_running_update s) (numbers s)
 
 -- so much for each update that runs, together
 abbrev pub updates_sum : System → (ℕ → ℕ) → ℕ

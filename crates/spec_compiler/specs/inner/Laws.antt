@@ -10,7 +10,7 @@ use Rattle.flat_core.specs.Stream.{Outcome}
 use Rattle.flat_core.specs.System.{System, equation}
 use Rattle.flat_core.specs.Text.{due_text}
 use Rattle.flat_core.specs.inner.TypedLines.{AreTypedLines}
-use Rattle.spec_parser.specs.Tree as tree
+use Rattle.syntax_tree.specs.Tree as tree
 use Rattle.spec_meaning.specs.Due.{IsFaulty, IsDueText}
 use Rattle.spec_meaning.specs.Happens.{Happens, IsNeeded}
 use Rattle.spec_meaning.specs.Occurrence.{Occurrence}

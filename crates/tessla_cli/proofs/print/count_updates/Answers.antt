@@ -1,5 +1,5 @@
 use Rattle.std.proofs.Common.{sym, ◌∙◌}
-use Rattle.monitor_run.specs.Updates.{is_running_update}
+use Rattle.flat_core.specs.Updates.{is_running_update}
 use Rattle.tessla_cli.proofs.Counting.{counted_with, counted_without}
 use Rattle.tessla_cli.proofs.print.count_updates.Goals as goal
 use Rattle.tessla_cli.proofs.print.count_updates.Goals.{then-is_running_update, else-is_running_update}

@@ -1,5 +1,5 @@
 use Rattle.std.proofs.Common.{◌≡◌, ◌≤◌}
-use Rattle.monitor_run.specs.Updates.{is_running_update}
+use Rattle.flat_core.specs.Updates.{is_running_update}
 use Rattle.tessla_cli.proofs.Counting.{counted}
 use Rattle.tessla_cli.proofs.print.count_updates.Given as goal
 

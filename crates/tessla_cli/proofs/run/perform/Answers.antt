@@ -1,6 +1,6 @@
 use Rattle.std.proofs.Common.{ap, subst, sym, ◌∙◌}
 use Rattle.tsl_world.proofs.Runs.{grows_weaker}
-use Rattle.tessla_cli.specs.inner.Shape.{RunsSource, SourceEnds, RunsSystem, SystemEnds, HasPrinted, compiled, compiled_ends, printed}
+use Rattle.tessla_cli.specs.inner.RunPhases.{RunsSource, SourceEnds, RunsSystem, SystemEnds, HasPrinted, compiled, compiled_ends, printed}
 use Rattle.tessla_cli.specs.Tasks.{Task, print, task_seen}
 use Rattle.tessla_cli.proofs.run.perform.Goals as goal
 

@@ -1,6 +1,6 @@
 use Rattle.std.proofs.Common.{refl}
 use Rattle.tsl_world.proofs.Runs.{grows_none, grows_run, grows_weaker}
-use Rattle.tessla_cli.specs.inner.Shape.{HasPrinted, RunsSource, prints, uncompiled}
+use Rattle.tessla_cli.specs.inner.RunPhases.{HasPrinted, RunsSource, prints, uncompiled}
 use Rattle.tessla_cli.specs.Tasks.{print}
 use Rattle.tessla_cli.proofs.Printing.{prints_some, prints_all}
 use Rattle.tessla_cli.proofs.run.print_text.Goals as goal

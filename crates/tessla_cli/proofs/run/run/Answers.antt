@@ -1,7 +1,7 @@
 use Rattle.std.proofs.Common.{◌≡◌, ◌∙◌, ap, option_and_then, option_map, subst, sym, Some}
 use Rattle.tessla_cli.specs.declared.ending.Ending.{Ending}
 use Rattle.tessla_cli.specs.declared.task.Request.{Request as CodeRequest}
-use Rattle.tessla_cli.specs.inner.Shape.{AloneIsDone, RunsAlone, RunsSpec, SpecEnds, RunsWords, WordsEnd, asked, asked_ends, sampled, samples}
+use Rattle.tessla_cli.specs.inner.RunPhases.{AloneIsDone, RunsAlone, RunsSpec, SpecEnds, RunsWords, WordsEnd, asked, asked_ends, sampled, samples}
 use Rattle.tessla_cli.specs.Tasks.{alone, alone_seen, over, request_seen, requested, task_seen, with_spec, without_spec}
 use Rattle.tsl_world.proofs.Runs.{grows_weaker}
 use Rattle.tessla_cli.proofs.run.run.Goals as goal

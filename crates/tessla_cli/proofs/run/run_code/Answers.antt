@@ -4,9 +4,9 @@ use Rattle.flat_core.specs.System.{System}
 use Rattle.tsl_world.specs.declared.outside.Did.TheVariants.{Opened, NotOpened}
 use Rattle.tsl_world.specs.declared.outside.Slot.TheVariants.{Trace}
 use Rattle.tessla_cli.specs.declared.ending.Ended.{Ended}
-use Rattle.tessla_cli.specs.Parts.{Watched, WatchEnds}
-use Rattle.tessla_cli.specs.inner.Shape.{RunsSystem, SystemEnds, counted_text}
-use Rattle.tessla_cli.specs.inner.Shape.{idle, no_trace, watched, ends}
+use Rattle.tessla_cli.specs.Effects.{Watched, WatchEnds}
+use Rattle.tessla_cli.specs.inner.RunPhases.{RunsSystem, SystemEnds, counted_text}
+use Rattle.tessla_cli.specs.inner.RunPhases.{idle, no_trace, watched, ends}
 use Rattle.tsl_world.proofs.Runs.{grows_none, grows_called, grows_run}
 use Rattle.tessla_cli.proofs.Grown.{grows_following, grows_both}
 use Rattle.tessla_cli.proofs.run.run_code.Goals as goal

@@ -1,4 +1,4 @@
-use Rattle.tessla_cli.specs.inner.Shape.{RunsSpec, unopened}
+use Rattle.tessla_cli.specs.inner.RunPhases.{RunsSpec, unopened}
 use Rattle.tessla_cli.specs.Tasks.{task_seen}
 use Rattle.tsl_world.proofs.Runs.{grows_none}
 use Rattle.tessla_cli.proofs.run.run_in_pieces.Goals as goal

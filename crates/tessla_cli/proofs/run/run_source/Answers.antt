@@ -1,5 +1,5 @@
 use Rattle.std.proofs.Common.{refl, ◌∙◌}
-use Rattle.tessla_cli.specs.inner.Shape.{SourceEnds, spec_refused}
+use Rattle.tessla_cli.specs.inner.RunPhases.{SourceEnds, spec_refused}
 use Rattle.tessla_cli.specs.Tasks.{task_seen}
 use Rattle.tsl_world.proofs.Runs.{grows_none}
 use Rattle.tessla_cli.proofs.run.run_source.Goals as goal

@@ -1,9 +1,9 @@
 use Rattle.std.proofs.Common.{◌≡◌, ◌≤◌, take, length, true, false, refl, sym, subst, rules, List, ℕ, ◌++◌, []}
 use Rattle.tsl_world.specs.Runs.{Runs}
-use Rattle.tsl_world.proofs.Parts.{read_within}
+use Rattle.tsl_world.proofs.Untouched.{read_within}
 use Rattle.tsl_world.proofs.Runs.{none}
 use Rattle.trace_monitor.specs.Next.{is_nothing}
-use Rattle.tessla_cli.specs.inner.Shape.{ReadsSpec, GivesSource}
+use Rattle.tessla_cli.specs.inner.RunPhases.{ReadsSpec, GivesSource}
 use Rattle.tessla_cli.proofs.Reading.{HasRead, has_read_none, reads_more, has_read_more, has_read_all, spec_read_on, none_taken, some_taken}
 use Rattle.tessla_cli.proofs.source.read_source.Goals as goal
 use Rattle.trace_reader.specs.declared.limits.TheConstants.{MOST_PIECE_BYTES}

@@ -1,5 +1,5 @@
 use Rattle.std.specs.Prelude.{slice_index}
-use Rattle.monitor_run.specs.Updates.{is_running_update}
+use Rattle.flat_core.specs.Updates.{is_running_update}
 use Rattle.program_text.proofs.Numbers.{text_more}
 use Rattle.tessla_cli.specs.Statistics.{update_line}
 use Rattle.tessla_cli.proofs.statistics.print_updates.Goals as goal

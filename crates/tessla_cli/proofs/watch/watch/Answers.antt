@@ -1,13 +1,13 @@
 use Rattle.std.proofs.Common.{◌≡◌, ◌≤◌, ◌++◌, [], take, length, false, refl, ◌∙◌, ap, subst, rules, arith, Bool, Option, Ok}
 use Rattle.std.specs.Result.{result_from_control_flow}
-use Rattle.tsl_world.proofs.Parts.{read_within}
+use Rattle.tsl_world.proofs.Untouched.{read_within}
 use Rattle.tsl_world.proofs.Runs.{none, go_on, weaker}
 use Rattle.trace_monitor.specs.declared.options.Options.{Options}
 use Rattle.trace_monitor.specs.declared.ending.RunEnding.{RunEnding}
 use Rattle.trace_monitor.specs.Due.{IsDue}
 use Rattle.trace_monitor.specs.Next.{EndsBy, IsNext, is_nothing}
 use Rattle.trace_monitor.proofs.Within.{kept_within, some_more}
-use Rattle.tessla_cli.specs.Parts.{Watched, WatchEnds}
+use Rattle.tessla_cli.specs.Effects.{Watched, WatchEnds}
 use Rattle.tessla_cli.proofs.Dues.{due_at_start, goes_on_at_start}
 use Rattle.tessla_cli.proofs.Watching.{Stands, at_start, read_on, stopped_at_piece, stopped_at_gift, stopped_between, gave_all, ends, due_as, next_as, counted_as}
 use Rattle.tessla_cli.proofs.watch.watch.Goals as goal

@@ -3,7 +3,7 @@ use Rattle.std.proofs.lemmas.List.{append-nil}
 use Rattle.std.proofs.lemmas.Result.{err_from_is_err_and}
 use Rattle.tsl_world.specs.declared.outside.Did.{Did}
 use Rattle.tsl_world.proofs.Runs.{go_on, quiet}
-use Rattle.tessla_cli.specs.Parts.{Gives}
+use Rattle.tessla_cli.specs.Effects.{Gives}
 use Rattle.tessla_cli.proofs.Writing.{gave_less}
 use Rattle.tessla_cli.proofs.write.write_all.Goals as goal
 

@@ -1,10 +1,10 @@
--- The parts of a run's journal, one after another.
+-- The phases of a run, by what each adds to the journal.
 use Rattle.std.specs.Prelude.{◌≡◌, ℕ, ◌≤◌, Bool, true, false, List, [], ◌∷◌, ◌++◌, length, slice_index, Some, None}
 use Rattle.alias_rules.specs.Fine.{IsTakenPlan}
 use Rattle.flat_core.specs.System.{System}
 use Rattle.monitor_run.specs.inner.State as engine
 use Rattle.spec_compiler.specs.Compiled.{Compiles, IsRefusedBy}
-use Rattle.spec_parser.specs.Tree as tree
+use Rattle.syntax_tree.specs.Tree as tree
 use Rattle.spec_reader.specs.declared.fault.SpecFault.{SpecFault}
 use Rattle.trace_monitor.specs.declared.options.Options.{Options}
 use Rattle.tsl_world.specs.Begins.{Begins}
@@ -19,7 +19,7 @@ use Rattle.tessla_cli.specs.declared.ending.Ending.TheVariants as ending
 use Rattle.tessla_cli.specs.declared.task.Form.{Form}
 use Rattle.tessla_cli.specs.Alone.{AloneStops, IsAloneText}
 use Rattle.tessla_cli.specs.Conduct.{HasWhole}
-use Rattle.tessla_cli.specs.Parts.{IsTake, Watched, WatchEnds}
+use Rattle.tessla_cli.specs.Effects.{IsTake, Watched, WatchEnds}
 use Rattle.tessla_cli.specs.Printed.{IsTextOf}
 use Rattle.tessla_cli.specs.Statistics.{statistics_text}
 use Rattle.tessla_cli.specs.Tasks.{Alone, Task, alone_of, print, monitor, asked_of, requested}
