@@ -4,6 +4,7 @@ mod bodies;
 mod constructs;
 mod expressions;
 mod forms;
+mod kinds;
 mod naming;
 mod of_call_limits;
 mod of_definition_cycles;
@@ -13,17 +14,16 @@ mod of_spec_printer;
 mod of_spec_reader;
 mod of_type_check;
 mod parsing;
-mod rules;
 mod shapes;
 
 ghost use Rattle.std.specs.Prelude.{IfSome};
-ghost use Rattle.spec_parser.specs.inner.Shape.{items_of};
+ghost use Rattle.syntax_tree.specs.inner.OneLevel.{items_of};
 ghost use Rattle.definition_cycles.specs.Nodes.{HasFewNodes};
 
 use spec_lexer::lex::lex;
 use spec_parser::parse::parse;
-use spec_parser::tree::Tree;
 use std::alloc::Global;
+use syntax_tree::tree::Tree;
 
 /// The tree of a source, if it has one.
 fn tree_of(alloc: Global, source: &[u8]) -> Option<Tree>

@@ -8,9 +8,9 @@ use flat_core::equation::{Equation, Op, Output};
 use flat_core::flat::Flat;
 use flat_core::lists::Args;
 use recursion_check::check::{CycleFault, check_cycles, run_order};
-use recursion_check::equations::EqList;
 use std::alloc::Global;
 use std::test::Fail;
+use translation_order::steps::Steps;
 use tsl_value::ids::EqId;
 use tsl_value::memory::NoMemory;
 use tsl_value::scalar::{ScalarType, ValueType};
@@ -56,7 +56,7 @@ fn system(
 }
 
 /// The cycle that was answered.
-fn cycle(answer: &Result<(), CycleFault>) -> Option<&EqList> {
+fn cycle(answer: &Result<(), CycleFault>) -> Option<&Steps> {
     match answer {
         Ok(_) => None,
         Err(CycleFault::Cycle { equations }) => Some(equations),
@@ -70,7 +70,7 @@ fn an_equation_of_itself_is_a_cycle(rt: HostRuntime) -> Result<(), Fail> {
     let answer = check_cycles(rt.alloc(), &flat);
     let equations = cycle(&answer).ok_or("no cycle")?;
     assert_eq!(rt; equations.len(), 1);
-    assert_eq!(rt; equations.get(0).copied(), Some(EqId::new(3)));
+    assert_eq!(rt; equations.get(0).copied(), Some(3));
     assert_eq!(rt; equations.get(1).copied(), None);
     Ok(())
 }
@@ -81,8 +81,8 @@ fn a_cycle_through_the_second_of_a_last(rt: HostRuntime) -> Result<(), Fail> {
     let answer = check_cycles(rt.alloc(), &flat);
     let equations = cycle(&answer).ok_or("no cycle")?;
     assert_eq!(rt; equations.len(), 2);
-    assert_eq!(rt; equations.get(0).copied(), Some(EqId::new(0)));
-    assert_eq!(rt; equations.get(1).copied(), Some(EqId::new(1)));
+    assert_eq!(rt; equations.get(0).copied(), Some(0));
+    assert_eq!(rt; equations.get(1).copied(), Some(1));
     Ok(())
 }
 
@@ -92,7 +92,7 @@ fn a_delay_that_resets_itself_is_a_cycle(rt: HostRuntime) -> Result<(), Fail> {
     let answer = check_cycles(rt.alloc(), &flat);
     let equations = cycle(&answer).ok_or("no cycle")?;
     assert_eq!(rt; equations.len(), 1);
-    assert_eq!(rt; equations.get(0).copied(), Some(EqId::new(0)));
+    assert_eq!(rt; equations.get(0).copied(), Some(0));
     Ok(())
 }
 

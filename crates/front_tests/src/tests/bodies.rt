@@ -24,42 +24,6 @@ fn made(alloc: Global, source: &[u8]) -> Result<(Functions, Option<Place>), Spec
     Ok((functions, place))
 }
 
-fn nodes(functions: &Functions, number: usize) -> u32 {
-    match functions.body(number) {
-        Some(body) => body.nodes(),
-        None => 0,
-    }
-}
-
-#[test]
-fn the_ninth_doubling_is_too_large(rt: HostRuntime) -> Result<(), Fail> {
-    let source = b"def few(a: Int): Int := one(f10(a))
-def f0(a: Int): Int := a + 1
-def f1(a: Int): Int := f0(a) + f0(a)
-def f2(a: Int): Int := f1(a) + f1(a)
-def f3(a: Int): Int := f2(a) + f2(a)
-def f4(a: Int): Int := f3(a) + f3(a)
-def f5(a: Int): Int := f4(a) + f4(a)
-def f6(a: Int): Int := f5(a) + f5(a)
-def f7(a: Int): Int := f6(a) + f6(a)
-def f8(a: Int): Int := f7(a) + f7(a)
-def f9(a: Int): Int := f8(a) + f8(a)
-def f10(a: Int): Int := f9(a) + f9(a)
-def one(a: Int): Int := 1
-in i: Events[Int]
-out i";
-    let (functions, place) = made(rt.alloc(), source).ok().ok_or("refused")?;
-    let wanted = Place {
-        line: 11,
-        column: 5,
-    };
-    assert_eq!(rt; place, Some(wanted));
-    assert_eq!(rt; nodes(&functions, 9), 1023);
-    assert_eq!(rt; nodes(&functions, 10), 0);
-    assert_eq!(rt; nodes(&functions, 0), 1);
-    Ok(())
-}
-
 /// How many nodes a function with an option has at operands.
 fn nodes_at(alloc: Global, functions: &Functions) -> Result<u32, NoMemory> {
     let of = ValueType::Scalar(ScalarType::Int);

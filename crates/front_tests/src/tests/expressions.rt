@@ -1,7 +1,7 @@
 // Small specifications, with what the language says of them.
 
 ghost use Rattle.std.specs.Prelude.{◌≡◌, map};
-ghost use Rattle.spec_parser.specs.inner.Shape.{item_of};
+ghost use Rattle.syntax_tree.specs.inner.OneLevel.{item_of};
 ghost use Rattle.name_check.specs.Scope.{top};
 ghost use Rattle.expr_types.specs.inner.Blocks.{AreBlocks};
 
@@ -17,9 +17,9 @@ use name_check::check::check_names;
 use name_check::declaration::Declaration;
 use name_check::names::Names;
 use name_check::scope::Scope;
-use spec_parser::tree::{Body, DefinitionParts, Item, Tree};
 use std::alloc::Global;
 use std::test::Fail;
+use syntax_tree::tree::{Body, Definition, Item};
 use tsl_value::memory::NoMemory;
 use tsl_value::place::Place;
 use tsl_value::scalar::{KeyType, ValueType};
@@ -86,51 +86,6 @@ fn filled(alloc: Global, items: &[Item], names: &Names) -> Option<KindTable>
     Some(kinds)
 }
 
-/// What is wrong in a source whose names are right.
-fn wrong(alloc: Global, source: &[u8]) -> Option<Wrong> {
-    let tree = tree_of(alloc, source)?;
-    let Ok(names) = check_names(alloc, &tree) else {
-        return None;
-    };
-    let kinds = filled(alloc, tree.items(), &names)?;
-    match find_wrong_type(alloc, tree.items(), &names, &kinds) {
-        Ok(wrong) => wrong,
-        Err(_) => None,
-    }
-}
-
-fn is_part(alloc: Global, source: &[u8], line: u32, column: u32, clash: Clash) -> bool {
-    let place = Place { line, column };
-    wrong(alloc, source) == Some(Wrong::Part { place, clash })
-}
-
-#[test]
-fn a_part_that_does_not_fit(rt: HostRuntime) {
-    let source = b"def f(a: Bool): Int := a + 1";
-    let clash = Clash {
-        have: ExprType::Value(BOOL),
-        want: Asked::Exactly(NUMBER),
-    };
-    assert!(rt; is_part(rt.alloc(), source.as_slice(), 1, 24, clash));
-}
-
-#[test]
-fn braces_where_no_macro_is(rt: HostRuntime) {
-    let source = b"def a: Int := { def b := 1 b }";
-    let place = Place {
-        line: 1,
-        column: 21,
-    };
-    let written = Some(INTS);
-    assert!(rt; wrong(rt.alloc(), source.as_slice()) == Some(Wrong::Braces { place, written }));
-}
-
-#[test]
-fn nothing_is_wrong(rt: HostRuntime) {
-    let source = b"def f(a: Int, b: Int): Int := a + b\nout f(1, 2) as c";
-    assert!(rt; wrong(rt.alloc(), source.as_slice()).is_none());
-}
-
 #[test]
 fn what_names_are(rt: HostRuntime) -> Result<(), Fail> {
     let source =
@@ -154,19 +109,30 @@ fn what_names_are(rt: HostRuntime) -> Result<(), Fail> {
         find_aggregate_result(tree.items(), &kinds),
         Some(Place { line: 3, column: 5 })
     );
+    let place = Place {
+        line: 5,
+        column: 10,
+    };
+    let clash = Clash {
+        have: BOOLS,
+        want: Asked::Exactly(INTS),
+    };
+    let wrong = find_wrong_type(rt.alloc(), tree.items(), &names, &kinds)?;
+    assert!(rt; wrong == Some(Wrong::Part { place, clash }));
     Ok(())
 }
 
-/// The parts of the definition that is the last item.
-fn last_definition(items: &[Item]) -> Option<&DefinitionParts> {
+/// The definition that is the last item.
+fn last_definition(items: &[Item]) -> Option<&Definition> {
     match items.last() {
-        Some(Item::Defined(_, definition)) => Some(definition.parts()),
+        Some(Item::Defined(_, definition)) => Some(definition),
         _ => None,
     }
 }
 
 /// Whether the last definition is nothing, and so is its body.
-fn is_nothing(alloc: Global, at: &Around<'_>, parts: &DefinitionParts) -> Result<bool, NoMemory> {
+fn is_nothing(alloc: Global, at: &Around<'_>, definition: &Definition) -> Result<bool, NoMemory> {
+    let parts = definition.parts();
     let Body::Plain(body) = &parts.body else {
         return Ok(false);
     };
@@ -190,7 +156,7 @@ fn one_expression(rt: HostRuntime) -> Result<(), Fail> {
     let source = b"in i: Int\ndef f(a: Int) := a\ndef b := f(1) + i";
     let tree = tree_of(rt.alloc(), source).ok_or("no tree")?;
     let items = tree.items();
-    let parts = last_definition(items).ok_or("no definition")?;
+    let definition = last_definition(items).ok_or("no definition")?;
     let Ok(names) = check_names(rt.alloc(), &tree) else {
         return Err("names are refused")?;
     };
@@ -207,7 +173,7 @@ fn one_expression(rt: HostRuntime) -> Result<(), Fail> {
         number: 2,
         params: &[],
     };
-    assert!(rt; is_nothing(rt.alloc(), &at, parts)?);
+    assert!(rt; is_nothing(rt.alloc(), &at, definition)?);
     assert_eq!(rt; at.declared_type(Declaration::Stream(1)), Some(NUMBER));
     assert!(rt; takes_a_number(rt.alloc(), &at)?);
     Ok(())

@@ -1,21 +1,21 @@
-// Small specifications, with the equations that the language has for them, counted by hand.
+// A small specification, with the equations that the language has for it, counted by hand.
 
 use crate::tests::tree_of;
 use definition_cycles::limits::MOST_CALLS;
-use equation_marks::count::{Counter, ENOUGH};
+use equation_marks::count::Counter;
 use expr_types::around::Around;
 use expr_types::kinds::KindTable;
 use name_check::check::check_names;
 use name_check::scope::Scope;
-use spec_parser::tree::Item;
 use std::alloc::Global;
+use syntax_tree::tree::Item;
 use tsl_value::scalar::{KeyType, ValueType};
 use type_rules::asked::INT;
 use type_rules::rule::{ExprType, Setting};
 
-/// How many equations there are with those of the expression that is printed last, where the first names are streams of integers
+/// How many equations the expression that is printed last has, where the first names are streams of integers
 /// and of sets.
-fn counted(alloc: Global, source: &[u8], count: u32) -> Option<u32> {
+fn counted(alloc: Global, source: &[u8]) -> Option<u32> {
     let tree = tree_of(alloc, source)?;
     let Ok(names) = check_names(alloc, &tree) else {
         return None;
@@ -44,27 +44,11 @@ fn counted(alloc: Global, source: &[u8], count: u32) -> Option<u32> {
     let Some(Item::OutputAs(_, expression, _, _)) = tree.items().last() else {
         return None;
     };
-    counter.expression(&at, MOST_CALLS, expression, count).ok()
-}
-
-#[test]
-fn a_call_makes_a_block_and_a_result(rt: HostRuntime) {
-    let source =
-        b"in i: Int\nin s: Set[Int]\ndef m(x: Events[Int]) := { def y := x + 1 def z := x y * z }\nout m(i) as a";
-    assert_eq!(rt; counted(rt.alloc(), source, 0), Some(1 + 1 + 5));
+    counter.expression(&at, MOST_CALLS, expression, 0).ok()
 }
 
 #[test]
 fn a_choice_between_sets_is_one_operation(rt: HostRuntime) {
     let sets = b"in i: Int\nin s: Set[Int]\nout if i > 0 then Set.add(s, 1) else s as a";
-    assert_eq!(rt; counted(rt.alloc(), sets, 0), Some(1 + 2 + 8));
-    let integers = b"in i: Int\nin s: Set[Int]\nout if true then i else 2 as a";
-    assert_eq!(rt; counted(rt.alloc(), integers, 0), Some(1));
-}
-
-#[test]
-fn nothing_is_counted_beyond(rt: HostRuntime) {
-    let source = b"in i: Int\nin s: Set[Int]\nout 1 + 2 as a";
-    assert_eq!(rt; counted(rt.alloc(), source, 4094), Some(4096));
-    assert_eq!(rt; counted(rt.alloc(), source, 4096), Some(ENOUGH));
+    assert_eq!(rt; counted(rt.alloc(), sets), Some(1 + 2 + 8));
 }

@@ -5,7 +5,6 @@ use function_bodies::functions::Functions;
 use name_check::check::check_names;
 use name_check::scope::Scope;
 use name_check::top::top_names;
-use spec_parser::tree::{Expr, Item, Operator, Tree};
 use std::alloc::Global;
 use std::test::Fail;
 use stream_constructs::construct::Stream;
@@ -15,6 +14,7 @@ use stream_shapes::construct::Construct;
 use stream_shapes::literal::literal;
 use stream_shapes::make::{choice_operands, make, make_choice};
 use stream_shapes::shape::shape;
+use syntax_tree::tree::{Expr, Item, Operator, Tree};
 use translation_order::steps::Steps;
 use tsl_value::ids::EqId;
 use tsl_value::memory::NoMemory;
@@ -43,54 +43,19 @@ fn no_functions(alloc: Global) -> Result<Functions, NoMemory> {
     Functions::of(alloc, &[], &names, &Steps::new(alloc))
 }
 
-fn word(construct: &Construct) -> &'static str {
-    match construct {
-        Construct::Nil => "nil",
-        Construct::Unit => "unit",
-        Construct::Literal(_) => "literal",
-        Construct::Empty(_) => "empty",
-        Construct::Time => "time",
-        Construct::Last => "last",
-        Construct::Delay => "delay",
-        Construct::Merge => "merge",
-        Construct::Const(_) => "const",
-        Construct::Filter => "filter",
-        Construct::FilterBy(_) => "filter by",
-        Construct::Lift(_) => "lift",
-        Construct::Signal(_) => "signal",
-        Construct::Update(_, _) => "update",
-    }
-}
-
-/// The construct of the first output, and how many parts it has.
-fn shape_of(alloc: Global, source: &[u8]) -> Option<(&'static str, usize)> {
-    let tree = tree_of(alloc, source)?;
-    let names = check_names(alloc, &tree).ok()?;
-    let functions = no_functions(alloc).ok()?;
-    let scope = Scope::all(&names);
-    let found = shape(alloc, &functions, &scope, output_of(&tree)?).ok()?;
-    Some((word(&found.construct), found.parts.len()))
-}
-
 #[test]
-fn literals_are_no_parts(rt: HostRuntime) -> Result<(), Fail> {
-    let shapes: [(&[u8], &str, usize); 12] = [
-        (b"out unit as a", "unit", 0),
-        (b"out \"b\" as a", "literal", 0),
-        (b"out Map.empty[Int, Bool] as a", "empty", 0),
-        (b"out delay(i, i) as a\nin i: Int", "delay", 2),
-        (b"out default(i, 1) as a\nin i: Int", "merge", 2),
-        (b"out const(-5, i) as a\nin i: Int", "const", 1),
-        (b"out filter(i, i > 1) as a\nin i: Int", "filter", 2),
-        (b"out filter(i, true) as a\nin i: Int", "filter by", 1),
-        (b"out if i > 1 then 1 else i as a\nin i: Int", "signal", 2),
-        (b"out !(i == -1) as a\nin i: Int", "signal", 1),
-        (b"out Set.contains(Set.empty[Int], 1) as a", "signal", 1),
-        (b"out Set.add(Set.empty[Int], 1) as a", "update", 1),
-    ];
-    for (source, word, parts) in shapes {
-        assert_eq!(rt; shape_of(rt.alloc(), source), Some((word, parts)));
-    }
+fn a_filter_has_two_parts(rt: HostRuntime) -> Result<(), Fail> {
+    let source = b"out filter(i, i > 1) as a\nin i: Int";
+    let tree = tree_of(rt.alloc(), source).ok_or("refused")?;
+    let Ok(names) = check_names(rt.alloc(), &tree) else {
+        return Err("names are refused")?;
+    };
+    let functions = no_functions(rt.alloc())?;
+    let scope = Scope::all(&names);
+    let expression = output_of(&tree).ok_or("no output")?;
+    let found = shape(rt.alloc(), &functions, &scope, expression)?;
+    assert!(rt; matches!(&found.construct, Construct::Filter));
+    assert_eq!(rt; found.parts.len(), 2);
     Ok(())
 }
 

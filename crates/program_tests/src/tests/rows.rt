@@ -2,7 +2,7 @@
 
 ghost use Rattle.std.specs.Prelude.{◌<◌};
 
-use crate::tests::{End, RUN, SEEN, ends, has_ended, refusal, run};
+use crate::tests::{End, PREVIOUS, RUN, SEEN, ends, has_ended, prints, refusal, run};
 use std::alloc::{AllocError, Global};
 use std::fmt::Write;
 use std::test::Fail;
@@ -431,6 +431,22 @@ const SAMPLES: &[Row<'_>] = &[
         out: "events 2000\ninstants 2001\nbytes 29893\ncopied 1499500\n",
         err: "",
     },
+    Row {
+        words: &["bench", "seen", "20000"],
+        spec: "",
+        trace: "",
+        status: 0,
+        out: "events 20000\ninstants 20001\nbytes 309894\ncopied 0\n",
+        err: "",
+    },
+    Row {
+        words: &["bench", "seen", "100000"],
+        spec: "",
+        trace: "",
+        status: 0,
+        out: "events 100000\ninstants 100001\nbytes 1589895\ncopied 0\n",
+        err: "",
+    },
 ];
 
 /// Each run ends as its row says, and its world was told of each call.
@@ -567,6 +583,26 @@ fn all_new(alloc: Global) -> Result<String, AllocError> {
         write!(text, "{number}: s = false\n")?;
     }
     Ok(text)
+}
+
+/// The number before each, but for the first.
+fn all_before(alloc: Global) -> Result<String, AllocError> {
+    let mut text = String::new(alloc);
+    for before in 1..LINES {
+        let number = before + 1;
+        write!(text, "{number}: p = {before}\n")?;
+    }
+    Ok(text)
+}
+
+#[test]
+fn the_value_before_in_a_long_trace(rt: HostRuntime) -> Result<(), Fail> {
+    let trace = long_trace(rt.alloc())?;
+    let wanted = all_before(rt.alloc())?;
+    assert!(rt; wanted.len() == 1_677_776);
+    let left = run(rt.alloc(), RUN, PREVIOUS, trace.as_str(), 16, &[])?;
+    assert!(rt; has_ended(&left, prints(wanted.as_str())));
+    Ok(())
 }
 
 // A program that copies the set at each update, or runs the whole trace again at each piece, takes hours for this.

@@ -1,7 +1,7 @@
 // Which words ask for what.
 
 use command_words::limits::MOST_INSTANTS;
-use command_words::words::{Command, Kind, Words};
+use command_words::words::{Command, Words};
 use std::alloc::Global;
 use std::test::Fail;
 use tsl_value::limits::MOST_TRACE_BYTES;
@@ -14,10 +14,6 @@ fn words(alloc: Global, list: &[&str]) -> Result<Words, NoMemory> {
         words.push(Text::from_str(alloc, word)?)?;
     }
     Ok(words)
-}
-
-fn is_refused(alloc: Global, list: &[&str]) -> Result<bool, NoMemory> {
-    Ok(words(alloc, list)?.command(alloc)?.is_none())
 }
 
 #[test]
@@ -37,29 +33,5 @@ fn reads_a_run(rt: HostRuntime) -> Result<(), Fail> {
         _ => false,
     };
     assert!(rt; is_told);
-    Ok(())
-}
-
-#[test]
-fn reads_a_bench(rt: HostRuntime) -> Result<(), Fail> {
-    let alloc = rt.alloc();
-    let given = words(alloc, &["bench", "copy", "5"])?;
-    let is_told = match given.command(alloc)?.ok_or("a command")? {
-        Command::Bench {
-            kind: Kind::Copy,
-            count,
-        } => count == 5,
-        _ => false,
-    };
-    assert!(rt; is_told);
-    Ok(())
-}
-
-#[test]
-fn refuses_words(rt: HostRuntime) -> Result<(), Fail> {
-    let alloc = rt.alloc();
-    assert!(rt; is_refused(alloc, &["check"])?);
-    assert!(rt; is_refused(alloc, &["flat", "a", "--strict"])?);
-    assert!(rt; is_refused(alloc, &["gen", "seen", "0"])?);
     Ok(())
 }

@@ -65,19 +65,6 @@ fn lists_of_files_and_of_calls(rt: HostRuntime) -> Result<(), Fail> {
     Ok(())
 }
 
-#[test]
-fn memory_in_pieces_of_two(rt: HostRuntime) -> Result<(), Fail> {
-    let alloc = rt.alloc();
-    let mut world = MemoryWorld::new(alloc, two_files(alloc)?, 2, Calls::new(alloc))?;
-    assert_eq!(rt; writes(&mut world), Ok((2, 2)));
-    assert!(rt; world.is_told());
-    assert_eq!(rt;
-        (world.out(), world.err()),
-        (b"ou".as_slice(), b"er".as_slice())
-    );
-    Ok(())
-}
-
 // One byte and three, in turn.
 fn one_and_three(alloc: Global) -> Result<Sizes, NoMemory>
     ensures { IfOk result AreSizes }
@@ -96,10 +83,10 @@ fn memory_in_pieces_by_turns(rt: HostRuntime) -> Result<(), Fail> {
     let mut world = MemoryWorld::with_pieces(alloc, two_files(alloc)?, sizes, Calls::new(alloc))?;
     assert_eq!(rt; writes(&mut world), Ok((1, 3)));
     assert!(rt; world.is_told());
-    let sizes = one_and_three(alloc)?;
-    let mut other = MemoryWorld::with_pieces(alloc, two_files(alloc)?, sizes, Calls::new(alloc))?;
-    assert_eq!(rt; reads(&mut other, "a"), Ok((3, 0, b'x')));
-    assert!(rt; other.is_told());
+    assert_eq!(rt;
+        (world.out(), world.err()),
+        (b"o".as_slice(), b"err".as_slice())
+    );
     Ok(())
 }
 

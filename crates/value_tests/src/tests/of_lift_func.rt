@@ -1,7 +1,7 @@
 // Each call that may want memory, with ample memory.
 
 ghost use Rattle.std.specs.Prelude.{◌≡◌, ◌∷◌, [], pos, IfOk};
-ghost use Rattle.lift_func.specs.Tree.{Argument, Literal, One, Two};
+ghost use Rattle.lift_func.specs.BodyTree.{Argument, Literal, One, Two};
 
 use lift_func::body::{Binary, Body, Unary};
 use lift_func::eval::{EvalFault, eval, eval_scalars};

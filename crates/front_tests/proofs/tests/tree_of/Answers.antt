@@ -1,5 +1,5 @@
-use Rattle.spec_parser.specs.inner.Shape.{items_of}
-use Rattle.definition_cycles.proofs.CountLemmas.{few_nodes}
+use Rattle.syntax_tree.specs.inner.OneLevel.{items_of}
+use Rattle.spec_reader.proofs.CountLemmas.{few_nodes}
 use Rattle.front_tests.proofs.tests.tree_of.Goals as goal
 
 pub returns-in-Ok-parse : goal.returns-in-Ok-parse

@@ -1,5 +1,5 @@
 use Rattle.std.proofs.Common.{arith}
-use Rattle.plain_solver.proofs.SampleLemmas.{sorted_from_adjacent}
+use Rattle.code_tests.proofs.SortedLines.{sorted_from_adjacent}
 use Rattle.code_tests.proofs.tests.of_plain_solver.are_sorted.Goals as goal
 
 pub returns : goal.returns

@@ -1,6 +1,6 @@
 use Rattle.std.proofs.Common.{length, ap, ◌∙◌}
 use Rattle.flat_core.specs.declared.equation.Output.{Output}
-use Rattle.flat_core.proofs.BuildExample.{built, complete}
+use Rattle.flat_tests.proofs.BuiltLemmas.{built, complete}
 use Rattle.flat_tests.proofs.tests.of_flat_core.last_of_later.Goals as goal
 
 pub finish-requires : goal.finish-requires

@@ -1,6 +1,6 @@
 use Rattle.std.proofs.Common.{length, ap, ◌∙◌}
 use Rattle.flat_core.specs.declared.equation.Output.{Output}
-use Rattle.recursion_check.proofs.BuildExample.{built, guarded_complete}
+use Rattle.flat_tests.proofs.GuardedLemmas.{built, guarded_complete}
 use Rattle.flat_tests.proofs.tests.of_recursion_check.system.Goals as goal
 
 pub finish-requires : goal.finish-requires

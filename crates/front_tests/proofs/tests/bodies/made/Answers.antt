@@ -1,5 +1,5 @@
-use Rattle.spec_parser.specs.inner.Shape.{items_of}
-use Rattle.definition_cycles.proofs.CountLemmas.{few_nodes}
+use Rattle.syntax_tree.specs.inner.OneLevel.{items_of}
+use Rattle.spec_reader.proofs.CountLemmas.{few_nodes}
 use Rattle.expr_types.specs.inner.Shown.{kinds_of}
 use Rattle.spec_reader.proofs.SourceLemmas.{tree_typed}
 use Rattle.spec_reader.proofs.TypedLemmas.{are_plain, has_few_nodes}

@@ -11,6 +11,6 @@ use Rattle.value_tests.proofs.tests.of_lift_func.quotient_at.Goals as goal
 pub eval-requires : goal.eval-requires
 eval-requires c =
     let same : c.in_ok-copy.field-0 ≡ register.Scalar (scalar.Int c.args.divisor) =
-    c.in_ok-copy.ensures ∙ ap (λ z. register.Scalar (scalar.Int z)) (to_z-of_z w64 c.args.divisor c.ranges.divisor) in
+    c.in_ok-copy.ensures.equal ∙ ap (λ z. register.Scalar (scalar.Int z)) (to_z-of_z w64 c.args.divisor c.ranges.divisor) in
     quotient_evaluable (finite_map.empty {X = View} {R = nat_cmp}) (c.in_ok-copy.field-0 ∷ []) (0 ∷ []) c.in_ok-body.body c.args.divisor
     (λ k. same k ∷ []) refl (c.in_ok-body.ensures.equal ∙ c.in_ok-quotient.ensures)
