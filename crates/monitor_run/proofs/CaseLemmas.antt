@@ -2,7 +2,7 @@
 use Rattle.std.proofs.Common.{◌≡◌, ◌==◌, ℕ, zero, suc, ◌+◌, ◌-◌, ◌^◌, ◌<◌, Bool, true, false, List, [], ◌∷◌, length, map, Option, Some, None, Ok, Err, inl, inr, refl, sym, ap, subst, ◌∙◌, arith}
 use Rattle.std.proofs.lemmas.Bool.{false≢true, true≢false, ne_eqb}
 use Rattle.std.proofs.lemmas.List.{length-set}
-use Rattle.std.specs.Prelude.{◌⊎◌, IfOk, IsTrue, Result, is_some, min, not, if◌then◌else◌, slice_index}
+use Rattle.std.specs.Prelude.{◌⊎◌, IfErr, IfOk, IsOk, IsTrue, OnOk, Result, slice_set, is_some, min, not, if◌then◌else◌, slice_index}
 use Rattle.std.specs.List.{All, AllByRecursion, list_any}
 use Rattle.std.specs.Option.{option_and_then, option_or}
 use Rattle.std.proofs.lemmas.List.Elements.{recursion_from_All}
@@ -29,10 +29,10 @@ use Rattle.flat_core.specs.Typed.{IsTyped, empty, is_aggregate, kind_of, lift}
 use Rattle.flat_core.specs.inner.TypedEvents.{AreOf}
 use Rattle.flat_core.specs.inner.Arity.{HasArity}
 use Rattle.flat_core.proofs.TypedCase.{all_there_fit, options_fit}
-use Rattle.monitor_run.specs.inner.Here.{HasEffect, HasMade, HasMadeOne, IsBare, TakesTyped, effect_here, source_of, truth_of}
-use Rattle.flat_core.specs.inner.OpGroups.{counts, lift_answer}
+use Rattle.monitor_run.specs.inner.Here.{HasEffect, HasMade, HasMadeOne, HasPut, HasUpdated, IsBare, TakesTyped, effect_here, source_of, truth_of}
+use Rattle.flat_core.specs.inner.OpGroups.{counts, lift_answer, updated_of}
 use Rattle.flat_core.specs.Updates.{is_update}
-use Rattle.register_machine.specs.Machine.{Held, Bare, Cell, slot_of, slot_of_answer, Config, view_of, value_in, where_either, Effect, Fill, Make, effect_of}
+use Rattle.register_machine.specs.Machine.{Held, Bare, Cell, slot_of, slot_of_answer, Config, view_of, value_in, where_either, Effect, Fill, Make, made, effect_of}
 use Rattle.register_machine.specs.Copied.{size_at}
 use Rattle.monitor_run.specs.inner.Registers.{register_at, value_at}
 use Rattle.monitor_run.specs.inner.Shown.{config_of, held_at, held_by}
@@ -182,6 +182,68 @@ module _ (in_place : Bool) (i t : ℕ) (e : Equation) (registers last : List Reg
   lift_effect (Err (eval_fault.Fault kind)) body strict is bare value =
       subst (HasEffect in_place i e.op (source_of registers e.args) old old (Err (eval_fault.Fault kind))) (sym (scalar_answer (op.Lift body strict) is tt (Err kind) (lift_once body strict e.of (map (value_at old.cells registers) e.args) t ∙ value))) (refl, refl)
   lift_effect (Err eval_fault.Memory) body strict is bare value = tt
+
+-- ---- what updates make
+
+once_updated : (o : Op) (of : ValueType) (t : ℕ) (vs : List (Option View)) → is_update o ≡ true → at_once o of vs t ≡ Ok (updated_of o vs)
+once_updated op.SetAdd of t [] is = refl
+once_updated op.SetAdd of t (a ∷ []) is = refl
+once_updated op.SetAdd of t (a ∷ b ∷ []) is = refl
+once_updated op.SetAdd of t (a ∷ b ∷ x ∷ vs) is = refl
+once_updated op.SetRemove of t [] is = refl
+once_updated op.SetRemove of t (a ∷ []) is = refl
+once_updated op.SetRemove of t (a ∷ b ∷ []) is = refl
+once_updated op.SetRemove of t (a ∷ b ∷ x ∷ vs) is = refl
+once_updated op.MapAdd of t [] is = refl
+once_updated op.MapAdd of t (a ∷ []) is = refl
+once_updated op.MapAdd of t (a ∷ b ∷ []) is = refl
+once_updated op.MapAdd of t (a ∷ b ∷ x ∷ []) is = refl
+once_updated op.MapAdd of t (a ∷ b ∷ x ∷ y ∷ vs) is = refl
+once_updated op.MapRemove of t [] is = refl
+once_updated op.MapRemove of t (a ∷ []) is = refl
+once_updated op.MapRemove of t (a ∷ b ∷ []) is = refl
+once_updated op.MapRemove of t (a ∷ b ∷ x ∷ vs) is = refl
+once_updated _ of t vs is = absurd (false≢true is)
+
+made_once : (c : Config) (i t : ℕ) (o : Op) (args : List ℕ) (of : ValueType) → is_update o ≡ true → effect_of (λ j u. None) t c i o args of ≡ made (at_once o of (map (value_in c) args) t)
+made_once c i t op.SetAdd args of is = refl
+made_once c i t op.SetRemove args of is = refl
+made_once c i t op.MapAdd args of is = refl
+made_once c i t op.MapRemove args of is = refl
+made_once c i t _ args of is = absurd (false≢true is)
+
+made_effect : (in_place : Bool) (i : ℕ) (o : Op) (source : Register) (old new : Stored) (r : Register) (v : Option View) → is_update o ≡ true → HasUpdated in_place i source old new r v → HasEffect in_place i o source old new (Ok r) (made (Ok v))
+made_effect in_place i o source old new r None is had = (sym (ap (λ x. slot_of (held_by x)) had.0), had.1)
+made_effect in_place i o source old new r (Some v) is had = subst (λ q. HasMade q in_place i source old new r v) (sym is) had
+
+-- an update has run by a test that agrees
+pub update_effect : (tested in_place : Bool) (i t : ℕ) (e : Equation) (registers last : List Register) (old new : Stored) → TakesTyped old.cells registers e → is_update e.op ≡ true → tested ≡ in_place
+    → (r : Register) → HasUpdated tested i (source_of registers e.args) old new r (updated_of e.op (map (value_at old.cells registers) e.args))
+    → HasEffect in_place i e.op (source_of registers e.args) old new (Ok r) (effect_here registers last old i t e)
+update_effect tested in_place i t e registers last old new typed is same r had =
+    let does : effect_here registers last old i t e ≡ made (Ok (updated_of e.op (map (value_at old.cells registers) e.args))) =
+    made_once (config_of registers last old) i t e.op e.args e.of is
+    ∙ ap (λ vs. made (at_once e.op e.of vs t)) (values_seen registers last old e.args typed.live)
+    ∙ ap made (once_updated e.op e.of t (map (value_at old.cells registers) e.args) is) in
+    subst (HasEffect in_place i e.op (source_of registers e.args) old new (Ok r)) (sym does)
+    (made_effect in_place i e.op (source_of registers e.args) old new r (updated_of e.op (map (value_at old.cells registers) e.args)) is
+    (subst (λ b. HasUpdated b i (source_of registers e.args) old new r (updated_of e.op (map (value_at old.cells registers) e.args))) same had))
+
+-- ---- what is put into a place
+
+pub put_one : (P : Result Register EvalFault → Type 0) (place other : ℕ) (old new : List Register) (result : Result (Unit {0}) EvalFault) (r : Register) → IsOk result → new ≡ slice_set old place r → place ≡ other → P (Ok r) → HasPut other old new result P
+put_one P place other old new (Ok done) r ok is same has = (r, is ∙ (λ k. slice_set old (same k) r), has)
+put_one P place other old new (Err fault) r ok is same has = absurd (false≢true ok)
+
+pub put_as : (P Q : Result Register EvalFault → Type 0) (place other : ℕ) (old new : List Register) (result : Result (Unit {0}) EvalFault) → place ≡ other → ((r : Result Register EvalFault) → P r → Q r) → HasPut place old new result P → HasPut other old new result Q
+put_as P Q place other old new (Ok done) same turn put = (put.0, put.1 ∙ (λ k. slice_set old (same k) put.0), turn (Ok put.0) put.2)
+put_as P Q place other old new (Err fault) same turn put = turn (Err fault) put
+
+-- where out of memory is the only fault
+pub put_made : (P : Result Register EvalFault → Type 0) (Q : Register → Type 0) (place other : ℕ) (old new : List Register) (result : Result (Unit {0}) EvalFault) → place ≡ other → ((r : Register) → Q r → P (Ok r)) → P (Err eval_fault.Memory)
+    → OnOk result ((r : Register) × (new ≡ slice_set old place r) × Q r) → IfErr result (λ fault. fault ≡ eval_fault.Memory) → HasPut other old new result P
+put_made P Q place other old new (Ok done) same turn free put memory = (put.0, put.1 ∙ (λ k. slice_set old (same k) put.0), turn put.0 put.2)
+put_made P Q place other old new (Err fault) same turn free put memory = subst (λ f. P (Err f)) (sym memory) free
 
 -- ---- what is handed on
 

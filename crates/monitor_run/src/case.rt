@@ -1,8 +1,8 @@
 // What an operation makes of the registers of its arguments.
 
-ghost use Rattle.std.specs.Prelude.{◌≡◌, ◌<◌, All, IfErr, IfOk, IfSome, OnErr, IsTrue, None, Ok, Some, false, pos, if◌then◌else◌, is_some, length};
-ghost use Rattle.std.specs.Prelude.{map};
-ghost use Rattle.std.specs.Prelude.{List, slice_index};
+ghost use Rattle.std.specs.Prelude.{◌≡◌, ◌<◌, All, IfErr, IfOk, IfSome, IsOk, OnErr, OnOk, IsTrue, None, Ok, Some, false, pos, is_some, length};
+ghost use Rattle.std.specs.Prelude.{if◌then◌else◌, map};
+ghost use Rattle.std.specs.Prelude.{List, slice_index, slice_set};
 ghost use Rattle.std.specs.List.{list_all, list_any};
 ghost use Rattle.std.specs.Option.{option_map};
 ghost use Rattle.tsl_value.specs.View.{Plain};
@@ -14,12 +14,14 @@ ghost use Rattle.flat_core.specs.Members.{is_in};
 ghost use Rattle.flat_core.specs.Typed.{is_aggregate};
 ghost use Rattle.aggregate_store.specs.inner.Stored.{IsAggregate};
 ghost use Rattle.flat_core.specs.inner.Arity.{HasArity};
-ghost use Rattle.monitor_run.specs.inner.Here.{HasEffect, HasMadeOne, HasUpdated, IsBare, IsNamed, TakesTyped, effect_here, hands_on};
+ghost use Rattle.monitor_run.specs.inner.Here.{HasEffect, HasMadeOne, HasPut, HasUpdated, IsBare, IsBareValue, IsNamed, TakesTyped};
+ghost use Rattle.monitor_run.specs.inner.Here.{effect_here, hands_on};
 ghost use Rattle.flat_core.specs.inner.OpGroups.{counts, lift_answer, updated_of};
 ghost use Rattle.monitor_run.specs.inner.Here.{is_given_op};
 ghost use Rattle.monitor_run.specs.inner.Here.{source_of};
 ghost use Rattle.monitor_run.specs.inner.Registers.{register_at, value_at};
 
+use crate::machine::{empty, put};
 use crate::update::{Update, updated};
 use aggregate_store::store::Store;
 use flat_core::equation::{Equation, Op};
@@ -130,33 +132,54 @@ fn asked(body: &Body, args: &Args, registers: &[Register], store: &Store) -> Opt
     }
 }
 
-/// The value of a lifted body: where all its arguments are there, or of a body of options where one of them is.
-fn lift_value(
+/// The value that a body has, as a register.
+fn evaluated(
     alloc: Global,
     body: &Body,
-    strict: bool,
     args: &Args,
     registers: &[Register],
     store: &Store,
 ) -> Result<Register, EvalFault>
-    requires known { All (λ a. a < length registers.now) args.now }
-    requires typed { IsTrue (counts strict (map (value_at store.now.cells registers.now) args.now))
-        → IsEvaluable store.now.cells registers.now args.now body.now }
-    ensures value { IsHeldValue store.now.cells result
-        (lift_answer body.now strict (map (value_at store.now.cells registers.now) args.now)) }
+    requires { IsEvaluable store.now.cells registers.now args.now body.now }
+    ensures value { IsHeldValue store.now.cells result (apply body.now (map (value_at store.now.cells registers.now) args.now)) }
     ensures bare { IfOk result (λ r. IsBare r) }
 {
-    if !do_count(strict, args.ids(), registers) {
-        return Ok(Register::Empty);
-    }
-    if let Some(is_there) = asked(body, args, registers, store) {
-        return Ok(Register::Scalar(Scalar::Bool(is_there)));
-    }
     let numbers = numbers(alloc, args.ids())?;
     match eval(alloc, body, registers, &numbers, store)? {
         Some(scalar) => Ok(Register::Scalar(scalar)),
         None => Ok(Register::Empty),
     }
+}
+
+/// Puts the value of a lifted body into a place: where all its arguments are there, or of a body of options where one of them is.
+fn put_lifted(
+    alloc: Global,
+    body: &Body,
+    strict: bool,
+    args: &Args,
+    place: usize,
+    registers: &mut [Register],
+    store: &Store,
+) -> Result<(), EvalFault>
+    requires known { All (λ a. a < length registers.old) args.now }
+    requires typed { IsTrue (counts strict (map (value_at store.now.cells registers.old) args.now))
+        → IsEvaluable store.now.cells registers.old args.now body.now }
+    requires place { place < length registers.old }
+    ensures put { HasPut place registers.old registers.new result (λ r. IsBareValue store.now.cells r
+        (lift_answer body.now strict (map (value_at store.now.cells registers.old) args.now))) }
+    ensures same { OnErr result (registers.new ≡ registers.old) }
+{
+    if !do_count(strict, args.ids(), registers) {
+        empty(place, registers);
+        return Ok(());
+    }
+    if let Some(is_there) = asked(body, args, registers, store) {
+        put(Register::Scalar(Scalar::Bool(is_there)), place, registers);
+        return Ok(());
+    }
+    let value = evaluated(alloc, body, args, registers, store)?;
+    put(value, place, registers);
+    Ok(())
 }
 
 /// The unit event where something holds.
@@ -183,77 +206,119 @@ fn time_of(register: &Register, time: Time) -> Register
     }
 }
 
-/// The empty aggregate of a type at time 0.
-fn empty_at(of: ValueType, time: Time, store: &mut Store) -> Result<Register, EvalFault>
-    requires { IsAggregate of }
-    ensures made { IfOk result (λ r. HasMadeOne store.old store.new r (at_zero time (empty_of of))) }
+/// Puts a register into a place, as one of the cases of an equation.
+fn put_value(register: Register, place: usize, registers: &mut [Register]) -> Result<(), EvalFault>
+    requires { place < length registers.old }
+    ensures put { registers.new ≡ slice_set registers.old place register }
+    ensures ok { IsOk result }
+{
+    put(register, place, registers);
+    Ok(())
+}
+
+/// Puts the empty aggregate of a type into a place at time 0.
+fn put_empty(
+    of: ValueType,
+    time: Time,
+    place: usize,
+    registers: &mut [Register],
+    store: &mut Store,
+) -> Result<(), EvalFault>
+    requires aggregate { IsAggregate of }
+    requires place { place < length registers.old }
+    ensures made { OnOk result ((r : Register) × (registers.new ≡ slice_set registers.old place r)
+        × HasMadeOne store.old store.new r (at_zero time (empty_of of))) }
     ensures memory { IfErr result (λ fault. fault ≡ EvalFault.Memory) }
+    ensures same { OnErr result (registers.new ≡ registers.old) }
     ensures err { OnErr result (store.new ≡ store.old) }
 {
     if time.get() == 0 {
-        Ok(Register::Aggregate(store.empty(of)?))
+        let handle = store.empty(of)?;
+        put(Register::Aggregate(handle), place, registers);
     } else {
-        Ok(Register::Empty)
+        empty(place, registers);
     }
+    Ok(())
 }
 
-/// What an update has. An update has no fault.
-fn run_update(
+/// Puts what an update has into a place. An update has no fault.
+fn put_updated(
     e: &Equation,
     update: Update,
-    registers: &[Register],
+    place: usize,
+    registers: &mut [Register],
     store: &mut Store,
-) -> Result<Register, EvalFault>
+) -> Result<(), EvalFault>
     requires shape { HasArity e.now.op e.now.args }
-    requires known { All (λ a. a < length registers.now) e.now.args }
-    requires typed { TakesTyped store.old.cells registers.now e.now }
+    requires known { All (λ a. a < length registers.old) e.now.args }
+    requires typed { TakesTyped store.old.cells registers.old e.now }
     requires update { update.id < length store.old.ledger }
-    ensures updated { IfOk result (λ r. HasUpdated update.in_place update.id (source_of registers.now e.now.args) store.old store.new r
-        (updated_of e.now.op (map (value_at store.old.cells registers.now) e.now.args))) }
+    requires place { place < length registers.old }
+    ensures updated { OnOk result ((r : Register) × (registers.new ≡ slice_set registers.old place r)
+        × HasUpdated update.in_place update.id (source_of registers.old e.now.args) store.old store.new r
+        (updated_of e.now.op (map (value_at store.old.cells registers.old) e.now.args))) }
     ensures memory { IfErr result (λ fault. fault ≡ EvalFault.Memory) }
+    ensures same { OnErr result (registers.new ≡ registers.old) }
     ensures err { OnErr result (store.new ≡ store.old) }
 {
-    Ok(updated(e, update, registers, store)?)
+    match updated(e, update, registers, store)? {
+        Some(handle) => put(Register::Aggregate(handle), place, registers),
+        None => empty(place, registers),
+    }
+    Ok(())
 }
 
-/// What an equation has by its own case, an update in place if it is among these. Inputs and delays have their events in their
-/// registers already, and what is handed on is none of these cases.
-pub(crate) fn own_case(
+/// Puts what an equation has by its own case into its register, an update in place if it is among these. Inputs and delays have their
+/// events in their registers already, and what is handed on is none of these cases.
+pub(crate) fn put_own(
     alloc: Global,
     e: &Equation,
     id: EqId,
     in_place: &EqSet,
     time: Time,
-    registers: &[Register],
+    registers: &mut [Register],
     store: &mut Store,
-) -> Result<Register, EvalFault>
+) -> Result<(), EvalFault>
     requires shape { HasArity e.now.op e.now.args }
-    requires known { All (λ a. a < length registers.now) e.now.args }
+    requires known { All (λ a. a < length registers.old) e.now.args }
     requires other { is_given_op e.now.op ≡ false }
     requires own { hands_on e.now.op ≡ false }
-    requires typed { TakesTyped store.old.cells registers.now e.now }
+    requires typed { TakesTyped store.old.cells registers.old e.now }
     requires ledger { id < length store.old.ledger }
-    ensures effect { (last : List Register)
-        → HasEffect (is_in in_place.now id) id e.now.op (source_of registers.now e.now.args) store.old store.new result
-        (effect_here registers.now last store.old id time e.now) }
+    requires place { id < length registers.old }
+    ensures effect { (last : List Register) → HasPut id registers.old registers.new result (λ r.
+        HasEffect (is_in in_place.now id) id e.now.op (source_of registers.old e.now.args) store.old store.new r
+        (effect_here registers.old last store.old id time e.now)) }
+    ensures same { OnErr result (registers.new ≡ registers.old) }
     ensures err { OnErr result (store.new ≡ store.old) }
 {
+    let place = id.get() as usize;
     let args = &e.args;
     match &e.op {
         Op::Input | Op::Delay => unreachable!(),
         Op::Last | Op::Merge | Op::Filter | Op::Pick => unreachable!(),
-        Op::Nil => Ok(Register::Empty),
-        Op::Unit => Ok(unit_if(time.get() == 0)),
-        Op::Lift { body, strict } => lift_value(alloc, body, *strict, args, registers, store),
-        Op::Any => Ok(unit_if(is_one_there(args.ids(), registers))),
-        Op::Time => Ok(time_of(argument(registers, args, 0), time)),
-        Op::Empty => empty_at(e.of, time, store),
+        Op::Nil => put_value(Register::Empty, place, registers),
+        Op::Unit => put_value(unit_if(time.get() == 0), place, registers),
+        Op::Lift { body, strict } => put_lifted(
+            alloc, body, *strict, args, place, registers, store,
+        ),
+        Op::Any => put_value(
+            unit_if(is_one_there(args.ids(), registers)),
+            place,
+            registers,
+        ),
+        Op::Time => put_value(
+            time_of(argument(registers, args, 0), time),
+            place,
+            registers,
+        ),
+        Op::Empty => put_empty(e.of, time, place, registers, store),
         Op::SetAdd | Op::SetRemove | Op::MapAdd | Op::MapRemove => {
             let update = Update {
                 id,
                 in_place: in_place.contains(id),
             };
-            run_update(e, update, registers, store)
+            put_updated(e, update, place, registers, store)
         }
     }
 }

@@ -16,10 +16,10 @@ ghost use Rattle.monitor_run.specs.inner.Machine.{AreFresh, AreUnmarked, HasRoom
 ghost use Rattle.monitor_run.specs.inner.Registers.{AreHeld, register_at};
 ghost use Rattle.monitor_run.specs.inner.Shown.{plan_in};
 
-use crate::case::own_case;
+use crate::case::put_own;
 use crate::event::print_output;
 use crate::hand::{hand_on, hands_on};
-use crate::machine::{Machine, empty, put};
+use crate::machine::{Machine, empty};
 use flat_core::equation::{Equation, Op};
 use flat_core::flat::Flat;
 use flat_core::lists::EqSet;
@@ -125,19 +125,16 @@ fn run_own(
     ensures ran { IfOk result (λ root. HasRunOne (is_in in_place.now id) time id e.now machine.old machine.new root) }
 {
     let place = id.get() as usize;
-    match own_case(
+    match put_own(
         alloc,
         e,
         id,
         in_place,
         time,
-        &machine.registers,
+        &mut machine.registers,
         &mut machine.store,
     ) {
-        Ok(register) => {
-            put(register, place, &mut machine.registers);
-            Ok(None)
-        }
+        Ok(()) => Ok(None),
         Err(EvalFault::Fault(kind)) => {
             empty(place, &mut machine.registers);
             machine.faulted[place] = true;

@@ -7,7 +7,8 @@ ghost use Rattle.lift_func.specs.Update.{with_entry, with_key, without_key};
 ghost use Rattle.aggregate_store.specs.inner.Stored.{FitsValue, with_added};
 ghost use Rattle.flat_core.specs.Case.{of_both, of_three};
 ghost use Rattle.flat_core.specs.inner.Arity.{HasArity};
-ghost use Rattle.monitor_run.specs.inner.Here.{AreAggregateAndKey, AreMapAndEntry, AreSetAndKey, HasUpdated, TakesTyped, source_of};
+ghost use Rattle.monitor_run.specs.inner.Here.{AreAggregateAndKey, AreMapAndEntry, AreSetAndKey, HasUpdated, TakesTyped, register_of};
+ghost use Rattle.monitor_run.specs.inner.Here.{source_of};
 ghost use Rattle.flat_core.specs.inner.OpGroups.{updated_of};
 ghost use Rattle.monitor_run.specs.inner.Registers.{value_at};
 
@@ -34,12 +35,12 @@ fn add(
     key: &Scalar,
     value: &Scalar,
     store: &mut Store,
-) -> Result<Register, NoMemory>
+) -> Result<Option<Handle>, NoMemory>
     requires live { IsLive store.old.cells source }
     requires key { FitsKey (view_at store.old.cells source) key.now }
     requires value { FitsValue (view_at store.old.cells source) value.now }
     requires update { update.id < length store.old.ledger }
-    ensures updated { IfOk result (λ r. HasUpdated update.in_place update.id (Register.Aggregate source) store.old store.new r
+    ensures updated { IfOk result (λ h. HasUpdated update.in_place update.id (Register.Aggregate source) store.old store.new (register_of h)
         (Some (with_added (view_at store.old.cells source) key.now value.now))) }
     ensures err { OnErr result (store.new ≡ store.old) }
 {
@@ -49,7 +50,7 @@ fn add(
     } else {
         store.copy_add(update.id.get(), source, key, value)?
     };
-    Ok(Register::Aggregate(handle))
+    Ok(Some(handle))
 }
 
 /// Takes a key out: of the cell itself, or of a copy.
@@ -58,11 +59,11 @@ fn remove(
     source: Handle,
     key: &Scalar,
     store: &mut Store,
-) -> Result<Register, NoMemory>
+) -> Result<Option<Handle>, NoMemory>
     requires live { IsLive store.old.cells source }
     requires key { FitsKey (view_at store.old.cells source) key.now }
     requires update { update.id < length store.old.ledger }
-    ensures updated { IfOk result (λ r. HasUpdated update.in_place update.id (Register.Aggregate source) store.old store.new r
+    ensures updated { IfOk result (λ h. HasUpdated update.in_place update.id (Register.Aggregate source) store.old store.new (register_of h)
         (Some (without_key (view_at store.old.cells source) (Plain key.now)))) }
     ensures err { OnErr result (store.new ≡ store.old) }
 {
@@ -72,7 +73,7 @@ fn remove(
     } else {
         store.copy_remove(update.id.get(), source, key)?
     };
-    Ok(Register::Aggregate(handle))
+    Ok(Some(handle))
 }
 
 /// A set with a key, where both have events.
@@ -81,10 +82,10 @@ fn key_added(
     set: &Register,
     key: &Register,
     store: &mut Store,
-) -> Result<Register, NoMemory>
+) -> Result<Option<Handle>, NoMemory>
     requires typed { AreSetAndKey store.old.cells set.now key.now }
     requires update { update.id < length store.old.ledger }
-    ensures updated { IfOk result (λ r. HasUpdated update.in_place update.id set.now store.old store.new r
+    ensures updated { IfOk result (λ h. HasUpdated update.in_place update.id set.now store.old store.new (register_of h)
         (of_both with_key (held store.old.cells set.now) (held store.old.cells key.now))) }
     ensures err { OnErr result (store.new ≡ store.old) }
 {
@@ -92,7 +93,7 @@ fn key_added(
         (Register::Aggregate(set), Register::Scalar(key)) => {
             add(update, *set, key, &Scalar::Unit, store)
         }
-        _ => Ok(Register::Empty),
+        _ => Ok(None),
     }
 }
 
@@ -102,10 +103,10 @@ fn key_removed(
     aggregate: &Register,
     key: &Register,
     store: &mut Store,
-) -> Result<Register, NoMemory>
+) -> Result<Option<Handle>, NoMemory>
     requires typed { AreAggregateAndKey store.old.cells aggregate.now key.now }
     requires update { update.id < length store.old.ledger }
-    ensures updated { IfOk result (λ r. HasUpdated update.in_place update.id aggregate.now store.old store.new r
+    ensures updated { IfOk result (λ h. HasUpdated update.in_place update.id aggregate.now store.old store.new (register_of h)
         (of_both without_key (held store.old.cells aggregate.now) (held store.old.cells key.now))) }
     ensures err { OnErr result (store.new ≡ store.old) }
 {
@@ -113,7 +114,7 @@ fn key_removed(
         (Register::Aggregate(aggregate), Register::Scalar(key)) => {
             remove(update, *aggregate, key, store)
         }
-        _ => Ok(Register::Empty),
+        _ => Ok(None),
     }
 }
 
@@ -124,10 +125,10 @@ fn entry_added(
     key: &Register,
     value: &Register,
     store: &mut Store,
-) -> Result<Register, NoMemory>
+) -> Result<Option<Handle>, NoMemory>
     requires typed { AreMapAndEntry store.old.cells map.now key.now value.now }
     requires update { update.id < length store.old.ledger }
-    ensures updated { IfOk result (λ r. HasUpdated update.in_place update.id map.now store.old store.new r
+    ensures updated { IfOk result (λ h. HasUpdated update.in_place update.id map.now store.old store.new (register_of h)
         (of_three with_entry (held store.old.cells map.now) (held store.old.cells key.now) (held store.old.cells value.now))) }
     ensures err { OnErr result (store.new ≡ store.old) }
 {
@@ -135,7 +136,7 @@ fn entry_added(
         (Register::Aggregate(map), Register::Scalar(key), Register::Scalar(value)) => {
             add(update, *map, key, value, store)
         }
-        _ => Ok(Register::Empty),
+        _ => Ok(None),
     }
 }
 
@@ -145,13 +146,13 @@ pub(crate) fn updated(
     update: Update,
     registers: &[Register],
     store: &mut Store,
-) -> Result<Register, NoMemory>
+) -> Result<Option<Handle>, NoMemory>
     requires shape { HasArity e.now.op e.now.args }
     requires known { All (λ a. a < length registers.now) e.now.args }
     requires typed { TakesTyped store.old.cells registers.now e.now }
     requires update { update.id < length store.old.ledger }
-    ensures updated { IfOk result (λ r. HasUpdated update.in_place update.id (source_of registers.now e.now.args) store.old store.new r
-        (updated_of e.now.op (map (value_at store.old.cells registers.now) e.now.args))) }
+    ensures updated { IfOk result (λ h. HasUpdated update.in_place update.id (source_of registers.now e.now.args) store.old store.new
+        (register_of h) (updated_of e.now.op (map (value_at store.old.cells registers.now) e.now.args))) }
     ensures err { OnErr result (store.new ≡ store.old) }
 {
     let args = &e.args;
@@ -175,6 +176,6 @@ pub(crate) fn updated(
             argument(registers, args, 2),
             store,
         ),
-        _ => Ok(Register::Empty),
+        _ => Ok(None),
     }
 }

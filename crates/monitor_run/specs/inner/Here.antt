@@ -1,6 +1,6 @@
 -- What an equation has by the registers of its arguments.
 use Rattle.std.specs.Prelude.{◌≡◌, ℕ, Bool, true, false, List, [], ◌∷◌, map, Option, Some, None, Result, Ok, Err, is_some, IsTrue}
-use Rattle.std.specs.Prelude.{slice_get, slice_index, slice_index_or, slice_set, if◌then◌else◌}
+use Rattle.std.specs.Prelude.{IfOk, slice_get, slice_index, slice_index_or, slice_set, if◌then◌else◌}
 use Rattle.std.specs.List.{All, list_any}
 use Rattle.std.specs.Option.{option_or}
 use Rattle.std.specs.FinMap as finite_map
@@ -17,6 +17,8 @@ use Rattle.lift_func.specs.declared.register.Register.{Register}
 use Rattle.lift_func.specs.declared.register.Register.TheVariants as register
 use Rattle.lift_func.specs.inner.Cells.{Cells, IsLive, HoldsLive, held, view_at}
 use Rattle.lift_func.specs.Typing.{scalar_of}
+use Rattle.lift_func.specs.Apply.{Answer}
+use Rattle.lift_func.specs.inner.Evaluable.{IsHeldValue}
 use Rattle.aggregate_store.specs.inner.Stored.{Stored, counted}
 use Rattle.flat_core.specs.declared.equation.Equation.{Equation}
 use Rattle.flat_core.specs.declared.equation.Op.{Op}
@@ -124,6 +126,11 @@ pub record IsMade (old new : Cells) (v : View) (r : Register) : Type 0 where
   pub fresh : ¬ (IsLive old handle)
   pub cells : new ≡ finite_map.insert old handle v
 
+-- the register of a cell, if there is one
+abbrev pub register_of : Option ℕ → Register
+register_of None = register.Empty
+register_of (Some handle) = register.Aggregate handle
+
 -- a cell was made for a view, if there is one, and the ledger is as it was
 abbrev pub HasMadeOne : Stored → Stored → Register → Option View → Type 0
 HasMadeOne old new r None = (r ≡ register.Empty) × (new ≡ old)
@@ -160,6 +167,15 @@ HasEffect in_place i o source old new (Ok r) (Make v) = HasMade (is_update o) in
 HasEffect in_place i o source old new (Err (eval_fault.Fault kind)) (Fill slot) = (slot ≡ Failed (Some kind)) × (new ≡ old)
 HasEffect in_place i o source old new (Err (eval_fault.Fault kind)) (Make v) = ⊥
 HasEffect in_place i o source old new (Err eval_fault.Memory) effect = Unit {0}
+
+-- A place has the register of an answer, and the others stay.
+abbrev pub HasPut : ℕ → List Register → List Register → Result (Unit {0}) EvalFault → (Result Register EvalFault → Type 0) → Type 0
+HasPut place old new (Ok done) P = (r : Register) × (new ≡ slice_set old place r) × P (Ok r)
+HasPut place old new (Err fault) P = P (Err fault)
+
+-- an answer of a body is in a register that holds no aggregate
+abbrev pub IsBareValue : Cells → Result Register EvalFault → Answer → Type 0
+IsBareValue cells r answer = IfOk r (λ x. IsBare x) × IsHeldValue cells r answer
 
 -- inputs and delays have their events in their registers from the beginning of the instant
 abbrev pub is_given_op : Op → Bool
