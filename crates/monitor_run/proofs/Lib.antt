@@ -12,6 +12,7 @@ pub mod HoldLemmas
 pub mod KeptTypes
 pub mod RootLemmas
 pub mod LoopLemmas
+pub mod PrintLemmas
 pub mod DelayLemmas
 pub mod EndLemmas
 pub mod NextLemmas

@@ -6,6 +6,7 @@ ghost use Rattle.std.specs.List.{flat_map};
 ghost use Rattle.lift_func.specs.inner.Cells.{HoldsLive};
 ghost use Rattle.flat_core.specs.Text.{event_line};
 ghost use Rattle.monitor_run.specs.inner.Begun.{IsBegunOf};
+ghost use Rattle.monitor_run.specs.inner.Machine.{CanPrint, front_of, texts_with};
 ghost use Rattle.monitor_run.specs.inner.Registers.{register_at, value_at};
 
 use aggregate_store::store::Store;
@@ -15,6 +16,27 @@ use lift_func::register::Register;
 use tsl_value::bytes::Bytes;
 use tsl_value::memory::NoMemory;
 use tsl_value::time::Time;
+
+/// Adds the line of an output at a time to a text, or nothing where the output has no event.
+pub(crate) fn add_line(
+    output: &Output,
+    time: Time,
+    registers: &[Register],
+    store: &Store,
+    text: &mut Bytes,
+) -> Result<(), NoMemory>
+    requires known { output.now.equation < length registers.now }
+    requires live { HoldsLive store.now.cells (register_at registers.now output.now.equation) }
+    ensures ok { OnOk result (text.new
+        ≡ text.old ++ event_line time output.now.name (value_at store.now.cells registers.now output.now.equation)) }
+    ensures err { OnErr result (text.new ≡ text.old) }
+{
+    let register = &registers[output.equation.get() as usize];
+    if register.is_empty() {
+        return Ok(());
+    }
+    write_event(time, &output.name, register, store, text)
+}
 
 /// Makes a text the line of an output at a time, or nothing where the output has no event.
 fn take_line(
@@ -29,11 +51,7 @@ fn take_line(
     ensures { OnOk result (text.new ≡ event_line time output.now.name (value_at store.now.cells registers.now output.now.equation)) }
 {
     text.truncate(0);
-    let register = &registers[output.equation.get() as usize];
-    if register.is_empty() {
-        return Ok(());
-    }
-    write_event(time, &output.name, register, store, text)
+    add_line(output, time, registers, store, text)
 }
 
 /// Prints an output into its text.
@@ -56,7 +74,7 @@ pub(crate) fn print_output(
 }
 
 /// Appends the texts.
-pub(crate) fn append_texts(texts: &[Bytes], out: &mut Bytes) -> Result<(), NoMemory>
+fn append_texts(texts: &[Bytes], out: &mut Bytes) -> Result<(), NoMemory>
     ensures ok { OnOk result (out.new ≡ out.old ++ flat_map (λ x. x) texts.now) }
     ensures err { OnErr result (IsBegunOf out.old out.new (flat_map (λ x. x) texts.now)) }
 {
@@ -64,4 +82,41 @@ pub(crate) fn append_texts(texts: &[Bytes], out: &mut Bytes) -> Result<(), NoMem
         out.append(text.as_slice())?;
     }
     Ok(())
+}
+
+/// Where lines are printed at once: after what there is, if there is one output.
+pub(crate) fn start_of(texts: &[Bytes], out: &Bytes) -> Option<usize>
+    ensures can { CanPrint result out.now texts.now }
+    ensures front { front_of result out.now ≡ out.now }
+{
+    if texts.len() == 1 {
+        Some(out.len())
+    } else {
+        None
+    }
+}
+
+/// Takes back what was printed at once.
+pub(crate) fn take_back(at_once: Option<usize>, out: &mut Bytes)
+    ensures { out.new ≡ front_of at_once out.old }
+{
+    if let Some(start) = at_once {
+        out.truncate(start);
+    }
+}
+
+/// Appends the texts that were not printed at once.
+pub(crate) fn append_rest(
+    at_once: Option<usize>,
+    texts: &[Bytes],
+    out: &mut Bytes,
+) -> Result<(), NoMemory>
+    ensures ok { OnOk result (out.new ≡ front_of at_once out.old ++ flat_map (λ x. x) (texts_with at_once out.old texts.now)) }
+    ensures err { OnErr result (IsBegunOf (front_of at_once out.old) out.new
+        (flat_map (λ x. x) (texts_with at_once out.old texts.now))) }
+{
+    match at_once {
+        Some(_) => Ok(()),
+        None => append_texts(texts, out),
+    }
 }

@@ -6,13 +6,13 @@ ghost use Rattle.register_code.specs.Code.{keeps_of, timers_of};
 ghost use Rattle.alias_rules.specs.Fine.{IsFinePlan};
 ghost use Rattle.monitor_run.specs.inner.Given.{AreAt, AreEventLines};
 ghost use Rattle.monitor_run.specs.inner.Instant.{Begins, HasEnded, HasRunRegisters, IsInstant, IsInstantBegun, IsSound};
-ghost use Rattle.monitor_run.specs.inner.Machine.{AreUnmarked, HasRoom, givens_of, with_current};
+ghost use Rattle.monitor_run.specs.inner.Machine.{AreUnmarked, CanPrint, HasRoom, front_of, givens_of, printed_to, with_current};
 ghost use Rattle.monitor_run.specs.inner.Shown.{plan_in};
 
 use crate::begin::{clear, expire, give};
 use crate::delay::{first_refused, set_timers};
 use crate::end::{drop_others, keep};
-use crate::event::append_texts;
+use crate::event::{append_rest, start_of, take_back};
 use crate::machine::Machine;
 use crate::run::{Root, least_root, run_steps};
 use flat_core::flat::Flat;
@@ -58,7 +58,9 @@ fn run_registers(
     delays: &[EqId],
     time: Time,
     given: &mut Vec<TraceLine>,
+    at_once: Option<usize>,
     machine: &mut Machine,
+    out: &mut Bytes,
 ) -> Result<Option<Root>, NoMemory>
     requires whole { IsFlat flat.now }
     requires fine { IsFinePlan flat.now plan.now.in_place plan.now.order }
@@ -69,13 +71,17 @@ fn run_registers(
     requires one { (at : ℕ) × AreAt at given.old.items }
     requires events { AreEventLines flat.now given.old.items }
     requires sound { IsSound flat.now time machine.old }
+    requires can { CanPrint at_once out.old machine.old.texts.items }
+    ensures front { front_of at_once out.new ≡ front_of at_once out.old }
+    ensures can { CanPrint at_once out.new machine.new.texts.items }
     ensures room { HasRoom flat.now machine.new }
     ensures unmarked { IfOk result (λ root. root ≡ None → AreUnmarked flat.now machine.new) }
     ensures given { (at : ℕ) → AreAt at given.old.items → given.new.items ≡ (if at == time then [] else given.old.items) }
-    ensures ran { IfOk result (λ root. HasRunRegisters flat.now (plan_in plan.now) time given.old.items machine.old machine.new root) }
+    ensures ran { IfOk result (λ root. HasRunRegisters flat.now (plan_in plan.now) time given.old.items
+        machine.old (printed_to at_once out.new machine.new) root) }
 {
     begin(flat, givens, time, given, machine);
-    let found = run_steps(alloc, flat, plan, time, machine)?;
+    let found = run_steps(alloc, flat, plan, time, at_once, machine, out)?;
     let refused = first_refused(flat, delays, &machine.registers);
     Ok(least_root(found, refused))
 }
@@ -127,7 +133,8 @@ pub(crate) fn run_instant(
     ensures err { OnErr result (IsInstantBegun code.now.system (record { in_place = code.now.in_place; order = code.now.order })
         time given.old.items machine.old out.old out.new) }
 {
-    let root = run_registers(
+    let at_once = start_of(&machine.texts, out);
+    let root = match run_registers(
         alloc,
         code.flat(),
         code.plan(),
@@ -135,11 +142,21 @@ pub(crate) fn run_instant(
         code.timers(),
         time,
         given,
+        at_once,
         machine,
-    )?;
+        out,
+    ) {
+        Ok(root) => root,
+        Err(none) => {
+            take_back(at_once, out);
+            return Err(none);
+        }
+    };
     if root.is_none() {
-        append_texts(&machine.texts, out)?;
+        append_rest(at_once, &machine.texts, out)?;
         end(code.flat(), code.keeps(), code.timers(), time, machine)?;
+    } else {
+        take_back(at_once, out);
     }
     Ok(root)
 }

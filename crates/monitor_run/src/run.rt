@@ -1,32 +1,36 @@
 // The steps of an instant, in order.
 
-ghost use Rattle.std.specs.Prelude.{◌≡◌, ◌<◌, ◌||◌, ℕ, [], Bool, All, IfOk, OnOk, IsTrue, None, Option, false, length};
+ghost use Rattle.std.specs.Prelude.{◌≡◌, ◌<◌, ◌≤◌, ◌++◌, ◌||◌, ℕ, take, slice_get, [], Bool, All, IfOk, OnOk, IsTrue, None, Option, false, length};
 ghost use Rattle.std.specs.List.{list_any};
 ghost use Rattle.alias_rules.specs.Fine.{IsFinePlan};
 ghost use Rattle.tsl_value.specs.declared.scalar.ValueType.{ValueType};
 ghost use Rattle.lift_func.specs.declared.fault.FaultKind.{FaultKind};
 ghost use Rattle.lift_func.specs.inner.Cells.{HoldsLive};
 ghost use Rattle.flat_core.specs.Complete.{IsFlat};
+ghost use Rattle.flat_core.specs.Text.{event_line};
 ghost use Rattle.flat_core.specs.inner.Arity.{HasArity};
 ghost use Rattle.flat_core.specs.Members.{is_in};
 ghost use Rattle.register_machine.specs.Content.{print_of};
 ghost use Rattle.monitor_run.specs.inner.Here.{TakesTyped, hands_on, is_blocked_here, is_given_op, is_marked};
-ghost use Rattle.monitor_run.specs.inner.Instant.{HasPrinted, HasRunAll, HasRunOne, IsLeastRoot, SameBeside};
-ghost use Rattle.monitor_run.specs.inner.Machine.{AreFresh, AreUnmarked, HasRoom, with_current};
-ghost use Rattle.monitor_run.specs.inner.Registers.{AreHeld, register_at};
+ghost use Rattle.monitor_run.specs.inner.Instant.{HasPrinted, HasRunAll, HasRunOne, IsLeastRoot, SameBeside, name_of};
+ghost use Rattle.monitor_run.specs.inner.Machine.{AreFresh, AreUnmarked, CanPrint, HasRoom, front_of, printed_to, with_current};
+ghost use Rattle.monitor_run.specs.inner.Registers.{AreHeld, register_at, value_at};
 ghost use Rattle.monitor_run.specs.inner.Shown.{plan_in};
 
 use crate::case::put_own;
-use crate::event::print_output;
+use crate::event::{add_line, print_output};
 use crate::hand::{hand_on, hands_on};
 use crate::machine::{Machine, empty};
+use aggregate_store::store::Store;
 use flat_core::equation::{Equation, Op};
 use flat_core::flat::Flat;
 use flat_core::lists::EqSet;
 use lift_func::eval::EvalFault;
 use lift_func::fault::FaultKind;
+use lift_func::register::Register;
 use register_code::plan::Plan;
 use std::alloc::Global;
+use tsl_value::bytes::Bytes;
 use tsl_value::ids::EqId;
 use tsl_value::memory::NoMemory;
 use tsl_value::time::Time;
@@ -186,8 +190,8 @@ pub(crate) fn run_one(
     run_own(alloc, e, id, in_place, time, machine)
 }
 
-/// Prints an output.
-fn print_step(flat: &Flat, place: usize, time: Time, machine: &mut Machine) -> Result<(), NoMemory>
+/// Prints an output into its text.
+fn print_later(flat: &Flat, place: usize, time: Time, machine: &mut Machine) -> Result<(), NoMemory>
     requires whole { IsFlat flat.now }
     requires there { place < length flat.now.outputs }
     requires registers { length machine.old.registers.items ≡ length flat.now.equations }
@@ -206,6 +210,65 @@ fn print_step(flat: &Flat, place: usize, time: Time, machine: &mut Machine) -> R
     )
 }
 
+/// Prints the one output at once.
+fn print_at_once(
+    flat: &Flat,
+    place: usize,
+    time: Time,
+    start: usize,
+    registers: &[Register],
+    store: &Store,
+    out: &mut Bytes,
+) -> Result<(), NoMemory>
+    requires whole { IsFlat flat.now }
+    requires there { place < length flat.now.outputs }
+    requires registers { length registers.now ≡ length flat.now.equations }
+    requires live { HoldsLive store.now.cells (register_at registers.now (print_of flat.now place)) }
+    requires start { start ≤ length out.old }
+    ensures printed { OnOk result (out.new ≡ take start out.old
+        ++ event_line time (name_of (slice_get flat.now.outputs place)) (value_at store.now.cells registers.now (print_of flat.now place))) }
+    ensures front { take start out.new ≡ take start out.old }
+    ensures long { start ≤ length out.new }
+{
+    out.truncate(start);
+    add_line(&flat.outputs()[place], time, registers, store, out)
+}
+
+/// Prints an output.
+fn print_step(
+    flat: &Flat,
+    place: usize,
+    time: Time,
+    at_once: Option<usize>,
+    machine: &mut Machine,
+    out: &mut Bytes,
+) -> Result<(), NoMemory>
+    requires whole { IsFlat flat.now }
+    requires there { place < length flat.now.outputs }
+    requires registers { length machine.old.registers.items ≡ length flat.now.equations }
+    requires texts { length machine.old.texts.items ≡ length flat.now.outputs }
+    requires live { HoldsLive machine.old.store.cells (register_at machine.old.registers.items (print_of flat.now place)) }
+    requires can { CanPrint at_once out.old machine.old.texts.items }
+    ensures same { SameBeside machine.old machine.new }
+    ensures printed { OnOk result (HasPrinted flat.now time place
+        (printed_to at_once out.old machine.old) (printed_to at_once out.new machine.new)) }
+    ensures can { CanPrint at_once out.new machine.new.texts.items }
+    ensures front { front_of at_once out.new ≡ front_of at_once out.old }
+{
+    match at_once {
+        Some(start) => print_at_once(
+            flat,
+            place,
+            time,
+            start,
+            &machine.registers,
+            &machine.store,
+            out,
+        ),
+        None => print_later(flat, place, time, machine),
+    }
+}
+
 /// Runs the steps of a plan in its order, and answers the least root fault of an equation that is no delay. Registers of equations that are
 /// neither inputs nor delays may have what is left of an earlier instant; none of it is read.
 pub(crate) fn run_steps(
@@ -213,7 +276,9 @@ pub(crate) fn run_steps(
     flat: &Flat,
     plan: &Plan,
     time: Time,
+    at_once: Option<usize>,
     machine: &mut Machine,
+    out: &mut Bytes,
 ) -> Result<Option<Root>, NoMemory>
     requires whole { IsFlat flat.now }
     requires fine { IsFinePlan flat.now plan.now.in_place plan.now.order }
@@ -222,9 +287,12 @@ pub(crate) fn run_steps(
         × AreHeld flat.now types machine.old.store.cells (with_current flat.now [] machine.old).registers.items
         × AreHeld flat.now types machine.old.store.cells machine.old.last.items }
     requires fresh { AreFresh flat.now (with_current flat.now [] machine.old) }
+    requires can { CanPrint at_once out.old machine.old.texts.items }
     ensures same { SameBeside machine.old machine.new }
-    ensures ran { IfOk result (λ root.
-        HasRunAll flat.now (plan_in plan.now) time (with_current flat.now [] machine.old) machine.new root) }
+    ensures front { front_of at_once out.new ≡ front_of at_once out.old }
+    ensures can { CanPrint at_once out.new machine.new.texts.items }
+    ensures ran { IfOk result (λ root. HasRunAll flat.now (plan_in plan.now) time
+        (with_current flat.now [] machine.old) (printed_to at_once out.new machine.new) root) }
     ensures unmarked { IfOk result (λ root. root ≡ None → AreUnmarked flat.now machine.new) }
 {
     let mut root = None;
@@ -236,7 +304,14 @@ pub(crate) fn run_steps(
             let found = run_one(alloc, e, id, &plan.in_place, time, is_sound, machine)?;
             root = least_root(root, found);
         } else {
-            print_step(flat, (*step - flat.count()) as usize, time, machine)?;
+            print_step(
+                flat,
+                (*step - flat.count()) as usize,
+                time,
+                at_once,
+                machine,
+                out,
+            )?;
         }
     }
     Ok(root)

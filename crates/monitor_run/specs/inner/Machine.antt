@@ -1,5 +1,5 @@
 -- What an instant works on.
-use Rattle.std.specs.Prelude.{◌≡◌, ℕ, suc, Bool, false, ◌||◌, List, [], ◌∷◌, Option, Some, None, length, if◌then◌else◌, IsTrue}
+use Rattle.std.specs.Prelude.{◌≡◌, ℕ, suc, ◌≤◌, Bool, false, ◌||◌, List, [], ◌∷◌, Option, Some, None, length, take, drop, if◌then◌else◌, IsTrue}
 use Rattle.std.specs.List.{filter}
 use Rattle.std.specs.Vec.{with_items}
 use Rattle.lift_func.specs.declared.register.Register.{Register}
@@ -58,3 +58,23 @@ current is (r ∷ registers) = (if is 0 then r else register.Empty) ∷ current 
 -- What the code has with nothing of an earlier instant, where the equations of a list have run.
 abbrev pub with_current : System → List ℕ → Machine → Machine
 with_current s front m = record m { registers = with_items m.registers (current (is_current s front) m.registers.items) }
+
+-- ---- where lines are printed
+
+-- Where there is one output, its line is printed at once into what is to be written, after what stood there: `Some` is the length of that.
+-- Else each output has a text, and all are appended at the end.
+abbrev pub front_of : Option ℕ → List ℕ → List ℕ
+front_of None out = out
+front_of (Some start) out = take start out
+
+abbrev pub texts_with : Option ℕ → List ℕ → List (List ℕ) → List (List ℕ)
+texts_with None out texts = texts
+texts_with (Some start) out texts = drop start out ∷ []
+
+abbrev pub CanPrint : Option ℕ → List ℕ → List (List ℕ) → Type 0
+CanPrint None out texts = Unit {0}
+CanPrint (Some start) out texts = (length texts ≡ 1) × (start ≤ length out)
+
+-- What the code has, with what was printed at once in the place of its text.
+abbrev pub printed_to : Option ℕ → List ℕ → Machine → Machine
+printed_to at_once out m = record m { texts = with_items m.texts (texts_with at_once out m.texts.items) }

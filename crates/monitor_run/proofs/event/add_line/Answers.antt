@@ -5,7 +5,7 @@ use Rattle.lift_func.specs.declared.register.Register.TheVariants as register
 use Rattle.lift_func.specs.inner.Cells.{HoldsLive}
 use Rattle.monitor_run.specs.inner.Registers.{register_at}
 use Rattle.monitor_run.proofs.EndLemmas.{is_printable}
-use Rattle.monitor_run.proofs.event.take_line.Goals as goal
+use Rattle.monitor_run.proofs.event.add_line.Goals as goal
 
 pub write_event-requires : goal.write_event-requires
 write_event-requires c =

@@ -6,7 +6,7 @@ use Rattle.lift_func.specs.inner.Cells.{HoldsLive}
 use Rattle.flat_core.specs.Text.{event_line}
 use Rattle.monitor_run.specs.inner.Registers.{register_at, value_at}
 use Rattle.monitor_run.proofs.EventLemmas.{name_is, print_is}
-use Rattle.monitor_run.proofs.run.print_step.Goals as goal
+use Rattle.monitor_run.proofs.run.print_later.Goals as goal
 
 pub print_output-requires-clause-live : goal.print_output-requires-clause-live
 print_output-requires-clause-live c =
