@@ -1,7 +1,7 @@
 // What an operation makes of the registers of its arguments.
 
-ghost use Rattle.std.specs.Prelude.{◌≡◌, ◌<◌, All, IfErr, IfOk, IfSome, IsOk, OnErr, OnOk, IsTrue, None, Ok, Some, false, pos, is_some, length};
-ghost use Rattle.std.specs.Prelude.{if◌then◌else◌, map};
+ghost use Rattle.std.specs.Prelude.{◌≡◌, ◌<◌, All, IfErr, IfOk, IfSome, IsOk, OnErr, OnOk, IsTrue, None, Ok, Some, false, pos, length};
+ghost use Rattle.std.specs.Prelude.{if◌then◌else◌, is_some, map};
 ghost use Rattle.std.specs.Prelude.{List, slice_index, slice_set};
 ghost use Rattle.std.specs.List.{list_all, list_any};
 ghost use Rattle.std.specs.Option.{option_map};

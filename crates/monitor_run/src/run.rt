@@ -1,6 +1,7 @@
 // The steps of an instant, in order.
 
-ghost use Rattle.std.specs.Prelude.{◌≡◌, ◌<◌, ◌≤◌, ◌++◌, ◌||◌, ℕ, take, slice_get, [], Bool, All, IfOk, OnOk, IsTrue, None, Option, false, length};
+ghost use Rattle.std.specs.Prelude.{◌≡◌, ◌<◌, ◌≤◌, ◌++◌, ◌||◌, ℕ, [], Bool, All, IfOk, OnOk, IsTrue, None, Option, false, length};
+ghost use Rattle.std.specs.Prelude.{slice_get, take};
 ghost use Rattle.std.specs.List.{list_any};
 ghost use Rattle.alias_rules.specs.Fine.{IsFinePlan};
 ghost use Rattle.tsl_value.specs.declared.scalar.ValueType.{ValueType};
@@ -226,7 +227,8 @@ fn print_at_once(
     requires live { HoldsLive store.now.cells (register_at registers.now (print_of flat.now place)) }
     requires start { start ≤ length out.old }
     ensures printed { OnOk result (out.new ≡ take start out.old
-        ++ event_line time (name_of (slice_get flat.now.outputs place)) (value_at store.now.cells registers.now (print_of flat.now place))) }
+        ++ event_line time (name_of (slice_get flat.now.outputs place))
+        (value_at store.now.cells registers.now (print_of flat.now place))) }
     ensures front { take start out.new ≡ take start out.old }
     ensures long { start ≤ length out.new }
 {

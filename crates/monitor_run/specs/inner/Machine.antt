@@ -1,5 +1,6 @@
 -- What an instant works on.
-use Rattle.std.specs.Prelude.{◌≡◌, ℕ, suc, ◌≤◌, Bool, false, ◌||◌, List, [], ◌∷◌, Option, Some, None, length, take, drop, if◌then◌else◌, IsTrue}
+use Rattle.std.specs.Prelude.{◌≡◌, ℕ, suc, ◌≤◌, Bool, false, ◌||◌, List, [], ◌∷◌, Option, Some, None, length, IsTrue}
+use Rattle.std.specs.Prelude.{drop, if◌then◌else◌, take}
 use Rattle.std.specs.List.{filter}
 use Rattle.std.specs.Vec.{with_items}
 use Rattle.lift_func.specs.declared.register.Register.{Register}
