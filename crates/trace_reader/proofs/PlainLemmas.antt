@@ -7,8 +7,11 @@ use Rattle.std.specs.Char.{digit_value, is_ascii_digit}
 use Rattle.std.specs.List.{list_all, position_from}
 use Rattle.std.specs.Option.{option_and_then, option_map, option_or}
 use Rattle.std.specs.Result.{result_ok}
-use Rattle.std.specs.Str.Parse.{digits_value}
-use Rattle.std.proofs.lemmas.Int.Digits.{digits_value_push}
+use Rattle.std.specs.Str.Parse.{AllDigits, digits_value}
+use Rattle.std.proofs.lemmas.Int.Digits.{digits_value-lt, digits_value_push}
+use Rattle.std.proofs.lemmas.List.{length-drop, take-append-drop, take_all}
+use Rattle.std.proofs.Math.Nat.{pow-le-pow_right}
+use Rattle.std.proofs.Math.Seq.{drop-append_seam}
 use Rattle.std.proofs.lemmas.Slice.Eq.{bytes_eq-Decides}
 use Rattle.std.proofs.lemmas.Str.{digit_value_digit}
 use Rattle.std.proofs.lemmas.Option.{same_Some}
@@ -229,6 +232,37 @@ read_digits (d ∷ digits) bytes rest is fewer all = let none : length (d ∷ di
 
 pub number_read : (bytes : List ℕ) (number : ℕ) (rest : List ℕ) → HasRead bytes number rest → length rest < length bytes → BeginsWithNumber bytes number rest
 number_read bytes number rest it fewer = record { digits = it.digits; are = read_digits it.digits bytes rest it.is fewer it.all; value = it.value; is = it.is }
+
+-- as many digits spell a small number
+all_digits : (ds : List ℕ) → list_all is_ascii_digit ds ≡ true → AllDigits 10 ds
+all_digits [] all = tt
+all_digits (d ∷ ds) all =
+    let parts = and_parts (is_ascii_digit d) (list_all is_ascii_digit ds) all in
+    let is = digit_is d parts.0 in
+    (let value = is.0 in let high = is.1 in omega arith, all_digits ds parts.1)
+
+pub few_read : (k : ℕ) (bytes : List ℕ) (number : ℕ) (rest : List ℕ) → HasRead bytes number rest → length bytes ≤ k + length rest → number < 10 ^ k
+few_read k bytes number rest it few =
+    let size : length bytes ≡ length it.digits + length rest = ap length it.is ∙ length-append it.digits rest in
+    let below = digits_value-lt 10 it.digits (all_digits it.digits it.all) in
+    let value = it.value in
+    let high = pow-le-pow_right {n = 10} (omega arith) (let fits : length it.digits ≤ k = omega arith in fits) in
+    omega (arith, below, high)
+
+-- the number at the front of the first bytes is at the front of all
+pub number_after : (m count : ℕ) (bytes : List ℕ) (number : ℕ) (rest : List ℕ) → HasRead (take m bytes) number rest → count ≡ length (take m bytes) - length rest → count ≢ 0 → BeginsWithNumber bytes number (take (length bytes - count) (drop count bytes))
+number_after m count bytes number rest it is some =
+    let size : length (take m bytes) ≡ length it.digits + length rest = ap length it.is ∙ length-append it.digits rest in
+    let each : count ≡ length it.digits = omega arith in
+    let whole : bytes ≡ it.digits ++ (rest ++ drop m bytes) = sym (take-append-drop m bytes) ∙ ap (λ bs. bs ++ drop m bytes) it.is ∙ append_assoc it.digits rest (drop m bytes) in
+    let behind : drop count bytes ≡ rest ++ drop m bytes = (λ k. drop (each k) (whole k)) ∙ drop-append_seam it.digits (rest ++ drop m bytes) in
+    let after : take (length bytes - count) (drop count bytes) ≡ rest ++ drop m bytes = take_all (length bytes - count) (drop count bytes) (let long = length-drop count bytes in omega arith) ∙ behind in
+    record {
+      digits = it.digits;
+      are = read_digits it.digits (take m bytes) rest it.is (omega arith) it.all;
+      value = it.value;
+      is = whole ∙ ap (λ bs. it.digits ++ bs) (sym after);
+    }
 
 int_means : (ds : List ℕ) → begins_with_minus ds ≡ false → are_digits ds ≡ true → digits_value 10 ds < 2 ^ 63 → int_literal ds ≡ Ok (scalar.Int (pos (digits_value 10 ds)))
 int_means ds plain are small =

@@ -7,8 +7,8 @@ ghost use Rattle.trace_reader.specs.inner.Plain.{BeginsWithInt, BeginsWithNumber
 use tsl_value::scalar::Scalar;
 use tsl_value::time::Time;
 
-/// Below it a number may get a digit more.
-const MAX_SHORT: u64 = 100_000_000_000_000_000;
+/// So many digits spell a number below 2^63.
+const MAX_DIGITS: usize = 18;
 
 /// The time and the number of a line, and how many bytes it has, its end not counted.
 #[derive(Drop)]
@@ -93,21 +93,20 @@ fn number_before(bytes: &[u8]) -> Option<(u64, &[u8])>
     ensures number { IfSome result (λ r. BeginsWithNumber bytes.now r.0 r.1.now) }
     ensures bounded { IfSome result (λ r. r.0 < 2 ^ 63) }
 {
+    // A digit more stands where a line of this form has none.
+    let front = &bytes[..bytes.len().min(MAX_DIGITS)];
     let mut number = 0;
-    let mut rest = bytes;
+    let mut rest = front;
     while let Some((digit, others)) = rest.split_first() {
         if !digit.is_ascii_digit() {
             break;
         }
-        if number >= MAX_SHORT {
-            return None;
-        }
         number = number * 10 + u64::from(*digit - b'0');
         rest = others;
     }
-    if rest.len() < bytes.len() {
-        Some((number, rest))
-    } else {
-        None
+    let count = front.len() - rest.len();
+    if count == 0 {
+        return None;
     }
+    Some((number, &bytes[count..]))
 }
