@@ -179,7 +179,7 @@ def read_trace(trace, ended, inputs, strict=False, limit=MOST_BYTES):
         came.add(name)
         before = now
     number += 1
-    # What stands behind the last line end, with the first byte beyond the limit.
+    # What stands after the last line end, with the first byte beyond the limit.
     if len(rest) + (len(trace) > limit and trace[limit : limit + 1] != b"\n") > 65536:
         return refused("line too long")
     if len(trace) > limit:

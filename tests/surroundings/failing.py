@@ -112,16 +112,16 @@ def allocations(room, check, cases, words):
             check.deviates(f"{one.name}: no allocation was seen")
 
         def trial(job, one=one, folder=folder):
-            number, all_behind = job
-            mark, environment = room.with_library(refused=number, all_behind=all_behind)
+            number, all_after = job
+            mark, environment = room.with_library(refused=number, all_after=all_after)
             ended = room.start(one.words, folder, one.stdin, environment=environment)
-            what = f"{one.name}, allocation {number}{' and all behind it' if all_behind else ''} refused"
+            what = f"{one.name}, allocation {number}{' and all after it' if all_after else ''} refused"
             _, is_right, _ = with_memory(one, ended)
             check.judge(is_right, ended, what)
             if "refused" not in marks(mark):
                 check.deviates(f"{what}: there was none")
 
-        list(room.pool.map(trial, [(number, all_behind) for all_behind in (0, 1) for number in tried]))
+        list(room.pool.map(trial, [(number, all_after) for all_after in (0, 1) for number in tried]))
 
 
 # The calls that fail in turn, their error, how the start may then end (by failing, by wanting memory, or as if nothing was), and whether

@@ -20,7 +20,7 @@ def large_sources():
     many = ", ".join(f"a{k}: Int" for k in range(70000))
     typed, too_deep = "def f$k(a: Int): Int := f$j(a)", refused((2, 5), "CallsTooDeep")
     merges = chained(30000, "def a$k := a$j", "def a0 := i\nout a30000\n")
-    # The equation of number 4096 is that of the line behind as many others, and its place is the name that is used.
+    # The equation of number 4096 is that of the line after as many others, and its place is the name that is used.
     merge_place = (4097, 1 + len(f"def a{30000 - 4095} := "))
     cycle = [f"def c{k}: Events[Int] := c{(k + 1) % 3000}\n" for k in range(3000)]
     named = " -> ".join(f"c{k}" for k in [0, *range(2999, -1, -1)])

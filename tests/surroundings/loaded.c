@@ -12,7 +12,7 @@
 
 extern void *__libc_malloc(size_t), *__libc_calloc(size_t, size_t), *__libc_realloc(void *, size_t), *__libc_memalign(size_t, size_t);
 
-static long refused, all_behind, allocations, piece, failing_read, failing_write, reads, writes;
+static long refused, all_after, allocations, piece, failing_read, failing_write, reads, writes;
 static int is_loaded;
 static const char *mark;
 
@@ -51,7 +51,7 @@ static long size_now(void) {
 __attribute__((constructor)) static void loaded(void) {
     mark = getenv("HOSTILE_MARK");
     refused = number("HOSTILE_REFUSED");
-    all_behind = number("HOSTILE_ALL_BEHIND");
+    all_after = number("HOSTILE_ALL_AFTER");
     piece = number("HOSTILE_PIECE");
     failing_read = number("HOSTILE_READ");
     failing_write = number("HOSTILE_WRITE");
@@ -73,7 +73,7 @@ __attribute__((destructor)) static void ends(void) {
 static int is_refused(void) {
     if (!is_loaded) return 0;
     allocations++;
-    if (!refused || allocations < refused || (allocations > refused && !all_behind)) return 0;
+    if (!refused || allocations < refused || (allocations > refused && !all_after)) return 0;
     if (allocations == refused) say("refused ", refused);
     errno = ENOMEM;
     return 1;

@@ -244,7 +244,7 @@ def lines(room, check, cases, words):
         is_due = is_due and not talk.read(0.05)
         ended = talk.close()
         is_right = is_due and ended.is_as(*wanted_of(specification, trace))
-        what = "" if is_due else f", behind {len(written)} bytes not just what is due"
+        what = "" if is_due else f", after {len(written)} bytes not just what is due"
         check.judge(is_right, ended, f"a line at a time{what}", trace=trace)
 
     dice = random.Random(words.seed)

@@ -44,9 +44,9 @@ first_typed equations a rest (t ∷ types) h = slice_get_within equations a h.0.
 
 module _ (s : System) (i x : ℕ) (e : Equation) (found : equation s i ≡ Some e) where
   pub merged_low : IsFlat s → (other : ℕ) → IsMergeAfter e other x → other < length s.equations
-  merged_low flat other behind =
+  merged_low flat other after =
       let typed = flat.complete.typed.each i e found in
-      first_typed s.equations other (x ∷ []) typed.types (subst (λ args. AreOfTypes s.equations args typed.types) behind.args_are typed.arguments)
+      first_typed s.equations other (x ∷ []) typed.types (subst (λ args. AreOfTypes s.equations args typed.types) after.args_are typed.arguments)
 
   pub merge_of : (y : ℕ) (p : PassesOver s y i x) → IsMergeAfter e p.other x
   merge_of y p =
@@ -54,11 +54,11 @@ module _ (s : System) (i x : ℕ) (e : Equation) (found : equation s i ≡ Some 
       record { merges = ap (λ (d : Equation). d.op) (sym is) ∙ p.merges; args_are = ap (λ (d : Equation). d.args) (sym is) ∙ p.args_are; differ = p.differ }
 
   pub passes_some : (y other : ℕ) (r : Bool) → IsMergeAfter e other x → IsTrue r ↔ Implies s y other → IsTrue r ↔ PassesOver s y i x
-  passes_some y other r behind exact = (
-    (λ h. record { at = e; is = found; merges = behind.merges; other = other; args_are = behind.args_are; differ = behind.differ; implied = exact.0 h }),
+  passes_some y other r after exact = (
+    (λ h. record { at = e; is = found; merges = after.merges; other = other; args_are = after.args_are; differ = after.differ; implied = exact.0 h }),
     (λ p.
         let args = (merge_of y p).args_are in
-        let one : p.other ≡ other = let also = behind.args_are in cc in
+        let one : p.other ≡ other = let also = after.args_are in cc in
         exact.1 (subst (Implies s y) one p.implied)),
   )
 

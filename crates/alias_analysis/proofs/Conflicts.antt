@@ -11,7 +11,7 @@ use Rattle.flat_core.specs.inner.Marks.{has_mark}
 use Rattle.flat_core.specs.Members.{is_in}
 use Rattle.flat_core.specs.System.{System}
 use Rattle.flat_core.proofs.Members.{Contains-in, in-Contains}
-use Rattle.translation_order.specs.Order.{IsLeast}
+use Rattle.translation_order.specs.Least.{IsLeast}
 use Rattle.alias_rules.specs.Uses.{AreUpdates, IsStored}
 use Rattle.alias_rules.specs.Conflict.{IsKept, IsNotOverwritten, IsInConflict, IsFirst}
 use Rattle.alias_rules.proofs.Sharing.{both_stored}

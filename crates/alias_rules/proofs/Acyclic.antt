@@ -3,7 +3,8 @@ use Rattle.std.proofs.Common.{◌≡◌, ℕ, zero, suc, ◌+◌, ◌<◌, ◌�
 use Rattle.std.proofs.lemmas.Bool.{cases_lt}
 use Rattle.std.proofs.lemmas.List.{length_push}
 use Rattle.translation_order.specs.Graph.{IsAcyclic}
-use Rattle.translation_order.specs.Order.{IsLeast, MayFollow, TakesLeast, IsLeastOrder}
+use Rattle.translation_order.specs.Least.{IsLeast}
+use Rattle.translation_order.specs.Order.{MayFollow, TakesLeast, IsLeastOrder}
 use Rattle.tsl_value.proofs.Lists.{member_cases}
 use Rattle.translation_order.proofs.Orders.{room_for, takes_push}
 use Rattle.translation_order.proofs.Descent.{ascend}

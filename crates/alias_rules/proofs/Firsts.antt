@@ -1,6 +1,6 @@
 -- At most one conflict of a kind is the first.
 use Rattle.std.proofs.Common.{ℕ, List, sym, subst}
-use Rattle.translation_order.specs.Order.{IsLeast}
+use Rattle.translation_order.specs.Least.{IsLeast}
 use Rattle.translation_order.proofs.Circles.{least_same}
 use Rattle.alias_rules.specs.Conflict.{IsInConflict, IsFirst}
 use Rattle.alias_rules.specs.inner.Laws.{AreSame}

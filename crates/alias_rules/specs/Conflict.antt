@@ -3,7 +3,7 @@ use Rattle.std.specs.Prelude.{◌≡◌, ℕ, List, IsTrue}
 use Rattle.flat_core.specs.Members.{is_in}
 use Rattle.flat_core.specs.System.{System}
 use Rattle.translation_order.specs.Cycle.{IsCycleOfWalk}
-use Rattle.translation_order.specs.Order.{IsLeast}
+use Rattle.translation_order.specs.Least.{IsLeast}
 use Rattle.trigger_rules.specs.Question.{Implies}
 use Rattle.alias_rules.specs.Uses.{IsStored, IsWritten, IsRead, IsPassed, IsPrinted}
 use Rattle.alias_rules.specs.Roots.{ComesFromLast}

@@ -7,7 +7,8 @@ use Rattle.tsl_value.specs.declared.place.Place.{Place}
 use Rattle.syntax_tree.specs.Tree as tree
 use Rattle.syntax_tree.specs.declared.tree.Item.{Item}
 use Rattle.syntax_tree.specs.inner.OneLevel.{item_of}
-use Rattle.translation_order.specs.OnCycle.{Edge, IsLeast, OnCycle}
+use Rattle.translation_order.specs.Least.{IsLeast}
+use Rattle.translation_order.specs.OnCycle.{Edge, OnCycle}
 use Rattle.translation_order.proofs.Paths.{along_from}
 use Rattle.name_check.specs.declared.declaration.Declaration.TheVariants as declaration
 use Rattle.definition_cycles.specs.Calls.{name_place}

@@ -45,18 +45,18 @@ there_as items i p q x (y ∷ ps) w b at = by (list_all (λ q. is_events q.of) (
     by false false values = record { is = definition; values = values refl }
 
 module _ (items : List tree.Item) where
-  behind : (i : ℕ) (x : tree.Item) (xs : List tree.Item) → ((k : ℕ) → slice_get (x ∷ xs) k ≡ slice_get items (i + k)) → (k : ℕ) → slice_get xs k ≡ slice_get items (suc i + k)
-  behind i x xs at k = let e : i + suc k ≡ suc i + k = omega arith in at (suc k) ∙ ap (slice_get items) e
+  after : (i : ℕ) (x : tree.Item) (xs : List tree.Item) → ((k : ℕ) → slice_get (x ∷ xs) k ≡ slice_get items (i + k)) → (k : ℕ) → slice_get xs k ≡ slice_get items (suc i + k)
+  after i x xs at k = let e : i + suc k ≡ suc i + k = omega arith in at (suc k) ∙ ap (slice_get items) e
 
   -- of items from i on
   there_from : (i : ℕ) (xs : List tree.Item) → ((k : ℕ) → slice_get xs k ≡ slice_get items (i + k)) → AreAll (IsThere items) (declared_from i xs)
   there_from i [] at = All-nil (λ e. IsThere items e.is)
-  there_from i (tree.Input p q x y ∷ xs) at = All-cons (λ e. IsThere items e.is) (record { name = x; is = declaration.Input i }) (declared_from (suc i) xs) tt (there_from (suc i) xs (behind i (tree.Input p q x y) xs at))
+  there_from i (tree.Input p q x y ∷ xs) at = All-cons (λ e. IsThere items e.is) (record { name = x; is = declaration.Input i }) (declared_from (suc i) xs) tt (there_from (suc i) xs (after i (tree.Input p q x y) xs at))
   there_from i (tree.Defined p (tree.Define q x ps w b) ∷ xs) at =
       let first : i + 0 ≡ i = omega arith in
-      All-cons (λ e. IsThere items e.is) (record { name = x; is = declared_as i ps }) (declared_from (suc i) xs) (there_as items i p q x ps w b (sym (at 0 ∙ ap (slice_get items) first))) (there_from (suc i) xs (behind i (tree.Defined p (tree.Define q x ps w b)) xs at))
-  there_from i (tree.Output p q x ∷ xs) at = there_from (suc i) xs (behind i (tree.Output p q x) xs at)
-  there_from i (tree.OutputAs p e q x ∷ xs) at = there_from (suc i) xs (behind i (tree.OutputAs p e q x) xs at)
+      All-cons (λ e. IsThere items e.is) (record { name = x; is = declared_as i ps }) (declared_from (suc i) xs) (there_as items i p q x ps w b (sym (at 0 ∙ ap (slice_get items) first))) (there_from (suc i) xs (after i (tree.Defined p (tree.Define q x ps w b)) xs at))
+  there_from i (tree.Output p q x ∷ xs) at = there_from (suc i) xs (after i (tree.Output p q x) xs at)
+  there_from i (tree.OutputAs p e q x ∷ xs) at = there_from (suc i) xs (after i (tree.OutputAs p e q x) xs at)
 
   there_at_top : AreAll (IsThere items) (top items)
   there_at_top = there_from 0 items (λ k. let e : k ≡ 0 + k = omega arith in ap (slice_get items) e)

@@ -111,8 +111,8 @@ module _ (items : List tree.Item) (kinds : Kinds) (number : ℕ) (ps : List tree
     first : (x : Part) (xs : List Part) → Within (x ∷ xs) → Contains (parts root) x
     first x xs w = w x (0, omega arith, refl)
 
-    behind : (x : Part) (xs : List Part) → Within (x ∷ xs) → Within xs
-    behind x xs w part (k, lt, is) = w part (suc k, omega arith, is)
+    after : (x : Part) (xs : List Part) → Within (x ∷ xs) → Within xs
+    after x xs w part (k, lt, is) = w part (suc k, omega arith, is)
 
     left : (xs ys : List Part) → Within (xs ++ ys) → Within xs
     left xs ys w part c = w part (Contains-append_left xs ys part c)
@@ -235,7 +235,7 @@ module _ (items : List tree.Item) (kinds : Kinds) (number : ℕ) (ps : List tree
       mutual
         pub expr_fits : (e : Expr) → Within (parts e) → (u : ExprType) → type_of here e ≡ Some u → Fits ks (tree_in e) u
         expr_fits (tree.If p c a b) w u h =
-            let inner = behind (Operand (tree.If p c a b)) (parts c ++ parts a ++ parts b) w in
+            let inner = after (Operand (tree.If p c a b)) (parts c ++ parts a ++ parts b) w in
             let front = left (parts c ++ parts a) (parts b) inner in
             let r = three_parts (if_rule setting.Values) (type_of here c) (type_of here a) (type_of here b) u h in
             if_fits ks (tree_in c) (tree_in a) (tree_in b) r.a r.b r.c u
@@ -244,12 +244,12 @@ module _ (items : List tree.Item) (kinds : Kinds) (number : ℕ) (ps : List tree
             (expr_fits b (right (parts c ++ parts a) (parts b) inner) r.c r.third)
             r.allows
         expr_fits (tree.Chain p l e ls) w u h =
-            let inner = behind (Operand (tree.Chain p l e ls)) (parts e ++ link_parts ls) w in
+            let inner = after (Operand (tree.Chain p l e ls)) (parts e ++ link_parts ls) w in
             let level = (known.formed (tree.Chain p l e ls) (first (Operand (tree.Chain p l e ls)) (parts e ++ link_parts ls) w)).operators in
             let c = chain_is here p l e ls u h in
             links_fit ls l (right (parts e) (link_parts ls) inner) level (tree_in e) c.a u (expr_fits e (left (parts e) (link_parts ls) inner) c.a c.is) c.rest
         expr_fits (tree.Compare p o a b) w u h =
-            let inner = behind (Operand (tree.Compare p o a b)) (parts a ++ parts b) w in
+            let inner = after (Operand (tree.Compare p o a b)) (parts a ++ parts b) w in
             let r = two_parts (compare_rule setting.Values o) (type_of here a) (type_of here b) u h in
             compare_fits ks o (tree_in a) (tree_in b) r.a r.b u
             (expr_fits a (left (parts a) (parts b) inner) r.a r.first)
@@ -257,10 +257,10 @@ module _ (items : List tree.Item) (kinds : Kinds) (number : ℕ) (ps : List tree
             r.allows
         expr_fits (tree.Negate p e) w u h =
             let r = one_part (negate_rule setting.Values) (type_of here e) u h in
-            negate_fits ks (tree_in e) r.a u (expr_fits e (behind (Operand (tree.Negate p e)) (parts e) w) r.a r.is) r.allows
+            negate_fits ks (tree_in e) r.a u (expr_fits e (after (Operand (tree.Negate p e)) (parts e) w) r.a r.is) r.allows
         expr_fits (tree.Not p e) w u h =
             let r = one_part (not_rule setting.Values) (type_of here e) u h in
-            not_fits ks (tree_in e) r.a u (expr_fits e (behind (Operand (tree.Not p e)) (parts e) w) r.a r.is) r.allows
+            not_fits ks (tree_in e) r.a u (expr_fits e (after (Operand (tree.Not p e)) (parts e) w) r.a r.is) r.allows
         expr_fits (tree.Number p n) w u h = just_fits (tree_in (tree.Number p n)) int u h (literal refl)
         expr_fits (tree.Negative p n) w u h = just_fits (tree_in (tree.Negative p n)) int u h (literal refl)
         expr_fits (tree.Text p t) w u h = just_fits (tree_in (tree.Text p t)) text u h (literal refl)
@@ -270,10 +270,10 @@ module _ (items : List tree.Item) (kinds : Kinds) (number : ℕ) (ps : List tree
         expr_fits (tree.Call p n es) w u h =
             let rest = if is_lift n then lift_parts es else argument_parts es in
             call_fit p n es u (first (Operand (tree.Call p n es)) rest w)
-            (λ plain us is. trees_fit es (in_arguments n es plain (behind (Operand (tree.Call p n es)) rest w)) us is) h
+            (λ plain us is. trees_fit es (in_arguments n es plain (after (Operand (tree.Call p n es)) rest w)) us is) h
         expr_fits (tree.CallDotted p d es) w u h =
             let r = arguments_are (dotted_rule setting.Values d) (types_of here es) u h in
-            dotted_fits ks d (trees_in es) r.args u (trees_fit es (behind (Operand (tree.CallDotted p d es)) (argument_parts es) w) r.args r.are) r.allows
+            dotted_fits ks d (trees_in es) r.args u (trees_fit es (after (Operand (tree.CallDotted p d es)) (argument_parts es) w) r.args r.are) r.allows
         expr_fits (tree.Nil p y) w u h = nil_fits no_tree (value_of y) u h
         expr_fits (tree.None p y) w u h = none_fits (value_of y) u h
         expr_fits (tree.EmptySet p k) w u h = set_fits no_tree (key_of k) u h

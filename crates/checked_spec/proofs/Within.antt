@@ -44,28 +44,28 @@ abbrev AllStandIn : List Part → List Expr → Type 0
 AllStandIn among es = AllByRecursion (StandsIn among) es
 
 -- in more parts
-behind : (some more : List Part) (es : List Expr) → AllStandIn more es → AllStandIn (some ++ more) es
-behind some more [] all = tt
-behind some more (e ∷ es) all = (λ part h. Contains-append_right some more part (all.0 part h), behind some more es all.1)
+after : (some more : List Part) (es : List Expr) → AllStandIn more es → AllStandIn (some ++ more) es
+after some more [] all = tt
+after some more (e ∷ es) all = (λ part h. Contains-append_right some more part (all.0 part h), after some more es all.1)
 
 in_front : (e : Expr) (more : List Part) → StandsIn (parts e ++ more) e
 in_front e more part h = Contains-append_left (parts e) more part h
 
 arguments_in : (es : Exprs) → AllStandIn (argument_parts es) (expressions es)
 arguments_in no_exprs = tt
-arguments_in (more_exprs e es) = (in_front e (argument_parts es), behind (parts e) (argument_parts es) (expressions es) (arguments_in es))
+arguments_in (more_exprs e es) = (in_front e (argument_parts es), after (parts e) (argument_parts es) (expressions es) (arguments_in es))
 
 front_in : (e : Expr) (es : Exprs) → AllStandIn (lift_parts (more_exprs e es)) (front e es)
 front_in e no_exprs = tt
-front_in e (more_exprs f es) = (in_front e (lift_parts (more_exprs f es)), behind (parts e) (lift_parts (more_exprs f es)) (front f es) (front_in f es))
+front_in e (more_exprs f es) = (in_front e (lift_parts (more_exprs f es)), after (parts e) (lift_parts (more_exprs f es)) (front f es) (front_in f es))
 
 links_in : (ls : Links) → AllStandIn (link_parts ls) (operands_after ls)
 links_in no_links = tt
-links_in (more_links o f ls) = (in_front f (link_parts ls), behind (parts f) (link_parts ls) (operands_after ls) (links_in ls))
+links_in (more_links o f ls) = (in_front f (link_parts ls), after (parts f) (link_parts ls) (operands_after ls) (links_in ls))
 
 pub operand_in : (p : Place) (l : Level) (e : Expr) (ls : Links) (f : Expr) → Contains (e ∷ operands_after ls) f → StandsIn (parts (tree.Chain p l e ls)) f
 operand_in p l e ls f h =
-    let all : AllStandIn (parts e ++ link_parts ls) (e ∷ operands_after ls) = (in_front e (link_parts ls), behind (parts e) (link_parts ls) (operands_after ls) (links_in ls)) in
+    let all : AllStandIn (parts e ++ link_parts ls) (e ∷ operands_after ls) = (in_front e (link_parts ls), after (parts e) (link_parts ls) (operands_after ls) (links_in ls)) in
     λ part k. contains_tail (Operand (tree.Chain p l e ls)) (parts e ++ link_parts ls) part (all_at (StandsIn (parts e ++ link_parts ls)) (e ∷ operands_after ls) all f h part k)
 
 -- ---- shapes of which the parts stand among these, but for those that only stand for something
@@ -226,4 +226,4 @@ subs_stand_in items o sh is own plain = subst (PartsIn (parts o.expr)) is (inner
 pub argument_stands_in : (p : Place) (x : List ℕ) (es : Exprs) → is_lift x ≡ false → AllStandIn (parts (tree.Call p x es)) (expressions es)
 argument_stands_in p x es none =
     subst (λ b. AllStandIn (Operand (tree.Call p x es) ∷ (if b then lift_parts es else argument_parts es)) (expressions es)) (sym none)
-    (behind (Operand (tree.Call p x es) ∷ []) (argument_parts es) (expressions es) (arguments_in es))
+    (after (Operand (tree.Call p x es) ∷ []) (argument_parts es) (expressions es) (arguments_in es))

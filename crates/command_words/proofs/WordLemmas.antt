@@ -525,22 +525,22 @@ to_texts : (words : List Text) → All IsUtf8 words → Texts words
 to_texts [] h = tt
 to_texts (word ∷ words) h = (h 0 word (omega arith), to_texts words (λ k d lt. h (suc k) d (omega arith)))
 
-behind : (words : List Text) → Texts words → Texts (drop 1 words)
-behind [] h = tt
-behind (word ∷ words) h = h.1
+texts_after : (words : List Text) → Texts words → Texts (drop 1 words)
+texts_after [] h = tt
+texts_after (word ∷ words) h = h.1
 
 fault_is : (words : List Text) → fault_of run_app words ≡ level (drop 1 words)
 fault_is words = leaf_fault (built run_app) nothing_held (drop 1 words) refl
 
 pub refused_asks_not : (app : App) (words : List Text) → app ≡ run_app → All IsUtf8 words → HasFault (fault_of app words) → IsRefused (drop 1 words)
-refused_asks_not app words is utf8 fault = go (answer (drop 1 words) (behind words (to_texts words utf8)))
+refused_asks_not app words is utf8 fault = go (answer (drop 1 words) (texts_after words (to_texts words utf8)))
   where
     go : Answered (drop 1 words) → IsRefused (drop 1 words)
     go (asks ps told f some quiet rows) = absurd (subst HasFault (ap (λ a. fault_of a words) is ∙ (fault_is words ∙ quiet)) fault)
     go (asks_not told f) = told
 
 pub taken_asks : (app : App) (words : List Text) (m : ArgMatches) → app ≡ run_app → All IsUtf8 words → fault_of app words ≡ [] → HasMatchesOf app words m → Matches (drop 1 words) m
-taken_asks app words m is utf8 quiet has = go (answer (drop 1 words) (behind words (to_texts words utf8)))
+taken_asks app words m is utf8 quiet has = go (answer (drop 1 words) (texts_after words (to_texts words utf8)))
   where
     go : Answered (drop 1 words) → Matches (drop 1 words) m
     go (asks_not told f) = absurd (subst HasFault (sym (fault_is words) ∙ (ap (λ a. fault_of a words) (sym is) ∙ quiet)) f)

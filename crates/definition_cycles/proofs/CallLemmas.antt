@@ -10,7 +10,8 @@ use Rattle.tsl_value.specs.declared.place.Place.{Place}
 use Rattle.syntax_tree.specs.Tree as tree
 use Rattle.syntax_tree.specs.declared.tree.Item.{Item}
 use Rattle.syntax_tree.specs.inner.OneLevel.{item_of}
-use Rattle.translation_order.specs.OnCycle.{AreBetween, IsLeast, OnCycle}
+use Rattle.translation_order.specs.Least.{IsLeast}
+use Rattle.translation_order.specs.OnCycle.{AreBetween, OnCycle}
 use Rattle.tsl_value.proofs.Lists.{here, later, none_in_nil, cons_cases, contains_at}
 use Rattle.translation_order.proofs.Paths.{first_edge}
 use Rattle.name_check.specs.declared.declaration.Declaration.{Declaration}

@@ -8,7 +8,8 @@ use Rattle.std.proofs.lemmas.Option.{slice_get-map, slice_get-get_or, slice_get_
 use Rattle.std.proofs.lemmas.Bool.{and_parts}
 use Rattle.std.proofs.Math.Bool.{and-false}
 use Rattle.syntax_tree.specs.Tree as tree
-use Rattle.translation_order.specs.OnCycle.{Edge, AreBetween, IsLeast, OnCycle}
+use Rattle.translation_order.specs.Least.{IsLeast}
+use Rattle.translation_order.specs.OnCycle.{Edge, AreBetween, OnCycle}
 use Rattle.translation_order.proofs.Paths.{first_edge}
 use Rattle.definition_cycles.specs.declared.mention.Mention.{Mention}
 use Rattle.definition_cycles.specs.declared.found.Head.{Head}

@@ -98,10 +98,10 @@ mutual
 
 -- ---- the definition of a block, and those after it
 pub block_turn : (ds : List tree.Definition) (i : ℕ) (d e : tree.Definition) (item n m : ℕ) (s : Scope) (k t all : Kept) → i < length ds → d ≡ get_or ds i d → e ≡ d → m ≡ suc n + count_in (local_body e) → with_nodes k (block_nodes item n s (definitions_of (drop i ds))) ≡ all → t ≡ with_nodes k (definition_nodes item (n + 1) s e) → with_nodes t (block_nodes item m s (definitions_of (drop (i + 1) ds))) ≡ all
-block_turn ds i d e item n m s k t all h is same behind done more =
+block_turn ds i d e item n m s k t all h is same after done more =
     ap (λ l. with_nodes l (block_nodes item m s (definitions_of (drop (i + 1) ds)))) (more ∙ ap (λ j. with_nodes k (definition_nodes item j s e)) (add-one n))
     ∙ sym (with_nodes-append k (definition_nodes item (suc n) s e) (block_nodes item m s (definitions_of (drop (i + 1) ds))))
-    ∙ ap (λ j. with_nodes k (definition_nodes item (suc n) s e ++ block_nodes item j s (definitions_of (drop (i + 1) ds)))) behind
+    ∙ ap (λ j. with_nodes k (definition_nodes item (suc n) s e ++ block_nodes item j s (definitions_of (drop (i + 1) ds)))) after
     ∙ ap (with_nodes k) (sym (block_nodes-cons item n s e (definitions_of (drop (i + 1) ds))))
     ∙ ap (λ x. with_nodes k (block_nodes item n s (tree.more_definitions x (definitions_of (drop (i + 1) ds))))) same
     ∙ sym (ap (λ l. with_nodes k (block_nodes item n s (definitions_of l))) (left_at ds i d h is))

@@ -47,11 +47,11 @@ turned_means E edges e a b h =
 -- ---- paths the other way
 back_round : (E : ℕ → ℕ → Type 0) (a b : ℕ) → Path E a b → flat.Path (λ x y. E y x) b a
 back_round E a b (one e) = flat.edge e
-back_round E a b (more {b = m} e p) = behind (λ x y. E y x) b m a (back_round E m b p) e
+back_round E a b (more {b = m} e p) = after (λ x y. E y x) b m a (back_round E m b p) e
   where
-    behind : (F : ℕ → ℕ → Type 0) (x y z : ℕ) → flat.Path F x y → F y z → flat.Path F x z
-    behind F x y z (flat.edge f) g = flat.step f (flat.edge g)
-    behind F x y z (flat.step {b = w} f p) g = flat.step f (behind F w y z p g)
+    after : (F : ℕ → ℕ → Type 0) (x y z : ℕ) → flat.Path F x y → F y z → flat.Path F x z
+    after F x y z (flat.edge f) g = flat.step f (flat.edge g)
+    after F x y z (flat.step {b = w} f p) g = flat.step f (after F w y z p g)
 
 pub way_round : (E : ℕ → ℕ → Type 0) (a b : ℕ) → flat.Path (λ x y. E y x) a b → Path E b a
 way_round E a b (flat.edge e) = one e

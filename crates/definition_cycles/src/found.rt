@@ -142,9 +142,9 @@ impl Found {
         let mut number = first;
         for definition in definitions {
             let parts = definition.parts();
-            let behind = number_after(number, &parts.body);
+            let after = number_after(number, &parts.body);
             self.add_definition(alloc, item, number + 1, parts, scope)?;
-            number = behind;
+            number = after;
         }
         Ok(())
     }

@@ -31,7 +31,7 @@ fn local_node(first: usize, number: usize) -> Option<usize>
     ensures { IsKnown (Some (first + 1 + number)) result }
 {
     match number.checked_add(1) {
-        Some(behind) => first.checked_add(behind),
+        Some(after) => first.checked_add(after),
         None => None,
     }
 }

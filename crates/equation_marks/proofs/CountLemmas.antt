@@ -48,7 +48,7 @@ pub call_counted : (at : Around) (call : ℕ → List Mark) (p : Place) (n : Lis
 call_counted at call p n es ss os own callee count x y z r streams operands owns calls first second third last =
     let c = call_parts at.scope n es in
     let before : y ≡ min (count + (length (flat_map (marks at call) ss) + length (flat_map (marks at call) (filter is_part os)))) ENOUGH = two_more count _ _ x y first second in
-    let behind : r ≡ min (y + (c.own + length (callee_marks call callee))) ENOUGH = two_more y c.own _ z r (some_more y c.own own z owns third) last in
+    let after : r ≡ min (y + (c.own + length (callee_marks call callee))) ENOUGH = two_more y c.own _ z r (some_more y c.own own z owns third) last in
     let whole : length (marks at call (tree.Call p n (exprs_of es))) ≡ length (flat_map (marks at call) c.streams) + length (flat_map (marks at call) (filter is_part c.operands)) + c.own + length (callee_marks call c.callee) = call_length at call p n es in
     let a = ap (λ l. length (flat_map (marks at call) l)) streams in
     let b = ap (λ l. length (flat_map (marks at call) (filter is_part l))) operands in

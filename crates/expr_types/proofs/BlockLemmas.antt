@@ -50,8 +50,8 @@ module _ (at : Around) where
       ap (λ t. if t then definition_kind at [] w b else local_from at k (suc i + count_in b) ds) (ne_eqb i k (λ e. omega arith)) ∙ too_early k (suc i + count_in b) ds (omega arith)
 
   -- after a definition whose body has so many
-  behind : (c i k : ℕ) (ds : tree.Definitions) → ((j : ℕ) → local_from at (suc i + c + j) (suc i + c) ds ≡ LocalType (At (numbered ds) j)) → local_from at (i + suc k) (suc i + c) ds ≡ LocalType (At (replicate c None ++ numbered ds) k)
-  behind c i k ds each = elim (cases_lt k c) [
+  after : (c i k : ℕ) (ds : tree.Definitions) → ((j : ℕ) → local_from at (suc i + c + j) (suc i + c) ds ≡ LocalType (At (numbered ds) j)) → local_from at (i + suc k) (suc i + c) ds ≡ LocalType (At (replicate c None ++ numbered ds) k)
+  after c i k ds each = elim (cases_lt k c) [
     | inl less ↦ too_early (i + suc k) (suc i + c) ds (omega arith) ∙ sym (ap LocalType (at_none c k (numbered ds) less))
     | inr more ↦ let e : i + suc k ≡ suc i + c + (k - c) = omega arith in ap (λ m. local_from at m (suc i + c) ds) e ∙ each (k - c) ∙ sym (ap LocalType (at_rest c k (numbered ds) more))
   ]
@@ -63,7 +63,7 @@ module _ (at : Around) where
       ap (λ t. if t then definition_kind at [] w b else local_from at (i + zero) (suc i + count_in b) ds) (eq-eqb i (i + zero) same)
   numbered_kind i (suc k) (tree.more_definitions (tree.Define q n ps w b) ds) =
       ap (λ t. if t then definition_kind at [] w b else local_from at (i + suc k) (suc i + count_in b) ds) (ne_eqb i (i + suc k) (λ e. omega arith))
-      ∙ behind (count_in b) i k ds (λ j. numbered_kind (suc i + count_in b) j ds)
+      ∙ after (count_in b) i k ds (λ j. numbered_kind (suc i + count_in b) j ds)
 
   -- the definition of a number, as the code finds it
   numbered_is : (ds : tree.Definitions) (found : List (Option (Bor tree.Definition))) (k : ℕ) → definitions_in found ≡ numbered ds → LocalType (definition_at found k) ≡ local_kind at k ds

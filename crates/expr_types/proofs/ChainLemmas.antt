@@ -21,20 +21,20 @@ use Rattle.tsl_value.proofs.Lists.{left_at}
 use Rattle.expr_types.proofs.WrongLemmas.{clash_is}
 
 -- the rest of a chain after a link of this verdict
-abbrev behind : Around → Level → Option Verdict → Links → Option Verdict
-behind at l None ls = None
-behind at l (Some (Err clash)) ls = Some (Err clash)
-behind at l (Some (Ok t)) ls = judge_links at l t ls
+abbrev after : Around → Level → Option Verdict → Links → Option Verdict
+after at l None ls = None
+after at l (Some (Err clash)) ls = Some (Err clash)
+after at l (Some (Ok t)) ls = judge_links at l t ls
 
-goes_on : (at : Around) (l : Level) (v : Verdict) (ls : Links) → continued v (λ u. judge_links at l u ls) ≡ behind at l (Some v) ls
+goes_on : (at : Around) (l : Level) (v : Verdict) (ls : Links) → continued v (λ u. judge_links at l u ls) ≡ after at l (Some v) ls
 goes_on at l (Ok t) ls = refl
 goes_on at l (Err clash) ls = refl
 
-next_is : (at : Around) (l : Level) (t : ExprType) (u : Option ExprType) (ls : Links) → next_link at.setting l t u (λ x. judge_links at l x ls) ≡ behind at l (with_two (link_rule at.setting l) (Some t) u) ls
+next_is : (at : Around) (l : Level) (t : ExprType) (u : Option ExprType) (ls : Links) → next_link at.setting l t u (λ x. judge_links at l x ls) ≡ after at l (with_two (link_rule at.setting l) (Some t) u) ls
 next_is at l t None ls = refl
 next_is at l t (Some u) ls = goes_on at l (link_rule at.setting l t u) ls
 
-one_link : (at : Around) (l : Level) (t : Option ExprType) (o : Operator) (e : Expr) (ls : Links) → chain_verdict at l t (more_links o e ls) ≡ behind at l (with_two (link_rule at.setting l) t (type_of at e)) ls
+one_link : (at : Around) (l : Level) (t : Option ExprType) (o : Operator) (e : Expr) (ls : Links) → chain_verdict at l t (more_links o e ls) ≡ after at l (with_two (link_rule at.setting l) t (type_of at e)) ls
 one_link at l None o e ls = refl
 one_link at l (Some t) o e ls = next_is at l t (type_of at e) ls
 
@@ -46,7 +46,7 @@ nothing_chained at l (Some t) = refl
 rest_wrong : (at : Around) (ls : List Link) (i : ℕ) (k : Link) → i < length ls → k ≡ get_or ls i k → link_wrongs at (links_in (drop i ls)) ≡ wrongs at k.operand ++ link_wrongs at (links_in (drop (i + 1) ls))
 rest_wrong at ls i k h is = ap (λ l. link_wrongs at (links_in l)) (left_at ls i k h is)
 
-rest_judged : (at : Around) (l : Level) (t : Option ExprType) (ls : List Link) (i : ℕ) (k : Link) → i < length ls → k ≡ get_or ls i k → chain_verdict at l t (links_in (drop i ls)) ≡ behind at l (with_two (link_rule at.setting l) t (type_of at k.operand)) (links_in (drop (i + 1) ls))
+rest_judged : (at : Around) (l : Level) (t : Option ExprType) (ls : List Link) (i : ℕ) (k : Link) → i < length ls → k ≡ get_or ls i k → chain_verdict at l t (links_in (drop i ls)) ≡ after at l (with_two (link_rule at.setting l) t (type_of at k.operand)) (links_in (drop (i + 1) ls))
 rest_judged at l t ls i k h is =
     ap (λ x. chain_verdict at l t (links_in x)) (left_at ls i k h is) ∙ one_link at l t k.operator k.operand (links_in (drop (i + 1) ls))
 
@@ -54,13 +54,13 @@ pub links_fine : (at : Around) (ls : List Link) (i : ℕ) (k : Link) (all : List
 links_fine at ls i k all u h is done found =
     done ∙ rest_wrong at ls i k h is ∙ ap (λ l. l ++ link_wrongs at (links_in (drop (i + 1) ls))) found.0
 
-turned : (at : Around) (l : Level) (ls : List Link) (i : ℕ) (k : Link) (t u : Option ExprType) (v all : Option Verdict) → i < length ls → k ≡ get_or ls i k → chain_verdict at l t (links_in (drop i ls)) ≡ all → (wrongs at k.operand ≡ []) × (u ≡ type_of at k.operand) → v ≡ with_two (link_rule at.setting l) t u → behind at l v (links_in (drop (i + 1) ls)) ≡ all
+turned : (at : Around) (l : Level) (ls : List Link) (i : ℕ) (k : Link) (t u : Option ExprType) (v all : Option Verdict) → i < length ls → k ≡ get_or ls i k → chain_verdict at l t (links_in (drop i ls)) ≡ all → (wrongs at k.operand ≡ []) × (u ≡ type_of at k.operand) → v ≡ with_two (link_rule at.setting l) t u → after at l v (links_in (drop (i + 1) ls)) ≡ all
 turned at l ls i k t u v all h is done found here =
-    ap (λ x. behind at l x (links_in (drop (i + 1) ls))) (here ∙ ap (with_two (link_rule at.setting l) t) found.1)
+    ap (λ x. after at l x (links_in (drop (i + 1) ls))) (here ∙ ap (with_two (link_rule at.setting l) t) found.1)
     ∙ sym (rest_judged at l t ls i k h is) ∙ done
 
 -- a link that is not refused
-allowed_after : (at : Around) (l : Level) (v : Option Verdict) (ls : Links) → None ≡ clash_in v → chain_verdict at l (of_verdict v) ls ≡ behind at l v ls
+allowed_after : (at : Around) (l : Level) (v : Option Verdict) (ls : Links) → None ≡ clash_in v → chain_verdict at l (of_verdict v) ls ≡ after at l v ls
 allowed_after at l None ls h = refl
 allowed_after at l (Some (Ok t)) ls h = refl
 allowed_after at l (Some (Err clash)) ls h = absurd (cc h)
@@ -72,7 +72,7 @@ links_more at l ls i k t u r v all h is done found here none more =
 
 pub links_clash : (at : Around) (l : Level) (ls : List Link) (i : ℕ) (k : Link) (t u : Option ExprType) (v all : Option Verdict) (clash : Clash) → i < length ls → k ≡ get_or ls i k → chain_verdict at l t (links_in (drop i ls)) ≡ all → (wrongs at k.operand ≡ []) × (u ≡ type_of at k.operand) → v ≡ with_two (link_rule at.setting l) t u → Some clash ≡ clash_in v → Some (Err clash) ≡ all
 links_clash at l ls i k t u v all clash h is done found here refused =
-    ap (λ x. behind at l x (links_in (drop (i + 1) ls))) (clash_is v clash refused) ∙ turned at l ls i k t u v all h is done found here
+    ap (λ x. after at l x (links_in (drop (i + 1) ls))) (clash_is v clash refused) ∙ turned at l ls i k t u v all h is done found here
 
 pub links_stop : (at : Around) (l : Level) (ls : List Link) (i : ℕ) (k : Link) (t : Option ExprType) (all : Option Verdict) (ws : List Wrong) (s : Stop) → i < length ls → k ≡ get_or ls i k → ws ≡ link_wrongs at (links_in (drop i ls)) → chain_verdict at l t (links_in (drop i ls)) ≡ all → Stops (wrongs at k.operand) (type_of at k.operand) s → Stops ws all s
 links_stop at l ls i k t all ws s h is fine done found =
@@ -80,8 +80,8 @@ links_stop at l ls i k t all ws s h is fine done found =
     stops_same s (wrongs at k.operand ++ rest) ws all all (sym (fine ∙ rest_wrong at ls i k h is)) refl
     (stops_front s (wrongs at k.operand) rest (type_of at k.operand) all
     (λ none. sym done ∙ rest_judged at l t ls i k h is
-    ∙ ap (λ x. behind at l (with_two (link_rule at.setting l) t x) (links_in (drop (i + 1) ls))) none
-    ∙ ap (λ x. behind at l x (links_in (drop (i + 1) ls))) (nothing_chained at l t)) found)
+    ∙ ap (λ x. after at l (with_two (link_rule at.setting l) t x) (links_in (drop (i + 1) ls))) none
+    ∙ ap (λ x. after at l x (links_in (drop (i + 1) ls))) (nothing_chained at l t)) found)
 
 alone : (at : Around) (l : Level) (t : Option ExprType) → chain_verdict at l t no_links ≡ is_just t
 alone at l None = refl

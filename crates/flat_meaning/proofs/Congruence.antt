@@ -115,11 +115,11 @@ module _ (inputs : Inputs) (t : ℕ) where
 
   last_used : (ps : List Two) → AgreeFrom construct.Last t 0 ps → list_any (λ h. is_fault (h t)) (drop 1 (ones ps)) ≡ list_any (λ h. is_fault (h t)) (drop 1 (others ps))
   last_used [] agree = refl
-  last_used (v ∷ ps) agree = any_fault t ps (at_to t ps (behind 0 ps agree.1))
+  last_used (v ∷ ps) agree = any_fault t ps (at_to t ps (after 0 ps agree.1))
     where
-      behind : (k : ℕ) (qs : List Two) → AgreeFrom construct.Last t (suc k) qs → AgreeTo t qs
-      behind k [] agree = tt
-      behind k (q ∷ qs) agree = (agree.0, behind (suc k) qs agree.1)
+      after : (k : ℕ) (qs : List Two) → AgreeFrom construct.Last t (suc k) qs → AgreeTo t qs
+      after k [] agree = tt
+      after k (q ∷ qs) agree = (agree.0, after (suc k) qs agree.1)
 
   blocked_same : (c : Construct) (ps : List Two) → AgreeFrom c t 0 ps → is_blocked c (ones ps) t ≡ is_blocked c (others ps) t
   blocked_same construct.Last ps agree = last_used ps agree

@@ -43,10 +43,10 @@ module _ (items : List tree.Item) (a b : Kinds) (same : SameKinds a b) (top othe
   inputs_once flat.MakesInputs.end flat.MakesInputs.end = record { made = refl; agreed = λ k is. absurd (none-some _ is.is) }
   inputs_once {i} {n = n} (flat.MakesInputs.input {p = p} {q = q} {x = x} {y = y} {rest = rest} of made event top_is more all_is) (flat.MakesInputs.input at made_too event_too other_is less all_too) =
       let of_same = same_Some of at (sym event ∙ event_too) in
-      let behind = inputs_once more less in
+      let after = inputs_once more less in
       record {
-        made = all_is ∙ (λ k. record (equation q op.Input [] (of_same k)) { name = Some x } ∷ behind.made k) ∙ sym all_too;
-        agreed = with_first IsInputItem IsSameAt i (tree.Input p q x y) rest (λ is. top_is ∙ (λ k. record { id = n; of = of_same k }) ∙ sym other_is) behind.agreed;
+        made = all_is ∙ (λ k. record (equation q op.Input [] (of_same k)) { name = Some x } ∷ after.made k) ∙ sym all_too;
+        agreed = with_first IsInputItem IsSameAt i (tree.Input p q x y) rest (λ is. top_is ∙ (λ k. record { id = n; of = of_same k }) ∙ sym other_is) after.agreed;
       }
   inputs_once (flat.MakesInputs.defined more) (flat.MakesInputs.defined less) = no_input _ (λ is. let e = is.is in (cc)) (inputs_once more less)
   inputs_once (flat.MakesInputs.output more) (flat.MakesInputs.output less) = no_input _ (λ is. let e = is.is in (cc)) (inputs_once more less)

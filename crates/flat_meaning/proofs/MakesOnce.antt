@@ -128,12 +128,12 @@ module _ (items : List tree.Item) (a b : Kinds) (same : SameKinds a b) (top othe
       makes_once {at} (makes.Makes.own sh parts before after is own no_pick all_made written fits after_is made_is s_is) (makes.Makes.chain {p = p} {l = l} {e = e} two) alike = no_own_chain items at.calls sh p l e is own
       makes_once {at} {by} {e} {n} {m} {xs} {ys} {s} {u} (makes.Makes.own sh parts before after {of} is own no_pick all_made written fits after_is made_is s_is) (makes.Makes.own sh_too parts_too before_too after_too {of = of_too} be own_too no_pick_too all_too written_too fits_too after_too_is all_is u_is) alike =
           let sh_same = shape_same e sh sh_too alike is be in
-          let second = subst (λ (v : Shape). IsOwn e v.construct (m + length before_too) parts_too before_too ys u) sh_same (record { of = of_too; no_choice = no_pick_too; written = written_too; fits = fits_too; behind = record { after = after_too; after_is = after_too_is; made_is = all_is; stream_is = u_is } }) in
-          own_once items top other is (all_once all_made (parts_at sh_same all_too) alike) (record { of = of; no_choice = no_pick; written = written; fits = fits; behind = record { after = after; after_is = after_is; made_is = made_is; stream_is = s_is } }) second
+          let second = subst (λ (v : Shape). IsOwn e v.construct (m + length before_too) parts_too before_too ys u) sh_same (record { of = of_too; no_choice = no_pick_too; written = written_too; fits = fits_too; is_after = record { after = after_too; after_is = after_too_is; made_is = all_is; stream_is = u_is } }) in
+          own_once items top other is (all_once all_made (parts_at sh_same all_too) alike) (record { of = of; no_choice = no_pick; written = written; fits = fits; is_after = record { after = after; after_is = after_is; made_is = made_is; stream_is = s_is } }) second
       makes_once {at} {by} {e} {n} {m} {xs} {ys} {s} {u} (makes.Makes.own sh parts before after {of} is own no_pick all_made written fits after_is made_is s_is) (makes.Makes.choice sh_too parts_too before_too after_too {of = of_too} be chosen all_too fits_too after_too_is all_is u_is) alike =
           let sh_same = shape_same e sh sh_too alike is be in
-          let first : IsOwn e sh.construct (n + length before) parts before xs s = record { of = of; no_choice = no_pick; written = written; fits = fits; behind = record { after = after; after_is = after_is; made_is = made_is; stream_is = s_is } } in
-          let second : IsChoice e (m + length before_too) parts_too before_too ys u = record { of = of_too; chosen = chosen; fits = fits_too; behind = record { after = after_too; after_is = after_too_is; made_is = all_is; stream_is = u_is } } in
+          let first : IsOwn e sh.construct (n + length before) parts before xs s = record { of = of; no_choice = no_pick; written = written; fits = fits; is_after = record { after = after; after_is = after_is; made_is = made_is; stream_is = s_is } } in
+          let second : IsChoice e (m + length before_too) parts_too before_too ys u = record { of = of_too; chosen = chosen; fits = fits_too; is_after = record { after = after_too; after_is = after_too_is; made_is = all_is; stream_is = u_is } } in
           no_choice items top other at.calls is (all_once all_made (parts_at sh_same all_too) alike).typed first second
       makes_once {at} (makes.Makes.own sh parts before after is own no_pick all_made written fits after_is made_is s_is) (makes.Makes.call {at = by} {p = p} {x = x} {es = es} i params locals c first block rest free be body arguments typed definitions result all_is) alike =
           no_own_call items at.calls sh p x es i c free (ap (λ cs. meaning (scope_at items cs) x) alike.calls ∙ be) body is own
@@ -143,13 +143,13 @@ module _ (items : List tree.Item) (a b : Kinds) (same : SameKinds a b) (top othe
       makes_once (makes.Makes.choice sh parts before after is chosen all_made fits after_is made_is s_is) (makes.Makes.call i params locals c first block rest free be body arguments typed definitions result all_is) alike = absurd (false≢true chosen)
       makes_once {at} {by} {e} {n} {m} {xs} {ys} {s} {u} (makes.Makes.choice sh parts before after {of} is chosen all_made fits after_is made_is s_is) (makes.Makes.own sh_too parts_too before_too after_too {of = of_too} be own_too no_pick_too all_too written_too fits_too after_too_is all_is u_is) alike =
           let sh_same = shape_same e sh sh_too alike is be in
-          let first : IsChoice e (n + length before) parts before xs s = record { of = of; chosen = chosen; fits = fits; behind = record { after = after; after_is = after_is; made_is = made_is; stream_is = s_is } } in
-          let second : IsOwn e sh_too.construct (m + length before_too) parts_too before_too ys u = record { of = of_too; no_choice = no_pick_too; written = written_too; fits = fits_too; behind = record { after = after_too; after_is = after_too_is; made_is = all_is; stream_is = u_is } } in
+          let first : IsChoice e (n + length before) parts before xs s = record { of = of; chosen = chosen; fits = fits; is_after = record { after = after; after_is = after_is; made_is = made_is; stream_is = s_is } } in
+          let second : IsOwn e sh_too.construct (m + length before_too) parts_too before_too ys u = record { of = of_too; no_choice = no_pick_too; written = written_too; fits = fits_too; is_after = record { after = after_too; after_is = after_too_is; made_is = all_is; stream_is = u_is } } in
           no_choice items top other by.calls be (sym (all_once all_made (parts_at sh_same all_too) alike).typed) second first
       makes_once {at} {by} {e} {n} {m} {xs} {ys} {s} {u} (makes.Makes.choice sh parts before after {of} is chosen all_made fits after_is made_is s_is) (makes.Makes.choice sh_too parts_too before_too after_too {of = of_too} be chosen_too all_too fits_too after_too_is all_is u_is) alike =
           let sh_same = shape_same e sh sh_too alike is be in
-          let first : IsChoice e (n + length before) parts before xs s = record { of = of; chosen = chosen; fits = fits; behind = record { after = after; after_is = after_is; made_is = made_is; stream_is = s_is } } in
-          let second : IsChoice e (m + length before_too) parts_too before_too ys u = record { of = of_too; chosen = chosen_too; fits = fits_too; behind = record { after = after_too; after_is = after_too_is; made_is = all_is; stream_is = u_is } } in
+          let first : IsChoice e (n + length before) parts before xs s = record { of = of; chosen = chosen; fits = fits; is_after = record { after = after; after_is = after_is; made_is = made_is; stream_is = s_is } } in
+          let second : IsChoice e (m + length before_too) parts_too before_too ys u = record { of = of_too; chosen = chosen_too; fits = fits_too; is_after = record { after = after_too; after_is = after_too_is; made_is = all_is; stream_is = u_is } } in
           choice_once items top other (all_once all_made (parts_at sh_same all_too) alike) first second
       -- calls of macros
       makes_once {at} {by} (makes.Makes.call {p = p} {x = x} {es = es} i params locals c first block rest free be body arguments typed definitions result all_is) (makes.Makes.own sh parts before after is own no_pick all_made written fits after_is made_is s_is) alike =

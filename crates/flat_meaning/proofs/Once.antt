@@ -76,13 +76,13 @@ pub record IsOwn (e : Expr) (c : Construct) (k : ℕ) (parts : List Stream) (bef
   pub no_choice : (is_choice e && is_aggregate of) ≡ false
   pub written : IsAsWritten e of
   pub fits : Fits c (with_itself c k parts) of
-  pub behind : IsAfter (own_of e c) of k parts before made s
+  pub is_after : IsAfter (own_of e c) of k parts before made s
 
 pub record IsChoice (e : Expr) (k : ℕ) (parts : List Stream) (before made : List Equation) (s : Stream) : Type 0 where
   pub of : ValueType
   pub chosen : (is_choice e && is_aggregate of) ≡ true
   pub fits : FitsChoice (choice_operands e) parts of
-  pub behind : IsAfter (choice_of e) of k parts before made s
+  pub is_after : IsAfter (choice_of e) of k parts before made s
 
 itself_types : (c : Construct) (k l : ℕ) (parts parts_too : List Stream) → types parts ≡ types parts_too → types (with_itself c k parts) ≡ types (with_itself c l parts_too)
 itself_types construct.Delay k l parts parts_too same =
@@ -114,13 +114,13 @@ module _ (items : List tree.Item) (top other : ℕ → Stream) where
       let l = m + length before_too in
       let same = itself_types c k l parts parts_too once.typed in
       let of_same = own_type items at.calls e sh (with_itself c k parts) (with_itself c l parts_too) g.of h.of is same g.written h.written g.fits h.fits in
-      after_once (own_of e c) g.of h.of of_same (own_length (place_of e) g.of h.of k l c (with_itself c k parts) (with_itself c l parts_too) same) once g.behind h.behind
+      after_once (own_of e c) g.of h.of of_same (own_length (place_of e) g.of h.of k l c (with_itself c k parts) (with_itself c l parts_too) same) once g.is_after h.is_after
 
   pub choice_once : {n m : ℕ} {at by : Standing} {e : Expr} {parts parts_too : List Stream} {before before_too made all : List Equation} {s u : Stream} → OneList items top other n m at by before before_too parts parts_too → IsChoice e (n + length before) parts before made s → IsChoice e (m + length before_too) parts_too before_too all u → OneStream items top other n m at by made all s u
   choice_once {n} {m} {e = e} {parts = parts} {parts_too = parts_too} {before = before} {before_too = before_too} once g h =
       let os = choice_operands e in
       let of_same = one_choice os parts parts_too g.of h.of once.typed g.fits h.fits in
-      after_once (choice_of e) g.of h.of of_same (choice_length (place_of e) g.of h.of (n + length before) (m + length before_too) os parts parts_too once.typed) once g.behind h.behind
+      after_once (choice_of e) g.of h.of of_same (choice_length (place_of e) g.of h.of (n + length before) (m + length before_too) os parts parts_too once.typed) once g.is_after h.is_after
 
   -- an operation on streams is no choice between sets or maps
   pub no_choice : {P : Type 0} (cs : List Call) {e : Expr} {sh : Shape} {k l : ℕ} {parts parts_too : List Stream} {before before_too made all : List Equation} {s u : Stream} → expr_shape items cs e ≡ Some sh → types parts ≡ types parts_too → IsOwn e sh.construct k parts before made s → IsChoice e l parts_too before_too all u → P

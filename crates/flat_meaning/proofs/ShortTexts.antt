@@ -53,8 +53,8 @@ exprs_short (more_exprs e es) h = (h.0, exprs_short es h.1)
 pub record AreShort (ps : List Part) : Type 0 where
   pub each : (p : Place) (text : List ℕ) → Contains ps (Operand (tree.Text p text)) → length text ≤ MOST_TEXT_BYTES
 
-behind : (x : Part) (ps : List Part) → AreShort (x ∷ ps) → AreShort ps
-behind x ps h = record { each = λ p text c. h.each p text (contains_tail x ps _ c) }
+after : (x : Part) (ps : List Part) → AreShort (x ∷ ps) → AreShort ps
+after x ps h = record { each = λ p text c. h.each p text (contains_tail x ps _ c) }
 
 left : (ps qs : List Part) → AreShort (ps ++ qs) → AreShort ps
 left ps qs h = record { each = λ p text c. h.each p text (Contains-append_left ps qs _ c) }
@@ -65,22 +65,22 @@ right ps qs h = record { each = λ p text c. h.each p text (Contains-append_righ
 mutual
   pub expr_short : (e : Expr) → AreShort (parts e) → ShortExpr e
   expr_short (tree.If p c a b) h =
-      let all = behind (Operand (tree.If p c a b)) (parts c ++ parts a ++ parts b) h in
+      let all = after (Operand (tree.If p c a b)) (parts c ++ parts a ++ parts b) h in
       let front = left (parts c ++ parts a) (parts b) all in
       (expr_short c (left (parts c) (parts a) front), expr_short a (right (parts c) (parts a) front), expr_short b (right (parts c ++ parts a) (parts b) all))
   expr_short (tree.Chain p l e ls) h =
-      let all = behind (Operand (tree.Chain p l e ls)) (parts e ++ link_parts ls) h in
+      let all = after (Operand (tree.Chain p l e ls)) (parts e ++ link_parts ls) h in
       (expr_short e (left (parts e) (link_parts ls) all), links_short ls (right (parts e) (link_parts ls) all))
   expr_short (tree.Compare p o a b) h =
-      let all = behind (Operand (tree.Compare p o a b)) (parts a ++ parts b) h in
+      let all = after (Operand (tree.Compare p o a b)) (parts a ++ parts b) h in
       (expr_short a (left (parts a) (parts b) all), expr_short b (right (parts a) (parts b) all))
-  expr_short (tree.Negate p e) h = expr_short e (behind (Operand (tree.Negate p e)) (parts e) h)
-  expr_short (tree.Not p e) h = expr_short e (behind (Operand (tree.Not p e)) (parts e) h)
+  expr_short (tree.Negate p e) h = expr_short e (after (Operand (tree.Negate p e)) (parts e) h)
+  expr_short (tree.Not p e) h = expr_short e (after (Operand (tree.Not p e)) (parts e) h)
   expr_short (tree.Text p t) h = h.each p t (contains_head (Operand (tree.Text p t)) [])
   expr_short (tree.Call p n es) h =
-      let all = behind (Operand (tree.Call p n es)) (if is_lift n then lift_parts es else argument_parts es) h in
+      let all = after (Operand (tree.Call p n es)) (if is_lift n then lift_parts es else argument_parts es) h in
       (λ lifts. front_short es (subst (λ b. AreShort (if b then lift_parts es else argument_parts es)) lifts all), λ calls. arguments_short es (subst (λ b. AreShort (if b then lift_parts es else argument_parts es)) calls all))
-  expr_short (tree.CallDotted p d es) h = arguments_short es (behind (Operand (tree.CallDotted p d es)) (argument_parts es) h)
+  expr_short (tree.CallDotted p d es) h = arguments_short es (after (Operand (tree.CallDotted p d es)) (argument_parts es) h)
   expr_short e h = tt
 
   arguments_short : (es : Exprs) → AreShort (argument_parts es) → ShortExprs es

@@ -133,7 +133,7 @@ module _ (place : Place) (name : List ℕ) where
 
   running : (i : ℕ) → Remains before after i → IsTrue (runs after i)
   running i (inl needed) = walk_keeps (λ n. IsTrue (runs after n)) argument_runs needed.walk (output_runs needed.output needed.printed)
-  running i (inr behind) = walk_keeps (λ n. IsTrue (runs after n)) argument_runs behind.walk (fault_runs behind.start behind.faults)
+  running i (inr faulting) = walk_keeps (λ n. IsTrue (runs after n)) argument_runs faulting.walk (fault_runs faulting.start faulting.faults)
 
   rising : IsStrictlyIncreasing (0 ∷ 1 ∷ [])
   rising zero lt = omega arith

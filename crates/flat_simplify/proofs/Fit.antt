@@ -157,7 +157,7 @@ module _ (s u : System) (proper : IsProper s) (typed : IsTypedSystem s) (formed 
 
   remains_left : (i : ℕ) → Remains s u i → IsLeft i
   remains_left i (inl needed) = walk_keeps IsLeft argument_left needed.walk (output_left needed.output needed.printed)
-  remains_left i (inr behind) = walk_keeps IsLeft argument_left behind.walk (faulting_left behind.start behind.faults)
+  remains_left i (inr after) = walk_keeps IsLeft argument_left after.walk (faulting_left after.start after.faults)
 
   pub is_left : (i : ℕ) → IsTrue (runs u i) → IsLeft i
   is_left i run = remains_left i ((made.remains i).0 run)
@@ -165,7 +165,7 @@ module _ (s u : System) (proper : IsProper s) (typed : IsTypedSystem s) (formed 
   -- ---- what runs is closed under arguments
   argument_remains : (i j : ℕ) → HasArgument u.equations i j → Remains s u i → Remains s u j
   argument_remains i j h (inl needed) = inl record { output = needed.output; printed = needed.printed; walk = walk_on needed.walk h }
-  argument_remains i j h (inr behind) = inr record { start = behind.start; faults = behind.faults; walk = walk_on behind.walk h }
+  argument_remains i j h (inr after) = inr record { start = after.start; faults = after.faults; walk = walk_on after.walk h }
 
   pub arguments_run : (i : ℕ) (f : Equation) → IsTrue (runs u i) → equation u i ≡ Some f → AllByRecursion (λ a. IsTrue (runs u a)) f.args
   arguments_run i f run is = all_from (λ a. IsTrue (runs u a)) f.args (λ j c. (made.remains j).1 (argument_remains i j (record { at = f; is = is; argument = c }) ((made.remains i).0 run)))

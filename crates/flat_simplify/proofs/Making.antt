@@ -57,7 +57,7 @@ module _ (s : System) (flat : IsFlat s) (formed : IsWellFormed s) (replaced : Li
         let printed : Contains (map (λ (o : Output). new_number replaced o.equation) s.outputs) needed.output.equation =
         subst (Contains (map (λ (o : Output). new_number replaced o.equation) s.outputs)) number (map_contains (λ (o : Output). new_number replaced o.equation) s.outputs old.0 old.1) in
         record { start = needed.output.equation; among = (are_starts needed.output.equation).1 (inl printed); walk = needed.walk }
-    reached i (inr behind) = record { start = behind.start; among = (are_starts behind.start).1 (inr behind.faults); walk = behind.walk }
+    reached i (inr after) = record { start = after.start; among = (are_starts after.start).1 (inr after.faults); walk = after.walk }
 
     made : IsRenumbered s replaced u
     made = record {

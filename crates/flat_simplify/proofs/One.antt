@@ -21,8 +21,8 @@ same_replaced s p q by_p by_q =
 remains_by : (s u v : System) → u.equations ≡ v.equations → u.outputs ≡ v.outputs → (i : ℕ) → Remains s u i → Remains s v i
 remains_by s u v equations outputs i (inl needed) =
     inl record { output = needed.output; printed = subst (λ os. Contains os needed.output) outputs needed.printed; walk = subst (λ es. Walk (HasArgument es) needed.output.equation i) equations needed.walk }
-remains_by s u v equations outputs i (inr behind) =
-    inr record { start = behind.start; faults = behind.faults; walk = subst (λ es. Walk (HasArgument es) behind.start i) equations behind.walk }
+remains_by s u v equations outputs i (inr after) =
+    inr record { start = after.start; faults = after.faults; walk = subst (λ es. Walk (HasArgument es) after.start i) equations after.walk }
 
 pub one_simplified : (s u v : System) → IsSimplified s u → IsSimplified s v → u ≡ v
 one_simplified s u v a b =

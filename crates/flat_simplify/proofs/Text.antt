@@ -45,8 +45,8 @@ due_front s lines z bound f limit le sound over =
     let due : ℕ → Bool = λ t. not (is_over s (inputs_of lines) z t) in
     let parts = instants_first s lines z f bound le in
     let front = all_by (λ t. t < f) (λ t. due t ≡ true) (λ t lt. ap not (none_before_from (is_faulty s (inputs_of lines) z) (suc t) (λ m less. sound m (omega arith)))) (instants s lines z f) (instants_below s lines z f) in
-    let behind = all_by (λ t. (f ≤ t) × (t < bound)) (λ t. due t ≡ false) (λ t between. ap not (over t between.0 between.1)) parts.0 parts.2 in
-    ap (λ ts. filter due (take limit ts)) parts.1 ∙ filter_front due limit (instants s lines z f) parts.0 front behind
+    let beyond = all_by (λ t. (f ≤ t) × (t < bound)) (λ t. due t ≡ false) (λ t between. ap not (over t between.0 between.1)) parts.0 parts.2 in
+    ap (λ ts. filter due (take limit ts)) parts.1 ∙ filter_front due limit (instants s lines z f) parts.0 front beyond
 
 module _ (s u : System) (lines : List Line) (bound : ℕ) (z w : Streams) (both : AreSolved s u (inputs_of lines) bound z w) where
   abbrev inputs : Inputs

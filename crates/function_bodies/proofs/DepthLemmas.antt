@@ -98,7 +98,7 @@ module _ (items : List tree.Item) (order : List ℕ) (is_order : IsCallOrder ite
   first_nests : (front rest : List ℕ) (x : ℕ) → order ≡ front ++ x ∷ rest → AllNest front → x < length items → (b : Bool) → has front x ≡ b → NestsWithin items (listed (front ++ x ∷ []) (length items)) x
   first_nests front rest x is before lt true e = nests_more items _ _ x (listed_more front x (length items)) (before x lt (has_there front x e))
   first_nests front rest x is before lt false e =
-      let here : NestsWithin items (suc (listed front (length items))) x = λ j calls. before j (called_is_item items x j calls) (is_order.behind front rest x j is calls) in
+      let here : NestsWithin items (suc (listed front (length items))) x = λ j calls. before j (called_is_item items x j calls) (is_order.called_first front rest x j is calls) in
       nests_more items (suc (listed front (length items))) _ x (listed_new front x (length items) e lt) here
 
   one_further : (front rest : List ℕ) (x : ℕ) → order ≡ front ++ x ∷ rest → AllNest front → AllNest (front ++ x ∷ [])

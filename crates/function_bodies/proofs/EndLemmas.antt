@@ -53,16 +53,16 @@ IsTooLargeAt functions i x found = (tops : List tree.Item) → AreBodies tops fu
 pub found_turn : (items : List Item) (functions : List (Option BodyTree)) (i : ℕ) (x : Item) (p : Place) (all : Option Place) → i < length items → x ≡ get_or items i x → IsTooLargeAt functions i x (Some p) → (AreBodies (map item_of items) functions → first (too_large_from (map item_of items) i (map item_of (drop i items))) ≡ all) → AreBodies (map item_of items) functions → Some p ≡ all
 found_turn items functions i x p all lt is here done bodies =
     let tops = map item_of items in
-    let behind = too_large_from tops (i + 1) (map item_of (drop (i + 1) items)) in
-    sym (first_of_front (too_large_in tops i (item_of x)) behind p (sym (here tops bodies (item_at items i x lt is))))
+    let after = too_large_from tops (i + 1) (map item_of (drop (i + 1) items)) in
+    sym (first_of_front (too_large_in tops i (item_of x)) after p (sym (here tops bodies (item_at items i x lt is))))
     ∙ sym (ap first (too_large_after tops items i x lt is))
     ∙ done bodies
 
 pub none_turn : (items : List Item) (functions : List (Option BodyTree)) (i : ℕ) (x : Item) (found all : Option Place) → i < length items → x ≡ get_or items i x → IsTooLargeAt functions i x found → found ≡ None → (AreBodies (map item_of items) functions → first (too_large_from (map item_of items) i (map item_of (drop i items))) ≡ all) → AreBodies (map item_of items) functions → first (too_large_from (map item_of items) (i + 1) (map item_of (drop (i + 1) items))) ≡ all
 none_turn items functions i x found all lt is here none done bodies =
     let tops = map item_of items in
-    let behind = too_large_from tops (i + 1) (map item_of (drop (i + 1) items)) in
-    sym (first_after (too_large_in tops i (item_of x)) behind (sym (here tops bodies (item_at items i x lt is)) ∙ none))
+    let after = too_large_from tops (i + 1) (map item_of (drop (i + 1) items)) in
+    sym (first_after (too_large_in tops i (item_of x)) after (sym (here tops bodies (item_at items i x lt is)) ∙ none))
     ∙ sym (ap first (too_large_after tops items i x lt is))
     ∙ done bodies
 

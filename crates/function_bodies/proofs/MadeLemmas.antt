@@ -76,10 +76,10 @@ none_past (x ∷ xs) (suc i) h = omega (arith, none_past xs i h)
 
 pub step_past : (items : List Item) (names : Scope) (number : ℕ) (bodies : List (Option BodyTree)) → length items ≤ number → length bodies ≡ length items → IsStep (map item_of items) names number bodies bodies
 step_past items names number bodies past count =
-    let behind : length bodies ≤ number = omega arith in
+    let after : length bodies ≤ number = omega arith in
     record {
       made = None;
-      is = sym (set_past bodies number None behind);
+      is = sym (set_past bodies number None after);
       right = λ item is. cc (slice_get-map item_of items number, ap (option_map item_of) (slice_get_past items number past), is);
     }
 
@@ -166,7 +166,7 @@ module _ (items : List tree.Item) (order : List ℕ) (is_order : IsCallOrder ite
       let inside : x < length items = slice_get_within items x item found in
       let below : x < length old = omega (arith, h.count) in
       ap (λ l. slice_index_or l x None) s.is ∙ get_or-set_same old x s.made None below
-      ∙ body_right old x item s.made found (λ j calls. h.made j (is_order.behind front rest x j is calls)) (s.right item found)
+      ∙ body_right old x item s.made found (λ j calls. h.made j (is_order.called_first front rest x j is calls)) (s.right item found)
 
   eqb_other : (x y : ℕ) → eqb x y ≡ false → x ≡ y → ⊥
   eqb_other x y h is = grind (arith, nat_tests)

@@ -33,7 +33,7 @@ module _ (items : List tree.Item) (edges pairs : List (ℕ × ℕ)) (e : AreEdge
   pub call_order : (n : ℕ) (order : List ℕ) → n ≡ length items → IsLeastOrder n (Before pairs) order → IsCallOrder items order
   call_order n order is o = record {
     all = λ i lt. o.all i (omega arith);
-    behind = λ front rest i j split calls. (o.takes_least front rest i split).holds.is_free j (has j i calls);
+    called_first = λ front rest i j split calls. (o.takes_least front rest i split).holds.is_free j (has j i calls);
   }
 
   pub no_cycle : IsFirstFunctionCycle items None → (found : List ℕ) → IsCycle (Before pairs) found → ⊥

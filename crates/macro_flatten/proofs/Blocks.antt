@@ -60,10 +60,10 @@ module _ (counted : ℕ → ℕ) (at : Around) (call : ℕ → List Mark) where
   numbered_same to of marked typed k n tree.no_definitions (a ∷ ss) h = absurd h
   numbered_same to of marked typed k n (tree.more_definitions d ds) [] h = absurd h
   numbered_same to of marked typed k n (tree.more_definitions d ds) (a ∷ ss) h =
-      let behind = ap (λ ms. counted (n + length ms)) (marked (result_of (local_body d))) in (
-        h.0 ∙ ap (λ m. m - 1) behind,
+      let counted_same = ap (λ ms. counted (n + length ms)) (marked (result_of (local_body d))) in (
+        h.0 ∙ ap (λ m. m - 1) counted_same,
         sym (typed k) ∙ h.1,
-        subst (λ m. AreNumbered counted to of (suc k) m ds ss) behind
+        subst (λ m. AreNumbered counted to of (suc k) m ds ss) counted_same
             (numbered_same to of marked typed (suc k) (counted (n + length (body_marks at call (result_of (local_body d))))) ds ss h.2),
       )
 

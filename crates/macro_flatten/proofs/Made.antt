@@ -238,8 +238,8 @@ module _ (site : Site) (deep : ℕ) (e : Expr) where
       by : (b : Bool) → is_name e ≡ b → (r : Result Stream MakeFault) → AliasedBy b (place_of e) a mid new r → IsBodyAnswer site deep e old new r
       by true is (Ok s) k = named_body old mid new a s is h k.0 k.1
       by true is (Err f) k =
-          let behind = refused_equations mid (alias_equation (place_of e) a ∷ []) (alias_own_marks (place_of e)) f (alias_marks (place_of e) a) k in
+          let own_refusal = refused_equations mid (alias_equation (place_of e) a ∷ []) (alias_own_marks (place_of e)) f (alias_marks (place_of e) a) k in
           refused_same old ([] ++ alias_own_marks (place_of e)) body_marks_at f (sym (body_of_name site.at (marks_called site deep) e is))
-          (refused_after old mid h.made [] (alias_own_marks (place_of e)) f h.new_is (h.marks_are ∙ name_marks site.at (marks_called site deep) e is) behind)
+          (refused_after old mid h.made [] (alias_own_marks (place_of e)) f h.new_is (h.marks_are ∙ name_marks site.at (marks_called site deep) e is) own_refusal)
       by false is (Ok s) k = other_body old mid new a s is h k.0 k.1
       by false is (Err f) k = absurd k

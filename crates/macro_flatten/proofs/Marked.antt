@@ -181,7 +181,7 @@ module _ (items : List tree.Item) (kinds : Kinds) (streams : ℕ → Stream) (is
           no_choice = other;
           written = both.1;
           fits = both.0;
-          behind = record { after = own_of e sh.construct t k ps; after_is = refl; made_is = refl; stream_is = refl };
+          is_after = record { after = own_of e sh.construct t k ps; after_is = refl; made_is = refl; stream_is = refl };
         }
 
     typed_choice : (is_choice e && is_aggregate t) ≡ true → IsChoice e k ps before (before ++ choice_of e t k ps) (last_of k (choice_of e t k ps) t)
@@ -189,7 +189,7 @@ module _ (items : List tree.Item) (kinds : Kinds) (streams : ℕ → Stream) (is
       of = t;
       chosen = chosen;
       fits = choice_fits items streams at st e t sh ps typed is inner.typed chosen;
-      behind = record { after = choice_of e t k ps; after_is = refl; made_is = refl; stream_is = refl };
+      is_after = record { after = choice_of e t k ps; after_is = refl; made_is = refl; stream_is = refl };
     }
 
     own_type : IsOwn e sh.construct k ps before made s → s.of ≡ t
@@ -212,10 +212,10 @@ module _ (items : List tree.Item) (kinds : Kinds) (streams : ℕ → Stream) (is
     own_marked : IsOwn e sh.construct k ps before made s → IsMarked at deep e made s
     own_marked g =
         let same = own_type g in
-        let of_is : g.of ≡ t = sym (ap (λ (a : Stream). a.of) g.behind.stream_is) ∙ same in
+        let of_is : g.of ≡ t = sym (ap (λ (a : Stream). a.of) g.is_after.stream_is) ∙ same in
         record {
           marks_are =
-              ap (map mark_of) (g.behind.made_is ∙ ap (λ es. before ++ es) g.behind.after_is)
+              ap (map mark_of) (g.is_after.made_is ∙ ap (λ es. before ++ es) g.is_after.after_is)
               ∙ own_made_marks items st.calls at (marks_of_macros deep) typed.matches.scope_is e g.of sh k ps before is own (typed_as g.of of_is) g.no_choice count inner.marks_are g.fits;
           of_is = typed_as s.of same;
         }
@@ -223,10 +223,10 @@ module _ (items : List tree.Item) (kinds : Kinds) (streams : ℕ → Stream) (is
     choice_marked : IsChoice e k ps before made s → IsMarked at deep e made s
     choice_marked g =
         let same = choice_type g in
-        let of_is : g.of ≡ t = sym (ap (λ (a : Stream). a.of) g.behind.stream_is) ∙ same in
+        let of_is : g.of ≡ t = sym (ap (λ (a : Stream). a.of) g.is_after.stream_is) ∙ same in
         record {
           marks_are =
-              ap (map mark_of) (g.behind.made_is ∙ ap (λ es. before ++ es) g.behind.after_is)
+              ap (map mark_of) (g.is_after.made_is ∙ ap (λ es. before ++ es) g.is_after.after_is)
               ∙ choice_made_marks items st.calls at (marks_of_macros deep) typed.matches.scope_is e g.of sh k ps before is own (typed_as g.of of_is) g.chosen count inner.marks_are g.fits;
           of_is = typed_as s.of same;
         }
@@ -306,13 +306,13 @@ module _ (items : List tree.Item) (kinds : Kinds) (streams : ℕ → Stream) (is
         let typed = typed_there at st deep e placed in
         let inner = all_marked (parts_placed at st deep e sh placed is own) all in
         own_marked at st deep e n sh ps before made s typed.0 typed.1 is own inner
-        (record { of = of; no_choice = other; written = written; fits = fits; behind = record { after = after; after_is = after_is; made_is = made_is; stream_is = s_is } })
+        (record { of = of; no_choice = other; written = written; fits = fits; is_after = record { after = after; after_is = after_is; made_is = made_is; stream_is = s_is } })
     marked {at} {st} {deep} {e} {n} {made} {s} placed (makes.Makes.choice sh ps before after {of} is chosen all fits after_is made_is s_is) =
         let typed = typed_there at st deep e placed in
         let own : is_own sh.construct ≡ true = ap is_own (choice_construct items st.calls e sh (and_parts (is_choice e) (is_aggregate of) chosen).0 is) in
         let inner = all_marked (parts_placed at st deep e sh placed is own) all in
         choice_marked at st deep e n sh ps before made s typed.0 typed.1 is own inner
-        (record { of = of; chosen = chosen; fits = fits; behind = record { after = after; after_is = after_is; made_is = made_is; stream_is = s_is } })
+        (record { of = of; chosen = chosen; fits = fits; is_after = record { after = after; after_is = after_is; made_is = made_is; stream_is = s_is } })
     marked {at} {st} {deep = zero} placed (makes.Makes.call {p = p} {x = x} {es = es} i params locals b before block after other is body arguments typed definitions result made_is) =
         absurd (some_left (site at st) is_checked zero p x es i (record { may = placed; other = other; calls = ap (λ scope. meaning scope x) placed.matches.scope_is ∙ is }) refl)
     marked {at} {st} {deep = suc less} {s = s} placed (makes.Makes.call {p = p} {x = x} {es = es} i params locals b before block after other is body arguments typed definitions result made_is) =

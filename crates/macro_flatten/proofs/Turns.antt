@@ -75,8 +75,8 @@ module _ (context : Context) (here : Here) (es : List Expr) where
                 subst (AreMade site here.deep es old new) (sym (append_assoc ss (s ∷ []) rest))
                 (before.made new (s ∷ rest) (subst (λ xs. AreMade site here.deep xs cur new (s ∷ rest)) (sym (left_at es i e below is)) whole));
             refused = λ f more.
-                let behind = refused_after cur mid one.made (marks_at site here.deep e) (marks_all site here.deep (drop (i + 1) es)) f one.new_is one.marks_are more in
-                before.refused f (subst (λ xs. IsRefusedAfter cur (marks_all site here.deep xs) f) (sym (left_at es i e below is)) behind);
+                let after = refused_after cur mid one.made (marks_at site here.deep e) (marks_all site here.deep (drop (i + 1) es)) f one.new_is one.marks_are more in
+                before.refused f (subst (λ xs. IsRefusedAfter cur (marks_all site here.deep xs) f) (sym (left_at es i e below is)) after);
           };
     }
 
@@ -111,7 +111,7 @@ module _ (site : Site) (deep : ℕ) where
       let many = many_made old mid first.made first.new_is in
       let counted : length first.made ≡ length (body_marks_at (result_of (local_body d))) = sym (length-map first.made mark_of) ∙ ap length first.marks_are in
       let number = body_number site.items site.kinds site.top first.makes in
-      let behind : length mid.equations ≡ length old.equations + length (body_marks_at (result_of (local_body d))) = omega arith in
+      let after : length mid.equations ≡ length old.equations + length (body_marks_at (result_of (local_body d))) = omega arith in
       record {
         streams = s ∷ rest.streams;
         made = first.made ++ rest.made;
@@ -120,7 +120,7 @@ module _ (site : Site) (deep : ℕ) where
         marks_are =
             map-append mark_of first.made rest.made ∙ (λ j. first.marks_are j ++ rest.marks_are j)
             ∙ sym (definition_first site.at (marks_called site deep) d ds);
-        numbered = (omega arith, sym kind ∙ first.of_is, subst (λ n. AreNumbered exactly site.at (marks_called site deep) (suc k) n ds rest.streams) behind rest.numbered);
+        numbered = (omega arith, sym kind ∙ first.of_is, subst (λ n. AreNumbered exactly site.at (marks_called site deep) (suc k) n ds rest.streams) after rest.numbered);
       }
 
 module _ (context : Context) (here : Here) (ds : List tree.Definition) where

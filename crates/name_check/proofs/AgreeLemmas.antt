@@ -81,11 +81,11 @@ locals_from-cons : (k : ℕ) (d : tree.Definition) (ds : tree.Definitions) → l
 locals_from-cons k (tree.Define q n ps w b) ds = refl
 
 pub locals_turn : (ds : List tree.Definition) (i j k : ℕ) (d : tree.Definition) (n : List ℕ) (s t all : Scope) (new : Bool) → i < length ds → d ≡ get_or ds i d → n ≡ local_name d → j ≡ suc k + count_in (local_body d) → new ≡ is_none (meaning s n) → t ≡ (if new then s ++ record { name = n; is = declaration.Local k } ∷ [] else s) → Agree (s ++ locals_from k (definitions_of (drop i ds))) all → Agree (t ++ locals_from j (definitions_of (drop (i + 1) ds))) all
-locals_turn ds i j k d n s t all new h is same behind found more done =
+locals_turn ds i j k d n s t all new h is same after found more done =
     turn s t all (locals_from j (definitions_of (drop (i + 1) ds))) (locals_from k (definitions_of (drop i ds))) (record { name = n; is = declaration.Local k }) new found more
     (ap (λ l. locals_from k (definitions_of l)) (left_at ds i d h is) ∙ locals_from-cons k d (definitions_of (drop (i + 1) ds))
     ∙ ap (λ m. record { name = m; is = declaration.Local k } ∷ locals_from (suc k + count_in (local_body d)) (definitions_of (drop (i + 1) ds))) (sym same)
-    ∙ ap (λ x. record { name = n; is = declaration.Local k } ∷ locals_from x (definitions_of (drop (i + 1) ds))) (sym behind))
+    ∙ ap (λ x. record { name = n; is = declaration.Local k } ∷ locals_from x (definitions_of (drop (i + 1) ds))) (sym after))
     done
 
 pub locals_end : (ds : List tree.Definition) (i k : ℕ) (s all : Scope) → length ds ≤ i → Agree (s ++ locals_from k (definitions_of (drop i ds))) all → Agree s all

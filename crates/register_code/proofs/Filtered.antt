@@ -29,7 +29,7 @@ module _ (p : ℕ → Bool) where
       }
 
   -- a split of what is kept is one of all
-  pub filter_split : (all front rest : List ℕ) (x : ℕ) → filter p all ≡ front ++ x ∷ rest → (before : List ℕ) × (behind : List ℕ) × (all ≡ before ++ x ∷ behind) × (filter p before ≡ front)
+  pub filter_split : (all front rest : List ℕ) (x : ℕ) → filter p all ≡ front ++ x ∷ rest → (before : List ℕ) × (after : List ℕ) × (all ≡ before ++ x ∷ after) × (filter p before ≡ front)
   filter_split [] [] rest x is = absurd (cc)
   filter_split [] (f ∷ front) rest x is = absurd (cc)
   filter_split (y ∷ ys) [] rest x is = elim (cases_Bool (p y)) [

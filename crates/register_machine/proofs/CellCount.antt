@@ -74,7 +74,7 @@ module _ (s : System) (lasts : ℕ → Option Held) (all_stored : (v h : ℕ) �
   key_in [] v h is found = absurd (none_in_nil v found)
   key_in (x ∷ xs) v h is found = elim (cons_cases x v xs found) [
     | inl same ↦ (0, omega arith, ap (λ n. handle_in (lasts n)) same ∙ ap handle_in is)
-    | inr behind ↦ later (handle_in (lasts x)) h (map (λ e. e.0) (map entry xs)) (key_in xs v h is behind)
+    | inr after ↦ later (handle_in (lasts x)) h (map (λ e. e.0) (map entry xs)) (key_in xs v h is after)
   ]
 
   abbrev is_held : ℕ → Bool

@@ -66,7 +66,7 @@ without-there x [] w found = absurd (none_in_nil w found)
 without-there x (y ∷ rest) w found = elim (cases_Bool (not (y == x))) [
   | inl stays ↦
       let here : Contains (y ∷ without x rest) w = subst (λ b. Contains (if b then y ∷ without x rest else without x rest) w) stays found in
-      elim (cons_cases y w (without x rest) here) [ inl same ↦ (0, omega arith, same) | inr behind ↦ later y w rest (without-there x rest w behind) ]
+      elim (cons_cases y w (without x rest) here) [ inl same ↦ (0, omega arith, same) | inr after ↦ later y w rest (without-there x rest w after) ]
   | inr goes ↦
       let here : Contains (without x rest) w = subst (λ b. Contains (if b then y ∷ without x rest else without x rest) w) goes found in
       later y w rest (without-there x rest w here)
@@ -79,7 +79,7 @@ without-other x (y ∷ rest) w found same = elim (cases_Bool (not (y == x))) [
       let here : Contains (y ∷ without x rest) w = subst (λ b. Contains (if b then y ∷ without x rest else without x rest) w) stays found in
       elim (cons_cases y w (without x rest) here) [
         | inl is ↦ true≢false (sym stays ∙ ap not (eq-eqb y x (is ∙ same)))
-        | inr behind ↦ without-other x rest w behind same
+        | inr after ↦ without-other x rest w after same
       ]
   | inr goes ↦
       let here : Contains (without x rest) w = subst (λ b. Contains (if b then y ∷ without x rest else without x rest) w) goes found in
@@ -90,12 +90,12 @@ pub without-keeps : (x : ℕ) (rest : List ℕ) (w : ℕ) → Contains rest w �
 without-keeps x [] w found ne = absurd (none_in_nil w found)
 without-keeps x (y ∷ rest) w found ne = elim (cases_Bool (not (y == x))) [
   | inl stays ↦
-      let here : Contains (y ∷ without x rest) w = elim (cons_cases y w rest found) [ inl same ↦ (0, omega arith, same) | inr behind ↦ later y w _ (without-keeps x rest w behind ne) ] in
+      let here : Contains (y ∷ without x rest) w = elim (cons_cases y w rest found) [ inl same ↦ (0, omega arith, same) | inr after ↦ later y w _ (without-keeps x rest w after ne) ] in
       subst (λ b. Contains (if b then y ∷ without x rest else without x rest) w) (sym stays) here
   | inr goes ↦
       let here : Contains (without x rest) w = elim (cons_cases y w rest found) [
         | inl same ↦ absurd (true≢false (sym (ap not (ne_eqb y x (λ e. ne (sym same ∙ e)))) ∙ goes))
-        | inr behind ↦ without-keeps x rest w behind ne
+        | inr after ↦ without-keeps x rest w after ne
       ] in
       subst (λ b. Contains (if b then y ∷ without x rest else without x rest) w) (sym goes) here
 ]

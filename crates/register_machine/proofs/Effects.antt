@@ -248,8 +248,8 @@ module _ (s : System) (set : List ℕ) (inputs : Inputs) (z : Streams) (t : ℕ)
     any_there [] done = refl
     any_there (a ∷ args) done =
         let here = there a (done a (0, omega arith, refl)) in
-        let behind = any_there args (λ b found. done b (in_more a b args found)) in
-        λ k. here k || behind k
+        let in_rest = any_there args (λ b found. done b (in_more a b args found)) in
+        λ k. here k || in_rest k
       where
         in_more : (x y : ℕ) (xs : List ℕ) → Contains xs y → Contains (x ∷ xs) y
         in_more = later

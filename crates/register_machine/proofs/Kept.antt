@@ -33,6 +33,6 @@ pub stored_kept : (s : System) (v : ℕ) → IsStored s v → Contains (kept s) 
 stored_kept s v st = last_kept s v st.last st.taken.at st.taken.variable.running (record { is = st.taken.is; runs_too = st.taken.running }) st.taken.argument
 
 pub kept_argument : (v : ℕ) (o : Op) (args : List ℕ) → Contains (last_of o args) v → Contains args v
-kept_argument v op.Last (w ∷ args) found = elim (cons_cases w v [] found) [ inl same ↦ (0, omega arith, same) | inr behind ↦ absurd (none_in_nil v behind) ]
+kept_argument v op.Last (w ∷ args) found = elim (cons_cases w v [] found) [ inl same ↦ (0, omega arith, same) | inr after ↦ absurd (none_in_nil v after) ]
 kept_argument v op.Last [] found = absurd (none_in_nil v found)
 kept_argument v _ _ found = absurd (none_in_nil v found)

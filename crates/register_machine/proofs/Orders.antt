@@ -54,7 +54,7 @@ module _ (E : ℕ → ℕ → Type 0) (order : List ℕ) (once : IsDistinct eqb 
     followed_from (front ++ n ∷ []) more (is ∙ sym (append_assoc front (n ∷ []) more)) (without n rest)
         (λ x found. elim (cons_cases n x more (to x (without-there n rest x found))) [
           | inl same ↦ absurd (without-other n rest x found (sym same))
-          | inr behind ↦ behind
+          | inr after ↦ after
         ])
         (λ x found. without-keeps n rest x (from x (later n x more found)) (λ same. (once_split front more n (subst (IsDistinct eqb) is once)).1 (subst (Contains more) same found))),
   )
@@ -67,7 +67,7 @@ numbered : (k : ℕ) (outputs : List Output) (n : ℕ) → Contains (map (λ o. 
 numbered k [] n found = absurd (none_in_nil n found)
 numbered k (o ∷ outputs) n found = elim (cons_cases k n (map (λ p. p.0) (enumerate_from (k + 1) outputs)) found) [
   | inl same ↦ (0, o, refl, omega arith)
-  | inr behind ↦ let rest = numbered (k + 1) outputs n behind in (suc rest.0, rest.1, rest.2, omega (arith, rest.3))
+  | inr after ↦ let rest = numbered (k + 1) outputs n after in (suc rest.0, rest.1, rest.2, omega (arith, rest.3))
 ]
 
 number_in : (k : ℕ) (outputs : List Output) (n j : ℕ) → j < length outputs → n ≡ k + j → Contains (map (λ o. o.0) (enumerate_from k outputs)) n

@@ -119,7 +119,7 @@ module _ (s : System) (plan : Plan) (inputs : Inputs) (z : Streams) (bound : ℕ
     due = λ i d r e running is_op is_args. standing.due i d r e running is_op is_args ∙ ap in_time (sym (pending_quiet (z d) (z r) (z i) u t le (quiet.silent r (delay_args i d r e running is_args).1) (quiet.silent i running.runs_too)));
     sound = λ w lt. elim (cases_lt w u) [
       | inl before ↦ standing.sound w before
-      | inr behind ↦ quiet.sound w behind lt
+      | inr in_rest ↦ quiet.sound w in_rest lt
     ];
   }
 

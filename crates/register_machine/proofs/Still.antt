@@ -31,7 +31,7 @@ pub instr_at : (xs : List Instr) (x : Instr) → Contains xs x → (pre : List I
 instr_at [] x found = absurd (none_in_nil x found)
 instr_at (y ∷ xs) x found = elim (cons_cases y x xs found) [
   | inl same ↦ ([], xs, ap (λ n. n ∷ xs) same)
-  | inr behind ↦ let rest = instr_at xs x behind in (y ∷ rest.0, rest.1, ap (λ l. y ∷ l) rest.2)
+  | inr in_rest ↦ let rest = instr_at xs x in_rest in (y ∷ rest.0, rest.1, ap (λ l. y ∷ l) rest.2)
 ]
 
 keep_no_step : (s : System) (plan : Plan) (v n : ℕ) → Keep v ≡ step_instr s plan n → ⊥

@@ -42,14 +42,14 @@ last_own e = absurd (cc)
 
 in_owned : (args : List ℕ) (x : ℕ) → Contains (owned args) (Own x) → Contains args x
 in_owned [] x found = absurd (none_in_nil (Own x) found)
-in_owned (a ∷ args) x found = elim (cons_cases (Own a) (Own x) (owned args) found) [ inl same ↦ (0, omega arith, own_same same) | inr behind ↦ later a x args (in_owned args x behind) ]
+in_owned (a ∷ args) x found = elim (cons_cases (Own a) (Own x) (owned args) found) [ inl same ↦ (0, omega arith, own_same same) | inr after ↦ later a x args (in_owned args x after) ]
 
 no_owned : (args : List ℕ) (v : ℕ) → Contains (owned args) (LastOf v) → ⊥
 no_owned [] v found = absurd (none_in_nil (LastOf v) found)
-no_owned (a ∷ args) v found = elim (cons_cases (Own a) (LastOf v) (owned args) found) [ inl same ↦ own_last same | inr behind ↦ no_owned args v behind ]
+no_owned (a ∷ args) v found = elim (cons_cases (Own a) (LastOf v) (owned args) found) [ inl same ↦ own_last same | inr after ↦ no_owned args v after ]
 
 pub in_one : (r q : Register) → Contains (r ∷ []) q → r ≡ q
-in_one r q found = elim (cons_cases r q [] found) [ inl same ↦ same | inr behind ↦ absurd (none_in_nil q behind) ]
+in_one r q found = elim (cons_cases r q [] found) [ inl same ↦ same | inr after ↦ absurd (none_in_nil q after) ]
 
 pub in_if : (b : Bool) (rs : List Register) (q : Register) → Contains (if b then rs else []) q → Contains rs q
 in_if true rs q found = found

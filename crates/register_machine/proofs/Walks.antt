@@ -157,11 +157,11 @@ module _ (s : System) (plan : Plan) (inputs : Inputs) (z : Streams) (t : ℕ) (l
       let first : Step inputs t s (step_instr s plan n) c st.0 = subst (λ x. Step inputs t s x c st.0) (cons_head is) st.1 in
       let next = next_of rest n agrees.0 in
       let onward = step_good s plan inputs z t last pend old given between rest c good n next st.0 (steps n agrees.0.remains) first in
-      let behind = walk before code order (without n rest) st.0 mid agrees.1 (λ x found. steps x (without-there n rest x found)) onward (cons_tail is) st.2 in
+      let after = walk before code order (without n rest) st.0 mid agrees.1 (λ x found. steps x (without-there n rest x found)) onward (cons_tail is) st.2 in
       record {
-        place = elim behind.place [
+        place = elim after.place [
           | inl b ↦ inl (record { order = b.order; rest = b.rest; agrees = b.agrees; steps = b.steps; fewer = λ x found. without-there n rest x (b.fewer x found); good = b.good; is = b.is })
           | inr e ↦ inr e
         ];
-        holds = λ x k held. behind.holds x k (step_keeps inputs t s plan n c st.0 (good.mid.blank n agrees.0.remains) first x k held);
+        holds = λ x k held. after.holds x k (step_keeps inputs t s plan n c st.0 (good.mid.blank n agrees.0.remains) first x k held);
       }

@@ -3,7 +3,9 @@ use Rattle.std.specs.Prelude.{ℕ, List, ◌++◌, codes}
 
 -- whether each value came before, by the set of the values so far
 unfoldable pub seen_source : List ℕ
-seen_source = codes "in i: Events[Int]\ndef m := merge(y, Set.empty[Int])\ndef yl := last(m, i)\ndef y: Events[Set[Int]] := Set.add(yl, i)\ndef s := Set.contains(yl, i)\nout s\n"
+seen_source =
+    codes "in i: Events[Int]\ndef m := merge(y, Set.empty[Int])\ndef yl := last(m, i)\n"
+    ++ codes "def y: Events[Set[Int]] := Set.add(yl, i)\ndef s := Set.contains(yl, i)\nout s\n"
 
 -- what it has in addition where the set is held as it was
 unfoldable pub held_source : List ℕ

@@ -24,9 +24,9 @@ past : (at : Place) (last : ℕ) (all front rest : List ℕ) → all ≡ front +
 past at last all front rest is s (inl l) = inl (l.0, skip is s l.1)
 past at last all front rest is s (inr f) = inr (f.0, past_skip is s f.1)
 
-behind : (at : Place) (last : ℕ) (all front rest : List ℕ) (k : TokenKind) → all ≡ front ++ rest → Makes front rest k → Answer (place_after at front) at.line rest → Answer at last all
-behind at last all front rest k is m (inl l) = inl (_, token is m l.1)
-behind at last all front rest k is m (inr f) = inr (f.0, past_token is m f.1)
+after : (at : Place) (last : ℕ) (all front rest : List ℕ) (k : TokenKind) → all ≡ front ++ rest → Makes front rest k → Answer (place_after at front) at.line rest → Answer at last all
+after at last all front rest k is m (inl l) = inl (_, token is m l.1)
+after at last all front rest k is m (inr f) = inr (f.0, past_token is m f.1)
 
 shorter : (cs more rest : List ℕ) (n : ℕ) → cs ≡ more ++ rest → length cs ≤ n → length rest ≤ n
 shorter cs more rest n is h = let size = ap length is in omega (arith, size, length-append more rest)
@@ -34,7 +34,7 @@ shorter cs more rest n is h = let size = ap length is in omega (arith, size, len
 step : (n : ℕ) (at : Place) (last c : ℕ) (cs : List ℕ) → length cs ≤ n → ((at : Place) (last : ℕ) (rest : List ℕ) → length rest ≤ n → Answer at last rest) → (r : Result Piece LexFault) → Stands at c cs r → Answer at last (c ∷ cs)
 step n at last c cs h others (Ok (Blank m)) f = past at last (c ∷ cs) (c ∷ f.more) f.rest (ap (λ l. c ∷ l) f.whole) f.holds (others _ last f.rest (shorter cs f.more f.rest n f.whole h))
 step n at last c cs h others (Ok LineEnd) is = past at last (c ∷ cs) (10 ∷ []) cs (ap (λ c. c ∷ cs) is) line_end (others _ last cs h)
-step n at last c cs h others (Ok (Made k m)) f = behind at last (c ∷ cs) (c ∷ f.more) f.rest k (ap (λ l. c ∷ l) f.whole) f.holds (others _ at.line f.rest (shorter cs f.more f.rest n f.whole h))
+step n at last c cs h others (Ok (Made k m)) f = after at last (c ∷ cs) (c ∷ f.more) f.rest k (ap (λ l. c ∷ l) f.whole) f.holds (others _ at.line f.rest (shorter cs f.more f.rest n f.whole h))
 step n at last c cs h others (Err e) f = inr (e, here f.2 f.3)
 
 answers : (n : ℕ) (at : Place) (last : ℕ) (cs : List ℕ) → length cs ≤ n → Answer at last cs

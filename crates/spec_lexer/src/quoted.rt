@@ -37,12 +37,12 @@ pub(crate) fn text_at(alloc: Global, at: Place, after: &[char]) -> Result<Piece,
     let mut text = Text::new(alloc);
     let mut count = 1;
     let mut rest = after;
-    while let Some((c, behind)) = rest.split_first() {
+    while let Some((c, tail)) = rest.split_first() {
         match *c {
             '"' => return made(at, text, count + 1),
             '\n' => return Err(LexFault::OpenText { place: at }),
             '\\' => {
-                let Some((e, behind)) = behind.split_first() else {
+                let Some((e, tail)) = tail.split_first() else {
                     return Err(LexFault::OpenText { place: at });
                 };
                 let Some(meant) = escaped(*e) else {
@@ -55,12 +55,12 @@ pub(crate) fn text_at(alloc: Global, at: Place, after: &[char]) -> Result<Piece,
                 };
                 text.push(meant)?;
                 count += 2;
-                rest = behind;
+                rest = tail;
             }
             c => {
                 text.push(c)?;
                 count += 1;
-                rest = behind;
+                rest = tail;
             }
         }
     }

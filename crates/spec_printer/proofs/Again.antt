@@ -137,7 +137,7 @@ Returns least room marks e = (first : Bool) (ms : List Mark) (ts : List Token) �
 
 comes_weaker : (least strong room : ℕ) (ts : List Token) (e : Expr) (ms : List Mark) → least ≤ strong → strength_after false ms < limit least → Comes (Reads strong room) ts e ms → Comes (Reads least room) ts e ms
 comes_weaker least strong room ts e ms h k c =
-    let behind = follow_strength c.4 in
+    let after = follow_strength c.4 in
     (c.0, c.1, weaker_by least strong room ts c.1 c.0 h (omega arith) c.2, c.3, c.4)
 
 returns_weaker : (least strong room : ℕ) (marks : List Mark) (e : Expr) → least ≤ strong → Returns strong room marks e → Returns least room marks e
@@ -191,7 +191,7 @@ LinksReturn l room ls = (ms : List Mark) (ts : List Token) → strength_after fa
 
 no_link_again : (l : Level) {room : ℕ} → LinksReturn l room no_links
 no_link_again l ms ts k h =
-    let behind = follow_strength h in
+    let after = follow_strength h in
     (no_links, ts, grammar.no_link (past_level l ts (omega arith)), refl, h)
 
 operator_strength_is : (o : Operator) (l : Level) → level_of o ≡ l → strength_after false (mark.symbol (operator_symbol o) ∷ []) ≡ level_strength l
@@ -313,7 +313,7 @@ nothing_again {room = room} p first ms ts k h =
 
 name_again : {room : ℕ} (p : _) (n : List ℕ) → Returns 7 room (expr_marks (tree.Name p n)) (tree.Name p n)
 name_again {room = room} p n first ms ts k h = with_token (λ ts. Comes (IsPrimary room) ts (tree.Name p n) ms) (λ t rest is first h.
-    let behind = follow_strength h in
+    let after = follow_strength h in
     (tree.Name t.place n, rest, grammar.name is (past_name n rest (omega arith)), refl, h)) ts h
 
 nil_again : {room : ℕ} (p : _) (y : TypeName) → FitsType room y → Returns 7 (suc room) (expr_marks (tree.Nil p y)) (tree.Nil p y)

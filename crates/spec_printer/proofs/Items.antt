@@ -106,20 +106,20 @@ definitions_weak (more_definitions (tree.Define p n ps w b) ds) ms k = omega ari
 one_definition_again : {room : ℕ} (p : _) (n : List ℕ) (w : Option TypeName) (b : Body) (ds : Definitions) → MayFitType room w → BodyReturns room b → DefinitionsReturn room ds → DefinitionsReturn room (more_definitions (tree.Define p n [] w b) ds)
 one_definition_again {room = room} p n w b ds g back others ms ts k past h =
     let d = tree.Define p n [] w b in
-    let behind = line_end ∷ (definitions_marks ds ++ ms) in
+    let after = line_end ∷ (definitions_marks ds ++ ms) in
     with_token (λ ts. DefinitionsCome room ts (more_definitions d ds) ms) (λ t ts is first h.
     with_token (λ ts. DefinitionsCome room (t ∷ ts) (more_definitions d ds) ms) (λ u ts u_is first h.
-    let grouped = regroup (written_marks w) (mark.symbol symbol.Define ∷ []) (body_marks b ++ behind) (regroup (written_marks w ++ (mark.symbol symbol.Define ∷ [])) (body_marks b) behind h) in
-    let x = typed_again w b g back behind ts (definitions_weak ds ms k) grouped in
+    let grouped = regroup (written_marks w) (mark.symbol symbol.Define ∷ []) (body_marks b ++ after) (regroup (written_marks w ++ (mark.symbol symbol.Define ∷ [])) (body_marks b) after h) in
+    let x = typed_again w b g back after ts (definitions_weak ds ms k) grouped in
     let y = others ms x.4 k past (past_line x.10) in
     (more_definitions (tree.Define u.place n [] x.0 x.3) y.0, y.1, grammar.one_definition is u_is x.5 x.6 x.7 y.2, (λ i. more_definitions (tree.Define nowhere n [] (x.8 i) (x.9 i)) (y.3 i)), y.4)) ts h) ts (regroup (definition_marks d) (line_end ∷ definitions_marks ds) ms h)
 
 block_again : {room : ℕ} (ds : Definitions) (e : Expr) → DefinitionsReturn room ds → Fits room e → BodyReturns (suc room) (tree.Block ds e)
 block_again {room = room} ds e back f ms ts k h =
     with_token (λ ts. BodyComes (suc room) ts (tree.Block ds e) ms) (λ t ts is first h.
-    let behind = (expr_marks e ++ (mark.symbol symbol.CloseBrace ∷ [])) ++ ms in
+    let after = (expr_marks e ++ (mark.symbol symbol.CloseBrace ∷ [])) ++ ms in
     let starts = begins_append (expr_marks e) (mark.symbol symbol.CloseBrace ∷ []) (begins e) in
-    let x = back behind ts (begins_weak (expr_marks e ++ (mark.symbol symbol.CloseBrace ∷ [])) ms starts) (λ ts h. begins_no_def (expr_marks e ++ (mark.symbol symbol.CloseBrace ∷ [])) ms starts ts h) (regroup (definitions_marks ds) (expr_marks e ++ (mark.symbol symbol.CloseBrace ∷ [])) ms (past_line h)) in
+    let x = back after ts (begins_weak (expr_marks e ++ (mark.symbol symbol.CloseBrace ∷ [])) ms starts) (λ ts h. begins_no_def (expr_marks e ++ (mark.symbol symbol.CloseBrace ∷ [])) ms starts ts h) (regroup (definitions_marks ds) (expr_marks e ++ (mark.symbol symbol.CloseBrace ∷ [])) ms (past_line h)) in
     let y = expr_again f true (mark.symbol symbol.CloseBrace ∷ ms) x.1 (omega arith) (regroup (expr_marks e) (mark.symbol symbol.CloseBrace ∷ []) ms x.4) in
     with_token (λ rest. IsExpr room x.1 y.0 rest → BodyComes (suc room) (t ∷ ts) (tree.Block ds e) ms) (λ v rest close first h reads.
     (tree.Block x.0 y.0, rest, grammar.block is x.2 reads close, (λ i. tree.Block (x.3 i) (y.3 i)), h))
@@ -147,18 +147,18 @@ item_again (fits.input {room = room} {p = p} {q = q} {n = n} {y = y} named f) ms
     (tree.Input t.place u.place n x.0, x.1, grammar.input is u_is v_is x.2, ap (tree.Input nowhere nowhere n) x.3, past_line x.4)) ts h) ts h) ts h
 item_again (fits.definition {room = room} {p = p} {q = q} {n = n} {ps = ps} {w = w} {b = b} named g t f) ms ts k past h =
     let i = tree.Defined p (tree.Define q n ps w b) in
-    let behind = line_end ∷ ms in
+    let after = line_end ∷ ms in
     with_token (λ ts. ItemComes room ts i ms) (λ d ts is first h.
     with_token (λ ts. ItemComes room (d ∷ ts) i ms) (λ u ts u_is first h.
-    let outer = regroup (params_marks ps ++ (written_marks w ++ (mark.symbol symbol.Define ∷ []))) (body_marks b) behind h in
-    let middle = regroup (params_marks ps) (written_marks w ++ (mark.symbol symbol.Define ∷ [])) (body_marks b ++ behind) outer in
-    let x = params_again g ((written_marks w ++ (mark.symbol symbol.Define ∷ [])) ++ (body_marks b ++ behind)) (λ ts h. no_open w (body_marks b ++ behind) ts (regroup (written_marks w) (mark.symbol symbol.Define ∷ []) (body_marks b ++ behind) h)) ts middle in
-    let y = typed_again w b t (body_again f) behind x.1 k (regroup (written_marks w) (mark.symbol symbol.Define ∷ []) (body_marks b ++ behind) x.4) in
+    let outer = regroup (params_marks ps ++ (written_marks w ++ (mark.symbol symbol.Define ∷ []))) (body_marks b) after h in
+    let middle = regroup (params_marks ps) (written_marks w ++ (mark.symbol symbol.Define ∷ [])) (body_marks b ++ after) outer in
+    let x = params_again g ((written_marks w ++ (mark.symbol symbol.Define ∷ [])) ++ (body_marks b ++ after)) (λ ts h. no_open w (body_marks b ++ after) ts (regroup (written_marks w) (mark.symbol symbol.Define ∷ []) (body_marks b ++ after) h)) ts middle in
+    let y = typed_again w b t (body_again f) after x.1 k (regroup (written_marks w) (mark.symbol symbol.Define ∷ []) (body_marks b ++ after) x.4) in
     (tree.Defined d.place (tree.Define u.place n x.0 y.0 y.3), y.4, grammar.definition is u_is x.2 y.5 y.6 y.7, (λ i. tree.Defined nowhere (tree.Define nowhere n (x.3 i) (y.8 i) (y.9 i))), past_line y.10)) ts h) ts h
 item_again (fits.output {room = room} {p = p} {q = q} {n = n} named) ms ts k past h =
     with_token (λ ts. ItemComes room ts (tree.Output p q n) ms) (λ t ts is first h.
     with_token (λ ts. ItemComes room (t ∷ ts) (tree.Output p q n) ms) (λ u rest u_is first h.
-    let behind = follow_strength h in
+    let after = follow_strength h in
     let name = weaker_by 0 7 room (u ∷ rest) rest (tree.Name u.place n) (omega arith) (omega arith) (grammar.name u_is (past_name n rest (omega arith))) in
     (tree.Output t.place u.place n, rest, grammar.output is name (past rest (past_line h)), refl, past_line h)) ts h) ts h
 item_again (fits.output_as {room = room} {p = p} {q = q} {n = n} {e = e} named f) ms ts k past h =

@@ -9,8 +9,8 @@ pub text-append : (ms ns : List Mark) → text_of (ms ++ ns) ≡ text_of ms ++ t
 text-append ms ns = flat_map-append mark_text ms ns
 
 -- first some marks, then more
-pub behind : (a b c : List ℕ) (ms ns : List Mark) → b ≡ a ++ text_of ms → c ≡ b ++ text_of ns → c ≡ a ++ text_of (ms ++ ns)
-behind a b c ms ns h k =
+pub after : (a b c : List ℕ) (ms ns : List Mark) → b ≡ a ++ text_of ms → c ≡ b ++ text_of ns → c ≡ a ++ text_of (ms ++ ns)
+after a b c ms ns h k =
     k ∙ ap (λ x. x ++ text_of ns) h ∙ append_assoc a (text_of ms) (text_of ns) ∙ ap (λ x. a ++ x) (sym (text-append ms ns))
 
 -- what begins with more begins with less

@@ -351,8 +351,8 @@ meant_scalars : {written meant : List ℕ} → Means written meant → all_scala
 meant_scalars nothing h = refl
 meant_scalars (plain {c = c} {written = written} p m) h = let parts = and_parts (scalar c) (all_scalars written) h in both_true parts.0 (meant_scalars m parts.1)
 meant_scalars (escape {c = c} {d = d} {written = written} e m) h =
-    let behind = and_parts (scalar c) (all_scalars written) (and_parts (scalar 92) (scalar c && all_scalars written) h).1 in
-    both_true (low_scalar d (escape_low c d e)) (meant_scalars m behind.1)
+    let after = and_parts (scalar c) (all_scalars written) (and_parts (scalar 92) (scalar c && all_scalars written) h).1 in
+    both_true (low_scalar d (escape_low c d e)) (meant_scalars m after.1)
 
 front_scalars : (a b : List ℕ) → all_scalars (a ++ b) ≡ true → all_scalars a ≡ true
 front_scalars [] b h = refl

@@ -11,7 +11,7 @@ use Rattle.syntax_tree.specs.declared.tree.Param.{Param}
 use Rattle.syntax_tree.specs.inner.OneLevel.{exprs_of, links_in, param_of, params_in, definitions_of}
 use Rattle.spec_printer.specs.inner.Marks as mark
 use Rattle.spec_printer.specs.inner.Marks.{line_end, text_of}
-use Rattle.spec_printer.proofs.Joined.{behind}
+use Rattle.spec_printer.proofs.Joined.{after}
 use Rattle.spec_printer.specs.inner.Print.{operator_symbol, expr_marks, expr_marks_after, operand_marks, link_marks, param_marks, param_marks_after, params_marks, definition_marks, definitions_marks}
 
 -- what stands before the next of a list
@@ -59,7 +59,7 @@ pub arguments_turn : (es : List Expr) (i : ℕ) (e : Expr) (before : Symbol) (st
 arguments_turn es i e before start a b c h is sep done first second =
     let more = one_more es i e h is in
     let so_far = expr_marks_after symbol.Open (exprs_of (take i es)) in
-    let both = behind start b c (so_far ++ (mark.symbol before ∷ [])) (expr_marks e) (behind start a b so_far (mark.symbol before ∷ []) done first) second in (
+    let both = after start b c (so_far ++ (mark.symbol before ∷ [])) (expr_marks e) (after start a b so_far (mark.symbol before ∷ []) done first) second in (
       sym (ap (separator symbol.Open) more ∙ separator_more symbol.Open (take i es) e),
       both ∙ ap (λ m. start ++ text_of m)
           (append_assoc so_far (mark.symbol before ∷ []) (expr_marks e) ∙ ap (λ s. so_far ++ (mark.symbol s ∷ expr_marks e)) sep
@@ -70,7 +70,7 @@ pub links_turn : (least : ℕ) (ls : List Link) (i : ℕ) (l : Link) (s : Symbol
 links_turn least ls i l s start a b c h is sign done first second =
     let more = one_more ls i l h is in
     let so_far = link_marks least (links_in (take i ls)) in
-    let both = behind start b c (so_far ++ (mark.symbol (operator_symbol l.operator) ∷ [])) (operand_marks least l.operand) (behind start a b so_far (mark.symbol (operator_symbol l.operator) ∷ []) done (first ∙ ap (λ s. a ++ text_of (mark.symbol s ∷ [])) sign)) second in
+    let both = after start b c (so_far ++ (mark.symbol (operator_symbol l.operator) ∷ [])) (operand_marks least l.operand) (after start a b so_far (mark.symbol (operator_symbol l.operator) ∷ []) done (first ∙ ap (λ s. a ++ text_of (mark.symbol s ∷ [])) sign)) second in
     both ∙ ap (λ m. start ++ text_of m)
     (append_assoc so_far (mark.symbol (operator_symbol l.operator) ∷ []) (operand_marks least l.operand)
     ∙ sym (ap (λ l. link_marks least (links_in l)) more ∙ links_more least (take i ls) l))
@@ -79,7 +79,7 @@ pub definitions_turn : (ds : List tree.Definition) (i : ℕ) (d : tree.Definitio
 definitions_turn ds i d start a b c h is done first second =
     let more = one_more ds i d h is in
     let so_far = definitions_marks (definitions_of (take i ds)) in
-    let both = behind start b c (so_far ++ definition_marks d) (line_end ∷ []) (behind start a b so_far (definition_marks d) done first) second in
+    let both = after start b c (so_far ++ definition_marks d) (line_end ∷ []) (after start a b so_far (definition_marks d) done first) second in
     both ∙ ap (λ m. start ++ text_of m)
     (append_assoc so_far (definition_marks d) (line_end ∷ [])
     ∙ sym (ap (λ l. definitions_marks (definitions_of l)) more ∙ definitions_more (take i ds) d))
@@ -88,7 +88,7 @@ pub params_turn : (ps : List Param) (i : ℕ) (p : Param) (before : Symbol) (sta
 params_turn ps i p before start a b c h is sep done first second =
     let more : params_in (take (i + 1) ps) ≡ params_in (take i ps) ++ param_of p ∷ [] = ap params_in (one_more ps i p h is) ∙ map-append param_of (take i ps) (p ∷ []) in
     let so_far = param_marks_after symbol.Open (params_in (take i ps)) in
-    let both = behind start b c (so_far ++ (mark.symbol before ∷ [])) (param_marks (param_of p)) (behind start a b so_far (mark.symbol before ∷ []) done first) second in (
+    let both = after start b c (so_far ++ (mark.symbol before ∷ [])) (param_marks (param_of p)) (after start a b so_far (mark.symbol before ∷ []) done first) second in (
       sym (ap (separator symbol.Open) more ∙ separator_more symbol.Open (params_in (take i ps)) (param_of p)),
       both ∙ ap (λ m. start ++ text_of m)
           (append_assoc so_far (mark.symbol before ∷ []) (param_marks (param_of p)) ∙ ap (λ s. so_far ++ (mark.symbol s ∷ param_marks (param_of p))) sep

@@ -122,9 +122,9 @@ impl From<MakeFault> for SpecFault {
 
 impl From<NoMemory> for SpecFault {
     ghost use Rattle.std.specs.Prelude.{◌≡◌};
-    ghost use Rattle.spec_reader.specs.declared.fault.SpecFault.TheVariants.{Memory as Wanting};
+    ghost use Rattle.spec_reader.specs.declared.fault.SpecFault.TheVariants.{Memory as OutOfMemory};
 
-    ghost from_gives = { λ _ e. e ≡ Wanting };
+    ghost from_gives = { λ _ e. e ≡ OutOfMemory };
 
     fn from(_error: NoMemory) -> SpecFault {
         SpecFault::Memory

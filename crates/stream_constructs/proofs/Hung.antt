@@ -16,13 +16,13 @@ use Rattle.stream_constructs.specs.Agree.{Fits, FitsChoice, IsItself, HangTogeth
 use Rattle.stream_constructs.proofs.Numbered.{At}
 use Rattle.stream_constructs.proofs.Hanging.{Stands}
 use Rattle.stream_constructs.proofs.LiftingHangs.{operands_few}
-use Rattle.stream_constructs.proofs.Operands.{Behind, Chooses, one_of, two_of, after_aggregate, chooses_of, behind, by_literal, by_stream}
+use Rattle.stream_constructs.proofs.Operands.{Behind, Chooses, one_of, two_of, after_aggregate, chooses_of, after, by_literal, by_stream}
 use Rattle.stream_constructs.proofs.Hangs.{nil_hangs, unit_hangs, literal_hangs, empty_hangs, time_hangs, last_hangs, delay_hangs, merge_hangs, const_hangs, filter_hangs, filter_by_hangs, lift_hangs, signal_alone_hangs, signal_hangs, literals_hang}
 
 module _ (p : Place) (of : ValueType) (n : ℕ) (s : System) where
   -- an operation on operands of which the first varies
   led : (c : Construct) (o : Op) {Rest : List Operand → List Stream → Type 0} {os : List Operand} {parts : List Stream} (ts : List ValueType) → Behind Rest os parts → ((args : List ℕ) → unguarded_of o args ≡ args) → AreOperands os parts ts → length ts ≤ 8 → typed.IsTyped o ts of → At (Stands s) n (with_literals p o of n os parts) → HangTogether c (with_literals p o of n os parts) n parts s
-  led c o ts (behind {a} {os} {parts} rest) unguarded operands few is_typed stands =
+  led c o ts (after {a} {os} {parts} rest) unguarded operands few is_typed stands =
       let fewer = operands_few (construct.Varying ∷ os) (a ∷ parts) ts operands in
       literals_hang c p o of n (construct.Varying ∷ os) a parts ts s unguarded operands (omega arith) is_typed stands
 

@@ -86,8 +86,8 @@ module _ (inputs : Inputs) (z : Streams) (t : ℕ) where
   lifted_are p n (a ∷ []) at = λ k. alone (z a.id t) (latest (z a.id) t) k ∷ []
   lifted_are p n (a ∷ b ∷ []) at =
       let first = held_has p n b.id a (at_first at) (at_second at) ∙ held_first (z a.id t) (z b.id t) (latest (z a.id) t) in
-      let behind = at_after at in
-      let second = held_has p (n + 2) a.id b (at_first behind) (at_second behind) ∙ held_second (z a.id t) (z b.id t) (latest (z b.id) t) in
+      let after = at_after at in
+      let second = held_has p (n + 2) a.id b (at_first after) (at_second after) ∙ held_second (z a.id t) (z b.id t) (latest (z b.id) t) in
       λ k. first k ∷ second k ∷ []
   lifted_are p n (a ∷ b ∷ c ∷ rest) at =
       let parts = a ∷ b ∷ c ∷ rest in

@@ -63,14 +63,14 @@ module _ (s : System) where
     lifting_spread p n [] at all = (at_none, tt)
     lifting_spread p n (a ∷ []) at all = (at_none, all)
     lifting_spread p n (a ∷ b ∷ []) at all =
-        let behind = at_after at in
+        let after = at_after at in
         let first = spread_held p n b.id a (at_first at) (at_second at) all.0 in
-        let second = spread_held p (n + 2) a.id b (at_first behind) (at_second behind) all.1.0 in
+        let second = spread_held p (n + 2) a.id b (at_first after) (at_second after) all.1.0 in
         (at_two first.1 all.0 (at_two second.1 all.1.0 at_none), (first.0, (second.0, tt)))
     lifting_spread p n (a ∷ b ∷ c ∷ rest) at all =
-        let behind : At (Stands s) (n + 1) (held_each p (n + 1) n (a ∷ b ∷ c ∷ rest)) = at_from (n + 1) (omega arith) (at_rest at) in
-        let trigger = spread_held p (n + 1) n a (at_first behind) (at_second behind) all.0 in
-        let more = spread_each p (n + 1) n (a ∷ b ∷ c ∷ rest) behind all in
+        let after : At (Stands s) (n + 1) (held_each p (n + 1) n (a ∷ b ∷ c ∷ rest)) = at_from (n + 1) (omega arith) (at_rest at) in
+        let trigger = spread_held p (n + 1) n a (at_first after) (at_second after) all.0 in
+        let more = spread_each p (n + 1) n (a ∷ b ∷ c ∷ rest) after all in
         (at_more trigger.2 (at_from (suc n) (omega arith) more.0), more.1)
 
     pub spread_literals : (p : Place) (first m : ℕ) (os : List Operand) (up : List Stream) → varying_count os ≡ length up → AllByRecursion Q (operand_numbers m os (numbers up)) → At (λ i f. Q i) m (literal_equations p first os) × AllByRecursion (λ b. Q b.id) up
@@ -99,9 +99,9 @@ module _ (s : System) where
     know_lifting p n [] all at = (at_none, tt)
     know_lifting p n (a ∷ []) all at = (at_none, all)
     know_lifting p n (a ∷ b ∷ []) all at =
-        let behind = at_after at in (
-          at_two (all.0, (all.1.0, tt)) (all.0, (at_first at, tt)) (at_two (all.1.0, (all.0, tt)) (all.1.0, (at_first behind, tt)) at_none),
-          (at_second at, (at_second behind, tt)),
+        let after = at_after at in (
+          at_two (all.0, (all.1.0, tt)) (all.0, (at_first at, tt)) (at_two (all.1.0, (all.0, tt)) (all.1.0, (at_first after, tt)) at_none),
+          (at_second at, (at_second after, tt)),
         )
     know_lifting p n (a ∷ b ∷ c ∷ rest) all at =
         let more = know_each p (n + 1) n (a ∷ b ∷ c ∷ rest) (at_first at) all (at_from (n + 1) (omega arith) (at_rest at)) in
@@ -145,9 +145,9 @@ module _ (s : System) where
   typed_lifting p n [] few all at = (tt, tt)
   typed_lifting p n (a ∷ []) few all at = (tt, all)
   typed_lifting p n (a ∷ b ∷ []) few all at =
-      let behind = at_after at in (
-        (typed_last p b.id b.of a all.1.0 all.0, (typed_merge p n a (type_at n _ (at_first at)) all.0, (typed_last p a.id a.of b all.0 all.1.0, (typed_merge p (n + 2) b (type_at (n + 2) _ (at_first behind)) all.1.0, tt)))),
-        (type_at (n + 1) _ (at_second at), (type_at (n + 2 + 1) _ (at_second behind), tt)),
+      let after = at_after at in (
+        (typed_last p b.id b.of a all.1.0 all.0, (typed_merge p n a (type_at n _ (at_first at)) all.0, (typed_last p a.id a.of b all.0 all.1.0, (typed_merge p (n + 2) b (type_at (n + 2) _ (at_first after)) all.1.0, tt)))),
+        (type_at (n + 1) _ (at_second at), (type_at (n + 2 + 1) _ (at_second after), tt)),
       )
   typed_lifting p n (a ∷ b ∷ c ∷ rest) few all at =
       let parts = a ∷ b ∷ c ∷ rest in

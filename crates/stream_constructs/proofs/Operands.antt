@@ -25,7 +25,7 @@ pub data Two : List Operand → List Stream → Type 0 where
 
 -- one that varies before others, and two after one
 pub data Behind (Rest : List Operand → List Stream → Type 0) : List Operand → List Stream → Type 0 where
-  behind : {a : Stream} {os : List Operand} {parts : List Stream} → Rest os parts → Behind Rest (Varying ∷ os) (a ∷ parts)
+  after : {a : Stream} {os : List Operand} {parts : List Stream} → Rest os parts → Behind Rest (Varying ∷ os) (a ∷ parts)
 
 pub data Chooses : List Operand → List Stream → Type 0 where
   by_literal : {s : Scalar} {a b : Stream} → Chooses (Fixed s ∷ Varying ∷ Varying ∷ []) (a ∷ b ∷ [])
@@ -74,7 +74,7 @@ after_aggregate [] [] t ts aggregate rest h = absurd h
 after_aggregate [] (a ∷ parts) t ts aggregate rest h = absurd h
 after_aggregate (Fixed s ∷ os) parts t ts aggregate rest h = no_literal t s aggregate h.0
 after_aggregate (Varying ∷ os) [] t ts aggregate rest h = absurd h
-after_aggregate (Varying ∷ os) (a ∷ parts) t ts aggregate rest h = behind (rest os parts h.1)
+after_aggregate (Varying ∷ os) (a ∷ parts) t ts aggregate rest h = after (rest os parts h.1)
 
 pub chooses_of : (os : List Operand) (parts : List Stream) (c t : ValueType) → is_aggregate t ≡ true → AreOperands os parts (c ∷ t ∷ t ∷ []) → Chooses os parts
 chooses_of [] [] c t aggregate h = absurd h
@@ -82,9 +82,9 @@ chooses_of [] (a ∷ parts) c t aggregate h = absurd h
 chooses_of (Fixed s ∷ os) parts c t aggregate h = at (after_aggregate os parts t (t ∷ []) aggregate (λ os parts h. after_aggregate os parts t [] aggregate none_of h) h.1)
   where
     at : {os : List Operand} {parts : List Stream} → Behind (Behind None) os parts → Chooses (Fixed s ∷ os) parts
-    at (behind (behind none)) = by_literal
+    at (after (after none)) = by_literal
 chooses_of (Varying ∷ os) [] c t aggregate h = absurd h
 chooses_of (Varying ∷ os) (a ∷ parts) c t aggregate h = at (after_aggregate os parts t (t ∷ []) aggregate (λ os parts h. after_aggregate os parts t [] aggregate none_of h) h.1)
   where
     at : {os : List Operand} {parts : List Stream} → Behind (Behind None) os parts → Chooses (Varying ∷ os) (a ∷ parts)
-    at (behind (behind none)) = by_stream
+    at (after (after none)) = by_stream

@@ -21,7 +21,7 @@ use Rattle.stream_constructs.specs.Agree.{MakesStream}
 use Rattle.stream_constructs.proofs.Numbered.{At}
 use Rattle.stream_constructs.proofs.LiftedOutcomes.{HasCase, some_event}
 use Rattle.stream_constructs.proofs.SignalsMade.{literals_made}
-use Rattle.stream_constructs.proofs.Operands.{One, Two, Behind, Chooses, fixed, varying, fixed_fixed, fixed_varying, varying_fixed, varying_varying, behind, by_literal, by_stream}
+use Rattle.stream_constructs.proofs.Operands.{One, Two, Behind, Chooses, fixed, varying, fixed_fixed, fixed_varying, varying_fixed, varying_varying, after, by_literal, by_stream}
 
 -- the answer of an operation on some event, where it makes nothing unless all values are there
 abbrev Answers : Bool → Bool → Answer → Answer → Type 0
@@ -92,49 +92,49 @@ module _ (p : Place) (of : ValueType) (n : ℕ) (inputs : Inputs) (z : Streams) 
   Has o os parts = At (HasCase inputs z t) n (own_equations p of n (construct.Update o os) parts) → MakesStream (construct.Update o os) (own_equations p of n (construct.Update o os) parts) n parts inputs z t
 
   pub set_add_made : {os : List Operand} {parts : List Stream} → Behind One os parts → Has update.SetAdd os parts
-  set_add_made (behind {a} (fixed {s})) at =
+  set_add_made (after {a} (fixed {s})) at =
       literals_made inputs z t p op.SetAdd of n (construct.Varying ∷ construct.Fixed s ∷ []) a ([]) (λ i args. refl) (λ i args. refl) (now (z a.id) t) (option_map (λ u. Plain s) (now (z a.id) t) ∷ []) refl _
       (both_fixed with_key s (some_event inputs z t (a ∷ [])) (now (z a.id) t))
       (construct.Update update.SetAdd (construct.Varying ∷ construct.Fixed s ∷ [])) refl refl at
-  set_add_made (behind {a} (varying {a = b})) at =
+  set_add_made (after {a} (varying {a = b})) at =
       literals_made inputs z t p op.SetAdd of n (construct.Varying ∷ construct.Varying ∷ []) a (b ∷ []) (λ i args. refl) (λ i args. refl) (now (z a.id) t) (now (z b.id) t ∷ []) refl _
       (both_vary with_key (some_event inputs z t (a ∷ b ∷ [])) (now (z a.id) t) (now (z b.id) t))
       (construct.Update update.SetAdd (construct.Varying ∷ construct.Varying ∷ [])) refl refl at
 
   pub set_remove_made : {os : List Operand} {parts : List Stream} → Behind One os parts → Has update.SetRemove os parts
-  set_remove_made (behind {a} (fixed {s})) at =
+  set_remove_made (after {a} (fixed {s})) at =
       literals_made inputs z t p op.SetRemove of n (construct.Varying ∷ construct.Fixed s ∷ []) a ([]) (λ i args. refl) (λ i args. refl) (now (z a.id) t) (option_map (λ u. Plain s) (now (z a.id) t) ∷ []) refl _
       (both_fixed without_key s (some_event inputs z t (a ∷ [])) (now (z a.id) t))
       (construct.Update update.SetRemove (construct.Varying ∷ construct.Fixed s ∷ [])) refl refl at
-  set_remove_made (behind {a} (varying {a = b})) at =
+  set_remove_made (after {a} (varying {a = b})) at =
       literals_made inputs z t p op.SetRemove of n (construct.Varying ∷ construct.Varying ∷ []) a (b ∷ []) (λ i args. refl) (λ i args. refl) (now (z a.id) t) (now (z b.id) t ∷ []) refl _
       (both_vary without_key (some_event inputs z t (a ∷ b ∷ [])) (now (z a.id) t) (now (z b.id) t))
       (construct.Update update.SetRemove (construct.Varying ∷ construct.Varying ∷ [])) refl refl at
 
   pub map_remove_made : {os : List Operand} {parts : List Stream} → Behind One os parts → Has update.MapRemove os parts
-  map_remove_made (behind {a} (fixed {s})) at =
+  map_remove_made (after {a} (fixed {s})) at =
       literals_made inputs z t p op.MapRemove of n (construct.Varying ∷ construct.Fixed s ∷ []) a ([]) (λ i args. refl) (λ i args. refl) (now (z a.id) t) (option_map (λ u. Plain s) (now (z a.id) t) ∷ []) refl _
       (both_fixed without_key s (some_event inputs z t (a ∷ [])) (now (z a.id) t))
       (construct.Update update.MapRemove (construct.Varying ∷ construct.Fixed s ∷ [])) refl refl at
-  map_remove_made (behind {a} (varying {a = b})) at =
+  map_remove_made (after {a} (varying {a = b})) at =
       literals_made inputs z t p op.MapRemove of n (construct.Varying ∷ construct.Varying ∷ []) a (b ∷ []) (λ i args. refl) (λ i args. refl) (now (z a.id) t) (now (z b.id) t ∷ []) refl _
       (both_vary without_key (some_event inputs z t (a ∷ b ∷ [])) (now (z a.id) t) (now (z b.id) t))
       (construct.Update update.MapRemove (construct.Varying ∷ construct.Varying ∷ [])) refl refl at
 
   pub map_add_made : {os : List Operand} {parts : List Stream} → Behind Two os parts → Has update.MapAdd os parts
-  map_add_made (behind {a} (fixed_fixed {s} {r})) at =
+  map_add_made (after {a} (fixed_fixed {s} {r})) at =
       literals_made inputs z t p op.MapAdd of n (construct.Varying ∷ construct.Fixed s ∷ construct.Fixed r ∷ []) a ([]) (λ i args. refl) (λ i args. refl) (now (z a.id) t) (option_map (λ u. Plain s) (now (z a.id) t) ∷ option_map (λ u. Plain r) (now (z a.id) t) ∷ []) refl _
       (three_fixed with_entry s r (some_event inputs z t (a ∷ [])) (now (z a.id) t))
       (construct.Update update.MapAdd (construct.Varying ∷ construct.Fixed s ∷ construct.Fixed r ∷ [])) refl refl at
-  map_add_made (behind {a} (fixed_varying {s} {a = b})) at =
+  map_add_made (after {a} (fixed_varying {s} {a = b})) at =
       literals_made inputs z t p op.MapAdd of n (construct.Varying ∷ construct.Fixed s ∷ construct.Varying ∷ []) a (b ∷ []) (λ i args. refl) (λ i args. refl) (now (z a.id) t) (option_map (λ u. Plain s) (now (z a.id) t) ∷ now (z b.id) t ∷ []) refl _
       (three_second_fixed with_entry s (some_event inputs z t (a ∷ b ∷ [])) (now (z a.id) t) (now (z b.id) t))
       (construct.Update update.MapAdd (construct.Varying ∷ construct.Fixed s ∷ construct.Varying ∷ [])) refl refl at
-  map_add_made (behind {a} (varying_fixed {a = b} {s})) at =
+  map_add_made (after {a} (varying_fixed {a = b} {s})) at =
       literals_made inputs z t p op.MapAdd of n (construct.Varying ∷ construct.Varying ∷ construct.Fixed s ∷ []) a (b ∷ []) (λ i args. refl) (λ i args. refl) (now (z a.id) t) (now (z b.id) t ∷ option_map (λ u. Plain s) (now (z a.id) t) ∷ []) refl _
       (three_third_fixed with_entry s (some_event inputs z t (a ∷ b ∷ [])) (now (z a.id) t) (now (z b.id) t))
       (construct.Update update.MapAdd (construct.Varying ∷ construct.Varying ∷ construct.Fixed s ∷ [])) refl refl at
-  map_add_made (behind {a} (varying_varying {a = b} {b = c})) at =
+  map_add_made (after {a} (varying_varying {a = b} {b = c})) at =
       literals_made inputs z t p op.MapAdd of n (construct.Varying ∷ construct.Varying ∷ construct.Varying ∷ []) a (b ∷ c ∷ []) (λ i args. refl) (λ i args. refl) (now (z a.id) t) (now (z b.id) t ∷ now (z c.id) t ∷ []) refl _
       (three_vary with_entry (some_event inputs z t (a ∷ b ∷ c ∷ [])) (now (z a.id) t) (now (z b.id) t) (now (z c.id) t))
       (construct.Update update.MapAdd (construct.Varying ∷ construct.Varying ∷ construct.Varying ∷ [])) refl refl at

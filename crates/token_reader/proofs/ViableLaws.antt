@@ -225,8 +225,8 @@ module _ {T : Type 0} (s : Signs T) where
         let b = c.2 d.1 in
         (d.0 ++ c.0, b.0, ap (p >>= f) (append_assoc d.0 c.0 r) ∙ ap (λ q. and_then q f) d.2 ∙ b.1)
 
-    pub behind-bind : (t : T) → CompletesAt t p → CompletesAt t (p >>= f)
-    behind-bind t cp r h =
+    pub after-bind : (t : T) → CompletesAt t p → CompletesAt t (p >>= f)
+    after-bind t cp r h =
         let c = completes r h in
         let d = cp (c.0 ++ r) c.1 in
         let b = c.2 d.1 in
@@ -396,33 +396,33 @@ module _ {T : Type 0} (s : Signs T) where
       viable-or_else v (t ∷ ts) = chosen_viable t (f t) refl (v t) ts
 
   module _ {A L : Type 0} (l : Lister T A L) (local : (t : T) → IsLocalTurn s (l.turn t)) (declines : Declines s l.turn) (viable : (t : T) → IsViableTurn t (l.turn t)) where
-    abbrev behind : A → Reader T L
-    behind a = many l >>= λ others. give (l.more a others)
+    abbrev after : A → Reader T L
+    after a = many l >>= λ others. give (l.more a others)
 
-    what_follows_completes : CompletesAll behind
+    what_follows_completes : CompletesAll after
     what_follows_completes r h = ([], h, λ a. (l.more a l.none, ap (λ q. and_then q (λ others. give (l.more a others))) (many_end s l local declines r h)))
 
-    after_careful : (a : A) → IsCareful s (behind a)
+    after_careful : (a : A) → IsCareful s (after a)
     after_careful a = careful-bind s (many l) (λ us. give (l.more a us)) (local-many s l local declines) (careful-many s l local) (λ us. careful-give s (l.more a us))
 
     -- what stands after an item, where that is short enough
-    after_viable : (n : ℕ) → ((ts : List T) → length ts ≤ n → ViableAt (many l) ts (many l ts)) → (a : A) (rest : List T) → length rest ≤ n → ViableAt (behind a) rest (behind a rest)
+    after_viable : (n : ℕ) → ((ts : List T) → length ts ≤ n → ViableAt (many l) ts (many l ts)) → (a : A) (rest : List T) → length rest ≤ n → ViableAt (after a) rest (after a rest)
     after_viable n others a rest h = bind_viable (many l) (λ us. give (l.more a us)) (completes-give (l.more a)) (λ us. careful-give s (l.more a us)) (λ us. viable-give (l.more a us)) rest (many l rest) (local-many s l local declines rest) (others rest h)
 
-    item_viable : (n : ℕ) → ((ts : List T) → length ts ≤ n → ViableAt (many l) ts (many l ts)) → (p : Reader T A) (ts : List T) → length ts ≤ n → (o : Outcome T A) → Leads s p ts o → ViableAt p ts o → ViableAt (p >>= behind) ts (and_then o behind)
-    item_viable n others p ts h (Read a rest) first v = let k = shorter s p ts (Read a rest) first in second_viable p behind what_follows_completes ts a rest (behind a rest) first (after_careful a rest) (after_viable n others a rest (omega arith))
+    item_viable : (n : ℕ) → ((ts : List T) → length ts ≤ n → ViableAt (many l) ts (many l ts)) → (p : Reader T A) (ts : List T) → length ts ≤ n → (o : Outcome T A) → Leads s p ts o → ViableAt p ts o → ViableAt (p >>= after) ts (and_then o after)
+    item_viable n others p ts h (Read a rest) first v = let k = shorter s p ts (Read a rest) first in second_viable p after what_follows_completes ts a rest (after a rest) first (after_careful a rest) (after_viable n others a rest (omega arith))
     item_viable n others p ts h (Stopped TooDeep rest) first (inl same) = inl same
-    item_viable n others p ts h (Stopped TooDeep rest) first (inr (t, o, v)) = inr (t, first_barred p behind what_follows_completes ts rest t o, first_reaches p behind what_follows_completes ts (t ∷ rest) v)
-    item_viable n others p ts h (Stopped Unexpected rest) first v = first_reaches p behind what_follows_completes ts rest v
+    item_viable n others p ts h (Stopped TooDeep rest) first (inr (t, o, v)) = inr (t, first_barred p after what_follows_completes ts rest t o, first_reaches p after what_follows_completes ts (t ∷ rest) v)
+    item_viable n others p ts h (Stopped Unexpected rest) first v = first_reaches p after what_follows_completes ts rest v
 
-    item_passes : (t : T) (p : Reader T A) → IsLocal s p → Passes t p → Passes t (p >>= behind)
-    item_passes t p lp (plainly plain careful) = plainly plain (careful-bind s p behind lp careful after_careful)
-    item_passes t p lp (opening o careful c) = opening o (careful-bind s p behind lp careful after_careful) (behind-bind p behind what_follows_completes t c)
-    item_passes t p lp (at_once o b h) = at_once o b (λ ts. ap (λ q. and_then q behind) (h ts))
-    item_passes t p lp (unless o c k careful) = unless o (completes-bind p behind what_follows_completes c) (λ ts h. ap (λ q. and_then q behind) (k ts h)) (λ ts h. bind_careful s p behind after_careful ts (p ts) (shorter s p ts (p ts) (lp ts)) (careful ts h))
+    item_passes : (t : T) (p : Reader T A) → IsLocal s p → Passes t p → Passes t (p >>= after)
+    item_passes t p lp (plainly plain careful) = plainly plain (careful-bind s p after lp careful after_careful)
+    item_passes t p lp (opening o careful c) = opening o (careful-bind s p after lp careful after_careful) (after-bind p after what_follows_completes t c)
+    item_passes t p lp (at_once o b h) = at_once o b (λ ts. ap (λ q. and_then q after) (h ts))
+    item_passes t p lp (unless o c k careful) = unless o (completes-bind p after what_follows_completes c) (λ ts h. ap (λ q. and_then q after) (k ts h)) (λ ts h. bind_careful s p after after_careful ts (p ts) (shorter s p ts (p ts) (lp ts)) (careful ts h))
 
     turn_viable : (n : ℕ) → ((ts : List T) → length ts ≤ n → ViableAt (many l) ts (many l ts)) → (t : T) (o : Option (Reader T A)) → l.turn t ≡ o → IsLocalTurn s o → IsViableTurn t o → (ts : List T) → length ts ≤ n → ViableAt (many l) (t ∷ ts) (looped l (many l) o t ts)
-    turn_viable n others t (Some p) is lo (v, c) ts h = viable_after (p >>= behind) (many l) t (λ us. many_again s l local t us ∙ ap (λ o. looped l (many l) o t us) is) (item_passes t p lo c) ts (and_then (p ts) behind) refl (item_viable n others p ts h (p ts) (lo ts) (v ts))
+    turn_viable n others t (Some p) is lo (v, c) ts h = viable_after (p >>= after) (many l) t (λ us. many_again s l local t us ∙ ap (λ o. looped l (many l) o t us) is) (item_passes t p lo c) ts (and_then (p ts) after) refl (item_viable n others p ts h (p ts) (lo ts) (v ts))
     turn_viable n others t None is lo vo ts h = tt
 
     many_viable : (n : ℕ) (ts : List T) → length ts ≤ n → ViableAt (many l) ts (many l ts)

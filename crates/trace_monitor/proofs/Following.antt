@@ -20,11 +20,11 @@ use Rattle.trace_monitor.proofs.Events.{events_inputs}
 
 after_at : {s : System} {before : List Line} (ls ms : List Line) → StandAfter s before (ls ++ ms) → StandAfter s (before ++ ls) ms
 after_at {s} {before} [] ms it = subst (λ (b : List Line). StandAfter s b ms) (sym (append-nil before)) it
-after_at {s} {before} (x ∷ ls) ms (more stands behind) =
-    subst (λ (b : List Line). StandAfter s b ms) (append_assoc before (x ∷ []) ls) (after_at {before = before ++ x ∷ []} ls ms behind)
+after_at {s} {before} (x ∷ ls) ms (more stands after) =
+    subst (λ (b : List Line). StandAfter s b ms) (append_assoc before (x ∷ []) ls) (after_at {before = before ++ x ∷ []} ls ms after)
 
 first_stands : {s : System} {before : List Line} (l : Line) (rest : List Line) → StandAfter s before (l ∷ rest) → Stands s (had_event before) (last_time before) l
-first_stands l rest (more stands behind) = stands
+first_stands l rest (more stands after) = stands
 
 at_place : (P : Line → Type 0) (ls : List Line) (l : Line) (rest : List Line) → AllByRecursion P (ls ++ l ∷ rest) → P l
 at_place P [] l rest all = all.0
@@ -32,9 +32,9 @@ at_place P (x ∷ ls) l rest all = at_place P ls l rest all.1
 
 all_up_to : {s : System} {before : List Line} (ls : List Line) (l : Line) (rest : List Line) → StandAfter s before (ls ++ l ∷ rest) → AllByRecursion (λ e. e.time ≤ l.time) ls
 all_up_to [] l rest it = tt
-all_up_to {s} {before} (x ∷ ls) l rest (more stands behind) = (
-  at_place (λ m. x.time ≤ m.time) ls l rest (all_after_later (x ∷ []) (ls ++ l ∷ rest) (more stands behind)),
-  all_up_to {before = before ++ x ∷ []} ls l rest behind,
+all_up_to {s} {before} (x ∷ ls) l rest (more stands after) = (
+  at_place (λ m. x.time ≤ m.time) ls l rest (all_after_later (x ∷ []) (ls ++ l ∷ rest) (more stands after)),
+  all_up_to {before = before ++ x ∷ []} ls l rest after,
 )
 
 all_events : (P : Line → Type 0) (ls : List Line) → AllByRecursion P ls → AllByRecursion P (events_of ls)

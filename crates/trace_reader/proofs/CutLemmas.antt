@@ -58,9 +58,9 @@ abbrev pub read_cut : System → Bool → List Line → ℕ → List (List ℕ) 
 read_cut s strict before n c beyond ended =
     limited (read s strict before n (c.0 ++ (if ended && is_none beyond then last_line c.1 else []))) (unfinished beyond (n + length c.0) c.1)
 
-limited_go_on : (j : Result (Option Line) TraceFault) (rest : Option Line → Reading) (behind : Option TraceFault) → limited (go_on j rest) behind ≡ go_on j (λ l. limited (rest l) behind)
-limited_go_on (Err f) rest behind = refl
-limited_go_on (Ok l) rest behind = refl
+limited_go_on : (j : Result (Option Line) TraceFault) (rest : Option Line → Reading) (after : Option TraceFault) → limited (go_on j rest) after ≡ go_on j (λ l. limited (rest l) after)
+limited_go_on (Err f) rest after = refl
+limited_go_on (Ok l) rest after = refl
 
 go_on_same : (j : Result (Option Line) TraceFault) (rest more : Option Line → Reading) → ((l : Option Line) → rest l ≡ more l) → go_on j rest ≡ go_on j more
 go_on_same (Err f) rest more same = refl

@@ -210,7 +210,7 @@ not_true false is = refl
 
 cut_valued : (line a time b c name d e value z : List ℕ) → AreBlanks a → AreDigits time → AreBlanks b → AreBlanks c → SpellsName name → AreBlanks d → AreBlanks e → IsWhole value → AreEndBlanks z →
     line ≡ a ++ (time ++ (b ++ (codes ":" ++ (c ++ (name ++ (d ++ (codes "=" ++ (e ++ (value ++ z))))))))) → IsCut line (record { time = time; name = Some name; value = Some value })
-cut_valued line a time b c name d e value z blanks digits between before named behind next whole end is =
+cut_valued line a time b c name d e value z blanks digits between before named after next whole end is =
     let some = name_some name named in
     let inner = name_inner name named in
     let last = inner_last name some inner in
@@ -230,8 +230,8 @@ cut_valued line a time b c name d e value z blanks digits between before named b
     let split : split_once 61 named_rest ≡ Some (name ++ d, e ++ value) =
     ap (split_once 61) (sym (append_assoc name d (61 ∷ (e ++ value))))
     ∙ splits_off no_equals 61 refl (name ++ d) (e ++ value)
-    (all_joined no_equals name d (all_weaker is_inner no_equals name (λ n is. not_by n 61 (not_mark is_inner n 61 is refl)) inner) (all_weaker is_blank no_equals d (λ n is. not_by n 61 (not_mark is_blank n 61 is refl)) behind)) in
-    let trimmed : without_end is_blank (name ++ d) ≡ name = end_at is_blank name last.front last.last d last.is (inner_no_blank last.last last.passes) behind in
+    (all_joined no_equals name d (all_weaker is_inner no_equals name (λ n is. not_by n 61 (not_mark is_inner n 61 is refl)) inner) (all_weaker is_blank no_equals d (λ n is. not_by n 61 (not_mark is_blank n 61 is refl)) after)) in
+    let trimmed : without_end is_blank (name ++ d) ≡ name = end_at is_blank name last.front last.last d last.is (inner_no_blank last.last last.passes) after in
     let value_is : without_front is_blank (e ++ value) ≡ value = front_all is_blank e value next (whole_stops value whole) in
     record {
       says = says_something line a time b rest z blanks digits between ends all;
@@ -251,8 +251,8 @@ cut_valued line a time b c name d e value z blanks digits between before named b
 is_cut : (line : List ℕ) (parts : LineParts) → HasForm line parts → IsCut line parts
 is_cut line parts (HasForm.time_alone a time b z blanks digits between end is parts_are) = subst (IsCut line) (sym parts_are) (cut_alone line a time b z blanks digits between end is)
 is_cut line parts (HasForm.named a time b c name z blanks digits between before named end is parts_are) = subst (IsCut line) (sym parts_are) (cut_named line a time b c name z blanks digits between before named end is)
-is_cut line parts (HasForm.valued a time b c name d e value z blanks digits between before named behind next whole end is parts_are) =
-    subst (IsCut line) (sym parts_are) (cut_valued line a time b c name d e value z blanks digits between before named behind next whole end is)
+is_cut line parts (HasForm.valued a time b c name d e value z blanks digits between before named after next whole end is parts_are) =
+    subst (IsCut line) (sym parts_are) (cut_valued line a time b c name d e value z blanks digits between before named after next whole end is)
 
 pub form_says : (line : List ℕ) (parts : LineParts) → HasForm line parts → says_nothing (content line) ≡ false
 form_says line parts it = let cut = is_cut line parts it in cut.says
@@ -302,10 +302,10 @@ module _ (line a time b z : List ℕ) (blanks : AreBlanks a) (digits : AreDigits
 
   value_form : (c rest name d e : List ℕ) (parts : LineParts) (value : List ℕ) → AreBlanks c → AreBlanks d → AreBlanks e → StopsAt is_blank value → EndsFit value →
       line ≡ a ++ (time ++ (b ++ (codes ":" ++ (c ++ (name ++ (d ++ (codes "=" ++ (e ++ (value ++ z))))))))) → valued time name value ≡ Some parts → HasForm line parts
-  value_form c rest name d e parts [] before behind next stops fit is gives = absurd (cc)
-  value_form c rest name d e parts (v ∷ value) before behind next stops fit is gives =
+  value_form c rest name d e parts [] before after next stops fit is gives = absurd (cc)
+  value_form c rest name d e parts (v ∷ value) before after next stops fit is gives =
       let it = called_by name (record { time = time; name = Some name; value = Some (v ∷ value) }) parts (is_name name) refl gives in
-      HasForm.valued a time b c name d e (v ∷ value) z blanks digits between before it.spelled behind next (whole_by v value stops fit) end is it.is
+      HasForm.valued a time b c name d e (v ∷ value) z blanks digits between before it.spelled after next (whole_by v value stops fit) end is it.is
 
   named_form : (c rest : List ℕ) (parts : LineParts) (o : Option (List ℕ × List ℕ)) → split_once 61 rest ≡ o → AreBlanks c → AtRest c rest → EndsFit rest → named_by time rest o ≡ Some parts → HasForm line parts
   named_form c rest parts None split before is fit gives =

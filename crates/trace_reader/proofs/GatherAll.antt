@@ -13,11 +13,11 @@ use Rattle.trace_reader.specs.inner.Reads.{Reads, Gathers, SaysRest}
 use Rattle.trace_reader.proofs.LawLemmas.{reading_refused}
 
 -- what is gathered after all lines that were given
-pub all_say : (new : Reader) (s : System) (strict : Bool) (limit : ℕ) (fed : List ℕ) (ended : Bool) (before behind : List Line) (result : Result Rest TraceFault) → Gathers new s strict limit fed before ended before behind result → SaysRest (reading s strict limit fed ended) behind ended result
-all_say new s strict limit fed ended before behind result it = subst (λ (ls : List Line). SaysRest (reading s strict limit fed ended) ls ended result) (sym it.grew) it.says
+pub all_say : (new : Reader) (s : System) (strict : Bool) (limit : ℕ) (fed : List ℕ) (ended : Bool) (before after : List Line) (result : Result Rest TraceFault) → Gathers new s strict limit fed before ended before after result → SaysRest (reading s strict limit fed ended) after ended result
+all_say new s strict limit fed ended before after result it = subst (λ (ls : List Line). SaysRest (reading s strict limit fed ended) ls ended result) (sym it.grew) it.says
 
-pub all_read : (new : Reader) (s : System) (strict : Bool) (limit : ℕ) (fed : List ℕ) (ended : Bool) (before behind : List Line) (result : Result Rest TraceFault) → Gathers new s strict limit fed before ended before behind result → Reads new s strict limit fed behind ended
-all_read new s strict limit fed ended before behind result it = subst (λ (ls : List Line). Reads new s strict limit fed ls ended) (sym it.grew) it.reads
+pub all_read : (new : Reader) (s : System) (strict : Bool) (limit : ℕ) (fed : List ℕ) (ended : Bool) (before after : List Line) (result : Result Rest TraceFault) → Gathers new s strict limit fed before ended before after result → Reads new s strict limit fed after ended
+all_read new s strict limit fed ended before after result it = subst (λ (ls : List Line). Reads new s strict limit fed ls ended) (sym it.grew) it.reads
 
 -- a part of the trace was read, and its lines gathered
 pub record IsBetween (now : Reader) (s : System) (strict : Bool) (limit : ℕ) (trace rest : List ℕ) (lines : List Line) : Type 0 where
@@ -46,17 +46,17 @@ pub on_ok : {A E : Type 0} (P : Type 0) (r : Result A E) → P → OnOk r P
 on_ok P (Ok x) p = p
 on_ok P (Err e) p = tt
 
-pub split_is : (trace fed rest piece behind : List ℕ) → trace ≡ fed ++ rest → rest ≡ piece ++ behind → trace ≡ fed ++ piece ++ behind
-split_is trace fed rest piece behind is parts = is ∙ ap (λ bytes. fed ++ bytes) parts ∙ sym (append_assoc fed piece behind)
+pub split_is : (trace fed rest piece after : List ℕ) → trace ≡ fed ++ rest → rest ≡ piece ++ after → trace ≡ fed ++ piece ++ after
+split_is trace fed rest piece after is parts = is ∙ ap (λ bytes. fed ++ bytes) parts ∙ sym (append_assoc fed piece after)
 
 -- The parts of a trace: nothing is read yet, a piece more is, and all is.
 pub between_none : (now : Reader) (s : System) (strict : Bool) (limit : ℕ) (trace : List ℕ) (lines : List Line) → Reads now s strict limit [] lines false → IsBetween now s strict limit trace trace lines
 between_none now s strict limit trace lines reads = record { fed = []; is = refl; reads = reads }
 
-pub between_more : (now new : Reader) (s : System) (strict : Bool) (limit : ℕ) (trace rest piece behind : List ℕ) (before lines : List Line) (it : IsBetween now s strict limit trace rest before) → rest ≡ piece ++ behind →
-    Reads new s strict limit (it.fed ++ piece) lines false → IsBetween new s strict limit trace behind lines
-between_more now new s strict limit trace rest piece behind before lines it is reads =
-    record { fed = it.fed ++ piece; is = split_is trace it.fed rest piece behind it.is is; reads = reads }
+pub between_more : (now new : Reader) (s : System) (strict : Bool) (limit : ℕ) (trace rest piece after : List ℕ) (before lines : List Line) (it : IsBetween now s strict limit trace rest before) → rest ≡ piece ++ after →
+    Reads new s strict limit (it.fed ++ piece) lines false → IsBetween new s strict limit trace after lines
+between_more now new s strict limit trace rest piece after before lines it is reads =
+    record { fed = it.fed ++ piece; is = split_is trace it.fed rest piece after it.is is; reads = reads }
 
 pub all_fed : (now : Reader) (s : System) (strict : Bool) (limit : ℕ) (trace rest : List ℕ) (lines : List Line) → rest ≡ [] → IsBetween now s strict limit trace rest lines → Reads now s strict limit trace lines false
 all_fed now s strict limit trace rest lines none it =

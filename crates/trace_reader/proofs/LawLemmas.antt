@@ -65,9 +65,9 @@ joined_same : (o : Option TraceFault) (lines : List Line) (rest more : List Line
 joined_same (Some f) lines rest more same = refl
 joined_same None lines rest more same = ap (after lines) (same lines)
 
-joined_limited : (o : Option TraceFault) (lines : List Line) (rest : List Line → Reading) (behind : Option TraceFault) → limited (joined o lines rest) behind ≡ joined o lines (λ ls. limited (rest ls) behind)
-joined_limited (Some f) lines rest behind = refl
-joined_limited None lines rest behind = refl
+joined_limited : (o : Option TraceFault) (lines : List Line) (rest : List Line → Reading) (last : Option TraceFault) → limited (joined o lines rest) last ≡ joined o lines (λ ls. limited (rest ls) last)
+joined_limited (Some f) lines rest last = refl
+joined_limited None lines rest last = refl
 
 go_on_joined : (j : Result (Option Line) TraceFault) (whole first : Option Line → Reading) (rest : List Line → Reading) →
     ((l : Option Line) → whole l ≡ joined (first l).refused (first l).lines (λ ls. rest (option_to_list l ++ ls))) →

@@ -34,9 +34,9 @@ pub data StandAfter (s : System) : List Line → List Line → Type 0 where
 
 go_on_stands : (s : System) (strict : Bool) (before : List Line) (n : ℕ) (j : Result (Option Line) TraceFault) (rest : Option Line → Reading) → IfStands s strict (had_event before) (last_time before) n j →
     ((l : Option Line) → StandAfter s (before ++ option_to_list l) (rest l).lines) → StandAfter s before (go_on j rest).lines
-go_on_stands s strict before n (Err f) rest stands behind = none
-go_on_stands s strict before n (Ok None) rest stands behind = subst (λ (ls : List Line). StandAfter s ls (rest None).lines) (append-nil before) (behind None)
-go_on_stands s strict before n (Ok (Some l)) rest stands behind = more stands (behind (Some l))
+go_on_stands s strict before n (Err f) rest stands after = none
+go_on_stands s strict before n (Ok None) rest stands after = subst (λ (ls : List Line). StandAfter s ls (rest None).lines) (append-nil before) (after None)
+go_on_stands s strict before n (Ok (Some l)) rest stands after = more stands (after (Some l))
 
 pub read_stands : (s : System) (strict : Bool) (before : List Line) (n : ℕ) (lines : List (List ℕ)) → StandAfter s before (read s strict before n lines).lines
 read_stands s strict before n [] = none
@@ -47,24 +47,24 @@ read_stands s strict before n (bytes ∷ lines) =
 -- the times
 all_later : {s : System} {before : List Line} (ls : List Line) (t : ℕ) → t ≤ last_time before → StandAfter s before ls → AllByRecursion (λ (l : Line). t ≤ l.time) ls
 all_later [] t low it = tt
-all_later {s} {before} (l ∷ ls) t low (more stands behind) =
+all_later {s} {before} (l ∷ ls) t low (more stands after) =
     let later = stands.later in
     let same = last_time-push before l in
     let le : t ≤ l.time = omega arith in
     let next : t ≤ last_time (before ++ l ∷ []) = omega arith in
-    (le, all_later ls t next behind)
+    (le, all_later ls t next after)
 
 sorted : {s : System} {before : List Line} (ls : List Line) → StandAfter s before ls → IsSorted ls
 sorted [] it = tt
 sorted (l ∷ []) it = tt
-sorted {s} {before} (l ∷ m ∷ ls) (more stands (more stands2 behind)) =
+sorted {s} {before} (l ∷ m ∷ ls) (more stands (more stands2 after)) =
     let later = stands2.later in
     let same = last_time-push before l in
-    (omega arith, sorted {before = before ++ l ∷ []} (m ∷ ls) (more stands2 behind))
+    (omega arith, sorted {before = before ++ l ∷ []} (m ∷ ls) (more stands2 after))
 
 later_rest : {s : System} {before : List Line} (l : Line) (ls rest : List Line) → StandAfter s before (l ∷ ls ++ rest) → AllByRecursion (λ (m : Line). last_time (l ∷ ls) ≤ m.time) rest
-later_rest {s} {before} l [] rest (more stands behind) = let same = last_time-push before l in all_later rest l.time (omega arith) behind
-later_rest l (m ∷ ls) rest (more stands behind) = later_rest m ls rest behind
+later_rest {s} {before} l [] rest (more stands after) = let same = last_time-push before l in all_later rest l.time (omega arith) after
+later_rest l (m ∷ ls) rest (more stands after) = later_rest m ls rest after
 
 pub all_after_later : {s : System} {before : List Line} (ls rest : List Line) → StandAfter s before (ls ++ rest) → AllByRecursion (λ (m : Line). last_time ls ≤ m.time) rest
 all_after_later [] rest it = all_later rest 0 (omega arith) it
@@ -104,18 +104,18 @@ had_now before l i v is =
 
 none_at : {s : System} {before : List Line} (t i : ℕ) (ls : List Line) → had_event before t i ≡ true → StandAfter s before ls → NoneAt t i ls
 none_at t i [] had it = tt
-none_at {s} {before} t i (l ∷ ls) had (more stands behind) = (
+none_at {s} {before} t i (l ∷ ls) had (more stands after) = (
   λ v time event. absurd (true≢false (sym had ∙ ap (λ u. had_event before u i) (sym time) ∙ stands.new i v event)),
-  none_at t i ls (had_still before (l ∷ []) t i had) behind,
+  none_at t i ls (had_still before (l ∷ []) t i had) after,
 )
 
 distinct : {s : System} {before : List Line} (ls : List Line) → StandAfter s before ls → AreDistinct ls
 distinct [] it = tt
-distinct {s} {before} (l ∷ ls) (more stands behind) = (λ i v is. none_at l.time i ls (had_now before l i v is) behind, distinct ls behind)
+distinct {s} {before} (l ∷ ls) (more stands after) = (λ i v is. none_at l.time i ls (had_now before l i v is) after, distinct ls after)
 
 proper : {s : System} {before : List Line} (ls : List Line) → StandAfter s before ls → AllByRecursion (IsProperLine s) ls
 proper [] it = tt
-proper (l ∷ ls) (more stands behind) = (stands.proper, proper ls behind)
+proper (l ∷ ls) (more stands after) = (stands.proper, proper ls after)
 
 pub at_least : (low last until : ℕ) (through : Bool) → low ≤ last → low ≤ (if through then max last until + 1 else last)
 at_least low last until true le = omega arith

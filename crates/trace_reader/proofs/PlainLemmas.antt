@@ -100,7 +100,7 @@ module _ (name bytes : List ℕ) (p : PlainLine) (it : IsPlain name bytes p) (sp
   first_plain ended =
       let at = is_split 10 bytes (line, it.rest) splits in
       ap (λ o. option_or o (if ended then alone bytes else None)) splits
-      ∙ (λ k. Some (sym taken k, (at.behind ∙ ap (λ n. drop (n + 1) bytes) (sym it.len)) k))
+      ∙ (λ k. Some (sym taken k, (at.after ∙ ap (λ n. drop (n + 1) bytes) (sym it.len)) k))
 
   pub plain_within : p.len ≤ length bytes
   plain_within =
@@ -230,9 +230,6 @@ read_digits : (digits bytes rest : List ℕ) → bytes ≡ digits ++ rest → le
 read_digits [] bytes rest is fewer all = let same = ap length is in absurd (omega arith)
 read_digits (d ∷ digits) bytes rest is fewer all = let none : length (d ∷ digits) ≡ 0 → ⊥ = λ same. omega arith in λ k. not (ne_eqb (length (d ∷ digits)) 0 none k) && all k
 
-pub number_read : (bytes : List ℕ) (number : ℕ) (rest : List ℕ) → HasRead bytes number rest → length rest < length bytes → BeginsWithNumber bytes number rest
-number_read bytes number rest it fewer = record { digits = it.digits; are = read_digits it.digits bytes rest it.is fewer it.all; value = it.value; is = it.is }
-
 -- as many digits spell a small number
 all_digits : (ds : List ℕ) → list_all is_ascii_digit ds ≡ true → AllDigits 10 ds
 all_digits [] all = tt
@@ -255,8 +252,8 @@ number_after m count bytes number rest it is some =
     let size : length (take m bytes) ≡ length it.digits + length rest = ap length it.is ∙ length-append it.digits rest in
     let each : count ≡ length it.digits = omega arith in
     let whole : bytes ≡ it.digits ++ (rest ++ drop m bytes) = sym (take-append-drop m bytes) ∙ ap (λ bs. bs ++ drop m bytes) it.is ∙ append_assoc it.digits rest (drop m bytes) in
-    let behind : drop count bytes ≡ rest ++ drop m bytes = (λ k. drop (each k) (whole k)) ∙ drop-append_seam it.digits (rest ++ drop m bytes) in
-    let after : take (length bytes - count) (drop count bytes) ≡ rest ++ drop m bytes = take_all (length bytes - count) (drop count bytes) (let long = length-drop count bytes in omega arith) ∙ behind in
+    let dropped : drop count bytes ≡ rest ++ drop m bytes = (λ k. drop (each k) (whole k)) ∙ drop-append_seam it.digits (rest ++ drop m bytes) in
+    let after : take (length bytes - count) (drop count bytes) ≡ rest ++ drop m bytes = take_all (length bytes - count) (drop count bytes) (let long = length-drop count bytes in omega arith) ∙ dropped in
     record {
       digits = it.digits;
       are = read_digits it.digits (take m bytes) rest it.is (omega arith) it.all;

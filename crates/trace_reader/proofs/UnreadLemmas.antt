@@ -11,7 +11,7 @@ use Rattle.trace_reader.proofs.SplitLemmas.{split_once-none, split_once-some}
 pub record IsSplit (bytes : List ℕ) (p : List ℕ × List ℕ) : Type 0 where
   pub within : length p.0 < length bytes
   pub front : p.0 ≡ take (length p.0) bytes
-  pub behind : p.1 ≡ drop (length p.0 + 1) bytes
+  pub after : p.1 ≡ drop (length p.0 + 1) bytes
 
 abbrev IfSplit : List ℕ → Option (List ℕ × List ℕ) → Type 0
 IfSplit bytes None = Unit {0}
@@ -25,11 +25,11 @@ put_split b bytes (Some p) it =
     record {
       within = omega arith;
       front = ap (λ bs. b ∷ bs) it.front;
-      behind = it.behind ∙ ap (λ n. drop n (b ∷ bytes)) same;
+      after = it.after ∙ ap (λ n. drop n (b ∷ bytes)) same;
     }
 
 split_step : (is_mark : Bool) (mark b : ℕ) (bytes : List ℕ) → IfSplit bytes (split_once mark bytes) → IfSplit (b ∷ bytes) (if is_mark then Some ([], bytes) else option_map (put_first b) (split_once mark bytes))
-split_step true mark b bytes it = record { within = omega arith; front = refl; behind = refl }
+split_step true mark b bytes it = record { within = omega arith; front = refl; after = refl }
 split_step false mark b bytes it = put_split b bytes (split_once mark bytes) it
 
 splits : (mark : ℕ) (bytes : List ℕ) → IfSplit bytes (split_once mark bytes)
@@ -96,7 +96,7 @@ module _ (bytes : List ℕ) (start searched : ℕ) (low : start ≤ searched) (h
       let both = length-append front (take more back) in
       let len : length line.0 ≡ searched + more - start = omega arith in (
         subst (λ (n : ℕ). n < length whole) len it.within,
-        here ∙ λ k. Some ((it.front ∙ ap (λ n. take n whole) len) k, (it.behind ∙ ap (λ n. drop (n + 1) whole) len) k),
+        here ∙ λ k. Some ((it.front ∙ ap (λ n. take n whole) len) k, (it.after ∙ ap (λ n. drop (n + 1) whole) len) k),
       )
 
   pub none_searched : (more : ℕ) → Some more ≡ position (λ b. b == 10) back → split_once 10 (take (searched + more - start) whole) ≡ None

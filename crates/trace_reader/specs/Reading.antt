@@ -148,7 +148,7 @@ abbrev pub unfinished : Option ℕ → ℕ → List ℕ → Option TraceFault
 unfinished beyond n rest = if is_long (length rest + length (on_line beyond)) then Some (fault.LineTooLong n) else overflow beyond n
 
 abbrev pub limited : Reading → Option TraceFault → Reading
-limited r behind = record { lines = r.lines; refused = option_or r.refused behind }
+limited r after = record { lines = r.lines; refused = option_or r.refused after }
 
 -- These bytes, from line number `n` on, after earlier lines, with the first byte beyond the limit.
 abbrev pub read_on : System → Bool → List Line → ℕ → List ℕ → Option ℕ → Bool → Reading

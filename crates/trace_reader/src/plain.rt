@@ -25,7 +25,7 @@ pub(crate) fn plain_line(bytes: &[u8], name: &[u8]) -> Option<PlainLine>
     let (digits, after_time) = number_before(bytes)?;
     let time = Time::new(digits)?;
     let (number, end) = int_before(after_name(after_time, name)?)?;
-    let _next = behind(end, b"\n")?;
+    let _next = after(end, b"\n")?;
     let len = bytes.len() - end.len();
     Some(PlainLine { time, number, len })
 }
@@ -37,14 +37,14 @@ fn after_name<'a>(bytes: &'a [u8], name: &[u8]) -> Option<&'a [u8]>
     let [b':', b' ', rest @ ..] = bytes else {
         return None;
     };
-    match behind(rest, name)? {
+    match after(rest, name)? {
         [b' ', b'=', b' ', rest @ ..] => Some(rest),
         _ => None,
     }
 }
 
 /// What stands after these bytes.
-fn behind<'a>(bytes: &'a [u8], front: &[u8]) -> Option<&'a [u8]>
+fn after<'a>(bytes: &'a [u8], front: &[u8]) -> Option<&'a [u8]>
     ensures { IfSome result (λ r. bytes.now ≡ front.now ++ r.now) }
 {
     let mut rest = bytes;
@@ -62,7 +62,7 @@ fn behind<'a>(bytes: &'a [u8], front: &[u8]) -> Option<&'a [u8]>
 fn int_before(bytes: &[u8]) -> Option<(Scalar, &[u8])>
     ensures { IfSome result (λ r. BeginsWithInt bytes.now r.0 r.1.now) }
 {
-    match behind(bytes, b"-") {
+    match after(bytes, b"-") {
         Some(digits) => {
             let (number, rest) = number_before(digits)?;
             Some((negative(number), rest))

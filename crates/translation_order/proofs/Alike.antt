@@ -1,7 +1,7 @@
 -- Relations that hold alike have the same cycles.
 use Rattle.std.proofs.Common.{ℕ, List}
 use Rattle.translation_order.specs.Graph.{Path, edge, step}
-use Rattle.translation_order.specs.Order.{IsLeast}
+use Rattle.translation_order.specs.Least.{IsLeast}
 use Rattle.translation_order.specs.Cycle.{IsCycle, CanBeTaken, taken, Remains, RemainsBefore, IsCycleOfWalk}
 use Rattle.translation_order.proofs.Circles.{through_weaker}
 

@@ -6,7 +6,7 @@ use Rattle.std.proofs.lemmas.Map.Keys.{IsDistinct-IsPermutation}
 use Rattle.std.proofs.lemmas.List.Sorted.{IsPermutation-reverse, IsPermutation-append_comm}
 use Rattle.std.proofs.lemmas.List.Elements.{Contains-append_left, Contains-append_right, Contains-append_cases}
 use Rattle.std.specs.List.{IsDistinct}
-use Rattle.translation_order.specs.Order.{IsLeast}
+use Rattle.translation_order.specs.Least.{IsLeast}
 use Rattle.translation_order.specs.Cycle.{Through, IsTurned}
 use Rattle.tsl_value.proofs.Lists.{here, later, cons_cases, middle}
 use Rattle.translation_order.proofs.Lists.{same_split}
@@ -68,39 +68,39 @@ closes E first rest again (f ∷ front) back is h =
     through_after E first front again back again (subst (λ l. Through E first l again) tail h)
 
 -- a circle from another of its members on
-circle : (E : ℕ → ℕ → Type 0) (again : ℕ) (xs before : List ℕ) (least : ℕ) (behind : List ℕ) → xs ++ again ∷ [] ≡ before ++ least ∷ behind → Through E again xs again → Through E least (behind ++ before) least
-circle E again xs before least behind is h =
-    let all : Along E again (before ++ least ∷ behind) = subst (Along E again) is (along_through E again xs again h) in
-    let ends : last_of least behind ≡ again = sym (last_after again before least behind) ∙ ap (last_of again) (sym is) ∙ last_after again xs again [] in
-    let parts = along_split E again before least behind all in
-    let joined : Along E least (behind ++ (before ++ least ∷ [])) = along_join E least behind (before ++ least ∷ []) parts.1 (subst (λ a. Along E a (before ++ least ∷ [])) (sym ends) parts.0) in
-    through_along E least (behind ++ before) least (subst (Along E least) (sym (append_assoc behind before (least ∷ []))) joined)
+circle : (E : ℕ → ℕ → Type 0) (again : ℕ) (xs before : List ℕ) (least : ℕ) (after : List ℕ) → xs ++ again ∷ [] ≡ before ++ least ∷ after → Through E again xs again → Through E least (after ++ before) least
+circle E again xs before least after is h =
+    let all : Along E again (before ++ least ∷ after) = subst (Along E again) is (along_through E again xs again h) in
+    let ends : last_of least after ≡ again = sym (last_after again before least after) ∙ ap (last_of again) (sym is) ∙ last_after again xs again [] in
+    let parts = along_split E again before least after all in
+    let joined : Along E least (after ++ (before ++ least ∷ [])) = along_join E least after (before ++ least ∷ []) parts.1 (subst (λ a. Along E a (before ++ least ∷ [])) (sym ends) parts.0) in
+    through_along E least (after ++ before) least (subst (Along E least) (sym (append_assoc after before (least ∷ []))) joined)
 
 -- what a circle read backwards is
-pub turned_around : (E : ℕ → ℕ → Type 0) (again : ℕ) (back cycle : List ℕ) (t : IsTurned (again ∷ back) cycle) → Through (λ u v. E v u) again back again → Through E t.least (t.behind ++ t.before) t.least
+pub turned_around : (E : ℕ → ℕ → Type 0) (again : ℕ) (back cycle : List ℕ) (t : IsTurned (again ∷ back) cycle) → Through (λ u v. E v u) again back again → Through E t.least (t.after ++ t.before) t.least
 turned_around E again back cycle t h =
-    circle E again (reverse back) t.before t.least t.behind (sym (reverse_onto back again []) ∙ t.backward) (through_back E again back again h)
+    circle E again (reverse back) t.before t.least t.after (sym (reverse_onto back again []) ∙ t.backward) (through_back E again back again h)
 
 -- ---- members
 pub in_turned : (steps turned : List ℕ) (t : IsTurned steps turned) (x : ℕ) → Contains (reverse steps) x → Contains turned x
 in_turned steps turned t x c =
-    let in_parts : Contains (t.before ++ t.least ∷ t.behind) x = subst (λ v. Contains v x) t.backward c in
-    subst (λ v. Contains v x) (sym t.is) (elim (Contains-append_cases t.before (t.least ∷ t.behind) x in_parts) [
-      | inl first ↦ later t.least x (t.behind ++ t.before) (Contains-append_right t.behind t.before x first)
-      | inr rest ↦ elim (cons_cases t.least x t.behind rest) [
-        | inl same ↦ subst (Contains (t.least ∷ (t.behind ++ t.before))) same (here t.least (t.behind ++ t.before))
-        | inr more ↦ later t.least x (t.behind ++ t.before) (Contains-append_left t.behind t.before x more)
+    let in_parts : Contains (t.before ++ t.least ∷ t.after) x = subst (λ v. Contains v x) t.backward c in
+    subst (λ v. Contains v x) (sym t.is) (elim (Contains-append_cases t.before (t.least ∷ t.after) x in_parts) [
+      | inl first ↦ later t.least x (t.after ++ t.before) (Contains-append_right t.after t.before x first)
+      | inr rest ↦ elim (cons_cases t.least x t.after rest) [
+        | inl same ↦ subst (Contains (t.least ∷ (t.after ++ t.before))) same (here t.least (t.after ++ t.before))
+        | inr more ↦ later t.least x (t.after ++ t.before) (Contains-append_left t.after t.before x more)
       ]
     ])
 
 pub from_turned : (steps turned : List ℕ) (t : IsTurned steps turned) (x : ℕ) → Contains turned x → Contains (reverse steps) x
 from_turned steps turned t x c =
-    let in_parts : Contains (t.least ∷ (t.behind ++ t.before)) x = subst (λ v. Contains v x) t.is c in
-    subst (λ v. Contains v x) (sym t.backward) (elim (cons_cases t.least x (t.behind ++ t.before) in_parts) [
-      | inl same ↦ subst (Contains (t.before ++ t.least ∷ t.behind)) same (middle t.before t.behind t.least)
-      | inr rest ↦ elim (Contains-append_cases t.behind t.before x rest) [
-        | inl first ↦ Contains-append_right t.before (t.least ∷ t.behind) x (later t.least x t.behind first)
-        | inr more ↦ Contains-append_left t.before (t.least ∷ t.behind) x more
+    let in_parts : Contains (t.least ∷ (t.after ++ t.before)) x = subst (λ v. Contains v x) t.is c in
+    subst (λ v. Contains v x) (sym t.backward) (elim (cons_cases t.least x (t.after ++ t.before) in_parts) [
+      | inl same ↦ subst (Contains (t.before ++ t.least ∷ t.after)) same (middle t.before t.after t.least)
+      | inr rest ↦ elim (Contains-append_cases t.after t.before x rest) [
+        | inl first ↦ Contains-append_right t.before (t.least ∷ t.after) x (later t.least x t.after first)
+        | inr more ↦ Contains-append_left t.before (t.least ∷ t.after) x more
       ]
     ])
 
@@ -115,8 +115,8 @@ once_reversed xs once = IsDistinct-IsPermutation eqb flips xs (reverse xs) (IsPe
 
 pub once_turned : (steps turned : List ℕ) → IsTurned steps turned → IsDistinct eqb steps → IsDistinct eqb turned
 once_turned steps turned t once =
-    let parts : IsDistinct eqb (t.before ++ t.least ∷ t.behind) = subst (IsDistinct eqb) t.backward (once_reversed steps once) in
-    subst (IsDistinct eqb) (sym t.is) (IsDistinct-IsPermutation eqb flips (t.before ++ t.least ∷ t.behind) (t.least ∷ (t.behind ++ t.before)) (IsPermutation-append_comm t.before (t.least ∷ t.behind)) parts)
+    let parts : IsDistinct eqb (t.before ++ t.least ∷ t.after) = subst (IsDistinct eqb) t.backward (once_reversed steps once) in
+    subst (IsDistinct eqb) (sym t.is) (IsDistinct-IsPermutation eqb flips (t.before ++ t.least ∷ t.after) (t.least ∷ (t.after ++ t.before)) (IsPermutation-append_comm t.before (t.least ∷ t.after)) parts)
 
 pub least_same : (P : ℕ → Type 0) (x y : ℕ) → IsLeast P x → IsLeast P y → x ≡ y
 least_same P x y u v = let low = u.least y v.holds in let high = v.least x u.holds in omega arith
@@ -127,7 +127,7 @@ turned_same steps xs ys once t u =
     let low = t.least_first.least u.least (in_turned steps xs t u.least (from_turned steps ys u u.least u.least_first.holds)) in
     let high = u.least_first.least t.least (in_turned steps ys u t.least (from_turned steps xs t t.least t.least_first.holds)) in
     let same : t.least ≡ u.least = omega arith in
-    let parts : IsDistinct eqb (t.before ++ t.least ∷ t.behind) = subst (IsDistinct eqb) t.backward (once_reversed steps once) in
-    let both : t.before ++ t.least ∷ t.behind ≡ u.before ++ t.least ∷ u.behind = sym t.backward ∙ u.backward ∙ ap (λ m. u.before ++ m ∷ u.behind) (sym same) in
-    let split = same_split t.before t.behind u.before u.behind t.least parts both in
-    t.is ∙ ap (λ m. m ∷ (t.behind ++ t.before)) same ∙ ap (λ v. u.least ∷ (v ++ t.before)) split.1 ∙ ap (λ v. u.least ∷ (u.behind ++ v)) split.0 ∙ sym u.is
+    let parts : IsDistinct eqb (t.before ++ t.least ∷ t.after) = subst (IsDistinct eqb) t.backward (once_reversed steps once) in
+    let both : t.before ++ t.least ∷ t.after ≡ u.before ++ t.least ∷ u.after = sym t.backward ∙ u.backward ∙ ap (λ m. u.before ++ m ∷ u.after) (sym same) in
+    let split = same_split t.before t.after u.before u.after t.least parts both in
+    t.is ∙ ap (λ m. m ∷ (t.after ++ t.before)) same ∙ ap (λ v. u.least ∷ (v ++ t.before)) split.1 ∙ ap (λ v. u.least ∷ (u.after ++ v)) split.0 ∙ sym u.is

@@ -2,7 +2,7 @@
 use Rattle.std.proofs.Common.{◌≡◌, ℕ, List, [], ◌∷◌, ◌++◌, eqb, Contains, refl, sym, ap, subst, ◌∙◌, append_assoc}
 use Rattle.std.specs.List.{IsDistinct}
 use Rattle.translation_order.specs.Graph.{Path, edge, step}
-use Rattle.translation_order.specs.Order.{IsLeast}
+use Rattle.translation_order.specs.Least.{IsLeast}
 use Rattle.translation_order.specs.Cycle.{Through, IsCycle, IsTurned, Remains, RemainsBefore, IsWalk, IsCycleOfWalk}
 use Rattle.translation_order.proofs.Lists.{once_split, once_after, same_split}
 use Rattle.translation_order.proofs.Circles.{through_weaker, closes, turned_around, once_turned, turned_same, least_same}
@@ -63,7 +63,7 @@ module _ (steps : ℕ) (E : ℕ → ℕ → Type 0) where
       let back_edges : Through (λ u v. E v u) c.first c.rest c.again = through_weaker Next (λ u v. E v u) (λ a b n. n.holds.before) c.first c.rest c.again c.walk.goes_on in
       record {
         first = c.turned.least;
-        rest = c.turned.behind ++ c.turned.before;
+        rest = c.turned.after ++ c.turned.before;
         is = c.turned.is;
         around = turned_around E c.again c.back cycle c.turned (closes (λ u v. E v u) c.first c.rest c.again c.front c.back c.around back_edges);
         once = once_turned (c.again ∷ c.back) cycle c.turned (ending_once c.first c.rest c.front c.again c.back c.around c.walk.once);

@@ -4,7 +4,8 @@ use Rattle.std.proofs.lemmas.List.{length_push}
 use Rattle.std.proofs.lemmas.List.Elements.{Contains-push_cases}
 use Rattle.std.specs.List.{IsDistinct}
 use Rattle.translation_order.specs.Graph.{Path, edge, step, IsAcyclic}
-use Rattle.translation_order.specs.Order.{IsLeast, MayFollow, TakesLeast, IsLeastOrder}
+use Rattle.translation_order.specs.Least.{IsLeast}
+use Rattle.translation_order.specs.Order.{MayFollow, TakesLeast, IsLeastOrder}
 use Rattle.translation_order.specs.Cycle.{CanBeTaken, taken}
 use Rattle.tsl_value.proofs.Lists.{none_in_nil}
 use Rattle.translation_order.proofs.Lists.{split_at, split_push, once_from_splits, once_push, few_below}

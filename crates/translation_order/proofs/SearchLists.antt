@@ -13,7 +13,7 @@ none_in xs x is c = none_in_nil x (subst (λ l. Contains l x) is c)
 pub in_joined : (xs ys zs : List ℕ) (x : ℕ) → AreJoined xs ys zs → Contains zs x → Contains xs x ⊎ Contains ys x
 in_joined xs ys zs x (inl is) c = Contains-append_cases xs ys x (subst (λ l. Contains l x) is c)
 in_joined xs ys zs x (inr is) c = elim (Contains-append_cases ys xs x (subst (λ l. Contains l x) is c)) [
-  | inl behind ↦ inr behind
+  | inl after ↦ inr after
   | inr front ↦ inl front
 ]
 

@@ -6,7 +6,8 @@ use Rattle.std.proofs.lemmas.List.Elements.{All-contains, Contains-append_left, 
 use Rattle.std.proofs.lemmas.Map.Keys.{le_from_not_gt}
 use Rattle.std.specs.Cmp.{nat_cmp_is}
 use Rattle.std.specs.BTreeSet as tree
-use Rattle.translation_order.specs.Order.{Before, AreOfSteps, IsLeast, MayFollow, TakesLeast, IsLeastOrder}
+use Rattle.translation_order.specs.Least.{IsLeast}
+use Rattle.translation_order.specs.Order.{Before, AreOfSteps, MayFollow, TakesLeast, IsLeastOrder}
 use Rattle.translation_order.specs.Cycle.{CanBeTaken, taken, Remains}
 use Rattle.translation_order.specs.inner.Taking.{one_if, is_one_of, times, seconds_of, waiting, AreSeconds, AreWaits, AreReleased, IsTaking, IsTaken}
 use Rattle.tsl_value.proofs.Lists.{here, later}
@@ -217,17 +218,17 @@ module _ (steps : ℕ) (pairs : List (ℕ × ℕ)) (of_steps : AreOfSteps steps 
             ∙ ap (λ b. nat_lt x steps && (not b && (get_or less x 0 == 0))) (sym (listed_push listed a x other))
 
         freed_after : (x : ℕ) → (a ≡ x → ⊥) → is_one_of (seconds_of pairs a) x ≡ true → tree.contains nat_cmp after x ≡ test x
-        freed_after x other behind =
-            let low = second_low a x (seconds_before pairs a x behind) in
+        freed_after x other follows =
+            let low = second_low a x (seconds_before pairs a x follows) in
             let was = r.waits x in
-            let some = times_some x (seconds_of pairs a) behind in
+            let some = times_some x (seconds_of pairs a) follows in
             let waits : 0 < get_or counts x 0 = omega arith in
             let not_free : tree.contains nat_cmp free x ≡ false = t.are_free x ∙ and_right (nat_lt x steps) (not (is_one_of listed x) && (get_or counts x 0 == 0)) (and_right (not (is_one_of listed x)) (get_or counts x 0 == 0) (ne_eqb (get_or counts x 0) 0 (λ z. omega arith))) in
             let not_listed : is_one_of listed x ≡ false = false_from_ne_true (is_one_of listed x) (λ h. let is_zero = listed_waits listed counts t.takes_least t.waits x h in let is = t.waits.at x low in absurd (omega arith)) in
             let not_on : is_one_of on x ≡ false = listed_push listed a x other ∙ not_listed in
             r.freed x
             ∙ ap (λ b. b || (is_one_of (seconds_of pairs a) x && (get_or less x 0 == 0))) (kept free rest a false out x other ∙ not_free)
-            ∙ ap (λ b. b && (get_or less x 0 == 0)) behind
+            ∙ ap (λ b. b && (get_or less x 0 == 0)) follows
             ∙ sym (ap (λ b. nat_lt x steps && (not b && (get_or less x 0 == 0))) not_on ∙ ap (λ b. b && (get_or less x 0 == 0)) (lt-ltb x steps low))
 
         -- one step more is taken away
@@ -241,7 +242,7 @@ module _ (steps : ℕ) (pairs : List (ℕ × ℕ)) (of_steps : AreOfSteps steps 
           are_free = λ x. elim (cases_eq a x) [
             | inl same ↦ freed_self x same
             | inr other ↦ elim (cases_Bool (is_one_of (seconds_of pairs a) x)) [
-              | inl behind ↦ freed_after x other behind
+              | inl follows ↦ freed_after x other follows
               | inr not_after ↦ freed_apart x other not_after
             ]
           ];

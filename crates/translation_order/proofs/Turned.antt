@@ -17,21 +17,21 @@ none_less xs place best y (k, lt, is) =
 pub turned_from : (steps backward front back first cycle : List ℕ) (place : ℕ) → backward ≡ reverse steps → IsFirstBest nat_lt backward (length backward) place → front ≡ take place backward → back ≡ drop place backward → first ≡ [] ++ back → cycle ≡ first ++ front → IsTurned steps cycle
 turned_from steps backward front back first cycle place is best at_front at_back one two =
     let least = get_or backward place 0 in
-    let behind = drop (place + 1) backward in
-    let split : drop place backward ≡ least ∷ behind = drop_more backward place 0 best.0 in
-    let whole : backward ≡ take place backward ++ (least ∷ behind) = sym (take-append-drop place backward) ∙ ap (λ v. take place backward ++ v) split in
-    let circle : cycle ≡ least ∷ (behind ++ take place backward) = two ∙ ap (λ v. v ++ front) (one ∙ at_back ∙ split) ∙ ap (λ v. (least ∷ behind) ++ v) at_front in
+    let after = drop (place + 1) backward in
+    let split : drop place backward ≡ least ∷ after = drop_more backward place 0 best.0 in
+    let whole : backward ≡ take place backward ++ (least ∷ after) = sym (take-append-drop place backward) ∙ ap (λ v. take place backward ++ v) split in
+    let circle : cycle ≡ least ∷ (after ++ take place backward) = two ∙ ap (λ v. v ++ front) (one ∙ at_back ∙ split) ∙ ap (λ v. (least ∷ after) ++ v) at_front in
     record {
       before = take place backward;
       least = least;
-      behind = behind;
+      after = after;
       backward = sym is ∙ whole;
       is = circle;
       least_first = record {
-        holds = subst (λ v. Contains v least) (sym circle) (here least (behind ++ take place backward));
-        least = λ y c. none_less backward place best y (subst (λ v. Contains v y) (sym whole) (elim (Contains-append_cases (least ∷ behind) (take place backward) y (subst (λ v. Contains v y) circle c)) [
-          | inl last ↦ Contains-append_right (take place backward) (least ∷ behind) y last
-          | inr first ↦ Contains-append_left (take place backward) (least ∷ behind) y first
+        holds = subst (λ v. Contains v least) (sym circle) (here least (after ++ take place backward));
+        least = λ y c. none_less backward place best y (subst (λ v. Contains v y) (sym whole) (elim (Contains-append_cases (least ∷ after) (take place backward) y (subst (λ v. Contains v y) circle c)) [
+          | inl last ↦ Contains-append_right (take place backward) (least ∷ after) y last
+          | inr first ↦ Contains-append_left (take place backward) (least ∷ after) y first
         ]));
       };
     }

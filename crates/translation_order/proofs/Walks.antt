@@ -4,7 +4,8 @@ use Rattle.std.proofs.lemmas.Bool.{cases_eq, cases_lt, false≢true}
 use Rattle.std.proofs.lemmas.List.{length_push, drop_more, length-replicate, get_or-replicate, get_or_past, get_or_read, take_more, take_rest}
 use Rattle.std.proofs.lemmas.List.Elements.{Contains-push, Contains-push_cases, Contains-append_left}
 use Rattle.std.specs.List.{IsDistinct}
-use Rattle.translation_order.specs.Order.{Before, AreOfSteps, IsLeast, IsLeastOrder}
+use Rattle.translation_order.specs.Least.{IsLeast}
+use Rattle.translation_order.specs.Order.{Before, AreOfSteps, IsLeastOrder}
 use Rattle.translation_order.specs.Cycle.{Through, IsTurned, Remains, RemainsBefore, IsCycleOfWalk}
 use Rattle.translation_order.specs.inner.Taking.{is_one_of, IsTaken}
 use Rattle.translation_order.specs.inner.Walking.{WaitsBefore, IsLeastBefore, AreLeastBefore, next_of, AreInside, HasWalked, Walked, lesser_of, Follows, IsWalkedCycle, IsWalking}

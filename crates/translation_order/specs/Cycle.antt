@@ -1,7 +1,7 @@
 -- Cycles of steps, and the one that is answered where steps have no order.
 use Rattle.std.specs.Prelude.{◌≡◌, ℕ, ◌<◌, List, [], ◌∷◌, ◌++◌, eqb, reverse}
 use Rattle.std.specs.List.{Contains, IsDistinct}
-use Rattle.translation_order.specs.Order.{IsLeast}
+use Rattle.translation_order.specs.Least.{IsLeast}
 
 -- E holds from a to the first of xs, from each of xs to the next, and from the last to b
 abbrev pub Through : (ℕ → ℕ → Type 0) → ℕ → List ℕ → ℕ → Type 0
@@ -41,9 +41,9 @@ pub record IsWalk (steps : ℕ) (E : ℕ → ℕ → Type 0) (first : ℕ) (rest
 pub record IsTurned (steps turned : List ℕ) : Type 0 where
   pub before : List ℕ
   pub least : ℕ
-  pub behind : List ℕ
-  pub backward : reverse steps ≡ before ++ least ∷ behind
-  pub is : turned ≡ least ∷ (behind ++ before)
+  pub after : List ℕ
+  pub backward : reverse steps ≡ before ++ least ∷ after
+  pub is : turned ≡ least ∷ (after ++ before)
   pub least_first : IsLeast (Contains turned) least
 
 -- The walk goes around a cycle from the step that came again on. The cycle is answered the other way around, which is that in

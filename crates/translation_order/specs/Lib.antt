@@ -1,4 +1,5 @@
 pub mod Graph
+pub mod Least
 pub mod Order
 pub mod Cycle
 pub mod OnCycle

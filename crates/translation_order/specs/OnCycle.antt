@@ -1,6 +1,7 @@
 -- Cycles of a graph. Nodes are numbers, and each edge is a pair: it leads from its first node to its second.
-use Rattle.std.specs.Prelude.{ℕ, ◌<◌, ◌≤◌, List, Option, MatchOption}
+use Rattle.std.specs.Prelude.{ℕ, ◌<◌, List, Option, MatchOption}
 use Rattle.std.specs.List.{All, Contains}
+use Rattle.translation_order.specs.Least.{IsLeast}
 
 -- an edge leads from a to b
 abbrev pub Edge : List (ℕ × ℕ) → ℕ → ℕ → Type 0
@@ -18,11 +19,6 @@ pub data Path (E : ℕ → ℕ → Type 0) : ℕ → ℕ → Type 0 where
 -- a node lies on a cycle where it is reached from itself
 abbrev pub OnCycle : List (ℕ × ℕ) → ℕ → Type 0
 OnCycle edges x = Path (Edge edges) x x
-
--- P holds for this number and for none below it
-pub record IsLeast (P : ℕ → Type 0) (x : ℕ) : Type 0 where
-  pub holds : P x
-  pub least : (y : ℕ) → P y → x ≤ y
 
 -- the least node on a cycle, or none where no node lies on one
 abbrev pub IsFirstOnCycle : List (ℕ × ℕ) → Option ℕ → Type 0

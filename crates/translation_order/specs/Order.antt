@@ -1,7 +1,8 @@
 -- Orders of steps, and the one that is answered. Steps are the numbers below a count, and E a b says that step a has to stand
 -- before step b.
-use Rattle.std.specs.Prelude.{◌≡◌, ℕ, ◌<◌, ◌≤◌, List, ◌∷◌, ◌++◌}
+use Rattle.std.specs.Prelude.{◌≡◌, ℕ, ◌<◌, List, ◌∷◌, ◌++◌}
 use Rattle.std.specs.List.{All, Contains}
+use Rattle.translation_order.specs.Least.{IsLeast}
 
 -- the relation of a list of pairs
 abbrev pub Before : List (ℕ × ℕ) → ℕ → ℕ → Type 0
@@ -10,11 +11,6 @@ Before pairs a b = Contains pairs (a, b)
 -- pairs of steps
 abbrev pub AreOfSteps : ℕ → List (ℕ × ℕ) → Type 0
 AreOfSteps steps pairs = All (λ p. (p.0 < steps) × (p.1 < steps)) pairs
-
--- P holds for this number and for none below it
-pub record IsLeast (P : ℕ → Type 0) (x : ℕ) : Type 0 where
-  pub holds : P x
-  pub least : (y : ℕ) → P y → x ≤ y
 
 -- a step that may stand next: it does not stand in front, and all that has to stand before it does
 pub record MayFollow (steps : ℕ) (E : ℕ → ℕ → Type 0) (front : List ℕ) (x : ℕ) : Type 0 where

@@ -1,7 +1,8 @@
 // The least node on a cycle.
 
 ghost use Rattle.std.specs.Prelude.{◌≡◌, ◌<◌, ◌^◌, ℕ, [], true, length, replicate, IfOk, MatchOption, IsTrue, ◌↔◌};
-ghost use Rattle.translation_order.specs.OnCycle.{AreBetween, IsFirstOnCycle, IsLeast};
+ghost use Rattle.translation_order.specs.Least.{IsLeast};
+ghost use Rattle.translation_order.specs.OnCycle.{AreBetween, IsFirstOnCycle};
 ghost use Rattle.translation_order.specs.inner.Searching.{AreSuccessors, visit_of};
 
 use crate::search::{Visit, visit_all};

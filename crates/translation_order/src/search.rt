@@ -70,13 +70,13 @@ impl Group {
     }
 
     /// With the group after it, from which an edge leads back.
-    fn joined(self, behind: Group) -> Result<Group, NoMemory>
-        ensures { IfOk result (IsJoined self behind) }
+    fn joined(self, after: Group) -> Result<Group, NoMemory>
+        ensures { IfOk result (IsJoined self after) }
     {
         Ok(Group {
             first: self.first,
-            nodes: self.nodes.joined(behind.nodes)?,
-            targets: self.targets.joined(behind.targets)?,
+            nodes: self.nodes.joined(after.nodes)?,
+            targets: self.targets.joined(after.targets)?,
             cyclic: true,
         })
     }

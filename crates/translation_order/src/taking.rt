@@ -1,7 +1,8 @@
 // Takes steps away, the least first, each once no step before it is left.
 
 ghost use Rattle.std.specs.Prelude.{◌≡◌, ◌<◌, ◌≤◌, ◌^◌, ℕ, [], length, slice_index, replicate, IfOk, OnOk, MatchOption, All};
-ghost use Rattle.translation_order.specs.Order.{AreOfSteps, IsLeast};
+ghost use Rattle.translation_order.specs.Least.{IsLeast};
+ghost use Rattle.translation_order.specs.Order.{AreOfSteps};
 ghost use Rattle.translation_order.specs.inner.Taking.{times, AreSeconds, AreWaits, AreFree, AreReleased, IsTaken};
 
 use crate::steps::Steps;

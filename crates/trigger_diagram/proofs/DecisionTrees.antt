@@ -3,7 +3,7 @@ use Rattle.std.proofs.Common.{◌≡◌, ℕ, zero, suc, ◌+◌, ◌<◌, ◌==
 use Rattle.std.proofs.lemmas.Bool.{cases_eq, cases_lt, cases_Bool, eq-eqb, eqb-true}
 use Rattle.trigger_diagram.specs.inner.DecisionTree.{DecisionTree, Leaf, Fork, Valuation, value, IsAfter, IsCanonical, Agree, with_value}
 
--- ---- behind a variable
+-- ---- after a variable
 pub after_less : (x y : ℕ) (t : DecisionTree) → x < y → IsAfter y t → IsAfter x t
 after_less x y (Leaf b) lt h = tt
 after_less x y (Fork z low high) lt h = omega arith

@@ -2,7 +2,7 @@
 
 ghost use Rattle.std.specs.Prelude.{◌≡◌};
 ghost use Rattle.type_check.specs.Kind.{kind_of, asked_kind, written_kind, wrong_type};
-ghost use Rattle.type_check.specs.declared.fault.TypeFault.TheVariants.{Memory as Wanting};
+ghost use Rattle.type_check.specs.declared.fault.TypeFault.TheVariants.{Memory as OutOfMemory};
 
 use expr_types::wrong::Wrong;
 use tsl_value::memory::NoMemory;
@@ -82,7 +82,7 @@ pub enum TypeFault {
 }
 
 impl From<NoMemory> for TypeFault {
-    ghost from_gives = { λ _ f. f ≡ Wanting };
+    ghost from_gives = { λ _ f. f ≡ OutOfMemory };
 
     fn from(_error: NoMemory) -> TypeFault {
         TypeFault::Memory

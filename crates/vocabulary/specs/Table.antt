@@ -34,13 +34,13 @@ family_of n =
 -- keys and of entries.
 pub record Row : Type 0 where
   pub before : Family
-  pub behind : List ℕ
+  pub after : List ℕ
   pub takes : Parameters
   pub gives : Term
   pub is : Role
 
 abbrev row : Family → List ℕ → Parameters → Term → Role → Row
-row f n ps t r = record { before = f; behind = n; takes = ps; gives = t; is = r }
+row f n ps t r = record { before = f; after = n; takes = ps; gives = t; is = r }
 
 abbrev int : Term
 int = term.Scalar scalar_type.Int
@@ -76,7 +76,7 @@ abbrev pub family_in : Dotted → Family
 family_in d = (table d).before
 
 abbrev pub member_name : Dotted → List ℕ
-member_name d = (table d).behind
+member_name d = (table d).after
 
 abbrev pub parameters_of : Dotted → Parameters
 parameters_of d = (table d).takes

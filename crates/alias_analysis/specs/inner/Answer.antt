@@ -1,7 +1,7 @@
 -- What the questions for conflicts answer.
 use Rattle.std.specs.Prelude.{ℕ, List, Option, None, Some, MatchOption}
 use Rattle.flat_core.specs.System.{System}
-use Rattle.translation_order.specs.Order.{IsLeast}
+use Rattle.translation_order.specs.Least.{IsLeast}
 use Rattle.alias_rules.specs.Conflict.{IsInConflict, IsFirst, NoneKept, AllOverwritten, IsFirstKept, IsFirstNotOverwritten}
 use Rattle.alias_analysis.specs.declared.reason.Reason.{Reason}
 use Rattle.alias_analysis.specs.declared.reason.Reason.TheVariants as reason

@@ -1,7 +1,8 @@
 -- How deep calls nest, by edges that count and edges that do not.
 use Rattle.std.specs.Prelude.{◌≡◌, ℕ, suc, ◌≤◌, ◌<◌, ◌⊎◌, List, ◌∷◌, ◌++◌, length, min, Option, MatchOption, slice_index}
 use Rattle.std.specs.List.{Contains}
-use Rattle.translation_order.specs.OnCycle.{Edge, IsLeast}
+use Rattle.translation_order.specs.Least.{IsLeast}
+use Rattle.translation_order.specs.OnCycle.{Edge}
 use Rattle.definition_cycles.specs.declared.limits.TheConstants.{MOST_CALLS}
 
 -- so many edges of C lie on a path from a, besides edges of P

@@ -12,7 +12,7 @@ use Rattle.definition_cycles.specs.Calls.{Calls}
 -- each item is in the order, and what its definition calls stands before it
 pub record IsCallOrder (items : List tree.Item) (order : List ℕ) : Type 0 where
   pub all : (i : ℕ) → i < length items → Contains order i
-  pub behind : (front rest : List ℕ) (i j : ℕ) → order ≡ front ++ i ∷ rest → Calls items i j → Contains front j
+  pub called_first : (front rest : List ℕ) (i j : ℕ) → order ≡ front ++ i ∷ rest → Calls items i j → Contains front j
 
 -- a value function, by its parameters
 abbrev pub IsFunction : List tree.Item → ℕ → Type 0

@@ -214,8 +214,8 @@ module _ (counted : ℕ → ℕ) (at : Around) (call : ℕ → List Mark) where
   abbrev pub AreNumbered : ℕ → ℕ → tree.Definitions → List Stream → Type 0
   AreNumbered k n tree.no_definitions [] = Unit {0}
   AreNumbered k n (tree.more_definitions d ds) (s ∷ ss) =
-      let behind : ℕ = counted (n + length (body_marks at call (result_of (local_body d)))) in
-      (s.id ≡ behind - 1) × (at.kinds.local at.number k ≡ Some (expr_type.Stream s.of)) × AreNumbered (suc k) behind ds ss
+      let next : ℕ = counted (n + length (body_marks at call (result_of (local_body d)))) in
+      (s.id ≡ next - 1) × (at.kinds.local at.number k ≡ Some (expr_type.Stream s.of)) × AreNumbered (suc k) next ds ss
   AreNumbered k n ds ss = ⊥
 
 -- no further than one more than any system has

@@ -3,7 +3,7 @@ use Rattle.std.specs.Prelude.{◌≡◌, ℕ, List, ◌∷◌, ◌++◌, IsTrue}
 use Rattle.std.specs.List.{Contains}
 use Rattle.flat_core.specs.Complete.{IsFlat}
 use Rattle.flat_core.specs.System.{System}
-use Rattle.translation_order.specs.Order.{IsLeast}
+use Rattle.translation_order.specs.Least.{IsLeast}
 use Rattle.alias_rules.specs.Steps.{is_step, MustPrecede}
 use Rattle.register_code.specs.inner.Plan.{IsLeastPlanOrder}
 

@@ -114,8 +114,8 @@ IfRestMore _ P = ⊤
 
 -- Lines were appended to others: with them the reader has given all that stand, up to the line that is refused, or until memory ran out.
 pub record Gathers (new : Reader) (s : System) (strict : Bool) (limit : ℕ) (fed : List ℕ) (given : List Line) (ended : Bool)
-    (before behind : List Line) (result : Result Rest TraceFault) : Type 0 where
+    (before gathered : List Line) (result : Result Rest TraceFault) : Type 0 where
   pub added : List Line
-  pub grew : behind ≡ before ++ added
+  pub grew : gathered ≡ before ++ added
   pub reads : Reads new s strict limit fed (given ++ added) ended
   pub says : SaysRest (reading s strict limit fed ended) (given ++ added) ended result

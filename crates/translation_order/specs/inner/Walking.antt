@@ -2,7 +2,8 @@
 use Rattle.std.specs.Prelude.{◌≡◌, ℕ, ◌<◌, Bool, false, List, [], ◌∷◌, ◌++◌, length, eqb, Option, Some, None, unwrap_or, min, slice_index}
 use Rattle.std.specs.Prelude.{slice_index_or, MatchOption}
 use Rattle.std.specs.List.{IsDistinct, Contains, list_any}
-use Rattle.translation_order.specs.Order.{Before, IsLeast}
+use Rattle.translation_order.specs.Least.{IsLeast}
+use Rattle.translation_order.specs.Order.{Before}
 use Rattle.translation_order.specs.Cycle.{Through, IsTurned}
 
 -- a step that counts and has to stand before x

@@ -27,7 +27,7 @@ tree_at branches n = tree_in (trees_of branches) n
 abbrev pub IsNode : List Branch → ℕ → Type 0
 IsNode branches n = n < length branches + 2
 
--- a branch whose sides come before node n and behind its variable, and whose tree is that of the node
+-- a branch whose sides come before node n and after its variable, and whose tree is that of the node
 pub record IsSound (branches : List Branch) (n : ℕ) (b : Branch) : Type 0 where
   pub low : b.low < n
   pub high : b.high < n

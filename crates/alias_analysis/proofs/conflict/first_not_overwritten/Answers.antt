@@ -1,6 +1,6 @@
 use Rattle.std.proofs.Common.{◌≡◌, ℕ, ◌<◌, List, length, subst, arith}
 use Rattle.std.specs.Prelude.{MatchOption}
-use Rattle.translation_order.specs.Order.{IsLeast}
+use Rattle.translation_order.specs.Least.{IsLeast}
 use Rattle.alias_rules.specs.Conflict.{IsNotOverwritten}
 use Rattle.alias_analysis.proofs.Conflicts.{update_low, first_at, none_next, none_in_all}
 use Rattle.alias_analysis.proofs.conflict.first_not_overwritten.Goals as goal

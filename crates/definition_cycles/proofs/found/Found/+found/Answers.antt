@@ -16,19 +16,19 @@ add_block-add_definition-requires t c =
     let next = next_counted c.args.definitions.now c.loop-definition.definition-index c.definition-item.result (definition_of c.parts-parts.result.now) c.loop-definition-test.true c.definition-item.is c.parts-parts.ensures.is in
     (search rules, omega (arith, next, c.loop-definition.invariant.counted, c.requires))
 
-pub add_block-number_after-behind-requires : goal.add_block-number_after-behind-requires
-add_block-number_after-behind-requires t c =
+pub add_block-number_after-after-requires : goal.add_block-number_after-after-requires
+add_block-number_after-after-requires t c =
     let next = next_counted c.args.definitions.now c.loop-definition.definition-index c.definition-item.result (definition_of c.parts-parts.result.now) c.loop-definition-test.true c.definition-item.is c.parts-parts.ensures.is in
     omega (arith, next, c.loop-definition.invariant.counted, c.requires)
 
 pub add_block-loop-definition-preserved : goal.add_block-loop-definition-preserved
 add_block-loop-definition-preserved t c =
     let next = next_counted c.args.definitions.now c.loop-definition.definition-index c.definition-item.result (definition_of c.parts-parts.result.now) c.loop-definition-test.true c.definition-item.is c.parts-parts.ensures.is in record {
-      added = block_turn c.args.definitions.now c.loop-definition.definition-index c.definition-item.result (definition_of c.parts-parts.result.now) c.args.item c.loop-definition.number c.number_after-behind.result (seen c.args.scope.now) c.loop-definition.self c.add_definition.new.self _ c.loop-definition-test.true c.definition-item.is c.parts-parts.ensures.is
-          c.number_after-behind.ensures
+      added = block_turn c.args.definitions.now c.loop-definition.definition-index c.definition-item.result (definition_of c.parts-parts.result.now) c.args.item c.loop-definition.number c.number_after-after.result (seen c.args.scope.now) c.loop-definition.self c.add_definition.new.self _ c.loop-definition-test.true c.definition-item.is c.parts-parts.ensures.is
+          c.number_after-after.ensures
           c.loop-definition.invariant.added
           c.in_ok-add_definition.ensures;
-      counted = omega (arith, next, c.loop-definition.invariant.counted, c.number_after-behind.ensures);
+      counted = omega (arith, next, c.loop-definition.invariant.counted, c.number_after-after.ensures);
     }
 
 pub add_block-returns : goal.add_block-returns

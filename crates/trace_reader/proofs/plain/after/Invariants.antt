@@ -1,5 +1,5 @@
 use Rattle.std.proofs.Common.{◌≡◌, ◌++◌, take}
-use Rattle.trace_reader.proofs.plain.behind.Given as goal
+use Rattle.trace_reader.proofs.plain.after.Given as goal
 
 -- the bytes of the front so far, and what stands after them
 abbrev pub invariant-loop-byte : goal.invariant-loop-byte
