@@ -23,6 +23,7 @@ pub mod InstantOf
 pub mod DueTimes
 pub mod GapLemmas
 pub mod WholeLemmas
+pub mod PrintedInstant
 pub mod StepLemmas
 pub mod MonitorLemmas
 pub mod LawLemmas

@@ -1,5 +1,5 @@
-// The lines of events. Each is taken when its print comes, since a later update may change the cell; all are appended at the end, by
-// output.
+// The lines of events. Each is taken when its print comes, since a later update may change the cell. That of an only output is put at once
+// where all are wanted; else each output has a text, and all are appended at the end, by output.
 
 ghost use Rattle.std.specs.Prelude.{◌≡◌, ◌<◌, ◌++◌, length, slice_set, IfOk, OnOk, OnErr};
 ghost use Rattle.std.specs.List.{flat_map};
