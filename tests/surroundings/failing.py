@@ -54,7 +54,7 @@ def enough(room, check, name, trial, is_loaded_first):
             wanting += ended.status == 6
             in_a_row = in_a_row + 1 if has_enough else 0
         pages = numbers[-1] + 1
-    check.notes.append(f"{name}: answers from {answered} pages of 4 KiB on, wanting memory {wanting} times")
+    check.notes.append(f"{name}: answers from {answered} pages of 4 KiB on, out of memory {wanting} times")
     if not wanting:
         check.deviates(f"{name}: memory was never wanting")
 
@@ -124,7 +124,7 @@ def allocations(room, check, cases, words):
         list(room.pool.map(trial, [(number, all_after) for all_after in (0, 1) for number in tried]))
 
 
-# The calls that fail in turn, their error, how the start may then end (by failing, by wanting memory, or as if nothing was), and whether
+# The calls that fail in turn, their error, how the start may then end (by failing, by being out of memory, or as if nothing was), and whether
 # the library has to say what the loader's own calls are.
 FAILURES = [
     ("openat", "ENOENT", {5}, False),
