@@ -122,7 +122,7 @@ impl World for CalmWorld {
         ensures told { IsTrue (told_of self.new) → IsTrue (told_of self.old) }
         ensures journal { WhereTold (told_of self.new) (MatchResult result
             (λ n. journal_of self.new ≡ journal_of self.old ++ Did.Took slot (take n buf.new) ∷ [])
-            (λ _. journal_of self.new ≡ journal_of self.old)) }
+            (λ _. journal_of self.new ≡ journal_of self.old ++ Did.NotTook slot ∷ [])) }
         ensures bytes { WhereTold (told_of self.new) (IfOk result (λ n. left_of self.old slot ≡ take n buf.new ++ left_of self.new slot)) }
         ensures end { WhereTold (told_of self.new) (IfOk result (λ n. n ≡ 0 ↔ (left_of self.old slot ≡ []))) }
         ensures left { WhereTold (told_of self.new) (SameElsewhere slot (left_of self.old) (left_of self.new)) }
@@ -145,7 +145,7 @@ impl World for CalmWorld {
         ensures told { IsTrue (told_of self.new) → IsTrue (told_of self.old) }
         ensures journal { WhereTold (told_of self.new) (MatchResult result
             (λ n. journal_of self.new ≡ journal_of self.old ++ Did.Gave channel (take n bytes.now) ∷ [])
-            (λ _. journal_of self.new ≡ journal_of self.old)) }
+            (λ _. journal_of self.new ≡ journal_of self.old ++ Did.NotGave channel ∷ [])) }
         ensures left { WhereTold (told_of self.new) (left_of self.new ≡ left_of self.old) }
 
         ensures never { IsOk result }

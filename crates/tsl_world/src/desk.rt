@@ -375,4 +375,36 @@ impl Desk {
         let did = not_created(self.alloc, channel, name);
         note(&mut self.journal, &mut self.is_told, did);
     }
+
+    /// Notes a read that failed.
+    pub fn fail_read(&mut self, slot: Slot)
+        ensures standing { standing_in self.new ≡ standing_in self.old }
+        ensures told { IsTrue self.new.told → IsTrue self.old.told }
+        ensures journal { WhereTold self.new.told (self.new.journal ≡ self.old.journal ++ Did.NotTook slot ∷ []) }
+        ensures sources { self.new.sources ≡ self.old.sources }
+        ensures files { self.new.files ≡ self.old.files }
+        ensures made { self.new.pieces ≡ self.old.pieces }
+    {
+        note(
+            &mut self.journal,
+            &mut self.is_told,
+            Ok(Did::NotTook { slot }),
+        );
+    }
+
+    /// Notes a write that failed.
+    pub fn fail_write(&mut self, channel: Channel)
+        ensures standing { standing_in self.new ≡ standing_in self.old }
+        ensures told { IsTrue self.new.told → IsTrue self.old.told }
+        ensures journal { WhereTold self.new.told (self.new.journal ≡ self.old.journal ++ Did.NotGave channel ∷ []) }
+        ensures sources { self.new.sources ≡ self.old.sources }
+        ensures files { self.new.files ≡ self.old.files }
+        ensures made { self.new.pieces ≡ self.old.pieces }
+    {
+        note(
+            &mut self.journal,
+            &mut self.is_told,
+            Ok(Did::NotGave { channel }),
+        );
+    }
 }

@@ -92,6 +92,13 @@ impl MemoryWorld {
         self.desk.is_told()
     }
 
+    /// How many calls were made, those that failed among them. It stands at 2^64 - 1, its last value, once there.
+    pub fn calls(&self) -> u64
+        ensures { result ≡ next_of self.now }
+    {
+        self.calls
+    }
+
     /// What was written to `Out`, as far as it could be kept; the whole where told.
     pub fn out(&self) -> &[u8]
         ensures { IsTrue (told_of self.now) → result.now ≡ given Channel.Out (journal_of self.now) }
@@ -193,7 +200,7 @@ impl World for MemoryWorld {
         ensures told { IsTrue (told_of self.new) → IsTrue (told_of self.old) }
         ensures journal { WhereTold (told_of self.new) (MatchResult result
             (λ n. journal_of self.new ≡ journal_of self.old ++ Did.Took slot (take n buf.new) ∷ [])
-            (λ _. journal_of self.new ≡ journal_of self.old)) }
+            (λ _. journal_of self.new ≡ journal_of self.old ++ Did.NotTook slot ∷ [])) }
         ensures bytes { WhereTold (told_of self.new) (IfOk result (λ n. left_of self.old slot ≡ take n buf.new ++ left_of self.new slot)) }
         ensures end { WhereTold (told_of self.new) (IfOk result (λ n. n ≡ 0 ↔ (left_of self.old slot ≡ []))) }
         ensures left { WhereTold (told_of self.new) (SameElsewhere slot (left_of self.old) (left_of self.new)) }
@@ -209,6 +216,7 @@ impl World for MemoryWorld {
         let number = self.calls;
         if is_next_listed(&self.fails, &mut self.calls) {
             self.faults = self.faults.saturating_add(1);
+            self.desk.fail_read(slot);
             return Err(Failed);
         }
         Ok(self.desk.read(number, slot, buf))
@@ -224,7 +232,7 @@ impl World for MemoryWorld {
         ensures told { IsTrue (told_of self.new) → IsTrue (told_of self.old) }
         ensures journal { WhereTold (told_of self.new) (MatchResult result
             (λ n. journal_of self.new ≡ journal_of self.old ++ Did.Gave channel (take n bytes.now) ∷ [])
-            (λ _. journal_of self.new ≡ journal_of self.old)) }
+            (λ _. journal_of self.new ≡ journal_of self.old ++ Did.NotGave channel ∷ [])) }
         ensures left { WhereTold (told_of self.new) (left_of self.new ≡ left_of self.old) }
 
         ensures exactly { IsErr result ↔ Contains (fails_of self.old) (next_of self.old) }
@@ -237,6 +245,7 @@ impl World for MemoryWorld {
         if is_next_listed(&self.fails, &mut self.calls) {
             self.faults = self.faults.saturating_add(1);
             count_unheard(channel, &mut self.unheard);
+            self.desk.fail_write(channel);
             return Err(Failed);
         }
         Ok(self.desk.write(number, channel, bytes))

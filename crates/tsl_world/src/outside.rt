@@ -31,15 +31,17 @@ pub enum Channel {
 #[derive(Clone, Copy, Debug, PartialEq, Eq)]
 pub struct Failed;
 
-/// One entry of the journal: what a call did. A read or a write that failed makes none.
+/// One entry of the journal: what a call did, or that it failed.
 #[derive(Drop)]
 pub enum Did {
     Opened { slot: Slot, name: Text },
     Created { channel: Channel, name: Text },
-    NotOpened { slot: Slot, name: Text },
-    NotCreated { channel: Channel, name: Text },
     Took { slot: Slot, bytes: Bytes },
     Gave { channel: Channel, bytes: Bytes },
+    NotOpened { slot: Slot, name: Text },
+    NotCreated { channel: Channel, name: Text },
+    NotTook { slot: Slot },
+    NotGave { channel: Channel },
 }
 
 /// All contact with the outside.
@@ -48,7 +50,7 @@ pub enum Did {
 /// Misuse is excluded by the conditions, so it is no failure. What a call says of bytes and of the journal holds
 /// where the world is told when the call returns.
 pub trait World {
-    /// What the calls did, in order.
+    /// What the calls did, in order. Each call adds one entry, and so does one that fails.
     ghost journal: { Self → List Did };
 
     /// Whether the journal is told. It never turns from false to true.
@@ -66,7 +68,7 @@ pub trait World {
     /// How often a write to `Err` has failed. Each of these is counted among all failures too.
     ghost unheard: { Self → ℕ };
 
-    /// Opens what the name names for reading. The journal says so, and also where the opening failed.
+    /// Opens what the name names for reading.
     fn open(&mut self, slot: Slot, name: &str) -> Result<(), Failed>
         requires { is_open (standing self.old) slot ≡ false }
         ensures standing { standing self.new ≡ (if is_ok result then with_slot (standing self.old) slot else standing self.old) }
@@ -78,7 +80,7 @@ pub trait World {
         ensures left { WhereTold (told self.new) (SameElsewhere slot (left self.old) (left self.new)) }
         ensures failed { WhereTold (told self.new) (OnErr result (left self.new ≡ left self.old)) };
 
-    /// Makes a file to write. The journal says so, and also where that failed.
+    /// Makes a file to write.
     fn create(&mut self, channel: Channel, name: &str) -> Result<(), Failed>
         requires { is_writable (standing self.old) channel ≡ false }
         ensures standing { standing self.new ≡ (if is_ok result then with_channel (standing self.old) channel else standing self.old) }
@@ -101,7 +103,7 @@ pub trait World {
         ensures told { IsTrue (told self.new) → IsTrue (told self.old) }
         ensures journal { WhereTold (told self.new) (MatchResult result
             (λ n. journal self.new ≡ journal self.old ++ Did.Took slot (take n buf.new) ∷ [])
-            (λ _. journal self.new ≡ journal self.old)) }
+            (λ _. journal self.new ≡ journal self.old ++ Did.NotTook slot ∷ [])) }
         ensures bytes { WhereTold (told self.new) (IfOk result (λ n. left self.old slot ≡ take n buf.new ++ left self.new slot)) }
         ensures end { WhereTold (told self.new) (IfOk result (λ n. n ≡ 0 ↔ (left self.old slot ≡ []))) }
         ensures left { WhereTold (told self.new) (SameElsewhere slot (left self.old) (left self.new)) }
@@ -118,6 +120,6 @@ pub trait World {
         ensures told { IsTrue (told self.new) → IsTrue (told self.old) }
         ensures journal { WhereTold (told self.new) (MatchResult result
             (λ n. journal self.new ≡ journal self.old ++ Did.Gave channel (take n bytes.now) ∷ [])
-            (λ _. journal self.new ≡ journal self.old)) }
+            (λ _. journal self.new ≡ journal self.old ++ Did.NotGave channel ∷ [])) }
         ensures left { WhereTold (told self.new) (left self.new ≡ left self.old) };
 }
