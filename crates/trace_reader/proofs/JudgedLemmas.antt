@@ -42,12 +42,12 @@ only_input op.Input is = refl
 only_input _ is = absurd (cc)
 
 -- an equation that passes a test, at its place
-record IsFound (p : Equation → Bool) (es : List Equation) (from place : ℕ) : Type 0 where
-  after : ℕ
-  place_is : place ≡ from + after
-  at : Equation
-  is : slice_get es after ≡ Some at
-  passes : p at ≡ true
+pub record IsFound (p : Equation → Bool) (es : List Equation) (from place : ℕ) : Type 0 where
+  pub after : ℕ
+  pub place_is : place ≡ from + after
+  pub at : Equation
+  pub is : slice_get es after ≡ Some at
+  pub passes : p at ≡ true
 
 found_step : (p : Equation → Bool) (e : Equation) (es : List Equation) (from place : ℕ) (here : Bool) → p e ≡ here → (if here then Some from else position_from p (from + 1) es) ≡ Some place →
     (position_from p (from + 1) es ≡ Some place → IsFound p es (from + 1) place) → IsFound p (e ∷ es) from place
@@ -57,7 +57,7 @@ found_step p e es from place false passes is later =
     let it = later is in
     record { after = suc it.after; place_is = let at = it.place_is in omega arith; at = it.at; is = it.is; passes = it.passes }
 
-found : (p : Equation → Bool) (es : List Equation) (from place : ℕ) → position_from p from es ≡ Some place → IsFound p es from place
+pub found : (p : Equation → Bool) (es : List Equation) (from place : ℕ) → position_from p from es ≡ Some place → IsFound p es from place
 found p [] from place is = absurd (cc)
 found p (e ∷ es) from place is = found_step p e es from place (p e) refl is (found p es (from + 1) place)
 

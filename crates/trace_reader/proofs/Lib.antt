@@ -10,6 +10,7 @@ pub mod LineLemmas
 pub mod SeenLemmas
 pub mod FormLemmas
 pub mod SpellingLemmas
+pub mod InputLemmas
 pub mod SplitLemmas
 pub mod IntLemmas
 pub mod PlaceLemmas

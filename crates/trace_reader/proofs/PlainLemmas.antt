@@ -1,10 +1,11 @@
 -- Lines of the form in which most are written say what their parts say.
-use Rattle.std.proofs.Common.{◌≡◌, ◌≢◌, ◌==◌, ◌≤◌, ◌<◌, ◌^◌, ℕ, ◌+◌, ◌-◌, ◌*◌, pos, neg_ℤ, Bool, true, false, ◌&&◌, ◌||◌, not, List, [], ◌∷◌, ◌++◌, length, take, drop, nat_le, nat_lt, Option, Some, None, Ok, Err, IfSome, refl, sym, ap, subst, ◌∙◌, arith, append-nil, append_assoc, length-append}
+use Rattle.std.proofs.Common.{◌≡◌, ◌≢◌, ◌==◌, ◌≤◌, ◌<◌, ◌^◌, ℕ, ◌+◌, ◌-◌, ◌*◌, pos, neg_ℤ, Bool, true, false, ◌&&◌, ◌||◌, not, zero, suc, get_or, Result, List, [], ◌∷◌, ◌++◌, length, take, drop, nat_le, nat_lt, Option, Some, None, Ok, Err, IfSome, refl, sym, ap, subst, ◌∙◌, arith, append-nil, append_assoc, length-append}
 use Rattle.std.proofs.lemmas.Bool.{and_parts, ltb-false, leb-true, ne_eqb, le-leb, le-ltb, lt-ltb}
 use Rattle.std.proofs.lemmas.List.Folds.{list_all-append}
-use Rattle.std.specs.Prelude.{if◌then◌else◌, codes, slice_get}
+use Rattle.std.specs.Prelude.{if◌then◌else◌, codes}
 use Rattle.std.specs.Char.{digit_value, is_ascii_digit}
-use Rattle.std.specs.List.{list_all, position_from}
+use Rattle.std.specs.List.{list_all, position}
+use Rattle.std.proofs.lemmas.List.Quantifiers.{position-Some}
 use Rattle.std.specs.Option.{option_and_then, option_map, option_or}
 use Rattle.std.specs.Result.{result_ok}
 use Rattle.std.specs.Str.Parse.{AllDigits, digits_value}
@@ -12,24 +13,26 @@ use Rattle.std.proofs.lemmas.Int.Digits.{digits_value-lt, digits_value_push}
 use Rattle.std.proofs.lemmas.List.{length-drop, take-append-drop, take_all}
 use Rattle.std.proofs.Math.Nat.{pow-le-pow_right}
 use Rattle.std.proofs.Math.Seq.{drop-append_seam}
-use Rattle.std.proofs.lemmas.Slice.Eq.{bytes_eq-Decides}
 use Rattle.std.proofs.lemmas.Str.{digit_value_digit}
 use Rattle.std.proofs.lemmas.Option.{same_Some}
 use Rattle.tsl_value.specs.declared.scalar.Scalar.{Scalar}
 use Rattle.tsl_value.specs.declared.scalar.Scalar.TheVariants as scalar
+use Rattle.tsl_value.specs.declared.scalar.ScalarType.{ScalarType}
+use Rattle.tsl_value.specs.declared.scalar.ScalarType.TheVariants as scalar_type
+use Rattle.tsl_value.specs.declared.scalar.ValueType.TheVariants as value_type
 use Rattle.tsl_value.specs.declared.literal.LiteralFault.TheVariants.{BadLiteral, LiteralTooWide}
 use Rattle.tsl_value.specs.Literal.{are_digits, begins_with_minus, int_literal, is_int, literal}
 use Rattle.tsl_value.proofs.Digits.{are_digits-parts, is_int-neg, is_int-pos}
 use Rattle.tsl_value.proofs.Printed.{begins_with_minus-digits}
 use Rattle.flat_core.specs.declared.equation.Equation.{Equation}
-use Rattle.flat_core.specs.System.{System}
+use Rattle.flat_core.specs.System.{System, equation}
 use Rattle.flat_core.specs.Line.{Line}
 use Rattle.trace_reader.specs.declared.fault.TraceFault.TheVariants as fault
 use Rattle.trace_reader.specs.declared.plain.PlainLine.{PlainLine}
 use Rattle.trace_reader.specs.Form.{LineParts, content, is_blank, is_end_blank, is_long, is_name, parts_of, put_first, says_nothing, split_once, time_of, without_end, without_front}
-use Rattle.trace_reader.specs.inner.Plain.{BeginsWithInt, BeginsWithNumber, IsNumberInput, IsPlain, StandsPlain, begins_with_digit, is_of_int, plain}
+use Rattle.trace_reader.specs.inner.Plain.{BeginsWithInt, BeginsWithNumber, BeginsWithValue, HasPlainInput, IsPlain, IsPlainInput, IsPlainOf, StandsPlain, begins_with_digit, is_of_int, plain}
 use Rattle.trace_reader.specs.inner.Reader.{IsFirstLine, Reader, StopsAtLine, had_now, is_skipped, last_counts}
-use Rattle.trace_reader.specs.Reading.{addressed, alone, as_read, formed, input_called, is_among, is_input, is_called, is_input_called, judged, judged_content, placed, said, said_at, value_at, value_of}
+use Rattle.trace_reader.specs.Reading.{addressed, alone, as_read, formed, input_called, is_among, judged, judged_content, placed, said, said_at, value_at, value_of}
 use Rattle.trace_reader.specs.inner.Spelling.{HasForm, IsWhole}
 use Rattle.trace_reader.proofs.FormLemmas.{form_parts, form_says, says_digit, splits_off}
 use Rattle.trace_reader.proofs.NameLemmas.{is_inner, name_inner, name_spelled}
@@ -61,34 +64,19 @@ of_int_whole number some all = record {
   some = some;
 }
 
--- the first of a system's equations
-first_called : (name : List ℕ) (es : List Equation) (e : Equation) → slice_get es 0 ≡ Some e → is_input_called name e ≡ true → position_from (is_input_called name) 0 es ≡ Some 0
-first_called name [] e is passes = absurd (cc)
-first_called name (d ∷ es) e is passes =
-    let same : d ≡ e = cc in
-    ap (λ b. if b then Some 0 else position_from (is_input_called name) 1 es) (ap (is_input_called name) same ∙ passes)
+value_first : (s : System) (i : ℕ) (of : ScalarType) (name : List ℕ) → IsPlainInput s i of name → (value : List ℕ) (v : Scalar) → literal of value ≡ Ok v → value_at s i (Some value) ≡ Some v
+value_first s i of name it value v means =
+    ap (option_and_then (λ (e : Equation). value_of e.of (Some value))) it.is ∙ ap (λ t. value_of t (Some value)) it.input.typed ∙ ap result_ok means
 
-module _ (s : System) (name : List ℕ) (it : IsNumberInput s name) where
-  called_first : input_called s name ≡ Some 0
-  called_first =
-      let o = it.input.input in
-      let n = it.input.named in
-      first_called name s.equations it.at it.is ((λ k. is_input (o k) && is_called name (n k)) ∙ (bytes_eq-Decides name name).1 refl)
-
-  value_first : (number : List ℕ) (v : Scalar) → int_literal number ≡ Ok v → value_at s 0 (Some number) ≡ Some v
-  unfolding literal
-  value_first number v means =
-      ap (option_and_then (λ (e : Equation). value_of e.of (Some number))) it.is ∙ ap (λ t. value_of t (Some number)) it.input.of_numbers ∙ ap result_ok means
-
-module _ (name bytes : List ℕ) (p : PlainLine) (it : IsPlain name bytes p) (spelled : is_name name ≡ true) where
+module _ (of : ScalarType) (name bytes : List ℕ) (p : PlainLine) (it : IsPlain of name bytes p) (spelled : is_name name ≡ true) where
   abbrev line : List ℕ
-  line = plain it.time name it.number
+  line = plain it.time name it.value
 
   line_no_end : list_all no_end line ≡ true
   line_no_end =
       all_joined no_end it.time _ (without_mark is_ascii_digit it.time refl (are_digits-parts it.time it.digits).1)
       (all_joined no_end name _ (without_mark is_inner name refl (name_inner name (name_spelled name spelled)))
-      (without_mark is_of_int it.number refl it.all))
+      it.one_line)
 
   splits : split_once 10 bytes ≡ Some (line, it.rest)
   splits = ap (split_once 10) it.is ∙ splits_off no_end 10 refl line it.rest line_no_end
@@ -113,17 +101,17 @@ module _ (name bytes : List ℕ) (p : PlainLine) (it : IsPlain name bytes p) (sp
   plain_some = let at = is_split 10 bytes (line, it.rest) splits in let lt = at.within in omega arith
 
   abbrev parts : LineParts
-  parts = record { time = it.time; name = Some name; value = Some it.number }
+  parts = record { time = it.time; name = Some name; value = Some it.value }
 
   form : HasForm line parts
   form =
-      HasForm.valued [] it.time [] (32 ∷ []) name (32 ∷ []) (32 ∷ []) it.number [] refl it.digits refl refl (name_spelled name spelled) refl refl
-      (of_int_whole it.number (int_some it.number p.number it.means) it.all) refl
-      (ap (λ number. plain it.time name number) (sym (append-nil it.number))) refl
+      HasForm.valued [] it.time [] (32 ∷ []) name (32 ∷ []) (32 ∷ []) it.value [] refl it.digits refl refl (name_spelled name spelled) refl refl
+      it.whole refl
+      (ap (λ value. plain it.time name value) (sym (append-nil it.value))) refl
 
-  module _ (s : System) (strict : Bool) (had : ℕ → ℕ → Bool) (last n : ℕ) (input : IsNumberInput s name) (short : p.len ≤ MOST_LINE_BYTES) (later : last ≤ p.time) (new : had p.time 0 ≡ false) where
+  module _ (s : System) (strict : Bool) (had : ℕ → ℕ → Bool) (last n : ℕ) (input : IsPlainInput s p.input of name) (short : p.len ≤ MOST_LINE_BYTES) (later : last ≤ p.time) (new : had p.time p.input ≡ false) where
     abbrev event : Line
-    event = record { time = p.time; event = Some (0, p.number) }
+    event = record { time = p.time; event = Some (p.input, p.value) }
 
     time_is : time_of it.time ≡ Some p.time
     time_is =
@@ -133,9 +121,9 @@ module _ (name bytes : List ℕ) (p : PlainLine) (it : IsPlain name bytes p) (sp
     said_is : formed s strict had last n (Some parts) ≡ Ok event
     said_is =
         ap (said_at s strict had last n parts) time_is
-        ∙ ap (λ b. if b then Err (fault.TimeBack n last p.time) else said s strict had last n p.time (Some name) (Some it.number)) (le-ltb p.time last later)
-        ∙ ap (addressed s strict had last n p.time name (Some it.number)) (called_first s name input)
-        ∙ ap (placed s strict had last n p.time name 0) (value_first s name input it.number p.number it.means)
+        ∙ ap (λ b. if b then Err (fault.TimeBack n last p.time) else said s strict had last n p.time (Some name) (Some it.value)) (le-ltb p.time last later)
+        ∙ ap (addressed s strict had last n p.time name (Some it.value)) input.called
+        ∙ ap (placed s strict had last n p.time name p.input) (value_first s p.input of name input it.value p.value it.means)
         ∙ ap (λ b. if b then Err (fault.Twice n name) else Ok event) new
 
     pub judged_plain : judged s strict had last n line ≡ Ok (Some event)
@@ -146,27 +134,40 @@ module _ (name bytes : List ℕ) (p : PlainLine) (it : IsPlain name bytes p) (sp
         ∙ ap (λ o. as_read (formed s strict had last n o)) (form_parts line parts form)
         ∙ ap as_read said_is
 
+-- the input that was found has the name and the type that were read
+pub named_input : (s : System) (i : ℕ) (of : ScalarType) (name : List ℕ) → HasPlainInput s i → ((e : Equation) → equation s i ≡ Some e → e.name ≡ Some name) → ((e : Equation) → equation s i ≡ Some e → e.of ≡ value_type.Scalar of) → IsPlainInput s i of name
+named_input s i of name (type, found, it) named typed =
+    let e = it.at in
+    record {
+      at = e;
+      is = it.is;
+      input = record { input = it.input.input; typed = typed e it.is; named = named e it.is; spelled = ap is_name (sym (same_Some found name (sym it.input.named ∙ named e it.is))) ∙ it.input.spelled };
+      called = ap (input_called s) (sym (same_Some found name (sym it.input.named ∙ named e it.is))) ∙ it.called;
+    }
+
 -- no input had an event at a later time
 none_had : (last : ℕ) (seen : List ℕ) (t i : ℕ) → last < t → had_now last seen t i ≡ false
 none_had last seen t i later = let other : t ≡ last → ⊥ = λ same. omega arith in ap (λ b. b && is_among seen i) (ne_eqb t last other)
 
-stands_plain : (r : Reader) (name : List ℕ) (p : PlainLine) → IsPlain name r.unread p → IsNumberInput r.system name → is_long p.len ≡ false → r.last < p.time → StandsPlain r p
-stands_plain r name p it input short later =
+stands_plain : (r : Reader) (of : ScalarType) (name : List ℕ) (p : PlainLine) → IsPlain of name r.unread p → IsPlainInput r.system p.input of name → is_long p.len ≡ false → r.last < p.time → StandsPlain r p
+stands_plain r of name p it input short later =
     let spelled = input.input.spelled in
     record {
-      line = first_plain name r.unread p it spelled (last_counts r);
-      within = plain_within name r.unread p it spelled;
-      some = plain_some name r.unread p it spelled;
+      line = first_plain of name r.unread p it spelled (last_counts r);
+      within = plain_within of name r.unread p it spelled;
+      some = plain_some of name r.unread p it spelled;
       judged =
-          ap (judged r.system r.strict (had_now r.last r.seen) r.last (r.count + 1)) (taken name r.unread p it spelled)
-          ∙ judged_plain name r.unread p it spelled r.system r.strict (had_now r.last r.seen) r.last (r.count + 1) input (ltb-false MOST_LINE_BYTES p.len short) (omega arith)
-          (none_had r.last r.seen p.time 0 later);
+          ap (judged r.system r.strict (had_now r.last r.seen) r.last (r.count + 1)) (taken of name r.unread p it spelled)
+          ∙ judged_plain of name r.unread p it spelled r.system r.strict (had_now r.last r.seen) r.last (r.count + 1) input (ltb-false MOST_LINE_BYTES p.len short) (omega arith)
+          (none_had r.last r.seen p.time p.input later);
     }
 
-pub if_stands : (r : Reader) (name : List ℕ) (read : PlainLine) (o : Option PlainLine) → IsPlain name r.unread read → IsNumberInput r.system name →
+pub if_stands : (r : Reader) (read : PlainLine) (o : Option PlainLine) → IsPlainOf r.system r.unread read →
     IfSome o (λ (p : PlainLine). (p ≡ read) × (is_long p.len ≡ false) × (r.last < p.time)) → IfSome o (StandsPlain r)
-if_stands r name read None it input later = tt
-if_stands r name read (Some p) it input (same, short, later) = stands_plain r name p (subst (IsPlain name r.unread) (sym same) it) input short later
+if_stands r read None it later = tt
+if_stands r read (Some p) it (same, short, later) =
+    let is = subst (IsPlainOf r.system r.unread) (sym same) it in
+    stands_plain r is.of is.name p is.line is.input short later
 
 -- what begins with a digit is not skipped
 digit_says : (b : ℕ) (bytes : List ℕ) → is_ascii_digit b ≡ true → says_nothing (content (b ∷ bytes)) ≡ false
@@ -292,25 +293,59 @@ minus_read bytes number rest it small = record {
   is = ap (λ bs. 45 ∷ bs) it.is;
 }
 
+-- a number is such a value
+pub int_value : (bytes : List ℕ) (value : Scalar) (rest : List ℕ) → BeginsWithInt bytes value rest → BeginsWithValue scalar_type.Int bytes value rest
+unfolding literal
+int_value bytes value rest it = record {
+  written = it.written;
+  whole = of_int_whole it.written (int_some it.written value it.means) it.all;
+  one_line = without_mark is_of_int it.written refl it.all;
+  means = it.means;
+  is = it.is;
+}
+
+-- a literal up to the line's end is one as well
+none_marked : (k : ℕ) (bytes : List ℕ) → ((j : ℕ) → j < k → (get_or bytes j 0 == 10) ≡ false) → list_all no_end (take k bytes) ≡ true
+none_marked zero bytes none = refl
+none_marked (suc k) [] none = refl
+none_marked (suc k) (b ∷ bytes) none = λ i. not (none 0 (omega arith) i) && none_marked k bytes (λ j low. none (suc j) (omega arith)) i
+
+ok_of : {E : Type 0} (r : Result Scalar E) (value : Scalar) → Some value ≡ result_ok r → r ≡ Ok value
+ok_of (Ok v) value is = ap Ok (sym (same_Some value v is))
+ok_of (Err e) value is = absurd (cc)
+
+pub literal_value : (of : ScalarType) (bytes : List ℕ) (len : ℕ) (value : Scalar) → Some len ≡ position (λ b. b == 10) bytes → IsWhole (take len bytes) → Some value ≡ result_ok (literal of (take len bytes)) →
+    BeginsWithValue of bytes value (take (length bytes - len) (drop len bytes))
+literal_value of bytes len value at whole means =
+    let found = position-Some (λ b. b == 10) bytes len 0 (sym at) in
+    record {
+      written = take len bytes;
+      whole = whole;
+      one_line = none_marked len bytes found.2;
+      means = ok_of (literal of (take len bytes)) value means;
+      is = sym (ap (λ rest. take len bytes ++ rest) (take_all (length bytes - len) (drop len bytes) (let long = length-drop len bytes in omega arith)) ∙ take-append-drop len bytes);
+    }
+
 -- A whole line.
-pub line_read : (name bytes after rest end more : List ℕ) (time : ℕ) (number : Scalar) → BeginsWithNumber bytes time after → after ≡ codes ": " ++ (name ++ (codes " = " ++ rest)) → BeginsWithInt rest number end →
-    end ≡ codes "\n" ++ more → time < 2 ^ 63 → IsPlain name bytes (record { time = time; number = number; len = length bytes - length end })
-line_read name bytes after rest end more time number at named value ends small =
-    let whole : bytes ≡ plain at.digits name value.written ++ 10 ∷ more =
-    at.is ∙ ap (λ bs. at.digits ++ bs) (named ∙ ap (λ bs. codes ": " ++ (name ++ (codes " = " ++ bs))) (value.is ∙ ap (λ bs. value.written ++ bs) ends))
-    ∙ sym (append_assoc at.digits (codes ": " ++ (name ++ (codes " = " ++ value.written))) (10 ∷ more)
-    ∙ ap (λ bs. at.digits ++ (codes ": " ++ bs)) (append_assoc name (codes " = " ++ value.written) (10 ∷ more))) in
-    let both = ap length whole ∙ length-append (plain at.digits name value.written) (10 ∷ more) in
+pub line_read : (of : ScalarType) (name bytes after rest end more : List ℕ) (time input : ℕ) (value : Scalar) → BeginsWithNumber bytes time after → after ≡ codes ": " ++ (name ++ (codes " = " ++ rest)) → BeginsWithValue of rest value end →
+    end ≡ codes "\n" ++ more → time < 2 ^ 63 → IsPlain of name bytes (record { time = time; input = input; value = value; len = length bytes - length end })
+line_read of name bytes after rest end more time input value at named it ends small =
+    let whole : bytes ≡ plain at.digits name it.written ++ 10 ∷ more =
+    at.is ∙ ap (λ bs. at.digits ++ bs) (named ∙ ap (λ bs. codes ": " ++ (name ++ (codes " = " ++ bs))) (it.is ∙ ap (λ bs. it.written ++ bs) ends))
+    ∙ sym (append_assoc at.digits (codes ": " ++ (name ++ (codes " = " ++ it.written))) (10 ∷ more)
+    ∙ ap (λ bs. at.digits ++ (codes ": " ++ bs)) (append_assoc name (codes " = " ++ it.written) (10 ∷ more))) in
+    let both = ap length whole ∙ length-append (plain at.digits name it.written) (10 ∷ more) in
     let final = ap length ends in
     record {
       time = at.digits;
-      number = value.written;
+      value = it.written;
       rest = more;
       digits = at.are;
       time_is = at.value;
       small = small;
-      all = value.all;
-      means = value.means;
+      whole = it.whole;
+      one_line = it.one_line;
+      means = it.means;
       is = whole;
       len = omega arith;
     }

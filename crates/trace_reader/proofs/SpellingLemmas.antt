@@ -110,7 +110,7 @@ called_same : (name : List ℕ) (o : Option (List ℕ)) → is_called name o ≡
 called_same name None is = absurd (cc)
 called_same name (Some other) is = ap (λ bs. Some bs) (sym ((bytes_eq-Decides name other).0 is))
 
-input_named : (name : List ℕ) (e : Equation) → is_input_called name e ≡ true → IsInputNamed name e
+pub input_named : (name : List ℕ) (e : Equation) → is_input_called name e ≡ true → IsInputNamed name e
 input_named name e is =
     let parts = and_parts (is_input e.op) (is_called name e.name) is in
     record { input = only_input e.op parts.0; named = called_same name e.name parts.1 }

@@ -77,13 +77,13 @@ fn without_end_blanks(line: &[u8]) -> &[u8]
     rest
 }
 
-fn is_blank(byte: u8) -> bool
+pub(crate) fn is_blank(byte: u8) -> bool
     ensures { result ≡ is_blank byte }
 {
     byte == b' ' || byte == b'\t'
 }
 
-fn is_end_blank(byte: u8) -> bool
+pub(crate) fn is_end_blank(byte: u8) -> bool
     ensures { result ≡ is_end_blank byte }
 {
     is_blank(byte) || byte == b'\r'

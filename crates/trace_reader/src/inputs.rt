@@ -1,10 +1,13 @@
 // The inputs of a system, by their names.
 
 ghost use Rattle.std.specs.Prelude.{◌≡◌, ◌<◌, ℕ, List, [], Some, None, if◌then◌else◌, length, IfOk, IfSome, OnErr, OnOk};
+ghost use Rattle.flat_core.specs.declared.equation.Equation.{Equation};
+ghost use Rattle.tsl_value.specs.declared.scalar.ScalarType.{ScalarType};
+ghost use Rattle.tsl_value.specs.declared.scalar.ValueType.TheVariants as value_type;
 ghost use Rattle.std.specs.Option.{option_or};
 ghost use Rattle.flat_core.specs.System.{equation};
-ghost use Rattle.trace_reader.specs.inner.Places.{noted, place_in};
-ghost use Rattle.trace_reader.specs.inner.Plain.{IsInputOfNumbers, IsNumberInput};
+ghost use Rattle.trace_reader.specs.inner.Places.{IsTable, noted, place_in};
+ghost use Rattle.trace_reader.specs.inner.Plain.{ArePlainInputs, HasPlainInput, IsInputOf};
 ghost use Rattle.trace_reader.specs.Reading.{input_called, is_input_called};
 
 use crate::name::name_of;
@@ -96,39 +99,116 @@ impl Places {
 pub(crate) struct Inputs<'f> {
     flat: &'f Flat,
     places: Places,
-    // The name of the first equation, where that is an input of numbers and its name can stand in a trace.
-    number_input: Option<&'f [u8]>,
+    // Whether an input is in a slot.
+    has_plain: bool,
+    // The input that is in a slot, where it is the only one. Its name needs no slot then.
+    sole: Option<EqId>,
+    // Inputs of scalars whose names can stand in a trace, by their names' slots. Of several in one slot it has one.
+    slots: Vec<Option<EqId>>,
 }
 
-/// The name of an input of numbers, where it can stand in a trace.
-fn name_of_numbers(equation: &Equation) -> Option<&[u8]>
-    ensures { IfSome result (λ name. IsInputOfNumbers name.now equation.now) }
+/// How many slots the table of these inputs has.
+const SLOTS: usize = 4096;
+
+/// The slot of the name at the front, which a blank or the line's end ends. Of a long name the first bytes count.
+fn slot_of(bytes: &[u8]) -> usize {
+    let mut slot: usize = 0;
+    for byte in &bytes[..bytes.len().min(32)] {
+        if *byte <= b' ' {
+            break;
+        }
+        slot = slot.wrapping_mul(31).wrapping_add(usize::from(*byte));
+    }
+    slot % SLOTS
+}
+
+/// The name of an input of scalars, where it can stand in a trace. Units are left out: mostly they stand without a value.
+fn plain_name(equation: &Equation) -> Option<&str>
+    ensures { IfSome result (λ name. (of : ScalarType) × IsInputOf of name.now equation.now) }
 {
     match (&equation.op, equation.of, &equation.name) {
-        (Op::Input, ValueType::Scalar(ScalarType::Int), Some(name)) => {
-            Some(name_of(name.as_str().as_bytes())?.as_bytes())
-        }
+        (Op::Input, ValueType::Scalar(ScalarType::Unit), _) => None,
+        (Op::Input, ValueType::Scalar(_), Some(name)) => { name_of(name.as_str().as_bytes()) }
         _ => None,
     }
 }
 
-/// The name of the first equation, where that is an input of numbers and its name can stand in a trace.
-fn first_of_numbers(flat: &Flat) -> Option<&[u8]>
-    ensures { IfSome result (λ name. IsNumberInput flat.now name.now) }
+/// The slot of an equation, where it is the first input of its name, has scalars, and its name can stand in a trace.
+fn slot_of_input(flat: &Flat, places: &Places, id: EqId) -> Option<usize>
+    requires table { IsTable places.now flat.now }
+    requires there { id < length flat.now.equations }
+    ensures { IfSome result (λ _. HasPlainInput flat.now id) }
 {
-    if flat.count() == 0 {
-        return None;
+    let name = plain_name(flat.equation(id))?;
+    if places.find(name)? == id {
+        Some(slot_of(name.as_bytes()))
+    } else {
+        None
     }
-    name_of_numbers(flat.equation(EqId::new(0)))
+}
+
+/// Whether a system has such an input.
+fn has_plain(flat: &Flat, places: &Places) -> bool
+    requires { IsTable places.now flat.now }
+{
+    for number in 0..flat.count() {
+        if let Some(_) = slot_of_input(flat, places, EqId::new(number)) {
+            return true;
+        }
+    }
+    false
+}
+
+/// The only one of a system's inputs that is such.
+fn sole_of(flat: &Flat, places: &Places) -> Option<EqId>
+    requires { IsTable places.now flat.now }
+    ensures { IfSome result (HasPlainInput flat.now) }
+{
+    let mut sole = None;
+    for number in 0..flat.count() {
+        let id = EqId::new(number);
+        if let Some(_) = slot_of_input(flat, places, id) {
+            if sole.is_some() {
+                return None;
+            }
+            sole = Some(id);
+        }
+    }
+    sole
+}
+
+/// Puts an equation into its slot, if it is such an input.
+fn note_slot(flat: &Flat, places: &Places, id: EqId, slots: &mut Vec<Option<EqId>>)
+    requires table { IsTable places.now flat.now }
+    requires there { id < length flat.now.equations }
+    requires are { ArePlainInputs flat.now slots.old.items }
+    ensures { ArePlainInputs flat.now slots.new.items }
+{
+    match slot_of_input(flat, places, id) {
+        Some(slot) if slot < slots.len() => slots[slot] = Some(id),
+        _ => {}
+    }
+}
+
+/// The table of such inputs.
+fn slots_of(alloc: Global, flat: &Flat, places: &Places) -> Result<Vec<Option<EqId>>, NoMemory>
+    requires { IsTable places.now flat.now }
+    ensures { IfOk result (λ v. ArePlainInputs flat.now v.items) }
+{
+    let mut slots = vec![in alloc; None; SLOTS]?;
+    for number in 0..flat.count() {
+        note_slot(flat, places, EqId::new(number), &mut slots);
+    }
+    Ok(slots)
 }
 
 impl<'f> Model for Inputs<'f> {
     ghost use Rattle.lift_func.specs.contracts.body.Body as body;
     ghost use Rattle.std.specs.Coded.{codes};
     ghost use Rattle.flat_core.specs.System.{System};
-    ghost use Rattle.std.specs.Prelude.{IfSome};
     ghost use Rattle.trace_reader.specs.inner.Places.{IsTable};
-    ghost use Rattle.trace_reader.specs.inner.Plain.{IsNumberInput};
+    ghost use Rattle.std.specs.Prelude.{IfSome};
+    ghost use Rattle.trace_reader.specs.inner.Plain.{ArePlainInputs, HasPlainInput};
 
     ghost Value = { System };
 
@@ -136,7 +216,8 @@ impl<'f> Model for Inputs<'f> {
 
     ghost view = { λ i. i.flat.now };
 
-    ghost invariant = { λ i. IsTable i.places i.flat.now × IfSome i.number_input (λ name. IsNumberInput i.flat.now name.now) };
+    ghost invariant = { λ i. IsTable i.places i.flat.now × IfSome i.sole (HasPlainInput i.flat.now)
+        × ArePlainInputs i.flat.now i.slots.items };
 }
 
 impl<'f> Inputs<'f> {
@@ -149,18 +230,53 @@ impl<'f> Inputs<'f> {
             let id = EqId::new(number);
             places.note_input(flat.equation(id), id)?;
         }
+        let has_plain = has_plain(flat, &places);
+        let sole = sole_of(flat, &places);
+        let slots = slots_of(alloc, flat, &places)?;
         Ok(Inputs {
             flat,
             places,
-            number_input: first_of_numbers(flat),
+            has_plain,
+            sole,
+            slots,
         })
     }
 
-    /// The name of equation 0, if it is an input of numbers. `None` says nothing of it.
-    pub(crate) fn number_input(&self) -> Option<&[u8]>
-        ensures { IfSome result (λ name. IsNumberInput self.now name.now) }
+    /// Whether lines may be of the form in which most are written.
+    pub(crate) fn has_plain(&self) -> bool {
+        self.has_plain
+    }
+
+    /// An input of scalars whose name may be the one at the front. `None` says nothing of that name.
+    pub(crate) fn plain_input(&self, bytes: &[u8]) -> Option<EqId>
+        ensures { IfSome result (HasPlainInput self.now) }
     {
-        self.number_input
+        match self.sole {
+            Some(input) => Some(input),
+            None => *self.slots.get(slot_of(bytes))?,
+        }
+    }
+
+    /// The name of an equation.
+    pub(crate) fn name(&self, id: EqId) -> Option<&[u8]>
+        requires { id < length self.now.equations }
+        ensures { IfSome result (λ name. (e : Equation) → equation self.now id ≡ Some e → e.name ≡ Some name.now) }
+    {
+        match &self.flat.equation(id).name {
+            Some(name) => Some(name.as_str().as_bytes()),
+            None => None,
+        }
+    }
+
+    /// The type of an equation, where it is one of scalars.
+    pub(crate) fn type_of(&self, id: EqId) -> Option<ScalarType>
+        requires { id < length self.now.equations }
+        ensures { IfSome result (λ of. (e : Equation) → equation self.now id ≡ Some e → e.of ≡ value_type.Scalar of) }
+    {
+        match self.flat.equation(id).of {
+            ValueType::Scalar(of) => Some(of),
+            _ => None,
+        }
     }
 
     /// The first input of a name.

@@ -1,7 +1,7 @@
 // What holds of every reading of a trace, as the contracts of functions that do nothing.
 
 ghost use Rattle.trace_reader.specs.inner.Laws.{ClosedStays, EventsAreDistinct, LaterLinesAreLater, LinesAreProper, LinesAreSorted};
-ghost use Rattle.trace_reader.specs.inner.Laws.{LinesStay};
+ghost use Rattle.trace_reader.specs.inner.Laws.{LinesStay, OthersLeaveReading};
 ghost use Rattle.trace_reader.specs.inner.Laws.{RefusalStays, SpelledAgrees};
 
 /// The lines of a beginning of a trace are the first lines of the whole.
@@ -43,4 +43,9 @@ pub fn closed_stays()
 /// has it: blanks and comments, the three forms, names, values and the causes in their order.
 pub fn spelled_agrees()
     ensures { SpelledAgrees }
+{}
+
+/// Equations that are no inputs change nothing of what is read.
+pub fn others_leave_reading()
+    ensures { OthersLeaveReading }
 {}

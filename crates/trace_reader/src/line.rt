@@ -50,7 +50,11 @@ fn value_of(alloc: Global, of: ValueType, value: Option<&[u8]>) -> Result<Option
     }
 }
 
-fn literal_of(alloc: Global, bytes: &[u8], of: ScalarType) -> Result<Option<Scalar>, NoMemory>
+pub(crate) fn literal_of(
+    alloc: Global,
+    bytes: &[u8],
+    of: ScalarType,
+) -> Result<Option<Scalar>, NoMemory>
     ensures { IfOk result (λ v. v ≡ result_ok (literal of bytes.now)) }
 {
     if let Some(value) = small_literal(bytes, of) {

@@ -1,43 +1,106 @@
-// Lines of the form in which most are written: `TIME: NAME = NUMBER`, with one blank at each of these places and an end.
+// Lines of the form in which most are written: `TIME: NAME = VALUE` with one blank at each of these places and an end.
 
-ghost use Rattle.std.specs.Prelude.{◌≡◌, ◌++◌, ◌<◌, ◌^◌, codes, neg_ℤ, pos, IfSome};
+ghost use Rattle.std.specs.Prelude.{◌≡◌, ◌++◌, ◌<◌, ◌^◌, codes, neg_ℤ, pos, IfSome, IsTrue};
 ghost use Rattle.tsl_value.specs.declared.scalar.Scalar.TheVariants as scalar;
-ghost use Rattle.trace_reader.specs.inner.Plain.{BeginsWithInt, BeginsWithNumber, IsPlain};
+ghost use Rattle.trace_reader.specs.inner.Plain.{BeginsWithNumber, BeginsWithValue, IsPlainOf};
+ghost use Rattle.trace_reader.specs.inner.Spelling.{IsWhole};
+ghost use Rattle.tsl_value.specs.declared.scalar.ScalarType.TheVariants as scalar_type;
 
-use tsl_value::scalar::Scalar;
+use crate::form::{is_blank, is_end_blank, place_of};
+use crate::inputs::Inputs;
+use crate::line::literal_of;
+use std::alloc::Global;
+use tsl_value::ids::EqId;
+use tsl_value::scalar::{Scalar, ScalarType};
 use tsl_value::time::Time;
 
 /// So many digits spell a number below 2^63.
 const MAX_DIGITS: usize = 18;
 
-/// The time and the number of a line, and how many bytes it has, its end not counted.
+/// The time, the input and the value of a line, and how many bytes it has, its end not counted.
 #[derive(Drop)]
 pub(crate) struct PlainLine {
     pub(crate) time: Time,
-    pub(crate) number: Scalar,
+    pub(crate) input: EqId,
+    pub(crate) value: Scalar,
     pub(crate) len: usize,
 }
 
-/// The line at the front, where it is of this form and has this name. `None` says nothing of it.
-pub(crate) fn plain_line(bytes: &[u8], name: &[u8]) -> Option<PlainLine>
-    ensures { IfSome result (IsPlain name.now bytes.now) }
+/// The line at the front, where it is of this form and has the name of an input. `None` says nothing of it.
+pub(crate) fn plain_line(alloc: Global, inputs: &Inputs<'_>, bytes: &[u8]) -> Option<PlainLine>
+    ensures { IfSome result (IsPlainOf inputs.now bytes.now) }
 {
+    if !inputs.has_plain() {
+        return None;
+    }
     let (digits, after_time) = number_before(bytes)?;
     let time = Time::new(digits)?;
-    let (number, end) = int_before(after_name(after_time, name)?)?;
+    let named = after_colon(after_time)?;
+    let input = inputs.plain_input(named)?;
+    let name = inputs.name(input)?;
+    let of = inputs.type_of(input)?;
+    let (value, end) = value_before(alloc, of, after_name(named, name)?)?;
     let _next = after(end, b"\n")?;
     let len = bytes.len() - end.len();
-    Some(PlainLine { time, number, len })
+    Some(PlainLine {
+        time,
+        input,
+        value,
+        len,
+    })
 }
 
-/// What stands after `: NAME = `.
-fn after_name<'a>(bytes: &'a [u8], name: &[u8]) -> Option<&'a [u8]>
-    ensures { IfSome result (λ r. bytes.now ≡ codes ": " ++ (name.now ++ (codes " = " ++ r.now))) }
+/// The value of a type at the front, and what stands after it.
+fn value_before(alloc: Global, of: ScalarType, bytes: &[u8]) -> Option<(Scalar, &[u8])>
+    ensures { IfSome result (λ r. BeginsWithValue of bytes.now r.0 r.1.now) }
 {
-    let [b':', b' ', rest @ ..] = bytes else {
+    match of {
+        ScalarType::Int => int_before(bytes),
+        _ => literal_before(alloc, of, bytes),
+    }
+}
+
+/// The literal that goes up to the line's end, and what stands after it. Out of memory it is `None` too, and is asked again where the line is
+/// judged.
+fn literal_before(alloc: Global, of: ScalarType, bytes: &[u8]) -> Option<(Scalar, &[u8])>
+    ensures { IfSome result (λ r. BeginsWithValue of bytes.now r.0 r.1.now) }
+{
+    let len = place_of(bytes, b'\n')?;
+    let written = &bytes[..len];
+    if !is_whole(written) {
         return None;
-    };
-    match after(rest, name)? {
+    }
+    match literal_of(alloc, written, of) {
+        Ok(Some(value)) => Some((value, &bytes[len..])),
+        _ => None,
+    }
+}
+
+/// No blank stands at the front or at the end.
+fn is_whole(bytes: &[u8]) -> bool
+    ensures { IsTrue result → IsWhole bytes.now }
+{
+    match (bytes.first(), bytes.last()) {
+        (Some(first), Some(last)) => !is_blank(*first) && !is_end_blank(*last),
+        _ => false,
+    }
+}
+
+/// What stands after `: `.
+fn after_colon(bytes: &[u8]) -> Option<&[u8]>
+    ensures { IfSome result (λ r. bytes.now ≡ codes ": " ++ r.now) }
+{
+    match bytes {
+        [b':', b' ', rest @ ..] => Some(rest),
+        _ => None,
+    }
+}
+
+/// What stands after `NAME = `.
+fn after_name<'a>(bytes: &'a [u8], name: &[u8]) -> Option<&'a [u8]>
+    ensures { IfSome result (λ r. bytes.now ≡ name.now ++ (codes " = " ++ r.now)) }
+{
+    match after(bytes, name)? {
         [b' ', b'=', b' ', rest @ ..] => Some(rest),
         _ => None,
     }
@@ -60,7 +123,7 @@ fn after<'a>(bytes: &'a [u8], front: &[u8]) -> Option<&'a [u8]>
 
 /// The number that digits at the front spell, with a minus or nothing before them, and what stands after them.
 fn int_before(bytes: &[u8]) -> Option<(Scalar, &[u8])>
-    ensures { IfSome result (λ r. BeginsWithInt bytes.now r.0 r.1.now) }
+    ensures { IfSome result (λ r. BeginsWithValue scalar_type.Int bytes.now r.0 r.1.now) }
 {
     match after(bytes, b"-") {
         Some(digits) => {

@@ -179,8 +179,7 @@ impl<'f> TraceReader<'f> {
     fn plain_next(&self) -> Option<PlainLine>
         ensures { IfSome result (StandsPlain self.now) }
     {
-        let name = self.inputs.number_input()?;
-        let line = plain_line(self.unread.as_slice(), name)?;
+        let line = plain_line(self.alloc, &self.inputs, self.unread.as_slice())?;
         if_later(line, self.last)
     }
 
@@ -191,7 +190,7 @@ impl<'f> TraceReader<'f> {
     {
         let line = TraceLine {
             time: plain.time,
-            event: Some((EqId::new(0), plain.number)),
+            event: Some((plain.input, plain.value)),
         };
         self.pass_line(plain.len, &line)?;
         Ok(Next::Line(line))

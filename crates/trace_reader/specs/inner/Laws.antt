@@ -1,5 +1,5 @@
 -- What holds of every reading.
-use Rattle.std.specs.Prelude.{◌≡◌, ◌≤◌, ◌<◌, ◌^◌, ◌↔◌, ◌++◌, ℕ, Bool, false, List, [], ◌∷◌, length, Option, Some, Result, IsTrue}
+use Rattle.std.specs.Prelude.{◌≡◌, ◌≢◌, ◌≤◌, ◌<◌, ◌^◌, ◌↔◌, ◌++◌, ℕ, Bool, false, List, [], ◌∷◌, length, Option, Some, Result, IsTrue}
 use Rattle.std.specs.List.{AllByRecursion}
 use Rattle.tsl_value.specs.declared.scalar.Scalar.{Scalar}
 use Rattle.tsl_value.specs.declared.scalar.Scalar.TheVariants as scalar
@@ -88,3 +88,11 @@ abbrev pub SpelledAgrees : Type 0
 SpelledAgrees =
     (s : System) (strict : Bool) (before : List Line) (n : ℕ) (line : List ℕ) (answer : Result (Option Line) TraceFault) →
     (judged s strict (had_event before) (last_time before) n line ≡ answer) ↔ SpellsLine s strict before n line answer
+
+-- Equations after those of a system that are no inputs change nothing of what is read.
+abbrev pub OthersLeaveReading : Type 0
+OthersLeaveReading =
+    (s t : System) (others : List Equation) (strict : Bool) (limit : ℕ) (bytes : List ℕ) (ended : Bool) →
+    t.equations ≡ s.equations ++ others →
+    AllByRecursion (λ (e : Equation). e.op ≢ op.Input) others →
+    reading t strict limit bytes ended ≡ reading s strict limit bytes ended

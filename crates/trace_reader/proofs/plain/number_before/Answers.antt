@@ -1,4 +1,4 @@
-use Rattle.std.proofs.Common.{arith, take, length, ◌≤◌, ◌+◌, ◌≡◌, ◌<◌, ◌^◌, ◌∙◌, ap, refl, sym}
+use Rattle.std.proofs.Common.{arith, take, length, ◌∙◌, ap, refl, sym}
 use Rattle.std.proofs.lemmas.List.{length-take}
 use Rattle.trace_reader.proofs.PlainLemmas.{digit_is, few_read, number_after, one_read}
 use Rattle.trace_reader.proofs.plain.number_before.Goals as goal

@@ -4,4 +4,4 @@ use Rattle.trace_reader.proofs.reader.TraceReader.plain_next.Goals as goal
 pub returns : goal.returns
 returns c =
     let line = rw c.as_slice.ensures at c.in_ok-line.ensures in
-    rw (← c.self.view_is) (if_stands _ c.in_ok-name.name.now c.in_ok-line.line c.if_later.result line c.in_ok-name.ensures c.if_later.ensures)
+    rw (← c.self.view_is) (if_stands _ c.in_ok-line.line c.if_later.result line c.if_later.ensures)
