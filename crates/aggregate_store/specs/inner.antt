@@ -1,3 +1,4 @@
 pub mod Stored
 pub mod CellView
 pub mod Keys
+pub mod Slots

@@ -9,7 +9,7 @@ ghost use Rattle.aggregate_store.specs.inner.Stored.{FitsValue, IsAggregate, cou
 
 use crate::cell::Cell;
 use crate::print::print_cell;
-use crate::slots::{count, drop_others, free_from};
+use crate::slots::{add_note, count, drop_others, free_from};
 use lift_func::reader::Reader;
 use std::alloc::Global;
 use std::marker::Model;
@@ -27,6 +27,8 @@ pub struct Store {
     slots: Vec<Option<Cell>>,
     // Where the next free slot is looked for. Those before it may be free too.
     start: usize,
+    // For each slot where its handle stood in the list of cells that were kept last, if it did.
+    notes: Vec<usize>,
     ledger: Vec<u64>,
 }
 
@@ -54,6 +56,7 @@ impl Store {
             alloc,
             slots: Vec::new(alloc),
             start: 0,
+            notes: Vec::new(alloc),
             ledger,
         })
     }
@@ -169,7 +172,7 @@ impl Store {
     pub fn keep_only(&mut self, cells: &[Handle])
         ensures { self.new ≡ record self.old { cells = finite_map.retain_keys self.old.cells (is_listed cells.now) } }
     {
-        drop_others(cells, &mut self.slots);
+        drop_others(cells, &mut self.notes, &mut self.slots);
         self.start = 0;
     }
 
@@ -206,6 +209,7 @@ impl Store {
         ensures err { OnErr result (self.new ≡ self.old) }
     {
         let place = free_from(self.start, &self.slots);
+        add_note(place, &mut self.notes)?;
         if place < self.slots.len() {
             self.slots[place] = Some(cell);
         } else {

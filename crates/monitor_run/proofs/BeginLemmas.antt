@@ -1,6 +1,14 @@
 -- How an instant begins.
-use Rattle.std.proofs.Common.{◌≡◌, ◌==◌, ℕ, ◌<◌, Bool, true, false, ◌&&◌, cond, List, [], ◌∷◌, ◌++◌, length, set, Option, Some, None, refl, sym, ap, subst, ◌∙◌, append_assoc, inl, inr, arith}
-use Rattle.std.proofs.lemmas.Bool.{cases_Bool, cases_lt, eq-eqb, eqb-true, eqb-false, ne_eqb}
+use Rattle.std.proofs.Common.{◌≡◌, ◌==◌, ℕ, ◌+◌, ◌<◌, Bool, true, false, ◌&&◌, ◌||◌, cond, List, [], ◌∷◌, ◌++◌, length, set, get_or, take, Option, Some, None, refl, sym, ap, subst, ◌∙◌, append_assoc, inl, inr, arith}
+use Rattle.std.proofs.lemmas.Bool.{cases_Bool, cases_lt, eq-eqb, eqb-true, eqb-false, false≢true, ne_eqb, or_cases, or_left, or_parts, or_right}
+use Rattle.std.proofs.lemmas.List.Elements.{All-from_recursion}
+use Rattle.std.proofs.lemmas.List.Folds.{list_any_more}
+use Rattle.std.proofs.Math.Bool.{or-false, or_assoc}
+use Rattle.std.specs.List.{All}
+use Rattle.agenda.specs.inner.Marks.{has_mark}
+use Rattle.step_uses.specs.Uses.{row}
+use Rattle.flat_core.specs.Members.{is_in}
+use Rattle.flat_core.proofs.Members.{all_from, in-Contains}
 use Rattle.std.proofs.Common.{length-set}
 use Rattle.std.proofs.lemmas.List.{get_or-set_same, get_or-set_other}
 use Rattle.std.specs.Prelude.{◌≢◌, ◌⊎◌, ◌-◌, if◌then◌else◌, is_some, slice_get}
@@ -19,6 +27,7 @@ use Rattle.flat_core.specs.Pending.{option_is}
 use Rattle.monitor_run.specs.inner.Given.{AreAt, AreThere, IsThere}
 use Rattle.monitor_run.specs.inner.Instant.{moved_in, with_event}
 use Rattle.monitor_run.specs.inner.Registers.{register_at}
+use Rattle.monitor_run.specs.inner.Visits.{AreFilled, AreMarked, AreWithin}
 
 -- ---- delays that are due
 
@@ -158,3 +167,33 @@ given_other (x ∷ given) at time l all is ne i = none_at at time (x ∷ given) 
   where
     first_line : (a b : Line) → Some a ≡ Some b → a ≡ b
     first_line a b p = cc
+
+-- ---- what is filled
+pub in_more : (xs : List ℕ) (n i : ℕ) → is_in (xs ++ n ∷ []) i ≡ (is_in xs i || (n == i))
+in_more [] n i = or-false (n == i)
+in_more (x ∷ xs) n i = (λ k. (x == i) || in_more xs n i k) ∙ sym (or_assoc (x == i) (is_in xs i) (n == i))
+
+-- a register that is put is listed
+pub filled_put : (filled : List ℕ) (registers : List Register) (i : ℕ) (r : Register) → i < length registers → AreFilled filled registers → AreFilled (filled ++ i ∷ []) (set registers i r)
+filled_put filled registers i r there f = record {
+  known = λ j listed. let size = length-set registers i r in elim (or_cases (is_in filled j) (i == j) (sym (in_more filled i j) ∙ listed)) [
+    | inl was ↦ let lt = f.known j was in omega arith
+    | inr here ↦ let same = eqb-true i j here in omega arith
+  ];
+  rest = λ j none.
+      let two = or_parts (is_in filled j) (i == j) (sym (in_more filled i j) ∙ none) in
+      get_or-set_other registers i j r register.Empty (λ same. eqb-false i j two.1 (sym same)) ∙ f.rest j two.0;
+}
+
+pub none_filled : (registers : List Register) → ((i : ℕ) → register_at registers i ≡ register.Empty) → AreFilled [] registers
+none_filled registers blank = record { known = λ i listed. absurd (false≢true listed); rest = λ i none. blank i }
+
+-- ---- marks of what uses it
+pub all_within : (rows : List (List ℕ)) (n a : ℕ) → AreWithin rows n → All (λ p. p < n) (row rows a)
+all_within rows n a within = All-from_recursion (λ p. p < n) (row rows a) (all_from (λ p. p < n) (row rows a) (λ p there. within a p (in-Contains (row rows a) p there)))
+
+pub marked_more : (rows : List (List ℕ)) (filled : List ℕ) (k d : ℕ) (old new : List Bool) → k < length filled → d ≡ get_or filled k 0 → AreMarked rows (take k filled) old → ((p : ℕ) → has_mark new p ≡ (has_mark old p || is_in (row rows d) p)) → AreMarked rows (take (k + 1) filled) new
+marked_more rows filled k d old new lt is before marked a p listed user = marked p ∙ elim (or_cases (is_in (take k filled) a) (get_or filled k 0 == a) (sym (list_any_more (λ j. j == a) filled k 0 lt) ∙ listed)) [
+  | inl was ↦ or_left (has_mark old p) (is_in (row rows d) p) (before a p was user)
+  | inr here ↦ or_right (has_mark old p) (is_in (row rows d) p) (subst (λ j. is_in (row rows j) p ≡ true) (sym (is ∙ eqb-true (get_or filled k 0) a here)) user)
+]

@@ -1,8 +1,16 @@
 -- The delays of a system.
-use Rattle.std.proofs.Common.{◌≡◌, ◌==◌, ℕ, zero, suc, ◌+◌, ◌<◌, ◌≤◌, Bool, true, false, ◌||◌, List, [], ◌∷◌, length, get_or, map, take, Option, Some, None, refl, sym, ap, subst, ◌∙◌, inl, inr, arith}
-use Rattle.std.proofs.lemmas.Bool.{cases_Bool, eqb-true, eqb-false, and_parts}
+use Rattle.std.proofs.Common.{◌≡◌, ◌==◌, ℕ, zero, suc, ◌+◌, ◌<◌, ◌≤◌, Bool, true, false, ◌&&◌, ◌||◌, List, [], ◌∷◌, length, get_or, map, take, Option, Some, None, refl, sym, ap, subst, ◌∙◌, inl, inr, arith}
+use Rattle.std.proofs.lemmas.Bool.{cases_Bool, eq-eqb, eqb-true, eqb-false, and_parts, false≢true, or_cases, or_left, or_right}
+use Rattle.std.proofs.lemmas.List.Elements.{All-from_recursion}
+use Rattle.std.specs.List.{All, flat_map}
+use Rattle.lift_func.specs.declared.register.Register.TheVariants as register
+use Rattle.program_text.specs.Text.{numbers}
+use Rattle.flat_core.proofs.Members.{all_from, in-Contains}
+use Rattle.flat_core.proofs.Rising.{in_filter}
+use Rattle.step_uses.specs.Uses.{args_at, is_of_delay, row}
+use Rattle.monitor_run.specs.inner.Visits.{AreDelays, AreFilled}
 use Rattle.std.proofs.Math.Bool.{or-false, or-true}
-use Rattle.std.proofs.lemmas.List.Folds.{list_any_more}
+use Rattle.std.proofs.lemmas.List.Folds.{list_any-append, list_any_more}
 use Rattle.std.proofs.lemmas.Option.{slice_get_within}
 use Rattle.std.specs.Prelude.{◌≢◌, if◌then◌else◌, is_some, IsTrue, slice_index}
 use Rattle.std.specs.Option.{option_map}
@@ -19,7 +27,7 @@ use Rattle.flat_core.specs.Instant.{is_delay}
 use Rattle.flat_core.specs.Members.{is_in}
 use Rattle.flat_core.specs.Pending.{reached}
 use Rattle.flat_core.specs.System.{System, equation, runs}
-use Rattle.register_code.specs.Code.{is_timer}
+use Rattle.register_code.specs.Code.{is_timer, timers_of}
 use Rattle.monitor_run.specs.declared.run.Root.{Root}
 use Rattle.register_machine.specs.Stands.{in_time}
 use Rattle.flat_core.specs.inner.Arity.{HasArity}
@@ -127,3 +135,99 @@ take_whole [] zero le = refl
 take_whole [] (suc m) le = refl
 take_whole (x ∷ xs) zero le = absurd (omega arith)
 take_whole (x ∷ xs) (suc m) le = ap (λ l. x ∷ l) (take_whole xs m (omega arith))
+
+-- ---- the delays that what was filled may set
+module _ (s : System) (whole : IsFlat s) (rows : List (List ℕ)) (are : AreDelays s rows) (filled : List ℕ) (registers : List Register) (f : AreFilled filled registers) (each : length registers ≡ length s.equations) (delays : List ℕ) (is : delays ≡ flat_map (row rows) filled) where
+  in_flat : (xs : List ℕ) (a d : ℕ) → is_in xs a ≡ true → is_in (row rows a) d ≡ true → is_in (flat_map (row rows) xs) d ≡ true
+  in_flat [] a d listed there = absurd (false≢true listed)
+  in_flat (x ∷ xs) a d listed there = list_any-append (λ j. j == d) (row rows x) (flat_map (row rows) xs) ∙ elim (or_cases (x == a) (is_in xs a) listed) [
+    | inl here ↦ or_left (is_in (row rows x) d) (is_in (flat_map (row rows) xs) d) (ap (λ j. is_in (row rows j) d) (eqb-true x a here) ∙ there)
+    | inr later ↦ or_right (is_in (row rows x) d) (is_in (flat_map (row rows) xs) d) (in_flat xs a d later there)
+  ]
+
+  from_flat : (xs : List ℕ) (d : ℕ) → is_in (flat_map (row rows) xs) d ≡ true → (a : ℕ) × (is_in xs a ≡ true) × (is_in (row rows a) d ≡ true)
+  from_flat [] d listed = absurd (false≢true listed)
+  from_flat (x ∷ xs) d listed = elim (or_cases (is_in (row rows x) d) (is_in (flat_map (row rows) xs) d) (sym (list_any-append (λ j. j == d) (row rows x) (flat_map (row rows) xs)) ∙ listed)) [
+    | inl here ↦ (x, or_left (x == x) (is_in xs x) (eq-eqb x x refl), here)
+    | inr later ↦ let found = from_flat xs d later in (found.0, or_right (x == found.0) (is_in xs found.0) found.1, found.2)
+  ]
+
+  within : (a : ℕ) → is_in filled a ≡ true → a < length s.equations
+  within a listed = let lt = f.known a listed in omega arith
+
+  pub listed_delay : (d : ℕ) → is_in delays d ≡ true → IsTrue (is_timer s d)
+  listed_delay d listed =
+      let found = from_flat filled d (sym (ap (λ xs. is_in xs d) is) ∙ listed) in
+      let parts = and_parts (is_in (timers_of s) d) (is_of_delay s d found.0) (sym (are found.0 d (within found.0 found.1)) ∙ found.2) in
+      (and_parts (is_timer s d) (is_in (numbers s) d) (sym (in_filter (is_timer s) (numbers s) d) ∙ parts.0)).0
+
+  pub all_listed : All (λ i. IsTrue (is_timer s i)) delays
+  all_listed = All-from_recursion (λ i. IsTrue (is_timer s i)) delays (all_from (λ i. IsTrue (is_timer s i)) delays (λ i there. listed_delay i (in-Contains delays i there)))
+
+  -- nothing has come of what a delay that is not listed waits for
+  nothing : (d : ℕ) → is_in (timers_of s) d ≡ true → is_in delays d ≡ false → (a : ℕ) → is_of_delay s d a ≡ true → register_at registers a ≡ register.Empty
+  nothing d timer unlisted a of = elim (cases_Bool (is_in filled a)) [
+    | inl listed ↦
+        let there : is_in (row rows a) d ≡ true = are a d (within a listed) ∙ (λ k. timer k && of k) in
+        absurd (false≢true (sym unlisted ∙ ap (λ xs. is_in xs d) is ∙ in_flat filled a d listed there))
+    | inr not_listed ↦ f.rest a not_listed
+  ]
+
+  module _ (c : Cells) where
+    unlisted_refusal : (i : ℕ) → is_in (timers_of s) i ≡ true → is_in delays i ≡ false → refusal_of (equation s i) c registers ≡ None
+    unlisted_refusal i timer unlisted = from (equation s i) refl
+      where
+        from : (o : Option Equation) → equation s i ≡ o → refusal_of (equation s i) c registers ≡ None
+        from None at = λ k. refusal_of (at k) c registers
+        from (Some e) at = (λ k. refusal_of (at k) c registers) ∙ by_args e.args (λ a is_arg. nothing i timer unlisted a (or_right (i == a) (is_in (args_at (equation s i)) a) (ap (λ q. is_in (args_at q) a) at ∙ is_arg)))
+          where
+            by_args : (args : List ℕ) → ((a : ℕ) → is_in args a ≡ true → register_at registers a ≡ register.Empty) → refused (first_of (map (value_at c registers) args)) ≡ None
+            by_args [] blank = refl
+            by_args (a ∷ args) blank = λ k. refused (held c (blank a (or_left (a == a) (is_in args a) (eq-eqb a a refl)) k))
+
+    pub refused_wider : (r : Option Root) → IsLeastRoot (is_in delays) (λ i. refusal_of (equation s i) c registers) r → IsLeastRoot (is_in (timers_of s)) (λ i. refusal_of (equation s i) c registers) r
+    refused_wider None least = λ i timer. elim (cases_Bool (is_in delays i)) [
+      | inl listed ↦ least i listed
+      | inr unlisted ↦ unlisted_refusal i timer unlisted
+    ]
+    refused_wider (Some r) least = (
+      wide r.equation least.0,
+      least.1,
+      λ i timer lt. elim (cases_Bool (is_in delays i)) [
+        | inl listed ↦ least.2 i listed lt
+        | inr unlisted ↦ unlisted_refusal i timer unlisted
+      ],
+    )
+      where
+        wide : (d : ℕ) → is_in delays d ≡ true → is_in (timers_of s) d ≡ true
+        wide d listed =
+            let found = from_flat filled d (sym (ap (λ xs. is_in xs d) is) ∙ listed) in
+            (and_parts (is_in (timers_of s) d) (is_of_delay s d found.0) (sym (are found.0 d (within found.0 found.1)) ∙ found.2)).0
+
+    pub set_wider : (t i : ℕ) (due : Option ℕ) → (if is_in delays i then set_at (equation s i) c registers t i due else due) ≡ (if is_in (timers_of s) i then set_at (equation s i) c registers t i due else due)
+    set_wider t i due = split (is_in delays i) refl
+      where
+        in_timers : is_in delays i ≡ true → is_in (timers_of s) i ≡ true
+        in_timers listed =
+            let found = from_flat filled i (sym (ap (λ xs. is_in xs i) is) ∙ listed) in
+            (and_parts (is_in (timers_of s) i) (is_of_delay s i found.0) (sym (are found.0 i (within found.0 found.1)) ∙ found.2)).0
+
+        second_blank : (args : List ℕ) → ((a : ℕ) → is_in args a ≡ true → register_at registers a ≡ register.Empty) → second_of (map (value_at c registers) args) ≡ None
+        second_blank [] blank = refl
+        second_blank (a ∷ []) blank = refl
+        second_blank (a ∷ b ∷ args) blank = λ k. held c (blank b (or_right (a == b) (is_in (b ∷ args) b) (or_left (b == b) (is_in args b) (eq-eqb b b refl))) k)
+
+        left : (o : Option Equation) → equation s i ≡ o → is_in (timers_of s) i ≡ true → is_in delays i ≡ false → due ≡ set_at o c registers t i due
+        left None at timer unlisted = refl
+        left (Some e) at timer unlisted =
+            let own : value_at c registers i ≡ None = λ k. held c (nothing i timer unlisted i (or_left (i == i) (is_in (args_at (equation s i)) i) (eq-eqb i i refl)) k) in
+            let reset : second_of (map (value_at c registers) e.args) ≡ None = second_blank e.args (λ a is_arg. nothing i timer unlisted a (or_right (i == a) (is_in (args_at (equation s i)) a) (ap (λ q. is_in (args_at q) a) at ∙ is_arg))) in
+            sym (λ k. set_by t (first_of (map (value_at c registers) e.args)) (reset k) (own k) due)
+
+        by_timer : (b : Bool) → is_in (timers_of s) i ≡ b → is_in delays i ≡ false → due ≡ (if b then set_at (equation s i) c registers t i due else due)
+        by_timer true timer unlisted = left (equation s i) refl timer unlisted
+        by_timer false timer unlisted = refl
+
+        split : (q : Bool) → is_in delays i ≡ q → (if is_in delays i then set_at (equation s i) c registers t i due else due) ≡ (if is_in (timers_of s) i then set_at (equation s i) c registers t i due else due)
+        split true listed = (λ k. if listed k then set_at (equation s i) c registers t i due else due) ∙ sym (λ k. if in_timers listed k then set_at (equation s i) c registers t i due else due)
+        split false unlisted = (λ k. if unlisted k then set_at (equation s i) c registers t i due else due) ∙ by_timer (is_in (timers_of s) i) refl unlisted

@@ -1,12 +1,21 @@
 -- What is kept of an instant.
-use Rattle.std.proofs.Common.{◌≡◌, ◌==◌, ℕ, ◌+◌, ◌<◌, Bool, true, false, ◌||◌, List, length, get_or, set, take, refl, sym, subst, ◌∙◌, inl, inr}
+use Rattle.std.proofs.Common.{◌≡◌, ◌==◌, ℕ, ◌+◌, ◌<◌, Bool, true, false, ◌&&◌, ◌||◌, List, length, get_or, set, take, cond, Option, None, refl, sym, ap, subst, arith, ◌∙◌, inl, inr}
 use Rattle.std.proofs.lemmas.Bool.{cases_Bool, eqb-true, eqb-false, eq-eqb, false≢true, true≢false}
 use Rattle.std.specs.FinMap as finite_map
+use Rattle.std.specs.Cmp.{nat_cmp_total}
+use Rattle.std.specs.Ordering.{nat_cmp}
+use Rattle.std.specs.List.{All}
+use Rattle.std.proofs.lemmas.List.Elements.{All-from_recursion}
+use Rattle.tsl_value.specs.View.{View}
+use Rattle.flat_core.specs.System.{System}
+use Rattle.flat_core.proofs.Members.{all_from, in-Contains}
+use Rattle.register_code.specs.Code.{keeps_of}
+use Rattle.monitor_run.specs.inner.Visits.{AreFilled, AreKept}
 use Rattle.std.proofs.Math.Bool.{or-false, or-true}
 use Rattle.std.proofs.Common.{length-set}
 use Rattle.std.proofs.lemmas.List.{get_or-set_same, get_or-set_other}
 use Rattle.std.proofs.lemmas.List.Folds.{list_any_more}
-use Rattle.std.specs.Prelude.{◌≢◌, if◌then◌else◌, is_some}
+use Rattle.std.specs.Prelude.{◌≢◌, if◌then◌else◌, is_some, slice_index_or}
 use Rattle.lift_func.specs.declared.register.Register.{Register}
 use Rattle.lift_func.specs.declared.register.Register.TheVariants as register
 use Rattle.lift_func.specs.inner.Cells.{Cells, HoldsLive, held}
@@ -15,65 +24,82 @@ use Rattle.event_writer.specs.Text.{IsPrintable}
 use Rattle.monitor_run.specs.inner.Instant.{kept_in, kept_register}
 use Rattle.monitor_run.specs.inner.Registers.{register_at}
 
--- the registers of the first k that are kept have been moved, where they are not empty
-pub record AreKeeping (keeps : List ℕ) (k : ℕ) (registers last now kept : List Register) : Type 0 where
-  pub last_is : (i : ℕ) → register_at kept i ≡ (if is_in (take k keeps) i then kept_register (register_at registers i) (register_at last i) else register_at last i)
-  pub moved : (i : ℕ) → register_at now i ≡ (if is_in (take k keeps) i then register.Empty else register_at registers i)
+-- the registers of the first k that were filled have been emptied, and moved where they are kept
+pub record AreKeeping (kept : ℕ → Bool) (filled : List ℕ) (k : ℕ) (registers last now after : List Register) : Type 0 where
+  pub last_is : (i : ℕ) → register_at after i ≡ (if is_in (take k filled) i && kept i then kept_register (register_at registers i) (register_at last i) else register_at last i)
+  pub moved : (i : ℕ) → register_at now i ≡ (if is_in (take k filled) i then register.Empty else register_at registers i)
 
-module _ (keeps : List ℕ) (k d : ℕ) (lt : k < length keeps) (is : d ≡ get_or keeps k 0) (registers last now kept : List Register) (a : AreKeeping keeps k registers last now kept) where
-  more : (i : ℕ) → is_in (take (k + 1) keeps) i ≡ (is_in (take k keeps) i || (d == i))
-  more i = list_any_more (λ j. j == i) keeps k 0 lt ∙ sym (λ j. is_in (take k keeps) i || (is j == i))
+module _ (kept : ℕ → Bool) (filled : List ℕ) (k d : ℕ) (lt : k < length filled) (is : d ≡ get_or filled k 0) (registers last now after : List Register) (a : AreKeeping kept filled k registers last now after) where
+  more : (i : ℕ) → is_in (take (k + 1) filled) i ≡ (is_in (take k filled) i || (d == i))
+  more i = list_any_more (λ j. j == i) filled k 0 lt ∙ sym (λ j. is_in (take k filled) i || (is j == i))
 
-  more-other : (i : ℕ) → (d == i) ≡ false → is_in (take (k + 1) keeps) i ≡ is_in (take k keeps) i
-  more-other i other = more i ∙ (λ j. is_in (take k keeps) i || other j) ∙ or-false (is_in (take k keeps) i)
+  more-other : (i : ℕ) → (d == i) ≡ false → is_in (take (k + 1) filled) i ≡ is_in (take k filled) i
+  more-other i other = more i ∙ (λ j. is_in (take k filled) i || other j) ∙ or-false (is_in (take k filled) i)
 
-  more-same : is_in (take (k + 1) keeps) d ≡ true
-  more-same = more d ∙ (λ j. is_in (take k keeps) d || eq-eqb d d refl j) ∙ or-true (is_in (take k keeps) d)
+  more-same : is_in (take (k + 1) filled) d ≡ true
+  more-same = more d ∙ (λ j. is_in (take k filled) d || eq-eqb d d refl j) ∙ or-true (is_in (take k filled) d)
 
-  module _ (now_next kept_next : List Register) (others_last : (i : ℕ) → i ≢ d → register_at kept_next i ≡ register_at kept i) (others_now : (i : ℕ) → i ≢ d → register_at now_next i ≡ register_at now i)
-      (last_here : register_at kept_next d ≡ kept_register (register_at registers d) (register_at last d)) (now_here : register_at now_next d ≡ register.Empty) where
-    keeping-next : AreKeeping keeps (k + 1) registers last now_next kept_next
+  module _ (now_next after_next : List Register) (others_last : (i : ℕ) → i ≢ d → register_at after_next i ≡ register_at after i) (others_now : (i : ℕ) → i ≢ d → register_at now_next i ≡ register_at now i)
+      (last_here : register_at after_next d ≡ (if kept d then kept_register (register_at registers d) (register_at last d) else register_at last d)) (now_here : register_at now_next d ≡ register.Empty) where
+    keeping-next : AreKeeping kept filled (k + 1) registers last now_next after_next
     keeping-next = record {
       last_is = λ i. elim (cases_Bool (d == i)) [
         | inl here ↦
-            subst (λ i. register_at kept_next i ≡ (if is_in (take (k + 1) keeps) i then kept_register (register_at registers i) (register_at last i) else register_at last i)) (eqb-true d i here)
-            (last_here ∙ sym (λ j. if more-same j then kept_register (register_at registers d) (register_at last d) else register_at last d))
+            subst (λ i. register_at after_next i ≡ (if is_in (take (k + 1) filled) i && kept i then kept_register (register_at registers i) (register_at last i) else register_at last i)) (eqb-true d i here)
+            (last_here ∙ sym (λ j. if more-same j && kept d then kept_register (register_at registers d) (register_at last d) else register_at last d))
         | inr other ↦
             others_last i (λ same. eqb-false d i other (sym same)) ∙ a.last_is i
-            ∙ sym (λ j. if more-other i other j then kept_register (register_at registers i) (register_at last i) else register_at last i)
+            ∙ sym (λ j. if more-other i other j && kept i then kept_register (register_at registers i) (register_at last i) else register_at last i)
       ];
       moved = λ i. elim (cases_Bool (d == i)) [
         | inl here ↦
-            subst (λ i. register_at now_next i ≡ (if is_in (take (k + 1) keeps) i then register.Empty else register_at registers i)) (eqb-true d i here)
+            subst (λ i. register_at now_next i ≡ (if is_in (take (k + 1) filled) i then register.Empty else register_at registers i)) (eqb-true d i here)
             (now_here ∙ sym (λ j. if more-same j then register.Empty else register_at registers d))
         | inr other ↦ others_now i (λ same. eqb-false d i other (sym same)) ∙ a.moved i ∙ sym (λ j. if more-other i other j then register.Empty else register_at registers i)
       ];
     }
 
-  -- it is moved
-  pub keeping-one : d < length now → d < length kept → AreKeeping keeps (k + 1) registers last (set now d register.Empty) (kept_in (register_at now d) d kept)
+  -- it is emptied
+  pub keeping-one : d < length now → d < length after → AreKeeping kept filled (k + 1) registers last (set now d register.Empty) (if kept d then kept_in (register_at now d) d after else after)
   keeping-one there place =
-      keeping-next (set now d register.Empty) (kept_in (register_at now d) d kept) (others (register_at now d)) (λ i apart. get_or-set_other now d i register.Empty register.Empty apart)
-      (here (register_at now d) ∙ split (is_in (take k keeps) d) (a.last_is d) (a.moved d)) (get_or-set_same now d register.Empty register.Empty there)
+      keeping-next (set now d register.Empty) (if kept d then kept_in (register_at now d) d after else after) (others (kept d)) (λ i apart. get_or-set_other now d i register.Empty register.Empty apart)
+      (here (kept d) (a.last_is d)) (get_or-set_same now d register.Empty register.Empty there)
     where
-      others : (r : Register) (i : ℕ) → i ≢ d → register_at (kept_in r d kept) i ≡ register_at kept i
-      others register.Empty i apart = refl
-      others (register.Scalar s) i apart = get_or-set_other kept d i (register.Scalar s) register.Empty apart
-      others (register.Aggregate h) i apart = get_or-set_other kept d i (register.Aggregate h) register.Empty apart
+      others_in : (r : Register) (i : ℕ) → i ≢ d → register_at (kept_in r d after) i ≡ register_at after i
+      others_in register.Empty i apart = refl
+      others_in (register.Scalar s) i apart = get_or-set_other after d i (register.Scalar s) register.Empty apart
+      others_in (register.Aggregate h) i apart = get_or-set_other after d i (register.Aggregate h) register.Empty apart
 
-      here : (r : Register) → register_at (kept_in r d kept) d ≡ kept_register r (register_at kept d)
-      here register.Empty = refl
-      here (register.Scalar s) = get_or-set_same kept d (register.Scalar s) register.Empty place
-      here (register.Aggregate h) = get_or-set_same kept d (register.Aggregate h) register.Empty place
+      others : (q : Bool) (i : ℕ) → i ≢ d → register_at (if q then kept_in (register_at now d) d after else after) i ≡ register_at after i
+      others true i apart = others_in (register_at now d) i apart
+      others false i apart = refl
 
-      split : (b : Bool) → register_at kept d ≡ (if b then kept_register (register_at registers d) (register_at last d) else register_at last d) → register_at now d ≡ (if b then register.Empty else register_at registers d) → kept_register (register_at now d) (register_at kept d) ≡ kept_register (register_at registers d) (register_at last d)
+      here_in : (r : Register) → register_at (kept_in r d after) d ≡ kept_register r (register_at after d)
+      here_in register.Empty = refl
+      here_in (register.Scalar s) = get_or-set_same after d (register.Scalar s) register.Empty place
+      here_in (register.Aggregate h) = get_or-set_same after d (register.Aggregate h) register.Empty place
+
+      split : (b : Bool) → register_at after d ≡ (if b && true then kept_register (register_at registers d) (register_at last d) else register_at last d) → register_at now d ≡ (if b then register.Empty else register_at registers d) → kept_register (register_at now d) (register_at after d) ≡ kept_register (register_at registers d) (register_at last d)
       split true was moved = (λ j. kept_register (moved j) (was j))
       split false was moved = (λ j. kept_register (moved j) (was j))
+
+      unkept : (b : Bool) → (if b && false then kept_register (register_at registers d) (register_at last d) else register_at last d) ≡ register_at last d
+      unkept true = refl
+      unkept false = refl
+
+      here : (q : Bool) → register_at after d ≡ (if is_in (take k filled) d && q then kept_register (register_at registers d) (register_at last d) else register_at last d)
+          → register_at (if q then kept_in (register_at now d) d after else after) d ≡ (if q then kept_register (register_at registers d) (register_at last d) else register_at last d)
+      here true was = here_in (register_at now d) ∙ split (is_in (take k filled) d) was (a.moved d)
+      here false was = was ∙ unkept (is_in (take k filled) d)
 
 pub kept_length : (r : Register) (i : ℕ) (last : List Register) → length (kept_in r i last) ≡ length last
 kept_length register.Empty i last = refl
 kept_length (register.Scalar s) i last = length-set last i (register.Scalar s)
 kept_length (register.Aggregate h) i last = length-set last i (register.Aggregate h)
+
+pub moved_length : (b : Bool) (r : Register) (i : ℕ) (last : List Register) → length (if b then kept_in r i last else last) ≡ length last
+moved_length true r i last = kept_length r i last
+moved_length false r i last = refl
 
 pub kept_some : (r : Register) (i : ℕ) (last : List Register) → ((c : Cells) → is_some (held c r) ≡ true) → kept_in r i last ≡ set last i r
 kept_some register.Empty i last some = absurd (false≢true (some finite_map.empty))
@@ -89,3 +115,45 @@ pub is_printable : (cells : Cells) (r : Register) → ((c : Cells) → is_some (
 is_printable cells register.Empty some live = false≢true (some finite_map.empty)
 is_printable cells (register.Scalar s) some live = tt
 is_printable cells (register.Aggregate h) some live = live.0
+
+-- ---- what is kept over what was filled
+pub kept_wider : (filled : List ℕ) (kept listed : Bool) (i : ℕ) (r l : Register) → (is_in filled i ≡ true → kept ≡ listed) → (is_in filled i ≡ false → r ≡ register.Empty) → (if is_in filled i && kept then kept_register r l else l) ≡ (if listed then kept_register r l else l)
+kept_wider filled kept listed i r l same blank = split (is_in filled i) refl
+  where
+    none : (b : Bool) → l ≡ (if b then l else l)
+    none true = refl
+    none false = refl
+
+    split : (q : Bool) → is_in filled i ≡ q → (if is_in filled i && kept then kept_register r l else l) ≡ (if listed then kept_register r l else l)
+    split true so = (λ k. if so k && same so k then kept_register r l else l)
+    split false fails = (λ k. if fails k && kept then kept_register r l else l) ∙ none listed ∙ sym (λ k. if listed then kept_register (blank fails k) l else l)
+
+pub kept_wider_at : (s : System) (filled : List ℕ) (kept : List Bool) (registers : List Register) → AreFilled filled registers → length registers ≡ length s.equations → AreKept s kept → (l : Register) (i : ℕ)
+    → (if is_in filled i && slice_index_or kept i false then kept_register (register_at registers i) l else l) ≡ (if is_in (keeps_of s) i then kept_register (register_at registers i) l else l)
+kept_wider_at s filled kept registers f each are l i =
+    kept_wider filled (slice_index_or kept i false) (is_in (keeps_of s) i) i (register_at registers i) l (λ listed. are i (let lt = f.known i listed in omega arith)) (f.rest i)
+
+-- all is emptied
+pub all_emptied : (filled : List ℕ) (registers : List Register) → AreFilled filled registers → (i : ℕ) → (if is_in filled i then register.Empty else register_at registers i) ≡ register.Empty
+all_emptied filled registers f i = split (is_in filled i) refl
+  where
+    split : (q : Bool) → is_in filled i ≡ q → (if is_in filled i then register.Empty else register_at registers i) ≡ register.Empty
+    split true listed = λ k. if listed k then register.Empty else register_at registers i
+    split false none = (λ k. if none k then register.Empty else register_at registers i) ∙ f.rest i none
+
+pub all_known : (filled : List ℕ) (registers : List Register) → AreFilled filled registers → (n : ℕ) → n ≡ length registers → All (λ i. i < n) filled
+all_known filled registers f n size = All-from_recursion (λ i. i < n) filled (all_from (λ i. i < n) filled (λ i there. let lt = f.known i (in-Contains filled i there) in omega arith))
+
+-- no cell is kept of none
+pub none_kept : (cells : Cells) (listed : ℕ → Bool) → finite_map.len cells ≡ 0 → cells ≡ finite_map.retain_keys cells listed
+none_kept cells listed none =
+    let empty = finite_map.empty_of_len cells none in
+    empty ∙ finite_map.same_map nat_cmp_total finite_map.nat_cmp-IsAntisymmetric finite_map.empty (finite_map.retain_keys cells listed) (λ q. finite_map.get-empty nat_cmp q ∙ sym (gone q empty))
+  where
+    gone : (q : ℕ) → cells ≡ finite_map.empty → finite_map.get (finite_map.retain_keys cells listed) q ≡ None
+    gone q empty =
+        finite_map.get-retain_keys cells listed q (λ x tied. ap listed (sym (finite_map.nat_cmp-IsAntisymmetric q x tied))) ∙ (λ k. cond (listed q) (finite_map.get (empty k) q) None) ∙ (λ k. cond (listed q) (finite_map.get-empty nat_cmp q k) None) ∙ both (listed q)
+      where
+        both : (b : Bool) → ◌≡◌ {A = Option View} (cond b None None) None
+        both true = refl
+        both false = refl

@@ -11,7 +11,6 @@ use Rattle.tsl_value.specs.View.{View, Plain, is_of}
 use Rattle.tsl_value.specs.declared.scalar.Scalar.{Scalar}
 use Rattle.tsl_value.specs.declared.scalar.Scalar.TheVariants as scalar
 use Rattle.tsl_value.specs.declared.scalar.ValueType.{ValueType}
-use Rattle.delay_timers.specs.inner.Pending.{Times}
 use Rattle.lift_func.specs.declared.fault.FaultKind.{FaultKind}
 use Rattle.lift_func.specs.declared.register.Register.TheVariants as register
 use Rattle.lift_func.specs.inner.Cells.{Cells, HoldsLive, held}
@@ -44,7 +43,7 @@ use Rattle.monitor_run.specs.inner.Given.{AreEventLines, IsInputOf}
 use Rattle.flat_core.specs.inner.Arity.{HasArity}
 use Rattle.monitor_run.specs.inner.Here.{is_given_op}
 use Rattle.monitor_run.specs.inner.Instant.{AreInputs, AreTimers, Begins, HasEnded, HasRunAll, HasRunBody, HasRunRegisters, IsLeastRoot, IsSound, StartsAs, cells_in, expired_at, first_value, kept_of, kept_register, refusal_of, root_beside, set_at, with_event}
-use Rattle.monitor_run.specs.inner.Machine.{AreFresh, givens_of, is_given_at}
+use Rattle.monitor_run.specs.inner.Machine.{AreFresh}
 use Rattle.monitor_run.specs.inner.Registers.{AreHeld, IsHeldOf, register_at, value_at}
 use Rattle.monitor_run.specs.inner.Shown.{held_at, held_by}
 use Rattle.monitor_run.proofs.CellLemmas.{seen_is}
@@ -83,26 +82,6 @@ given_of s (l ∷ lines) events i t v is = from (event_in i t l.time l.event) re
     from (Some w) at rest =
         let same : w ≡ v = some_same w v (sym (ap (λ o. option_or o (inputs_of lines i t)) at) ∙ is) in
         in_line l.event refl v (at ∙ ap Some same)
-
--- nothing is given to what is neither an input nor a delay
-pub none_given : (s : System) (given : List Line) → AreEventLines s given → (i t : ℕ) → is_given_at (equation s i) ≡ false → inputs_of given i t ≡ None
-none_given s given events i t other = from (inputs_of given i t) refl
-  where
-    from : (o : Option View) → inputs_of given i t ≡ o → o ≡ None
-    from None p = refl
-    from (Some v) p = let found = given_of s given events i t v p in absurd (false≢true (sym other ∙ ap is_given_at found.2.is ∙ ap is_given_op found.2.op_is))
-
--- and no delay is due there
-pub none_due : (s : System) (t : ℕ) (times : Times) → AreTimers s t times → (i : ℕ) → is_given_at (equation s i) ≡ false → option_is t (finite_map.get times i) ≡ false
-none_due s t times timers i other = from (finite_map.get times i) refl
-  where
-    delay_given : (q : Option Equation) → is_delay q ≡ true → is_given_at q ≡ true
-    delay_given None is = absurd (false≢true is)
-    delay_given (Some e) is = ap is_given_op (delay_op e.op is)
-
-    from : (o : Option ℕ) → finite_map.get times i ≡ o → option_is t o ≡ false
-    from None is = refl
-    from (Some u) is = absurd (false≢true (sym other ∙ delay_given (equation s i) (and_parts (runs s i) (is_delay (equation s i)) (timers.each i u is).0).1))
 
 module _ (s : System) (whole : IsFlat s) (t : ℕ) (given : List Line) (events : AreEventLines s given) (old mid : Machine) (begins : Begins s t given old mid) (timers : AreTimers s t old.timers.times) where
   due_timer : (i : ℕ) → option_is t (finite_map.get old.timers.times i) ≡ true → IsTrue (is_timer s i)
@@ -253,11 +232,6 @@ module _ (s : System) (whole : IsFlat s) (t : ℕ) (given : List Line) (events :
 -- ---- what is listed
 pub in_numbers : (s : System) (i : ℕ) → i < length s.equations → is_in (numbers s) i ≡ true
 in_numbers s i lt = let size = length-range_with_len 0 (length s.equations) in in-Contains (numbers s) i (i, omega arith, get_or-range_with_len 0 (length s.equations) i i lt ∙ zero-add i)
-
--- an input or a delay is among those that are listed
-pub is_listed_given : (s : System) (i : ℕ) (givens : List ℕ) → givens ≡ givens_of s → i < length s.equations → is_given_at (equation s i) ≡ true → IsTrue (is_in givens i)
-is_listed_given s i givens is lt given =
-    ap (λ xs. is_in xs i) is ∙ in_filter (λ j. is_given_at (equation s j)) (numbers s) i ∙ (λ k. given k && in_numbers s i lt k)
 
 -- among running equations
 pub filtered_running : (s : System) → IsFlat s → (p : ℕ → Bool) (i : ℕ) → IsTrue (runs s i) → is_in (filter p (numbers s)) i ≡ p i

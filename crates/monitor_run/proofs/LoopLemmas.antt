@@ -33,16 +33,15 @@ use Rattle.register_machine.specs.Run as run
 use Rattle.register_machine.specs.Run.{Plan, step_instr, started, failed_by, root_in, root_seen}
 use Rattle.monitor_run.specs.declared.machine.Machine.{Machine}
 use Rattle.monitor_run.specs.declared.run.Root.{Root}
-use Rattle.monitor_run.specs.inner.Here.{TakesTyped, hands_on, is_blocked_here, is_given_op, is_marked}
+use Rattle.monitor_run.specs.inner.Here.{TakesTyped, is_blocked_here, is_given_op, is_marked}
 use Rattle.monitor_run.specs.inner.Instant.{HasPrinted, HasRunAll, HasRunOne, IsLeastRoot, IsPrinted, IsShownAt, SameBeside, Shows, StartsAs, name_of, root_beside}
-use Rattle.monitor_run.specs.inner.Machine.{AreFresh, HasRoom, IsFresh, with_current}
+use Rattle.monitor_run.specs.inner.Machine.{AreFresh, HasRoom, IsFresh}
 use Rattle.monitor_run.specs.inner.Registers.{AreHeld, register_at, value_at}
 use Rattle.monitor_run.specs.inner.Shown.{held_at, held_by}
 use Rattle.monitor_run.proofs.CellLemmas.{seen_is}
-use Rattle.monitor_run.proofs.CurrentLemmas.{each_is, has_room, held_all, print_current, ran_current, register_is, run_current, same_current, takes_current}
 use Rattle.monitor_run.proofs.KeptTypes.{AllHeld, all_held}
 use Rattle.flat_core.proofs.Shapes.{one_equation, running_args, shape_of}
-use Rattle.monitor_run.proofs.PlanLemmas.{ComesNext, PrintsNext, done_is, done_next, fine_update, next_is, prints_next}
+use Rattle.monitor_run.proofs.PlanLemmas.{ComesNext, PrintsNext, fine_update, next_is, prints_next}
 use Rattle.monitor_run.proofs.RunLemmas.{CanRunOn, HasRunOn, RanOne, delay_none, given_same, mark_none, marks_same, others_same, run_on}
 use Rattle.monitor_run.proofs.RootLemmas.{least-at, least-one, least-same}
 use Rattle.monitor_run.proofs.TypedLemmas.{args_live, takes_typed}
@@ -90,6 +89,7 @@ pub record IsPartly (s : System) (plan : Plan) (t : ℕ) (front : List ℕ) (old
   pub untouched : (i : ℕ) → IsFalse (is_in front i) → register_at mid.registers.items i ≡ register_at old.registers.items i
   pub given_stay : (i : ℕ) (e : Equation) → equation s i ≡ Some e → is_given_op e.op ≡ true → register_at mid.registers.items i ≡ register_at old.registers.items i
   pub sound : root ≡ None → (i : ℕ) → IsTrue (runs s i) → is_marked mid.faulted.items i ≡ false
+  pub unprinted : (k : ℕ) → IsFalse (is_in front (length s.equations + k)) → slice_index_or mid.texts.items k [] ≡ []
   pub means : (inputs : Inputs) (a : run.State) → StartsAs s inputs t a old → HasDone s plan inputs t a front mid root
 
 -- ---- lists
@@ -111,14 +111,15 @@ same-two p q = record {
   texts_each = q.texts_each ∙ p.texts_each;
 }
 
-pub partly_none : (s : System) → IsFlat s → (plan : Plan) (t : ℕ) (old : Machine) → AllHeld s old → AreFresh s old → IsPartly s plan t [] old old None
-partly_none s whole plan t old all fresh = record {
+pub partly_none : (s : System) → IsFlat s → (plan : Plan) (t : ℕ) (old : Machine) → AllHeld s old → AreFresh s old → ((k : ℕ) → slice_index_or old.texts.items k [] ≡ []) → IsPartly s plan t [] old old None
+partly_none s whole plan t old all fresh texts = record {
   same = record { timers = refl; last = refl; registers_each = refl; faulted_each = refl; ledger_each = refl; texts_each = refl };
   all = all;
   fresh = λ i e run is h. fresh.each i e run is;
   untouched = λ i h. refl;
   given_stay = λ i e is so. refl;
   sound = λ none i run. let found = whole.proper.runs_all i run in (fresh.each i found.0 run found.1).unmarked;
+  unprinted = λ k h. texts k;
   means = λ inputs a starts. record {
     config = started a;
     ran = refl;
@@ -300,6 +301,7 @@ module _ (s : System) (whole : IsFlat s) (plan : Plan) (t : ℕ) (front : List �
               ∙ p.sound two.0 n next.running
           | inr other ↦ marks_same b t n next.at mid new found ran i other ∙ p.sound two.0 i run
         ];
+    unprinted = λ k none. ap (λ v. slice_index_or v.items k []) texts ∙ p.unprinted k (no_other (length s.equations + k) none).0;
     means = done_now;
   }
 
@@ -388,6 +390,10 @@ module _ (s : System) (whole : IsFlat s) (plan : Plan) (t : ℕ) (front rest : L
     given_stay = λ i e is so. ap (λ v. register_at v.items i) printed.registers ∙ p.given_stay i e is so;
     untouched = λ i none. ap (λ v. register_at v.items i) printed.registers ∙ p.untouched i (or_parts (is_in front i) (n == i) (sym (in_push front n i) ∙ none)).0;
     sound = λ none i run_i. ap (λ v. is_marked v.items i) printed.faulted ∙ p.sound none i run_i;
+    unprinted = λ j none.
+        let two = or_parts (is_in front (length s.equations + j)) (n == length s.equations + j) (sym (in_push front n (length s.equations + j)) ∙ none) in
+        let apart : j ≢ k = λ same. eqb-false n (length s.equations + j) two.1 (omega arith) in
+        ap (λ ts. slice_index_or ts j []) printed.text ∙ get_or-set_other mid.texts.items k j (event_line t (name_of (slice_get s.outputs k)) (value_at mid.store.cells mid.registers.items (print_of s k))) [] apart ∙ p.unprinted j two.0;
     means = done_print;
   }
 
@@ -469,120 +475,3 @@ module _ (s : System) (whole : IsFlat s) (plan : Plan) (t : ℕ) (old mid : Mach
           split : (q : Bool) → runs s i ≡ q → (is_in plan.order i && runs s i) ≡ runs s i
           split true so = (λ j. runs_in i so j && so j) ∙ sym so
           split false fails = (λ j. is_in plan.order i && fails j) ∙ none (is_in plan.order i) ∙ sym fails
-
--- ---- the steps over what is of this instant
-
--- Steps have run, and they are those of the machine where nothing of an earlier instant is left.
-pub record IsPartlyRun (s : System) (plan : Plan) (t : ℕ) (front : List ℕ) (old mid : Machine) (root : Option Root) : Type 0 where
-  pub same : SameBeside old mid
-  pub partly : IsPartly s plan t front (with_current s [] old) (with_current s front mid) root
-
-module _ (s : System) (whole : IsFlat s) (plan : Plan) (fine : IsFinePlan s plan.in_place plan.order) (t k : ℕ) (lt : k < length plan.order) (old mid : Machine) (root : Option Root) (p : IsPartlyRun s plan t (take k plan.order) old mid root) (room : HasRoom s old) where
-  room_then : HasRoom s (with_current s [] old)
-  room_then = has_room s [] old room
-
-  abbrev front_now : List ℕ
-  front_now = take k plan.order
-
-  order_is : IsPlanOrder s plan.order
-  order_is = needed_order s plan.in_place plan.order fine.ordered
-
-  -- the step is an equation
-  module _ (n : ℕ) (is : n ≡ get_or plan.order k 0) (there : n < length s.equations) (e : Equation) (at : equation s n ≡ Some e) where
-    abbrev comes_now : ComesNext s (is_in front_now) n
-    comes_now = next_is s whole plan.order order_is k n lt is there e at
-
-    pub takes_now : is_given_op e.op ≡ false → hands_on e.op ≡ false → TakesTyped mid.store.cells mid.registers.items e
-    takes_now other own =
-        takes_current s front_now mid mid.store.cells e comes_now.used other own
-        (equation_typed s whole plan fine t k lt (with_current s [] old) (with_current s front_now mid) root p.partly room_then n is there e at)
-
-    pub sound_now : root ≡ None → is_blocked_here mid.faulted.items e.op e.args ≡ false
-    sound_now = equation_sound s whole plan fine t k lt (with_current s [] old) (with_current s front_now mid) root p.partly room_then n is there e at
-
-    pub run_now : (new : Machine) (found least : Option Root)
-        → SameBeside mid new
-        → new.texts ≡ mid.texts
-        → HasRunOne (is_in plan.in_place n) t n e mid new found
-        → ((among besides : ℕ → Bool) (at : ℕ → Option FaultKind) → IsLeastRoot among at root → IsLeastRoot besides at found → IsLeastRoot (λ i. among i || besides i) at least)
-        → (least ≡ None → (root ≡ None) × (found ≡ None))
-        → IsPartlyRun s plan t (take (k + 1) plan.order) old new least
-    run_now new found least beside texts ran least_is none_is =
-        let later = take (k + 1) plan.order in
-        let more : (i : ℕ) → is_in later i ≡ (is_in front_now i || (n == i)) = λ i. sym (done_is s whole plan.order order_is k n lt is i) in
-        record {
-          same = same-two p.same beside;
-          partly =
-              partly_equation s whole plan fine t k lt (with_current s [] old) (with_current s front_now mid) root p.partly room_then n is there e at (with_current s later new) found least
-              (same_current s front_now later mid new beside) texts
-              (run_current s front_now later n e at more comes_now.used (shape_of s whole n e at) (is_in plan.in_place n) t mid new found ran)
-              least_is none_is;
-        }
-
-  -- it is a print
-  module _ (high : length s.equations ≤ get_or plan.order k 0) where
-    abbrev output_now : ℕ
-    output_now = get_or plan.order k 0 - length s.equations
-
-    abbrev prints_now : PrintsNext s front_now (get_or plan.order k 0)
-    prints_now = prints_next s whole plan.order order_is k lt high
-
-    is_output : prints_now.k ≡ output_now
-    is_output = let is = prints_now.is in omega arith
-
-    pub print_there_now : output_now < length s.outputs
-    print_there_now = print_there s whole plan fine t k lt (with_current s [] old) (with_current s front_now mid) root p.partly room_then high
-
-    pub print_live_now : HoldsLive mid.store.cells (register_at mid.registers.items (print_of s output_now))
-    print_live_now =
-        let found = whole.proper.runs_all (print_of s prints_now.k) prints_now.running in
-        subst (λ j. HoldsLive mid.store.cells (register_at mid.registers.items (print_of s j))) is_output
-        (subst (HoldsLive mid.store.cells) (register_is s front_now mid (print_of s prints_now.k) (ran_current s front_now (print_of s prints_now.k) prints_now.done))
-        (p.partly.all.held.each (print_of s prints_now.k) found.0 prints_now.running found.1).live)
-
-    pub printed_now : (new : Machine) → SameBeside mid new → HasPrinted s t output_now mid new → IsPartlyRun s plan t (take (k + 1) plan.order) old new root
-    printed_now new beside printed =
-        let later = take (k + 1) plan.order in
-        let size = p.same.registers_each in
-        let each = room.registers in
-        let still : (i : ℕ) → i < length mid.registers.items → is_in later i ≡ is_in front_now i = λ i below.
-        done_next plan.order k i lt ∙ (λ j. is_in front_now i || ne_eqb (get_or plan.order k 0) i (λ same. absurd (omega arith)) j) ∙ or-false (is_in front_now i) in
-        record {
-          same = same-two p.same beside;
-          partly =
-              partly_printed s whole plan fine t k lt (with_current s [] old) (with_current s front_now mid) root p.partly room_then high (with_current s later new)
-              (same_current s front_now later mid new beside)
-              (print_current s front_now later output_now mid new still t (subst (λ j. is_in front_now (print_of s j) ≡ true) is_output prints_now.done) printed);
-        }
-
-pub run_all_now : (s : System) → IsFlat s → (plan : Plan) (t : ℕ) (old mid : Machine) (root : Option Root) → IsPartlyRun s plan t plan.order old mid root → ((i : ℕ) → IsTrue (runs s i) → IsTrue (is_in plan.order i)) → ((k : ℕ) → k < length s.outputs → IsTrue (is_in plan.order (length s.equations + k)))
-    → HasRunAll s plan t (with_current s [] old) mid root
-run_all_now s whole plan t old mid root p runs_in prints_in =
-    let all = run_all s whole plan t (with_current s [] old) (with_current s plan.order mid) root p.partly runs_in prints_in in
-    record {
-      same = record {
-        timers = p.same.timers;
-        last = p.same.last;
-        registers_each = p.same.registers_each ∙ sym (each_is s [] old);
-        faulted_each = p.same.faulted_each;
-        ledger_each = p.same.ledger_each;
-        texts_each = p.same.texts_each;
-      };
-      types = all.types;
-      held = held_all s plan.order all.types mid.store.cells mid runs_in all.held;
-      last = all.last;
-      means = λ inputs a starts.
-          let b = all.means inputs a starts in
-          record {
-            reached = b.reached;
-            ran = b.ran;
-            shows = record {
-              each = λ i run so. stays_shown (with_current s plan.order mid) mid b.reached b.reached i (sym (register_is s plan.order mid i (ran_current s plan.order i (runs_in i run)))) refl refl (b.shows.each i run so);
-              beside = record { lasts = b.shows.beside.lasts; cells = b.shows.beside.cells; ledger = b.shows.beside.ledger };
-            };
-            pending = b.pending;
-            delays = b.delays;
-            root_is = b.root_is;
-            printed = b.printed;
-          };
-    }

@@ -2,7 +2,8 @@
 use Rattle.std.proofs.Common.{◌≡◌, ◌==◌, ℕ, zero, suc, ◌+◌, ◌<◌, ◌≤◌, ◌^◌, Bool, true, false, ◌&&◌, not, List, [], ◌∷◌, ◌++◌, length, replicate, Option, Some, None, refl, sym, ap, subst, ◌∙◌, append_assoc, append-nil, inl, inr, arith}
 use Rattle.std.proofs.lemmas.Bool.{cases_Bool, cases_lt, and_parts, eq-eqb, eqb-true, eqb-false}
 use Rattle.std.proofs.lemmas.List.{length-replicate}
-use Rattle.std.specs.Prelude.{◌≢◌, if◌then◌else◌, slice_index}
+use Rattle.std.specs.Prelude.{◌≢◌, if◌then◌else◌, slice_index, slice_index_or}
+use Rattle.monitor_run.specs.inner.Visits.{IsAtRest}
 use Rattle.std.specs.Option.{option_or}
 use Rattle.std.specs.List.{AllByRecursion}
 use Rattle.std.specs.FinMap as finite_map
@@ -246,6 +247,17 @@ pub unmarked_new : (n i : ℕ) → is_marked (replicate n false) i ≡ false
 unmarked_new zero i = refl
 unmarked_new (suc n) zero = refl
 unmarked_new (suc n) (suc i) = unmarked_new n i
+
+same_all : {A : Type 0} (n i : ℕ) (x : A) → slice_index_or (replicate n x) i x ≡ x
+same_all zero i x = refl
+same_all (suc n) zero x = refl
+same_all (suc n) (suc i) x = same_all n i x
+
+pub rest_new : (m : Machine) (n k : ℕ) → m.registers.items ≡ replicate n register.Empty → m.texts.items ≡ replicate k [] → IsAtRest m
+rest_new m n k registers texts = record {
+  registers = λ i. ap (λ rs. register_at rs i) registers ∙ same_all n i register.Empty;
+  texts = λ i. ap (λ ts. slice_index_or ts i []) texts ∙ same_all k i [];
+}
 
 number_none : (n i : ℕ) → slice_index (replicate n 0) i ≡ 0
 number_none zero i = refl

@@ -40,7 +40,7 @@ pub record ComesNext (s : System) (done : ℕ → Bool) (i : ℕ) : Type 0 where
   pub used : AllByRecursion (λ a. IsTrue (done a)) (used_of at.op at.args)
 
 module _ (s : System) (order : List ℕ) (plan : IsPlanOrder s order) where
-  step_runs : (x : ℕ) → IsTrue (is_step s x) → x < length s.equations → IsTrue (runs s x)
+  pub step_runs : (x : ℕ) → IsTrue (is_step s x) → x < length s.equations → IsTrue (runs s x)
   step_runs x is lt = elim (or_cases (runs s x) (is_print s x) is) [
     | inl run ↦ run
     | inr print ↦ let le = leb-true (length s.equations) x (and_parts _ _ print).0 in absurd (omega arith)

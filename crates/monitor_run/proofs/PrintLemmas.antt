@@ -2,22 +2,22 @@
 use Rattle.std.proofs.Common.{◌≡◌, ℕ, zero, suc, ◌<◌, ◌≤◌, Bool, true, List, [], ◌∷◌, ◌++◌, length, take, drop, Option, Some, None, refl, sym, ap, ◌∙◌, arith}
 use Rattle.std.proofs.lemmas.List.{with_items_is}
 use Rattle.std.proofs.lemmas.Bool.{false≢true}
-use Rattle.std.specs.Prelude.{is_some, slice_get, slice_set}
+use Rattle.std.specs.Prelude.{is_some, slice_get, slice_index_or, slice_set}
 use Rattle.std.specs.Vec.{with_items}
 use Rattle.flat_core.specs.declared.equation.Equation.{Equation}
 use Rattle.flat_core.specs.Complete.{IsFlat}
 use Rattle.flat_core.specs.Line.{Line}
 use Rattle.flat_core.specs.System.{System}
-use Rattle.register_machine.specs.Run.{Plan, started}
+use Rattle.register_machine.specs.Run.{Plan}
 use Rattle.flat_core.specs.Text.{event_line}
 use Rattle.register_machine.specs.Content.{print_of}
 use Rattle.monitor_run.specs.declared.machine.Machine.{Machine}
 use Rattle.monitor_run.specs.declared.run.Root.{Root}
 use Rattle.monitor_run.specs.inner.Instant.{HasEnded, HasPrinted, IsInstant, HasRunOne, SameBeside, was_given, was_barred, was_filled, has_failed, name_of}
-use Rattle.monitor_run.specs.inner.Machine.{AreFresh, CanPrint, HasRoom, with_current, front_of, printed_to, texts_with}
+use Rattle.monitor_run.specs.inner.Machine.{AreFresh, CanPrint, HasRoom, front_of, printed_to, texts_with}
 use Rattle.monitor_run.specs.inner.Registers.{value_at}
 use Rattle.monitor_run.proofs.KeptTypes.{AllHeld}
-use Rattle.monitor_run.proofs.LoopLemmas.{IsPartlyRun}
+use Rattle.monitor_run.proofs.LoopLemmas.{IsPartly, partly_none}
 
 pub can_each : (at_once : Option ℕ) (out : List ℕ) (texts : List (List ℕ)) → CanPrint at_once out texts → length (texts_with at_once out texts) ≡ length texts
 can_each None out texts can = refl
@@ -103,35 +103,37 @@ pub record IsPrintedRun (s : System) (plan : Plan) (t : ℕ) (at_once : Option �
   pub same : SameBeside old mid
   pub can : CanPrint at_once out mid.texts.items
   pub front_is : front_of at_once out ≡ front_of at_once before
-  pub run : IsPartlyRun s plan t front old (printed_to at_once out mid) root
+  pub run : IsPartly s plan t front (printed_to at_once before old) (printed_to at_once out mid) root
 
-pub none_printed : (s : System) → IsFlat s → (plan : Plan) (t : ℕ) (at_once : Option ℕ) (out : List ℕ) (old : Machine) → AllHeld s (with_current s [] old) → AreFresh s (with_current s [] old) → CanPrint at_once out old.texts.items → IsPrintedRun s plan t at_once [] out old out old None
-none_printed s whole plan t at_once out old all fresh can =
-    let texts = ap length (texts_are at_once out old can) ∙ can_each at_once out old.texts.items can in
-    record {
-      same = record { timers = refl; last = refl; registers_each = refl; faulted_each = refl; ledger_each = refl; texts_each = refl };
-      can = can;
-      front_is = refl;
-      run = record {
-        same = record { timers = refl; last = refl; registers_each = refl; faulted_each = refl; ledger_each = refl; texts_each = texts };
-        partly = record {
-          same = record { timers = refl; last = refl; registers_each = refl; faulted_each = refl; ledger_each = refl; texts_each = texts };
-          all = record { types = all.types; held = all.held; last = all.last };
-          fresh = λ i e run is h. let f = fresh.each i e run is in record { unmarked = f.unmarked; empty = f.empty };
-          untouched = λ i h. refl;
-          given_stay = λ i e is so. refl;
-          sound = λ none i run. let found = whole.proper.runs_all i run in (fresh.each i found.0 run found.1).unmarked;
-          means = λ inputs a starts. record {
-            config = started a;
-            ran = refl;
-            shows = record { each = λ i run h. absurd (false≢true h); beside = record { lasts = starts.beside.lasts; cells = starts.beside.cells; ledger = starts.beside.ledger } };
-            pending = λ i. refl;
-            root_is = λ i h. absurd (false≢true h);
-            printed = λ k lt h. absurd (false≢true h);
-          };
-        };
-      };
-    }
+-- nothing stands after what there was
+none_after : (start : ℕ) (out : List ℕ) → take start out ≡ out → drop start out ≡ []
+none_after zero [] is = refl
+none_after zero (x ∷ out) is = absurd (cc)
+none_after (suc start) [] is = refl
+none_after (suc start) (x ∷ out) is = none_after start out (tails (x ∷ take start out) (x ∷ out) is)
+  where
+    rest_of : List ℕ → List ℕ
+    rest_of [] = []
+    rest_of (y ∷ ys) = ys
+
+    tails : (xs ys : List ℕ) → xs ≡ ys → rest_of xs ≡ rest_of ys
+    tails xs ys same = ap rest_of same
+
+pub blank_texts : (at_once : Option ℕ) (out : List ℕ) (texts : List (List ℕ)) → front_of at_once out ≡ out → ((k : ℕ) → slice_index_or texts k [] ≡ []) → (k : ℕ) → slice_index_or (texts_with at_once out texts) k [] ≡ []
+blank_texts None out texts front blank k = blank k
+blank_texts (Some start) out texts front blank zero = none_after start out front
+blank_texts (Some start) out texts front blank (suc k) = refl
+
+pub none_printed : (s : System) → IsFlat s → (plan : Plan) (t : ℕ) (at_once : Option ℕ) (out : List ℕ) (old : Machine) → AllHeld s old → AreFresh s old → CanPrint at_once out old.texts.items → front_of at_once out ≡ out → ((k : ℕ) → slice_index_or old.texts.items k [] ≡ []) → IsPrintedRun s plan t at_once [] out old out old None
+none_printed s whole plan t at_once out old all fresh can front blank = record {
+  same = record { timers = refl; last = refl; registers_each = refl; faulted_each = refl; ledger_each = refl; texts_each = refl };
+  can = can;
+  front_is = refl;
+  run =
+      partly_none s whole plan t (printed_to at_once out old) (record { types = all.types; held = all.held; last = all.last })
+      (record { each = λ i e run is. let f = fresh.each i e run is in record { unmarked = f.unmarked; empty = f.empty } })
+      (λ k. ap (λ ts. slice_index_or ts k []) (texts_are at_once out old can) ∙ blank_texts at_once out old.texts.items front blank k);
+}
 
 -- ---- the end of an instant
 pub ended_printed : (s : System) (t : ℕ) (at_once : Option ℕ) (out : List ℕ) (mid new : Machine) → HasEnded s t mid new → HasEnded s t (printed_to at_once out mid) new

@@ -13,3 +13,4 @@ pub mod Stands
 pub mod Steps
 pub mod Written
 pub mod Laws
+pub mod Visits

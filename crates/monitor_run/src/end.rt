@@ -1,39 +1,52 @@
 // What is kept of an instant.
 
-ghost use Rattle.std.specs.Prelude.{◌≡◌, ◌<◌, ℕ, All, if◌then◌else◌, length, slice_set, OnOk, OnErr};
+ghost use Rattle.std.specs.Prelude.{◌≡◌, ◌<◌, ◌&&◌, ℕ, All, false, if◌then◌else◌, length, slice_index_or, slice_set, OnOk, OnErr};
 ghost use Rattle.std.specs.FinMap as map;
 ghost use Rattle.aggregate_store.specs.inner.Stored.{is_listed};
 ghost use Rattle.flat_core.specs.Members.{is_in};
 ghost use Rattle.monitor_run.specs.inner.Instant.{cells_in, kept_in, kept_register};
 ghost use Rattle.monitor_run.specs.inner.Registers.{register_at};
 
-use crate::machine::put;
+use crate::machine::{empty, put};
 use aggregate_store::store::Store;
 use lift_func::register::Register;
 use std::mem;
 use tsl_value::ids::{EqId, Handle};
 use tsl_value::memory::NoMemory;
 
-/// Moves the registers that have events into the last registers.
-pub(crate) fn keep(keeps: &[EqId], registers: &mut [Register], last: &mut [Register])
-    requires known { All (λ i. i < length registers.old) keeps.now }
+/// Empties the registers that were filled. Those that are kept are moved into the last registers.
+pub(crate) fn keep(
+    kept: &[bool],
+    filled: &[EqId],
+    registers: &mut [Register],
+    last: &mut [Register],
+)
+    requires known { All (λ i. i < length registers.old) filled.now }
     requires one_each { length last.old ≡ length registers.old }
-    ensures { (i : ℕ) → register_at last.new i
-        ≡ (if is_in keeps.now i then kept_register (register_at registers.old i) (register_at last.old i) else register_at last.old i) }
+    requires kept_each { length kept.now ≡ length registers.old }
+    ensures last { (i : ℕ) → register_at last.new i
+        ≡ (if is_in filled.now i && slice_index_or kept.now i false then kept_register (register_at registers.old i) (register_at last.old i)
+        else register_at last.old i) }
+    ensures registers { (i : ℕ) → register_at registers.new i
+        ≡ (if is_in filled.now i then Register.Empty else register_at registers.old i) }
 {
-    for id in keeps {
-        keep_one(*id, registers, last);
+    for id in filled {
+        let place = id.get() as usize;
+        keep_one(kept[place], place, registers, last);
     }
 }
 
-/// Moves the register of an equation.
-fn keep_one(id: EqId, registers: &mut [Register], last: &mut [Register])
-    requires there { id < length registers.old }
-    requires place { id < length last.old }
-    ensures moved { registers.new ≡ slice_set registers.old id Register.Empty }
-    ensures kept { last.new ≡ kept_in (register_at registers.old id) id last.old }
+/// Empties the register of an equation. If it is kept, it is moved.
+fn keep_one(is_kept: bool, place: usize, registers: &mut [Register], last: &mut [Register])
+    requires there { place < length registers.old }
+    requires place { place < length last.old }
+    ensures moved { registers.new ≡ slice_set registers.old place Register.Empty }
+    ensures kept { last.new ≡ (if is_kept then kept_in (register_at registers.old place) place last.old else last.old) }
 {
-    let place = id.get() as usize;
+    if !is_kept {
+        empty(place, registers);
+        return;
+    }
     let register = mem::replace(&mut registers[place], Register::Empty);
     if !register.is_empty() {
         put(register, place, last);
@@ -66,6 +79,9 @@ pub(crate) fn drop_others(
         (store.new ≡ record store.old { cells = map.retain_keys store.old.cells (is_listed (cells_in last.now keeps.now)) }) }
     ensures err { OnErr result (store.new ≡ store.old) }
 {
+    if store.count() == 0 {
+        return Ok(());
+    }
     list_kept(keeps, last, cells)?;
     store.keep_only(cells);
     Ok(())

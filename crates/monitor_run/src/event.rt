@@ -1,14 +1,16 @@
 // The lines of events. Each is taken when its print comes, since a later update may change the cell. That of an only output is put at once
 // where all are wanted; else each output has a text, and all are appended at the end, by output.
 
-ghost use Rattle.std.specs.Prelude.{◌≡◌, ◌<◌, ◌++◌, length, slice_set, IfOk, OnOk, OnErr};
+ghost use Rattle.std.specs.Prelude.{◌≡◌, ◌<◌, ◌++◌, ℕ, [], is_some, length, slice_index_or, slice_set, IfOk, IsTrue, OnOk, OnErr};
 ghost use Rattle.std.specs.List.{flat_map};
 ghost use Rattle.lift_func.specs.inner.Cells.{HoldsLive};
 ghost use Rattle.flat_core.specs.Text.{event_line};
 ghost use Rattle.monitor_run.specs.inner.Begun.{IsBegunOf};
 ghost use Rattle.monitor_run.specs.inner.Machine.{CanPrint, front_of, texts_with};
 ghost use Rattle.monitor_run.specs.inner.Registers.{register_at, value_at};
+ghost use Rattle.monitor_run.specs.inner.Visits.{AreUnprinted};
 
+use agenda::marks::Agenda;
 use aggregate_store::store::Store;
 use event_writer::event::write_event;
 use flat_core::equation::Output;
@@ -73,13 +75,31 @@ pub(crate) fn print_output(
     take_line(output, time, registers, store, &mut texts[place])
 }
 
-/// Appends the texts.
-fn append_texts(texts: &[Bytes], out: &mut Bytes) -> Result<(), NoMemory>
-    ensures ok { OnOk result (out.new ≡ out.old ++ flat_map (λ x. x) texts.now) }
-    ensures err { OnErr result (IsBegunOf out.old out.new (flat_map (λ x. x) texts.now)) }
+/// Moves a text to the end of what is to be written. Its room is kept.
+fn append_text(text: &mut Bytes, out: &mut Bytes) -> Result<(), NoMemory>
+    ensures ok { OnOk result (out.new ≡ out.old ++ text.old) }
+    ensures empty { OnOk result (text.new ≡ []) }
+    ensures err { OnErr result (out.new ≡ out.old) }
 {
-    for text in texts {
-        out.append(text.as_slice())?;
+    out.append(text.as_slice())?;
+    text.truncate(0);
+    Ok(())
+}
+
+/// Moves the texts of the marked outputs to the end of what is to be written, by output.
+fn append_texts(marked: &mut Agenda, texts: &mut [Bytes], out: &mut Bytes) -> Result<(), NoMemory>
+    requires size { length marked.old ≡ length texts.old }
+    requires unprinted { AreUnprinted marked.old texts.old }
+    ensures size { length marked.new ≡ length marked.old }
+    ensures ok { OnOk result (out.new ≡ out.old ++ flat_map (λ x. x) texts.old) }
+    ensures empty { OnOk result ((k : ℕ) → slice_index_or texts.new k [] ≡ []) }
+    ensures err { OnErr result (IsBegunOf out.old out.new (flat_map (λ x. x) texts.old)) }
+{
+    // The outputs before this one have no text any more.
+    let mut next = 0;
+    while let Some(output) = marked.take_least() {
+        append_text(&mut texts[output], out)?;
+        next = output + 1;
     }
     Ok(())
 }
@@ -108,15 +128,21 @@ pub(crate) fn take_back(at_once: Option<usize>, out: &mut Bytes)
 /// Appends the texts that were not printed at once.
 pub(crate) fn append_rest(
     at_once: Option<usize>,
-    texts: &[Bytes],
+    marked: &mut Agenda,
+    texts: &mut [Bytes],
     out: &mut Bytes,
 ) -> Result<(), NoMemory>
-    ensures ok { OnOk result (out.new ≡ front_of at_once out.old ++ flat_map (λ x. x) (texts_with at_once out.old texts.now)) }
+    requires size { length marked.old ≡ length texts.old }
+    requires unprinted { AreUnprinted marked.old texts.old }
+    requires blank { IsTrue (is_some at_once) → (k : ℕ) → slice_index_or texts.old k [] ≡ [] }
+    ensures size { length marked.new ≡ length marked.old }
+    ensures ok { OnOk result (out.new ≡ front_of at_once out.old ++ flat_map (λ x. x) (texts_with at_once out.old texts.old)) }
+    ensures empty { OnOk result ((k : ℕ) → slice_index_or texts.new k [] ≡ []) }
     ensures err { OnErr result (IsBegunOf (front_of at_once out.old) out.new
-        (flat_map (λ x. x) (texts_with at_once out.old texts.now))) }
+        (flat_map (λ x. x) (texts_with at_once out.old texts.old))) }
 {
     match at_once {
         Some(_) => Ok(()),
-        None => append_texts(texts, out),
+        None => append_texts(marked, texts, out),
     }
 }

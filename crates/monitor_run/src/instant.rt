@@ -1,52 +1,79 @@
 // One instant.
 
-ghost use Rattle.std.specs.Prelude.{◌≡◌, ◌==◌, ℕ, [], None, if◌then◌else◌, IfOk, OnErr, OnOk};
+ghost use Rattle.std.specs.Prelude.{◌≡◌, ◌≢◌, ◌==◌, ℕ, List, [], None, if◌then◌else◌, is_some, length, IfOk, IsFalse, IsTrue, OnErr, OnOk};
+ghost use Rattle.std.specs.List.{flat_map};
 ghost use Rattle.flat_core.specs.Complete.{IsFlat};
 ghost use Rattle.register_code.specs.Code.{keeps_of, timers_of};
 ghost use Rattle.alias_rules.specs.Fine.{IsFinePlan};
+ghost use Rattle.step_uses.specs.Uses.{row};
 ghost use Rattle.monitor_run.specs.inner.Given.{AreAt, AreEventLines};
 ghost use Rattle.monitor_run.specs.inner.Instant.{Begins, HasEnded, HasRunRegisters, IsInstant, IsInstantBegun, IsSound};
-ghost use Rattle.monitor_run.specs.inner.Machine.{AreUnmarked, CanPrint, HasRoom, front_of, givens_of, printed_to, with_current};
+ghost use Rattle.monitor_run.specs.inner.Machine.{AreUnmarked, CanPrint, HasRoom, front_of, printed_to};
+ghost use Rattle.monitor_run.specs.inner.Registers.{register_at};
 ghost use Rattle.monitor_run.specs.inner.Shown.{plan_in};
+ghost use Rattle.monitor_run.specs.inner.Visits.{AreFilled, AreMarked, AreTables, AreUnprinted, AreWithin, HasPlaces, IsAtRest};
 
-use crate::begin::{clear, expire, give};
+use crate::begin::{expire, give, mark_users};
 use crate::delay::{first_refused, set_timers};
 use crate::end::{drop_others, keep};
 use crate::event::{append_rest, start_of, take_back};
 use crate::machine::Machine;
 use crate::run::{Root, least_root, run_steps};
+use crate::tables::Tables;
+use crate::visits::Visits;
 use flat_core::flat::Flat;
 use flat_core::line::TraceLine;
+use lift_func::register::Register;
 use register_code::code::Code;
 use register_code::plan::Plan;
 use std::alloc::Global;
+use step_uses::rows::Rows;
 use tsl_value::bytes::Bytes;
 use tsl_value::ids::EqId;
 use tsl_value::memory::NoMemory;
 use tsl_value::time::Time;
 
-/// Begins an instant: inputs and delays have their events. Other registers may have what is left of an earlier instant.
+/// Begins an instant: inputs and delays have their events, and where not all steps run, those that use them are marked.
 fn begin(
     flat: &Flat,
-    givens: &[EqId],
+    uses: &Rows,
     time: Time,
+    all: bool,
     given: &mut Vec<TraceLine>,
+    visits: &mut Visits,
     machine: &mut Machine,
-)
+) -> Result<(), NoMemory>
     requires whole { IsFlat flat.now }
-    requires givens { givens.now ≡ givens_of flat.now }
+    requires uses { AreWithin uses.now (length visits.old.steps) }
     requires room { HasRoom flat.now machine.old }
     requires unmarked { AreUnmarked flat.now machine.old }
+    requires rest { IsAtRest machine.old }
     requires one { (at : ℕ) × AreAt at given.old.items }
     requires events { AreEventLines flat.now given.old.items }
     requires sound { IsSound flat.now time machine.old }
-    ensures begins { Begins flat.now time given.old.items machine.old (with_current flat.now [] machine.new) }
+    ensures begins { OnOk result (Begins flat.now time given.old.items machine.old machine.new) }
     ensures room { HasRoom flat.now machine.new }
-    ensures given { (at : ℕ) → AreAt at given.old.items → given.new.items ≡ (if at == time then [] else given.old.items) }
+    ensures given { OnOk result ((at : ℕ) → AreAt at given.old.items → given.new.items ≡ (if at == time then [] else given.old.items)) }
+    ensures texts { machine.new.texts ≡ machine.old.texts }
+    ensures filled { OnOk result (IsFalse all → AreFilled visits.new.filled.items machine.new.registers.items) }
+    ensures steps { length visits.new.steps ≡ length visits.old.steps }
+    ensures marked { OnOk result (IsFalse all → AreMarked uses.now visits.new.filled.items visits.new.steps) }
+    ensures places { visits.new.texts ≡ visits.old.texts }
 {
-    clear(givens, &mut machine.registers);
-    expire(time, &mut machine.timers, &mut machine.registers);
-    give(time, given, &mut machine.registers);
+    let filled = &mut visits.filled;
+    filled.clear();
+    expire(
+        time,
+        all,
+        &mut machine.timers,
+        &mut machine.registers,
+        filled,
+    )?;
+    give(time, all, given, &mut machine.registers, filled)?;
+    if !all {
+        mark_users(filled, uses, &mut visits.steps);
+    }
+    Ok(())
 }
 
 /// Runs the steps at a time. The least root fault is answered.
@@ -54,35 +81,60 @@ fn run_registers(
     alloc: Global,
     flat: &Flat,
     plan: &Plan,
-    givens: &[EqId],
-    delays: &[EqId],
+    tables: &Tables,
+    timers: &[EqId],
     time: Time,
+    all: bool,
     given: &mut Vec<TraceLine>,
     at_once: Option<usize>,
+    visits: &mut Visits,
     machine: &mut Machine,
     out: &mut Bytes,
 ) -> Result<Option<Root>, NoMemory>
     requires whole { IsFlat flat.now }
     requires fine { IsFinePlan flat.now plan.now.in_place plan.now.order }
-    requires givens { givens.now ≡ givens_of flat.now }
-    requires delays { delays.now ≡ timers_of flat.now }
+    requires tables { AreTables flat.now plan.now.order tables.now }
+    requires timers { timers.now ≡ timers_of flat.now }
+    requires late { IsFalse all → time ≢ 0 }
+    requires places { HasPlaces flat.now plan.now.order visits.old }
     requires room { HasRoom flat.now machine.old }
     requires unmarked { AreUnmarked flat.now machine.old }
+    requires rest { IsAtRest machine.old }
     requires one { (at : ℕ) × AreAt at given.old.items }
     requires events { AreEventLines flat.now given.old.items }
     requires sound { IsSound flat.now time machine.old }
     requires can { CanPrint at_once out.old machine.old.texts.items }
+    requires front { front_of at_once out.old ≡ out.old }
     ensures front { front_of at_once out.new ≡ front_of at_once out.old }
     ensures can { CanPrint at_once out.new machine.new.texts.items }
     ensures room { HasRoom flat.now machine.new }
     ensures unmarked { IfOk result (λ root. root ≡ None → AreUnmarked flat.now machine.new) }
-    ensures given { (at : ℕ) → AreAt at given.old.items → given.new.items ≡ (if at == time then [] else given.old.items) }
+    ensures given { OnOk result ((at : ℕ) → AreAt at given.old.items → given.new.items ≡ (if at == time then [] else given.old.items)) }
     ensures ran { IfOk result (λ root. HasRunRegisters flat.now (plan_in plan.now) time given.old.items
         machine.old (printed_to at_once out.new machine.new) root) }
+    ensures places { HasPlaces flat.now plan.now.order visits.new }
+    ensures filled { OnOk result (IsFalse all → AreFilled visits.new.filled.items machine.new.registers.items) }
+    ensures delays { OnOk result (IsFalse all → visits.new.delays.items ≡ flat_map (row tables.now.delays) visits.new.filled.items) }
+    ensures unprinted { OnOk result (AreUnprinted visits.new.texts machine.new.texts.items) }
+    ensures blank { IsTrue (is_some at_once) → machine.new.texts ≡ machine.old.texts }
 {
-    begin(flat, givens, time, given, machine);
-    let found = run_steps(alloc, flat, plan, time, at_once, machine, out)?;
-    let refused = first_refused(flat, delays, &machine.registers);
+    begin(flat, &tables.uses, time, all, given, visits, machine)?;
+    let found = run_steps(
+        alloc,
+        flat,
+        plan,
+        &tables.uses,
+        time,
+        all,
+        at_once,
+        visits,
+        machine,
+        out,
+    )?;
+    if !all {
+        tables.delays.gather(&visits.filled, &mut visits.delays)?;
+    }
+    let refused = first_refused(flat, visits.delays(all, timers), &machine.registers);
     Ok(least_root(found, refused))
 }
 
@@ -90,20 +142,39 @@ fn run_registers(
 fn end(
     flat: &Flat,
     keeps: &[EqId],
-    delays: &[EqId],
+    tables: &Tables,
+    timers: &[EqId],
     time: Time,
+    all: bool,
+    visits: &Visits,
     machine: &mut Machine,
 ) -> Result<(), NoMemory>
     requires whole { IsFlat flat.now }
     requires keeps { keeps.now ≡ keeps_of flat.now }
-    requires delays { delays.now ≡ timers_of flat.now }
+    requires tables { (order : List ℕ) × AreTables flat.now order tables.now }
+    requires timers { timers.now ≡ timers_of flat.now }
+    requires delays { IsFalse all → visits.now.delays.items ≡ flat_map (row tables.now.delays) visits.now.filled.items }
+    requires filled { IsFalse all → AreFilled visits.now.filled.items machine.old.registers.items }
     requires room { HasRoom flat.now machine.old }
     ensures room { HasRoom flat.now machine.new }
     ensures faulted { machine.new.faulted ≡ machine.old.faulted }
+    ensures texts { machine.new.texts ≡ machine.old.texts }
+    ensures registers { (i : ℕ) → register_at machine.new.registers.items i ≡ Register.Empty }
     ensures ended { OnOk result (HasEnded flat.now time machine.old machine.new) }
 {
-    set_timers(flat, delays, time, &machine.registers, &mut machine.timers);
-    keep(keeps, &mut machine.registers, &mut machine.last);
+    set_timers(
+        flat,
+        visits.delays(all, timers),
+        time,
+        &machine.registers,
+        &mut machine.timers,
+    );
+    keep(
+        &tables.kept,
+        visits.filled(all, tables),
+        &mut machine.registers,
+        &mut machine.last,
+    );
     drop_others(keeps, &machine.last, &mut machine.kept, &mut machine.store)
 }
 
@@ -111,38 +182,46 @@ fn end(
 pub(crate) fn run_instant(
     alloc: Global,
     code: &Code,
-    givens: &[EqId],
+    tables: &Tables,
     time: Time,
     given: &mut Vec<TraceLine>,
+    visits: &mut Visits,
     machine: &mut Machine,
     out: &mut Bytes,
 ) -> Result<Option<Root>, NoMemory>
     requires whole { IsFlat code.now.system }
     requires fine { IsFinePlan code.now.system code.now.in_place code.now.order }
-    requires givens { givens.now ≡ givens_of code.now.system }
+    requires tables { AreTables code.now.system code.now.order tables.now }
+    requires places { HasPlaces code.now.system code.now.order visits.old }
     requires room { HasRoom code.now.system machine.old }
     requires unmarked { AreUnmarked code.now.system machine.old }
+    requires rest { IsAtRest machine.old }
     requires one { (at : ℕ) × AreAt at given.old.items }
     requires events { AreEventLines code.now.system given.old.items }
     requires sound { IsSound code.now.system time machine.old }
     ensures room { HasRoom code.now.system machine.new }
     ensures unmarked { IfOk result (λ root. root ≡ None → AreUnmarked code.now.system machine.new) }
-    ensures given { (at : ℕ) → AreAt at given.old.items → given.new.items ≡ (if at == time then [] else given.old.items) }
+    ensures rest { IfOk result (λ root. root ≡ None → IsAtRest machine.new) }
+    ensures places { HasPlaces code.now.system code.now.order visits.new }
+    ensures given { OnOk result ((at : ℕ) → AreAt at given.old.items → given.new.items ≡ (if at == time then [] else given.old.items)) }
     ensures ran { IfOk result (λ root. IsInstant code.now.system (record { in_place = code.now.in_place; order = code.now.order })
         time given.old.items machine.old machine.new out.old out.new root) }
     ensures err { OnErr result (IsInstantBegun code.now.system (record { in_place = code.now.in_place; order = code.now.order })
         time given.old.items machine.old out.old out.new) }
 {
     let at_once = start_of(&machine.texts, out);
+    let all = tables.is_short || time.get() == 0;
     let root = match run_registers(
         alloc,
         code.flat(),
         code.plan(),
-        givens,
+        tables,
         code.timers(),
         time,
+        all,
         given,
         at_once,
+        visits,
         machine,
         out,
     ) {
@@ -153,8 +232,17 @@ pub(crate) fn run_instant(
         }
     };
     if root.is_none() {
-        append_rest(at_once, &machine.texts, out)?;
-        end(code.flat(), code.keeps(), code.timers(), time, machine)?;
+        append_rest(at_once, &mut visits.texts, &mut machine.texts, out)?;
+        end(
+            code.flat(),
+            code.keeps(),
+            tables,
+            code.timers(),
+            time,
+            all,
+            visits,
+            machine,
+        )?;
     } else {
         take_back(at_once, out);
     }

@@ -14,4 +14,6 @@ mod machine;
 pub mod monitor;
 mod next;
 mod run;
+mod tables;
 mod update;
+mod visits;

@@ -14,8 +14,8 @@ use tsl_value::memory::NoMemory;
 /// Registers by the numbers of equations, cells and timers, and texts by the numbers of outputs.
 ///
 /// `registers`, `faulted` and `texts` are those of one instant: what stands at each equation, which are faults, and the lines that were
-/// printed. `kept` lists cells at its end. Nothing of an earlier instant is read in them; the texts and the list keep their room. No mark
-/// of a fault has to be taken off, since a run ends with a fault. `last` has for each equation that is kept the register of its last event.
+/// printed. Between instants all of them are empty; the texts keep their room. `kept` lists cells at an instant's end. No mark of a fault has
+/// to be taken off, since a run ends with a fault. `last` has for each equation that is kept the register of its last event.
 #[derive(Drop)]
 pub(crate) struct Machine {
     pub registers: Vec<Register>,

@@ -12,11 +12,12 @@ ghost use Rattle.monitor_run.specs.inner.State.{IsReady, bound_of};
 ghost use Rattle.monitor_run.specs.inner.Stored.{stored_count};
 ghost use Rattle.monitor_run.specs.inner.Steps.{AreAsSet, CanTake, HasStepped, IsStoppedAgain, stopped};
 
-use crate::begin::givens;
 use crate::instant::run_instant;
 use crate::machine::Machine;
 use crate::next::next_below;
 use crate::run::Root;
+use crate::tables::Tables;
+use crate::visits::Visits;
 use flat_core::line::TraceLine;
 use lift_func::fault::FaultKind;
 use register_code::code::Code;
@@ -75,9 +76,9 @@ pub struct Monitor<'c> {
     bound: u64,
     // The events of the open time.
     given: Vec<TraceLine>,
+    tables: Tables,
+    visits: Visits,
     machine: Machine,
-    // The inputs and the delays.
-    givens: Vec<EqId>,
     stop: Option<Stop>,
 }
 
@@ -86,7 +87,8 @@ impl<'c> Model for Monitor<'c> {
     ghost use Rattle.std.specs.Prelude.{◌≡◌, None};
     ghost use Rattle.lift_func.specs.contracts.body.Body as body;
     ghost use Rattle.monitor_run.specs.inner.Code.{cells_code, times_code};
-    ghost use Rattle.monitor_run.specs.inner.Machine.{AreUnmarked, HasRoom, givens_of};
+    ghost use Rattle.monitor_run.specs.inner.Machine.{AreUnmarked, HasRoom};
+    ghost use Rattle.monitor_run.specs.inner.Visits.{AreTables, HasPlaces, IsAtRest};
     ghost use Rattle.monitor_run.specs.inner.State.{State, IsReady};
 
     ghost Value = { State };
@@ -125,8 +127,9 @@ impl<'c> Model for Monitor<'c> {
           timers = m.machine.timers.times;
           stop = m.stop;
         }))
-        × (m.givens.items ≡ givens_of m.code.now.system)
-        × (m.stop ≡ None → AreUnmarked m.code.now.system m.machine) };
+        × AreTables m.code.now.system m.code.now.order m.tables
+        × HasPlaces m.code.now.system m.code.now.order m.visits
+        × (m.stop ≡ None → AreUnmarked m.code.now.system m.machine × IsAtRest m.machine) };
 }
 
 /// Keeps a stop.
@@ -169,8 +172,9 @@ impl<'c> Monitor<'c> {
             next: 0,
             bound: 0,
             given: Vec::new(alloc),
+            tables: Tables::new(alloc, code)?,
+            visits: Visits::new(alloc, code.plan().order.len(), code.flat().outputs().len())?,
             machine: Machine::new(alloc, code.flat().count(), code.flat().outputs().len())?,
-            givens: givens(alloc, code.flat())?,
             stop: None,
         })
     }
@@ -248,9 +252,10 @@ impl<'c> Monitor<'c> {
         match run_instant(
             self.alloc,
             self.code,
-            &self.givens,
+            &self.tables,
             time,
             &mut self.given,
+            &mut self.visits,
             &mut self.machine,
             out,
         ) {

@@ -1,8 +1,9 @@
 // The steps of an instant, in order.
 
-ghost use Rattle.std.specs.Prelude.{◌≡◌, ◌<◌, ◌≤◌, ◌++◌, ◌||◌, ℕ, [], Bool, All, IfOk, OnOk, IsTrue, None, Option, false, length};
-ghost use Rattle.std.specs.Prelude.{slice_get, take};
+ghost use Rattle.std.specs.Prelude.{◌≡◌, ◌≢◌, ◌<◌, ◌≤◌, ◌++◌, ◌∷◌, ◌&&◌, ◌||◌, ℕ, [], Bool, All, IfOk, OnOk, IsFalse, IsTrue, MatchOption, None, Option};
+ghost use Rattle.std.specs.Prelude.{false, true, if◌then◌else◌, is_some, length, slice_get, slice_index_or, slice_set, take};
 ghost use Rattle.std.specs.List.{list_any};
+ghost use Rattle.agenda.specs.inner.Marks.{has_mark};
 ghost use Rattle.alias_rules.specs.Fine.{IsFinePlan};
 ghost use Rattle.tsl_value.specs.declared.scalar.ValueType.{ValueType};
 ghost use Rattle.lift_func.specs.declared.fault.FaultKind.{FaultKind};
@@ -12,16 +13,21 @@ ghost use Rattle.flat_core.specs.Text.{event_line};
 ghost use Rattle.flat_core.specs.inner.Arity.{HasArity};
 ghost use Rattle.flat_core.specs.Members.{is_in};
 ghost use Rattle.register_machine.specs.Content.{print_of};
+ghost use Rattle.step_uses.specs.Uses.{row};
 ghost use Rattle.monitor_run.specs.inner.Here.{TakesTyped, hands_on, is_blocked_here, is_given_op, is_marked};
 ghost use Rattle.monitor_run.specs.inner.Instant.{HasPrinted, HasRunAll, HasRunOne, IsLeastRoot, SameBeside, name_of};
-ghost use Rattle.monitor_run.specs.inner.Machine.{AreFresh, AreUnmarked, CanPrint, HasRoom, front_of, printed_to, with_current};
+ghost use Rattle.monitor_run.specs.inner.Machine.{AreFresh, AreUnmarked, CanPrint, HasRoom, front_of, printed_to};
 ghost use Rattle.monitor_run.specs.inner.Registers.{AreHeld, register_at, value_at};
 ghost use Rattle.monitor_run.specs.inner.Shown.{plan_in};
+ghost use Rattle.monitor_run.specs.inner.Visits.{AreFilled, AreMarked, AreSkipped, AreUnprinted, AreUses, AreWithin, HasPlaces, IsNextPlace};
+ghost use Rattle.monitor_run.specs.inner.Visits.{has_come, is_empty};
 
 use crate::case::put_own;
 use crate::event::{add_line, print_output};
 use crate::hand::{hand_on, hands_on};
 use crate::machine::{Machine, empty};
+use crate::visits::Visits;
+use agenda::marks::Agenda;
 use aggregate_store::store::Store;
 use flat_core::equation::{Equation, Op};
 use flat_core::flat::Flat;
@@ -31,6 +37,7 @@ use lift_func::fault::FaultKind;
 use lift_func::register::Register;
 use register_code::plan::Plan;
 use std::alloc::Global;
+use step_uses::rows::Rows;
 use tsl_value::bytes::Bytes;
 use tsl_value::ids::EqId;
 use tsl_value::memory::NoMemory;
@@ -192,15 +199,24 @@ pub(crate) fn run_one(
 }
 
 /// Prints an output into its text.
-fn print_later(flat: &Flat, place: usize, time: Time, machine: &mut Machine) -> Result<(), NoMemory>
+fn print_later(
+    flat: &Flat,
+    place: usize,
+    time: Time,
+    marked: &mut Agenda,
+    machine: &mut Machine,
+) -> Result<(), NoMemory>
     requires whole { IsFlat flat.now }
     requires there { place < length flat.now.outputs }
+    requires marks { length marked.old ≡ length flat.now.outputs }
     requires registers { length machine.old.registers.items ≡ length flat.now.equations }
     requires texts { length machine.old.texts.items ≡ length flat.now.outputs }
     requires live { HoldsLive machine.old.store.cells (register_at machine.old.registers.items (print_of flat.now place)) }
     ensures same { SameBeside machine.old machine.new }
     ensures printed { OnOk result (HasPrinted flat.now time place machine.old machine.new) }
+    ensures marked { marked.new ≡ slice_set marked.old place true }
 {
+    marked.mark(place);
     print_output(
         &flat.outputs()[place],
         place,
@@ -242,13 +258,16 @@ fn print_step(
     place: usize,
     time: Time,
     at_once: Option<usize>,
+    marked: &mut Agenda,
     machine: &mut Machine,
     out: &mut Bytes,
 ) -> Result<(), NoMemory>
     requires whole { IsFlat flat.now }
     requires there { place < length flat.now.outputs }
+    requires marks { length marked.old ≡ length flat.now.outputs }
     requires registers { length machine.old.registers.items ≡ length flat.now.equations }
     requires texts { length machine.old.texts.items ≡ length flat.now.outputs }
+    requires unprinted { AreUnprinted marked.old machine.old.texts.items }
     requires live { HoldsLive machine.old.store.cells (register_at machine.old.registers.items (print_of flat.now place)) }
     requires can { CanPrint at_once out.old machine.old.texts.items }
     ensures same { SameBeside machine.old machine.new }
@@ -256,6 +275,9 @@ fn print_step(
         (printed_to at_once out.old machine.old) (printed_to at_once out.new machine.new)) }
     ensures can { CanPrint at_once out.new machine.new.texts.items }
     ensures front { front_of at_once out.new ≡ front_of at_once out.old }
+    ensures marks { length marked.new ≡ length marked.old }
+    ensures unprinted { OnOk result (AreUnprinted marked.new machine.new.texts.items) }
+    ensures blank { IsTrue (is_some at_once) → machine.new.texts ≡ machine.old.texts }
 {
     match at_once {
         Some(start) => print_at_once(
@@ -267,50 +289,126 @@ fn print_step(
             &machine.store,
             out,
         ),
-        None => print_later(flat, place, time, machine),
+        None => print_later(flat, place, time, marked, machine),
     }
 }
 
-/// Runs the steps of a plan in its order, and answers the least root fault of an equation that is no delay. Registers of equations that are
-/// neither inputs nor delays may have what is left of an earlier instant; none of it is read.
+/// The place of the step that comes next: the least from `next` on, or the least that is marked.
+fn next_place(all: bool, next: usize, count: usize, steps: &mut Agenda) -> Option<usize>
+    requires count { count ≡ length steps.old }
+    requires ahead { IsFalse all → (p : ℕ) → IsTrue (has_mark steps.old p) → next ≤ p }
+    ensures size { length steps.new ≡ length steps.old }
+    ensures next { MatchOption result (AreSkipped all steps.old next count) (IsNextPlace all steps.old steps.new next count) }
+{
+    if !all {
+        return steps.take_least();
+    }
+    if next < count { Some(next) } else { None }
+}
+
+/// Notes what an equation has come to where not all steps run: if it has an event it is filled, and if it has one or is a fault, the steps
+/// that use it are marked.
+fn note(
+    id: EqId,
+    all: bool,
+    uses: &Rows,
+    registers: &[Register],
+    faulted: &[bool],
+    steps: &mut Agenda,
+    filled: &mut Vec<EqId>,
+) -> Result<(), NoMemory>
+    requires there { id < length registers.now }
+    requires mark { id < length faulted.now }
+    requires within { AreWithin uses.now (length steps.old) }
+    ensures size { length steps.new ≡ length steps.old }
+    ensures marked { OnOk result (IsFalse all → (p : ℕ)
+        → has_mark steps.new p ≡ (has_mark steps.old p || (has_come registers.now faulted.now id && is_in (row uses.now id) p))) }
+    ensures filled { OnOk result (IsFalse all → filled.new.items
+        ≡ (if is_empty (register_at registers.now id) then filled.old.items else filled.old.items ++ id ∷ [])) }
+{
+    if all {
+        return Ok(());
+    }
+    let place = id.get() as usize;
+    if !registers[place].is_empty() {
+        filled.push(id)?;
+    } else if !faulted[place] {
+        return Ok(());
+    }
+    steps.mark_each(uses.of(id));
+    Ok(())
+}
+
+/// Runs all steps of a plan in its order, or the marked ones and those that use what they fill. The least root fault of an equation that is
+/// no delay is answered.
 pub(crate) fn run_steps(
     alloc: Global,
     flat: &Flat,
     plan: &Plan,
+    uses: &Rows,
     time: Time,
+    all: bool,
     at_once: Option<usize>,
+    visits: &mut Visits,
     machine: &mut Machine,
     out: &mut Bytes,
 ) -> Result<Option<Root>, NoMemory>
     requires whole { IsFlat flat.now }
     requires fine { IsFinePlan flat.now plan.now.in_place plan.now.order }
+    requires uses { AreUses flat.now plan.now.order uses.now }
+    requires within { AreWithin uses.now (length plan.now.order) }
+    requires places { HasPlaces flat.now plan.now.order visits.old }
     requires room { HasRoom flat.now machine.old }
     requires held { (types : ℕ → ValueType)
-        × AreHeld flat.now types machine.old.store.cells (with_current flat.now [] machine.old).registers.items
+        × AreHeld flat.now types machine.old.store.cells machine.old.registers.items
         × AreHeld flat.now types machine.old.store.cells machine.old.last.items }
-    requires fresh { AreFresh flat.now (with_current flat.now [] machine.old) }
+    requires fresh { AreFresh flat.now machine.old }
+    requires late { IsFalse all → time ≢ 0 }
+    requires filled { IsFalse all → AreFilled visits.old.filled.items machine.old.registers.items }
+    requires marked { IsFalse all → AreMarked uses.now visits.old.filled.items visits.old.steps }
+    requires texts { (k : ℕ) → slice_index_or machine.old.texts.items k [] ≡ [] }
     requires can { CanPrint at_once out.old machine.old.texts.items }
+    requires front { front_of at_once out.old ≡ out.old }
     ensures same { SameBeside machine.old machine.new }
+    ensures places { HasPlaces flat.now plan.now.order visits.new }
     ensures front { front_of at_once out.new ≡ front_of at_once out.old }
     ensures can { CanPrint at_once out.new machine.new.texts.items }
     ensures ran { IfOk result (λ root. HasRunAll flat.now (plan_in plan.now) time
-        (with_current flat.now [] machine.old) (printed_to at_once out.new machine.new) root) }
+        machine.old (printed_to at_once out.new machine.new) root) }
     ensures unmarked { IfOk result (λ root. root ≡ None → AreUnmarked flat.now machine.new) }
+    ensures filled { OnOk result (IsFalse all → AreFilled visits.new.filled.items machine.new.registers.items) }
+    ensures unprinted { OnOk result (AreUnprinted visits.new.texts machine.new.texts.items) }
+    ensures blank { IsTrue (is_some at_once) → machine.new.texts ≡ machine.old.texts }
 {
+    let steps = plan.order.as_slice();
     let mut root = None;
-    for step in plan.order.as_slice() {
-        if *step < flat.count() {
-            let id = EqId::new(*step);
+    // All steps before this place have run, or nothing can come of them.
+    let mut next = 0;
+    while let Some(place) = next_place(all, next, steps.len(), &mut visits.steps) {
+        next = place + 1;
+        let step = steps[place];
+        if step < flat.count() {
+            let id = EqId::new(step);
             let e = flat.equation(id);
             let is_sound = root.is_none();
             let found = run_one(alloc, e, id, &plan.in_place, time, is_sound, machine)?;
             root = least_root(root, found);
+            note(
+                id,
+                all,
+                uses,
+                &machine.registers,
+                &machine.faulted,
+                &mut visits.steps,
+                &mut visits.filled,
+            )?;
         } else {
             print_step(
                 flat,
-                (*step - flat.count()) as usize,
+                (step - flat.count()) as usize,
                 time,
                 at_once,
+                &mut visits.texts,
                 machine,
                 out,
             )?;

@@ -1,15 +1,11 @@
 -- What an instant works on.
-use Rattle.std.specs.Prelude.{◌≡◌, ℕ, suc, ◌≤◌, Bool, false, ◌||◌, List, [], ◌∷◌, Option, Some, None, length, IsTrue}
-use Rattle.std.specs.Prelude.{drop, if◌then◌else◌, take}
-use Rattle.std.specs.List.{filter}
+use Rattle.std.specs.Prelude.{◌≡◌, ℕ, ◌≤◌, false, List, [], ◌∷◌, Option, Some, None, length, IsTrue}
+use Rattle.std.specs.Prelude.{drop, take}
 use Rattle.std.specs.Vec.{with_items}
-use Rattle.lift_func.specs.declared.register.Register.{Register}
 use Rattle.lift_func.specs.declared.register.Register.TheVariants as register
 use Rattle.flat_core.specs.declared.equation.Equation.{Equation}
 use Rattle.flat_core.specs.declared.equation.Op.{Op}
-use Rattle.flat_core.specs.Members.{is_in}
 use Rattle.flat_core.specs.System.{System, equation, runs}
-use Rattle.program_text.specs.Text.{numbers}
 use Rattle.monitor_run.specs.inner.Here.{is_given_op, is_marked}
 use Rattle.monitor_run.specs.inner.Registers.{register_at}
 use Rattle.monitor_run.specs.declared.machine.Machine.{Machine}
@@ -34,31 +30,6 @@ pub record AreFresh (s : System) (m : Machine) : Type 0 where
 -- no equation that runs is marked as a fault
 abbrev pub AreUnmarked : System → Machine → Type 0
 AreUnmarked s m = (i : ℕ) → IsTrue (runs s i) → is_marked m.faulted.items i ≡ false
-
--- ---- what is of this instant
-
--- an input or a delay
-abbrev pub is_given_at : Option Equation → Bool
-is_given_at None = false
-is_given_at (Some e) = is_given_op e.op
-
--- the inputs and the delays, by number
-abbrev pub givens_of : System → List ℕ
-givens_of s = filter (λ i. is_given_at (equation s i)) (numbers s)
-
--- The register of equation i is of this instant: it has run, or it is an input or a delay. The others have what is left of an earlier
--- instant.
-abbrev pub is_current : System → List ℕ → ℕ → Bool
-is_current s front i = is_in front i || is_given_at (equation s i)
-
--- registers without those that fail a test
-abbrev pub current : (ℕ → Bool) → List Register → List Register
-current is [] = []
-current is (r ∷ registers) = (if is 0 then r else register.Empty) ∷ current (λ i. is (suc i)) registers
-
--- What the code has with nothing of an earlier instant, where the equations of a list have run.
-abbrev pub with_current : System → List ℕ → Machine → Machine
-with_current s front m = record m { registers = with_items m.registers (current (is_current s front) m.registers.items) }
 
 -- ---- where lines are printed
 

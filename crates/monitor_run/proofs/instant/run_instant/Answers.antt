@@ -1,5 +1,6 @@
 use Rattle.std.proofs.Common.{◌≡◌, None, ap, subst, ◌∙◌}
 use Rattle.std.specs.Prelude.{not}
+use Rattle.std.specs.Vec.{with_items}
 use Rattle.flat_core.specs.System.{System}
 use Rattle.register_machine.specs.Run.{Plan}
 use Rattle.monitor_run.specs.inner.Instant.{HasEnded}
@@ -15,14 +16,14 @@ returns-in_err-append_rest-clause-err c =
     let plan : Plan = record { in_place = c.args.code.now.in_place; order = c.args.code.now.order } in
     let run = has_run_to c.args.code.now.system _ plan _ _ _ _ _ _ _ _ _ _ c.flat.ensures.flat c.plan.ensures.in_place c.plan.ensures.order
     c.in-Ok.ensures.ran c.run_registers.ensures.room c.run_registers.ensures.can c.run_registers.ensures.front c.start_of-at_once.ensures.front in
-    on_err c.from_residual.result _ (part_appended _ _ _ _ _ _ _ _ _ _ run _ c.deref-then-is_none.ensures.value _ c.in_err-append_rest.ensures.err)
+    on_err c.from_residual.result _ (part_appended _ _ _ _ _ _ _ _ _ _ run _ c.deref_mut.ensures.value _ c.in_err-append_rest.ensures.err)
 
 pub returns-in_err-end-clause-err : goal.returns-in_err-end-clause-err
 returns-in_err-end-clause-err c =
     let plan : Plan = record { in_place = c.args.code.now.in_place; order = c.args.code.now.order } in
     let run = has_run_to c.args.code.now.system _ plan _ _ _ _ _ _ _ _ _ _ c.flat.ensures.flat c.plan.ensures.in_place c.plan.ensures.order
     c.in-Ok.ensures.ran c.run_registers.ensures.room c.run_registers.ensures.can c.run_registers.ensures.front c.start_of-at_once.ensures.front in
-    on_err c.from_residual-in_err-end.result _ (all_appended _ _ _ _ _ _ _ _ _ _ run _ c.deref-then-is_none.ensures.value _ c.in_ok-append_rest.ensures.ok)
+    on_err c.from_residual-in_err-end.result _ (all_appended _ _ _ _ _ _ _ _ _ _ run _ c.deref_mut.ensures.value _ c.in_ok-append_rest.ensures.ok)
 
 pub returns-clause-ran : goal.returns-clause-ran
 returns-clause-ran c =
@@ -32,11 +33,13 @@ returns-clause-ran c =
     elim c.if-is_none.branch [
       | then-is_none+in_ok-append_rest+in_ok-end w ↦
           let new = w.end.new.machine in
-          let ended = subst (λ (q : System). HasEnded q c.args.time c.run_registers.new.machine new) w.flat-then-is_none.ensures.flat w.in_ok-end.ensures.ended in
+          let m = c.run_registers.new.machine in
+          let over = subst (λ (q : System). HasEnded q c.args.time (record m { texts = with_items m.texts w.append_rest.new.texts }) new) w.flat-then-is_none.ensures.flat w.in_ok-end.ensures.ended in
+          let ended : HasEnded c.args.code.now.system c.args.time c.run_registers.new.machine new = record { last = over.last; timers = over.timers; cells = over.cells; ledger = over.ledger } in
           let room = subst (λ (q : System). HasRoom q new) w.flat-then-is_none.ensures.flat w.end.ensures.room in
           rw (w.machine-is, w.out-is)
           (instant_ended _ _ _ _ _ _ _ _ _ _ run c.requires.whole (c.is_none.ensures ∙ ap not w.if-is_none.true) c.requires.sound new ended room.last
-          _ w.deref-then-is_none.ensures.value _ w.in_ok-append_rest.ensures.ok)
+          _ w.deref_mut.ensures.value _ w.in_ok-append_rest.ensures.ok)
       | else-is_none w ↦
           rw (w.machine-is, w.out-is)
           (instant_faulted _ _ _ _ _ _ _ _ _ _ run (c.is_none.ensures ∙ ap not w.if-is_none.false) _ w.take_back-else-is_none.ensures)

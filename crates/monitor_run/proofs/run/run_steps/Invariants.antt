@@ -1,7 +1,10 @@
-use Rattle.std.proofs.Common.{take}
+use Rattle.std.proofs.Common.{◌-◌, length}
 use Rattle.monitor_run.specs.inner.Shown.{plan_in}
-use Rattle.monitor_run.proofs.PrintLemmas.{IsPrintedRun}
+use Rattle.monitor_run.proofs.VisitLemmas.{IsVisiting}
 use Rattle.monitor_run.proofs.run.run_steps.Given as goal
 
-abbrev pub invariant-loop-step : goal.invariant-loop-step
-invariant-loop-step l = IsPrintedRun l.flat (plan_in l.plan) l.time l.at_once (take l.step-index l.plan.order) l.fn.out l.fn.machine l.out l.machine l.root
+abbrev pub invariant-loop-place : goal.invariant-loop-place
+invariant-loop-place l = IsVisiting l.flat (plan_in l.plan) l.time l.at_once l.all l.fn.out l.fn.machine l.next l.visits.steps l.visits.texts l.visits.filled.items l.out l.machine l.root
+
+abbrev pub decreases-loop-place : goal.decreases-loop-place
+decreases-loop-place l = length l.plan.order - l.next

@@ -14,6 +14,7 @@ invariant_of-self c = (
       ready_closed _ c.max-self-inside.result ready (omega (arith, c.max-self-inside.ensures)) (omega (arith, c.max-self-inside.ensures)),
   c.self.invariant.2,
   c.self.invariant.3,
+  c.self.invariant.4,
 )
 
 pub returns-clause-stands : goal.returns-clause-stands

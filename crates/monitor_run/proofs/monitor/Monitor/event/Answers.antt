@@ -14,6 +14,7 @@ invariant_of-self c = (
       ready_pushed _ c.args.time c.args.input c.args.value c.push.new.self.items (c.self.invariant.1 going) can c.in-Ok.ensures.items,
   c.self.invariant.2,
   c.self.invariant.3,
+  c.self.invariant.4,
 )
 
 pub returns-clause-stands : goal.returns-clause-stands

@@ -50,9 +50,10 @@ invariant_of-self-in-Ok-None c = (
       let after = c.run_instant.new.machine in
       let ran = subst (λ r. IsInstant inside.code.now.system (record { in_place = inside.code.now.in_place; order = inside.code.now.order }) t inside.given.items old after c.args.out.now c.run_instant.new.out r) c.in-Ok-None.field-0-is c.in-Ok-None.ensures.ran in
       let new : State = record { system = inside.code.now.system; in_place = inside.code.now.in_place; order = inside.code.now.order; limit = inside.limit; ran = inside.ran + 1; next = c.get.result + 1; bound = inside.bound; given = c.run_instant.new.given.items; cells = after.store.cells; ledger = after.store.ledger; last = after.last.items; timers = after.timers.times; stop = inside.stop } in
-      ready_on _ ready t found.1 found.2 found.0 new old after c.args.out.now c.run_instant.new.out (record { cells = refl; last = refl; timers = refl; ledger = refl }) (record { system = refl; in_place = refl; order = refl; limit = refl; bound = refl }) (omega (arith, c.get.ensures.value)) refl (below_limit inside.ran inside.limit ready.room c.if-self.false) (c.run_instant.ensures.given ready.time ready.given_at) ran,
+      ready_on _ ready t found.1 found.2 found.0 new old after c.args.out.now c.run_instant.new.out (record { cells = refl; last = refl; timers = refl; ledger = refl }) (record { system = refl; in_place = refl; order = refl; limit = refl; bound = refl }) (omega (arith, c.get.ensures.value)) refl (below_limit inside.ran inside.limit ready.room c.if-self.false) (c.in-Ok-None.ensures.given ready.time ready.given_at) ran,
   c.self.invariant.2,
-  λ going. c.in-Ok-None.ensures.unmarked c.in-Ok-None.field-0-is,
+  c.run_instant.ensures.places,
+  λ going. (c.in-Ok-None.ensures.unmarked c.in-Ok-None.field-0-is, c.in-Ok-None.ensures.rest c.in-Ok-None.field-0-is),
 )
 
 pub returns-in-Ok-None-clause-steps : goal.returns-in-Ok-None-clause-steps
@@ -66,7 +67,7 @@ returns-in-Ok-None-clause-steps c = λ going lines stands.
     let after = c.run_instant.new.machine in
     let ran = subst (λ r. IsInstant inside.code.now.system (record { in_place = inside.code.now.in_place; order = inside.code.now.order }) t inside.given.items old after c.args.out.now c.run_instant.new.out r) c.in-Ok-None.field-0-is c.in-Ok-None.ensures.ran in
     let new : State = record { system = inside.code.now.system; in_place = inside.code.now.in_place; order = inside.code.now.order; limit = inside.limit; ran = inside.ran + 1; next = c.get.result + 1; bound = inside.bound; given = c.run_instant.new.given.items; cells = after.store.cells; ledger = after.store.ledger; last = after.last.items; timers = after.timers.times; stop = inside.stop } in
-    subst (λ (m : State). HasRun m new lines c.args.out.now c.run_instant.new.out) c.self.view_is (run_is _ ready t found.1 found.2 found.0 lines stands_in new old after c.args.out.now c.run_instant.new.out (record { cells = refl; last = refl; timers = refl; ledger = refl }) (record { cells = refl; last = refl; timers = refl; ledger = refl }) (record { system = refl; in_place = refl; order = refl; limit = refl; bound = refl }) (omega (arith, c.get.ensures.value)) refl (ap (λ (m : State). m.stop) c.self.view_is ∙ going) (c.run_instant.ensures.given ready.time ready.given_at) ran)
+    subst (λ (m : State). HasRun m new lines c.args.out.now c.run_instant.new.out) c.self.view_is (run_is _ ready t found.1 found.2 found.0 lines stands_in new old after c.args.out.now c.run_instant.new.out (record { cells = refl; last = refl; timers = refl; ledger = refl }) (record { cells = refl; last = refl; timers = refl; ledger = refl }) (record { system = refl; in_place = refl; order = refl; limit = refl; bound = refl }) (omega (arith, c.get.ensures.value)) refl (ap (λ (m : State). m.stop) c.self.view_is ∙ going) (c.in-Ok-None.ensures.given ready.time ready.given_at) ran)
 
 pub returns-in-Ok-Some-clause-steps : goal.returns-in-Ok-Some-clause-steps
 returns-in-Ok-Some-clause-steps c = λ going lines stands.
