@@ -4,3 +4,4 @@ pub mod FlatMeaning
 pub mod Meaning
 pub mod Kept
 pub mod Something
+pub mod Inputs

@@ -1,3 +1,4 @@
 pub mod Compiled
+pub mod Inputs
 pub mod Meant
 pub mod inner

@@ -1,7 +1,7 @@
 // Laws of compiled specifications, as the contracts of functions that do nothing.
 
 ghost use Rattle.spec_compiler.specs.inner.Laws.{OneIsCompiled, RefusedCompilesNone, CompiledSaysWhatIsMeant, SomethingHappens};
-ghost use Rattle.spec_compiler.specs.inner.Laws.{FaultsAreDecided};
+ghost use Rattle.spec_compiler.specs.inner.Laws.{FaultsAreDecided, InputsAreDeclared, InputsStandAtTheirNumbers};
 
 /// A source is one specification at most, and one system at most is run for it.
 pub fn one_is_compiled()
@@ -11,6 +11,16 @@ pub fn one_is_compiled()
 /// For a source that is refused, other than out of memory, no system is run.
 pub fn refused_compiles_none()
     ensures { RefusedCompilesNone }
+{}
+
+/// The system that is run has the inputs that the items declare, under the same numbers, and no others.
+pub fn inputs_are_declared()
+    ensures { InputsAreDeclared }
+{}
+
+/// The input that an item declares stands at the number by which the meaning knows it.
+pub fn inputs_stand_at_their_numbers()
+    ensures { InputsStandAtTheirNumbers }
 {}
 
 /// What the system that is run says of a trace, the specification says, where the events of its lines are of their inputs' types.

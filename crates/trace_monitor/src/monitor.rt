@@ -69,6 +69,7 @@ fn run(engine: &mut Monitor, out: &mut Bytes) -> Result<(), Stop>
     requires { (lines : List Line) × (text : List ℕ) × HasWritten engine.old lines text }
     ensures system { engine.new.system ≡ engine.old.system }
     ensures set { engine.new.in_place ≡ engine.old.in_place }
+    ensures order { engine.new.order ≡ engine.old.order }
     ensures runs { OnOk result ((lines : List Line) (text : List ℕ)
         → HasWritten engine.old lines text
         → HasRunOut engine.old engine.new lines text out.old out.new) }
@@ -93,6 +94,7 @@ fn run_below(engine: &mut Monitor, time: Time, out: &mut Bytes) -> Result<(), St
     requires later { engine.old.bound ≤ time }
     ensures system { engine.new.system ≡ engine.old.system }
     ensures set { engine.new.in_place ≡ engine.old.in_place }
+    ensures order { engine.new.order ≡ engine.old.order }
     ensures runs { OnOk result ((lines : List Line) (text : List ℕ)
         → HasWritten engine.old lines text
         → HasRunBelow engine.old engine.new lines time text out.old out.new) }
@@ -110,6 +112,7 @@ fn give(engine: &mut Monitor, line: TraceLine) -> Result<(), Stop>
     requires takes { (i : ℕ) (value : Scalar) → line.event ≡ Some (i, value) → CanTake engine.old line.time i value }
     ensures system { engine.new.system ≡ engine.old.system }
     ensures set { engine.new.in_place ≡ engine.old.in_place }
+    ensures order { engine.new.order ≡ engine.old.order }
     ensures given { OnOk result ((lines : List Line) (text : List ℕ)
         → HasWritten engine.old lines text
         → HasWritten engine.new (lines ++ events_of (line ∷ [])) text) }
@@ -130,6 +133,7 @@ fn take_line(engine: &mut Monitor, line: TraceLine, out: &mut Bytes) -> Result<(
     requires { (lines : List Line) × (text : List ℕ) × HasLines engine.old lines text × MayFollow engine.old.system lines line }
     ensures system { engine.new.system ≡ engine.old.system }
     ensures set { engine.new.in_place ≡ engine.old.in_place }
+    ensures order { engine.new.order ≡ engine.old.order }
     ensures taken { OnOk result ((lines : List Line) (text : List ℕ)
         → HasLines engine.old lines text
         → MayFollow engine.old.system lines line
@@ -167,6 +171,7 @@ fn take_lines(
     requires { (x : Fed) × (lines : List Line) × (text : List ℕ) × HasRead reader.old engine.old last.old x lines text }
     ensures system { engine.new.system ≡ engine.old.system }
     ensures set { engine.new.in_place ≡ engine.old.in_place }
+    ensures order { engine.new.order ≡ engine.old.order }
     ensures read { IfOk result (λ by. (x : Fed) (lines : List Line) (text : List ℕ)
         → HasRead reader.old engine.old last.old x lines text
         → HasReadAll reader.new engine.old engine.new last.new x lines text out.old out.new by) }
@@ -199,6 +204,7 @@ fn run_to_halt(
     requires last { engine.old.bound ≡ last }
     ensures system { engine.new.system ≡ engine.old.system }
     ensures set { engine.new.in_place ≡ engine.old.in_place }
+    ensures order { engine.new.order ≡ engine.old.order }
     ensures runs { OnOk result ((lines : List Line) (text : List ℕ) → HasWritten engine.old lines text
         → HasRunOut (closed_to engine.old (bound_at by.now last until)) engine.new lines text out.old out.new) }
     ensures stops { IfErr result (λ stop. (lines : List Line) (text : List ℕ) → HasWritten engine.old lines text
@@ -222,6 +228,7 @@ fn run_all(
     requires { (x : Fed) × (lines : List Line) × (text : List ℕ) × HasRead reader.old engine.old last.old x lines text }
     ensures system { engine.new.system ≡ engine.old.system }
     ensures set { engine.new.in_place ≡ engine.old.in_place }
+    ensures order { engine.new.order ≡ engine.old.order }
     ensures run { IfOk result (λ by. (x : Fed) (lines : List Line) (text : List ℕ)
         → HasRead reader.old engine.old last.old x lines text
         → HasRunAll reader.new engine.old engine.new last.new until x lines text out.old out.new by) }
@@ -291,6 +298,7 @@ impl<'c> TraceMonitor<'c> {
         ensures kept { IfOk result (λ m. Kept m []) }
         ensures system { IfOk result (λ m. m.system ≡ code.now.system) }
         ensures in_place { IfOk result (λ m. m.engine.in_place ≡ code.now.in_place) }
+        ensures order { IfOk result (λ m. m.engine.order ≡ code.now.order) }
         ensures options { IfOk result (λ m. m.options ≡ options) }
     {
         let reader = TraceReader::new(alloc, code.flat(), options.strict, options.bytes)?;
@@ -332,6 +340,7 @@ impl<'c> TraceMonitor<'c> {
         ensures options { self.new.options ≡ self.old.options }
         ensures engine { self.new.engine.system ≡ self.old.engine.system }
         ensures set { self.new.engine.in_place ≡ self.old.engine.in_place }
+        ensures order { self.new.engine.order ≡ self.old.engine.order }
         ensures kept { (fed : List ℕ) → Kept self.old fed → result ≡ Ok None → Kept self.new (fed ++ piece.now) }
         ensures text { OnOk result ((fed text : List ℕ) → Kept self.old fed → IsDue self.old.system self.old.options fed false text
             → IsDue self.old.system self.old.options (fed ++ piece.now) (is_nothing piece.now) (text ++ out.new)) }

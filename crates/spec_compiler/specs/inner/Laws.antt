@@ -1,7 +1,9 @@
 -- Laws of compiled specifications.
-use Rattle.std.specs.Prelude.{◌≡◌, ◌⊎◌, ℕ, List, Option, Some}
+use Rattle.std.specs.Prelude.{◌≡◌, ◌≢◌, ◌⊎◌, ℕ, List, ◌++◌, Option, Some, slice_get}
+use Rattle.std.specs.List.{AllByRecursion}
 use Rattle.lift_func.specs.declared.fault.FaultKind.{FaultKind}
 use Rattle.flat_core.specs.declared.equation.Equation.{Equation}
+use Rattle.flat_core.specs.declared.equation.Op.TheVariants as op
 use Rattle.flat_core.specs.Case.{Streams, Inputs}
 use Rattle.flat_core.specs.Ending.{EndsInFault, EndsAtLimit, EndsAtBound}
 use Rattle.flat_core.specs.Line.{Line, inputs_of}
@@ -11,11 +13,14 @@ use Rattle.flat_core.specs.System.{System, equation}
 use Rattle.flat_core.specs.Text.{due_text}
 use Rattle.flat_core.specs.inner.TypedLines.{AreTypedLines}
 use Rattle.syntax_tree.specs.Tree as tree
+use Rattle.tsl_value.specs.declared.place.Place.{Place}
 use Rattle.spec_meaning.specs.Due.{IsFaulty, IsDueText}
 use Rattle.spec_meaning.specs.Happens.{Happens, IsNeeded}
 use Rattle.spec_meaning.specs.Occurrence.{Occurrence}
+use Rattle.spec_meaning.specs.Shape.{input_number}
 use Rattle.spec_reader.specs.declared.fault.SpecFault.{SpecFault}
 use Rattle.spec_compiler.specs.Compiled.{Compiles, IsRefusedBy}
+use Rattle.spec_compiler.specs.Inputs.{declared_inputs}
 use Rattle.spec_compiler.specs.Meant.{FaultTimeIsMeant, QuietIsMeant, LimitIsMeant, IsFaultNamed}
 
 -- a source is one specification at most, and one system at most is run for it
@@ -32,6 +37,27 @@ RefusedCompilesNone =
     (source : List ℕ) (e : SpecFault) (items : List tree.Item) (u : System)
     → IsRefusedBy source e
     → ¬ (Compiles source items u)
+
+-- The inputs of the system that is run are those that the items declare, under the same numbers: no other equation is an input.
+pub record HasDeclaredInputs (items : List tree.Item) (u : System) : Type 0 where
+  pub others : List Equation
+  pub equations_are : u.equations ≡ declared_inputs items ++ others
+  pub no_inputs : AllByRecursion (λ e. e.op ≢ op.Input) others
+
+abbrev pub InputsAreDeclared : Type 0
+InputsAreDeclared = (source : List ℕ) (items : List tree.Item) (u : System) → Compiles source items u → HasDeclaredInputs items u
+
+-- The input that an item declares stands at the number by which the meaning knows it.
+pub record StandsAtItsNumber (items : List tree.Item) (i : ℕ) (name : List ℕ) : Type 0 where
+  pub at : Equation
+  pub is : slice_get (declared_inputs items) (input_number items i) ≡ Some at
+  pub name_is : at.name ≡ Some name
+
+abbrev pub InputsStandAtTheirNumbers : Type 0
+InputsStandAtTheirNumbers =
+    (items : List tree.Item) (i : ℕ) (p q : Place) (name : List ℕ) (y : tree.TypeName)
+    → slice_get items i ≡ Some (tree.Input p q name y)
+    → StandsAtItsNumber items i name
 
 -- What streams of the system that is run say of a trace, the specification says: the text that is due, and how a run stands.
 pub record SaysWhatIsMeant (items : List tree.Item) (u : System) (lines : List Line) (bound limit : ℕ) (z : Streams) : Type 0 where

@@ -25,6 +25,7 @@ loop-stop-preserved c = (
       ran_on c.args.engine.now c.loop-stop.engine c.step.new.self lines text c.args.out.now c.loop-stop.out c.step.new.out (c.instants.ensures.ready going) on ran,
   c.step.ensures.as_set.system ∙ c.loop-stop.invariant.1,
   c.step.ensures.as_set.in_place ∙ c.loop-stop.invariant.2,
+  c.step.ensures.as_set.order ∙ c.loop-stop.invariant.3,
 )
 
 pub returns-in-Ok-Idle-clause-runs : goal.returns-in-Ok-Idle-clause-runs
@@ -44,4 +45,4 @@ returns-in-Err-clause-stops c = λ lines text written.
     stopped_so c.args.engine.now c.loop-stop.engine c.step.new.self lines text c.args.out.now c.loop-stop.out c.step.new.out (c.instants.ensures.ready going) on c.in-Err.stop c.step.ensures.as_set stopped
 
 pub loop-stop-init : goal.loop-stop-init
-loop-stop-init c = (λ lines text written. not_begun c.args.engine.now lines text c.args.out.now written, refl, refl)
+loop-stop-init c = (λ lines text written. not_begun c.args.engine.now lines text c.args.out.now written, refl, refl, refl)

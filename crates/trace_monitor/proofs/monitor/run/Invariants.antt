@@ -7,6 +7,7 @@ use Rattle.trace_monitor.proofs.monitor.run.Given as goal
 -- for all lines for which the engine stood, and with the same code
 abbrev pub invariant-loop-stop : goal.invariant-loop-stop
 invariant-loop-stop l = ((lines : List Line) (text : List ℕ) → HasWritten l.fn.engine lines text → HasGoneOn l.fn.engine l.engine lines text l.fn.out l.out) × (l.engine.system ≡ l.fn.engine.system) × (l.engine.in_place ≡ l.fn.engine.in_place)
+    × (l.engine.order ≡ l.fn.engine.order)
 
 abbrev pub decreases-loop-stop : goal.decreases-loop-stop
 decreases-loop-stop l = l.engine.bound - l.engine.next

@@ -12,7 +12,7 @@ use Rattle.trace_monitor.proofs.Taking.{if_both, if_is_err}
 use Rattle.trace_monitor.proofs.monitor.take_lines.Goals as goal
 
 pub loop-line-init : goal.loop-line-init
-loop-line-init c = (λ x lines text read. none_taken c.args.reader.now c.args.engine.now c.args.last.now x lines text c.args.out.now read, refl, refl)
+loop-line-init c = (λ x lines text read. none_taken c.args.reader.now c.args.engine.now c.args.last.now x lines text c.args.out.now read, refl, refl, refl)
 
 pub take_line-requires : goal.take_line-requires
 take_line-requires c =
@@ -42,6 +42,7 @@ loop-line-preserved c = (
       (c.in_ok-take_line-in-Ok-Line.ensures.taken taken (text ++ on.added) on.read.has may),
   c.take_line.ensures.system ∙ c.loop-line.invariant.1,
   c.take_line.ensures.set ∙ c.loop-line.invariant.2,
+  c.take_line.ensures.order ∙ c.loop-line.invariant.3,
 )
 
 pub returns-in_err-take_line-in-Ok-Line-clause-stops : goal.returns-in_err-take_line-in-Ok-Line-clause-stops

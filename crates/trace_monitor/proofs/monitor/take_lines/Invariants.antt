@@ -7,6 +7,7 @@ use Rattle.trace_monitor.proofs.monitor.take_lines.Given as goal
 abbrev pub invariant-loop-line : goal.invariant-loop-line
 invariant-loop-line l = ((x : Fed) (lines : List Line) (text : List ℕ) → HasRead l.fn.reader l.fn.engine l.fn.last x lines text
     → HasReadOn l.reader l.fn.engine l.engine l.last x lines text l.fn.out l.out) × (l.engine.system ≡ l.fn.engine.system) × (l.engine.in_place ≡ l.fn.engine.in_place)
+    × (l.engine.order ≡ l.fn.engine.order)
 
 abbrev pub decreases-loop-line : goal.decreases-loop-line
 decreases-loop-line l = length l.reader.unread
