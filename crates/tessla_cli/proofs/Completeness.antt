@@ -6,13 +6,13 @@ use Rattle.spec_compiler.proofs.Kept.{refused_compiles_none}
 use Rattle.tsl_world.specs.declared.outside.Did.{Did}
 use Rattle.tsl_world.specs.declared.outside.Slot.TheVariants.{Spec, Trace}
 use Rattle.tsl_world.specs.Journal.{taken, ended}
-use Rattle.trace_monitor.specs.Due.{bound_in, lines_in, refused_in}
 use Rattle.tessla_cli.specs.declared.ending.Ending.{Ending}
 use Rattle.tessla_cli.specs.declared.ending.Ending.TheVariants as ending
 use Rattle.tessla_cli.specs.Alone.{AloneStops}
 use Rattle.tessla_cli.specs.Completeness.{CanPrint, CanRun, IsComplete, IsDoneWith, IsWholeTrace}
 use Rattle.tessla_cli.specs.Conduct.{AloneEnds, EndsAlone, EndsPrint, EndsRun, OfAlone, RunEnds}
 use Rattle.tessla_cli.specs.Failures.{Failures, SomeFailed}
+use Rattle.tessla_cli.specs.Meant.{bound_meant, lines_meant, refused_meant}
 use Rattle.tessla_cli.specs.Messages.{status_of}
 use Rattle.tessla_cli.specs.Outcome.{Concludes, Outcome}
 use Rattle.tessla_cli.specs.Outcome.Outcome.{told, outside, memory}
@@ -35,15 +35,15 @@ module _ (words : List (List ℕ)) (part : List Did) where
     run_done ending.Done (inr (inr b)) = absurd (apart (requested words) (can.name, monitor can.trace can.options can.statistics) b.wrote.what can.asked b.wrote.asked)
     run_done (ending.Trace f) (inl b) =
         let meant = meant_by words part _ (ending.Trace f) can b in
-        absurd (nothing_some (refused_in can.system can.options (taken Trace part) (ended Trace part)) f can.holds.accepted meant.0)
+        absurd (nothing_some (refused_meant can.items can.options (taken Trace part) (ended Trace part)) f can.holds.accepted meant.0)
     run_done (ending.Trace f) (inr b) = absurd (no_stop (ending.Trace f) b)
     run_done (ending.Fault t kind place) (inl b) =
         let meant = meant_by words part _ (ending.Fault t kind place) can b in
-        absurd (loud can.items (lines_in can.system can.options (taken Trace part) (ended Trace part)) (bound_in can.system can.options (taken Trace part) (ended Trace part)) can.options.instants t can.holds.quiet meant.0)
+        absurd (loud can.items (lines_meant can.items can.options (taken Trace part) (ended Trace part)) (bound_meant can.items can.options (taken Trace part) (ended Trace part)) can.options.instants t can.holds.quiet meant.0)
     run_done (ending.Fault t kind place) (inr b) = absurd (no_stop (ending.Fault t kind place) b)
     run_done (ending.Limit n t) (inl b) =
         let meant = meant_by words part _ (ending.Limit n t) can b in
-        absurd (long can.items (lines_in can.system can.options (taken Trace part) (ended Trace part)) (bound_in can.system can.options (taken Trace part) (ended Trace part)) can.options.instants t can.holds.quiet meant.1)
+        absurd (long can.items (lines_meant can.items can.options (taken Trace part) (ended Trace part)) (bound_meant can.items can.options (taken Trace part) (ended Trace part)) can.options.instants t can.holds.quiet meant.1)
     run_done (ending.Limit n t) (inr b) = absurd (no_stop (ending.Limit n t) b)
 
   -- of a text of a specification

@@ -32,11 +32,11 @@ texts_same P f g same (x ∷ xs) = elim (cases_Bool (P x)) [
 ]
 
 -- what is told of a run that has ended so
-pub statistics_meant : (s : System) (o : Options) (e : engine.State) (order : List ℕ) → IsTakenPlan s e.in_place order → (by : Ending) (part : List Did) (text : List ℕ) → WatchEnds s o e by part → text ≡ counted_text s e true
+pub statistics_meant : (s : System) (o : Options) (e : engine.State) → IsTakenPlan s e.in_place e.order → (by : Ending) (part : List Did) (text : List ℕ) → WatchEnds s o e by part → text ≡ counted_text s e true
     → AreStatistics s o (taken Trace part) (ended Trace part) by text
-statistics_meant s o e order taken_plan by part text w is = record {
+statistics_meant s o e taken_plan by part text w is = record {
   set = e.in_place;
-  order = order;
+  order = e.order;
   taken = taken_plan;
   how = w.how;
   by_is = w.by_is;

@@ -21,14 +21,13 @@ use Rattle.trace_bench.specs.inner.Laws.{AreOfOneKind}
 use Rattle.trace_monitor.specs.declared.ending.RunEnding.{RunEnding}
 use Rattle.trace_monitor.specs.declared.ending.RunEnding.TheVariants as run
 use Rattle.trace_monitor.specs.declared.options.Options.{Options}
-use Rattle.trace_monitor.specs.Due.{lines_in, bound_in, refused_in}
 use Rattle.tessla_cli.specs.declared.ending.Ending.{Ending}
 use Rattle.tessla_cli.specs.declared.ending.Ending.TheVariants as ending
 use Rattle.tessla_cli.specs.Alone.{AloneStops, IsAloneText}
 use Rattle.tessla_cli.specs.Conduct.{AloneEnds, EndsRun, EndsPrint, EndsAlone, RunEnds, SpecRefused}
 use Rattle.tessla_cli.specs.Failures.{Failures}
 use Rattle.tessla_cli.specs.Headline.{OfRun}
-use Rattle.tessla_cli.specs.Meant.{EndsAsMeant}
+use Rattle.tessla_cli.specs.Meant.{EndsAsMeant, bound_meant, lines_meant, refused_meant}
 use Rattle.tessla_cli.specs.Messages.{status_of}
 use Rattle.tessla_cli.specs.Outcome.{Concludes, Outcome, IsExact}
 use Rattle.tessla_cli.specs.Effects.{ending_of}
@@ -59,17 +58,17 @@ module _ (items : List tree.Item) (lines : List Line) (bound limit : ℕ) where
 
 module _ (items : List tree.Item) (s : System) (o : Options) (bytes : List ℕ) (end : Bool) where
   abbrev lines : List Line
-  lines = lines_in s o bytes end
+  lines = lines_meant items o bytes end
 
   abbrev bound : ℕ
-  bound = bound_in s o bytes end
+  bound = bound_meant items o bytes end
 
   same_status : (by other : Ending) → EndsAsMeant items s o bytes end by → EndsAsMeant items s o bytes end other → status_of by ≡ status_of other
   same_status ending.Done ending.Done a b = refl
-  same_status ending.Done (ending.Trace f) a b = absurd (nothing_some (refused_in s o bytes end) f a.1 b.0)
+  same_status ending.Done (ending.Trace f) a b = absurd (nothing_some (refused_meant items o bytes end) f a.1 b.0)
   same_status ending.Done (ending.Fault t kind place) a b = absurd (loud items lines bound o.instants t a.2 b.0)
   same_status ending.Done (ending.Limit n t) a b = absurd (long items lines bound o.instants t a.2 b.1)
-  same_status (ending.Trace f) ending.Done a b = absurd (nothing_some (refused_in s o bytes end) f b.1 a.0)
+  same_status (ending.Trace f) ending.Done a b = absurd (nothing_some (refused_meant items o bytes end) f b.1 a.0)
   same_status (ending.Trace f) (ending.Trace g) a b = refl
   same_status (ending.Trace f) (ending.Fault t kind place) a b = absurd (loud items lines bound o.instants t a.1 b.0)
   same_status (ending.Trace f) (ending.Limit n t) a b = absurd (long items lines bound o.instants t a.1 b.1)

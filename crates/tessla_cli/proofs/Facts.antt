@@ -7,15 +7,15 @@ use Rattle.monitor_run.specs.inner.State as engine
 use Rattle.trace_monitor.specs.Counted.{HasCounted}
 use Rattle.tsl_world.specs.Begins.{Begins}
 use Rattle.tsl_world.specs.declared.outside.Did.{Did}
-use Rattle.tsl_world.specs.declared.outside.Did.TheVariants.{Opened, Created, NotOpened, NotCreated, Took, Gave}
+use Rattle.tsl_world.specs.declared.outside.Did.TheVariants.{Opened, Created, Took, Gave, NotOpened, NotCreated, NotTook, NotGave}
 use Rattle.tsl_world.specs.declared.outside.Slot.{Slot}
 use Rattle.tsl_world.specs.declared.outside.Slot.TheVariants.{Spec, Trace}
 use Rattle.tsl_world.specs.declared.outside.Channel.{Channel}
 use Rattle.tsl_world.specs.declared.outside.Channel.TheVariants.{Out, Err}
-use Rattle.tsl_world.specs.Journal.{given, taken, ended, opening, openings, creations, AtReads, StopsAtEnd, IsNoRead, IsNoGift, IsTransfer, IsWithin, Each}
-use Rattle.tsl_world.proofs.Journals.{openings-append, creations-append, Each-append, no_place, place}
-use Rattle.tsl_world.proofs.Untouched.{gifts_read_none, gifts_transfer, gifts_within, gifts_elsewhere, taken_before, taken_after, ended_before, ended_after, given_after, given_none, openings_none, creations_none}
-use Rattle.tsl_world.proofs.Places.{at_none, at_no_read, at_join, at_more, at_after, at_weaker}
+use Rattle.tsl_world.specs.Journal.{given, taken, ended, openings, creations, AtAll, AtReads, StopsAtEnd, StopsAtFailure, IsAny, IsDone, IsGift, IsOpening, IsRead, IsNoRead, IsNoGift, IsTransfer, IsWithin, Each}
+use Rattle.tsl_world.proofs.Journals.{openings-append, creations-append, Each-append, each_more}
+use Rattle.tsl_world.proofs.Untouched.{gifts_read_none, gifts_transfer, gifts_within, gifts_elsewhere, not_gift, taken_before, taken_after, ended_before, ended_after, given_after, given_none, openings_none, creations_none, transfer_opens_none}
+use Rattle.tsl_world.proofs.Places.{at_none, at_not, at_no_read, at_join, at_more, at_after, at_weaker, at_fewer, at_each, at_each_join, stops_one}
 use Rattle.syntax_tree.specs.Tree as tree
 use Rattle.spec_compiler.specs.Compiled.{Compiles}
 use Rattle.trace_monitor.specs.declared.options.Options.{Options}
@@ -23,61 +23,48 @@ use Rattle.trace_monitor.specs.Due.{IsDue}
 use Rattle.trace_monitor.specs.Ending.{GoesOn}
 use Rattle.trace_monitor.specs.Next.{EndsBy}
 use Rattle.tessla_cli.specs.declared.ending.Ending.{Ending}
-use Rattle.tessla_cli.specs.Conduct.{HasWhole, IsBeforeOpening, MakesNothing, ReadsSpecFirst, ReadsTraceLast, StopsAtLimit, ReadsPieces, OpensAsAsked, OfPrint, GoesOnAtReads, IsPartlyDue}
-use Rattle.tessla_cli.specs.Headline.{OfRun, IsDueAtReads}
+use Rattle.tessla_cli.specs.Conduct.{HasWhole, IsAllWhole, MakesNothing, ReadsSpecFirst, ReadsTraceLast, WritesLast, StopsAtLimit, ReadsPieces, OpensAsAsked, OfPrint, GoesOnAtReads, IsPartlyDue}
+use Rattle.tessla_cli.specs.Headline.{OfItems, OfRun, IsDueAtReads}
 use Rattle.tessla_cli.specs.Meant.{IsDueAsMeant, GoesOnAsMeant, BeginsAsMeant, WatchEndsAsMeant}
 use Rattle.tessla_cli.specs.Effects.{IsTake, IsTraceWork, MayRead, BeginsDue, Watched, WatchEnds}
 use Rattle.tessla_cli.specs.Statistics.{AreStatistics}
 use Rattle.tessla_cli.specs.inner.RunPhases.{counted_text, MayReadSpec, ReadsSpec, GivesSource, Prints, idle, no_trace, watched, uncompiled, compiled, prints, RunsSpec, unopened, no_spec, reading, whole, RunsWords, unasked, asked, samples, PrintsText, unmade, writes}
 use Rattle.tessla_cli.specs.Alone.{IsAloneText}
 use Rattle.tessla_cli.specs.Printed.{IsTextOf}
-use Rattle.tessla_cli.specs.Tasks.{Alone, Task, alone_of, print, monitor, asked_of, names_of, traces_of}
+use Rattle.tessla_cli.specs.Tasks.{Alone, Task, alone_of, print, monitor, asked_of, names_of, requested, traces_of}
 use Rattle.tessla_cli.specs.declared.task.Form.{Form}
 use Rattle.tessla_cli.proofs.Counted.{statistics_meant}
+use Rattle.tessla_cli.proofs.Exact.{apart}
 use Rattle.tessla_cli.proofs.Meaning.{due_meant, goes_on_meant, begins_meant, watch_ends_meant}
 use Rattle.trace_reader.specs.declared.limits.TheConstants.{MOST_PIECE_BYTES}
 use Rattle.spec_lexer.specs.declared.limits.TheConstants.{MOST_SOURCE_BYTES}
 
 -- What holds of each read of a slot holds of a part of such reads, and so for a part that reads the trace and writes output.
-pub each_take : (P : Did → Type 0) (from : Slot) → ((bytes : List ℕ) → length bytes ≤ MOST_PIECE_BYTES → P (Took from bytes)) → (part : List Did) → Each (IsTake from) part → Each P part
-each_take P from take [] all = tt
-each_take P from take (Took at bytes ∷ part) all = (subst (λ (s : Slot). P (Took s bytes)) (sym all.0.0) (take bytes all.0.1), each_take P from take part all.1)
-each_take P from take (Gave a b ∷ part) all = absurd all.0
-each_take P from take (Opened a b ∷ part) all = absurd all.0
-each_take P from take (Created a b ∷ part) all = absurd all.0
-each_take P from take (NotOpened a b ∷ part) all = absurd all.0
-each_take P from take (NotCreated a b ∷ part) all = absurd all.0
+pub each_take : (P : Did → Type 0) (from : Slot) → ((bytes : List ℕ) → length bytes ≤ MOST_PIECE_BYTES → P (Took from bytes)) → P (NotTook from) → (part : List Did) → Each (IsTake from) part → Each P part
+each_take P from take fails [] all = tt
+each_take P from take fails (Took at bytes ∷ part) all = (subst (λ (s : Slot). P (Took s bytes)) (sym all.0.0) (take bytes all.0.1), each_take P from take fails part all.1)
+each_take P from take fails (NotTook at ∷ part) all = (subst (λ (s : Slot). P (NotTook s)) (sym all.0) fails, each_take P from take fails part all.1)
+each_take P from take fails (Gave a b ∷ part) all = absurd all.0
+each_take P from take fails (NotGave a ∷ part) all = absurd all.0
+each_take P from take fails (Opened a b ∷ part) all = absurd all.0
+each_take P from take fails (Created a b ∷ part) all = absurd all.0
+each_take P from take fails (NotOpened a b ∷ part) all = absurd all.0
+each_take P from take fails (NotCreated a b ∷ part) all = absurd all.0
 
-pub each_work : (P : Did → Type 0) → ((bytes : List ℕ) → length bytes ≤ MOST_PIECE_BYTES → P (Took Trace bytes)) → ((bytes : List ℕ) → P (Gave Out bytes)) → (part : List Did) → Each IsTraceWork part → Each P part
-each_work P take gave [] all = tt
-each_work P take gave (Took at bytes ∷ part) all = (subst (λ (s : Slot). P (Took s bytes)) (sym all.0.0) (take bytes all.0.1), each_work P take gave part all.1)
-each_work P take gave (Gave to bytes ∷ part) all = (subst (λ (c : Channel). P (Gave c bytes)) (sym all.0) (gave bytes), each_work P take gave part all.1)
-each_work P take gave (Opened a b ∷ part) all = absurd all.0
-each_work P take gave (Created a b ∷ part) all = absurd all.0
-each_work P take gave (NotOpened a b ∷ part) all = absurd all.0
-each_work P take gave (NotCreated a b ∷ part) all = absurd all.0
-
-each_front : (P : Did → Type 0) (xs ys : List Did) → Each P (xs ++ ys) → Each P xs
-each_front P [] ys all = tt
-each_front P (x ∷ xs) ys all = (all.0, each_front P xs ys all.1)
-
-abbrev first_slot : List (Slot × List ℕ) → Slot
-first_slot [] = Spec
-first_slot (x ∷ xs) = x.0
+pub each_work : (P : Did → Type 0) → ((bytes : List ℕ) → length bytes ≤ MOST_PIECE_BYTES → P (Took Trace bytes)) → ((bytes : List ℕ) → P (Gave Out bytes)) → P (NotTook Trace) → P (NotGave Out) → (part : List Did) → Each IsTraceWork part → Each P part
+each_work P take gave untaken ungiven [] all = tt
+each_work P take gave untaken ungiven (Took at bytes ∷ part) all = (subst (λ (s : Slot). P (Took s bytes)) (sym all.0.0) (take bytes all.0.1), each_work P take gave untaken ungiven part all.1)
+each_work P take gave untaken ungiven (Gave to bytes ∷ part) all = (subst (λ (c : Channel). P (Gave c bytes)) (sym all.0) (gave bytes), each_work P take gave untaken ungiven part all.1)
+each_work P take gave untaken ungiven (NotTook at ∷ part) all = (subst (λ (s : Slot). P (NotTook s)) (sym all.0) untaken, each_work P take gave untaken ungiven part all.1)
+each_work P take gave untaken ungiven (NotGave to ∷ part) all = (subst (λ (c : Channel). P (NotGave c)) (sym all.0) ungiven, each_work P take gave untaken ungiven part all.1)
+each_work P take gave untaken ungiven (Opened a b ∷ part) all = absurd all.0
+each_work P take gave untaken ungiven (Created a b ∷ part) all = absurd all.0
+each_work P take gave untaken ungiven (NotOpened a b ∷ part) all = absurd all.0
+each_work P take gave untaken ungiven (NotCreated a b ∷ part) all = absurd all.0
 
 -- no opening stands in a part of reads and writes
-pub no_opening_in : (slot : Slot) (part before : List Did) → Each IsTransfer part → IsBeforeOpening slot before part → ⊥
-no_opening_in slot [] before all r = no_place before r.after r.did r.split
-no_opening_in slot (Took a b ∷ part) [] all r = let same : Took a b ≡ r.did = (let e = r.split in cc) in let none : [] ≡ (slot, r.name) ∷ [] = ap opening same ∙ r.is in cc
-no_opening_in slot (Gave a b ∷ part) [] all r = let same : Gave a b ≡ r.did = (let e = r.split in cc) in let none : [] ≡ (slot, r.name) ∷ [] = ap opening same ∙ r.is in cc
-no_opening_in slot (Opened a b ∷ part) before all r = absurd all.0
-no_opening_in slot (Created a b ∷ part) before all r = absurd all.0
-no_opening_in slot (NotOpened a b ∷ part) before all r = absurd all.0
-no_opening_in slot (NotCreated a b ∷ part) before all r = absurd all.0
-no_opening_in slot (Took a b ∷ part) (x ∷ before) all r =
-    no_opening_in slot part before all.1 record { did = r.did; name = r.name; after = r.after; is = r.is; split = (let e = r.split in cc) }
-no_opening_in slot (Gave a b ∷ part) (x ∷ before) all r =
-    no_opening_in slot part before all.1 record { did = r.did; name = r.name; after = r.after; is = r.is; split = (let e = r.split in cc) }
+pub no_opening_in : (slot : Slot) (part : List Did) → Each IsTransfer part → Each (λ did. IsOpening slot did → ⊥) part
+no_opening_in slot part = each_more IsTransfer (λ did. IsOpening slot did → ⊥) (transfer_opens_none slot) part
 
 -- The specification stays whole where nothing of it is read.
 pub whole_more : (part more : List Did) → Each (IsNoRead Spec) more → HasWhole part → HasWhole (part ++ more)
@@ -90,50 +77,48 @@ pub record Shows (words : List (List ℕ)) (part : List Did) : Type 0 where
   pub makes : MakesNothing part
   pub spec_first : ReadsSpecFirst part
   pub trace_last : ReadsTraceLast part
+  pub writes_last : WritesLast words part
   pub spec_ends : StopsAtEnd Spec part
   pub trace_ends : StopsAtEnd Trace part
   pub limit : StopsAtLimit part
   pub pieces : ReadsPieces part
+  pub stops : StopsAtFailure part
   pub due : IsDueAtReads words part
   pub goes_on : GoesOnAtReads words part
   pub partly : IsPartlyDue words part
-  pub silent : given Err part ≡ []
+  pub silent : Each (IsNoGift Err) part
 
 -- a part with no read and no write, in which no opening of the trace stands
-shows_few : (words : List (List ℕ)) (part : List Did) → OpensAsAsked words part → MakesNothing part → ((before : List Did) → IsBeforeOpening Trace before part → ⊥)
-    → Each (IsNoRead Spec) part → Each (IsNoRead Trace) part → ReadsPieces part → given Out part ≡ [] → given Err part ≡ [] → Shows words part
-shows_few words part opens makes no_opening spec trace pieces out err = record {
+shows_few : (words : List (List ℕ)) (part : List Did) → OpensAsAsked words part → MakesNothing part → Each (λ did. IsOpening Trace did → ⊥) part
+    → Each (IsNoRead Spec) part → Each (IsNoRead Trace) part → ((to : Channel) → Each (IsNoGift to) part) → ReadsPieces part → StopsAtFailure part → Shows words part
+shows_few words part opens makes no_opening spec trace gifts pieces stops = record {
   opens = opens;
   makes = makes;
-  spec_first = λ before r. absurd (no_opening before r);
+  spec_first = at_not (IsOpening Trace) HasWhole part no_opening;
   trace_last = at_no_read Trace HasWhole part trace;
+  writes_last = λ to other. at_not (IsGift to) (IsAllWhole words) part (each_more (IsNoGift to) (λ did. IsGift to did → ⊥) (not_gift to) part (gifts to));
   spec_ends = at_no_read Spec _ part spec;
   trace_ends = at_no_read Trace _ part trace;
   limit = at_no_read Spec _ part spec;
   pieces = pieces;
+  stops = stops;
   due = at_no_read Trace _ part trace;
   goes_on = at_no_read Trace _ part trace;
-  partly = inl out;
-  silent = err;
+  partly = inl (given_none Out part (gifts Out));
+  silent = gifts Err;
 }
 
 shows_none : (words : List (List ℕ)) → Shows words []
-shows_none words = shows_few words [] (inl refl) refl (λ before r. no_place before r.after r.did r.split) tt tt tt refl refl
-
--- one entry alone
-one_place : (before after : List Did) (it d : Did) → it ∷ [] ≡ before ++ d ∷ after → before ≡ []
-one_place [] after it d is = refl
-one_place (b ∷ before) after it d is = absurd (let rest : [] ≡ before ++ d ∷ after = cc in no_place before after d rest)
+shows_none words = shows_few words [] (inl refl) refl tt tt tt (λ to. tt) tt (at_none IsAny (Each IsDone))
 
 -- What stands after the reads of the specification, for a task.
 record Tail (task : Task) (rest : List Did) : Type 0 where
   opens : (openings rest ≡ []) ⊎ (openings rest ≡ traces_of task)
   makes : creations rest ≡ []
-  first : (before : List Did) → IsBeforeOpening Trace before rest → before ≡ []
   spec : Each (IsNoRead Spec) rest
   ends : StopsAtEnd Trace rest
   pieces : ReadsPieces rest
-  silent : given Err rest ≡ []
+  silent : Each (IsNoGift Err) rest
 
 module _ (words : List (List ℕ)) (name : List ℕ) (task : Task) (asked_is : asked_of words ≡ Some (name, task)) (reads : List Did) (r : ReadsSpec reads) where
   -- the specification, opened and read
@@ -141,19 +126,19 @@ module _ (words : List (List ℕ)) (name : List ℕ) (task : Task) (asked_is : a
   front = Opened Spec name ∷ reads
 
   front_no_trace : Each (IsNoRead Trace) front
-  front_no_trace = (tt, each_take (IsNoRead Trace) Spec (λ bytes short. refl) reads r.only)
+  front_no_trace = (tt, each_take (IsNoRead Trace) Spec (λ bytes short. refl) refl reads r.only)
+
+  front_no_gift : (to : Channel) → Each (IsNoGift to) front
+  front_no_gift to = (tt, each_take (IsNoGift to) Spec (λ bytes short. tt) tt reads r.only)
 
   front_no_out : Each (IsNoGift Out) front
-  front_no_out = (tt, each_take (IsNoGift Out) Spec (λ bytes short. tt) reads r.only)
-
-  front_no_err : Each (IsNoGift Err) front
-  front_no_err = (tt, each_take (IsNoGift Err) Spec (λ bytes short. tt) reads r.only)
+  front_no_out = front_no_gift Out
 
   transfers : Each IsTransfer reads
-  transfers = each_take IsTransfer Spec (λ bytes short. tt) reads r.only
+  transfers = each_take IsTransfer Spec (λ bytes short. tt) tt reads r.only
 
   front_pieces : Each (IsWithin MOST_PIECE_BYTES) front
-  front_pieces = (tt, each_take (IsWithin MOST_PIECE_BYTES) Spec (λ bytes short. short) reads r.only)
+  front_pieces = (tt, each_take (IsWithin MOST_PIECE_BYTES) Spec (λ bytes short. short) tt reads r.only)
 
   front_reads : AtReads Spec MayReadSpec front
   front_reads = at_after Spec MayReadSpec MayReadSpec (Opened Spec name ∷ []) reads (tt, tt) (λ less h. record { unended = h.unended; within = h.within }) r.reads
@@ -170,40 +155,45 @@ module _ (words : List (List ℕ)) (name : List ℕ) (task : Task) (asked_is : a
   opens_so opened (inr is) = record { rest = []; is = ap (λ (l : List (Slot × List ℕ)). (Spec, name) ∷ l) (sym is) ∙ sym (append-nil ((Spec, name) ∷ opened)) }
 
   -- no opening of the trace stands in the front
-  no_opening_front : (before : List Did) → IsBeforeOpening Trace before front → ⊥
-  no_opening_front [] o =
-      let same : Opened Spec name ≡ o.did = (let e = o.split in cc) in
-      let other : Spec ≡ Trace = ap (λ (d : Did). first_slot (opening d)) same ∙ ap first_slot o.is in
-      cc
-  no_opening_front (x ∷ before) o = no_opening_in Trace reads before transfers record { did = o.did; name = o.name; after = o.after; is = o.is; split = (let e = o.split in cc) }
+  no_opening_front : Each (λ did. IsOpening Trace did → ⊥) front
+  no_opening_front = ((λ (same : false ≡ true). cc), no_opening_in Trace reads transfers)
 
-  -- it stands after
-  opening_after : (rest before : List Did) → IsBeforeOpening Trace before (front ++ rest) → (mid : List Did) × (before ≡ front ++ mid) × IsBeforeOpening Trace mid rest
-  opening_after rest before b = elim (place front rest before b.after b.did b.split) [
-    | inl (more, is) ↦ absurd (no_opening_front before record { did = b.did; name = b.name; after = more; is = b.is; split = is })
-    | inr (mid, is, of) ↦ (mid, is, record { did = b.did; name = b.name; after = b.after; is = b.is; split = of })
-  ]
+  -- nothing follows a call that failed
+  stops_front : StopsAtFailure front
+  stops_front = at_each_join IsDone (Opened Spec name ∷ []) reads (tt, tt) r.stops
 
-  shows_tail : (rest : List Did) → Tail task rest → ((before : List Did) → IsBeforeOpening Trace before rest → HasWhole reads) → AtReads Trace (λ less. HasWhole (front ++ less)) rest
-      → AtReads Trace (λ less. OfRun words (front ++ less) (λ items s o. IsDueAsMeant items s o (taken Trace (front ++ less)) false (given Out (front ++ less)))) rest
+  stops_after_front : (source : List ℕ) → GivesSource source reads → (rest : List Did) → StopsAtFailure rest → StopsAtFailure (front ++ rest)
+  stops_after_front source g rest stops = at_each_join IsDone front rest (tt, g.done) stops
+
+  -- the specification is whole where nothing more of it is read
+  whole_after : (source : List ℕ) → GivesSource source reads → (rest : List Did) → Each (IsNoRead Spec) rest → AtAll (λ less. HasWhole (front ++ less)) rest
+  whole_after source g rest none =
+      at_weaker IsAny (Each (IsNoRead Spec)) (λ less. HasWhole (front ++ less)) rest (λ less unread. whole_more front less unread g.whole)
+      (at_each (IsNoRead Spec) rest none)
+
+  shows_tail : (rest : List Did) → Tail task rest → AtAll (λ less. HasWhole (front ++ less)) rest → StopsAtFailure (front ++ rest)
+      → AtReads Trace (λ less. OfItems words (front ++ less) (λ items o. IsDueAsMeant items o (taken Trace (front ++ less)) false (given Out (front ++ less)))) rest
       → AtReads Trace (λ less. OfRun words (front ++ less) (λ items s o. GoesOnAsMeant items s o (taken Trace (front ++ less)))) rest → IsPartlyDue words (front ++ rest) → Shows words (front ++ rest)
-  shows_tail rest tail is_whole last due goes_on partly = record {
+  shows_tail rest tail is_whole stops due goes_on partly = record {
     opens = inr (name, task, asked_is, subst (λ (l : List (Slot × List ℕ)). Begins l (names_of name task)) (sym (front_openings rest)) (opens_so (openings rest) tail.opens));
     makes = front_creations rest ∙ tail.makes;
-    spec_first = λ before b.
-        let (mid, is, at) = opening_after rest before b in
-        let none : before ≡ front = is ∙ ap (λ (l : List Did). front ++ l) (tail.first mid at) ∙ append-nil front in
-        let w : HasWhole front = is_whole mid at in
-        subst (λ (l : List Did). HasWhole l) (sym none) w;
-    trace_last = at_join Trace HasWhole front rest (at_no_read Trace HasWhole front front_no_trace) last;
-    spec_ends = at_more Spec _ front rest (at_weaker Spec MayReadSpec _ front (λ before h. h.unended) front_reads) tail.spec;
+    spec_first = at_join (IsOpening Trace) HasWhole front rest (at_not (IsOpening Trace) HasWhole front no_opening_front)
+        (at_fewer IsAny (IsOpening Trace) (λ less. HasWhole (front ++ less)) rest (λ did is. tt) is_whole);
+    trace_last = at_join (IsRead Trace) HasWhole front rest (at_no_read Trace HasWhole front front_no_trace)
+        (at_fewer IsAny (IsRead Trace) (λ less. HasWhole (front ++ less)) rest (λ did is. tt) is_whole);
+    writes_last = λ to other. at_join (IsGift to) (IsAllWhole words) front rest
+        (at_not (IsGift to) (IsAllWhole words) front (each_more (IsNoGift to) (λ did. IsGift to did → ⊥) (not_gift to) front (front_no_gift to)))
+        (at_weaker (IsGift to) (λ less. HasWhole (front ++ less)) (λ less. IsAllWhole words (front ++ less)) rest (λ less w n t is. w)
+        (at_fewer IsAny (IsGift to) (λ less. HasWhole (front ++ less)) rest (λ did is. tt) is_whole));
+    spec_ends = at_more Spec _ front rest (at_weaker (IsRead Spec) MayReadSpec _ front (λ before h. h.unended) front_reads) tail.spec;
     trace_ends = at_after Trace (λ less. ended Trace less ≡ false) (λ before. ended Trace before ≡ false) front rest front_no_trace (λ less e. ended_after Trace front less front_no_trace ∙ e) tail.ends;
-    limit = at_more Spec _ front rest (at_weaker Spec MayReadSpec _ front (λ before h. h.within) front_reads) tail.spec;
+    limit = at_more Spec _ front rest (at_weaker (IsRead Spec) MayReadSpec _ front (λ before h. h.within) front_reads) tail.spec;
     pieces = Each-append (IsWithin MOST_PIECE_BYTES) front rest front_pieces tail.pieces;
-    due = at_join Trace (λ before. OfRun words before (λ items s o. IsDueAsMeant items s o (taken Trace before) false (given Out before))) front rest (at_no_read Trace _ front front_no_trace) due;
-    goes_on = at_join Trace (λ before. OfRun words before (λ items s o. GoesOnAsMeant items s o (taken Trace before))) front rest (at_no_read Trace _ front front_no_trace) goes_on;
+    stops = stops;
+    due = at_join (IsRead Trace) (λ before. OfItems words before (λ items o. IsDueAsMeant items o (taken Trace before) false (given Out before))) front rest (at_no_read Trace _ front front_no_trace) due;
+    goes_on = at_join (IsRead Trace) (λ before. OfRun words before (λ items s o. GoesOnAsMeant items s o (taken Trace before))) front rest (at_no_read Trace _ front front_no_trace) goes_on;
     partly = partly;
-    silent = given_after Err front rest front_no_err ∙ tail.silent;
+    silent = Each-append (IsNoGift Err) front rest (front_no_gift Err) tail.silent;
   }
 
   -- nothing after it
@@ -211,29 +201,27 @@ module _ (words : List (List ℕ)) (name : List ℕ) (task : Task) (asked_is : a
   nothing_after = record {
     opens = inl refl;
     makes = refl;
-    first = λ before b. absurd (no_place before b.after b.did b.split);
     spec = tt;
-    ends = at_none Trace _;
+    ends = at_none (IsRead Trace) _;
     pieces = tt;
-    silent = refl;
+    silent = tt;
   }
 
   shows_front : Shows words (front ++ [])
   shows_front =
-      shows_tail [] nothing_after (λ before b. absurd (no_place before b.after b.did b.split)) (at_none Trace _) (at_none Trace _) (at_none Trace _)
-      (inl (given_none Out (front ++ []) (Each-append (IsNoGift Out) front [] front_no_out tt)))
+      shows_tail [] nothing_after (at_none IsAny _) (at_join IsAny (Each IsDone) front [] stops_front (at_none IsAny _)) (at_none (IsRead Trace) _)
+      (at_none (IsRead Trace) _) (inl (given_none Out (front ++ []) (Each-append (IsNoGift Out) front [] front_no_out tt)))
 
   -- a text is printed
   module _ (source : List ℕ) (g : GivesSource source reads) (f : Form) (task_is : task ≡ print f) (part : List Did) (p : Prints source f part) where
     print_after : Tail task part
     print_after = record {
-      opens = inl (openings_none part (gifts_transfer Out part p.gifts));
-      makes = creations_none part (gifts_transfer Out part p.gifts);
-      first = λ before b. absurd (no_opening_in Trace part before (gifts_transfer Out part p.gifts) b);
-      spec = gifts_read_none Out Spec part p.gifts;
-      ends = at_no_read Trace _ part (gifts_read_none Out Trace part p.gifts);
-      pieces = gifts_within Out MOST_PIECE_BYTES part p.gifts;
-      silent = given_none Err part (gifts_elsewhere Out Err refl part p.gifts);
+      opens = inl (openings_none part (gifts_transfer Out part p.writes.gifts));
+      makes = creations_none part (gifts_transfer Out part p.writes.gifts);
+      spec = gifts_read_none Out Spec part p.writes.gifts;
+      ends = at_no_read Trace _ part (gifts_read_none Out Trace part p.writes.gifts);
+      pieces = gifts_within Out MOST_PIECE_BYTES part p.writes.gifts;
+      silent = gifts_elsewhere Out Err refl part p.writes.gifts;
     }
 
     asked_print : asked_of words ≡ Some (name, print f)
@@ -241,14 +229,14 @@ module _ (words : List (List ℕ)) (name : List ℕ) (task : Task) (asked_is : a
 
     -- the text is that of what was taken
     printed_after : (text : List ℕ) → IsTextOf source f text → IsTextOf (taken Spec (front ++ part)) f text
-    printed_after text is = subst (λ (l : List ℕ). IsTextOf l f text) (sym (taken_before Spec front part (gifts_read_none Out Spec part p.gifts) ∙ g.bytes_are)) is
+    printed_after text is = subst (λ (l : List ℕ). IsTextOf l f text) (sym (taken_before Spec front part (gifts_read_none Out Spec part p.writes.gifts) ∙ g.bytes_are)) is
 
     pub of_print : (P : List ℕ → Type 0) → P p.text → OfPrint words (front ++ part) P
-    of_print P holds = record { name = name; form = f; asked = asked_print; text = p.text; is = printed_after p.text p.is; holds = holds }
+    of_print P holds = record { name = name; form = f; asked = asked_print; whole = whole_more front part (gifts_read_none Out Spec part p.writes.gifts) g.whole; text = p.text; is = printed_after p.text p.is; holds = holds }
 
     shows_print : Shows words (front ++ part)
     shows_print =
-        shows_tail part print_after (λ before b. g.whole) (at_no_read Trace _ part (gifts_read_none Out Trace part p.gifts)) (at_no_read Trace _ part (gifts_read_none Out Trace part p.gifts)) (at_no_read Trace _ part (gifts_read_none Out Trace part p.gifts))
+        shows_tail part print_after (whole_after source g part print_after.spec) (stops_after_front source g part p.writes.stops) (at_no_read Trace _ part (gifts_read_none Out Trace part p.writes.gifts)) (at_no_read Trace _ part (gifts_read_none Out Trace part p.writes.gifts))
         (inr (inr (inl (of_print (λ text. Begins (given Out (front ++ part)) text) (subst (λ (l : List ℕ). Begins l p.text) (sym (given_after Out front part front_no_out)) p.some)))))
 
   -- a trace is asked for
@@ -264,16 +252,16 @@ module _ (words : List (List ℕ)) (name : List ℕ) (task : Task) (asked_is : a
     no_trace_after = record {
       opens = inr (sym traces_are);
       makes = refl;
-      first = λ before b. one_place before b.after (NotOpened Trace trace) b.did b.split;
       spec = (tt, tt);
       ends = at_no_read Trace _ (NotOpened Trace trace ∷ []) (tt, tt);
       pieces = (tt, tt);
-      silent = refl;
+      silent = (tt, tt);
     }
 
     shows_no_trace : (source : List ℕ) → GivesSource source reads → Shows words (front ++ NotOpened Trace trace ∷ [])
     shows_no_trace source g =
-        shows_tail (NotOpened Trace trace ∷ []) no_trace_after (λ before b. g.whole) (at_no_read Trace _ (NotOpened Trace trace ∷ []) (tt, tt)) (at_no_read Trace _ (NotOpened Trace trace ∷ []) (tt, tt))
+        shows_tail (NotOpened Trace trace ∷ []) no_trace_after (whole_after source g (NotOpened Trace trace ∷ []) (tt, tt))
+        (stops_after_front source g (NotOpened Trace trace ∷ []) (stops_one [] (NotOpened Trace trace) tt)) (at_no_read Trace _ (NotOpened Trace trace ∷ []) (tt, tt))
         (at_no_read Trace _ (NotOpened Trace trace ∷ []) (tt, tt))
         (inl (given_none Out (front ++ NotOpened Trace trace ∷ []) (Each-append (IsNoGift Out) front (NotOpened Trace trace ∷ []) front_no_out (tt, tt))))
 
@@ -284,6 +272,11 @@ module _ (words : List (List ℕ)) (name : List ℕ) (task : Task) (asked_is : a
 
       pub of_run : (less : List Did) (P : List tree.Item → System → Options → Type 0) → Each (IsNoRead Spec) less → P items s o → OfRun words (front ++ less) P
       of_run less P none holds = record { name = name; trace = trace; options = o; statistics = statistics; asked = asked_run; items = items; system = s; compiled = compiled_after less none; holds = holds }
+
+      of_items : (less : List Did) (P : List tree.Item → Options → Type 0) → Each (IsNoRead Spec) less → P items o → OfItems words (front ++ less) P
+      of_items less P none holds =
+          let has = (compiled_after less none).spells.system in
+          record { name = name; trace = trace; options = o; statistics = statistics; asked = asked_run; items = items; kinds = has.kinds; specifies = has.specifies; holds = holds }
 
       -- what is due, what goes on and what ends after the front is what it is without it
       due_after : (less : List Did) (e : Bool) (text : List ℕ) → IsDue s o (taken Trace less) e text → IsDue s o (taken Trace (front ++ less)) e text
@@ -310,44 +303,38 @@ module _ (words : List (List ℕ)) (name : List ℕ) (task : Task) (asked_is : a
       ends_after state by part w = watch_ends_meant source items s o compiled_so state by (front ++ Opened Trace trace ∷ part) (all_ends state by part w)
 
       -- what is told of the updates
-      pub statistics_after : (state : engine.State) (order : List ℕ) → IsTakenPlan s state.in_place order → (by : Ending) (part : List Did) (text : List ℕ) → WatchEnds s o state by part → text ≡ counted_text s state true
+      pub statistics_after : (state : engine.State) → IsTakenPlan s state.in_place state.order → (by : Ending) (part : List Did) (text : List ℕ) → WatchEnds s o state by part → text ≡ counted_text s state true
           → AreStatistics s o (taken Trace (front ++ Opened Trace trace ∷ part)) (ended Trace (front ++ Opened Trace trace ∷ part)) by text
-      statistics_after state order taken_plan by part text w is = statistics_meant s o state order taken_plan by (front ++ Opened Trace trace ∷ part) text (all_ends state by part w) is
+      statistics_after state taken_plan by part text w is = statistics_meant s o state taken_plan by (front ++ Opened Trace trace ∷ part) text (all_ends state by part w) is
 
       module _ (part : List Did) (w : Watched s o part) where
         spec_none : Each (IsNoRead Spec) part
-        spec_none = each_work (IsNoRead Spec) (λ bytes short. refl) (λ bytes. tt) part w.work
+        spec_none = each_work (IsNoRead Spec) (λ bytes short. refl) (λ bytes. tt) refl tt part w.work
 
         moves : Each IsTransfer part
-        moves = each_work IsTransfer (λ bytes short. tt) (λ bytes. tt) part w.work
+        moves = each_work IsTransfer (λ bytes short. tt) (λ bytes. tt) tt tt part w.work
 
         -- before a read
         before_read : AtReads Trace (λ less. MayRead s o less × Each (IsNoRead Spec) less) part
-        before_read before r = (w.reads before r, each_front (IsNoRead Spec) before _ (subst (λ (l : List Did). Each (IsNoRead Spec) l) r.split spec_none))
+        before_read before r = (w.reads before r, at_fewer IsAny (IsRead Trace) (Each (IsNoRead Spec)) part (λ did is. tt) (at_each (IsNoRead Spec) part spec_none) before r)
 
         watched_after : Tail task (Opened Trace trace ∷ part)
         watched_after = record {
           opens = inr (ap (λ (l : List (Slot × List ℕ)). (Trace, trace) ∷ l) (openings_none part moves) ∙ sym traces_are);
           makes = creations_none part moves;
-          first = opened_first;
           spec = (tt, spec_none);
           ends = at_after Trace (MayRead s o) (λ less. ended Trace less ≡ false) (Opened Trace trace ∷ []) part (tt, tt) (λ less h. h.unended) w.reads;
-          pieces = (tt, each_work (IsWithin MOST_PIECE_BYTES) (λ bytes short. short) (λ bytes. tt) part w.work);
-          silent = given_none Err part (each_work (IsNoGift Err) (λ bytes short. tt) (λ bytes. refl) part w.work);
+          pieces = (tt, each_work (IsWithin MOST_PIECE_BYTES) (λ bytes short. short) (λ bytes. tt) tt tt part w.work);
+          silent = (tt, each_work (IsNoGift Err) (λ bytes short. tt) (λ bytes. refl) tt refl part w.work);
         }
-          where
-            opened_first : (before : List Did) → IsBeforeOpening Trace before (Opened Trace trace ∷ part) → before ≡ []
-            opened_first [] b = refl
-            opened_first (x ∷ before) b = absurd (no_opening_in Trace part before moves record { did = b.did; name = b.name; after = b.after; is = b.is; split = (let e = b.split in cc) })
 
         pub shows_watched : Shows words (front ++ Opened Trace trace ∷ part)
         shows_watched =
-            shows_tail (Opened Trace trace ∷ part) watched_after (λ before b. g.whole)
-            (at_after Trace (λ less. MayRead s o less × Each (IsNoRead Spec) less) (λ less. HasWhole (front ++ less)) (Opened Trace trace ∷ []) part (tt, tt)
-            (λ less h. whole_more front (Opened Trace trace ∷ less) (tt, h.1) g.whole) before_read)
+            shows_tail (Opened Trace trace ∷ part) watched_after (whole_after source g (Opened Trace trace ∷ part) (tt, spec_none))
+            (stops_after_front source g (Opened Trace trace ∷ part) (at_each_join IsDone (Opened Trace trace ∷ []) part (tt, tt) w.stops))
             (at_after Trace (λ less. MayRead s o less × Each (IsNoRead Spec) less)
-            (λ less. OfRun words (front ++ less) (λ items s o. IsDueAsMeant items s o (taken Trace (front ++ less)) false (given Out (front ++ less)))) (Opened Trace trace ∷ []) part (tt, tt)
-            (λ less h. of_run (Opened Trace trace ∷ less) (λ items s o. IsDueAsMeant items s o (taken Trace (front ++ Opened Trace trace ∷ less)) false (given Out (front ++ Opened Trace trace ∷ less))) (tt, h.1)
+            (λ less. OfItems words (front ++ less) (λ items o. IsDueAsMeant items o (taken Trace (front ++ less)) false (given Out (front ++ less)))) (Opened Trace trace ∷ []) part (tt, tt)
+            (λ less h. of_items (Opened Trace trace ∷ less) (λ items o. IsDueAsMeant items o (taken Trace (front ++ Opened Trace trace ∷ less)) false (given Out (front ++ Opened Trace trace ∷ less))) (tt, h.1)
             (due_meant source items s o compiled_so (taken Trace (front ++ Opened Trace trace ∷ less)) false (given Out (front ++ Opened Trace trace ∷ less)) (given_so (Opened Trace trace ∷ less) false h.0.due))) before_read)
             (at_after Trace (λ less. MayRead s o less × Each (IsNoRead Spec) less)
             (λ less. OfRun words (front ++ less) (λ items s o. GoesOnAsMeant items s o (taken Trace (front ++ less)))) (Opened Trace trace ∷ []) part (tt, tt)
@@ -368,14 +355,8 @@ module _ (words : List (List ℕ)) (name : List ℕ) (task : Task) (asked_is : a
 shows_spec : (words : List (List ℕ)) (name : List ℕ) (task : Task) → asked_of words ≡ Some (name, task) → (part : List Did) → RunsSpec name task part → Shows words part
 shows_spec words name task is _ unopened = shows_none words
 shows_spec words name task is _ no_spec =
-    shows_few words (NotOpened Spec name ∷ []) (inr (name, task, is, record { rest = traces_of task; is = refl })) refl (λ before b. not_trace before b) (tt, tt) (tt, tt) (tt, tt) refl refl
-  where
-    not_trace : (before : List Did) → IsBeforeOpening Trace before (NotOpened Spec name ∷ []) → ⊥
-    not_trace [] b =
-        let same : NotOpened Spec name ≡ b.did = (let e = b.split in cc) in
-        let other : Spec ≡ Trace = ap (λ (d : Did). first_slot (opening d)) same ∙ ap first_slot b.is in
-        cc
-    not_trace (x ∷ before) b = let rest : [] ≡ before ++ b.did ∷ b.after = (let e = b.split in cc) in no_place before b.after b.did rest
+    shows_few words (NotOpened Spec name ∷ []) (inr (name, task, is, record { rest = traces_of task; is = refl })) refl ((λ (same : false ≡ true). cc), tt) (tt, tt) (tt, tt)
+    (λ to. (tt, tt)) (tt, tt) (stops_one [] (NotOpened Spec name) tt)
 shows_spec words name task is _ (reading reads r) = subst (λ (l : List Did). Shows words l) (ap (λ (l : List Did). Opened Spec name ∷ l) (append-nil reads)) (shows_front words name task is reads r)
 shows_spec words name task is _ (whole reads rest source r g (uncompiled none)) =
     subst (λ (l : List Did). Shows words (Opened Spec name ∷ (reads ++ l))) (sym none) (shows_front words name task is reads r)
@@ -389,20 +370,22 @@ shows_alone : (words : List (List ℕ)) (a : Alone) → alone_of words ≡ Some 
 shows_alone words a is part p = record {
   opens = inl (openings_none part moves);
   makes = creations_none part moves;
-  spec_first = λ before b. absurd (no_opening_in Trace part before moves b);
-  spec_ends = at_no_read Spec _ part (gifts_read_none Out Spec part p.gifts);
-  trace_ends = at_no_read Trace _ part (gifts_read_none Out Trace part p.gifts);
-  trace_last = at_no_read Trace HasWhole part (gifts_read_none Out Trace part p.gifts);
-  limit = at_no_read Spec _ part (gifts_read_none Out Spec part p.gifts);
-  pieces = gifts_within Out MOST_PIECE_BYTES part p.gifts;
-  due = at_no_read Trace _ part (gifts_read_none Out Trace part p.gifts);
-  goes_on = at_no_read Trace _ part (gifts_read_none Out Trace part p.gifts);
+  spec_first = at_not (IsOpening Trace) HasWhole part (no_opening_in Trace part moves);
+  spec_ends = at_no_read Spec _ part (gifts_read_none Out Spec part p.writes.gifts);
+  trace_ends = at_no_read Trace _ part (gifts_read_none Out Trace part p.writes.gifts);
+  trace_last = at_no_read Trace HasWhole part (gifts_read_none Out Trace part p.writes.gifts);
+  writes_last = λ to other before r spec task asked_is. absurd (apart (requested words) (spec, task) a asked_is is);
+  limit = at_no_read Spec _ part (gifts_read_none Out Spec part p.writes.gifts);
+  pieces = gifts_within Out MOST_PIECE_BYTES part p.writes.gifts;
+  stops = p.writes.stops;
+  due = at_no_read Trace _ part (gifts_read_none Out Trace part p.writes.gifts);
+  goes_on = at_no_read Trace _ part (gifts_read_none Out Trace part p.writes.gifts);
   partly = inr (inr (inr (record { what = a; asked = is; text = p.text; is = p.is; holds = p.some })));
-  silent = given_none Err part (gifts_elsewhere Out Err refl part p.gifts);
+  silent = gifts_elsewhere Out Err refl part p.writes.gifts;
 }
   where
     moves : Each IsTransfer part
-    moves = gifts_transfer Out part p.gifts
+    moves = gifts_transfer Out part p.writes.gifts
 
 pub shows_run : (words : List (List ℕ)) (part : List Did) → RunsWords words part → Shows words part
 shows_run words part (unasked none) = subst (λ (l : List Did). Shows words l) (sym none) (shows_none words)

@@ -5,6 +5,8 @@ use Rattle.register_code.specs.Code.{Code}
 use Rattle.spec_compiler.specs.Compiled.{CompilesSomething}
 use Rattle.tsl_world.specs.declared.outside.Channel.TheVariants.{Out}
 use Rattle.tsl_world.specs.declared.outside.Did.{Did}
+use Rattle.tsl_world.specs.Journal.{Each, IsAny, IsDone}
+use Rattle.tsl_world.proofs.Places.{at_none}
 use Rattle.tessla_cli.specs.declared.task.Form.{Form}
 use Rattle.tessla_cli.specs.Effects.{Gives}
 use Rattle.tessla_cli.specs.Printed.{HasText, IsTextOf}
@@ -13,13 +15,13 @@ use Rattle.tessla_cli.specs.inner.RunPhases.{Prints, HasPrinted, PrintsText, Has
 -- any text
 module _ (P : List ℕ → Type 0) (text : List ℕ) (is : P text) where
   pub text_none : PrintsText P []
-  text_none = record { text = text; is = is; gifts = tt; some = record { rest = text; is = refl } }
+  text_none = record { text = text; is = is; writes = record { gifts = tt; stops = at_none IsAny (Each IsDone) }; some = record { rest = text; is = refl } }
 
   pub text_some : {E : Type 0} (result : Result (Unit {0}) E) (part : List Did) → Gives Out text result part → PrintsText P part
-  text_some result part g = record { text = text; is = is; gifts = g.gifts; some = g.some }
+  text_some result part g = record { text = text; is = is; writes = g.writes; some = g.some }
 
   pub text_all : {E : Type 0} (part : List Did) → Gives {E = E} Out text (Ok tt) part → HasPrintedText P part
-  text_all part g = record { text = text; is = is; gifts = g.gifts; whole = g.whole }
+  text_all part g = record { text = text; is = is; writes = g.writes; whole = g.whole }
 
 module _ (source : List ℕ) (f : Form) (c : Code) (taken : IsTakenPlan c.system c.in_place c.order) (compiles : CompilesSomething source c.system) (text : List ℕ) (is : HasText f c text) where
   pub is_text : IsTextOf source f text

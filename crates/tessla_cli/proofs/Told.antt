@@ -16,30 +16,30 @@ use Rattle.tsl_world.specs.declared.outside.Did.TheVariants.{Opened}
 use Rattle.tsl_world.specs.declared.outside.Slot.{Slot}
 use Rattle.tsl_world.specs.declared.outside.Slot.TheVariants.{Spec, Trace}
 use Rattle.tsl_world.specs.declared.outside.Channel.TheVariants.{Out, Err}
-use Rattle.tsl_world.specs.Journal.{given, taken, ended, openings, IsNoRead, IsNoGift, IsTransfer, IsGift, Each}
-use Rattle.tsl_world.proofs.Journals.{given-append, place, Each-append}
-use Rattle.tsl_world.proofs.Untouched.{gifts_read_none, gifts_transfer, gifts_within, gifts_elsewhere, taken_before, ended_before, given_before, given_after, given_none, openings_before, creations_before, openings_none}
-use Rattle.tsl_world.proofs.Places.{at_more}
+use Rattle.tsl_world.specs.Journal.{given, taken, ended, openings, AtEntries, IsAny, IsDone, IsNoFailedGift, IsNoRead, IsNoGift, IsOpening, IsTransfer, IsGift, Each, StopsAtFailure}
+use Rattle.tsl_world.proofs.Journals.{given-append, Each-append, each_more}
+use Rattle.tsl_world.proofs.Untouched.{gift_elsewhere, gift_transfer, gifts_read_none, gifts_transfer, gifts_within, gifts_elsewhere, done_no_failed_gift, no_failed_gift, not_gift, same_channel_back, transfer_opens_none, taken_before, ended_before, given_before, given_after, given_none, openings_before, creations_before, openings_none}
+use Rattle.tsl_world.proofs.Places.{at_each_join, at_fewer, at_join, at_more, at_not, at_weaker}
 use Rattle.tessla_cli.specs.declared.ending.Ended.{Ended}
 use Rattle.tessla_cli.specs.declared.ending.Ending.{Ending}
 use Rattle.tessla_cli.specs.declared.ending.Ending.TheVariants as ending
 use Rattle.tessla_cli.specs.declared.ending.Broken.{Broken}
 use Rattle.tessla_cli.specs.declared.ending.Broken.TheVariants as broken
 use Rattle.tessla_cli.specs.Alone.{AloneStops}
-use Rattle.tessla_cli.specs.Conduct.{HasWhole, IsBeforeOpening, OfPrint, OfAlone, EndsRun, AloneEnds, SpecRefused, IsPartlyDue, RunEnds}
+use Rattle.tessla_cli.specs.Conduct.{HasWhole, IsAllWhole, OfPrint, OfAlone, EndsRun, AloneEnds, SpecRefused, IsPartlyDue, RunEnds, StopsAtFailures}
 use Rattle.tessla_cli.specs.Failures.{Failures, NoneFailed, CallFailed, WriteFailed, SomeFailed}
 use Rattle.tessla_cli.specs.Headline.{OfRun}
 use Rattle.tessla_cli.specs.Meant.{IsDueAsMeant, EndsAsMeant, BeginsAsMeant, WatchEndsAsMeant}
 use Rattle.tessla_cli.specs.Messages.{ended_text, broken_line, status_of}
 use Rattle.tessla_cli.specs.Outcome.{Ends, Faulted, IsToldBefore, unasked, refused_before, counted, Limited, LineRefused, Refused, TellsFailure, told_failure, untold_ending, untold_memory, untold_failure, Outcome, told, outside, memory, ShowsAlways, Concludes, TellsBroken, all_of_broken, some_of_broken, TellsEnding, all_of_ending, some_of_ending, no_text}
-use Rattle.tessla_cli.specs.Effects.{ending_of, Watched, WatchEnds}
+use Rattle.tessla_cli.specs.Effects.{ending_of, Watched, WatchEnds, Writes}
 use Rattle.tessla_cli.specs.inner.RunPhases.{ReadsSpec, GivesSource, counted_text, ends, SourceEnds, spec_refused, compiled_ends, printed, whole_ends, WordsEnd, words_refused, asked_ends, sampled, AloneIsDone, written, stopped}
 use Rattle.tessla_cli.specs.Printed.{IsTextOf}
 use Rattle.tessla_cli.specs.Statistics.{AreStatistics}
 use Rattle.tessla_cli.specs.Tasks.{Alone, Request, Task, alone, alone_of, asked_of, asks_statistics, benched, has_statistics, made, monitor, names_of, over, requested, with_spec, without_spec}
 use Rattle.tessla_cli.proofs.Failing.{call_and_none, call_and_write, none_and_write}
 use Rattle.tessla_cli.proofs.Unseen.{no_update_is_seen}
-use Rattle.tessla_cli.proofs.Facts.{Shows, no_opening_in, whole_more, of_run, of_print, ends_after, statistics_after, each_take, each_work}
+use Rattle.tessla_cli.proofs.Facts.{Shows, whole_more, of_run, of_print, ends_after, statistics_after, each_take, each_work}
 use Rattle.std.proofs.lemmas.List.{append-nil}
 
 -- a run that ends before the end of its trace is not done
@@ -102,7 +102,7 @@ module _ (words : List (List ℕ)) where
   alone_ends by part a is (written done p) =
       subst (λ (b : Ending). RunEnds words b part) (sym done) (inr (inr (record {
         wrote = record { what = a; asked = is; text = p.text; is = p.is; holds = p.whole };
-        opens = openings_none part (gifts_transfer Out part p.gifts);
+        opens = openings_none part (gifts_transfer Out part p.writes.gifts);
       })))
   alone_ends by part a is (stopped stops none) = of_stops by part record {
     what = a;
@@ -118,41 +118,41 @@ module _ (words : List (List ℕ)) where
       name = name;
       task = task;
       asked = is;
-      opens = ap (λ (l : List (Slot × List ℕ)). (Spec, name) ∷ l) (openings_none reads (each_take IsTransfer Spec (λ bytes short. tt) reads r.only));
+      opens = ap (λ (l : List (Slot × List ℕ)). (Spec, name) ∷ l) (openings_none reads (each_take IsTransfer Spec (λ bytes short. tt) tt reads r.only));
       whole = g.whole;
       refused = subst (λ (l : List ℕ). IsRefusedBy l fault) (sym g.bytes_are) refused;
-      nothing = given_none Out reads (each_take (IsNoGift Out) Spec (λ bytes short. tt) reads r.only);
+      nothing = given_none Out reads (each_take (IsNoGift Out) Spec (λ bytes short. tt) tt reads r.only);
     }
 
     source_ends : (by : Ended) (rest : List Did) → SourceEnds source task by rest → RunEnds words by.ending (Opened Spec name ∷ (reads ++ rest))
     source_ends by rest (spec_refused {fault} same nothing refused none) =
         subst (λ (b : Ending). RunEnds words b (Opened Spec name ∷ (reads ++ rest))) (sym same)
         (inl (subst (λ (l : List Did). SpecRefused words fault (Opened Spec name ∷ l)) (sym (ap (λ (l : List Did). reads ++ l) none ∙ append-nil reads)) (refused_front fault refused)))
-    source_ends by _ (compiled_ends trace o statistics monitors items s c (ends state order part taken_plan w e is_told)) =
+    source_ends by _ (compiled_ends trace o statistics monitors items s c (ends state part taken_plan w e is_told)) =
         of_watch by.ending (Opened Spec name ∷ (reads ++ Opened Trace trace ∷ part))
         (of_run words name task is reads r trace o statistics monitors source g items s c (Opened Trace trace ∷ part) (λ items s o. WatchEndsAsMeant items s o by.ending (Opened Spec name ∷ (reads ++ Opened Trace trace ∷ part)))
-        (tt, each_work (IsNoRead Spec) (λ bytes short. refl) (λ bytes. tt) part w.work) (ends_after words name task is reads r trace o statistics monitors source g items s c state by.ending part e))
+        (tt, each_work (IsNoRead Spec) (λ bytes short. refl) (λ bytes. tt) refl tt part w.work) (ends_after words name task is reads r trace o statistics monitors source g items s c state by.ending part e))
     source_ends by rest (printed f printing done nothing p) =
         let part = Opened Spec name ∷ (reads ++ rest) in
         let begins : Begins (given Out rest) p.text = record { rest = []; is = sym p.whole ∙ sym (append-nil (given Out rest)) } in
-        let given_is : given Out part ≡ p.text = given_after Out (Opened Spec name ∷ reads) rest (tt, each_take (IsNoGift Out) Spec (λ bytes short. tt) reads r.only) ∙ p.whole in
+        let given_is : given Out part ≡ p.text = given_after Out (Opened Spec name ∷ reads) rest (tt, each_take (IsNoGift Out) Spec (λ bytes short. tt) tt reads r.only) ∙ p.whole in
         subst (λ (b : Ending). RunEnds words b part) (sym done)
-        (inr (inl (of_print words name task is reads r source g f printing rest record { text = p.text; is = p.is; gifts = p.gifts; some = begins } (λ text. given Out part ≡ text) given_is)))
+        (inr (inl (of_print words name task is reads r source g f printing rest record { text = p.text; is = p.is; writes = p.writes; some = begins } (λ text. given Out part ≡ text) given_is)))
 
     -- what is told of the updates of a run, with statistics or without
-    run_before : (trace : List ℕ) (o : Options) (statistics : Bool) → task ≡ monitor trace o statistics → (items : List tree.Item) (s : System) → Compiles source items s → (state : engine.State) (order : List ℕ) → IsTakenPlan s state.in_place order
+    run_before : (trace : List ℕ) (o : Options) (statistics : Bool) → task ≡ monitor trace o statistics → (items : List tree.Item) (s : System) → Compiles source items s → (state : engine.State) → IsTakenPlan s state.in_place state.order
         → (by : Ended) (part : List Did) → Watched s o part → WatchEnds s o state by.ending part → by.statistics ≡ counted_text s state statistics
         → IsToldBefore words by.ending (Opened Spec name ∷ (reads ++ Opened Trace trace ∷ part)) by.statistics
-    run_before trace o false monitors items s c state order taken_plan by part w e is_told = unasked (asks_as words name task is ∙ ap has_statistics monitors) is_told
-    run_before trace o true monitors items s c state order taken_plan by part w e is_told =
+    run_before trace o false monitors items s c state taken_plan by part w e is_told = unasked (asks_as words name task is ∙ ap has_statistics monitors) is_told
+    run_before trace o true monitors items s c state taken_plan by part w e is_told =
         let whole = Opened Spec name ∷ (reads ++ Opened Trace trace ∷ part) in
         counted (asks_as words name task is ∙ ap has_statistics monitors)
         (of_run words name task is reads r trace o true monitors source g items s c (Opened Trace trace ∷ part) (λ items s o. AreStatistics s o (taken Trace whole) (ended Trace whole) by.ending by.statistics)
-        (tt, each_work (IsNoRead Spec) (λ bytes short. refl) (λ bytes. tt) part w.work) (statistics_after words name task is reads r trace o true monitors source g items s c state order taken_plan by.ending part by.statistics e is_told))
+        (tt, each_work (IsNoRead Spec) (λ bytes short. refl) (λ bytes. tt) refl tt part w.work) (statistics_after words name task is reads r trace o true monitors source g items s c state taken_plan by.ending part by.statistics e is_told))
 
     source_before : (by : Ended) (rest : List Did) → SourceEnds source task by rest → IsToldBefore words by.ending (Opened Spec name ∷ (reads ++ rest)) by.statistics
     source_before by rest (spec_refused {fault} same nothing refused none) = refused_before fault same nothing
-    source_before by _ (compiled_ends trace o statistics monitors items s c (ends state order part taken_plan w e is_told)) = run_before trace o statistics monitors items s c state order taken_plan by part w e is_told
+    source_before by _ (compiled_ends trace o statistics monitors items s c (ends state part taken_plan w e is_told)) = run_before trace o statistics monitors items s c state taken_plan by part w e is_told
     source_before by rest (printed f printing done nothing p) = unasked (asks_as words name task is ∙ ap has_statistics printing) nothing
 
   -- how a run ends, from its parts
@@ -172,7 +172,10 @@ module _ (words : List (List ℕ)) where
   run_told_before by _ (asked_ends name task is (whole_ends reads rest source r g e)) = source_before name task is reads source r g by rest e
   run_told_before by part (sampled a is nothing e) = unasked (alone_unasked (requested words) a is) nothing
 
-  module _ (part more : List Did) (gifts : Each (IsGift Err) more) where
+  module _ (part more : List Did) (w : Writes Err more) where
+    gifts : Each (IsGift Err) more
+    gifts = w.gifts
+
     no_reads : (from : Slot) → Each (IsNoRead from) more
     no_reads from = gifts_read_none Err from more gifts
 
@@ -201,6 +204,7 @@ module _ (words : List (List ℕ)) where
       name = f.name;
       form = f.form;
       asked = f.asked;
+      whole = whole_more part more (no_reads Spec) f.whole;
       text = f.text;
       is = subst (λ (l : List ℕ). IsTextOf l f.form f.text) (sym (taken_before Spec part more (no_reads Spec))) f.is;
       holds = says f.text f.holds;
@@ -220,27 +224,34 @@ module _ (words : List (List ℕ)) where
         begins : (items : List tree.Item) (s : System) (o : Options) → BeginsAsMeant items s o part → BeginsAsMeant items s o (part ++ more)
         begins items s o b = record {
           text = b.text;
-          due = subst (λ (l : List ℕ). IsDueAsMeant items s o l (ended Trace (part ++ more)) b.text) (sym (taken_before Trace part more (no_reads Trace)))
-              (subst (λ (e : Bool). IsDueAsMeant items s o (taken Trace part) e b.text) (sym (ended_before Trace part more (no_reads Trace))) b.due);
+          due = subst (λ (l : List ℕ). IsDueAsMeant items o l (ended Trace (part ++ more)) b.text) (sym (taken_before Trace part more (no_reads Trace)))
+              (subst (λ (e : Bool). IsDueAsMeant items o (taken Trace part) e b.text) (sym (ended_before Trace part more (no_reads Trace))) b.due);
           begins = subst (λ (l : List ℕ). Begins l b.text) (sym (given_before Out part more no_out)) b.begins;
         }
 
-    opening_told : (before : List Did) → IsBeforeOpening Trace before (part ++ more) → IsBeforeOpening Trace before part
-    opening_told before b = elim (place part more before b.after b.did b.split) [
-      | inl (rest, is) ↦ record { did = b.did; name = b.name; after = rest; is = b.is; split = is }
-      | inr (mid, is, of) ↦ absurd (no_opening_in Trace more mid moves record { did = b.did; name = b.name; after = b.after; is = b.is; split = of })
-    ]
+    -- a write to Err follows, and no other call, so that what held of the calls before holds
+    after_writes : (Q : Did → Type 0) (P : List Did → Type 0) → ((did : Did) → IsGift Err did → Q did → ⊥) → AtEntries Q P part → AtEntries Q P (part ++ more)
+    after_writes Q P other first = at_join Q P part more first (at_not Q (λ less. P (part ++ less)) more (each_more (IsGift Err) (λ did. Q did → ⊥) other more gifts))
+
+    stops_told : StopsAtFailure part → Each (IsNoGift Err) part → StopsAtFailures (part ++ more)
+    stops_told stops silent = record {
+      silent = after_writes (λ did. IsGift Err did → ⊥) (Each IsDone) (λ did gift none. none gift) (at_fewer IsAny (λ did. IsGift Err did → ⊥) (Each IsDone) part (λ did none. tt) stops);
+      last = at_each_join (IsNoFailedGift Err) part more (each_more (IsNoGift Err) (IsNoFailedGift Err) (no_failed_gift Err) part silent)
+          (at_weaker IsAny (Each IsDone) (Each (IsNoFailedGift Err)) more (each_more IsDone (IsNoFailedGift Err) (done_no_failed_gift Err)) w.stops);
+    }
 
     pub shows_told : Shows words part → ShowsAlways words (part ++ more)
     shows_told s = record {
       opens = subst (λ (l : List (Slot × List ℕ)). (l ≡ []) ⊎ ((name : List ℕ) × (task : Task) × (asked_of words ≡ Some (name, task)) × Begins l (names_of name task))) (sym (openings_before part more moves)) s.opens;
       makes = creations_before part more moves ∙ s.makes;
-      spec_first = λ before b. s.spec_first before (opening_told before b);
+      spec_first = after_writes (IsOpening Trace) HasWhole (λ did gift. transfer_opens_none Trace did (gift_transfer Err did gift)) s.spec_first;
       trace_last = at_more Trace HasWhole part more s.trace_last (no_reads Trace);
+      writes_last = λ to other. after_writes (IsGift to) (IsAllWhole words) (λ did gift. not_gift to did (gift_elsewhere Err to (same_channel_back Err to ∙ other) did gift)) (s.writes_last to other);
       spec_ends = at_more Spec _ part more s.spec_ends (no_reads Spec);
       trace_ends = at_more Trace _ part more s.trace_ends (no_reads Trace);
       limit = at_more Spec _ part more s.limit (no_reads Spec);
       pieces = Each-append _ part more s.pieces (gifts_within Err _ more gifts);
+      stops = stops_told s.stops s.silent;
       due = at_more Trace _ part more s.due (no_reads Trace);
       goes_on = at_more Trace _ part more s.goes_on (no_reads Trace);
       partly = partly_told s.partly;
@@ -253,15 +264,15 @@ module _ (words : List (List ℕ)) where
       where
         stays : (items : List tree.Item) (s : System) (o : Options) → WatchEndsAsMeant items s o by part → WatchEndsAsMeant items s o by (part ++ more)
         stays items s o w = record {
-          due = subst (λ (l : List ℕ). IsDueAsMeant items s o l (ended Trace (part ++ more)) (given Out (part ++ more))) (sym (taken_before Trace part more (no_reads Trace)))
-              (subst (λ (e : Bool). IsDueAsMeant items s o (taken Trace part) e (given Out (part ++ more))) (sym (ended_before Trace part more (no_reads Trace)))
-              (subst (λ (l : List ℕ). IsDueAsMeant items s o (taken Trace part) (ended Trace part) l) (sym (given_before Out part more no_out)) w.due));
+          due = subst (λ (l : List ℕ). IsDueAsMeant items o l (ended Trace (part ++ more)) (given Out (part ++ more))) (sym (taken_before Trace part more (no_reads Trace)))
+              (subst (λ (e : Bool). IsDueAsMeant items o (taken Trace part) e (given Out (part ++ more))) (sym (ended_before Trace part more (no_reads Trace)))
+              (subst (λ (l : List ℕ). IsDueAsMeant items o (taken Trace part) (ended Trace part) l) (sym (given_before Out part more no_out)) w.due));
           ends = subst (λ (l : List ℕ). EndsAsMeant items s o l (ended Trace (part ++ more)) by) (sym (taken_before Trace part more (no_reads Trace)))
               (subst (λ (e : Bool). EndsAsMeant items s o (taken Trace part) e by) (sym (ended_before Trace part more (no_reads Trace))) w.ends);
         }
 
-    stops_told : (by : Ending) → AloneEnds words by part → AloneEnds words by (part ++ more)
-    stops_told by f = record {
+    alone_told : (by : Ending) → AloneEnds words by part → AloneEnds words by (part ++ more)
+    alone_told by f = record {
       what = f.what;
       asked = f.asked;
       stops = f.stops;
@@ -278,7 +289,7 @@ module _ (words : List (List ℕ)) where
       opens = openings_before part more moves ∙ f.opens;
     }))
     run_ends_told ending.Words f = record { refused = f.refused; opens = openings_before part more moves ∙ f.opens; nothing = given_before Out part more no_out ∙ f.nothing }
-    run_ends_told (ending.Spec fault) (inr f) = inr (stops_told (ending.Spec fault) f)
+    run_ends_told (ending.Spec fault) (inr f) = inr (alone_told (ending.Spec fault) f)
     run_ends_told (ending.Spec fault) (inl f) = inl record {
       name = f.name;
       task = f.task;
@@ -289,11 +300,11 @@ module _ (words : List (List ℕ)) where
       nothing = given_before Out part more no_out ∙ f.nothing;
     }
     run_ends_told (ending.Trace fault) (inl f) = inl (ends_told (ending.Trace fault) f)
-    run_ends_told (ending.Trace fault) (inr f) = inr (stops_told (ending.Trace fault) f)
+    run_ends_told (ending.Trace fault) (inr f) = inr (alone_told (ending.Trace fault) f)
     run_ends_told (ending.Fault t k p) (inl f) = inl (ends_told (ending.Fault t k p) f)
-    run_ends_told (ending.Fault t k p) (inr f) = inr (stops_told (ending.Fault t k p) f)
+    run_ends_told (ending.Fault t k p) (inr f) = inr (alone_told (ending.Fault t k p) f)
     run_ends_told (ending.Limit n t) (inl f) = inl (ends_told (ending.Limit n t) f)
-    run_ends_told (ending.Limit n t) (inr f) = inr (stops_told (ending.Limit n t) f)
+    run_ends_told (ending.Limit n t) (inr f) = inr (alone_told (ending.Limit n t) f)
 
     -- what is told before the line stays
     before_told : (by : Ending) (text : List ℕ) → IsToldBefore words by part text → IsToldBefore words by (part ++ more) text
@@ -320,14 +331,14 @@ module _ (words : List (List ℕ)) where
   module _ (before mid now : Failures) (status : ℕ) (part more : List Did) (shows : Shows words part) where
     pub concludes_failure : CallFailed before mid → TellsBroken broken.Outside mid now status more → Concludes words before now status (part ++ more)
     concludes_failure call (all_of_broken is same gifts whole) =
-        with_outcome part more gifts shows before now status (outside is (told_failure (call_and_none before mid now call same) (err_told part more gifts shows.silent ∙ whole)))
+        with_outcome part more gifts shows before now status (outside is (told_failure (call_and_none before mid now call same) (err_told part more gifts (given_none Err part shows.silent) ∙ whole)))
     concludes_failure call (some_of_broken is write gifts less) =
-        with_outcome part more gifts shows before now status (outside is (untold_failure (call_and_write before mid now call write) (less_told part more gifts (broken_line broken.Outside) shows.silent less)))
+        with_outcome part more gifts shows before now status (outside is (untold_failure (call_and_write before mid now call write) (less_told part more gifts (broken_line broken.Outside) (given_none Err part shows.silent) less)))
 
     pub concludes_memory : NoneFailed before mid → TellsBroken broken.Memory mid now status more → Concludes words before now status (part ++ more)
-    concludes_memory none (all_of_broken is same gifts whole) = with_outcome part more gifts shows before now status (memory is (err_told part more gifts shows.silent ∙ whole))
+    concludes_memory none (all_of_broken is same gifts whole) = with_outcome part more gifts shows before now status (memory is (err_told part more gifts (given_none Err part shows.silent) ∙ whole))
     concludes_memory none (some_of_broken is write gifts less) =
-        with_outcome part more gifts shows before now status (outside is (untold_memory (none_and_write before mid now none write) (less_told part more gifts (broken_line broken.Memory) shows.silent less)))
+        with_outcome part more gifts shows before now status (outside is (untold_memory (none_and_write before mid now none write) (less_told part more gifts (broken_line broken.Memory) (given_none Err part shows.silent) less)))
 
     -- An ending is told.
     pub concludes_ending : (by : Ended) → NoneFailed before mid → RunEnds words by.ending part → IsToldBefore words by.ending part by.statistics → TellsEnding by mid now status more
@@ -337,11 +348,11 @@ module _ (words : List (List ℕ)) where
           ends = run_ends_told part more gifts by.ending held;
           before = by.statistics;
           is_before = before_told part more gifts by.ending by.statistics first;
-          told = err_told part more gifts shows.silent ∙ whole;
+          told = err_told part more gifts (given_none Err part shows.silent) ∙ whole;
         })
     concludes_ending by none held first (some_of_ending is write gifts less) =
         with_outcome part more gifts shows before now status (outside is (untold_ending (none_and_write before mid now none write) by.ending (run_ends_told part more gifts by.ending held) by.statistics
-        (before_told part more gifts by.ending by.statistics first) (less_told part more gifts (ended_text by) shows.silent less)))
+        (before_told part more gifts by.ending by.statistics first) (less_told part more gifts (ended_text by) (given_none Err part shows.silent) less)))
     concludes_ending by none held first (no_text tells) = concludes_memory none tells
 
   pub concludes_broken : (by : Broken) (before mid now : Failures) (status : ℕ) (part more : List Did) → (by ≡ broken.Outside → CallFailed before mid) → (by ≡ broken.Memory → NoneFailed before mid) → Shows words part

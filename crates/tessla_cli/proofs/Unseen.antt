@@ -6,7 +6,7 @@ use Rattle.std.specs.List.{AllByRecursion}
 use Rattle.std.specs.Option.{option_and_then, option_map}
 use Rattle.alias_rules.specs.Uses.{IsUpdate}
 use Rattle.alias_rules.proofs.Existing.{some_plan}
-use Rattle.alias_rules.proofs.TakenPlan.{taken_is_fine}
+use Rattle.alias_rules.proofs.TakenPlan.{one_plan, taken_is_fine}
 use Rattle.command_words.specs.Words.{Command, IsLimited, command_of, bench as benches, check as checks, code as codes_of, flat as flattens, generate as generates, run as runs, show as prints_choice}
 use Rattle.command_words.proofs.Commands.{command_is_limited}
 use Rattle.flat_core.specs.Case.{Streams}
@@ -21,7 +21,8 @@ use Rattle.flat_simplify.proofs.Fit.{simplified_fit}
 use Rattle.register_machine.specs.Copied.{copied, total_copied}
 use Rattle.register_machine.specs.Run.{Plan}
 use Rattle.register_machine.specs.Stands.{IsGiven}
-use Rattle.register_machine.proofs.Shown.{counts, exists, leaves, shows}
+use Rattle.register_machine.proofs.LaterRuns.{runs_on}
+use Rattle.register_machine.proofs.Shown.{counts, exists, goes_on, leaves, shows}
 use Rattle.spec_compiler.specs.Compiled.{Compiles}
 use Rattle.syntax_tree.specs.Tree as tree
 use Rattle.trace_monitor.specs.declared.options.Options.{Options}
@@ -115,6 +116,8 @@ module _ (s : System) (whole : IsFlat s) (plan : Plan) (lines : List Line) (boun
   pub runs_unseen : RunsUnseen s plan lines bound z
   runs_unseen = record {
     exist = exists s plan lines bound z given;
+    go_on = goes_on s plan lines bound z given;
+    run_on = λ t below a run. runs_on s plan lines z t a run;
     leave = leaves s plan lines bound z given;
     show = shows s plan lines bound z given;
     copy_none = λ t within a run u listed. (counts s plan lines bound z given t within a run).between u (update u listed) ∙ listed_copies_none s plan.in_place z u t listed;
@@ -127,6 +130,7 @@ no_update_is_seen words part name trace o statistics items s asked c = record {
   solved = f.solved (inputs_of (lines_in s o bytes is_end)) (bound_in s o bytes is_end);
   each = λ z zs. record {
     some_plan = some_plan s f.proper f.outputs_run f.well_formed;
+    one_plan = λ set order other others first second. let one = one_plan s set order other others first second in (one.set_is, one.order_is);
     each = λ set order taken_plan. runs_unseen s whole (record { in_place = set; order = order }) (lines_in s o bytes is_end) (bound_in s o bytes is_end) z record {
       flat = whole;
       fine = taken_is_fine s set order f.proper f.outputs_run f.well_formed taken_plan;

@@ -32,6 +32,7 @@ use Rattle.trace_reader.proofs.LineLemmas.{reading_closed, reading_later}
 use Rattle.tsl_world.specs.Begins.{Begins}
 use Rattle.tessla_cli.specs.Completeness.{IsUnhindered}
 use Rattle.tessla_cli.proofs.Exact.{long, loud, nothing_some}
+use Rattle.tessla_cli.proofs.Meaning.{of_meant, refused_alike, to_meant}
 use Rattle.tessla_cli.proofs.TypedLines.{typed_read}
 use Rattle.tessla_cli.proofs.Unseen.{fit}
 
@@ -126,9 +127,12 @@ module _ (source : List ℕ) (items : List tree.Item) (s : System) (o : Options)
 
   pub unhindered_first : IsUnhindered items s o whole true → IsUnhindered items s o bytes false
   unhindered_first u = let (z, zs) = (fit source items s c).solved (inputs_of ms) high in record {
-    accepted = none_by (refused_in s o bytes false) (λ f is. nothing_some (refused_in s o whole true) f u.accepted
+    accepted =
+        sym (refused_alike source items s o c bytes false)
+        ∙ none_by (refused_in s o bytes false) (λ f is. nothing_some (refused_in s o whole true) f (refused_alike source items s o c whole true ∙ u.accepted)
         (ap (λ (r : Reading). r.refused) (reading_refused s o.strict o.bytes bytes more true f is) ∙ is));
-    quiet = quiet_first z zs u.quiet;
+    quiet = to_meant source items s o c bytes false (λ l b. QuietIsMeant items l b o.instants)
+        (quiet_first z zs (of_meant source items s o c whole true (λ l b. QuietIsMeant items l b o.instants) u.quiet));
   }
 
 -- nothing in a whole trace, so nothing in what was taken of it

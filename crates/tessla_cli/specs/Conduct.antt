@@ -1,10 +1,11 @@
 -- What the program does to the outside, as the journal of its calls has it.
-use Rattle.std.specs.Prelude.{◌≡◌, ◌⊎◌, ℕ, ◌<◌, ◌≤◌, true, List, [], ◌∷◌, ◌++◌, length, Some, None}
+use Rattle.std.specs.Prelude.{◌≡◌, ◌⊎◌, ℕ, ◌<◌, ◌≤◌, true, false, List, [], ◌∷◌, length, Some, None}
 use Rattle.tsl_world.specs.declared.outside.Did.{Did}
-use Rattle.tsl_world.specs.declared.outside.Slot.{Slot}
 use Rattle.tsl_world.specs.declared.outside.Slot.TheVariants.{Spec, Trace}
-use Rattle.tsl_world.specs.declared.outside.Channel.TheVariants.{Out}
-use Rattle.tsl_world.specs.Journal.{given, taken, ended, opening, openings, creations, AtReads, IsWithin, Each}
+use Rattle.tsl_world.specs.declared.outside.Channel.{Channel}
+use Rattle.tsl_world.specs.declared.outside.Channel.TheVariants.{Out, Err}
+use Rattle.tsl_world.specs.Journal.{same_channel, given, taken, ended, openings, creations, IsDone, IsGift, IsNoFailedGift, IsOpening, IsWithin}
+use Rattle.tsl_world.specs.Journal.{AtAll, AtEntries, AtReads, Each}
 use Rattle.spec_reader.specs.declared.fault.SpecFault.{SpecFault}
 use Rattle.spec_compiler.specs.Compiled.{IsRefusedBy}
 use Rattle.tessla_cli.specs.declared.ending.Ending.{Ending}
@@ -23,21 +24,13 @@ use Rattle.spec_lexer.specs.declared.limits.TheConstants.{MOST_SOURCE_BYTES}
 abbrev pub HasWhole : List Did → Type 0
 HasWhole journal = (ended Spec journal ≡ true) ⊎ (MOST_SOURCE_BYTES < length (taken Spec journal))
 
--- an opening of the slot, which may have failed, stands after this much of the journal
-pub record IsBeforeOpening (slot : Slot) (before journal : List Did) : Type 0 where
-  pub did : Did
-  pub name : List ℕ
-  pub after : List Did
-  pub is : opening did ≡ (slot, name) ∷ []
-  pub split : journal ≡ before ++ did ∷ after
-
 -- Nothing is made.
 abbrev pub MakesNothing : List Did → Type 0
 MakesNothing part = creations part ≡ []
 
 -- The trace is opened only after the whole of the specification, or so much of it that it is too long.
 abbrev pub ReadsSpecFirst : List Did → Type 0
-ReadsSpecFirst part = (before : List Did) → IsBeforeOpening Trace before part → HasWhole before
+ReadsSpecFirst part = AtEntries (IsOpening Trace) HasWhole part
 
 -- So is the trace read: each read of it stands after the whole of the specification, or so much of it.
 abbrev pub ReadsTraceLast : List Did → Type 0
@@ -51,6 +44,11 @@ StopsAtLimit part = AtReads Spec (λ before. length (taken Spec before) ≤ MOST
 abbrev pub ReadsPieces : List Did → Type 0
 ReadsPieces part = Each (IsWithin MOST_PIECE_BYTES) part
 
+-- Nothing but a write to Err follows a call that failed, and nothing at all follows a write to Err that failed.
+pub record StopsAtFailures (part : List Did) : Type 0 where
+  pub silent : AtEntries (λ did. IsGift Err did → ⊥) (Each IsDone) part
+  pub last : AtAll (Each (IsNoFailedGift Err)) part
+
 module _ (words : List (List ℕ)) where
   -- Nothing is opened but what the words ask for, the specification and then the trace, each once and each whether it could be opened or
   -- not.
@@ -58,15 +56,24 @@ module _ (words : List (List ℕ)) where
   OpensAsAsked part = (openings part ≡ [])
       ⊎ ((name : List ℕ) × (task : Task) × (asked_of words ≡ Some (name, task)) × Begins (openings part) (names_of name task))
 
+  -- What the words ask to read whole first was read whole: the specification, where they name one.
+  abbrev pub IsAllWhole : List Did → Type 0
+  IsAllWhole before = (name : List ℕ) (task : Task) → asked_of words ≡ Some (name, task) → HasWhole before
+
+  -- Only then is anything given to a channel other than Err.
+  abbrev pub WritesLast : List Did → Type 0
+  WritesLast part = (to : Channel) → same_channel to Err ≡ false → AtEntries (IsGift to) IsAllWhole part
+
   -- No read of the trace follows once the bytes taken hold a refused line, close a fault or pass the limit of instants.
   abbrev pub GoesOnAtReads : List Did → Type 0
   GoesOnAtReads part = AtReads Trace (λ before. OfRun words before (λ items s o. GoesOnAsMeant items s o (taken Trace before))) part
 
-  -- A fact about the text that the words ask to print, of the specification as far as it was taken.
+  -- A fact about the text that the words ask to print, of the specification, which was read whole.
   pub record OfPrint (journal : List Did) (P : List ℕ → Type 0) : Type 0 where
     pub name : List ℕ
     pub form : Form
     pub asked : asked_of words ≡ Some (name, print form)
+    pub whole : HasWhole journal
     pub text : List ℕ
     pub is : IsTextOf (taken Spec journal) form text
     pub holds : P text

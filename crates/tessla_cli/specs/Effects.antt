@@ -12,18 +12,24 @@ use Rattle.trace_monitor.specs.Next.{EndsBy}
 use Rattle.tsl_world.specs.Begins.{Begins, BeginsStrictly}
 use Rattle.tsl_world.specs.declared.outside.Channel.{Channel}
 use Rattle.tsl_world.specs.declared.outside.Did.{Did}
-use Rattle.tsl_world.specs.declared.outside.Did.TheVariants.{Took, Gave}
+use Rattle.tsl_world.specs.declared.outside.Did.TheVariants.{Took, Gave, NotTook, NotGave}
 use Rattle.tsl_world.specs.declared.outside.Slot.{Slot}
 use Rattle.tsl_world.specs.declared.outside.Slot.TheVariants.{Trace}
 use Rattle.tsl_world.specs.declared.outside.Channel.TheVariants.{Out}
-use Rattle.tsl_world.specs.Journal.{given, taken, ended, AtReads, IsGift, Each}
+use Rattle.tsl_world.specs.Journal.{given, taken, ended, AtReads, IsDone, IsGift, Each, StopsAtFailure}
 use Rattle.tessla_cli.specs.declared.ending.Ending.{Ending}
 use Rattle.tessla_cli.specs.declared.ending.Ending.TheVariants as ending
 use Rattle.trace_reader.specs.declared.limits.TheConstants.{MOST_PIECE_BYTES}
 
+-- the channel is written, until a write fails
+pub record Writes (to : Channel) (part : List Did) : Type 0 where
+  pub gifts : Each (IsGift to) part
+  pub stops : StopsAtFailure part
+
 -- These bytes are given to the channel, all of them at Ok, and else a beginning that is not all.
 pub record Gives {E : Type 0} (to : Channel) (bytes : List ℕ) (result : Result (Unit {0}) E) (part : List Did) : Type 0 where
-  pub gifts : Each (IsGift to) part
+  pub writes : Writes to part
+  pub done : OnOk result (Each IsDone part)
   pub some : Begins (given to part) bytes
   pub whole : OnOk result (given to part ≡ bytes)
   pub less : OnErr result (BeginsStrictly (given to part) bytes)
@@ -31,12 +37,15 @@ pub record Gives {E : Type 0} (to : Channel) (bytes : List ℕ) (result : Result
 -- a read of the slot that takes no more than one may
 abbrev pub IsTake : Slot → Did → Type 0
 IsTake from (Took at bytes) = (at ≡ from) × (length bytes ≤ MOST_PIECE_BYTES)
+IsTake from (NotTook at) = at ≡ from
 IsTake from did = ⊥
 
 -- a read of the trace, or a write of output
 abbrev pub IsTraceWork : Did → Type 0
 IsTraceWork (Took at bytes) = (at ≡ Trace) × (length bytes ≤ MOST_PIECE_BYTES)
 IsTraceWork (Gave to bytes) = to ≡ Out
+IsTraceWork (NotTook at) = at ≡ Trace
+IsTraceWork (NotGave to) = to ≡ Out
 IsTraceWork did = ⊥
 
 -- the ending of the program where a run over a trace ends so
@@ -65,6 +74,7 @@ module _ (s : System) (o : Options) where
     pub work : Each IsTraceWork part
     pub reads : AtReads Trace MayRead part
     pub partly : BeginsDue part
+    pub stops : StopsAtFailure part
 
   -- how it ends: all that is due was written, the ending has its cause, and the engine has counted what it has run
   pub record WatchEnds (e : engine.State) (by : Ending) (part : List Did) : Type 0 where

@@ -8,14 +8,15 @@ use Rattle.tsl_world.specs.Begins.{BeginsStrictly}
 use Rattle.tsl_world.specs.declared.outside.Did.{Did}
 use Rattle.tsl_world.specs.declared.outside.Slot.TheVariants.{Spec, Trace}
 use Rattle.tsl_world.specs.declared.outside.Channel.TheVariants.{Err}
-use Rattle.tsl_world.specs.Journal.{given, taken, ended, IsGift, Each, StopsAtEnd}
+use Rattle.tsl_world.specs.Journal.{given, taken, ended, StopsAtEnd}
 use Rattle.tessla_cli.specs.declared.ending.Ended.{Ended}
 use Rattle.tessla_cli.specs.declared.ending.Ending.{Ending}
 use Rattle.tessla_cli.specs.declared.ending.Ending.TheVariants as ending
 use Rattle.tessla_cli.specs.declared.ending.Broken.{Broken}
 use Rattle.tessla_cli.specs.declared.ending.Broken.TheVariants as broken
 use Rattle.tessla_cli.specs.Conduct.{OpensAsAsked, MakesNothing, ReadsSpecFirst, ReadsTraceLast, StopsAtLimit, ReadsPieces, GoesOnAtReads}
-use Rattle.tessla_cli.specs.Conduct.{IsPartlyDue, RunEnds}
+use Rattle.tessla_cli.specs.Conduct.{IsPartlyDue, RunEnds, StopsAtFailures, WritesLast}
+use Rattle.tessla_cli.specs.Effects.{Writes}
 use Rattle.tessla_cli.specs.Failures.{Failures, NoneFailed, CallFailed, WriteFailed, BothFailed}
 use Rattle.tessla_cli.specs.Headline.{IsDueAtReads, OfRun}
 use Rattle.tessla_cli.specs.Messages.{ended_text, ending_line, broken_line, broken_status, status_of}
@@ -29,15 +30,15 @@ Tells line part = given Err part ≡ line
 
 -- A run that was cut short is told by its line. Where a write of that fails, which is counted, nothing more is written.
 pub data TellsBroken (by : Broken) (before now : Failures) (status : ℕ) (part : List Did) : Type 0 where
-  all_of_broken : status ≡ broken_status by → NoneFailed before now → Each (IsGift Err) part → Tells (broken_line by) part
+  all_of_broken : status ≡ broken_status by → NoneFailed before now → Writes Err part → Tells (broken_line by) part
       → TellsBroken by before now status part
-  some_of_broken : status ≡ 5 → WriteFailed before now → Each (IsGift Err) part → BeginsStrictly (given Err part) (broken_line by)
+  some_of_broken : status ≡ 5 → WriteFailed before now → Writes Err part → BeginsStrictly (given Err part) (broken_line by)
       → TellsBroken by before now status part
 
 -- An ending is told by its text in the same way, or else it is told that memory ran out for the text.
 pub data TellsEnding (by : Ended) (before now : Failures) (status : ℕ) (part : List Did) : Type 0 where
-  all_of_ending : status ≡ status_of by.ending → Each (IsGift Err) part → Tells (ended_text by) part → TellsEnding by before now status part
-  some_of_ending : status ≡ 5 → WriteFailed before now → Each (IsGift Err) part → BeginsStrictly (given Err part) (ended_text by)
+  all_of_ending : status ≡ status_of by.ending → Writes Err part → Tells (ended_text by) part → TellsEnding by before now status part
+  some_of_ending : status ≡ 5 → WriteFailed before now → Writes Err part → BeginsStrictly (given Err part) (ended_text by)
       → TellsEnding by before now status part
   no_text : TellsBroken broken.Memory before now status part → TellsEnding by before now status part
 
@@ -106,10 +107,12 @@ module _ (words : List (List ℕ)) where
     pub makes : MakesNothing part
     pub spec_first : ReadsSpecFirst part
     pub trace_last : ReadsTraceLast part
+    pub writes_last : WritesLast words part
     pub spec_ends : StopsAtEnd Spec part
     pub trace_ends : StopsAtEnd Trace part
     pub limit : StopsAtLimit part
     pub pieces : ReadsPieces part
+    pub stops : StopsAtFailures part
     pub due : IsDueAtReads words part
     pub goes_on : GoesOnAtReads words part
     pub partly : IsPartlyDue words part

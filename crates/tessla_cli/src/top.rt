@@ -7,7 +7,7 @@ ghost use Rattle.tsl_world.specs.Standing.{at_first};
 ghost use Rattle.tsl_world.specs.declared.outside.Did.{Did};
 ghost use Rattle.tessla_cli.specs.Completeness.{IsComplete};
 ghost use Rattle.tessla_cli.specs.Conduct.{OpensAsAsked, MakesNothing, ReadsSpecFirst, ReadsTraceLast, StopsAtLimit, ReadsPieces};
-ghost use Rattle.tessla_cli.specs.Conduct.{GoesOnAtReads, IsPartlyDue};
+ghost use Rattle.tessla_cli.specs.Conduct.{GoesOnAtReads, IsPartlyDue, StopsAtFailures, WritesLast};
 ghost use Rattle.tessla_cli.specs.Failures.{SomeFailed, failures};
 ghost use Rattle.tessla_cli.specs.Headline.{IsDueAtReads};
 ghost use Rattle.tessla_cli.specs.Messages.{broken_line};
@@ -63,15 +63,19 @@ fn conclude<W: World>(alloc: Global, words: &Words, world: &mut W) -> u8
 pub fn tessla<W: World>(alloc: Global, words: &Words, world: &mut W) -> u8
     requires { W.standing world.old ≡ at_first }
 
-    // What is opened and read, and in which order.
+    // What is opened, read and written, and in which order.
     ensures opens { Grows W.told W.journal world.old world.new (OpensAsAsked words.now) }
     ensures makes { Grows W.told W.journal world.old world.new MakesNothing }
     ensures spec_first { Grows W.told W.journal world.old world.new ReadsSpecFirst }
     ensures trace_last { Grows W.told W.journal world.old world.new ReadsTraceLast }
+    ensures writes_last { Grows W.told W.journal world.old world.new (WritesLast words.now) }
     ensures spec_ends { Grows W.told W.journal world.old world.new (StopsAtEnd Slot.Spec) }
     ensures spec_limit { Grows W.told W.journal world.old world.new StopsAtLimit }
     ensures trace_ends { Grows W.told W.journal world.old world.new (StopsAtEnd Slot.Trace) }
     ensures pieces { Grows W.told W.journal world.old world.new ReadsPieces }
+
+    // What is done after a call that failed: a write to Err tells it, and nothing follows where that one failed.
+    ensures stops { Grows W.told W.journal world.old world.new StopsAtFailures }
 
     // Before each read of the trace, what was given to Out is the text that is due of the bytes taken so far, and nothing ends the run.
     ensures due { Grows W.told W.journal world.old world.new (IsDueAtReads words.now) }

@@ -53,6 +53,7 @@ pub fn watch<W: World>(
     ensures calls { Runs W.told W.journal W.standing world.old world.new (Watched monitor.old.system monitor.old.options) }
     ensures engine { OnOk result (monitor.new.engine.system ≡ monitor.old.system) }
     ensures set { OnOk result (monitor.new.engine.in_place ≡ monitor.old.engine.in_place) }
+    ensures order { OnOk result (monitor.new.engine.order ≡ monitor.old.engine.order) }
     ensures ending { IfOk result (λ ending. Runs W.told W.journal W.standing world.old world.new
         (WatchEnds monitor.old.system monitor.old.options monitor.new.engine ending)) }
 {

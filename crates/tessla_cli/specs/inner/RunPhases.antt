@@ -12,14 +12,14 @@ use Rattle.tsl_world.specs.declared.outside.Channel.TheVariants.{Out}
 use Rattle.tsl_world.specs.declared.outside.Did.{Did}
 use Rattle.tsl_world.specs.declared.outside.Did.TheVariants.{Opened, NotOpened}
 use Rattle.tsl_world.specs.declared.outside.Slot.TheVariants.{Spec, Trace}
-use Rattle.tsl_world.specs.Journal.{given, taken, ended, AtReads, IsGift, Each}
+use Rattle.tsl_world.specs.Journal.{given, taken, ended, AtReads, IsDone, Each, StopsAtFailure}
 use Rattle.tessla_cli.specs.declared.ending.Ended.{Ended}
 use Rattle.tessla_cli.specs.declared.ending.Ending.{Ending}
 use Rattle.tessla_cli.specs.declared.ending.Ending.TheVariants as ending
 use Rattle.tessla_cli.specs.declared.task.Form.{Form}
 use Rattle.tessla_cli.specs.Alone.{AloneStops, IsAloneText}
 use Rattle.tessla_cli.specs.Conduct.{HasWhole}
-use Rattle.tessla_cli.specs.Effects.{IsTake, Watched, WatchEnds}
+use Rattle.tessla_cli.specs.Effects.{IsTake, Watched, WatchEnds, Writes}
 use Rattle.tessla_cli.specs.Printed.{IsTextOf}
 use Rattle.tessla_cli.specs.Statistics.{statistics_text}
 use Rattle.tessla_cli.specs.Tasks.{Alone, Task, alone_of, print, monitor, asked_of, requested}
@@ -34,11 +34,13 @@ pub record MayReadSpec (before : List Did) : Type 0 where
 pub record ReadsSpec (part : List Did) : Type 0 where
   pub only : Each (IsTake Spec) part
   pub reads : AtReads Spec MayReadSpec part
+  pub stops : StopsAtFailure part
 
 -- this is what was taken, and it is whole
 pub record GivesSource (source : List ℕ) (part : List Did) : Type 0 where
   pub bytes_are : taken Spec part ≡ source
   pub whole : HasWhole part
+  pub done : Each IsDone part
 
 -- the trace of this name is opened and the system monitored, as far as it comes
 pub data RunsSystem (trace : List ℕ) (s : System) (o : Options) : List Did → Type 0 where
@@ -51,10 +53,10 @@ abbrev pub counted_text : System → engine.State → Bool → List ℕ
 counted_text s e true = statistics_text s (λ u. slice_index e.ledger u)
 counted_text s e false = []
 
--- and it ends so, by the plan that is taken
+-- and it ends so, by an engine that runs the plan that is taken
 pub data SystemEnds (trace : List ℕ) (s : System) (o : Options) (statistics : Bool) (by : Ended) : List Did → Type 0 where
-  ends : (e : engine.State) (order : List ℕ) (part : List Did)
-      → IsTakenPlan s e.in_place order
+  ends : (e : engine.State) (part : List Did)
+      → IsTakenPlan s e.in_place e.order
       → Watched s o part
       → WatchEnds s o e by.ending part
       → by.statistics ≡ counted_text s e statistics
@@ -64,14 +66,14 @@ pub data SystemEnds (trace : List ℕ) (s : System) (o : Options) (statistics : 
 pub record PrintsText (P : List ℕ → Type 0) (part : List Did) : Type 0 where
   pub text : List ℕ
   pub is : P text
-  pub gifts : Each (IsGift Out) part
+  pub writes : Writes Out part
   pub some : Begins (given Out part) text
 
 -- all of it
 pub record HasPrintedText (P : List ℕ → Type 0) (part : List Did) : Type 0 where
   pub text : List ℕ
   pub is : P text
-  pub gifts : Each (IsGift Out) part
+  pub writes : Writes Out part
   pub whole : given Out part ≡ text
 
 -- the text that a source has in a form

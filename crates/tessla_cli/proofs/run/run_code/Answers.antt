@@ -51,13 +51,15 @@ returns-clause-ending g c =
     let ended : Ended = record { ending = by; statistics = c.in_ok-statistics.statistics } in
     let calls = rw (c.in_ok-monitor.ensures.system, c.in_ok-monitor.ensures.options) at c.watch.ensures.calls in
     let ending = rw (c.in_ok-monitor.ensures.system, c.in_ok-monitor.ensures.options) at c.in_ok-ending.ensures.ending in
-    let taken_plan = subst (λ (set : List ℕ). IsTakenPlan s set c.args.code.now.order) (sym (c.in_ok-ending.ensures.set ∙ c.in_ok-monitor.ensures.in_place)) c.requires.taken in
+    let set = c.in_ok-ending.ensures.set ∙ c.in_ok-monitor.ensures.in_place in
+    let order = c.in_ok-ending.ensures.order ∙ c.in_ok-monitor.ensures.order in
+    let taken_plan = subst (λ (l : List ℕ). IsTakenPlan s e.in_place l) (sym order) (subst (λ (l : List ℕ). IsTakenPlan s l c.args.code.now.order) (sym set) c.requires.taken) in
     let told = c.in_ok-statistics.ensures ∙ ap (λ (t : System). counted_text t e c.args.with_statistics) c.flat.ensures.flat in
     let both = grows_both g.W.World.told g.W.World.journal c.open.new.self c.watch.new.world (Watched s o) (WatchEnds s o e by)
     (grows_run g.W.World.told g.W.World.journal g.W.World.standing c.open.new.self c.watch.new.world (Watched s o) calls)
     (grows_run g.W.World.told g.W.World.journal g.W.World.standing c.open.new.self c.watch.new.world (WatchEnds s o e by) ending) in
     grows_following g.W.World.told g.W.World.journal c.args.world.now c.open.new.self c.watch.new.world (Opened Trace c.args.trace.now) (λ q. Watched s o q × WatchEnds s o e by q)
-    (SystemEnds c.args.trace.now s o c.args.with_statistics ended) c.open.ensures.told c.in_ok-open.ensures.journal both (λ q w. ends e c.args.code.now.order q taken_plan w.0 w.1 told)
+    (SystemEnds c.args.trace.now s o c.args.with_statistics ended) c.open.ensures.told c.in_ok-open.ensures.journal both (λ q w. ends e q taken_plan w.0 w.1 told)
 
 pub statistics_of-requires : goal.statistics_of-requires
 statistics_of-requires g c = c.in_ok-ending.ensures.engine ∙ c.in_ok-monitor.ensures.system ∙ sym c.flat.ensures.flat

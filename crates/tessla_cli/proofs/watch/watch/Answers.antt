@@ -9,7 +9,7 @@ use Rattle.trace_monitor.specs.Next.{EndsBy, IsNext, is_nothing}
 use Rattle.trace_monitor.proofs.Within.{kept_within, some_more}
 use Rattle.tessla_cli.specs.Effects.{Watched, WatchEnds}
 use Rattle.tessla_cli.proofs.Dues.{due_at_start, goes_on_at_start}
-use Rattle.tessla_cli.proofs.Watching.{Stands, at_start, read_on, stopped_at_piece, stopped_at_gift, stopped_between, gave_all, ends, due_as, next_as, counted_as}
+use Rattle.tessla_cli.proofs.Watching.{Stands, at_start, read_fails, read_on, stopped_at_piece, stopped_at_gift, stopped_between, gave_all, ends, due_as, next_as, counted_as}
 use Rattle.tessla_cli.proofs.watch.watch.Goals as goal
 use Rattle.trace_reader.specs.declared.limits.TheConstants.{MOST_PIECE_BYTES}
 
@@ -23,7 +23,7 @@ loop-init g c =
       refl,
       refl,
       refl,
-      refl,
+      (refl, refl),
       (
         [],
         [],
@@ -37,6 +37,13 @@ loop-init g c =
 
 pub advance-requires-clause-kept : goal.advance-requires-clause-kept
 advance-requires-clause-kept g c = let (fed, written, kept, taken, due, goes_on, calls) = c.loop.invariant.7 in (fed, kept)
+
+pub returns-in_err-count-clause-calls : goal.returns-in_err-count-clause-calls
+returns-in_err-count-clause-calls g c =
+    let s = c.args.monitor.now.system in
+    let o = c.args.monitor.now.options in
+    let (fed, written, kept, taken, due, goes_on, calls) = c.loop.invariant.7 in
+    read_fails g.W.World.told g.W.World.journal g.W.World.standing s o c.args.world.now c.loop.world c.read.new.self fed written calls due goes_on c.read.ensures.told c.read.ensures.standing c.in_err-count.ensures.journal
 
 pub returns-in_err-next-clause-calls : goal.returns-in_err-next-clause-calls
 returns-in_err-next-clause-calls g c =
@@ -99,7 +106,10 @@ pub returns-in-Some-clause-engine : goal.returns-in-Some-clause-engine
 returns-in-Some-clause-engine g c = let (fed, written, kept, taken, due, goes_on, calls) = c.loop.invariant.7 in c.advance.ensures.engine ∙ kept.system_is ∙ c.loop.invariant.4
 
 pub returns-in-Some-clause-set : goal.returns-in-Some-clause-set
-returns-in-Some-clause-set g c = c.advance.ensures.set ∙ c.loop.invariant.6
+returns-in-Some-clause-set g c = c.advance.ensures.set ∙ c.loop.invariant.6.0
+
+pub returns-in-Some-clause-order : goal.returns-in-Some-clause-order
+returns-in-Some-clause-order g c = c.advance.ensures.order ∙ c.loop.invariant.6.1
 
 pub loop-preserved : goal.loop-preserved
 loop-preserved g c =
@@ -120,7 +130,7 @@ loop-preserved g c =
       c.in_ok-write_all.ensures.heard.ok ∙ c.read.ensures.heard ∙ c.loop.invariant.3,
       c.advance.ensures.system ∙ c.loop.invariant.4,
       c.advance.ensures.options ∙ c.loop.invariant.5,
-      c.advance.ensures.set ∙ c.loop.invariant.6,
+      (c.advance.ensures.set ∙ c.loop.invariant.6.0, c.advance.ensures.order ∙ c.loop.invariant.6.1),
       (
         fed ++ piece,
         written ++ c.advance.new.out,

@@ -11,6 +11,6 @@ use Rattle.trace_reader.specs.declared.limits.TheConstants.{MOST_PIECE_BYTES}
 abbrev pub invariant-loop : goal.invariant-loop
 invariant-loop g l = (0 < length l.buf) × (length l.buf ≤ MOST_PIECE_BYTES) × (g.W.World.faults l.world ≡ g.W.World.faults l.fn.world)
     × (g.W.World.unheard l.world ≡ g.W.World.unheard l.fn.world)
-    × (l.monitor.system ≡ l.fn.monitor.system) × (l.monitor.options ≡ l.fn.monitor.options) × (l.monitor.engine.in_place ≡ l.fn.monitor.engine.in_place) × ((fed : List ℕ) × (written : List ℕ)
+    × (l.monitor.system ≡ l.fn.monitor.system) × (l.monitor.options ≡ l.fn.monitor.options) × ((l.monitor.engine.in_place ≡ l.fn.monitor.engine.in_place) × (l.monitor.engine.order ≡ l.fn.monitor.engine.order)) × ((fed : List ℕ) × (written : List ℕ)
     × Kept l.monitor fed × (l.counter ≤ length fed) × IsDue l.fn.monitor.system l.fn.monitor.options fed false written × GoesOn l.fn.monitor.system l.fn.monitor.options fed
     × Runs g.W.World.told g.W.World.journal g.W.World.standing l.fn.world l.world (λ part. Stands l.fn.monitor.system l.fn.monitor.options part fed written false))
