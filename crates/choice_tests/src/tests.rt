@@ -1,8 +1,6 @@
 // Which updates of a small flat system happen in place, with ample memory.
 
 mod of_alias_analysis;
-mod of_choice_text;
-mod of_last_use;
 
 ghost use Rattle.std.specs.Prelude.{IfOk, OnOk};
 ghost use Rattle.flat_core.specs.WellFormed.{IsWellFormed};

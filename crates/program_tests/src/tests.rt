@@ -144,6 +144,20 @@ fn the_previous_value_in_pieces_of_one_byte(rt: HostRuntime) -> Result<(), Fail>
 }
 
 #[test]
+fn a_run_makes_no_call_too_many_or_too_few(rt: HostRuntime) -> Result<(), Fail> {
+    let alloc = rt.alloc();
+    let trace = "1: i = 4\n3: i = 9\n";
+    let left = run(alloc, RUN, PREVIOUS, trace, 64, &[])?;
+    assert!(rt; has_ended(&left, prints("3: p = 4\n")));
+    assert!(rt; left.world.calls() == 7);
+    // As many bytes as may be, one at a time, and their end.
+    let words = &["run", "s.tsl", "--bytes", "18"];
+    let left = run(alloc, words, PREVIOUS, trace, 1, &[])?;
+    assert!(rt; has_ended(&left, prints("3: p = 4\n")));
+    Ok(())
+}
+
+#[test]
 fn the_first_call_fails(rt: HostRuntime) -> Result<(), Fail> {
     let left = run(rt.alloc(), RUN, PREVIOUS, "1: i = 4\n", 64, &[0])?;
     let end = refusal(5, "outside: a call failed\n");

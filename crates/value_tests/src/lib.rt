@@ -1,5 +1,5 @@
-//! Tests of the public calls of values, of operations on them, of sets and maps and of delays. There is nothing but tests: the check of a
-//! crate's tests proves the whole crate again, and here only they are proved.
+//! Tests of sets and maps, of bodies that are evaluated apart, and of many delays. There is nothing but tests: the check of a crate's tests
+//! proves the whole crate again, and here only they are proved.
 #![tactic(auto)]
 
 #[cfg(test)]

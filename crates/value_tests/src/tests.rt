@@ -1,6 +1,5 @@
-// Each call answers, where there is memory.
+// Calls that the program does not make, and long runs of those that it makes, with ample memory.
 
 mod of_aggregate_store;
 mod of_delay_timers;
 mod of_lift_func;
-mod of_tsl_value;

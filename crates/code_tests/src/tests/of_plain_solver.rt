@@ -98,13 +98,6 @@ fn run(
     Ok((solved.end, text))
 }
 
-fn is_limit(end: End, t: u64) -> bool {
-    match end {
-        End::Limit { time } => time.get() == t,
-        _ => false,
-    }
-}
-
 // The set is printed where it has the number already.
 #[test]
 fn events_are_printed_by_time(rt: HostRuntime) -> Result<(), Fail> {
@@ -113,13 +106,5 @@ fn events_are_printed_by_time(rt: HostRuntime) -> Result<(), Fail> {
     assert!(rt; end == End::Bound);
     let wanted = b"3: f = Set(5, 7)\n4: f = Set(5, 7)\n";
     assert!(rt; text.as_slice() == wanted.as_slice());
-    Ok(())
-}
-
-#[test]
-fn the_limit_of_instants_ends_the_run(rt: HostRuntime) -> Result<(), Fail> {
-    let (end, text) = run(rt.alloc(), &[(2, 0, 5), (3, 0, 5), (4, 0, 5)], 10, 3)?;
-    assert!(rt; is_limit(end, 4));
-    assert!(rt; text.as_slice() == b"3: f = Set(5)\n".as_slice());
     Ok(())
 }

@@ -1,4 +1,4 @@
-// Questions about the formulas of two systems.
+// Questions about the formulas of many inputs.
 
 ghost use Rattle.std.specs.Prelude.{◌≡◌, length, IfOk};
 
@@ -7,7 +7,7 @@ use recursion_check::check::check_cycles;
 use std::alloc::Global;
 use std::test::Fail;
 use trigger_diagram::diagrams::Diagrams;
-use trigger_starts::sample::{merged, sample};
+use trigger_starts::sample::merged;
 use tsl_value::ids::EqId;
 
 /// The diagrams of a system.
@@ -18,24 +18,6 @@ fn diagrams(alloc: Global, flat: &Flat) -> Result<Diagrams, Fail>
         Ok(()) => Ok(Diagrams::new(alloc, flat)?),
         Err(_) => Err(Fail::from("a cycle")),
     }
-}
-
-#[test]
-fn formulas_of_a_set_that_grows(rt: HostRuntime) -> Result<(), Fail> {
-    let flat = sample(rt.alloc())?;
-    let mut diagrams = diagrams(rt.alloc(), &flat)?;
-    let input = diagrams.of_formula(EqId::new(0))?;
-    let set = diagrams.of_formula(EqId::new(8))?;
-    assert!(rt; diagrams.implies(rt.alloc(), set, input)?);
-    assert!(rt; !diagrams.implies(rt.alloc(), input, set)?);
-    assert!(rt; diagrams.together(rt.alloc(), set, input)?);
-    // the set grows just where there was one before
-    let last = diagrams.of_formula(EqId::new(3))?;
-    assert!(rt; last == set);
-    assert!(rt; last != input);
-    assert!(rt; diagrams.starts(EqId::new(1)));
-    assert!(rt; !diagrams.starts(EqId::new(3)));
-    Ok(())
 }
 
 /// The formulas have 20 atoms and more, which are too many for a table.

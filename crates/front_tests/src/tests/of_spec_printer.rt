@@ -89,12 +89,17 @@ c }
 out count ( e ) as n 
 ";
 
+const DIFFERENCES: &[u8] = b"out 7 - (5 - 3) as d\n";
+
+const DIFFERENCES_PRINTED: &[u8] = b"out 7 - ( 5 - 3 ) as d \n";
+
 #[test]
 fn specifications_come_back(rt: HostRuntime) {
-    let sources: [(&[u8], &[u8]); 3] = [
+    let sources: [(&[u8], &[u8]); 4] = [
         (HEARTBEATS, HEARTBEATS_PRINTED),
         (SEEN, SEEN_PRINTED),
         (COUNTED, COUNTED_PRINTED),
+        (DIFFERENCES, DIFFERENCES_PRINTED),
     ];
     for (source, text) in sources.iter() {
         assert!(rt; is_printed(rt.alloc(), *source, *text));

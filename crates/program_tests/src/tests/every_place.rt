@@ -1,9 +1,9 @@
 // Runs of which one call fails, whichever it is, and traces that end after any of their bytes.
 
-ghost use Rattle.std.specs.Prelude.{IfOk};
+ghost use Rattle.std.specs.Prelude.{◌<◌, IfOk};
 ghost use Rattle.tsl_world.specs.inner.Sizes.{AreSizes};
 
-use crate::tests::{Left, RUN, SEEN, file, run_files, words};
+use crate::tests::{Left, RUN, SEEN, file, run, run_files, words};
 use std::alloc::Global;
 use std::test::Fail;
 use tessla_cli::top::tessla;
@@ -75,6 +75,42 @@ fn fails_at_each_call(alloc: Global, spec: &str, trace: &str, out: &str) -> Resu
     Ok(false)
 }
 
+/// What tells that a call failed.
+const FAILED: &str = "outside: a call failed\n";
+
+/// Nothing but the write of the line that tells it followed the call with this number, which failed, and nothing where that call was to
+/// tell something.
+fn has_stopped(left: &Left, call: u64) -> bool
+    requires { call < 5_000 }
+{
+    let err = left.world.err();
+    let last = if err == FAILED.as_bytes() {
+        call + 1
+    } else {
+        call
+    };
+    let has_told = err.is_empty() || last > call;
+    left.status == 5 && has_told && left.world.calls() == last + 1
+}
+
+/// Whichever call of a run fails, nothing follows but what tells it. Where the next call fails too, Err is given nothing, and nothing
+/// follows either.
+fn stops_at_each_call(alloc: Global, spec: &str, trace: &str) -> Result<bool, NoMemory> {
+    for call in 0..CALLS {
+        let left = run(alloc, STATISTICS, spec, trace, 64, &[call])?;
+        if left.status != 5 {
+            return Ok(left.status == 0);
+        }
+        let both = run(alloc, STATISTICS, spec, trace, 64, &[call, call + 1])?;
+        let is_untold = both.status == 5 && both.world.err().is_empty();
+        let stops = is_untold && both.world.calls() == left.world.calls();
+        if !stops || !has_stopped(&left, call) {
+            return Ok(false);
+        }
+    }
+    Ok(false)
+}
+
 /// Two runs ended alike.
 fn are_alike(one: &Left, other: &Left) -> bool {
     let wrote = one.world.out() == other.world.out() && one.world.err() == other.world.err();
@@ -105,6 +141,13 @@ fn each_call_of_a_run_with_sets_that_are_kept_fails(rt: HostRuntime) -> Result<(
 #[test]
 fn each_call_of_a_run_with_a_map_fails(rt: HostRuntime) -> Result<(), Fail> {
     assert!(rt; fails_at_each_call(rt.alloc(), HEARTBEATS, BEATS, HEARD)?);
+    Ok(())
+}
+
+#[test]
+fn nothing_but_what_tells_it_follows_a_call_that_failed(rt: HostRuntime) -> Result<(), Fail> {
+    assert!(rt; stops_at_each_call(rt.alloc(), SEEN, NUMBERS)?);
+    assert!(rt; stops_at_each_call(rt.alloc(), HEARTBEATS, BEATS)?);
     Ok(())
 }
 

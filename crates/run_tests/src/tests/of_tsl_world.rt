@@ -1,6 +1,5 @@
 // Each public call once, with ample memory: no clause says that memory was had.
-ghost use Rattle.std.specs.Prelude.{◌≡◌, false, IfOk};
-ghost use Rattle.tsl_world.specs.inner.Sizes.{AreSizes};
+ghost use Rattle.std.specs.Prelude.{◌≡◌, false};
 ghost use Rattle.tsl_world.specs.Standing.{is_open, is_writable};
 
 use std::alloc::Global;
@@ -9,7 +8,7 @@ use tsl_value::bytes::Bytes;
 use tsl_value::memory::NoMemory;
 use tsl_value::text::Text;
 use tsl_world::{
-    Calls, CalmWorld, Channel, Failed, Files, MemoryWorld, NamedFile, RealWorld, Sizes, Slot, World,
+    Calls, CalmWorld, Channel, Failed, Files, NamedFile, RealWorld, Sizes, Slot, World,
 };
 
 fn named(alloc: Global, name: &str, text: &str) -> Result<NamedFile, NoMemory> {
@@ -54,51 +53,17 @@ fn writes<W: World>(world: &mut W) -> Result<(usize, usize), Failed> {
 }
 
 #[test]
-fn lists_of_files_and_of_calls(rt: HostRuntime) -> Result<(), Fail> {
+fn lists_have_what_is_pushed(rt: HostRuntime) -> Result<(), Fail> {
     let files = two_files(rt.alloc())?;
     let mut calls = Calls::new(rt.alloc());
     calls.push(7)?;
-    assert_eq!(rt; (files.len(), calls.len()), (2, 1));
+    let mut sizes = Sizes::new(rt.alloc());
+    sizes.push(3)?;
+    assert_eq!(rt; (files.len(), calls.len(), sizes.len()), (2, 1, 1));
     assert_eq!(rt; calls.get(0).copied(), Some(7));
+    assert_eq!(rt; sizes.get(0).copied(), Some(3));
     let second = files.get(1).map_or(0, |file| file.bytes.len());
     assert_eq!(rt; second, 5);
-    Ok(())
-}
-
-// One byte and three, in turn.
-fn one_and_three(alloc: Global) -> Result<Sizes, NoMemory>
-    ensures { IfOk result AreSizes }
-{
-    let mut sizes = Sizes::new(alloc);
-    sizes.push(1)?;
-    sizes.push(3)?;
-    Ok(sizes)
-}
-
-#[test]
-fn memory_in_pieces_by_turns(rt: HostRuntime) -> Result<(), Fail> {
-    let alloc = rt.alloc();
-    let sizes = one_and_three(alloc)?;
-    assert_eq!(rt; (sizes.len(), sizes.get(1).copied()), (2, Some(3)));
-    let mut world = MemoryWorld::with_pieces(alloc, two_files(alloc)?, sizes, Calls::new(alloc))?;
-    assert_eq!(rt; writes(&mut world), Ok((1, 3)));
-    assert!(rt; world.is_told());
-    assert_eq!(rt;
-        (world.out(), world.err()),
-        (b"o".as_slice(), b"err".as_slice())
-    );
-    Ok(())
-}
-
-#[test]
-fn memory_of_the_first_file(rt: HostRuntime) -> Result<(), Fail> {
-    let alloc = rt.alloc();
-    let mut world = MemoryWorld::new(alloc, two_files(alloc)?, 2, Calls::new(alloc))?;
-    assert_eq!(rt; reads(&mut world, "a"), Ok((2, 1, b'z')));
-    assert!(rt; world.is_told());
-    let mut other = MemoryWorld::new(alloc, two_files(alloc)?, 2, Calls::new(alloc))?;
-    assert_eq!(rt; makes(&mut other, "s"), Ok(2));
-    assert!(rt; other.is_told());
     Ok(())
 }
 
@@ -130,12 +95,7 @@ fn calm_at_an_absent_file(rt: HostRuntime) -> Result<(), Fail> {
 // The trusted edge, over devices that every host has.
 #[test]
 fn real_devices(rt: HostRuntime) -> Result<(), Fail> {
-    for (name, answer) in [
-        ("/dev/absent", Err(Failed)),
-        ("/dev", Err(Failed)),
-        ("/dev/null", Ok((0, 0, 0))),
-        ("/dev/zero", Ok((8, 8, 0))),
-    ] {
+    for (name, answer) in [("/dev/absent", Err(Failed)), ("/dev/zero", Ok((8, 8, 0)))] {
         assert_eq!(rt;
             reads(&mut RealWorld::new(rt.clone()?), name),
             answer,
@@ -147,6 +107,5 @@ fn real_devices(rt: HostRuntime) -> Result<(), Fail> {
         makes(&mut RealWorld::new(rt.clone()?), "/dev/full"),
         Err(Failed)
     );
-    assert_eq!(rt; writes(&mut RealWorld::new(rt.clone()?)), Ok((4, 4)));
     Ok(())
 }

@@ -11,7 +11,7 @@ use lift_func::register::Register;
 use std::alloc::Global;
 use std::test::Fail;
 use tsl_value::memory::NoMemory;
-use tsl_value::scalar::{Scalar, ScalarType, ValueType};
+use tsl_value::scalar::Scalar;
 use tsl_value::text::Text;
 
 fn int(n: i64) -> Body
@@ -64,35 +64,4 @@ fn is_joined(alloc: Global, whole: &str) -> Result<bool, EvalFault> {
 fn texts_are_joined(rt: HostRuntime) {
     assert_eq!(rt; is_joined(rt.alloc(), "abc"), Ok(true));
     assert_eq!(rt; is_joined(rt.alloc(), "abd"), Ok(false));
-}
-
-#[test]
-fn nodes_are_counted(rt: HostRuntime) -> Result<(), Fail> {
-    let of = ValueType::Scalar(ScalarType::Int);
-    let absent = Body::one(rt.alloc(), Unary::IsSome, Body::none(of))?;
-    let body = Body::choice(rt.alloc(), absent, int(1), Body::argument(0))?;
-    assert_eq!(rt; body.copy()?.nodes(), 5);
-    Ok(())
-}
-
-/// How many nodes `$0 - $1` has with one operand in the place of its arguments.
-fn nodes_at(alloc: Global, operand: Option<Body>) -> Result<Option<u32>, NoMemory> {
-    let body = Body::two(alloc, Binary::Sub, Body::argument(0), Body::argument(1))?;
-    match body.placed(alloc, &[operand])? {
-        Some(placed) => Ok(Some(placed.nodes())),
-        None => Ok(None),
-    }
-}
-
-#[test]
-fn an_operand_that_is_missing_makes_the_whole_too_large(rt: HostRuntime) -> Result<(), Fail> {
-    let alloc = rt.alloc();
-    let negated = Body::one_within(alloc, Unary::Neg, Some(Body::argument(3)))?;
-    assert_eq!(rt; nodes_at(alloc, negated)?, Some(4));
-    assert_eq!(rt; nodes_at(alloc, None)?, None);
-    let both = Body::two_within(alloc, Binary::Add, Some(int(1)), None)?;
-    assert_eq!(rt; nodes_at(alloc, both)?, None);
-    let chosen = Body::choice_within(alloc, Some(int(1)), Some(int(2)), Some(int(3)))?;
-    assert_eq!(rt; nodes_at(alloc, chosen)?, Some(6));
-    Ok(())
 }

@@ -1,4 +1,4 @@
-use Rattle.std.proofs.Common.{refl, sym, ap, subst, pos, negsuc}
+use Rattle.std.proofs.Common.{refl, sym, ap, subst, pos}
 use Rattle.std.specs.Prelude.{IsTrue}
 use Rattle.tsl_value.specs.View.{View, is_of}
 use Rattle.tsl_value.specs.declared.scalar.Scalar.TheVariants as scalar
@@ -27,57 +27,30 @@ copy_add-requires-clause-value g c =
     fits_value numbers _ (scalar.Int (pos 2)) _ (refl, refl)
     (typed_empty numbers c.in_ok-store.store.cells c.empty.new.self.cells c.in_ok-none.none tt (ap (λ (s : Stored). s.cells) c.in_ok-none.ensures.made))
 
-pub text-requires : goal.text-requires
-text-requires g c = still_live _ _ _ _ c.in_ok-one.ensures.made c.in_ok-none.none (is_live _ _ _ _ (ap (λ (s : Stored). s.cells) c.in_ok-none.ensures.made))
-
-pub copy_add-requires-2-clause-live : goal.copy_add-requires-2-clause-live
-copy_add-requires-2-clause-live g c = is_live _ _ _ _ c.in_ok-one.ensures.made
-
-pub copy_add-requires-2-clause-key : goal.copy_add-requires-2-clause-key
-copy_add-requires-2-clause-key g c =
-    let none : IsTrue (is_of numbers (view_at c.empty.new.self.cells c.in_ok-none.none)) =
-    typed_empty numbers c.in_ok-store.store.cells c.empty.new.self.cells c.in_ok-none.none tt (ap (λ (s : Stored). s.cells) c.in_ok-none.ensures.made) in
-    fits_key numbers _ _ scalar.Unit (refl, refl)
-    (typed_added numbers c.empty.new.self.cells c.copy_add.new.self.cells c.in_ok-none.none c.in_ok-one.one (scalar.Int (pos 2)) scalar.Unit c.in_ok-one.ensures.made (refl, refl) none)
-
-pub copy_add-requires-2-clause-value : goal.copy_add-requires-2-clause-value
-copy_add-requires-2-clause-value g c =
-    let none : IsTrue (is_of numbers (view_at c.empty.new.self.cells c.in_ok-none.none)) =
-    typed_empty numbers c.in_ok-store.store.cells c.empty.new.self.cells c.in_ok-none.none tt (ap (λ (s : Stored). s.cells) c.in_ok-none.ensures.made) in
-    fits_value numbers _ (scalar.Int (pos 2)) _ (refl, refl)
-    (typed_added numbers c.empty.new.self.cells c.copy_add.new.self.cells c.in_ok-none.none c.in_ok-one.one (scalar.Int (pos 2)) scalar.Unit c.in_ok-one.ensures.made (refl, refl) none)
-
-pub text-requires-2 : goal.text-requires-2
-text-requires-2 g c = still_live _ _ _ _ c.in_ok-two.ensures.made c.in_ok-one.one (is_live _ _ _ _ c.in_ok-one.ensures.made)
-
 pub copy_remove-requires-clause-live : goal.copy_remove-requires-clause-live
-copy_remove-requires-clause-live g c = is_live _ _ _ _ c.in_ok-two.ensures.made
+copy_remove-requires-clause-live g c = is_live _ _ _ _ c.in_ok-one.ensures.made
 
 pub copy_remove-requires-clause-key : goal.copy_remove-requires-clause-key
 copy_remove-requires-clause-key g c =
     let none : IsTrue (is_of numbers (view_at c.empty.new.self.cells c.in_ok-none.none)) =
     typed_empty numbers c.in_ok-store.store.cells c.empty.new.self.cells c.in_ok-none.none tt (ap (λ (s : Stored). s.cells) c.in_ok-none.ensures.made) in
-    let one : IsTrue (is_of numbers (view_at c.copy_add.new.self.cells c.in_ok-one.one)) =
-    typed_added numbers c.empty.new.self.cells c.copy_add.new.self.cells c.in_ok-none.none c.in_ok-one.one (scalar.Int (pos 2)) scalar.Unit c.in_ok-one.ensures.made (refl, refl) none in
     fits_key numbers _ _ scalar.Unit (refl, refl)
-    (typed_added numbers c.copy_add.new.self.cells c.copy_add-2.new.self.cells c.in_ok-one.one c.in_ok-two.two (scalar.Int (negsuc 0)) scalar.Unit c.in_ok-two.ensures.made (refl, refl) one)
+    (typed_added numbers c.empty.new.self.cells c.copy_add.new.self.cells c.in_ok-none.none c.in_ok-one.one (scalar.Int (pos 2)) scalar.Unit c.in_ok-one.ensures.made (refl, refl) none)
 
-pub text-requires-3 : goal.text-requires-3
-text-requires-3 g c = is_live _ _ _ _ c.in_ok-less.ensures.made
+pub text-requires : goal.text-requires
+text-requires g c = is_live _ _ _ _ c.in_ok-less.ensures.made
 
 pub copy_remove-requires-2-clause-live : goal.copy_remove-requires-2-clause-live
-copy_remove-requires-2-clause-live g c = still_live _ _ _ _ c.in_ok-less.ensures.made c.in_ok-two.two (is_live _ _ _ _ c.in_ok-two.ensures.made)
+copy_remove-requires-2-clause-live g c = still_live _ _ _ _ c.in_ok-less.ensures.made c.in_ok-one.one (is_live _ _ _ _ c.in_ok-one.ensures.made)
 
 pub copy_remove-requires-2-clause-key : goal.copy_remove-requires-2-clause-key
 copy_remove-requires-2-clause-key g c =
     let none : IsTrue (is_of numbers (view_at c.empty.new.self.cells c.in_ok-none.none)) =
     typed_empty numbers c.in_ok-store.store.cells c.empty.new.self.cells c.in_ok-none.none tt (ap (λ (s : Stored). s.cells) c.in_ok-none.ensures.made) in
-    let one : IsTrue (is_of numbers (view_at c.copy_add.new.self.cells c.in_ok-one.one)) =
-    typed_added numbers c.empty.new.self.cells c.copy_add.new.self.cells c.in_ok-none.none c.in_ok-one.one (scalar.Int (pos 2)) scalar.Unit c.in_ok-one.ensures.made (refl, refl) none in
     let Fits : View → Type 0 = λ v. FitsKey v (scalar.Int (pos 7)) in
-    subst Fits (sym (still_view _ _ _ _ c.in_ok-less.ensures.made c.in_ok-less.ensures.fresh c.in_ok-two.two (is_live _ _ _ _ c.in_ok-two.ensures.made)))
-    (fits_key numbers (view_at c.copy_add-2.new.self.cells c.in_ok-two.two) (scalar.Int (pos 7)) scalar.Unit (refl, refl)
-    (typed_added numbers c.copy_add.new.self.cells c.copy_add-2.new.self.cells c.in_ok-one.one c.in_ok-two.two (scalar.Int (negsuc 0)) scalar.Unit c.in_ok-two.ensures.made (refl, refl) one))
+    subst Fits (sym (still_view _ _ _ _ c.in_ok-less.ensures.made c.in_ok-less.ensures.fresh c.in_ok-one.one (is_live _ _ _ _ c.in_ok-one.ensures.made)))
+    (fits_key numbers (view_at c.copy_add.new.self.cells c.in_ok-one.one) (scalar.Int (pos 7)) scalar.Unit (refl, refl)
+    (typed_added numbers c.empty.new.self.cells c.copy_add.new.self.cells c.in_ok-none.none c.in_ok-one.one (scalar.Int (pos 2)) scalar.Unit c.in_ok-one.ensures.made (refl, refl) none))
 
-pub text-requires-4 : goal.text-requires-4
-text-requires-4 g c = is_live _ _ _ _ c.in_ok-same.ensures.made
+pub text-requires-2 : goal.text-requires-2
+text-requires-2 g c = is_live _ _ _ _ c.in_ok-same.ensures.made
