@@ -1,12 +1,25 @@
 # Completion of tessla for bash.
-# shellcheck disable=SC2207 # a completion is a line: bash 3 has no mapfile
+
+# Takes each line as one completion. A name may look like a pattern, so no list of words is made of it.
+_tessla_take() {
+    local line
+    while IFS= read -r line; do
+        COMPREPLY+=("$line")
+    done
+}
+
+# Takes the words that begin with what was typed.
+_tessla_words() {
+    local word=$1
+    shift
+    _tessla_take < <(compgen -W "$*" -- "$word")
+}
 
 _tessla() {
-    local IFS=$'\n'
     local word=${COMP_WORDS[COMP_CWORD]} before=${COMP_WORDS[COMP_CWORD - 1]} command=${COMP_WORDS[1]-}
     COMPREPLY=()
     if [ "$COMP_CWORD" -eq 1 ]; then
-        COMPREPLY=($(compgen -W $'run\ncheck\nflat\nshow\ncode\ngen\nbench\ninstall\nhelp\n--help\n--version' -- "$word"))
+        _tessla_words "$word" run check flat show code gen bench lint test install help --help --version
         return
     fi
     case $before in
@@ -15,24 +28,28 @@ _tessla() {
     case $command in
     run)
         if [[ $word == -* ]]; then
-            COMPREPLY=($(compgen -W $'--until\n--instants\n--bytes\n--strict\n--stats' -- "$word"))
+            _tessla_words "$word" --until --instants --bytes --strict --stats
         else
             compopt -o filenames 2>/dev/null
-            COMPREPLY=($(compgen -f -- "$word"))
+            _tessla_take < <(compgen -f -- "$word")
         fi
         ;;
-    check | flat | show | code)
+    check | flat | show | code | lint)
         compopt -o filenames 2>/dev/null
-        COMPREPLY=($(compgen -f -X '!*.tsl' -- "$word") $(compgen -d -- "$word"))
+        _tessla_take < <(compgen -f -X '!*.tsl' -- "$word"; compgen -d -- "$word")
         ;;
     gen | bench)
         if [ "$COMP_CWORD" -eq 2 ]; then
-            COMPREPLY=($(compgen -W $'seen\ncopy' -- "$word"))
+            _tessla_words "$word" seen copy
         fi
         ;;
-    install)
+    test | install)
+        if [[ $command = test && $word == -* ]]; then
+            _tessla_words "$word" --bless
+            return
+        fi
         compopt -o filenames 2>/dev/null
-        COMPREPLY=($(compgen -d -- "$word"))
+        _tessla_take < <(compgen -d -- "$word")
         ;;
     esac
 }

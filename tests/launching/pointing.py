@@ -1,0 +1,288 @@
+"""Messages that point: at the token at hand, at its file, at the word, and at what stands in the trace."""
+
+import os
+import re
+
+from starts import LAUNCHER, Terminal, controls_in, environment
+from talking import HOSTILE, explained, write_files
+
+INPUTS = "in i: Events[Int]\nin b: Events[Bool]\nin e: Events[Unit]\n"
+# What is written, what it is refused as, what stands there, and what to write.
+SLIPS = (
+    ("out i + 1.5 as x", "Unexpected", "1.5 is a fraction", "1500 thousandths"),
+    ("out .5 as x", "Unexpected", ".5 is a fraction", "finer unit"),
+    ("out b and b as x", "Unexpected", "and is no operator", "write &&"),
+    ("out b or b as x", "Unexpected", "or is no operator", "write ||"),
+    ("out not b as x", "Unexpected", "not is no operator", "write !b"),
+    ("in k: Events[int]\nout k", "Unexpected", "int is no type", "write Int"),
+    ("in k: Events[Map[string, Int]]\nout k", "Unexpected", "string is no type", "write String"),
+    ("in k: Events[Float]\nout k", "Unexpected", "Float is no type", "finer unit"),
+    ("in k: events[Int]\nout k", "Unexpected", "events is no type", "write Events"),
+    ("// text\nout i", "Unexpected", "// begins no comment", "-- or #"),
+    ("out i // text", "Unexpected", "// begins no comment", "-- or #"),
+    ("out i /* text */", "Unexpected", "/* begins no comment", "-- or #"),
+    ('import "a.tsl"\nout i', "Unexpected", "import is not there", "one file"),
+    ('include "a.tsl"\nout i', "Unexpected", "include is not there", "one file"),
+    ("module A { }\nout i", "Unexpected", "module is not there", "one file"),
+    ("out *", "Unexpected", "`out *` is not there", "for each stream"),
+    ("out i.b as x", "Unexpected", "i.b", "i_b"),
+    ("out Set.union(i, i) as x", "Unexpected", "Set.union is not there", "contains"),
+    ("out Set.contain(i, i) as x", "Unexpected", "Set.contain is not there", "write Set.contains"),
+    ("def f[A](x: Events[A]) := x\nout i", "Unexpected", "generic", "for each type"),
+    ("out lift(i, (x) => x) as x", "Unexpected", "functions without a name", "def f(x: Option[Int])"),
+    ("out lift(i, x => x) as x", "Unexpected", "functions without a name", "def f(x: Option[Int])"),
+    ("out merge(i, i, i + 1) as x", "WrongArity", "merge has two arguments, and here are 3", "write merge(i, merge(i, i + 1))"),
+    ("out last(i) as x", "WrongArity", "last has two arguments", "last(i, i)"),
+    ("def f(a: Int, c: Int): Int := a + c\nout f(i) as x", "WrongArity", "f has two arguments, and here are 1", "write f(a, c)"),
+    ("out delay(10ms, i) as x", "Unexpected", "10ms has a unit", "write 10"),
+    ("out 0x10 as x", "Unexpected", "0x10 is not decimal", "decimal"),
+    ("out const((), i) as x", "WrongType", "() is no literal", "const(true, i)"),
+    ("def limit := 5\nout const(limit, i) as x", "WrongType", "limit is a stream", "limit + const(0, i)"),
+    ("def on := true\nout const(on, i) as x", "WrongType", "on is a stream", "on && const(true, i)"),
+    ("out const(i, b) as x", "WrongType", "i is a stream", "last(i, b)"),
+    ("out const(Set.empty[Int], e) as x", "WrongType", "Set.empty[Int] is a stream", "last(Set.empty[Int], e)"),
+    ("out i = i as x", "Unexpected", "= defines", "write =="),
+    ("out b & b as x", "BadCharacter", "& is no operator", "write &&"),
+    ("out b | b as x", "BadCharacter", "| is no operator", "write ||"),
+    ("out i <> i as x", "Unexpected", "<> is no operator", "write !="),
+    ("out i === i as x", "Unexpected", "=== is no operator", "write =="),
+    ("out i !== i as x", "Unexpected", "!== is no operator", "write !="),
+    ("out i ≠ i as x", "BadCharacter", "≠ is no operator", "write !="),
+    ("def a i + 1\nout a", "Unexpected", ":= is missing in the definition of a", "def a :="),
+    ("def a: Events[Int] i\nout a", "Unexpected", ":= is missing in the definition of a", "def a :="),
+    ("out 'text' as x", "BadCharacter", "' begins no text", "double quotes"),
+    ("out “text” as x", "BadCharacter", "“ begins no text", "double quotes"),
+    ("in my-name: Events[Int]\nout i", "Unexpected", "my-name has a dash", "my_name"),
+    ("out i as my-name", "Unexpected", "my-name has a dash", "my_name"),
+    ("out i + my-name as x", "UnknownName", "my-name is a difference", "my_name"),
+    ("in k\nout k", "Unexpected", "the type of the input k is missing", "in k: Events[Int]"),
+    ("out if b then i as x", "Unexpected", "an if has no else", "else"),
+    ("out i; out b", "BadCharacter", "items end without a ;", "leave it out"),
+    ("out i + 1\nout b", "Unexpected", "has none", "out i + 1 as NAME"),
+    ("def a := i\n- 1\nout a", "Unexpected", "a - that begins a line", "end of the line before"),
+    ("def f(a) := a\nout i", "Unexpected", "the type of the parameter a is missing", "a: Int"),
+    ("out (i, b) as x", "Unexpected", "tuples are not there", "for each part"),
+    ("in x: Events[Int], y: Events[Int]\nout x", "Unexpected", "no call is open here", "begin each item"),
+    ("out i < i < i as x", "Unexpected", "< is a second one", "&&"),
+    ("def last := i\nout i", "DefinedTwice", "last belongs to the language", "another name"),
+    ("def i := 1\nout i", "DefinedTwice", "i is declared at 1:4", "another name"),
+    ("out prev(i) as x", "UnknownName", "prev is not there", "last(x, x)"),
+    ("def f(a: Int): Int := a\nout f as x", "UnknownName", "f is a function, and is not called", "f(a)"),
+    ("def limit := 5\ndef f(a: Int): Int := a + limit\nout f(i) as x", "UnknownName", "limit is a stream, and f a function of values", "parameter"),
+)  # fmt: skip
+# Whether a stream or a value is meant.
+MEANT = (
+    ("def f(a: Int) := last(a, a)\nout f(i) as x", "a stream is meant", "macro"),
+    ("def f(a: Int): Int := time(a)\nout f(i) as x", "a stream is meant", "macro"),
+    ("def f(a: Int): Int := getSome(a)\nout f(i) as x", "an option is meant", "as it is"),
+    ("out isSome(i) as x", "a value is meant", "lift(e, f)"),
+    ("def f(a: Int): Int := a\nout lift(i, f) as x", "a plain value", "write f(i)"),
+    ("out i + b as x", "a stream of Int is meant", "if c then 1 else 0"),
+    ("out i && b as x", "a stream of Bool is meant", "x != 0"),
+)
+
+
+def at_hand(starts):
+    for number, (source, kind, cause, remedy) in enumerate((*SLIPS, *((it, "WrongType", *more) for it, *more in MEANT))):
+        name = f"slip.{number}.tsl"
+        starts.write(name, f"{INPUTS}{source}\n")
+        ended = starts.extras("check", name)
+        said = ended.err.decode().splitlines()
+        place = re.fullmatch(r"spec ([0-9]+:[0-9]+): (\w+)(?:: .*)?", said[0] if said else "")
+        points = place and place[2] == kind and said[1] == f"{name}:{place[1]}: {kind}" and len(said) == 6
+        is_told = points and cause in said[4] and said[4].startswith("  cause:  ") and remedy in said[5] and said[5].startswith("  remedy: ")
+        is_short = all(len(it) < 160 for it in said[4:])
+        starts.tried.holds(f"what stands there, and what to write: {source!r}", ended.status == 3 and is_told and is_short, ended)
+
+
+def no_slip(starts):
+    """Where nothing is known of what stands there, the manual answers."""
+    starts.write("deep.tsl", "out " + "(" * 65 + "1" + ")" * 65 + " as x\n")
+    deep = starts.extras("check", "deep.tsl")
+    starts.tried.holds("the manual answers for the rest", deep.status == 3 and b"64 parentheses" in deep.err, deep)
+
+
+def of_cycles(starts):
+    starts.write("parts.tsl", "in i: Events[Int]\ndef a: Events[Int] := merge(1 + b, i)\ndef b := a * 2 + 3\nout b\n")
+    wanted = (
+        "spec 2:29: cycle %1 -> a -> %3 -> b -> %1\nparts.tsl:2:29: cycle\n    def a: Events[Int] := merge(1 + b, i)\n"
+        "                                ^\n  parts.tsl:2:5: a, with its part %1\n  parts.tsl:3:5: b, with its part %3\n"
+    )
+    explained(starts, "a cycle has its definitions, and what has no name", starts.extras("check", "parts.tsl"), 3, "", wanted, "last")
+
+
+# ---- Traces
+
+
+LINES = (
+    ("1: temp", "wrong value for temp", "temp is an input of Int, and has no value here", "temp = 5"),
+    ("1: temp = 1.5", "wrong value for temp", "1.5 is a fraction", "--scale"),
+    ("1: ok = True", "wrong value for ok", "True is no truth value", "ok = true"),
+    ("1: s = text", "wrong value for s", "text stands in no quotes", "double quotes"),
+    ("1: beat = 4", "wrong value for beat", "beat is an input of Unit", "without a value"),
+    ("1.5: temp = 4", "not a trace line", "the time is a fraction", "--scale"),
+    ("1 temp = 4", "not a trace line", "no colon", "TIME: NAME = VALUE"),
+    ("1: baet", "unknown stream", "baet is no input", "beat"),
+)
+
+
+def of_lines(starts):
+    starts.write("four.tsl", "in beat: Events[Unit]\nin temp: Events[Int]\nin ok: Events[Bool]\nin s: Events[String]\nout temp\n")
+    for number, (line, kind, cause, remedy) in enumerate(LINES):
+        name = f"line.{number}.trace"
+        starts.write(name, f"{line}\n")
+        ended = starts.extras("run", "four.tsl", name, "--strict")
+        said = ended.err.decode().splitlines()
+        is_told = len(said) == 5 and said[1] == f"{name}:1:1: {kind}" and cause in said[3] and remedy in said[4]
+        starts.tried.holds(f"what stands in the line, and what to write: {line!r}", ended.status == 4 and is_told, ended)
+
+
+def of_names(starts):
+    """After a run that ended well, one line on names that are no input's."""
+    tried = starts.tried
+    starts.write("odd.trace", "1: temp = 5\n# 2: no\n2: beats\n3: baet = 7\n4:\n5: door = true\n")
+    told = "tessla: 3 lines have names that no input has: the first is beats in line 3; the nearest input is beat\n"
+    tried.ended("names that no input has", starts.extras("run", "four.tsl", "odd.trace"), 0, "1: temp = 5\n", told)
+    with open(os.path.join(starts.room, "odd.trace"), "rb") as given:
+        tried.ended("the same of a file as standard input", starts.extras("run", "four.tsl", given=given), 0, "1: temp = 5\n", told)
+    tried.ended("nothing of a pipe", starts.extras("run", "four.tsl", given=b"1: temp = 5\n2: beats\n"), 0, "1: temp = 5\n", "")
+    tried.ended("nothing where it is not asked for", starts.plain("run", "four.tsl", "odd.trace"), 0, "1: temp = 5\n", "")
+    starts.write("same.trace", "1: temp = 5\n2: beat\n3: s = \"1: door\"\n4:\n")
+    tried.ended("nothing where all are inputs", starts.extras("run", "four.tsl", "same.trace"), 0, "1: temp = 5\n", "")
+    starts.write("hostile.name.trace", f"1: temp = 5\n2: be\033]0;t\007at\n")
+    ended = starts.extras("run", "four.tsl", "hostile.name.trace")
+    tried.holds("a hostile name in a trace is visible", b"be\\x1b]0;t\\x07at" in ended.err and not controls_in(ended.err), ended)
+    with open(os.path.join(starts.room, "long.names.trace"), "w", encoding="utf-8") as long:
+        long.writelines(f"{number}: beats\n" for number in range(300_000))
+    started = os.times().elapsed
+    ended = starts.extras("run", "four.tsl", "long.names.trace")
+    took = os.times().elapsed - started
+    is_part = re.search(rb"lines have names that no input has of its first 2 MB: the first is beats in line 1; the nearest", ended.err)
+    tried.holds("of a long trace the first part is looked through", ended.status == 0 and is_part and took < 12, took, ended)
+
+
+# ---- Words
+
+
+WORDS = (
+    ("run --untill 5 q.tsl", "run has no option `--untill`; the nearest is --until", "run SPEC [TRACE]"),
+    ("run q.tsl --until", "--until needs a number after it", "run SPEC [TRACE]"),
+    ("run q.tsl --until soon", "--until takes a number of digits alone, and `soon` is none", "run SPEC [TRACE]"),
+    ("run q.tsl --bytes 0", "--bytes is from 1 to 1099511627776, and `0` is not", "run SPEC [TRACE]"),
+    ("run q.tsl --until 9223372036854775808", "--until is from 0 to 9223372036854775807", "run SPEC [TRACE]"),
+    ("run q.tsl --until 5 --until=6", "--until stands twice", "run SPEC [TRACE]"),
+    ("run q.tsl --strict=1", "--strict takes no value", "run SPEC [TRACE]"),
+    ("run", "run needs the name of a specification", "run SPEC [TRACE]"),
+    ("run a b c", "`c` is one word too many for run", "run SPEC [TRACE]"),
+    ("check --strict q.tsl", "check takes no options, and `--strict`", "check SPEC"),
+    ("chek q.tsl", "there is no command `chek`; the nearest is check", "check SPEC"),
+    ("instal x", "there is no command `instal`; the nearest is install", "install PREFIX"),
+    ("q.tsl", "`q.tsl` is a file and no command", "run SPEC [TRACE]"),
+    ("gen sen 5", "`sen` is no kind: it is seen or copy; the nearest is seen", "gen KIND N"),
+    ("gen seen 0", "the number of lines is from 1 to 1000000", "gen KIND N"),
+)
+
+
+def of_words(starts):
+    for words, what, use in WORDS:
+        ended = starts.extras(*words.split())
+        said = ended.err.decode().splitlines()
+        is_told = len(said) == 3 and said[0] == "words not accepted" and what in said[1] and said[2].startswith(f"use: tessla {use}")
+        starts.tried.holds(f"the word that is wrong: {words}", ended.status == 2 and is_told, ended)
+    ended = starts.extras("run", f"--{HOSTILE}")
+    starts.tried.holds("a hostile word is visible", ended.status == 2 and not controls_in(ended.err) and b"\\x1b]0;title" in ended.err, ended)
+
+
+# ---- On a terminal
+
+
+def terminal(starts, *words, streams=(0, 1, 2), **more):
+    env = environment(TESSLA_PROGRAM=starts.program, **{"TERM": "xterm", **more})
+    env.pop("NO_COLOR", None)
+    return Terminal(starts, [LAUNCHER, *words], streams, env={**env, **more})
+
+
+def waits(starts):
+    """A run that waits for the terminal says so, and one that ends at once does not."""
+    tried, hint = starts.tried, b"tessla: the trace is read from the terminal"
+    started = terminal(starts, "run", "q.tsl")
+    tried.holds("a run that waits for lines of the terminal says so", started.read(b"ends it\n") and started.shown.startswith(hint), started.shown)
+    started.give(b"1: i = 5\n2: i = 4\n")
+    tried.holds("and goes on", started.read(b"1: q = 20\n"), started.shown)
+    started.give(b"\x04")
+    ended = started.end()
+    tried.holds("and ends as it does", ended.status == 0 and ended.out.count(hint) == 1 and ended.out.endswith(b"2: q = 25\n"), ended)
+    for what, words in (("with a trace", ("q.tsl", "fault.trace")), ("that is refused", ("name.tsl",))):
+        ended = terminal(starts, "run", *words).end()
+        tried.holds(f"a run {what} waits for nothing", b"from the terminal" not in ended.out, ended)
+    started = terminal(starts, "check", "-")
+    tried.holds("a specification of the terminal", started.read(b"ends it\n") and b"the specification is read" in started.shown, started.shown)
+    started.give(b"out 1 as x\n\x04")
+    tried.ended("and it is checked", started.end(), 0)
+
+
+RED, PLAIN = b"\033[1;31m", b"\033[0m"
+
+
+def colours(starts):
+    """Colour is on a terminal alone, and on little."""
+    tried, marked = starts.tried, b"q.tsl:2:10: " + RED + b"DivideByZero" + PLAIN + b"\n"
+    ended = terminal(starts, "run", "q.tsl", "fault.trace").end()
+    is_sparing = ended.out.count(RED) == 2 and marked in ended.out and RED + b"^" + PLAIN in ended.out
+    tried.holds("the kind and the caret have a colour on a terminal", is_sparing, ended)
+    for name, value in (("NO_COLOR", "1"), ("NO_COLOR", ""), ("TERM", "dumb"), ("TERM", "")):
+        ended = terminal(starts, "run", "q.tsl", "fault.trace", **{name: value}).end()
+        tried.holds(f"none with {name}={value}", b"q.tsl:2:10: DivideByZero\n" in ended.out and b"\033" not in ended.out, ended)
+    ended = starts.extras("run", "q.tsl", "fault.trace", env={"TERM": "xterm"})
+    tried.holds("none where no terminal is", b"q.tsl:2:10: DivideByZero\n" in ended.err and b"\033" not in ended.err, ended)
+    started = terminal(starts, "run", "q.tsl", "fault.trace", streams=(0, 1), TESSLA_TERMINAL="1")
+    said = started.child.stderr.read()
+    started.end()
+    tried.holds("none where the messages go elsewhere", b"q.tsl:2:10: DivideByZero\n" in said and b"\033" not in said, said)
+
+
+def hostile(starts):
+    """Nothing of a source, a trace or a name does anything, in what is told of the token at hand either."""
+    sources = (f"out a{HOSTILE}-b as x", f'out const("{HOSTILE}" , i, i) as x', f"def f(a: Int) := last(a,\033[2J a)\nout f(1) as x", f"in \u009b: int\nout 1.5{HOSTILE}")
+    for number, source in enumerate(sources):
+        name = f"hostile.{number}\033[2J.tsl"
+        starts.write(name, f"{INPUTS}{source}\n")
+        ended = starts.extras("check", name)
+        is_clean = ended.status == 3 and not controls_in(ended.err) and b"\\x1b[2J.tsl:" in ended.err
+        starts.tried.holds(f"a hostile source is visible ({number})", is_clean, ended)
+    # On a terminal there is the colour and nothing else.
+    ended = terminal(starts, "check", name).end()
+    ended.out = ended.out.replace(RED, b"").replace(PLAIN, b"")
+    starts.tried.holds("a hostile source on a terminal", b"BadCharacter" in ended.out and not controls_in(ended.out), ended)
+
+
+def is_soon(starts):
+    """A source of a megabyte is answered within the time that is given to it."""
+    starts.write("large.tsl", "in i: Events[Int]\n" + "out i -- ((((((((((((\n" * 40_000 + "out i = i as x\n")
+    started = os.times().elapsed
+    ended = starts.extras("check", "large.tsl")
+    took = os.times().elapsed - started
+    starts.tried.holds("a large source has its excerpt soon", ended.status == 3 and b"large.tsl:" in ended.err and took < 10, took, ended)
+
+
+def asked_for(starts):
+    """What is added where it is asked for changes nothing of the standard output or the status."""
+    for words in (("run", "q.tsl", "fault.trace"), ("check", "name.tsl"), ("run", "four.tsl", "odd.trace"), ("flat", "q.tsl"), ("gen", "seen", "3")):
+        plain, extras = starts.plain(*words), starts.extras(*words)
+        same = (plain.status, plain.out) == (extras.status, extras.out) and extras.err.startswith(plain.err)
+        starts.tried.holds(f"what is asked for comes below: {' '.join(words)}", same, plain, extras)
+
+
+def pointing(starts):
+    write_files(starts)
+    at_hand(starts)
+    no_slip(starts)
+    of_cycles(starts)
+    of_lines(starts)
+    of_names(starts)
+    of_words(starts)
+    waits(starts)
+    colours(starts)
+    hostile(starts)
+    is_soon(starts)
+    asked_for(starts)

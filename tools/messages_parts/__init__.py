@@ -1,0 +1,1 @@
+"""What tools/messages adds to a message, by what it is about."""
