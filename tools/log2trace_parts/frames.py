@@ -1,0 +1,123 @@
+"""Frames of a bus, as candump writes them."""
+
+import re
+from typing import Any, Dict, List, Optional, Tuple
+
+from .logs import MOST_NAMES, Log
+from .texts import GREATEST, Refused, shown
+from .words import Wanted
+
+FRAME = re.compile(
+    r"[ \t]*\(([0-9]+(?:\.[0-9]+)?)\)[ \t]+([^ \t]+)[ \t]+([0-9A-Fa-f]{8}|[0-9A-Fa-f]{3})"
+    r"(?:#(R[0-9]?|(?:#[0-9A-Fa-f])?[0-9A-Fa-f.]*)(?:[ \t]+[RT])?"
+    r"|[ \t]+\[([0-9]{1,2})\]((?:[ \t]+[0-9A-Fa-f]{2})*)(?:[ \t]+(remote request|ERRORFRAME|'.*'))?)[ \t\r\n]*"
+)
+OCTETS = re.compile(r"(?:[0-9A-Fa-f]{2}(?:\.?[0-9A-Fa-f]{2})*)?")
+
+
+class Skippable(Exception):
+    """A frame that --skip may leave out."""
+
+    def __init__(self, kind: str, why: str):
+        super().__init__(why)
+        self.kind = kind
+
+
+class Frames(Log):
+    def __init__(self, *arguments: Any):
+        super().__init__(*arguments)
+        self.plans: Dict[Tuple[str, str], List[Wanted]] = {}  # of each interface and identifier
+        self.buses: Dict[str, str] = {}  # the interface of each identifier that makes events for whatever interface
+        self.skipped = {"remote": 0, "short": 0}
+
+    def line(self, line: str) -> None:
+        match = FRAME.fullmatch(line)
+        if not match:
+            raise Refused("not a line of candump")
+        stamp, bus, identifier, joined, count, spaced, note = match.groups()
+        time, identifier = self.time_of(stamp), identifier.upper()
+        plan = self.plans.get((bus, identifier))
+        if plan is None:
+            plan = self.new_plan(bus, identifier)
+            if plan or len(self.plans) < MOST_NAMES:
+                self.plans[bus, identifier] = plan
+        for wanted in plan:
+            try:
+                data = data_of_spaced(int(count), spaced, note) if joined is None else data_of_joined(joined)
+                value = value_of(data, wanted)
+            except Skippable as why:
+                if why.kind not in self.words.skip:
+                    raise Refused(f"{why} (see --skip)") from None
+                self.skipped[why.kind] += 1
+            else:
+                self.settled.event(time, wanted.name, value)
+
+    def new_plan(self, bus: str, identifier: str) -> List[Wanted]:
+        """What is made of the frames with an identifier that come from an interface."""
+        if self.words.bus not in (None, bus):
+            return []
+        if self.words.map:
+            mapped = [wanted for wanted in self.words.map.get(identifier, ()) if wanted.bus in (None, bus)]
+        else:
+            mapped = [Wanted(None, f"can_{identifier}", None)]
+        plan = [wanted for wanted in mapped if self.names[wanted.name]]
+        if any(wanted.bus is None for wanted in plan) and self.buses.setdefault(identifier, bus) != bus:
+            raise Refused(f"{identifier} comes from {shown(bus)}, and came from {shown(self.buses[identifier])} (see --bus)")
+        return plan
+
+    def missing(self) -> List[str]:
+        texts = super().missing()
+        for identifier, all_wanted in self.words.map.items():
+            for wanted in all_wanted:
+                if not any(self.is_frame_of(identifier, wanted, *plan) for plan in self.plans):
+                    bus = f"{shown(wanted.bus)}/" if wanted.bus else ""
+                    texts.append(f"--map {bus}{identifier}={wanted.name}: the log has no such frame")
+        if self.words.bus and not any(bus == self.words.bus for bus, _ in self.plans):
+            texts.append(f"--bus {shown(self.words.bus)}: the log has no such interface")
+        return texts
+
+    def is_frame_of(self, identifier: str, wanted: Wanted, bus: str, number: str) -> bool:
+        return number == identifier and wanted.bus in (None, bus) and self.words.bus in (None, bus)
+
+    def finish(self, whole_log: bool) -> None:
+        for kind, count in self.skipped.items():
+            if count:
+                self.say(f"left out of {kind} frames: {count} (--skip {kind})")
+        super().finish(whole_log)
+
+
+def data_of_joined(text: str) -> str:
+    """The data of a frame as `candump -L` writes it, as hexadecimal digits."""
+    if text.startswith("R"):
+        raise Skippable("remote", "a remote frame has no data")
+    digits, most = (text[2:], 64) if text.startswith("#") else (text, 8)
+    if not OCTETS.fullmatch(digits):
+        raise Refused("the data are no whole bytes")
+    data = digits.replace(".", "").upper()
+    if len(data) > 2 * most:
+        raise Refused(f"more than {most} bytes of data")
+    return data
+
+
+def data_of_spaced(count: int, text: str, note: Optional[str]) -> str:
+    """The data of a frame as `candump -ta` writes it, as hexadecimal digits."""
+    if note == "remote request":
+        raise Skippable("remote", "a remote frame has no data")
+    data = text.replace(" ", "").replace("\t", "").upper()
+    if len(data) != 2 * count:
+        raise Refused(f"the length is {count}, and there are {len(data) // 2} bytes")
+    return data
+
+
+def value_of(data: str, wanted: Wanted) -> str:
+    """The value that a frame with this data has for an input."""
+    if wanted.part is None:
+        return f'"{data}"'
+    first, count, order, signed = wanted.part
+    octets = bytes.fromhex(data)[first : first + count]
+    if len(octets) < count:
+        raise Skippable("short", f"the frame is too short for {shown(wanted.name)}")
+    number = int.from_bytes(octets, order, signed=signed)
+    if number > GREATEST:
+        raise Refused(f"{shown(wanted.name)} is beyond 64 bits with a sign")
+    return str(number)

@@ -1,0 +1,158 @@
+"""What logs of all formats have in common, and a log that is a trace already."""
+
+import functools
+import re
+from typing import Callable, Dict, Iterator, List, Optional, Set, TextIO
+
+from .texts import BLANKS, EXACT, GREATEST, LONGEST_NAME, SURROGATE, Refused, blank, is_name, name_of, number_of, shown
+from .times import Settled
+from .words import Words
+
+LONGEST_LINE = 2**20  # characters of a line of a log
+MOST_NAMES = 65536
+
+TIME = re.compile(r"(?:[0-9]+\.?[0-9]*|\.[0-9]+)(?:[eE][+-]?[0-9]+)?")
+TICK = re.compile(r"[ \t]*([0-9]+(?:\.[0-9]+)?)[ \t]*:[ \t\r\n]*")
+
+
+class Lines:
+    """The lines of a log, counted. Those that are not UTF-8, or that don't end, are refused."""
+
+    def __init__(self, file: TextIO):
+        self.file, self.number = file, 0
+
+    def __iter__(self) -> Iterator[str]:
+        for line in iter(functools.partial(self.file.readline, LONGEST_LINE + 1), ""):
+            self.number += 1
+            if not line.isascii():
+                line = self.checked(line)
+            if len(line) > LONGEST_LINE:
+                raise self.refused(f"a line of more than {LONGEST_LINE} characters")
+            yield line
+
+    def checked(self, line: str) -> str:
+        if SURROGATE.search(line):
+            raise self.refused("not UTF-8")
+        return line[1:] if self.number == 1 and line[0] == "\ufeff" else line
+
+    def refused(self, why: str) -> Refused:
+        refused = Refused(why)
+        refused.line = self.number
+        return refused
+
+
+class Names(Dict[str, Optional[str]]):
+    """The input of each name in the log; None where it is not wanted."""
+
+    def __init__(self, only: Set[str], tell: Callable[[str], None]):
+        super().__init__()
+        self.only, self.tell = only, tell
+        self.seen: Set[str] = set()  # the names that stood in the log, as inputs
+        self.origins: Dict[str, str] = {}  # the name in the log that each input has
+
+    def __missing__(self, text: str) -> Optional[str]:
+        name = name_of(text)
+        if self.only and name not in self.only:
+            if len(self) < MOST_NAMES:
+                self[text] = None
+                self.seen.add(name)
+            return None
+        origin = self.origins.setdefault(name, text)
+        if origin != text:
+            raise Refused(f"{shown(origin)} and {shown(text)} are both the input {shown(name)}")
+        if len(name.encode()) > LONGEST_NAME:
+            raise Refused(f"a name of more than {LONGEST_NAME} bytes: {shown(name)}")
+        if len(self) >= MOST_NAMES:
+            raise Refused(f"more than {MOST_NAMES} different names")
+        if origin != name:
+            self.tell(f"{shown(origin)} is the input {shown(name)}")
+        self[text] = name
+        self.seen.add(name)
+        return name
+
+
+class Log:
+    """A log that becomes a trace."""
+
+    def __init__(self, words: Words, lines: Lines, write: Callable[[str], None], say: Callable[[str], None]):
+        self.words, self.lines, self.say = words, lines, say
+        self.names = Names(words.only, self.tell)
+        self.settled = Settled(words.equal, words.back, write, self.tell, self.hint)
+        self.whole_scale = int(words.scale) if words.scale == int(words.scale) else 0
+        self.first: Optional[int] = None
+        self.cut = False  # whether times had fractions that were cut
+
+    def read(self) -> None:
+        """Takes each line that is neither blank nor a tick."""
+        for line in self.lines:
+            if not blank(line) and not self.tick(line):
+                self.line(line)
+
+    def line(self, line: str) -> None:
+        raise NotImplementedError
+
+    def tell(self, text: str) -> None:
+        self.say(f"line {self.lines.number}: {text}" if self.lines.number else text)
+
+    def hint(self) -> str:
+        return "times have fractions, see --scale; else " if self.cut else ""
+
+    def time_of(self, text: str) -> int:
+        text = text.strip(BLANKS)
+        before, _, after = text.partition(".")
+        digits = before + after
+        if self.whole_scale and before and len(digits) < 40 and digits.isdigit() and digits.isascii():
+            time, rest = divmod(int(digits) * self.whole_scale, 10 ** len(after))
+        elif TIME.fullmatch(text):
+            exact = EXACT.multiply(number_of(text), self.words.scale)
+            time, rest = int(exact), exact != int(exact)
+        else:
+            raise Refused(f"no time: {shown(text)}")
+        self.cut = self.cut or bool(rest)
+        if self.words.from_first:
+            self.first = time if self.first is None else self.first
+            time -= self.first
+        if time > GREATEST:
+            raise Refused("time too large")
+        return time
+
+    def tick(self, line: str) -> bool:
+        """Takes the line if it is a tick."""
+        match = TICK.fullmatch(line)
+        if match:
+            self.settled.tick(self.time_of(match.group(1)))
+        return bool(match)
+
+    def missing(self) -> List[str]:
+        """What the words name and the log never had."""
+        named = [(flag, name) for flag in ("only", "unit", "text", "factor") for name in sorted(getattr(self.words, flag))]
+        return [f"--{flag} {shown(name)}: the log has no such input" for flag, name in named if name not in self.names.seen]
+
+    def finish(self, whole_log: bool) -> None:
+        """Tells what was left out, and what the words name and a whole log has not."""
+        if self.settled.left_out:
+            self.say(f"left out at equal times: {self.settled.left_out} ({self.hint()}--equal {self.words.equal})")
+        if whole_log:
+            if self.cut and not self.words.scaled and not self.settled.left_out:
+                self.say("times have fractions, which were cut (see --scale)")
+            for text in self.missing():
+                self.say(text)
+
+
+class Trace(Log):
+    """A trace, whose values stay as they are."""
+
+    def line(self, line: str) -> None:
+        if line.lstrip(BLANKS).startswith(("#", "--")):
+            return
+        time, _, rest = line.rstrip(" \t\r\n").partition(":")
+        name, equals, value = (part.strip(BLANKS) for part in rest.partition("="))
+        time = time.strip(BLANKS)
+        if not (time.isascii() and time.isdigit() and is_name(name)) or (equals and not value):
+            raise Refused("not a trace line")
+        number = self.time_of(time)
+        if self.words.only:
+            if name not in self.words.only:
+                return
+            self.names.seen.add(name)
+        self.settled.event(number, name, value if equals else None)
