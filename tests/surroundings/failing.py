@@ -19,7 +19,7 @@ def plain(room, check, cases, words):
         folder = room.place(one.files)
         ended = room.start(one.words, folder, one.stdin)
         if one.name in MAY_LACK and ended.is_as(b"", 2, b"words not accepted\n"):
-            check.notes.append(f"left out, since the program does not know its words: {one.name}")
+            check.lacks("the program does not know its words", one.name)
             continue
         if one.err is None:
             is_right = re.fullmatch(rb"(stats [^\n]+ [0-9]+:[0-9]+ copied [0-9]+\n)+", ended.err) is not None
@@ -80,7 +80,7 @@ def memory(room, check, cases, words):
 
 def room_left(room, check, cases, words):
     if not room.library:
-        check.notes.append("left out, since there is no gcc")
+        check.misses("there is no gcc")
         return
     for one, folder in cases:
 
@@ -97,7 +97,7 @@ def room_left(room, check, cases, words):
 
 def allocations(room, check, cases, words):
     if not room.library:
-        check.notes.append("left out, since there is no gcc")
+        check.misses("there is no gcc")
         return
     for one, folder in cases:
         mark, environment = room.with_library()
@@ -188,12 +188,12 @@ def injected(room, one, folder, name, error, number, piece, is_marked):
 
 def calls(room, check, cases, words):
     if not room.strace:
-        check.notes.append("there is no strace, so the library makes reads and writes fail, and other calls are left out")
+        check.misses("there is no strace, so that the library makes reads and writes fail", "other calls")
         calls_by_library(room, check, cases)
         return
     check.notes.append("by strace")
     if not room.library:
-        check.notes.append("calls whose numbers the loader shares are left out, since there is no gcc")
+        check.misses("there is no gcc", "calls whose numbers the loader shares")
     for one, folder in cases:
         for name, error, ways, is_marked in FAILURES:
             if is_marked and not room.library:
@@ -228,7 +228,7 @@ def calls_of_one_name(room, check, one, folder, name, error, ways, is_marked, pi
 
 def calls_by_library(room, check, cases):
     if not room.library:
-        check.notes.append("there is no gcc either, so all is left out")
+        check.misses("there is no gcc")
         return
     for one, folder in cases:
         for kind in ("read", "write"):
@@ -259,7 +259,7 @@ def pieces(room, check, cases, words):
     if room.library:
         list(room.pool.map(short, [(one, piece) for one in cases for piece in (1, 2, 3, 5, 7, 64, 1000, 4097)]))
     else:
-        check.notes.append("short reads and writes are left out, since there is no gcc")
+        check.misses("there is no gcc", "short reads and writes")
 
     def piped(job):
         (one, folder), seed = job
@@ -274,7 +274,7 @@ def pieces(room, check, cases, words):
 
 def full(room, check, cases, words):
     if not os.path.exists("/dev/full"):
-        check.notes.append("left out, since there is no /dev/full")
+        check.lacks("there is no /dev/full")
         return
     for one, folder in cases:
         with open("/dev/full", "wb") as device:

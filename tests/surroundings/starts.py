@@ -119,6 +119,14 @@ def shortly(text):
     return repr(text) if len(text) <= 300 else f"{text[:120]!r}..{text[-120:]!r} ({len(text)} bytes)"
 
 
+# So many starts may hang.
+MOST_HUNG = 3
+
+
+class TooMany(Exception):
+    """Too many starts hung."""
+
+
 class Room:
     """The program, where it is started, and how."""
 
@@ -131,6 +139,7 @@ class Room:
         self.library = self.compiled()
         self.lock = threading.Lock()
         self.count = 0
+        self.hung = 0
         self.pool = concurrent.futures.ThreadPoolExecutor(max_workers=self.jobs)
 
     def compiled(self):
@@ -157,6 +166,8 @@ class Room:
 
     def begin(self, words, folder, before=(), environment=None, **how):
         """A running start."""
+        if self.hung >= MOST_HUNG:
+            raise TooMany(f"{self.hung} starts hung")
         given = dict(os.environ, **{name: str(value) for name, value in (environment or {}).items()})
         return subprocess.Popen([*before, self.program, *words], cwd=folder, env=given, start_new_session=True, **how)
 
@@ -168,10 +179,16 @@ class Room:
         try:
             out, err = running.communicate(stdin, timeout=self.seconds)
         except subprocess.TimeoutExpired:
-            os.killpg(running.pid, signal.SIGKILL)
+            self.kill(running)
             out, err = running.communicate()
             return Ended(None, True, out or b"", err or b"")
         return Ended(running.returncode, False, out or b"", err or b"")
+
+    def kill(self, running):
+        """Ends a start that hangs, with all that it has started."""
+        with self.lock:
+            self.hung += 1
+        os.killpg(running.pid, signal.SIGKILL)
 
     def with_library(self, **values):
         mark = self.next_name()
@@ -198,11 +215,21 @@ class Check:
         self.counts = collections.Counter()
         self.deviations = 0
         self.notes = []
+        # What was left out and why: what could be had here, and what can't.
+        self.missing, self.lacking = [], []
         self.lock = threading.Lock()
 
     def saw(self, label):
         with self.lock:
             self.counts[label] += 1
+
+    def misses(self, why, what=""):
+        """Something is left out, or all, that could be had here."""
+        self.missing.append((f", {what}" if what else "", why))
+
+    def lacks(self, why, what=""):
+        """Something is left out, or all, that can't be had here."""
+        self.lacking.append((f", {what}" if what else "", why))
 
     def deviates(self, what, **files):
         with self.lock:

@@ -4,7 +4,6 @@ import fcntl
 import os
 import random
 import select
-import signal
 import subprocess
 import threading
 import time
@@ -39,7 +38,7 @@ def fed(room, running, pieces, pause=0.0):
         running.wait(timeout=room.seconds)
     except subprocess.TimeoutExpired:
         hung = True
-        os.killpg(running.pid, signal.SIGKILL)
+        room.kill(running)
         running.wait()
     for thread in (feeder, *readers):
         thread.join()
