@@ -15,7 +15,9 @@ use Rattle.type_rules.specs.declared.rule.ExprType.TheVariants as expr_type
 use Rattle.type_rules.specs.declared.rule.Builtin.{Builtin}
 use Rattle.type_rules.specs.Asked.{lifted, unit, int, bool, text}
 use Rattle.type_rules.specs.Rules.{body_rule, compare_rule, negate_rule, not_rule, if_rule, dotted_rule, builtin_rule, macro_rule, function_rule}
-use Rattle.expr_types.specs.Around.{Around, Kinds, declared_type, params_of, param_types, callee_of, cons}
+use Rattle.expr_types.specs.Around.{Around, declared_type, param_types, callee_of, cons}
+use Rattle.type_rules.specs.Kinds.{Kinds}
+use Rattle.syntax_tree.specs.Tree.{params_of}
 use Rattle.expr_types.specs.Judge.{judge, types_of, judge_links, streams_of, last_of, function_of, function_at, type_of, of_verdict, with_one, with_two, with_three, is_just, lifted_by, named_call, own_call, const_call, call_rule, is_const, builtin_of, next_link}
 use Rattle.expr_types.specs.inner.Alike.{declared_callee, IsAlike, IsPartAlike, MentionsAlike, known, IsKnownAlike, IsPartKnownAlike}
 use Rattle.expr_types.specs.Bodies.{fitting, expr_kind}

@@ -14,7 +14,8 @@ use Rattle.type_rules.specs.declared.rule.Setting.{Setting}
 use Rattle.type_rules.specs.declared.rule.Setting.TheVariants as setting
 use Rattle.expr_types.specs.declared.block.Block.{Block}
 use Rattle.expr_types.specs.declared.block.Blocks.{Blocks}
-use Rattle.expr_types.specs.Around.{Around, Kinds}
+use Rattle.expr_types.specs.Around.{Around}
+use Rattle.type_rules.specs.Kinds.{Kinds}
 use Rattle.expr_types.specs.Bodies.{setting_of, in_definition, within_block, may_have_braces, definition_kind, local_from, local_kind, block_kind}
 use Rattle.expr_types.specs.inner.BodySteps.{kind_of_local}
 use Rattle.expr_types.specs.inner.Blocks.{IsBlock, IsBlockOf, IsBlockAt, AreAt, AreBlocks, numbered, definition_in, definitions_in, definition_at, block_at, around_block, kind_within}

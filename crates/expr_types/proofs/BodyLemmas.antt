@@ -25,7 +25,8 @@ use Rattle.type_rules.specs.Rules.{body_rule}
 use Rattle.type_rules.specs.Written.{as_written}
 use Rattle.expr_types.specs.declared.wrong.Wrong.{Wrong}
 use Rattle.expr_types.specs.declared.wrong.Wrong.TheVariants as wrong
-use Rattle.expr_types.specs.Around.{Around, Kinds, declared_type}
+use Rattle.expr_types.specs.Around.{Around, declared_type}
+use Rattle.type_rules.specs.Kinds.{Kinds}
 use Rattle.expr_types.specs.Judge.{type_of, wrongs, broken, judge, of_verdict, is_just}
 use Rattle.expr_types.specs.Bodies.{setting_of, written_of, may_have_braces, asked_wrong, asked_of, expr_wrongs, local_wrongs, macro_wrongs, body_wrongs, item_wrongs, in_definition, expr_kind, body_kind, definition_kind}
 use Rattle.expr_types.specs.inner.BodySteps.{refusal, asked_clash}

@@ -7,14 +7,8 @@ use Rattle.name_check.specs.declared.declaration.Declaration.TheVariants as decl
 use Rattle.name_check.specs.Scope.{Scope}
 use Rattle.type_rules.specs.declared.rule.ExprType.{ExprType}
 use Rattle.type_rules.specs.declared.rule.Setting.{Setting}
+use Rattle.type_rules.specs.Kinds.{Kinds}
 use Rattle.type_rules.specs.Written.{as_written}
-
--- What the definitions are, by the numbers of their items, and those of blocks by the numbers of their items and their own: a stream
--- definition is what its body is, a macro or a value function what a call of it gives. One without a written type whose body is
--- refused is nothing.
-pub record Kinds : Type 0 where
-  pub item : ℕ → Option ExprType
-  pub local : ℕ → ℕ → Option ExprType
 
 pub record Around : Type 0 where
   pub items : List tree.Item
@@ -24,11 +18,6 @@ pub record Around : Type 0 where
   -- the item around, and its parameters
   pub number : ℕ
   pub params : List tree.Param
-
--- the parameters of an item
-abbrev pub params_of : Option tree.Item → List tree.Param
-params_of (Some (tree.Defined p (tree.Define q n ps w b))) = ps
-params_of _ = []
 
 -- all of the types, if each is something
 abbrev pub cons : Option ExprType → Option (List ExprType) → Option (List ExprType)
@@ -57,4 +46,4 @@ callee_of (Some ps) (Some t) = Some (record { params = ps; result = t })
 callee_of _ _ = None
 
 abbrev pub callee_at : Around → ℕ → Option Callee
-callee_at at i = callee_of (param_types (params_of (slice_get at.items i))) (at.kinds.item i)
+callee_at at i = callee_of (param_types (tree.params_of (slice_get at.items i))) (at.kinds.item i)

@@ -3,9 +3,8 @@ use Rattle.std.specs.Prelude.{◌≡◌, ℕ, suc, ◌+◌, ◌==◌, Bool, true
 use Rattle.std.specs.Prelude.{Err, slice_get}
 use Rattle.std.specs.Option.{option_and_then}
 use Rattle.std.specs.List.{list_all}
+use Rattle.tsl_value.specs.Aggregate.{is_aggregate}
 use Rattle.tsl_value.specs.declared.place.Place.{Place}
-use Rattle.tsl_value.specs.declared.scalar.ValueType.{ValueType}
-use Rattle.tsl_value.specs.declared.scalar.ValueType.TheVariants as value_type
 use Rattle.syntax_tree.specs.Tree as tree
 use Rattle.syntax_tree.specs.Tree.{Expr, TypeName, place_of}
 use Rattle.name_check.specs.Scope.{top, inside, in_block, is_events, are_values, count_in}
@@ -18,7 +17,8 @@ use Rattle.type_rules.specs.Rules.{body_rule}
 use Rattle.type_rules.specs.Written.{as_written, as_stream}
 use Rattle.expr_types.specs.declared.wrong.Wrong.{Wrong}
 use Rattle.expr_types.specs.declared.wrong.Wrong.TheVariants as wrong
-use Rattle.expr_types.specs.Around.{Around, Kinds}
+use Rattle.expr_types.specs.Around.{Around}
+use Rattle.type_rules.specs.Kinds.{Kinds}
 use Rattle.expr_types.specs.Judge.{type_of, wrongs}
 
 -- ---- where the bodies stand
@@ -142,11 +142,7 @@ wrongs_from items kinds i (item ∷ rest) = item_wrongs items kinds i item ++ wr
 abbrev pub all_wrongs : List tree.Item → Kinds → List Wrong
 all_wrongs items kinds = wrongs_from items kinds 0 items
 
--- ---- value functions whose results are sets, maps or options of such
-abbrev pub is_aggregate : ValueType → Bool
-is_aggregate (value_type.Scalar s) = false
-is_aggregate t = true
-
+-- ---- value functions whose results are aggregates or options of such
 abbrev pub holds_aggregate : Option ExprType → Bool
 holds_aggregate (Some (expr_type.Value t)) = is_aggregate t
 holds_aggregate (Some (expr_type.Optional t)) = is_aggregate t

@@ -5,7 +5,7 @@ ghost use Rattle.syntax_tree.specs.Counts.{HasFewInside};
 ghost use Rattle.syntax_tree.specs.inner.OneLevel.{body_of, definition_of, item_of};
 ghost use Rattle.name_check.specs.Scope.{seen, top};
 ghost use Rattle.type_rules.specs.declared.rule.Setting.TheVariants as setting;
-ghost use Rattle.expr_types.specs.Bodies.{item_wrongs, all_wrongs, aggregate_results_from, is_aggregate, holds_aggregate};
+ghost use Rattle.expr_types.specs.Bodies.{item_wrongs, all_wrongs, aggregate_results_from, holds_aggregate};
 ghost use Rattle.expr_types.specs.inner.BodySteps.{wrongs_in_definition, aggregate_result};
 ghost use Rattle.expr_types.specs.inner.Shown.{around_of, kinds_of};
 ghost use Rattle.expr_types.specs.inner.Answers.{first};
@@ -20,7 +20,6 @@ use std::alloc::Global;
 use syntax_tree::tree::{DefinitionParts, Item};
 use tsl_value::memory::NoMemory;
 use tsl_value::place::Place;
-use tsl_value::scalar::ValueType;
 use type_rules::rule::{ExprType, Setting};
 
 fn find_in_definition(
@@ -124,22 +123,12 @@ pub fn find_wrong_type(
     Ok(None)
 }
 
-fn is_aggregate(of: ValueType) -> bool
-    ensures { result ≡ is_aggregate of }
-{
-    match of {
-        ValueType::Scalar(_) => false,
-        ValueType::Set(_) => true,
-        ValueType::Map(_, _) => true,
-    }
-}
-
 fn holds_aggregate(of: Option<ExprType>) -> bool
     ensures { result ≡ holds_aggregate of }
 {
     match of {
-        Some(ExprType::Value(of)) => is_aggregate(of),
-        Some(ExprType::Optional(of)) => is_aggregate(of),
+        Some(ExprType::Value(of)) => of.is_aggregate(),
+        Some(ExprType::Optional(of)) => of.is_aggregate(),
         Some(ExprType::Stream(_)) => false,
         None => false,
     }

@@ -5,7 +5,7 @@ use Rattle.tsl_value.specs.View.{View}
 use Rattle.flat_core.specs.declared.equation.Op.{Op}
 use Rattle.flat_core.specs.declared.equation.Op.TheVariants as op
 use Rattle.flat_core.specs.Stream.{event, is_fault}
-use Rattle.flat_core.specs.Case.{outcome_of}
+use Rattle.flat_core.specs.Events.{outcome_of}
 use Rattle.flat_core.specs.Instant.{is_delay_op}
 
 pub event_of_value : (v : Option View) → event (outcome_of (Ok v)) ≡ v

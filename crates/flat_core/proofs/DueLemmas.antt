@@ -7,7 +7,8 @@ use Rattle.flat_core.specs.declared.equation.Op.{Op}
 use Rattle.flat_core.specs.declared.equation.Op.TheVariants as op
 use Rattle.flat_core.specs.declared.equation.Equation.{Equation}
 use Rattle.flat_core.specs.Stream.{History, Event, Fault, has_event, is_fault}
-use Rattle.flat_core.specs.Case.{Streams, Inputs, unit, expires, delayed, own_of, used_of, outcome_of, case_of}
+use Rattle.flat_core.specs.Case.{Streams, delayed, own_of, used_of, case_of}
+use Rattle.flat_core.specs.Events.{Inputs, unit, expires, outcome_of}
 use Rattle.flat_core.specs.Pending.{pending, option_is}
 use Rattle.flat_core.specs.inner.Kept.{IsKept, AreKept}
 use Rattle.flat_core.specs.System.{System, runs, equation}

@@ -2,6 +2,7 @@
 use Rattle.std.proofs.Common.{◌≡◌, ℕ, Bool, List, [], ◌∷◌, map, Option, Some, None, refl, true, false}
 use Rattle.std.specs.Prelude.{pos, slice_index_or}
 use Rattle.std.specs.FinSet as set
+use Rattle.tsl_value.specs.Aggregate.{empty_of}
 use Rattle.tsl_value.specs.View.{Plain, Keyed}
 use Rattle.tsl_value.specs.declared.scalar.Scalar.TheVariants as scalar
 use Rattle.tsl_value.specs.declared.scalar.ScalarType.TheVariants as scalar_type
@@ -9,15 +10,16 @@ use Rattle.tsl_value.specs.declared.scalar.KeyType.TheVariants as key_type
 use Rattle.tsl_value.specs.declared.scalar.ValueType.{ValueType}
 use Rattle.tsl_value.specs.declared.scalar.ValueType.TheVariants as value_type
 use Rattle.lift_func.specs.BodyTree.{Literal, Argument, One, Two}
-use Rattle.lift_func.specs.declared.body.Unary.TheVariants as unary
-use Rattle.lift_func.specs.declared.body.Binary.TheVariants as binary
+use Rattle.tsl_value.specs.declared.operation.Unary.TheVariants as unary
+use Rattle.tsl_value.specs.declared.operation.Binary.TheVariants as binary
 use Rattle.lift_func.specs.declared.fault.FaultKind.{FaultKind}
 use Rattle.lift_func.specs.declared.fault.FaultKind.TheVariants.{DivideByZero, DelayNotPositive}
 use Rattle.flat_core.specs.declared.equation.Op.{Op}
 use Rattle.flat_core.specs.declared.equation.Op.TheVariants as op
 use Rattle.flat_core.specs.declared.equation.Equation.{Equation}
 use Rattle.flat_core.specs.Stream.{Stream, Outcome, Event, Fault, at, has_event}
-use Rattle.flat_core.specs.Case.{Streams, unit, empty_of, expires, case_of, root_fault}
+use Rattle.flat_core.specs.Case.{Streams, case_of, root_fault}
+use Rattle.flat_core.specs.Events.{unit, expires}
 use Rattle.flat_core.specs.Line.{Line, inputs_of}
 use Rattle.flat_core.specs.System.{System}
 use Rattle.flat_core.specs.Instant.{instants}

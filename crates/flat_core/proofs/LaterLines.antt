@@ -13,7 +13,8 @@ use Rattle.flat_core.specs.declared.equation.Op.{Op}
 use Rattle.flat_core.specs.declared.equation.Op.TheVariants as op
 use Rattle.flat_core.specs.declared.equation.Equation.{Equation}
 use Rattle.flat_core.specs.Stream.{Fault, has_event}
-use Rattle.flat_core.specs.Case.{Streams, Inputs, own_of, is_blocked, outcome_of, case_of, fault_of, root_of, root_fault}
+use Rattle.flat_core.specs.Case.{Streams, own_of, is_blocked, case_of, root_of, root_fault}
+use Rattle.flat_core.specs.Events.{Inputs, outcome_of, fault_of}
 use Rattle.flat_core.specs.Line.{Line, event_in, inputs_of}
 use Rattle.flat_core.specs.System.{System, equation}
 use Rattle.flat_core.specs.Fault.{root_at}

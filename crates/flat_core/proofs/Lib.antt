@@ -8,6 +8,7 @@ pub mod PendingLemmas
 pub mod Depth
 pub mod Members
 pub mod Rising
+pub mod UpdateOps
 pub mod Shapes
 pub mod Answered
 pub mod MarkLemmas

@@ -5,7 +5,7 @@ use Rattle.std.specs.List.{AllByRecursion}
 use Rattle.std.proofs.lemmas.Bool.{cases_Bool, cases_lt}
 use Rattle.std.proofs.lemmas.List.{same_lists, get_or_default}
 use Rattle.flat_core.specs.Stream.{Stream, IsBetween}
-use Rattle.flat_core.specs.Case.{Inputs}
+use Rattle.flat_core.specs.Events.{Inputs}
 use Rattle.flat_core.specs.System.{System, runs}
 use Rattle.flat_core.specs.Solution.{histories, IsSolution}
 use Rattle.flat_core.proofs.StreamLists.{same_streams, at-past}

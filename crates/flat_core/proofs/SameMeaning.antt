@@ -7,7 +7,8 @@ use Rattle.flat_core.specs.declared.equation.Op.{Op}
 use Rattle.flat_core.specs.declared.equation.Op.TheVariants as op
 use Rattle.flat_core.specs.declared.equation.Equation.{Equation}
 use Rattle.flat_core.specs.Stream.{event, has_event}
-use Rattle.flat_core.specs.Case.{Streams, Inputs, used_of, fault_of, refused, amount_fault, root_of, root_fault}
+use Rattle.flat_core.specs.Case.{Streams, used_of, amount_fault, root_of, root_fault}
+use Rattle.flat_core.specs.Events.{Inputs, fault_of, refused}
 use Rattle.flat_core.specs.Line.{Line, inputs_of}
 use Rattle.flat_core.specs.System.{System, runs, equation, IsProper}
 use Rattle.flat_core.specs.Fault.{root_at}

@@ -1,5 +1,5 @@
 -- What the equations of a system have as arguments.
-use Rattle.std.proofs.Common.{◌≡◌, ℕ, ◌<◌, List, [], ◌∷◌, length, Some, sym, subst, arith}
+use Rattle.std.proofs.Common.{◌≡◌, ℕ, suc, ◌<◌, List, [], ◌∷◌, length, Some, refl, sym, ap, subst, ◌∙◌, arith}
 use Rattle.std.specs.Prelude.{IsTrue}
 use Rattle.std.specs.List.{All, AllByRecursion}
 use Rattle.std.proofs.lemmas.List.Elements.{All-from_recursion}
@@ -9,10 +9,12 @@ use Rattle.flat_core.specs.declared.equation.Op.{Op}
 use Rattle.flat_core.specs.declared.equation.Op.TheVariants as op
 use Rattle.flat_core.specs.Complete.{IsFlat}
 use Rattle.flat_core.specs.System.{System, runs, equation, IsProper}
-use Rattle.flat_core.specs.Typed.{IsTyped, input, nil, unit, empty, time, any, last, delay, merge, filter, pick, set_add, set_remove, map_add, map_remove, lift}
+use Rattle.flat_core.specs.Typed.{IsTyped, input, nil, unit, empty, time, any, last, delay, merge, filter, pick, update, lift}
 use Rattle.flat_core.specs.TypedSystem.{AreOfTypes}
 use Rattle.flat_core.specs.inner.Arity.{HasArity}
 use Rattle.flat_core.proofs.Finished.{typed_there}
+use Rattle.flat_core.proofs.UpdateOps.{has_arity}
+use Rattle.lift_func.proofs.Updates.{beside_is}
 
 -- an equation stands at its number alone
 pub one_equation : (s : System) (n : ℕ) (e f : Equation) → equation s n ≡ Some e → equation s n ≡ Some f → f ≡ e
@@ -55,25 +57,28 @@ module _ (equations : List Equation) (P : List ℕ → Type 0) where
   three_of t u v (a ∷ b ∷ c ∷ []) of p = p a b c
   three_of t u v (a ∷ b ∷ c ∷ d ∷ args) of p = absurd of.1.1.1
 
+same_length : (equations : List Equation) (args : List ℕ) (ts : List ValueType) → AreOfTypes equations args ts → length args ≡ length ts
+same_length equations [] [] of = refl
+same_length equations [] (t ∷ ts) of = absurd of
+same_length equations (a ∷ args) [] of = absurd of
+same_length equations (a ∷ args) (t ∷ ts) of = ap suc (same_length equations args ts of.1)
+
 typed_shape : (equations : List Equation) (o : Op) (args : List ℕ) (ts : List ValueType) (t : ValueType) → IsTyped o ts t → AreOfTypes equations args ts → HasArity o args
-typed_shape equations op.Input args ts t input of = none_of equations (HasArity op.Input) args of tt
-typed_shape equations op.Nil args ts t nil of = none_of equations (HasArity op.Nil) args of tt
-typed_shape equations op.Unit args ts t unit of = none_of equations (HasArity op.Unit) args of tt
-typed_shape equations op.Empty args ts t (empty is) of = none_of equations (HasArity op.Empty) args of tt
-typed_shape equations op.Time args ts t time of = one_of equations (HasArity op.Time) _ args of (λ a. tt)
-typed_shape equations op.Any args ts t (any low high) of = tt
-typed_shape equations op.Last args ts t last of = two_of equations (HasArity op.Last) _ _ args of (λ a b. tt)
-typed_shape equations op.Delay args ts t delay of = two_of equations (HasArity op.Delay) _ _ args of (λ a b. tt)
-typed_shape equations op.Merge args ts t merge of = two_of equations (HasArity op.Merge) _ _ args of (λ a b. tt)
-typed_shape equations op.Filter args ts t filter of = two_of equations (HasArity op.Filter) _ _ args of (λ a b. tt)
-typed_shape equations op.Pick args ts t (pick is) of = three_of equations (HasArity op.Pick) _ _ _ args of (λ a b c. tt)
-typed_shape equations op.SetAdd args ts t (set_add is) of = two_of equations (HasArity op.SetAdd) _ _ args of (λ a b. tt)
-typed_shape equations op.SetRemove args ts t (set_remove is) of = two_of equations (HasArity op.SetRemove) _ _ args of (λ a b. tt)
-typed_shape equations op.MapAdd args ts t (map_add is) of = three_of equations (HasArity op.MapAdd) _ _ _ args of (λ a b c. tt)
-typed_shape equations op.MapRemove args ts t (map_remove is) of = two_of equations (HasArity op.MapRemove) _ _ args of (λ a b. tt)
-typed_shape equations (op.Lift body strict) [] [] t (lift low high kind) of = absurd (omega arith)
-typed_shape equations (op.Lift body strict) [] (x ∷ ts) t (lift low high kind) of = absurd of
-typed_shape equations (op.Lift body strict) (a ∷ args) ts t (lift low high kind) of = tt
+typed_shape equations o args ts t input of = none_of equations (HasArity op.Input) args of tt
+typed_shape equations o args ts t nil of = none_of equations (HasArity op.Nil) args of tt
+typed_shape equations o args ts t unit of = none_of equations (HasArity op.Unit) args of tt
+typed_shape equations o args ts t (empty is) of = none_of equations (HasArity op.Empty) args of tt
+typed_shape equations o args ts t time of = one_of equations (HasArity op.Time) _ args of (λ a. tt)
+typed_shape equations o args ts t (any low high) of = tt
+typed_shape equations o args ts t last of = two_of equations (HasArity op.Last) _ _ args of (λ a b. tt)
+typed_shape equations o args ts t delay of = two_of equations (HasArity op.Delay) _ _ args of (λ a b. tt)
+typed_shape equations o args ts t merge of = two_of equations (HasArity op.Merge) _ _ args of (λ a b. tt)
+typed_shape equations o args ts t filter of = two_of equations (HasArity op.Filter) _ _ args of (λ a b. tt)
+typed_shape equations o args ts t (pick is) of = three_of equations (HasArity op.Pick) _ _ _ args of (λ a b c. tt)
+typed_shape equations o args ts t (update {u = u} is row) of = has_arity o u args is (same_length equations args ts of ∙ ap suc (beside_is row))
+typed_shape equations o [] [] t (lift low high kind) of = absurd (omega arith)
+typed_shape equations o [] (x ∷ ts) t (lift low high kind) of = absurd of
+typed_shape equations o (a ∷ args) ts t (lift low high kind) of = tt
 
 -- an equation has as many arguments as its operation
 pub shape_of : (s : System) → IsFlat s → (i : ℕ) (e : Equation) → equation s i ≡ Some e → HasArity e.op e.args

@@ -10,14 +10,16 @@ use Rattle.flat_core.specs.declared.equation.Op.{Op}
 use Rattle.flat_core.specs.declared.equation.Op.TheVariants as op
 use Rattle.flat_core.specs.declared.equation.Equation.{Equation}
 use Rattle.flat_core.specs.Stream.{Fault, event, has_event}
-use Rattle.flat_core.specs.Case.{Streams, Inputs, unit, expires, delayed, own, used_of, fault_of, outcome_of, refused, is_blocked, amount_fault, root_of, root_fault}
+use Rattle.flat_core.specs.Case.{Streams, delayed, own, used_of, is_blocked, amount_fault, root_of, root_fault}
+use Rattle.flat_core.specs.Events.{Inputs, unit, expires, fault_of, outcome_of, refused}
 use Rattle.flat_core.specs.Fault.{root_at, is_faulty}
 use Rattle.flat_core.specs.Instant.{is_delay_op, is_delay, is_instant}
 use Rattle.flat_core.specs.Line.{Line, inputs_of}
 use Rattle.flat_core.specs.System.{System, runs, equation, IsProper}
 use Rattle.flat_core.specs.Solution.{Solves}
-use Rattle.flat_core.specs.Typed.{IsTyped, delay, lift}
+use Rattle.flat_core.specs.Typed.{IsTyped, delay, update, lift}
 use Rattle.flat_core.specs.TypedSystem.{AreOfTypes, IsTypedSystem}
+use Rattle.flat_core.proofs.UpdateOps.{no_update}
 use Rattle.flat_core.specs.WellFormed.{IsRanked}
 use Rattle.flat_core.specs.inner.BoundLaws.{HappensAtInstants}
 use Rattle.flat_core.proofs.DueLemmas.{delay_kept}
@@ -28,12 +30,14 @@ use Rattle.flat_core.proofs.Uniqueness.{all_by, all_used, all_with, used_all}
 
 -- arity: a lift has an argument, and a delay two
 pub typed_arguments : (equations : List Equation) (o : Op) (args : List ℕ) (ts : List ValueType) (t : ValueType) → IsTyped o ts t → AreOfTypes equations args ts → HasArguments o args
+typed_arguments equations (op.Lift body strict) [] ts t (update is row) of = no_update is
 typed_arguments equations (op.Lift body strict) [] [] t (lift low high kind) of = absurd (omega arith)
 typed_arguments equations (op.Lift body strict) [] (x ∷ ts) t typed of = absurd of
 typed_arguments equations (op.Lift body strict) (a ∷ args) ts t typed of = tt
 typed_arguments equations _ args ts t typed of = tt
 
 pub typed_delay : (equations : List Equation) (args : List ℕ) (ts : List ValueType) (t : ValueType) → IsTyped op.Delay ts t → AreOfTypes equations args ts → (d : ℕ) × (r : ℕ) × (args ≡ d ∷ r ∷ [])
+typed_delay equations args ts t (update is row) of = no_update is
 typed_delay equations [] ts t delay of = absurd of
 typed_delay equations (d ∷ []) ts t delay of = absurd of.1
 typed_delay equations (d ∷ r ∷ []) ts t delay of = (d, r, refl)

@@ -3,7 +3,8 @@ use Rattle.std.proofs.Common.{◌≡◌, ℕ, zero, suc, ◌<◌, ◌≤◌, Boo
 use Rattle.std.specs.Prelude.{if◌then◌else◌}
 use Rattle.std.specs.List.{AllByRecursion}
 use Rattle.std.proofs.lemmas.Bool.{cases_lt}
-use Rattle.flat_core.specs.Case.{Streams, Inputs}
+use Rattle.flat_core.specs.Case.{Streams}
+use Rattle.flat_core.specs.Events.{Inputs}
 use Rattle.flat_core.specs.Line.{Line}
 use Rattle.flat_core.specs.System.{System}
 use Rattle.flat_core.specs.Solution.{Solves}

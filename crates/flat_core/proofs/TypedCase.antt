@@ -1,31 +1,30 @@
 -- What an equation makes of values of its arguments' types is of its own type.
-use Rattle.std.proofs.Common.{◌≡◌, ℕ, zero, suc, ◌<◌, Bool, true, false, List, [], ◌∷◌, map, Option, Some, None, Ok, Err, refl, subst, arith}
+use Rattle.std.proofs.Common.{◌≡◌, ℕ, zero, suc, ◌<◌, Bool, true, false, List, [], ◌∷◌, map, Option, Some, None, Ok, Err, refl, sym, subst, arith}
 use Rattle.std.proofs.lemmas.Bool.{false≢true}
 use Rattle.std.specs.Prelude.{if◌then◌else◌, is_some, IsTrue}
 use Rattle.std.specs.List.{AllByRecursion, list_all, list_any}
-use Rattle.tsl_value.specs.declared.scalar.KeyType.{KeyType}
-use Rattle.tsl_value.specs.declared.scalar.KeyType.TheVariants as key_type
-use Rattle.tsl_value.specs.declared.scalar.Scalar.{Scalar}
 use Rattle.tsl_value.specs.declared.scalar.Scalar.TheVariants as scalar
-use Rattle.tsl_value.specs.declared.scalar.ScalarType.{ScalarType}
 use Rattle.tsl_value.specs.declared.scalar.ValueType.{ValueType}
-use Rattle.tsl_value.specs.declared.scalar.ValueType.TheVariants as value_type
-use Rattle.tsl_value.specs.View.{View, Plain, Keyed, Mapped, is_of, is_of_key}
+use Rattle.tsl_value.specs.View.{View, Plain, is_of}
 use Rattle.lift_func.specs.Apply.{Answer, apply}
-use Rattle.lift_func.specs.Typing.{Optional, scalar_of, FitsAnswer, AllFit}
-use Rattle.lift_func.specs.Update.{with_key, without_key, with_entry}
+use Rattle.lift_func.specs.BodyTree.{BodyTree}
+use Rattle.lift_func.specs.Typing.{Optional, HasKind, FitsAnswer, AllFit}
 use Rattle.lift_func.proofs.Fits.{apply_fits}
-use Rattle.lift_func.proofs.TypedUpdates.{is_of-empty_set, is_of-empty_map, is_of-with_key, is_of-with_entry, is_of-without_key}
+use Rattle.lift_func.proofs.TypedUpdates.{is_of-empty}
+use Rattle.lift_func.proofs.Updates.{AreValuesOf, answer_typed}
 use Rattle.flat_core.specs.declared.equation.Equation.{Equation}
 use Rattle.flat_core.specs.declared.equation.Op.{Op}
 use Rattle.flat_core.specs.declared.equation.Op.TheVariants as op
-use Rattle.flat_core.specs.Case.{Streams, Inputs, unit, empty_of, merged, filtered, picked, of_both, of_three, at_once, lasting, delayed, expires, own_of, own, used_of, is_blocked, outcome_of, case_of}
+use Rattle.flat_core.specs.Case.{Streams, lasting, delayed, own_of, own, used_of, is_blocked, case_of}
+use Rattle.tsl_value.specs.Aggregate.{empty_of}
+use Rattle.flat_core.specs.Events.{Inputs, unit, merged, filtered, picked, at_once, expires, outcome_of}
 use Rattle.flat_core.specs.Stream.{History, Fault, event, has_event, latest}
 use Rattle.flat_core.specs.System.{System, equation}
-use Rattle.flat_core.specs.Typed.{IsTyped, input, nil, empty, time, any, last, delay, merge, filter, pick, set_add, set_remove, map_add, map_remove, lift, is_aggregate, unit_type, kind_of}
+use Rattle.flat_core.specs.Typed.{IsTyped, input, nil, empty, time, any, last, delay, merge, filter, pick, lift, unit_type, kind_of}
 use Rattle.flat_core.specs.Typed as typed
 use Rattle.flat_core.specs.inner.TypedEvents.{IsOf, AreOf}
 use Rattle.flat_core.specs.TypedSystem.{AreOfTypes, IsTypedEquation}
+use Rattle.flat_core.proofs.UpdateOps.{at_once_update, no_update}
 
 pub is_of_from : (of : ValueType) (v : Option View) → ((x : View) → v ≡ Some x → IsTrue (is_of of x)) → IsOf of v
 is_of_from of None each = refl
@@ -35,11 +34,6 @@ pub is_of_at : (of : ValueType) (v : Option View) (x : View) → IsOf of v → v
 is_of_at of v x fit is = subst (IsOf of) is fit
 
 -- ---- each operation
-
-empty_typed : (of : ValueType) → is_aggregate of ≡ true → IsTrue (is_of of (empty_of of))
-empty_typed (value_type.Scalar of) is = absurd (false≢true is)
-empty_typed (value_type.Set k) is = is_of-empty_set k
-empty_typed (value_type.Map k x) is = is_of-empty_map k x
 
 filter_typed : (of : ValueType) (a c : Option View) → IsOf of a → IsOf of (filtered a c)
 filter_typed of a (Some (Plain (scalar.Bool true))) fit = fit
@@ -54,42 +48,12 @@ pick_typed of (Some (Plain (scalar.Bool true))) (Some a) (Some b) p q = p
 pick_typed of (Some (Plain (scalar.Bool false))) (Some a) (Some b) p q = q
 pick_typed of _ _ _ p q = refl
 
-pub key_fits : (k : KeyType) (x : Scalar) → IsTrue (is_of (value_type.Scalar (scalar_of k)) (Plain x)) → IsTrue (is_of_key k x)
-key_fits key_type.Int x fit = fit
-key_fits key_type.Bool x fit = fit
-key_fits key_type.Text x fit = fit
-
-set_added : (k : KeyType) (s key : Option View) → IsOf (value_type.Set k) s → IsOf (value_type.Scalar (scalar_of k)) key → IsOf (value_type.Set k) (of_both with_key s key)
-set_added k None key p q = refl
-set_added k (Some s) None p q = refl
-set_added k (Some (Keyed s)) (Some (Plain x)) p q = is_of-with_key k (Keyed s) x (key_fits k x q) p
-set_added k (Some (Keyed s)) (Some (Keyed x)) p q = absurd (false≢true q)
-set_added k (Some (Keyed s)) (Some (Mapped x)) p q = absurd (false≢true q)
-set_added k (Some (Plain s)) (Some x) p q = absurd (false≢true p)
-set_added k (Some (Mapped s)) (Some x) p q = absurd (false≢true p)
-
-map_added : (k : KeyType) (t : ScalarType) (m key x : Option View) → IsOf (value_type.Map k t) m → IsOf (value_type.Scalar (scalar_of k)) key → IsOf (value_type.Scalar t) x → IsOf (value_type.Map k t) (of_three with_entry m key x)
-map_added k t None key x p q r = refl
-map_added k t (Some m) None x p q r = refl
-map_added k t (Some m) (Some key) None p q r = refl
-map_added k t (Some (Mapped m)) (Some (Plain key)) (Some (Plain x)) p q r = is_of-with_entry k t (Mapped m) key x (key_fits k key q) r p
-map_added k t (Some (Mapped m)) (Some (Plain key)) (Some (Keyed x)) p q r = absurd (false≢true r)
-map_added k t (Some (Mapped m)) (Some (Plain key)) (Some (Mapped x)) p q r = absurd (false≢true r)
-map_added k t (Some (Mapped m)) (Some (Keyed key)) (Some x) p q r = absurd (false≢true q)
-map_added k t (Some (Mapped m)) (Some (Mapped key)) (Some x) p q r = absurd (false≢true q)
-map_added k t (Some (Plain m)) (Some key) (Some x) p q r = absurd (false≢true p)
-map_added k t (Some (Keyed m)) (Some key) (Some x) p q r = absurd (false≢true p)
-
-removed : (of : ValueType) (s key : Option View) → IsOf of s → IsOf of (of_both without_key s key)
-removed of None key p = refl
-removed of (Some s) None p = refl
-removed of (Some s) (Some (Plain x)) p = is_of-without_key of s x p
-removed of (Some (Plain s)) (Some (Keyed x)) p = p
-removed of (Some (Plain s)) (Some (Mapped x)) p = p
-removed of (Some (Keyed s)) (Some (Keyed x)) p = p
-removed of (Some (Keyed s)) (Some (Mapped x)) p = p
-removed of (Some (Mapped s)) (Some (Keyed x)) p = p
-removed of (Some (Mapped s)) (Some (Mapped x)) p = p
+-- events of types, as an update's values are
+values_of : (types : List ValueType) (values : List (Option View)) → AreOf types values → AreValuesOf types values
+values_of [] [] fit = tt
+values_of [] (v ∷ values) fit = absurd fit
+values_of (t ∷ types) [] fit = absurd fit
+values_of (t ∷ types) (v ∷ values) fit = (fit.0, values_of types values fit.1)
 
 -- values that count fit the kinds of a lift
 pub all_there_fit : (types : List ValueType) (values : List (Option View)) → AreOf types values → list_all is_some values ≡ true → AllFit (map (kind_of true) types) values
@@ -119,67 +83,47 @@ unit_where : (b : Bool) → IsOf unit_type (if b then Some unit else None)
 unit_where true = refl
 unit_where false = refl
 
--- what an operation makes of values of its types
-pub at_once_typed : (o : Op) (ts : List ValueType) (of : ValueType) → IsTyped o ts of → (values : List (Option View)) → AreOf ts values → (t : ℕ) → FitsAnswer (Optional of) (at_once o of values t)
-at_once_typed op.Input ts of input [] fit t = refl
-at_once_typed op.Input ts of input (v ∷ values) fit t = absurd fit
-at_once_typed op.Nil ts of nil [] fit t = refl
-at_once_typed op.Nil ts of nil (v ∷ values) fit t = absurd fit
-at_once_typed op.Unit ts of typed.unit [] fit zero = refl
-at_once_typed op.Unit ts of typed.unit [] fit (suc t) = refl
-at_once_typed op.Unit ts of typed.unit (v ∷ values) fit t = absurd fit
-at_once_typed op.Empty ts of (empty is) [] fit zero = empty_typed of is
-at_once_typed op.Empty ts of (empty is) [] fit (suc t) = refl
-at_once_typed op.Empty ts of (empty is) (v ∷ values) fit t = absurd fit
-at_once_typed op.Time ts of time [] fit t = absurd fit
-at_once_typed op.Time ts of time (None ∷ []) fit t = refl
-at_once_typed op.Time ts of time (Some v ∷ []) fit t = refl
-at_once_typed op.Time ts of time (v ∷ w ∷ values) fit t = absurd fit.1
-at_once_typed op.Any ts of (any low high) values fit t = unit_where (list_any is_some values)
-at_once_typed op.Last ts of last [] fit t = refl
-at_once_typed op.Last ts of last (v ∷ []) fit t = refl
-at_once_typed op.Last ts of last (v ∷ w ∷ []) fit t = refl
-at_once_typed op.Last ts of last (v ∷ w ∷ x ∷ values) fit t = absurd fit.1.1
-at_once_typed op.Delay ts of delay [] fit t = refl
-at_once_typed op.Delay ts of delay (v ∷ []) fit t = refl
-at_once_typed op.Delay ts of delay (v ∷ w ∷ []) fit t = refl
-at_once_typed op.Delay ts of delay (v ∷ w ∷ x ∷ values) fit t = absurd fit.1.1
-at_once_typed op.Merge ts of merge [] fit t = absurd fit
-at_once_typed op.Merge ts of merge (a ∷ []) fit t = absurd fit.1
-at_once_typed op.Merge ts of merge (a ∷ b ∷ []) fit t = merge_typed of a b fit.0 fit.1.0
-at_once_typed op.Merge ts of merge (a ∷ b ∷ c ∷ values) fit t = absurd fit.1.1
-at_once_typed op.Filter ts of filter [] fit t = absurd fit
-at_once_typed op.Filter ts of filter (a ∷ []) fit t = absurd fit.1
-at_once_typed op.Filter ts of filter (a ∷ c ∷ []) fit t = filter_typed of a c fit.0
-at_once_typed op.Filter ts of filter (a ∷ c ∷ d ∷ values) fit t = absurd fit.1.1
-at_once_typed op.Pick ts of (pick is) [] fit t = absurd fit
-at_once_typed op.Pick ts of (pick is) (c ∷ []) fit t = absurd fit.1
-at_once_typed op.Pick ts of (pick is) (c ∷ a ∷ []) fit t = absurd fit.1.1
-at_once_typed op.Pick ts of (pick is) (c ∷ a ∷ b ∷ []) fit t = pick_typed of c a b fit.1.0 fit.1.1.0
-at_once_typed op.Pick ts of (pick is) (c ∷ a ∷ b ∷ d ∷ values) fit t = absurd fit.1.1.1
-at_once_typed op.SetAdd ts of (set_add is) [] fit t = absurd fit
-at_once_typed op.SetAdd ts of (set_add is) (s ∷ []) fit t = absurd fit.1
-at_once_typed op.SetAdd ts of (set_add {k = k} is) (s ∷ key ∷ []) fit t = set_added k s key fit.0 (subst (λ u. IsOf (value_type.Scalar u) key) is fit.1.0)
-at_once_typed op.SetAdd ts of (set_add is) (s ∷ key ∷ x ∷ values) fit t = absurd fit.1.1
-at_once_typed op.SetRemove ts of (set_remove is) [] fit t = absurd fit
-at_once_typed op.SetRemove ts of (set_remove is) (s ∷ []) fit t = absurd fit.1
-at_once_typed op.SetRemove ts of (set_remove is) (s ∷ key ∷ []) fit t = removed of s key fit.0
-at_once_typed op.SetRemove ts of (set_remove is) (s ∷ key ∷ x ∷ values) fit t = absurd fit.1.1
-at_once_typed op.MapAdd ts of (map_add is) [] fit t = absurd fit
-at_once_typed op.MapAdd ts of (map_add is) (m ∷ []) fit t = absurd fit.1
-at_once_typed op.MapAdd ts of (map_add is) (m ∷ key ∷ []) fit t = absurd fit.1.1
-at_once_typed op.MapAdd ts of (map_add {k = k} {x = x} is) (m ∷ key ∷ v ∷ []) fit t = map_added k x m key v fit.0 (subst (λ u. IsOf (value_type.Scalar u) key) is fit.1.0) fit.1.1.0
-at_once_typed op.MapAdd ts of (map_add is) (m ∷ key ∷ v ∷ w ∷ values) fit t = absurd fit.1.1.1
-at_once_typed op.MapRemove ts of (map_remove is) [] fit t = absurd fit
-at_once_typed op.MapRemove ts of (map_remove is) (s ∷ []) fit t = absurd fit.1
-at_once_typed op.MapRemove ts of (map_remove is) (s ∷ key ∷ []) fit t = removed of s key fit.0
-at_once_typed op.MapRemove ts of (map_remove is) (s ∷ key ∷ x ∷ values) fit t = absurd fit.1.1
-at_once_typed (op.Lift body true) ts of (lift low high kind) values fit t =
+lift_typed : (body : BodyTree) (strict : Bool) (ts : List ValueType) (of : ValueType) → HasKind (map (kind_of strict) ts) body (kind_of strict of) → (values : List (Option View)) → AreOf ts values → (t : ℕ) → FitsAnswer (Optional of) (at_once (op.Lift body strict) of values t)
+lift_typed body true ts of kind values fit t =
     where_it_counts of (list_all is_some values) (apply body values) (λ all.
     optional_fits of true (apply body values) (apply_fits (map (kind_of true) ts) values (all_there_fit ts values fit all) kind))
-at_once_typed (op.Lift body false) ts of (lift low high kind) values fit t =
+lift_typed body false ts of kind values fit t =
     where_it_counts of (list_any is_some values) (apply body values) (λ some.
     optional_fits of false (apply body values) (apply_fits (map (kind_of false) ts) values (options_fit ts values fit) kind))
+
+-- what an operation makes of values of its types
+pub at_once_typed : (o : Op) (ts : List ValueType) (of : ValueType) → IsTyped o ts of → (values : List (Option View)) → AreOf ts values → (t : ℕ) → FitsAnswer (Optional of) (at_once o of values t)
+at_once_typed o ts of input values fit t = refl
+at_once_typed o ts of nil values fit t = refl
+at_once_typed o ts of typed.unit [] fit zero = refl
+at_once_typed o ts of typed.unit [] fit (suc t) = refl
+at_once_typed o ts of typed.unit (v ∷ values) fit t = absurd fit
+at_once_typed o ts of (empty is) [] fit zero = is_of-empty of is
+at_once_typed o ts of (empty is) [] fit (suc t) = refl
+at_once_typed o ts of (empty is) (v ∷ values) fit t = absurd fit
+at_once_typed o ts of time [] fit t = absurd fit
+at_once_typed o ts of time (None ∷ []) fit t = refl
+at_once_typed o ts of time (Some v ∷ []) fit t = refl
+at_once_typed o ts of time (v ∷ w ∷ values) fit t = absurd fit.1
+at_once_typed o ts of (any low high) values fit t = unit_where (list_any is_some values)
+at_once_typed o ts of last values fit t = refl
+at_once_typed o ts of delay values fit t = refl
+at_once_typed o ts of merge [] fit t = absurd fit
+at_once_typed o ts of merge (a ∷ []) fit t = absurd fit.1
+at_once_typed o ts of merge (a ∷ b ∷ []) fit t = merge_typed of a b fit.0 fit.1.0
+at_once_typed o ts of merge (a ∷ b ∷ c ∷ values) fit t = absurd fit.1.1
+at_once_typed o ts of filter [] fit t = absurd fit
+at_once_typed o ts of filter (a ∷ []) fit t = absurd fit.1
+at_once_typed o ts of filter (a ∷ c ∷ []) fit t = filter_typed of a c fit.0
+at_once_typed o ts of filter (a ∷ c ∷ d ∷ values) fit t = absurd fit.1.1
+at_once_typed o ts of (pick is) [] fit t = absurd fit
+at_once_typed o ts of (pick is) (c ∷ []) fit t = absurd fit.1
+at_once_typed o ts of (pick is) (c ∷ a ∷ []) fit t = absurd fit.1.1
+at_once_typed o ts of (pick is) (c ∷ a ∷ b ∷ []) fit t = pick_typed of c a b fit.1.0 fit.1.1.0
+at_once_typed o ts of (pick is) (c ∷ a ∷ b ∷ d ∷ values) fit t = absurd fit.1.1.1
+at_once_typed o ts of (typed.update {u = u} is row) values fit t =
+    subst (FitsAnswer (Optional of)) (sym (at_once_update o u is of values t)) (answer_typed row values (values_of ts values fit))
+at_once_typed o ts of (lift {body = body} {strict = strict} low high kind) values fit t = lift_typed body strict ts of kind values fit t
 
 -- ---- an equation
 
@@ -209,6 +153,7 @@ module _ (s : System) (z : Streams) where
   values_typed t (a ∷ args) (u ∷ types) of all = (subst (λ k. IsOf k (event (z a t))) of.0.of_is (all.0 of.0.at of.0.is), values_typed t args types of.1 all.1)
 
   last_typed : (t : ℕ) (args : List ℕ) (ts : List ValueType) (of : ValueType) → IsTyped op.Last ts of → AreOfTypes s.equations args ts → AllByRecursion (IsTypedBefore t) args → IsOf of (lasting z args t)
+  last_typed t args ts of (typed.update is row) are past = no_update is
   last_typed t [] ts of last are past = refl
   last_typed t (v ∷ []) ts of last are past = refl
   last_typed t (v ∷ r ∷ []) ts of last are past =
@@ -219,6 +164,7 @@ module _ (s : System) (z : Streams) where
   last_typed t (v ∷ r ∷ x ∷ args) ts of last are past = absurd are.1.1
 
   delay_typed : (t i : ℕ) (args : List ℕ) (ts : List ValueType) (of : ValueType) → IsTyped op.Delay ts of → IsOf of (delayed z i args t)
+  delay_typed t i args ts of (typed.update is row) = no_update is
   delay_typed t i [] ts of delay = refl
   delay_typed t i (d ∷ []) ts of delay = refl
   delay_typed t i (d ∷ r ∷ []) ts of delay = unit_where (expires (z d) (z r) (z i) t)

@@ -2,11 +2,13 @@ pub mod Members
 pub mod System
 pub mod Updates
 pub mod Stream
+pub mod Events
 pub mod Case
 pub mod Line
 pub mod Solution
 pub mod Fault
 pub mod Instant
+pub mod Kept
 pub mod WellFormed
 pub mod Typed
 pub mod TypedSystem

@@ -5,7 +5,7 @@ use Rattle.std.specs.Option.{option_or}
 use Rattle.tsl_value.specs.declared.scalar.Scalar.{Scalar}
 use Rattle.tsl_value.specs.View.{View, Plain}
 use Rattle.flat_core.specs.declared.line.TraceLine.{TraceLine}
-use Rattle.flat_core.specs.Case.{Inputs}
+use Rattle.flat_core.specs.Events.{Inputs}
 
 abbrev pub Line : Type 0
 Line = TraceLine

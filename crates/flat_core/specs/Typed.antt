@@ -1,18 +1,17 @@
 -- Arity and types of the equations.
-use Rattle.std.specs.Prelude.{◌≡◌, ◌≤◌, Bool, true, false, List, [], ◌∷◌, length, map}
+use Rattle.std.specs.Prelude.{◌≡◌, ◌≤◌, Bool, true, false, List, [], ◌∷◌, length, map, Some}
+use Rattle.tsl_value.specs.Aggregate.{is_aggregate}
+use Rattle.tsl_value.specs.declared.operation.Update.{Update}
 use Rattle.tsl_value.specs.declared.scalar.ScalarType.{ScalarType}
 use Rattle.tsl_value.specs.declared.scalar.ScalarType.TheVariants as scalar_type
-use Rattle.tsl_value.specs.declared.scalar.KeyType.{KeyType}
 use Rattle.tsl_value.specs.declared.scalar.ValueType.{ValueType}
 use Rattle.tsl_value.specs.declared.scalar.ValueType.TheVariants as value_type
 use Rattle.lift_func.specs.BodyTree.{BodyTree}
-use Rattle.lift_func.specs.Typing.{ValueKind, Value, Optional, HasKind, scalar_of}
+use Rattle.lift_func.specs.Typing.{ValueKind, Value, Optional, HasKind}
+use Rattle.lift_func.specs.Update.{UpdateTypes}
 use Rattle.flat_core.specs.declared.equation.Op.{Op}
 use Rattle.flat_core.specs.declared.equation.Op.TheVariants as op
-
-abbrev pub is_aggregate : ValueType → Bool
-is_aggregate (value_type.Scalar of) = false
-is_aggregate _ = true
+use Rattle.flat_core.specs.Updates.{update_in}
 
 abbrev pub unit_type : ValueType
 unit_type = value_type.Scalar scalar_type.Unit
@@ -40,26 +39,12 @@ pub data IsTyped : Op → List ValueType → ValueType → Type 0 where
   merge : {t : ValueType} → IsTyped op.Merge (t ∷ t ∷ []) t
   filter : {t : ValueType} → IsTyped op.Filter (t ∷ bool_type ∷ []) t
   pick : {t : ValueType} → is_aggregate t ≡ true → IsTyped op.Pick (bool_type ∷ t ∷ t ∷ []) t
-  -- SetAdd SET KEY
-  set_add :
-      {k : KeyType} {t : ScalarType} →
-      t ≡ scalar_of k →
-      IsTyped op.SetAdd (value_type.Set k ∷ value_type.Scalar t ∷ []) (value_type.Set k)
-  -- SetRemove SET KEY
-  set_remove :
-      {k : KeyType} {t : ScalarType} →
-      t ≡ scalar_of k →
-      IsTyped op.SetRemove (value_type.Set k ∷ value_type.Scalar t ∷ []) (value_type.Set k)
-  -- MapAdd MAP KEY VALUE
-  map_add :
-      {k : KeyType} {t x : ScalarType} →
-      t ≡ scalar_of k →
-      IsTyped op.MapAdd (value_type.Map k x ∷ value_type.Scalar t ∷ value_type.Scalar x ∷ []) (value_type.Map k x)
-  -- MapRemove MAP KEY
-  map_remove :
-      {k : KeyType} {t x : ScalarType} →
-      t ≡ scalar_of k →
-      IsTyped op.MapRemove (value_type.Map k x ∷ value_type.Scalar t ∷ []) (value_type.Map k x)
+  -- an update of an aggregate, with the values beside it
+  update :
+      {o : Op} {u : Update} {t : ValueType} {ts : List ValueType} →
+      update_in o ≡ Some u →
+      UpdateTypes u t ts →
+      IsTyped o (t ∷ ts) t
   -- Lift BODY a ..
   lift :
       {body : BodyTree} {strict : Bool} {ts : List ValueType} {t : ScalarType} →

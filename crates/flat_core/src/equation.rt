@@ -1,13 +1,14 @@
 // Equations and outputs.
 
 ghost use Rattle.std.specs.Prelude.{◌≡◌, drop, IfOk};
-ghost use Rattle.flat_core.specs.Updates.{is_update};
+ghost use Rattle.flat_core.specs.Updates.{is_update, operation_of, update_in};
 ghost use Rattle.flat_core.specs.WellFormed.{unguarded_of};
 
 use crate::lists::Args;
 use lift_func::body::Body;
 use tsl_value::ids::EqId;
 use tsl_value::memory::NoMemory;
+use tsl_value::operation::Update;
 use tsl_value::place::Place;
 use tsl_value::scalar::ValueType;
 use tsl_value::text::Text;
@@ -53,14 +54,36 @@ pub struct Output {
 }
 
 impl Op {
-    /// Whether it changes a set or a map.
+    /// The operation of an update.
+    pub fn of_update(update: Update) -> Op
+        ensures { result ≡ operation_of update }
+    {
+        match update {
+            Update::SetAdd => Op::SetAdd,
+            Update::SetRemove => Op::SetRemove,
+            Update::MapAdd => Op::MapAdd,
+            Update::MapRemove => Op::MapRemove,
+        }
+    }
+
+    /// The update that it is, if it is one.
+    pub fn update(&self) -> Option<Update>
+        ensures { result ≡ update_in self.now }
+    {
+        match self {
+            Op::SetAdd => Some(Update::SetAdd),
+            Op::SetRemove => Some(Update::SetRemove),
+            Op::MapAdd => Some(Update::MapAdd),
+            Op::MapRemove => Some(Update::MapRemove),
+            _ => None,
+        }
+    }
+
+    /// Whether it is an update.
     pub fn is_update(&self) -> bool
         ensures { result ≡ is_update self.now }
     {
-        matches!(
-            self,
-            Op::SetAdd | Op::SetRemove | Op::MapAdd | Op::MapRemove
-        )
+        self.update().is_some()
     }
 
     fn copy(&self) -> Result<Op, NoMemory>

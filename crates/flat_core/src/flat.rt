@@ -55,7 +55,7 @@ fn replace_outputs(outputs: &mut [Output], replaced: &Replacements)
 }
 
 impl Flat {
-    ghost use Rattle.std.specs.Prelude.{◌<◌, ◌↔◌, ℕ, All, IfOk, IsTrue};
+    ghost use Rattle.std.specs.Prelude.{◌<◌, ◌≤◌, ◌↔◌, ℕ, All, IfOk, IsTrue};
     ghost use Rattle.std.specs.List.Sorted.{IsStrictlyIncreasing};
     ghost use Rattle.flat_core.specs.Members.{is_in};
     ghost use Rattle.flat_core.specs.Needed.{IsReachedFrom};
@@ -63,6 +63,7 @@ impl Flat {
     ghost use Rattle.flat_core.specs.Updates.{is_running_update};
     ghost use Rattle.flat_core.specs.Complete.{IsFlat};
     ghost use Rattle.flat_core.specs.Renumbered.{renumbered, AreReplacements};
+    ghost use Rattle.flat_core.specs.declared.limits.TheConstants.{MOST_EQUATIONS};
 
     /// The number of equations, at most 4,096.
     ///
@@ -72,6 +73,17 @@ impl Flat {
         ensures is_flat { IsFlat self.now }
     {
         self.equations.len() as u32
+    }
+
+    /// Asserts that the system is whole, as each is: it is typed, with few equations, and arguments and outputs are there.
+    ///
+    /// Nothing is done. A caller whose proof needs this of a system says so here.
+    pub fn assert_whole(&self)
+        ensures few { length self.now.equations ≤ MOST_EQUATIONS }
+        ensures is_flat { IsFlat self.now }
+    {
+        // The invariant is known where a field is used.
+        let _ = &self.equations;
     }
 
     /// The equation of a number.
@@ -120,6 +132,16 @@ impl Flat {
         reached(alloc, &self.equations, replaced, starts)
     }
 
+    /// The equations to which arguments lead from these, and these themselves.
+    pub fn leading_to(&self, alloc: Global, starts: &[EqId]) -> Result<EqSet, NoMemory>
+        requires { All (λ i. i < length self.now.equations) starts.now }
+        ensures ascending { IfOk result (λ s. IsStrictlyIncreasing s) }
+        ensures members { IfOk result (λ s. (i : ℕ) → IsTrue (is_in s i) ↔ IsReachedFrom self.now.equations starts.now i) }
+    {
+        let unchanged = Replacements::new(alloc);
+        reached(alloc, &self.equations, &unchanged, starts)
+    }
+
     /// The system with other numbers as arguments and at outputs, in which these equations run. All else stays, and no memory is taken.
     ///
     /// An equation's number gives way to that of an equation of the same type.
@@ -134,8 +156,7 @@ impl Flat {
             mut outputs,
             running: _,
         } = self;
-        // A set is in ascending order, as its length tells.
-        let _ = running.len();
+        running.assert_ascending();
         replace_args(&mut equations, &replaced);
         replace_outputs(&mut outputs, &replaced);
         Flat {

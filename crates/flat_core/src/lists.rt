@@ -151,6 +151,14 @@ impl EqSet {
         self.ids.len()
     }
 
+    /// Asserts that the set is in ascending order, as each is. Nothing is done. A caller whose proof needs this of a set says so here.
+    pub fn assert_ascending(&self)
+        ensures { IsStrictlyIncreasing self.now }
+    {
+        // The invariant is known where a field is used.
+        let _ = &self.ids;
+    }
+
     /// The equation at a place counted from 0, if there is one.
     pub fn get(&self, place: usize) -> Option<&EqId>
         ensures { option_copied result ≡ slice_get self.now place }

@@ -1,33 +1,31 @@
 -- What registers hold, and what reading a cell gives.
-use Rattle.std.proofs.Common.{◌≡◌, ℕ, Bool, true, false, ◌&&◌, List, [], ◌∷◌, Option, Some, None, pos, refl, sym, subst, ◌∙◌}
-use Rattle.std.specs.Prelude.{IsTrue}
+use Rattle.std.proofs.Common.{◌≡◌, ℕ, Bool, true, false, ◌&&◌, List, [], ◌∷◌, Option, Some, None, Ok, pos, refl, sym, subst, ◌∙◌}
+use Rattle.std.specs.Prelude.{IsTrue, if◌then◌else◌}
 use Rattle.std.specs.List.{list_all}
 use Rattle.std.specs.Option.{option_map}
 use Rattle.std.specs.FinMap as map
 use Rattle.std.proofs.lemmas.Bool.{and_parts, false≢true}
+use Rattle.tsl_value.specs.Aggregate.{has_elements, size_of}
 use Rattle.tsl_value.specs.View.{View, Plain, Keyed, Mapped, is_of, is_of_key, is_of_scalar}
 use Rattle.tsl_value.specs.declared.scalar.KeyType.{KeyType}
 use Rattle.tsl_value.specs.declared.scalar.KeyType.TheVariants as key_type
 use Rattle.tsl_value.specs.declared.scalar.Scalar.{Scalar}
 use Rattle.tsl_value.specs.declared.scalar.ScalarType.{ScalarType}
 use Rattle.tsl_value.specs.declared.scalar.ValueType.TheVariants as value_type
-use Rattle.lift_func.specs.declared.body.Unary.TheVariants as unary
-use Rattle.lift_func.specs.declared.body.Binary.{Binary}
-use Rattle.lift_func.specs.declared.body.Binary.TheVariants as binary
+use Rattle.tsl_value.specs.declared.operation.Unary.TheVariants as unary
+use Rattle.tsl_value.specs.declared.operation.Binary.{Binary}
+use Rattle.tsl_value.specs.declared.operation.Binary.TheVariants as binary
 use Rattle.lift_func.specs.declared.register.Register.{Register}
 use Rattle.lift_func.specs.declared.register.Register.TheVariants as register
 use Rattle.lift_func.specs.Apply.{int, bool, found, of_one, contained, at_key}
-use Rattle.lift_func.specs.inner.Cells.{Cells, FitsKey, HoldsLive, IsAggregate, IsMap, has_key, held, register_of, scalar_in, value_at, view_at}
+use Rattle.lift_func.specs.inner.Cells.{Cells, FitsKey, HoldsLive, IsMap, has_key, held, register_of, scalar_in, value_at, view_at}
 use Rattle.lift_func.specs.inner.Evaluable.{CanRead, IsScalarKind, is_read}
 use Rattle.lift_func.specs.Typing as typing
 use Rattle.lift_func.specs.Operations.{is_arithmetic, is_order, is_equality, is_logic, is_on_texts}
 use Rattle.lift_func.specs.Typing.{ValueKind, Value, Optional, TypesTwo, fits, plain, scalar_of}
-use Rattle.lift_func.specs.Update.{size_of}
 
-pub size_is : (v : View) → IsAggregate v → of_one unary.Size (Some v) ≡ int (pos (size_of v))
-size_is (Plain s) is = absurd is
-size_is (Keyed s) is = refl
-size_is (Mapped m) is = refl
+pub size_is : (v : View) → IsTrue (has_elements v) → of_one unary.Size (Some v) ≡ int (pos (size_of v))
+size_is v is = λ i. if is i then int (pos (size_of v)) else Ok None
 
 pub contained_is : (v : View) (key : Scalar) → FitsKey v key → contained (Some v) (Some (Plain key)) ≡ bool (has_key v key)
 contained_is (Plain s) key fit = absurd fit
@@ -40,10 +38,10 @@ at_key_is (Keyed s) key is = absurd is
 at_key_is (Mapped m) key is = refl
 
 -- an aggregate is of no scalar's kind
-no_aggregate : (k : ValueKind) → IsScalarKind k → (v : View) → IsAggregate v → IsTrue (fits k (Some v)) → ⊥
-no_aggregate (Value (value_type.Scalar t)) scalar (Plain s) is fit = is
+no_aggregate : (k : ValueKind) → IsScalarKind k → (v : View) → IsTrue (has_elements v) → IsTrue (fits k (Some v)) → ⊥
+no_aggregate (Value (value_type.Scalar t)) scalar (Plain s) is fit = false≢true is
 no_aggregate (Value (value_type.Scalar t)) scalar _ is fit = false≢true fit
-no_aggregate (Optional (value_type.Scalar t)) scalar (Plain s) is fit = is
+no_aggregate (Optional (value_type.Scalar t)) scalar (Plain s) is fit = false≢true is
 no_aggregate (Optional (value_type.Scalar t)) scalar _ is fit = false≢true fit
 no_aggregate _ scalar v is fit = scalar
 
@@ -59,7 +57,7 @@ key_fits key_type.Int key fit = fit
 key_fits key_type.Bool key fit = fit
 key_fits key_type.Text key fit = fit
 
-key_of : (k : KeyType) (t : ScalarType) → t ≡ scalar_of k → (key : Scalar) → IsTrue (is_of_scalar t key) → IsTrue (is_of_key k key)
+pub key_of : (k : KeyType) (t : ScalarType) → t ≡ scalar_of k → (key : Scalar) → IsTrue (is_of_scalar t key) → IsTrue (is_of_key k key)
 key_of k t e key fit = key_fits k key (subst (λ t. IsTrue (is_of_scalar t key)) e fit)
 
 set_key : (k : KeyType) (t : ScalarType) → t ≡ scalar_of k → (v : View) (key : Scalar) → IsTrue (is_of (value_type.Set k) v) → IsTrue (is_of_scalar t key) → FitsKey v key

@@ -4,8 +4,8 @@ use Rattle.tsl_value.specs.View.{Plain}
 use Rattle.tsl_value.specs.declared.scalar.Scalar.{Scalar}
 use Rattle.tsl_value.specs.declared.scalar.Scalar.TheVariants as scalar
 use Rattle.lift_func.specs.declared.fault.FaultKind.TheVariants.{Overflow, DivideByZero, NoValue}
-use Rattle.lift_func.specs.declared.body.Unary.TheVariants as unary
-use Rattle.lift_func.specs.declared.body.Binary.TheVariants as binary
+use Rattle.tsl_value.specs.declared.operation.Unary.TheVariants as unary
+use Rattle.tsl_value.specs.declared.operation.Binary.TheVariants as binary
 use Rattle.lift_func.specs.Apply.{Answer, apply}
 use Rattle.lift_func.specs.BodyTree.{BodyTree, Literal, Argument, One, Two, Choice}
 

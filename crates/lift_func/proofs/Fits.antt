@@ -1,5 +1,5 @@
 -- A well typed body at fitting arguments has an answer of its kind.
-use Rattle.std.proofs.Common.{◌≡◌, ℕ, zero, suc, Bool, true, false, cond, ◌&&◌, List, [], ◌∷◌, ◌++◌, length, ℤ, pos, neg_ℤ, ◌+ℤ◌, ◌-ℤ◌, ◌*ℤ◌, Option, Some, None, Ok, Err, refl, sym, subst}
+use Rattle.std.proofs.Common.{◌≡◌, ℕ, zero, suc, Bool, true, false, cond, ◌&&◌, List, [], ◌∷◌, ◌++◌, length, ℤ, pos, neg_ℤ, ◌+ℤ◌, ◌-ℤ◌, ◌*ℤ◌, Option, Some, None, Ok, Err, refl, sym, subst, ◌∙◌}
 use Rattle.std.specs.Prelude.{IsTrue, IsFalse, if◌then◌else◌, int_div, int_rem, int_le, int_lt, not, nat_lt, slice_get, slice_index_or}
 use Rattle.std.specs.List.{list_all}
 use Rattle.std.specs.Option.{option_map}
@@ -8,6 +8,8 @@ use Rattle.std.specs.FinSet as set
 use Rattle.std.specs.FinMap as map
 use Rattle.std.proofs.lemmas.Bool.{and_parts, false≢true, true≢false}
 use Rattle.tsl_value.specs.Literal.{is_int}
+use Rattle.tsl_value.specs.Aggregate.{size_of}
+use Rattle.tsl_value.proofs.Aggregates.{elements_of}
 use Rattle.tsl_value.specs.View.{View, Plain, Keyed, Mapped, Keys, Table, is_of, is_of_key, is_of_scalar, scalar_cmp, type_of}
 use Rattle.tsl_value.specs.declared.scalar.KeyType.{KeyType}
 use Rattle.tsl_value.specs.declared.scalar.Scalar.{Scalar}
@@ -17,10 +19,10 @@ use Rattle.tsl_value.specs.declared.scalar.ScalarType.TheVariants as scalar_type
 use Rattle.tsl_value.specs.declared.scalar.ValueType.TheVariants as value_type
 use Rattle.tsl_value.specs.declared.limits.TheConstants.{MOST_TEXT_BYTES}
 use Rattle.lift_func.specs.declared.fault.FaultKind.TheVariants.{Overflow, TextTooLong}
-use Rattle.lift_func.specs.declared.body.Unary.{Unary}
-use Rattle.lift_func.specs.declared.body.Unary.TheVariants as unary
-use Rattle.lift_func.specs.declared.body.Binary.{Binary}
-use Rattle.lift_func.specs.declared.body.Binary.TheVariants as binary
+use Rattle.tsl_value.specs.declared.operation.Unary.{Unary}
+use Rattle.tsl_value.specs.declared.operation.Unary.TheVariants as unary
+use Rattle.tsl_value.specs.declared.operation.Binary.{Binary}
+use Rattle.tsl_value.specs.declared.operation.Binary.TheVariants as binary
 use Rattle.lift_func.specs.BodyTree.{BodyTree}
 use Rattle.lift_func.specs.Apply.{Answer, int, bool, text, and_then, remainder, divided, found, of_one, on_ints, on_scalars, on_texts, contained, at_key, chosen, both, of_two, apply}
 use Rattle.lift_func.specs.Typing as typing
@@ -85,8 +87,8 @@ remainder_fits a b = then_fits (λ _. int (int_rem a b)) int_kind int_kind (λ v
 one_fits : {o : Unary} {j k : ValueKind} → TypesOne o j k → (v : Option View) → IsTrue (fits j v) → FitsAnswer k (of_one o v)
 one_fits typing.neg v fit = int_form (λ v. FitsAnswer int_kind (of_one unary.Neg v)) (λ z. int_fits (neg_ℤ z)) v fit
 one_fits typing.not v fit = bool_form (λ v. FitsAnswer bool_kind (of_one unary.Not v)) (λ b. refl) v fit
-one_fits (typing.set_size {k = k}) v fit = set_form (λ v. FitsAnswer int_kind (of_one unary.Size v)) k (λ s all. int_fits (pos (set.len s))) v fit
-one_fits (typing.map_size {k = k} {x = x}) v fit = map_form (λ v. FitsAnswer int_kind (of_one unary.Size v)) k x (λ m all. int_fits (pos (map.len m))) v fit
+one_fits (typing.size {t = t} is) (Some v) fit = subst (λ b. FitsAnswer int_kind (if b then int (pos (size_of v)) else Ok None)) (sym (elements_of t v fit ∙ is)) (int_fits (pos (size_of v)))
+one_fits (typing.size is) None fit = absurd (false≢true fit)
 one_fits typing.length v fit = text_form (λ v. FitsAnswer int_kind (of_one unary.Length v)) (λ s. refl) v fit
 one_fits typing.some (Some v) fit = fit
 one_fits typing.some None fit = absurd (false≢true fit)

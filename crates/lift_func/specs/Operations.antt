@@ -1,40 +1,11 @@
--- The operations of value functions: how each is called where a body is printed, of which sort it is, and whether it can fault.
-use Rattle.std.specs.Prelude.{ℕ, Bool, true, false, List, codes}
+-- The operations of value functions: of which sort each is, and whether it can fault.
+use Rattle.std.specs.Prelude.{Bool, true, false}
 use Rattle.tsl_value.specs.declared.scalar.ScalarType.{ScalarType}
 use Rattle.tsl_value.specs.declared.scalar.ScalarType.TheVariants as scalar_type
-use Rattle.lift_func.specs.declared.body.Unary.{Unary}
-use Rattle.lift_func.specs.declared.body.Unary.TheVariants as unary
-use Rattle.lift_func.specs.declared.body.Binary.{Binary}
-use Rattle.lift_func.specs.declared.body.Binary.TheVariants as binary
-
--- ---- names
-abbrev pub unary_name : Unary → List ℕ
-unary_name unary.Neg = codes "neg"
-unary_name unary.Not = codes "not"
-unary_name unary.Size = codes "size"
-unary_name unary.Length = codes "length"
-unary_name unary.Some = codes "some"
-unary_name unary.IsSome = codes "issome"
-unary_name unary.IsNone = codes "isnone"
-unary_name unary.GetSome = codes "getsome"
-
-abbrev pub binary_name : Binary → List ℕ
-binary_name binary.Add = codes "add"
-binary_name binary.Sub = codes "sub"
-binary_name binary.Mul = codes "mul"
-binary_name binary.Div = codes "div"
-binary_name binary.Rem = codes "rem"
-binary_name binary.Eq = codes "eq"
-binary_name binary.Ne = codes "ne"
-binary_name binary.Lt = codes "lt"
-binary_name binary.Le = codes "le"
-binary_name binary.Gt = codes "gt"
-binary_name binary.Ge = codes "ge"
-binary_name binary.And = codes "and"
-binary_name binary.Or = codes "or"
-binary_name binary.Contains = codes "contains"
-binary_name binary.Get = codes "get"
-binary_name binary.Concat = codes "concat"
+use Rattle.tsl_value.specs.declared.operation.Unary.{Unary}
+use Rattle.tsl_value.specs.declared.operation.Unary.TheVariants as unary
+use Rattle.tsl_value.specs.declared.operation.Binary.{Binary}
+use Rattle.tsl_value.specs.declared.operation.Binary.TheVariants as binary
 
 -- ---- sorts: on two Ints, on two scalars of one type, on two Bools, and on two texts
 abbrev pub is_arithmetic : Binary → Bool

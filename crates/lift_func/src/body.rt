@@ -1,92 +1,13 @@
 // The body of a value function.
 
 ghost use Rattle.std.specs.Prelude.{◌≡◌, ◌+◌, ◌≤◌, IfOk};
-ghost use Rattle.lift_func.specs.Operations.{unary_name, binary_name};
 ghost use Rattle.lift_func.specs.declared.limits.TheConstants.{MOST_NODES};
 
 use std::alloc::Global;
 use std::marker::Model;
 use tsl_value::memory::NoMemory;
+use tsl_value::operation::{Binary, Unary};
 use tsl_value::scalar::{Scalar, ValueType};
-
-/// The operations of one operand: of an Int, a Bool, an aggregate, a text, a value, and three of an
-/// option.
-#[derive(Clone, Copy, PartialEq, Eq, Debug)]
-pub enum Unary {
-    Neg,
-    Not,
-    Size,
-    Length,
-    Some,
-    IsSome,
-    IsNone,
-    GetSome,
-}
-
-impl Unary {
-    /// Its name where a body is printed.
-    pub fn name(self) -> &'static [u8]
-        ensures { result.now ≡ unary_name self }
-    {
-        match self {
-            Unary::Neg => b"neg",
-            Unary::Not => b"not",
-            Unary::Size => b"size",
-            Unary::Length => b"length",
-            Unary::Some => b"some",
-            Unary::IsSome => b"issome",
-            Unary::IsNone => b"isnone",
-            Unary::GetSome => b"getsome",
-        }
-    }
-}
-
-/// The operations of two operands.
-#[derive(Clone, Copy, PartialEq, Eq, Debug)]
-pub enum Binary {
-    Add,
-    Sub,
-    Mul,
-    Div,
-    Rem,
-    Eq,
-    Ne,
-    Lt,
-    Le,
-    Gt,
-    Ge,
-    And,
-    Or,
-    Contains,
-    Get,
-    Concat,
-}
-
-impl Binary {
-    /// Its name where a body is printed.
-    pub fn name(self) -> &'static [u8]
-        ensures { result.now ≡ binary_name self }
-    {
-        match self {
-            Binary::Add => b"add",
-            Binary::Sub => b"sub",
-            Binary::Mul => b"mul",
-            Binary::Div => b"div",
-            Binary::Rem => b"rem",
-            Binary::Eq => b"eq",
-            Binary::Ne => b"ne",
-            Binary::Lt => b"lt",
-            Binary::Le => b"le",
-            Binary::Gt => b"gt",
-            Binary::Ge => b"ge",
-            Binary::And => b"and",
-            Binary::Or => b"or",
-            Binary::Contains => b"contains",
-            Binary::Get => b"get",
-            Binary::Concat => b"concat",
-        }
-    }
-}
 
 /// The tree of a value function, of at most 1,024 nodes.
 #[cycle(body)]

@@ -12,6 +12,7 @@ ghost use Rattle.lift_func.specs.inner.Textless.{HasNoText, IsAnswered, IsText};
 use crate::body::{Body, Node};
 use crate::fault::FaultKind;
 use crate::operation::{apply_binary, apply_unary, decided};
+use crate::quick::at_hand;
 use crate::read::{is_read, read, register_of, scalar_of, unary_at};
 use crate::reader::Reader;
 use crate::register::Register;
@@ -191,5 +192,8 @@ pub fn eval<R: Reader>(
     ensures value { IsValue result (apply body.now (arguments (R.cells reader.now) registers.now args.now)) }
     ensures spare { HasNoText body.now (arguments (R.cells reader.now) registers.now args.now) → IsAnswered result }
 {
+    if let Some(value) = at_hand(body, registers, args, reader) {
+        return Ok(Some(value));
+    }
     Ok(scalar_of(eval_register(alloc, body, registers, args, reader)?))
 }

@@ -4,7 +4,8 @@ ghost use Rattle.std.specs.Prelude.{◌≡◌};
 ghost use Rattle.lift_func.specs.Operations.{can_fault_one, can_fault_two, is_arithmetic};
 ghost use Rattle.lift_func.specs.Typing.{can_fault};
 
-use crate::body::{Binary, Body, Node, Unary};
+use crate::body::{Body, Node};
+use tsl_value::operation::{Binary, Unary};
 
 fn unary_can_fault(o: Unary) -> bool
     ensures { result ≡ can_fault_one o }
@@ -12,7 +13,7 @@ fn unary_can_fault(o: Unary) -> bool
     matches!(o, Unary::Neg | Unary::Size | Unary::GetSome)
 }
 
-fn is_arithmetic(o: Binary) -> bool
+pub(crate) fn is_arithmetic(o: Binary) -> bool
     ensures { result ≡ is_arithmetic o }
 {
     matches!(

@@ -7,16 +7,16 @@ ghost use Rattle.std.specs.Option.{option_map};
 ghost use Rattle.std.specs.Ordering.{is_eq};
 ghost use Rattle.tsl_value.specs.View.{Plain, scalar_cmp};
 ghost use Rattle.lift_func.specs.Apply.{int, bool, text, apply, divided, remainder, on_ints, on_scalars, on_texts, of_one, of_two};
-ghost use Rattle.lift_func.specs.declared.body.Unary.TheVariants as unary;
+ghost use Rattle.tsl_value.specs.declared.operation.Unary.TheVariants as unary;
 ghost use Rattle.lift_func.specs.inner.Answered.{Decides, IsAnswer, IsInt, IsValue, NeedsSecond};
 ghost use Rattle.lift_func.specs.inner.Textless.{IsAnswered, IsText};
 
-use crate::body::{Binary, Unary};
 use crate::eval::EvalFault;
 use crate::fault::FaultKind;
 use std::alloc::Global;
 use tsl_value::limits::MOST_TEXT_BYTES;
 use tsl_value::memory::NoMemory;
+use tsl_value::operation::{Binary, Unary};
 use tsl_value::scalar::Scalar;
 use tsl_value::text::Text;
 
@@ -107,7 +107,7 @@ fn multiplied(a: &Option<Scalar>, b: &Option<Scalar>) -> Result<Option<Scalar>, 
 }
 
 /// The quotient of two Ints, or why there is none.
-fn quotient(a: i64, b: i64) -> Result<i64, FaultKind>
+pub(crate) fn quotient(a: i64, b: i64) -> Result<i64, FaultKind>
     ensures { IsInt result (divided b (int (int_div a b))) }
 {
     if b == 0 {
@@ -120,7 +120,7 @@ fn quotient(a: i64, b: i64) -> Result<i64, FaultKind>
 }
 
 /// The remainder of two Ints, or why there is none.
-fn rest(a: i64, b: i64) -> Result<i64, FaultKind>
+pub(crate) fn rest(a: i64, b: i64) -> Result<i64, FaultKind>
     ensures { IsInt result (divided b (remainder a b)) }
 {
     if b == 0 {
@@ -194,7 +194,7 @@ fn is_at_least(a: &Option<Scalar>, b: &Option<Scalar>) -> Option<Scalar>
 
 /// Whether two scalars are equal.
 #[tactic(auto, using(crate::proofs::Same::same_texts))]
-fn is_same(a: &Scalar, b: &Scalar) -> bool
+pub(crate) fn is_same(a: &Scalar, b: &Scalar) -> bool
     ensures { result ≡ is_eq (scalar_cmp a.now b.now) }
 {
     match (a, b) {

@@ -5,10 +5,11 @@ ghost use Rattle.std.specs.Option.{option_map};
 ghost use Rattle.lift_func.specs.BodyTree.{BodyTree, Literal, node_count};
 ghost use Rattle.lift_func.specs.inner.Placed.{placed, within, limited, one_within, two_within, choice_within, placed_within};
 
-use crate::body::{Binary, Body, Node, Unary};
+use crate::body::{Body, Node};
 use crate::limits::MOST_NODES;
 use std::alloc::Global;
 use tsl_value::memory::NoMemory;
+use tsl_value::operation::{Binary, Unary};
 use tsl_value::scalar::Scalar;
 
 /// The number, if a body may have so many nodes.

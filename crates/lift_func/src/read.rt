@@ -3,7 +3,7 @@
 ghost use Rattle.std.specs.Prelude.{◌≡◌, pos};
 ghost use Rattle.std.specs.Option.{option_map};
 ghost use Rattle.tsl_value.specs.View.{Plain};
-ghost use Rattle.lift_func.specs.declared.body.Unary.TheVariants as unary;
+ghost use Rattle.tsl_value.specs.declared.operation.Unary.TheVariants as unary;
 ghost use Rattle.lift_func.specs.inner.Answered.{IsInt};
 ghost use Rattle.lift_func.specs.Apply.{int, found, of_one, of_two};
 ghost use Rattle.lift_func.specs.inner.Cells.{Cells, FitsKey, HoldsLive, IsLive, IsMap, has_key, held, register_of, scalar_in, value_at};
@@ -11,13 +11,13 @@ ghost use Rattle.lift_func.specs.inner.Cells.{view_at};
 ghost use Rattle.lift_func.specs.inner.Evaluable.{CanRead, FitsOperand, IsHeldAnswer, IsHeldValue, is_read};
 ghost use Rattle.lift_func.specs.inner.Textless.{IsAnswered, IsNoText};
 
-use crate::body::{Binary, Unary};
 use crate::eval::EvalFault;
 use crate::fault::FaultKind;
 use crate::operation::apply_unary;
 use crate::reader::Reader;
 use crate::register::Register;
 use tsl_value::ids::Handle;
+use tsl_value::operation::{Binary, Unary};
 use tsl_value::scalar::Scalar;
 
 /// The scalar of a register. An aggregate has none.
@@ -52,7 +52,7 @@ pub(crate) fn is_read(o: Binary) -> bool
 }
 
 /// A number as an Int, or why it is none.
-fn int_of(n: u64) -> Result<i64, FaultKind>
+pub(crate) fn int_of(n: u64) -> Result<i64, FaultKind>
     ensures { IsInt result (int (pos n)) }
 {
     if n <= 0x7fff_ffff_ffff_ffff {

@@ -2,9 +2,9 @@
 
 ghost use Rattle.std.specs.Prelude.{◌≡◌, ◌++◌, OnOk, OnErr};
 ghost use Rattle.std.specs.Option.{option_copied};
+ghost use Rattle.tsl_value.specs.Aggregate.{size_of};
 ghost use Rattle.tsl_value.specs.Print.{view_text};
 ghost use Rattle.lift_func.specs.inner.Cells.{Cells, FitsKey, IsLive, IsMap, has_key, value_at, view_at};
-ghost use Rattle.lift_func.specs.Update.{size_of};
 
 use tsl_value::bytes::Bytes;
 use tsl_value::ids::Handle;

@@ -1,5 +1,5 @@
 -- Trees of specifications, without where they lie in memory. Each part begins with its place.
-use Rattle.std.specs.Prelude.{ℕ, List, Bool, Option}
+use Rattle.std.specs.Prelude.{ℕ, List, [], Bool, Option, Some}
 use Rattle.tsl_value.specs.declared.place.Place.{Place}
 use Rattle.syntax_tree.specs.declared.tree.Level.{Level}
 use Rattle.syntax_tree.specs.declared.tree.Operator.{Operator}
@@ -89,3 +89,8 @@ pub data Item : Type 0 where
   -- the place of the word `out`, and of the name
   Output : Place → Place → List ℕ → Item
   OutputAs : Place → Expr → Place → List ℕ → Item
+
+-- the parameters of an item
+abbrev pub params_of : Option Item → List Param
+params_of (Some (Defined p (Define q n ps w b))) = ps
+params_of _ = []

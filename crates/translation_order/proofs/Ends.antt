@@ -5,7 +5,8 @@ use Rattle.std.proofs.lemmas.List.{length-replicate, get_or-replicate, get_or_pa
 use Rattle.std.proofs.lemmas.List.Elements.{All-contains}
 use Rattle.std.proofs.lemmas.List.Folds.{sum_by-replicate}
 use Rattle.translation_order.specs.Least.{IsLeast}
-use Rattle.translation_order.specs.OnCycle.{Edge, AreBetween, Path, OnCycle, IsFirstOnCycle}
+use Rattle.translation_order.specs.OnCycle.{Edge, AreBetween, OnCycle, IsFirstOnCycle}
+use Rattle.translation_order.specs.Graph.{Path}
 use Rattle.translation_order.specs.inner.Searching.{Leads, AreInside, AreSuccessors, visit_of, one_if_new, count_new, IsDone, IsRight, IsMember, IsGroup, IsSearch, AreDone, path_of, GoesOn}
 use Rattle.translation_order.specs.declared.search.Visit.{Visit}
 use Rattle.translation_order.specs.declared.search.Visit.TheVariants.{New, OnPath, Done}

@@ -3,14 +3,14 @@ use Rattle.std.proofs.Common.{◌≡◌, ℕ, ◌+◌, ◌*◌, ◌-◌, ◌<◌
 use Rattle.std.proofs.Math.Nat.{add-mul}
 use Rattle.std.proofs.lemmas.Bool.{cases_eq, false≢true}
 use Rattle.std.proofs.lemmas.List.Sums.{sum_by-set, sum_by-cons, get_or-le-sum_by}
-use Rattle.translation_order.specs.OnCycle.{Path, one}
+use Rattle.translation_order.specs.Graph.{Path, edge}
 use Rattle.translation_order.specs.inner.Searching.{Leads, visit_of, one_if_new, count_new, IsOnPath, IsDone, IsRight, IsMember, IsFollowed, IsGroup, IsSearch, edges_in, steps_on, steps_left, GoesOn}
 use Rattle.translation_order.specs.declared.search.Visit.{Visit}
 use Rattle.translation_order.specs.declared.search.Visit.TheVariants.{New, OnPath}
 use Rattle.translation_order.specs.declared.search.Group.{Group}
 use Rattle.tsl_value.proofs.Lists.{here, only}
 use Rattle.translation_order.proofs.SearchLists.{reverse_push}
-use Rattle.translation_order.proofs.Paths.{path_join}
+use Rattle.translation_order.proofs.PathLemmas.{path_on}
 use Rattle.translation_order.proofs.Visits.{on_path_weaker, on_path_not_new, on_path_is, followed_not_new, done_not_new, path_stays}
 
 more_than : (x y k t p : ℕ) → y ≡ x + (k + 2) → t ≤ k → x + (1 + t + p) < y + p
@@ -65,8 +65,8 @@ module _ (successors : List (List ℕ)) (visits : List Visit) (entered : ℕ) (l
             | inr earlier ↦ inr (subst (Path (Leads successors) a) (only node b c) (g.reaches a node earlier target))
           ];
           reaches = λ a b m t. elim m [
-            | inl single ↦ subst (λ x. Path (Leads successors) x b) (only node a single) (one t)
-            | inr earlier ↦ path_join (Leads successors) a node b (g.reaches a node earlier target) (one t)
+            | inl single ↦ subst (λ x. Path (Leads successors) x b) (only node a single) (edge t)
+            | inr earlier ↦ path_on (g.reaches a node earlier target) t
           ];
           inside = λ b t. s.inside node b t;
           numbered = λ a c. on_path_is (λ k. entered ≤ k) (visit_of after a) entered (is_entered a (sym (only node a c))) (omega arith);

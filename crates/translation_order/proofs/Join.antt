@@ -1,13 +1,14 @@
 -- An edge from the last group leads back to a group before it.
 use Rattle.std.proofs.Common.{◌≡◌, ℕ, ◌+◌, ◌*◌, ◌-◌, ◌<◌, ◌≤◌, List, ◌∷◌, length, Contains, sym, subst, ◌⊎◌, inl, inr, arith}
 use Rattle.std.proofs.lemmas.List.Sums.{sum_by-cons}
-use Rattle.translation_order.specs.OnCycle.{Path}
+use Rattle.translation_order.specs.Graph.{Path}
 use Rattle.translation_order.specs.inner.Searching.{Leads, visit_of, IsMember, IsPending, IsFollowed, IsGroup, IsPath, IsSearch, edges_in, steps_on, steps_left, GoesOn, IsJoined}
 use Rattle.translation_order.specs.declared.search.Visit.{Visit}
 use Rattle.translation_order.specs.declared.search.Visit.TheVariants.{OnPath}
 use Rattle.translation_order.specs.declared.search.Group.{Group}
 use Rattle.translation_order.proofs.SearchLists.{in_joined, of_joined_first, of_joined_second, joined_length}
-use Rattle.translation_order.proofs.Paths.{path_join, path_on}
+use Rattle.translation_order.proofs.PathLemmas.{path_join}
+use Rattle.translation_order.proofs.Paths.{path_on}
 use Rattle.translation_order.proofs.Visits.{on_path_weaker, on_path_is, on_path_at, followed_more}
 
 less_joined : (x on was inner rest a b c : ℕ) → on ≡ 1 + a + rest → was ≡ 1 + b + inner → inner ≡ 1 + c + rest → a ≡ c + b → x + on < x + was
@@ -60,7 +61,7 @@ module _ (successors : List (List ℕ)) (visits : List Visit) (entered : ℕ) (l
   joined_is = record {
     reached = λ a b m c. inr (to_all a b m c);
     reaches = λ a b m t. elim (in_joined before.targets last.targets joined.targets b j.targets t) [
-      | inl first ↦ path_join (Leads successors) a node b (last_is.reaches a node (wide a m) target) (before_is.reaches node b there first)
+      | inl first ↦ path_join (last_is.reaches a node (wide a m) target) (before_is.reaches node b there first)
       | inr second ↦ last_is.reaches a b (wide a m) second
     ];
     inside = λ b t. elim (in_joined before.targets last.targets joined.targets b j.targets t) [

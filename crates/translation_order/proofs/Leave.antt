@@ -4,7 +4,7 @@ use Rattle.std.proofs.lemmas.Bool.{false≢true, cases_lt}
 use Rattle.std.proofs.lemmas.List.{get_or_past}
 use Rattle.std.proofs.lemmas.List.Elements.{Contains-get_or}
 use Rattle.std.proofs.lemmas.List.Sums.{sum_by-cons}
-use Rattle.translation_order.specs.OnCycle.{Path}
+use Rattle.translation_order.specs.Graph.{Path}
 use Rattle.translation_order.specs.inner.Searching.{Leads, visit_of, IsOnPath, IsDone, IsRight, IsMember, IsFollowed, IsGroup, IsSearch, edges_in, steps_on, path_of, steps_left, GoesOn, AreMarked}
 use Rattle.translation_order.specs.declared.search.Visit.{Visit}
 use Rattle.translation_order.specs.declared.search.Visit.TheVariants.{New}

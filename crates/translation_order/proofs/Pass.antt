@@ -3,7 +3,7 @@ use Rattle.std.proofs.Common.{◌≡◌, ℕ, ◌+◌, ◌*◌, ◌-◌, ◌<◌
 use Rattle.std.proofs.lemmas.List.{length_push}
 use Rattle.std.proofs.lemmas.List.Elements.{Contains-push_cases, Contains-append_left}
 use Rattle.std.proofs.lemmas.List.Sums.{sum_by-cons}
-use Rattle.translation_order.specs.OnCycle.{Path}
+use Rattle.translation_order.specs.Graph.{Path}
 use Rattle.translation_order.specs.inner.Searching.{Leads, visit_of, IsOnPath, IsMember, IsPending, IsFollowed, IsGroup, IsPath, IsSearch, edges_in, steps_on, steps_left, GoesOn, IsPassed, IsMet, back, nowhere, around}
 use Rattle.translation_order.specs.declared.search.Visit.{Visit}
 use Rattle.translation_order.specs.declared.search.Visit.TheVariants.{New, OnPath, Done}

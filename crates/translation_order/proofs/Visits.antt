@@ -1,6 +1,6 @@
 -- How far the search is with nodes, and what groups keep when nodes go on.
 use Rattle.std.proofs.Common.{◌≡◌, ℕ, ◌<◌, ◌≤◌, Bool, true, false, List, [], ◌∷◌, Contains, refl, sym, subst, ◌⊎◌, inl, inr, arith}
-use Rattle.translation_order.specs.OnCycle.{Path}
+use Rattle.translation_order.specs.Graph.{Path}
 use Rattle.translation_order.specs.inner.Searching.{Leads, visit_of, IsOnPath, IsDone, IsRight, IsMember, IsFollowed, IsGroup, IsPath}
 use Rattle.translation_order.specs.declared.search.Visit.{Visit}
 use Rattle.translation_order.specs.declared.search.Visit.TheVariants.{New, OnPath, Done}

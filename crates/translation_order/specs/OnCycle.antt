@@ -1,6 +1,7 @@
 -- Cycles of a graph. Nodes are numbers, and each edge is a pair: it leads from its first node to its second.
 use Rattle.std.specs.Prelude.{ℕ, ◌<◌, List, Option, MatchOption}
 use Rattle.std.specs.List.{All, Contains}
+use Rattle.translation_order.specs.Graph.{Path}
 use Rattle.translation_order.specs.Least.{IsLeast}
 
 -- an edge leads from a to b
@@ -10,11 +11,6 @@ Edge edges a b = Contains edges (a, b)
 -- edges between the nodes below a number
 abbrev pub AreBetween : ℕ → List (ℕ × ℕ) → Type 0
 AreBetween nodes edges = All (λ e. (e.0 < nodes) × (e.1 < nodes)) edges
-
--- b is reached from a along one edge or more
-pub data Path (E : ℕ → ℕ → Type 0) : ℕ → ℕ → Type 0 where
-  one : {a b : ℕ} → E a b → Path E a b
-  more : {a b c : ℕ} → E a b → Path E b c → Path E a c
 
 -- a node lies on a cycle where it is reached from itself
 abbrev pub OnCycle : List (ℕ × ℕ) → ℕ → Type 0

@@ -7,6 +7,7 @@ pub mod laws;
 pub mod limits;
 pub mod literal;
 pub mod memory;
+pub mod operation;
 mod order;
 pub mod place;
 pub mod print;

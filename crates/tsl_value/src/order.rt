@@ -46,7 +46,6 @@ impl Scalar {
     }
 
     /// Their order by kind, number and bytes.
-    #[inline(never)]
     fn cmp_by_kind(&self, other: &Scalar) -> Ordering
         ensures { result ≡ scalar_cmp self.now other.now }
     {
@@ -54,6 +53,17 @@ impl Scalar {
             .cmp(&other.kind())
             .then(self.number().cmp(&other.number()))
             .then(self.bytes().cmp(other.bytes()))
+    }
+
+    /// The order of two scalars that need not be numbers. Texts are compared many bytes at a time, which slices of bytes are not.
+    #[inline(never)]
+    fn cmp_any(&self, other: &Scalar) -> Ordering
+        ensures { result ≡ scalar_cmp self.now other.now }
+    {
+        match (self, other) {
+            (Scalar::Text(text), Scalar::Text(other)) => text.as_str().cmp(other.as_str()),
+            _ => self.cmp_by_kind(other),
+        }
     }
 }
 
@@ -72,7 +82,7 @@ impl Ord for Scalar {
         match (self, other) {
             // Most keys are numbers, and numbers alone need no look at kinds and bytes.
             (Scalar::Int(number), Scalar::Int(other)) => number.cmp(other),
-            _ => self.cmp_by_kind(other),
+            _ => self.cmp_any(other),
         }
     }
 }

@@ -1,13 +1,13 @@
-// The text of values.
+// The text of values and of types.
 
 ghost use Rattle.std.specs.Prelude.{◌≡◌, ◌++◌, length, take, OnOk, OnErr};
 ghost use Rattle.std.specs.Fmt.{decimal, signed_decimal};
 ghost use Rattle.std.specs.List.{flat_map};
-ghost use Rattle.tsl_value.specs.Print.{escaped, quoted_text, scalar_text};
+ghost use Rattle.tsl_value.specs.Print.{escaped, key_type_text, quoted_text, scalar_text, scalar_type_text, type_text};
 
 use crate::bytes::Bytes;
 use crate::memory::NoMemory;
-use crate::scalar::Scalar;
+use crate::scalar::{KeyType, Scalar, ScalarType, ValueType};
 
 /// Appends a number in decimal.
 pub fn print_number(number: u64, out: &mut Bytes) -> Result<(), NoMemory>
@@ -86,5 +86,62 @@ fn append_byte(byte: u8, out: &mut Bytes) -> Result<(), NoMemory>
         b'\t' => out.append(b"\\t"),
         b'\r' => out.append(b"\\r"),
         _ => out.push(byte),
+    }
+}
+
+/// Appends a type as it is written in a specification, or leaves `out` as it was.
+pub fn print_type(of: ValueType, out: &mut Bytes) -> Result<(), NoMemory>
+    ensures ok { OnOk result (out.new ≡ out.old ++ type_text of) }
+    ensures err { OnErr result (out.new ≡ out.old) }
+{
+    let before = out.len();
+    match append_type(of, out) {
+        Ok(()) => Ok(()),
+        Err(none) => {
+            out.truncate(before);
+            Err(none)
+        }
+    }
+}
+
+fn append_type(of: ValueType, out: &mut Bytes) -> Result<(), NoMemory>
+    ensures ok { OnOk result (out.new ≡ out.old ++ type_text of) }
+    ensures err { OnErr result (take (length out.old) out.new ≡ out.old) }
+{
+    match of {
+        ValueType::Scalar(scalar) => out.append(scalar_name(scalar)),
+        ValueType::Set(key) => {
+            out.append(b"Set[")?;
+            out.append(key_name(key))?;
+            out.append(b"]")
+        }
+        ValueType::Map(key, value) => {
+            out.append(b"Map[")?;
+            out.append(key_name(key))?;
+            out.append(b", ")?;
+            out.append(scalar_name(value))?;
+            out.append(b"]")
+        }
+    }
+}
+
+fn scalar_name(of: ScalarType) -> &'static [u8]
+    ensures { result.now ≡ scalar_type_text of }
+{
+    match of {
+        ScalarType::Unit => b"Unit",
+        ScalarType::Int => b"Int",
+        ScalarType::Bool => b"Bool",
+        ScalarType::Text => b"String",
+    }
+}
+
+fn key_name(of: KeyType) -> &'static [u8]
+    ensures { result.now ≡ key_type_text of }
+{
+    match of {
+        KeyType::Int => b"Int",
+        KeyType::Bool => b"Bool",
+        KeyType::Text => b"String",
     }
 }

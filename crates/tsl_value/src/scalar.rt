@@ -1,6 +1,7 @@
 // Scalars and types.
 
 ghost use Rattle.std.specs.Prelude.{◌≡◌, IfOk, OnErr};
+ghost use Rattle.tsl_value.specs.Aggregate.{is_aggregate};
 ghost use Rattle.tsl_value.specs.View.{type_of};
 
 use crate::memory::NoMemory;
@@ -67,4 +68,17 @@ pub enum ValueType {
     Scalar(ScalarType),
     Set(KeyType),
     Map(KeyType, ScalarType),
+}
+
+impl ValueType {
+    /// Whether its values are aggregates.
+    pub fn is_aggregate(self) -> bool
+        ensures { result ≡ is_aggregate self }
+    {
+        match self {
+            ValueType::Scalar(_) => false,
+            ValueType::Set(_) => true,
+            ValueType::Map(_, _) => true,
+        }
+    }
 }

@@ -3,8 +3,8 @@ use Rattle.std.specs.Prelude.{◌≡◌, ℕ, Bool, true, false, ◌&&◌, if◌
 use Rattle.std.specs.List.{find}
 use Rattle.std.specs.Str.{bytes_eq}
 use Rattle.tsl_value.specs.declared.scalar.ScalarType.TheVariants as scalar_type
-use Rattle.lift_func.specs.declared.body.Unary.TheVariants as unary
-use Rattle.lift_func.specs.declared.body.Binary.TheVariants as binary
+use Rattle.tsl_value.specs.declared.operation.Unary.TheVariants as unary
+use Rattle.tsl_value.specs.declared.operation.Binary.TheVariants as binary
 use Rattle.vocabulary.specs.declared.dotted.Family.{Family}
 use Rattle.vocabulary.specs.declared.dotted.Family.TheVariants as family
 use Rattle.vocabulary.specs.declared.dotted.Dotted.{Dotted}
@@ -13,7 +13,7 @@ use Rattle.vocabulary.specs.declared.signature.Term.{Term}
 use Rattle.vocabulary.specs.declared.signature.Term.TheVariants as term
 use Rattle.vocabulary.specs.declared.signature.Parameters.{Parameters}
 use Rattle.vocabulary.specs.declared.signature.Parameters.TheVariants as parameters
-use Rattle.vocabulary.specs.declared.signature.Update.TheVariants as update
+use Rattle.tsl_value.specs.declared.operation.Update.TheVariants as update
 use Rattle.vocabulary.specs.declared.signature.Role.{Role}
 use Rattle.vocabulary.specs.declared.signature.Role.TheVariants as role
 

@@ -4,8 +4,8 @@ ghost use Rattle.std.specs.Prelude.{◌≡◌};
 ghost use Rattle.vocabulary.specs.Table.{family_name, family_of, family_in, member_name, parameters_of, gives_of, role_of, takes_of};
 ghost use Rattle.vocabulary.specs.Table.{dotted_of};
 
-use crate::signature::{Parameters, Role, Term, Update};
-use lift_func::body::{Binary, Unary};
+use crate::signature::{Parameters, Role, Term};
+use tsl_value::operation::{Binary, Unary, Update};
 use tsl_value::scalar::ScalarType;
 
 /// What may stand before a dot.

@@ -4,7 +4,7 @@ ghost use Rattle.std.specs.Prelude.{◌≡◌};
 ghost use Rattle.vocabulary.specs.PlainTable.{spelling, plain_takes, plain_role, plain_of};
 
 use crate::signature::Role;
-use lift_func::body::Unary;
+use tsl_value::operation::Unary;
 
 #[derive(Clone, Copy)]
 pub enum Plain {

@@ -3,7 +3,7 @@
 ghost use Rattle.std.specs.Prelude.{◌≡◌};
 ghost use Rattle.vocabulary.specs.Table.{how_many};
 
-use lift_func::body::{Binary, Unary};
+use tsl_value::operation::{Binary, Unary, Update};
 use tsl_value::scalar::ScalarType;
 
 /// A type in a signature. Every signature has the same two variables, the type of keys and the type of entries. The first argument
@@ -37,15 +37,6 @@ impl Parameters {
             Parameters::Three(_, _, _) => 3,
         }
     }
-}
-
-/// The updates of sets and maps.
-#[derive(Clone, Copy, PartialEq, Eq, Debug)]
-pub enum Update {
-    SetAdd,
-    SetRemove,
-    MapAdd,
-    MapRemove,
 }
 
 /// What a function is: an operation of value functions, or an update.

@@ -8,7 +8,8 @@ use Rattle.name_check.specs.declared.declaration.Declaration.TheVariants as decl
 use Rattle.name_check.specs.Scope.{meaning}
 use Rattle.name_check.specs.Parts.{Part, Operand, Function, parts}
 use Rattle.type_rules.specs.declared.rule.ExprType.{ExprType}
-use Rattle.expr_types.specs.Around.{Around, Callee, Kinds, callee_at, declared_type}
+use Rattle.expr_types.specs.Around.{Around, Callee, callee_at, declared_type}
+use Rattle.type_rules.specs.Kinds.{Kinds}
 use Rattle.expr_types.specs.Judge.{judge}
 
 -- what a call of a name takes and gives

@@ -10,7 +10,8 @@ use Rattle.type_rules.specs.declared.rule.ExprType.{ExprType}
 use Rattle.type_rules.specs.declared.rule.Setting.TheVariants as setting
 use Rattle.expr_types.specs.declared.block.Block.{Block}
 use Rattle.expr_types.specs.declared.block.Blocks.{Blocks}
-use Rattle.expr_types.specs.Around.{Around, Kinds}
+use Rattle.expr_types.specs.Around.{Around}
+use Rattle.type_rules.specs.Kinds.{Kinds}
 use Rattle.expr_types.specs.Bodies.{may_have_braces}
 use Rattle.expr_types.specs.inner.BodySteps.{kind_of_local}
 

@@ -9,7 +9,8 @@ use Rattle.type_rules.specs.declared.rule.Setting.{Setting}
 use Rattle.type_rules.specs.Asked.{Check}
 use Rattle.type_rules.specs.Rules.{body_rule}
 use Rattle.expr_types.specs.declared.wrong.Wrong.{Wrong}
-use Rattle.expr_types.specs.Around.{Around, Kinds}
+use Rattle.expr_types.specs.Around.{Around}
+use Rattle.type_rules.specs.Kinds.{Kinds}
 use Rattle.expr_types.specs.Bodies.{in_definition, written_of, plain_wrongs, body_wrongs, may_have_braces}
 use Rattle.expr_types.specs.Bodies.{holds_aggregate, definition_kind}
 

@@ -8,7 +8,8 @@ use Rattle.type_rules.specs.declared.rule.ExprType.{ExprType}
 use Rattle.expr_types.specs.declared.kinds.KindTable.{KindTable}
 use Rattle.expr_types.specs.declared.around.Around as code
 use Rattle.expr_types.specs.declared.around.Callee as callee
-use Rattle.expr_types.specs.Around.{Around, Callee, Kinds}
+use Rattle.expr_types.specs.Around.{Around, Callee}
+use Rattle.type_rules.specs.Kinds.{Kinds}
 
 -- what stands at a place; nothing stands past the end
 abbrev pub kind_at : List (Option ExprType) → ℕ → Option ExprType

@@ -4,7 +4,8 @@ use Rattle.flat_core.specs.declared.equation.Op.{Op}
 use Rattle.flat_core.specs.declared.equation.Op.TheVariants as op
 use Rattle.flat_core.specs.declared.equation.Equation.{Equation}
 use Rattle.flat_core.specs.Stream.{has_event}
-use Rattle.flat_core.specs.Case.{Streams, expires}
+use Rattle.flat_core.specs.Case.{Streams}
+use Rattle.flat_core.specs.Events.{expires}
 use Rattle.flat_core.specs.System.{System, runs, equation}
 
 -- equation i has them below t, if it is a delay

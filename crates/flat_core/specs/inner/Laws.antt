@@ -1,7 +1,8 @@
 -- Laws of solutions.
 use Rattle.std.specs.Prelude.{◌≡◌, ℕ, ◌<◌, false, List, IsTrue}
 use Rattle.flat_core.specs.Stream.{Stream}
-use Rattle.flat_core.specs.Case.{Streams, Inputs}
+use Rattle.flat_core.specs.Case.{Streams}
+use Rattle.flat_core.specs.Events.{Inputs}
 use Rattle.flat_core.specs.System.{System, runs, IsProper}
 use Rattle.flat_core.specs.WellFormed.{IsRanked, IsWellFormed}
 use Rattle.flat_core.specs.inner.Dependency.{with_all, IsOrdered}

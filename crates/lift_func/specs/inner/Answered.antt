@@ -7,7 +7,7 @@ use Rattle.tsl_value.specs.declared.scalar.Scalar.TheVariants as scalar
 use Rattle.lift_func.specs.declared.fault.FaultKind.{FaultKind}
 use Rattle.lift_func.specs.declared.eval.EvalFault.{EvalFault}
 use Rattle.lift_func.specs.declared.eval.EvalFault.TheVariants as eval_fault
-use Rattle.lift_func.specs.declared.body.Binary.{Binary}
+use Rattle.tsl_value.specs.declared.operation.Binary.{Binary}
 use Rattle.lift_func.specs.Apply.{Answer, of_two}
 
 -- scalars that may be absent, as views

@@ -4,6 +4,7 @@ use Rattle.std.specs.Ordering.{nat_cmp}
 use Rattle.std.specs.List.{list_all}
 use Rattle.std.specs.FinSet as set
 use Rattle.std.specs.FinMap as finite_map
+use Rattle.tsl_value.specs.Aggregate.{has_elements}
 use Rattle.tsl_value.specs.View.{View, Plain, Keyed, Mapped, is_of_key}
 use Rattle.tsl_value.specs.declared.scalar.KeyType.{KeyType}
 use Rattle.tsl_value.specs.declared.scalar.Scalar.{Scalar}
@@ -53,14 +54,9 @@ held cells (register.Aggregate handle) = Some (view_at cells handle)
 abbrev pub arguments : Cells → List Register → List ℕ → List (Option View)
 arguments cells registers args = map (λ a. held cells (slice_index_or registers a register.Empty)) args
 
--- the view is a set or a map
-abbrev pub IsAggregate : View → Type 0
-IsAggregate (Plain s) = ⊥
-IsAggregate _ = Unit {0}
-
--- the cell of an aggregate is live, and has a set or a map
+-- the cell of an aggregate is live, and has one
 abbrev pub HoldsLive : Cells → Register → Type 0
-HoldsLive cells (register.Aggregate handle) = IsLive cells handle × IsAggregate (view_at cells handle)
+HoldsLive cells (register.Aggregate handle) = IsLive cells handle × IsTrue (has_elements (view_at cells handle))
 HoldsLive cells _ = Unit {0}
 
 -- the scalar of a register; an aggregate has none

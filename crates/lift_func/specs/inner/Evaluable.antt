@@ -2,9 +2,9 @@
 use Rattle.std.specs.Prelude.{◌≡◌, ℕ, ◌<◌, Bool, true, false, IsTrue, List, length, Option, Result, Ok, Err, slice_index_or, All}
 use Rattle.tsl_value.specs.View.{View}
 use Rattle.tsl_value.specs.declared.scalar.ValueType.TheVariants as value_type
-use Rattle.lift_func.specs.declared.body.Unary.{Unary}
-use Rattle.lift_func.specs.declared.body.Binary.{Binary}
-use Rattle.lift_func.specs.declared.body.Binary.TheVariants as binary
+use Rattle.tsl_value.specs.declared.operation.Unary.{Unary}
+use Rattle.tsl_value.specs.declared.operation.Binary.{Binary}
+use Rattle.tsl_value.specs.declared.operation.Binary.TheVariants as binary
 use Rattle.lift_func.specs.declared.eval.EvalFault.{EvalFault}
 use Rattle.lift_func.specs.declared.eval.EvalFault.TheVariants as eval_fault
 use Rattle.lift_func.specs.declared.fault.FaultKind.{FaultKind}

@@ -2,8 +2,8 @@
 use Rattle.std.specs.Prelude.{ℕ, leb, if◌then◌else◌, List, Option, Some, None, slice_index_or}
 use Rattle.tsl_value.specs.declared.scalar.Scalar.TheVariants as scalar
 use Rattle.lift_func.specs.declared.limits.TheConstants.{MOST_NODES}
-use Rattle.lift_func.specs.declared.body.Unary.{Unary}
-use Rattle.lift_func.specs.declared.body.Binary.{Binary}
+use Rattle.tsl_value.specs.declared.operation.Unary.{Unary}
+use Rattle.tsl_value.specs.declared.operation.Binary.{Binary}
 use Rattle.lift_func.specs.BodyTree.{BodyTree, Literal, Argument, Absent, One, Two, Choice, node_count}
 
 -- the tree with these trees in the place of its arguments; an argument past their end becomes unit

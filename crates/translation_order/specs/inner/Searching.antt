@@ -2,7 +2,8 @@
 use Rattle.std.specs.Prelude.{◌≡◌, ℕ, ◌+◌, ◌*◌, ◌-◌, ◌<◌, ◌≤◌, Bool, true, false, List, [], ◌∷◌, ◌++◌, length, reverse, slice_index_or}
 use Rattle.std.specs.Prelude.{Option, Some, None, ◌⊎◌}
 use Rattle.std.specs.List.{Contains, sum_by}
-use Rattle.translation_order.specs.OnCycle.{Edge, Path}
+use Rattle.translation_order.specs.OnCycle.{Edge}
+use Rattle.translation_order.specs.Graph.{Path}
 use Rattle.translation_order.specs.inner.Joined.{AreJoined}
 use Rattle.translation_order.specs.declared.search.Visit.{Visit}
 use Rattle.translation_order.specs.declared.search.Visit.TheVariants.{New, OnPath, Done}

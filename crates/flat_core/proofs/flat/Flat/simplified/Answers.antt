@@ -23,4 +23,4 @@ invariant_of-result c =
     let equations = written (with_new_args c.args.replaced) held.equations.len held.equations.items c.deref_mut.result.now c.replace_args.new.equations s.equations c.deref_mut.ensures.len (c.deref_mut.ensures.value ∙ ap (λ (v : System). v.equations) c.self.view_is) c.replace_args.ensures in
     let outputs = written (with_new_equation c.args.replaced) held.outputs.len held.outputs.items c.deref_mut-2.result.now c.replace_outputs.new.outputs s.outputs c.deref_mut-2.ensures.len (c.deref_mut-2.ensures.value ∙ ap (λ (v : System). v.outputs) c.self.view_is) c.replace_outputs.ensures in
     let flat = subst IsFlat c.self.view_is c.self.invariant in
-    same_flat _ _ (λ k. record { equations = equations k; outputs = outputs k; running = c.args.running }) (renumbered_flat s c.args.replaced c.args.running c.requires.replaced.same_type flat c.len.ensures.ascending c.requires.outputs_run c.requires.proper)
+    same_flat _ _ (λ k. record { equations = equations k; outputs = outputs k; running = c.args.running }) (renumbered_flat s c.args.replaced c.args.running c.requires.replaced.same_type flat c.assert_ascending.ensures c.requires.outputs_run c.requires.proper)
