@@ -6,7 +6,6 @@ use Rattle.std.specs.List.Sorted.{IsStrictlyIncreasing}
 use Rattle.std.proofs.lemmas.Bool.{cases_lt, cases_eq, false≢true}
 use Rattle.std.proofs.lemmas.List.{get_or_read}
 use Rattle.std.proofs.lemmas.List.Kept.{AllPairs-from_increasing}
-use Rattle.std.proofs.lemmas.Option.{slice_get_within}
 use Rattle.flat_core.specs.inner.Marks.{has_mark}
 use Rattle.flat_core.specs.Members.{is_in}
 use Rattle.flat_core.specs.System.{System}
@@ -15,6 +14,7 @@ use Rattle.translation_order.specs.Least.{IsLeast}
 use Rattle.alias_rules.specs.Uses.{AreUpdates, IsStored}
 use Rattle.alias_rules.specs.Conflict.{IsKept, IsNotOverwritten, IsInConflict, IsFirst}
 use Rattle.alias_rules.proofs.Sharing.{both_stored}
+use Rattle.alias_rules.proofs.Updates.{update_low as low_of_update}
 use Rattle.alias_analysis.specs.inner.Marking.{AreJust}
 use Rattle.alias_analysis.specs.inner.Search.{AreMarkedIn}
 use Rattle.alias_analysis.specs.inner.Contents.{SharesWithLast, IsMarkedUnimplied, AreMarkedInBoth, IsNear, IsMarkedBeside}
@@ -63,7 +63,7 @@ pub is_inside : (set : List ℕ) (k y : ℕ) → k < length set → y ≡ get_or
 is_inside set k y lt is = in-Contains set y (k, lt, at_place set k y y lt is)
 
 pub update_low : (s : System) (set : List ℕ) (k y : ℕ) → AreUpdates s set → k < length set → y ≡ get_or set k 0 → y < length s.equations
-update_low s set k y are lt is = let update = are y (is_inside set k y lt is) in slice_get_within s.equations y update.at update.is
+update_low s set k y are lt is = low_of_update s y (are y (is_inside set k y lt is))
 
 module _ (set : List ℕ) (C : ℕ → ℕ → Type 0) where
   -- none of the first updates is in conflict

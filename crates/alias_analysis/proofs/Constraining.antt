@@ -18,6 +18,7 @@ use Rattle.flat_core.proofs.Members.{Contains-in, all_at}
 use Rattle.flat_core.proofs.Depth.{unguarded_in}
 use Rattle.translation_order.specs.Order.{Before, AreOfSteps}
 use Rattle.alias_rules.specs.Uses.{AreUpdates, read_of, passed_of, written_of}
+use Rattle.alias_rules.proofs.Updates.{update_low}
 use Rattle.alias_rules.specs.Bypass.{Bypasses}
 use Rattle.alias_rules.specs.Conflict.{TakesBefore, read, printed, passed, written, StandsBefore, needed}
 use Rattle.alias_rules.specs.Conflict as conflict
@@ -292,7 +293,7 @@ module _ (s : System) (set : List ℕ) where
     variable_low y x h = slice_get_within s.equations x h.variable.at h.variable.is
 
     inside_low : (y : ℕ) → IsTrue (is_in set y) → y < length s.equations
-    inside_low y inside = let update = updates y inside in slice_get_within s.equations y update.at update.is
+    inside_low y inside = update_low s y (updates y inside)
 
     taker_step : (y x u : ℕ) → TakesBefore s y x u → u < step_count s
     taker_step y x u (read t) = equation_low u (taker_low s read_of x u t)

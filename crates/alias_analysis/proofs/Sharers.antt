@@ -13,7 +13,10 @@ use Rattle.translation_order.specs.Graph.{Walk, stay, onward}
 use Rattle.flat_core.specs.inner.Marks.{has_mark}
 use Rattle.flat_core.specs.Members.{is_in}
 use Rattle.flat_core.specs.System.{System}
-use Rattle.flat_core.specs.Typed.{is_aggregate, IsTyped, last}
+use Rattle.tsl_value.specs.Aggregate.{is_aggregate}
+use Rattle.flat_core.specs.Typed.{IsTyped, last, update}
+use Rattle.flat_core.specs.Updates.{update_in}
+use Rattle.flat_core.proofs.UpdateOps.{no_update}
 use Rattle.flat_core.specs.TypedSystem.{AreOfTypes}
 use Rattle.flat_core.proofs.MarkLemmas.{mark_within}
 use Rattle.flat_core.proofs.Members.{Contains-in, in-Contains}
@@ -47,6 +50,7 @@ of_last_type : {o : Op} {types : List ValueType} {of : ValueType} → IsTyped o 
 of_last_type (last {t} {u}) is equations v rest args e found aggregate =
     let same : e ≡ args.0.at = same_Some e args.0.at (sym found ∙ args.0.is) in
     ap is_aggregate (sym args.0.of_is) ∙ ap (λ (d : Equation). is_aggregate d.of) (sym same) ∙ aggregate
+of_last_type (update h row) is equations v rest args e found aggregate = no_update (sym (ap update_in is) ∙ h)
 of_last_type h is equations v rest args e found aggregate = cc
 
 module _ (s : System) (flat : IsFlat s) (set : List ℕ) where

@@ -58,8 +58,7 @@ pub fn passes_over(
     requires equation { equation < length flat.now.equations }
     ensures { IfOk result (λ r. IsTrue r ↔ PassesOver flat.now update equation second) }
 {
-    // A system has few equations, and is typed, as their count tells.
-    let _ = flat.count();
+    flat.assert_whole();
     match other_of_merge(flat.equation(equation), second) {
         Some(other) => {
             let implied = triggers.implies(alloc, update, other)?;

@@ -71,8 +71,7 @@ pub fn near(
     requires update { update < length flat.now.equations }
     ensures { IfOk result (AreJust (length flat.now.equations) (IsNear flat.now set.now update)) }
 {
-    // A system has few equations, and is typed, as their count tells.
-    let _ = flat.count();
+    flat.assert_whole();
     let mut begins = source_roots(alloc, flat, uses, set, paths, update)?;
     let sharers = last_sharers(alloc, flat, uses, set, paths, update, &begins)?;
     mark_aliases(flat, uses, &mut begins, &sharers)?;

@@ -174,8 +174,7 @@ fn kept_by(
     requires update { update < length flat.now.equations }
     ensures { IfOk result (IsLeastOrNone (IsKept flat.now set.now update)) }
 {
-    // A system has few equations, and is typed, as their count tells.
-    let _ = flat.count();
+    flat.assert_whole();
     let kept = kept(alloc, flat, triggers, uses, set, paths, update)?;
     Ok(least(&kept))
 }
@@ -196,8 +195,7 @@ fn not_overwritten_in(
     requires update { update < length flat.now.equations }
     ensures { IfOk result (IsLeastOrNone (IsNotOverwritten flat.now set.now update)) }
 {
-    // A system has few equations, and is typed, as their count tells.
-    let _ = flat.count();
+    flat.assert_whole();
     let old = not_overwritten(alloc, flat, triggers, uses, set, paths, update)?;
     Ok(least(&old))
 }

@@ -207,8 +207,7 @@ fn push_update(
     requires update { update < length flat.now.equations }
     ensures { OnOk result (Adds pairs.old (StandsBeforeUpdate flat.now set.now update) pairs.new) }
 {
-    // A system has few equations, as their count tells.
-    let _ = flat.count();
+    flat.assert_whole();
     let number = update.get();
     let bypassed = bypassed(alloc, flat, triggers, uses, set, paths, update)?;
     let marks = bypassed.marks();
@@ -235,8 +234,7 @@ pub fn constraints(
     ensures exact { IfOk result (λ e. ArePairs (StandsBefore flat.now set.now) e) }
     ensures of_steps { IfOk result (λ e. AreOfSteps (step_count flat.now) e) }
 {
-    // A system is typed, as the count of its equations tells.
-    let _ = flat.count();
+    flat.assert_whole();
     let mut pairs = Edges::new(alloc);
     push_needed(&mut pairs, flat)?;
     push_prints(&mut pairs, flat)?;

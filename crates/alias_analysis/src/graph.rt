@@ -78,8 +78,7 @@ impl<'a> Graph<'a> {
         ensures ascending { IfOk result (λ r. IsStrictlyIncreasing r) }
         ensures members { IfOk result (λ r. (i : ℕ) → IsTrue (is_in r i) ↔ IsRoot self.now set.now i x) }
     {
-        // A system has few equations, as their count tells.
-        let _ = self.flat.count();
+        self.flat.assert_whole();
         let paths = Paths::of(alloc, self.flat, &self.uses, set)?;
         let roots = roots_of_one(alloc, self.flat, set, &paths, x)?;
         set_of(alloc, &roots)
@@ -100,8 +99,7 @@ impl<'a> Graph<'a> {
         ensures ascending { IfOk result (λ r. IsStrictlyIncreasing r) }
         ensures members { IfOk result (λ r. (x : ℕ) → IsTrue (is_in r x) ↔ Bypasses self.now set.now update x) }
     {
-        // A system has few equations, as their count tells.
-        let _ = self.flat.count();
+        self.flat.assert_whole();
         let paths = Paths::of(alloc, self.flat, &self.uses, set)?;
         let uses = &self.uses;
         let bypassed = bypassed(alloc, self.flat, self.triggers, uses, set, &paths, update)?;

@@ -28,20 +28,7 @@ fn begins_content(op: &Op, inside: bool) -> bool
     match op {
         Op::Last => true,
         Op::Empty => true,
-        Op::MapAdd => !inside,
-        Op::MapRemove => !inside,
-        Op::SetAdd => !inside,
-        Op::SetRemove => !inside,
-        Op::Input => false,
-        Op::Nil => false,
-        Op::Unit => false,
-        Op::Lift { body: _, strict: _ } => false,
-        Op::Any => false,
-        Op::Time => false,
-        Op::Delay => false,
-        Op::Merge => false,
-        Op::Filter => false,
-        Op::Pick => false,
+        _ => op.is_update() && !inside,
     }
 }
 

@@ -1,7 +1,6 @@
 // Which equations take the content of aggregates.
 
 ghost use Rattle.std.specs.Prelude.{◌≡◌, ◌↔◌, ◌<◌, length, IfOk, OnOk, IsTrue};
-ghost use Rattle.flat_core.specs.Typed.{is_aggregate};
 ghost use Rattle.alias_rules.specs.Uses.{IsVariable, first_of, read_of, passed_of, last_of, written_of};
 ghost use Rattle.alias_analysis.specs.inner.Pairs.{Adds};
 ghost use Rattle.alias_analysis.specs.inner.Kept.{AreUses, AddsUses, IsTakenAt};
@@ -13,7 +12,6 @@ use std::alloc::Global;
 use translation_order::steps::Edges;
 use tsl_value::ids::EqId;
 use tsl_value::memory::NoMemory;
-use tsl_value::scalar::ValueType;
 
 /// For each way to take content the pairs of a variable and an equation that takes its content so.
 #[derive(Drop)]
@@ -33,21 +31,11 @@ struct Taken<'a> {
     written: &'a [EqId],
 }
 
-fn is_aggregate(of: &ValueType) -> bool
-    ensures { result ≡ is_aggregate of.now }
-{
-    match of {
-        ValueType::Scalar(_) => false,
-        ValueType::Set(_) => true,
-        ValueType::Map(_, _) => true,
-    }
-}
-
 /// Whether an equation is an aggregate variable.
 pub fn is_variable(flat: &Flat, id: EqId) -> bool
     ensures { IsTrue result ↔ IsVariable flat.now id }
 {
-    id.get() < flat.count() && flat.runs(id) && is_aggregate(&flat.equation(id).of)
+    id.get() < flat.count() && flat.runs(id) && flat.equation(id).of.is_aggregate()
 }
 
 fn first_of(arguments: &[EqId]) -> &[EqId]
@@ -69,23 +57,14 @@ fn taken_of(equation: &Equation) -> Taken<'_>
     let all = equation.args.ids();
     let none = &all[..0];
     let first = first_of(all);
-    let (read, passed, last, written) = match &equation.op {
-        Op::Lift { body: _, strict: _ } => (all, none, none, none),
-        Op::Merge => (none, all, none, none),
-        Op::Filter => (none, first, none, none),
-        Op::Pick => (none, equation.other_args(), none, none),
-        Op::Last => (none, none, first, none),
-        Op::MapAdd => (none, none, none, first),
-        Op::MapRemove => (none, none, none, first),
-        Op::SetAdd => (none, none, none, first),
-        Op::SetRemove => (none, none, none, first),
-        Op::Input => (none, none, none, none),
-        Op::Nil => (none, none, none, none),
-        Op::Unit => (none, none, none, none),
-        Op::Any => (none, none, none, none),
-        Op::Time => (none, none, none, none),
-        Op::Delay => (none, none, none, none),
-        Op::Empty => (none, none, none, none),
+    let written = if equation.op.is_update() { first } else { none };
+    let (read, passed, last) = match &equation.op {
+        Op::Lift { body: _, strict: _ } => (all, none, none),
+        Op::Merge => (none, all, none),
+        Op::Filter => (none, first, none),
+        Op::Pick => (none, equation.other_args(), none),
+        Op::Last => (none, none, first),
+        _ => (none, none, none),
     };
     Taken {
         read,

@@ -4,13 +4,15 @@ use Rattle.std.specs.Prelude.{IsTrue}
 use Rattle.std.specs.List.{Contains}
 use Rattle.std.proofs.lemmas.Bool.{false≢true}
 use Rattle.flat_core.specs.declared.equation.Op.{Op}
-use Rattle.flat_core.specs.declared.equation.Op.TheVariants as op
 use Rattle.translation_order.specs.Graph.{Walk, stay, onward}
 use Rattle.flat_core.specs.Members.{is_in}
 use Rattle.flat_core.specs.System.{System}
 use Rattle.alias_rules.specs.Bypass.{GoesAround, Bypasses}
 use Rattle.alias_rules.specs.Roots.{begins_content, IsOrigin}
-use Rattle.flat_core.specs.Updates.{is_update}
+use Rattle.tsl_value.specs.declared.operation.Update.{Update}
+use Rattle.tsl_value.specs.declared.operation.Update.TheVariants as update
+use Rattle.flat_core.specs.Updates.{operation_of, is_update}
+use Rattle.flat_core.proofs.UpdateOps.{each_update}
 use Rattle.alias_rules.specs.Uses.{first_of, written_of, IsWritten}
 
 where_some : (b : Bool) (xs : List ℕ) (x : ℕ) → Contains (if b then xs else []) x → b ≡ true
@@ -21,12 +23,12 @@ where_some false xs x (k, lt, is) = absurd (omega arith)
 pub written_by_update : (o : Op) (args : List ℕ) (x : ℕ) → Contains (written_of o args) x → is_update o ≡ true
 written_by_update o args x c = where_some (is_update o) (first_of args) x c
 
+no_own_content : (u : Update) → begins_content (operation_of u) true ≡ true → ⊥
+no_own_content update.SetAdd b = false≢true b
+no_own_content u b = false≢true b
+
 no_content_begins : (o : Op) → is_update o ≡ true → begins_content o true ≡ true → ⊥
-no_content_begins op.SetAdd u b = false≢true b
-no_content_begins op.SetRemove u b = false≢true b
-no_content_begins op.MapAdd u b = false≢true b
-no_content_begins op.MapRemove u b = false≢true b
-no_content_begins o u b = false≢true u
+no_content_begins o u = each_update (λ p. begins_content p true ≡ true → ⊥) no_own_content o u
 
 module _ (s : System) (set : List ℕ) (y : ℕ) where
   ends_away : {a b : ℕ} → Walk (GoesAround s set y) a b → (a ≡ y → ⊥) → b ≡ y → ⊥

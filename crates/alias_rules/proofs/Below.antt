@@ -2,7 +2,6 @@
 use Rattle.std.proofs.Common.{◌≡◌, ℕ, zero, suc, ◌+◌, ◌<◌, List, [], ◌∷◌, ◌++◌, length, sym, subst, inl, inr, arith}
 use Rattle.std.specs.Prelude.{IsTrue}
 use Rattle.std.proofs.lemmas.Bool.{cases_lt, false≢true}
-use Rattle.std.proofs.lemmas.Option.{slice_get_within}
 use Rattle.flat_core.specs.Members.{is_in}
 use Rattle.flat_core.specs.System.{System}
 use Rattle.alias_rules.specs.inner.Below.{IsTakenBelow, IsListedBelow}
@@ -10,6 +9,7 @@ use Rattle.alias_rules.specs.Fine.{IsFine, with_tried, IsListed}
 use Rattle.alias_rules.specs.Uses.{IsUpdate}
 use Rattle.flat_core.proofs.Rising.{in_push, push_old, push_new, increasing_push}
 use Rattle.alias_rules.proofs.Tried.{tried_above, tried_before}
+use Rattle.alias_rules.proofs.Updates.{update_low}
 
 module _ (s : System) where
   pub none_listed : IsListedBelow s 0 []
@@ -64,15 +64,12 @@ module _ (s : System) where
       );
     }
 
-  pub update_low : (y : ℕ) → IsUpdate s y → y < length s.equations
-  update_low y update = slice_get_within s.equations y update.at update.is
-
   pub all_listed : (set : List ℕ) → IsListedBelow s (length s.equations) set → IsListed s set
   all_listed set listed = record {
     ascending = listed.ascending;
     each = λ y. (
       (λ h. let taken = (listed.each y).0 h in (taken.update, taken.fine)),
-      (λ (update, fine). (listed.each y).1 (record { low = update_low y update; update = update; fine = fine })),
+      (λ (update, fine). (listed.each y).1 (record { low = update_low s y update; update = update; fine = fine })),
     );
   }
 

@@ -5,14 +5,13 @@ use Rattle.std.specs.List.{AllByRecursion}
 use Rattle.std.proofs.lemmas.Bool.{false≢true}
 use Rattle.std.proofs.lemmas.Option.{slice_get_within, get_or_from_slice_get}
 use Rattle.translation_order.specs.Graph.{Path, edge, step}
-use Rattle.flat_core.specs.System.{System, runs, IsProper}
+use Rattle.flat_core.specs.System.{System, runs, IsProper, OutputsRun}
 use Rattle.flat_core.specs.WellFormed.{unguarded_of, Needs, IsWellFormed}
 use Rattle.flat_core.proofs.Members.{all_at}
 use Rattle.translation_order.proofs.PathLemmas.{path_on}
 use Rattle.flat_core.proofs.Depth.{unguarded_all, runs_below}
 use Rattle.alias_rules.specs.Conflict.{StandsBefore, needed, bypasses, takes}
 use Rattle.alias_rules.specs.Fine.{IsFine, IsFinePlan}
-use Rattle.alias_rules.specs.inner.Laws.{OutputsRun}
 use Rattle.alias_rules.specs.Steps.{MustPrecede, IsOrderBy, argument, printed}
 use Rattle.alias_rules.specs.Uses.{AreUpdates}
 use Rattle.alias_rules.proofs.Ordered.{order_by_fewer}

@@ -5,6 +5,7 @@ pub mod Listed
 pub mod Ordered
 pub mod Empty
 pub mod Tried
+pub mod Updates
 pub mod TakenPlan
 pub mod Below
 pub mod Acyclic

@@ -22,6 +22,7 @@ use Rattle.alias_rules.specs.Steps as steps
 use Rattle.alias_rules.specs.Uses.{AreUpdates}
 use Rattle.alias_rules.proofs.Empty.{source_runs, empty_is_fine}
 use Rattle.alias_rules.proofs.Listed.{listed_fits, one_listed}
+use Rattle.alias_rules.proofs.Updates.{has_update}
 use Rattle.tsl_value.proofs.Lists.{kept_in, in_kept, kept_once}
 
 -- what stands in front of an item stands before it
@@ -80,7 +81,7 @@ module _ (s : System) where
 
 module _ (s : System) (proper : IsProper s) (outputs_run : OutputsRun s) (set : List ℕ) (updates : AreUpdates s set) where
   update_runs : (y : ℕ) → IsTrue (is_in set y) → IsTrue (is_step s y)
-  update_runs y inside = runs_step s y (updates y inside).running
+  update_runs y inside = runs_step s y (has_update s y (updates y inside)).running
 
   takes_step : (y x u : ℕ) → TakesBefore s y x u → IsTrue (is_step s u)
   takes_step y x u (read use_of) = runs_step s u use_of.running

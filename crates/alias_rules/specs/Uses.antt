@@ -8,8 +8,8 @@ use Rattle.flat_core.specs.declared.equation.Op.{Op}
 use Rattle.flat_core.specs.declared.equation.Op.TheVariants as op
 use Rattle.flat_core.specs.Members.{is_in}
 use Rattle.flat_core.specs.System.{System, runs, equation}
-use Rattle.flat_core.specs.Typed.{is_aggregate}
-use Rattle.flat_core.specs.Updates.{is_update}
+use Rattle.flat_core.specs.Updates.{is_update, is_running_update}
+use Rattle.tsl_value.specs.Aggregate.{is_aggregate}
 
 abbrev pub first_of : List ℕ → List ℕ
 first_of [] = []
@@ -74,11 +74,8 @@ module _ (s : System) where
     pub taken : IsLast x last
 
   -- y is an update that runs
-  pub record IsUpdate (y : ℕ) : Type 0 where
-    pub at : Equation
-    pub is : equation s y ≡ Some at
-    pub running : IsTrue (runs s y)
-    pub updates : IsTrue (is_update at.op)
+  abbrev pub IsUpdate : ℕ → Type 0
+  IsUpdate y = IsTrue (is_running_update s y)
 
   -- a list of such updates, as a set of them is seen
   abbrev pub AreUpdates : List ℕ → Type 0

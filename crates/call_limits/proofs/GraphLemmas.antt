@@ -5,7 +5,8 @@ use Rattle.std.proofs.lemmas.List.Elements.{Contains-append_left, Contains-appen
 use Rattle.std.proofs.lemmas.Option.{slice_get_within}
 use Rattle.syntax_tree.specs.Tree as tree
 use Rattle.translation_order.specs.Graph.{IsAcyclic}
-use Rattle.translation_order.specs.OnCycle.{Edge, AreBetween, Path, one, more}
+use Rattle.translation_order.specs.OnCycle.{Edge, AreBetween}
+use Rattle.translation_order.specs.Graph.{Path, edge, step}
 use Rattle.translation_order.proofs.Paths.{path_alike, along_from}
 use Rattle.translation_order.specs.Order.{Before, AreOfSteps, IsLeastOrder}
 use Rattle.translation_order.proofs.Alike as steps
@@ -30,16 +31,16 @@ Either M F a b = M a b ⊎ F a b
 module _ (M F : ℕ → ℕ → Type 0) (apart : (a b c : ℕ) → F a b → M b c → ⊥) where
   -- from where no macro is called, value functions alone are
   of_functions : (a b : ℕ) → ((c : ℕ) → M a c → ⊥) → Path (Either M F) a b → Path F a b × ((c : ℕ) → M b c → ⊥)
-  of_functions a b free (one (inl m)) = absurd (free b m)
-  of_functions a b free (one (inr f)) = (one f, λ c m. apart a b c f m)
-  of_functions a b free (more {b = n} (inl m) p) = absurd (free n m)
-  of_functions a b free (more {b = n} (inr f) p) = let rest = of_functions n b (λ c m. apart a n c f m) p in (more f rest.0, rest.1)
+  of_functions a b free (edge (inl m)) = absurd (free b m)
+  of_functions a b free (edge (inr f)) = (edge f, λ c m. apart a b c f m)
+  of_functions a b free (step {b = n} (inl m) p) = absurd (free n m)
+  of_functions a b free (step {b = n} (inr f) p) = let rest = of_functions n b (λ c m. apart a n c f m) p in (step f rest.0, rest.1)
 
   macros_or_end : (a b : ℕ) → Path (Either M F) a b → Path M a b ⊎ ((c : ℕ) → M b c → ⊥)
-  macros_or_end a b (one (inl m)) = inl (one m)
-  macros_or_end a b (one (inr f)) = inr (λ c m. apart a b c f m)
-  macros_or_end a b (more {b = n} (inl m) p) = elim (macros_or_end n b p) [ inl q ↦ inl (more m q) | inr free ↦ inr free ]
-  macros_or_end a b (more {b = n} (inr f) p) = inr ((of_functions n b (λ c m. apart a n c f m) p).1)
+  macros_or_end a b (edge (inl m)) = inl (edge m)
+  macros_or_end a b (edge (inr f)) = inr (λ c m. apart a b c f m)
+  macros_or_end a b (step {b = n} (inl m) p) = elim (macros_or_end n b p) [ inl q ↦ inl (step m q) | inr free ↦ inr free ]
+  macros_or_end a b (step {b = n} (inr f) p) = inr ((of_functions n b (λ c m. apart a n c f m) p).1)
 
   pub no_cycle : ((x : ℕ) → Path M x x → ⊥) → ((x : ℕ) → Path F x x → ⊥) → (x : ℕ) → Path (Either M F) x x → ⊥
   no_cycle macros functions x p = elim (macros_or_end x x p) [
@@ -108,8 +109,8 @@ module _ (items : List tree.Item) where
       }
 
   function_path : (a b : ℕ) → IsDefinition items a → Path (CallsFunction items) a b → Path (Calls items) a b
-  function_path a b d (one c) = one (calls_of a b d c)
-  function_path a b d (more {b = n} c p) = more (calls_of a n d c) (function_path n b (called_there items a (declaration.Function n) c).is p)
+  function_path a b d (edge c) = edge (calls_of a b d c)
+  function_path a b d (step {b = n} c p) = step (calls_of a n d c) (function_path n b (called_there items a (declaration.Function n) c).is p)
 
   function_cycle : (x : ℕ) → Path (CallsFunction items) x x → Path (Calls items) x x
   function_cycle x p =

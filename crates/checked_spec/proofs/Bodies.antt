@@ -15,7 +15,9 @@ use Rattle.type_rules.specs.declared.rule.ExprType.TheVariants as expr_type
 use Rattle.type_rules.specs.declared.rule.Setting.TheVariants as setting
 use Rattle.type_rules.specs.Rules.{value_asked, body_asked, body_rule}
 use Rattle.form_check.specs.Arity.{too_many_in_item, wrong_in, wrong_in_item, wrong_arities}
-use Rattle.expr_types.specs.Around.{Around, Kinds, params_of}
+use Rattle.expr_types.specs.Around.{Around}
+use Rattle.type_rules.specs.Kinds.{Kinds}
+use Rattle.syntax_tree.specs.Tree.{params_of}
 use Rattle.expr_types.specs.Judge.{type_of, wrongs}
 use Rattle.expr_types.specs.Bodies.{setting_of, in_definition, may_have_braces, written_of, asked_of, expr_wrongs, body_wrongs, holds_aggregate, aggregate_results_from}
 use Rattle.spec_meaning.specs.Occurrence.{body_of}

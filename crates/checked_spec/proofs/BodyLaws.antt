@@ -20,7 +20,9 @@ use Rattle.type_rules.specs.declared.rule.Setting.TheVariants as setting
 use Rattle.type_rules.specs.Asked.{inner}
 use Rattle.type_rules.specs.Rules.{body_rule, body_asked}
 use Rattle.type_rules.specs.Written.{value_of, as_written, bad_as_written}
-use Rattle.expr_types.specs.Around.{Around, Kinds, params_of}
+use Rattle.expr_types.specs.Around.{Around}
+use Rattle.type_rules.specs.Kinds.{Kinds}
+use Rattle.syntax_tree.specs.Tree.{params_of}
 use Rattle.expr_types.specs.Judge.{type_of}
 use Rattle.expr_types.specs.Bodies.{in_definition, setting_of, may_have_braces, written_of, definition_kind, expr_kind, item_kind, body_wrongs}
 use Rattle.expr_types.proofs.BlockLemmas.{braces_streams}

@@ -17,22 +17,15 @@ use Rattle.type_rules.specs.declared.rule.Asked.TheVariants as asked
 use Rattle.type_rules.specs.Asked.{ask}
 use Rattle.type_rules.specs.Rules.{ask_each, macro_rule, lifted_type, has_options, function_rule}
 use Rattle.type_rules.specs.Written.{value_of, as_written}
-use Rattle.expr_types.specs.Around.{Kinds, Callee, params_of, param_types, callee_of}
-use Rattle.spec_meaning.specs.Occurrence as occurrence
+use Rattle.expr_types.specs.Around.{Callee, param_types, callee_of}
+use Rattle.type_rules.specs.Kinds.{Kinds}
+use Rattle.syntax_tree.specs.Tree.{params_of}
 use Rattle.spec_meaning.specs.Function.{no_tree}
 use Rattle.checked_spec.specs.inner.Functions.{HasType, HaveTypes, callee}
 use Rattle.checked_spec.proofs.SameLemmas.{exactly}
 use Rattle.checked_spec.proofs.FunctionAsks.{checked, same_Ok}
 use Rattle.checked_spec.proofs.FunctionRead.{cons_is}
 use Rattle.checked_spec.proofs.FunctionFitting.{Fits, FitAll}
-
--- the parameters of an item are the same to its types and to its meaning
-pub same_params : (item : Option tree.Item) → occurrence.params_of item ≡ params_of item
-same_params (Some (tree.Defined p (tree.Define q n ps w b))) = refl
-same_params (Some (tree.Input p q n y)) = refl
-same_params (Some (tree.Output p q n)) = refl
-same_params (Some (tree.OutputAs p e q n)) = refl
-same_params None = refl
 
 -- ---- the parameters of a value function are no streams
 abbrev pub IsNoStream : ExprType → Type 0

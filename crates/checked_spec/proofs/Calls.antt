@@ -31,7 +31,8 @@ use Rattle.type_rules.specs.Asked.{ask, inner, bool}
 use Rattle.type_rules.specs.Rules.{const_rule, builtin_one, builtin_two, builtin_rule, function_rule, lift_rule}
 use Rattle.form_check.specs.Arity as form
 use Rattle.form_check.specs.Arity.{count, takes, takes_one, takes_two, declared_takes, function_takes, lifted_takes, call_fits, lift_fits as lift_count_fits, lift_may_have, is_wrong_lift, is_wrong_call}
-use Rattle.expr_types.specs.Around.{Around, Callee, params_of, callee_at}
+use Rattle.expr_types.specs.Around.{Around, Callee, callee_at}
+use Rattle.syntax_tree.specs.Tree.{params_of}
 use Rattle.expr_types.specs.Judge.{type_of, types_of, streams_of, last_of, of_verdict, is_literal, builtin_of, builtins, is_const, call_rule, function_at, function_of, lifted_by, const_call, own_call}
 use Rattle.stream_constructs.specs.Construct.{Construct}
 use Rattle.stream_constructs.specs.Construct as construct

@@ -4,15 +4,12 @@ use Rattle.std.specs.List.{AllByRecursion, IsDistinct}
 use Rattle.std.proofs.lemmas.Bool.{ne_eqb}
 use Rattle.std.proofs.lemmas.Map.Steps.{length-le_from_distinct_below}
 use Rattle.std.proofs.lemmas.Map.Keys.{IsDistinct-cons}
-use Rattle.translation_order.specs.OnCycle.{Path, one, more}
+use Rattle.translation_order.specs.Graph.{Path, edge}
+use Rattle.translation_order.proofs.PathLemmas.{path_on}
 use Rattle.flat_core.proofs.Uniqueness.{all_by}
 use Rattle.tsl_value.proofs.Lists.{below_at}
 
 module _ (E : ℕ → ℕ → Type 0) where
-  extend : {a b c : ℕ} → Path E a b → E b c → Path E a c
-  extend (one e) f = more e (one f)
-  extend (more e p) f = more e (extend p f)
-
   -- numbers below n on a path to x, each once
   pub record LeadsTo (n : ℕ) (vs : List ℕ) (x : ℕ) : Type 0 where
     pub distinct : IsDistinct eqb vs
@@ -33,7 +30,7 @@ module _ (E : ℕ → ℕ → Type 0) where
     pub onward : (n : ℕ) (vs : List ℕ) (x : ℕ) → x < n → LeadsTo n vs x → (a : ℕ) → E x a → LeadsTo n (x ∷ vs) a
     onward n vs x low l a first =
         let further = longer n vs x low l in
-        record { distinct = further.0; below = further.1; reach = (one first, all_by (λ v. Path E v x) (λ v. Path E v a) (λ v p. extend p first) vs l.reach) }
+        record { distinct = further.0; below = further.1; reach = (edge first, all_by (λ v. Path E v x) (λ v. Path E v a) (λ v p. path_on p first) vs l.reach) }
 
     -- there are no more than n
     pub fewer : (n : ℕ) (vs : List ℕ) (x : ℕ) → x < n → LeadsTo n vs x → length vs < n

@@ -12,8 +12,8 @@ use Rattle.tsl_value.specs.declared.scalar.ScalarType.{ScalarType}
 use Rattle.tsl_value.specs.declared.scalar.KeyType.{KeyType}
 use Rattle.tsl_value.specs.declared.scalar.ValueType.{ValueType}
 use Rattle.tsl_value.specs.declared.scalar.ValueType.TheVariants as value_type
-use Rattle.flat_core.specs.Typed.{is_aggregate}
-use Rattle.lift_func.specs.declared.body.Unary.TheVariants as unary
+use Rattle.tsl_value.specs.Aggregate.{is_aggregate}
+use Rattle.tsl_value.specs.declared.operation.Unary.TheVariants as unary
 use Rattle.lift_func.specs.BodyTree.{One, Two}
 use Rattle.syntax_tree.specs.Tree as tree
 use Rattle.syntax_tree.specs.Tree.{Expr, Exprs, Links, no_links, more_links}

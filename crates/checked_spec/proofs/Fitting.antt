@@ -5,7 +5,7 @@ use Rattle.std.proofs.lemmas.Bool.{true≢false}
 use Rattle.std.proofs.lemmas.Option.{same_Some}
 use Rattle.tsl_value.specs.declared.scalar.ValueType.{ValueType}
 use Rattle.tsl_value.specs.declared.scalar.ValueType.TheVariants as value_type
-use Rattle.flat_core.specs.Typed.{is_aggregate}
+use Rattle.tsl_value.specs.Aggregate.{is_aggregate}
 use Rattle.lift_func.specs.BodyTree.{BodyTree}
 use Rattle.lift_func.specs.Typing.{ValueKind, Value, HasKind}
 use Rattle.syntax_tree.specs.Tree as tree
@@ -13,9 +13,10 @@ use Rattle.syntax_tree.specs.Tree.{Expr}
 use Rattle.type_rules.specs.declared.rule.ExprType.{ExprType}
 use Rattle.expr_types.specs.Around.{Around}
 use Rattle.stream_constructs.specs.declared.construct.Stream.{Stream}
-use Rattle.vocabulary.specs.declared.signature.Update.{Update as UpdateOp}
+use Rattle.tsl_value.specs.declared.operation.Update.{Update as UpdateOp}
 use Rattle.stream_constructs.specs.Construct.{Construct, operand_trees}
-use Rattle.stream_constructs.specs.Agree.{Updates, IsScalar, Fits}
+use Rattle.lift_func.specs.Update.{UpdateTypes}
+use Rattle.stream_constructs.specs.Agree.{IsScalar, Fits}
 use Rattle.spec_meaning.specs.Occurrence.{Call}
 use Rattle.spec_meaning.specs.Shape.{Shape, operands, with_parts, signal_of, update_of}
 use Rattle.spec_meaning.specs.Makes.{is_choice, with_itself, IsAsWritten}
@@ -39,10 +40,11 @@ pub record IsSignal (chosen : Bool) (body : List BodyTree → BodyTree) (args : 
   pub scalar : (chosen && is_aggregate t) ≡ false → is_aggregate t ≡ false
   pub typed : (ks : List ValueKind) (fs : List BodyTree) → AreTrees ks fs ts → HasKind ks (body fs) (Value t)
 
+-- an update of an aggregate of this type, with values of these types beside it
 pub record IsUpdate (o : UpdateOp) (args : List ExprType) (t : ValueType) : Type 0 where
   pub ts : List ValueType
-  pub are : args ≡ streams ts
-  pub updates : Updates o ts t
+  pub are : args ≡ streams (t ∷ ts)
+  pub updates : UpdateTypes o t ts
 
 -- ---- trees by their number
 pub one_tree : (P : List BodyTree → Type 0) (ks : List ValueKind) (fs : List BodyTree) (t : ValueType) → AreTrees ks fs (t ∷ []) → ((a : BodyTree) → HasKind ks a (Value t) → P (a ∷ [])) → P fs
@@ -115,6 +117,6 @@ module _ (items : List tree.Item) (cs : List Call) (at : Around) (e : Expr) (t :
   update_fits o h is =
       let have = subst (AreTyped (standard items cs at) es) h.are typed in
       subst (IsFitting (standard items cs at) e t) (same_Some _ sh is) (record {
-        typed = some_streams (standard items cs at) cs es h.ts have;
-        fits = λ n parts theirs other. ((h.ts, operands_are items cs at es h.ts parts have theirs, h.updates), written);
+        typed = some_streams (standard items cs at) cs es (t ∷ h.ts) have;
+        fits = λ n parts theirs other. ((h.ts, operands_are items cs at es (t ∷ h.ts) parts have theirs, h.updates), written);
       })

@@ -30,7 +30,9 @@ use Rattle.type_rules.specs.Asked.{Verdict, unit, int, bool, text}
 use Rattle.type_rules.specs.Rules.{link_rule, compare_rule, negate_rule, not_rule, if_rule, dotted_rule, const_rule, builtin_rule, function_rule, lift_rule}
 use Rattle.type_rules.specs.Written.{value_of, key_of, scalar_of}
 use Rattle.form_check.specs.Arity.{count, call_fits, params_at, item_params, declared_takes, takes_one, takes_two, is_wrong_lift}
-use Rattle.expr_types.specs.Around.{Around, Kinds, Callee, params_of, declared_type, callee_at}
+use Rattle.expr_types.specs.Around.{Around, Callee, declared_type, callee_at}
+use Rattle.type_rules.specs.Kinds.{Kinds}
+use Rattle.syntax_tree.specs.Tree.{params_of}
 use Rattle.expr_types.specs.Judge.{of_verdict, is_just, is_literal, is_const, builtin_of, call_rule, last_of, lifted_by, const_call, own_call, named_call, next_link, continued, judge_links, type_of, types_of, streams_of}
 use Rattle.spec_meaning.specs.Function.{operation_of, no_tree, absent as absent_tree, named_tree, call_tree, tree_of, trees_of, chain_tree}
 use Rattle.checked_spec.specs.inner.Formed.{AreOfLevel, IsFormed}

@@ -5,9 +5,9 @@ use Rattle.std.proofs.lemmas.Bool.{false≢true}
 use Rattle.tsl_value.specs.declared.scalar.ScalarType.{ScalarType}
 use Rattle.tsl_value.specs.declared.scalar.ValueType.{ValueType}
 use Rattle.tsl_value.specs.declared.scalar.ValueType.TheVariants as value_type
-use Rattle.lift_func.specs.declared.body.Unary.TheVariants as unary
-use Rattle.lift_func.specs.declared.body.Binary.{Binary}
-use Rattle.lift_func.specs.declared.body.Binary.TheVariants as binary
+use Rattle.tsl_value.specs.declared.operation.Unary.TheVariants as unary
+use Rattle.tsl_value.specs.declared.operation.Binary.{Binary}
+use Rattle.tsl_value.specs.declared.operation.Binary.TheVariants as binary
 use Rattle.lift_func.specs.Operations.{is_equality, is_order}
 use Rattle.lift_func.specs.BodyTree.{BodyTree, One, Two, Choice}
 use Rattle.lift_func.specs.Typing.{ValueKind, Value, Optional, TypesTwo, HasKind, one, two, choice}
@@ -24,7 +24,7 @@ use Rattle.vocabulary.specs.declared.signature.Parameters.TheVariants as paramet
 use Rattle.vocabulary.specs.declared.signature.Role.{Role}
 use Rattle.vocabulary.specs.declared.signature.Role.TheVariants as role
 use Rattle.vocabulary.specs.Table.{parameters_of, gives_of, role_of}
-use Rattle.vocabulary.proofs.Listed.{IsTyped, each_typed, is_scoped, each_scoped}
+use Rattle.vocabulary.proofs.Listed.{is_scoped, each_scoped}
 use Rattle.type_rules.specs.declared.rule.ExprType.{ExprType}
 use Rattle.type_rules.specs.declared.rule.ExprType.TheVariants as expr_type
 use Rattle.type_rules.specs.declared.rule.Family.{Family}
@@ -35,6 +35,7 @@ use Rattle.type_rules.specs.Asked.{ask, and_then, is_in, unit, int, bool}
 use Rattle.type_rules.specs.Rules.{stream, ask_two, ask_both, setting_of, rule_of_one, rule_of_two, rule_of_three, operand_type, link_rule, compare_rule, negate_rule, not_rule, if_rule, dotted_one, dotted_two, dotted_three, dotted_rule}
 use Rattle.spec_meaning.specs.Function.{operation_of, comparison_of, role_tree, dotted_tree}
 use Rattle.syntax_tree.specs.Levels.{level_of}
+use Rattle.checked_spec.proofs.OperationTypes.{IsTyped, each_typed}
 use Rattle.checked_spec.proofs.SameLemmas.{exactly}
 use Rattle.checked_spec.proofs.FunctionAsks.{checked, of_family, both_are, alike, same_Ok}
 use Rattle.checked_spec.proofs.Signatures.{one_allowed, two_allowed, three_allowed}

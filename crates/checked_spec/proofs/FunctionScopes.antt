@@ -15,7 +15,7 @@ use Rattle.name_check.specs.declared.declaration.Declaration.TheVariants as decl
 use Rattle.name_check.specs.Builtin.{is_built_in}
 use Rattle.name_check.specs.Scope.{Scope, meaning, is_events, declared_from, top, parameters_from, is_function, are_values, functions_of, inside}
 use Rattle.name_check.specs.Faults.{again, twice_in_params, twice_in_body, twice_from, declared_twice}
-use Rattle.expr_types.specs.Around.{params_of}
+use Rattle.syntax_tree.specs.Tree.{params_of}
 use Rattle.expr_types.specs.Bodies.{may_have_braces}
 use Rattle.flat_core.proofs.Members.{all_append}
 use Rattle.checked_spec.specs.inner.Formed.{IsDeclared, is_input, is_stream}

@@ -5,7 +5,7 @@ use Rattle.std.specs.List.{AllByRecursion, list_any}
 use Rattle.std.proofs.lemmas.Bool.{true≢false, or_parts}
 use Rattle.tsl_value.specs.declared.scalar.ValueType.{ValueType}
 use Rattle.tsl_value.specs.declared.scalar.ValueType.TheVariants as value_type
-use Rattle.flat_core.specs.Typed.{is_aggregate}
+use Rattle.tsl_value.specs.Aggregate.{is_aggregate}
 use Rattle.lift_func.specs.BodyTree.{BodyTree}
 use Rattle.lift_func.specs.Typing.{ValueKind}
 use Rattle.syntax_tree.specs.Tree as tree
@@ -16,7 +16,9 @@ use Rattle.type_rules.specs.declared.rule.Setting.TheVariants as setting
 use Rattle.type_rules.specs.declared.rule.Asked.TheVariants as asked
 use Rattle.type_rules.specs.Asked.{ask, inner}
 use Rattle.type_rules.specs.Rules.{ask_each, macro_rule, is_optional, lifted_type, has_options, function_rule}
-use Rattle.expr_types.specs.Around.{Kinds, Callee, params_of}
+use Rattle.expr_types.specs.Around.{Callee}
+use Rattle.type_rules.specs.Kinds.{Kinds}
+use Rattle.syntax_tree.specs.Tree.{params_of}
 use Rattle.spec_meaning.specs.Function.{function_at}
 use Rattle.checked_spec.specs.inner.Functions.{HasType, HaveTypes, IsScalarResult, callee, IsTypedFunction}
 use Rattle.checked_spec.proofs.SameLemmas.{exactly}

@@ -22,7 +22,8 @@ use Rattle.type_rules.specs.Asked.{ask, unit}
 use Rattle.type_rules.specs.Rules.{ask_each, macro_rule}
 use Rattle.type_rules.specs.Written.{as_written}
 use Rattle.form_check.specs.Arity.{count, call_fits, declared_takes}
-use Rattle.expr_types.specs.Around.{Around, Callee, params_of, param_types, declared_type, callee_at}
+use Rattle.expr_types.specs.Around.{Around, Callee, param_types, declared_type, callee_at}
+use Rattle.syntax_tree.specs.Tree.{params_of}
 use Rattle.expr_types.specs.Judge.{type_of, types_of, of_verdict, is_just, call_rule}
 use Rattle.expr_types.specs.Bodies.{in_definition, within_block, setting_of, may_have_braces}
 use Rattle.stream_constructs.specs.declared.construct.Stream.{Stream}
@@ -39,7 +40,6 @@ use Rattle.checked_spec.proofs.FunctionAsks.{checked, same_Ok}
 use Rattle.checked_spec.proofs.FunctionRead.{cons_is, verdict_is}
 use Rattle.checked_spec.proofs.Read.{AreTyped, types_are}
 use Rattle.checked_spec.proofs.Callees.{callee_is}
-use Rattle.checked_spec.proofs.Lifts.{same_params}
 use Rattle.checked_spec.proofs.Scopes.{meaning_declared}
 use Rattle.checked_spec.proofs.Calls.{declared_name, declared_fits, declared_judged, declared_count}
 
@@ -108,7 +108,7 @@ module _ (items : List tree.Item) (top : ℕ → Stream) (at : Around) (st : Sta
   inside : Matches items top at st → IsDeclared items (declaration.Macro i) → body_of (slice_get items i) ≡ Some b → ((k : ℕ) (s : Stream) → slice_get params k ≡ Some s → option_and_then (λ p. as_written p.of) (slice_get (params_of (slice_get items i)) k) ≡ Some (expr_type.Stream s.of)) → AreLocals at.kinds i locals → Matches items top inner (inside_call items top st i es params locals)
   inside m macro body are_params are_locals = record {
     items_are = refl;
-    scope_is = λ k. in_block 0 (scope.inside (scope.top items) (sym (same_params items i) k)) (block_of (sym body k));
+    scope_is = λ k. in_block 0 (scope.inside (scope.top items) (params_of (slice_get items i))) (block_of (sym body k));
     setting_is = streams_there (params_of (slice_get items i)) macro;
     types = types;
   }

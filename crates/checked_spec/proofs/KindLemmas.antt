@@ -17,7 +17,9 @@ use Rattle.type_rules.specs.declared.rule.ExprType.{ExprType}
 use Rattle.type_rules.specs.Asked.{Check}
 use Rattle.type_rules.specs.Rules.{body_rule}
 use Rattle.type_rules.specs.Written.{as_written, bad_as_written}
-use Rattle.expr_types.specs.Around.{Around, Kinds, params_of, param_types, cons, callee_of}
+use Rattle.expr_types.specs.Around.{Around, param_types, cons, callee_of}
+use Rattle.type_rules.specs.Kinds.{Kinds}
+use Rattle.syntax_tree.specs.Tree.{params_of}
 use Rattle.expr_types.specs.inner.Alike.{known}
 use Rattle.expr_types.specs.Judge.{type_of, own_wrong, wrongs}
 use Rattle.expr_types.specs.Bodies.{may_have_braces, written_of, fitting, expr_kind, local_from, item_kind, block_kind, asked_of, asked_wrong}

@@ -10,6 +10,7 @@ pub mod KindLemmas
 pub mod BodyLaws
 pub mod OwnNames
 pub mod FunctionAsks
+pub mod OperationTypes
 pub mod Signatures
 pub mod FunctionRead
 pub mod FunctionFitting

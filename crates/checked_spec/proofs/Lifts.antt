@@ -1,5 +1,5 @@
 -- Calls of `lift`.
-use Rattle.std.proofs.Common.{◌≡◌, ℕ, suc, ◌+◌, ◌≤◌, List, [], ◌∷◌, ◌++◌, map, length, Option, Some, None, refl, ap, sym, subst, ◌∙◌, append_assoc, arith}
+use Rattle.std.proofs.Common.{◌≡◌, ℕ, suc, ◌+◌, ◌≤◌, List, [], ◌∷◌, ◌++◌, map, length, Some, refl, ap, sym, subst, ◌∙◌, append_assoc, arith}
 use Rattle.std.specs.Prelude.{Ok, slice_get}
 use Rattle.std.proofs.lemmas.Option.{same_Some}
 use Rattle.tsl_value.specs.declared.scalar.ValueType.{ValueType}
@@ -16,13 +16,14 @@ use Rattle.type_rules.specs.Asked.{ask, and_then, inner}
 use Rattle.type_rules.specs.Rules.{any_stream, ask_streams, ask_options, lift_rule}
 use Rattle.form_check.specs.Arity as form
 use Rattle.form_check.specs.Arity.{count}
-use Rattle.expr_types.specs.Around.{Around, Kinds, Callee, params_of}
+use Rattle.expr_types.specs.Around.{Around, Callee}
+use Rattle.type_rules.specs.Kinds.{Kinds}
+use Rattle.syntax_tree.specs.Tree.{params_of}
 use Rattle.expr_types.specs.Judge.{type_of, streams_of, last_of, function_of}
 use Rattle.stream_constructs.specs.declared.construct.Stream.{Stream}
 use Rattle.stream_constructs.specs.Construct as construct
 use Rattle.stream_constructs.specs.Agree.{IsScalar}
 use Rattle.spec_meaning.specs.Occurrence.{Call, scope_at}
-use Rattle.spec_meaning.specs.Occurrence as occurrence
 use Rattle.spec_meaning.specs.Function.{function_body, arguments_from}
 use Rattle.spec_meaning.specs.Shape.{expressions, lift_by, function_named, lift_shape}
 use Rattle.checked_spec.specs.inner.Functions.{HasType, HaveTypes, IsScalarResult, callee, IsTypedFunction}
@@ -135,16 +136,6 @@ scalar_option r t scalar is = by t (subst IsScalarResult is scalar)
     by (value_type.Set k) h = absurd h
     by (value_type.Map k s) h = absurd h
 
-pub same_params : (items : List tree.Item) (i : ℕ) → occurrence.params_of (slice_get items i) ≡ params_of (slice_get items i)
-same_params items i = by (slice_get items i)
-  where
-    by : (o : Option tree.Item) → occurrence.params_of o ≡ params_of o
-    by (Some (tree.Defined p (tree.Define q n ps w b))) = refl
-    by (Some (tree.Input p q n y)) = refl
-    by (Some (tree.Output p q n)) = refl
-    by (Some (tree.OutputAs p e q n)) = refl
-    by None = refl
-
 -- as many streams as its function takes, and that is one to eight
 pub lift_fits : (items : List tree.Item) (kinds : Kinds) (i : ℕ) (c : Callee) (args : List ExprType) (t : ValueType) → IsTypedFunction items kinds i → callee items kinds i ≡ Some c → length args ≡ length (params_of (slice_get items i)) → 1 ≤ length args → lift_rule args c.params c.result ≡ Ok (expr_type.Stream t) → IsPlain (construct.Lift (function_body items i)) args t
 lift_fits items kinds i c args t f is long some h =
@@ -164,11 +155,10 @@ lift_fits items kinds i c args t f is long some h =
         let as_many : length args ≡ length ts = ap length are ∙ streams_long ts in
         let takes : length (params_of (slice_get items i)) ≡ length c.params = takes_as_many items kinds i c is in
         let both : length ts ≡ length c.params = omega arith in
-        let named : length (occurrence.params_of (slice_get items i)) ≡ length (params_of (slice_get items i)) = ap length (same_params items i) in
-        let each : length (occurrence.params_of (slice_get items i)) ≡ length ts = omega arith in
+        let each : length (params_of (slice_get items i)) ≡ length ts = omega arith in
         let few : length (params_of (slice_get items i)) ≤ 8 = f.few in
-        let typed = arguments_typed (kinds_of ts) 0 (occurrence.params_of (slice_get items i)) ts each (λ j. let here : 0 + j ≡ j = omega arith in ap (slice_get (kinds_of ts)) here) in
-        let body = f.body c (kinds_of ts) (arguments_from 0 (occurrence.params_of (slice_get items i))) is (subst (HaveTypes (kinds_of ts) (arguments_from 0 (occurrence.params_of (slice_get items i)))) (sym (options_asked ts c.params both asked)) typed) in
+        let typed = arguments_typed (kinds_of ts) 0 (params_of (slice_get items i)) ts each (λ j. let here : 0 + j ≡ j = omega arith in ap (slice_get (kinds_of ts)) here) in
+        let body = f.body c (kinds_of ts) (arguments_from 0 (params_of (slice_get items i))) is (subst (HaveTypes (kinds_of ts) (arguments_from 0 (params_of (slice_get items i)))) (sym (options_asked ts c.params both asked)) typed) in
         record {
           ts = ts;
           are = are;

@@ -6,10 +6,10 @@ use Rattle.tsl_value.specs.declared.scalar.ScalarType.{ScalarType}
 use Rattle.tsl_value.specs.declared.scalar.KeyType.{KeyType}
 use Rattle.tsl_value.specs.declared.scalar.ValueType.{ValueType}
 use Rattle.tsl_value.specs.declared.scalar.ValueType.TheVariants as value_type
-use Rattle.flat_core.specs.Typed.{is_aggregate}
-use Rattle.lift_func.specs.declared.body.Unary.TheVariants as unary
-use Rattle.lift_func.specs.declared.body.Binary.{Binary}
-use Rattle.lift_func.specs.declared.body.Binary.TheVariants as binary
+use Rattle.tsl_value.specs.Aggregate.{is_aggregate}
+use Rattle.tsl_value.specs.declared.operation.Unary.TheVariants as unary
+use Rattle.tsl_value.specs.declared.operation.Binary.{Binary}
+use Rattle.tsl_value.specs.declared.operation.Binary.TheVariants as binary
 use Rattle.lift_func.specs.Operations.{is_equality, is_order}
 use Rattle.lift_func.specs.BodyTree.{BodyTree, One, Two}
 use Rattle.lift_func.specs.Typing.{ValueKind, Value, TypesTwo, HasKind, one, two}
@@ -24,7 +24,6 @@ use Rattle.vocabulary.specs.declared.signature.Term.{Term}
 use Rattle.vocabulary.specs.declared.signature.Term.TheVariants as term
 use Rattle.vocabulary.specs.declared.signature.Parameters.{Parameters}
 use Rattle.vocabulary.specs.declared.signature.Parameters.TheVariants as parameters
-use Rattle.vocabulary.specs.declared.signature.Update.{Update as UpdateOp}
 use Rattle.vocabulary.specs.declared.signature.Role.{Role}
 use Rattle.vocabulary.specs.declared.signature.Role.TheVariants as role
 use Rattle.type_rules.specs.declared.rule.ExprType.{ExprType}
@@ -35,13 +34,13 @@ use Rattle.type_rules.specs.declared.rule.Asked.TheVariants as asked
 use Rattle.type_rules.specs.Asked.{ask, and_then, is_in, inner, int, bool}
 use Rattle.type_rules.specs.Rules.{ask_two, ask_both, any_stream, setting_of, rule_of_one, rule_of_two, rule_of_three, operand_type, link_rule, compare_rule, negate_rule, not_rule, if_rule, dotted_rule}
 use Rattle.vocabulary.specs.Table.{parameters_of, gives_of, role_of, how_many, takes_of}
-use Rattle.vocabulary.proofs.Listed.{at_types, update_takes, update_gives, IsTyped, each_typed, is_scoped, each_scoped, is_scalar, gives_scalar, each_scalar}
+use Rattle.vocabulary.proofs.Listed.{is_scoped, each_scoped, is_scalar, gives_scalar, each_scalar}
 use Rattle.stream_constructs.specs.Equations.{choice}
-use Rattle.stream_constructs.specs.Agree.{Updates, set_add, set_remove, map_add, map_remove}
-use Rattle.vocabulary.specs.declared.signature.Update.TheVariants as update
+use Rattle.lift_func.specs.Update.{UpdateTypes}
 use Rattle.spec_meaning.specs.Function.{operation_of, comparison_of, role_tree}
 use Rattle.spec_meaning.specs.Shape.{one_operand, two_operands}
 use Rattle.syntax_tree.specs.Levels.{level_of}
+use Rattle.checked_spec.proofs.OperationTypes.{at_types, IsTyped, each_typed}
 use Rattle.checked_spec.proofs.SameLemmas.{exactly}
 use Rattle.checked_spec.proofs.FunctionAsks.{checked, both_are, alike, same_Ok}
 use Rattle.checked_spec.proofs.Signatures.{one_allowed, two_allowed, three_allowed}
@@ -148,22 +147,6 @@ RoleFits r args t = IsSignal false (role_tree r) args t
 abbrev pub DottedFits : Dotted → List ExprType → ValueType → Type 0
 DottedFits d args t = RoleFits (role_of d) args t
 
--- an update by its kind
-abbrev IsUpdating : UpdateOp → KeyType → ScalarType → Parameters → Term → Type 0
-IsUpdating o k x (parameters.One p) g = Updates o (at_types k x p ∷ []) (at_types k x g)
-IsUpdating o k x (parameters.Two p q) g = Updates o (at_types k x p ∷ at_types k x q ∷ []) (at_types k x g)
-IsUpdating o k x (parameters.Three p q r) g = Updates o (at_types k x p ∷ at_types k x q ∷ at_types k x r ∷ []) (at_types k x g)
-
-own_update : (o : UpdateOp) (k : KeyType) (x : ScalarType) → IsUpdating o k x (update_takes o) (update_gives o)
-own_update update.SetAdd k x = set_add
-own_update update.SetRemove k x = set_remove
-own_update update.MapAdd k x = map_add
-own_update update.MapRemove k x = map_remove
-
-updating : (o : UpdateOp) (k : KeyType) (x : ScalarType) (ps : Parameters) (g : Term) → IsTyped (role.Update o) ps g → IsUpdating o k x ps g
-updating o k x ps g typed =
-    subst (λ v. IsUpdating o k x ps v) (sym typed.1) (subst (λ vs. IsUpdating o k x vs (update_gives o)) (sym typed.0) (own_update o k x))
-
 scalar_term : (k : KeyType) (x : ScalarType) (g : Term) → is_scalar g ≡ true → is_aggregate (at_types k x g) ≡ false
 scalar_term k x term.Set h = absurd (false≢true h)
 scalar_term k x term.Map h = absurd (false≢true h)
@@ -186,11 +169,10 @@ dotted_one_fits d x t n h = by (role_of d) (parameters_of d) (gives_of d) (each_
     by (role.Binary o) (parameters.One p) g typed scoped scalar n h = absurd typed
     by (role.Update o) (parameters.One p) g typed scoped scalar n h =
         let i = one_allowed setting.Streams p g x (expr_type.Stream t) scoped h in
-        record {
-          ts = at_types i.key i.entry p ∷ [];
-          are = λ k. i.first k ∷ [];
-          updates = subst (Updates o (at_types i.key i.entry p ∷ [])) (gives (at_types i.key i.entry g) t i.whole) (updating o i.key i.entry (parameters.One p) g typed);
-        }
+        let row = typed i.key i.entry in
+        let whole = gives (at_types i.key i.entry g) t i.whole in
+        let first = i.first ∙ ap (λ v. expr_type.Stream (at_types i.key i.entry v)) row.0 ∙ ap expr_type.Stream whole in
+        record { ts = []; are = λ k. first k ∷ []; updates = subst (λ u. UpdateTypes o u []) whole row.1 }
     by o (parameters.Two p q) g typed scoped scalar n h = absurd (omega arith)
     by o (parameters.Three p q r) g typed scoped scalar n h = absurd (omega arith)
 
@@ -205,11 +187,13 @@ dotted_two_fits d x y t n h = by (role_of d) (parameters_of d) (gives_of d) (eac
     by (role.Unary o) (parameters.Two p q) g typed scoped scalar n h = absurd typed
     by (role.Update o) (parameters.Two p q) g typed scoped scalar n h =
         let i = two_allowed setting.Streams p q g x y (expr_type.Stream t) scoped h in
+        let row = typed i.key i.entry in
+        let whole = gives (at_types i.key i.entry g) t i.whole in
+        let first = i.first ∙ ap (λ v. expr_type.Stream (at_types i.key i.entry v)) row.0 ∙ ap expr_type.Stream whole in
         record {
-          ts = at_types i.key i.entry p ∷ at_types i.key i.entry q ∷ [];
-          are = λ k. i.first k ∷ i.second k ∷ [];
-          updates = subst (Updates o (at_types i.key i.entry p ∷ at_types i.key i.entry q ∷ [])) (gives (at_types i.key i.entry g) t i.whole)
-              (updating o i.key i.entry (parameters.Two p q) g typed);
+          ts = at_types i.key i.entry q ∷ [];
+          are = λ k. first k ∷ i.second k ∷ [];
+          updates = subst (λ u. UpdateTypes o u (at_types i.key i.entry q ∷ [])) whole row.1;
         }
     by o (parameters.One p) g typed scoped scalar n h = absurd (omega arith)
     by o (parameters.Three p q r) g typed scoped scalar n h = absurd (omega arith)
@@ -222,11 +206,13 @@ dotted_three_fits d x y z t n h = by (role_of d) (parameters_of d) (gives_of d) 
     by (role.Binary o) (parameters.Three p q r) g typed scoped n h = absurd typed
     by (role.Update o) (parameters.Three p q r) g typed scoped n h =
         let i = three_allowed setting.Streams p q r g x y z (expr_type.Stream t) scoped h in
+        let row = typed i.key i.entry in
+        let whole = gives (at_types i.key i.entry g) t i.whole in
+        let first = i.first ∙ ap (λ v. expr_type.Stream (at_types i.key i.entry v)) row.0 ∙ ap expr_type.Stream whole in
         record {
-          ts = at_types i.key i.entry p ∷ at_types i.key i.entry q ∷ at_types i.key i.entry r ∷ [];
-          are = λ k. i.first k ∷ i.second k ∷ i.third k ∷ [];
-          updates = subst (Updates o (at_types i.key i.entry p ∷ at_types i.key i.entry q ∷ at_types i.key i.entry r ∷ [])) (gives (at_types i.key i.entry g) t i.whole)
-              (updating o i.key i.entry (parameters.Three p q r) g typed);
+          ts = at_types i.key i.entry q ∷ at_types i.key i.entry r ∷ [];
+          are = λ k. first k ∷ i.second k ∷ i.third k ∷ [];
+          updates = subst (λ u. UpdateTypes o u (at_types i.key i.entry q ∷ at_types i.key i.entry r ∷ [])) whole row.1;
         }
     by o (parameters.One p) g typed scoped n h = absurd (omega arith)
     by o (parameters.Two p q) g typed scoped n h = absurd (omega arith)

@@ -14,7 +14,7 @@ use Rattle.name_check.specs.declared.declaration.Declaration.TheVariants as decl
 use Rattle.name_check.specs.Scope.{Scope, meaning, is_events, declared_as, declared_from, top, parameters_from, locals_from, is_function, are_values, functions_of, inside, in_block}
 use Rattle.name_check.specs.Parts.{Part, Operand, Function}
 use Rattle.form_check.specs.Declared.{are_mixed, mixed_in_item}
-use Rattle.expr_types.specs.Around.{params_of}
+use Rattle.syntax_tree.specs.Tree.{params_of}
 use Rattle.expr_types.specs.Bodies.{may_have_braces}
 use Rattle.definition_cycles.specs.Mentions.{declared}
 use Rattle.spec_meaning.specs.Occurrence.{body_of, block_of}

@@ -4,10 +4,9 @@ use Rattle.std.specs.Prelude.{if◌then◌else◌, slice_get}
 use Rattle.syntax_tree.specs.Tree as tree
 use Rattle.name_check.specs.declared.declaration.Declaration.{Declaration}
 use Rattle.name_check.specs.Scope.{count_in, Scope, meaning, top, parameters_from, locals_from, is_function, are_values, functions_of, inside}
-use Rattle.expr_types.specs.Around.{params_of}
+use Rattle.syntax_tree.specs.Tree.{params_of}
 use Rattle.flat_core.proofs.Members.{all_append}
 use Rattle.spec_meaning.specs.Occurrence.{Call, scope_at, body_of, block_of}
-use Rattle.spec_meaning.specs.Occurrence as occurrence
 use Rattle.checked_spec.specs.inner.Formed.{IsDeclared}
 use Rattle.checked_spec.proofs.FunctionScopes.{AreDeclared, top_declared, name_holds}
 
@@ -38,7 +37,7 @@ module _ (items : List tree.Item) where
   scope_right : (cs : List Call) → AreDeclared items (scope_at items cs)
   scope_right [] = top_declared items
   scope_right (c ∷ cs) =
-      let ps = occurrence.params_of (slice_get items c.item) in
+      let ps = params_of (slice_get items c.item) in
       let ds = block_of (body_of (slice_get items c.item)) in
       all_append (λ e. IsDeclared items e.is) (locals_from 0 ds) (inside (top items) ps) (locals_right 0 ds) (inside_right ps)
 

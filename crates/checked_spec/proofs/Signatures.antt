@@ -12,12 +12,13 @@ use Rattle.lift_func.specs.Typing.{scalar_of}
 use Rattle.vocabulary.specs.declared.signature.Term.{Term}
 use Rattle.vocabulary.specs.declared.signature.Term.TheVariants as term
 use Rattle.vocabulary.specs.declared.signature.Parameters.TheVariants as parameters
-use Rattle.vocabulary.proofs.Listed.{at_types, admits, is_scoped}
+use Rattle.vocabulary.proofs.Listed.{admits, is_scoped}
 use Rattle.type_rules.specs.declared.rule.ExprType.{ExprType}
 use Rattle.type_rules.specs.declared.rule.Family.TheVariants as family
 use Rattle.type_rules.specs.declared.rule.Setting.{Setting}
 use Rattle.type_rules.specs.Asked.{is_in, lifted, inner, of_key, key_of, entry_of}
 use Rattle.type_rules.specs.Rules.{of_term, ask_first, ask_other, ask_terms, rule_of_one, rule_of_two, rule_of_three}
+use Rattle.checked_spec.proofs.OperationTypes.{at_types}
 use Rattle.checked_spec.proofs.SameLemmas.{exactly}
 use Rattle.checked_spec.proofs.FunctionAsks.{checked, of_family, inner_lifted, same_Ok}
 

@@ -14,7 +14,9 @@ use Rattle.name_check.specs.Faults.{is_unknown, unknown_in}
 use Rattle.form_check.specs.Types.{bad_in_expression, bad_in_body, bad_in_locals, bad_in_params, bad_written, bad_stream, bad_in_item}
 use Rattle.form_check.specs.Arity.{is_wrong, wrong_in, wrong_in_item, too_many_in_item}
 use Rattle.type_rules.specs.declared.rule.ExprType.{ExprType}
-use Rattle.expr_types.specs.Around.{Around, Kinds, params_of}
+use Rattle.expr_types.specs.Around.{Around}
+use Rattle.type_rules.specs.Kinds.{Kinds}
+use Rattle.syntax_tree.specs.Tree.{params_of}
 use Rattle.expr_types.specs.Bodies.{in_definition, within_block, may_have_braces, written_of, expr_kind, body_kind, local_kind, block_kind, expr_wrongs, local_wrongs, body_wrongs, item_wrongs, wrongs_from}
 use Rattle.definition_cycles.specs.Nodes.{definition_nodes, block_nodes}
 use Rattle.spec_meaning.specs.Occurrence.{body_of, block_of, result_of}

@@ -4,7 +4,7 @@ use Rattle.std.specs.List.{AllByRecursion}
 use Rattle.std.proofs.lemmas.Bool.{false≢true}
 use Rattle.std.proofs.lemmas.Option.{same_Some, none-some}
 use Rattle.tsl_value.specs.declared.scalar.ValueType.{ValueType}
-use Rattle.flat_core.specs.Typed.{is_aggregate}
+use Rattle.tsl_value.specs.Aggregate.{is_aggregate}
 use Rattle.syntax_tree.specs.Tree as tree
 use Rattle.syntax_tree.specs.Tree.{Expr, no_links, more_links}
 use Rattle.type_rules.specs.declared.rule.ExprType.TheVariants as expr_type

@@ -12,7 +12,9 @@ use Rattle.syntax_tree.specs.Tree.{Expr, Exprs}
 use Rattle.name_check.specs.declared.declaration.Declaration.TheVariants as declaration
 use Rattle.name_check.specs.Parts.{Operand, parts}
 use Rattle.name_check.specs.Scope.{top, inside, meaning, are_values}
-use Rattle.expr_types.specs.Around.{Kinds, Callee, params_of}
+use Rattle.expr_types.specs.Around.{Callee}
+use Rattle.type_rules.specs.Kinds.{Kinds}
+use Rattle.syntax_tree.specs.Tree.{params_of}
 use Rattle.expr_types.specs.Bodies.{holds_aggregate}
 use Rattle.expr_types.specs.Judge.{type_of}
 use Rattle.definition_cycles.specs.Calls.{Calls}
@@ -24,7 +26,7 @@ use Rattle.checked_spec.proofs.BodyLaws.{function_bodies_are_typed}
 use Rattle.checked_spec.specs.inner.Functions.{HasType, HaveTypes, callee, IsTypedFunction}
 use Rattle.checked_spec.specs.inner.FunctionLaws.{FunctionsAreTyped}
 use Rattle.checked_spec.proofs.FunctionFitting.{Fits}
-use Rattle.checked_spec.proofs.Callees.{same_params, IsNoStream, callee_is, has_type, parameter_fits}
+use Rattle.checked_spec.proofs.Callees.{IsNoStream, callee_is, has_type, parameter_fits}
 use Rattle.checked_spec.proofs.FunctionScopes.{names_in}
 use Rattle.checked_spec.proofs.FunctionExpressions.{IsKnown, expr_fits}
 use Rattle.checked_spec.proofs.Bodies.{few_params, scalar_result, no_aggregate_result, plain_item, values_here, body_no_stream}
@@ -82,7 +84,7 @@ module _ (items : List tree.Item) (kinds : Kinds) (checked : IsChecked items kin
       } in
       let judged = (λ k. type_of (record { items = items; kinds = kinds; scope = inside (top items) ps; setting = sym (values_here ps values) k; number = i; params = ps }) b.expr) ∙ b.typed.is in
       let fits = expr_fits items kinds i ps ks ts (function_tree items deep) b.expr known b.expr (λ part c. c) b.of judged in
-      let whole : function_tree items (suc deep) i ts ≡ tree_of (inside (top items) ps) ts (function_tree items deep) b.expr = λ k. body_tree (inside (top items) (same_params (slice_get items i) k)) ts (function_tree items deep) (b.plain k) in
+      let whole : function_tree items (suc deep) i ts ≡ tree_of (inside (top items) ps) ts (function_tree items deep) b.expr = λ k. body_tree (inside (top items) (params_of (slice_get items i))) ts (function_tree items deep) (b.plain k) in
       has_type ks (function_tree items (suc deep) i ts) c.result (no_stream_result i values c is)
       (subst (Fits ks (function_tree items (suc deep) i ts)) (result_is i b c is) (subst (λ t. Fits ks t b.of) (sym whole) fits))
 

@@ -10,7 +10,9 @@ use Rattle.name_check.specs.Scope.{top, meaning, are_values, functions_of}
 use Rattle.type_rules.specs.declared.rule.ExprType.{ExprType}
 use Rattle.type_rules.specs.declared.rule.ExprType.TheVariants as expr_type
 use Rattle.type_rules.specs.Written.{as_written}
-use Rattle.expr_types.specs.Around.{Around, Kinds, params_of}
+use Rattle.expr_types.specs.Around.{Around}
+use Rattle.type_rules.specs.Kinds.{Kinds}
+use Rattle.syntax_tree.specs.Tree.{params_of}
 use Rattle.expr_types.specs.Bodies.{in_definition, at_top, within_block, may_have_braces}
 use Rattle.spec_meaning.specs.Occurrence.{body_of, result_of, block_of, local}
 use Rattle.checked_spec.specs.inner.Checked.{IsChecked, IsTyped}

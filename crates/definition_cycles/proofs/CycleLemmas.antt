@@ -3,7 +3,8 @@ use Rattle.std.proofs.Common.{◌≡◌, ℕ, ◌<◌, List, Option, Some, None,
 use Rattle.std.specs.List.{Contains}
 use Rattle.std.proofs.lemmas.List.Elements.{All-contains_itself, All-weaker}
 use Rattle.translation_order.specs.Least.{IsLeast}
-use Rattle.translation_order.specs.OnCycle.{Edge, AreBetween, Path, IsFirstOnCycle, OnCycle}
+use Rattle.translation_order.specs.OnCycle.{Edge, AreBetween, IsFirstOnCycle, OnCycle}
+use Rattle.translation_order.specs.Graph.{Path}
 use Rattle.translation_order.proofs.Paths.{path_alike}
 use Rattle.definition_cycles.specs.inner.Edges.{AreEdges}
 

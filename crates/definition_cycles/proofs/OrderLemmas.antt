@@ -1,11 +1,10 @@
 -- The order of edges that are turned round, and their cycles.
 use Rattle.std.proofs.Common.{◌≡◌, ℕ, List, map, length, sym, ap, subst}
 use Rattle.syntax_tree.specs.Tree as tree
-use Rattle.translation_order.specs.Graph as flat
-use Rattle.translation_order.specs.Graph.{IsAcyclic}
 use Rattle.tsl_value.proofs.Lists.{contains_map, map_contains}
-use Rattle.translation_order.specs.OnCycle.{Path, one, more}
-use Rattle.translation_order.proofs.Paths.{path_join}
+use Rattle.translation_order.specs.Graph.{IsAcyclic, Path, edge, step}
+use Rattle.translation_order.proofs.PathLemmas.{path_on}
+use Rattle.translation_order.proofs.Paths.{path_alike}
 use Rattle.translation_order.specs.Order.{Before, AreOfSteps, MayFollow, IsLeastOrder}
 use Rattle.translation_order.specs.Cycle.{IsCycle}
 use Rattle.translation_order.specs.inner.Answer.{OnCycle}
@@ -45,17 +44,13 @@ turned_means E edges e a b h =
     subst (λ y. E b y) first (subst (λ x. E x f.0.1) second (e.means f.0.0 f.0.1 f.1))
 
 -- ---- paths the other way
-back_round : (E : ℕ → ℕ → Type 0) (a b : ℕ) → Path E a b → flat.Path (λ x y. E y x) b a
-back_round E a b (one e) = flat.edge e
-back_round E a b (more {b = m} e p) = after (λ x y. E y x) b m a (back_round E m b p) e
-  where
-    after : (F : ℕ → ℕ → Type 0) (x y z : ℕ) → flat.Path F x y → F y z → flat.Path F x z
-    after F x y z (flat.edge f) g = flat.step f (flat.edge g)
-    after F x y z (flat.step {b = w} f p) g = flat.step f (after F w y z p g)
+back_round : (E : ℕ → ℕ → Type 0) (a b : ℕ) → Path E a b → Path (λ x y. E y x) b a
+back_round E a b (edge e) = edge e
+back_round E a b (step {b = m} e p) = path_on (back_round E m b p) e
 
-pub way_round : (E : ℕ → ℕ → Type 0) (a b : ℕ) → flat.Path (λ x y. E y x) a b → Path E b a
-way_round E a b (flat.edge e) = one e
-way_round E a b (flat.step {b = m} e p) = path_join E b m a (way_round E m b p) (one e)
+pub way_round : (E : ℕ → ℕ → Type 0) (a b : ℕ) → Path (λ x y. E y x) a b → Path E b a
+way_round E a b (edge e) = edge e
+way_round E a b (step {b = m} e p) = path_on (way_round E m b p) e
 
 -- ---- the pairs that are made of mentions
 module _ (items : List tree.Item) (edges pairs : List (ℕ × ℕ)) (e : AreEdges (MentionsUntyped items) edges) (turned : pairs ≡ turned_of edges) where
@@ -75,11 +70,7 @@ module _ (items : List tree.Item) (edges pairs : List (ℕ × ℕ)) (e : AreEdge
   kind_cycle cycle c = cycle_alike (Before pairs) (Precedes items) means cycle c
 
   pub none_needs : IsAcyclic (Before pairs) → NoneNeedsType items
-  none_needs none a p = none a (flat_alike a a (back_round (MentionsUntyped items) a a p))
-    where
-      flat_alike : (a b : ℕ) → flat.Path (Precedes items) a b → flat.Path (Before pairs) a b
-      flat_alike a b (flat.edge f) = flat.edge (has a b f)
-      flat_alike a b (flat.step {b = m} f p) = flat.step (has a m f) (flat_alike m b p)
+  none_needs none a p = none a (path_alike (Precedes items) (Before pairs) has a a (back_round (MentionsUntyped items) a a p))
 
   pub some_needs : (cycle : List ℕ) → IsCycle (Before pairs) cycle → SomeNeedsType items
   some_needs cycle c = let k = kind_cycle cycle c in (k.first, way_round (MentionsUntyped items) k.first k.first (cycle_path (Precedes items) cycle k))

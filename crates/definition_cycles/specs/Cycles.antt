@@ -3,7 +3,7 @@ use Rattle.std.specs.Prelude.{◌≡◌, ℕ, List, map, Option, Some, MatchOpti
 use Rattle.tsl_value.specs.declared.place.Place.{Place}
 use Rattle.syntax_tree.specs.Tree as tree
 use Rattle.translation_order.specs.Least.{IsLeast}
-use Rattle.translation_order.specs.OnCycle.{Path}
+use Rattle.translation_order.specs.Graph.{Path}
 use Rattle.definition_cycles.specs.Nodes.{nodes}
 use Rattle.definition_cycles.specs.Mentions.{MentionsUntyped}
 use Rattle.definition_cycles.specs.Calls.{Calls, name_place}

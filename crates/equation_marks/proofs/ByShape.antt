@@ -11,7 +11,7 @@ use Rattle.tsl_value.specs.declared.place.Place.{Place}
 use Rattle.tsl_value.specs.declared.scalar.Scalar.{Scalar}
 use Rattle.tsl_value.specs.declared.scalar.Scalar.TheVariants as scalar
 use Rattle.flat_core.specs.Typed.{unit_type}
-use Rattle.lift_func.specs.declared.body.Unary.TheVariants as unary
+use Rattle.tsl_value.specs.declared.operation.Unary.TheVariants as unary
 use Rattle.lift_func.specs.BodyTree.{BodyTree, One, Two}
 use Rattle.syntax_tree.specs.Tree as tree
 use Rattle.syntax_tree.specs.Tree.{Expr, Exprs, no_exprs, more_exprs, no_links, more_links, place_of}
@@ -24,7 +24,7 @@ use Rattle.name_check.specs.Builtin.{is_unit, is_lift}
 use Rattle.name_check.specs.Scope.{meaning, Agree}
 use Rattle.expr_types.specs.Around.{Around}
 use Rattle.expr_types.specs.Judge.{type_of}
-use Rattle.vocabulary.specs.declared.signature.Update.{Update as UpdateOp}
+use Rattle.tsl_value.specs.declared.operation.Update.{Update as UpdateOp}
 use Rattle.stream_constructs.specs.Construct.{Construct, operand_trees}
 use Rattle.stream_constructs.specs.Construct as construct
 use Rattle.stream_constructs.specs.Equations.{choice}

@@ -19,7 +19,7 @@ use Rattle.vocabulary.specs.Table.{role_of}
 use Rattle.tsl_value.proofs.Lists.{left_at}
 use Rattle.expr_types.specs.Around.{Around}
 use Rattle.expr_types.specs.Judge.{type_of}
-use Rattle.vocabulary.specs.declared.signature.Update.{Update as UpdateOp}
+use Rattle.tsl_value.specs.declared.operation.Update.{Update as UpdateOp}
 use Rattle.stream_constructs.specs.Construct as construct
 use Rattle.spec_meaning.specs.Function.{no_tree}
 use Rattle.spec_meaning.specs.Shape.{is_part, expressions, operands}

@@ -8,7 +8,7 @@ use Rattle.vocabulary.specs.declared.signature.Role.{Role}
 use Rattle.vocabulary.specs.declared.signature.Role.TheVariants as role
 use Rattle.name_check.specs.inner.Shown.{nowhere}
 use Rattle.expr_types.specs.Around.{Around}
-use Rattle.vocabulary.specs.declared.signature.Update.{Update as UpdateOp}
+use Rattle.tsl_value.specs.declared.operation.Update.{Update as UpdateOp}
 use Rattle.stream_constructs.specs.Construct as construct
 use Rattle.spec_meaning.specs.Function.{no_tree}
 use Rattle.spec_meaning.specs.Shape.{is_part, operands}

@@ -11,7 +11,9 @@ use Rattle.syntax_tree.specs.inner.OneLevel as code
 use Rattle.name_check.specs.Scope.{Scope, Agree, top, inside, in_block, seen, are_values, functions_of, parameters_from, locals_from}
 use Rattle.name_check.proofs.AgreeLemmas.{agree_same, agree_trans, agree_append}
 use Rattle.type_rules.specs.declared.rule.Setting.{Setting}
-use Rattle.expr_types.specs.Around.{Around, Kinds, params_of}
+use Rattle.expr_types.specs.Around.{Around}
+use Rattle.type_rules.specs.Kinds.{Kinds}
+use Rattle.syntax_tree.specs.Tree.{params_of}
 use Rattle.expr_types.specs.Bodies.{setting_of}
 use Rattle.spec_meaning.specs.Occurrence.{result_of, block_of, body_of}
 use Rattle.checked_spec.specs.Laws.{in_macro}

@@ -1,5 +1,6 @@
 -- The equations of a construct have its marks, whatever their numbers and types are.
 use Rattle.std.proofs.Common.{◌≡◌, ℕ, zero, suc, ◌+◌, ◌*◌, Bool, true, false, List, [], ◌∷◌, ◌++◌, map, length, refl, sym, ap, ◌∙◌, arith, length-append}
+use Rattle.std.specs.Prelude.{is_some}
 use Rattle.std.proofs.lemmas.List.{length-replicate, map-append}
 use Rattle.tsl_value.specs.declared.place.Place.{Place}
 use Rattle.tsl_value.specs.declared.scalar.ValueType.{ValueType}
@@ -8,17 +9,17 @@ use Rattle.flat_core.specs.declared.equation.Op.TheVariants as op
 use Rattle.flat_core.specs.Typed.{unit_type}
 use Rattle.lift_func.specs.BodyTree.{BodyTree}
 use Rattle.stream_constructs.specs.declared.construct.Stream.{Stream}
-use Rattle.vocabulary.specs.declared.signature.Update.{Update as UpdateOp}
-use Rattle.vocabulary.specs.declared.signature.Update.TheVariants as update
+use Rattle.tsl_value.specs.declared.operation.Update.{Update as UpdateOp}
 use Rattle.stream_constructs.specs.Construct.{Construct, Operand, Fixed, Varying}
 use Rattle.stream_constructs.specs.Construct as construct
-use Rattle.stream_constructs.specs.Equations.{equation, strict_lift, held_each, lifting, lifted_streams, literal_equations, operand_numbers, first_number, numbers, with_literals, update_op, own_equations, choice_equations, alias_equation}
+use Rattle.stream_constructs.specs.Equations.{equation, strict_lift, held_each, lifting, lifted_streams, literal_equations, operand_numbers, first_number, numbers, with_literals, own_equations, choice_equations, alias_equation}
 use Rattle.stream_constructs.specs.Agree.{Fits, FitsChoice}
-use Rattle.flat_core.specs.Updates.{is_update}
+use Rattle.flat_core.specs.Updates.{is_update, operation_of}
 use Rattle.name_check.specs.inner.Shown.{nowhere}
 use Rattle.spec_meaning.specs.Makes.{with_itself}
 use Rattle.equation_marks.specs.Marks.{Mark, mark_of, any_streams, own_marks, choice_own_marks, alias_own_marks}
 use Rattle.equation_marks.specs.inner.Counted.{lifting_count, own_count}
+use Rattle.flat_core.proofs.UpdateOps.{updates_itself}
 
 -- ---- marks by their number
 -- so many equations of a place that are no updates
@@ -101,11 +102,8 @@ with_literals_marks p o of n os parts =
     ∙ (λ i. lifting_marks p n parts i ++ literals_marks p (first_number (lifted_streams n parts)) os i)
     ∙ sym (plain-add (lifting_count (length parts)) (literal_count os) p))
 
-update_is_update : (o : UpdateOp) → is_update (update_op o) ≡ true
-update_is_update update.SetAdd = refl
-update_is_update update.SetRemove = refl
-update_is_update update.MapAdd = refl
-update_is_update update.MapRemove = refl
+update_is_update : (o : UpdateOp) → is_update (operation_of o) ≡ true
+update_is_update o = ap is_some (updates_itself o)
 
 -- ---- where the parts are any streams
 -- a signal lift of some
@@ -121,7 +119,7 @@ signal_any p f g (suc k) = signal_plain p f k ∙ sym (signal_plain p g k)
 
 update_plain : (p : Place) (o : UpdateOp) (os : List Operand) (k : ℕ) → own_marks p (construct.Update o os) k ≡ operation_of_marks p k os true
 update_plain p o os k =
-    with_literals_marks p (update_op o) unit_type 0 os (any_streams k) ∙ (λ i. operation_of_marks p (many k i) os (update_is_update o i))
+    with_literals_marks p (operation_of o) unit_type 0 os (any_streams k) ∙ (λ i. operation_of_marks p (many k i) os (update_is_update o i))
 
 choice_plain : (p : Place) (k : ℕ) (os : List Operand) → choice_own_marks p k os ≡ operation_of_marks p k os false
 choice_plain p k os = with_literals_marks p op.Pick unit_type 0 os (any_streams k) ∙ ap (λ n. operation_of_marks p n os false) (many k)
@@ -144,7 +142,7 @@ made_marks p of n (construct.Signal f) [] fits = refl
 made_marks p of n (construct.Signal f) (a ∷ parts) fits =
     signal_made_marks p n f of (numbers (lifted_streams n (a ∷ parts))) (a ∷ parts) ∙ sym (signal_plain p f (length parts))
 made_marks p of n (construct.Update o os) parts fits =
-    with_literals_marks p (update_op o) of n os parts ∙ ap (operation_of_marks p (length parts) os) (update_is_update o)
+    with_literals_marks p (operation_of o) of n os parts ∙ ap (operation_of_marks p (length parts) os) (update_is_update o)
     ∙ sym (update_plain p o os (length parts))
 made_marks p of n c parts fits = absurd fits
 

@@ -6,7 +6,8 @@ use Rattle.tsl_value.specs.declared.place.Place.{Place}
 use Rattle.tsl_value.specs.declared.scalar.Scalar.{Scalar}
 use Rattle.tsl_value.specs.declared.scalar.Scalar.TheVariants as scalar
 use Rattle.flat_core.specs.declared.equation.Equation.{Equation}
-use Rattle.flat_core.specs.Typed.{is_aggregate, unit_type}
+use Rattle.tsl_value.specs.Aggregate.{is_aggregate}
+use Rattle.flat_core.specs.Typed.{unit_type}
 use Rattle.syntax_tree.specs.Tree as tree
 use Rattle.syntax_tree.specs.Tree.{Expr, Exprs, no_exprs, more_exprs, Links, no_links, more_links, place_of}
 use Rattle.vocabulary.specs.declared.dotted.Dotted.{Dotted}
@@ -19,11 +20,12 @@ use Rattle.name_check.specs.Builtin.{is_unit, is_lift}
 use Rattle.name_check.specs.Scope.{meaning}
 use Rattle.type_rules.specs.declared.rule.ExprType.{ExprType}
 use Rattle.type_rules.specs.declared.rule.ExprType.TheVariants as expr_type
-use Rattle.expr_types.specs.Around.{Around, Kinds}
+use Rattle.expr_types.specs.Around.{Around}
+use Rattle.type_rules.specs.Kinds.{Kinds}
 use Rattle.expr_types.specs.Bodies.{in_definition, at_top}
 use Rattle.expr_types.specs.Judge.{type_of}
 use Rattle.stream_constructs.specs.declared.construct.Stream.{Stream}
-use Rattle.vocabulary.specs.declared.signature.Update.{Update as UpdateOp}
+use Rattle.tsl_value.specs.declared.operation.Update.{Update as UpdateOp}
 use Rattle.flat_core.specs.Updates.{is_update}
 use Rattle.stream_constructs.specs.Construct.{Construct, Operand}
 use Rattle.stream_constructs.specs.Construct as construct

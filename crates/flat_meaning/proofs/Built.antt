@@ -9,7 +9,8 @@ use Rattle.tsl_value.specs.declared.scalar.ValueType.{ValueType}
 use Rattle.lift_func.specs.BodyTree.{BodyTree}
 use Rattle.flat_core.specs.declared.equation.Op.TheVariants as op
 use Rattle.flat_core.specs.declared.equation.Equation.{Equation}
-use Rattle.flat_core.specs.Case.{root_fault, outcome_of}
+use Rattle.flat_core.specs.Case.{root_fault}
+use Rattle.flat_core.specs.Events.{outcome_of}
 use Rattle.translation_order.specs.Graph.{Walk, stay}
 use Rattle.flat_core.specs.Needed.{HasArgument}
 use Rattle.flat_core.specs.System.{System}
@@ -17,7 +18,7 @@ use Rattle.flat_core.specs.Typed.{unit_type}
 use Rattle.flat_core.proofs.Uniqueness.{all_by}
 use Rattle.syntax_tree.specs.Tree as tree
 use Rattle.syntax_tree.specs.Tree.{Expr, place_of}
-use Rattle.expr_types.specs.Around.{Kinds}
+use Rattle.type_rules.specs.Kinds.{Kinds}
 use Rattle.stream_constructs.specs.declared.construct.Stream.{Stream}
 use Rattle.stream_constructs.specs.Construct.{Construct, outcome, root, operand_trees}
 use Rattle.stream_constructs.specs.Construct as construct

@@ -7,11 +7,12 @@ use Rattle.tsl_value.specs.View.{View, Plain}
 use Rattle.tsl_value.specs.declared.scalar.Scalar.TheVariants as scalar
 use Rattle.lift_func.specs.Apply.{Answer, apply}
 use Rattle.flat_core.specs.Stream.{Fault, History, event, has_event, is_fault}
-use Rattle.flat_core.specs.Case.{Inputs, unit, merged, filtered, outcome_of, fault_of, refused}
+use Rattle.flat_core.specs.Events.{Inputs, unit, merged, filtered, outcome_of, fault_of, refused}
 use Rattle.flat_core.proofs.Locality.{latest-same, expires-same}
-use Rattle.stream_constructs.specs.Construct.{Construct, now, signal, lift_of_options, updated, operand_values, own, used, is_blocked, outcome, root}
+use Rattle.stream_constructs.specs.Construct.{Construct, now, signal, lift_of_options, operand_values, own, used, is_blocked, outcome, root}
 use Rattle.stream_constructs.specs.Construct as construct
 use Rattle.spec_meaning.specs.Happens.{counts_below}
+use Rattle.lift_func.specs.Update.{update_answer}
 
 -- two streams
 pub record Two : Type 0 where
@@ -105,7 +106,7 @@ module _ (inputs : Inputs) (t : ℕ) where
   own_same (construct.FilterBy b) (a ∷ []) agree = ap (λ x. Ok (if b then event x else None)) (agree.0 t (omega arith))
   own_same (construct.Lift f) ps agree = ap (lift_of_options f) (events t ps (at_to t ps (at_from (construct.Lift f) t (λ k. refl) 0 ps agree)))
   own_same (construct.Signal f) ps agree = signal_same t (apply f) ps (at_from (construct.Signal f) t (λ k. refl) 0 ps agree)
-  own_same (construct.Update o os) ps agree = signal_same t (λ vs. Ok (updated o (operand_values os vs))) ps (at_from (construct.Update o os) t (λ k. refl) 0 ps agree)
+  own_same (construct.Update o os) ps agree = signal_same t (λ vs. update_answer o (operand_values os vs)) ps (at_from (construct.Update o os) t (λ k. refl) 0 ps agree)
   own_same (construct.Input k) [] agree = refl
   own_same construct.Nil [] agree = refl
   own_same construct.Unit [] agree = refl

@@ -13,7 +13,7 @@ use Rattle.tsl_value.proofs.Lists.{contains_map}
 use Rattle.flat_core.proofs.Members.{contains_head, contains_tail, all_at}
 use Rattle.translation_order.proofs.PathLemmas.{walk_keeps}
 use Rattle.syntax_tree.specs.Tree as tree
-use Rattle.expr_types.specs.Around.{Kinds}
+use Rattle.type_rules.specs.Kinds.{Kinds}
 use Rattle.stream_constructs.specs.declared.construct.Stream.{Stream}
 use Rattle.stream_constructs.specs.Construct.{Construct}
 use Rattle.stream_constructs.specs.Construct as construct

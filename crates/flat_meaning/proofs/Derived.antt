@@ -8,14 +8,15 @@ use Rattle.tsl_value.specs.declared.scalar.ValueType.{ValueType}
 use Rattle.flat_core.specs.declared.equation.Equation.{Equation}
 use Rattle.flat_core.specs.Complete.{HasShortBody}
 use Rattle.flat_core.specs.System.{System}
-use Rattle.flat_core.specs.Typed.{unit_type, is_aggregate}
+use Rattle.tsl_value.specs.Aggregate.{is_aggregate}
+use Rattle.flat_core.specs.Typed.{unit_type}
 use Rattle.flat_core.specs.TypedSystem.{IsTypedEquation}
 use Rattle.flat_core.proofs.Members.{all_append, all_map}
 use Rattle.flat_core.proofs.Uniqueness.{all_with}
 use Rattle.syntax_tree.specs.Tree as tree
 use Rattle.syntax_tree.specs.Tree.{Expr, place_of}
 use Rattle.name_check.specs.Scope.{functions_of, top}
-use Rattle.expr_types.specs.Around.{Kinds}
+use Rattle.type_rules.specs.Kinds.{Kinds}
 use Rattle.stream_constructs.specs.declared.construct.Stream.{Stream}
 use Rattle.stream_constructs.specs.Construct.{Construct, Operand}
 use Rattle.stream_constructs.specs.Construct as construct

@@ -24,7 +24,7 @@ use Rattle.flat_core.proofs.PendingLemmas.{some_before_gives, some_before_from}
 use Rattle.flat_core.proofs.Instants.{in_instants, instants_have}
 use Rattle.syntax_tree.specs.Tree as tree
 use Rattle.syntax_tree.specs.Tree.{place_of}
-use Rattle.expr_types.specs.Around.{Kinds}
+use Rattle.type_rules.specs.Kinds.{Kinds}
 use Rattle.spec_meaning.specs.Due.{Printed, outputs_of, IsInstant, IsFaulty, AreInstants, AreDue, IsTextAt, IsTextOf, IsDueText}
 use Rattle.spec_meaning.specs.Due as due
 use Rattle.spec_meaning.specs.Flat.{IsFlatOf}

@@ -6,13 +6,14 @@ use Rattle.std.proofs.lemmas.Bool.{cases_lt, ne_eqb}
 use Rattle.std.proofs.lemmas.List.{length-map}
 use Rattle.std.proofs.lemmas.Option.{same_Some, none-some, slice_get_within}
 use Rattle.flat_core.specs.Stream.{Outcome, Event, Fault, History, event, is_fault}
-use Rattle.flat_core.specs.Case.{Inputs, Streams, outcome_of}
+use Rattle.flat_core.specs.Case.{Streams}
+use Rattle.flat_core.specs.Events.{Inputs, outcome_of}
 use Rattle.flat_core.specs.Solution.{Solves}
 use Rattle.flat_core.specs.System.{System, runs, IsProper}
 use Rattle.flat_core.specs.WellFormed.{IsWellFormed}
 use Rattle.flat_core.proofs.WellFormedRank.{rank_of}
 use Rattle.syntax_tree.specs.Tree as tree
-use Rattle.expr_types.specs.Around.{Kinds}
+use Rattle.type_rules.specs.Kinds.{Kinds}
 use Rattle.stream_constructs.specs.declared.construct.Stream.{Stream}
 use Rattle.stream_constructs.specs.Construct.{Construct, outcome}
 use Rattle.stream_constructs.specs.Construct as construct

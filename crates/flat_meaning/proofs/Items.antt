@@ -15,7 +15,7 @@ use Rattle.syntax_tree.specs.Tree as tree
 use Rattle.name_check.specs.Scope.{functions_of, top}
 use Rattle.type_rules.specs.Written.{value_of}
 use Rattle.form_check.specs.Declared.{is_aggregate, is_of_aggregates, aggregate_in_item, aggregate_inputs}
-use Rattle.expr_types.specs.Around.{Kinds}
+use Rattle.type_rules.specs.Kinds.{Kinds}
 use Rattle.stream_constructs.specs.declared.construct.Stream.{Stream}
 use Rattle.stream_constructs.specs.Equations.{equation}
 use Rattle.stream_constructs.specs.Agree.{IsScalar}

@@ -9,7 +9,7 @@ use Rattle.flat_core.specs.declared.equation.Output.{Output}
 use Rattle.syntax_tree.specs.Tree as tree
 use Rattle.syntax_tree.specs.Tree.{Expr}
 use Rattle.type_rules.specs.declared.rule.ExprType.TheVariants as expr_type
-use Rattle.expr_types.specs.Around.{Kinds}
+use Rattle.type_rules.specs.Kinds.{Kinds}
 use Rattle.stream_constructs.specs.declared.construct.Stream.{Stream}
 use Rattle.stream_constructs.specs.Equations.{equation}
 use Rattle.spec_meaning.specs.Flat.{outermost, named, MakesInputs, MakesStreams, MakesPrinted, MakesOutputs}

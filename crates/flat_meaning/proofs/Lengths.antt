@@ -9,8 +9,9 @@ use Rattle.flat_core.specs.Typed.{unit_type}
 use Rattle.stream_constructs.specs.declared.construct.Stream.{Stream}
 use Rattle.stream_constructs.specs.Construct.{Construct, Operand, Fixed, Varying}
 use Rattle.stream_constructs.specs.Construct as construct
-use Rattle.stream_constructs.specs.Equations.{equation, numbers, operand_numbers, held_each, lifting, lifted_streams, first_number, literal_equations, with_literals, update_op, own_equations, choice_equations}
+use Rattle.stream_constructs.specs.Equations.{equation, numbers, operand_numbers, held_each, lifting, lifted_streams, first_number, literal_equations, with_literals, own_equations, choice_equations}
 use Rattle.flat_meaning.proofs.OneType.{types}
+use Rattle.flat_core.specs.Updates.{operation_of}
 
 -- streams of these types, without numbers
 abbrev streams_of : List ValueType → List Stream
@@ -69,7 +70,7 @@ own_length_from p of n (construct.FilterBy b) (e ∷ []) = refl
 own_length_from p of n (construct.Lift f) parts = refl
 own_length_from p of n (construct.Signal f) [] = refl
 own_length_from p of n (construct.Signal f) (a ∷ parts) = both_lengths (lifting p n (a ∷ parts)) (lifting p 0 (streams_of (types (a ∷ parts)))) (_ ∷ []) (_ ∷ []) (lifting_length p n (a ∷ parts)) refl
-own_length_from p of n (construct.Update o os) parts = with_literals_length p (update_op o) of unit_type n os parts
+own_length_from p of n (construct.Update o os) parts = with_literals_length p (operation_of o) of unit_type n os parts
 own_length_from p of n c parts = refl
 
 -- for other numbers and types

@@ -13,7 +13,7 @@ use Rattle.name_check.specs.declared.declaration.Declaration.TheVariants as decl
 use Rattle.name_check.specs.Scope.{meaning}
 use Rattle.type_rules.specs.declared.rule.ExprType.{ExprType}
 use Rattle.type_rules.specs.declared.rule.ExprType.TheVariants as expr_type
-use Rattle.expr_types.specs.Around.{Kinds}
+use Rattle.type_rules.specs.Kinds.{Kinds}
 use Rattle.stream_constructs.specs.declared.construct.Stream.{Stream}
 use Rattle.stream_constructs.specs.Equations.{alias_equation}
 use Rattle.spec_meaning.specs.Occurrence.{Call, scope_at, body_of, block_of, result_of}

@@ -11,7 +11,8 @@ use Rattle.lift_func.specs.declared.fault.FaultKind.{FaultKind}
 use Rattle.flat_core.specs.declared.equation.Equation.{Equation}
 use Rattle.flat_core.specs.declared.equation.Output.{Output}
 use Rattle.flat_core.specs.Stream.{Event, History}
-use Rattle.flat_core.specs.Case.{Inputs, Streams, root_fault}
+use Rattle.flat_core.specs.Case.{Streams, root_fault}
+use Rattle.flat_core.specs.Events.{Inputs}
 use Rattle.flat_core.specs.Complete.{IsFlat}
 use Rattle.flat_core.specs.Needed.{RunsNeeded}
 use Rattle.flat_core.specs.Instant.{is_delay, is_delay_op}
@@ -22,7 +23,7 @@ use Rattle.flat_core.specs.WellFormed.{IsWellFormed}
 use Rattle.flat_core.proofs.Members.{all_at}
 use Rattle.syntax_tree.specs.Tree as tree
 use Rattle.syntax_tree.specs.Tree.{place_of}
-use Rattle.expr_types.specs.Around.{Kinds}
+use Rattle.type_rules.specs.Kinds.{Kinds}
 use Rattle.stream_constructs.specs.declared.construct.Stream.{Stream}
 use Rattle.stream_constructs.specs.Construct.{Construct, root, is_blocked}
 use Rattle.stream_constructs.specs.Construct as construct

@@ -5,10 +5,10 @@ use Rattle.std.proofs.lemmas.Bool.{false≢true}
 use Rattle.std.proofs.lemmas.Option.{same_Some}
 use Rattle.tsl_value.specs.declared.scalar.ScalarType.TheVariants as scalar_type
 use Rattle.tsl_value.specs.declared.scalar.ValueType.TheVariants as value_type
-use Rattle.lift_func.specs.declared.body.Unary.{Unary}
-use Rattle.lift_func.specs.declared.body.Unary.TheVariants as unary
-use Rattle.lift_func.specs.declared.body.Binary.{Binary}
-use Rattle.lift_func.specs.declared.body.Binary.TheVariants as binary
+use Rattle.tsl_value.specs.declared.operation.Unary.{Unary}
+use Rattle.tsl_value.specs.declared.operation.Unary.TheVariants as unary
+use Rattle.tsl_value.specs.declared.operation.Binary.{Binary}
+use Rattle.tsl_value.specs.declared.operation.Binary.TheVariants as binary
 use Rattle.lift_func.specs.BodyTree.{BodyTree}
 use Rattle.lift_func.specs.Typing.{ValueKind, Value, Optional, plain, TypesOne, TypesTwo, HasKind}
 use Rattle.lift_func.specs.Operations.{is_arithmetic, is_order, is_equality, is_logic, is_on_texts, made_of_texts}
@@ -26,8 +26,7 @@ result_of_one o k = Some (plain scalar_type.Int)
 one_result : {o : Unary} {j k : ValueKind} → TypesOne o j k → result_of_one o j ≡ Some k
 one_result typing.TypesOne.neg = refl
 one_result typing.TypesOne.not = refl
-one_result typing.TypesOne.set_size = refl
-one_result typing.TypesOne.map_size = refl
+one_result (typing.TypesOne.size is) = refl
 one_result typing.TypesOne.length = refl
 one_result typing.TypesOne.some = refl
 one_result typing.TypesOne.is_some = refl

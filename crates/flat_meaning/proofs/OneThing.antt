@@ -3,7 +3,7 @@ use Rattle.std.proofs.Common.{◌≡◌, ℕ, suc, ◌+◌, ◌<◌, List, [], �
 use Rattle.std.specs.Prelude.{slice_get}
 use Rattle.std.proofs.lemmas.Option.{same_Some}
 use Rattle.flat_core.specs.Stream.{Outcome, History}
-use Rattle.flat_core.specs.Case.{Inputs}
+use Rattle.flat_core.specs.Events.{Inputs}
 use Rattle.syntax_tree.specs.Tree as tree
 use Rattle.stream_constructs.specs.Construct.{Construct, outcome, root}
 use Rattle.spec_meaning.specs.Occurrence.{Occurrence}

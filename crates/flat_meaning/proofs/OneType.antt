@@ -10,12 +10,10 @@ use Rattle.lift_func.specs.Typing.{ValueKind, Value, Optional, HasKind}
 use Rattle.lift_func.specs.Typing as typing
 use Rattle.flat_core.specs.Typed.{unit_type, int_type, bool_type}
 use Rattle.stream_constructs.specs.declared.construct.Stream.{Stream}
-use Rattle.vocabulary.specs.declared.signature.Update.{Update as UpdateOp}
 use Rattle.stream_constructs.specs.Construct.{Construct, Operand, Fixed, Varying, operand_trees}
 use Rattle.stream_constructs.specs.Construct as construct
 use Rattle.stream_constructs.specs.Equations.{choice}
-use Rattle.stream_constructs.specs.Agree.{AreOperands, Updates, Fits, FitsChoice}
-use Rattle.stream_constructs.specs.Agree as agree
+use Rattle.stream_constructs.specs.Agree.{AreOperands, Fits, FitsChoice}
 use Rattle.stream_constructs.proofs.Operands.{Chooses, by_literal, by_stream, chooses_of}
 use Rattle.flat_meaning.proofs.OneKind.{one_kind}
 
@@ -38,12 +36,6 @@ operands_are os parts ts h = absurd h
 
 abbrev first_type : List ValueType → Option ValueType
 first_type ts = slice_get ts 0
-
-update_is : {o : UpdateOp} {ts : List ValueType} {of : ValueType} → Updates o ts of → first_type ts ≡ Some of
-update_is agree.Updates.set_add = refl
-update_is agree.Updates.set_remove = refl
-update_is agree.Updates.map_add = refl
-update_is agree.Updates.map_remove = refl
 
 -- ---- constructs with equations of their own
 abbrev pub is_nil : Construct → Bool
@@ -96,7 +88,7 @@ fits_is construct.Filter (e ∷ c ∷ []) of other h = ap Some (sym h.0)
 fits_is (construct.FilterBy b) (e ∷ []) of other h = ap Some (sym h)
 fits_is (construct.Lift f) parts of other h = subst (λ ks. HasKind ks f (Optional of)) (kinds_of Optional parts) h.3
 fits_is (construct.Signal f) parts of other h = subst (λ ks. HasKind ks f (Value of)) (kinds_of Value parts) h.2
-fits_is (construct.Update o os) parts of other h = sym (ap first_type (operands_are os parts h.0 h.1)) ∙ update_is h.2
+fits_is (construct.Update o os) parts of other h = sym (ap first_type (operands_are os parts (of ∷ h.0) h.1))
 fits_is c parts of other h = absurd h
 
 pub one_type : (c : Construct) (parts others : List Stream) (of at : ValueType) → is_nil c ≡ false → types parts ≡ types others → Fits c parts of → Fits c others at → of ≡ at

@@ -18,7 +18,7 @@ use Rattle.syntax_tree.specs.Tree as tree
 use Rattle.syntax_tree.specs.Tree.{Expr}
 use Rattle.name_check.specs.Scope.{functions_of, top}
 use Rattle.form_check.specs.Outputs.{printed_again, twice_after}
-use Rattle.expr_types.specs.Around.{Kinds}
+use Rattle.type_rules.specs.Kinds.{Kinds}
 use Rattle.stream_constructs.specs.declared.construct.Stream.{Stream}
 use Rattle.spec_meaning.specs.Due.{outputs_of}
 use Rattle.spec_meaning.specs.Flat.{named, MakesPrinted, MakesOutputs}

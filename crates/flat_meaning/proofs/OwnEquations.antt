@@ -9,12 +9,13 @@ use Rattle.flat_core.specs.declared.equation.Equation.{Equation}
 use Rattle.flat_core.specs.Instant.{is_delay_op}
 use Rattle.flat_core.proofs.Members.{all_append}
 use Rattle.stream_constructs.specs.declared.construct.Stream.{Stream}
-use Rattle.vocabulary.specs.declared.signature.Update.{Update as UpdateOp}
-use Rattle.vocabulary.specs.declared.signature.Update.TheVariants as update
+use Rattle.tsl_value.specs.declared.operation.Update.{Update as UpdateOp}
+use Rattle.tsl_value.specs.declared.operation.Update.TheVariants as update
 use Rattle.stream_constructs.specs.Construct.{Construct, Operand, Fixed, Varying}
 use Rattle.stream_constructs.specs.Construct as construct
-use Rattle.stream_constructs.specs.Equations.{equation, strict_lift, held, held_each, lifting, lifted_streams, literal_equations, operand_numbers, first_number, numbers, with_literals, update_op, own_equations, choice_equations}
+use Rattle.stream_constructs.specs.Equations.{equation, strict_lift, held, held_each, lifting, lifted_streams, literal_equations, operand_numbers, first_number, numbers, with_literals, own_equations, choice_equations}
 use Rattle.stream_constructs.specs.Agree.{Fits}
+use Rattle.flat_core.specs.Updates.{operation_of}
 
 -- an equation of a construct at a place
 pub record IsOwn (c : Construct) (p : Place) (e : Equation) : Type 0 where
@@ -53,11 +54,9 @@ module _ (c : Construct) (p : Place) where
       (all_append (IsOwn c p) (lifting p n parts) (literal_equations p (first_number (lifted_streams n parts)) os) (lifting_made n parts) (literals_made (first_number (lifted_streams n parts)) os))
       (plain_one o _ of other, tt)
 
-update_no_delay : (o : UpdateOp) → is_delay_op (update_op o) ≡ false
+update_no_delay : (o : UpdateOp) → is_delay_op (operation_of o) ≡ false
 update_no_delay update.SetAdd = refl
-update_no_delay update.SetRemove = refl
-update_no_delay update.MapAdd = refl
-update_no_delay update.MapRemove = refl
+update_no_delay o = refl
 
 pub own_made : (p : Place) (of : ValueType) (n : ℕ) (c : Construct) (parts : List Stream) → AllByRecursion (IsOwn c p) (own_equations p of n c parts)
 own_made p of n construct.Nil [] = (plain_one construct.Nil p _ _ _ refl, tt)
@@ -75,7 +74,7 @@ own_made p of n (construct.Lift f) parts = (plain_one (construct.Lift f) p _ _ _
 own_made p of n (construct.Signal f) [] = (plain_one (construct.Signal f) p _ _ _ refl, (plain_one (construct.Signal f) p _ _ _ refl, tt))
 own_made p of n (construct.Signal f) (a ∷ parts) =
     all_append (IsOwn (construct.Signal f) p) (lifting p n (a ∷ parts)) (strict_lift p f (numbers (lifted_streams n (a ∷ parts))) of ∷ []) (lifting_made (construct.Signal f) p n (a ∷ parts)) (plain_one (construct.Signal f) p _ _ _ refl, tt)
-own_made p of n (construct.Update o os) parts = with_literals_made (construct.Update o os) p (update_op o) (update_no_delay o) of n os parts
+own_made p of n (construct.Update o os) parts = with_literals_made (construct.Update o os) p (operation_of o) (update_no_delay o) of n os parts
 own_made p of n c parts = tt
 
 pub choice_made : (c : Construct) (p : Place) (of : ValueType) (n : ℕ) (os : List Operand) (parts : List Stream) → AllByRecursion (IsOwn c p) (choice_equations p of n os parts)

@@ -5,7 +5,8 @@ use Rattle.std.specs.Option.{option_map}
 use Rattle.std.specs.List.{AllByRecursion, Contains}
 use Rattle.std.proofs.lemmas.Option.{slice_get-map, same_Some, none-some}
 use Rattle.flat_core.specs.declared.equation.Equation.{Equation}
-use Rattle.flat_core.specs.Case.{Inputs, Streams, case_of, root_fault}
+use Rattle.flat_core.specs.Case.{Streams, case_of, root_fault}
+use Rattle.flat_core.specs.Events.{Inputs}
 use Rattle.translation_order.specs.Graph.{Path, edge, step, Walk, stay, onward}
 use Rattle.flat_core.specs.Needed.{HasArgument}
 use Rattle.flat_core.specs.System.{System, runs, equation, IsProper}

@@ -10,7 +10,8 @@ use Rattle.syntax_tree.specs.Tree as tree
 use Rattle.name_check.specs.declared.declaration.Declaration.{Declaration}
 use Rattle.name_check.specs.declared.declaration.Declaration.TheVariants as declaration
 use Rattle.name_check.specs.Scope.{count_in, Scope, meaning, is_events, declared_from, top, parameters_from, locals_from, is_function, are_values, functions_of, inside}
-use Rattle.spec_meaning.specs.Occurrence.{Call, scope_at, params_of, body_of, block_of}
+use Rattle.spec_meaning.specs.Occurrence.{Call, scope_at, body_of, block_of}
+use Rattle.syntax_tree.specs.Tree.{params_of}
 use Rattle.flat_core.proofs.Members.{all_append}
 use Rattle.checked_spec.proofs.FunctionScopes.{first_there}
 

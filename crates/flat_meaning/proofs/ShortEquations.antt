@@ -9,12 +9,13 @@ use Rattle.flat_core.specs.declared.equation.Equation.{Equation}
 use Rattle.flat_core.specs.Complete.{HasShortBody}
 use Rattle.flat_core.proofs.Members.{all_append}
 use Rattle.stream_constructs.specs.declared.construct.Stream.{Stream}
-use Rattle.vocabulary.specs.declared.signature.Update.{Update as UpdateOp}
-use Rattle.vocabulary.specs.declared.signature.Update.TheVariants as update
+use Rattle.tsl_value.specs.declared.operation.Update.{Update as UpdateOp}
+use Rattle.tsl_value.specs.declared.operation.Update.TheVariants as update
 use Rattle.stream_constructs.specs.Construct.{Construct, Operand, Fixed, Varying}
 use Rattle.stream_constructs.specs.Construct as construct
-use Rattle.stream_constructs.specs.Equations.{held_each, lifting, lifted_streams, literal_equations, first_number, with_literals, update_op, own_equations, choice_equations}
+use Rattle.stream_constructs.specs.Equations.{held_each, lifting, lifted_streams, literal_equations, first_number, with_literals, own_equations, choice_equations}
 use Rattle.flat_meaning.proofs.ShortShapes.{ShortConstruct, ShortOperands}
+use Rattle.flat_core.specs.Updates.{operation_of}
 
 abbrev pub ShortEquations : List Equation → Type 0
 ShortEquations own = AllByRecursion (λ e. HasShortBody e.op) own
@@ -42,11 +43,9 @@ with_literals_short p o of n os parts here all =
     join (lifting p n parts ++ literal_equations p (first_number (lifted_streams n parts)) os) _
     (join (lifting p n parts) (literal_equations p (first_number (lifted_streams n parts)) os) (lifting_short p n parts) (literals_short p (first_number (lifted_streams n parts)) os all)) (here, tt)
 
-update_short : (o : UpdateOp) → HasShortBody (update_op o)
+update_short : (o : UpdateOp) → HasShortBody (operation_of o)
 update_short update.SetAdd = tt
-update_short update.SetRemove = tt
-update_short update.MapAdd = tt
-update_short update.MapRemove = tt
+update_short o = tt
 
 pub own_short : (p : Place) (of : ValueType) (n : ℕ) (c : Construct) (parts : List Stream) → ShortConstruct c → ShortEquations (own_equations p of n c parts)
 own_short p of n construct.Nil [] h = (tt, tt)
@@ -63,7 +62,7 @@ own_short p of n (construct.FilterBy b) (e ∷ []) h = (tt, (tt, tt))
 own_short p of n (construct.Lift f) parts h = (h, tt)
 own_short p of n (construct.Signal f) [] h = (tt, (h, tt))
 own_short p of n (construct.Signal f) (a ∷ parts) h = join (lifting p n (a ∷ parts)) _ (lifting_short p n (a ∷ parts)) (h, tt)
-own_short p of n (construct.Update o os) parts h = with_literals_short p (update_op o) of n os parts (update_short o) h
+own_short p of n (construct.Update o os) parts h = with_literals_short p (operation_of o) of n os parts (update_short o) h
 own_short p of n c parts h = tt
 
 pub choice_short : (p : Place) (of : ValueType) (n : ℕ) (os : List Operand) (parts : List Stream) → ShortOperands os → ShortEquations (choice_equations p of n os parts)

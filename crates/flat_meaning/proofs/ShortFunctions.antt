@@ -21,7 +21,8 @@ use Rattle.name_check.specs.declared.declaration.Declaration.TheVariants as decl
 use Rattle.name_check.specs.Builtin.{is_lift, lift_name}
 use Rattle.name_check.specs.Scope.{Entry, Scope, meaning, parameters_from, are_values, is_function, functions_of, inside, top}
 use Rattle.type_rules.specs.Written.{value_of}
-use Rattle.spec_meaning.specs.Occurrence.{params_of, body_of, result_of}
+use Rattle.spec_meaning.specs.Occurrence.{body_of, result_of}
+use Rattle.syntax_tree.specs.Tree.{params_of}
 use Rattle.spec_meaning.specs.Function.{operation_of, option_tree, role_tree, absent, no_tree, named_tree, call_tree, tree_of, trees_of, chain_tree, body_tree, function_tree, function_at, arguments_from, function_body}
 use Rattle.flat_meaning.proofs.ShortTexts.{ShortExpr, ShortExprs, ShortLinks, AreBodiesShort, result_short}
 

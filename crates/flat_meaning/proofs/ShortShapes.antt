@@ -10,9 +10,9 @@ use Rattle.tsl_value.specs.declared.place.Place.{Place}
 use Rattle.tsl_value.specs.declared.scalar.Scalar.{Scalar}
 use Rattle.tsl_value.specs.declared.scalar.Scalar.TheVariants as scalar
 use Rattle.tsl_value.specs.declared.scalar.ValueType.{ValueType}
-use Rattle.lift_func.specs.declared.body.Unary.{Unary}
-use Rattle.lift_func.specs.declared.body.Unary.TheVariants as unary
-use Rattle.lift_func.specs.declared.body.Binary.{Binary}
+use Rattle.tsl_value.specs.declared.operation.Unary.{Unary}
+use Rattle.tsl_value.specs.declared.operation.Unary.TheVariants as unary
+use Rattle.tsl_value.specs.declared.operation.Binary.{Binary}
 use Rattle.lift_func.specs.BodyTree.{BodyTree, One, Two}
 use Rattle.flat_core.specs.Complete.{IsShort, HasShortTexts}
 use Rattle.flat_core.proofs.Members.{all_append}
@@ -30,7 +30,7 @@ use Rattle.name_check.specs.Scope.{functions_of, meaning, top}
 use Rattle.stream_constructs.specs.Construct.{Construct, Operand, Fixed, Varying, operand_trees}
 use Rattle.stream_constructs.specs.Construct as construct
 use Rattle.stream_constructs.specs.Equations.{choice}
-use Rattle.vocabulary.specs.declared.signature.Update.{Update as UpdateOp}
+use Rattle.tsl_value.specs.declared.operation.Update.{Update as UpdateOp}
 use Rattle.spec_meaning.specs.Occurrence.{Call, Occurrence, scope_at, stands_for, macro_result}
 use Rattle.spec_meaning.specs.Function.{literal, operation_of, comparison_of, role_tree, function_at, function_body}
 use Rattle.spec_meaning.specs.Shape.{Shape, expressions, all_but_last, last_operator, last_operand, left_of, operand, operands, is_part, beside, with_parts, signal_of, update_of, two_operands, one_operand, role_shape, plain_names, plain_name, is_delay, is_const, is_filter, const_shape, filtered_by, filter_shape, same_as, name_shape, declared_shape, lift_by, function_named, lift_shape, call_shape, empty_shape, expr_shape}

@@ -11,7 +11,7 @@ use Rattle.syntax_tree.specs.Tree as tree
 use Rattle.syntax_tree.specs.Tree.{Expr, place_of}
 use Rattle.name_check.specs.declared.declaration.Declaration.{Declaration}
 use Rattle.name_check.specs.Scope.{meaning}
-use Rattle.expr_types.specs.Around.{Kinds}
+use Rattle.type_rules.specs.Kinds.{Kinds}
 use Rattle.stream_constructs.specs.declared.construct.Stream.{Stream}
 use Rattle.stream_constructs.specs.Equations.{alias_equation}
 use Rattle.spec_meaning.specs.Occurrence.{scope_at}

@@ -11,7 +11,7 @@ use Rattle.flat_core.proofs.Members.{all_append}
 use Rattle.flat_core.proofs.Uniqueness.{all_by}
 use Rattle.syntax_tree.specs.Tree as tree
 use Rattle.name_check.specs.Scope.{functions_of, top}
-use Rattle.expr_types.specs.Around.{Kinds}
+use Rattle.type_rules.specs.Kinds.{Kinds}
 use Rattle.spec_meaning.specs.Flat.{IsFlatOf}
 use Rattle.checked_spec.specs.inner.Checked.{IsChecked}
 use Rattle.checked_spec.proofs.OwnNames.{lift_is_no_function}

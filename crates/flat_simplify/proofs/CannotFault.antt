@@ -1,7 +1,8 @@
 -- An equation that cannot fault has no root fault.
-use Rattle.std.proofs.Common.{◌≡◌, ℕ, Bool, true, false, ◌||◌, List, [], ◌∷◌, map, Option, None, Ok, Err, refl, ap, ◌∙◌}
+use Rattle.std.proofs.Common.{◌≡◌, ℕ, Bool, true, false, ◌||◌, List, [], ◌∷◌, map, Option, Some, None, Ok, Err, refl, ap, ◌∙◌}
 use Rattle.std.specs.Prelude.{IsFalse, if◌then◌else◌, is_some}
 use Rattle.std.specs.List.{list_any, list_all}
+use Rattle.std.specs.Option.{option_map_or}
 use Rattle.std.proofs.lemmas.Bool.{or_parts, true≢false}
 use Rattle.tsl_value.specs.View.{View}
 use Rattle.tsl_value.specs.declared.scalar.ValueType.{ValueType}
@@ -10,12 +11,17 @@ use Rattle.lift_func.specs.Apply.{Answer, of_one, chosen, apply}
 use Rattle.lift_func.specs.BodyTree.{BodyTree, Literal, Argument, Absent, One, Two, Choice}
 use Rattle.lift_func.specs.Operations.{can_fault_one, can_fault_two}
 use Rattle.lift_func.specs.Typing.{can_fault}
+use Rattle.lift_func.specs.Update.{update_faults}
+use Rattle.lift_func.proofs.Updates.{answer_safe}
+use Rattle.tsl_value.specs.declared.operation.Update.{Update}
 use Rattle.lift_func.proofs.Fits.{HasNoFault, then_safe, chosen_safe, one_safe, two_safe}
 use Rattle.flat_core.specs.declared.equation.Equation.{Equation}
 use Rattle.flat_core.specs.declared.equation.Op.{Op}
 use Rattle.flat_core.specs.declared.equation.Op.TheVariants as op
 use Rattle.flat_core.specs.Stream.{event}
-use Rattle.flat_core.specs.Case.{Streams, Inputs, at_once, own, own_of, is_blocked, fault_of, root_of}
+use Rattle.flat_core.specs.Case.{Streams, own, own_of, is_blocked, root_of}
+use Rattle.flat_core.specs.Events.{Inputs, at_once, fault_of, updating}
+use Rattle.flat_core.specs.Updates.{update_in}
 use Rattle.flat_simplify.specs.CanFault.{can_fault_op}
 
 -- the answer is no fault
@@ -48,14 +54,23 @@ either_sound : (b : Bool) (answer : Answer) → IsSound answer → IsSound (if b
 either_sound true answer sound = sound
 either_sound false answer sound = refl
 
+-- an update that cannot fault, and what is none
+updating_sound : (w : Option Update) → option_map_or update_faults w false ≡ false → (values : List (Option View)) → IsSound (updating w values)
+updating_sound None never values = refl
+updating_sound (Some u) never values = ap fault_of (answer_safe u never values).1
+
 at_once_sound : (o : Op) (of : ValueType) (values : List (Option View)) (t : ℕ) → IsFalse (can_fault_op o) → IsSound (at_once o of values t)
 at_once_sound (op.Lift body true) of values t never = either_sound (list_all is_some values) (apply body values) (sound (apply body values) (apply_safe body values never))
 at_once_sound (op.Lift body false) of values t never = either_sound (list_any is_some values) (apply body values) (sound (apply body values) (apply_safe body values never))
-at_once_sound o of [] t never = refl
-at_once_sound o of (a ∷ []) t never = refl
-at_once_sound o of (a ∷ b ∷ []) t never = refl
-at_once_sound o of (a ∷ b ∷ c ∷ []) t never = refl
-at_once_sound o of (a ∷ b ∷ c ∷ d ∷ values) t never = refl
+at_once_sound op.Delay of values t never = refl
+at_once_sound op.Unit of [] t never = refl
+at_once_sound op.Empty of [] t never = refl
+at_once_sound op.Any of values t never = refl
+at_once_sound op.Time of (a ∷ []) t never = refl
+at_once_sound op.Merge of (a ∷ b ∷ []) t never = refl
+at_once_sound op.Filter of (a ∷ c ∷ []) t never = refl
+at_once_sound op.Pick of (c ∷ a ∷ b ∷ []) t never = refl
+at_once_sound o of values t never = updating_sound (update_in o) never values
 
 module _ (inputs : Inputs) (z : Streams) (i : ℕ) (t : ℕ) where
   own_sound : (o : Op) (args : List ℕ) (of : ValueType) → IsFalse (can_fault_op o) → IsSound (own_of inputs z i o args of t)

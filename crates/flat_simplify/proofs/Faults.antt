@@ -10,7 +10,8 @@ use Rattle.flat_core.specs.declared.equation.Equation.{Equation}
 use Rattle.flat_core.specs.declared.equation.Op.{Op}
 use Rattle.flat_core.specs.declared.equation.Op.TheVariants as op
 use Rattle.flat_core.specs.Stream.{Outcome, Event, Fault, event, is_fault}
-use Rattle.flat_core.specs.Case.{Streams, Inputs, own, used_of, is_blocked, fault_of, refused, amount_fault, root_of, root_fault}
+use Rattle.flat_core.specs.Case.{Streams, own, used_of, is_blocked, amount_fault, root_of, root_fault}
+use Rattle.flat_core.specs.Events.{Inputs, fault_of, refused}
 use Rattle.flat_core.specs.Fault.{root_at, is_faulty, is_over}
 use Rattle.flat_core.specs.System.{System, runs, equation}
 use Rattle.flat_core.proofs.Locality.{AgreeBefore, own-same, blocked-same}

@@ -8,7 +8,8 @@ use Rattle.flat_core.specs.declared.equation.Equation.{Equation}
 use Rattle.flat_core.specs.declared.equation.Op.{Op}
 use Rattle.flat_core.specs.declared.equation.Op.TheVariants as op
 use Rattle.flat_core.specs.Stream.{Fault, event, is_fault}
-use Rattle.flat_core.specs.Case.{Streams, Inputs, unit, at_once, expires, own_of, used_of, is_blocked, outcome_of, case_of, fault_of, amount_fault, root_of}
+use Rattle.flat_core.specs.Case.{Streams, own_of, used_of, is_blocked, case_of, amount_fault, root_of}
+use Rattle.flat_core.specs.Events.{Inputs, unit, at_once, expires, outcome_of, fault_of}
 
 module _ (f : ℕ → ℕ) (inputs : Inputs) (w : Streams) (i t : ℕ) (self : f i ≡ i) where
   -- the streams at the other numbers

@@ -7,7 +7,8 @@ use Rattle.tsl_value.specs.declared.scalar.ValueType.{ValueType}
 use Rattle.flat_core.specs.declared.equation.Equation.{Equation}
 use Rattle.flat_core.specs.declared.equation.Op.TheVariants as op
 use Rattle.flat_core.specs.System.{System, runs, equation, IsProper}
-use Rattle.flat_core.specs.Typed.{IsTyped, merge}
+use Rattle.flat_core.specs.Typed.{IsTyped, merge, update}
+use Rattle.flat_core.proofs.UpdateOps.{no_update}
 use Rattle.flat_core.specs.TypedSystem.{IsOfType, AreOfTypes, IsTypedSystem}
 use Rattle.flat_core.specs.WellFormed.{unguarded_of, IsWellFormed}
 use Rattle.flat_core.proofs.WellFormedRank.{rank_of, rank_falls}
@@ -17,6 +18,7 @@ use Rattle.flat_simplify.specs.inner.Laws.{IsStandIn}
 
 -- both arguments of a merge have its type
 merged_types : (equations : List Equation) (a b : ℕ) (types : List ValueType) (t : ValueType) → IsTyped op.Merge types t → AreOfTypes equations (a ∷ b ∷ []) types → IsOfType equations a t
+merged_types equations a b types t (update is row) of = no_update is
 merged_types equations a b types t merge of = of.0
 
 module _ (s : System) where

@@ -6,7 +6,8 @@ use Rattle.std.proofs.lemmas.Bool.{cases_lt, or_parts, false≢true, true≢fals
 use Rattle.std.proofs.lemmas.Option.{same_Some}
 use Rattle.flat_core.specs.declared.equation.Equation.{Equation}
 use Rattle.flat_core.specs.Stream.{Outcome, Event, Fault, event, has_event, is_fault}
-use Rattle.flat_core.specs.Case.{Streams, Inputs, merged, own, own_of, used_of, is_blocked, outcome_of}
+use Rattle.flat_core.specs.Case.{Streams, own, own_of, used_of, is_blocked}
+use Rattle.flat_core.specs.Events.{Inputs, merged, outcome_of}
 use Rattle.flat_core.specs.Fault.{is_faulty}
 use Rattle.flat_core.specs.System.{System, runs, equation}
 use Rattle.flat_core.proofs.Locality.{AgreeBefore, case_of-same}

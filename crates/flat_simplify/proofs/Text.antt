@@ -9,7 +9,8 @@ use Rattle.flat_core.specs.declared.equation.Equation.{Equation}
 use Rattle.flat_core.specs.declared.equation.Output.{Output}
 use Rattle.flat_core.specs.declared.equation.Op.TheVariants as op
 use Rattle.flat_core.specs.Stream.{Fault, event, has_event, is_fault}
-use Rattle.flat_core.specs.Case.{Streams, Inputs, delayed, own_of, used_of, outcome_of}
+use Rattle.flat_core.specs.Case.{Streams, delayed, own_of, used_of}
+use Rattle.flat_core.specs.Events.{Inputs, outcome_of}
 use Rattle.flat_core.specs.Fault.{is_faulty, is_over}
 use Rattle.flat_core.specs.Instant.{is_delay_op, is_delay, is_instant, instants}
 use Rattle.flat_core.specs.Line.{Line, inputs_of, is_line_on}

@@ -13,6 +13,7 @@ ghost use Rattle.flat_simplify.specs.Simplified.{IsStart, IsSimplified};
 use flat_core::equation::{Equation, Op, Output};
 use flat_core::flat::Flat;
 use flat_core::replacements::Replacements;
+use lift_func::update::update_can_fault;
 use recursion_check::check::{CycleFault, run_order};
 use std::alloc::Global;
 use translation_order::steps::Steps;
@@ -70,8 +71,7 @@ fn replaced_by(
     let Some((first, second)) = merged(flat.equation(id)) else {
         return Ok(None);
     };
-    // The arguments of a running equation are there, as the count tells.
-    let _ = flat.count();
+    flat.assert_whole();
     if triggers.implies(alloc, second, first)? {
         Ok(Some(first))
     } else {
@@ -131,7 +131,10 @@ fn can_fault(op: &Op) -> bool
     match op {
         Op::Delay => true,
         Op::Lift { body, .. } => body.can_fault(),
-        _ => false,
+        _ => match op.update() {
+            Some(update) => update_can_fault(update),
+            None => false,
+        },
     }
 }
 
@@ -181,8 +184,7 @@ pub fn simplify(alloc: Global, flat: Flat, triggers: &Triggers) -> Result<Flat, 
     ensures simplified { IfOk result (IsSimplified flat) }
     ensures well_formed { IfOk result IsWellFormed }
 {
-    // A flat system is well typed and proper, as its count tells.
-    let _ = flat.count();
+    flat.assert_whole();
     let replaced = replacements(alloc, &flat, triggers)?;
     let starts = starts(alloc, &flat, &replaced)?;
     let running = flat.reached(alloc, &replaced, &starts)?;

@@ -10,7 +10,8 @@ use Rattle.lift_func.specs.inner.Placed.{placed}
 use Rattle.name_check.specs.declared.declaration.Declaration.TheVariants as declaration
 use Rattle.name_check.specs.Scope.{meaning, inside, top}
 use Rattle.name_check.proofs.AgreeLemmas.{agree_same}
-use Rattle.spec_meaning.specs.Occurrence.{params_of, body_of}
+use Rattle.spec_meaning.specs.Occurrence.{body_of}
+use Rattle.syntax_tree.specs.Tree.{params_of}
 use Rattle.spec_meaning.specs.Function.{no_tree, tree_of, body_tree, function_tree, arguments_from}
 use Rattle.function_bodies.specs.inner.Calls.{IsFunction, ArePlain}
 use Rattle.function_bodies.specs.inner.Laws.{NestsWithin, DepthIsEnough, BodiesArePlaced}

@@ -18,7 +18,8 @@ use Rattle.syntax_tree.specs.declared.tree.Item.{Item}
 use Rattle.syntax_tree.specs.inner.OneLevel.{item_of}
 use Rattle.name_check.specs.Scope.{Scope, top, are_values, functions_of, parameters_from, seen, Agree}
 use Rattle.name_check.proofs.AgreeLemmas.{agree_same, agree_append}
-use Rattle.spec_meaning.specs.Occurrence.{params_of, body_of, result_of}
+use Rattle.spec_meaning.specs.Occurrence.{body_of, result_of}
+use Rattle.syntax_tree.specs.Tree.{params_of}
 use Rattle.spec_meaning.specs.Function.{arguments_from, tree_of, function_tree, function_body}
 use Rattle.definition_cycles.specs.Calls.{Calls}
 use Rattle.function_bodies.specs.inner.Calls.{IsCallOrder, IsFunction, ArePlain}

@@ -15,7 +15,8 @@ use Rattle.name_check.specs.Builtin.{lift_name}
 use Rattle.name_check.specs.Scope.{Scope, Entry, meaning, is_events, is_function, are_values, declared_as, declared_from, functions_of, inside, parameters_from, top}
 use Rattle.name_check.specs.Parts.{Part, Operand, parts}
 use Rattle.name_check.proofs.AgreeLemmas.{meaning-append}
-use Rattle.spec_meaning.specs.Occurrence.{params_of, body_of}
+use Rattle.spec_meaning.specs.Occurrence.{body_of}
+use Rattle.syntax_tree.specs.Tree.{params_of}
 use Rattle.definition_cycles.specs.Mentions.{declared}
 use Rattle.definition_cycles.specs.Calls.{is_call, Calls}
 use Rattle.function_bodies.specs.inner.Calls.{IsFunction, ArePlain}

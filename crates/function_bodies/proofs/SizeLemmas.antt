@@ -15,7 +15,7 @@ use Rattle.syntax_tree.specs.Tree as tree
 use Rattle.name_check.specs.Scope.{are_values}
 use Rattle.name_check.specs.Faults.{first}
 use Rattle.name_check.proofs.FirstLemmas.{empty_without_first}
-use Rattle.spec_meaning.specs.Occurrence.{params_of}
+use Rattle.syntax_tree.specs.Tree.{params_of}
 use Rattle.spec_meaning.specs.Function.{no_tree, function_at, function_body}
 use Rattle.function_bodies.specs.inner.Calls.{IsFunction}
 use Rattle.function_bodies.specs.Bodies.{body_at, AreBodies, too_large_in, too_large_from, too_large_bodies}

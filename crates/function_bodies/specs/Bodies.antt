@@ -6,7 +6,7 @@ use Rattle.lift_func.specs.BodyTree.{BodyTree, node_count}
 use Rattle.lift_func.specs.inner.Placed.{placed, within}
 use Rattle.syntax_tree.specs.Tree as tree
 use Rattle.name_check.specs.Scope.{are_values}
-use Rattle.spec_meaning.specs.Occurrence.{params_of}
+use Rattle.syntax_tree.specs.Tree.{params_of}
 use Rattle.spec_meaning.specs.Function.{function_at, function_body}
 use Rattle.function_bodies.specs.inner.Calls.{IsFunction}
 

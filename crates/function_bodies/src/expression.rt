@@ -11,11 +11,12 @@ ghost use Rattle.function_bodies.specs.inner.Around.{args_at, call_of, chain_at,
 
 use crate::around::{Around, absent, call_body, unit};
 use crate::operation::{comparison_of, dotted_one, dotted_two, operation_of, option_operation};
-use lift_func::body::{Binary, Body, Unary};
+use lift_func::body::Body;
 use name_check::declaration::Declaration;
 use std::alloc::Global;
 use syntax_tree::tree::{Expr, Link, Node};
 use tsl_value::memory::NoMemory;
+use tsl_value::operation::{Binary, Unary};
 use tsl_value::scalar::Scalar;
 use vocabulary::dotted::Dotted;
 

@@ -7,8 +7,8 @@ ghost use Rattle.vocabulary.specs.PlainTable.{plain_of, plain_role};
 ghost use Rattle.spec_meaning.specs.Function.{comparison_of, dotted_tree, operation_of, option_tree, role_tree};
 ghost use Rattle.function_bodies.specs.inner.Around.{one_or, two_or};
 
-use lift_func::body::{Binary, Unary};
 use syntax_tree::tree::{Comparison, Operator};
+use tsl_value::operation::{Binary, Unary};
 use vocabulary::dotted::Dotted;
 use vocabulary::plain::plain_named;
 use vocabulary::signature::Role;

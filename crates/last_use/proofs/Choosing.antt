@@ -13,7 +13,8 @@ use Rattle.tsl_value.proofs.Lists.{map_contains}
 use Rattle.flat_core.proofs.Members.{in-Contains}
 use Rattle.alias_rules.specs.Fine.{IsFine, with_tried, IsListed}
 use Rattle.alias_rules.specs.Uses.{IsUpdate, AreUpdates}
-use Rattle.alias_rules.proofs.Below.{none_listed, listed_low, tried_is, listed_same, listed_more, update_low, all_listed}
+use Rattle.alias_rules.proofs.Below.{none_listed, listed_low, tried_is, listed_same, listed_more, all_listed}
+use Rattle.alias_rules.proofs.Updates.{update_low}
 use Rattle.flat_core.proofs.Rising.{in_push, push_old, push_new, increasing_push}
 use Rattle.alias_rules.proofs.Tried.{tried_before}
 use Rattle.alias_analysis.specs.declared.reason.Reason.{Reason}

@@ -1,17 +1,21 @@
 -- From where an aggregate variable has its content: it begins there, or comes from an argument, however the equations around it are.
-use Rattle.std.proofs.Common.{◌≡◌, ℕ, Bool, true, false, List, [], ◌∷◌, drop, Contains, Some, inl, inr, refl, ap, subst, ◌∙◌}
-use Rattle.std.specs.Prelude.{IsTrue, slice_get}
+use Rattle.std.proofs.Common.{◌≡◌, ℕ, Bool, true, false, List, [], ◌∷◌, drop, Contains, Some, inl, inr, refl, sym, ap, subst, ◌∙◌}
+use Rattle.std.specs.Prelude.{IsTrue, is_some, slice_get, if◌then◌else◌}
 use Rattle.std.proofs.lemmas.Bool.{false≢true}
 use Rattle.tsl_value.specs.declared.scalar.ValueType.{ValueType}
 use Rattle.flat_core.specs.declared.equation.Equation.{Equation}
 use Rattle.flat_core.specs.declared.equation.Op.{Op}
 use Rattle.flat_core.specs.declared.equation.Op.TheVariants as op
-use Rattle.flat_core.specs.Typed.{is_aggregate, IsTyped, input, nil, unit, empty, time, any, last, delay, merge, filter, pick, set_add, set_remove, map_add, map_remove, lift}
+use Rattle.tsl_value.specs.Aggregate.{is_aggregate}
+use Rattle.flat_core.specs.Typed.{IsTyped, input, nil, unit, empty, time, any, last, delay, merge, filter, pick, update, lift}
 use Rattle.flat_core.specs.TypedSystem.{IsOfType, AreOfTypes}
 use Rattle.flat_core.specs.WellFormed.{unguarded_of}
 use Rattle.tsl_value.proofs.Lists.{here, later, none_in_nil, cons_cases}
 use Rattle.alias_rules.specs.Roots.{begins_content}
-use Rattle.flat_core.specs.Updates.{is_update}
+use Rattle.tsl_value.specs.declared.operation.Update.{Update}
+use Rattle.tsl_value.specs.declared.operation.Update.TheVariants as variant
+use Rattle.flat_core.specs.Updates.{operation_of, is_update}
+use Rattle.flat_core.proofs.UpdateOps.{each_update, unguarded_update}
 use Rattle.alias_rules.specs.Uses.{first_of, passed_of, written_of}
 
 -- ---- what is passed on or written is an argument that is not guarded
@@ -31,19 +35,19 @@ passed_needed op.Pick args x c = in_rest args x c
 passed_needed o args x c = absurd (none_in_nil x c)
 
 pub written_needed : (o : Op) (args : List ℕ) (x : ℕ) → Contains (written_of o args) x → Contains (unguarded_of o args) x
-written_needed op.SetAdd args x c = in_first args x c
-written_needed op.SetRemove args x c = in_first args x c
-written_needed op.MapAdd args x c = in_first args x c
-written_needed op.MapRemove args x c = in_first args x c
-written_needed o args x c = absurd (none_in_nil x c)
+written_needed o args x c = at (is_update o) refl c
+  where
+    at : (b : Bool) → is_update o ≡ b → Contains (if b then first_of args else []) x → Contains (unguarded_of o args) x
+    at true is found = subst (λ l. Contains l x) (sym (unguarded_update o is args)) (in_first args x found)
+    at false is found = absurd (none_in_nil x found)
+
+own_begins : (u : Update) → begins_content (operation_of u) false ≡ true
+own_begins variant.SetAdd = refl
+own_begins u = refl
 
 -- an update outside the set begins content
 pub begins_outside : (o : Op) → is_update o ≡ true → begins_content o false ≡ true
-begins_outside op.SetAdd h = refl
-begins_outside op.SetRemove h = refl
-begins_outside op.MapAdd h = refl
-begins_outside op.MapRemove h = refl
-begins_outside o h = absurd (false≢true h)
+begins_outside o h = each_update (λ p. begins_content p false ≡ true) own_begins o h
 
 -- ---- by the types
 
@@ -78,9 +82,10 @@ module _ (equations : List Equation) where
   pick_way (c ∷ []) u t typed aggregate = absurd typed.1
   pick_way (c ∷ a ∷ args) u t typed aggregate = passes a (aggregate_at a t typed.1.0 aggregate) (here a args) (λ other is args_are. cc)
 
-  first_way : (o : Op) (args : List ℕ) (t : ValueType) (types : List ValueType) → is_update o ≡ true → AreOfTypes equations args (t ∷ types) → IsTrue (is_aggregate t) → ((a : ℕ) → Contains (first_of args) a → Contains (written_of o args) a) → Way o args
-  first_way o [] t types update typed aggregate written = absurd typed
-  first_way o (a ∷ args) t types update typed aggregate written = writes a (aggregate_at a t typed.0 aggregate) update (written a (here a []))
+  first_way : (o : Op) (args : List ℕ) (t : ValueType) (types : List ValueType) → is_update o ≡ true → AreOfTypes equations args (t ∷ types) → IsTrue (is_aggregate t) → Way o args
+  first_way o [] t types writes_to typed aggregate = absurd typed
+  first_way o (a ∷ args) t types writes_to typed aggregate =
+      writes a (aggregate_at a t typed.0 aggregate) writes_to (subst (λ b. Contains (if b then a ∷ [] else []) a) (sym writes_to) (here a []))
 
   pub way : {o : Op} {types : List ValueType} {of : ValueType} → IsTyped o types of → (args : List ℕ) → AreOfTypes equations args types → IsTrue (is_aggregate of) → Way o args
   way input args typed aggregate = absurd (false≢true aggregate)
@@ -94,8 +99,5 @@ module _ (equations : List Equation) where
   way (merge {t}) args typed aggregate = merge_way args t typed aggregate
   way (filter {t}) args typed aggregate = filter_way args t _ typed aggregate
   way (pick {t} h) args typed aggregate = pick_way args _ t typed aggregate
-  way (set_add is) args typed aggregate = first_way op.SetAdd args _ _ refl typed aggregate (λ a c. c)
-  way (set_remove is) args typed aggregate = first_way op.SetRemove args _ _ refl typed aggregate (λ a c. c)
-  way (map_add is) args typed aggregate = first_way op.MapAdd args _ _ refl typed aggregate (λ a c. c)
-  way (map_remove is) args typed aggregate = first_way op.MapRemove args _ _ refl typed aggregate (λ a c. c)
+  way (update {o = o} is row) args typed aggregate = first_way o args _ _ (ap is_some is) typed aggregate
   way (lift low high h) args typed aggregate = absurd (false≢true aggregate)

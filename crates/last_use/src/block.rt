@@ -6,12 +6,11 @@
 ghost use Rattle.std.specs.Prelude.{◌≡◌, ◌↔◌, ◌+◌, ◌<◌, ◌≤◌, length, IfOk, OnOk, IsTrue, MatchOption};
 ghost use Rattle.std.specs.List.Sorted.{IsStrictlyIncreasing};
 ghost use Rattle.flat_core.specs.declared.equation.Op.TheVariants as op;
-ghost use Rattle.flat_core.specs.Typed.{is_aggregate};
 ghost use Rattle.alias_rules.specs.Uses.{AreUpdates};
 ghost use Rattle.last_use.specs.inner.Beginning.{IsNilVariable, NoneIsNil};
 ghost use Rattle.last_use.specs.inner.Blocks.{IsBlock, IsFineBlock, IsWithBlock, IsUpdateWithin};
 
-use crate::trial::{copy, is_running_update, refusal};
+use crate::trial::{copy, refusal};
 use alias_analysis::graph::Graph;
 use flat_core::equation::Op;
 use flat_core::flat::Flat;
@@ -19,7 +18,6 @@ use flat_core::lists::EqSet;
 use std::alloc::Global;
 use tsl_value::ids::EqId;
 use tsl_value::memory::NoMemory;
-use tsl_value::scalar::ValueType;
 
 /// A fine set with all updates of the equations below a number, and how many updates were wanted.
 #[derive(Drop)]
@@ -38,23 +36,13 @@ fn is_nil(operation: &Op) -> bool
     }
 }
 
-fn is_aggregate(of: &ValueType) -> bool
-    ensures { result ≡ is_aggregate of.now }
-{
-    match of {
-        ValueType::Scalar(_) => false,
-        ValueType::Set(_) => true,
-        ValueType::Map(_, _) => true,
-    }
-}
-
-/// Whether an equation runs, has a set or a map, and is nil.
+/// Whether an equation runs, has an aggregate, and is nil.
 fn is_nil_variable(flat: &Flat, id: EqId) -> bool
     requires { id < length flat.now.equations }
     ensures { IsTrue result ↔ IsNilVariable flat.now id }
 {
     let equation = flat.equation(id);
-    flat.runs(id) && is_aggregate(&equation.of) && is_nil(&equation.op)
+    flat.runs(id) && equation.of.is_aggregate() && is_nil(&equation.op)
 }
 
 /// Whether no aggregate variable is nil.
@@ -77,7 +65,7 @@ fn end_after(flat: &Flat, from: u32, updates: u32) -> u32
 {
     let mut left = updates;
     for number in from..flat.count() {
-        if is_running_update(flat, EqId::new(number)) {
+        if flat.is_running_update(EqId::new(number)) {
             if left <= 1 {
                 return number + 1;
             }
@@ -93,7 +81,7 @@ fn push_if_update(set: &mut EqSet, flat: &Flat, id: EqId) -> Result<(), NoMemory
     requires ascending { IsStrictlyIncreasing set.old }
     ensures { OnOk result (IsWithBlock flat.now set.old id (id + 1) set.new) }
 {
-    if is_running_update(flat, id) {
+    if flat.is_running_update(id) {
         set.push(id)?;
     }
     Ok(())

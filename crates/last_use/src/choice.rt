@@ -13,7 +13,7 @@ ghost use Rattle.last_use.specs.Reasons.{AreReasons};
 
 use crate::block::{Block, fine_updates, none_is_nil};
 use crate::reasons::Reasons;
-use crate::trial::{is_running_update, ordered, refusal, tried_set};
+use crate::trial::{ordered, refusal, tried_set};
 use alias_analysis::graph::Graph;
 use flat_core::flat::Flat;
 use flat_core::lists::EqSet;
@@ -92,7 +92,7 @@ fn with_equation(
     requires there { id < length flat.now.equations }
     ensures { IfOk result (λ c. IsChosenBelow flat.now (id + 1) c.in_place c.reasons) }
 {
-    if is_running_update(flat, id) {
+    if flat.is_running_update(id) {
         with_update(alloc, flat, graph, chosen, id)
     } else {
         Ok(chosen)
@@ -112,8 +112,7 @@ fn with_one(
     requires there { from < length flat.now.equations }
     ensures { IfOk result (IsTriedFrom flat.now from) }
 {
-    // A system has few equations, as their count tells.
-    let _ = flat.count();
+    flat.assert_whole();
     let before = chosen.in_place.len();
     let chosen = with_equation(alloc, flat, graph, chosen, EqId::new(from))?;
     let most = if chosen.in_place.len() > before { 2 } else { 1 };
@@ -140,8 +139,7 @@ fn with_next(
     requires several { 1 < most → NoneIsNil flat.now }
     ensures { IfOk result (IsTriedFrom flat.now from) }
 {
-    // A system is typed, as the count of its equations tells.
-    let _ = flat.count();
+    flat.assert_whole();
     let Chosen { in_place, reasons } = chosen;
     match fine_updates(alloc, flat, graph, &in_place, from, most)? {
         Some(
@@ -213,8 +211,7 @@ pub fn choose(alloc: Global, flat: &Flat, triggers: &Triggers) -> Result<Choice,
     ensures fine { IfOk result (λ c. IsFinePlan flat.now c.plan.in_place c.plan.order) }
     ensures reasons { IfOk result (λ c. AreReasons flat.now c.plan.in_place c.reasons) }
 {
-    // The outputs of a system run, as its count tells.
-    let _ = flat.count();
+    flat.assert_whole();
     let graph = Graph::of(alloc, flat, triggers)?;
     let Chosen { in_place, reasons } = try_all(alloc, flat, &graph)?;
     let order = order_of(alloc, flat, &graph, &in_place)?;

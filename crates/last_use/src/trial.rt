@@ -1,6 +1,6 @@
 // What is found where an update is tried.
 
-ghost use Rattle.std.specs.Prelude.{◌≡◌, ◌↔◌, ◌<◌, ℕ, length, slice_index, IfOk, OnOk, IfErr, IsTrue};
+ghost use Rattle.std.specs.Prelude.{◌≡◌, ◌<◌, ℕ, length, slice_index, IfOk, OnOk, IfErr, IsTrue};
 ghost use Rattle.std.specs.List.Sorted.{IsStrictlyIncreasing};
 ghost use Rattle.translation_order.specs.Graph.{IsAcyclic};
 ghost use Rattle.flat_core.specs.Members.{is_in};
@@ -10,7 +10,7 @@ ghost use Rattle.translation_order.specs.Order.{IsLeastOrder};
 ghost use Rattle.alias_rules.specs.Conflict.{StandsBefore};
 ghost use Rattle.alias_rules.specs.Fine.{with_tried};
 ghost use Rattle.alias_rules.specs.Steps.{step_count};
-ghost use Rattle.alias_rules.specs.Uses.{IsUpdate, AreUpdates};
+ghost use Rattle.alias_rules.specs.Uses.{AreUpdates};
 ghost use Rattle.last_use.specs.inner.Choosing.{IsRefusal};
 
 use alias_analysis::graph::Graph;
@@ -22,14 +22,6 @@ use translation_order::order::{OrderFault, order};
 use translation_order::steps::Steps;
 use tsl_value::ids::EqId;
 use tsl_value::memory::NoMemory;
-
-/// Whether an equation runs and is an update.
-pub fn is_running_update(flat: &Flat, id: EqId) -> bool
-    requires { id < length flat.now.equations }
-    ensures { IsTrue result ↔ IsUpdate flat.now id }
-{
-    flat.runs(id) && flat.equation(id).op.is_update()
-}
 
 /// The update at a place of a set.
 fn update_at(set: &EqSet, place: usize) -> EqId

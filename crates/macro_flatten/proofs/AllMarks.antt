@@ -10,7 +10,7 @@ use Rattle.flat_core.specs.declared.equation.Output.{Output}
 use Rattle.syntax_tree.specs.Tree as tree
 use Rattle.syntax_tree.specs.Tree.{Expr}
 use Rattle.type_rules.specs.declared.rule.ExprType.TheVariants as expr_type
-use Rattle.expr_types.specs.Around.{Kinds}
+use Rattle.type_rules.specs.Kinds.{Kinds}
 use Rattle.expr_types.specs.Bodies.{at_top, item_kind}
 use Rattle.stream_constructs.specs.declared.construct.Stream.{Stream}
 use Rattle.spec_meaning.specs.Occurrence.{result_of}

@@ -18,7 +18,9 @@ use Rattle.name_check.specs.Parts.{Part, parts}
 use Rattle.name_check.specs.Scope.{Scope, in_block, inside, top}
 use Rattle.name_check.specs.inner.Steps.{local_body}
 use Rattle.type_rules.specs.declared.rule.ExprType.TheVariants as expr_type
-use Rattle.expr_types.specs.Around.{Around, Kinds, declared_type, params_of}
+use Rattle.expr_types.specs.Around.{Around, declared_type}
+use Rattle.type_rules.specs.Kinds.{Kinds}
+use Rattle.syntax_tree.specs.Tree.{params_of}
 use Rattle.expr_types.specs.Bodies.{at_top, may_have_braces}
 use Rattle.stream_constructs.specs.declared.construct.Stream.{Stream}
 use Rattle.spec_meaning.specs.Occurrence.{block_of, body_of, local, result_of}

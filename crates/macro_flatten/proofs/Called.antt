@@ -22,7 +22,8 @@ use Rattle.type_rules.specs.Asked.{ask}
 use Rattle.type_rules.specs.Rules.{ask_each, macro_rule}
 use Rattle.type_rules.specs.Written.{as_written}
 use Rattle.form_check.specs.Arity.{call_fits, count, declared_takes}
-use Rattle.expr_types.specs.Around.{Around, Callee, callee_at, callee_of, param_types, params_of}
+use Rattle.expr_types.specs.Around.{Around, Callee, callee_at, callee_of, param_types}
+use Rattle.syntax_tree.specs.Tree.{params_of}
 use Rattle.expr_types.specs.Bodies.{in_definition, may_have_braces, within_block}
 use Rattle.expr_types.specs.Judge.{call_rule, of_verdict, type_of, types_of}
 use Rattle.stream_constructs.specs.declared.construct.Stream.{Stream}

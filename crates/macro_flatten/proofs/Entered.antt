@@ -17,7 +17,9 @@ use Rattle.name_check.specs.Scope.{Agree, Scope, are_values, functions_of, in_bl
 use Rattle.name_check.proofs.AgreeLemmas.{agree_append, agree_same, agree_trans}
 use Rattle.type_rules.specs.declared.rule.ExprType.TheVariants as expr_type
 use Rattle.type_rules.specs.declared.rule.Setting.TheVariants as setting
-use Rattle.expr_types.specs.Around.{Around, Kinds, declared_type, params_of}
+use Rattle.expr_types.specs.Around.{Around, declared_type}
+use Rattle.type_rules.specs.Kinds.{Kinds}
+use Rattle.syntax_tree.specs.Tree.{params_of}
 use Rattle.expr_types.specs.declared.around.Around as code_around
 use Rattle.expr_types.specs.Judge.{type_of}
 use Rattle.expr_types.specs.inner.Shown.{around_of, kinds_of}

@@ -10,7 +10,8 @@ use Rattle.syntax_tree.specs.inner.OneLevel.{body_of, item_of}
 use Rattle.syntax_tree.specs.declared.tree.DefinitionParts.{DefinitionParts}
 use Rattle.syntax_tree.specs.declared.tree.Item.{Item}
 use Rattle.type_rules.specs.Asked.{inner}
-use Rattle.expr_types.specs.Around.{Around, Kinds}
+use Rattle.expr_types.specs.Around.{Around}
+use Rattle.type_rules.specs.Kinds.{Kinds}
 use Rattle.expr_types.specs.Bodies.{at_top}
 use Rattle.stream_constructs.specs.declared.construct.Stream.{Stream}
 use Rattle.spec_meaning.specs.Occurrence.{result_of}

@@ -15,7 +15,7 @@ use Rattle.syntax_tree.specs.declared.tree.Item.{Item}
 use Rattle.type_rules.specs.declared.rule.ExprType.TheVariants as expr_type
 use Rattle.type_rules.specs.Written.{as_stream, bad_as_stream}
 use Rattle.form_check.specs.Types.{bad_in_item, bad_types}
-use Rattle.expr_types.specs.Around.{Kinds}
+use Rattle.type_rules.specs.Kinds.{Kinds}
 use Rattle.stream_constructs.specs.declared.construct.Stream.{Stream}
 use Rattle.stream_constructs.specs.declared.maker.MakeFault.{MakeFault}
 use Rattle.stream_constructs.specs.Limits.{IsRefusal}
@@ -28,17 +28,18 @@ use Rattle.checked_spec.specs.inner.Formed.{is_input}
 use Rattle.checked_spec.proofs.ListLemmas.{flat_empty}
 use Rattle.checked_spec.proofs.WrittenLemmas.{Has, value_there}
 use Rattle.equation_marks.specs.Marks.{input_marks, mark_of}
-use Rattle.macro_flatten.specs.inner.Items.{Follows, HasEventType, HaveEventTypes, input_equations, input_streams, type_or_unit}
+use Rattle.macro_flatten.specs.inner.Items.{Follows, HasEventType, HaveEventTypes, input_streams}
+use Rattle.spec_meaning.specs.Inputs.{declared_inputs, type_or_unit}
 use Rattle.macro_flatten.proofs.Lists.{with_both}
 
 -- ---- one item, and those after it
-pub equations_split : (item : tree.Item) (rest : List tree.Item) → input_equations (item ∷ rest) ≡ input_equations (item ∷ []) ++ input_equations rest
+pub equations_split : (item : tree.Item) (rest : List tree.Item) → declared_inputs (item ∷ rest) ≡ declared_inputs (item ∷ []) ++ declared_inputs rest
 equations_split (tree.Input p q x y) rest = refl
 equations_split (tree.Defined p d) rest = refl
 equations_split (tree.Output p q x) rest = refl
 equations_split (tree.OutputAs p e q x) rest = refl
 
-pub streams_split : (n : ℕ) (item : tree.Item) (rest : List tree.Item) → input_streams n (item ∷ rest) ≡ input_streams n (item ∷ []) ++ input_streams (n + length (input_equations (item ∷ []))) rest
+pub streams_split : (n : ℕ) (item : tree.Item) (rest : List tree.Item) → input_streams n (item ∷ rest) ≡ input_streams n (item ∷ []) ++ input_streams (n + length (declared_inputs (item ∷ []))) rest
 streams_split n (tree.Input p q x y) rest = let next : suc n ≡ n + 1 = omega arith in ap (λ m. Some (record { id = n; of = type_or_unit (event_type y) }) ∷ input_streams m rest) next
 streams_split n (tree.Defined p d) rest = let same : n ≡ n + 0 = omega arith in ap (λ m. None ∷ input_streams m rest) same
 streams_split n (tree.Output p q x) rest = let same : n ≡ n + 0 = omega arith in ap (λ m. None ∷ input_streams m rest) same
@@ -46,7 +47,7 @@ streams_split n (tree.OutputAs p e q x) rest = let same : n ≡ n + 0 = omega ar
 
 -- ---- what is made so far, with what is left, is the whole
 pub record AreLeft (whole : List tree.Item) (old now : System) (streams : List (Option Stream)) (left : List tree.Item) : Type 0 where
-  pub made : with_equations now (input_equations left) ≡ with_equations old (input_equations whole)
+  pub made : with_equations now (declared_inputs left) ≡ with_equations old (declared_inputs whole)
   pub table : streams ++ input_streams (length now.equations) left ≡ input_streams (length old.equations) whole
 
 -- all is left
@@ -54,17 +55,17 @@ pub left_all : (whole : List tree.Item) (now : System) (streams : List (Option S
 left_all whole now streams none = record { made = refl; table = ap (λ ss. ss ++ input_streams (length now.equations) whole) none }
 
 -- an input more
-pub left_turn : (whole : List tree.Item) (old now next : System) (streams more : List (Option Stream)) (s : Option Stream) (items : List Item) (k : ℕ) (item : Item) → AreLeft whole old now streams (map item_of (drop k items)) → k < length items → item ≡ get_or items k item → s ∷ [] ≡ input_streams (length now.equations) (item_of item ∷ []) → next ≡ with_equations now (input_equations (item_of item ∷ [])) → more ≡ streams ++ s ∷ [] → AreLeft whole old next more (map item_of (drop (k + 1) items))
+pub left_turn : (whole : List tree.Item) (old now next : System) (streams more : List (Option Stream)) (s : Option Stream) (items : List Item) (k : ℕ) (item : Item) → AreLeft whole old now streams (map item_of (drop k items)) → k < length items → item ≡ get_or items k item → s ∷ [] ≡ input_streams (length now.equations) (item_of item ∷ []) → next ≡ with_equations now (declared_inputs (item_of item ∷ [])) → more ≡ streams ++ s ∷ [] → AreLeft whole old next more (map item_of (drop (k + 1) items))
 left_turn whole old now next streams more s items k item left lt is table made pushed =
     let rest = map item_of (drop (k + 1) items) in
     let here : map item_of (drop k items) ≡ item_of item ∷ rest = ap (map item_of) (left_at items k item lt is) in
-    let own = input_equations (item_of item ∷ []) in
+    let own = declared_inputs (item_of item ∷ []) in
     let count : length next.equations ≡ length now.equations + length own = ap (λ (t : System). length t.equations) made ∙ length-append now.equations own in
     record {
       made =
-          ap (λ t. with_equations t (input_equations rest)) made
-          ∙ with_both now own (input_equations rest)
-          ∙ ap (with_equations now) (sym (equations_split (item_of item) rest) ∙ sym (ap input_equations here))
+          ap (λ t. with_equations t (declared_inputs rest)) made
+          ∙ with_both now own (declared_inputs rest)
+          ∙ ap (with_equations now) (sym (equations_split (item_of item) rest) ∙ sym (ap declared_inputs here))
           ∙ left.made;
       table =
           ap (λ ss. ss ++ input_streams (length next.equations) rest) pushed
@@ -74,22 +75,22 @@ left_turn whole old now next streams more s items k item left lt is table made p
     }
 
 -- an input that is refused
-pub left_refused : (whole : List tree.Item) (old now : System) (streams : List (Option Stream)) (items : List Item) (k : ℕ) (item : Item) (f : MakeFault) → AreLeft whole old now streams (map item_of (drop k items)) → k < length items → item ≡ get_or items k item → IsRefusal (now.equations ++ input_equations (item_of item ∷ [])) f → IsRefusal (old.equations ++ input_equations whole) f
+pub left_refused : (whole : List tree.Item) (old now : System) (streams : List (Option Stream)) (items : List Item) (k : ℕ) (item : Item) (f : MakeFault) → AreLeft whole old now streams (map item_of (drop k items)) → k < length items → item ≡ get_or items k item → IsRefusal (now.equations ++ declared_inputs (item_of item ∷ [])) f → IsRefusal (old.equations ++ declared_inputs whole) f
 left_refused whole old now streams items k item f left lt is refused =
     let rest = map item_of (drop (k + 1) items) in
-    let own = input_equations (item_of item ∷ []) in
+    let own = declared_inputs (item_of item ∷ []) in
     let here : map item_of (drop k items) ≡ item_of item ∷ rest = ap (map item_of) (left_at items k item lt is) in
-    let all : (now.equations ++ own) ++ input_equations rest ≡ old.equations ++ input_equations whole =
-    append_assoc now.equations own (input_equations rest)
-    ∙ ap (λ es. now.equations ++ es) (sym (equations_split (item_of item) rest) ∙ sym (ap input_equations here))
+    let all : (now.equations ++ own) ++ declared_inputs rest ≡ old.equations ++ declared_inputs whole =
+    append_assoc now.equations own (declared_inputs rest)
+    ∙ ap (λ es. now.equations ++ es) (sym (equations_split (item_of item) rest) ∙ sym (ap declared_inputs here))
     ∙ ap (λ (t : System). t.equations) left.made in
-    subst (λ es. IsRefusal es f) all (IsRefusal_longer (now.equations ++ own) (input_equations rest) f refused)
+    subst (λ es. IsRefusal es f) all (IsRefusal_longer (now.equations ++ own) (declared_inputs rest) f refused)
 
 -- nothing is left
-pub left_none : (whole : List tree.Item) (old now : System) (streams : List (Option Stream)) (items : List Item) (k : ℕ) → AreLeft whole old now streams (map item_of (drop k items)) → length items ≤ k → (now ≡ with_equations old (input_equations whole)) × (streams ≡ input_streams (length old.equations) whole)
+pub left_none : (whole : List tree.Item) (old now : System) (streams : List (Option Stream)) (items : List Item) (k : ℕ) → AreLeft whole old now streams (map item_of (drop k items)) → length items ≤ k → (now ≡ with_equations old (declared_inputs whole)) × (streams ≡ input_streams (length old.equations) whole)
 left_none whole old now streams items k h past =
     let none : map item_of (drop k items) ≡ [] = ap (map item_of) (drop_all k items past) in (
-      ap (λ es. record now { equations = es }) (sym (append-nil now.equations)) ∙ ap (λ l. with_equations now (input_equations l)) (sym none) ∙ h.made,
+      ap (λ es. record now { equations = es }) (sym (append-nil now.equations)) ∙ ap (λ l. with_equations now (declared_inputs l)) (sym none) ∙ h.made,
       sym (append-nil streams) ∙ ap (λ l. streams ++ input_streams (length now.equations) l) (sym none) ∙ h.table,
     )
 
@@ -105,13 +106,13 @@ module _ (item : tree.Item) (p q : Place) (x : List ℕ) (y : tree.TypeName) (is
     same_type : t ≡ type_or_unit (event_type y)
     same_type = ap type_or_unit (sym some ∙ of_is)
 
-    own_equations : input_equation q z t ∷ [] ≡ input_equations (item ∷ [])
-    own_equations = (λ k. input_equation q (copied k) (same_type k) ∷ []) ∙ ap (λ it. input_equations (it ∷ [])) (sym is)
+    own_equations : input_equation q z t ∷ [] ≡ declared_inputs (item ∷ [])
+    own_equations = (λ k. input_equation q (copied k) (same_type k) ∷ []) ∙ ap (λ it. declared_inputs (it ∷ [])) (sym is)
 
-    pub input_made_is : (old new : System) → new ≡ with_equations old (input_equation q z t ∷ []) → new ≡ with_equations old (input_equations (item ∷ []))
+    pub input_made_is : (old new : System) → new ≡ with_equations old (input_equation q z t ∷ []) → new ≡ with_equations old (declared_inputs (item ∷ []))
     input_made_is old new made = made ∙ ap (with_equations old) own_equations
 
-    pub input_refused_is : (old : System) (f : MakeFault) → IsRefusal (old.equations ++ input_equation q z t ∷ []) f → IsRefusal (old.equations ++ input_equations (item ∷ [])) f
+    pub input_refused_is : (old : System) (f : MakeFault) → IsRefusal (old.equations ++ input_equation q z t ∷ []) f → IsRefusal (old.equations ++ declared_inputs (item ∷ [])) f
     input_refused_is old f h = subst (λ es. IsRefusal (old.equations ++ es) f) own_equations h
 
     pub input_stream_is : (old : System) (s : Stream) → s ≡ stream_of old (input_equation q z t ∷ []) t → Some s ∷ [] ≡ input_streams (length old.equations) (item ∷ [])
@@ -127,10 +128,10 @@ other_stream (tree.Defined p d) n other = refl
 other_stream (tree.Output p q x) n other = refl
 other_stream (tree.OutputAs p e q x) n other = refl
 
-pub other_makes : (item : tree.Item) (old : System) → is_input (Some item) ≡ false → old ≡ with_equations old (input_equations (item ∷ []))
+pub other_makes : (item : tree.Item) (old : System) → is_input (Some item) ≡ false → old ≡ with_equations old (declared_inputs (item ∷ []))
 other_makes item old other = ap (λ es. record old { equations = es }) (sym (append-nil old.equations)) ∙ ap (with_equations old) (none item other)
   where
-    none : (item : tree.Item) → is_input (Some item) ≡ false → [] ≡ input_equations (item ∷ [])
+    none : (item : tree.Item) → is_input (Some item) ≡ false → [] ≡ declared_inputs (item ∷ [])
     none (tree.Input p q x y) h = absurd (true≢false h)
     none (tree.Defined p d) h = refl
     none (tree.Output p q x) h = refl
@@ -138,12 +139,12 @@ other_makes item old other = ap (λ es. record old { equations = es }) (sym (app
 
 -- ---- what they are
 -- their marks
-pub input_equations_marks : (all : List tree.Item) (kinds : Kinds) (items : List tree.Item) → map mark_of (input_equations items) ≡ input_marks all kinds items
-input_equations_marks all kinds [] = refl
-input_equations_marks all kinds (tree.Input p q x y ∷ items) = ap (λ ms. record { place = q; is_update = false } ∷ ms) (input_equations_marks all kinds items)
-input_equations_marks all kinds (tree.Defined p d ∷ items) = input_equations_marks all kinds items
-input_equations_marks all kinds (tree.Output p q x ∷ items) = input_equations_marks all kinds items
-input_equations_marks all kinds (tree.OutputAs p e q x ∷ items) = input_equations_marks all kinds items
+pub declared_inputs_marks : (all : List tree.Item) (kinds : Kinds) (items : List tree.Item) → map mark_of (declared_inputs items) ≡ input_marks all kinds items
+declared_inputs_marks all kinds [] = refl
+declared_inputs_marks all kinds (tree.Input p q x y ∷ items) = ap (λ ms. record { place = q; is_update = false } ∷ ms) (declared_inputs_marks all kinds items)
+declared_inputs_marks all kinds (tree.Defined p d ∷ items) = declared_inputs_marks all kinds items
+declared_inputs_marks all kinds (tree.Output p q x ∷ items) = declared_inputs_marks all kinds items
+declared_inputs_marks all kinds (tree.OutputAs p e q x ∷ items) = declared_inputs_marks all kinds items
 
 -- an input in a table of streams
 pub record IsInputAt (n : ℕ) (items : List tree.Item) (k : ℕ) : Type 0 where
@@ -207,16 +208,16 @@ module _ (all : List tree.Item) (kinds : Kinds) (top : ℕ → Stream) where
   follows_after : (i : ℕ) (s : Option Stream) (streams : List (Option Stream)) → Follows top i (s ∷ streams) → Follows top (suc i) streams
   follows_after i s streams h = record { each = λ k t is. let e : suc i + k ≡ i + suc k = omega arith in ap top e ∙ h.each (suc k) t is }
 
-  pub inputs_made : (i n : ℕ) (items : List tree.Item) → ((item : tree.Item) → Contains items item → HasEventType item) → Follows top i (input_streams n items) → MakesInputs all kinds top i items n (input_equations items)
+  pub inputs_made : (i n : ℕ) (items : List tree.Item) → ((item : tree.Item) → Contains items item → HasEventType item) → Follows top i (input_streams n items) → MakesInputs all kinds top i items n (declared_inputs items)
   inputs_made i n [] types follows = flat.MakesInputs.end
   inputs_made i n (tree.Input p q x y ∷ items) types follows =
       let typed = types (tree.Input p q x y) (contains_head (tree.Input p q x y) items) in
       let of_is : type_or_unit (event_type y) ≡ typed.0 = ap type_or_unit typed.1 in
       let e : i ≡ i + 0 = omega arith in
       let first : top i ≡ record { id = n; of = type_or_unit (event_type y) } = ap top e ∙ follows.each 0 (record { id = n; of = type_or_unit (event_type y) }) refl in
-      flat.MakesInputs.input typed.0 (input_equations items) typed.1 (first ∙ (λ k. record { id = n; of = of_is k }))
+      flat.MakesInputs.input typed.0 (declared_inputs items) typed.1 (first ∙ (λ k. record { id = n; of = of_is k }))
       (inputs_made (suc i) (suc n) items (λ item c. types item (contains_tail (tree.Input p q x y) items item c)) (follows_after i (Some (record { id = n; of = type_or_unit (event_type y) })) (input_streams (suc n) items) follows))
-      (ap (λ t. input_equation q x t ∷ input_equations items) of_is)
+      (ap (λ t. input_equation q x t ∷ declared_inputs items) of_is)
   inputs_made i n (tree.Defined p d ∷ items) types follows = flat.MakesInputs.defined (inputs_made (suc i) n items (λ item c. types item (contains_tail (tree.Defined p d) items item c)) (follows_after i None (input_streams n items) follows))
   inputs_made i n (tree.Output p q x ∷ items) types follows = flat.MakesInputs.output (inputs_made (suc i) n items (λ item c. types item (contains_tail (tree.Output p q x) items item c)) (follows_after i None (input_streams n items) follows))
   inputs_made i n (tree.OutputAs p e q x ∷ items) types follows = flat.MakesInputs.output_as (inputs_made (suc i) n items (λ item c. types item (contains_tail (tree.OutputAs p e q x) items item c)) (follows_after i None (input_streams n items) follows))

@@ -14,7 +14,9 @@ use Rattle.syntax_tree.specs.declared.tree.Param.{Param}
 use Rattle.name_check.specs.Scope.{Agree, Scope, are_values, functions_of, inside, locals_from, parameters_from, seen, top}
 use Rattle.name_check.proofs.AgreeLemmas.{agree_same, agree_trans}
 use Rattle.type_rules.specs.declared.rule.Setting.TheVariants as setting
-use Rattle.expr_types.specs.Around.{Around, Kinds, params_of}
+use Rattle.expr_types.specs.Around.{Around}
+use Rattle.type_rules.specs.Kinds.{Kinds}
+use Rattle.syntax_tree.specs.Tree.{params_of}
 use Rattle.expr_types.specs.declared.around.Around as code_around
 use Rattle.expr_types.specs.inner.Shown.{around_of, kinds_of}
 use Rattle.stream_constructs.specs.declared.construct.Stream.{Stream}

@@ -9,7 +9,7 @@ use Rattle.flat_core.specs.System.{System}
 use Rattle.syntax_tree.specs.Tree as tree
 use Rattle.syntax_tree.specs.inner.OneLevel.{item_of}
 use Rattle.syntax_tree.specs.declared.tree.Item.{Item}
-use Rattle.expr_types.specs.Around.{Kinds}
+use Rattle.type_rules.specs.Kinds.{Kinds}
 use Rattle.expr_types.specs.Bodies.{in_definition}
 use Rattle.stream_constructs.specs.declared.construct.Stream.{Stream}
 use Rattle.stream_constructs.specs.declared.maker.MakeFault.{MakeFault}

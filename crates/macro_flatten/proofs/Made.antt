@@ -6,7 +6,7 @@ use Rattle.std.proofs.lemmas.List.{append-nil, length-map, map-append}
 use Rattle.tsl_value.specs.declared.scalar.ValueType.{ValueType}
 use Rattle.flat_core.specs.declared.equation.Equation.{Equation}
 use Rattle.flat_core.specs.System.{System}
-use Rattle.flat_core.specs.Typed.{is_aggregate}
+use Rattle.tsl_value.specs.Aggregate.{is_aggregate}
 use Rattle.syntax_tree.specs.Tree.{Expr, place_of}
 use Rattle.name_check.specs.Scope.{Agree}
 use Rattle.name_check.proofs.AgreeLemmas.{agree_same}

@@ -9,7 +9,7 @@ use Rattle.tsl_value.specs.declared.place.Place.{Place}
 use Rattle.tsl_value.specs.declared.scalar.Scalar.{Scalar}
 use Rattle.tsl_value.specs.declared.scalar.ValueType.{ValueType}
 use Rattle.flat_core.specs.declared.equation.Equation.{Equation}
-use Rattle.flat_core.specs.Typed.{is_aggregate}
+use Rattle.tsl_value.specs.Aggregate.{is_aggregate}
 use Rattle.flat_core.proofs.Members.{all_from, contains_head, contains_tail}
 use Rattle.syntax_tree.specs.inner.Joins.{join_links}
 use Rattle.syntax_tree.specs.Tree as tree
@@ -21,7 +21,8 @@ use Rattle.name_check.specs.Parts.{parts}
 use Rattle.name_check.specs.Scope.{meaning}
 use Rattle.type_rules.specs.Rules.{operand_type}
 use Rattle.type_rules.specs.declared.rule.ExprType.TheVariants as expr_type
-use Rattle.expr_types.specs.Around.{Around, Kinds}
+use Rattle.expr_types.specs.Around.{Around}
+use Rattle.type_rules.specs.Kinds.{Kinds}
 use Rattle.expr_types.specs.Judge.{type_of}
 use Rattle.stream_constructs.specs.declared.construct.Stream.{Stream}
 use Rattle.spec_meaning.specs.Occurrence.{Call, Occurrence, block_of, body_of, local, result_of}

@@ -13,7 +13,9 @@ use Rattle.name_check.specs.declared.declaration.Declaration.TheVariants as decl
 use Rattle.name_check.specs.Scope.{seen, top}
 use Rattle.name_check.proofs.AgreeLemmas.{agree_same}
 use Rattle.type_rules.specs.declared.rule.ExprType.TheVariants as expr_type
-use Rattle.expr_types.specs.Around.{Around, Kinds, declared_type, params_of}
+use Rattle.expr_types.specs.Around.{Around, declared_type}
+use Rattle.type_rules.specs.Kinds.{Kinds}
+use Rattle.syntax_tree.specs.Tree.{params_of}
 use Rattle.expr_types.specs.Bodies.{at_top, block_kind, in_definition, local_kind, may_have_braces, within_block}
 use Rattle.spec_meaning.specs.Occurrence.{result_of}
 use Rattle.spec_meaning.specs.Makes as makes

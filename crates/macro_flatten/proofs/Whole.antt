@@ -12,7 +12,7 @@ use Rattle.syntax_tree.specs.Tree as tree
 use Rattle.name_check.specs.Scope.{top}
 use Rattle.type_rules.specs.declared.rule.ExprType.TheVariants as expr_type
 use Rattle.type_rules.specs.Asked.{inner}
-use Rattle.expr_types.specs.Around.{Kinds}
+use Rattle.type_rules.specs.Kinds.{Kinds}
 use Rattle.expr_types.specs.Bodies.{item_kind}
 use Rattle.stream_constructs.specs.declared.construct.Stream.{Stream}
 use Rattle.stream_constructs.specs.declared.maker.MakeFault.{MakeFault}
@@ -34,8 +34,9 @@ use Rattle.equation_marks.proofs.Refusing.{are_refused_of, are_refused-append, r
 use Rattle.macro_flatten.specs.declared.context.Context.{Context}
 use Rattle.macro_flatten.specs.inner.Laws.{NestsWithin}
 use Rattle.macro_flatten.specs.inner.Answers.{IsRefusedAfter}
-use Rattle.macro_flatten.specs.inner.Items.{AreForeseen, AreOutputsMade, AreStreamsMade, AreTopNumbered, Follows, IsBegun, IsReady, count_to, input_equations, input_streams, items_in, kinds_in, stream_or_any, top_in, type_or_unit}
-use Rattle.macro_flatten.proofs.Inputs.{event_stream, have_event_types, input_at, input_equations_marks, input_here, inputs_made}
+use Rattle.macro_flatten.specs.inner.Items.{AreForeseen, AreOutputsMade, AreStreamsMade, AreTopNumbered, Follows, IsBegun, IsReady, count_to, input_streams, items_in, kinds_in, stream_or_any, top_in}
+use Rattle.spec_meaning.specs.Inputs.{declared_inputs, type_or_unit}
+use Rattle.macro_flatten.proofs.Inputs.{event_stream, have_event_types, input_at, declared_inputs_marks, input_here, inputs_made}
 use Rattle.macro_flatten.proofs.Lists.{outputs_moved, streams_moved}
 
 -- a definition without parameters
@@ -133,14 +134,14 @@ module _ (context : Context) (names : context.names.now ≡ top (items_in contex
   }
 
 -- ---- all equations
-pub inputs_refused : (items : List tree.Item) (kinds : Kinds) (first : System) → first.equations ≡ [] → (f : MakeFault) → IsRefusal (first.equations ++ input_equations items) f → AreRefused (all_marks items kinds) f
+pub inputs_refused : (items : List tree.Item) (kinds : Kinds) (first : System) → first.equations ≡ [] → (f : MakeFault) → IsRefusal (first.equations ++ declared_inputs items) f → AreRefused (all_marks items kinds) f
 inputs_refused items kinds first none f h =
-    let marks : map mark_of (first.equations ++ input_equations items) ≡ input_marks items kinds items =
-    ap (λ es. map mark_of (es ++ input_equations items)) none ∙ input_equations_marks items kinds items in
+    let marks : map mark_of (first.equations ++ declared_inputs items) ≡ input_marks items kinds items =
+    ap (λ es. map mark_of (es ++ declared_inputs items)) none ∙ declared_inputs_marks items kinds items in
     let front = input_marks items kinds items in
     let middle = stream_marks items kinds 0 items in
     let back = output_marks items kinds 0 items in
-    are_refused-append (front ++ middle) back f (are_refused-append front middle f (subst (λ ms. AreRefused ms f) marks (are_refused_of (first.equations ++ input_equations items) f h)))
+    are_refused-append (front ++ middle) back f (are_refused-append front middle f (subst (λ ms. AreRefused ms f) marks (are_refused_of (first.equations ++ declared_inputs items) f h)))
 
 module _ (context : Context) (second : System) (begun : IsBegun context second) where
   abbrev kinds : Kinds
@@ -150,7 +151,7 @@ module _ (context : Context) (second : System) (begun : IsBegun context second) 
   all = all_marks (items_in context) kinds
 
   second_marks : map mark_of second.equations ≡ input_marks (items_in context) kinds (items_in context)
-  second_marks = ap (map mark_of) begun.equations_are ∙ input_equations_marks (items_in context) kinds (items_in context)
+  second_marks = ap (map mark_of) begun.equations_are ∙ declared_inputs_marks (items_in context) kinds (items_in context)
 
   -- a refusal
   pub streams_refused : (f : MakeFault) → IsRefusedAfter second (stream_marks (items_in context) kinds 0 (items_in context)) f → AreRefused all f
@@ -180,7 +181,7 @@ module _ (context : Context) (second : System) (begun : IsBegun context second) 
       -- the flat system
       pub is_flat_of : length last.equations ≤ MOST_EQUATIONS → IsFlatOf (items_in context) kinds last.equations last.outputs
       is_flat_of few =
-          let own = input_equations (items_in context) in
+          let own = declared_inputs (items_in context) in
           let third_count : length third.equations ≡ length second.equations + length streams.made = ap (λ (s : System). length s.equations) streams.new_is ∙ length-append second.equations streams.made in
           let last_count : length last.equations ≡ length third.equations + length outputs.made = ap (λ (s : System). length s.equations) outputs.new_is ∙ length-append third.equations outputs.made in
           let second_count : length second.equations ≡ length own = ap length begun.equations_are in
@@ -218,18 +219,18 @@ module _ (context : Context) (second : System) (begun : IsBegun context second) 
 
 -- ---- what is known before the definitions are made
 -- where an empty system got the inputs, and the table of streams what is foreseen after them
-begun_at : (context : Context) (n : ℕ) (first second : System) (table : List (Option Stream)) → context.names.now ≡ top (items_in context) → IsChecked (items_in context) (kinds_in context) → first.equations ≡ [] → first.outputs ≡ [] → second ≡ with_equations first (input_equations (items_in context)) → n ≡ length second.equations → table ≡ input_streams (length first.equations) (items_in context) → AreForeseen (items_in context) (kinds_in context) n table context.streams.now → AreBodies (items_in context) context.functions.now → too_large_bodies (items_in context) ≡ [] → NestsWithin (items_in context) → IsBegun context second
+begun_at : (context : Context) (n : ℕ) (first second : System) (table : List (Option Stream)) → context.names.now ≡ top (items_in context) → IsChecked (items_in context) (kinds_in context) → first.equations ≡ [] → first.outputs ≡ [] → second ≡ with_equations first (declared_inputs (items_in context)) → n ≡ length second.equations → table ≡ input_streams (length first.equations) (items_in context) → AreForeseen (items_in context) (kinds_in context) n table context.streams.now → AreBodies (items_in context) context.functions.now → too_large_bodies (items_in context) ≡ [] → NestsWithin (items_in context) → IsBegun context second
 begun_at context n first second table names checked none no_output inputs count table_is foreseen bodies small nests =
     let m = length first.equations in
     record {
       ready = is_ready context names checked n table m table_is foreseen bodies small nests;
-      equations_are = ap (λ (s : System). s.equations) inputs ∙ ap (λ es. es ++ input_equations (items_in context)) none;
+      equations_are = ap (λ (s : System). s.equations) inputs ∙ ap (λ es. es ++ declared_inputs (items_in context)) none;
       no_output = ap (λ (s : System). s.outputs) inputs ∙ no_output;
       follows = subst (λ k. Follows (top_in context) 0 (input_streams k (items_in context))) (ap length none) (inputs_follow context names checked n table m table_is foreseen);
       numbered = subst (AreTopNumbered context) count (are_numbered context names checked n table m table_is foreseen);
     }
 
 -- the streams are those of a vector
-pub is_begun : (context : Context) (n : ℕ) (first second : System) (table streams : List (Option Stream)) → context.streams.now ≡ streams → context.names.now ≡ top (items_in context) → IsChecked (items_in context) (kinds_in context) → first.equations ≡ [] → first.outputs ≡ [] → second ≡ with_equations first (input_equations (items_in context)) → n ≡ length second.equations → table ≡ input_streams (length first.equations) (items_in context) → AreForeseen (items_in context) (kinds_in context) n table streams → AreBodies (items_in context) context.functions.now → too_large_bodies (items_in context) ≡ [] → NestsWithin (items_in context) → IsBegun context second
+pub is_begun : (context : Context) (n : ℕ) (first second : System) (table streams : List (Option Stream)) → context.streams.now ≡ streams → context.names.now ≡ top (items_in context) → IsChecked (items_in context) (kinds_in context) → first.equations ≡ [] → first.outputs ≡ [] → second ≡ with_equations first (declared_inputs (items_in context)) → n ≡ length second.equations → table ≡ input_streams (length first.equations) (items_in context) → AreForeseen (items_in context) (kinds_in context) n table streams → AreBodies (items_in context) context.functions.now → too_large_bodies (items_in context) ≡ [] → NestsWithin (items_in context) → IsBegun context second
 is_begun context n first second table streams same names checked none no_output inputs count table_is foreseen bodies small nests =
     begun_at context n first second table names checked none no_output inputs count table_is (subst (AreForeseen (items_in context) (kinds_in context) n table) (sym same) foreseen) bodies small nests

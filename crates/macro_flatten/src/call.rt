@@ -5,7 +5,7 @@ ghost use Rattle.std.specs.Option.{option_map};
 ghost use Rattle.syntax_tree.specs.inner.OneLevel.{definition_of, definitions_of, exprs_of, item_of};
 ghost use Rattle.name_check.specs.Scope.{top};
 ghost use Rattle.type_rules.specs.Asked.{inner};
-ghost use Rattle.expr_types.specs.Around.{params_of};
+ghost use Rattle.syntax_tree.specs.Tree.{params_of};
 ghost use Rattle.expr_types.specs.Bodies.{may_have_braces};
 ghost use Rattle.expr_types.specs.inner.Shown.{around_of, kinds_of};
 ghost use Rattle.stream_constructs.specs.declared.maker.MakeFault.TheVariants as fault;

@@ -1,7 +1,6 @@
 // The equations of an expression.
 
 ghost use Rattle.std.specs.Prelude.{◌≡◌, ◌++◌, true, length, IfOk, OnOk, IfErr};
-ghost use Rattle.flat_core.specs.Typed.{is_aggregate as holds_elements};
 ghost use Rattle.spec_meaning.specs.Makes.{is_own};
 ghost use Rattle.stream_constructs.specs.Limits.{IsRefusal};
 ghost use Rattle.stream_constructs.specs.Made.{stream_of, with_equations};
@@ -25,15 +24,6 @@ use stream_shapes::shape::shape;
 use syntax_tree::tree::{Expr, Node};
 use tsl_value::scalar::ValueType;
 
-fn is_aggregate(of: ValueType) -> bool
-    ensures { result ≡ holds_elements of }
-{
-    match of {
-        ValueType::Scalar(_) => false,
-        ValueType::Set(_) | ValueType::Map(_, _) => true,
-    }
-}
-
 /// Makes the equations of an expression besides those of its parts.
 fn own(
     alloc: Global,
@@ -53,7 +43,7 @@ fn own(
         ++ own_of expression.now of (length maker.old.equations) (construct_of construct) parts.now)) }
 {
     let operands = choice_operands(alloc, expression)?;
-    if !operands.is_empty() && is_aggregate(of) {
+    if !operands.is_empty() && of.is_aggregate() {
         make_choice(maker, expression.place(), of, operands, parts)
     } else {
         make(maker, expression.place(), of, construct, parts)

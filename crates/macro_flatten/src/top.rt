@@ -17,7 +17,8 @@ ghost use Rattle.equation_marks.specs.inner.Counters.{HasNames};
 ghost use Rattle.equation_marks.specs.Marks.{output_marks, printed_marks, stream_marks};
 ghost use Rattle.macro_flatten.specs.inner.Answers.{IsRefusedAfter};
 ghost use Rattle.macro_flatten.specs.inner.Items.{AreForeseen, AreOutputsMade, AreStreamsMade, CanPrint, HasEventType, HaveEventTypes};
-ghost use Rattle.macro_flatten.specs.inner.Items.{IsPrinted, IsReady, IsStreamDefinition, IsStreamMade, IsTopHere, input_equations};
+ghost use Rattle.macro_flatten.specs.inner.Items.{IsPrinted, IsReady, IsStreamDefinition, IsStreamMade, IsTopHere};
+ghost use Rattle.spec_meaning.specs.Inputs.{declared_inputs};
 ghost use Rattle.macro_flatten.specs.inner.Items.{input_streams, items_in, kinds_in, named_unit};
 
 use crate::call::ending_at;
@@ -53,8 +54,8 @@ fn event_type(of: &TypeName) -> Option<ValueType>
 fn input(maker: &mut Maker, item: &Item) -> Result<Option<Stream>, MakeFault>
     requires { HasEventType (item_of item.now) }
     ensures stream { IfOk result (λ s. s ∷ [] ≡ input_streams (length maker.old.equations) (item_of item.now ∷ [])) }
-    ensures made { OnOk result (maker.new ≡ with_equations maker.old (input_equations (item_of item.now ∷ []))) }
-    ensures refused { IfErr result (IsRefusal (maker.old.equations ++ input_equations (item_of item.now ∷ []))) }
+    ensures made { OnOk result (maker.new ≡ with_equations maker.old (declared_inputs (item_of item.now ∷ []))) }
+    ensures refused { IfErr result (IsRefusal (maker.old.equations ++ declared_inputs (item_of item.now ∷ []))) }
 {
     match item {
         Item::Input(_, place, name, of) => match event_type(of) {
@@ -77,8 +78,8 @@ pub(crate) fn inputs(
 ) -> Result<Vec<Option<Stream>>, MakeFault>
     requires { HaveEventTypes (map item_of items.now) }
     ensures streams { IfOk result (λ v. v.items ≡ input_streams (length maker.old.equations) (map item_of items.now)) }
-    ensures made { OnOk result (maker.new ≡ with_equations maker.old (input_equations (map item_of items.now))) }
-    ensures refused { IfErr result (IsRefusal (maker.old.equations ++ input_equations (map item_of items.now))) }
+    ensures made { OnOk result (maker.new ≡ with_equations maker.old (declared_inputs (map item_of items.now))) }
+    ensures refused { IfErr result (IsRefusal (maker.old.equations ++ declared_inputs (map item_of items.now))) }
 {
     let mut streams = Vec::new(alloc);
     for item in items {

@@ -5,7 +5,8 @@ use Rattle.std.proofs.lemmas.Option.{slice_get_within}
 use Rattle.std.specs.Prelude.{IsTrue}
 use Rattle.std.specs.List.{AllByRecursion}
 use Rattle.flat_core.specs.declared.equation.Equation.{Equation}
-use Rattle.flat_core.specs.Case.{Streams, Inputs, used_of}
+use Rattle.flat_core.specs.Case.{Streams, used_of}
+use Rattle.flat_core.specs.Events.{Inputs}
 use Rattle.flat_core.specs.inner.Dependency.{with_one, with_all, IsOrdered, IsRunOrder}
 use Rattle.flat_core.specs.System.{System, runs, equation, IsProper}
 use Rattle.flat_core.specs.Solution.{Solves}

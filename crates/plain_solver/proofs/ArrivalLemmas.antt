@@ -7,7 +7,8 @@ use Rattle.flat_core.specs.declared.equation.Op.{Op}
 use Rattle.flat_core.specs.declared.equation.Op.TheVariants as op
 use Rattle.flat_core.specs.declared.equation.Equation.{Equation}
 use Rattle.flat_core.specs.Stream.{Event, has_event}
-use Rattle.flat_core.specs.Case.{Streams, unit, expires, case_of, delayed}
+use Rattle.flat_core.specs.Case.{Streams, case_of, delayed}
+use Rattle.flat_core.specs.Events.{unit, expires}
 use Rattle.flat_core.specs.Complete.{IsFlat}
 use Rattle.flat_core.specs.Instant.{is_delay_op, is_delay, is_instant, is_due, expires_at}
 use Rattle.flat_core.specs.Line.{Line, inputs_of}

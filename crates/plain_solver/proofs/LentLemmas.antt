@@ -6,10 +6,11 @@ use Rattle.std.specs.FinMap as finite_map
 use Rattle.std.specs.Cmp.{Equal-is, eq_by_cmp_equiv, nat_cmp_total}
 use Rattle.std.specs.Ordering.{eq_by_cmp, nat_cmp}
 use Rattle.std.specs.List.{AllByRecursion}
+use Rattle.tsl_value.specs.Aggregate.{has_elements}
 use Rattle.tsl_value.specs.View.{View, Plain, Keyed, Mapped}
 use Rattle.tsl_value.specs.declared.scalar.Scalar.TheVariants as scalar
 use Rattle.lift_func.specs.declared.register.Register.TheVariants as register
-use Rattle.lift_func.specs.inner.Cells.{Cells, HoldsLive, IsAggregate, arguments, held}
+use Rattle.lift_func.specs.inner.Cells.{Cells, HoldsLive, arguments, held}
 use Rattle.lift_func.specs.inner.Evaluable.{IsEvaluable}
 use Rattle.lift_func.specs.BodyTree.{BodyTree}
 use Rattle.lift_func.specs.Typing.{AllFit}
@@ -62,14 +63,12 @@ register_at k (v ∷ values) (suc n) q is = register_at (suc k) values n q (omeg
 held_of : (cells : Cells) (n : ℕ) (v : Option View) → finite_map.get cells n ≡ aggregate_in v → held cells (register_of n v) ≡ v
 held_of cells n None is = refl
 held_of cells n (Some (Plain s)) is = refl
-held_of cells n (Some (Keyed s)) is = ap (λ o. Some (unwrap_or o (Plain scalar.Unit))) is
-held_of cells n (Some (Mapped m)) is = ap (λ o. Some (unwrap_or o (Plain scalar.Unit))) is
+held_of cells n (Some v) is = ap (λ o. Some (unwrap_or o (Plain scalar.Unit))) is
 
 live_of : (cells : Cells) (n : ℕ) (v : Option View) → finite_map.get cells n ≡ aggregate_in v → HoldsLive cells (register_of n v)
 live_of cells n None is = tt
 live_of cells n (Some (Plain s)) is = tt
-live_of cells n (Some (Keyed s)) is = (ap is_some is, subst IsAggregate (sym (ap (λ o. unwrap_or o (Plain scalar.Unit)) is)) tt)
-live_of cells n (Some (Mapped m)) is = (ap is_some is, subst IsAggregate (sym (ap (λ o. unwrap_or o (Plain scalar.Unit)) is)) tt)
+live_of cells n (Some v) is = (ap is_some is, ap (λ o. has_elements (unwrap_or o (Plain scalar.Unit))) is)
 
 module _ (values : List (Option View)) where
   lent_register : (n : ℕ) → get_or (registers_from 0 values) n register.Empty ≡ register_of n (get_or values n None)
@@ -85,8 +84,7 @@ module _ (values : List (Option View)) where
 
 printable_of : (cells : Cells) (n : ℕ) (v : View) → HoldsLive cells (register_of n (Some v)) → IsPrintable cells (register_of n (Some v))
 printable_of cells n (Plain s) live = tt
-printable_of cells n (Keyed s) live = live.0
-printable_of cells n (Mapped m) live = live.0
+printable_of cells n _ live = live.0
 
 pub lent_printable : (v : View) → IsPrintable (cells_of (Some v ∷ [])) (register_of 0 (Some v))
 lent_printable v = printable_of (cells_of (Some v ∷ [])) 0 v (lent_live (Some v ∷ []) 0)

@@ -6,11 +6,13 @@ use Rattle.tsl_value.specs.View.{View, is_of}
 use Rattle.lift_func.specs.BodyTree.{BodyTree}
 use Rattle.flat_core.specs.declared.equation.Equation.{Equation}
 use Rattle.flat_core.specs.declared.equation.Op.TheVariants as op
-use Rattle.flat_core.specs.Case.{Streams, Inputs, used_of, case_of}
+use Rattle.flat_core.specs.Case.{Streams, used_of, case_of}
+use Rattle.flat_core.specs.Events.{Inputs}
 use Rattle.flat_core.specs.Complete.{IsFlat}
 use Rattle.flat_core.specs.Stream.{event}
 use Rattle.flat_core.specs.System.{System, equation}
-use Rattle.flat_core.specs.Typed.{IsTyped, lift, kind_of}
+use Rattle.flat_core.specs.Typed.{IsTyped, lift, update, kind_of}
+use Rattle.flat_core.proofs.UpdateOps.{no_update}
 use Rattle.flat_core.specs.inner.TypedEvents.{AreOf, AreTypedInputs}
 use Rattle.flat_core.proofs.Members.{all_true}
 use Rattle.flat_core.proofs.TypedCase as typed_case
@@ -47,6 +49,7 @@ as_many (t ∷ types) [] of = absurd of
 as_many (t ∷ types) (v ∷ values) of = ap suc (as_many types values of.1)
 
 lift_evaluable : (body : BodyTree) (strict : Bool) (ts : List ValueType) (of : ValueType) → IsTyped (op.Lift body strict) ts of → (values : List (Option View)) → AreOf ts values → IsTrue (counts strict values) → IsEvaluableAt body values
+lift_evaluable body strict ts of (update is row) values fit counted = no_update is
 lift_evaluable body true ts of (lift low high kind) values fit all =
     let many = as_many ts values fit in
     record { kinds = map (kind_of true) ts; kind = kind_of true of; fit = all_there_fit ts values fit all; typed = kind; scalar = tt; few = omega arith }

@@ -1,17 +1,20 @@
 // What happens at an equation at a time.
 
-ghost use Rattle.std.specs.Prelude.{◌≡◌, ◌<◌, Some, None, pos, if◌then◌else◌, length, map, slice_index, slice_index_or, [], is_some, IfOk};
+ghost use Rattle.std.specs.Prelude.{◌≡◌, ◌<◌, Some, None, pos, suc, if◌then◌else◌, length, map, slice_index, slice_index_or, [], is_some, IfOk};
 ghost use Rattle.std.specs.Prelude.{IsTrue, Ok, All};
 ghost use Rattle.std.specs.List.{list_any, list_all};
 ghost use Rattle.std.specs.Option.{option_map, option_copied};
 ghost use Rattle.tsl_value.specs.View.{Plain};
 ghost use Rattle.flat_core.specs.Stream.{event, is_fault, latest};
-ghost use Rattle.flat_core.specs.Case.{case_of, delayed, filtered, is_blocked, lasting, merged, own, refused, root_fault, unit};
+ghost use Rattle.flat_core.specs.Case.{case_of, delayed, is_blocked, lasting, own, root_fault};
+ghost use Rattle.lift_func.specs.Update.{beside, update_answer};
+ghost use Rattle.flat_core.specs.Updates.{update_in};
+ghost use Rattle.flat_core.specs.Events.{filtered, merged, refused, unit, updating};
 ghost use Rattle.flat_core.specs.Line.{IsSorted, inputs_of};
 ghost use Rattle.flat_core.specs.inner.Kept.{IsKept};
 ghost use Rattle.plain_solver.specs.inner.Lent.{IsEvaluableAt};
 ghost use Rattle.plain_solver.specs.inner.PassedOn.{chosen_of};
-ghost use Rattle.flat_core.specs.inner.OpGroups.{counts, lift_answer, updated_of};
+ghost use Rattle.flat_core.specs.inner.OpGroups.{counts, lift_answer};
 ghost use Rattle.plain_solver.specs.inner.Moments.{seen};
 ghost use Rattle.flat_core.specs.inner.Arity.{HasArity};
 ghost use Rattle.plain_solver.specs.inner.Streams.{streams_of};
@@ -22,7 +25,7 @@ use crate::delay::{is_now, pending_before};
 use crate::events::{Events, Outcome};
 use crate::lender::evaluated;
 use crate::line::input_at;
-use crate::update::{empty_at, entry_added, key_added, key_removed, picked};
+use crate::update::{empty_at, entry_added, entry_removed, key_added, key_removed, picked};
 use crate::value::{Held, Value, copied};
 use flat_core::equation::{Equation, Op};
 use flat_core::line::TraceLine;
@@ -33,6 +36,7 @@ use lift_func::fault::FaultKind;
 use std::alloc::Global;
 use tsl_value::ids::EqId;
 use tsl_value::memory::NoMemory;
+use tsl_value::operation::Update;
 use tsl_value::scalar::Scalar;
 use tsl_value::time::Time;
 
@@ -259,7 +263,33 @@ fn chosen<'a>(e: &Equation, streams: &'a [Events], t: Time) -> Option<&'a Value>
     }
 }
 
-/// The aggregate that an operation makes of the one of its first argument.
+/// What an update makes of the events of its arguments.
+fn update_value(
+    alloc: Global,
+    update: Update,
+    args: &Args,
+    streams: &[Events],
+    t: Time,
+) -> Result<Option<Value>, NoMemory>
+    requires many { length args.now ≡ suc (beside update) }
+    requires known { All (λ a. a < length streams.now) args.now }
+    ensures { IfOk result (λ v. update_answer update (map (λ a. event (streams_of streams.now a t)) args.now) ≡ Ok v) }
+{
+    let aggregate = value_of(streams, args, 0, t);
+    match update {
+        Update::SetAdd => key_added(alloc, aggregate, value_of(streams, args, 1, t)),
+        Update::SetRemove => key_removed(alloc, aggregate, value_of(streams, args, 1, t)),
+        Update::MapAdd => entry_added(
+            alloc,
+            aggregate,
+            value_of(streams, args, 1, t),
+            value_of(streams, args, 2, t),
+        ),
+        Update::MapRemove => entry_removed(alloc, aggregate, value_of(streams, args, 1, t)),
+    }
+}
+
+/// The event of an equation that is an update.
 fn updated(
     alloc: Global,
     e: &Equation,
@@ -268,27 +298,11 @@ fn updated(
 ) -> Result<Option<Value>, NoMemory>
     requires shape { HasArity e.now.op e.now.args }
     requires known { All (λ a. a < length streams.now) e.now.args }
-    ensures { IfOk result (λ v. v ≡ updated_of e.now.op (map (λ a. event (streams_of streams.now a t)) e.now.args)) }
+    ensures { IfOk result (λ v. updating (update_in e.now.op) (map (λ a. event (streams_of streams.now a t)) e.now.args) ≡ Ok v) }
 {
-    let args = &e.args;
-    match &e.op {
-        Op::SetAdd => key_added(
-            alloc,
-            value_of(streams, args, 0, t),
-            value_of(streams, args, 1, t),
-        ),
-        Op::SetRemove | Op::MapRemove => key_removed(
-            alloc,
-            value_of(streams, args, 0, t),
-            value_of(streams, args, 1, t),
-        ),
-        Op::MapAdd => entry_added(
-            alloc,
-            value_of(streams, args, 0, t),
-            value_of(streams, args, 1, t),
-            value_of(streams, args, 2, t),
-        ),
-        _ => Ok(None),
+    match e.op.update() {
+        Some(update) => update_value(alloc, update, &e.args, streams, t),
+        None => Ok(None),
     }
 }
 

@@ -1,16 +1,18 @@
 // What operations on aggregates make of values.
 
-ghost use Rattle.std.specs.Prelude.{◌≡◌, IfOk};
+ghost use Rattle.std.specs.Prelude.{◌≡◌, IfOk, Ok, [], ◌∷◌};
 ghost use Rattle.std.specs.Option.{option_copied};
-ghost use Rattle.lift_func.specs.Update.{with_entry, with_key, without_key};
+ghost use Rattle.lift_func.specs.Update.{update_answer, updated};
 ghost use Rattle.aggregate_store.specs.inner.CellView as cell_view;
-ghost use Rattle.aggregate_store.specs.inner.Stored.{with_added};
-ghost use Rattle.flat_core.specs.Case.{at_zero, empty_of, of_both, of_three, picked};
+ghost use Rattle.aggregate_store.specs.inner.Stored.{with_added, without_key};
+ghost use Rattle.flat_core.specs.Events.{at_zero, picked};
+ghost use Rattle.tsl_value.specs.Aggregate.{empty_of};
 
 use crate::value::{Held, Value};
 use aggregate_store::cell::Cell;
 use std::alloc::Global;
 use tsl_value::memory::NoMemory;
+use tsl_value::operation::Update;
 use tsl_value::scalar::{Scalar, ValueType};
 use tsl_value::time::Time;
 
@@ -66,9 +68,18 @@ fn added(alloc: Global, cell: &Cell, key: &Scalar, value: &Scalar) -> Result<Val
     Value::of_cell(alloc, copy)
 }
 
+/// A cell without a key.
+fn removed(alloc: Global, cell: &Cell, key: &Scalar) -> Result<Value, NoMemory>
+    ensures { IfOk result (λ v. v ≡ without_key (cell_view.view_of cell.now) key.now) }
+{
+    let mut copy = cell.copy()?;
+    copy.remove(key);
+    Value::of_cell(alloc, copy)
+}
+
 /// A set with a key.
-fn with_key(alloc: Global, set: &Value, key: &Value) -> Result<Value, NoMemory>
-    ensures { IfOk result (λ v. v ≡ with_key set.now key.now) }
+fn set_with(alloc: Global, set: &Value, key: &Value) -> Result<Value, NoMemory>
+    ensures { IfOk result (λ v. updated Update.SetAdd set.now (key.now ∷ []) ≡ Ok v) }
 {
     match (set.held(), key.held()) {
         (Held::Aggregate(cell), Held::Scalar(key)) => match &**cell {
@@ -79,9 +90,22 @@ fn with_key(alloc: Global, set: &Value, key: &Value) -> Result<Value, NoMemory>
     }
 }
 
+/// A set without a key.
+fn set_without(alloc: Global, set: &Value, key: &Value) -> Result<Value, NoMemory>
+    ensures { IfOk result (λ v. updated Update.SetRemove set.now (key.now ∷ []) ≡ Ok v) }
+{
+    match (set.held(), key.held()) {
+        (Held::Aggregate(cell), Held::Scalar(key)) => match &**cell {
+            Cell::Set(_) => removed(alloc, cell, key),
+            Cell::Map(_) => set.copy(),
+        },
+        _ => set.copy(),
+    }
+}
+
 /// A map with a key and its value.
-fn with_entry(alloc: Global, map: &Value, key: &Value, value: &Value) -> Result<Value, NoMemory>
-    ensures { IfOk result (λ v. v ≡ with_entry map.now key.now value.now) }
+fn map_with(alloc: Global, map: &Value, key: &Value, value: &Value) -> Result<Value, NoMemory>
+    ensures { IfOk result (λ v. updated Update.MapAdd map.now (key.now ∷ value.now ∷ []) ≡ Ok v) }
 {
     match (map.held(), key.held(), value.held()) {
         (Held::Aggregate(cell), Held::Scalar(key), Held::Scalar(value)) => match &**cell {
@@ -92,17 +116,16 @@ fn with_entry(alloc: Global, map: &Value, key: &Value, value: &Value) -> Result<
     }
 }
 
-/// An aggregate without a key.
-fn without_key(alloc: Global, aggregate: &Value, key: &Value) -> Result<Value, NoMemory>
-    ensures { IfOk result (λ v. v ≡ without_key aggregate.now key.now) }
+/// A map without a key.
+fn map_without(alloc: Global, map: &Value, key: &Value) -> Result<Value, NoMemory>
+    ensures { IfOk result (λ v. updated Update.MapRemove map.now (key.now ∷ []) ≡ Ok v) }
 {
-    match (aggregate.held(), key.held()) {
-        (Held::Aggregate(cell), Held::Scalar(key)) => {
-            let mut copy = cell.copy()?;
-            copy.remove(key);
-            Value::of_cell(alloc, copy)
-        }
-        _ => aggregate.copy(),
+    match (map.held(), key.held()) {
+        (Held::Aggregate(cell), Held::Scalar(key)) => match &**cell {
+            Cell::Set(_) => map.copy(),
+            Cell::Map(_) => removed(alloc, cell, key),
+        },
+        _ => map.copy(),
     }
 }
 
@@ -112,26 +135,26 @@ pub(crate) fn key_added(
     set: Option<&Value>,
     key: Option<&Value>,
 ) -> Result<Option<Value>, NoMemory>
-    ensures { IfOk result (λ v. v
-        ≡ of_both with_key (option_copied set.entry) (option_copied key.entry)) }
+    ensures { IfOk result (λ v. update_answer Update.SetAdd
+        (option_copied set.entry ∷ option_copied key.entry ∷ []) ≡ Ok v) }
 {
     match (set, key) {
-        (Some(set), Some(key)) => Ok(Some(with_key(alloc, set, key)?)),
+        (Some(set), Some(key)) => Ok(Some(set_with(alloc, set, key)?)),
         _ => Ok(None),
     }
 }
 
-/// An aggregate without a key, where both are there.
+/// A set without a key, where both are there.
 pub(crate) fn key_removed(
     alloc: Global,
-    aggregate: Option<&Value>,
+    set: Option<&Value>,
     key: Option<&Value>,
 ) -> Result<Option<Value>, NoMemory>
-    ensures { IfOk result (λ v. v
-        ≡ of_both without_key (option_copied aggregate.entry) (option_copied key.entry)) }
+    ensures { IfOk result (λ v. update_answer Update.SetRemove
+        (option_copied set.entry ∷ option_copied key.entry ∷ []) ≡ Ok v) }
 {
-    match (aggregate, key) {
-        (Some(aggregate), Some(key)) => Ok(Some(without_key(alloc, aggregate, key)?)),
+    match (set, key) {
+        (Some(set), Some(key)) => Ok(Some(set_without(alloc, set, key)?)),
         _ => Ok(None),
     }
 }
@@ -143,11 +166,26 @@ pub(crate) fn entry_added(
     key: Option<&Value>,
     value: Option<&Value>,
 ) -> Result<Option<Value>, NoMemory>
-    ensures { IfOk result (λ v. v
-        ≡ of_three with_entry (option_copied map.entry) (option_copied key.entry) (option_copied value.entry)) }
+    ensures { IfOk result (λ v. update_answer Update.MapAdd
+        (option_copied map.entry ∷ option_copied key.entry ∷ option_copied value.entry ∷ []) ≡ Ok v) }
 {
     match (map, key, value) {
-        (Some(map), Some(key), Some(value)) => Ok(Some(with_entry(alloc, map, key, value)?)),
+        (Some(map), Some(key), Some(value)) => Ok(Some(map_with(alloc, map, key, value)?)),
+        _ => Ok(None),
+    }
+}
+
+/// A map without a key, where both are there.
+pub(crate) fn entry_removed(
+    alloc: Global,
+    map: Option<&Value>,
+    key: Option<&Value>,
+) -> Result<Option<Value>, NoMemory>
+    ensures { IfOk result (λ v. update_answer Update.MapRemove
+        (option_copied map.entry ∷ option_copied key.entry ∷ []) ≡ Ok v) }
+{
+    match (map, key) {
+        (Some(map), Some(key)) => Ok(Some(map_without(alloc, map, key)?)),
         _ => Ok(None),
     }
 }

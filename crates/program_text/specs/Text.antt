@@ -1,38 +1,16 @@
 -- The printed form of a flat system.
-use Rattle.std.specs.Prelude.{ℕ, Bool, true, false, List, [], ◌∷◌, ◌++◌, Option, Some, None, codes, length}
+use Rattle.std.specs.Prelude.{ℕ, true, false, List, [], ◌∷◌, ◌++◌, Option, Some, None, codes}
 use Rattle.std.specs.Fmt.{decimal}
-use Rattle.std.specs.List.{filter, flat_map, range_with_len}
-use Rattle.tsl_value.specs.Print.{listed, scalar_text}
-use Rattle.tsl_value.specs.declared.scalar.ScalarType.{ScalarType}
-use Rattle.tsl_value.specs.declared.scalar.ScalarType.TheVariants as scalar_type
-use Rattle.tsl_value.specs.declared.scalar.KeyType.{KeyType}
-use Rattle.tsl_value.specs.declared.scalar.KeyType.TheVariants as key_type
+use Rattle.std.specs.List.{filter, flat_map}
+use Rattle.tsl_value.specs.Print.{listed, scalar_text, type_text}
 use Rattle.tsl_value.specs.declared.scalar.ValueType.{ValueType}
-use Rattle.tsl_value.specs.declared.scalar.ValueType.TheVariants as value_type
-use Rattle.lift_func.specs.Operations.{unary_name, binary_name}
+use Rattle.tsl_value.specs.Operation.{unary_name, binary_name}
 use Rattle.lift_func.specs.BodyTree.{BodyTree, Literal, Argument, Absent, One, Two, Choice}
 use Rattle.flat_core.specs.declared.equation.Op.{Op}
 use Rattle.flat_core.specs.declared.equation.Op.TheVariants as op
 use Rattle.flat_core.specs.declared.equation.Equation.{Equation}
 use Rattle.flat_core.specs.declared.equation.Output.{Output}
-use Rattle.flat_core.specs.System.{System, equation, runs}
-
-abbrev pub scalar_type_text : ScalarType → List ℕ
-scalar_type_text scalar_type.Unit = codes "Unit"
-scalar_type_text scalar_type.Int = codes "Int"
-scalar_type_text scalar_type.Bool = codes "Bool"
-scalar_type_text scalar_type.Text = codes "String"
-
-abbrev pub key_type_text : KeyType → List ℕ
-key_type_text key_type.Int = codes "Int"
-key_type_text key_type.Bool = codes "Bool"
-key_type_text key_type.Text = codes "String"
-
--- a type as it is written in a specification
-abbrev pub type_text : ValueType → List ℕ
-type_text (value_type.Scalar s) = scalar_type_text s
-type_text (value_type.Set k) = codes "Set[" ++ (key_type_text k ++ codes "]")
-type_text (value_type.Map k s) = codes "Map[" ++ (key_type_text k ++ (codes ", " ++ (scalar_type_text s ++ codes "]")))
+use Rattle.flat_core.specs.System.{System, equation, runs, numbers}
 
 -- an operation of some parts: its name, and the parts in parentheses with a comma and a blank between them
 abbrev pub applied_text : List ℕ → List (List ℕ) → List ℕ
@@ -121,10 +99,7 @@ equation_line s i = definition_text s i ++ codes "\n"
 abbrev pub output_line : Output → List ℕ
 output_line o = codes "out " ++ (o.name ++ (codes " " ++ (number_text o.equation ++ codes "\n")))
 
--- the numbers of the equations, and of those that run, in order
-abbrev pub numbers : System → List ℕ
-numbers s = range_with_len 0 (length s.equations)
-
+-- the numbers of the equations that run, in order
 abbrev pub running : System → List ℕ
 running s = filter (runs s) (numbers s)
 

@@ -1,31 +1,9 @@
-// The names of types and operations.
+// The names of operations.
 
 ghost use Rattle.std.specs.Prelude.{◌≡◌};
-ghost use Rattle.program_text.specs.Text.{key_type_text, op_name as op_text_name, scalar_type_text};
+ghost use Rattle.program_text.specs.Text.{op_name as op_text_name};
 
 use flat_core::equation::Op;
-use tsl_value::scalar::{KeyType, ScalarType};
-
-pub(crate) fn scalar_type_name(of: ScalarType) -> &'static [u8]
-    ensures { result.now ≡ scalar_type_text of }
-{
-    match of {
-        ScalarType::Unit => b"Unit",
-        ScalarType::Int => b"Int",
-        ScalarType::Bool => b"Bool",
-        ScalarType::Text => b"String",
-    }
-}
-
-pub(crate) fn key_type_name(of: KeyType) -> &'static [u8]
-    ensures { result.now ≡ key_type_text of }
-{
-    match of {
-        KeyType::Int => b"Int",
-        KeyType::Bool => b"Bool",
-        KeyType::Text => b"String",
-    }
-}
 
 pub(crate) fn op_name(operation: &Op) -> &'static [u8]
     ensures { result.now ≡ op_text_name operation.now }

@@ -4,39 +4,17 @@ ghost use Rattle.std.specs.Prelude.{◌≡◌, ◌<◌, [], ◌++◌, codes, if�
 ghost use Rattle.std.specs.List.{flat_map};
 ghost use Rattle.flat_core.specs.System.{runs};
 ghost use Rattle.program_text.specs.Text.{args_text, after_op_text, definition_text, equation_line, text_of, flat_text, name_text};
-ghost use Rattle.program_text.specs.Text.{label_text, name_or_number, number_text, op_text, output_line, running, type_text};
+ghost use Rattle.program_text.specs.Text.{label_text, name_or_number, number_text, op_text, output_line, running};
 
 use crate::body::put_body;
-use crate::names::{key_type_name, op_name, scalar_type_name};
+use crate::names::op_name;
 use flat_core::equation::{Equation, Op, Output};
 use flat_core::flat::Flat;
 use tsl_value::bytes::Bytes;
 use tsl_value::ids::EqId;
 use tsl_value::memory::NoMemory;
-use tsl_value::print::print_number;
-use tsl_value::scalar::ValueType;
+use tsl_value::print::{print_number, print_type};
 use tsl_value::text::Text;
-
-fn put_type(of: ValueType, out: &mut Bytes) -> Result<(), NoMemory>
-    ensures ok { OnOk result (out.new ≡ out.old ++ type_text of) }
-    ensures err { OnErr result (take (length out.old) out.new ≡ out.old) }
-{
-    match of {
-        ValueType::Scalar(scalar) => out.append(scalar_type_name(scalar)),
-        ValueType::Set(key) => {
-            out.append(b"Set[")?;
-            out.append(key_type_name(key))?;
-            out.push(b']')
-        }
-        ValueType::Map(key, value) => {
-            out.append(b"Map[")?;
-            out.append(key_type_name(key))?;
-            out.append(b", ")?;
-            out.append(scalar_type_name(value))?;
-            out.push(b']')
-        }
-    }
-}
 
 /// Appends the number of an equation, as `%8`, or leaves `out` as it was.
 pub fn print_id(id: EqId, out: &mut Bytes) -> Result<(), NoMemory>
@@ -99,7 +77,7 @@ fn put_after_op(equation: &Equation, out: &mut Bytes) -> Result<(), NoMemory>
     match &equation.op {
         Op::Input | Op::Nil | Op::Empty => {
             out.push(b' ')?;
-            put_type(equation.of, out)
+            print_type(equation.of, out)
         }
         Op::Lift { body, strict: _ } => {
             out.push(b' ')?;

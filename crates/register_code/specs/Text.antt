@@ -5,7 +5,8 @@ use Rattle.std.specs.List.{flat_map}
 use Rattle.flat_core.specs.declared.equation.Output.{Output}
 use Rattle.flat_core.specs.Members.{is_in}
 use Rattle.program_text.specs.Text.{definition_text, number_text}
-use Rattle.register_code.specs.Code.{Code, keeps_of, timers_of}
+use Rattle.register_code.specs.Code.{Code}
+use Rattle.flat_core.specs.Kept.{keeps_of, timers_of}
 
 -- what stands after an update that happens in place
 abbrev pub place_text : Bool → List ℕ

@@ -2,7 +2,8 @@
 
 ghost use Rattle.std.specs.Prelude.{◌≡◌, IfOk};
 ghost use Rattle.alias_rules.specs.Fine.{IsFinePlan};
-ghost use Rattle.register_code.specs.Code.{IsCode, keeps_of, timers_of};
+ghost use Rattle.register_code.specs.Code.{IsCode};
+ghost use Rattle.flat_core.specs.Kept.{keeps_of, timers_of};
 
 use crate::keep::{keeps, timers};
 use crate::plan::Plan;
@@ -27,6 +28,7 @@ pub struct Code {
 impl Model for Code {
     ghost use Rattle.std.specs.Prelude.{◌≡◌};
     ghost use Rattle.register_code.specs.Code as seen;
+    ghost use Rattle.flat_core.specs.Kept as kept;
     ghost use Rattle.lift_func.specs.contracts.body.Body as body;
     ghost use Rattle.std.specs.Coded.{codes};
 
@@ -37,8 +39,8 @@ impl Model for Code {
     ghost view = { λ c. record { system = c.flat; in_place = c.plan.in_place; order = c.plan.order } };
 
     ghost invariant = { λ c. seen.IsCode (record { system = c.flat; in_place = c.plan.in_place; order = c.plan.order })
-        × (c.keeps.items ≡ seen.keeps_of c.flat)
-        × (c.timers.items ≡ seen.timers_of c.flat) };
+        × (c.keeps.items ≡ kept.keeps_of c.flat)
+        × (c.timers.items ≡ kept.timers_of c.flat) };
 }
 
 impl Code {
@@ -50,6 +52,15 @@ impl Code {
         ensures is_code { IsCode self.now }
     {
         &self.flat
+    }
+
+    /// Asserts what all code has: its system is whole, and its plan is fine. Nothing is done. A caller whose proof needs this of code says
+    /// so here.
+    pub fn assert_whole(&self)
+        ensures { IsCode self.now }
+    {
+        // The invariant is known where a field is used.
+        let _ = &self.flat;
     }
 
     /// The plan that the code was made by.

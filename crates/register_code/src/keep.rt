@@ -4,7 +4,7 @@ ghost use Rattle.std.specs.Prelude.{◌≡◌, ◌<◌, ◌||◌, ℕ, length, I
 ghost use Rattle.std.specs.List.{filter, range_with_len};
 ghost use Rattle.flat_core.specs.Instant.{is_delay_op};
 ghost use Rattle.flat_core.specs.Members.{is_in};
-ghost use Rattle.register_code.specs.Code as seen;
+ghost use Rattle.flat_core.specs.Kept as seen;
 
 use flat_core::equation::{Equation, Op};
 use flat_core::flat::Flat;

@@ -1,6 +1,6 @@
 // The text of code.
 
-ghost use Rattle.std.specs.Prelude.{◌≡◌, ◌<◌, ◌++◌, Some, codes, length, take, OnOk, OnErr};
+ghost use Rattle.std.specs.Prelude.{slice_get, ◌≡◌, ◌<◌, ◌++◌, Some, codes, length, take, OnOk, OnErr};
 ghost use Rattle.std.specs.List.{flat_map};
 ghost use Rattle.flat_core.specs.Members.{is_in};
 ghost use Rattle.program_text.specs.Text.{definition_text};
@@ -39,17 +39,26 @@ fn put_print(output: &Output, out: &mut Bytes) -> Result<(), NoMemory>
     out.push(b'\n')
 }
 
+/// The line of the output at a place counted from 0, if there is one.
+fn put_output(code: &Code, place: usize, out: &mut Bytes) -> Result<(), NoMemory>
+    ensures ok { OnOk result (out.new ≡ out.old ++ print_text (slice_get code.now.system.outputs place)) }
+    ensures err { OnErr result (take (length out.old) out.new ≡ out.old) }
+{
+    match code.flat().outputs().get(place) {
+        Some(output) => put_print(output, out),
+        None => Ok(()),
+    }
+}
+
 fn put_step(code: &Code, step: u32, out: &mut Bytes) -> Result<(), NoMemory>
     ensures ok { OnOk result (out.new ≡ out.old ++ step_text code.now step) }
     ensures err { OnErr result (take (length out.old) out.new ≡ out.old) }
 {
     let count = code.flat().count();
     if step < count {
-        return put_equation(code, EqId::new(step), out);
-    }
-    match code.flat().outputs().get((step - count) as usize) {
-        Some(output) => put_print(output, out),
-        None => Ok(()),
+        put_equation(code, EqId::new(step), out)
+    } else {
+        put_output(code, (step - count) as usize, out)
     }
 }
 

@@ -15,10 +15,12 @@ use Rattle.std.specs.FinMap.Entries.{is_sorted, below_all}
 use Rattle.std.specs.FinMap as finite_map
 use Rattle.tsl_value.specs.View.{View}
 use Rattle.flat_core.specs.System.{System}
-use Rattle.flat_core.specs.Case.{Inputs, Streams}
+use Rattle.flat_core.specs.Case.{Streams}
+use Rattle.flat_core.specs.Events.{Inputs}
 use Rattle.tsl_value.proofs.Lists.{later, none_in_nil, cons_cases, kept_in}
 use Rattle.alias_rules.specs.Uses.{IsStored}
-use Rattle.register_machine.specs.Run.{Plan, State, Instant, kept, is_cell}
+use Rattle.register_machine.specs.Run.{Plan, State, Instant, is_cell}
+use Rattle.flat_core.specs.Kept.{keeps_of}
 use Rattle.register_machine.specs.Machine.{Held, Bare, Cell, Cells}
 use Rattle.register_machine.proofs.Setting.{aggregate}
 use Rattle.register_machine.proofs.End.{get-kept}
@@ -78,7 +80,7 @@ module _ (s : System) (lasts : ℕ → Option Held) (all_stored : (v h : ℕ) �
   ]
 
   abbrev is_held : ℕ → Bool
-  is_held h = list_any (λ v. is_cell h (lasts v)) (kept s)
+  is_held h = list_any (λ v. is_cell h (lasts v)) (keeps_of s)
 
   abbrev held_on : Cells → Cells
   held_on cells = finite_map.retain_keys cells is_held
@@ -87,10 +89,10 @@ module _ (s : System) (lasts : ℕ → Option Held) (all_stored : (v h : ℕ) �
   found_key : (cells : Cells) (q : ℕ) → list_any (nat_eq q) (finite_map.keys (held_on cells)) ≡ true → Contains (map (λ e. e.0) (map entry (stored s))) q
   found_key cells q found =
       let there : is_some (finite_map.get (held_on cells) q) ≡ true = finite_map.contains_key-keys (held_on cells) q ∙ tied_any q (finite_map.keys (held_on cells)) ∙ found in
-      let got = some_in (λ v. is_cell q (lasts v)) (kept s) (passes (is_held q) (finite_map.get cells q) (sym (ap is_some (get-kept cells is_held q)) ∙ there)) in
+      let got = some_in (λ v. is_cell q (lasts v)) (keeps_of s) (passes (is_held q) (finite_map.get cells q) (sym (ap is_some (get-kept cells is_held q)) ∙ there)) in
       let is = is_cell_true q (lasts got.0) got.2 in
       let variable = (all_stored got.0 q is).taken.variable in
-      key_in (stored s) got.0 q is (kept_in (aggregate s) (kept s) got.0 (Contains-in (kept s) got.0 got.1) (ap is_aggregate_at variable.is ∙ variable.aggregate))
+      key_in (stored s) got.0 q is (kept_in (aggregate s) (keeps_of s) got.0 (Contains-in (keeps_of s) got.0 got.1) (ap is_aggregate_at variable.is ∙ variable.aggregate))
 
   pub cells_bound : (cells : Cells) → finite_map.len (held_on cells) ≤ length (stored s)
   cells_bound cells =

@@ -2,24 +2,29 @@
 use Rattle.std.proofs.Common.{◌≡◌, ℕ, Bool, true, false, not, ◌||◌, List, [], ◌∷◌, Option, Some, None, Ok, Err, is_some, refl, sym, ap, subst, ◌∙◌, inl, inr, Contains, IsTrue, option_map, option_and_then, map, arith}
 use Rattle.std.specs.Prelude.{if◌then◌else◌, pos}
 use Rattle.std.specs.Option.{option_or}
-use Rattle.std.specs.List.{list_any}
+use Rattle.std.specs.List.{AllByRecursion, list_any}
 use Rattle.std.proofs.Math.Bool.{true≢false}
 use Rattle.std.specs.FinMap as finite_map
-use Rattle.tsl_value.specs.View.{View, Plain, Keyed, Mapped}
+use Rattle.tsl_value.specs.View.{View, Plain}
 use Rattle.tsl_value.specs.declared.scalar.ValueType.{ValueType}
 use Rattle.tsl_value.specs.declared.scalar.Scalar.TheVariants as scalar
 use Rattle.lift_func.specs.Apply.{Answer}
-use Rattle.lift_func.specs.Update.{with_key, without_key, with_entry}
+use Rattle.lift_func.specs.declared.fault.FaultKind.{FaultKind}
+use Rattle.lift_func.specs.Update.{update_answer}
+use Rattle.tsl_value.specs.declared.operation.Update.{Update}
 use Rattle.flat_core.specs.declared.equation.Op.{Op}
 use Rattle.flat_core.specs.declared.equation.Equation.{Equation}
 use Rattle.flat_core.specs.Stream.{Outcome, Event, Fault, event, has_event, is_fault, latest}
-use Rattle.flat_core.specs.Case.{Inputs, Streams, own_of, at_once, outcome_of, expires, used_of, filtered, picked, unit, of_both, of_three, at_zero, empty_of}
+use Rattle.flat_core.specs.Case.{Streams, own_of, used_of}
+use Rattle.flat_core.specs.Events.{Inputs, at_once, outcome_of, expires, filtered, picked, unit, at_zero}
+use Rattle.tsl_value.specs.Aggregate.{empty_of, is_aggregate, has_elements}
 use Rattle.flat_core.specs.System.{System, runs, equation}
-use Rattle.flat_core.specs.Typed.{is_aggregate}
 use Rattle.flat_core.specs.Members.{is_in}
 use Rattle.flat_core.specs.Pending.{option_is}
 use Rattle.flat_core.specs.declared.equation.Op.TheVariants as op
+use Rattle.flat_core.specs.Updates.{update_in, is_update}
 use Rattle.flat_core.proofs.Answered.{event_of_value}
+use Rattle.flat_core.proofs.UpdateOps.{own_update}
 use Rattle.tsl_value.proofs.Lists.{later}
 use Rattle.alias_rules.specs.Uses.{passed_of, written_of, IsVariable, IsPassed, IsWritten, IsLast, IsRead}
 use Rattle.alias_rules.specs.Roots.{begins_content, IsOrigin}
@@ -30,13 +35,13 @@ use Rattle.register_machine.proofs.Cells.{blank_holds, failed_holds, bare_cell}
 use Rattle.register_machine.proofs.Reach.{IsEntered}
 use Rattle.register_machine.proofs.Middle.{SlotOf, Mid, IsNext, Fills, holds_event}
 use Rattle.register_machine.proofs.Moves.{Between, fills_bare, fills_passed, fills_last, fills_fresh, fills_in_place, held_spoiled, last_spoiled}
-use Rattle.register_machine.proofs.Setting.{is_keyed, aggregate, Fit, Setting, fires_is, value_is, present_is, handed, map_same, no_variable, variable_too}
+use Rattle.register_machine.proofs.Setting.{aggregate, Fit, FitIf, FitsUpdate, by_fit, Setting, fires_is, value_is, present_is, handed, map_same, no_variable, variable_too}
+use Rattle.register_machine.proofs.UpdateEffects.{effect_update, used_each, used_first, written_first, begins_update, entered_update}
 use Rattle.register_machine.proofs.Uses.{right_read, right_written, right_passed, right_last}
 
-keyed_slot : (v : View) (h : ℕ) → is_keyed v ≡ true → SlotOf (Some (Event v)) (Holds (Cell h))
+keyed_slot : (v : View) (h : ℕ) → has_elements v ≡ true → SlotOf (Some (Event v)) (Holds (Cell h))
 keyed_slot (Plain v) h is = absurd (true≢false (sym is))
-keyed_slot (Keyed v) h is = (h, refl)
-keyed_slot (Mapped v) h is = (h, refl)
+keyed_slot _ h is = (h, refl)
 
 -- a scalar as it is held
 abbrev plain_held : View → Option Held
@@ -47,8 +52,7 @@ scalar_held : (o : Option Outcome) (slot : Slot) → SlotOf o slot → ((h : ℕ
 scalar_held None slot is none = ap held is
 scalar_held (Some Fault) slot is none = ap held is.1
 scalar_held (Some (Event (Plain v))) slot is none = ap held is
-scalar_held (Some (Event (Keyed v))) slot is none = absurd (none is.0 is.1)
-scalar_held (Some (Event (Mapped v))) slot is none = absurd (none is.0 is.1)
+scalar_held (Some (Event v)) slot is none = absurd (none is.0 is.1)
 
 pub some_equation : {a b : Equation} → Some a ≡ Some b → a ≡ b
 some_equation e = cc
@@ -72,12 +76,14 @@ module _ (s : System) (set : List ℕ) (inputs : Inputs) (z : Streams) (t : ℕ)
   nothing : z i t ≡ None → Filling Blank c.cells
   nothing is = bare Blank (subst (λ o. SlotOf o Blank) (sym is) refl) (λ h. blank_holds)
 
-  answered : (answer : Answer) → z i t ≡ outcome_of answer → ((v : View) → event (z i t) ≡ Some v → is_keyed v ≡ false) → Filling (slot_of_answer answer) c.cells
+  failing : (kind : FaultKind) → z i t ≡ Some Fault → Filling (Failed (Some kind)) c.cells
+  failing kind is = bare (Failed (Some kind)) (subst (λ o. SlotOf o (Failed (Some kind))) (sym is) (Some kind, refl)) (λ h. failed_holds)
+
+  answered : (answer : Answer) → z i t ≡ outcome_of answer → ((v : View) → event (z i t) ≡ Some v → has_elements v ≡ false) → Filling (slot_of_answer answer) c.cells
   answered (Ok None) is plain = nothing is
   answered (Ok (Some (Plain v))) is plain = bare (Holds (Bare v)) (subst (λ o. SlotOf o (Holds (Bare v))) (sym is) refl) (λ h. bare_cell)
-  answered (Ok (Some (Keyed v))) is plain = absurd (true≢false (plain (Keyed v) (ap event is)))
-  answered (Ok (Some (Mapped v))) is plain = absurd (true≢false (plain (Mapped v) (ap event is)))
-  answered (Err kind) is plain = bare (Failed (Some kind)) (subst (λ o. SlotOf o (Failed (Some kind))) (sym is) (Some kind, refl)) (λ h. failed_holds)
+  answered (Ok (Some v)) is plain = absurd (true≢false (plain v (ap event is)))
+  answered (Err kind) is plain = failing kind is
 
   status_of : (a : ℕ) → IsDone a → SlotOf (z a t) (c.slots a)
   status_of a done = m.status a done.0 done.1
@@ -209,7 +215,7 @@ module _ (s : System) (set : List ℕ) (inputs : Inputs) (z : Streams) (t : ℕ)
     value_here : (v : View) → z i t ≡ Some (Event v) → event (z i t) ≡ Some v
     value_here v is = ap event is
 
-    status_cell : (v : View) (h : ℕ) → is_keyed v ≡ true → z i t ≡ Some (Event v) → SlotOf (z i t) (Holds (Cell h))
+    status_cell : (v : View) (h : ℕ) → has_elements v ≡ true → z i t ≡ Some (Event v) → SlotOf (z i t) (Holds (Cell h))
     status_cell v h keyed is = subst (λ o. SlotOf o (Holds (Cell h))) (sym is) (keyed_slot v h keyed)
 
     empty_fits : (b : Bool) (of : ValueType) → Running s i (mk op.Empty [] of) → Fit s op.Empty [] of → (v : Option View) → z i t ≡ outcome_of (Ok v) → Fits b [] (made (Ok v))
@@ -222,13 +228,14 @@ module _ (s : System) (set : List ℕ) (inputs : Inputs) (z : Streams) (t : ℕ)
         λ h free. fills_fresh s set z t last old given.law between steps rest c.slots c.cells m i next h v free (record { variable = variable; at = mk op.Empty [] of; is = running.is; begins = refl }) variable (status_cell v h keyed is) (value_here v is)
 
     update_fits : (b : Bool) → is_in set i ≡ b → (o : Op) (x : ℕ) (ks : List ℕ) (of : ValueType) → Running s i (mk o (x ∷ ks) of) → is_aggregate of ≡ true → (begins_content o (is_in set i) ≡ not (is_in set i)) → Contains (written_of o (x ∷ ks)) x → IsEntered s set z t last old x o (x ∷ ks)
-        → (v : Option View) → z i t ≡ outcome_of (Ok v) → Fits b (x ∷ ks) (made (Ok v))
-    update_fits b listed o x ks of running typed root_is written entered None is = nothing is
-    update_fits false listed o x ks of running typed root_is written entered (Some v) is =
+        → (answer : Answer) → z i t ≡ outcome_of answer → Fits b (x ∷ ks) (made answer)
+    update_fits b listed o x ks of running typed root_is written entered (Ok None) is = nothing is
+    update_fits b listed o x ks of running typed root_is written entered (Err kind) is = failing kind is
+    update_fits false listed o x ks of running typed root_is written entered (Ok (Some v)) is =
         let keyed = given.typed i (mk o (x ∷ ks) of) running v (value_here v is) ∙ typed in
         let variable : IsVariable s i = record { at = mk o (x ∷ ks) of; is = running.is; running = running.runs_too; aggregate = typed } in
         λ h free. fills_fresh s set z t last old given.law between steps rest c.slots c.cells m i next h v free (record { variable = variable; at = mk o (x ∷ ks) of; is = running.is; begins = root_is ∙ ap not listed }) variable (status_cell v h keyed is) (value_here v is)
-    update_fits true listed o x ks of running typed root_is written entered (Some v) is =
+    update_fits true listed o x ks of running typed root_is written entered (Ok (Some v)) is =
         let keyed = given.typed i (mk o (x ∷ ks) of) running v (value_here v is) ∙ typed in
         let happens : has_event (z i t) ≡ true = ap is_some (value_here v is) in
         λ h held_x.
@@ -257,7 +264,7 @@ module _ (s : System) (set : List ℕ) (inputs : Inputs) (z : Streams) (t : ℕ)
     pub source_value : (o : Op) (x : ℕ) (ks : List ℕ) (of : ValueType) → Running s i (mk o (x ∷ ks) of) → Contains (written_of o (x ∷ ks)) x → IsDone x → value_in c x ≡ event (z x t)
     source_value o x ks of running written done = value_is c.cells (z x t) (c.slots x) (status_of x done) (λ h holds. right_written s set z t last old given.law steps rest all_steps c.slots c.cells m x h i holds next.remains (record { at = mk o (x ∷ ks) of; is = running.is; running = running.runs_too; variable = m.variable x h holds; argument = written }))
 
-    plain_if : (of : ValueType) (o : Op) (args : List ℕ) → Running s i (mk o args of) → is_aggregate of ≡ false → (v : View) → event (z i t) ≡ Some v → is_keyed v ≡ false
+    plain_if : (of : ValueType) (o : Op) (args : List ℕ) → Running s i (mk o args of) → is_aggregate of ≡ false → (v : View) → event (z i t) ≡ Some v → has_elements v ≡ false
     plain_if of o args running flat v is = given.typed i (mk o args of) running v is ∙ flat
 
     time_same : (x y : Option View) (v : View) → is_some x ≡ is_some y → option_map (λ _. v) x ≡ option_map (λ _. v) y
@@ -268,6 +275,34 @@ module _ (s : System) (set : List ℕ) (inputs : Inputs) (z : Streams) (t : ℕ)
 
     filled_by : (b : Bool) (args : List ℕ) (new : Slot) → Filling new c.cells → Fits b args (Fill new)
     filled_by b args new f = f
+
+    -- the values of an update's arguments: its aggregate's, which is written, and those beside it
+    pub update_values : (o : Op) (u : Update) → update_in o ≡ Some u → (x : ℕ) (ks : List ℕ) (of : ValueType) → Running s i (mk o (x ∷ ks) of) → FitsUpdate s x ks of → ((a : ℕ) → Contains (used_of o (x ∷ ks)) a → IsDone a) → map (value_in c) (x ∷ ks) ≡ map (λ a. event (z a t)) (x ∷ ks)
+    update_values o u h x ks of running fit done =
+        let first = source_value o x ks of running (written_first o u h x ks) (done x (used_first o u h x ks)) in
+        let rest = scalar_values ks fit.others (λ a found. done a (used_each o u h (x ∷ ks) a (later x a ks found))) in
+        λ j. first j ∷ rest j
+      where
+        scalar_values : (ks : List ℕ) → AllByRecursion (λ k. aggregate s k ≡ false) ks → ((a : ℕ) → Contains ks a → IsDone a) → map (value_in c) ks ≡ map (λ a. event (z a t)) ks
+        scalar_values [] flat done = refl
+        scalar_values (k ∷ ks) flat done =
+            let here = scalar_value k (done k (0, omega arith, refl)) flat.0 in
+            let rest = scalar_values ks flat.1 (λ a found. done a (later k a ks found)) in
+            λ j. here j ∷ rest j
+
+    update_own : (b : Bool) → is_in set i ≡ b → (o : Op) (u : Update) → update_in o ≡ Some u → (x : ℕ) (ks : List ℕ) (of : ValueType) → FitsUpdate s x ks of → Running s i (mk o (x ∷ ks) of) → ((a : ℕ) → Contains (used_of o (x ∷ ks)) a → IsDone a)
+        → z i t ≡ outcome_of (own_of inputs z i o (x ∷ ks) of t) → Fits b (x ∷ ks) (effect_of inputs t c i o (x ∷ ks) of)
+    update_own b listed o u h x ks of fit running done is =
+        let values = update_values o u h x ks of running fit done in
+        let own = own_update inputs z i o u h (x ∷ ks) of t in
+        subst (Fits b (x ∷ ks)) (sym (effect_update inputs t c i o u h (x ∷ ks) of ∙ ap (λ vs. made (update_answer u vs)) values))
+        (update_fits b listed o x ks of running fit.made (begins_update o u h (is_in set i)) (written_first o u h x ks) (entered_update s set z t last old o u h x (x ∷ ks)) (update_answer u (map (λ a. event (z a t)) (x ∷ ks))) (is ∙ ap outcome_of own))
+
+    -- no operation but an update is fit by what an update asks
+    others_fit : (b : Bool) → is_in set i ≡ b → (o : Op) (args : List ℕ) (of : ValueType) → Running s i (mk o args of) → FitIf s (is_update o) args of → ((a : ℕ) → Contains (used_of o args) a → IsDone a)
+        → z i t ≡ outcome_of (own_of inputs z i o args of t) → Fits b args (effect_of inputs t c i o args of)
+    others_fit b listed o args of running fit =
+        by_fit s o of (λ args. Running s i (mk o args of) → ((a : ℕ) → Contains (used_of o args) a → IsDone a) → z i t ≡ outcome_of (own_of inputs z i o args of t) → Fits b args (effect_of inputs t c i o args of)) (λ u h x ks fits. update_own b listed o u h x ks of fits) args fit running
 
     -- the own case of each operation
     pub own_fits : (b : Bool) → is_in set i ≡ b → (o : Op) (args : List ℕ) (of : ValueType) → Running s i (mk o args of) → Fit s o args of → ((a : ℕ) → Contains (used_of o args) a → IsDone a) → ((a : ℕ) → Contains (used_of o args) a → is_fault (z a t) ≡ false)
@@ -290,21 +325,4 @@ module _ (s : System) (set : List ℕ) (inputs : Inputs) (z : Streams) (t : ℕ)
     own_fits b listed op.Merge (x ∷ y ∷ []) of running fit done sound is = merge_fits x y of running fit (done x (0, omega arith, refl)) (done y (1, omega arith, refl)) (sound x (0, omega arith, refl)) is
     own_fits b listed op.Filter (x ∷ d ∷ []) of running fit done sound is = filter_fits x d of running fit (done x (0, omega arith, refl)) (done d (1, omega arith, refl)) is
     own_fits b listed op.Pick (d ∷ x ∷ y ∷ []) of running fit done sound is = pick_fits d x y of running fit (done d (0, omega arith, refl)) (done x (1, omega arith, refl)) (done y (2, omega arith, refl)) is
-    own_fits b listed op.SetAdd (x ∷ k ∷ []) of running fit done sound is =
-        let vx = source_value op.SetAdd x (k ∷ []) of running (0, omega arith, refl) (done x (0, omega arith, refl)) in
-        let vk = scalar_value k (done k (1, omega arith, refl)) fit.1 in
-        subst (λ v. Fits b (x ∷ k ∷ []) (made (Ok v))) (sym (λ j. of_both with_key (vx j) (vk j))) (update_fits b listed op.SetAdd x (k ∷ []) of running fit.0 refl (0, omega arith, refl) tt (of_both with_key (event (z x t)) (event (z k t))) is)
-    own_fits b listed op.SetRemove (x ∷ k ∷ []) of running fit done sound is =
-        let vx = source_value op.SetRemove x (k ∷ []) of running (0, omega arith, refl) (done x (0, omega arith, refl)) in
-        let vk = scalar_value k (done k (1, omega arith, refl)) fit.1 in
-        subst (λ v. Fits b (x ∷ k ∷ []) (made (Ok v))) (sym (λ j. of_both without_key (vx j) (vk j))) (update_fits b listed op.SetRemove x (k ∷ []) of running fit.0 refl (0, omega arith, refl) tt (of_both without_key (event (z x t)) (event (z k t))) is)
-    own_fits b listed op.MapAdd (x ∷ k ∷ w ∷ []) of running fit done sound is =
-        let vx = source_value op.MapAdd x (k ∷ w ∷ []) of running (0, omega arith, refl) (done x (0, omega arith, refl)) in
-        let vk = scalar_value k (done k (1, omega arith, refl)) fit.1 in
-        let vw = scalar_value w (done w (2, omega arith, refl)) fit.2 in
-        subst (λ v. Fits b (x ∷ k ∷ w ∷ []) (made (Ok v))) (sym (λ j. of_three with_entry (vx j) (vk j) (vw j))) (update_fits b listed op.MapAdd x (k ∷ w ∷ []) of running fit.0 refl (0, omega arith, refl) tt (of_three with_entry (event (z x t)) (event (z k t)) (event (z w t))) is)
-    own_fits b listed op.MapRemove (x ∷ k ∷ []) of running fit done sound is =
-        let vx = source_value op.MapRemove x (k ∷ []) of running (0, omega arith, refl) (done x (0, omega arith, refl)) in
-        let vk = scalar_value k (done k (1, omega arith, refl)) fit.1 in
-        subst (λ v. Fits b (x ∷ k ∷ []) (made (Ok v))) (sym (λ j. of_both without_key (vx j) (vk j))) (update_fits b listed op.MapRemove x (k ∷ []) of running fit.0 refl (0, omega arith, refl) tt (of_both without_key (event (z x t)) (event (z k t))) is)
-    own_fits b listed _ _ of running fit done sound is = absurd fit
+    own_fits b listed o args of running fit done sound is = others_fit b listed o args of running fit done is

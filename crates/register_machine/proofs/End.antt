@@ -10,20 +10,23 @@ use Rattle.std.specs.Cmp.{unsigned_tied}
 use Rattle.std.proofs.Math.Bool.{true≢false}
 use Rattle.std.proofs.lemmas.Bool.{cases_eq, eq-eqb, ne_eqb, eqb-true}
 use Rattle.std.specs.FinMap as finite_map
-use Rattle.tsl_value.specs.View.{View, Plain, Keyed, Mapped}
+use Rattle.tsl_value.specs.View.{View, Plain}
 use Rattle.flat_core.specs.declared.equation.Equation.{Equation}
 use Rattle.flat_core.specs.Stream.{Outcome, Event, Fault, event, has_event, is_fault, latest}
-use Rattle.flat_core.specs.Case.{Inputs, Streams, outcome_of}
+use Rattle.flat_core.specs.Case.{Streams}
+use Rattle.flat_core.specs.Events.{Inputs, outcome_of}
 use Rattle.flat_core.specs.System.{System, runs, equation}
 use Rattle.flat_core.specs.Members.{is_in}
 use Rattle.flat_core.proofs.Members.{some_from, all_at, in-Contains, Contains-in}
+use Rattle.flat_core.proofs.Depth.{runs_below}
 use Rattle.tsl_value.proofs.Lists.{none_in_nil}
 use Rattle.alias_rules.specs.Uses.{last_of, IsStored}
 use Rattle.alias_rules.specs.Fine.{IsFine}
 use Rattle.alias_rules.specs.Sharing.{Shares}
 use Rattle.alias_rules.specs.Sharing as sharing
 use Rattle.alias_rules.proofs.Sharing.{aliased_share}
-use Rattle.register_machine.specs.Run.{Plan, kept, delays, ending, is_cell, kept_cells}
+use Rattle.register_machine.specs.Run.{Plan, ending, is_cell, kept_cells}
+use Rattle.flat_core.specs.Kept.{keeps_of, timers_of}
 use Rattle.register_machine.proofs.Running.{Running}
 use Rattle.register_machine.specs.Machine.{Instr, Keep, Timer, Held, Cell, Slot, Blank, Holds, Failed, Cells, Config, held, slot_of, with, timed, OfEquation, Steps}
 use Rattle.register_machine.proofs.Cells.{with-here, with-there}
@@ -101,8 +104,7 @@ pub kept_slot : (o : Option Outcome) (slot : Slot) (lt : Option View) (l : Optio
 kept_slot None slot lt l is before = subst (λ x. SlotOf (outcome_of (Ok lt)) (slot_of (option_or (held x) l))) (sym is) before
 kept_slot (Some Fault) slot lt l is before = subst (λ x. SlotOf (outcome_of (Ok lt)) (slot_of (option_or (held x) l))) (sym is.1) before
 kept_slot (Some (Event (Plain v))) slot lt l is before = ap (λ x. slot_of (option_or (held x) l)) is
-kept_slot (Some (Event (Keyed v))) slot lt l is before = (is.0, ap (λ x. slot_of (option_or (held x) l)) is.1)
-kept_slot (Some (Event (Mapped v))) slot lt l is before = (is.0, ap (λ x. slot_of (option_or (held x) l)) is.1)
+kept_slot (Some (Event v)) slot lt l is before = (is.0, ap (λ x. slot_of (option_or (held x) l)) is.1)
 
 slot_blank : (o : Option Outcome) (slot : Slot) → SlotOf o slot → held slot ≡ None → event o ≡ None
 slot_blank None slot is none = refl
@@ -111,11 +113,7 @@ slot_blank (Some (Event (Plain v))) slot is none = absurd (some_none (sym (ap he
   where
     some_none : {k : Held} → Some k ≡ None → ⊥
     some_none e = absurd (cc)
-slot_blank (Some (Event (Keyed v))) slot is none = absurd (some_none (sym (ap held is.1) ∙ none))
-  where
-    some_none : {k : Held} → Some k ≡ None → ⊥
-    some_none e = absurd (cc)
-slot_blank (Some (Event (Mapped v))) slot is none = absurd (some_none (sym (ap held is.1) ∙ none))
+slot_blank (Some (Event v)) slot is none = absurd (some_none (sym (ap held is.1) ∙ none))
   where
     some_none : {k : Held} → Some k ≡ None → ⊥
     some_none e = absurd (cc)
@@ -149,14 +147,14 @@ quiet_of : (o : Option Outcome) → event o ≡ None → has_event o ≡ false
 quiet_of o is = ap is_some is
 
 module _ (s : System) (plan : Plan) (fine : IsFine s plan.in_place) (inputs : Inputs) (z : Streams) (t : ℕ) (last : ℕ → Option Held) (pend : ℕ → Option ℕ) (old : Cells) (given : Setting s inputs z t last pend) (between : Between s plan.in_place z t last old) (reached : Config) (good : Good s plan inputs z t last pend old given between [] reached) (sound : (x : ℕ) → IsTrue (runs s x) → is_fault (z x t) ≡ false) (final : Config) (kept_on : Steps inputs t s (ending s) reached final) where
-  kept_first : (mid : Config) × (mid.slots ≡ reached.slots) × (mid.cells ≡ reached.cells) × ((v : ℕ) → mid.lasts v ≡ overwritten (is_in (kept s) v) (held (reached.slots v)) (reached.lasts v)) × Steps inputs t s (map Timer (delays s)) mid final
-  kept_first = keeps_are inputs t s (kept s) (map Timer (delays s)) reached final kept_on
+  kept_first : (mid : Config) × (mid.slots ≡ reached.slots) × (mid.cells ≡ reached.cells) × ((v : ℕ) → mid.lasts v ≡ overwritten (is_in (keeps_of s) v) (held (reached.slots v)) (reached.lasts v)) × Steps inputs t s (map Timer (timers_of s)) mid final
+  kept_first = keeps_are inputs t s (keeps_of s) (map Timer (timers_of s)) reached final kept_on
 
   timed_then : (final.lasts ≡ (kept_first.0).lasts) × (final.cells ≡ (kept_first.0).cells)
-  timed_then = timers_are inputs t s (delays s) kept_first.0 final kept_first.4
+  timed_then = timers_are inputs t s (timers_of s) kept_first.0 final kept_first.4
 
-  lasts_are : (v : ℕ) → final.lasts v ≡ overwritten (is_in (kept s) v) (held (reached.slots v)) (last v)
-  lasts_are v = (λ k. timed_then.0 k v) ∙ kept_first.3 v ∙ (λ k. overwritten (is_in (kept s) v) (held (reached.slots v)) (good.lasts k v))
+  lasts_are : (v : ℕ) → final.lasts v ≡ overwritten (is_in (keeps_of s) v) (held (reached.slots v)) (last v)
+  lasts_are v = (λ k. timed_then.0 k v) ∙ kept_first.3 v ∙ (λ k. overwritten (is_in (keeps_of s) v) (held (reached.slots v)) (good.lasts k v))
 
   cells_are : final.cells ≡ reached.cells
   cells_are = timed_then.1 ∙ kept_first.2
@@ -166,22 +164,22 @@ module _ (s : System) (plan : Plan) (fine : IsFine s plan.in_place) (inputs : In
   IsFrom v h = (reached.slots v ≡ Holds (Cell h)) ⊎ ((last v ≡ Some (Cell h)) × (held (reached.slots v) ≡ None))
 
   where_from : (v h : ℕ) → final.lasts v ≡ Some (Cell h) → IsStored s v × IsFrom v h
-  where_from v h is = go (is_in (kept s) v) refl (sym (lasts_are v) ∙ is)
+  where_from v h is = go (is_in (keeps_of s) v) refl (sym (lasts_are v) ∙ is)
     where
       some_same : {a b : Held} → Some a ≡ Some b → a ≡ b
       some_same e = cc
 
-      found : is_in (kept s) v ≡ true → (k : Option Held) → From (reached.slots v) (last v) k → k ≡ Some (Cell h) → IsStored s v × IsFrom v h
+      found : is_in (keeps_of s) v ≡ true → (k : Option Held) → From (reached.slots v) (last v) k → k ≡ Some (Cell h) → IsStored s v × IsFrom v h
       found listed k (fromSlot l is_l is_k) is_cell_h =
           let holds : reached.slots v ≡ Holds (Cell h) = held_holds (reached.slots v) l is_l ∙ ap Holds (some_same (sym is_k ∙ is_cell_h)) in
-          (kept_stored s given.proper v (good.mid.variable v h holds) (Contains-in (kept s) v listed), inl holds)
+          (kept_stored s given.proper v (good.mid.variable v h holds) (Contains-in (keeps_of s) v listed), inl holds)
       found listed k (fromLast none is_k) is_cell_h =
           let is_last : last v ≡ Some (Cell h) = sym is_k ∙ is_cell_h in
           (between.stored v h is_last, inr (is_last, none))
 
-      go : (b : Bool) → is_in (kept s) v ≡ b → overwritten b (held (reached.slots v)) (last v) ≡ Some (Cell h) → IsStored s v × IsFrom v h
+      go : (b : Bool) → is_in (keeps_of s) v ≡ b → overwritten b (held (reached.slots v)) (last v) ≡ Some (Cell h) → IsStored s v × IsFrom v h
       go true listed is_h = found listed (option_or (held (reached.slots v)) (last v)) (from_or (reached.slots v) (last v)) is_h
-      go false listed is_h = absurd (true≢false (sym (in-Contains (kept s) v (stored_kept s v (between.stored v h is_h))) ∙ listed))
+      go false listed is_h = absurd (true≢false (sym (in-Contains (keeps_of s) v (stored_kept s v (between.stored v h is_h))) ∙ listed))
 
   status_of : (v : ℕ) → IsTrue (runs s v) → SlotOf (z v t) (reached.slots v)
   status_of v run = good.mid.status v run (λ found. absurd (none_in_nil v found))
@@ -226,7 +224,7 @@ module _ (s : System) (plan : Plan) (fine : IsFine s plan.in_place) (inputs : In
   -- the cells that stay
   stays_there : (v h : ℕ) → final.lasts v ≡ Some (Cell h) → finite_map.get (kept_cells s final) h ≡ finite_map.get reached.cells h
   stays_there v h is =
-      get-held final.cells (λ k. list_any (λ w. is_cell k (final.lasts w)) (kept s)) h (some_from (λ w. is_cell h (final.lasts w)) (kept s) v (in-Contains (kept s) v (stored_kept s v (where_from v h is).0)) (ap (is_cell h) is ∙ eq-eqb h h refl))
+      get-held final.cells (λ k. list_any (λ w. is_cell k (final.lasts w)) (keeps_of s)) h (some_from (λ w. is_cell h (final.lasts w)) (keeps_of s) v (in-Contains (keeps_of s) v (stored_kept s v (where_from v h is).0)) (ap (is_cell h) is ∙ eq-eqb h h refl))
       ∙ ap (λ m. finite_map.get m h) cells_are
 
   pub next_between : Between s plan.in_place z (suc t) final.lasts (kept_cells s final)
@@ -240,7 +238,7 @@ module _ (s : System) (plan : Plan) (fine : IsFine s plan.in_place) (inputs : In
   -- and each last register holds its variable's latest event
   pub next_lasts : (v i : ℕ) (e : Equation) → Running s i e → Contains (last_of e.op e.args) v → SlotOf (outcome_of (Ok (latest (z v) (suc t)))) (slot_of (final.lasts v))
   next_lasts v i e running argument =
-      let listed = in-Contains (kept s) v (last_kept s v i e runs_arg running argument) in
+      let listed = in-Contains (keeps_of s) v (last_kept s v i e (runs_below s given.proper v runs_arg) running argument) in
       subst (λ l. SlotOf (outcome_of (Ok (latest (z v) (suc t)))) (slot_of l)) (sym (lasts_are v ∙ ap (λ b. overwritten b (held (reached.slots v)) (last v)) listed))
       (kept_slot (z v t) (reached.slots v) (latest (z v) t) (last v) (status_of v runs_arg) (given.lasts v i e running argument))
     where

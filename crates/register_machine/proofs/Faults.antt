@@ -6,7 +6,8 @@ use Rattle.lift_func.specs.Apply.{Answer}
 use Rattle.flat_core.specs.declared.equation.Op.{Op}
 use Rattle.flat_core.specs.declared.equation.Equation.{Equation}
 use Rattle.flat_core.specs.Stream.{Fault, event, is_fault}
-use Rattle.flat_core.specs.Case.{Inputs, Streams, own, outcome_of, is_blocked, fault_of, root_of, root_fault, refused, amount_fault}
+use Rattle.flat_core.specs.Case.{Streams, own, is_blocked, root_of, root_fault, amount_fault}
+use Rattle.flat_core.specs.Events.{Inputs, outcome_of, fault_of, refused}
 use Rattle.flat_core.specs.Fault.{root_at, is_faulty}
 use Rattle.flat_core.specs.System.{System, runs}
 use Rattle.flat_core.proofs.Members.{all_at, in-Contains}

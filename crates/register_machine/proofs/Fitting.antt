@@ -1,13 +1,16 @@
 -- What the typing of a system says of arity and of aggregates.
-use Rattle.std.proofs.Common.{◌≡◌, ℕ, List, [], ◌∷◌, Option, Some, None, refl, sym, ap, subst, ◌∙◌, map}
+use Rattle.std.specs.List.{AllByRecursion}
+use Rattle.std.proofs.Common.{◌≡◌, ℕ, false, List, [], ◌∷◌, Option, Some, None, refl, sym, ap, subst, ◌∙◌, map}
 use Rattle.tsl_value.specs.declared.scalar.ValueType.{ValueType}
 use Rattle.tsl_value.specs.declared.scalar.ValueType.TheVariants as value_type
 use Rattle.flat_core.specs.declared.equation.Op.{Op}
 use Rattle.flat_core.specs.declared.equation.Equation.{Equation}
 use Rattle.flat_core.specs.System.{System, equation}
-use Rattle.flat_core.specs.Typed.{IsTyped, unit_type, int_type, bool_type, input, nil, unit, empty, time, any, last, delay, merge, filter, pick, set_add, set_remove, map_add, map_remove, lift, is_aggregate}
+use Rattle.tsl_value.specs.Aggregate.{is_aggregate}
+use Rattle.flat_core.specs.Typed.{IsTyped, unit_type, int_type, bool_type, input, nil, unit, empty, time, any, last, delay, merge, filter, pick, update, lift}
 use Rattle.flat_core.specs.declared.equation.Op.TheVariants as op
-use Rattle.register_machine.proofs.Setting.{Fit, aggregate}
+use Rattle.register_machine.proofs.Setting.{Fit, fit_update, aggregate}
+use Rattle.lift_func.proofs.Updates.{updates_aggregate, beside_scalars}
 use Rattle.register_machine.specs.Stands.{is_aggregate_at}
 
 abbrev pub type_of : Option Equation → ValueType
@@ -57,6 +60,13 @@ module _ (s : System) where
   three : (t u v : ValueType) (args : List ℕ) → map (type_at s) args ≡ t ∷ u ∷ v ∷ [] → (a : ℕ) × (b : ℕ) × (c : ℕ) × (args ≡ a ∷ b ∷ c ∷ []) × (aggregate s a ≡ is_aggregate t) × (aggregate s b ≡ is_aggregate u) × (aggregate s c ≡ is_aggregate v)
   three t u v args e = let m = more t (u ∷ v ∷ []) args e in let n = two u v m.1 m.4 in (m.0, n.0, n.1, m.2 ∙ ap (λ l. m.0 ∷ l) n.2, is_of m.0 t m.3, n.3, n.4)
 
+  -- arguments of types that are none of aggregates
+  scalars : (types : List ValueType) (args : List ℕ) → map (type_at s) args ≡ types → AllByRecursion (λ t. is_aggregate t ≡ false) types → AllByRecursion (λ a. aggregate s a ≡ false) args
+  scalars [] args e flat = subst (AllByRecursion (λ a. aggregate s a ≡ false)) (sym (none args e)) tt
+  scalars (t ∷ types) args e flat =
+      let m = more t types args e in
+      subst (AllByRecursion (λ a. aggregate s a ≡ false)) (sym m.2) (is_of m.0 t m.3 ∙ flat.0, scalars types m.1 m.4 flat.1)
+
   pub fit_from : (o : Op) (ts : List ValueType) (of : ValueType) → IsTyped o ts of → (args : List ℕ) → map (type_at s) args ≡ ts → Fit s o args of
   fit_from o ts of (input {t}) args e = subst (λ l. Fit s op.Input l (value_type.Scalar t)) (sym (none args e)) refl
   fit_from o ts of (nil {t}) args e = subst (λ l. Fit s op.Nil l t) (sym (none args e)) tt
@@ -69,8 +79,11 @@ module _ (s : System) where
   fit_from o ts of (merge {t}) args e = let m = two t t args e in subst (λ l. Fit s op.Merge l t) (sym m.2) (m.3, m.4)
   fit_from o ts of (filter {t}) args e = let m = two t bool_type args e in subst (λ l. Fit s op.Filter l t) (sym m.2) (m.3, m.4)
   fit_from o ts of (pick {t} agg) args e = let m = three bool_type t t args e in subst (λ l. Fit s op.Pick l t) (sym m.3) (m.4, m.5, m.6)
-  fit_from o ts of (set_add {k} {t} key) args e = let m = two (value_type.Set k) (value_type.Scalar t) args e in subst (λ l. Fit s op.SetAdd l (value_type.Set k)) (sym m.2) (refl, m.4, m.3)
-  fit_from o ts of (set_remove {k} {t} key) args e = let m = two (value_type.Set k) (value_type.Scalar t) args e in subst (λ l. Fit s op.SetRemove l (value_type.Set k)) (sym m.2) (refl, m.4, m.3)
-  fit_from o ts of (map_add {k} {t} {x} key) args e = let m = three (value_type.Map k x) (value_type.Scalar t) (value_type.Scalar x) args e in subst (λ l. Fit s op.MapAdd l (value_type.Map k x)) (sym m.3) (refl, m.5, m.6, m.4)
-  fit_from o ts of (map_remove {k} {t} {x} key) args e = let m = two (value_type.Map k x) (value_type.Scalar t) args e in subst (λ l. Fit s op.MapRemove l (value_type.Map k x)) (sym m.2) (refl, m.4, m.3)
+  fit_from o ts of (update {u = u} {t = t} {ts = more_types} is row) args e =
+      let m = more t more_types args e in
+      subst (λ l. Fit s o l t) (sym m.2) (fit_update s o u is m.0 m.1 t (record {
+        made = updates_aggregate row;
+        source = is_of m.0 t m.3 ∙ updates_aggregate row;
+        others = scalars more_types m.1 m.4 (beside_scalars row);
+      }))
   fit_from o ts of (lift {t = t} low high kinds) args e = refl

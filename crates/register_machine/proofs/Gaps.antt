@@ -7,7 +7,7 @@ use Rattle.tsl_value.specs.View.{View, Plain}
 use Rattle.tsl_value.specs.declared.scalar.Scalar.TheVariants as scalar
 use Rattle.flat_core.specs.declared.equation.Equation.{Equation}
 use Rattle.flat_core.specs.Stream.{History, event, has_event}
-use Rattle.flat_core.specs.Case.{Inputs, expires}
+use Rattle.flat_core.specs.Events.{Inputs, expires}
 use Rattle.flat_core.specs.Pending.{pending, reached, option_is}
 use Rattle.flat_core.specs.System.{System, equation}
 use Rattle.flat_core.specs.Members.{is_in}

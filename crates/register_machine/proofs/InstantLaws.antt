@@ -1,18 +1,20 @@
 -- The law of fine plans: in every run of the register machine each run in place leaves what is still read, and the prints
 -- and root faults of the run are those of the solution.
 use Rattle.std.proofs.Common.{◌≡◌, ℕ, ◌<◌, true, false, List, [], ◌∷◌, ◌++◌, Some, refl, sym, subst, ◌∙◌, inl, inr, Contains, IsTrue, map, arith}
+use Rattle.std.proofs.lemmas.Bool.{and_parts}
 use Rattle.std.proofs.lemmas.List.Elements.{Contains-append_cases}
 use Rattle.flat_core.specs.declared.equation.Equation.{Equation}
-use Rattle.flat_core.specs.Case.{Inputs, Streams}
+use Rattle.flat_core.specs.Case.{Streams}
+use Rattle.flat_core.specs.Events.{Inputs}
 use Rattle.flat_core.specs.Fault.{is_faulty}
-use Rattle.flat_core.specs.System.{System, equation}
+use Rattle.flat_core.specs.System.{System, equation, numbers, runs}
 use Rattle.flat_core.specs.Members.{is_in}
 use Rattle.flat_core.specs.Instant.{is_delay}
-use Rattle.flat_core.proofs.Members.{in-Contains}
 use Rattle.tsl_value.proofs.Lists.{none_in_nil, in_kept, contains_map}
 use Rattle.flat_core.specs.Updates.{is_update}
 use Rattle.alias_rules.specs.Conflict.{StandsBefore}
-use Rattle.register_machine.specs.Run.{Plan, State, started, body, ending, kept, delays, step_instr, Instant, ended}
+use Rattle.register_machine.specs.Run.{Plan, State, started, body, ending, step_instr, Instant, ended}
+use Rattle.flat_core.specs.Kept.{is_timer, keeps_of, timers_of}
 use Rattle.register_machine.proofs.Running.{Running}
 use Rattle.register_machine.proofs.Orders.{Agrees, steps_of}
 use Rattle.register_machine.specs.Machine.{Instr, RunInPlace, Keep, Timer, Config, timed, OfEquation, Step, Steps}
@@ -29,12 +31,12 @@ module _ (s : System) (plan : Plan) (inputs : Inputs) (z : Streams) (bound : ℕ
   timer_goes t i e is c = (record c { pending = timed t c i e.args }, subst (λ q. OfEquation q (λ x. record c { pending = timed t c i e.args } ≡ record c { pending = timed t c i x.args })) (sym is) refl)
 
   each_goes : (t : ℕ) (instr : Instr) → Contains (ending s) instr → (c : Config) → (d : Config) × Step inputs t s instr c d
-  each_goes t instr found c = elim (Contains-append_cases (map Keep (kept s)) (map Timer (delays s)) instr found) [
-    | inl keep ↦ let got = contains_map Keep (kept s) instr keep in subst (λ x. (d : Config) × Step inputs t s x c d) got.2 (keep_goes got.0)
+  each_goes t instr found c = elim (Contains-append_cases (map Keep (keeps_of s)) (map Timer (timers_of s)) instr found) [
+    | inl keep ↦ let got = contains_map Keep (keeps_of s) instr keep in subst (λ x. (d : Config) × Step inputs t s x c d) got.2 (keep_goes got.0)
     | inr timer ↦
-        let got = contains_map Timer (delays s) instr timer in
-        let run = (in_kept (λ j. is_delay (equation s j)) s.running got.0 got.1).0 in
-        let all = course.proper.runs_all got.0 (in-Contains s.running got.0 run) in
+        let got = contains_map Timer (timers_of s) instr timer in
+        let run = (and_parts (runs s got.0) (is_delay (equation s got.0)) (in_kept (is_timer s) (numbers s) got.0 got.1).1).0 in
+        let all = course.proper.runs_all got.0 run in
         subst (λ x. (d : Config) × Step inputs t s x c d) got.2 (timer_goes t got.0 all.0 all.1 c)
   ]
     where

@@ -1,14 +1,16 @@
 -- The ledger after an instant is the number of elements that updates outside the set have copied.
-use Rattle.std.proofs.Common.{◌≡◌, ℕ, suc, ◌+◌, ◌-◌, ◌^◌, ◌≤◌, min, Bool, true, false, List, [], ◌∷◌, Option, Some, None, Ok, is_some, refl, sym, ap, subst, ◌∙◌, inl, inr, Contains, IsTrue, map, arith, length}
+use Rattle.std.proofs.Common.{◌≡◌, ℕ, suc, ◌+◌, ◌-◌, ◌^◌, ◌≤◌, min, Bool, true, false, List, [], ◌∷◌, Option, Some, None, Ok, Err, is_some, refl, sym, ap, subst, ◌∙◌, inl, inr, Contains, IsTrue, map, arith, length}
 use Rattle.std.specs.Prelude.{if◌then◌else◌}
 use Rattle.std.proofs.lemmas.Bool.{cases_eq, lt-ltb, le-ltb}
 use Rattle.tsl_value.specs.View.{View}
-use Rattle.lift_func.specs.Update.{with_key, without_key, with_entry}
+use Rattle.lift_func.specs.Apply.{Answer}
+use Rattle.lift_func.specs.Update.{update_answer}
 use Rattle.tsl_value.specs.declared.scalar.ValueType.{ValueType}
 use Rattle.flat_core.specs.declared.equation.Op.{Op}
 use Rattle.flat_core.specs.declared.equation.Equation.{Equation}
 use Rattle.flat_core.specs.Stream.{event, has_event}
-use Rattle.flat_core.specs.Case.{Inputs, Streams, of_both, of_three, used_of}
+use Rattle.flat_core.specs.Case.{Streams, used_of}
+use Rattle.flat_core.specs.Events.{Inputs}
 use Rattle.flat_core.specs.System.{System, runs}
 use Rattle.flat_core.specs.Members.{is_in}
 use Rattle.flat_core.specs.declared.equation.Op.TheVariants as op
@@ -23,14 +25,16 @@ use Rattle.register_machine.specs.Machine.{Run, RunInPlace, Print, Held, Cell, S
 use Rattle.register_machine.proofs.Cells.{with-here, with-there, without, without-there, without-other, without-keeps}
 use Rattle.register_machine.proofs.Middle.{SlotOf, IsNext}
 use Rattle.register_machine.proofs.Moves.{Between}
+use Rattle.register_machine.proofs.UpdateEffects.{effect_update, used_first, written_first}
 use Rattle.register_machine.proofs.Setting.{each_update, Fit, Setting, fires_is}
 use Rattle.register_machine.proofs.Effects.{some_equation, source_value}
 use Rattle.register_machine.proofs.Steps.{Good, below, done_args, step_good}
 use Rattle.register_machine.proofs.FailedKinds.{fill_same}
 
-made_blank : (v : Option View) (new : Slot) → made (Ok v) ≡ Fill new → held new ≡ None
-made_blank None new is = ap held (fill_same (sym is))
-made_blank (Some v) new is = absurd (make_fill is)
+made_blank : (answer : Answer) (new : Slot) → made answer ≡ Fill new → held new ≡ None
+made_blank (Ok None) new is = ap held (fill_same (sym is))
+made_blank (Err kind) new is = ap held (fill_same (sym is))
+made_blank (Ok (Some v)) new is = absurd (make_fill is)
   where
     make_fill : {x : View} {y : Slot} → Make x ≡ Fill y → ⊥
     make_fill e = absurd (cc)
@@ -51,10 +55,7 @@ module _ (s : System) (plan : Plan) (inputs : Inputs) (z : Streams) (t : ℕ) (l
     -- an update that fills its register alone has no event
     update_blank : (o : Op) (args : List ℕ) (of : ValueType) → is_update o ≡ true → Fit s o args of → (new : Slot) → effect_of inputs t c i o args of ≡ Fill new → held new ≡ None
     update_blank = each_update s (λ o args of. (new : Slot) → effect_of inputs t c i o args of ≡ Fill new → held new ≡ None)
-        (λ m k of fit new is. made_blank (of_both with_key (value_in c m) (value_in c k)) new is)
-        (λ m k of fit new is. made_blank (of_both without_key (value_in c m) (value_in c k)) new is)
-        (λ m k x of fit new is. made_blank (of_three with_entry (value_in c m) (value_in c k) (value_in c x)) new is)
-        (λ m k of fit new is. made_blank (of_both without_key (value_in c m) (value_in c k)) new is)
+        (λ o u h m ks of fit new is. made_blank (update_answer u (map (value_in c) (m ∷ ks))) new (sym (effect_update inputs t c i o u h (m ∷ ks) of) ∙ is))
 
     fill_blank : (e : Equation) → Running s i e → is_update e.op ≡ true → (new : Slot) → effect inputs t c i e ≡ Fill new → held new ≡ None
     fill_blank e running update new is = go (is_barred c e) is
@@ -79,10 +80,7 @@ module _ (s : System) (plan : Plan) (inputs : Inputs) (z : Streams) (t : ℕ) (l
 
         go : (o : Op) (args : List ℕ) (of : ValueType) → is_update o ≡ true → Fit s o args of → e.op ≡ o → e.args ≡ args → source_size c e.args ≡ copied_at z i e.args t
         go = each_update s (λ o args of. e.op ≡ o → e.args ≡ args → source_size c e.args ≡ copied_at z i e.args t)
-            (λ m k of fit is_op is_args. source op.SetAdd m (k ∷ []) is_op is_args (0, omega arith, refl) (0, omega arith, refl))
-            (λ m k of fit is_op is_args. source op.SetRemove m (k ∷ []) is_op is_args (0, omega arith, refl) (0, omega arith, refl))
-            (λ m k x of fit is_op is_args. source op.MapAdd m (k ∷ x ∷ []) is_op is_args (0, omega arith, refl) (0, omega arith, refl))
-            (λ m k of fit is_op is_args. source op.MapRemove m (k ∷ []) is_op is_args (0, omega arith, refl) (0, omega arith, refl))
+            (λ o u h m ks of fit is_op is_args. source o m ks is_op is_args (written_first o u h m ks) (used_first o u h m ks))
 
     copied_zero : (args : List ℕ) → has_event (z i t) ≡ false → copied_at z i args t ≡ 0
     copied_zero [] none = refl

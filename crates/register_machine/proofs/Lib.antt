@@ -4,6 +4,7 @@ pub mod Orders
 pub mod Reach
 pub mod Middle
 pub mod Moves
+pub mod UpdateEffects
 pub mod Setting
 pub mod Uses
 pub mod Effects

@@ -2,7 +2,7 @@
 use Rattle.std.proofs.Common.{◌≡◌, ℕ, true, false, List, Option, Some, None, refl, sym, ap, subst, ◌∙◌, inl, inr, ◌⊎◌, Contains, IsTrue}
 use Rattle.std.proofs.lemmas.Bool.{cases_eq}
 use Rattle.std.specs.FinMap as finite_map
-use Rattle.tsl_value.specs.View.{Plain, Keyed, Mapped}
+use Rattle.tsl_value.specs.View.{Plain}
 use Rattle.lift_func.specs.declared.fault.FaultKind.{FaultKind}
 use Rattle.flat_core.specs.Stream.{Outcome, Event, Fault, event, has_event, is_fault, latest}
 use Rattle.flat_core.specs.Case.{Streams}
@@ -22,8 +22,7 @@ abbrev pub SlotOf : Option Outcome → Slot → Type 0
 SlotOf None slot = slot ≡ Blank
 SlotOf (Some Fault) slot = (kind : Option FaultKind) × (slot ≡ Failed kind)
 SlotOf (Some (Event (Plain v))) slot = slot ≡ Holds (Bare v)
-SlotOf (Some (Event (Keyed keys))) slot = (h : ℕ) × (slot ≡ Holds (Cell h))
-SlotOf (Some (Event (Mapped entries))) slot = (h : ℕ) × (slot ≡ Holds (Cell h))
+SlotOf (Some (Event _)) slot = (h : ℕ) × (slot ≡ Holds (Cell h))
 
 pub holds_event : (o : Option Outcome) (slot : Slot) (k : Held) → SlotOf o slot → slot ≡ Holds k → has_event o ≡ true
 holds_event None slot k is holds = blank_holds (sym is ∙ holds)

@@ -1,16 +1,18 @@
 -- What is given of a system, a plan and a solution gives what the proofs along a run ask for.
 use Rattle.std.proofs.Common.{◌≡◌, ℕ, ◌<◌, true, false, List, [], ◌∷◌, refl, sym, ap, subst, ◌∙◌, inr, IsTrue, map}
 use Rattle.std.proofs.Math.Bool.{true≢false}
-use Rattle.tsl_value.specs.View.{View, Plain, Keyed, Mapped, is_of}
+use Rattle.tsl_value.proofs.Aggregates.{elements_of}
+use Rattle.tsl_value.specs.View.{View, is_of}
 use Rattle.tsl_value.specs.declared.scalar.ValueType.{ValueType}
 use Rattle.tsl_value.specs.declared.scalar.ValueType.TheVariants as value_type
 use Rattle.flat_core.specs.declared.equation.Equation.{Equation}
 use Rattle.flat_core.specs.inner.BoundLaws.{HappensAtInstants}
-use Rattle.flat_core.specs.Case.{Streams, Inputs}
+use Rattle.flat_core.specs.Case.{Streams}
+use Rattle.flat_core.specs.Events.{Inputs}
 use Rattle.flat_core.specs.Fault.{is_faulty}
 use Rattle.flat_core.specs.Line.{Line, inputs_of}
 use Rattle.flat_core.specs.System.{System, runs}
-use Rattle.flat_core.specs.Typed.{is_aggregate}
+use Rattle.tsl_value.specs.Aggregate.{is_aggregate, has_elements}
 use Rattle.flat_core.specs.inner.TypedEvents.{AreTypedInputs, HasTypedEvents}
 use Rattle.flat_core.specs.TypedSystem.{AreOfTypes}
 use Rattle.flat_core.specs.WellFormed.{IsRanked}
@@ -22,29 +24,18 @@ use Rattle.trigger_rules.proofs.Times.{exact, implied, all_are_clear}
 use Rattle.alias_rules.specs.Conflict.{StandsBefore, needed}
 use Rattle.flat_core.specs.Updates.{is_update}
 use Rattle.alias_rules.proofs.Ranks.{order_ranked, place}
+use Rattle.alias_rules.proofs.Updates.{has_update}
 use Rattle.register_machine.specs.Run.{Plan}
 use Rattle.register_machine.specs.Stands.{IsGiven}
 use Rattle.register_machine.proofs.Running.{Running, Prints}
 use Rattle.tsl_value.proofs.Lists.{contains_at}
 use Rattle.register_machine.proofs.Orders.{followed}
 use Rattle.register_machine.proofs.Reach.{TriggerLaw}
-use Rattle.register_machine.proofs.Setting.{Fit, is_keyed}
+use Rattle.register_machine.proofs.Setting.{Fit}
 use Rattle.register_machine.proofs.Effects.{some_equation}
 use Rattle.register_machine.proofs.Fitting.{type_at, type_of, fit_from}
 use Rattle.register_machine.proofs.Taken.{event_no_fault}
 use Rattle.register_machine.proofs.Safety.{Course}
-
--- a value of a type is a set or a map where the type says so
-keyed_of : (of : ValueType) (v : View) → is_of of v ≡ true → is_keyed v ≡ is_aggregate of
-keyed_of (value_type.Scalar t) (Plain v) is = refl
-keyed_of (value_type.Set k) (Keyed v) is = refl
-keyed_of (value_type.Map k t) (Mapped v) is = refl
-keyed_of (value_type.Scalar t) (Keyed v) is = absurd (true≢false (sym is))
-keyed_of (value_type.Scalar t) (Mapped v) is = absurd (true≢false (sym is))
-keyed_of (value_type.Set k) (Plain v) is = absurd (true≢false (sym is))
-keyed_of (value_type.Set k) (Mapped v) is = absurd (true≢false (sym is))
-keyed_of (value_type.Map k t) (Plain v) is = absurd (true≢false (sym is))
-keyed_of (value_type.Map k t) (Keyed v) is = absurd (true≢false (sym is))
 
 types_are : (s : System) (args : List ℕ) (types : List ValueType) → AreOfTypes s.equations args types → map (type_at s) args ≡ types
 types_are s [] [] of = refl
@@ -113,7 +104,7 @@ module _ (s : System) (plan : Plan) (lines : List Line) (bound : ℕ) (z : Strea
     agrees = followed s (StandsBefore s plan.in_place) plan.order given.fine.ordered;
     solves = given.solves;
     small = given.small;
-    typed = λ t lt i e running v is. keyed_of e.of v (events_are_typed.each i e running.runs_too running.is t lt v is);
+    typed = λ t lt i e running v is. elements_of e.of v (events_are_typed.each i e running.runs_too running.is t lt v is);
     law = law_at;
     no_fault = λ t lt sound none x run. all_are_clear s inputs bound z t (up_to t lt sound) none x run;
     printed_run = printed_runs;
@@ -121,7 +112,7 @@ module _ (s : System) (plan : Plan) (lines : List Line) (bound : ℕ) (z : Strea
 
   pub updates_of : (y : ℕ) (e : Equation) → Running s y e → IsTrue (Rattle.flat_core.specs.Members.is_in plan.in_place y) → IsTrue (is_update e.op)
   updates_of y e running listed =
-      let u = given.fine.updates y listed in
+      let u = has_update s y (given.fine.updates y listed) in
       subst (λ d. IsTrue (is_update d.op)) (some_equation (sym u.is ∙ running.is)) u.updates
 
   pub silence_of : HappensAtInstants s lines bound z

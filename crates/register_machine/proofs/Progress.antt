@@ -7,13 +7,15 @@ use Rattle.std.specs.Cmp.{unsigned_tied}
 use Rattle.std.proofs.Math.Bool.{true≢false}
 use Rattle.std.proofs.lemmas.Bool.{ne_eqb, lt-ltb, le-ltb}
 use Rattle.std.specs.FinMap as finite_map
-use Rattle.tsl_value.specs.View.{View, Plain, Keyed, Mapped}
-use Rattle.lift_func.specs.Update.{with_key, without_key, with_entry}
+use Rattle.tsl_value.specs.View.{View, Plain}
+use Rattle.tsl_value.specs.declared.operation.Update.{Update}
+use Rattle.lift_func.specs.Update.{update_answer}
 use Rattle.tsl_value.specs.declared.scalar.ValueType.{ValueType}
 use Rattle.flat_core.specs.declared.equation.Op.{Op}
 use Rattle.flat_core.specs.declared.equation.Equation.{Equation}
 use Rattle.flat_core.specs.Stream.{Outcome, Event, Fault, event}
-use Rattle.flat_core.specs.Case.{Inputs, Streams, of_both, of_three, used_of}
+use Rattle.flat_core.specs.Case.{Streams, used_of}
+use Rattle.flat_core.specs.Events.{Inputs}
 use Rattle.flat_core.specs.System.{System, runs}
 use Rattle.flat_core.specs.Members.{is_in}
 use Rattle.tsl_value.proofs.Lists.{later}
@@ -26,6 +28,7 @@ use Rattle.register_machine.specs.Machine.{Instr, Run, RunInPlace, Print, Held, 
 use Rattle.register_machine.proofs.Cells.{blank_holds, failed_holds, without, without-there}
 use Rattle.register_machine.proofs.Middle.{SlotOf, IsNext}
 use Rattle.register_machine.proofs.Moves.{Between}
+use Rattle.register_machine.proofs.UpdateEffects.{effect_update, used_first}
 use Rattle.register_machine.proofs.Setting.{each_update, Fit, Setting, aggregate}
 use Rattle.register_machine.proofs.Steps.{Good, below, done_args, step_good}
 use Rattle.std.specs.Option.{option_and_then}
@@ -67,11 +70,7 @@ plain_event (Some (Event (Plain v))) b is = ap (λ x. Some (Plain x)) (bare_same
   where
     bare_same : {x y : _} → Holds (Bare x) ≡ Holds (Bare y) → y ≡ x
     bare_same e = cc
-plain_event (Some (Event (Keyed v))) b is = absurd (bare_no_cell is.1)
-  where
-    bare_no_cell : {x : _} {h : ℕ} → Holds (Bare x) ≡ Holds (Cell h) → ⊥
-    bare_no_cell e = absurd (cc)
-plain_event (Some (Event (Mapped v))) b is = absurd (bare_no_cell is.1)
+plain_event (Some (Event v)) b is = absurd (bare_no_cell is.1)
   where
     bare_no_cell : {x : _} {h : ℕ} → Holds (Bare x) ≡ Holds (Cell h) → ⊥
     bare_no_cell e = absurd (cc)
@@ -94,19 +93,16 @@ module _ (s : System) (plan : Plan) (inputs : Inputs) (z : Streams) (t : ℕ) (l
     IsThere : Op → List ℕ → ValueType → Type 0
     IsThere o args of = ((a : ℕ) → Contains (used_of o args) a → IsTrue (runs s a) × (Contains rest a → ⊥)) → (v : View) → effect_of inputs t c i o args of ≡ Make v → (h : ℕ) × (source_slot c args ≡ Holds (Cell h))
 
-    cell_there : (m : ℕ) → IsTrue (runs s m) × (Contains rest m → ⊥) → aggregate s m ≡ true → (f : Option View → Option View) → f None ≡ None → (v : View) → made (Ok (f (value_in c m))) ≡ Make v → (h : ℕ) × (c.slots m ≡ Holds (Cell h))
-    cell_there m done typed f nothing v is = elim (source_ready rest c good m done.0 done.1 typed) [
-      | inl none ↦ fill_make (sym (ap (λ x. made (Ok x)) (ap f none ∙ nothing)) ∙ is)
+    cell_there : (u : Update) (m : ℕ) → IsTrue (runs s m) × (Contains rest m → ⊥) → aggregate s m ≡ true → (values : List (Option View)) (v : View) → made (update_answer u (value_in c m ∷ values)) ≡ Make v → (h : ℕ) × (c.slots m ≡ Holds (Cell h))
+    cell_there u m done typed values v is = elim (source_ready rest c good m done.0 done.1 typed) [
+      | inl none ↦ fill_make (sym (ap (λ x. made (update_answer u (x ∷ values))) none) ∙ is)
       | inr cell ↦ cell
     ]
 
     source_there : (o : Op) (args : List ℕ) (of : ValueType) → is_update o ≡ true → Fit s o args of → IsThere o args of
     unfolding IsThere
-    source_there = each_update s IsThere
-        (λ m k of fit done v is. cell_there m (done m (0, omega arith, refl)) fit.2 (λ x. of_both with_key x (value_in c k)) refl v is)
-        (λ m k of fit done v is. cell_there m (done m (0, omega arith, refl)) fit.2 (λ x. of_both without_key x (value_in c k)) refl v is)
-        (λ m k x of fit done v is. cell_there m (done m (0, omega arith, refl)) fit.3 (λ q. of_three with_entry q (value_in c k) (value_in c x)) refl v is)
-        (λ m k of fit done v is. cell_there m (done m (0, omega arith, refl)) fit.2 (λ x. of_both without_key x (value_in c k)) refl v is)
+    source_there = each_update s IsThere (λ o u h m ks of fit done v is.
+        cell_there u m (done m (used_first o u h m ks)) fit.source (map (value_in c) ks) v (sym (effect_update inputs t c i o u h (m ∷ ks) of) ∙ is))
 
     source_found : (o : Op) (args : List ℕ) (of : ValueType) → is_update o ≡ true → Fit s o args of → ((a : ℕ) → Contains (used_of o args) a → IsTrue (runs s a) × (Contains rest a → ⊥)) → (v : View) → effect_of inputs t c i o args of ≡ Make v → (h : ℕ) × (source_slot c args ≡ Holds (Cell h))
     unfolding IsThere

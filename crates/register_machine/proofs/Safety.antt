@@ -3,27 +3,29 @@
 use Rattle.std.proofs.Common.{◌≡◌, ℕ, suc, ◌-◌, ◌^◌, ◌<◌, ◌≤◌, ◌≢◌, Bool, true, false, ◌||◌, List, [], ◌∷◌, ◌++◌, Option, Some, None, Ok, is_some, refl, sym, ap, subst, ◌∙◌, inl, inr, Contains, IsTrue, map, arith, length}
 use Rattle.std.specs.Prelude.{if◌then◌else◌}
 use Rattle.std.proofs.Math.Bool.{true≢false}
-use Rattle.std.proofs.lemmas.Bool.{cases_lt, lt-ltb, le-ltb}
+use Rattle.std.proofs.lemmas.Bool.{and_from, cases_lt, lt-ltb, le-ltb}
 use Rattle.std.proofs.lemmas.Option.{slice_get_within}
 use Rattle.std.proofs.lemmas.List.Elements.{Contains-append_left, Contains-append_cases}
 use Rattle.tsl_value.specs.View.{View}
 use Rattle.flat_core.specs.declared.equation.Equation.{Equation}
 use Rattle.flat_core.specs.Stream.{event, has_event, is_fault, latest}
-use Rattle.flat_core.specs.Case.{Inputs, Streams, outcome_of, case_of, expires, unit}
+use Rattle.flat_core.specs.Case.{Streams, case_of}
+use Rattle.flat_core.specs.Events.{Inputs, outcome_of, expires, unit}
 use Rattle.flat_core.specs.Fault.{root_at, is_faulty}
 use Rattle.flat_core.specs.Pending.{pending, reached, option_is}
 use Rattle.flat_core.specs.Solution.{Solves}
-use Rattle.flat_core.specs.System.{System, runs, equation, IsProper}
-use Rattle.flat_core.specs.Typed.{is_aggregate}
+use Rattle.flat_core.specs.System.{System, runs, equation, numbers, IsProper}
+use Rattle.tsl_value.specs.Aggregate.{is_aggregate, has_elements}
 use Rattle.flat_core.specs.Members.{is_in}
 use Rattle.flat_core.specs.Instant.{is_delay, is_delay_op}
-use Rattle.flat_core.proofs.Members.{all_at, in-Contains, Contains-in}
+use Rattle.flat_core.proofs.Members.{all_at, in-Contains, in_numbers, Contains-in}
 use Rattle.flat_core.specs.declared.equation.Op.TheVariants as op
 use Rattle.tsl_value.proofs.Lists.{none_in_nil, kept_in, contains_map, map_contains}
 use Rattle.alias_rules.specs.Uses.{last_of}
 use Rattle.alias_rules.specs.Conflict.{StandsBefore}
 use Rattle.alias_rules.specs.Fine.{IsFine}
-use Rattle.register_machine.specs.Run.{Plan, State, started, body, ending, kept, delays, has_root, root_seen, step_instr, Instant, Runs}
+use Rattle.register_machine.specs.Run.{Plan, State, started, body, ending, has_root, root_seen, step_instr, Instant, Runs}
+use Rattle.flat_core.specs.Kept.{is_timer, keeps_of, timers_of}
 use Rattle.register_machine.proofs.Running.{Running, Prints}
 use Rattle.register_machine.proofs.Orders.{Agrees, steps_of, steps_cases}
 use Rattle.register_machine.specs.Machine.{Instr, Run, RunInPlace, Print, Keep, Timer, Cell, Config, held, value_in, slot_of, expiry, Step, Steps}
@@ -32,7 +34,7 @@ use Rattle.register_machine.proofs.Cells.{without, without-there}
 use Rattle.register_machine.proofs.Reach.{TriggerLaw}
 use Rattle.register_machine.proofs.Middle.{SlotOf, IsNext}
 use Rattle.register_machine.proofs.Moves.{Between}
-use Rattle.register_machine.proofs.Setting.{Fit, Setting, is_keyed, fires_is, value_is, no_variable}
+use Rattle.register_machine.proofs.Setting.{Fit, Setting, fires_is, value_is, no_variable}
 use Rattle.register_machine.proofs.Steps.{Good, step_good}
 use Rattle.register_machine.proofs.Kept.{kept_argument}
 use Rattle.register_machine.proofs.Walks.{IsEnding, cons_head, start_good, split_steps, walk}
@@ -56,7 +58,7 @@ pub record Course (s : System) (plan : Plan) (inputs : Inputs) (z : Streams) (bo
   pub agrees : Agrees (StandsBefore s plan.in_place) (steps_of s) plan.order
   pub solves : Solves s inputs bound z
   pub small : bound ≤ 2 ^ 63
-  pub typed : (t : ℕ) → t < bound → (i : ℕ) (e : Equation) → Running s i e → (v : View) → event (z i t) ≡ Some v → is_keyed v ≡ is_aggregate e.of
+  pub typed : (t : ℕ) → t < bound → (i : ℕ) (e : Equation) → Running s i e → (v : View) → event (z i t) ≡ Some v → has_elements v ≡ is_aggregate e.of
   -- what trigger formulas tell of a time before which there is no root fault, and that nothing is Fault where there is none at it
   pub law : (t : ℕ) → t < bound → ((w : ℕ) → w < t → is_faulty s inputs z w ≡ false) → TriggerLaw s z t
   pub no_fault : (t : ℕ) → t < bound → ((w : ℕ) → w < t → is_faulty s inputs z w ≡ false) → is_faulty s inputs z t ≡ false → (x : ℕ) → IsTrue (runs s x) → is_fault (z x t) ≡ false
@@ -142,13 +144,13 @@ module _ (s : System) (plan : Plan) (inputs : Inputs) (z : Streams) (bound : ℕ
   GoodAt t lt a standing rest c = Good s plan inputs z t a.lasts a.pending a.cells (setting_of t lt a standing) standing.between rest c
 
   pub ending_is : (instr : Instr) → Contains (ending s) instr → IsEnding s instr
-  ending_is instr found = elim (Contains-append_cases (map Keep (kept s)) (map Timer (delays s)) instr found) [
-    | inl keep ↦ let got = contains_map Keep (kept s) instr keep in subst (IsEnding s) got.2 got.1
-    | inr timer ↦ let got = contains_map Timer (delays s) instr timer in subst (IsEnding s) got.2 tt
+  ending_is instr found = elim (Contains-append_cases (map Keep (keeps_of s)) (map Timer (timers_of s)) instr found) [
+    | inl keep ↦ let got = contains_map Keep (keeps_of s) instr keep in subst (IsEnding s) got.2 got.1
+    | inr timer ↦ let got = contains_map Timer (timers_of s) instr timer in subst (IsEnding s) got.2 tt
   ]
 
-  keeps_in : (v : ℕ) → Contains (kept s) v → Contains (ending s) (Keep v)
-  keeps_in v found = Contains-append_left (map Keep (kept s)) (map Timer (delays s)) (Keep v) (map_contains Keep (kept s) v found)
+  keeps_in : (v : ℕ) → Contains (keeps_of s) v → Contains (ending s) (Keep v)
+  keeps_in v found = Contains-append_left (map Keep (keeps_of s)) (map Timer (timers_of s)) (Keep v) (map_contains Keep (keeps_of s) v found)
 
   -- the place after the last print
   module _ (t : ℕ) (lt : t < bound) (a : State) (standing : Standing s plan inputs z t a) where
@@ -259,15 +261,16 @@ module _ (s : System) (plan : Plan) (inputs : Inputs) (z : Streams) (bound : ℕ
 
         due_then : (i d r : ℕ) (e : Equation) → Running s i e → e.op ≡ op.Delay → e.args ≡ d ∷ r ∷ [] → instant.last.pending i ≡ in_time (pending (z d) (z r) (z i) (suc t))
         due_then i d r e running is_op is_args =
-            let parts = split_steps inputs t s (map Keep (kept s)) (map Timer (delays s)) instant.reached instant.last instant.kept_on in
-            let same = keeps_same (kept s) instant.reached parts.0 parts.1 in
-            let listed : is_in (delays s) i ≡ true = in-Contains (delays s) i (kept_in (λ j. is_delay (equation s j)) s.running i (Contains-in s.running i running.runs_too) (ap is_delay running.is ∙ ap is_delay_op is_op)) in
+            let parts = split_steps inputs t s (map Keep (keeps_of s)) (map Timer (timers_of s)) instant.reached instant.last instant.kept_on in
+            let same = keeps_same (keeps_of s) instant.reached parts.0 parts.1 in
+            let listed : is_in (timers_of s) i ≡ true = in-Contains (timers_of s) i (kept_in (is_timer s) (numbers s) i (Contains-in (numbers s) i (in_numbers s i (slice_get_within s.equations i e running.is)))
+            (and_from (runs s i) (is_delay (equation s i)) running.runs_too (ap is_delay running.is ∙ ap is_delay_op is_op))) in
             let runs_args = delay_args i d r e running is_args in
             let fit = subst (λ l. Fit s op.Delay l e.of) is_args (subst (λ o. Fit s o e.args e.of) is_op (course.fitting i e running)) in
             let fires_i = fires_is (z i t) (instant.reached.slots i) (status i running.runs_too) in
             let fires_r = fires_is (z r t) (instant.reached.slots r) (status r runs_args.1) in
             let value : value_in instant.reached d ≡ event (z d t) = value_is instant.reached.cells (z d t) (instant.reached.slots d) (status d runs_args.0) (λ h holds. absurd (no_variable s d (good.mid.variable d h holds) fit.1)) in
-            timers_pending inputs t s (delays s) parts.0 instant.last parts.2 i d r e running.is is_args
+            timers_pending inputs t s (timers_of s) parts.0 instant.last parts.2 i d r e running.is is_args
             ∙ (λ k. if listed k then timed_at inputs t s parts.0 i d r ((parts.0).pending i) else (parts.0).pending i)
             ∙ (λ k. if is_some (held ((same.0 k) i)) || is_some (held ((same.0 k) r)) then expiry t (option_and_then (view_of (same.1 k)) (held ((same.0 k) d))) else (same.2 k) i)
             ∙ (λ k. if fires_i k || fires_r k then expiry t (value k) else (good.pending k) i)

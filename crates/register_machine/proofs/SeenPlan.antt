@@ -4,7 +4,6 @@ use Rattle.std.proofs.lemmas.Bool.{and_parts, or_cases, ltb-true}
 use Rattle.std.specs.Prelude.{⊤, IsTrue, ◌↔◌}
 use Rattle.std.specs.List.{IsDistinct}
 use Rattle.flat_core.specs.declared.equation.Equation.{Equation}
-use Rattle.flat_core.specs.declared.equation.Op.TheVariants as op
 use Rattle.flat_core.specs.declared.equation.Output.{Output}
 use Rattle.flat_core.specs.Case.{Streams}
 use Rattle.translation_order.specs.Graph.{Walk, stay, onward, Path, edge, step}
@@ -37,7 +36,7 @@ use Rattle.alias_rules.specs.Uses.{IsUpdate, AreUpdates, read_of, passed_of, las
 use Rattle.register_machine.specs.Machine.{Run, RunInPlace, Print, Keep}
 use Rattle.register_machine.specs.Run.{Plan, body, ending}
 use Rattle.register_machine.specs.Stands.{IsGiven}
-use Rattle.register_machine.proofs.SeenSystem.{made_of, set_type, sys, none_some, each_equation, is_flat, place, well_formed}
+use Rattle.register_machine.proofs.SeenSystem.{sys, none_some, each_equation, is_flat, place, well_formed}
 
 abbrev pub plan : Plan
 plan = record { in_place = 4 ∷ []; order = 0 ∷ 1 ∷ 3 ∷ 5 ∷ 4 ∷ 2 ∷ [] }
@@ -322,7 +321,7 @@ each_step (suc (suc (suc (suc (suc (suc n)))))) = (
 )
 
 updates : AreUpdates sys (4 ∷ [])
-updates y listed = subst (IsUpdate sys) (sym (listed_is y listed)) (record { at = made_of op.SetAdd (3 ∷ 0 ∷ []) set_type; is = refl; running = refl; updates = refl })
+updates y listed = subst (IsUpdate sys) (sym (listed_is y listed)) refl
 
 pub plan_fine : IsFinePlan sys plan.in_place plan.order
 plan_fine = record { updates = updates; fine = fine; ordered = record { once = once; steps = each_step; agrees = in_order } }

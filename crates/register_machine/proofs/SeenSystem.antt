@@ -14,7 +14,8 @@ use Rattle.flat_core.specs.declared.equation.Op.TheVariants as op
 use Rattle.flat_core.specs.Complete.{IsFlat}
 use Rattle.translation_order.specs.Graph.{Path, edge, step}
 use Rattle.flat_core.specs.System.{System, runs, equation}
-use Rattle.flat_core.specs.Typed.{input, empty, merge, last, set_add}
+use Rattle.lift_func.specs.Update.{set_add}
+use Rattle.flat_core.specs.Typed.{input, empty, merge, last, update}
 use Rattle.flat_core.specs.TypedSystem.{IsOfType, IsTypedEquation}
 use Rattle.flat_core.specs.WellFormed.{unguarded_of, Needs, IsWellFormed}
 use Rattle.flat_core.proofs.Members.{all_at, Contains-in}
@@ -71,7 +72,7 @@ typed = each_equation (λ i. IsTypedEquation sys.equations)
     (record { types = []; arguments = tt; typed = empty refl })
     (record { types = set_type ∷ set_type ∷ []; arguments = (of_type 4 _ set_type refl refl, (of_type 1 _ set_type refl refl, tt)); typed = merge })
     (record { types = set_type ∷ int_type ∷ []; arguments = (of_type 2 _ set_type refl refl, (of_type 0 _ int_type refl refl, tt)); typed = last })
-    (record { types = set_type ∷ int_type ∷ []; arguments = (of_type 3 _ set_type refl refl, (of_type 0 _ int_type refl refl, tt)); typed = set_add refl })
+    (record { types = set_type ∷ int_type ∷ []; arguments = (of_type 3 _ set_type refl refl, (of_type 0 _ int_type refl refl, tt)); typed = update refl (set_add refl) })
 
 ascending : IsStrictlyIncreasing sys.running
 ascending zero lt = omega arith

@@ -1,21 +1,25 @@
 -- What a proof within an instant is given of the system and its solution.
-use Rattle.std.proofs.Common.{◌≡◌, ℕ, Bool, true, false, List, [], ◌∷◌, Option, Some, None, Ok, is_some, refl, sym, ap, ◌∙◌, Contains, option_and_then, map, ◌||◌, arith}
+use Rattle.std.proofs.Common.{◌≡◌, ℕ, Bool, true, false, List, [], ◌∷◌, Option, Some, None, Ok, is_some, refl, sym, ap, subst, ◌∙◌, Contains, option_and_then, map, ◌||◌, arith}
 use Rattle.std.specs.List.{AllByRecursion, list_any, list_all}
 use Rattle.std.proofs.Math.Bool.{true≢false}
 use Rattle.std.specs.FinMap as finite_map
-use Rattle.tsl_value.specs.View.{View, Plain, Keyed, Mapped}
+use Rattle.tsl_value.specs.View.{View, Plain}
 use Rattle.tsl_value.specs.declared.scalar.ValueType.{ValueType}
 use Rattle.flat_core.specs.declared.equation.Op.{Op}
 use Rattle.flat_core.specs.declared.equation.Equation.{Equation}
 use Rattle.flat_core.specs.Stream.{Outcome, Event, Fault, event, has_event, is_fault, latest}
-use Rattle.flat_core.specs.Case.{Inputs, Streams, case_of, outcome_of, expires, used_of}
+use Rattle.flat_core.specs.Case.{Streams, case_of, used_of}
+use Rattle.flat_core.specs.Events.{Inputs, outcome_of, expires}
 use Rattle.flat_core.specs.System.{System, equation, IsProper}
 use Rattle.flat_core.specs.WellFormed.{unguarded_of}
-use Rattle.flat_core.specs.Typed.{is_aggregate}
+use Rattle.tsl_value.specs.Aggregate.{is_aggregate, has_elements}
 use Rattle.flat_core.specs.Pending.{option_is}
 use Rattle.flat_core.specs.declared.equation.Op.TheVariants as op
 use Rattle.tsl_value.proofs.Lists.{later, none_in_nil}
-use Rattle.flat_core.specs.Updates.{is_update}
+use Rattle.flat_core.specs.Updates.{operation_of, update_in, is_update}
+use Rattle.flat_core.proofs.UpdateOps.{is_operation, update_there}
+use Rattle.tsl_value.specs.declared.operation.Update.{Update}
+use Rattle.tsl_value.specs.declared.operation.Update.TheVariants as update
 use Rattle.alias_rules.specs.Uses.{last_of, IsVariable}
 use Rattle.register_machine.proofs.Running.{Running}
 use Rattle.register_machine.specs.Machine.{Held, Cell, Slot, Blank, Holds, Failed, Cells, held, is_failed, view_of, slot_of}
@@ -24,12 +28,18 @@ use Rattle.register_machine.proofs.Reach.{TriggerLaw}
 use Rattle.register_machine.proofs.Middle.{SlotOf}
 use Rattle.register_machine.specs.Stands.{is_aggregate_at}
 
-abbrev pub is_keyed : View → Bool
-is_keyed (Plain v) = false
-is_keyed _ = true
-
 abbrev pub aggregate : System → ℕ → Bool
 aggregate s a = is_aggregate_at (equation s a)
+
+-- an update has an aggregate and what is none beside it
+pub record FitsUpdate (s : System) (m : ℕ) (ks : List ℕ) (of : ValueType) : Type 0 where
+  pub made : is_aggregate of ≡ true
+  pub source : aggregate s m ≡ true
+  pub others : AllByRecursion (λ k. aggregate s k ≡ false) ks
+
+abbrev pub FitIf : System → Bool → List ℕ → ValueType → Type 0
+FitIf s true (m ∷ ks) of = FitsUpdate s m ks of
+FitIf s _ _ of = ⊥
 
 -- arity, and which arguments and results are aggregates
 abbrev pub Fit : System → Op → List ℕ → ValueType → Type 0
@@ -45,43 +55,48 @@ Fit s op.Delay (d ∷ r ∷ []) of = (is_aggregate of ≡ false) × (aggregate s
 Fit s op.Merge (a ∷ b ∷ []) of = (aggregate s a ≡ is_aggregate of) × (aggregate s b ≡ is_aggregate of)
 Fit s op.Filter (e ∷ c ∷ []) of = (aggregate s e ≡ is_aggregate of) × (aggregate s c ≡ false)
 Fit s op.Pick (c ∷ a ∷ b ∷ []) of = (aggregate s c ≡ false) × (aggregate s a ≡ is_aggregate of) × (aggregate s b ≡ is_aggregate of)
-Fit s op.SetAdd (m ∷ k ∷ []) of = (is_aggregate of ≡ true) × (aggregate s k ≡ false) × (aggregate s m ≡ true)
-Fit s op.SetRemove (m ∷ k ∷ []) of = (is_aggregate of ≡ true) × (aggregate s k ≡ false) × (aggregate s m ≡ true)
-Fit s op.MapAdd (m ∷ k ∷ x ∷ []) of = (is_aggregate of ≡ true) × (aggregate s k ≡ false) × (aggregate s x ≡ false) × (aggregate s m ≡ true)
-Fit s op.MapRemove (m ∷ k ∷ []) of = (is_aggregate of ≡ true) × (aggregate s k ≡ false) × (aggregate s m ≡ true)
-Fit s _ _ of = ⊥
+Fit s o args of = FitIf s (is_update o) args of
 
--- an update is one of four operations
+-- what an update asks, and what holds of each update
+own_fit : (s : System) (u : Update) (args : List ℕ) (of : ValueType) → Fit s (operation_of u) args of → FitIf s true args of
+own_fit s update.SetAdd args of fit = fit
+own_fit s u args of fit = fit
+
+fit_own : (s : System) (u : Update) (args : List ℕ) (of : ValueType) → FitIf s true args of → Fit s (operation_of u) args of
+fit_own s update.SetAdd args of fit = fit
+fit_own s u args of fit = fit
+
+pub fit_update : (s : System) (o : Op) (u : Update) → update_in o ≡ Some u → (m : ℕ) (ks : List ℕ) (of : ValueType) → FitsUpdate s m ks of → Fit s o (m ∷ ks) of
+fit_update s o u is m ks of fit = subst (λ p. Fit s p (m ∷ ks) of) (sym (is_operation o u is)) (fit_own s u (m ∷ ks) of fit)
+
 pub each_update : (s : System) (P : Op → List ℕ → ValueType → Type 0)
-    → ((m k : ℕ) (of : ValueType) → Fit s op.SetAdd (m ∷ k ∷ []) of → P op.SetAdd (m ∷ k ∷ []) of)
-    → ((m k : ℕ) (of : ValueType) → Fit s op.SetRemove (m ∷ k ∷ []) of → P op.SetRemove (m ∷ k ∷ []) of)
-    → ((m k x : ℕ) (of : ValueType) → Fit s op.MapAdd (m ∷ k ∷ x ∷ []) of → P op.MapAdd (m ∷ k ∷ x ∷ []) of)
-    → ((m k : ℕ) (of : ValueType) → Fit s op.MapRemove (m ∷ k ∷ []) of → P op.MapRemove (m ∷ k ∷ []) of)
+    → ((o : Op) (u : Update) → update_in o ≡ Some u → (m : ℕ) (ks : List ℕ) (of : ValueType) → FitsUpdate s m ks of → P o (m ∷ ks) of)
     → (o : Op) (args : List ℕ) (of : ValueType) → is_update o ≡ true → Fit s o args of → P o args of
-each_update s P a b c d op.SetAdd (m ∷ k ∷ []) of update fit = a m k of fit
-each_update s P a b c d op.SetRemove (m ∷ k ∷ []) of update fit = b m k of fit
-each_update s P a b c d op.MapAdd (m ∷ k ∷ x ∷ []) of update fit = c m k x of fit
-each_update s P a b c d op.MapRemove (m ∷ k ∷ []) of update fit = d m k of fit
-each_update s P a b c d op.Input args of update fit = absurd (true≢false (sym update))
-each_update s P a b c d op.Nil args of update fit = absurd (true≢false (sym update))
-each_update s P a b c d op.Unit args of update fit = absurd (true≢false (sym update))
-each_update s P a b c d op.Empty args of update fit = absurd (true≢false (sym update))
-each_update s P a b c d (op.Lift body strict) args of update fit = absurd (true≢false (sym update))
-each_update s P a b c d op.Any args of update fit = absurd (true≢false (sym update))
-each_update s P a b c d op.Time args of update fit = absurd (true≢false (sym update))
-each_update s P a b c d op.Last args of update fit = absurd (true≢false (sym update))
-each_update s P a b c d op.Delay args of update fit = absurd (true≢false (sym update))
-each_update s P a b c d op.Merge args of update fit = absurd (true≢false (sym update))
-each_update s P a b c d op.Filter args of update fit = absurd (true≢false (sym update))
-each_update s P a b c d op.Pick args of update fit = absurd (true≢false (sym update))
-each_update s P a b c d _ _ of update fit = absurd fit
+each_update s P each o args of is fit =
+    let found = update_there o is in
+    at args (own_fit s found.0 args of (subst (λ p. Fit s p args of) (is_operation o found.0 found.1) fit))
+  where
+    at : (args : List ℕ) → FitIf s true args of → P o args of
+    at [] fits = absurd fits
+    at (m ∷ ks) fits = let found = update_there o is in each o found.0 found.1 m ks of fits
+
+-- what an update asks is asked of an update
+pub by_fit : (s : System) (o : Op) (of : ValueType) (P : List ℕ → Type 0)
+    → ((u : Update) → update_in o ≡ Some u → (m : ℕ) (ks : List ℕ) → FitsUpdate s m ks of → P (m ∷ ks))
+    → (args : List ℕ) → FitIf s (is_update o) args of → P args
+by_fit s o of P each args fit = at (is_update o) refl args fit
+  where
+    at : (b : Bool) → is_update o ≡ b → (args : List ℕ) → FitIf s b args of → P args
+    at true is [] fits = absurd fits
+    at true is (m ∷ ks) fits = let found = update_there o is in each found.0 found.1 m ks fits
+    at false is args fits = absurd fits
 
 -- an instant at t: the system is proper and typed, z solves it at t, and the state before agrees with z before t
 pub record Setting (s : System) (inputs : Inputs) (z : Streams) (t : ℕ) (last : ℕ → Option Held) (pend : ℕ → Option ℕ) : Type 0 where
   pub proper : IsProper s
   pub fitting : (i : ℕ) (e : Equation) → Running s i e → Fit s e.op e.args e.of
   pub solves : (i : ℕ) (e : Equation) → Running s i e → z i t ≡ case_of inputs z i e t
-  pub typed : (i : ℕ) (e : Equation) → Running s i e → (v : View) → event (z i t) ≡ Some v → is_keyed v ≡ is_aggregate e.of
+  pub typed : (i : ℕ) (e : Equation) → Running s i e → (v : View) → event (z i t) ≡ Some v → has_elements v ≡ is_aggregate e.of
   pub law : TriggerLaw s z t
   pub lasts : (v i : ℕ) (e : Equation) → Running s i e → Contains (last_of e.op e.args) v → SlotOf (outcome_of (Ok (latest (z v) t))) (slot_of (last v))
   pub pending : (i d r : ℕ) (e : Equation) → Running s i e → e.op ≡ op.Delay → e.args ≡ d ∷ r ∷ [] → option_is t (pend i) ≡ expires (z d) (z r) (z i) t
@@ -91,15 +106,13 @@ pub failed_is : (o : Option Outcome) (slot : Slot) → SlotOf o slot → is_fail
 failed_is None slot is = ap is_failed is
 failed_is (Some Fault) slot is = ap is_failed is.1
 failed_is (Some (Event (Plain v))) slot is = ap is_failed is
-failed_is (Some (Event (Keyed v))) slot is = ap is_failed is.1
-failed_is (Some (Event (Mapped v))) slot is = ap is_failed is.1
+failed_is (Some (Event v)) slot is = ap is_failed is.1
 
 pub fires_is : (o : Option Outcome) (slot : Slot) → SlotOf o slot → is_some (held slot) ≡ has_event o
 fires_is None slot is = ap (λ x. is_some (held x)) is
 fires_is (Some Fault) slot is = ap (λ x. is_some (held x)) is.1
 fires_is (Some (Event (Plain v))) slot is = ap (λ x. is_some (held x)) is
-fires_is (Some (Event (Keyed v))) slot is = ap (λ x. is_some (held x)) is.1
-fires_is (Some (Event (Mapped v))) slot is = ap (λ x. is_some (held x)) is.1
+fires_is (Some (Event v)) slot is = ap (λ x. is_some (held x)) is.1
 
 abbrev pub value_of : Cells → Slot → Option View
 value_of cells slot = option_and_then (view_of cells) (held slot)
@@ -108,8 +121,7 @@ pub value_is : (cells : Cells) (o : Option Outcome) (slot : Slot) → SlotOf o s
 value_is cells None slot is right = ap (value_of cells) is
 value_is cells (Some Fault) slot is right = ap (value_of cells) is.1
 value_is cells (Some (Event (Plain v))) slot is right = ap (value_of cells) is
-value_is cells (Some (Event (Keyed v))) slot is right = ap (value_of cells) is.1 ∙ right is.0 is.1
-value_is cells (Some (Event (Mapped v))) slot is right = ap (value_of cells) is.1 ∙ right is.0 is.1
+value_is cells (Some (Event v)) slot is right = ap (value_of cells) is.1 ∙ right is.0 is.1
 
 some_is : (o : Option View) → (o ≡ None → ⊥) → is_some o ≡ true
 some_is None is = absurd (is refl)
@@ -120,16 +132,14 @@ pub present_is : (cells : Cells) (o : Option Outcome) (slot : Slot) → SlotOf o
 present_is cells None slot is live = ap (λ x. is_some (value_of cells x)) is
 present_is cells (Some Fault) slot is live = ap (λ x. is_some (value_of cells x)) is.1
 present_is cells (Some (Event (Plain v))) slot is live = ap (λ x. is_some (value_of cells x)) is
-present_is cells (Some (Event (Keyed v))) slot is live = ap (λ x. is_some (value_of cells x)) is.1 ∙ some_is _ (live is.0 is.1)
-present_is cells (Some (Event (Mapped v))) slot is live = ap (λ x. is_some (value_of cells x)) is.1 ∙ some_is _ (live is.0 is.1)
+present_is cells (Some (Event v)) slot is live = ap (λ x. is_some (value_of cells x)) is.1 ∙ some_is _ (live is.0 is.1)
 
 -- what is handed on
 pub handed : (o : Option Outcome) (slot : Slot) → SlotOf o slot → SlotOf (outcome_of (Ok (event o))) (slot_of (held slot))
 handed None slot is = ap (λ x. slot_of (held x)) is
 handed (Some Fault) slot is = ap (λ x. slot_of (held x)) is.1
 handed (Some (Event (Plain v))) slot is = ap (λ x. slot_of (held x)) is
-handed (Some (Event (Keyed v))) slot is = (is.0, ap (λ x. slot_of (held x)) is.1)
-handed (Some (Event (Mapped v))) slot is = (is.0, ap (λ x. slot_of (held x)) is.1)
+handed (Some (Event v)) slot is = (is.0, ap (λ x. slot_of (held x)) is.1)
 
 pub handed_holds : (slot : Slot) (k : Held) → slot_of (held slot) ≡ Holds k → slot ≡ Holds k
 handed_holds Blank k is = is

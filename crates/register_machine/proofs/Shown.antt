@@ -4,16 +4,19 @@ use Rattle.std.specs.Prelude.{IsFalse}
 use Rattle.std.specs.FinMap as finite_map
 use Rattle.std.specs.Ordering.{nat_cmp}
 use Rattle.tsl_value.specs.View.{View}
-use Rattle.flat_core.specs.Case.{Streams, Inputs, outcome_of}
+use Rattle.flat_core.specs.Case.{Streams}
+use Rattle.flat_core.specs.Events.{Inputs, outcome_of}
 use Rattle.flat_core.specs.Fault.{is_faulty}
 use Rattle.flat_core.specs.Instant.{is_instant, instants}
 use Rattle.flat_core.specs.Line.{Line, inputs_of}
 use Rattle.flat_core.specs.Stream.{latest}
 use Rattle.flat_core.specs.System.{System}
 use Rattle.flat_core.proofs.Answered.{event_of_value}
+use Rattle.alias_rules.proofs.Updates.{has_update}
 use Rattle.register_machine.specs.Content.{print_of}
 use Rattle.register_machine.specs.Machine.{Held, Cell, Holds, held, view_of, slot_of}
-use Rattle.register_machine.specs.Run.{Plan, State, Runs, kept, nothing_yet}
+use Rattle.register_machine.specs.Run.{Plan, State, Runs, nothing_yet}
+use Rattle.flat_core.specs.Kept.{keeps_of}
 use Rattle.register_machine.specs.Stands.{IsGiven, RunsTo, Stands, IsCounted, stored}
 use Rattle.register_machine.specs.Laws.{LeavesWhatIsRead, ShowsInstant, LookAlike, CountsCopies, GoesOn}
 use Rattle.register_machine.proofs.CellCount.{instant_cells}
@@ -70,7 +73,7 @@ module _ (s : System) (plan : Plan) (lines : List Line) (bound : ℕ) (z : Strea
         delays = λ i d r e run is is_op is_args. standing.due i d r e (record { is = is; runs_too = run }) is_op is_args;
       }
     where
-      latest_is : Standing s plan inputs z t a → (v : ℕ) → Contains (kept s) v → option_and_then (view_of a.cells) (a.lasts v) ≡ latest (z v) t
+      latest_is : Standing s plan inputs z t a → (v : ℕ) → Contains (keeps_of s) v → option_and_then (view_of a.cells) (a.lasts v) ≡ latest (z v) t
       latest_is standing v found =
           let by = kept_last s given.flat.proper v found in
           let status = standing.lasts v by.0 by.1 by.2 by.3 in
@@ -85,7 +88,8 @@ module _ (s : System) (plan : Plan) (lines : List Line) (bound : ℕ) (z : Strea
       (run_counted s plan inputs z bound course (instants s lines z t) a far.spaced ran)
 
   each_counted : (t : ℕ) (ledger : ℕ → ℕ) → HasCounted s plan z t ledger → IsCounted s plan z t ledger
-  each_counted t ledger counted u update = counted u update.at (record { is = update.is; runs_too = update.running }) update.updates
+  each_counted t ledger counted u update =
+      let there = has_update s u update in counted u there.at (record { is = there.is; runs_too = there.running }) there.updates
 
   pub counts : (t : ℕ) → t ≤ bound → (a : State) → RunsTo s plan lines z t a → CountsCopies s plan lines bound z t a
   counts t le a ran = record {

@@ -6,7 +6,8 @@ use Rattle.std.proofs.lemmas.Option.{slice_get_within}
 use Rattle.std.specs.FinMap as finite_map
 use Rattle.flat_core.specs.declared.equation.Equation.{Equation}
 use Rattle.flat_core.specs.Stream.{Fault, is_fault}
-use Rattle.flat_core.specs.Case.{Inputs, Streams, own, outcome_of, used_of, is_blocked, fault_of}
+use Rattle.flat_core.specs.Case.{Streams, own, used_of, is_blocked}
+use Rattle.flat_core.specs.Events.{Inputs, outcome_of, fault_of}
 use Rattle.flat_core.specs.System.{System, runs}
 use Rattle.flat_core.specs.Members.{is_in}
 use Rattle.flat_core.proofs.Members.{in-Contains, all_at, none_in}

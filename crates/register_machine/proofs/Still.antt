@@ -4,14 +4,16 @@ use Rattle.std.specs.Prelude.{if◌then◌else◌, nat_lt}
 use Rattle.std.specs.Option.{option_map_or}
 use Rattle.std.proofs.lemmas.Bool.{cases_Bool, lt-ltb, le-ltb}
 use Rattle.flat_core.specs.Stream.{has_event, is_fault}
-use Rattle.flat_core.specs.Case.{Inputs, Streams}
+use Rattle.flat_core.specs.Case.{Streams}
+use Rattle.flat_core.specs.Events.{Inputs}
 use Rattle.flat_core.specs.System.{System, runs, equation}
 use Rattle.flat_core.specs.Members.{is_in}
 use Rattle.tsl_value.proofs.Lists.{none_in_nil, cons_cases}
 use Rattle.alias_rules.specs.Uses.{IsVariable}
 use Rattle.alias_rules.specs.Conflict.{StandsBefore}
 use Rattle.alias_rules.specs.Fine.{IsFine}
-use Rattle.register_machine.specs.Run.{Plan, step_instr, body, kept}
+use Rattle.register_machine.specs.Run.{Plan, step_instr, body}
+use Rattle.flat_core.specs.Kept.{keeps_of}
 use Rattle.register_machine.proofs.Running.{Prints}
 use Rattle.register_machine.proofs.Orders.{Agrees, steps_of, steps_cases, all_steps}
 use Rattle.register_machine.specs.Machine.{Instr, Run, RunInPlace, Print, Keep, Timer, Held, Bare, Cell, Slot, Blank, Holds, Failed, Cells, Config, held, fires, view_of, Step, Steps}
@@ -56,7 +58,7 @@ module _ (s : System) (plan : Plan) (fine : IsFine s plan.in_place) (inputs : In
   ending_own : (rest : List ℕ) (mid : Config) (by : Instr) → IsEnding s by → (x : ℕ) → IsVariable s x → Spoiled s plan.in_place z t last old rest x → Contains (taken s mid by) (Own x) → ⊥
   ending_own rest mid (Keep v) is x variable p found =
       let same = own_same (in_one (Own v) (Own x) (in_if (fires mid v) (Own v ∷ []) (Own x) found)) in
-      fine.none_kept p.by (record { inside = p.listed; other = x; conflict = record { bypasses = p.bypasses; stored = kept_stored s given.proper x variable (subst (Contains (kept s)) same is) } })
+      fine.none_kept p.by (record { inside = p.listed; other = x; conflict = record { bypasses = p.bypasses; stored = kept_stored s given.proper x variable (subst (Contains (keeps_of s)) same is) } })
   ending_own rest mid (Timer i) is x variable p found = absurd (none_in_nil (Own x) found)
   ending_own rest mid (Run i) is x variable p found = absurd is
   ending_own rest mid (RunInPlace i) is x variable p found = absurd is
@@ -166,7 +168,7 @@ module _ (s : System) (plan : Plan) (fine : IsFine s plan.in_place) (inputs : In
   -- In an instant that runs to its end, each run in place leaves the view of each register that is still read, other than
   -- its own, as it was.
   pub leaves_read : (start : Config) → Here (steps_of s) start → Agrees (StandsBefore s plan.in_place) (steps_of s) plan.order
-      → (faulty : Bool) → (faulty ≡ false → (x : ℕ) → IsTrue (runs s x) → is_fault (z x t) ≡ false) → (faulty ≡ false → (v : ℕ) → Contains (kept s) v → Contains tail (Keep v))
+      → (faulty : Bool) → (faulty ≡ false → (x : ℕ) → IsTrue (runs s x) → is_fault (z x t) ≡ false) → (faulty ≡ false → (v : ℕ) → Contains (keeps_of s) v → Contains tail (Keep v))
       → (before after : List Instr) (y : ℕ) (mid end final : Config) → body s plan ++ tail ≡ before ++ RunInPlace y ∷ after → Steps inputs t s before start mid → Step inputs t s (RunInPlace y) mid end → Steps inputs t s after end final
       → (r : Register) → IsStillRead inputs t s faulty after end r → r ≢ Own y → seen end r ≡ seen mid r
   leaves_read start good0 agrees0 faulty sound keeps before after y mid end final code_is ran step_y rest_ran r still other =

@@ -8,11 +8,16 @@ use Rattle.tsl_value.specs.declared.scalar.Scalar.TheVariants as scalar
 use Rattle.flat_core.specs.declared.equation.Op.{Op}
 use Rattle.flat_core.specs.declared.equation.Equation.{Equation}
 use Rattle.flat_core.specs.Stream.{Outcome, Event, Fault, has_event, is_fault, latest}
-use Rattle.flat_core.specs.Case.{Inputs, Streams, outcome_of, used_of}
+use Rattle.flat_core.specs.Case.{Streams, used_of}
+use Rattle.flat_core.specs.Events.{Inputs, outcome_of}
 use Rattle.flat_core.specs.System.{System, runs, equation}
 use Rattle.flat_core.specs.declared.equation.Op.TheVariants as op
 use Rattle.tsl_value.proofs.Lists.{later, none_in_nil, cons_cases, in_kept}
-use Rattle.alias_rules.specs.Uses.{first_of, IsVariable, IsLast}
+use Rattle.tsl_value.specs.declared.operation.Update.{Update}
+use Rattle.tsl_value.specs.declared.operation.Update.TheVariants as update
+use Rattle.flat_core.specs.Updates.{operation_of, update_in, is_update}
+use Rattle.flat_core.proofs.UpdateOps.{by_update}
+use Rattle.alias_rules.specs.Uses.{first_of, written_of, IsVariable, IsLast}
 use Rattle.alias_rules.specs.Roots.{IsOrigin}
 use Rattle.alias_rules.specs.Conflict.{TakesBefore}
 use Rattle.alias_rules.specs.Conflict as conflict
@@ -24,7 +29,8 @@ use Rattle.register_machine.specs.Content.{Register, Own, LastOf, chosen, is_tru
 use Rattle.register_machine.proofs.Reach.{IsEntered, not_passed_over}
 use Rattle.register_machine.proofs.Middle.{SlotOf, Spoiled, LastSpoiled, IsNext, holds_event}
 use Rattle.register_machine.proofs.Moves.{Between}
-use Rattle.register_machine.proofs.Setting.{Fit, Setting, fires_is, variable_too}
+use Rattle.register_machine.proofs.UpdateEffects.{written_first}
+use Rattle.register_machine.proofs.Setting.{Fit, FitIf, by_fit, Setting, fires_is, variable_too}
 use Rattle.register_machine.proofs.Uses.{unspoiled, last_bypasses}
 use Rattle.register_machine.proofs.Steps.{Good, done_args, barred_is, sound_args}
 
@@ -73,6 +79,14 @@ event_no_fault None is = absurd (true≢false (sym is))
 event_no_fault (Some (Event v)) is = refl
 event_no_fault (Some Fault) is = absurd (true≢false (sym is))
 
+-- an update takes its first argument
+own_taken : (c : Config) (u : Update) (args : List ℕ) → taken_of c (operation_of u) args ≡ (if is_update (operation_of u) && list_all (fires c) args then owned (first_of args) else [])
+own_taken c update.SetAdd args = refl
+own_taken c u args = refl
+
+taken_update : (c : Config) (o : Op) (u : Update) → update_in o ≡ Some u → (args : List ℕ) → taken_of c o args ≡ (if is_update o && list_all (fires c) args then owned (first_of args) else [])
+taken_update c o u is args = by_update (λ p u. taken_of c p args ≡ (if is_update p && list_all (fires c) args then owned (first_of args) else [])) (λ u. own_taken c u args) o u is
+
 abbrev eq_of : Equation → Op → List ℕ → ValueType → Equation
 eq_of e0 o args of = record e0 { op = o; args = args; of = of }
 
@@ -93,6 +107,15 @@ module _ (s : System) (plan : Plan) (inputs : Inputs) (z : Streams) (t : ℕ) (l
             second true here = (inr (sym (own_same (in_one (Own b) (Own x) here))), inr (run, sound, sym (fires_is (z a t) (c.slots a) (good.mid.status a run gone)) ∙ is))
             second false here = absurd (none_in_nil (Own x) here)
 
+    update_use : (o : Op) (u : Update) → update_in o ≡ Some u → (m : ℕ) (ks : List ℕ) (of : ValueType) → Running s i (eq_of e0 o (m ∷ ks) of) → (x : ℕ) → IsVariable s x → (p : SpoiledHere x) → Contains (taken_of c o (m ∷ ks)) (Own x) → TakesBefore s p.by x i
+    update_use o u h m ks of running x variable p found =
+        let same = own_same (in_one (Own m) (Own x) (in_if (is_update o && list_all (fires c) (m ∷ ks)) (Own m ∷ []) (Own x) (subst (λ l. Contains l (Own x)) (taken_update c o u h (m ∷ ks)) found))) in
+        conflict.written (record { at = eq_of e0 o (m ∷ ks) of; is = running.is; running = running.runs_too; variable = variable; argument = subst (Contains (written_of o (m ∷ ks))) same (written_first o u h m ks) }) (λ is. p.ran (subst (Contains rest) is next.remains))
+
+    others_use : (o : Op) (args : List ℕ) (of : ValueType) → FitIf s (is_update o) args of → Running s i (eq_of e0 o args of) → (x : ℕ) → IsVariable s x → (p : SpoiledHere x) → Contains (taken_of c o args) (Own x) → TakesBefore s p.by x i
+    others_use o args of fit =
+        by_fit s o of (λ args. Running s i (eq_of e0 o args of) → (x : ℕ) → IsVariable s x → (p : SpoiledHere x) → Contains (taken_of c o args) (Own x) → TakesBefore s p.by x i) (λ u h m ks fits. update_use o u h m ks of) args fit
+
     taken_uses : (o : Op) (args : List ℕ) (of : ValueType) → Running s i (eq_of e0 o args of) → Fit s o args of → ((a : ℕ) → Contains (used_of o args) a → IsTrue (runs s a) × (Contains rest a → ⊥)) → ((a : ℕ) → Contains (used_of o args) a → is_fault (z a t) ≡ false)
         → (x : ℕ) → IsVariable s x → (p : SpoiledHere x) → Contains (taken_of c o args) (Own x) → TakesBefore s p.by x i
     taken_uses (op.Lift body true) args of running fit done sound x variable p found = conflict.read (record { at = eq_of e0 (op.Lift body true) args of; is = running.is; running = running.runs_too; variable = variable; argument = in_owned args x (in_if (list_all (fires c) args) (owned args) (Own x) found) })
@@ -110,18 +133,6 @@ module _ (s : System) (plan : Plan) (inputs : Inputs) (z : Streams) (t : ℕ) (l
         let passed : Contains (a ∷ b ∷ []) x = elim got [ inl is ↦ (0, omega arith, sym (own_same is)) | inr is ↦ (1, omega arith, sym (own_same is)) ] in
         conflict.passed (record { at = eq_of e0 op.Pick (d ∷ a ∷ b ∷ []) of; is = running.is; running = running.runs_too; variable = variable; argument = passed }) (not_passed_over s plan.in_place z t last old given.law p.by p.runs_by p.fires x i (eq_of e0 op.Pick (d ∷ a ∷ b ∷ []) of) running.is tt)
     taken_uses op.Last (v ∷ r ∷ []) of running fit done sound x variable p found = last_own (in_one (LastOf v) (Own x) (in_if (fires c r && is_some (c.lasts v)) (LastOf v ∷ []) (Own x) found))
-    taken_uses op.SetAdd (m ∷ k ∷ []) of running fit done sound x variable p found =
-        let same = own_same (in_one (Own m) (Own x) (in_if (list_all (fires c) (m ∷ k ∷ [])) (Own m ∷ []) (Own x) found)) in
-        conflict.written (record { at = eq_of e0 op.SetAdd (m ∷ k ∷ []) of; is = running.is; running = running.runs_too; variable = variable; argument = (0, omega arith, same) }) (λ is. p.ran (subst (Contains rest) is next.remains))
-    taken_uses op.SetRemove (m ∷ k ∷ []) of running fit done sound x variable p found =
-        let same = own_same (in_one (Own m) (Own x) (in_if (list_all (fires c) (m ∷ k ∷ [])) (Own m ∷ []) (Own x) found)) in
-        conflict.written (record { at = eq_of e0 op.SetRemove (m ∷ k ∷ []) of; is = running.is; running = running.runs_too; variable = variable; argument = (0, omega arith, same) }) (λ is. p.ran (subst (Contains rest) is next.remains))
-    taken_uses op.MapAdd (m ∷ k ∷ w ∷ []) of running fit done sound x variable p found =
-        let same = own_same (in_one (Own m) (Own x) (in_if (list_all (fires c) (m ∷ k ∷ w ∷ [])) (Own m ∷ []) (Own x) found)) in
-        conflict.written (record { at = eq_of e0 op.MapAdd (m ∷ k ∷ w ∷ []) of; is = running.is; running = running.runs_too; variable = variable; argument = (0, omega arith, same) }) (λ is. p.ran (subst (Contains rest) is next.remains))
-    taken_uses op.MapRemove (m ∷ k ∷ []) of running fit done sound x variable p found =
-        let same = own_same (in_one (Own m) (Own x) (in_if (list_all (fires c) (m ∷ k ∷ [])) (Own m ∷ []) (Own x) found)) in
-        conflict.written (record { at = eq_of e0 op.MapRemove (m ∷ k ∷ []) of; is = running.is; running = running.runs_too; variable = variable; argument = (0, omega arith, same) }) (λ is. p.ran (subst (Contains rest) is next.remains))
     taken_uses op.Input [] of running fit done sound x variable p found = absurd (none_in_nil (Own x) found)
     taken_uses op.Nil [] of running fit done sound x variable p found = absurd (none_in_nil (Own x) found)
     taken_uses op.Unit [] of running fit done sound x variable p found = absurd (none_in_nil (Own x) found)
@@ -129,7 +140,12 @@ module _ (s : System) (plan : Plan) (inputs : Inputs) (z : Streams) (t : ℕ) (l
     taken_uses op.Any args of running fit done sound x variable p found = absurd (none_in_nil (Own x) found)
     taken_uses op.Time (a ∷ []) of running fit done sound x variable p found = absurd (none_in_nil (Own x) found)
     taken_uses op.Delay (d ∷ r ∷ []) of running fit done sound x variable p found = absurd (none_in_nil (Own x) found)
-    taken_uses _ _ of running fit done sound x variable p found = absurd fit
+    taken_uses o args of running fit done sound x variable p found = others_use o args of fit running x variable p found
+
+    others_last : (o : Op) (args : List ℕ) (of : ValueType) → FitIf s (is_update o) args of → (v : ℕ) → Contains (taken_of c o args) (LastOf v) → (r : ℕ) × (o ≡ op.Last) × (args ≡ v ∷ r ∷ []) × (fires c r ≡ true)
+    others_last o args of fit =
+        by_fit s o of (λ args. (v : ℕ) → Contains (taken_of c o args) (LastOf v) → (r : ℕ) × (o ≡ op.Last) × (args ≡ v ∷ r ∷ []) × (fires c r ≡ true))
+        (λ u h m ks fits v found. own_last (in_one (Own m) (LastOf v) (in_if (is_update o && list_all (fires c) (m ∷ ks)) (Own m ∷ []) (LastOf v) (subst (λ l. Contains l (LastOf v)) (taken_update c o u h (m ∷ ks)) found)))) args fit
 
     -- a last alone takes the content of a last register
     taken_last : (o : Op) (args : List ℕ) (of : ValueType) → Fit s o args of → (v : ℕ) → Contains (taken_of c o args) (LastOf v) → (r : ℕ) × (o ≡ op.Last) × (args ≡ v ∷ r ∷ []) × (fires c r ≡ true)
@@ -141,10 +157,6 @@ module _ (s : System) (plan : Plan) (inputs : Inputs) (z : Streams) (t : ℕ) (l
     taken_last op.Merge (a ∷ b ∷ []) of fit v found = absurd (no_owned (first_of (filter (fires c) (a ∷ b ∷ []))) v found)
     taken_last op.Filter (e ∷ d ∷ []) of fit v found = own_last (in_one (Own e) (LastOf v) (in_if (fires c e && is_true (held (c.slots d))) (Own e ∷ []) (LastOf v) found))
     taken_last op.Pick (d ∷ a ∷ b ∷ []) of fit v found = elim (in_chosen (held (c.slots d)) a b (LastOf v) (in_if (fires c a && fires c b) (chosen (held (c.slots d)) a b) (LastOf v) found)) [ inl is ↦ last_own is | inr is ↦ last_own is ]
-    taken_last op.SetAdd (m ∷ k ∷ []) of fit v found = own_last (in_one (Own m) (LastOf v) (in_if (list_all (fires c) (m ∷ k ∷ [])) (Own m ∷ []) (LastOf v) found))
-    taken_last op.SetRemove (m ∷ k ∷ []) of fit v found = own_last (in_one (Own m) (LastOf v) (in_if (list_all (fires c) (m ∷ k ∷ [])) (Own m ∷ []) (LastOf v) found))
-    taken_last op.MapAdd (m ∷ k ∷ w ∷ []) of fit v found = own_last (in_one (Own m) (LastOf v) (in_if (list_all (fires c) (m ∷ k ∷ w ∷ [])) (Own m ∷ []) (LastOf v) found))
-    taken_last op.MapRemove (m ∷ k ∷ []) of fit v found = own_last (in_one (Own m) (LastOf v) (in_if (list_all (fires c) (m ∷ k ∷ [])) (Own m ∷ []) (LastOf v) found))
     taken_last op.Input [] of fit v found = absurd (none_in_nil (LastOf v) found)
     taken_last op.Nil [] of fit v found = absurd (none_in_nil (LastOf v) found)
     taken_last op.Unit [] of fit v found = absurd (none_in_nil (LastOf v) found)
@@ -152,7 +164,7 @@ module _ (s : System) (plan : Plan) (inputs : Inputs) (z : Streams) (t : ℕ) (l
     taken_last op.Any args of fit v found = absurd (none_in_nil (LastOf v) found)
     taken_last op.Time (a ∷ []) of fit v found = absurd (none_in_nil (LastOf v) found)
     taken_last op.Delay (d ∷ r ∷ []) of fit v found = absurd (none_in_nil (LastOf v) found)
-    taken_last _ _ of fit v found = absurd fit
+    taken_last o args of fit v found = others_last o args of fit v found
 
   in_else : (b : Bool) (rs : List Register) (q : Register) → Contains (if b then [] else rs) q → Contains rs q
   in_else true rs q found = absurd (none_in_nil q found)

@@ -3,12 +3,14 @@ use Rattle.std.proofs.Common.{◌≡◌, ℕ, ◌-◌, Bool, true, false, List, 
 use Rattle.std.specs.Prelude.{if◌then◌else◌, nat_lt}
 use Rattle.std.proofs.lemmas.Bool.{cases_Bool}
 use Rattle.flat_core.specs.declared.equation.Equation.{Equation}
-use Rattle.flat_core.specs.Case.{Inputs, Streams}
+use Rattle.flat_core.specs.Case.{Streams}
+use Rattle.flat_core.specs.Events.{Inputs}
 use Rattle.flat_core.specs.System.{System, equation}
 use Rattle.flat_core.specs.Members.{is_in}
 use Rattle.tsl_value.proofs.Lists.{later}
 use Rattle.alias_rules.specs.Conflict.{StandsBefore}
-use Rattle.register_machine.specs.Run.{Plan, State, started, step_instr, kept}
+use Rattle.register_machine.specs.Run.{Plan, State, started, step_instr}
+use Rattle.flat_core.specs.Kept.{keeps_of}
 use Rattle.register_machine.proofs.Orders.{IsFree, Agrees, steps_of, all_steps}
 use Rattle.register_machine.specs.Machine.{timed, Instr, Run, RunInPlace, Print, Keep, Timer, Held, Cell, Slot, Blank, Holds, Cells, Config, Effect, Fill, Make, with, effect, Ran, RanInPlace, OfEquation, Step, Steps}
 use Rattle.register_machine.proofs.Cells.{blank_holds, kept-slot, without, without-there}
@@ -40,7 +42,7 @@ start_good s plan inputs z t a given between = record {
 
 -- the instructions after the last print
 abbrev pub IsEnding : System → Instr → Type 0
-IsEnding s (Keep v) = Contains (kept s) v
+IsEnding s (Keep v) = Contains (keeps_of s) v
 IsEnding s (Timer i) = Unit {0}
 IsEnding s _ = ⊥
 

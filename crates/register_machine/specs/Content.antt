@@ -8,7 +8,7 @@ use Rattle.tsl_value.specs.View.{View}
 use Rattle.flat_core.specs.declared.equation.Op.{Op}
 use Rattle.flat_core.specs.declared.equation.Op.TheVariants as op
 use Rattle.flat_core.specs.declared.equation.Equation.{Equation}
-use Rattle.flat_core.specs.Case.{Inputs}
+use Rattle.flat_core.specs.Events.{Inputs}
 use Rattle.flat_core.specs.System.{System, equation}
 use Rattle.flat_core.specs.Updates.{is_update}
 use Rattle.alias_rules.specs.Uses.{first_of}

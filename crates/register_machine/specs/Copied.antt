@@ -1,7 +1,7 @@
 -- How many elements updates copy where those of a set happen in place.
 use Rattle.std.specs.Prelude.{ℕ, zero, suc, ◌+◌, ◌-◌, ◌^◌, min, List, [], ◌∷◌, Option, Some, None, if◌then◌else◌}
 use Rattle.tsl_value.specs.View.{View}
-use Rattle.lift_func.specs.Update.{size_of}
+use Rattle.tsl_value.specs.Aggregate.{size_of}
 use Rattle.flat_core.specs.declared.equation.Equation.{Equation}
 use Rattle.flat_core.specs.Case.{Streams}
 use Rattle.flat_core.specs.Members.{is_in}

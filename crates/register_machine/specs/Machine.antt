@@ -14,7 +14,8 @@ use Rattle.lift_func.specs.Apply.{Answer}
 use Rattle.flat_core.specs.declared.equation.Op.{Op}
 use Rattle.flat_core.specs.declared.equation.Op.TheVariants as op
 use Rattle.flat_core.specs.declared.equation.Equation.{Equation}
-use Rattle.flat_core.specs.Case.{Inputs, at_once, used_of}
+use Rattle.flat_core.specs.Case.{used_of}
+use Rattle.flat_core.specs.Events.{Inputs, at_once}
 use Rattle.flat_core.specs.Pending.{option_is}
 use Rattle.flat_core.specs.System.{System, equation}
 use Rattle.flat_core.specs.Updates.{is_update}
@@ -28,7 +29,7 @@ pub data Instr : Type 0 where
   Keep : ℕ → Instr
   Timer : ℕ → Instr
 
--- what is held: a scalar, or the handle of a cell with a set or a map
+-- what is held: a scalar, or the handle of a cell with an aggregate
 pub data Held : Type 0 where
   Bare : Scalar → Held
   Cell : ℕ → Held
@@ -76,7 +77,7 @@ abbrev pub slot_of : Option Held → Slot
 slot_of None = Blank
 slot_of (Some h) = Holds h
 
--- the register for an answer that is no set or map
+-- the register for an answer that is no aggregate
 abbrev pub slot_of_answer : Answer → Slot
 slot_of_answer (Ok (Some (Plain s))) = Holds (Bare s)
 slot_of_answer (Ok _) = Blank
@@ -105,6 +106,11 @@ abbrev pub made : Answer → Effect
 made (Ok (Some v)) = Make v
 made (Ok None) = Fill Blank
 made (Err kind) = Fill (Failed (Some kind))
+
+-- an update gets a cell where it has an aggregate, and what is no aggregate fills the register
+abbrev pub effect_by : Bool → Answer → Effect
+effect_by true answer = made answer
+effect_by false answer = Fill (slot_of_answer answer)
 
 -- a fault of an argument that is used at the same time is passed on
 abbrev pub is_barred : Config → Equation → Bool
@@ -153,8 +159,8 @@ OfEquation None P = ⊥
 OfEquation (Some e) P = P e
 
 module _ (inputs : Inputs) (t : ℕ) where
-  -- The own case of equation i, with handles in place of sets and maps: last values, merges, filters and choices hand on what is held,
-  -- and an empty set or map and an update get a cell with the view that the case gives.
+  -- The own case of equation i, with handles in place of aggregates: last values, merges, filters and choices hand on what is held, and
+  -- an empty aggregate and an update get a cell with the view that the case gives.
   abbrev pub effect_of : Config → ℕ → Op → List ℕ → ValueType → Effect
   effect_of c i op.Input args of = Fill (slot_of_answer (Ok (inputs i t)))
   effect_of c i op.Last (v ∷ r ∷ []) of = Fill (if fires c r then slot_of (c.lasts v) else Blank)
@@ -164,11 +170,7 @@ module _ (inputs : Inputs) (t : ℕ) where
   effect_of c i op.Pick (d ∷ a ∷ b ∷ []) of =
       Fill (slot_of (where_either (held (c.slots d)) (held (c.slots a)) (held (c.slots b))))
   effect_of c i op.Empty args of = made (at_once op.Empty of (map (value_in c) args) t)
-  effect_of c i op.SetAdd args of = made (at_once op.SetAdd of (map (value_in c) args) t)
-  effect_of c i op.SetRemove args of = made (at_once op.SetRemove of (map (value_in c) args) t)
-  effect_of c i op.MapAdd args of = made (at_once op.MapAdd of (map (value_in c) args) t)
-  effect_of c i op.MapRemove args of = made (at_once op.MapRemove of (map (value_in c) args) t)
-  effect_of c i o args of = Fill (slot_of_answer (at_once o of (map (value_in c) args) t))
+  effect_of c i o args of = effect_by (is_update o) (at_once o of (map (value_in c) args) t)
 
   abbrev pub effect : Config → ℕ → Equation → Effect
   effect c i e = if is_barred c e then Fill (Failed None) else effect_of c i e.op e.args e.of

@@ -2,17 +2,15 @@
 use Rattle.std.specs.Prelude.{◌≡◌, ◌==◌, ℕ, ◌-◌, Bool, false, if◌then◌else◌, nat_lt, List, [], ◌∷◌, ◌++◌, map, length, Option, Some, None}
 use Rattle.std.specs.Prelude.{is_some, IsFalse}
 use Rattle.std.specs.Option.{option_and_then}
-use Rattle.std.specs.List.{list_any, filter}
+use Rattle.std.specs.List.{list_any}
 use Rattle.std.specs.FinMap as finite_map
 use Rattle.lift_func.specs.declared.fault.FaultKind.{FaultKind}
 use Rattle.flat_core.specs.declared.equation.Op.{Op}
 use Rattle.flat_core.specs.declared.equation.Op.TheVariants as op
-use Rattle.flat_core.specs.declared.equation.Equation.{Equation}
-use Rattle.flat_core.specs.Case.{Inputs, refused}
-use Rattle.flat_core.specs.Instant.{is_delay}
+use Rattle.flat_core.specs.Events.{Inputs, refused}
+use Rattle.flat_core.specs.Kept.{keeps_of, timers_of}
 use Rattle.flat_core.specs.Members.{is_in}
 use Rattle.flat_core.specs.System.{System, equation}
-use Rattle.alias_rules.specs.Uses.{last_of}
 use Rattle.register_machine.specs.Machine.{Instr, Run, RunInPlace, Print, Keep, Timer, Held, Cell, Slot, Blank, Failed, Config, Cells}
 use Rattle.register_machine.specs.Machine.{value_in, Steps}
 
@@ -26,27 +24,12 @@ abbrev pub step_instr : System → Plan → ℕ → Instr
 step_instr s plan n =
     if nat_lt n (length s.equations) then (if is_in plan.in_place n then RunInPlace n else Run n) else Print (n - length s.equations)
 
--- equation v is the first argument of a running last
-abbrev pub last_at : Option Equation → List ℕ
-last_at None = []
-last_at (Some e) = last_of e.op e.args
-
-abbrev pub is_kept : System → ℕ → Bool
-is_kept s v = list_any (λ i. is_in (last_at (equation s i)) v) s.running
-
--- the first arguments of the running lasts, each once, and the running delays
-abbrev pub kept : System → List ℕ
-kept s = filter (is_kept s) s.running
-
-abbrev pub delays : System → List ℕ
-delays s = filter (λ i. is_delay (equation s i)) s.running
-
 -- the code of an instant: the steps in their order, then what is kept, and then the delays
 abbrev pub body : System → Plan → List Instr
 body s plan = map (step_instr s plan) plan.order
 
 abbrev pub ending : System → List Instr
-ending s = map Keep (kept s) ++ map Timer (delays s)
+ending s = map Keep (keeps_of s) ++ map Timer (timers_of s)
 
 -- what stays between two instants
 pub record State : Type 0 where
@@ -86,7 +69,7 @@ is_cell h (Some (Cell k)) = k == h
 is_cell h _ = false
 
 abbrev pub kept_cells : System → Config → Cells
-kept_cells s c = finite_map.retain_keys c.cells (λ h. list_any (λ v. is_cell h (c.lasts v)) (kept s))
+kept_cells s c = finite_map.retain_keys c.cells (λ h. list_any (λ v. is_cell h (c.lasts v)) (keeps_of s))
 
 abbrev pub ended : System → Config → State
 ended s c = record { lasts = c.lasts; cells = kept_cells s c; ledger = c.ledger; pending = c.pending }

@@ -13,14 +13,15 @@ use Rattle.flat_core.specs.Pending.{pending}
 use Rattle.flat_core.specs.Solution.{Solves}
 use Rattle.flat_core.specs.Stream.{latest}
 use Rattle.flat_core.specs.System.{System, runs, equation}
-use Rattle.flat_core.specs.Typed.{is_aggregate}
+use Rattle.tsl_value.specs.Aggregate.{is_aggregate}
 use Rattle.flat_core.specs.inner.TypedLines.{AreTypedLines}
 use Rattle.alias_rules.specs.Fine.{IsFinePlan}
 use Rattle.alias_rules.specs.Sharing.{Shares}
 use Rattle.alias_rules.specs.Uses.{IsUpdate}
 use Rattle.register_machine.specs.Copied.{copied}
 use Rattle.register_machine.specs.Machine.{Cell, view_of}
-use Rattle.register_machine.specs.Run.{Plan, State, Runs, kept, nothing_yet}
+use Rattle.register_machine.specs.Run.{Plan, State, Runs, nothing_yet}
+use Rattle.flat_core.specs.Kept.{keeps_of}
 
 -- A flat system, a plan of it whose updates may happen in place, lines of typed events, and what solves the system for these lines below
 -- a bound. All times are below 2^63. That there is such a plan puts the running equations in dependency order, so no more is asked of them.
@@ -43,7 +44,7 @@ in_time (Some t) = if nat_lt t (2 ^ 63) then Some t else None
 -- A state stands for what happens before t: the last registers have the latest events, their cells are there, and those that hold one
 -- cell belong to variables that share; and the delays are pending that are pending in the solution.
 pub record Stands (s : System) (plan : Plan) (z : Streams) (t : ℕ) (a : State) : Type 0 where
-  pub latest_events : (v : ℕ) → Contains (kept s) v → option_and_then (view_of a.cells) (a.lasts v) ≡ latest (z v) t
+  pub latest_events : (v : ℕ) → Contains (keeps_of s) v → option_and_then (view_of a.cells) (a.lasts v) ≡ latest (z v) t
   pub cells_there : (v h : ℕ) → a.lasts v ≡ Some (Cell h) → finite_map.get a.cells h ≡ None → ⊥
   pub one_cell : (u v h : ℕ) → a.lasts u ≡ Some (Cell h) → a.lasts v ≡ Some (Cell h) → Shares s plan.in_place u v
   pub delays : (i d r : ℕ) (e : Equation)
@@ -63,4 +64,4 @@ is_aggregate_at None = false
 is_aggregate_at (Some e) = is_aggregate e.of
 
 abbrev pub stored : System → List ℕ
-stored s = filter (λ v. is_aggregate_at (equation s v)) (kept s)
+stored s = filter (λ v. is_aggregate_at (equation s v)) (keeps_of s)

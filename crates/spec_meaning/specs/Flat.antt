@@ -12,7 +12,7 @@ use Rattle.type_rules.specs.Written.{value_of}
 use Rattle.stream_constructs.specs.declared.construct.Stream.{Stream}
 use Rattle.stream_constructs.specs.Equations.{equation}
 use Rattle.type_rules.specs.declared.rule.ExprType.TheVariants as expr_type
-use Rattle.expr_types.specs.Around.{Kinds}
+use Rattle.type_rules.specs.Kinds.{Kinds}
 use Rattle.spec_meaning.specs.Occurrence.{result_of}
 use Rattle.spec_meaning.specs.Makes.{Standing, Makes, MakesBody, is_name}
 

@@ -5,4 +5,5 @@ pub mod Happens
 pub mod Due
 pub mod Makes
 pub mod Flat
+pub mod Inputs
 pub mod inner

@@ -5,7 +5,8 @@ use Rattle.std.specs.Prelude.{Some, slice_get}
 use Rattle.tsl_value.specs.declared.scalar.ValueType.{ValueType}
 use Rattle.flat_core.specs.declared.equation.Equation.{Equation}
 use Rattle.tsl_value.specs.declared.place.Place.{Place}
-use Rattle.flat_core.specs.Typed.{is_aggregate, unit_type}
+use Rattle.tsl_value.specs.Aggregate.{is_aggregate}
+use Rattle.flat_core.specs.Typed.{unit_type}
 use Rattle.syntax_tree.specs.Tree as tree
 use Rattle.syntax_tree.specs.Tree.{Expr, Exprs, no_links, place_of}
 use Rattle.syntax_tree.specs.declared.tree.Level.{Level}
@@ -22,7 +23,7 @@ use Rattle.spec_meaning.specs.Occurrence.{Call, Occurrence, body_of, result_of, 
 use Rattle.spec_meaning.specs.Shape.{Shape, shape, operands, expressions}
 use Rattle.type_rules.specs.declared.rule.ExprType.TheVariants as expr_type
 use Rattle.type_rules.specs.Written.{value_of}
-use Rattle.expr_types.specs.Around.{Kinds}
+use Rattle.type_rules.specs.Kinds.{Kinds}
 
 -- Where expressions stand: in the calls around them, the streams of the parameters and of the definitions in the block. What the
 -- items of the top are is the same everywhere.

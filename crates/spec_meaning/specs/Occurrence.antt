@@ -6,6 +6,7 @@ use Rattle.syntax_tree.specs.Tree.{Expr, Exprs, no_exprs, more_exprs}
 use Rattle.name_check.specs.declared.declaration.Declaration.{Declaration}
 use Rattle.name_check.specs.declared.declaration.Declaration.TheVariants as declaration
 use Rattle.name_check.specs.Scope.{Scope, top, inside, in_block}
+use Rattle.syntax_tree.specs.Tree.{params_of}
 
 -- a call of a macro: the number of its item, and what it is called with
 pub record Call : Type 0 where
@@ -18,11 +19,7 @@ pub record Occurrence : Type 0 where
   pub expr : Expr
 
 -- ---- the parts of a specification
--- an item's parameters, its body, and the expression that is the result of a body
-abbrev pub params_of : Option tree.Item → List tree.Param
-params_of (Some (tree.Defined p (tree.Define q n ps w b))) = ps
-params_of _ = []
-
+-- an item's body, and the expression that is the result of a body
 abbrev pub body_of : Option tree.Item → Option tree.Body
 body_of (Some (tree.Defined p (tree.Define q n ps w b))) = Some b
 body_of _ = None

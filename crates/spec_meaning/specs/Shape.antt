@@ -7,7 +7,7 @@ use Rattle.tsl_value.specs.declared.scalar.Scalar.{Scalar}
 use Rattle.tsl_value.specs.declared.scalar.Scalar.TheVariants as scalar
 use Rattle.tsl_value.specs.declared.scalar.ValueType.{ValueType}
 use Rattle.tsl_value.specs.declared.scalar.ValueType.TheVariants as value_type
-use Rattle.lift_func.specs.declared.body.Unary.TheVariants as unary
+use Rattle.tsl_value.specs.declared.operation.Unary.TheVariants as unary
 use Rattle.lift_func.specs.BodyTree.{BodyTree, One, Two}
 use Rattle.syntax_tree.specs.Tree as tree
 use Rattle.syntax_tree.specs.Tree.{Expr, Exprs, no_exprs, more_exprs, Links, no_links, more_links}
@@ -22,7 +22,7 @@ use Rattle.spec_meaning.specs.Function.{literal, operation_of, comparison_of, ro
 use Rattle.stream_constructs.specs.Construct.{Construct, Operand, operand_trees}
 use Rattle.stream_constructs.specs.Construct as construct
 use Rattle.stream_constructs.specs.Equations.{choice}
-use Rattle.vocabulary.specs.declared.signature.Update.{Update as UpdateOp}
+use Rattle.tsl_value.specs.declared.operation.Update.{Update as UpdateOp}
 use Rattle.vocabulary.specs.declared.signature.Role.{Role}
 use Rattle.vocabulary.specs.declared.signature.Role.TheVariants as role
 use Rattle.vocabulary.specs.Table.{role_of}

@@ -19,7 +19,7 @@ use Rattle.spec_parser.proofs.AnswerLaws.{tree_or_unexpected, tree_or_too_deep}
 use Rattle.spec_parser.proofs.OneRefusal.{one_refusal as one_kind, one_unexpected, one_too_deep as one_token}
 use Rattle.spec_parser.specs.declared.limits.TheConstants.{MOST_LEVELS}
 use Rattle.name_check.specs.Faults.{first}
-use Rattle.expr_types.specs.Around.{Kinds}
+use Rattle.type_rules.specs.Kinds.{Kinds}
 use Rattle.expr_types.specs.Bodies.{AreKinds}
 use Rattle.type_check.specs.declared.fault.TypeFault.{TypeFault}
 use Rattle.type_check.specs.declared.fault.TypeFault.TheVariants as type_fault

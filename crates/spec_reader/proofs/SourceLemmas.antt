@@ -18,7 +18,7 @@ use Rattle.syntax_tree.specs.inner.OneLevel.{items_of}
 use Rattle.spec_parser.specs.Grammar.{Spells}
 use Rattle.spec_parser.specs.Answers.{IsFaultOf}
 use Rattle.spec_parser.specs.declared.limits.TheConstants.{MOST_LEVELS}
-use Rattle.expr_types.specs.Around.{Kinds}
+use Rattle.type_rules.specs.Kinds.{Kinds}
 use Rattle.type_check.specs.declared.fault.TypeFault.{TypeFault}
 use Rattle.type_check.specs.declared.fault.TypeFault.TheVariants as type_fault
 use Rattle.type_check.specs.inner.Answer.{IsFaultOf as IsTypeFaultOf}

@@ -11,7 +11,7 @@ use Rattle.form_check.specs.Outputs.{without_output}
 use Rattle.definition_cycles.specs.Cycles.{IsFirstFunctionCycle}
 use Rattle.definition_cycles.specs.Nodes.{HasFewNodes}
 use Rattle.spec_reader.proofs.CountLemmas.{few_bytes, few_nodes}
-use Rattle.expr_types.specs.Around.{Kinds}
+use Rattle.type_rules.specs.Kinds.{Kinds}
 use Rattle.spec_meaning.specs.Due.{outputs_of}
 use Rattle.checked_spec.specs.inner.Checked.{IsChecked}
 use Rattle.checked_spec.proofs.BodyLaws.{function_bodies_are_typed}

@@ -7,7 +7,7 @@ ghost use Rattle.flat_core.specs.WellFormed.{IsWellFormed};
 ghost use Rattle.syntax_tree.specs.inner.OneLevel.{item_of, items_of};
 ghost use Rattle.syntax_tree.specs.Tree.{Item as ItemTree};
 ghost use Rattle.name_check.specs.Scope.{top};
-ghost use Rattle.expr_types.specs.Around.{Kinds};
+ghost use Rattle.type_rules.specs.Kinds.{Kinds};
 ghost use Rattle.expr_types.specs.inner.Shown.{kinds_of};
 ghost use Rattle.definition_cycles.specs.Cycles.{IsFirstFunctionCycle};
 ghost use Rattle.definition_cycles.specs.Nodes.{HasFewNodes};

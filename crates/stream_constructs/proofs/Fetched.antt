@@ -8,7 +8,7 @@ use Rattle.tsl_value.specs.View.{View, Plain}
 use Rattle.tsl_value.specs.declared.scalar.Scalar.{Scalar}
 use Rattle.lift_func.specs.Apply.{Answer}
 use Rattle.flat_core.specs.Stream.{Outcome, Event, Fault, event, has_event, is_fault}
-use Rattle.flat_core.specs.Case.{merged, outcome_of}
+use Rattle.flat_core.specs.Events.{merged, outcome_of}
 use Rattle.flat_core.proofs.Answered.{event_of_value, value_is_no_fault}
 
 -- the outcome of an operand with this value: there is a fault, or some event, or neither

@@ -16,7 +16,8 @@ use Rattle.flat_core.specs.declared.equation.Op.TheVariants as op
 use Rattle.translation_order.specs.Graph.{Path, edge}
 use Rattle.flat_core.specs.System.{System}
 use Rattle.flat_core.specs.Typed as typed
-use Rattle.flat_core.specs.Typed.{unit_type, int_type, bool_type, is_aggregate, kind_of, IsTyped}
+use Rattle.tsl_value.specs.Aggregate.{is_aggregate}
+use Rattle.flat_core.specs.Typed.{unit_type, int_type, bool_type, kind_of, IsTyped}
 use Rattle.flat_core.specs.TypedSystem.{IsOfType, IsTypedEquation}
 use Rattle.flat_core.specs.WellFormed.{Needs, unguarded_of}
 use Rattle.flat_core.proofs.Members.{contains_head, all_append}

@@ -1,5 +1,6 @@
 -- The equations of each construct, and of a choice, hang together.
-use Rattle.std.proofs.Common.{◌≡◌, ℕ, ◌≤◌, List, [], ◌∷◌, length, refl, arith}
+use Rattle.std.proofs.Common.{◌≡◌, ℕ, ◌≤◌, List, [], ◌∷◌, length, refl, ap, arith}
+use Rattle.std.specs.Prelude.{is_some}
 use Rattle.tsl_value.specs.declared.place.Place.{Place}
 use Rattle.tsl_value.specs.declared.scalar.ValueType.{ValueType}
 use Rattle.flat_core.specs.declared.equation.Op.{Op}
@@ -8,15 +9,19 @@ use Rattle.flat_core.specs.System.{System}
 use Rattle.flat_core.specs.Typed as typed
 use Rattle.flat_core.specs.WellFormed.{unguarded_of}
 use Rattle.stream_constructs.specs.declared.construct.Stream.{Stream}
-use Rattle.vocabulary.specs.declared.signature.Update.{Update}
+use Rattle.tsl_value.specs.declared.operation.Update.{Update}
 use Rattle.stream_constructs.specs.Construct as construct
 use Rattle.stream_constructs.specs.Construct.{Construct, Operand, operand_trees}
 use Rattle.stream_constructs.specs.Equations.{with_literals, own_equations, choice_equations, choice}
-use Rattle.stream_constructs.specs.Agree.{Fits, FitsChoice, IsItself, HangTogether, AreOperands, Updates, set_add, set_remove, map_add, map_remove}
+use Rattle.stream_constructs.specs.Agree.{Fits, FitsChoice, IsItself, HangTogether, AreOperands}
+use Rattle.lift_func.specs.Update.{UpdateTypes}
+use Rattle.lift_func.proofs.Updates.{updates_aggregate, beside_is, beside_few}
+use Rattle.flat_core.specs.Updates.{operation_of}
+use Rattle.flat_core.proofs.UpdateOps.{updates_itself, unguarded_update}
 use Rattle.stream_constructs.proofs.Numbered.{At}
 use Rattle.stream_constructs.proofs.Hanging.{Stands}
 use Rattle.stream_constructs.proofs.LiftingHangs.{operands_few}
-use Rattle.stream_constructs.proofs.Operands.{Behind, Chooses, one_of, two_of, after_aggregate, chooses_of, after, by_literal, by_stream}
+use Rattle.stream_constructs.proofs.Operands.{Behind, Chooses, after_aggregate, chooses_of, after, by_literal, by_stream}
 use Rattle.stream_constructs.proofs.Hangs.{nil_hangs, unit_hangs, literal_hangs, empty_hangs, time_hangs, last_hangs, delay_hangs, merge_hangs, const_hangs, filter_hangs, filter_by_hangs, lift_hangs, signal_alone_hangs, signal_hangs, literals_hang}
 
 module _ (p : Place) (of : ValueType) (n : ℕ) (s : System) where
@@ -34,11 +39,9 @@ module _ (p : Place) (of : ValueType) (n : ℕ) (s : System) where
   choice_hangs os parts fits stands = chosen _ (typed.bool_type ∷ of ∷ of ∷ []) (chooses_of os parts typed.bool_type of fits.1 fits.0) fits.0 (omega arith) (typed.pick fits.1) stands
 
 module _ (p : Place) (n : ℕ) (s : System) where
-  update_hangs : (o : Update) (os : List Operand) (parts : List Stream) (ts : List ValueType) (of : ValueType) → AreOperands os parts ts → Updates o ts of → At (Stands s) n (own_equations p of n (construct.Update o os) parts) → HangTogether (construct.Update o os) (own_equations p of n (construct.Update o os) parts) n parts s
-  update_hangs _ os parts _ of operands (set_add {k}) stands = led p of n s _ op.SetAdd _ (after_aggregate os parts _ _ refl (λ os parts h. one_of os parts _ h) operands) (λ args. refl) operands (omega arith) (typed.set_add refl) stands
-  update_hangs _ os parts _ of operands (set_remove {k}) stands = led p of n s _ op.SetRemove _ (after_aggregate os parts _ _ refl (λ os parts h. one_of os parts _ h) operands) (λ args. refl) operands (omega arith) (typed.set_remove refl) stands
-  update_hangs _ os parts _ of operands (map_add {k} {x}) stands = led p of n s _ op.MapAdd _ (after_aggregate os parts _ _ refl (λ os parts h. two_of os parts _ _ h) operands) (λ args. refl) operands (omega arith) (typed.map_add refl) stands
-  update_hangs _ os parts _ of operands (map_remove {k} {x}) stands = led p of n s _ op.MapRemove _ (after_aggregate os parts _ _ refl (λ os parts h. one_of os parts _ h) operands) (λ args. refl) operands (omega arith) (typed.map_remove refl) stands
+  update_hangs : (o : Update) (os : List Operand) (parts : List Stream) (ts : List ValueType) (of : ValueType) → AreOperands os parts (of ∷ ts) → UpdateTypes o of ts → At (Stands s) n (own_equations p of n (construct.Update o os) parts) → HangTogether (construct.Update o os) (own_equations p of n (construct.Update o os) parts) n parts s
+  update_hangs o os parts ts of operands row stands =
+      led p of n s _ (operation_of o) (of ∷ ts) (after_aggregate os parts of ts (updates_aggregate row) (λ os parts h. h) operands) (unguarded_update (operation_of o) (ap is_some (updates_itself o))) operands (omega (arith, beside_is row, beside_few o)) (typed.update (updates_itself o) row) stands
 
   pub construct_hangs : (c : Construct) (of : ValueType) (parts : List Stream) → Fits c parts of → IsItself c n parts → At (Stands s) n (own_equations p of n c parts) → HangTogether c (own_equations p of n c parts) n parts s
   construct_hangs construct.Nil of [] fits itself = nil_hangs p of n s fits

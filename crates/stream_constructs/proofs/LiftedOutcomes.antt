@@ -11,7 +11,8 @@ use Rattle.lift_func.specs.Apply.{Answer}
 use Rattle.flat_core.specs.declared.equation.Op.TheVariants as op
 use Rattle.flat_core.specs.declared.equation.Equation.{Equation}
 use Rattle.flat_core.specs.Stream.{Outcome, Fault, event, has_event, is_fault, latest}
-use Rattle.flat_core.specs.Case.{Inputs, Streams, unit, outcome_of, case_of}
+use Rattle.flat_core.specs.Case.{Streams, case_of}
+use Rattle.flat_core.specs.Events.{Inputs, unit, outcome_of}
 use Rattle.flat_core.specs.Typed.{unit_type}
 use Rattle.stream_constructs.specs.declared.construct.Stream.{Stream}
 use Rattle.stream_constructs.specs.Construct.{Operand, Fixed, Varying, now}

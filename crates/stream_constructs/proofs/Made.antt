@@ -3,29 +3,24 @@ use Rattle.std.proofs.Common.{ℕ, List, [], ◌∷◌, refl}
 use Rattle.tsl_value.specs.declared.place.Place.{Place}
 use Rattle.tsl_value.specs.declared.scalar.ValueType.{ValueType}
 use Rattle.lift_func.specs.Typing.{Value}
-use Rattle.flat_core.specs.Case.{Inputs, Streams}
+use Rattle.flat_core.specs.Case.{Streams}
+use Rattle.flat_core.specs.Events.{Inputs}
 use Rattle.stream_constructs.specs.declared.construct.Stream.{Stream}
-use Rattle.vocabulary.specs.declared.signature.Update.{Update}
 use Rattle.stream_constructs.specs.Construct as construct
 use Rattle.stream_constructs.specs.Construct.{Construct, Operand}
 use Rattle.stream_constructs.specs.Equations.{own_equations}
-use Rattle.stream_constructs.specs.Agree.{Fits, IsItself, MakesStream, AreOperands, Updates, set_add, set_remove, map_add, map_remove}
+use Rattle.stream_constructs.specs.Agree.{Fits, IsItself, MakesStream, AreOperands}
+use Rattle.lift_func.proofs.Updates.{updates_aggregate}
 use Rattle.stream_constructs.proofs.Numbered.{At}
 use Rattle.stream_constructs.proofs.LiftedOutcomes.{HasCase}
 use Rattle.stream_constructs.proofs.Simple.{nil_made, unit_made, literal_made, empty_made, time_made, last_made, delay_made, merge_made, const_made, filter_made, filter_by_made, lift_made}
 use Rattle.stream_constructs.proofs.SignalsMade.{signal_made, signal_alone_made}
-use Rattle.stream_constructs.proofs.Operands.{one_of, two_of, after_aggregate}
-use Rattle.stream_constructs.proofs.Updates.{set_add_made, set_remove_made, map_add_made, map_remove_made}
+use Rattle.stream_constructs.proofs.Operands.{after_aggregate}
+use Rattle.stream_constructs.proofs.Updates.{update_made}
 
 module _ (p : Place) (of : ValueType) (n : ℕ) (inputs : Inputs) (z : Streams) (t : ℕ) where
   abbrev Has : Construct → List Stream → Type 0
   Has c parts = At (HasCase inputs z t) n (own_equations p of n c parts) → MakesStream c (own_equations p of n c parts) n parts inputs z t
-
-  update_made : (o : Update) (os : List Operand) (parts : List Stream) (ts : List ValueType) (made : ValueType) → AreOperands os parts ts → Updates o ts made → Has (construct.Update o os) parts
-  update_made _ os parts _ _ operands (set_add {k}) = set_add_made p of n inputs z t (after_aggregate os parts _ _ refl (λ os parts h. one_of os parts _ h) operands)
-  update_made _ os parts _ _ operands (set_remove {k}) = set_remove_made p of n inputs z t (after_aggregate os parts _ _ refl (λ os parts h. one_of os parts _ h) operands)
-  update_made _ os parts _ _ operands (map_add {k} {x}) = map_add_made p of n inputs z t (after_aggregate os parts _ _ refl (λ os parts h. two_of os parts _ _ h) operands)
-  update_made _ os parts _ _ operands (map_remove {k} {x}) = map_remove_made p of n inputs z t (after_aggregate os parts _ _ refl (λ os parts h. one_of os parts _ h) operands)
 
   pub construct_made : (c : Construct) (parts : List Stream) → Fits c parts of → IsItself c n parts → Has c parts
   construct_made construct.Nil [] fits itself = nil_made p of n inputs z t
@@ -42,5 +37,5 @@ module _ (p : Place) (of : ValueType) (n : ℕ) (inputs : Inputs) (z : Streams) 
   construct_made (construct.Lift f) parts fits itself = lift_made p of n inputs z t f parts
   construct_made (construct.Signal f) [] fits itself = signal_alone_made inputs z t p of n f (Value of) fits.2
   construct_made (construct.Signal f) (a ∷ parts) fits itself = signal_made inputs z t p of n f a parts
-  construct_made (construct.Update o os) parts fits itself = update_made o os parts fits.0 of fits.1 fits.2
+  construct_made (construct.Update o os) parts fits itself = update_made p of n inputs z t o fits.0 (after_aggregate os parts of fits.0 (updates_aggregate fits.2) (λ os parts h. h) fits.1)
   construct_made c parts fits itself = absurd fits

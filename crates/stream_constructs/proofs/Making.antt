@@ -8,7 +8,8 @@ use Rattle.tsl_value.specs.View.{View, Plain}
 use Rattle.tsl_value.specs.declared.scalar.Scalar.{Scalar}
 use Rattle.lift_func.specs.declared.fault.FaultKind.{FaultKind}
 use Rattle.flat_core.specs.declared.equation.Equation.{Equation}
-use Rattle.flat_core.specs.Case.{Inputs, Streams, fault_of, root_fault}
+use Rattle.flat_core.specs.Case.{Streams, root_fault}
+use Rattle.flat_core.specs.Events.{Inputs, fault_of}
 use Rattle.stream_constructs.specs.declared.construct.Stream.{Stream}
 use Rattle.stream_constructs.specs.Construct.{Construct, outcome, root}
 use Rattle.stream_constructs.specs.Agree.{history_of, last_number, MakesStream}

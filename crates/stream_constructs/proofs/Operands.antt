@@ -1,11 +1,11 @@
--- The operands that updates and choices have: a set or a map is no literal.
+-- The operands that updates and choices have: an aggregate is no literal.
 use Rattle.std.proofs.Common.{◌≡◌, true, List, [], ◌∷◌, sym, ap, ◌∙◌}
 use Rattle.std.proofs.lemmas.Bool.{false≢true}
 use Rattle.tsl_value.specs.declared.scalar.Scalar.{Scalar}
 use Rattle.tsl_value.specs.declared.scalar.ValueType.{ValueType}
 use Rattle.tsl_value.specs.declared.scalar.ValueType.TheVariants as value_type
 use Rattle.tsl_value.specs.View.{type_of}
-use Rattle.flat_core.specs.Typed.{is_aggregate}
+use Rattle.tsl_value.specs.Aggregate.{is_aggregate}
 use Rattle.stream_constructs.specs.declared.construct.Stream.{Stream}
 use Rattle.stream_constructs.specs.Construct.{Operand, Fixed, Varying}
 use Rattle.stream_constructs.specs.Agree.{AreOperands}
@@ -13,17 +13,7 @@ use Rattle.stream_constructs.specs.Agree.{AreOperands}
 pub data None : List Operand → List Stream → Type 0 where
   none : None [] []
 
-pub data One : List Operand → List Stream → Type 0 where
-  fixed : {s : Scalar} → One (Fixed s ∷ []) []
-  varying : {a : Stream} → One (Varying ∷ []) (a ∷ [])
-
-pub data Two : List Operand → List Stream → Type 0 where
-  fixed_fixed : {s r : Scalar} → Two (Fixed s ∷ Fixed r ∷ []) []
-  fixed_varying : {s : Scalar} {a : Stream} → Two (Fixed s ∷ Varying ∷ []) (a ∷ [])
-  varying_fixed : {a : Stream} {s : Scalar} → Two (Varying ∷ Fixed s ∷ []) (a ∷ [])
-  varying_varying : {a b : Stream} → Two (Varying ∷ Varying ∷ []) (a ∷ b ∷ [])
-
--- one that varies before others, and two after one
+-- one that varies before others
 pub data Behind (Rest : List Operand → List Stream → Type 0) : List Operand → List Stream → Type 0 where
   after : {a : Stream} {os : List Operand} {parts : List Stream} → Rest os parts → Behind Rest (Varying ∷ os) (a ∷ parts)
 
@@ -37,34 +27,6 @@ none_of [] (a ∷ parts) h = absurd h
 none_of (Fixed s ∷ os) parts h = absurd h
 none_of (Varying ∷ os) [] h = absurd h
 none_of (Varying ∷ os) (a ∷ parts) h = absurd h
-
-pub one_of : (os : List Operand) (parts : List Stream) (t : ValueType) → AreOperands os parts (t ∷ []) → One os parts
-one_of [] [] t h = absurd h
-one_of [] (a ∷ parts) t h = absurd h
-one_of (Fixed s ∷ os) parts t h = at (none_of os parts h.1)
-  where
-    at : {os : List Operand} {parts : List Stream} → None os parts → One (Fixed s ∷ os) parts
-    at none = fixed
-one_of (Varying ∷ os) [] t h = absurd h
-one_of (Varying ∷ os) (a ∷ parts) t h = at (none_of os parts h.1)
-  where
-    at : {os : List Operand} {parts : List Stream} → None os parts → One (Varying ∷ os) (a ∷ parts)
-    at none = varying
-
-pub two_of : (os : List Operand) (parts : List Stream) (t u : ValueType) → AreOperands os parts (t ∷ u ∷ []) → Two os parts
-two_of [] [] t u h = absurd h
-two_of [] (a ∷ parts) t u h = absurd h
-two_of (Fixed s ∷ os) parts t u h = at (one_of os parts u h.1)
-  where
-    at : {os : List Operand} {parts : List Stream} → One os parts → Two (Fixed s ∷ os) parts
-    at fixed = fixed_fixed
-    at varying = fixed_varying
-two_of (Varying ∷ os) [] t u h = absurd h
-two_of (Varying ∷ os) (a ∷ parts) t u h = at (one_of os parts u h.1)
-  where
-    at : {os : List Operand} {parts : List Stream} → One os parts → Two (Varying ∷ os) (a ∷ parts)
-    at fixed = varying_fixed
-    at varying = varying_varying
 
 no_literal : {P : Type 0} (t : ValueType) (s : Scalar) → is_aggregate t ≡ true → t ≡ value_type.Scalar (type_of s) → P
 no_literal t s aggregate is = absurd (false≢true (ap is_aggregate (sym is) ∙ aggregate))

@@ -11,7 +11,8 @@ use Rattle.lift_func.specs.Apply.{Answer, and_then, chosen, of_one, of_two, appl
 use Rattle.lift_func.specs.Typing.{ValueKind, HasKind, literal, argument, absent, one, two, choice}
 use Rattle.flat_core.specs.declared.equation.Op.{Op}
 use Rattle.flat_core.specs.Stream.{Outcome, Fault, event, is_fault}
-use Rattle.flat_core.specs.Case.{Inputs, Streams, unit, at_zero, at_once, outcome_of, fault_of, case_of, root_fault}
+use Rattle.flat_core.specs.Case.{Streams, case_of, root_fault}
+use Rattle.flat_core.specs.Events.{Inputs, unit, at_zero, at_once, outcome_of, fault_of}
 use Rattle.stream_constructs.specs.declared.construct.Stream.{Stream}
 use Rattle.stream_constructs.specs.Construct as construct
 use Rattle.stream_constructs.specs.Construct.{Construct, Operand, now, signal, outcome, root}
@@ -36,7 +37,7 @@ closed f k (choice {c} {a} {b} h i j) vs =
     λ l. and_then (test l) (λ v. chosen v (left l) (right l))
 
 -- where some part has an event and each has a value
-both_tests : (some all : Bool) (x y : Answer) → (if some then (if all then x else y) else y) ≡ (if some && all then x else y)
+pub both_tests : (some all : Bool) (x y : Answer) → (if some then (if all then x else y) else y) ≡ (if some && all then x else y)
 both_tests true all x y = refl
 both_tests false all x y = refl
 
@@ -60,11 +61,11 @@ module _ (inputs : Inputs) (z : Streams) (t : ℕ) where
   number_outcomes [] = refl
   number_outcomes (a ∷ rest) = ap (λ os. z a.id t ∷ os) (number_outcomes rest)
 
-  current_values : (parts : List Stream) → values_of inputs z t parts ≡ map (λ g. now g t) (history_of z parts)
+  pub current_values : (parts : List Stream) → values_of inputs z t parts ≡ map (λ g. now g t) (history_of z parts)
   current_values [] = refl
   current_values (a ∷ rest) = ap (λ vs. now (z a.id) t ∷ vs) (current_values rest)
 
-  current_all : (parts : List Stream) → list_all is_some (values_of inputs z t parts) ≡ list_all (λ g. is_some (now g t)) (history_of z parts)
+  pub current_all : (parts : List Stream) → list_all is_some (values_of inputs z t parts) ≡ list_all (λ g. is_some (now g t)) (history_of z parts)
   current_all [] = refl
   current_all (a ∷ rest) = ap (λ b. is_some (now (z a.id) t) && b) (current_all rest)
 

@@ -11,7 +11,8 @@ use Rattle.tsl_value.specs.declared.scalar.ValueType.{ValueType}
 use Rattle.lift_func.specs.BodyTree.{BodyTree}
 use Rattle.lift_func.specs.Apply.{Answer, apply}
 use Rattle.flat_core.specs.Stream.{Outcome, Event, Fault, event, has_event, is_fault, latest}
-use Rattle.flat_core.specs.Case.{Inputs, Streams, unit, filtered, outcome_of, fault_of, expires}
+use Rattle.flat_core.specs.Case.{Streams}
+use Rattle.flat_core.specs.Events.{Inputs, unit, filtered, outcome_of, fault_of, expires}
 use Rattle.stream_constructs.specs.declared.construct.Stream.{Stream}
 use Rattle.stream_constructs.specs.Construct as construct
 use Rattle.stream_constructs.specs.Construct.{now}
@@ -61,7 +62,7 @@ module _ (p : Place) (of : ValueType) (n : ℕ) (inputs : Inputs) (z : Streams) 
       (at_first at ∙ (λ k. if is_fault (z a.id t) || false then Some Fault else outcome_of (is k)))
       (λ k. if is_fault (z a.id t) || false then None else fault_of (is k))
 
-  literal_at : (s : Scalar) (t : ℕ) (o : Option Outcome) → o ≡ outcome_of (Ok (Rattle.flat_core.specs.Case.at_zero t unit)) → literal_case s o ≡ outcome_of (Ok (Rattle.flat_core.specs.Case.at_zero t (Plain s)))
+  literal_at : (s : Scalar) (t : ℕ) (o : Option Outcome) → o ≡ outcome_of (Ok (Rattle.flat_core.specs.Events.at_zero t unit)) → literal_case s o ≡ outcome_of (Ok (Rattle.flat_core.specs.Events.at_zero t (Plain s)))
   literal_at s zero o is = ap (literal_case s) is
   literal_at s (suc u) o is = ap (literal_case s) is
 

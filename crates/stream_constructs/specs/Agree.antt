@@ -5,22 +5,22 @@ use Rattle.std.specs.List.{Contains, AllByRecursion}
 use Rattle.tsl_value.specs.View.{type_of}
 use Rattle.tsl_value.specs.declared.place.Place.{Place}
 use Rattle.tsl_value.specs.declared.scalar.ScalarType.{ScalarType}
-use Rattle.tsl_value.specs.declared.scalar.KeyType.{KeyType}
 use Rattle.tsl_value.specs.declared.scalar.ValueType.{ValueType}
 use Rattle.tsl_value.specs.declared.scalar.ValueType.TheVariants as value_type
-use Rattle.lift_func.specs.Typing.{Value, Optional, HasKind, scalar_of}
+use Rattle.lift_func.specs.Typing.{Value, Optional, HasKind}
+use Rattle.lift_func.specs.Update.{UpdateTypes}
 use Rattle.flat_core.specs.declared.equation.Equation.{Equation}
 use Rattle.translation_order.specs.Graph.{Path, Walk}
 use Rattle.flat_core.specs.Stream.{History}
-use Rattle.flat_core.specs.Case.{Inputs, Streams, case_of, root_fault}
+use Rattle.flat_core.specs.Case.{Streams, case_of, root_fault}
+use Rattle.flat_core.specs.Events.{Inputs}
 use Rattle.flat_core.specs.System.{System}
-use Rattle.flat_core.specs.Typed.{unit_type, int_type, bool_type, is_aggregate}
+use Rattle.tsl_value.specs.Aggregate.{is_aggregate}
+use Rattle.flat_core.specs.Typed.{unit_type, int_type, bool_type}
 use Rattle.flat_core.specs.TypedSystem.{IsOfType, IsTypedEquation}
 use Rattle.flat_core.specs.Needed.{HasArgument}
 use Rattle.flat_core.specs.WellFormed.{Needs}
 use Rattle.stream_constructs.specs.declared.construct.Stream.{Stream}
-use Rattle.vocabulary.specs.declared.signature.Update.{Update as UpdateOp}
-use Rattle.vocabulary.specs.declared.signature.Update.TheVariants as update
 use Rattle.stream_constructs.specs.Construct.{Construct, Operand, Fixed, Varying, outcome, root, operand_trees}
 use Rattle.stream_constructs.specs.Construct as construct
 use Rattle.stream_constructs.specs.Equations.{own_equations, choice_equations, choice, alias_equation}
@@ -32,19 +32,6 @@ AreOperands [] [] [] = Unit {0}
 AreOperands (Fixed s ∷ os) parts (t ∷ ts) = (t ≡ value_type.Scalar (type_of s)) × AreOperands os parts ts
 AreOperands (Varying ∷ os) (a ∷ parts) (t ∷ ts) = (t ≡ a.of) × AreOperands os parts ts
 AreOperands os parts ts = ⊥
-
--- the types of an update's operands
-pub data Updates : UpdateOp → List ValueType → ValueType → Type 0 where
-  set_add : {k : KeyType} → Updates update.SetAdd (value_type.Set k ∷ value_type.Scalar (scalar_of k) ∷ []) (value_type.Set k)
-  set_remove : {k : KeyType} → Updates update.SetRemove (value_type.Set k ∷ value_type.Scalar (scalar_of k) ∷ []) (value_type.Set k)
-  -- MapAdd MAP KEY VALUE
-  map_add :
-      {k : KeyType} {x : ScalarType} →
-      Updates update.MapAdd (value_type.Map k x ∷ value_type.Scalar (scalar_of k) ∷ value_type.Scalar x ∷ []) (value_type.Map k x)
-  -- MapRemove MAP KEY
-  map_remove :
-      {k : KeyType} {x : ScalarType} →
-      Updates update.MapRemove (value_type.Map k x ∷ value_type.Scalar (scalar_of k) ∷ []) (value_type.Map k x)
 
 pub record IsScalar (of : ValueType) : Type 0 where
   pub scalar : ScalarType
@@ -66,10 +53,10 @@ Fits (construct.FilterBy b) (e ∷ []) of = of ≡ e.of
 Fits (construct.Lift f) parts of =
     IsScalar of × (1 ≤ length parts) × (length parts ≤ 8) × HasKind (map (λ a. Optional a.of) parts) f (Optional of)
 Fits (construct.Signal f) parts of = IsScalar of × (length parts ≤ 8) × HasKind (map (λ a. Value a.of) parts) f (Value of)
-Fits (construct.Update o os) parts of = (ts : List ValueType) × AreOperands os parts ts × Updates o ts of
+Fits (construct.Update o os) parts of = (ts : List ValueType) × AreOperands os parts (of ∷ ts) × UpdateTypes o of ts
 Fits c parts of = ⊥
 
--- a choice between two sets or maps: the condition may be a literal
+-- a choice between two aggregates: the condition may be a literal
 abbrev pub FitsChoice : List Operand → List Stream → ValueType → Type 0
 FitsChoice os parts of = AreOperands os parts (bool_type ∷ of ∷ of ∷ []) × (is_aggregate of ≡ true)
 
@@ -141,7 +128,7 @@ ConstructsHangTogether =
     StandsAt s.equations n (own_equations p of n c parts) →
     HangTogether c (own_equations p of n c parts) n parts s
 
--- a choice between sets or maps, which means what `if` means
+-- a choice between aggregates, which means what `if` means
 abbrev pub ChoicesAreMade : Type 0
 ChoicesAreMade =
     (p : Place) (of : ValueType) (n : ℕ) (os : List Operand) (parts : List Stream) →

@@ -10,12 +10,11 @@ use Rattle.lift_func.specs.declared.fault.FaultKind.{FaultKind}
 use Rattle.lift_func.specs.BodyTree as body
 use Rattle.lift_func.specs.BodyTree.{BodyTree}
 use Rattle.lift_func.specs.Apply.{Answer, apply}
-use Rattle.lift_func.specs.Update.{with_key, without_key, with_entry}
+use Rattle.lift_func.specs.Update.{update_answer}
 use Rattle.flat_core.specs.Stream.{Outcome, Fault, History, event, has_event, is_fault, latest}
-use Rattle.flat_core.specs.Case.{Inputs, unit, empty_of, at_zero, merged, filtered, of_both, of_three, expires, outcome_of, fault_of}
-use Rattle.flat_core.specs.Case.{refused}
-use Rattle.vocabulary.specs.declared.signature.Update.{Update as UpdateOp}
-use Rattle.vocabulary.specs.declared.signature.Update.TheVariants as update
+use Rattle.flat_core.specs.Events.{Inputs, unit, at_zero, merged, filtered, expires, outcome_of, fault_of, refused}
+use Rattle.tsl_value.specs.Aggregate.{empty_of}
+use Rattle.tsl_value.specs.declared.operation.Update.{Update as UpdateOp}
 
 -- An operand is a literal, or it varies: then its stream is one of those that are given.
 pub data Operand : Type 0 where
@@ -30,7 +29,7 @@ pub data Construct : Type 0 where
   Nil : Construct
   Unit : Construct
   Literal : Scalar → Construct
-  -- the set or the map of a type that has no element
+  -- the aggregate of a type that has no element
   Empty : ValueType → Construct
   Time : Construct
   Last : Construct
@@ -45,7 +44,7 @@ pub data Construct : Type 0 where
   Lift : BodyTree → Construct
   -- an operation on streams: a body over the current values of its parts. Operands that are literals stand in the body.
   Signal : BodyTree → Construct
-  -- an update of a set or a map
+  -- an update of an aggregate
   Update : UpdateOp → List Operand → Construct
 
 -- operands in a body: a literal is itself, and the others are arguments, the first of which has this number
@@ -64,14 +63,6 @@ operand_values [] vs = []
 operand_values (Fixed s ∷ os) vs = Some (Plain s) ∷ operand_values os vs
 operand_values (Varying ∷ os) [] = None ∷ operand_values os []
 operand_values (Varying ∷ os) (v ∷ vs) = v ∷ operand_values os vs
-
--- what an update makes of its operands; no other number of operands occurs
-abbrev pub updated : UpdateOp → List (Option View) → Option View
-updated update.SetAdd (m ∷ k ∷ []) = of_both with_key m k
-updated update.SetRemove (m ∷ k ∷ []) = of_both without_key m k
-updated update.MapAdd (m ∷ k ∷ x ∷ []) = of_three with_entry m k x
-updated update.MapRemove (m ∷ k ∷ []) = of_both without_key m k
-updated o vs = None
 
 -- A function of current values: where some part has an event and each has a current value. Without parts it is at 0 alone.
 abbrev pub signal : (List (Option View) → Answer) → List History → ℕ → Answer
@@ -102,7 +93,7 @@ own inputs Filter (a ∷ c ∷ []) t = Ok (filtered (event (a t)) (now c t))
 own inputs (FilterBy b) (a ∷ []) t = Ok (if b then event (a t) else None)
 own inputs (Lift f) hs t = lift_of_options f (map (λ h. event (h t)) hs)
 own inputs (Signal f) hs t = signal (apply f) hs t
-own inputs (Update o os) hs t = signal (λ vs. Ok (updated o (operand_values os vs))) hs t
+own inputs (Update o os) hs t = signal (λ vs. update_answer o (operand_values os vs)) hs t
 own inputs c hs t = Ok None
 
 -- the parts that are used at the same time: all but the first of a `last` and those of a `delay`

@@ -12,9 +12,8 @@ use Rattle.flat_core.specs.declared.equation.Op.{Op}
 use Rattle.flat_core.specs.declared.equation.Op.TheVariants as op
 use Rattle.flat_core.specs.declared.equation.Equation.{Equation}
 use Rattle.flat_core.specs.Typed.{unit_type, int_type}
+use Rattle.flat_core.specs.Updates.{operation_of}
 use Rattle.stream_constructs.specs.declared.construct.Stream.{Stream}
-use Rattle.vocabulary.specs.declared.signature.Update.{Update as UpdateOp}
-use Rattle.vocabulary.specs.declared.signature.Update.TheVariants as update
 use Rattle.stream_constructs.specs.Construct.{Construct, Operand, Fixed, Varying, operand_trees}
 use Rattle.stream_constructs.specs.Construct as construct
 
@@ -81,12 +80,6 @@ with_literals p o of n os parts =
     let up : List Stream = lifted_streams n parts in
     lift ++ literal_equations p (first_number up) os ++ equation p o (operand_numbers (n + length lift) os (numbers up)) of ∷ []
 
-abbrev pub update_op : UpdateOp → Op
-update_op update.SetAdd = op.SetAdd
-update_op update.SetRemove = op.SetRemove
-update_op update.MapAdd = op.MapAdd
-update_op update.MapRemove = op.MapRemove
-
 -- ---- the equations of a construct of this type at this place, where the next equation gets number n
 abbrev pub own_equations : Place → ValueType → ℕ → Construct → List Stream → List Equation
 own_equations p of n construct.Nil [] = equation p op.Nil [] of ∷ []
@@ -104,10 +97,10 @@ own_equations p of n (construct.Lift f) parts = equation p (op.Lift f false) (nu
 own_equations p of n (construct.Signal f) [] = equation p op.Unit [] unit_type ∷ strict_lift p f (n ∷ []) of ∷ []
 own_equations p of n (construct.Signal f) (a ∷ parts) =
     lifting p n (a ∷ parts) ++ strict_lift p f (numbers (lifted_streams n (a ∷ parts))) of ∷ []
-own_equations p of n (construct.Update o os) parts = with_literals p (update_op o) of n os parts
+own_equations p of n (construct.Update o os) parts = with_literals p (operation_of o) of n os parts
 own_equations p of n c parts = []
 
--- a choice between two sets or maps, by a condition that may be a literal
+-- a choice between two aggregates, by a condition that may be a literal
 abbrev pub choice_equations : Place → ValueType → ℕ → List Operand → List Stream → List Equation
 choice_equations p of n os parts = with_literals p op.Pick of n os parts
 

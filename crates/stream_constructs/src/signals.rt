@@ -9,16 +9,16 @@ ghost use Rattle.stream_constructs.specs.Made.{HasFirst, with_equations, equatio
 ghost use Rattle.flat_core.specs.Typed.{unit_type};
 
 use crate::arguments;
-use crate::construct::{Operand, Stream, operation_of};
+use crate::construct::{Operand, Stream};
 use crate::maker::{MakeFault, Maker};
 use flat_core::equation::Op;
 use flat_core::lists::Args;
 use lift_func::body::Body;
 use std::alloc::{AllocError, Global};
 use tsl_value::ids::EqId;
+use tsl_value::operation::Update;
 use tsl_value::place::Place;
 use tsl_value::scalar::ValueType;
-use vocabulary::signature::Update;
 
 fn varying(alloc: Global, operands: &[Operand]) -> Result<Vec<Stream>, AllocError>
     ensures { IfOk result (λ v. v.items ≡ varying_of operands.now) }
@@ -137,7 +137,7 @@ impl Maker {
         self.make(place, op, args, of)
     }
 
-    /// An update of a set or a map.
+    /// An update of an aggregate.
     pub fn update(
         &mut self,
         place: Place,
@@ -154,7 +154,7 @@ impl Maker {
         ensures partly { OnErr result (HasFirst self.old
             (equations_for self.old place of (construct.Update op (operands_of operands.now)) (varying_of operands.now)) self.new) }
     {
-        self.over_operands(place, operation_of(op), operands, of)
+        self.over_operands(place, Op::of_update(op), operands, of)
     }
 
     /// A choice between two sets or two maps, by a condition before them.

@@ -9,7 +9,8 @@ use Rattle.std.proofs.lemmas.List.Elements.{filter-append}
 use Rattle.syntax_tree.specs.Tree as tree
 use Rattle.name_check.specs.declared.declaration.Declaration.TheVariants as declaration
 use Rattle.name_check.specs.Scope.{Scope, Entry, meaning, top, inside, parameters_from, locals_from, count_in, is_function, are_values, functions_of}
-use Rattle.spec_meaning.specs.Occurrence.{Call, scope_at, params_of, body_of, block_of}
+use Rattle.spec_meaning.specs.Occurrence.{Call, scope_at, body_of, block_of}
+use Rattle.syntax_tree.specs.Tree.{params_of}
 use Rattle.function_bodies.specs.inner.Calls.{IsFunction}
 use Rattle.function_bodies.proofs.ScopeLemmas.{seen_in_function}
 

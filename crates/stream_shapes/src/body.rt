@@ -9,10 +9,11 @@ ghost use Rattle.stream_constructs.specs.Equations as equations;
 ghost use Rattle.stream_shapes.specs.inner.Operands.{operand_tree, argument_count};
 
 use function_bodies::operation::operation_of;
-use lift_func::body::{Binary, Body, Unary};
+use lift_func::body::Body;
 use std::alloc::Global;
 use syntax_tree::tree::Operator;
 use tsl_value::memory::NoMemory;
+use tsl_value::operation::{Binary, Unary};
 use tsl_value::scalar::Scalar;
 
 /// A literal, or else the argument of this number.

@@ -2,8 +2,8 @@
 
 use lift_func::body::Body;
 use syntax_tree::tree::Expr;
+use tsl_value::operation::Update;
 use tsl_value::scalar::{Scalar, ValueType};
-use vocabulary::signature::Update;
 
 /// What is made of the streams of some parts.
 #[derive(Drop)]

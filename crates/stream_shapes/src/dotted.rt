@@ -18,9 +18,10 @@ use lift_func::body::Body;
 use std::alloc::Global;
 use syntax_tree::tree::Expr;
 use tsl_value::memory::NoMemory;
+use tsl_value::operation::Update;
 use tsl_value::scalar::Scalar;
 use vocabulary::dotted::Dotted;
-use vocabulary::signature::{Role, Update};
+use vocabulary::signature::Role;
 
 fn update_in(role: Role) -> Option<Update>
     ensures { (cs : List Call) (es : List ExprTree) → role_shape cs role es ≡ update_or result role cs es }

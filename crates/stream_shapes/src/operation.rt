@@ -12,11 +12,11 @@ use crate::body::{choice_body, one_body, two_body};
 use crate::construct::{Construct, Shape};
 use crate::literal::literal;
 use crate::operands::{all, literals, varying};
-use lift_func::body::{Binary, Body, Unary};
+use lift_func::body::Body;
 use std::alloc::Global;
 use syntax_tree::tree::Expr;
 use tsl_value::memory::NoMemory;
-use vocabulary::signature::Update;
+use tsl_value::operation::{Binary, Unary, Update};
 
 /// A body over expressions, of which those are parts that are no literals.
 pub(crate) fn signal<'a>(

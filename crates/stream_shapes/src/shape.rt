@@ -17,12 +17,12 @@ use crate::leaf::{alone, empty_shape, literal_shape, nothing};
 use crate::operation::{binary, choice, unary};
 use function_bodies::functions::Functions;
 use function_bodies::operation::comparison_of;
-use lift_func::body::Unary;
 use name_check::builtin::is_unit;
 use name_check::scope::Scope;
 use std::alloc::Global;
 use syntax_tree::tree::{Expr, Node, TypeName};
 use tsl_value::memory::NoMemory;
+use tsl_value::operation::Unary;
 use tsl_value::scalar::ValueType;
 use type_rules::written::{key_of, scalar_of};
 

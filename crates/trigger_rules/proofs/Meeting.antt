@@ -9,8 +9,10 @@ use Rattle.lift_func.specs.Apply.{Answer, apply}
 use Rattle.flat_core.specs.declared.equation.Op.{Op}
 use Rattle.flat_core.specs.declared.equation.Op.TheVariants as op
 use Rattle.flat_core.specs.Stream.{History, event, has_event, latest}
-use Rattle.flat_core.specs.Case.{Streams, Inputs, unit, expires, delayed, lasting, at_once, own_of, used_of}
-use Rattle.flat_core.specs.Typed.{IsTyped, filter, last, delay}
+use Rattle.flat_core.specs.Case.{Streams, delayed, lasting, own_of, used_of}
+use Rattle.flat_core.specs.Events.{Inputs, unit, expires, at_once}
+use Rattle.flat_core.specs.Typed.{IsTyped, filter, last, delay, update}
+use Rattle.flat_core.proofs.UpdateOps.{no_update}
 use Rattle.trigger_rules.specs.declared.atom.Atom.{Atom}
 use Rattle.trigger_rules.specs.declared.atom.Atom.TheVariants.{Happens}
 use Rattle.trigger_rules.specs.Formula.{Formula, If, Of, Both, all_of, any_of, Meets, always, atom, no_atom, through, both, first, second, started, unless}
@@ -88,6 +90,7 @@ module _ (table : ℕ → Formula) (Known : ℕ → Type 0) (z : Streams) (t : �
   plain_met op.Empty x args ts k typed fit plain tells = (λ m. if_to m, λ h. atom h)
   plain_met op.Any x args ts k typed fit plain tells = (any_to args tells, to_any args tells)
   plain_met op.Merge x args ts k typed fit plain tells = (any_to args tells, to_any args tells)
+  plain_met op.Filter x args ts k (update is row) fit plain tells = no_update is
   plain_met op.Filter x [] ts k filter fit plain tells = absurd fit
   plain_met op.Filter x (e ∷ []) ts k filter fit plain tells = absurd fit.1
   plain_met op.Filter x (e ∷ c ∷ []) ts k filter fit plain tells = (
@@ -143,10 +146,12 @@ module _ (table : ℕ → Formula) (Known : ℕ → Type 0) (z : Streams) (t : �
 
     pub own_met : (o : Op) (args : List ℕ) (ts : List ValueType) (k : ValueType) → IsTyped o ts k → AreOf ts (events args) → AllByRecursion Tells (used_of o args) → ((v : ℕ) (rest : List ℕ) → args ≡ v ∷ rest → Known v → IsFalse (t == 0) → IsTrue (is_some (latest (z v) t))) → own_of inputs z x o args k t ≡ Ok w → Met (formula_of o x args) ↔ IsTrue (is_some w)
     own_met op.Input args ts k typed fit tells known is = (λ m. own_to (if_to m), λ h. atom (to_own h))
+    own_met op.Last args ts k (update h row) fit tells known is = no_update h
     own_met op.Last [] ts k last fit tells known is = absurd fit
     own_met op.Last (v ∷ []) ts k last fit tells known is = absurd fit.1
     own_met op.Last (v ∷ r ∷ []) ts k last fit tells known is = (last_to v r tells.0 (known v (r ∷ []) refl) (same_value is), to_last v r tells.0 (same_value is))
     own_met op.Last (v ∷ r ∷ a ∷ args) ts k last fit tells known is = absurd fit.1.1
+    own_met op.Delay args ts k (update h row) fit tells known is = no_update h
     own_met op.Delay [] ts k delay fit tells known is = absurd fit
     own_met op.Delay (d ∷ []) ts k delay fit tells known is = absurd fit.1
     own_met op.Delay (d ∷ r ∷ []) ts k delay fit tells known is = (delay_to, to_delay d r (same_value is))

@@ -11,7 +11,8 @@ use Rattle.flat_core.specs.declared.equation.Equation.{Equation}
 use Rattle.flat_core.specs.declared.equation.Op.{Op}
 use Rattle.flat_core.specs.declared.equation.Op.TheVariants as op
 use Rattle.flat_core.specs.Stream.{Outcome, Event, Fault, History, event, has_event, is_fault, latest}
-use Rattle.flat_core.specs.Case.{Streams, Inputs, delayed, own, own_of, used_of, is_blocked, outcome_of, fault_of, root_of, root_fault}
+use Rattle.flat_core.specs.Case.{Streams, delayed, own, own_of, used_of, is_blocked, root_of, root_fault}
+use Rattle.flat_core.specs.Events.{Inputs, outcome_of, fault_of}
 use Rattle.flat_core.specs.Fault.{root_at, is_faulty}
 use Rattle.flat_core.specs.System.{System, runs, equation}
 use Rattle.flat_core.specs.inner.TypedEvents.{HasTypedEvents, AreOf}

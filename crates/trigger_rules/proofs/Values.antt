@@ -8,14 +8,21 @@ use Rattle.tsl_value.specs.declared.scalar.Scalar.TheVariants as scalar
 use Rattle.tsl_value.specs.declared.scalar.ValueType.{ValueType}
 use Rattle.tsl_value.specs.View.{View, Plain}
 use Rattle.lift_func.specs.Apply.{Answer, apply}
-use Rattle.lift_func.specs.Typing.{Value, Optional, fits, FitsAnswer}
+use Rattle.lift_func.specs.BodyTree.{BodyTree}
+use Rattle.lift_func.specs.Typing.{Value, Optional, HasKind, fits, FitsAnswer}
 use Rattle.lift_func.proofs.Fits.{apply_fits}
+use Rattle.lift_func.proofs.Updates.{answer_there}
+use Rattle.tsl_value.specs.declared.operation.Update.{Update}
+use Rattle.tsl_value.specs.declared.operation.Update.TheVariants as update
 use Rattle.flat_core.specs.declared.equation.Op.{Op}
 use Rattle.flat_core.specs.declared.equation.Op.TheVariants as op
-use Rattle.flat_core.specs.Case.{unit, empty_of, at_zero, filtered, picked, of_both, of_three, at_once}
-use Rattle.flat_core.specs.Typed.{IsTyped, nil, empty, time, any, merge, filter, pick, set_add, set_remove, map_add, map_remove, lift, bool_type, kind_of}
+use Rattle.flat_core.specs.Events.{unit, at_zero, filtered, picked, at_once}
+use Rattle.flat_core.specs.Typed.{IsTyped, nil, empty, time, any, merge, filter, pick, lift, bool_type, kind_of, input, last, delay}
+use Rattle.tsl_value.specs.Aggregate.{empty_of}
 use Rattle.flat_core.specs.Typed as typed
+use Rattle.flat_core.specs.Updates.{operation_of, update_in}
 use Rattle.flat_core.specs.inner.TypedEvents.{AreOf}
+use Rattle.flat_core.proofs.UpdateOps.{by_update, at_once_update}
 use Rattle.flat_core.proofs.TypedCase.{all_there_fit}
 use Rattle.trigger_rules.specs.inner.Firing.{is_true}
 
@@ -83,59 +90,46 @@ picked_is (Some (Plain (scalar.Bool false))) (Some a) None fit = refl
 picked_is (Some (Plain (scalar.Bool false))) None b fit = refl
 picked_is (Some v) a b fit = absurd (false≢true fit)
 
-both_is : (f : View → View → View) (a b : Option View) → is_some (of_both f a b) ≡ (is_some a && (is_some b && true))
-both_is f (Some a) (Some b) = refl
-both_is f (Some a) None = refl
-both_is f None b = refl
+own_happens : (u : Update) (values : List (Option View)) (t : ℕ) → happens (operation_of u) values t ≡ list_all is_some values
+own_happens update.SetAdd values t = refl
+own_happens u values t = refl
 
-three_is : (f : View → View → View → View) (a b c : Option View) → is_some (of_three f a b c) ≡ (is_some a && (is_some b && (is_some c && true)))
-three_is f (Some a) (Some b) (Some c) = refl
-three_is f (Some a) (Some b) None = refl
-three_is f (Some a) None c = refl
-three_is f None b c = refl
+update_happens : (o : Op) (u : Update) → update_in o ≡ Some u → (values : List (Option View)) (t : ℕ) → happens o values t ≡ list_all is_some values
+update_happens o u is values t = by_update (λ p u. happens p values t ≡ list_all is_some values) (λ u. own_happens u values t) o u is
+
+lift_gives : (body : BodyTree) (strict : Bool) (ts : List ValueType) (of : ValueType) → HasKind (map (kind_of strict) ts) body (kind_of strict of) → (values : List (Option View)) → AreOf ts values → IsTrue (is_plain (op.Lift body strict)) → (t : ℕ) (v : Option View) → at_once (op.Lift body strict) of values t ≡ Ok v → is_some v ≡ happens (op.Lift body strict) values t
+lift_gives body true ts of kind values fit plain t v is =
+    where_all of (list_all is_some values) (apply body values) v (λ all. apply_fits (map (kind_of true) ts) values (all_there_fit ts values fit all) kind) is
+lift_gives body false ts of kind values fit plain t v is = absurd (false≢true plain)
 
 pub gives : (o : Op) (ts : List ValueType) (of : ValueType) → IsTyped o ts of → (values : List (Option View)) → AreOf ts values → IsTrue (is_plain o) → (t : ℕ) (v : Option View) → at_once o of values t ≡ Ok v → is_some v ≡ happens o values t
-gives op.Nil ts of nil [] fit plain t v is = same_value is
-gives op.Nil ts of nil (x ∷ values) fit plain t v is = absurd fit
-gives op.Unit ts of typed.unit [] fit plain t v is = same_value is ∙ zero_is t unit
-gives op.Unit ts of typed.unit (x ∷ values) fit plain t v is = absurd fit
-gives op.Empty ts of (empty h) [] fit plain t v is = same_value is ∙ zero_is t (empty_of of)
-gives op.Empty ts of (empty h) (x ∷ values) fit plain t v is = absurd fit
-gives op.Time ts of time [] fit plain t v is = absurd fit
-gives op.Time ts of time (None ∷ []) fit plain t v is = same_value is
-gives op.Time ts of time (Some a ∷ []) fit plain t v is = same_value is
-gives op.Time ts of time (a ∷ b ∷ values) fit plain t v is = absurd fit.1
-gives op.Any ts of (any low high) values fit plain t v is = same_value is ∙ unit_is (list_any is_some values)
-gives op.Merge ts of merge [] fit plain t v is = absurd fit
-gives op.Merge ts of merge (a ∷ []) fit plain t v is = absurd fit.1
-gives op.Merge ts of merge (a ∷ b ∷ []) fit plain t v is = same_value is ∙ merged_is a b
-gives op.Merge ts of merge (a ∷ b ∷ c ∷ values) fit plain t v is = absurd fit.1.1
-gives op.Filter ts of filter [] fit plain t v is = absurd fit
-gives op.Filter ts of filter (e ∷ []) fit plain t v is = absurd fit.1
-gives op.Filter ts of filter (e ∷ c ∷ []) fit plain t v is = same_value is ∙ filtered_is e c
-gives op.Filter ts of filter (e ∷ c ∷ d ∷ values) fit plain t v is = absurd fit.1.1
-gives op.Pick ts of (pick h) [] fit plain t v is = absurd fit
-gives op.Pick ts of (pick h) (c ∷ []) fit plain t v is = absurd fit.1
-gives op.Pick ts of (pick h) (c ∷ a ∷ []) fit plain t v is = absurd fit.1.1
-gives op.Pick ts of (pick h) (c ∷ a ∷ b ∷ []) fit plain t v is = same_value is ∙ picked_is c a b fit.0
-gives op.Pick ts of (pick h) (c ∷ a ∷ b ∷ d ∷ values) fit plain t v is = absurd fit.1.1.1
-gives op.SetAdd ts of (set_add h) [] fit plain t v is = absurd fit
-gives op.SetAdd ts of (set_add h) (a ∷ []) fit plain t v is = absurd fit.1
-gives op.SetAdd ts of (set_add h) (a ∷ b ∷ []) fit plain t v is = same_value is ∙ both_is _ a b
-gives op.SetAdd ts of (set_add h) (a ∷ b ∷ c ∷ values) fit plain t v is = absurd fit.1.1
-gives op.SetRemove ts of (set_remove h) [] fit plain t v is = absurd fit
-gives op.SetRemove ts of (set_remove h) (a ∷ []) fit plain t v is = absurd fit.1
-gives op.SetRemove ts of (set_remove h) (a ∷ b ∷ []) fit plain t v is = same_value is ∙ both_is _ a b
-gives op.SetRemove ts of (set_remove h) (a ∷ b ∷ c ∷ values) fit plain t v is = absurd fit.1.1
-gives op.MapAdd ts of (map_add h) [] fit plain t v is = absurd fit
-gives op.MapAdd ts of (map_add h) (a ∷ []) fit plain t v is = absurd fit.1
-gives op.MapAdd ts of (map_add h) (a ∷ b ∷ []) fit plain t v is = absurd fit.1.1
-gives op.MapAdd ts of (map_add h) (a ∷ b ∷ c ∷ []) fit plain t v is = same_value is ∙ three_is _ a b c
-gives op.MapAdd ts of (map_add h) (a ∷ b ∷ c ∷ d ∷ values) fit plain t v is = absurd fit.1.1.1
-gives op.MapRemove ts of (map_remove h) [] fit plain t v is = absurd fit
-gives op.MapRemove ts of (map_remove h) (a ∷ []) fit plain t v is = absurd fit.1
-gives op.MapRemove ts of (map_remove h) (a ∷ b ∷ []) fit plain t v is = same_value is ∙ both_is _ a b
-gives op.MapRemove ts of (map_remove h) (a ∷ b ∷ c ∷ values) fit plain t v is = absurd fit.1.1
-gives (op.Lift body true) ts of (lift low high kind) values fit plain t v is =
-    where_all of (list_all is_some values) (apply body values) v (λ all. apply_fits (map (kind_of true) ts) values (all_there_fit ts values fit all) kind) is
-gives _ ts of typing values fit plain t v is = absurd (false≢true plain)
+gives o ts of input values fit plain t v is = absurd (false≢true plain)
+gives o ts of last values fit plain t v is = absurd (false≢true plain)
+gives o ts of delay values fit plain t v is = absurd (false≢true plain)
+gives o ts of nil values fit plain t v is = same_value is
+gives o ts of typed.unit [] fit plain t v is = same_value is ∙ zero_is t unit
+gives o ts of typed.unit (x ∷ values) fit plain t v is = absurd fit
+gives o ts of (empty h) [] fit plain t v is = same_value is ∙ zero_is t (empty_of of)
+gives o ts of (empty h) (x ∷ values) fit plain t v is = absurd fit
+gives o ts of time [] fit plain t v is = absurd fit
+gives o ts of time (None ∷ []) fit plain t v is = same_value is
+gives o ts of time (Some a ∷ []) fit plain t v is = same_value is
+gives o ts of time (a ∷ b ∷ values) fit plain t v is = absurd fit.1
+gives o ts of (any low high) values fit plain t v is = same_value is ∙ unit_is (list_any is_some values)
+gives o ts of merge [] fit plain t v is = absurd fit
+gives o ts of merge (a ∷ []) fit plain t v is = absurd fit.1
+gives o ts of merge (a ∷ b ∷ []) fit plain t v is = same_value is ∙ merged_is a b
+gives o ts of merge (a ∷ b ∷ c ∷ values) fit plain t v is = absurd fit.1.1
+gives o ts of filter [] fit plain t v is = absurd fit
+gives o ts of filter (e ∷ []) fit plain t v is = absurd fit.1
+gives o ts of filter (e ∷ c ∷ []) fit plain t v is = same_value is ∙ filtered_is e c
+gives o ts of filter (e ∷ c ∷ d ∷ values) fit plain t v is = absurd fit.1.1
+gives o ts of (pick h) [] fit plain t v is = absurd fit
+gives o ts of (pick h) (c ∷ []) fit plain t v is = absurd fit.1
+gives o ts of (pick h) (c ∷ a ∷ []) fit plain t v is = absurd fit.1.1
+gives o ts of (pick h) (c ∷ a ∷ b ∷ []) fit plain t v is = same_value is ∙ picked_is c a b fit.0
+gives o ts of (pick h) (c ∷ a ∷ b ∷ d ∷ values) fit plain t v is = absurd fit.1.1.1
+gives o ts of (typed.update op row) [] fit plain t v is = absurd fit
+gives o ts of (typed.update {u = u} h row) (a ∷ values) fit plain t v is =
+    answer_there u a values v (sym (at_once_update o u h of (a ∷ values) t) ∙ is) ∙ sym (update_happens o u h (a ∷ values) t)
+gives o ts of (lift {body = body} {strict = strict} low high kind) values fit plain t v is = lift_gives body strict ts of kind values fit plain t v is

@@ -1,9 +1,10 @@
 -- The trigger formula of each equation: it says when the equation has an event, by what is at that time.
-use Rattle.std.specs.Prelude.{ℕ, true, false, List, [], ◌∷◌}
+use Rattle.std.specs.Prelude.{ℕ, true, false, if◌then◌else◌, List, [], ◌∷◌}
 use Rattle.std.specs.Option.{option_map_or}
 use Rattle.flat_core.specs.declared.equation.Op.{Op}
 use Rattle.flat_core.specs.declared.equation.Op.TheVariants as op
 use Rattle.flat_core.specs.System.{System, equation}
+use Rattle.flat_core.specs.Updates.{is_update}
 use Rattle.trigger_rules.specs.declared.atom.Atom.TheVariants.{Start, Happens, Holds}
 use Rattle.trigger_rules.specs.Formula.{Formula, Never, If, IfNot, Of, Both, Unless, all_of, any_of}
 
@@ -20,13 +21,9 @@ formula_of op.Merge x args = any_of args
 formula_of op.Time x args = all_of args
 formula_of op.Filter x (e ∷ c ∷ []) = Both (Of e) (Both (Of c) (If (Holds c)))
 formula_of op.Pick x args = all_of args
-formula_of op.SetAdd x args = all_of args
-formula_of op.SetRemove x args = all_of args
-formula_of op.MapAdd x args = all_of args
-formula_of op.MapRemove x args = all_of args
 formula_of op.Last x (v ∷ r ∷ []) = Both (IfNot Start) (Both (Of r) (Unless v (Happens x)))
 formula_of op.Delay x args = Both (IfNot Start) (If (Happens x))
-formula_of _ x args = Never
+formula_of o x args = if is_update o then all_of args else Never
 
 -- at time 0 there is no last value, and no delay is due
 abbrev pub at_zero : Op → Formula → Formula

@@ -11,7 +11,8 @@ use Rattle.flat_core.specs.declared.equation.Op.TheVariants as op
 use Rattle.flat_core.specs.declared.equation.Output.{Output}
 use Rattle.flat_core.specs.Complete.{HasShortBody, HaveDifferentNames, IsComplete}
 use Rattle.flat_core.specs.System.{System}
-use Rattle.flat_core.specs.Typed.{input, empty, last, merge, set_add, int_type}
+use Rattle.lift_func.specs.Update.{set_add}
+use Rattle.flat_core.specs.Typed.{input, empty, last, merge, update, int_type}
 use Rattle.flat_core.specs.TypedSystem.{IsOfType, IsTypedEquation}
 use Rattle.flat_core.proofs.Finished.{typed_from_all}
 use Rattle.tsl_value.proofs.Lists.{contains_map}
@@ -86,7 +87,7 @@ typed_growing =
                 record { types = int_type ∷ ints ∷ []; arguments = (trigger, (held, tt)); typed = last },
                 (
                   record { types = int_type ∷ int_type ∷ []; arguments = (trigger, (there 40 (lit< tt), tt)); typed = merge },
-                  (record { types = ints ∷ int_type ∷ []; arguments = (there 39 (lit< tt), (there 41 (lit< tt), tt)); typed = set_add refl }, tt),
+                  (record { types = ints ∷ int_type ∷ []; arguments = (there 39 (lit< tt), (there 41 (lit< tt), tt)); typed = update refl (set_add refl) }, tt),
                 ),
               ),
             ),

@@ -5,7 +5,8 @@ use Rattle.lift_func.specs.Typing.{argument, two, in_set}
 use Rattle.flat_core.specs.declared.equation.Output.{Output}
 use Rattle.flat_core.specs.Complete.{HasShortBody, HaveDifferentNames, IsComplete}
 use Rattle.flat_core.specs.System.{System}
-use Rattle.flat_core.specs.Typed.{bool_type, input, empty, delay, last, merge, filter, set_add, lift, int_type}
+use Rattle.lift_func.specs.Update.{set_add}
+use Rattle.flat_core.specs.Typed.{bool_type, input, empty, delay, last, merge, filter, update, lift, int_type}
 use Rattle.flat_core.specs.TypedSystem.{IsTypedEquation}
 use Rattle.flat_core.proofs.Finished.{typed_from_all, own_type}
 use Rattle.trigger_starts.specs.inner.Sample.{ints, sample_equations}
@@ -28,7 +29,7 @@ typed = (
               (
                 record { types = int_type ∷ int_type ∷ []; arguments = (own_type sample_equations 0 _ refl, (own_type sample_equations 6 _ refl, tt)); typed = merge },
                 (
-                  record { types = ints ∷ int_type ∷ []; arguments = (own_type sample_equations 5 _ refl, (own_type sample_equations 7 _ refl, tt)); typed = set_add refl },
+                  record { types = ints ∷ int_type ∷ []; arguments = (own_type sample_equations 5 _ refl, (own_type sample_equations 7 _ refl, tt)); typed = update refl (set_add refl) },
                   (
                     record { types = ints ∷ int_type ∷ []; arguments = (own_type sample_equations 5 _ refl, (own_type sample_equations 7 _ refl, tt)); typed = lift (omega arith) (omega arith) (two (argument refl) (argument refl) (in_set refl)) },
                     (

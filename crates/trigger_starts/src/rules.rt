@@ -97,15 +97,10 @@ pub fn rule_of(equation: &Equation) -> Result<Rule, NoMemory>
         Op::Lift { body: _, strict } => lift(args, *strict),
         Op::Any => any(args),
         Op::Merge => any(args),
-        Op::Time => all(args),
         Op::Filter => Ok(filter(args)),
-        Op::Pick => all(args),
-        Op::SetAdd => all(args),
-        Op::SetRemove => all(args),
-        Op::MapAdd => all(args),
-        Op::MapRemove => all(args),
         Op::Last => Ok(last(args)),
         Op::Delay => Ok(Rule::Delay),
+        _ => all(args),
     }
 }
 

@@ -9,7 +9,7 @@ use Rattle.syntax_tree.specs.Tree as tree
 use Rattle.type_rules.specs.declared.rule.ExprType.{ExprType}
 use Rattle.definition_cycles.specs.Nodes.{nodes}
 use Rattle.definition_cycles.specs.inner.Order.{IsKindOrder}
-use Rattle.expr_types.specs.Around.{Kinds}
+use Rattle.type_rules.specs.Kinds.{Kinds}
 use Rattle.expr_types.specs.Bodies.{AreKinds, item_kind, block_kind, local_kind, may_have_braces, in_definition, within_block}
 use Rattle.type_check.specs.declared.slot.Slot.{Slot}
 use Rattle.type_check.specs.declared.slot.Slot.TheVariants as slot

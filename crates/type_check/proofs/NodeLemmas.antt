@@ -18,7 +18,8 @@ use Rattle.name_check.specs.Parts.{Part, Operand, Function, parts}
 use Rattle.definition_cycles.specs.Nodes.{Node, definition_nodes, block_nodes, item_nodes, nodes_from, nodes, first_node}
 use Rattle.definition_cycles.specs.Mentions.{Mentions, declared}
 use Rattle.definition_cycles.proofs.FoundLemmas.{length_block}
-use Rattle.expr_types.specs.Around.{Around, Kinds}
+use Rattle.expr_types.specs.Around.{Around}
+use Rattle.type_rules.specs.Kinds.{Kinds}
 use Rattle.expr_types.specs.inner.Alike.{known, IsKnownAlike, IsPartKnownAlike}
 use Rattle.expr_types.specs.Bodies.{in_definition, within_block, may_have_braces, written_of, expr_kind, body_kind, definition_kind, local_from, local_kind, item_kind, block_kind}
 use Rattle.expr_types.proofs.AlikeLemmas.{knowing, kind_by_kinds}

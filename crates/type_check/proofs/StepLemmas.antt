@@ -8,7 +8,7 @@ use Rattle.translation_order.proofs.Lists.{split_at}
 use Rattle.definition_cycles.specs.Nodes.{Node, nodes}
 use Rattle.definition_cycles.specs.Mentions.{Mentions, MentionsUntyped}
 use Rattle.definition_cycles.specs.inner.Order.{IsKindOrder}
-use Rattle.expr_types.specs.Around.{Kinds}
+use Rattle.type_rules.specs.Kinds.{Kinds}
 use Rattle.type_check.specs.declared.slot.Slot.{Slot}
 use Rattle.type_check.specs.declared.slot.Slot.TheVariants as slot
 use Rattle.type_check.specs.inner.Slots.{slots, kind_in, kind_by, IsRight, IsFixed, IsSet, NothingElse}

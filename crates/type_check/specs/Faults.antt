@@ -8,7 +8,7 @@ use Rattle.form_check.specs.Declared.{mixed_parameters, aggregate_inputs}
 use Rattle.form_check.specs.Arity.{wrong_arities}
 use Rattle.form_check.specs.Outputs.{outputs_twice, without_output}
 use Rattle.definition_cycles.specs.Cycles.{IsFirstFunctionCycle, IsFirstUntypedCycle}
-use Rattle.expr_types.specs.Around.{Kinds}
+use Rattle.type_rules.specs.Kinds.{Kinds}
 use Rattle.expr_types.specs.Bodies.{AreKinds, all_wrongs, aggregate_results_from}
 use Rattle.type_check.specs.declared.fault.TypeFault.{TypeFault}
 use Rattle.type_check.specs.declared.fault.TypeFault.TheVariants as fault

@@ -5,7 +5,7 @@ ghost use Rattle.syntax_tree.specs.inner.OneLevel.{item_of, items_of};
 ghost use Rattle.name_check.specs.Scope.{top};
 ghost use Rattle.definition_cycles.specs.Nodes.{HasFewNodes};
 ghost use Rattle.definition_cycles.specs.inner.Order.{IsKindOrder};
-ghost use Rattle.expr_types.specs.Around.{Kinds};
+ghost use Rattle.type_rules.specs.Kinds.{Kinds};
 ghost use Rattle.expr_types.specs.inner.Shown.{kinds_of};
 ghost use Rattle.type_check.specs.inner.Answer.{IsAcceptedUnlessMemory, IsFaultOf, IsRefusedUnlessMemory};
 ghost use Rattle.type_check.specs.Faults.{HasNoCycle, IsAccepted, IsCycleFault, IsFirstFault, form_faults, late, name_faults};

@@ -1,36 +1,15 @@
-// Types and kinds as they are printed.
+// Kinds as they are printed.
 
 ghost use Rattle.std.specs.Prelude.{◌≡◌, ◌++◌, length, map, take, OnOk, OnErr};
-ghost use Rattle.tsl_value.specs.Print.{listed};
+ghost use Rattle.tsl_value.specs.Print.{listed, type_text};
 ghost use Rattle.type_check.specs.Kind.{types_of};
-ghost use Rattle.type_check.specs.Text.{key_type_text, kind_text, scalar_type_text, type_text};
+ghost use Rattle.type_check.specs.Text.{kind_text};
 
 use crate::fault::Kind;
 use tsl_value::bytes::Bytes;
 use tsl_value::memory::NoMemory;
-use tsl_value::scalar::{KeyType, ScalarType, ValueType};
+use tsl_value::print::print_type;
 use type_rules::rule::Family;
-
-fn scalar_name(of: ScalarType) -> &'static [u8]
-    ensures { result.now ≡ scalar_type_text of }
-{
-    match of {
-        ScalarType::Unit => b"Unit",
-        ScalarType::Int => b"Int",
-        ScalarType::Bool => b"Bool",
-        ScalarType::Text => b"String",
-    }
-}
-
-fn key_name(of: KeyType) -> &'static [u8]
-    ensures { result.now ≡ key_type_text of }
-{
-    match of {
-        KeyType::Int => b"Int",
-        KeyType::Bool => b"Bool",
-        KeyType::Text => b"String",
-    }
-}
 
 /// All types of a family, with a comma and a blank between them.
 fn family_types(family: Family) -> &'static [u8]
@@ -44,28 +23,6 @@ fn family_types(family: Family) -> &'static [u8]
     }
 }
 
-/// Appends a type as it is written in a specification. After out of memory some of it may stand there.
-fn put_type(of: ValueType, out: &mut Bytes) -> Result<(), NoMemory>
-    ensures ok { OnOk result (out.new ≡ out.old ++ type_text of) }
-    ensures err { OnErr result (take (length out.old) out.new ≡ out.old) }
-{
-    match of {
-        ValueType::Scalar(scalar) => out.append(scalar_name(scalar)),
-        ValueType::Set(key) => {
-            out.append(b"Set[")?;
-            out.append(key_name(key))?;
-            out.append(b"]")
-        }
-        ValueType::Map(key, value) => {
-            out.append(b"Map[")?;
-            out.append(key_name(key))?;
-            out.append(b", ")?;
-            out.append(scalar_name(value))?;
-            out.append(b"]")
-        }
-    }
-}
-
 /// Appends a kind. After out of memory some of it may stand there.
 fn put_kind(kind: &Kind, out: &mut Bytes) -> Result<(), NoMemory>
     ensures ok { OnOk result (out.new ≡ out.old ++ kind_text kind.now) }
@@ -74,13 +31,13 @@ fn put_kind(kind: &Kind, out: &mut Bytes) -> Result<(), NoMemory>
     match kind {
         Kind::Stream(of) => {
             out.append(b"Events[")?;
-            put_type(*of, out)?;
+            print_type(*of, out)?;
             out.append(b"]")
         }
-        Kind::Value(of) => put_type(*of, out),
+        Kind::Value(of) => print_type(*of, out),
         Kind::Optional(of) => {
             out.append(b"Option[")?;
-            put_type(*of, out)?;
+            print_type(*of, out)?;
             out.append(b"]")
         }
         Kind::Function => out.append(b"function"),

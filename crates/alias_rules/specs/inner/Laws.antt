@@ -1,8 +1,7 @@
 -- Laws of updates in place.
 use Rattle.std.specs.Prelude.{◌≡◌, ℕ, List, [], IsTrue}
-use Rattle.std.specs.List.{AllByRecursion}
 use Rattle.flat_core.specs.Members.{is_in}
-use Rattle.flat_core.specs.System.{System, IsProper, runs}
+use Rattle.flat_core.specs.System.{System, IsProper, OutputsRun}
 use Rattle.flat_core.specs.WellFormed.{IsWellFormed}
 use Rattle.alias_rules.specs.Uses.{IsStored, AreUpdates}
 use Rattle.alias_rules.specs.Roots.{IsRoot}
@@ -56,9 +55,6 @@ OneIsNotOverwrittenFirst =
 -- at most one set is listed
 abbrev pub OneListedSet : Type 0
 OneListedSet = (s : System) (set other : List ℕ) → IsListed s set → IsListed s other → set ≡ other
-
-abbrev pub OutputsRun : System → Type 0
-OutputsRun s = AllByRecursion (λ o. IsTrue (runs s o.equation)) s.outputs
 
 -- without updates in place a well-formed system has no conflict
 abbrev pub EmptySetIsFine : Type 0

@@ -9,7 +9,8 @@ use Rattle.form_check.specs.Types.{bad_types}
 use Rattle.form_check.specs.Declared.{mixed_parameters, aggregate_inputs}
 use Rattle.form_check.specs.Arity.{wrong_arities}
 use Rattle.type_rules.specs.declared.rule.ExprType.{ExprType}
-use Rattle.expr_types.specs.Around.{Around, Kinds}
+use Rattle.expr_types.specs.Around.{Around}
+use Rattle.type_rules.specs.Kinds.{Kinds}
 use Rattle.expr_types.specs.Bodies.{AreKinds, all_wrongs, aggregate_results_from}
 use Rattle.expr_types.specs.Judge.{type_of}
 use Rattle.definition_cycles.specs.Cycles.{IsFirstFunctionCycle, IsFirstUntypedCycle}

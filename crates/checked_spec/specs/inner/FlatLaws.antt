@@ -3,7 +3,7 @@ use Rattle.std.specs.Prelude.{◌≡◌, ℕ, true, false, ◌&&◌, List, map, 
 use Rattle.std.specs.List.{AllByRecursion}
 use Rattle.tsl_value.specs.declared.place.Place.{Place}
 use Rattle.tsl_value.specs.declared.scalar.ValueType.{ValueType}
-use Rattle.flat_core.specs.Typed.{is_aggregate}
+use Rattle.tsl_value.specs.Aggregate.{is_aggregate}
 use Rattle.syntax_tree.specs.Tree as tree
 use Rattle.syntax_tree.specs.Tree.{Expr, Exprs}
 use Rattle.name_check.specs.declared.declaration.Declaration.{Declaration}
@@ -11,7 +11,8 @@ use Rattle.name_check.specs.declared.declaration.Declaration.TheVariants as decl
 use Rattle.name_check.specs.Builtin.{is_unit, is_called}
 use Rattle.name_check.specs.Scope.{meaning}
 use Rattle.type_rules.specs.declared.rule.ExprType.TheVariants as expr_type
-use Rattle.expr_types.specs.Around.{Around, params_of}
+use Rattle.expr_types.specs.Around.{Around}
+use Rattle.syntax_tree.specs.Tree.{params_of}
 use Rattle.expr_types.specs.Judge.{type_of}
 use Rattle.expr_types.specs.Bodies.{in_definition, within_block}
 use Rattle.stream_constructs.specs.declared.construct.Stream.{Stream}

@@ -11,7 +11,7 @@ use Rattle.name_check.specs.Bodies.{Seen, item_bodies}
 use Rattle.name_check.specs.Parts.{Operand, parts}
 use Rattle.name_check.specs.Scope.{Scope, are_values, top}
 use Rattle.form_check.specs.Arity.{is_wrong}
-use Rattle.expr_types.specs.Around.{params_of}
+use Rattle.syntax_tree.specs.Tree.{params_of}
 use Rattle.expr_types.specs.Bodies.{may_have_braces}
 
 -- ---- the operators of a chain are those of its level

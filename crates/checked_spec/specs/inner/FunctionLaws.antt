@@ -1,7 +1,7 @@
 -- The value functions of a checked specification have typed bodies.
 use Rattle.std.specs.Prelude.{List}
 use Rattle.syntax_tree.specs.Tree as tree
-use Rattle.expr_types.specs.Around.{Kinds}
+use Rattle.type_rules.specs.Kinds.{Kinds}
 use Rattle.checked_spec.specs.inner.Checked.{IsChecked}
 use Rattle.checked_spec.specs.inner.Functions.{AreTypedFunctions}
 

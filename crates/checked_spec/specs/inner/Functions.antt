@@ -7,7 +7,9 @@ use Rattle.syntax_tree.specs.Tree as tree
 use Rattle.name_check.specs.Scope.{are_values}
 use Rattle.type_rules.specs.declared.rule.ExprType.{ExprType}
 use Rattle.type_rules.specs.declared.rule.ExprType.TheVariants as expr_type
-use Rattle.expr_types.specs.Around.{Kinds, Callee, params_of, param_types, callee_of}
+use Rattle.expr_types.specs.Around.{Callee, param_types, callee_of}
+use Rattle.type_rules.specs.Kinds.{Kinds}
+use Rattle.syntax_tree.specs.Tree.{params_of}
 use Rattle.spec_meaning.specs.Function.{function_at}
 
 -- a tree is a value or an option of a type; it is no stream

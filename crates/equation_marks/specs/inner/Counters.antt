@@ -6,7 +6,7 @@ use Rattle.syntax_tree.specs.inner.OneLevel.{item_of, params_in}
 use Rattle.syntax_tree.specs.inner.OneLevel as code
 use Rattle.syntax_tree.specs.declared.tree.DefinitionParts.{DefinitionParts}
 use Rattle.name_check.specs.Scope.{top}
-use Rattle.expr_types.specs.Around.{params_of}
+use Rattle.syntax_tree.specs.Tree.{params_of}
 use Rattle.expr_types.specs.inner.Shown.{kinds_of}
 use Rattle.spec_meaning.specs.Occurrence.{body_of}
 use Rattle.equation_marks.specs.declared.count.Counter.{Counter}

@@ -4,7 +4,7 @@ use Rattle.flat_core.specs.Complete.{IsComplete}
 use Rattle.flat_core.specs.System.{System}
 use Rattle.syntax_tree.specs.Tree as tree
 use Rattle.form_check.specs.Outputs.{outputs_twice}
-use Rattle.expr_types.specs.Around.{Kinds}
+use Rattle.type_rules.specs.Kinds.{Kinds}
 use Rattle.spec_meaning.specs.Due.{outputs_of}
 use Rattle.spec_meaning.specs.Flat.{IsFlatOf}
 use Rattle.checked_spec.specs.inner.Checked.{IsChecked}

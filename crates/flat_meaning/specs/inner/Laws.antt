@@ -6,7 +6,8 @@ use Rattle.lift_func.specs.declared.fault.FaultKind.{FaultKind}
 use Rattle.flat_core.specs.declared.equation.Equation.{Equation}
 use Rattle.flat_core.specs.declared.equation.Output.{Output}
 use Rattle.flat_core.specs.Stream.{Outcome, Event}
-use Rattle.flat_core.specs.Case.{Inputs, Streams}
+use Rattle.flat_core.specs.Case.{Streams}
+use Rattle.flat_core.specs.Events.{Inputs}
 use Rattle.flat_core.specs.Complete.{IsFlat}
 use Rattle.flat_core.specs.Fault.{root_at}
 use Rattle.flat_core.specs.Instant.{is_delay}
@@ -18,7 +19,7 @@ use Rattle.flat_core.specs.Text.{due_text}
 use Rattle.flat_core.specs.WellFormed.{IsWellFormed}
 use Rattle.syntax_tree.specs.Tree as tree
 use Rattle.syntax_tree.specs.Tree.{place_of}
-use Rattle.expr_types.specs.Around.{Kinds}
+use Rattle.type_rules.specs.Kinds.{Kinds}
 use Rattle.spec_meaning.specs.Occurrence.{Occurrence}
 use Rattle.spec_meaning.specs.Happens.{Happens, HasRoot}
 use Rattle.spec_meaning.specs.Due.{Printed, outputs_of, Expires, IsDueText}

@@ -6,7 +6,7 @@ use Rattle.flat_core.specs.Complete.{IsFlat}
 use Rattle.flat_core.specs.Needed.{RunsNeeded}
 use Rattle.flat_core.specs.System.{System}
 use Rattle.syntax_tree.specs.Tree as tree
-use Rattle.expr_types.specs.Around.{Kinds}
+use Rattle.type_rules.specs.Kinds.{Kinds}
 use Rattle.spec_meaning.specs.Flat.{IsFlatOf}
 
 -- two tables say the same of each item and of each definition in a block

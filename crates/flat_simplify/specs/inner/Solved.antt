@@ -1,6 +1,7 @@
 -- A system and what simplification makes of it, each with streams that solve it.
 use Rattle.std.specs.Prelude.{ℕ, ◌<◌, IsTrue, IsFalse}
-use Rattle.flat_core.specs.Case.{Streams, Inputs}
+use Rattle.flat_core.specs.Case.{Streams}
+use Rattle.flat_core.specs.Events.{Inputs}
 use Rattle.flat_core.specs.Fault.{is_faulty}
 use Rattle.flat_core.specs.Solution.{Solves}
 use Rattle.flat_core.specs.System.{System, OutputsRun, IsProper}

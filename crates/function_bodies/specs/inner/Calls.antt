@@ -6,7 +6,8 @@ use Rattle.syntax_tree.specs.Tree.{Expr}
 use Rattle.name_check.specs.declared.declaration.Declaration.TheVariants as declaration
 use Rattle.name_check.specs.Builtin.{lift_name}
 use Rattle.name_check.specs.Scope.{top, meaning, are_values, functions_of}
-use Rattle.spec_meaning.specs.Occurrence.{params_of, body_of}
+use Rattle.spec_meaning.specs.Occurrence.{body_of}
+use Rattle.syntax_tree.specs.Tree.{params_of}
 use Rattle.definition_cycles.specs.Calls.{Calls}
 
 -- each item is in the order, and what its definition calls stands before it

@@ -16,7 +16,8 @@ use Rattle.name_check.specs.Builtin.{is_called, is_unit}
 use Rattle.name_check.specs.Scope.{meaning}
 use Rattle.name_check.specs.inner.Steps.{local_body}
 use Rattle.type_rules.specs.declared.rule.ExprType.TheVariants as expr_type
-use Rattle.expr_types.specs.Around.{Around, Kinds}
+use Rattle.expr_types.specs.Around.{Around}
+use Rattle.type_rules.specs.Kinds.{Kinds}
 use Rattle.expr_types.specs.Judge.{type_of}
 use Rattle.stream_constructs.specs.declared.construct.Stream.{Stream}
 use Rattle.stream_constructs.specs.declared.maker.MakeFault.{MakeFault}

@@ -17,12 +17,14 @@ use Rattle.syntax_tree.specs.inner.OneLevel.{body_of, item_of}
 use Rattle.syntax_tree.specs.declared.tree.DefinitionParts.{DefinitionParts}
 use Rattle.type_rules.specs.Asked.{inner}
 use Rattle.type_rules.specs.declared.rule.ExprType.TheVariants as expr_type
-use Rattle.expr_types.specs.Around.{Kinds, params_of}
+use Rattle.type_rules.specs.Kinds.{Kinds}
+use Rattle.syntax_tree.specs.Tree.{params_of}
 use Rattle.expr_types.specs.Bodies.{at_top}
 use Rattle.expr_types.specs.inner.Shown.{around_of, kinds_of}
 use Rattle.stream_constructs.specs.declared.construct.Stream.{Stream}
-use Rattle.stream_constructs.specs.Made.{input_equation, with_equations}
+use Rattle.stream_constructs.specs.Made.{with_equations}
 use Rattle.spec_meaning.specs.Flat.{event_type, outermost, MakesOutputs, MakesPrinted, MakesStreams}
+use Rattle.spec_meaning.specs.Inputs.{declared_inputs, type_or_unit}
 use Rattle.call_limits.specs.Nesting.{CallsMacro, Chain}
 use Rattle.checked_spec.specs.inner.Formed.{is_input, is_stream}
 use Rattle.equation_marks.specs.inner.Counted.{counted}
@@ -33,17 +35,6 @@ use Rattle.macro_flatten.specs.inner.Here.{IsContext, MayMakeAt, Site}
 use Rattle.definition_cycles.specs.declared.limits.TheConstants.{MOST_CALLS}
 
 -- ---- inputs
--- any type for what has none
-abbrev pub type_or_unit : Option ValueType → ValueType
-type_or_unit (Some of) = of
-type_or_unit None = unit_type
-
--- their equations
-abbrev pub input_equations : List tree.Item → List Equation
-input_equations [] = []
-input_equations (tree.Input p q x y ∷ rest) = input_equation q x (type_or_unit (event_type y)) ∷ input_equations rest
-input_equations (item ∷ rest) = input_equations rest
-
 -- their streams, by the numbers of their items, where n equations are made; other items have none
 abbrev pub input_streams : ℕ → List tree.Item → List (Option Stream)
 input_streams n [] = []
@@ -157,7 +148,7 @@ pub record Follows (top : ℕ → Stream) (i : ℕ) (streams : List (Option Stre
 -- The inputs alone are made, and names stand for their streams and for those that are foreseen.
 pub record IsBegun (context : Context) (system : System) : Type 0 where
   pub ready : IsReady context
-  pub equations_are : system.equations ≡ input_equations (items_in context)
+  pub equations_are : system.equations ≡ declared_inputs (items_in context)
   pub no_output : system.outputs ≡ []
   pub follows : Follows (top_in context) 0 (input_streams 0 (items_in context))
   pub numbered : AreTopNumbered context (length system.equations)

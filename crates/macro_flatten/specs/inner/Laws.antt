@@ -3,7 +3,7 @@ use Rattle.std.specs.Prelude.{◌≡◌, ℕ, suc, List, map}
 use Rattle.flat_core.specs.declared.equation.Equation.{Equation}
 use Rattle.flat_core.specs.declared.equation.Output.{Output}
 use Rattle.syntax_tree.specs.Tree as tree
-use Rattle.expr_types.specs.Around.{Kinds}
+use Rattle.type_rules.specs.Kinds.{Kinds}
 use Rattle.stream_constructs.specs.Limits.{refusal}
 use Rattle.spec_meaning.specs.Flat.{IsFlatOf}
 use Rattle.definition_cycles.specs.declared.limits.TheConstants.{MOST_CALLS}

@@ -9,7 +9,8 @@ use Rattle.name_check.specs.Bodies.{Seen, item_bodies}
 use Rattle.name_check.specs.Parts.{Part, parts}
 use Rattle.name_check.specs.Scope.{Scope, top}
 use Rattle.type_rules.specs.declared.rule.ExprType.TheVariants as expr_type
-use Rattle.expr_types.specs.Around.{Around, Kinds}
+use Rattle.expr_types.specs.Around.{Around}
+use Rattle.type_rules.specs.Kinds.{Kinds}
 use Rattle.expr_types.specs.Judge.{type_of}
 use Rattle.stream_constructs.specs.declared.construct.Stream.{Stream}
 use Rattle.stream_constructs.specs.declared.maker.MakeFault.{MakeFault}

@@ -3,7 +3,8 @@ use Rattle.std.specs.Prelude.{◌≡◌, ◌≢◌, ℕ, ◌+◌, ◌<◌, ◌==
 use Rattle.std.specs.Prelude.{IsTrue, IsFalse}
 use Rattle.lift_func.specs.declared.fault.FaultKind.{FaultKind}
 use Rattle.flat_core.specs.declared.equation.Equation.{Equation}
-use Rattle.flat_core.specs.Case.{Streams, Inputs, case_of}
+use Rattle.flat_core.specs.Case.{Streams, case_of}
+use Rattle.flat_core.specs.Events.{Inputs}
 use Rattle.flat_core.specs.Fault.{root_at}
 use Rattle.flat_core.specs.System.{System, runs, equation}
 use Rattle.plain_solver.specs.declared.events.Moment.{Moment}

@@ -3,7 +3,7 @@ use Rattle.std.specs.Prelude.{List, [], ◌∷◌, Option, None}
 use Rattle.tsl_value.specs.View.{View}
 use Rattle.flat_core.specs.declared.equation.Op.{Op}
 use Rattle.flat_core.specs.declared.equation.Op.TheVariants as op
-use Rattle.flat_core.specs.Case.{merged, filtered, picked}
+use Rattle.flat_core.specs.Events.{merged, filtered, picked}
 
 -- an event that is passed on
 abbrev pub chosen_of : Op → List (Option View) → Option View

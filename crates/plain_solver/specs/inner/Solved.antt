@@ -1,7 +1,7 @@
 -- Streams that solve a system, and how far.
 use Rattle.std.specs.Prelude.{◌≡◌, ℕ, ◌+◌, ◌<◌, ◌≤◌, true, false, List, [], length, IsFalse, slice_index_or}
 use Rattle.lift_func.specs.declared.fault.FaultKind.{FaultKind}
-use Rattle.flat_core.specs.Case.{Inputs}
+use Rattle.flat_core.specs.Events.{Inputs}
 use Rattle.flat_core.specs.Complete.{IsFlat}
 use Rattle.flat_core.specs.inner.Dependency.{IsRunOrder}
 use Rattle.flat_core.specs.Fault.{is_faulty, IsNamed}

@@ -14,7 +14,7 @@ use Rattle.spec_meaning.specs.Shape as meaning
 use Rattle.spec_meaning.specs.Shape.{operand, beside, shape, with_parts, signal_of, update_of, const_shape, filter_shape, lift_shape}
 use Rattle.spec_meaning.specs.Shape.{declared_shape}
 use Rattle.spec_meaning.specs.inner.Plain.{by_plain}
-use Rattle.vocabulary.specs.declared.signature.Update.{Update as UpdateOp}
+use Rattle.tsl_value.specs.declared.operation.Update.{Update as UpdateOp}
 use Rattle.stream_constructs.specs.Construct as construct
 use Rattle.spec_meaning.specs.Makes.{is_own}
 use Rattle.function_bodies.specs.Bodies.{AreBodies, too_large_bodies}

@@ -2,7 +2,8 @@
 use Rattle.std.specs.Prelude.{◌==◌, ℕ, ◌<◌, Bool, true, false, Option, Some, IsFalse}
 use Rattle.tsl_value.specs.declared.scalar.Scalar.TheVariants as scalar
 use Rattle.tsl_value.specs.View.{View, Plain}
-use Rattle.flat_core.specs.Case.{Streams, Inputs}
+use Rattle.flat_core.specs.Case.{Streams}
+use Rattle.flat_core.specs.Events.{Inputs}
 use Rattle.flat_core.specs.Fault.{is_faulty}
 use Rattle.flat_core.specs.Solution.{Solves}
 use Rattle.flat_core.specs.Stream.{event, has_event}

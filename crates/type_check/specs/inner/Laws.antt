@@ -2,7 +2,7 @@
 use Rattle.std.specs.Prelude.{◌≡◌, ℕ, List}
 use Rattle.tsl_value.specs.declared.place.Place.{Place}
 use Rattle.syntax_tree.specs.Tree as tree
-use Rattle.expr_types.specs.Around.{Kinds}
+use Rattle.type_rules.specs.Kinds.{Kinds}
 use Rattle.expr_types.specs.Bodies.{AreKinds}
 use Rattle.type_check.specs.declared.fault.TypeFault.{TypeFault}
 use Rattle.type_check.specs.Faults.{HasNoCycle, IsAccepted, IsFirstFault}

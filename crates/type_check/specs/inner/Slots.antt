@@ -3,7 +3,7 @@ use Rattle.std.specs.Prelude.{◌≡◌, ℕ, zero, suc, List, [], ◌∷◌, �
 use Rattle.syntax_tree.specs.Tree as tree
 use Rattle.type_rules.specs.declared.rule.ExprType.{ExprType}
 use Rattle.name_check.specs.Scope.{count_in}
-use Rattle.expr_types.specs.Around.{Kinds}
+use Rattle.type_rules.specs.Kinds.{Kinds}
 use Rattle.expr_types.specs.Bodies.{item_kind, block_kind}
 use Rattle.type_check.specs.declared.slot.Slot.{Slot}
 use Rattle.type_check.specs.declared.slot.Slot.TheVariants as slot

@@ -22,5 +22,5 @@ returns-clause-exact c =
 
 pub returns-clause-of_steps : goal.returns-clause-of_steps
 returns-clause-of_steps c =
-    constraints_of_steps c.args.flat.now c.args.set.now c.count.ensures.is_flat c.requires.updates c.loop-place.pairs
+    constraints_of_steps c.args.flat.now c.args.set.now c.assert_whole.ensures.is_flat c.requires.updates c.loop-place.pairs
     (constraints_are c.args.flat.now c.args.set.now c.loop-place.place (let count = c.len-place-end.ensures.count in omega arith) c.new-pairs.result c.push_needed.new.pairs c.push_prints.new.pairs c.loop-place.pairs c.new-pairs.ensures c.in_ok-push_needed.ensures c.in_ok-push_prints.ensures c.loop-place.invariant)

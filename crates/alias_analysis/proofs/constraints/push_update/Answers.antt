@@ -10,7 +10,7 @@ use Rattle.alias_analysis.proofs.constraints.push_update.Goals as goal
 pub push_marked-requires : goal.push_marked-requires
 push_marked-requires c =
     let size : length c.marks-marks.result.now ≡ length c.args.flat.now.equations = ap length c.marks-marks.ensures ∙ c.in_ok-bypassed.ensures.one_each in
-    let few = c.count.ensures.is_flat.few_equations in
+    let few = c.assert_whole.ensures.is_flat.few_equations in
     omega arith
 
 pub push_readers-requires : goal.push_readers-requires

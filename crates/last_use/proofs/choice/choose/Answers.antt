@@ -7,7 +7,7 @@ use Rattle.last_use.proofs.choice.choose.Goals as goal
 pub order_of-requires-clause-fine : goal.order_of-requires-clause-fine
 order_of-requires-clause-fine c =
     let s = c.args.flat.now in
-    let flat = c.count.ensures.is_flat in
+    let flat = c.assert_whole.ensures.is_flat in
     let chosen = c.in_ok-in_place.field-0 in
     (listed_fits s chosen.in_place (empty_is_fine s flat.proper flat.outputs_run c.requires.well_formed)
     (chosen_listed s chosen.in_place chosen.reasons c.in_ok-in_place.ensures)).fine
@@ -20,7 +20,7 @@ returns-clause-taken c =
 pub returns-clause-fine : goal.returns-clause-fine
 returns-clause-fine c =
     let s = c.args.flat.now in
-    let flat = c.count.ensures.is_flat in
+    let flat = c.assert_whole.ensures.is_flat in
     let chosen = c.in_ok-in_place.field-0 in
     taken_is_fine s chosen.in_place c.in_ok-order.order flat.proper flat.outputs_run c.requires.well_formed
     (record { listed = chosen_listed s chosen.in_place chosen.reasons c.in_ok-in_place.ensures; ordered = c.in_ok-order.ensures })

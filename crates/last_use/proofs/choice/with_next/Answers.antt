@@ -16,5 +16,5 @@ returns-in-Some c =
     record {
       begun = block.begun;
       within = block.within;
-      chosen = block_chosen s from chosen.in_place chosen.reasons c.requires.chosen c.count.ensures.is_flat c.requires.well_formed (c.requires.several block.several) b.end le b.in_place block.fine.block block.fine.fine;
+      chosen = block_chosen s from chosen.in_place chosen.reasons c.requires.chosen c.assert_whole.ensures.is_flat c.requires.well_formed (c.requires.several block.several) b.end le b.in_place block.fine.block block.fine.fine;
     }

@@ -2,7 +2,7 @@ use Rattle.std.proofs.Common.{◌++◌, map}
 use Rattle.std.proofs.lemmas.Result.{err_from_is_err_and}
 use Rattle.syntax_tree.specs.inner.OneLevel.{item_of}
 use Rattle.tsl_value.proofs.Lists.{contains_at}
-use Rattle.macro_flatten.specs.inner.Items.{input_equations}
+use Rattle.spec_meaning.specs.Inputs.{declared_inputs}
 use Rattle.macro_flatten.proofs.Inputs.{left_all, left_none, left_refused, left_turn}
 use Rattle.macro_flatten.proofs.Lists.{refusal_at}
 use Rattle.macro_flatten.proofs.top.inputs.Goals as goal
@@ -23,7 +23,7 @@ pub returns-in_err-stream-clause-refused : goal.returns-in_err-stream-clause-ref
 returns-in_err-stream-clause-refused c =
     let p = err_from_is_err_and c.from_residual.result c.from_residual.ensures.1 in
     let items = map item_of c.args.items.now in
-    refusal_at c.from_residual.result p.0 _ (c.args.maker.now.equations ++ input_equations items) p.1 p.2
+    refusal_at c.from_residual.result p.0 _ (c.args.maker.now.equations ++ declared_inputs items) p.1 p.2
     (left_refused items c.args.maker.now c.loop-item.maker c.loop-item.streams.items c.args.items.now c.loop-item.item-index c.item-item.result _ c.loop-item.invariant c.loop-item-test.true c.item-item.is c.in_err-stream.ensures.refused)
 
 pub returns-clause-streams : goal.returns-clause-streams

@@ -3,7 +3,7 @@ use Rattle.std.proofs.lemmas.Result.{IfOk-weaker}
 use Rattle.std.proofs.lemmas.List.Elements.{filter_agree}
 use Rattle.std.specs.List.{filter, range_with_len}
 use Rattle.flat_core.specs.Members.{is_in}
-use Rattle.register_code.specs.Code.{is_kept}
+use Rattle.flat_core.specs.Kept.{is_kept}
 use Rattle.register_code.proofs.keep.keeps.Goals as goal
 
 pub returns : goal.returns

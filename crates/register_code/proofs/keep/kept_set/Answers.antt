@@ -1,6 +1,6 @@
 use Rattle.std.proofs.Common.{ℕ, ◌||◌, sym, ap, ◌∙◌}
 use Rattle.flat_core.specs.Members.{is_in}
-use Rattle.register_code.specs.Code.{keeps}
+use Rattle.flat_core.specs.Kept.{keeps}
 use Rattle.register_code.proofs.Gathered.{any_more}
 use Rattle.register_code.proofs.keep.kept_set.Goals as goal
 

@@ -1,7 +1,7 @@
 use Rattle.std.proofs.Common.{◌≡◌, ℕ}
 use Rattle.std.specs.List.{list_any, range_with_len}
 use Rattle.flat_core.specs.Members.{is_in}
-use Rattle.register_code.specs.Code.{keeps}
+use Rattle.flat_core.specs.Kept.{keeps}
 use Rattle.register_code.proofs.keep.kept_set.Given as goal
 
 abbrev pub invariant-loop-number : goal.invariant-loop-number

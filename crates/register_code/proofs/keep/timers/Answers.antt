@@ -1,5 +1,5 @@
 use Rattle.std.proofs.Common.{sym, ap, ◌∙◌}
-use Rattle.register_code.specs.Code.{is_timer}
+use Rattle.flat_core.specs.Kept.{is_timer}
 use Rattle.register_code.proofs.Gathered.{listed_with, listed_without}
 use Rattle.register_code.proofs.keep.timers.Goals as goal
 use Rattle.register_code.proofs.keep.timers.Goals.{then-is_timer+in_ok-push, else-is_timer}

@@ -1,6 +1,6 @@
 use Rattle.std.proofs.Common.{◌≡◌}
 use Rattle.std.specs.List.{filter, range_with_len}
-use Rattle.register_code.specs.Code.{is_timer}
+use Rattle.flat_core.specs.Kept.{is_timer}
 use Rattle.register_code.proofs.keep.timers.Given as goal
 
 abbrev pub invariant-loop-number : goal.invariant-loop-number

@@ -1,4 +1,4 @@
-use Rattle.std.proofs.Common.{◌≡◌, length, map, refl, rules}
+use Rattle.std.proofs.Common.{◌≡◌, ◌∷◌, length, map, refl, rules}
 use Rattle.std.proofs.lemmas.Result.{on_err_weaker}
 use Rattle.tsl_value.proofs.Results.{on_err}
 use Rattle.spec_meaning.specs.Shape.{operand}
@@ -11,7 +11,7 @@ use Rattle.stream_shapes.proofs.make.make.Goals as goal
 pub with_streams-requires : goal.with_streams-requires
 with_streams-requires c =
     let h = fits_as c.args.construct (given.Update c.in-Update.op c.in-Update.literals) (length c.args.maker.now.equations) c.args.parts.now c.args.of c.in-Update.is c.requires.fits in
-    operands_vary (map operand c.in-Update.literals.items) c.args.parts.now h.0 h.1
+    operands_vary (map operand c.in-Update.literals.items) c.args.parts.now (c.args.of ∷ h.0) h.1
 
 pub returns-in-Empty-clause-stream : goal.returns-in-Empty-clause-stream
 returns-in-Empty-clause-stream c =
