@@ -1,13 +1,12 @@
 // Cells, each with a set or a map.
 
-ghost use Rattle.std.specs.Prelude.{◌≡◌, IfOk, OnOk, OnErr};
+ghost use Rattle.std.specs.Prelude.{◌≡◌, IfOk, IsTrue, OnOk, OnErr};
 ghost use Rattle.std.specs.FinMap as map;
 ghost use Rattle.std.specs.Option.{option_copied};
-ghost use Rattle.tsl_value.specs.View.{Plain};
 ghost use Rattle.lift_func.specs.inner.Cells.{has_key, value_at};
-ghost use Rattle.lift_func.specs.Update.{size_of, without_key};
+ghost use Rattle.tsl_value.specs.Aggregate.{empty_of, is_aggregate, size_of};
 ghost use Rattle.aggregate_store.specs.inner.CellView.{table_of};
-ghost use Rattle.aggregate_store.specs.inner.Stored.{IsAggregate, empty_view, with_added};
+ghost use Rattle.aggregate_store.specs.inner.Stored.{with_added, without_key};
 
 use crate::keys::KeySet;
 use std::alloc::Global;
@@ -41,8 +40,8 @@ impl Cell {
 
     /// The cell of a type that has no element.
     pub fn empty(alloc: Global, of: ValueType) -> Cell
-        requires { IsAggregate of }
-        ensures { view_of result ≡ empty_view of }
+        requires { IsTrue (is_aggregate of) }
+        ensures { view_of result ≡ empty_of of }
     {
         match of {
             ValueType::Scalar(_) => unreachable!(),
@@ -122,7 +121,7 @@ impl Cell {
 
     /// Takes a key out, present or not.
     pub fn remove(&mut self, key: &Scalar)
-        ensures { view_of self.new ≡ without_key (view_of self.old) (Plain key.now) }
+        ensures { view_of self.new ≡ without_key (view_of self.old) key.now }
     {
         match self {
             Cell::Set(keys) => {

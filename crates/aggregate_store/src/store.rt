@@ -2,10 +2,9 @@
 
 ghost use Rattle.std.specs.Prelude.{◌≡◌, ◌<◌, None, IfOk, IsTrue, OnOk, OnErr, length, replicate, slice_index};
 ghost use Rattle.std.specs.FinMap as finite_map;
-ghost use Rattle.tsl_value.specs.View.{Plain};
 ghost use Rattle.lift_func.specs.inner.Cells.{FitsKey, IsLive, view_at};
-ghost use Rattle.lift_func.specs.Update.{size_of, without_key};
-ghost use Rattle.aggregate_store.specs.inner.Stored.{FitsValue, IsAggregate, counted, empty_view, is_listed, with_added};
+ghost use Rattle.tsl_value.specs.Aggregate.{empty_of, is_aggregate, size_of};
+ghost use Rattle.aggregate_store.specs.inner.Stored.{FitsValue, counted, is_listed, with_added, without_key};
 
 use crate::cell::Cell;
 use crate::print::print_cell;
@@ -63,10 +62,10 @@ impl Store {
 
     /// Makes an empty cell of a type of sets or maps. The handle was not live. After `NoMemory` all is as it was.
     pub fn empty(&mut self, of: ValueType) -> Result<Handle, NoMemory>
-        requires { IsAggregate of }
+        requires { IsTrue (is_aggregate of) }
         ensures fresh { IfOk result (λ handle. ¬ (IsLive self.old.cells handle)) }
         ensures made { IfOk result (λ handle.
-            self.new ≡ record self.old { cells = finite_map.insert self.old.cells handle (empty_view of) }) }
+            self.new ≡ record self.old { cells = finite_map.insert self.old.cells handle (empty_of of) }) }
         ensures err { OnErr result (self.new ≡ self.old) }
     {
         self.place(Cell::empty(self.alloc, of))
@@ -117,7 +116,7 @@ impl Store {
         requires update { update < length self.old.ledger }
         ensures fresh { IfOk result (λ handle. ¬ (IsLive self.old.cells handle)) }
         ensures made { IfOk result (λ handle.
-            self.new.cells ≡ finite_map.insert self.old.cells handle (without_key (view_at self.old.cells source) (Plain key.now))) }
+            self.new.cells ≡ finite_map.insert self.old.cells handle (without_key (view_at self.old.cells source) key.now)) }
         ensures ledger { OnOk result
             (self.new.ledger ≡ counted self.old.ledger update (size_of (view_at self.old.cells source))) }
         ensures err { OnErr result (self.new ≡ self.old) }
@@ -159,7 +158,7 @@ impl Store {
         requires live { IsLive self.old.cells cell }
         requires key { FitsKey (view_at self.old.cells cell) key.now }
         ensures { self.new ≡ record self.old {
-          cells = finite_map.insert self.old.cells cell (without_key (view_at self.old.cells cell) (Plain key.now));
+          cells = finite_map.insert self.old.cells cell (without_key (view_at self.old.cells cell) key.now);
         } }
     {
         match &mut self.slots[cell.get() as usize] {

@@ -10,7 +10,7 @@ use Rattle.lift_func.specs.Apply.{apply, contained, of_two}
 use Rattle.lift_func.specs.inner.Cells.{Cells, FitsKey, HoldsLive, IsLive, has_key, held, view_at}
 use Rattle.lift_func.specs.inner.Evaluable.{CanRead, IsEvaluable, IsHeld, IsTypedAt}
 use Rattle.lift_func.specs.BodyTree.{BodyTree, Two}
-use Rattle.lift_func.specs.declared.body.Binary.TheVariants as binary
+use Rattle.tsl_value.specs.declared.operation.Binary.TheVariants as binary
 use Rattle.lift_func.specs.declared.register.Register.{Register}
 use Rattle.lift_func.specs.declared.register.Register.TheVariants as register
 use Rattle.lift_func.proofs.CellReads.{contained_is}

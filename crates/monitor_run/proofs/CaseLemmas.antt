@@ -8,8 +8,8 @@ use Rattle.std.specs.Option.{option_and_then, option_or}
 use Rattle.std.proofs.lemmas.List.Elements.{recursion_from_All}
 use Rattle.std.specs.FinMap as finite_map
 use Rattle.std.proofs.lemmas.Option.{same_Some}
+use Rattle.tsl_value.specs.declared.operation.Update.{Update}
 use Rattle.tsl_value.specs.declared.scalar.ValueType.{ValueType}
-use Rattle.tsl_value.specs.declared.scalar.ValueType.TheVariants as value_type
 use Rattle.tsl_value.specs.View.{View}
 use Rattle.lift_func.specs.declared.register.Register.{Register}
 use Rattle.lift_func.specs.declared.register.Register.TheVariants as register
@@ -17,23 +17,28 @@ use Rattle.lift_func.specs.inner.Cells.{Cells, HoldsLive, IsLive, held}
 use Rattle.lift_func.specs.declared.eval.EvalFault.{EvalFault}
 use Rattle.lift_func.specs.declared.eval.EvalFault.TheVariants as eval_fault
 use Rattle.lift_func.specs.Apply.{Answer}
+use Rattle.lift_func.specs.Update.{update_answer}
 use Rattle.lift_func.specs.inner.Evaluable.{IsEvaluable, IsHeldValue}
 use Rattle.tsl_value.specs.declared.scalar.Scalar.TheVariants as scalar
 use Rattle.lift_func.specs.BodyTree.{BodyTree}
-use Rattle.aggregate_store.specs.inner.Stored.{Stored, IsAggregate, empty_view}
+use Rattle.aggregate_store.specs.inner.Stored.{Stored}
 use Rattle.flat_core.specs.declared.equation.Equation.{Equation}
 use Rattle.flat_core.specs.declared.equation.Op.{Op}
 use Rattle.flat_core.specs.declared.equation.Op.TheVariants as op
-use Rattle.flat_core.specs.Case.{at_once, at_zero, empty_of, unit}
-use Rattle.flat_core.specs.Typed.{IsTyped, empty, is_aggregate, kind_of, lift}
+use Rattle.flat_core.specs.Events.{at_once, at_zero, unit}
+use Rattle.flat_core.specs.Typed.{IsTyped, kind_of}
+use Rattle.flat_core.specs.Typed as rule
+use Rattle.tsl_value.specs.Aggregate.{empty_of, is_aggregate}
 use Rattle.flat_core.specs.inner.TypedEvents.{AreOf}
 use Rattle.flat_core.specs.inner.Arity.{HasArity}
 use Rattle.flat_core.proofs.TypedCase.{all_there_fit, options_fit}
-use Rattle.monitor_run.specs.inner.Here.{HasEffect, HasMade, HasMadeOne, HasPut, HasUpdated, IsBare, TakesTyped, effect_here, source_of, truth_of}
-use Rattle.flat_core.specs.inner.OpGroups.{counts, lift_answer, updated_of}
-use Rattle.flat_core.specs.Updates.{is_update}
+use Rattle.monitor_run.specs.inner.Here.{HasAnswer, HasEffect, HasMade, HasMadeOne, HasPut, IsBare, TakesTyped, effect_here, source_of, truth_of}
+use Rattle.flat_core.specs.inner.OpGroups.{counts, lift_answer}
+use Rattle.flat_core.specs.Updates.{is_update, update_in}
+use Rattle.flat_core.proofs.UpdateOps.{no_update}
 use Rattle.register_machine.specs.Machine.{Held, Bare, Cell, slot_of, slot_of_answer, Config, view_of, value_in, where_either, Effect, Fill, Make, made, effect_of}
 use Rattle.register_machine.specs.Copied.{size_at}
+use Rattle.register_machine.proofs.UpdateEffects.{effect_update, is_one}
 use Rattle.monitor_run.specs.inner.Registers.{register_at, value_at}
 use Rattle.monitor_run.specs.inner.Shown.{config_of, held_at, held_by}
 use Rattle.monitor_run.proofs.CellLemmas.{held_slot, seen_is}
@@ -46,24 +51,9 @@ last_two (v ∷ r ∷ a ∷ args) shape = absurd shape
 
 -- ---- empty aggregates
 
-aggregate_type : (of : ValueType) → IsAggregate of → is_aggregate of ≡ true
-aggregate_type (value_type.Scalar t) is = absurd is
-aggregate_type (value_type.Set k) is = refl
-aggregate_type (value_type.Map k t) is = refl
-
-type_aggregate : (of : ValueType) → is_aggregate of ≡ true → IsAggregate of
-type_aggregate (value_type.Scalar t) is = false≢true is
-type_aggregate (value_type.Set k) is = tt
-type_aggregate (value_type.Map k t) is = tt
-
-empty_same : (of : ValueType) → IsAggregate of → empty_view of ≡ empty_of of
-empty_same (value_type.Scalar t) is = absurd is
-empty_same (value_type.Set k) is = refl
-empty_same (value_type.Map k t) is = refl
-
-pub empty_made : (old new : Stored) (handle n t : ℕ) (of : ValueType) → IsAggregate of → ¬ (IsLive old.cells handle) → new ≡ record old { cells = finite_map.insert old.cells handle (empty_view of) } → n ≡ 0 → n ≡ t → HasMadeOne old new (register.Aggregate handle) (at_zero t (empty_of of))
-empty_made old new handle n t of is fresh made at same =
-    subst (HasMadeOne old new (register.Aggregate handle)) (ap Some (empty_same of is) ∙ ap (λ m. at_zero m (empty_of of)) (sym (sym same ∙ at)))
+pub empty_made : (old new : Stored) (handle n t : ℕ) (of : ValueType) → ¬ (IsLive old.cells handle) → new ≡ record old { cells = finite_map.insert old.cells handle (empty_of of) } → n ≡ 0 → n ≡ t → HasMadeOne old new (register.Aggregate handle) (at_zero t (empty_of of))
+empty_made old new handle n t of fresh made at same =
+    subst (HasMadeOne old new (register.Aggregate handle)) (ap (λ m. at_zero m (empty_of of)) (sym (sym same ∙ at)))
     (record { handle = handle; is = refl; fresh = fresh; cells = ap (λ (s : Stored). s.cells) made }, ap (λ (s : Stored). s.ledger) made)
 
 pub empty_later : (old : Stored) (n t : ℕ) (of : ValueType) → (n ≡ 0 → ⊥) → n ≡ t → HasMadeOne old old register.Empty (at_zero t (empty_of of))
@@ -71,26 +61,28 @@ empty_later old n zero of later same = absurd (later same)
 empty_later old n (suc t) of later same = (refl, refl)
 
 from_empty : (types : List ValueType) (of : ValueType) → IsTyped op.Empty types of → is_aggregate of ≡ true
-from_empty types of (empty aggregate) = aggregate
+from_empty types of (rule.empty aggregate) = aggregate
+from_empty types of (rule.update is row) = no_update is
 
 empty_typed : (o : Op) (types : List ValueType) (of : ValueType) → o ≡ op.Empty → IsTyped o types of → is_aggregate of ≡ true
 empty_typed o types of is typed = from_empty types of (subst (λ p. IsTyped p types of) is typed)
 
-pub takes_empty : (c : Cells) (registers : List Register) (e : Equation) → TakesTyped c registers e → e.op ≡ op.Empty → IsAggregate e.of
-takes_empty c registers e t is = type_aggregate e.of (empty_typed e.op t.types e.of is t.typed)
+pub takes_empty : (c : Cells) (registers : List Register) (e : Equation) → TakesTyped c registers e → e.op ≡ op.Empty → is_aggregate e.of ≡ true
+takes_empty c registers e t is = empty_typed e.op t.types e.of is t.typed
 
 -- ---- lifts
 
 module _ (c : Cells) (registers : List Register) (args : List ℕ) (known : All (λ a. a < length registers) args) (live : All (λ a. HoldsLive c (register_at registers a)) args) where
   lift_evaluable : (body : BodyTree) (strict : Bool) (ts : List ValueType) (of : ValueType) → IsTyped (op.Lift body strict) ts of → AreOf ts (map (value_at c registers) args) → IsTrue (counts strict (map (value_at c registers) args)) → IsEvaluable c registers args body
-  lift_evaluable body true ts of (lift low high kind) values all = record {
+  lift_evaluable body true ts of (rule.lift low high kind) values all = record {
     body = record { kinds = map (kind_of true) ts; kind = kind_of true of; named = known; live = live; fit = all_there_fit ts (map (value_at c registers) args) values all; typed = kind };
     scalar = tt;
   }
-  lift_evaluable body false ts of (lift low high kind) values some = record {
+  lift_evaluable body false ts of (rule.lift low high kind) values some = record {
     body = record { kinds = map (kind_of false) ts; kind = kind_of false of; named = known; live = live; fit = options_fit ts (map (value_at c registers) args) values; typed = kind };
     scalar = tt;
   }
+  lift_evaluable body strict ts of (rule.update is row) values some = no_update is
 
 -- a lift that counts can be evaluated
 pub liftable : (c : Cells) (registers : List Register) (e : Equation) (body : BodyTree) (strict : Bool) → All (λ a. a < length registers) e.args → TakesTyped c registers e → e.op ≡ op.Lift body strict → IsTrue (counts strict (map (value_at c registers) e.args)) → IsEvaluable c registers e.args body
@@ -128,17 +120,7 @@ scalar_effect c i t op.Unit args of is = refl
 scalar_effect c i t (op.Lift body strict) args of is = refl
 scalar_effect c i t op.Any args of is = refl
 scalar_effect c i t op.Time args of is = refl
-scalar_effect c i t op.Input args of is = absurd is
-scalar_effect c i t op.Last args of is = absurd is
-scalar_effect c i t op.Delay args of is = absurd is
-scalar_effect c i t op.Merge args of is = absurd is
-scalar_effect c i t op.Filter args of is = absurd is
-scalar_effect c i t op.Pick args of is = absurd is
-scalar_effect c i t op.Empty args of is = absurd is
-scalar_effect c i t op.SetAdd args of is = absurd is
-scalar_effect c i t op.SetRemove args of is = absurd is
-scalar_effect c i t op.MapAdd args of is = absurd is
-scalar_effect c i t op.MapRemove args of is = absurd is
+scalar_effect c i t _ args of is = absurd is
 
 -- values as the machine sees them
 pub value_seen : (registers last : List Register) (st : Stored) (a : ℕ) → HoldsLive st.cells (register_at registers a) → value_in (config_of registers last st) a ≡ value_at st.cells registers a
@@ -185,49 +167,26 @@ module _ (in_place : Bool) (i t : ℕ) (e : Equation) (registers last : List Reg
 
 -- ---- what updates make
 
-once_updated : (o : Op) (of : ValueType) (t : ℕ) (vs : List (Option View)) → is_update o ≡ true → at_once o of vs t ≡ Ok (updated_of o vs)
-once_updated op.SetAdd of t [] is = refl
-once_updated op.SetAdd of t (a ∷ []) is = refl
-once_updated op.SetAdd of t (a ∷ b ∷ []) is = refl
-once_updated op.SetAdd of t (a ∷ b ∷ x ∷ vs) is = refl
-once_updated op.SetRemove of t [] is = refl
-once_updated op.SetRemove of t (a ∷ []) is = refl
-once_updated op.SetRemove of t (a ∷ b ∷ []) is = refl
-once_updated op.SetRemove of t (a ∷ b ∷ x ∷ vs) is = refl
-once_updated op.MapAdd of t [] is = refl
-once_updated op.MapAdd of t (a ∷ []) is = refl
-once_updated op.MapAdd of t (a ∷ b ∷ []) is = refl
-once_updated op.MapAdd of t (a ∷ b ∷ x ∷ []) is = refl
-once_updated op.MapAdd of t (a ∷ b ∷ x ∷ y ∷ vs) is = refl
-once_updated op.MapRemove of t [] is = refl
-once_updated op.MapRemove of t (a ∷ []) is = refl
-once_updated op.MapRemove of t (a ∷ b ∷ []) is = refl
-once_updated op.MapRemove of t (a ∷ b ∷ x ∷ vs) is = refl
-once_updated _ of t vs is = absurd (false≢true is)
+made_effect : (in_place : Bool) (i : ℕ) (o : Op) (source : Register) (old new : Stored) (r : Register) (answer : Answer) → is_update o ≡ true → HasAnswer in_place i source old new (Ok r) answer → HasEffect in_place i o source old new (Ok r) (made answer)
+made_effect in_place i o source old new r (Ok None) is had = (sym (ap (λ x. slot_of (held_by x)) had.0), had.1)
+made_effect in_place i o source old new r (Ok (Some v)) is had = subst (λ q. HasMade q in_place i source old new r v) (sym is) had
+made_effect in_place i o source old new r (Err kind) is had = absurd had
 
-made_once : (c : Config) (i t : ℕ) (o : Op) (args : List ℕ) (of : ValueType) → is_update o ≡ true → effect_of (λ j u. None) t c i o args of ≡ made (at_once o of (map (value_in c) args) t)
-made_once c i t op.SetAdd args of is = refl
-made_once c i t op.SetRemove args of is = refl
-made_once c i t op.MapAdd args of is = refl
-made_once c i t op.MapRemove args of is = refl
-made_once c i t _ args of is = absurd (false≢true is)
-
-made_effect : (in_place : Bool) (i : ℕ) (o : Op) (source : Register) (old new : Stored) (r : Register) (v : Option View) → is_update o ≡ true → HasUpdated in_place i source old new r v → HasEffect in_place i o source old new (Ok r) (made (Ok v))
-made_effect in_place i o source old new r None is had = (sym (ap (λ x. slot_of (held_by x)) had.0), had.1)
-made_effect in_place i o source old new r (Some v) is had = subst (λ q. HasMade q in_place i source old new r v) (sym is) had
+-- an operation that is none
+pub no_update_op : (o : Op) → update_in o ≡ None → is_update o ≡ false
+no_update_op o is = ap is_some is
 
 -- an update has run by a test that agrees
-pub update_effect : (tested in_place : Bool) (i t : ℕ) (e : Equation) (registers last : List Register) (old new : Stored) → TakesTyped old.cells registers e → is_update e.op ≡ true → tested ≡ in_place
-    → (r : Register) → HasUpdated tested i (source_of registers e.args) old new r (updated_of e.op (map (value_at old.cells registers) e.args))
+pub update_effect : (tested in_place : Bool) (i t : ℕ) (e : Equation) (u : Update) (registers last : List Register) (old new : Stored) → TakesTyped old.cells registers e → update_in e.op ≡ Some u → tested ≡ in_place
+    → (r : Register) → HasAnswer tested i (source_of registers e.args) old new (Ok r) (update_answer u (map (value_at old.cells registers) e.args))
     → HasEffect in_place i e.op (source_of registers e.args) old new (Ok r) (effect_here registers last old i t e)
-update_effect tested in_place i t e registers last old new typed is same r had =
-    let does : effect_here registers last old i t e ≡ made (Ok (updated_of e.op (map (value_at old.cells registers) e.args))) =
-    made_once (config_of registers last old) i t e.op e.args e.of is
-    ∙ ap (λ vs. made (at_once e.op e.of vs t)) (values_seen registers last old e.args typed.live)
-    ∙ ap made (once_updated e.op e.of t (map (value_at old.cells registers) e.args) is) in
+update_effect tested in_place i t e u registers last old new typed is same r had =
+    let does : effect_here registers last old i t e ≡ made (update_answer u (map (value_at old.cells registers) e.args)) =
+    effect_update (λ j u. None) t (config_of registers last old) i e.op u is e.args e.of
+    ∙ ap (λ vs. made (update_answer u vs)) (values_seen registers last old e.args typed.live) in
     subst (HasEffect in_place i e.op (source_of registers e.args) old new (Ok r)) (sym does)
-    (made_effect in_place i e.op (source_of registers e.args) old new r (updated_of e.op (map (value_at old.cells registers) e.args)) is
-    (subst (λ b. HasUpdated b i (source_of registers e.args) old new r (updated_of e.op (map (value_at old.cells registers) e.args))) same had))
+    (made_effect in_place i e.op (source_of registers e.args) old new r (update_answer u (map (value_at old.cells registers) e.args)) (is_one e.op is)
+    (subst (λ b. HasAnswer b i (source_of registers e.args) old new (Ok r) (update_answer u (map (value_at old.cells registers) e.args))) same had))
 
 -- ---- what is put into a place
 

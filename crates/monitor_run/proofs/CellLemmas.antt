@@ -18,18 +18,15 @@ use Rattle.flat_core.specs.System.{System}
 use Rattle.register_machine.specs.Machine.{Held, Bare, Cell, Slot, slot_of, view_of, with}
 use Rattle.register_machine.specs.Machine as machine
 use Rattle.register_machine.proofs.Cells.{get-there, with-there}
-use Rattle.flat_core.specs.Typed.{is_aggregate}
+use Rattle.tsl_value.specs.Aggregate.{is_aggregate, has_elements}
+use Rattle.tsl_value.proofs.Aggregates.{elements_of}
 use Rattle.monitor_run.specs.inner.Here.{StayTyped}
 use Rattle.monitor_run.specs.inner.Shown.{held_by}
 use Rattle.monitor_run.specs.inner.Registers.{AreHeld, IsHeldOf, register_at}
 
 -- a view of a type of aggregates
-pub aggregate_of : (of : ValueType) (v : View) → is_aggregate of ≡ true → IsTrue (is_of of v) → cells.IsAggregate v
-aggregate_of (value_type.Scalar t) v is typed = absurd (false≢true is)
-aggregate_of (value_type.Set k) (Plain s) is typed = absurd (false≢true typed)
-aggregate_of (value_type.Map k t) (Plain s) is typed = absurd (false≢true typed)
-aggregate_of of (Keyed s) is typed = tt
-aggregate_of of (Mapped m) is typed = tt
+pub aggregate_of : (of : ValueType) (v : View) → is_aggregate of ≡ true → IsTrue (is_of of v) → IsTrue (has_elements v)
+aggregate_of of v is typed = elements_of of v typed ∙ is
 
 -- ---- cells stay of their types
 
@@ -49,12 +46,8 @@ stay-changed types old new handle view fits is = record {
 }
 
 -- views of one type are aggregates together
-aggregate_like : (of : ValueType) (v w : View) → IsTrue (is_of of v) → IsTrue (is_of of w) → cells.IsAggregate v → cells.IsAggregate w
-aggregate_like (value_type.Scalar t) (Plain s) w p q a = absurd a
-aggregate_like (value_type.Scalar t) (Keyed s) w p q a = absurd (false≢true p)
-aggregate_like (value_type.Scalar t) (Mapped m) w p q a = absurd (false≢true p)
-aggregate_like (value_type.Set k) v w p q a = aggregate_of (value_type.Set k) w refl q
-aggregate_like (value_type.Map k t) v w p q a = aggregate_of (value_type.Map k t) w refl q
+aggregate_like : (of : ValueType) (v w : View) → IsTrue (is_of of v) → IsTrue (is_of of w) → IsTrue (has_elements v) → IsTrue (has_elements w)
+aggregate_like of v w p q a = elements_of of w q ∙ sym (elements_of of v p) ∙ a
 
 -- what a register holds stays of its type
 pub held_of-stays : (types : ℕ → ValueType) (old new : Cells) → StayTyped types old new → (of : ValueType) (r : Register) → ((h : ℕ) → r ≡ register.Aggregate h → types h ≡ of) → IsHeldOf old of r → IsHeldOf new of r

@@ -4,7 +4,6 @@ use Rattle.std.proofs.lemmas.Bool.{cases_Bool, eq-eqb, eqb-true, eqb-false, and_
 use Rattle.std.proofs.lemmas.List.Elements.{All-from_recursion}
 use Rattle.std.specs.List.{All, flat_map}
 use Rattle.lift_func.specs.declared.register.Register.TheVariants as register
-use Rattle.program_text.specs.Text.{numbers}
 use Rattle.flat_core.proofs.Members.{all_from, in-Contains}
 use Rattle.flat_core.proofs.Rising.{in_filter}
 use Rattle.step_uses.specs.Uses.{args_at, is_of_delay, row}
@@ -21,13 +20,13 @@ use Rattle.lift_func.specs.declared.register.Register.{Register}
 use Rattle.lift_func.specs.inner.Cells.{Cells, held}
 use Rattle.flat_core.specs.declared.equation.Equation.{Equation}
 use Rattle.flat_core.specs.declared.equation.Op.TheVariants as op
-use Rattle.flat_core.specs.Case.{refused}
+use Rattle.flat_core.specs.Events.{refused}
 use Rattle.flat_core.specs.Complete.{IsFlat}
 use Rattle.flat_core.specs.Instant.{is_delay}
 use Rattle.flat_core.specs.Members.{is_in}
 use Rattle.flat_core.specs.Pending.{reached}
-use Rattle.flat_core.specs.System.{System, equation, runs}
-use Rattle.register_code.specs.Code.{is_timer, timers_of}
+use Rattle.flat_core.specs.System.{System, equation, runs, numbers}
+use Rattle.flat_core.specs.Kept.{is_timer, timers_of}
 use Rattle.monitor_run.specs.declared.run.Root.{Root}
 use Rattle.register_machine.specs.Stands.{in_time}
 use Rattle.flat_core.specs.inner.Arity.{HasArity}

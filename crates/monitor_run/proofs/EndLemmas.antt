@@ -1,5 +1,5 @@
 -- What is kept of an instant.
-use Rattle.std.proofs.Common.{◌≡◌, ◌==◌, ℕ, ◌+◌, ◌<◌, Bool, true, false, ◌&&◌, ◌||◌, List, length, get_or, set, take, cond, Option, None, refl, sym, ap, subst, arith, ◌∙◌, inl, inr}
+use Rattle.std.proofs.Common.{◌≡◌, ◌==◌, ℕ, zero, suc, ◌+◌, ◌<◌, Bool, true, false, ◌&&◌, ◌||◌, List, [], ◌∷◌, length, map, get_or, set, take, cond, Option, None, refl, sym, ap, subst, arith, ◌∙◌, inl, inr}
 use Rattle.std.proofs.lemmas.Bool.{cases_Bool, eqb-true, eqb-false, eq-eqb, false≢true, true≢false}
 use Rattle.std.specs.FinMap as finite_map
 use Rattle.std.specs.Cmp.{nat_cmp_total}
@@ -9,13 +9,13 @@ use Rattle.std.proofs.lemmas.List.Elements.{All-from_recursion}
 use Rattle.tsl_value.specs.View.{View}
 use Rattle.flat_core.specs.System.{System}
 use Rattle.flat_core.proofs.Members.{all_from, in-Contains}
-use Rattle.register_code.specs.Code.{keeps_of}
+use Rattle.flat_core.specs.Kept.{keeps_of}
 use Rattle.monitor_run.specs.inner.Visits.{AreFilled, AreKept}
 use Rattle.std.proofs.Math.Bool.{or-false, or-true}
 use Rattle.std.proofs.Common.{length-set}
 use Rattle.std.proofs.lemmas.List.{get_or-set_same, get_or-set_other}
 use Rattle.std.proofs.lemmas.List.Folds.{list_any_more}
-use Rattle.std.specs.Prelude.{◌≢◌, if◌then◌else◌, is_some, slice_index_or}
+use Rattle.std.specs.Prelude.{◌≢◌, if◌then◌else◌, IsFalse, is_some, slice_index_or}
 use Rattle.lift_func.specs.declared.register.Register.{Register}
 use Rattle.lift_func.specs.declared.register.Register.TheVariants as register
 use Rattle.lift_func.specs.inner.Cells.{Cells, HoldsLive, held}
@@ -111,6 +111,11 @@ kept_none register.Empty i last none = refl
 kept_none (register.Scalar s) i last none = absurd (true≢false (none finite_map.empty))
 kept_none (register.Aggregate h) i last none = absurd (true≢false (none finite_map.empty))
 
+pub blank_register : (r : Register) → ((c : Cells) → is_some (held c r) ≡ false) → r ≡ register.Empty
+blank_register register.Empty none = refl
+blank_register (register.Scalar s) none = absurd (true≢false (none finite_map.empty))
+blank_register (register.Aggregate h) none = absurd (true≢false (none finite_map.empty))
+
 pub is_printable : (cells : Cells) (r : Register) → ((c : Cells) → is_some (held c r) ≡ true) → HoldsLive cells r → IsPrintable cells r
 is_printable cells register.Empty some live = false≢true (some finite_map.empty)
 is_printable cells (register.Scalar s) some live = tt
@@ -133,6 +138,24 @@ pub kept_wider_at : (s : System) (filled : List ℕ) (kept : List Bool) (registe
 kept_wider_at s filled kept registers f each are l i =
     kept_wider filled (slice_index_or kept i false) (is_in (keeps_of s) i) i (register_at registers i) l (λ listed. are i (let lt = f.known i listed in omega arith)) (f.rest i)
 
+-- the same where all is emptied, and what is kept is listed
+pub kept_there : (keeps : List ℕ) (kept : List Bool) (i : ℕ) → (is_in keeps i ≡ true → slice_index_or kept i false ≡ true) → (is_in keeps i && slice_index_or kept i false) ≡ is_in keeps i
+kept_there keeps kept i are = split (is_in keeps i) refl
+  where
+    split : (b : Bool) → is_in keeps i ≡ b → (is_in keeps i && slice_index_or kept i false) ≡ is_in keeps i
+    split true listed = (λ k. listed k && are listed k) ∙ sym listed
+    split false none = (λ k. none k && slice_index_or kept i false) ∙ sym none
+
+pub all_blank : (registers : List Register) (i : ℕ) → register_at (map (λ r. register.Empty) registers) i ≡ register.Empty
+all_blank [] i = refl
+all_blank (r ∷ registers) zero = refl
+all_blank (r ∷ registers) (suc i) = all_blank registers i
+
+pub kept_either : (s : System) (all : Bool) (filled keeps : List ℕ) (kept : List Bool) (registers : List Register) → (IsFalse all → AreFilled filled registers) → length registers ≡ length s.equations → AreKept s kept → keeps ≡ keeps_of s → (l : Register) (i : ℕ)
+    → (if (if all then is_in keeps i else is_in filled i && slice_index_or kept i false) then kept_register (register_at registers i) l else l) ≡ (if is_in (keeps_of s) i then kept_register (register_at registers i) l else l)
+kept_either s true filled keeps kept registers f each are keeps_are l i = λ k. if is_in (keeps_are k) i then kept_register (register_at registers i) l else l
+kept_either s false filled keeps kept registers f each are keeps_are l i = kept_wider_at s filled kept registers (f refl) each are l i
+
 -- all is emptied
 pub all_emptied : (filled : List ℕ) (registers : List Register) → AreFilled filled registers → (i : ℕ) → (if is_in filled i then register.Empty else register_at registers i) ≡ register.Empty
 all_emptied filled registers f i = split (is_in filled i) refl
@@ -140,6 +163,10 @@ all_emptied filled registers f i = split (is_in filled i) refl
     split : (q : Bool) → is_in filled i ≡ q → (if is_in filled i then register.Empty else register_at registers i) ≡ register.Empty
     split true listed = λ k. if listed k then register.Empty else register_at registers i
     split false none = (λ k. if none k then register.Empty else register_at registers i) ∙ f.rest i none
+
+pub emptied_either : (all : Bool) (filled : List ℕ) (registers : List Register) → (IsFalse all → AreFilled filled registers) → (i : ℕ) → (if all || is_in filled i then register.Empty else register_at registers i) ≡ register.Empty
+emptied_either true filled registers f i = refl
+emptied_either false filled registers f i = all_emptied filled registers (f refl) i
 
 pub all_known : (filled : List ℕ) (registers : List Register) → AreFilled filled registers → (n : ℕ) → n ≡ length registers → All (λ i. i < n) filled
 all_known filled registers f n size = All-from_recursion (λ i. i < n) filled (all_from (λ i. i < n) filled (λ i there. let lt = f.known i (in-Contains filled i there) in omega arith))

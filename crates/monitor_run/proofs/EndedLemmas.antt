@@ -16,21 +16,20 @@ use Rattle.tsl_value.specs.declared.scalar.ValueType.{ValueType}
 use Rattle.tsl_value.specs.declared.scalar.ValueType.TheVariants as value_type
 use Rattle.lift_func.specs.declared.register.Register.{Register}
 use Rattle.lift_func.specs.declared.register.Register.TheVariants as register
-use Rattle.lift_func.specs.inner.Cells as cells_of
 use Rattle.lift_func.specs.inner.Cells.{Cells, HoldsLive, IsLive, held, view_at}
 use Rattle.lift_func.specs.Typing.{Optional, fits}
 use Rattle.aggregate_store.specs.inner.Stored.{is_listed}
 use Rattle.flat_core.specs.declared.equation.Equation.{Equation}
-use Rattle.flat_core.specs.Case.{refused}
+use Rattle.flat_core.specs.Events.{refused}
 use Rattle.flat_core.specs.Complete.{IsFlat}
 use Rattle.flat_core.specs.Line.{Line}
 use Rattle.flat_core.specs.Members.{is_in}
 use Rattle.flat_core.specs.Pending.{option_is, reached}
-use Rattle.flat_core.specs.System.{System, equation, runs}
-use Rattle.flat_core.specs.Typed.{is_aggregate}
+use Rattle.flat_core.specs.System.{System, equation, runs, numbers}
+use Rattle.tsl_value.specs.Aggregate.{is_aggregate, has_elements}
+use Rattle.tsl_value.proofs.Aggregates.{elements_of}
 use Rattle.flat_core.proofs.Members.{all_from, in-Contains}
-use Rattle.register_code.specs.Code.{is_kept, is_timer, keeps_of, timers_of}
-use Rattle.program_text.specs.Text.{numbers}
+use Rattle.flat_core.specs.Kept.{is_kept, is_timer, keeps_of, timers_of}
 use Rattle.monitor_run.specs.declared.machine.Machine.{Machine}
 use Rattle.register_machine.specs.Stands.{in_time}
 use Rattle.register_machine.specs.Run.{Plan}
@@ -153,7 +152,7 @@ module _ (s : System) (whole : IsFlat s) (plan : Plan) (t : ℕ) (given : List L
       from (register.Scalar x) is live = (refl, tt)
       from (register.Aggregate h) is live =
           let still = stays h (cell_listed new.last.items (keeps_of s) i h (kept_is i (kept_runs s whole i kept) ∙ kept) is) live.0 in
-          (ap Some still.1, (still.0, subst cells_of.IsAggregate (sym still.1) live.1))
+          (ap Some still.1, (still.0, ap has_elements still.1 ∙ live.1))
 
   held_after : (i : ℕ) (e : Equation) → IsTrue (runs s i) → equation s i ≡ Some e → IsHeldOf new.store.cells e.of (register_at new.last.items i)
   held_after i e run is = elim (cases_Bool (is_kept s i)) [
@@ -185,12 +184,8 @@ module _ (s : System) (whole : IsFlat s) (plan : Plan) (t : ℕ) (given : List L
       let before : IsHeldOf mid.store.cells f.0.of (register.Aggregate h) = subst (IsHeldOf mid.store.cells f.0.of) is (held_before i f.0 run f.1 kept) in
       ap is_stored_type f.1 ∙ of_type f.0.of (view_at mid.store.cells h) before.typed before.live.1
     where
-      of_type : (of : ValueType) (v : View) → IsTrue (fits (Optional of) (Some v)) → cells_of.IsAggregate v → is_aggregate of ≡ true
-      of_type (value_type.Scalar x) (Plain y) fit aggregate = absurd aggregate
-      of_type (value_type.Scalar x) (Keyed y) fit aggregate = absurd (false≢true fit)
-      of_type (value_type.Scalar x) (Mapped y) fit aggregate = absurd (false≢true fit)
-      of_type (value_type.Set k) v fit aggregate = refl
-      of_type (value_type.Map k x) v fit aggregate = refl
+      of_type : (of : ValueType) (v : View) → IsTrue (fits (Optional of) (Some v)) → IsTrue (has_elements v) → is_aggregate of ≡ true
+      of_type of v fit aggregate = sym (elements_of of v fit) ∙ aggregate
 
   only_listed : (q : ℕ) → IsLive new.store.cells q → is_listed (cells_in new.last.items (keeps_of s)) q ≡ true
   only_listed q live = elim (cases_Bool (is_listed (cells_in new.last.items (keeps_of s)) q)) [

@@ -7,12 +7,13 @@ use Rattle.std.specs.Option.{option_and_then, option_or}
 use Rattle.tsl_value.specs.View.{View, Plain}
 use Rattle.tsl_value.specs.declared.scalar.Scalar.TheVariants as scalar
 use Rattle.flat_core.specs.declared.equation.Equation.{Equation}
-use Rattle.flat_core.specs.Case.{Inputs}
+use Rattle.flat_core.specs.Events.{Inputs}
 use Rattle.flat_core.specs.Members.{is_in}
 use Rattle.flat_core.specs.Pending.{reached}
 use Rattle.flat_core.specs.System.{System, equation}
 use Rattle.register_machine.specs.Machine.{Instr, Keep, Timer, Held, held, view_of, fires, with, Config, value_in, expiry, timed, OfEquation, Steps}
-use Rattle.register_machine.specs.Run.{ending, kept, delays}
+use Rattle.register_machine.specs.Run.{ending}
+use Rattle.flat_core.specs.Kept.{keeps_of, timers_of}
 use Rattle.register_machine.specs.Stands.{in_time}
 use Rattle.register_machine.proofs.Cells.{with-here}
 use Rattle.register_machine.proofs.End.{keeps_are, timers_are}
@@ -102,23 +103,23 @@ module _ (inputs : Inputs) (t : ℕ) (s : System) where
     pub ran : Steps inputs t s (ending s) c d
     pub cells : d.cells ≡ c.cells
     pub ledger : d.ledger ≡ c.ledger
-    pub lasts : (v : ℕ) → d.lasts v ≡ overwritten (is_in (kept s) v) (held (c.slots v)) (c.lasts v)
-    pub pending : (i : ℕ) → d.pending i ≡ (if is_in (delays s) i then timed_at t c i (equation s i) else c.pending i)
+    pub lasts : (v : ℕ) → d.lasts v ≡ overwritten (is_in (keeps_of s) v) (held (c.slots v)) (c.lasts v)
+    pub pending : (i : ℕ) → d.pending i ≡ (if is_in (timers_of s) i then timed_at t c i (equation s i) else c.pending i)
 
-  pub ending_goes : AllByRecursion (λ i. (e : Equation) × (equation s i ≡ Some e)) (delays s) → (c : Config) → (d : Config) × HasEnding c d
+  pub ending_goes : AllByRecursion (λ i. (e : Equation) × (equation s i ≡ Some e)) (timers_of s) → (c : Config) → (d : Config) × HasEnding c d
   ending_goes there c =
-      let first = keeps_go (kept s) c in
-      let second = timers_go (delays s) there first.0 in
-      let whole = steps_join inputs t s (map Keep (kept s)) (map Timer (delays s)) c first.0 second.0 first.1 second.1 in
-      let parts = keeps_are inputs t s (kept s) (map Timer (delays s)) c second.0 whole in
-      let after = timers_are inputs t s (delays s) parts.0 second.0 parts.4 in (
+      let first = keeps_go (keeps_of s) c in
+      let second = timers_go (timers_of s) there first.0 in
+      let whole = steps_join inputs t s (map Keep (keeps_of s)) (map Timer (timers_of s)) c first.0 second.0 first.1 second.1 in
+      let parts = keeps_are inputs t s (keeps_of s) (map Timer (timers_of s)) c second.0 whole in
+      let after = timers_are inputs t s (timers_of s) parts.0 second.0 parts.4 in (
         second.0,
         record {
           ran = whole;
           cells = after.1 ∙ parts.2;
           ledger = second.2 ∙ first.4;
           lasts = λ v. (λ k. after.0 k v) ∙ parts.3 v;
-          pending = λ i. second.3 i ∙ (λ k. if is_in (delays s) i then at_same i (equation s i) first.0 first.2 first.3 first.5 k else first.5 k i);
+          pending = λ i. second.3 i ∙ (λ k. if is_in (timers_of s) i then at_same i (equation s i) first.0 first.2 first.3 first.5 k else first.5 k i);
         },
       )
     where

@@ -45,6 +45,10 @@ module _ (s : System) (k : ℕ) (o : Output) (there : k < length s.outputs) (is 
 
 -- ---- lines
 
+pub blank_text : (text : List ℕ) → length text ≡ 0 → text ≡ []
+blank_text [] none = refl
+blank_text (b ∷ text) some = absurd (omega arith)
+
 -- the first k of them were appended
 pub begun : {X : Type 0} (f : X → List ℕ) (xs : List X) (k : ℕ) (before mid after : List ℕ) → after ≡ mid → mid ≡ before ++ flat_map f (take k xs) → IsBegunOf before after (flat_map f xs)
 begun f xs k before mid after same is = record {

@@ -6,23 +6,27 @@ use Rattle.std.specs.Option.{option_or}
 use Rattle.std.specs.List.{All, AllByRecursion}
 use Rattle.tsl_value.specs.declared.scalar.Scalar.TheVariants as scalar
 use Rattle.tsl_value.specs.declared.scalar.ValueType.{ValueType}
-use Rattle.tsl_value.specs.View.{View, Plain, Keyed, Mapped, is_of}
+use Rattle.tsl_value.specs.View.{View, Plain, is_of}
 use Rattle.lift_func.specs.declared.register.Register.{Register}
 use Rattle.lift_func.specs.declared.register.Register.TheVariants as register
 use Rattle.lift_func.specs.Apply.{Answer}
 use Rattle.lift_func.specs.inner.Cells.{Cells, HoldsLive}
-use Rattle.lift_func.specs.inner.Cells as cells
 use Rattle.lift_func.specs.Typing.{Optional, FitsAnswer}
 use Rattle.aggregate_store.specs.inner.Stored.{Stored}
 use Rattle.flat_core.specs.declared.equation.Equation.{Equation}
 use Rattle.flat_core.specs.declared.equation.Op.{Op}
 use Rattle.flat_core.specs.declared.equation.Op.TheVariants as op
-use Rattle.flat_core.specs.Case.{at_once}
+use Rattle.flat_core.specs.Events.{at_once}
 use Rattle.flat_core.specs.Complete.{IsFlat}
 use Rattle.flat_core.specs.System.{System, runs, equation}
-use Rattle.flat_core.specs.Typed.{IsTyped, empty, last, merge, filter, pick, set_add, set_remove, map_add, map_remove, is_aggregate}
+use Rattle.tsl_value.specs.Aggregate.{is_aggregate, has_elements}
+use Rattle.flat_core.specs.Typed.{IsTyped, empty, last, merge, filter, pick}
+use Rattle.flat_core.specs.Typed as rule
+use Rattle.flat_core.specs.Updates.{is_update}
+use Rattle.flat_core.proofs.UpdateOps.{no_update, update_there, row_of}
+use Rattle.lift_func.proofs.Updates.{updates_aggregate}
 use Rattle.flat_core.specs.TypedSystem.{AreOfTypes}
-use Rattle.register_machine.specs.Machine.{Held, Bare, Cell, Slot, Blank, held, slot_of, slot_of_answer, Config, value_in, where_true, where_either, Fill, Make, made, effect_of}
+use Rattle.register_machine.specs.Machine.{Held, Bare, Cell, Slot, Blank, held, slot_of, slot_of_answer, Config, value_in, where_true, where_either, Fill, Make, made, effect_by, effect_of}
 use Rattle.register_machine.proofs.FailedKinds.{fill_same}
 use Rattle.flat_core.specs.inner.Arity.{HasArity}
 use Rattle.monitor_run.specs.inner.Here.{effect_here, is_given_op}
@@ -75,14 +79,18 @@ module _ (types : ℕ → ValueType) (c : Cells) where
   answer_holds : (of : ValueType) (a : Answer) → FitsAnswer (Optional of) a → HoldsAs types c of (held (slot_of_answer a))
   answer_holds of (Ok None) fit = tt
   answer_holds of (Ok (Some (Plain s))) fit = fit
-  answer_holds of (Ok (Some (Keyed s))) fit = tt
-  answer_holds of (Ok (Some (Mapped m))) fit = tt
+  answer_holds of (Ok (Some v)) fit = tt
   answer_holds of (Err kind) fit = tt
 
   made_holds : (of : ValueType) (a : Answer) (slot : Slot) → made a ≡ Fill slot → HoldsAs types c of (held slot)
   made_holds of (Ok None) slot is = subst (λ x. HoldsAs types c of (held x)) (fill_same is) tt
   made_holds of (Ok (Some v)) slot is = absurd (cc)
   made_holds of (Err kind) slot is = subst (λ x. HoldsAs types c of (held x)) (fill_same is) tt
+
+  -- what an update makes, and what others fill in
+  by_holds : (of : ValueType) (b : Bool) (a : Answer) (slot : Slot) → FitsAnswer (Optional of) a → effect_by b a ≡ Fill slot → HoldsAs types c of (held slot)
+  by_holds of true a slot fit is = made_holds of a slot is
+  by_holds of false a slot fit is = subst (λ x. HoldsAs types c of (held x)) (fill_same is) (answer_holds of a fit)
 
 made_is : (a : Answer) (v : View) → made a ≡ Make v → a ≡ Ok (Some v)
 made_is (Ok None) v is = absurd (cc)
@@ -120,22 +128,15 @@ module _ (s : System) (whole : IsFlat s) (types : ℕ → ValueType) (st : Store
         → FitsAnswer (Optional of) (at_once o of (map (value_in c) args) t) → (slot : Slot) → effect_of (λ j u. None) t c i o args of ≡ Fill slot → HoldsAs types st.cells of (held slot)
     fills op.Input kinds of typed other args run are fit slot is = absurd (true≢false other)
     fills op.Delay kinds of typed other args run are fit slot is = absurd (true≢false other)
-    fills op.Nil kinds of typed other args run are fit slot is = subst (λ x. HoldsAs types st.cells of (held x)) (fill_same is) (answer_holds types st.cells of (at_once op.Nil of (map (value_in c) args) t) fit)
-    fills op.Unit kinds of typed other args run are fit slot is = subst (λ x. HoldsAs types st.cells of (held x)) (fill_same is) (answer_holds types st.cells of (at_once op.Unit of (map (value_in c) args) t) fit)
-    fills (op.Lift body strict) kinds of typed other args run are fit slot is = subst (λ x. HoldsAs types st.cells of (held x)) (fill_same is) (answer_holds types st.cells of (at_once (op.Lift body strict) of (map (value_in c) args) t) fit)
-    fills op.Any kinds of typed other args run are fit slot is = subst (λ x. HoldsAs types st.cells of (held x)) (fill_same is) (answer_holds types st.cells of (at_once op.Any of (map (value_in c) args) t) fit)
-    fills op.Time kinds of typed other args run are fit slot is = subst (λ x. HoldsAs types st.cells of (held x)) (fill_same is) (answer_holds types st.cells of (at_once op.Time of (map (value_in c) args) t) fit)
     fills op.Empty kinds of typed other args run are fit slot is = made_holds types st.cells of (at_once op.Empty of (map (value_in c) args) t) slot is
-    fills op.SetAdd kinds of typed other args run are fit slot is = made_holds types st.cells of (at_once op.SetAdd of (map (value_in c) args) t) slot is
-    fills op.SetRemove kinds of typed other args run are fit slot is = made_holds types st.cells of (at_once op.SetRemove of (map (value_in c) args) t) slot is
-    fills op.MapAdd kinds of typed other args run are fit slot is = made_holds types st.cells of (at_once op.MapAdd of (map (value_in c) args) t) slot is
-    fills op.MapRemove kinds of typed other args run are fit slot is = made_holds types st.cells of (at_once op.MapRemove of (map (value_in c) args) t) slot is
+    fills op.Last kinds of (rule.update h row) other args run are fit slot is = no_update h
     fills op.Last kinds of last other [] run are fit slot is = absurd are
     fills op.Last kinds of last other (v ∷ []) run are fit slot is = absurd are.1
     fills op.Last kinds of last other (v ∷ r ∷ x ∷ args) run are fit slot is = absurd are.1.1
     fills op.Last kinds of last other (v ∷ r ∷ []) run are fit slot is =
         subst (λ x. HoldsAs types st.cells of (held x)) (fill_same is)
         (where_holds types st.cells of (is_some (held (slot_of (held_at registers r)))) (held_at last_registers v) (at_type last_registers held_last v are.0.at of run.0 are.0.is are.0.of_is))
+    fills op.Merge kinds of (rule.update h row) other args run are fit slot is = no_update h
     fills op.Merge kinds of merge other [] run are fit slot is = absurd are
     fills op.Merge kinds of merge other (a ∷ []) run are fit slot is = absurd are.1
     fills op.Merge kinds of merge other (a ∷ b ∷ x ∷ args) run are fit slot is = absurd are.1.1
@@ -143,6 +144,7 @@ module _ (s : System) (whole : IsFlat s) (types : ℕ → ValueType) (st : Store
         subst (λ x. HoldsAs types st.cells of (held x)) (fill_same is)
         (subst (HoldsAs types st.cells of) (sym (held_slot (option_or (held (slot_of (held_at registers a))) (held (slot_of (held_at registers b)))) ∙ (λ k. option_or (seen a k) (seen b k))))
         (or_holds types st.cells of (held_at registers a) (held_at registers b) (at_type registers held_now a are.0.at of run.0 are.0.is are.0.of_is) (at_type registers held_now b are.1.0.at of run.1.0 are.1.0.is are.1.0.of_is)))
+    fills op.Filter kinds of (rule.update h row) other args run are fit slot is = no_update h
     fills op.Filter kinds of filter other [] run are fit slot is = absurd are
     fills op.Filter kinds of filter other (a ∷ []) run are fit slot is = absurd are.1
     fills op.Filter kinds of filter other (a ∷ b ∷ x ∷ args) run are fit slot is = absurd are.1.1
@@ -150,6 +152,7 @@ module _ (s : System) (whole : IsFlat s) (types : ℕ → ValueType) (st : Store
         subst (λ x. HoldsAs types st.cells of (held x)) (fill_same is)
         (subst (HoldsAs types st.cells of) (sym (held_slot (where_true (held (slot_of (held_at registers b))) (held (slot_of (held_at registers a)))) ∙ (λ k. where_true (seen b k) (seen a k))))
         (true_holds types st.cells of (held_at registers b) (held_at registers a) (at_type registers held_now a are.0.at of run.0 are.0.is are.0.of_is)))
+    fills op.Pick kinds of (rule.update h row) other args run are fit slot is = no_update h
     fills op.Pick kinds of (pick k) other [] run are fit slot is = absurd are
     fills op.Pick kinds of (pick k) other (a ∷ []) run are fit slot is = absurd are.1
     fills op.Pick kinds of (pick k) other (a ∷ b ∷ []) run are fit slot is = absurd are.1.1
@@ -158,6 +161,7 @@ module _ (s : System) (whole : IsFlat s) (types : ℕ → ValueType) (st : Store
         subst (λ y. HoldsAs types st.cells of (held y)) (fill_same is)
         (subst (HoldsAs types st.cells of) (sym (held_slot (where_either (held (slot_of (held_at registers a))) (held (slot_of (held_at registers b))) (held (slot_of (held_at registers x)))) ∙ (λ j. where_either (seen a j) (seen b j) (seen x j))))
         (either_holds types st.cells of (held_at registers a) (held_at registers b) (held_at registers x) (at_type registers held_now b are.1.0.at of run.1.0 are.1.0.is are.1.0.of_is) (at_type registers held_now x are.1.1.0.at of run.1.1.0 are.1.1.0.is are.1.1.0.of_is)))
+    fills o kinds of typed other args run are fit slot is = by_holds types st.cells of (is_update o) (at_once o of (map (value_in c) args) t) slot fit is
 
     pub filled_holds : is_given_op e.op ≡ false → (slot : Slot) (r : Register) → effect_here registers last_registers st i t e ≡ Fill slot → slot ≡ slot_of (held_by r) → HoldsAs types st.cells e.of (held_by r)
     filled_holds other slot r does same =
@@ -165,15 +169,18 @@ module _ (s : System) (whole : IsFlat s) (types : ℕ → ValueType) (st : Store
         subst (HoldsAs types st.cells e.of) (ap held same ∙ held_slot (held_by r))
         (fills e.op g.types e.of g.typed other e.args all_run g.arguments (answer_fits g.types g.typed g.arguments) slot does)
 
+    -- an update makes an aggregate, and others make none
+    makes_by : (o : Op) (kinds : List ValueType) (of : ValueType) → IsTyped o kinds of → (b : Bool) → is_update o ≡ b → (a : Answer) (v : View) → effect_by b a ≡ Make v → (a ≡ Ok (Some v)) × (is_aggregate of ≡ true)
+    makes_by o kinds of typed true so a v is =
+        let found = update_there o so in
+        let row = row_of o found.0 kinds of found.1 typed in
+        (made_is a v is, updates_aggregate row.row)
+    makes_by o kinds of typed false so a v is = fill_make is
+
     -- a view that is made
     makes : (o : Op) (kinds : List ValueType) (of : ValueType) → IsTyped o kinds of → is_given_op o ≡ false → (args : List ℕ) → HasArity o args → (v : View) → effect_of (λ j u. None) t c i o args of ≡ Make v → (at_once o of (map (value_in c) args) t ≡ Ok (Some v)) × (is_aggregate of ≡ true)
     makes op.Input kinds of typed other args shape v is = absurd (true≢false other)
     makes op.Delay kinds of typed other args shape v is = absurd (true≢false other)
-    makes op.Nil kinds of typed other args shape v is = fill_make is
-    makes op.Unit kinds of typed other args shape v is = fill_make is
-    makes (op.Lift body strict) kinds of typed other args shape v is = fill_make is
-    makes op.Any kinds of typed other args shape v is = fill_make is
-    makes op.Time kinds of typed other args shape v is = fill_make is
     makes op.Last kinds of typed other [] shape v is = absurd shape
     makes op.Last kinds of typed other (w ∷ []) shape v is = absurd shape
     makes op.Last kinds of typed other (w ∷ r ∷ []) shape v is = fill_make is
@@ -191,13 +198,11 @@ module _ (s : System) (whole : IsFlat s) (types : ℕ → ValueType) (st : Store
     makes op.Pick kinds of typed other (a ∷ b ∷ []) shape v is = absurd shape
     makes op.Pick kinds of typed other (a ∷ b ∷ x ∷ []) shape v is = fill_make is
     makes op.Pick kinds of typed other (a ∷ b ∷ x ∷ y ∷ args) shape v is = absurd shape
+    makes op.Empty kinds of (rule.update h row) other args shape v is = no_update h
     makes op.Empty kinds of (empty aggregate) other args shape v is = (made_is (at_once op.Empty of (map (value_in c) args) t) v is, aggregate)
-    makes op.SetAdd kinds of (set_add k) other args shape v is = (made_is (at_once op.SetAdd of (map (value_in c) args) t) v is, refl)
-    makes op.SetRemove kinds of (set_remove k) other args shape v is = (made_is (at_once op.SetRemove of (map (value_in c) args) t) v is, refl)
-    makes op.MapAdd kinds of (map_add k) other args shape v is = (made_is (at_once op.MapAdd of (map (value_in c) args) t) v is, refl)
-    makes op.MapRemove kinds of (map_remove k) other args shape v is = (made_is (at_once op.MapRemove of (map (value_in c) args) t) v is, refl)
+    makes o kinds of typed other args shape v is = makes_by o kinds of typed (is_update o) refl (at_once o of (map (value_in c) args) t) v is
 
-    pub made_fits : is_given_op e.op ≡ false → (v : View) → effect_here registers last_registers st i t e ≡ Make v → IsTrue (is_of e.of v) × cells.IsAggregate v
+    pub made_fits : is_given_op e.op ≡ false → (v : View) → effect_here registers last_registers st i t e ≡ Make v → IsTrue (is_of e.of v) × IsTrue (has_elements v)
     made_fits other v does =
         let g = whole.complete.typed.each i e is in
         let made_so = makes e.op g.types e.of g.typed other e.args (shape_of s whole i e is) v does in

@@ -1,9 +1,7 @@
 -- One instant: how it begins, and what it has reached once all steps have run.
 use Rattle.std.proofs.Common.{◌≡◌, ◌==◌, ℕ, ◌<◌, Bool, true, false, ◌&&◌, ◌||◌, not, List, [], ◌∷◌, length, Option, Some, None, Result, Ok, Err, OnOk, refl, sym, ap, subst, ◌∙◌, inl, inr, arith}
 use Rattle.std.proofs.lemmas.Bool.{cases_Bool, and_parts, eqb-true, false≢true, true≢false}
-use Rattle.std.proofs.Common.{zero-add}
-use Rattle.std.proofs.lemmas.List.FromFn.{length-range_with_len, get_or-range_with_len}
-use Rattle.std.specs.Prelude.{if◌then◌else◌, ◌≢◌, ◌⊎◌, unwrap_or, IsTrue, slice_index}
+use Rattle.std.specs.Prelude.{if◌then◌else◌, ◌≢◌, ◌⊎◌, unwrap_or, IsTrue, slice_index, slice_index_or}
 use Rattle.std.specs.Option.{option_or, option_and_then}
 use Rattle.std.specs.List.{All, AllByRecursion, filter}
 use Rattle.std.specs.FinMap as finite_map
@@ -19,20 +17,20 @@ use Rattle.aggregate_store.specs.inner.Stored.{Stored, is_listed}
 use Rattle.flat_core.specs.declared.equation.Equation.{Equation}
 use Rattle.flat_core.specs.declared.equation.Op.{Op}
 use Rattle.flat_core.specs.declared.equation.Op.TheVariants as op
-use Rattle.flat_core.specs.Case.{Inputs, unit}
-use Rattle.flat_core.specs.Case.{refused as refused_op}
+use Rattle.flat_core.specs.Events.{Inputs, unit, refused as refused_op}
 use Rattle.flat_core.specs.Complete.{IsFlat}
 use Rattle.flat_core.specs.Instant.{is_delay, is_delay_op}
 use Rattle.flat_core.specs.Line.{Line, event_in, inputs_of}
 use Rattle.flat_core.specs.Members.{is_in}
 use Rattle.flat_core.specs.Pending.{option_is}
-use Rattle.flat_core.specs.System.{System, equation, runs}
-use Rattle.flat_core.specs.Typed.{IsTyped, delay, unit_type}
+use Rattle.flat_core.specs.System.{System, equation, runs, numbers}
+use Rattle.flat_core.specs.Typed.{IsTyped, unit_type}
+use Rattle.flat_core.specs.Typed as rule
+use Rattle.flat_core.proofs.UpdateOps.{no_update}
 use Rattle.std.proofs.lemmas.List.Elements.{All-from_recursion}
-use Rattle.flat_core.proofs.Members.{all_from, in-Contains, some_in}
+use Rattle.flat_core.proofs.Members.{all_from, in-Contains, in_numbers, some_in}
 use Rattle.flat_core.proofs.Depth.{runs_below}
-use Rattle.register_code.specs.Code.{is_kept, is_number, is_timer, kept_at, kept_by, keeps_of, timers_of}
-use Rattle.program_text.specs.Text.{numbers}
+use Rattle.flat_core.specs.Kept.{is_kept, is_number, is_timer, kept_at, kept_by, keeps_of, timers_of}
 use Rattle.register_machine.specs.Machine.{Bare, value_in, view_of, slot_of_answer}
 use Rattle.register_machine.specs.Machine as machine
 use Rattle.register_machine.specs.Run as run
@@ -46,6 +44,7 @@ use Rattle.monitor_run.specs.inner.Instant.{AreInputs, AreTimers, Begins, HasEnd
 use Rattle.monitor_run.specs.inner.Machine.{AreFresh}
 use Rattle.monitor_run.specs.inner.Registers.{AreHeld, IsHeldOf, register_at, value_at}
 use Rattle.monitor_run.specs.inner.Shown.{held_at, held_by}
+use Rattle.monitor_run.specs.inner.Visits.{AreKept}
 use Rattle.monitor_run.proofs.CellLemmas.{seen_is}
 use Rattle.monitor_run.proofs.DelayLemmas.{timer_runs, timer_shape}
 use Rattle.flat_core.proofs.Shapes.{running_args}
@@ -149,7 +148,8 @@ module _ (s : System) (whole : IsFlat s) (t : ℕ) (given : List Line) (events :
       subst (λ w. IsTrue (is_of e.of w)) (sym found.1) (subst (λ (f : Equation). IsTrue (is_of f.of (Plain found.0))) (one_equation i e found.2.at is found.2.is) found.2.typed)
 
   delay_type : (types : List ValueType) (of : ValueType) → IsTyped op.Delay types of → of ≡ unit_type
-  delay_type types of delay = refl
+  delay_type types of rule.delay = refl
+  delay_type types of (rule.update is row) = no_update is
 
   typed_due : (i : ℕ) (e : Equation) → equation s i ≡ Some e → (b : Bool) → option_is t (finite_map.get old.timers.times i) ≡ b → IsTrue (fits (Optional e.of) (if b then Some unit else None))
   typed_due i e is false p = refl
@@ -230,9 +230,6 @@ module _ (s : System) (whole : IsFlat s) (t : ℕ) (given : List Line) (events :
       due_slot false = refl
 
 -- ---- what is listed
-pub in_numbers : (s : System) (i : ℕ) → i < length s.equations → is_in (numbers s) i ≡ true
-in_numbers s i lt = let size = length-range_with_len 0 (length s.equations) in in-Contains (numbers s) i (i, omega arith, get_or-range_with_len 0 (length s.equations) i i lt ∙ zero-add i)
-
 -- among running equations
 pub filtered_running : (s : System) → IsFlat s → (p : ℕ → Bool) (i : ℕ) → IsTrue (runs s i) → is_in (filter p (numbers s)) i ≡ p i
 filtered_running s whole p i run = in_filter p (numbers s) i ∙ (λ k. p i && in_numbers s i (runs_below s whole.proper i run) k) ∙ and_true (p i)
@@ -364,6 +361,10 @@ pub all_kept : (s : System) → IsFlat s → (n : ℕ) → n ≡ length s.equati
 all_kept s whole n size keeps is =
     subst (All (λ i. i < n)) (sym is) (All-from_recursion (λ i. i < n) (keeps_of s) (all_from (λ i. i < n) (keeps_of s) (λ i there.
     let lt = runs_below s whole.proper i (kept_runs s whole i (listed_kept s i (in-Contains (keeps_of s) i there))) in omega arith)))
+
+-- what is listed is marked as kept
+pub kept_there_in : (s : System) → IsFlat s → (kept : List Bool) → AreKept s kept → (i : ℕ) → is_in (keeps_of s) i ≡ true → slice_index_or kept i false ≡ true
+kept_there_in s whole kept are i listed = are i (let lt = runs_below s whole.proper i (kept_runs s whole i (listed_kept s i listed)) in omega arith) ∙ listed
 
 -- what is kept, the delays that are set, and the cells that stay
 pub ends : {E : Type 0} (s : System) (t : ℕ) (old new : Machine)

@@ -1,6 +1,6 @@
 -- An instant of the code is one of the register machine.
-use Rattle.std.proofs.Common.{◌≡◌, ◌==◌, ℕ, Bool, true, false, ◌&&◌, ◌||◌, List, [], ◌∷◌, map, Option, Some, None, refl, sym, ap, ◌∙◌}
-use Rattle.std.proofs.lemmas.Bool.{and_parts, and_from, false≢true}
+use Rattle.std.proofs.Common.{◌≡◌, ◌==◌, ℕ, Bool, true, false, ◌||◌, List, [], ◌∷◌, map, Option, Some, None, refl, sym, ap, ◌∙◌}
+use Rattle.std.proofs.lemmas.Bool.{and_parts, false≢true}
 use Rattle.std.specs.Prelude.{if◌then◌else◌, is_some, IsTrue, slice_index}
 use Rattle.std.specs.Option.{option_and_then, option_or}
 use Rattle.std.specs.List.{AllByRecursion, list_any}
@@ -12,25 +12,19 @@ use Rattle.lift_func.specs.inner.Cells.{Cells}
 use Rattle.lift_func.specs.inner.Cells as cells
 use Rattle.aggregate_store.specs.inner.Stored.{is_listed}
 use Rattle.flat_core.specs.declared.equation.Equation.{Equation}
-use Rattle.flat_core.specs.declared.equation.Op.{Op}
 use Rattle.flat_core.specs.declared.equation.Op.TheVariants as op
-use Rattle.flat_core.specs.Case.{Inputs}
+use Rattle.flat_core.specs.Events.{Inputs}
 use Rattle.flat_core.specs.Complete.{IsFlat}
 use Rattle.flat_core.specs.Instant.{is_delay}
 use Rattle.flat_core.specs.Line.{Line}
 use Rattle.flat_core.specs.Members.{is_in}
 use Rattle.flat_core.specs.Pending.{option_is, reached}
 use Rattle.flat_core.specs.System.{System, equation, runs}
-use Rattle.flat_core.proofs.Members.{all_from, in-Contains, none_from, some_from, some_in, same_truth}
-use Rattle.flat_core.proofs.Depth.{runs_below}
-use Rattle.alias_rules.specs.Uses.{last_of}
-use Rattle.flat_core.proofs.Rising.{in_filter}
-use Rattle.register_code.specs.Code.{is_kept, is_number, is_timer, kept_at, kept_by, keeps_of, timers_of}
-use Rattle.program_text.specs.Text.{numbers}
+use Rattle.flat_core.proofs.Members.{all_from, in-Contains, none_from}
+use Rattle.flat_core.specs.Kept.{is_timer, keeps_of, timers_of}
 use Rattle.register_machine.specs.Machine.{Bare, Config, fires, with, value_in, view_of, expiry, timed}
 use Rattle.register_machine.specs.Machine as machine
-use Rattle.register_machine.specs.Run as run
-use Rattle.register_machine.specs.Run.{Plan, Instant, delays, ended, has_root, is_cell, kept, kept_cells, last_at, root_seen}
+use Rattle.register_machine.specs.Run.{Plan, Instant, ended, has_root, is_cell, kept_cells, root_seen}
 use Rattle.register_machine.specs.Stands.{in_time}
 use Rattle.register_machine.proofs.Cells.{with-here}
 use Rattle.monitor_run.specs.declared.machine.Machine.{Machine}
@@ -45,67 +39,13 @@ use Rattle.monitor_run.proofs.EndedLemmas.{listed_append}
 use Rattle.monitor_run.proofs.EndingLemmas.{HasEnding, ending_goes, expiry_is, overwritten, timed_at}
 use Rattle.flat_core.proofs.Shapes.{running_args}
 use Rattle.flat_core.proofs.Answered.{delay_op}
-use Rattle.monitor_run.proofs.InstantLemmas.{filtered_running, in_numbers, kept_runs, listed_kept, listed_timer}
+use Rattle.monitor_run.proofs.InstantLemmas.{filtered_running, kept_runs, listed_kept, listed_timer}
 
--- ---- what the code keeps and sets is what the machine does
-module _ (s : System) (whole : IsFlat s) where
-  number_same : (q : Option Equation) (v : ℕ) → is_number (kept_at q) v ≡ is_in (last_at q) v
-  number_same None v = refl
-  number_same (Some e) v = by_op e.op e.args
-    where
-      or_none : (b : Bool) → b ≡ (b || false)
-      or_none true = refl
-      or_none false = refl
-
-      by_op : (o : Op) (args : List ℕ) → is_number (kept_by o args) v ≡ is_in (last_of o args) v
-      by_op op.Last [] = refl
-      by_op op.Last (a ∷ args) = or_none (a == v)
-      by_op o args = refl
-
-  pub kept_same : (v : ℕ) → is_in (keeps_of s) v ≡ is_in (kept s) v
-  kept_same v = same_truth (is_in (keeps_of s) v) (is_in (kept s) v) there back
-    where
-      there : is_in (keeps_of s) v ≡ true → is_in (kept s) v ≡ true
-      there listed =
-          let is = listed_kept s v listed in
-          let found = some_in (λ j. runs s j && is_number (kept_at (equation s j)) v) (numbers s) is in
-          let parts = and_parts (runs s found.0) (is_number (kept_at (equation s found.0)) v) found.2 in
-          in_filter (run.is_kept s) s.running v
-          ∙ and_from (run.is_kept s v) (is_in s.running v) (some_from (λ j. is_in (last_at (equation s j)) v) s.running found.0 parts.0 (sym (number_same (equation s found.0) v) ∙ parts.1)) (kept_runs s whole v is)
-
-      back : is_in (kept s) v ≡ true → is_in (keeps_of s) v ≡ true
-      back listed =
-          let both = and_parts (run.is_kept s v) (is_in s.running v) (sym (in_filter (run.is_kept s) s.running v) ∙ listed) in
-          let found = some_in (λ j. is_in (last_at (equation s j)) v) s.running both.0 in
-          in_filter (is_kept s) (numbers s) v
-          ∙ and_from (is_kept s v) (is_in (numbers s) v)
-          (some_from (λ j. runs s j && is_number (kept_at (equation s j)) v) (numbers s) found.0 (in_numbers s found.0 (runs_below s whole.proper found.0 found.1)) (and_from (runs s found.0) (is_number (kept_at (equation s found.0)) v) found.1 (number_same (equation s found.0) v ∙ found.2)))
-          (in_numbers s v (runs_below s whole.proper v both.1))
-
-  pub timers_same : (v : ℕ) → is_in (timers_of s) v ≡ is_in (delays s) v
-  timers_same v = same_truth (is_in (timers_of s) v) (is_in (delays s) v) there back
-    where
-      there : is_in (timers_of s) v ≡ true → is_in (delays s) v ≡ true
-      there listed =
-          let both = and_parts (runs s v) (is_delay (equation s v)) (listed_timer s v listed) in
-          in_filter (λ i. is_delay (equation s i)) s.running v ∙ and_from (is_delay (equation s v)) (is_in s.running v) both.1 both.0
-
-      back : is_in (delays s) v ≡ true → is_in (timers_of s) v ≡ true
-      back listed =
-          let both = and_parts (is_delay (equation s v)) (is_in s.running v) (sym (in_filter (λ i. is_delay (equation s i)) s.running v) ∙ listed) in
-          filtered_running s whole (is_timer s) v both.1 ∙ and_from (runs s v) (is_delay (equation s v)) both.1 both.0
-
-  delays_there : AllByRecursion (λ i. (e : Equation) × (equation s i ≡ Some e)) (delays s)
-  delays_there = all_from (λ i. (e : Equation) × (equation s i ≡ Some e)) (delays s) (λ i found.
-      let both = and_parts (is_delay (equation s i)) (is_in s.running i) (sym (in_filter (λ j. is_delay (equation s j)) s.running i) ∙ in-Contains (delays s) i found) in
-      let f = whole.proper.runs_all i both.1 in
-      (f.0, f.1))
-
--- any of two lists with the same members
-any_same : (p : ℕ → Bool) (xs ys : List ℕ) → ((v : ℕ) → is_in xs v ≡ is_in ys v) → list_any p xs ≡ list_any p ys
-any_same p xs ys same =
-    same_truth (list_any p xs) (list_any p ys) (λ so. let found = some_in p xs so in some_from p ys found.0 (sym (same found.0) ∙ found.1) found.2)
-    (λ so. let found = some_in p ys so in some_from p xs found.0 (same found.0 ∙ found.1) found.2)
+-- ---- the delays are there
+delays_there : (s : System) → IsFlat s → AllByRecursion (λ i. (e : Equation) × (equation s i ≡ Some e)) (timers_of s)
+delays_there s whole = all_from (λ i. (e : Equation) × (equation s i ≡ Some e)) (timers_of s) (λ i found.
+    let f = whole.proper.runs_all i (timer_runs s i (listed_timer s i (in-Contains (timers_of s) i found))) in
+    (f.0, f.1))
 
 -- the cells of last registers
 cells_listed : (last : List Register) (keeps : List ℕ) (h : ℕ) → is_listed (cells_in last keeps) h ≡ list_any (λ v. is_cell h (held_at last v)) keeps
@@ -144,28 +84,27 @@ module _ (s : System) (whole : IsFlat s) (plan : Plan) (t : ℕ) (given : List L
       ap held_by (ended_is.last v) ∙ go (is_in (keeps_of s) v) refl
       ∙ sym (end.1.lasts v)
     where
-      go : (b : Bool) → is_in (keeps_of s) v ≡ b → held_by (if is_in (keeps_of s) v then kept_register (register_at mid.registers.items v) (register_at mid.last.items v) else register_at mid.last.items v) ≡ overwritten (is_in (kept s) v) (machine.held (r.reached.slots v)) (r.reached.lasts v)
+      go : (b : Bool) → is_in (keeps_of s) v ≡ b → held_by (if is_in (keeps_of s) v then kept_register (register_at mid.registers.items v) (register_at mid.last.items v) else register_at mid.last.items v) ≡ overwritten (is_in (keeps_of s) v) (machine.held (r.reached.slots v)) (r.reached.lasts v)
       go true so =
           let run_v = kept_runs s whole v (listed_kept s v so) in
           (λ k. held_by (if so k then kept_register (register_at mid.registers.items v) (register_at mid.last.items v) else register_at mid.last.items v))
           ∙ held_kept (register_at mid.registers.items v) (register_at mid.last.items v)
           ∙ (λ k. option_or ((r.shows.each v run_v refl).holds k) (r.shows.beside.lasts v k))
-          ∙ sym (λ k. overwritten ((sym (kept_same s whole v) ∙ so) k) (machine.held (r.reached.slots v)) (r.reached.lasts v))
+          ∙ sym (λ k. overwritten (so k) (machine.held (r.reached.slots v)) (r.reached.lasts v))
       go false fails =
           (λ k. held_by (if fails k then kept_register (register_at mid.registers.items v) (register_at mid.last.items v) else register_at mid.last.items v))
           ∙ r.shows.beside.lasts v
-          ∙ sym (λ k. overwritten ((sym (kept_same s whole v) ∙ fails) k) (machine.held (r.reached.slots v)) (r.reached.lasts v))
+          ∙ sym (λ k. overwritten (fails k) (machine.held (r.reached.slots v)) (r.reached.lasts v))
 
   cells_same : new.store.cells ≡ kept_cells s end.0
   cells_same =
       ended_is.cells
       ∙ (λ k. finite_map.retain_keys ((r.shows.beside.cells ∙ sym end.1.cells) k) (λ h. listed_here h k))
     where
-      listed_here : (h : ℕ) → is_listed (cells_in new.last.items (keeps_of s)) h ≡ list_any (λ v. is_cell h ((end.0).lasts v)) (kept s)
+      listed_here : (h : ℕ) → is_listed (cells_in new.last.items (keeps_of s)) h ≡ list_any (λ v. is_cell h ((end.0).lasts v)) (keeps_of s)
       listed_here h =
           cells_listed new.last.items (keeps_of s) h
-          ∙ any_same (λ v. is_cell h (held_at new.last.items v)) (keeps_of s) (kept s) (kept_same s whole)
-          ∙ (λ k. list_any (λ v. is_cell h (lasts_same v k)) (kept s))
+          ∙ (λ k. list_any (λ v. is_cell h (lasts_same v k)) (keeps_of s))
 
   ledger_same : (u : ℕ) → slice_index new.store.ledger u ≡ (end.0).ledger u
   ledger_same u = ap (λ l. slice_index l u) ended_is.ledger ∙ r.shows.beside.ledger u ∙ sym (λ k. end.1.ledger k u)
@@ -223,7 +162,7 @@ module _ (s : System) (whole : IsFlat s) (plan : Plan) (t : ℕ) (given : List L
   pending_same : (i : ℕ) → finite_map.get new.timers.times i ≡ (end.0).pending i
   pending_same i = ended_is.timers ran.types mid.store.cells ran.held i ∙ go (is_in (timers_of s) i) refl ∙ sym (end.1.pending i)
     where
-      go : (b : Bool) → is_in (timers_of s) i ≡ b → (if is_in (timers_of s) i then set_at (equation s i) mid.store.cells mid.registers.items t i (finite_map.get mid.timers.times i) else finite_map.get mid.timers.times i) ≡ (if is_in (delays s) i then timed_at t r.reached i (equation s i) else r.reached.pending i)
+      go : (b : Bool) → is_in (timers_of s) i ≡ b → (if is_in (timers_of s) i then set_at (equation s i) mid.store.cells mid.registers.items t i (finite_map.get mid.timers.times i) else finite_map.get mid.timers.times i) ≡ (if is_in (timers_of s) i then timed_at t r.reached i (equation s i) else r.reached.pending i)
       go true so =
           let timer = listed_timer s i so in
           let run_i = timer_runs s i timer in
@@ -231,11 +170,11 @@ module _ (s : System) (whole : IsFlat s) (plan : Plan) (t : ℕ) (given : List L
           let is_op = delay_op f.0.op (ap is_delay (sym f.1) ∙ (and_parts (runs s i) (is_delay (equation s i)) timer).1) in
           (λ k. if so k then set_at (f.1 k) mid.store.cells mid.registers.items t i (finite_map.get mid.timers.times i) else finite_map.get mid.timers.times i)
           ∙ set_is i f.0 run_i f.1 is_op f.0.args (timer_shape s whole i f.0 timer f.1) (running_args s whole.proper i f.0 run_i f.1)
-          ∙ sym (λ k. if (sym (timers_same s whole i) ∙ so) k then timed_at t r.reached i (f.1 k) else r.reached.pending i)
+          ∙ sym (λ k. if so k then timed_at t r.reached i (f.1 k) else r.reached.pending i)
       go false fails =
           (λ k. if fails k then set_at (equation s i) mid.store.cells mid.registers.items t i (finite_map.get mid.timers.times i) else finite_map.get mid.timers.times i)
           ∙ ran.timers i ∙ left_none (finite_map.get old.timers.times i) (not_due (finite_map.get old.timers.times i) refl) ∙ sym (r.pending i)
-          ∙ sym (λ k. if (sym (timers_same s whole i) ∙ fails) k then timed_at t r.reached i (equation s i) else r.reached.pending i)
+          ∙ sym (λ k. if fails k then timed_at t r.reached i (equation s i) else r.reached.pending i)
         where
           not_due : (o : Option ℕ) → finite_map.get old.timers.times i ≡ o → option_is t o ≡ false
           not_due None is = refl

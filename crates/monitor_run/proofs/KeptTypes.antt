@@ -10,7 +10,7 @@ use Rattle.tsl_value.specs.declared.scalar.ValueType.{ValueType}
 use Rattle.lift_func.specs.declared.eval.EvalFault.TheVariants as eval_fault
 use Rattle.lift_func.specs.declared.register.Register.{Register}
 use Rattle.lift_func.specs.declared.register.Register.TheVariants as register
-use Rattle.lift_func.specs.inner.Cells as cells
+use Rattle.tsl_value.specs.Aggregate.{has_elements}
 use Rattle.lift_func.specs.inner.Cells.{Cells}
 use Rattle.aggregate_store.specs.inner.Stored.{Stored}
 use Rattle.aggregate_store.proofs.Live.{is_live, has_view}
@@ -19,7 +19,7 @@ use Rattle.flat_core.specs.declared.equation.Op.{Op}
 use Rattle.flat_core.specs.declared.equation.Op.TheVariants as op
 use Rattle.flat_core.specs.Complete.{IsFlat}
 use Rattle.flat_core.specs.System.{System, runs, equation}
-use Rattle.flat_core.specs.Typed.{IsTyped, set_add, set_remove, map_add, map_remove}
+use Rattle.flat_core.specs.Typed.{IsTyped}
 use Rattle.flat_core.specs.TypedSystem.{AreOfTypes}
 use Rattle.flat_core.specs.Updates.{is_update}
 use Rattle.register_machine.specs.Machine.{with, Effect, Fill, Make}
@@ -32,6 +32,7 @@ use Rattle.monitor_run.specs.inner.Registers.{AreHeld, IsHeldOf, register_at}
 use Rattle.monitor_run.proofs.CellLemmas.{held-retyped, held-stays, stay-changed, stay-new}
 use Rattle.monitor_run.proofs.HoldLemmas.{filled_holds, held_as, made_fits, one_as}
 use Rattle.flat_core.proofs.Shapes.{one_equation, running_args}
+use Rattle.flat_core.proofs.UpdateOps.{update_there, row_of}
 
 -- all registers, and the last registers, with some types of the cells
 pub record AllHeld (s : System) (m : Machine) : Type 0 where
@@ -44,11 +45,13 @@ aggregate_same q = cc
 
 -- the source of an update is of its type
 source_type : (o : Op) (kinds : List ValueType) (of : ValueType) → IsTyped o kinds of → is_update o ≡ true → (k : ValueType) (more : List ValueType) → kinds ≡ k ∷ more → k ≡ of
-source_type op.SetAdd kinds of (set_add is) update k more same = cc
-source_type op.SetRemove kinds of (set_remove is) update k more same = cc
-source_type op.MapAdd kinds of (map_add is) update k more same = cc
-source_type op.MapRemove kinds of (map_remove is) update k more same = cc
-source_type _ kinds of typed update k more same = absurd (false≢true update)
+source_type o kinds of typed so k more same =
+    let found = update_there o so in
+    let row = row_of o found.0 kinds of found.1 typed in
+    first_type (sym same ∙ row.are)
+  where
+    first_type : {x y : ValueType} {xs ys : List ValueType} → x ∷ xs ≡ y ∷ ys → x ≡ y
+    first_type e = cc
 
 -- a register is set
 set_held : (s : System) (types : ℕ → ValueType) (c : Cells) (registers : List Register) (n : ℕ) (e : Equation) (r : Register) → equation s n ≡ Some e → AreHeld s types c registers → n < length registers → IsHeldOf c e.of r → ((h : ℕ) → r ≡ register.Aggregate h → types h ≡ e.of)
@@ -87,15 +90,15 @@ module _ (s : System) (whole : IsFlat s) (in_place : Bool) (t n : ℕ) (e : Equa
       last = subst (AreHeld s types new.store.cells) (sym last) held_last;
     }
 
-    cell_held : (h : ℕ) (v : View) → r ≡ register.Aggregate h → new.store.cells ≡ finite_map.insert old.store.cells h v → IsTrue (is_of e.of v) × cells.IsAggregate v → IsHeldOf new.store.cells e.of r
+    cell_held : (h : ℕ) (v : View) → r ≡ register.Aggregate h → new.store.cells ≡ finite_map.insert old.store.cells h v → IsTrue (is_of e.of v) × IsTrue (has_elements v) → IsHeldOf new.store.cells e.of r
     cell_held h v is made fits =
         let same = has_view old.store.cells new.store.cells h v made in
         subst (IsHeldOf new.store.cells e.of) (sym is) (record {
           typed = subst (λ w. IsTrue (is_of e.of w)) (sym same) fits.0;
-          live = (is_live old.store.cells new.store.cells h v made, subst cells.IsAggregate (sym same) fits.1);
+          live = (is_live old.store.cells new.store.cells h v made, ap has_elements same ∙ fits.1);
         })
 
-    made_held : (v : View) → IsTrue (is_of e.of v) × cells.IsAggregate v → IsMade old.store.cells new.store.cells v r → AllHeld s new
+    made_held : (v : View) → IsTrue (is_of e.of v) × IsTrue (has_elements v) → IsMade old.store.cells new.store.cells v r → AllHeld s new
     made_held v fits made =
         let types = with all.types made.handle e.of in
         let stays = stay-new types old.store.cells new.store.cells made.handle v made.fresh made.cells in
@@ -105,7 +108,7 @@ module _ (s : System) (whole : IsFlat s) (in_place : Bool) (t n : ℕ) (e : Equa
         (cell_held made.handle v made.is made.cells fits)
         (λ h is. let same : made.handle ≡ h = aggregate_same (sym made.is ∙ is) in subst (λ m. with all.types made.handle e.of m ≡ e.of) same (with-here all.types made.handle e.of))
 
-    changed_held : (v : View) → IsTrue (is_of e.of v) × cells.IsAggregate v → is_update e.op ≡ true → (h : ℕ) → source_of old.registers.items e.args ≡ register.Aggregate h → r ≡ register.Aggregate h → new.store.cells ≡ finite_map.insert old.store.cells h v → AllHeld s new
+    changed_held : (v : View) → IsTrue (is_of e.of v) × IsTrue (has_elements v) → is_update e.op ≡ true → (h : ℕ) → source_of old.registers.items e.args ≡ register.Aggregate h → r ≡ register.Aggregate h → new.store.cells ≡ finite_map.insert old.store.cells h v → AllHeld s new
     changed_held v fits so h source is made =
         let g = whole.complete.typed.each n e at in
         let of_h : all.types h ≡ e.of = go e.args g.types (running_args s whole.proper n e run at) g.arguments (source_type e.op g.types e.of g.typed so) source in
@@ -129,7 +132,7 @@ module _ (s : System) (whole : IsFlat s) (in_place : Bool) (t n : ℕ) (e : Equa
             (subst (λ c. IsHeldOf c e.of r) (sym cells_are) (held_as all.types old.store.cells e.of r holds)) (one_as all.types old.store.cells e.of r holds)
         go (Make v) is has = by (is_update e.op) refl in_place refl has
           where
-            fits : IsTrue (is_of e.of v) × cells.IsAggregate v
+            fits : IsTrue (is_of e.of v) × IsTrue (has_elements v)
             fits = made_fits s whole all.types old.store old.registers.items old.last.items all.held all.last n t e run at other v is
 
             by : (q : Bool) → is_update e.op ≡ q → (b : Bool) → in_place ≡ b → HasMade q b n (source_of old.registers.items e.args) old.store new.store r v → AllHeld s new

@@ -21,6 +21,7 @@ pub mod EndingLemmas
 pub mod InstantLemmas
 pub mod TableLemmas
 pub mod EndedLemmas
+pub mod SoleLemmas
 pub mod InstantOf
 pub mod DueTimes
 pub mod GapLemmas

@@ -14,7 +14,8 @@ use Rattle.lift_func.specs.declared.fault.FaultKind.{FaultKind}
 use Rattle.flat_core.specs.declared.equation.Equation.{Equation}
 use Rattle.flat_core.specs.declared.equation.Op.{Op}
 use Rattle.flat_core.specs.declared.equation.Op.TheVariants as op
-use Rattle.flat_core.specs.Case.{Inputs, used_of}
+use Rattle.flat_core.specs.Case.{used_of}
+use Rattle.flat_core.specs.Events.{Inputs}
 use Rattle.flat_core.specs.Complete.{IsFlat}
 use Rattle.flat_core.specs.Instant.{is_delay, is_delay_op}
 use Rattle.flat_core.specs.Pending.{option_is}

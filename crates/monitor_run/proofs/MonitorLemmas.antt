@@ -13,7 +13,7 @@ use Rattle.flat_core.specs.Case.{Streams}
 use Rattle.flat_core.specs.Complete.{IsFlat}
 use Rattle.flat_core.specs.Fault.{is_faulty, root_at}
 use Rattle.alias_rules.specs.Fine.{IsFinePlan}
-use Rattle.register_code.specs.Code.{is_kept}
+use Rattle.flat_core.specs.Kept.{is_kept}
 use Rattle.register_machine.specs.Run as run
 use Rattle.register_machine.specs.Run.{Instant, root_seen}
 use Rattle.register_machine.specs.Stands.{RunsTo}

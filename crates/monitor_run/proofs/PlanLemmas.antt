@@ -21,6 +21,7 @@ use Rattle.alias_rules.specs.Fine.{IsFinePlan}
 use Rattle.alias_rules.specs.Steps.{argument, printed, is_print, is_step, step_count}
 use Rattle.flat_core.specs.Updates.{is_update}
 use Rattle.alias_rules.proofs.Ranks.{in_take, not_in_take, one_place}
+use Rattle.alias_rules.proofs.Updates.{has_update}
 use Rattle.register_machine.specs.Content.{print_of}
 use Rattle.register_code.specs.inner.Plan.{IsPlanOrder}
 
@@ -97,7 +98,7 @@ module _ (s : System) (whole : IsFlat s) (order : List ℕ) (plan : IsPlanOrder 
 -- what happens in place is an update
 pub fine_update : (s : System) (set order : List ℕ) → IsFinePlan s set order → (n : ℕ) (e : Equation) → equation s n ≡ Some e → is_in set n ≡ true → is_update e.op ≡ true
 fine_update s set order fine n e is listed =
-    let update = fine.updates n listed in
+    let update = has_update s n (fine.updates n listed) in
     subst (λ (f : Equation). is_update f.op ≡ true) (one_equation s n e update.at is update.is) update.updates
 
 -- a print that comes next: its output is there, and what it prints has run

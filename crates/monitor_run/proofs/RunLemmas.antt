@@ -19,9 +19,11 @@ use Rattle.aggregate_store.specs.inner.Stored.{Stored, counted}
 use Rattle.flat_core.specs.declared.equation.Equation.{Equation}
 use Rattle.flat_core.specs.declared.equation.Op.{Op}
 use Rattle.flat_core.specs.declared.equation.Op.TheVariants as op
-use Rattle.flat_core.specs.Case.{Inputs, at_once, used_of}
+use Rattle.flat_core.specs.Case.{used_of}
+use Rattle.flat_core.specs.Events.{Inputs, at_once}
 use Rattle.flat_core.specs.Pending.{option_is}
 use Rattle.flat_core.specs.Updates.{is_update}
+use Rattle.flat_core.proofs.UpdateOps.{used_update}
 use Rattle.register_machine.specs.Copied.{size_at}
 use Rattle.register_machine.specs.Machine.{Held, Bare, Cell, Slot, Blank, Holds, Failed, held, is_failed, slot_of, slot_of_answer, Config, value_in, view_of, with, Effect, Fill, Make, effect_of, effect, is_barred, Ran, RanInPlace}
 use Rattle.register_machine.specs.Machine as machine
@@ -123,23 +125,11 @@ module _ (inputs : Inputs) (t i : ℕ) (c d : Config) (cells : c.cells ≡ d.cel
   effect_same op.Pick (a ∷ b ∷ x ∷ y ∷ args) of other shape used = absurd shape
   effect_same op.Pick (a ∷ b ∷ x ∷ []) of other shape used = λ k. Fill (slot_of (machine.where_either (held (used.0 k)) (held (used.1.0 k)) (held (used.1.1.0 k))))
   effect_same op.Empty args of other shape used = ap (λ vs. machine.made (at_once op.Empty of vs t)) (values_same args used)
-  effect_same op.SetAdd args of other shape used = ap (λ vs. machine.made (at_once op.SetAdd of vs t)) (values_same args used)
-  effect_same op.SetRemove args of other shape used = ap (λ vs. machine.made (at_once op.SetRemove of vs t)) (values_same args used)
-  effect_same op.MapAdd args of other shape used = ap (λ vs. machine.made (at_once op.MapAdd of vs t)) (values_same args used)
-  effect_same op.MapRemove args of other shape used = ap (λ vs. machine.made (at_once op.MapRemove of vs t)) (values_same args used)
-  effect_same op.Nil args of other shape used = ap (λ vs. Fill (slot_of_answer (at_once op.Nil of vs t))) (values_same args used)
-  effect_same op.Unit args of other shape used = ap (λ vs. Fill (slot_of_answer (at_once op.Unit of vs t))) (values_same args used)
-  effect_same (op.Lift body strict) args of other shape used = ap (λ vs. Fill (slot_of_answer (at_once (op.Lift body strict) of vs t))) (values_same args used)
-  effect_same op.Any args of other shape used = ap (λ vs. Fill (slot_of_answer (at_once op.Any of vs t))) (values_same args used)
-  effect_same op.Time args of other shape used = ap (λ vs. Fill (slot_of_answer (at_once op.Time of vs t))) (values_same args used)
+  effect_same o args of other shape used = ap (λ vs. machine.effect_by (is_update o) (at_once o of vs t)) (values_same args used)
 
 -- the first argument of an update is used
 pub source_used : (P : ℕ → Type 0) (o : Op) (m : ℕ) (args : List ℕ) → is_update o ≡ true → AllByRecursion P (used_of o (m ∷ args)) → P m
-source_used P op.SetAdd m args is all = all.0
-source_used P op.SetRemove m args is all = all.0
-source_used P op.MapAdd m args is all = all.0
-source_used P op.MapRemove m args is all = all.0
-source_used P _ m args is all = absurd (false≢true is)
+source_used P o m args is all = let used = subst (AllByRecursion P) (used_update o is (m ∷ args)) all in used.0
 
 -- ---- numbers of the ledger
 ledger_here : (ledger : List ℕ) (i x u : ℕ) → i < length ledger → slice_index (slice_set ledger i x) u ≡ with (slice_index ledger) i x u

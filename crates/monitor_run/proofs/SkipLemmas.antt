@@ -11,12 +11,14 @@ use Rattle.flat_core.specs.declared.equation.Equation.{Equation}
 use Rattle.flat_core.specs.declared.equation.Op.{Op}
 use Rattle.flat_core.specs.declared.equation.Op.TheVariants as op
 use Rattle.flat_core.specs.Stream.{Outcome}
-use Rattle.flat_core.specs.Case.{Inputs, at_once, own_of, used_of}
+use Rattle.flat_core.specs.Case.{own_of, used_of}
+use Rattle.flat_core.specs.Events.{Inputs, at_once}
 use Rattle.flat_core.specs.Instant.{is_delay_op}
 use Rattle.flat_core.specs.System.{System}
 use Rattle.flat_core.specs.Text.{event_line}
 use Rattle.flat_core.specs.inner.Arity.{HasArity}
 use Rattle.flat_core.proofs.Quiet.{HasArguments, own-quiet}
+use Rattle.flat_core.specs.Updates.{is_update}
 use Rattle.register_machine.specs.Content.{print_of}
 use Rattle.register_machine.specs.Machine.{Blank, Config, Fill, effect_of, slot_of, slot_of_answer, value_in, view_of}
 use Rattle.register_machine.specs.Machine as machine
@@ -36,6 +38,10 @@ pub record IsBlankAt (m : Machine) (a : ℕ) : Type 0 where
 none_always : (args : List ℕ) → AllByRecursion (λ a. ◌≡◌ {A = Option Outcome} None None) args
 none_always [] = tt
 none_always (a ∷ args) = (refl, none_always args)
+
+nothing_by : (b : Bool) → machine.effect_by b (Ok None) ≡ Fill Blank
+nothing_by true = refl
+nothing_by false = refl
 
 -- without a value at any argument an operation has none after time 0
 own_none : (o : Op) (args : List ℕ) (of : ValueType) (t : ℕ) → HasArguments o args → is_delay_op o ≡ false → own_of (λ j u. None) (λ a u. None) 0 o args of (suc t) ≡ Ok None
@@ -71,17 +77,11 @@ module _ (c : Config) where
     effect_blank op.Pick (a ∷ b ∷ x ∷ y ∷ args) of other shape used = absurd shape
     effect_blank op.Pick (a ∷ b ∷ x ∷ []) of other shape used = λ k. Fill (slot_of (machine.where_either (machine.held (used.0 k)) (machine.held (used.1.0 k)) (machine.held (used.1.1.0 k))))
     effect_blank op.Empty args of other shape used = ap (λ vs. machine.made (at_once op.Empty of vs (suc t))) (values_none args used) ∙ ap machine.made (own_none op.Empty args of t tt refl)
-    effect_blank op.SetAdd args of other shape used = ap (λ vs. machine.made (at_once op.SetAdd of vs (suc t))) (values_none args used) ∙ ap machine.made (own_none op.SetAdd args of t tt refl)
-    effect_blank op.SetRemove args of other shape used = ap (λ vs. machine.made (at_once op.SetRemove of vs (suc t))) (values_none args used) ∙ ap machine.made (own_none op.SetRemove args of t tt refl)
-    effect_blank op.MapAdd args of other shape used = ap (λ vs. machine.made (at_once op.MapAdd of vs (suc t))) (values_none args used) ∙ ap machine.made (own_none op.MapAdd args of t tt refl)
-    effect_blank op.MapRemove args of other shape used = ap (λ vs. machine.made (at_once op.MapRemove of vs (suc t))) (values_none args used) ∙ ap machine.made (own_none op.MapRemove args of t tt refl)
-    effect_blank op.Nil args of other shape used = ap (λ vs. Fill (slot_of_answer (at_once op.Nil of vs (suc t)))) (values_none args used) ∙ ap (λ v. Fill (slot_of_answer v)) (own_none op.Nil args of t tt refl)
-    effect_blank op.Unit args of other shape used = ap (λ vs. Fill (slot_of_answer (at_once op.Unit of vs (suc t)))) (values_none args used) ∙ ap (λ v. Fill (slot_of_answer v)) (own_none op.Unit args of t tt refl)
     effect_blank (op.Lift body strict) [] of other shape used = absurd shape
     effect_blank (op.Lift body strict) (a ∷ args) of other shape used =
         ap (λ vs. Fill (slot_of_answer (at_once (op.Lift body strict) of vs (suc t)))) (values_none (a ∷ args) used) ∙ ap (λ v. Fill (slot_of_answer v)) (own_none (op.Lift body strict) (a ∷ args) of t tt refl)
-    effect_blank op.Any args of other shape used = ap (λ vs. Fill (slot_of_answer (at_once op.Any of vs (suc t)))) (values_none args used) ∙ ap (λ v. Fill (slot_of_answer v)) (own_none op.Any args of t tt refl)
-    effect_blank op.Time args of other shape used = ap (λ vs. Fill (slot_of_answer (at_once op.Time of vs (suc t)))) (values_none args used) ∙ ap (λ v. Fill (slot_of_answer v)) (own_none op.Time args of t tt refl)
+    effect_blank o args of other shape used =
+        ap (λ vs. machine.effect_by (is_update o) (at_once o of vs (suc t))) (values_none args used) ∙ ap (machine.effect_by (is_update o)) (own_none o args of t tt refl) ∙ nothing_by (is_update o)
 
 -- ---- an equation that is skipped
 

@@ -13,7 +13,6 @@ use Rattle.flat_core.specs.declared.equation.Output.{Output}
 use Rattle.flat_core.specs.declared.equation.Op.{Op}
 use Rattle.flat_core.specs.declared.equation.Op.TheVariants as op
 use Rattle.flat_core.specs.Case.{Streams}
-use Rattle.flat_core.specs.Complete.{IsFlat}
 use Rattle.flat_core.specs.Fault.{is_faulty}
 use Rattle.flat_core.specs.Instant.{instants, is_delay, is_delay_op, is_instant}
 use Rattle.flat_core.specs.Line.{Line, event_in, inputs_of}
@@ -25,8 +24,7 @@ use Rattle.flat_core.specs.inner.TypedLines.{AreTypedLines}
 use Rattle.flat_core.proofs.SmallerBound.{solves_less}
 use Rattle.flat_core.proofs.Shapes.{one_equation}
 use Rattle.flat_core.proofs.Answered.{delay_op}
-use Rattle.alias_rules.specs.Uses.{IsUpdate}
-use Rattle.register_code.specs.Code.{is_timer}
+use Rattle.flat_core.specs.Kept.{is_timer}
 use Rattle.register_code.specs.inner.Plan.{IsPlanOrder}
 use Rattle.register_machine.specs.Copied.{copied}
 use Rattle.register_machine.specs.Laws.{Reaches, ShowsInstant}
@@ -43,7 +41,7 @@ use Rattle.monitor_run.specs.inner.Instant.{IsInstantText, name_of}
 use Rattle.monitor_run.specs.inner.Next.{Comes, IsFirstInstant, NothingBefore}
 use Rattle.monitor_run.specs.inner.Stands.{KeepsOf, Stands}
 use Rattle.monitor_run.specs.inner.State.{State, IsReady, kept_state, plan_of}
-use Rattle.flat_core.specs.Updates.{is_running_update, is_update_at}
+use Rattle.flat_core.specs.Updates.{is_running_update}
 use Rattle.monitor_run.proofs.DueTimes.{due_at, due_of, due_time}
 use Rattle.monitor_run.proofs.GapLemmas.{comes, delay_args, instants_gap, quiet, sound_gap}
 
@@ -96,12 +94,6 @@ concat_is f (o ∷ outputs) (x ∷ texts) size each =
     let rest = concat_is f outputs texts (omega arith) (λ k lt. each (suc k) (omega arith)) in
     λ j. here j ++ rest j
 
-update_is : (s : System) → IsFlat s → (u : ℕ) → IsTrue (is_running_update s u) → IsUpdate s u
-update_is s whole u update =
-    let parts = and_parts (runs s u) (is_update_at (equation s u)) update in
-    let f = whole.proper.runs_all u parts.0 in
-    record { at = f.0; is = f.1; running = parts.0; updates = ap is_update_at (sym f.1) ∙ parts.1 }
-
 pub ready_order : (m : State) → IsReady m → IsPlanOrder m.system m.order
 ready_order m ready = needed_order m.system m.in_place m.order ready.fine.ordered
 
@@ -151,7 +143,7 @@ module _ (m : State) (ready : IsReady m) (lines : List Line) (stands : Stands m 
 
     -- what running updates have copied
     pub counted : (u : ℕ) → IsTrue (is_running_update m.system u) → slice_index m.ledger u ≡ copied m.system m.in_place z u m.next
-    counted u update = (laws.counts m.system (plan_of m) lines B z (given_at B small z solves) m.next reaches_to (kept_state m) keeps.run).between u (update_is m.system ready.whole u update)
+    counted u update = (laws.counts m.system (plan_of m) lines B z (given_at B small z solves) m.next reaches_to (kept_state m) keeps.run).between u update
 
     pub quiet_to : (t : ℕ) → t ≤ B → NothingBefore m.next m.given m.timers t → (u : ℕ) → m.next ≤ u → u < t → is_instant m.system lines z u ≡ false
     quiet_to t within none u low lt = quiet m.system ready.whole m.order order_is lines stands.past m.given stands.parts ready.events m.timers m.next t B stands.earlier none (omega arith) within z solves due u low lt
@@ -213,4 +205,4 @@ module _ (m : State) (ready : IsReady m) (lines : List Line) (stands : Stands m 
     -- what updates have copied at the last print
     pub copied_now : (c : Config) → Reaches m.system (plan_of m) lines t (kept_state m) c → (u : ℕ) → IsTrue (is_running_update m.system u) → c.ledger u ≡ copied m.system m.in_place z u (suc t)
     copied_now c reaches u update =
-        (laws.counts m.system (plan_of m) lines (suc t) z (given_at m ready lines stands (suc t) (omega arith) z solves) t (omega arith) (kept_state m) run_now).within (omega arith) c reaches u (update_is m.system ready.whole u update)
+        (laws.counts m.system (plan_of m) lines (suc t) z (given_at m ready lines stands (suc t) (omega arith) z solves) t (omega arith) (kept_state m) run_now).within (omega arith) c reaches u update

@@ -1,18 +1,16 @@
 -- What an instant looks up.
 use Rattle.std.proofs.Common.{◌≡◌, ℕ, zero, suc, ◌<◌, ◌≤◌, Bool, true, false, ◌&&◌, List, [], ◌∷◌, length, Option, refl, sym, ap, subst, ◌∙◌, inl, inr, arith}
 use Rattle.std.proofs.lemmas.Bool.{and_parts, cases_lt, false≢true, ltb-true}
-use Rattle.std.proofs.lemmas.List.{get_or_past}
 use Rattle.std.proofs.lemmas.List.Elements.{All-from_recursion}
 use Rattle.std.specs.Prelude.{if◌then◌else◌, IsFalse, IsTrue, nat_lt, slice_index, slice_index_or}
 use Rattle.std.specs.List.{All, flat_map}
 use Rattle.lift_func.specs.declared.register.Register.{Register}
-use Rattle.lift_func.specs.declared.register.Register.TheVariants as register
 use Rattle.lift_func.specs.inner.Cells.{Cells}
 use Rattle.flat_core.specs.Complete.{IsFlat}
 use Rattle.flat_core.specs.Members.{is_in}
 use Rattle.flat_core.specs.System.{System, equation}
 use Rattle.flat_core.proofs.Members.{all_from, in-Contains}
-use Rattle.register_code.specs.Code.{is_timer, keeps_of, timers_of}
+use Rattle.flat_core.specs.Kept.{is_timer, keeps_of, timers_of}
 use Rattle.step_uses.specs.Uses.{is_of_delay, row, used_by}
 use Rattle.monitor_run.specs.declared.tables.Tables.{Tables}
 use Rattle.monitor_run.specs.inner.Visits.{AreFilled, AreTables, AreUses, AreWithin}
@@ -41,16 +39,13 @@ timers_there s whole delays is =
 pub tables_are : (s q : System) (order lent delays keeps : List ℕ) (count : ℕ) (t : Tables) → q ≡ s → lent ≡ order → delays ≡ timers_of s → keeps ≡ keeps_of s → count ≡ length s.equations
     → length t.uses ≡ length q.equations → ((a p : ℕ) → a < length q.equations → is_in (row t.uses a) p ≡ (nat_lt p (length lent) && is_in (used_by q (slice_index lent p)) a))
     → ((a d : ℕ) → a < length q.equations → is_in (row t.delays a) d ≡ (is_in delays d && is_of_delay q d a))
-    → length t.kept.items ≡ count → ((i : ℕ) → i < count → slice_index_or t.kept.items i false ≡ is_in keeps i)
-    → ((i : ℕ) → IsTrue (is_in t.every.items i) → i < count) → ((i : ℕ) → i < count → IsTrue (is_in t.every.items i)) → AreTables s order t
-tables_are s q order lent delays keeps count t system order_is delays_are keeps_are count_is uses_each uses waits kept_each kept known every = record {
+    → length t.kept.items ≡ count → ((i : ℕ) → i < count → slice_index_or t.kept.items i false ≡ is_in keeps i) → AreTables s order t
+tables_are s q order lent delays keeps count t system order_is delays_are keeps_are count_is uses_each uses waits kept_each kept = record {
   uses = uses_now;
   within = within_are s order t.uses (uses_each ∙ ap (λ (x : System). length x.equations) system) uses_now;
   delays = λ a d lt. waits a d (there a lt) ∙ (λ k. is_in (delays_are k) d && is_of_delay (system k) d a);
   kept = λ i lt. kept i (subst (λ n. i < n) (sym count_is) lt) ∙ ap (λ xs. is_in xs i) keeps_are;
   kept_each = kept_each ∙ count_is;
-  known = λ i listed. subst (λ n. i < n) count_is (known i listed);
-  every = λ i lt. every i (subst (λ n. i < n) (sym count_is) lt);
 }
   where
     there : (a : ℕ) → a < length s.equations → a < length q.equations
@@ -59,7 +54,7 @@ tables_are s q order lent delays keeps count t system order_is delays_are keeps_
     uses_now : AreUses s order t.uses
     uses_now a p lt = uses a p (there a lt) ∙ (λ k. nat_lt p (length (order_is k)) && is_in (used_by (system k) (slice_index (order_is k) p)) a)
 
--- ---- what is looked at when all steps have run, or those that were reached
+-- ---- the delays that are looked at: all, or those of what was filled
 module _ (s : System) (whole : IsFlat s) (t : Tables) (order : List ℕ) (are : AreTables s order t) (all : Bool) (timers : List ℕ) (timers_are : timers ≡ timers_of s) (filled delays : List ℕ) (registers : List Register) (each : length registers ≡ length s.equations)
     (f : IsFalse all → AreFilled filled registers) (listed : IsFalse all → delays ≡ flat_map (row t.delays) filled) where
   pub delays_run : All (λ i. IsTrue (is_timer s i)) (if all then timers else delays)
@@ -68,19 +63,6 @@ module _ (s : System) (whole : IsFlat s) (t : Tables) (order : List ℕ) (are : 
       by : (b : Bool) → all ≡ b → All (λ i. IsTrue (is_timer s i)) (if b then timers else delays)
       by true is = all_timers s timers timers_are
       by false is = all_listed s whole t.delays are.delays filled registers (f is) each delays (listed is)
-
-  pub filled_all : AreFilled (if all then t.every.items else filled) registers
-  filled_all = by all refl
-    where
-      by : (b : Bool) → all ≡ b → AreFilled (if b then t.every.items else filled) registers
-      by false is = f is
-      by true is = record {
-        known = λ i there. let lt = are.known i there in omega arith;
-        rest = λ i none. elim (cases_lt i (length s.equations)) [
-          | inl low ↦ absurd (false≢true (sym none ∙ are.every i low))
-          | inr high ↦ get_or_past registers i register.Empty (omega arith)
-        ];
-      }
 
   module _ (c : Cells) where
     pub refused_all : (r : Option Root) → IsLeastRoot (is_in (if all then timers else delays)) (λ i. refusal_of (equation s i) c registers) r → IsLeastRoot (is_in (timers_of s)) (λ i. refusal_of (equation s i) c registers) r

@@ -1,123 +1,213 @@
 -- What updates make of registers.
-use Rattle.std.proofs.Common.{◌≡◌, ℕ, true, List, [], ◌∷◌, map, pos, lit<, refl, sym, subst}
-use Rattle.std.specs.Prelude.{IsTrue, slice_index}
-use Rattle.std.specs.List.{All}
-use Rattle.tsl_value.specs.declared.scalar.KeyType.{KeyType}
+use Rattle.std.proofs.Common.{◌≡◌, ℕ, suc, Bool, true, false, List, [], ◌∷◌, length, map, Option, Some, Ok, Err, inl, inr, refl, sym, ap, subst, ◌∙◌, arith}
+use Rattle.std.proofs.lemmas.Bool.{false≢true, true≢false}
+use Rattle.std.specs.Prelude.{◌⊎◌, IfOk, IsTrue, Result, slice_index}
+use Rattle.std.specs.List.{AllByRecursion}
+use Rattle.std.proofs.lemmas.List.Elements.{recursion_from_All}
+use Rattle.tsl_value.specs.Aggregate.{is_aggregate}
+use Rattle.tsl_value.specs.declared.operation.Update.{Update}
+use Rattle.tsl_value.specs.declared.operation.Update.TheVariants as update
 use Rattle.tsl_value.specs.declared.scalar.Scalar.{Scalar}
 use Rattle.tsl_value.specs.declared.scalar.Scalar.TheVariants as scalar
-use Rattle.tsl_value.specs.declared.scalar.ScalarType.{ScalarType}
-use Rattle.tsl_value.specs.declared.scalar.ScalarType.TheVariants as scalar_type
 use Rattle.tsl_value.specs.declared.scalar.ValueType.{ValueType}
 use Rattle.tsl_value.specs.declared.scalar.ValueType.TheVariants as value_type
-use Rattle.tsl_value.specs.View.{View, Plain, is_of, is_of_key}
-use Rattle.lift_func.specs.inner.Cells.{Cells, FitsKey, HoldsLive, IsLive, view_at}
+use Rattle.tsl_value.specs.View.{View, Plain, Keyed, Mapped, is_of}
+use Rattle.tsl_value.proofs.Aggregates.{elements_of}
+use Rattle.lift_func.specs.inner.Cells.{Cells, FitsKey, HoldsLive, IsLive, held, view_at}
+use Rattle.lift_func.specs.declared.eval.EvalFault.{EvalFault}
 use Rattle.lift_func.specs.declared.register.Register.{Register}
 use Rattle.lift_func.specs.declared.register.Register.TheVariants as register
-use Rattle.lift_func.specs.Typing.{Optional, fits, scalar_of}
-use Rattle.aggregate_store.specs.inner.Stored.{Stored, FitsValue}
-use Rattle.aggregate_store.proofs.Typed.{fits_key, fits_value}
+use Rattle.lift_func.specs.Update.{updated, UpdateTypes, set_add, set_remove, map_add, map_remove, beside, present, update_answer}
+use Rattle.lift_func.proofs.CellReads.{key_of}
+use Rattle.lift_func.proofs.Updates.{updates_aggregate, beside_scalars}
+use Rattle.lift_func.proofs.TypedUpdates.{AreViewsOf}
+use Rattle.aggregate_store.specs.inner.Stored.{Stored, FitsValue, with_added, without_key}
+use Rattle.aggregate_store.proofs.Typed.{fits_map, fits_value}
 use Rattle.flat_core.specs.declared.equation.Equation.{Equation}
-use Rattle.flat_core.specs.declared.equation.Op.TheVariants as op
-use Rattle.flat_core.specs.Typed.{IsTyped, set_add, set_remove, map_add, map_remove}
 use Rattle.flat_core.specs.inner.TypedEvents.{AreOf}
-use Rattle.flat_core.proofs.TypedCase.{key_fits}
-use Rattle.monitor_run.specs.inner.Here.{AreAggregateAndKey, AreMapAndEntry, AreSetAndKey, HasKeys, TakesTyped}
+use Rattle.flat_core.specs.Updates.{update_in}
+use Rattle.flat_core.proofs.UpdateOps.{row_of}
+use Rattle.monitor_run.specs.inner.Here.{AreHeldOf, HasAnswer, HasUpdated, IsBare, IsRemoval, HoldsNoScalar, TakesTyped, TakesUpdate, register_of, source_of}
 use Rattle.monitor_run.specs.inner.Registers.{IsHeldOf, register_at, value_at}
 
--- a value that stands beside a key of a type
-key_of_type : (k : KeyType) (of : ValueType) (v : View) (key : Scalar) → HasKeys k of → IsTrue (is_of_key k key) → IsTrue (is_of of v) → FitsKey v key
-key_of_type k (value_type.Scalar t) v key keys fit typed = absurd keys
-key_of_type k (value_type.Set j) v key keys fit typed = fits_key (value_type.Set j) v key scalar.Unit (subst (λ i. IsTrue (is_of_key i key)) (sym keys) fit, refl) typed
-key_of_type k (value_type.Map j scalar_type.Unit) v key keys fit typed = fits_key (value_type.Map j scalar_type.Unit) v key scalar.Unit (subst (λ i. IsTrue (is_of_key i key)) (sym keys) fit, refl) typed
-key_of_type k (value_type.Map j scalar_type.Int) v key keys fit typed = fits_key (value_type.Map j scalar_type.Int) v key (scalar.Int (pos 0)) (subst (λ i. IsTrue (is_of_key i key)) (sym keys) fit, refl) typed
-key_of_type k (value_type.Map j scalar_type.Bool) v key keys fit typed = fits_key (value_type.Map j scalar_type.Bool) v key (scalar.Bool true) (subst (λ i. IsTrue (is_of_key i key)) (sym keys) fit, refl) typed
-key_of_type k (value_type.Map j scalar_type.Text) v key keys fit typed = fits_key (value_type.Map j scalar_type.Text) v key (scalar.Text []) (subst (λ i. IsTrue (is_of_key i key)) (sym keys) fit, refl) typed
+-- ---- the rows
 
--- ---- the requirements of the store, and what comes of its calls, where the registers are these
-module _ (old : Stored) (h : ℕ) (k : Scalar) (source key : Register) (source_is : source ≡ register.Aggregate h) (key_is : key ≡ register.Scalar k) where
-  typed_at : (of : ValueType) → IsHeldOf old.cells of source → IsTrue (is_of of (view_at old.cells h))
-  typed_at of is = let at : IsHeldOf old.cells of (register.Aggregate h) = subst (IsHeldOf old.cells of) source_is is in at.typed
+-- a key with a value fits an aggregate, and an update gives the aggregate with it
+pub record Adds (u : Update) (v : View) (key value : Scalar) (rest : List View) : Type 0 where
+  pub key_fits : FitsKey v key
+  pub value_fits : FitsValue v value
+  pub is : updated u v rest ≡ Ok (with_added v key value)
 
-  pub live_at : (of : ValueType) → IsHeldOf old.cells of source → IsLive old.cells h
-  live_at of is = let at : IsHeldOf old.cells of (register.Aggregate h) = subst (IsHeldOf old.cells of) source_is is in at.live.0
+pub record Removes (u : Update) (v : View) (key : Scalar) : Type 0 where
+  pub key_fits : FitsKey v key
+  pub is : updated u v (Plain key ∷ []) ≡ Ok (without_key v key)
 
-  key_at : (of : KeyType) → IsHeldOf old.cells (value_type.Scalar (scalar_of of)) key → IsTrue (is_of_key of k)
-  key_at of is = let at : IsHeldOf old.cells (value_type.Scalar (scalar_of of)) (register.Scalar k) = subst (IsHeldOf old.cells (value_type.Scalar (scalar_of of))) key_is is in key_fits of k at.typed
+set_adds : {of : ValueType} {types : List ValueType} → UpdateTypes update.SetAdd of types → (v : View) (key : Scalar) → IsTrue (is_of of v) → AreViewsOf types (Plain key ∷ []) → Adds update.SetAdd v key scalar.Unit (Plain key ∷ [])
+set_adds (set_add {k = k} {t = t} is) (Keyed s) key typed fit = record { key_fits = (k, key_of k t is key fit.0, typed); value_fits = refl; is = refl }
+set_adds (set_add is) (Plain s) key typed fit = absurd (false≢true typed)
+set_adds (set_add is) (Mapped m) key typed fit = absurd (false≢true typed)
 
-  pub set_key : AreSetAndKey old.cells source key → FitsKey (view_at old.cells h) k
-  set_key a = fits_key (value_type.Set a.of) (view_at old.cells h) k scalar.Unit (key_at a.of a.key_is, refl) (typed_at (value_type.Set a.of) a.set_is)
+map_adds : {of : ValueType} {types : List ValueType} → UpdateTypes update.MapAdd of types → (v : View) (key value : Scalar) → IsTrue (is_of of v) → AreViewsOf types (Plain key ∷ Plain value ∷ []) → Adds update.MapAdd v key value (Plain key ∷ Plain value ∷ [])
+map_adds (map_add {k = k} {t = t} {x = x} is) (Mapped m) key value typed fit = record { key_fits = fits_map k x m key (key_of k t is key fit.0) typed; value_fits = fits_value (value_type.Map k x) (Mapped m) key value (key_of k t is key fit.0, fit.1.0) typed; is = refl }
+map_adds (map_add is) (Plain s) key value typed fit = absurd (false≢true typed)
+map_adds (map_add is) (Keyed s) key value typed fit = absurd (false≢true typed)
 
-  pub any_key : AreAggregateAndKey old.cells source key → FitsKey (view_at old.cells h) k
-  any_key a = key_of_type a.key_of a.of (view_at old.cells h) k a.keys (key_at a.key_of a.key_is) (typed_at a.of a.aggregate_is)
+removes : {u : Update} {of : ValueType} {types : List ValueType} → IsRemoval u → UpdateTypes u of types → (v : View) (key : Scalar) → IsTrue (is_of of v) → AreViewsOf types (Plain key ∷ []) → Removes u v key
+removes one (set_remove {k = k} {t = t} is) (Keyed s) key typed fit = record { key_fits = (k, key_of k t is key fit.0, typed); is = refl }
+removes one (set_remove is) (Plain s) key typed fit = absurd (false≢true typed)
+removes one (set_remove is) (Mapped m) key typed fit = absurd (false≢true typed)
+removes one (map_remove {k = k} {t = t} {x = x} is) (Mapped m) key typed fit = record { key_fits = fits_map k x m key (key_of k t is key fit.0) typed; is = refl }
+removes one (map_remove is) (Plain s) key typed fit = absurd (false≢true typed)
+removes one (map_remove is) (Keyed s) key typed fit = absurd (false≢true typed)
+removes one (set_add is) v key typed fit = absurd one
+removes one (map_add is) v key typed fit = absurd one
 
-  module _ (x : Scalar) (value : Register) (value_is : value ≡ register.Scalar x) where
-    value_at_type : (of : ScalarType) → IsHeldOf old.cells (value_type.Scalar of) value → IsTrue (is_of (value_type.Scalar of) (Plain x))
-    value_at_type of is = let at : IsHeldOf old.cells (value_type.Scalar of) (register.Scalar x) = subst (IsHeldOf old.cells (value_type.Scalar of)) value_is is in at.typed
+-- ---- registers of these types
+module _ (c : Cells) where
+  bare_of : (t : ValueType) (r : Register) → is_aggregate t ≡ false → IsHeldOf c t r → IsBare r
+  bare_of t register.Empty plain is = tt
+  bare_of t (register.Scalar s) plain is = tt
+  bare_of t (register.Aggregate h) plain is = absurd (true≢false (sym is.live.1 ∙ elements_of t (view_at c h) is.typed ∙ plain))
 
-    pub map_key : AreMapAndEntry old.cells source key value → FitsKey (view_at old.cells h) k
-    map_key a = fits_key (value_type.Map a.of a.value_of) (view_at old.cells h) k x (key_at a.of a.key_is, value_at_type a.value_of a.value_is) (typed_at (value_type.Map a.of a.value_of) a.map_is)
+  no_scalar_of : (t : ValueType) (r : Register) → is_aggregate t ≡ true → IsHeldOf c t r → HoldsNoScalar r
+  no_scalar_of t register.Empty aggregate is = tt
+  no_scalar_of t (register.Scalar s) aggregate is = absurd (false≢true (elements_of t (Plain s) is.typed ∙ aggregate))
+  no_scalar_of t (register.Aggregate h) aggregate is = tt
 
-    pub map_value : AreMapAndEntry old.cells source key value → FitsValue (view_at old.cells h) x
-    map_value a = fits_value (value_type.Map a.of a.value_of) (view_at old.cells h) k x (key_at a.of a.key_is, value_at_type a.value_of a.value_is) (typed_at (value_type.Map a.of a.value_of) a.map_is)
+  all_bare : (types : List ValueType) (registers : List Register) → AllByRecursion (λ t. is_aggregate t ≡ false) types → AreHeldOf c types registers → AllByRecursion (λ r. IsBare r) registers
+  all_bare [] [] plain are = tt
+  all_bare [] (r ∷ registers) plain are = absurd are
+  all_bare (t ∷ types) [] plain are = absurd are
+  all_bare (t ∷ types) (r ∷ registers) plain are = (bare_of t r plain.0 are.0, all_bare types registers plain.1 are.1)
+
+  views_of : (types : List ValueType) (keys : List Scalar) → AreHeldOf c types (map (λ k. register.Scalar k) keys) → AreViewsOf types (map (λ k. Plain k) keys)
+  views_of [] [] are = tt
+  views_of [] (k ∷ keys) are = absurd are
+  views_of (t ∷ types) [] are = absurd are
+  views_of (t ∷ types) (k ∷ keys) are = (are.0.typed, views_of types keys are.1)
+
+  module _ (u : Update) (aggregate : Register) (besides : List Register) (takes : TakesUpdate c u (aggregate ∷ besides)) where
+    -- the first holds no scalar, and the others hold nothing else
+    pub no_scalar : HoldsNoScalar aggregate
+    no_scalar = no_scalar_of takes.of aggregate (updates_aggregate takes.row) takes.held_are.0
+
+    pub bare : AllByRecursion (λ r. IsBare r) besides
+    bare = all_bare takes.types besides (beside_scalars takes.row) takes.held_are.1
+
+  -- the cell of an aggregate is live
+  pub live_of : (u : Update) (h : ℕ) (besides : List Register) → TakesUpdate c u (register.Aggregate h ∷ besides) → IsLive c h
+  live_of u h besides takes = takes.held_are.0.live.0
+
+  pub adds_to_set : (h : ℕ) (k : Scalar) → TakesUpdate c update.SetAdd (register.Aggregate h ∷ register.Scalar k ∷ []) → Adds update.SetAdd (view_at c h) k scalar.Unit (Plain k ∷ [])
+  adds_to_set h k takes = set_adds takes.row (view_at c h) k takes.held_are.0.typed (views_of takes.types (k ∷ []) takes.held_are.1)
+
+  pub adds_to_map : (h : ℕ) (k x : Scalar) → TakesUpdate c update.MapAdd (register.Aggregate h ∷ register.Scalar k ∷ register.Scalar x ∷ []) → Adds update.MapAdd (view_at c h) k x (Plain k ∷ Plain x ∷ [])
+  adds_to_map h k x takes = map_adds takes.row (view_at c h) k x takes.held_are.0.typed (views_of takes.types (k ∷ x ∷ []) takes.held_are.1)
+
+  pub removes_from : (u : Update) (h : ℕ) (k : Scalar) → IsRemoval u → TakesUpdate c u (register.Aggregate h ∷ register.Scalar k ∷ []) → Removes u (view_at c h) k
+  removes_from u h k one takes = removes one takes.row (view_at c h) k takes.held_are.0.typed (views_of takes.types (k ∷ []) takes.held_are.1)
+
+-- what a run of an update made is what the update has
+pub answered : (in_place : Bool) (i : ℕ) (source : Register) (old new : Stored) (r : Register) (u : Update) (v w : View) (rest : List View) → updated u v rest ≡ Ok w
+    → HasUpdated in_place i source old new r (Some w) → HasAnswer in_place i source old new (Ok r) (present (updated u v rest))
+answered in_place i source old new r u v w rest is has = subst (λ a. HasAnswer in_place i source old new (Ok r) (present a)) (sym is) has
 
 -- ---- the arguments of updates
 module _ (c : Cells) (registers : List Register) where
-  set_args : (args : List ℕ) (types : List ValueType) (of : ValueType) → IsTyped op.SetAdd types of → AreOf types (map (value_at c registers) args) → All (λ a. HoldsLive c (register_at registers a)) args → AreSetAndKey c (register_at registers (slice_index args 0)) (register_at registers (slice_index args 1))
-  set_args [] types of (set_add is) fit live = absurd fit
-  set_args (s ∷ []) types of (set_add is) fit live = absurd fit.1
-  set_args (s ∷ k ∷ a ∷ args) types of (set_add is) fit live = absurd fit.1.1
-  set_args (s ∷ k ∷ []) types of (set_add {k = of_key} is) fit live = record {
-    of = of_key;
-    set_is = record { typed = fit.0; live = live 0 0 (lit< tt) };
-    key_is = record { typed = subst (λ t. IsTrue (fits (Optional (value_type.Scalar t)) (value_at c registers k))) is fit.1.0; live = live 1 0 (lit< tt) };
-  }
+  held_each : (types : List ValueType) (args : List ℕ) → AreOf types (map (value_at c registers) args) → AllByRecursion (λ a. HoldsLive c (register_at registers a)) args → AreHeldOf c types (map (register_at registers) args)
+  held_each [] [] fit live = tt
+  held_each [] (a ∷ args) fit live = absurd fit
+  held_each (t ∷ types) [] fit live = absurd fit
+  held_each (t ∷ types) (a ∷ args) fit live = (record { typed = fit.0; live = live.0 }, held_each types args fit.1 live.1)
 
-  map_args : (args : List ℕ) (types : List ValueType) (of : ValueType) → IsTyped op.MapAdd types of → AreOf types (map (value_at c registers) args) → All (λ a. HoldsLive c (register_at registers a)) args → AreMapAndEntry c (register_at registers (slice_index args 0)) (register_at registers (slice_index args 1)) (register_at registers (slice_index args 2))
-  map_args [] types of (map_add is) fit live = absurd fit
-  map_args (s ∷ []) types of (map_add is) fit live = absurd fit.1
-  map_args (s ∷ k ∷ []) types of (map_add is) fit live = absurd fit.1.1
-  map_args (s ∷ k ∷ x ∷ a ∷ args) types of (map_add is) fit live = absurd fit.1.1.1
-  map_args (s ∷ k ∷ x ∷ []) types of (map_add {k = of_key} {x = of_value} is) fit live = record {
-    of = of_key;
-    value_of = of_value;
-    map_is = record { typed = fit.0; live = live 0 0 (lit< tt) };
-    key_is = record { typed = subst (λ t. IsTrue (fits (Optional (value_type.Scalar t)) (value_at c registers k))) is fit.1.0; live = live 1 0 (lit< tt) };
-    value_is = record { typed = fit.1.1.0; live = live 2 0 (lit< tt) };
-  }
+  pub takes_update : (e : Equation) (u : Update) → update_in e.op ≡ Some u → TakesTyped c registers e → TakesUpdate c u (map (register_at registers) e.args)
+  takes_update e u is t =
+      let row = row_of e.op u t.types e.of is t.typed in
+      record {
+        of = e.of;
+        types = row.types;
+        row = row.row;
+        held_are = held_each (e.of ∷ row.types) e.args (subst (λ ts. AreOf ts (map (value_at c registers) e.args)) row.are t.values)
+            (recursion_from_All (λ a. HoldsLive c (register_at registers a)) e.args t.live);
+      }
 
-  set_key_args : (args : List ℕ) (types : List ValueType) (of : ValueType) → IsTyped op.SetRemove types of → AreOf types (map (value_at c registers) args) → All (λ a. HoldsLive c (register_at registers a)) args → AreAggregateAndKey c (register_at registers (slice_index args 0)) (register_at registers (slice_index args 1))
-  set_key_args [] types of (set_remove is) fit live = absurd fit
-  set_key_args (s ∷ []) types of (set_remove is) fit live = absurd fit.1
-  set_key_args (s ∷ k ∷ a ∷ args) types of (set_remove is) fit live = absurd fit.1.1
-  set_key_args (s ∷ k ∷ []) types of (set_remove {k = of_key} is) fit live = record {
-    of = value_type.Set of_key;
-    key_of = of_key;
-    keys = refl;
-    aggregate_is = record { typed = fit.0; live = live 0 0 (lit< tt) };
-    key_is = record { typed = subst (λ t. IsTrue (fits (Optional (value_type.Scalar t)) (value_at c registers k))) is fit.1.0; live = live 1 0 (lit< tt) };
-  }
+-- two arguments, and three
+pub two_args : (args : List ℕ) → length args ≡ 2 → args ≡ slice_index args 0 ∷ slice_index args 1 ∷ []
+two_args [] many = absurd (omega arith)
+two_args (a ∷ []) many = absurd (omega arith)
+two_args (a ∷ b ∷ []) many = refl
+two_args (a ∷ b ∷ x ∷ args) many = absurd (omega arith)
 
-  map_key_args : (args : List ℕ) (types : List ValueType) (of : ValueType) → IsTyped op.MapRemove types of → AreOf types (map (value_at c registers) args) → All (λ a. HoldsLive c (register_at registers a)) args → AreAggregateAndKey c (register_at registers (slice_index args 0)) (register_at registers (slice_index args 1))
-  map_key_args [] types of (map_remove is) fit live = absurd fit
-  map_key_args (s ∷ []) types of (map_remove is) fit live = absurd fit.1
-  map_key_args (s ∷ k ∷ a ∷ args) types of (map_remove is) fit live = absurd fit.1.1
-  map_key_args (s ∷ k ∷ []) types of (map_remove {k = of_key} {x = of_value} is) fit live = record {
-    of = value_type.Map of_key of_value;
-    key_of = of_key;
-    keys = refl;
-    aggregate_is = record { typed = fit.0; live = live 0 0 (lit< tt) };
-    key_is = record { typed = subst (λ t. IsTrue (fits (Optional (value_type.Scalar t)) (value_at c registers k))) is fit.1.0; live = live 1 0 (lit< tt) };
-  }
+pub three_args : (args : List ℕ) → length args ≡ 3 → args ≡ slice_index args 0 ∷ slice_index args 1 ∷ slice_index args 2 ∷ []
+three_args [] many = absurd (omega arith)
+three_args (a ∷ []) many = absurd (omega arith)
+three_args (a ∷ b ∷ []) many = absurd (omega arith)
+three_args (a ∷ b ∷ x ∷ []) many = refl
+three_args (a ∷ b ∷ x ∷ y ∷ args) many = absurd (omega arith)
 
-  module _ (e : Equation) (t : TakesTyped c registers e) where
-    pub takes_set : e.op ≡ op.SetAdd → AreSetAndKey c (register_at registers (slice_index e.args 0)) (register_at registers (slice_index e.args 1))
-    takes_set is = set_args e.args t.types e.of (subst (λ o. IsTyped o t.types e.of) is t.typed) t.values t.live
+module _ (c : Cells) (registers : List Register) (args : List ℕ) (u w : Update) (is : u ≡ w) (many : length args ≡ suc (beside u)) where
+  -- what an update takes, and what it makes, of two arguments, and of three
+  pub takes_two : beside w ≡ 1 → TakesUpdate c u (map (register_at registers) args) → TakesUpdate c w (register_at registers (slice_index args 0) ∷ register_at registers (slice_index args 1) ∷ [])
+  takes_two one takes =
+      subst (λ x. TakesUpdate c x (register_at registers (slice_index args 0) ∷ register_at registers (slice_index args 1) ∷ [])) is
+      (subst (λ xs. TakesUpdate c u (map (register_at registers) xs)) (two_args args (many ∙ ap suc (ap beside is ∙ one))) takes)
 
-    pub takes_map : e.op ≡ op.MapAdd → AreMapAndEntry c (register_at registers (slice_index e.args 0)) (register_at registers (slice_index e.args 1)) (register_at registers (slice_index e.args 2))
-    takes_map is = map_args e.args t.types e.of (subst (λ o. IsTyped o t.types e.of) is t.typed) t.values t.live
+  pub answers_two : beside w ≡ 1 → (in_place : Bool) (i : ℕ) (old new : Stored) (r : Result Register EvalFault)
+      → HasAnswer in_place i (register_at registers (slice_index args 0)) old new r (update_answer w (value_at c registers (slice_index args 0) ∷ value_at c registers (slice_index args 1) ∷ []))
+      → HasAnswer in_place i (source_of registers args) old new r (update_answer u (map (value_at c registers) args))
+  answers_two one in_place i old new r has =
+      subst (λ xs. HasAnswer in_place i (source_of registers xs) old new r (update_answer u (map (value_at c registers) xs))) (sym (two_args args (many ∙ ap suc (ap beside is ∙ one))))
+      (subst (λ x. HasAnswer in_place i (register_at registers (slice_index args 0)) old new r (update_answer x (value_at c registers (slice_index args 0) ∷ value_at c registers (slice_index args 1) ∷ []))) (sym is) has)
 
-    pub takes_set_key : e.op ≡ op.SetRemove → AreAggregateAndKey c (register_at registers (slice_index e.args 0)) (register_at registers (slice_index e.args 1))
-    takes_set_key is = set_key_args e.args t.types e.of (subst (λ o. IsTyped o t.types e.of) is t.typed) t.values t.live
+  pub takes_three : beside w ≡ 2 → TakesUpdate c u (map (register_at registers) args) → TakesUpdate c w (register_at registers (slice_index args 0) ∷ register_at registers (slice_index args 1) ∷ register_at registers (slice_index args 2) ∷ [])
+  takes_three two takes =
+      subst (λ x. TakesUpdate c x (register_at registers (slice_index args 0) ∷ register_at registers (slice_index args 1) ∷ register_at registers (slice_index args 2) ∷ [])) is
+      (subst (λ xs. TakesUpdate c u (map (register_at registers) xs)) (three_args args (many ∙ ap suc (ap beside is ∙ two))) takes)
 
-    pub takes_map_key : e.op ≡ op.MapRemove → AreAggregateAndKey c (register_at registers (slice_index e.args 0)) (register_at registers (slice_index e.args 1))
-    takes_map_key is = map_key_args e.args t.types e.of (subst (λ o. IsTyped o t.types e.of) is t.typed) t.values t.live
+  pub answers_three : beside w ≡ 2 → (in_place : Bool) (i : ℕ) (old new : Stored) (r : Result Register EvalFault)
+      → HasAnswer in_place i (register_at registers (slice_index args 0)) old new r (update_answer w (value_at c registers (slice_index args 0) ∷ value_at c registers (slice_index args 1) ∷ value_at c registers (slice_index args 2) ∷ []))
+      → HasAnswer in_place i (source_of registers args) old new r (update_answer u (map (value_at c registers) args))
+  answers_three two in_place i old new r has =
+      subst (λ xs. HasAnswer in_place i (source_of registers xs) old new r (update_answer u (map (value_at c registers) xs))) (sym (three_args args (many ∙ ap suc (ap beside is ∙ two))))
+      (subst (λ x. HasAnswer in_place i (register_at registers (slice_index args 0)) old new r (update_answer x (value_at c registers (slice_index args 0) ∷ value_at c registers (slice_index args 1) ∷ value_at c registers (slice_index args 2) ∷ []))) (sym is) has)
+
+-- a run's answer at two registers, and at three, is one at the arguments
+module _ {E : Type 0} (c : Cells) (registers : List Register) (args : List ℕ) (u w : Update) (is : u ≡ w) (many : length args ≡ suc (beside u)) (in_place : Bool) (i : ℕ) (old new : Stored) (a b : Register) (a_is : a ≡ register_at registers (slice_index args 0)) (b_is : b ≡ register_at registers (slice_index args 1)) where
+  pub made_two : beside w ≡ 1 → (result : Result (Option ℕ) E) → IfOk result (λ h. HasAnswer in_place i a old new (Ok (register_of h)) (update_answer w (held c a ∷ held c b ∷ [])))
+      → IfOk result (λ h. HasAnswer in_place i (source_of registers args) old new (Ok (register_of h)) (update_answer u (map (value_at c registers) args)))
+  made_two one (Ok h) has =
+      answers_two c registers args u w is many one in_place i old new (Ok (register_of h))
+      (subst (λ x. HasAnswer in_place i x old new (Ok (register_of h)) (update_answer w (held c x ∷ value_at c registers (slice_index args 1) ∷ []))) a_is
+      (subst (λ y. HasAnswer in_place i a old new (Ok (register_of h)) (update_answer w (held c a ∷ held c y ∷ []))) b_is has))
+  made_two one (Err e) has = tt
+
+  pub made_three : beside w ≡ 2 → (x : Register) → x ≡ register_at registers (slice_index args 2) → (result : Result (Option ℕ) E) → IfOk result (λ h. HasAnswer in_place i a old new (Ok (register_of h)) (update_answer w (held c a ∷ held c b ∷ held c x ∷ [])))
+      → IfOk result (λ h. HasAnswer in_place i (source_of registers args) old new (Ok (register_of h)) (update_answer u (map (value_at c registers) args)))
+  made_three two x x_is (Ok h) has =
+      answers_three c registers args u w is many two in_place i old new (Ok (register_of h))
+      (subst (λ y. HasAnswer in_place i y old new (Ok (register_of h)) (update_answer w (held c y ∷ value_at c registers (slice_index args 1) ∷ value_at c registers (slice_index args 2) ∷ []))) a_is
+      (subst (λ y. HasAnswer in_place i a old new (Ok (register_of h)) (update_answer w (held c a ∷ held c y ∷ value_at c registers (slice_index args 2) ∷ []))) b_is
+      (subst (λ y. HasAnswer in_place i a old new (Ok (register_of h)) (update_answer w (held c a ∷ held c b ∷ held c y ∷ []))) x_is has)))
+  made_three two x x_is (Err e) has = tt
+
+-- the two that take a key out
+pub is_removal : (u : Update) → (u ≡ update.SetRemove) ⊎ (u ≡ update.MapRemove) → IsRemoval u
+is_removal u (inl is) = subst (λ w. IsRemoval w) (sym is) tt
+is_removal u (inr is) = subst (λ w. IsRemoval w) (sym is) tt
+
+pub removal_beside : (u : Update) → (u ≡ update.SetRemove) ⊎ (u ≡ update.MapRemove) → beside u ≡ 1
+removal_beside u (inl is) = ap beside is
+removal_beside u (inr is) = ap beside is
+
+-- what is in the registers fits, where an update runs on them
+module _ (c : Cells) (a k : Register) (h : ℕ) (key : Scalar) (a_is : register.Aggregate h ≡ a) (k_is : register.Scalar key ≡ k) where
+  pub removed_key_fits : (u : Update) → IsRemoval u → TakesUpdate c u (a ∷ k ∷ []) → FitsKey (view_at c h) key
+  removed_key_fits u one takes =
+      let of_key = subst (λ y. TakesUpdate c u (a ∷ y ∷ [])) (sym k_is) takes in
+      (removes_from c u h key one (subst (λ x. TakesUpdate c u (x ∷ register.Scalar key ∷ [])) (sym a_is) of_key)).key_fits
+
+  pub entry_fits : (x : Register) (value : Scalar) → register.Scalar value ≡ x → TakesUpdate c update.MapAdd (a ∷ k ∷ x ∷ []) → Adds update.MapAdd (view_at c h) key value (Plain key ∷ Plain value ∷ [])
+  entry_fits x value x_is takes =
+      let of_value = subst (λ z. TakesUpdate c update.MapAdd (a ∷ k ∷ z ∷ [])) (sym x_is) takes in
+      let of_key = subst (λ y. TakesUpdate c update.MapAdd (a ∷ y ∷ register.Scalar value ∷ [])) (sym k_is) of_value in
+      adds_to_map c h key value (subst (λ y. TakesUpdate c update.MapAdd (y ∷ register.Scalar key ∷ register.Scalar value ∷ [])) (sym a_is) of_key)

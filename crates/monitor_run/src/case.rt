@@ -1,32 +1,33 @@
 // What an operation makes of the registers of its arguments.
 
-ghost use Rattle.std.specs.Prelude.{◌≡◌, ◌<◌, All, IfErr, IfOk, IfSome, IsOk, OnErr, OnOk, IsTrue, None, Ok, Some, false, pos, length};
+ghost use Rattle.std.specs.Prelude.{◌≡◌, ◌<◌, ℕ, Bool, All, IfErr, IfOk, IfSome, IsOk, OnErr, OnOk, IsTrue, None, Ok, Some, false, pos, length};
 ghost use Rattle.std.specs.Prelude.{if◌then◌else◌, is_some, map};
 ghost use Rattle.std.specs.Prelude.{List, slice_index, slice_set};
 ghost use Rattle.std.specs.List.{list_all, list_any};
 ghost use Rattle.std.specs.Option.{option_map};
 ghost use Rattle.tsl_value.specs.View.{Plain};
 ghost use Rattle.lift_func.specs.Apply.{apply};
+ghost use Rattle.lift_func.specs.Update.{update_answer};
 ghost use Rattle.lift_func.specs.inner.Cells.{Cells, HoldsLive, arguments, held};
 ghost use Rattle.lift_func.specs.inner.Evaluable.{IsEvaluable, IsHeldValue};
-ghost use Rattle.flat_core.specs.Case.{at_zero, empty_of, unit};
+ghost use Rattle.flat_core.specs.Events.{at_zero, unit};
+ghost use Rattle.tsl_value.specs.Aggregate.{empty_of, is_aggregate};
 ghost use Rattle.flat_core.specs.Members.{is_in};
-ghost use Rattle.flat_core.specs.Typed.{is_aggregate};
-ghost use Rattle.aggregate_store.specs.inner.Stored.{IsAggregate};
 ghost use Rattle.flat_core.specs.inner.Arity.{HasArity};
-ghost use Rattle.monitor_run.specs.inner.Here.{HasEffect, HasMadeOne, HasPut, HasUpdated, IsBare, IsBareValue, IsNamed, TakesTyped};
+ghost use Rattle.flat_core.specs.Updates.{is_update, update_in};
+ghost use Rattle.monitor_run.specs.inner.Here.{HasAnswer, HasEffect, HasMadeOne, HasPut, IsBare, IsBareValue, IsNamed, TakesTyped};
 ghost use Rattle.monitor_run.specs.inner.Here.{effect_here, hands_on};
-ghost use Rattle.flat_core.specs.inner.OpGroups.{counts, lift_answer, updated_of};
+ghost use Rattle.flat_core.specs.inner.OpGroups.{counts, lift_answer};
 ghost use Rattle.monitor_run.specs.inner.Here.{is_given_op};
 ghost use Rattle.monitor_run.specs.inner.Here.{source_of};
 ghost use Rattle.monitor_run.specs.inner.Registers.{register_at, value_at};
 
 use crate::machine::{empty, put};
-use crate::update::{Update, updated};
+use crate::update::{UpdateRun, updated};
 use aggregate_store::store::Store;
 use flat_core::equation::{Equation, Op};
 use flat_core::lists::{Args, EqSet};
-use lift_func::body::{Binary, Body, Node};
+use lift_func::body::{Body, Node};
 use lift_func::eval::{EvalFault, eval};
 use lift_func::reader::Reader;
 use lift_func::register::Register;
@@ -34,6 +35,7 @@ use smallvec::SmallVec;
 use std::alloc::Global;
 use tsl_value::ids::EqId;
 use tsl_value::memory::NoMemory;
+use tsl_value::operation::{Binary, Update};
 use tsl_value::scalar::{Scalar, ValueType};
 use tsl_value::time::Time;
 
@@ -224,7 +226,7 @@ fn put_empty(
     registers: &mut [Register],
     store: &mut Store,
 ) -> Result<(), EvalFault>
-    requires aggregate { IsAggregate of }
+    requires aggregate { IsTrue (is_aggregate of) }
     requires place { place < length registers.old }
     ensures made { OnOk result ((r : Register) × (registers.new ≡ slice_set registers.old place r)
         × HasMadeOne store.old store.new r (at_zero time (empty_of of))) }
@@ -241,31 +243,79 @@ fn put_empty(
     Ok(())
 }
 
-/// Puts what an update has into a place. An update has no fault.
+/// Puts what an update has into a place.
 fn put_updated(
-    e: &Equation,
     update: Update,
+    e: &Equation,
+    run: UpdateRun,
+    place: usize,
+    registers: &mut [Register],
+    store: &mut Store,
+) -> Result<(), EvalFault>
+    requires is { update_in e.now.op ≡ Some update }
+    requires shape { HasArity e.now.op e.now.args }
+    requires known { All (λ a. a < length registers.old) e.now.args }
+    requires typed { TakesTyped store.old.cells registers.old e.now }
+    requires number { run.id < length store.old.ledger }
+    requires place { place < length registers.old }
+    ensures updated { OnOk result ((r : Register) × (registers.new ≡ slice_set registers.old place r)
+        × HasAnswer run.in_place run.id (source_of registers.old e.now.args) store.old store.new (Ok r)
+        (update_answer update (map (value_at store.old.cells registers.old) e.now.args))) }
+    ensures memory { IfErr result (λ fault. fault ≡ EvalFault.Memory) }
+    ensures same { OnErr result (registers.new ≡ registers.old) }
+    ensures err { OnErr result (store.new ≡ store.old) }
+{
+    match updated(update, &e.args, run, registers, store)? {
+        Some(handle) => put(Register::Aggregate(handle), place, registers),
+        None => empty(place, registers),
+    }
+    Ok(())
+}
+
+/// Puts what an equation that is no update has by its own case into a place.
+fn put_plain(
+    alloc: Global,
+    e: &Equation,
+    time: Time,
     place: usize,
     registers: &mut [Register],
     store: &mut Store,
 ) -> Result<(), EvalFault>
     requires shape { HasArity e.now.op e.now.args }
     requires known { All (λ a. a < length registers.old) e.now.args }
+    requires other { is_given_op e.now.op ≡ false }
+    requires own { hands_on e.now.op ≡ false }
+    requires plain { is_update e.now.op ≡ false }
     requires typed { TakesTyped store.old.cells registers.old e.now }
-    requires update { update.id < length store.old.ledger }
     requires place { place < length registers.old }
-    ensures updated { OnOk result ((r : Register) × (registers.new ≡ slice_set registers.old place r)
-        × HasUpdated update.in_place update.id (source_of registers.old e.now.args) store.old store.new r
-        (updated_of e.now.op (map (value_at store.old.cells registers.old) e.now.args))) }
-    ensures memory { IfErr result (λ fault. fault ≡ EvalFault.Memory) }
+    ensures effect { (in_place : Bool) → (i : ℕ) → (last : List Register) → HasPut place registers.old registers.new result (λ r.
+        HasEffect in_place i e.now.op (source_of registers.old e.now.args) store.old store.new r
+        (effect_here registers.old last store.old i time e.now)) }
     ensures same { OnErr result (registers.new ≡ registers.old) }
     ensures err { OnErr result (store.new ≡ store.old) }
 {
-    match updated(e, update, registers, store)? {
-        Some(handle) => put(Register::Aggregate(handle), place, registers),
-        None => empty(place, registers),
+    let args = &e.args;
+    match &e.op {
+        Op::Input | Op::Delay => unreachable!(),
+        Op::Last | Op::Merge | Op::Filter | Op::Pick => unreachable!(),
+        Op::SetAdd | Op::SetRemove | Op::MapAdd | Op::MapRemove => unreachable!(),
+        Op::Nil => put_value(Register::Empty, place, registers),
+        Op::Unit => put_value(unit_if(time.get() == 0), place, registers),
+        Op::Lift { body, strict } => put_lifted(
+            alloc, body, *strict, args, place, registers, store,
+        ),
+        Op::Any => put_value(
+            unit_if(is_one_there(args.ids(), registers)),
+            place,
+            registers,
+        ),
+        Op::Time => put_value(
+            time_of(argument(registers, args, 0), time),
+            place,
+            registers,
+        ),
+        Op::Empty => put_empty(e.of, time, place, registers, store),
     }
-    Ok(())
 }
 
 /// Puts what an equation has by its own case into its register, an update in place if it is among these. Inputs and delays have their
@@ -293,32 +343,14 @@ pub(crate) fn put_own(
     ensures err { OnErr result (store.new ≡ store.old) }
 {
     let place = id.get() as usize;
-    let args = &e.args;
-    match &e.op {
-        Op::Input | Op::Delay => unreachable!(),
-        Op::Last | Op::Merge | Op::Filter | Op::Pick => unreachable!(),
-        Op::Nil => put_value(Register::Empty, place, registers),
-        Op::Unit => put_value(unit_if(time.get() == 0), place, registers),
-        Op::Lift { body, strict } => put_lifted(
-            alloc, body, *strict, args, place, registers, store,
-        ),
-        Op::Any => put_value(
-            unit_if(is_one_there(args.ids(), registers)),
-            place,
-            registers,
-        ),
-        Op::Time => put_value(
-            time_of(argument(registers, args, 0), time),
-            place,
-            registers,
-        ),
-        Op::Empty => put_empty(e.of, time, place, registers, store),
-        Op::SetAdd | Op::SetRemove | Op::MapAdd | Op::MapRemove => {
-            let update = Update {
+    match e.op.update() {
+        Some(update) => {
+            let run = UpdateRun {
                 id,
                 in_place: in_place.contains(id),
             };
-            put_updated(e, update, place, registers, store)
+            put_updated(update, e, run, place, registers, store)
         }
+        None => put_plain(alloc, e, time, place, registers, store),
     }
 }

@@ -1,7 +1,9 @@
 // What is kept of an instant.
 
-ghost use Rattle.std.specs.Prelude.{◌≡◌, ◌<◌, ◌&&◌, ℕ, All, false, if◌then◌else◌, length, slice_index_or, slice_set, OnOk, OnErr};
-ghost use Rattle.std.specs.FinMap as map;
+ghost use Rattle.std.specs.Prelude.{◌≡◌, ◌<◌, ◌&&◌, ◌||◌, ℕ, All, false, if◌then◌else◌, length, map, slice_index_or, slice_set, OnOk, OnErr};
+ghost use Rattle.std.specs.Prelude.{IsFalse, IsTrue};
+ghost use Rattle.std.specs.FinMap as finite_map;
+ghost use Rattle.lift_func.specs.inner.Cells.{IsLive};
 ghost use Rattle.aggregate_store.specs.inner.Stored.{is_listed};
 ghost use Rattle.flat_core.specs.Members.{is_in};
 ghost use Rattle.monitor_run.specs.inner.Instant.{cells_in, kept_in, kept_register};
@@ -15,12 +17,7 @@ use tsl_value::ids::{EqId, Handle};
 use tsl_value::memory::NoMemory;
 
 /// Empties the registers that were filled. Those that are kept are moved into the last registers.
-pub(crate) fn keep(
-    kept: &[bool],
-    filled: &[EqId],
-    registers: &mut [Register],
-    last: &mut [Register],
-)
+fn keep(kept: &[bool], filled: &[EqId], registers: &mut [Register], last: &mut [Register])
     requires known { All (λ i. i < length registers.old) filled.now }
     requires one_each { length last.old ≡ length registers.old }
     requires kept_each { length kept.now ≡ length registers.old }
@@ -34,6 +31,54 @@ pub(crate) fn keep(
         let place = id.get() as usize;
         keep_one(kept[place], place, registers, last);
     }
+}
+
+/// Empties a register. Nothing is written where it is empty already.
+fn clear(register: &mut Register)
+    ensures { register.new ≡ Register.Empty }
+{
+    match register {
+        Register::Empty => {}
+        _ => *register = Register::Empty,
+    }
+}
+
+/// Empties all registers.
+fn empty_all(registers: &mut [Register])
+    ensures { registers.new ≡ map (λ _. Register.Empty) registers.old }
+{
+    for register in registers.iter_mut() {
+        clear(register);
+    }
+}
+
+/// Empties the registers that may be filled: all where all steps ran, which needs no list of them, or else those that were filled. Those
+/// that are kept are moved into the last registers.
+pub(crate) fn keep_filled(
+    all: bool,
+    kept: &[bool],
+    keeps: &[EqId],
+    filled: &[EqId],
+    registers: &mut [Register],
+    last: &mut [Register],
+)
+    requires keeps_known { All (λ i. i < length registers.old) keeps.now }
+    requires known { IsFalse all → All (λ i. i < length registers.old) filled.now }
+    requires one_each { length last.old ≡ length registers.old }
+    requires kept_each { length kept.now ≡ length registers.old }
+    requires kept { (i : ℕ) → IsTrue (is_in keeps.now i) → IsTrue (slice_index_or kept.now i false) }
+    ensures last { (i : ℕ) → register_at last.new i
+        ≡ (if (if all then is_in keeps.now i else is_in filled.now i && slice_index_or kept.now i false)
+        then kept_register (register_at registers.old i) (register_at last.old i) else register_at last.old i) }
+    ensures registers { (i : ℕ) → register_at registers.new i
+        ≡ (if all || is_in filled.now i then Register.Empty else register_at registers.old i) }
+{
+    if !all {
+        keep(kept, filled, registers, last);
+        return;
+    }
+    keep(kept, keeps, registers, last);
+    empty_all(registers);
 }
 
 /// Empties the register of an equation. If it is kept, it is moved.
@@ -67,22 +112,38 @@ fn list_kept(keeps: &[EqId], last: &[Register], cells: &mut Vec<Handle>) -> Resu
     Ok(())
 }
 
-/// Drops the cells that no last register holds. The list has the others afterwards; its room is used again.
+/// There is one cell, and one is listed.
+fn is_sole(count: u64, cells: &[Handle]) -> bool
+    ensures { IsTrue result → (count ≡ 1) × (0 < length cells.now) }
+{
+    if count != 1 {
+        return false;
+    }
+    !cells.is_empty()
+}
+
+/// Drops the cells that no last register holds. The list has the others afterwards; its room is used again. Where there is one cell and one
+/// is held, none has to be looked for.
 pub(crate) fn drop_others(
     keeps: &[EqId],
     last: &[Register],
     cells: &mut Vec<Handle>,
     store: &mut Store,
 ) -> Result<(), NoMemory>
-    requires { All (λ i. i < length last.now) keeps.now }
+    requires known { All (λ i. i < length last.now) keeps.now }
+    requires live { (h : ℕ) → IsTrue (is_listed (cells_in last.now keeps.now) h) → IsLive store.old.cells h }
     ensures ok { OnOk result
-        (store.new ≡ record store.old { cells = map.retain_keys store.old.cells (is_listed (cells_in last.now keeps.now)) }) }
+        (store.new ≡ record store.old { cells = finite_map.retain_keys store.old.cells (is_listed (cells_in last.now keeps.now)) }) }
     ensures err { OnErr result (store.new ≡ store.old) }
 {
-    if store.count() == 0 {
+    let count = store.count();
+    if count == 0 {
         return Ok(());
     }
     list_kept(keeps, last, cells)?;
+    if is_sole(count, cells) {
+        return Ok(());
+    }
     store.keep_only(cells);
     Ok(())
 }

@@ -20,6 +20,7 @@ use tsl_value::memory::NoMemory;
 use tsl_value::time::Time;
 
 /// Adds the line of an output at a time to a text, or nothing where the output has no event.
+#[inline(always)]
 pub(crate) fn add_line(
     output: &Output,
     time: Time,

@@ -3,19 +3,20 @@
 ghost use Rattle.std.specs.Prelude.{◌≡◌, ◌≢◌, ◌==◌, ℕ, List, [], None, if◌then◌else◌, is_some, length, IfOk, IsFalse, IsTrue, OnErr, OnOk};
 ghost use Rattle.std.specs.List.{flat_map};
 ghost use Rattle.flat_core.specs.Complete.{IsFlat};
-ghost use Rattle.register_code.specs.Code.{keeps_of, timers_of};
+ghost use Rattle.flat_core.specs.Kept.{keeps_of, timers_of};
 ghost use Rattle.alias_rules.specs.Fine.{IsFinePlan};
 ghost use Rattle.step_uses.specs.Uses.{row};
 ghost use Rattle.monitor_run.specs.inner.Given.{AreAt, AreEventLines};
 ghost use Rattle.monitor_run.specs.inner.Instant.{Begins, HasEnded, HasRunRegisters, IsInstant, IsInstantBegun, IsSound};
 ghost use Rattle.monitor_run.specs.inner.Machine.{AreUnmarked, CanPrint, HasRoom, front_of, printed_to};
-ghost use Rattle.monitor_run.specs.inner.Registers.{register_at};
+ghost use Rattle.tsl_value.specs.declared.scalar.ValueType.{ValueType};
+ghost use Rattle.monitor_run.specs.inner.Registers.{AreHeld, register_at};
 ghost use Rattle.monitor_run.specs.inner.Shown.{plan_in};
 ghost use Rattle.monitor_run.specs.inner.Visits.{AreFilled, AreMarked, AreTables, AreUnprinted, AreWithin, HasPlaces, IsAtRest};
 
 use crate::begin::{expire, give, mark_users};
 use crate::delay::{first_refused, set_timers};
-use crate::end::{drop_others, keep};
+use crate::end::{drop_others, keep_filled};
 use crate::event::{append_rest, start_of, take_back};
 use crate::machine::Machine;
 use crate::run::{Root, least_root, run_steps};
@@ -85,6 +86,7 @@ fn run_registers(
     timers: &[EqId],
     time: Time,
     all: bool,
+    all_delays: bool,
     given: &mut Vec<TraceLine>,
     at_once: Option<usize>,
     visits: &mut Visits,
@@ -96,6 +98,7 @@ fn run_registers(
     requires tables { AreTables flat.now plan.now.order tables.now }
     requires timers { timers.now ≡ timers_of flat.now }
     requires late { IsFalse all → time ≢ 0 }
+    requires fewer { IsFalse all_delays → IsFalse all }
     requires places { HasPlaces flat.now plan.now.order visits.old }
     requires room { HasRoom flat.now machine.old }
     requires unmarked { AreUnmarked flat.now machine.old }
@@ -114,7 +117,7 @@ fn run_registers(
         machine.old (printed_to at_once out.new machine.new) root) }
     ensures places { HasPlaces flat.now plan.now.order visits.new }
     ensures filled { OnOk result (IsFalse all → AreFilled visits.new.filled.items machine.new.registers.items) }
-    ensures delays { OnOk result (IsFalse all → visits.new.delays.items ≡ flat_map (row tables.now.delays) visits.new.filled.items) }
+    ensures delays { OnOk result (IsFalse all_delays → visits.new.delays.items ≡ flat_map (row tables.now.delays) visits.new.filled.items) }
     ensures unprinted { OnOk result (AreUnprinted visits.new.texts machine.new.texts.items) }
     ensures blank { IsTrue (is_some at_once) → machine.new.texts ≡ machine.old.texts }
 {
@@ -131,10 +134,10 @@ fn run_registers(
         machine,
         out,
     )?;
-    if !all {
+    if !all_delays {
         tables.delays.gather(&visits.filled, &mut visits.delays)?;
     }
-    let refused = first_refused(flat, visits.delays(all, timers), &machine.registers);
+    let refused = first_refused(flat, visits.delays(all_delays, timers), &machine.registers);
     Ok(least_root(found, refused))
 }
 
@@ -146,6 +149,7 @@ fn end(
     timers: &[EqId],
     time: Time,
     all: bool,
+    all_delays: bool,
     visits: &Visits,
     machine: &mut Machine,
 ) -> Result<(), NoMemory>
@@ -153,9 +157,13 @@ fn end(
     requires keeps { keeps.now ≡ keeps_of flat.now }
     requires tables { (order : List ℕ) × AreTables flat.now order tables.now }
     requires timers { timers.now ≡ timers_of flat.now }
-    requires delays { IsFalse all → visits.now.delays.items ≡ flat_map (row tables.now.delays) visits.now.filled.items }
+    requires fewer { IsFalse all_delays → IsFalse all }
+    requires delays { IsFalse all_delays → visits.now.delays.items ≡ flat_map (row tables.now.delays) visits.now.filled.items }
     requires filled { IsFalse all → AreFilled visits.now.filled.items machine.old.registers.items }
     requires room { HasRoom flat.now machine.old }
+    requires held { (types : ℕ → ValueType)
+        × AreHeld flat.now types machine.old.store.cells machine.old.registers.items
+        × AreHeld flat.now types machine.old.store.cells machine.old.last.items }
     ensures room { HasRoom flat.now machine.new }
     ensures faulted { machine.new.faulted ≡ machine.old.faulted }
     ensures texts { machine.new.texts ≡ machine.old.texts }
@@ -164,14 +172,16 @@ fn end(
 {
     set_timers(
         flat,
-        visits.delays(all, timers),
+        visits.delays(all_delays, timers),
         time,
         &machine.registers,
         &mut machine.timers,
     );
-    keep(
+    keep_filled(
+        all,
         &tables.kept,
-        visits.filled(all, tables),
+        keeps,
+        &visits.filled,
         &mut machine.registers,
         &mut machine.last,
     );
@@ -211,6 +221,7 @@ pub(crate) fn run_instant(
 {
     let at_once = start_of(&machine.texts, out);
     let all = tables.is_short || time.get() == 0;
+    let all_delays = all || tables.has_few_delays;
     let root = match run_registers(
         alloc,
         code.flat(),
@@ -219,6 +230,7 @@ pub(crate) fn run_instant(
         code.timers(),
         time,
         all,
+        all_delays,
         given,
         at_once,
         visits,
@@ -240,6 +252,7 @@ pub(crate) fn run_instant(
             code.timers(),
             time,
             all,
+            all_delays,
             visits,
             machine,
         )?;

@@ -198,6 +198,22 @@ pub(crate) fn run_one(
     run_own(alloc, e, id, in_place, time, machine)
 }
 
+/// An output has no event, and no text either.
+fn is_blank(flat: &Flat, place: usize, machine: &Machine) -> bool
+    requires whole { IsFlat flat.now }
+    requires there { place < length flat.now.outputs }
+    requires registers { length machine.now.registers.items ≡ length flat.now.equations }
+    requires texts { length machine.now.texts.items ≡ length flat.now.outputs }
+    ensures empty { IsTrue result → register_at machine.now.registers.items (print_of flat.now place) ≡ Register.Empty }
+    ensures unprinted { IsTrue result → slice_index_or machine.now.texts.items place [] ≡ [] }
+{
+    let output = &flat.outputs()[place];
+    if !machine.registers[output.equation.get() as usize].is_empty() {
+        return false;
+    }
+    machine.texts[place].len() == 0
+}
+
 /// Prints an output into its text.
 fn print_later(
     flat: &Flat,
@@ -225,6 +241,32 @@ fn print_later(
         &machine.store,
         &mut machine.texts,
     )
+}
+
+/// Prints an output into its text, if it has an event. Nothing is marked else.
+fn print_if_any(
+    flat: &Flat,
+    place: usize,
+    time: Time,
+    marked: &mut Agenda,
+    machine: &mut Machine,
+) -> Result<(), NoMemory>
+    requires whole { IsFlat flat.now }
+    requires there { place < length flat.now.outputs }
+    requires marks { length marked.old ≡ length flat.now.outputs }
+    requires registers { length machine.old.registers.items ≡ length flat.now.equations }
+    requires texts { length machine.old.texts.items ≡ length flat.now.outputs }
+    requires unprinted { AreUnprinted marked.old machine.old.texts.items }
+    requires live { HoldsLive machine.old.store.cells (register_at machine.old.registers.items (print_of flat.now place)) }
+    ensures same { SameBeside machine.old machine.new }
+    ensures printed { OnOk result (HasPrinted flat.now time place machine.old machine.new) }
+    ensures marks { length marked.new ≡ length marked.old }
+    ensures unprinted { OnOk result (AreUnprinted marked.new machine.new.texts.items) }
+{
+    if is_blank(flat, place, machine) {
+        return Ok(());
+    }
+    print_later(flat, place, time, marked, machine)
 }
 
 /// Prints the one output at once.
@@ -289,7 +331,7 @@ fn print_step(
             &machine.store,
             out,
         ),
-        None => print_later(flat, place, time, marked, machine),
+        None => print_if_any(flat, place, time, marked, machine),
     }
 }
 

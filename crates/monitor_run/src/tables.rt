@@ -6,19 +6,18 @@ ghost use Rattle.monitor_run.specs.inner.Visits.{AreTables};
 use register_code::code::Code;
 use std::alloc::Global;
 use step_uses::rows::Rows;
-use step_uses::uses::{delay_uses, every, marked, step_uses};
-use tsl_value::ids::EqId;
+use step_uses::uses::{delay_uses, marked, step_uses};
 use tsl_value::memory::NoMemory;
 
 /// For each equation the places of the order whose steps use it at the same time, and the delays that it may set or that may be refused by
-/// it; which equations are kept; all equations; and whether each instant runs all steps.
+/// it; which equations are kept; whether each instant runs all steps; and whether each looks at all delays.
 #[derive(Drop)]
 pub(crate) struct Tables {
     pub uses: Rows,
     pub delays: Rows,
     pub kept: Vec<bool>,
-    pub every: Vec<EqId>,
     pub is_short: bool,
+    pub has_few_delays: bool,
 }
 
 /// An order of so many steps is run whole at each instant: it takes longer to note which of so few can be left out.
@@ -26,6 +25,9 @@ const FEW_STEPS: usize = 32;
 
 /// And so many equations, running or not, are emptied quickly.
 const FEW_EQUATIONS: u32 = 128;
+
+/// So many delays are looked at in less time than it takes to gather those that something was filled for.
+const FEW_DELAYS: usize = 4;
 
 impl Tables {
     /// The tables of code.
@@ -39,8 +41,8 @@ impl Tables {
             uses: step_uses(alloc, flat, order)?,
             delays: delay_uses(alloc, flat, code.timers())?,
             kept: marked(alloc, count, code.keeps())?,
-            every: every(alloc, count)?,
             is_short: order.len() <= FEW_STEPS && count <= FEW_EQUATIONS,
+            has_few_delays: code.timers().len() <= FEW_DELAYS,
         })
     }
 }

@@ -2,7 +2,6 @@
 
 ghost use Rattle.std.specs.Prelude.{◌≡◌, if◌then◌else◌, length, IfOk};
 
-use crate::tables::Tables;
 use agenda::marks::Agenda;
 use std::alloc::Global;
 use tsl_value::ids::EqId;
@@ -34,13 +33,6 @@ impl Visits {
 }
 
 impl Visits {
-    /// The equations whose registers are to be emptied: all, or those that were filled.
-    pub(crate) fn filled<'a>(&'a self, all: bool, tables: &'a Tables) -> &'a [EqId]
-        ensures { result.now ≡ (if all then tables.now.every.items else self.now.filled.items) }
-    {
-        if all { &tables.every } else { &self.filled }
-    }
-
     /// The delays that may be set or refused: these, or those of what was filled.
     pub(crate) fn delays<'a>(&'a self, all: bool, timers: &'a [EqId]) -> &'a [EqId]
         ensures { result.now ≡ (if all then timers.now else self.now.delays.items) }

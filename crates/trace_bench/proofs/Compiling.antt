@@ -1,6 +1,7 @@
 -- Of a source that is compiled there is one system, which has streams for all inputs.
 use Rattle.std.proofs.Common.{◌≡◌, ℕ, List}
-use Rattle.flat_core.specs.Case.{Streams, Inputs}
+use Rattle.flat_core.specs.Case.{Streams}
+use Rattle.flat_core.specs.Events.{Inputs}
 use Rattle.flat_core.specs.Solution.{Solves}
 use Rattle.flat_core.specs.System.{System}
 use Rattle.flat_simplify.proofs.Fit.{simplified_fit}

@@ -2,10 +2,9 @@
 use Rattle.std.proofs.Common.{◌≡◌, ℕ, Bool, true, List, ◌++◌, refl, sym, ap, subst, ◌∙◌, append-nil}
 use Rattle.std.specs.Prelude.{IsTrue, slice_index}
 use Rattle.flat_core.specs.Case.{Streams}
-use Rattle.flat_core.specs.System.{System}
+use Rattle.flat_core.specs.System.{System, numbers}
 use Rattle.monitor_run.specs.inner.State as engine
 use Rattle.flat_core.specs.Updates.{is_running_update}
-use Rattle.program_text.specs.Text.{numbers}
 use Rattle.register_machine.specs.Copied.{copied}
 use Rattle.sample_trace.specs.Trace.{trace_text}
 use Rattle.trace_bench.specs.Measured.{IsTallied, options}

@@ -2,7 +2,8 @@
 use Rattle.std.proofs.Common.{◌≡◌, Bool, false, not, List, [], ℕ, refl, sym, ◌∙◌, ap, zero, suc, take, None}
 use Rattle.std.proofs.Math.Seq.{take-nil}
 use Rattle.std.specs.List.{filter, flat_map}
-use Rattle.flat_core.specs.Case.{Inputs, Streams}
+use Rattle.flat_core.specs.Case.{Streams}
+use Rattle.flat_core.specs.Events.{Inputs}
 use Rattle.flat_core.specs.Complete.{IsFlat}
 use Rattle.flat_core.specs.Fault.{is_over}
 use Rattle.flat_core.specs.Instant.{instants}

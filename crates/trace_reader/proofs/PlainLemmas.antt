@@ -30,7 +30,7 @@ use Rattle.flat_core.specs.Line.{Line}
 use Rattle.trace_reader.specs.declared.fault.TraceFault.TheVariants as fault
 use Rattle.trace_reader.specs.declared.plain.PlainLine.{PlainLine}
 use Rattle.trace_reader.specs.Form.{LineParts, content, is_blank, is_end_blank, is_long, is_name, parts_of, put_first, says_nothing, split_once, time_of, without_end, without_front}
-use Rattle.trace_reader.specs.inner.Plain.{BeginsWithInt, BeginsWithNumber, BeginsWithValue, HasPlainInput, IsPlain, IsPlainInput, IsPlainOf, StandsPlain, begins_with_digit, is_of_int, plain}
+use Rattle.trace_reader.specs.inner.Plain.{BeginsWithInt, BeginsWithNumber, BeginsWithTail, BeginsWithValue, HasPlainInput, IsPlain, IsPlainInput, IsPlainOf, StandsPlain, begins_with_digit, is_of_int, plain, tail_of}
 use Rattle.trace_reader.specs.inner.Reader.{IsFirstLine, Reader, StopsAtLine, had_now, is_skipped, last_counts}
 use Rattle.trace_reader.specs.Reading.{addressed, alone, as_read, formed, input_called, is_among, judged, judged_content, placed, said, said_at, value_at, value_of}
 use Rattle.trace_reader.specs.inner.Spelling.{HasForm, IsWhole}
@@ -64,13 +64,13 @@ of_int_whole number some all = record {
   some = some;
 }
 
-value_first : (s : System) (i : ℕ) (of : ScalarType) (name : List ℕ) → IsPlainInput s i of name → (value : List ℕ) (v : Scalar) → literal of value ≡ Ok v → value_at s i (Some value) ≡ Some v
+value_first : (s : System) (i : ℕ) (of : ScalarType) (name : List ℕ) → IsPlainInput s i of name → (value : Option (List ℕ)) (v : Scalar) → value_of (value_type.Scalar of) value ≡ Some v → value_at s i value ≡ Some v
 value_first s i of name it value v means =
-    ap (option_and_then (λ (e : Equation). value_of e.of (Some value))) it.is ∙ ap (λ t. value_of t (Some value)) it.input.typed ∙ ap result_ok means
+    ap (option_and_then (λ (e : Equation). value_of e.of value)) it.is ∙ ap (λ t. value_of t value) it.input.typed ∙ means
 
 module _ (of : ScalarType) (name bytes : List ℕ) (p : PlainLine) (it : IsPlain of name bytes p) (spelled : is_name name ≡ true) where
   abbrev line : List ℕ
-  line = plain it.time name it.value
+  line = plain it.time name (tail_of it.value)
 
   line_no_end : list_all no_end line ≡ true
   line_no_end =
@@ -101,13 +101,17 @@ module _ (of : ScalarType) (name bytes : List ℕ) (p : PlainLine) (it : IsPlain
   plain_some = let at = is_split 10 bytes (line, it.rest) splits in let lt = at.within in omega arith
 
   abbrev parts : LineParts
-  parts = record { time = it.time; name = Some name; value = Some it.value }
+  parts = record { time = it.time; name = Some name; value = it.value }
+
+  form_of : (value : Option (List ℕ)) → IfSome value IsWhole → HasForm (plain it.time name (tail_of value)) (record { time = it.time; name = Some name; value = value })
+  form_of None whole = HasForm.named [] it.time [] (32 ∷ []) name [] refl it.digits refl refl (name_spelled name spelled) refl refl refl
+  form_of (Some value) whole =
+      HasForm.valued [] it.time [] (32 ∷ []) name (32 ∷ []) (32 ∷ []) value [] refl it.digits refl refl (name_spelled name spelled) refl refl
+      whole refl
+      (ap (λ written. plain it.time name (codes " = " ++ written)) (sym (append-nil value))) refl
 
   form : HasForm line parts
-  form =
-      HasForm.valued [] it.time [] (32 ∷ []) name (32 ∷ []) (32 ∷ []) it.value [] refl it.digits refl refl (name_spelled name spelled) refl refl
-      it.whole refl
-      (ap (λ value. plain it.time name value) (sym (append-nil it.value))) refl
+  form = form_of it.value it.whole
 
   module _ (s : System) (strict : Bool) (had : ℕ → ℕ → Bool) (last n : ℕ) (input : IsPlainInput s p.input of name) (short : p.len ≤ MOST_LINE_BYTES) (later : last ≤ p.time) (new : had p.time p.input ≡ false) where
     abbrev event : Line
@@ -121,8 +125,8 @@ module _ (of : ScalarType) (name bytes : List ℕ) (p : PlainLine) (it : IsPlain
     said_is : formed s strict had last n (Some parts) ≡ Ok event
     said_is =
         ap (said_at s strict had last n parts) time_is
-        ∙ ap (λ b. if b then Err (fault.TimeBack n last p.time) else said s strict had last n p.time (Some name) (Some it.value)) (le-ltb p.time last later)
-        ∙ ap (addressed s strict had last n p.time name (Some it.value)) input.called
+        ∙ ap (λ b. if b then Err (fault.TimeBack n last p.time) else said s strict had last n p.time (Some name) it.value) (le-ltb p.time last later)
+        ∙ ap (addressed s strict had last n p.time name it.value) input.called
         ∙ ap (placed s strict had last n p.time name p.input) (value_first s p.input of name input it.value p.value it.means)
         ∙ ap (λ b. if b then Err (fault.Twice n name) else Ok event) new
 
@@ -326,15 +330,33 @@ literal_value of bytes len value at whole means =
       is = sym (ap (λ rest. take len bytes ++ rest) (take_all (length bytes - len) (drop len bytes) (let long = length-drop len bytes in omega arith)) ∙ take-append-drop len bytes);
     }
 
+-- what stands after a name
+pub tail_read : (of : ScalarType) (bytes : List ℕ) (value : Scalar) (after rest : List ℕ) → bytes ≡ codes " = " ++ after → BeginsWithValue of after value rest → BeginsWithTail of bytes value rest
+tail_read of bytes value after rest equals it = record {
+  written = Some it.written;
+  whole = it.whole;
+  one_line = it.one_line;
+  means = ap result_ok it.means;
+  is = equals ∙ ap (λ bs. codes " = " ++ bs) it.is;
+}
+
+pub tail_if : {A : Type 0} (of : ScalarType) (bytes after : List ℕ) (value_in : A → Scalar) (rest_in : A → List ℕ) (o : Option A) → bytes ≡ codes " = " ++ after → IfSome o (λ r. BeginsWithValue of after (value_in r) (rest_in r)) → IfSome o (λ r. BeginsWithTail of bytes (value_in r) (rest_in r))
+tail_if of bytes after value_in rest_in None equals it = tt
+tail_if of bytes after value_in rest_in (Some r) equals it = tail_read of bytes (value_in r) after (rest_in r) equals it
+
+pub no_tail : (bytes : List ℕ) → BeginsWithTail scalar_type.Unit bytes scalar.Unit bytes
+no_tail bytes = record { written = None; whole = tt; one_line = refl; means = refl; is = refl }
+
 -- A whole line.
-pub line_read : (of : ScalarType) (name bytes after rest end more : List ℕ) (time input : ℕ) (value : Scalar) → BeginsWithNumber bytes time after → after ≡ codes ": " ++ (name ++ (codes " = " ++ rest)) → BeginsWithValue of rest value end →
+pub line_read : (of : ScalarType) (name bytes after rest end more : List ℕ) (time input : ℕ) (value : Scalar) → BeginsWithNumber bytes time after → after ≡ codes ": " ++ (name ++ rest) → BeginsWithTail of rest value end →
     end ≡ codes "\n" ++ more → time < 2 ^ 63 → IsPlain of name bytes (record { time = time; input = input; value = value; len = length bytes - length end })
 line_read of name bytes after rest end more time input value at named it ends small =
-    let whole : bytes ≡ plain at.digits name it.written ++ 10 ∷ more =
-    at.is ∙ ap (λ bs. at.digits ++ bs) (named ∙ ap (λ bs. codes ": " ++ (name ++ (codes " = " ++ bs))) (it.is ∙ ap (λ bs. it.written ++ bs) ends))
-    ∙ sym (append_assoc at.digits (codes ": " ++ (name ++ (codes " = " ++ it.written))) (10 ∷ more)
-    ∙ ap (λ bs. at.digits ++ (codes ": " ++ bs)) (append_assoc name (codes " = " ++ it.written) (10 ∷ more))) in
-    let both = ap length whole ∙ length-append (plain at.digits name it.written) (10 ∷ more) in
+    let tail = tail_of it.written in
+    let whole : bytes ≡ plain at.digits name tail ++ 10 ∷ more =
+    at.is ∙ ap (λ bs. at.digits ++ bs) (named ∙ ap (λ bs. codes ": " ++ (name ++ bs)) (it.is ∙ ap (λ bs. tail ++ bs) ends))
+    ∙ sym (append_assoc at.digits (codes ": " ++ (name ++ tail)) (10 ∷ more)
+    ∙ ap (λ bs. at.digits ++ (codes ": " ++ bs)) (append_assoc name tail (10 ∷ more))) in
+    let both = ap length whole ∙ length-append (plain at.digits name tail) (10 ∷ more) in
     let final = ap length ends in
     record {
       time = at.digits;

@@ -1,8 +1,9 @@
-// Lines of the form in which most are written: `TIME: NAME = VALUE` with one blank at each of these places and an end.
+// Lines of the forms in which most are written: `TIME: NAME = VALUE` with one blank at each of these places and an end, and of a unit
+// `TIME: NAME` as well.
 
 ghost use Rattle.std.specs.Prelude.{◌≡◌, ◌++◌, ◌<◌, ◌^◌, codes, neg_ℤ, pos, IfSome, IsTrue};
 ghost use Rattle.tsl_value.specs.declared.scalar.Scalar.TheVariants as scalar;
-ghost use Rattle.trace_reader.specs.inner.Plain.{BeginsWithNumber, BeginsWithValue, IsPlainOf};
+ghost use Rattle.trace_reader.specs.inner.Plain.{BeginsWithNumber, BeginsWithTail, BeginsWithValue, IsPlainOf};
 ghost use Rattle.trace_reader.specs.inner.Spelling.{IsWhole};
 ghost use Rattle.tsl_value.specs.declared.scalar.ScalarType.TheVariants as scalar_type;
 
@@ -39,7 +40,7 @@ pub(crate) fn plain_line(alloc: Global, inputs: &Inputs<'_>, bytes: &[u8]) -> Op
     let input = inputs.plain_input(named)?;
     let name = inputs.name(input)?;
     let of = inputs.type_of(input)?;
-    let (value, end) = value_before(alloc, of, after_name(named, name)?)?;
+    let (value, end) = tail_before(alloc, of, after(named, name)?)?;
     let _next = after(end, b"\n")?;
     let len = bytes.len() - end.len();
     Some(PlainLine {
@@ -50,7 +51,29 @@ pub(crate) fn plain_line(alloc: Global, inputs: &Inputs<'_>, bytes: &[u8]) -> Op
     })
 }
 
+/// What a line has after its name, and what stands after that: a value, or of a unit perhaps nothing.
+#[inline(always)]
+fn tail_before(alloc: Global, of: ScalarType, bytes: &[u8]) -> Option<(Scalar, &[u8])>
+    ensures { IfSome result (λ r. BeginsWithTail of bytes.now r.0 r.1.now) }
+{
+    match after_equals(bytes) {
+        Some(written) => value_before(alloc, of, written),
+        None => nothing_before(of, bytes),
+    }
+}
+
+/// The value of a unit that has none written.
+fn nothing_before(of: ScalarType, bytes: &[u8]) -> Option<(Scalar, &[u8])>
+    ensures { IfSome result (λ r. BeginsWithTail of bytes.now r.0 r.1.now) }
+{
+    match of {
+        ScalarType::Unit => Some((Scalar::Unit, bytes)),
+        _ => None,
+    }
+}
+
 /// The value of a type at the front, and what stands after it.
+#[inline(always)]
 fn value_before(alloc: Global, of: ScalarType, bytes: &[u8]) -> Option<(Scalar, &[u8])>
     ensures { IfSome result (λ r. BeginsWithValue of bytes.now r.0 r.1.now) }
 {
@@ -96,11 +119,12 @@ fn after_colon(bytes: &[u8]) -> Option<&[u8]>
     }
 }
 
-/// What stands after `NAME = `.
-fn after_name<'a>(bytes: &'a [u8], name: &[u8]) -> Option<&'a [u8]>
-    ensures { IfSome result (λ r. bytes.now ≡ name.now ++ (codes " = " ++ r.now)) }
+/// What stands after ` = `.
+#[inline(always)]
+fn after_equals(bytes: &[u8]) -> Option<&[u8]>
+    ensures { IfSome result (λ r. bytes.now ≡ codes " = " ++ r.now) }
 {
-    match after(bytes, name)? {
+    match bytes {
         [b' ', b'=', b' ', rest @ ..] => Some(rest),
         _ => None,
     }

@@ -9,10 +9,7 @@ use Rattle.tsl_value.specs.inner.ViewCode.{view_code}
 use Rattle.tsl_value.specs.declared.scalar.Scalar.{Scalar}
 use Rattle.tsl_value.specs.declared.scalar.Scalar.TheVariants as scalar
 use Rattle.tsl_value.specs.declared.scalar.ScalarType.{ScalarType}
-use Rattle.tsl_value.specs.declared.scalar.ValueType.{ValueType}
-use Rattle.tsl_value.specs.declared.scalar.ValueType.TheVariants as value_type
 use Rattle.lift_func.specs.inner.Cells.{Cells}
-use Rattle.lift_func.specs.Update.{with_key, with_entry}
 
 -- the views of the cells by their handles, and the ledger: how many elements each update has copied
 pub record Stored : Type 0 where
@@ -24,18 +21,6 @@ stored_code =
     code_by (Cells × List ℕ) (coded× (finite_map.code coded_ℕ view_code) (coded_list coded_ℕ)) (λ s. (s.cells, s.ledger))
     (λ p. record { cells = p.0; ledger = p.1 }) (λ _. refl)
 
--- sets and maps
-abbrev pub IsAggregate : ValueType → Type 0
-IsAggregate (value_type.Scalar of) = ⊥
-IsAggregate (value_type.Set key) = Unit {0}
-IsAggregate (value_type.Map key value) = Unit {0}
-
--- the set or the map of a type that has no element
-abbrev pub empty_view : ValueType → View
-empty_view (value_type.Scalar of) = Plain scalar.Unit
-empty_view (value_type.Set key) = Keyed set.empty
-empty_view (value_type.Map key value) = Mapped finite_map.empty
-
 -- what stands beside a key has the type of the view's values; beside a set's key that is the value of Unit
 abbrev pub FitsValue : View → Scalar → Type 0
 FitsValue (Plain s) value = ⊥
@@ -45,9 +30,15 @@ FitsValue (Mapped m) value =
 
 -- the set with the key, and the map with the key added or its value replaced
 abbrev pub with_added : View → Scalar → Scalar → View
-with_added (Plain s) key value = Plain s
-with_added (Keyed s) key value = with_key (Keyed s) (Plain key)
-with_added (Mapped m) key value = with_entry (Mapped m) (Plain key) (Plain value)
+with_added (Keyed s) key value = Keyed (set.insert s key)
+with_added (Mapped m) key value = Mapped (finite_map.insert m key value)
+with_added v key value = v
+
+-- the set or the map without the key
+abbrev pub without_key : View → Scalar → View
+without_key (Keyed s) key = Keyed (set.remove s key)
+without_key (Mapped m) key = Mapped (finite_map.remove m key)
+without_key v key = v
 
 -- the update has copied so many elements more; a number stands once it is 2^64 - 1
 abbrev pub counted : List ℕ → ℕ → ℕ → List ℕ

@@ -4,11 +4,10 @@ use Rattle.std.specs.Prelude.{IfOk, slice_get, slice_index, slice_index_or, slic
 use Rattle.std.specs.List.{All, list_any}
 use Rattle.std.specs.Option.{option_or}
 use Rattle.std.specs.FinMap as finite_map
-use Rattle.tsl_value.specs.declared.scalar.KeyType.{KeyType}
+use Rattle.tsl_value.specs.declared.operation.Update.{Update}
+use Rattle.tsl_value.specs.declared.operation.Update.TheVariants as update
 use Rattle.tsl_value.specs.declared.scalar.Scalar.TheVariants as scalar
-use Rattle.tsl_value.specs.declared.scalar.ScalarType.{ScalarType}
 use Rattle.tsl_value.specs.declared.scalar.ValueType.{ValueType}
-use Rattle.tsl_value.specs.declared.scalar.ValueType.TheVariants as value_type
 use Rattle.tsl_value.specs.View.{View, is_of}
 use Rattle.lift_func.specs.BodyTree.{BodyTree, Argument}
 use Rattle.lift_func.specs.declared.eval.EvalFault.{EvalFault}
@@ -16,7 +15,7 @@ use Rattle.lift_func.specs.declared.eval.EvalFault.TheVariants as eval_fault
 use Rattle.lift_func.specs.declared.register.Register.{Register}
 use Rattle.lift_func.specs.declared.register.Register.TheVariants as register
 use Rattle.lift_func.specs.inner.Cells.{Cells, IsLive, HoldsLive, held, view_at}
-use Rattle.lift_func.specs.Typing.{scalar_of}
+use Rattle.lift_func.specs.Update.{UpdateTypes}
 use Rattle.lift_func.specs.Apply.{Answer}
 use Rattle.lift_func.specs.inner.Evaluable.{IsHeldValue}
 use Rattle.aggregate_store.specs.inner.Stored.{Stored, counted}
@@ -88,31 +87,29 @@ handed_of registers last o args = chosen_of o (map (held_at registers) args)
 abbrev pub HasHanded : ℕ → Option Held → List Register → List Register → Type 0
 HasHanded place h old new = (r : Register) × (new ≡ slice_set old place r) × (held_by r ≡ h)
 
--- a type of sets or maps with keys of a type
-abbrev pub HasKeys : KeyType → ValueType → Type 0
-HasKeys key (value_type.Scalar of) = ⊥
-HasKeys key (value_type.Set k) = k ≡ key
-HasKeys key (value_type.Map k of) = k ≡ key
+-- registers are of these types
+abbrev pub AreHeldOf : Cells → List ValueType → List Register → Type 0
+AreHeldOf cells [] [] = Unit {0}
+AreHeldOf cells (t ∷ types) (r ∷ registers) = IsHeldOf cells t r × AreHeldOf cells types registers
+AreHeldOf cells _ _ = ⊥
 
--- a set and a key of its keys' type, a map with a key and a value, and an aggregate with a key; each may be absent
-pub record AreSetAndKey (cells : Cells) (set key : Register) : Type 0 where
-  pub of : KeyType
-  pub set_is : IsHeldOf cells (value_type.Set of) set
-  pub key_is : IsHeldOf cells (value_type.Scalar (scalar_of of)) key
-
-pub record AreAggregateAndKey (cells : Cells) (aggregate key : Register) : Type 0 where
+-- an update's aggregate and the values beside it, in these registers; each may be absent
+pub record TakesUpdate (cells : Cells) (u : Update) (registers : List Register) : Type 0 where
   pub of : ValueType
-  pub key_of : KeyType
-  pub keys : HasKeys key_of of
-  pub aggregate_is : IsHeldOf cells of aggregate
-  pub key_is : IsHeldOf cells (value_type.Scalar (scalar_of key_of)) key
+  pub types : List ValueType
+  pub row : UpdateTypes u of types
+  pub held_are : AreHeldOf cells (of ∷ types) registers
 
-pub record AreMapAndEntry (cells : Cells) (map key value : Register) : Type 0 where
-  pub of : KeyType
-  pub value_of : ScalarType
-  pub map_is : IsHeldOf cells (value_type.Map of value_of) map
-  pub key_is : IsHeldOf cells (value_type.Scalar (scalar_of of)) key
-  pub value_is : IsHeldOf cells (value_type.Scalar value_of) value
+-- the update takes a key out
+abbrev pub IsRemoval : Update → Type 0
+IsRemoval update.SetRemove = Unit {0}
+IsRemoval update.MapRemove = Unit {0}
+IsRemoval _ = ⊥
+
+-- the register holds no scalar
+abbrev pub HoldsNoScalar : Register → Type 0
+HoldsNoScalar (register.Scalar s) = ⊥
+HoldsNoScalar _ = Unit {0}
 
 -- the register holds no aggregate
 abbrev pub IsBare : Register → Type 0
@@ -147,6 +144,13 @@ HasUpdated true i source old new r (Some v) =
     × (source ≡ register.Aggregate handle)
     × (r ≡ register.Aggregate handle)
     × (new ≡ record old { cells = finite_map.insert old.cells handle v })
+
+-- what an update has by its case: its aggregate, or nothing; a fault changes nothing
+abbrev pub HasAnswer : Bool → ℕ → Register → Stored → Stored → Result Register EvalFault → Answer → Type 0
+HasAnswer in_place i source old new (Ok r) (Ok v) = HasUpdated in_place i source old new r v
+HasAnswer in_place i source old new (Ok r) (Err kind) = ⊥
+HasAnswer in_place i source old new (Err (eval_fault.Fault kind)) answer = (answer ≡ Err kind) × (new ≡ old)
+HasAnswer in_place i source old new (Err eval_fault.Memory) answer = Unit {0}
 
 abbrev pub first_of : List (Option View) → Option View
 first_of [] = None

@@ -17,14 +17,14 @@ use Rattle.flat_core.specs.declared.equation.Equation.{Equation}
 use Rattle.flat_core.specs.declared.equation.Output.{Output}
 use Rattle.flat_core.specs.declared.equation.Op.{Op}
 use Rattle.flat_core.specs.declared.equation.Op.TheVariants as op
-use Rattle.flat_core.specs.Case.{Inputs, refused}
+use Rattle.flat_core.specs.Events.{Inputs, refused}
 use Rattle.flat_core.specs.Instant.{is_delay}
 use Rattle.flat_core.specs.Line.{Line, inputs_of}
 use Rattle.flat_core.specs.Members.{is_in}
 use Rattle.flat_core.specs.Pending.{option_is, reached}
 use Rattle.flat_core.specs.System.{System, equation, runs}
 use Rattle.flat_core.specs.Text.{event_line}
-use Rattle.register_code.specs.Code.{is_kept, is_timer, keeps_of, timers_of}
+use Rattle.flat_core.specs.Kept.{is_kept, is_timer, keeps_of, timers_of}
 use Rattle.aggregate_store.specs.inner.Stored.{is_listed}
 use Rattle.register_machine.specs.Content.{print_of}
 use Rattle.register_machine.specs.Machine.{Instr, Print, Bare, held, slot_of_answer, Config, value_in, Steps}

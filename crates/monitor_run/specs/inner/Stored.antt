@@ -3,8 +3,8 @@ use Rattle.std.specs.Prelude.{ℕ, Bool, false, length, Option, Some, None}
 use Rattle.std.specs.List.{filter}
 use Rattle.flat_core.specs.declared.equation.Equation.{Equation}
 use Rattle.flat_core.specs.System.{System, equation}
-use Rattle.flat_core.specs.Typed.{is_aggregate}
-use Rattle.register_code.specs.Code.{keeps_of}
+use Rattle.flat_core.specs.Kept.{keeps_of}
+use Rattle.tsl_value.specs.Aggregate.{is_aggregate}
 
 abbrev pub is_stored_type : Option Equation → Bool
 is_stored_type None = false

@@ -6,7 +6,7 @@ use Rattle.lift_func.specs.declared.register.Register.{Register}
 use Rattle.lift_func.specs.declared.register.Register.TheVariants as register
 use Rattle.flat_core.specs.Members.{is_in}
 use Rattle.flat_core.specs.System.{System}
-use Rattle.register_code.specs.Code.{keeps_of, timers_of}
+use Rattle.flat_core.specs.Kept.{keeps_of, timers_of}
 use Rattle.step_uses.specs.Uses.{is_of_delay, row, used_by}
 use Rattle.monitor_run.specs.inner.Here.{is_marked}
 use Rattle.monitor_run.specs.inner.Registers.{register_at}
@@ -40,8 +40,6 @@ pub record AreTables (s : System) (order : List ℕ) (t : Tables) : Type 0 where
   pub delays : AreDelays s t.delays
   pub kept : AreKept s t.kept.items
   pub kept_each : length t.kept.items ≡ length s.equations
-  pub known : (i : ℕ) → IsTrue (is_in t.every.items i) → i < length s.equations
-  pub every : (i : ℕ) → i < length s.equations → IsTrue (is_in t.every.items i)
 
 -- ---- what is still to be visited
 

@@ -1,4 +1,4 @@
--- Lines of the form in which most are written.
+-- Lines of the forms in which most are written.
 use Rattle.std.specs.Prelude.{◌≡◌, ◌≤◌, ◌<◌, ◌^◌, ◌||◌, ◌==◌, ℕ, Bool, true, false, not, List, [], ◌∷◌, ◌++◌, length, Option, Some, None, IfSome, Ok, codes, slice_index_or}
 use Rattle.std.specs.Char.{is_ascii_digit}
 use Rattle.std.specs.List.{list_all}
@@ -12,7 +12,7 @@ use Rattle.flat_core.specs.declared.equation.Op.TheVariants as op
 use Rattle.flat_core.specs.System.{System, equation}
 use Rattle.trace_reader.specs.declared.plain.PlainLine.{PlainLine}
 use Rattle.trace_reader.specs.Form.{is_name}
-use Rattle.trace_reader.specs.Reading.{input_called}
+use Rattle.trace_reader.specs.Reading.{input_called, value_of}
 use Rattle.trace_reader.specs.inner.Spelling.{IsWhole}
 use Rattle.trace_reader.specs.inner.Reader.{Reader, HasLine, judged_at}
 
@@ -42,23 +42,37 @@ pub record BeginsWithValue (of : ScalarType) (bytes : List ℕ) (value : Scalar)
   pub means : literal of written ≡ Ok value
   pub is : bytes ≡ written ++ rest
 
--- a time, a name and a value, with one blank at each of three places
+-- a value after a name, with a blank on each side of its sign, or nothing
+abbrev pub tail_of : Option (List ℕ) → List ℕ
+tail_of None = []
+tail_of (Some value) = codes " = " ++ value
+
+-- What stands at the front has such a value of a type, without blanks around it and without a line's end, and these bytes follow it. A unit
+-- may have none.
+pub record BeginsWithTail (of : ScalarType) (bytes : List ℕ) (value : Scalar) (rest : List ℕ) : Type 0 where
+  pub written : Option (List ℕ)
+  pub whole : IfSome written IsWhole
+  pub one_line : list_all (λ b. not (b == 10)) (tail_of written) ≡ true
+  pub means : value_of (value_type.Scalar of) written ≡ Some value
+  pub is : bytes ≡ tail_of written ++ rest
+
+-- a time, a name and what stands after it, with one blank after the colon
 abbrev pub plain : List ℕ → List ℕ → List ℕ → List ℕ
-plain time name value = time ++ (codes ": " ++ (name ++ (codes " = " ++ value)))
+plain time name tail = time ++ (codes ": " ++ (name ++ tail))
 
 -- such a line stands at the front, and its end follows
 pub record IsPlain (of : ScalarType) (name bytes : List ℕ) (p : PlainLine) : Type 0 where
   pub time : List ℕ
-  pub value : List ℕ
+  pub value : Option (List ℕ)
   pub rest : List ℕ
   pub digits : are_digits time ≡ true
   pub time_is : digits_value 10 time ≡ p.time
   pub small : p.time < 2 ^ 63
-  pub whole : IsWhole value
-  pub one_line : list_all (λ b. not (b == 10)) value ≡ true
-  pub means : literal of value ≡ Ok p.value
-  pub is : bytes ≡ plain time name value ++ 10 ∷ rest
-  pub len : p.len ≡ length (plain time name value)
+  pub whole : IfSome value IsWhole
+  pub one_line : list_all (λ b. not (b == 10)) (tail_of value) ≡ true
+  pub means : value_of (value_type.Scalar of) value ≡ Some p.value
+  pub is : bytes ≡ plain time name (tail_of value) ++ 10 ∷ rest
+  pub len : p.len ≡ length (plain time name (tail_of value))
 
 -- an input of this type and this name, which can stand in a trace
 pub record IsInputOf (of : ScalarType) (name : List ℕ) (e : Equation) : Type 0 where

@@ -1,6 +1,6 @@
 use Rattle.std.proofs.Common.{rules, ◌≡◌, sym, subst, ◌∙◌}
 use Rattle.lift_func.specs.BodyTree.{Two}
-use Rattle.lift_func.specs.declared.body.Binary.TheVariants as binary
+use Rattle.tsl_value.specs.declared.operation.Binary.TheVariants as binary
 use Rattle.monitor_run.specs.inner.Here.{IsNamed}
 use Rattle.monitor_run.proofs.AskedLemmas.{asked_fits, asked_is}
 use Rattle.monitor_run.proofs.case.asked.Goals as goal

@@ -4,9 +4,9 @@ use Rattle.std.specs.Prelude.{IsTrue}
 use Rattle.lift_func.specs.inner.Cells.{HoldsLive, held}
 use Rattle.flat_core.specs.Members.{is_in}
 use Rattle.flat_core.specs.System.{equation}
-use Rattle.register_code.specs.Code.{is_timer}
+use Rattle.flat_core.specs.Kept.{is_timer}
 use Rattle.monitor_run.specs.inner.Instant.{IsLeastRoot, refusal_of}
-use Rattle.flat_core.specs.Case.{refused}
+use Rattle.flat_core.specs.Events.{refused}
 use Rattle.std.specs.Option.{option_map}
 use Rattle.monitor_run.proofs.DelayLemmas.{delay_two, refused-more, take_whole, timer_runs, timer_shape}
 use Rattle.flat_core.proofs.Shapes.{args_there}

@@ -4,7 +4,7 @@ use Rattle.std.specs.Prelude.{IsTrue, if◌then◌else◌}
 use Rattle.std.specs.FinMap as finite_map
 use Rattle.flat_core.specs.Members.{is_in}
 use Rattle.flat_core.specs.System.{equation}
-use Rattle.register_code.specs.Code.{is_timer}
+use Rattle.flat_core.specs.Kept.{is_timer}
 use Rattle.monitor_run.specs.inner.Instant.{set_at}
 use Rattle.monitor_run.proofs.DelayLemmas.{set-more, take_whole, timer_runs, timer_shape, timer_there}
 use Rattle.flat_core.proofs.Shapes.{args_there}

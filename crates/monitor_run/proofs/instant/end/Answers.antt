@@ -1,4 +1,4 @@
-use Rattle.std.proofs.Common.{◌≡◌, List, ℕ, OnOk, ◌<◌, ◌&&◌, false, length, sym, ap, subst, ◌∙◌, arith}
+use Rattle.std.proofs.Common.{◌≡◌, OnOk, ◌<◌, ◌&&◌, ◌||◌, false, length, sym, ap, subst, ◌∙◌, arith}
 use Rattle.std.proofs.lemmas.List.{with_items_is}
 use Rattle.std.specs.Prelude.{if◌then◌else◌, IsTrue, slice_index_or}
 use Rattle.std.specs.List.{All}
@@ -8,39 +8,57 @@ use Rattle.aggregate_store.specs.inner.Stored.{is_listed}
 use Rattle.lift_func.specs.declared.register.Register.TheVariants.{Empty}
 use Rattle.flat_core.specs.Members.{is_in}
 use Rattle.flat_core.specs.System.{equation}
-use Rattle.register_code.specs.Code.{is_timer}
+use Rattle.flat_core.specs.Kept.{is_timer}
 use Rattle.monitor_run.specs.inner.Instant.{cells_in, kept_register, set_at}
 use Rattle.monitor_run.specs.inner.Registers.{AreHeld, register_at}
-use Rattle.monitor_run.proofs.EndLemmas.{all_emptied, all_known, kept_wider_at}
-use Rattle.monitor_run.proofs.InstantLemmas.{all_kept, ends}
-use Rattle.monitor_run.proofs.TableLemmas.{delays_run, filled_all, set_all}
+use Rattle.monitor_run.proofs.EndLemmas.{all_known, emptied_either, kept_either}
+use Rattle.monitor_run.proofs.InstantLemmas.{all_kept, ends, kept_there_in}
+use Rattle.monitor_run.proofs.SoleLemmas.{live_kept}
+use Rattle.monitor_run.proofs.TableLemmas.{delays_run, set_all}
 use Rattle.monitor_run.proofs.instant.end.Goals as goal
 
 pub set_timers-requires-clause-running : goal.set_timers-requires-clause-running
 set_timers-requires-clause-running c =
     subst (All (λ i. IsTrue (is_timer c.args.flat.now i))) (sym c.delays.ensures)
-    (delays_run c.args.flat.now c.requires.whole c.args.tables.now c.requires.tables.0 c.requires.tables.1 c.args.all c.args.timers.now c.requires.timers c.args.visits.now.filled.items c.args.visits.now.delays.items c.args.machine.now.registers.items c.requires.room.registers c.requires.filled c.requires.delays)
+    (delays_run c.args.flat.now c.requires.whole c.args.tables.now c.requires.tables.0 c.requires.tables.1 c.args.all_delays c.args.timers.now c.requires.timers c.args.visits.now.filled.items c.args.visits.now.delays.items c.args.machine.now.registers.items c.requires.room.registers (λ going. c.requires.filled (c.requires.fewer going)) c.requires.delays)
 
-pub keep-requires-clause-known : goal.keep-requires-clause-known
-keep-requires-clause-known c =
-    subst (All (λ i. i < length c.deref_mut.result.now)) (sym c.filled.ensures)
-    (all_known _ c.args.machine.now.registers.items
-    (filled_all c.args.flat.now c.requires.whole c.args.tables.now c.requires.tables.0 c.requires.tables.1 c.args.all c.args.timers.now c.requires.timers c.args.visits.now.filled.items c.args.visits.now.delays.items c.args.machine.now.registers.items c.requires.room.registers c.requires.filled c.requires.delays)
-    _ (ap length c.deref_mut.ensures.value))
+pub keep_filled-requires-clause-keeps_known : goal.keep_filled-requires-clause-keeps_known
+keep_filled-requires-clause-keeps_known c = all_kept c.args.flat.now c.requires.whole _ (ap length c.deref_mut.ensures.value ∙ c.requires.room.registers) c.args.keeps.now c.requires.keeps
 
-pub drop_others-requires : goal.drop_others-requires
-drop_others-requires c =
-    all_kept c.args.flat.now c.requires.whole _ (ap length c.deref-3.ensures.value ∙ sym (with_items c.args.machine.now.last c.keep.new.last).ok.0 ∙ c.args.machine.now.last.ok.0 ∙ c.requires.room.last) c.args.keeps.now c.requires.keeps
+pub keep_filled-requires-clause-known : goal.keep_filled-requires-clause-known
+keep_filled-requires-clause-known c = λ going.
+    subst (All (λ i. i < length c.deref_mut.result.now)) (sym c.deref-3.ensures.value)
+    (all_known _ c.args.machine.now.registers.items (c.requires.filled going) _ (ap length c.deref_mut.ensures.value))
+
+pub keep_filled-requires-clause-kept : goal.keep_filled-requires-clause-kept
+keep_filled-requires-clause-kept c = λ i listed.
+    ap (λ xs. slice_index_or xs i false) c.deref-2.ensures.value
+    ∙ kept_there_in c.args.flat.now c.requires.whole c.args.tables.now.kept.items c.requires.tables.1.kept i (ap (λ xs. is_in xs i) (sym c.requires.keeps) ∙ listed)
+
+pub drop_others-requires-clause-known : goal.drop_others-requires-clause-known
+drop_others-requires-clause-known c =
+    all_kept c.args.flat.now c.requires.whole _ (ap length c.deref-4.ensures.value ∙ sym (with_items c.args.machine.now.last c.keep_filled.new.last).ok.0 ∙ c.args.machine.now.last.ok.0 ∙ c.requires.room.last) c.args.keeps.now c.requires.keeps
+
+pub drop_others-requires-clause-live : goal.drop_others-requires-clause-live
+drop_others-requires-clause-live c =
+    let s = c.args.flat.now in
+    let old = c.args.machine.now in
+    let registers_is = c.deref_mut.ensures.value in
+    let last_is = c.deref_mut-2.ensures.value in
+    let len : length c.keep_filled.new.last ≡ old.last.len = omega (arith, ap length last_is, old.last.ok.0) in
+    live_kept s c.requires.whole c.requires.held.0 old.store.cells old.registers.items old.last.items c.deref-4.result.now c.args.keeps.now c.requires.held.1 c.requires.held.2 c.requires.keeps
+    (λ i. ap (λ rs. register_at rs i) (c.deref-4.ensures.value ∙ with_items_is old.last c.keep_filled.new.last len) ∙ c.keep_filled.ensures.last i
+    ∙ (λ k. if (if c.args.all then is_in c.args.keeps.now i else is_in (c.deref-3.ensures.value k) i && slice_index_or (c.deref-2.ensures.value k) i false) then kept_register (register_at (registers_is k) i) (register_at (last_is k) i) else register_at (last_is k) i)
+    ∙ kept_either s c.args.all c.args.visits.now.filled.items c.args.keeps.now c.args.tables.now.kept.items old.registers.items c.requires.filled c.requires.room.registers c.requires.tables.1.kept c.requires.keeps (register_at old.last.items i) i)
 
 pub returns-clause-registers : goal.returns-clause-registers
 returns-clause-registers c = λ i.
     let old = c.args.machine.now in
     let registers_is = c.deref_mut.ensures.value in
-    let len : length c.keep.new.registers ≡ old.registers.len = omega (arith, ap length registers_is, old.registers.ok.0) in
-    ap (λ rs. register_at rs i) (with_items_is old.registers c.keep.new.registers len) ∙ c.keep.ensures.registers i
-    ∙ (λ k. if is_in (c.filled.ensures k) i then Empty else register_at (registers_is k) i)
-    ∙ all_emptied _ old.registers.items
-    (filled_all c.args.flat.now c.requires.whole c.args.tables.now c.requires.tables.0 c.requires.tables.1 c.args.all c.args.timers.now c.requires.timers c.args.visits.now.filled.items c.args.visits.now.delays.items old.registers.items c.requires.room.registers c.requires.filled c.requires.delays) i
+    let len : length c.keep_filled.new.registers ≡ old.registers.len = omega (arith, ap length registers_is, old.registers.ok.0) in
+    ap (λ rs. register_at rs i) (with_items_is old.registers c.keep_filled.new.registers len) ∙ c.keep_filled.ensures.registers i
+    ∙ (λ k. if c.args.all || is_in (c.deref-3.ensures.value k) i then Empty else register_at (registers_is k) i)
+    ∙ emptied_either c.args.all c.args.visits.now.filled.items old.registers.items c.requires.filled i
 
 pub returns-clause-ended : goal.returns-clause-ended
 returns-clause-ended c =
@@ -48,20 +66,18 @@ returns-clause-ended c =
     let t = c.args.time in
     let old = c.args.machine.now in
     let are = c.requires.tables.1 in
-    let filled : List ℕ = if c.args.all then c.args.tables.now.every.items else c.args.visits.now.filled.items in
     let registers_is = c.deref_mut.ensures.value in
     let last_is = c.deref_mut-2.ensures.value in
     let seen_is = c.deref.ensures.value in
-    let len : length c.keep.new.last ≡ old.last.len = omega (arith, ap length last_is, old.last.ok.0) in
-    let kept_is = with_items_is old.last c.keep.new.last len in
-    let are_filled = filled_all s c.requires.whole c.args.tables.now c.requires.tables.0 are c.args.all c.args.timers.now c.requires.timers c.args.visits.now.filled.items c.args.visits.now.delays.items old.registers.items c.requires.room.registers c.requires.filled c.requires.delays in
+    let len : length c.keep_filled.new.last ≡ old.last.len = omega (arith, ap length last_is, old.last.ok.0) in
+    let kept_is = with_items_is old.last c.keep_filled.new.last len in
     ends s t old _
-    (λ i. ap (λ rs. register_at rs i) kept_is ∙ c.keep.ensures.last i
-    ∙ (λ k. if is_in (c.filled.ensures k) i && slice_index_or (c.deref-2.ensures.value k) i false then kept_register (register_at (registers_is k) i) (register_at (last_is k) i) else register_at (last_is k) i)
-    ∙ kept_wider_at s filled c.args.tables.now.kept.items old.registers.items are_filled c.requires.room.registers are.kept (register_at old.last.items i) i)
+    (λ i. ap (λ rs. register_at rs i) kept_is ∙ c.keep_filled.ensures.last i
+    ∙ (λ k. if (if c.args.all then is_in c.args.keeps.now i else is_in (c.deref-3.ensures.value k) i && slice_index_or (c.deref-2.ensures.value k) i false) then kept_register (register_at (registers_is k) i) (register_at (last_is k) i) else register_at (last_is k) i)
+    ∙ kept_either s c.args.all c.args.visits.now.filled.items c.args.keeps.now c.args.tables.now.kept.items old.registers.items c.requires.filled c.requires.room.registers are.kept c.requires.keeps (register_at old.last.items i) i)
     (λ types cells held i. c.set_timers.ensures.set types cells (subst (AreHeld s types cells) (sym seen_is) held) i
     ∙ (λ k. if is_in (c.delays.ensures k) i then set_at (equation s i) cells (seen_is k) t i (finite_map.get old.timers.times i) else finite_map.get old.timers.times i)
-    ∙ set_all s c.requires.whole c.args.tables.now c.requires.tables.0 are c.args.all c.args.timers.now c.requires.timers c.args.visits.now.filled.items c.args.visits.now.delays.items old.registers.items c.requires.room.registers c.requires.filled c.requires.delays cells t i (finite_map.get old.timers.times i))
+    ∙ set_all s c.requires.whole c.args.tables.now c.requires.tables.0 are c.args.all_delays c.args.timers.now c.requires.timers c.args.visits.now.filled.items c.args.visits.now.delays.items old.registers.items c.requires.room.registers (λ going. c.requires.filled (c.requires.fewer going)) c.requires.delays cells t i (finite_map.get old.timers.times i))
     c.drop_others.result
     (subst (λ f. OnOk c.drop_others.result (c.drop_others.new.store ≡ record old.store { cells = finite_map.retain_keys old.store.cells f }))
-    (λ k. is_listed (cells_in (c.deref-3.ensures.value k) (c.requires.keeps k))) c.drop_others.ensures.ok)
+    (λ k. is_listed (cells_in (c.deref-4.ensures.value k) (c.requires.keeps k))) c.drop_others.ensures.ok)

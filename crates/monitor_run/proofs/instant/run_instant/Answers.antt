@@ -1,11 +1,13 @@
-use Rattle.std.proofs.Common.{◌≡◌, None, ap, subst, ◌∙◌}
+use Rattle.std.proofs.Common.{◌≡◌, ℕ, None, sym, ap, subst, ◌∙◌}
 use Rattle.std.specs.Prelude.{not}
 use Rattle.std.specs.Vec.{with_items}
 use Rattle.flat_core.specs.System.{System}
+use Rattle.tsl_value.specs.declared.scalar.ValueType.{ValueType}
 use Rattle.register_machine.specs.Run.{Plan}
 use Rattle.monitor_run.specs.inner.Instant.{HasEnded}
 use Rattle.monitor_run.specs.inner.Here.{is_marked}
 use Rattle.monitor_run.specs.inner.Machine.{AreUnmarked, HasRoom}
+use Rattle.monitor_run.specs.inner.Registers.{AreHeld}
 use Rattle.monitor_run.proofs.EventLemmas.{on_err}
 use Rattle.monitor_run.proofs.PrintedInstant.{all_appended, has_run_to, instant_ended, instant_faulted, part_appended}
 use Rattle.monitor_run.proofs.instant.run_instant.Goals as goal
@@ -17,6 +19,12 @@ returns-in_err-append_rest-clause-err c =
     let run = has_run_to c.args.code.now.system _ plan _ _ _ _ _ _ _ _ _ _ c.flat.ensures.flat c.plan.ensures.in_place c.plan.ensures.order
     c.in-Ok.ensures.ran c.run_registers.ensures.room c.run_registers.ensures.can c.run_registers.ensures.front c.start_of-at_once.ensures.front in
     on_err c.from_residual.result _ (part_appended _ _ _ _ _ _ _ _ _ _ run _ c.deref_mut.ensures.value _ c.in_err-append_rest.ensures.err)
+
+pub end-requires-clause-held : goal.end-requires-clause-held
+end-requires-clause-held c =
+    let ran = c.in-Ok.ensures.ran in
+    let m = c.run_registers.new.machine in
+    subst (λ (q : System). (types : ℕ → ValueType) × AreHeld q types m.store.cells m.registers.items × AreHeld q types m.store.cells m.last.items) (c.flat.ensures.flat ∙ sym c.flat-then-is_none.ensures.flat) (ran.types, ran.held, ran.last)
 
 pub returns-in_err-end-clause-err : goal.returns-in_err-end-clause-err
 returns-in_err-end-clause-err c =

@@ -12,6 +12,6 @@ returns c =
       of = of;
       name = name;
       input = named_input c.args.inputs.now c.in_ok-input.input of name c.in_ok-input.ensures c.in_ok-name.ensures c.in_ok-of.ensures;
-      line = rw time.1 (line_read of name c.args.bytes.now c.in_ok-digits.after_time.now c.in_ok-after_name.field-0.now c.in_ok-value.end.now c.in_ok-_next._next.now c.in_ok-digits.digits c.in_ok-input.input c.in_ok-value.value
-          c.in_ok-digits.ensures.number (c.in_ok-named.ensures ∙ ap (λ (bs : List ℕ). codes ": " ++ bs) c.in_ok-after_name.ensures) c.in_ok-value.ensures c.in_ok-_next.ensures time.0);
+      line = rw time.1 (line_read of name c.args.bytes.now c.in_ok-digits.after_time.now c.in_ok-after.field-0.now c.in_ok-value.end.now c.in_ok-_next._next.now c.in_ok-digits.digits c.in_ok-input.input c.in_ok-value.value
+          c.in_ok-digits.ensures.number (c.in_ok-named.ensures ∙ ap (λ (bs : List ℕ). codes ": " ++ bs) c.in_ok-after.ensures) c.in_ok-value.ensures c.in_ok-_next.ensures time.0);
     }

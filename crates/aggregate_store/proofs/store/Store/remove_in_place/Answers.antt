@@ -1,6 +1,5 @@
 use Rattle.std.proofs.Common.{◌<◌, sym, subst, ap, ◌∙◌}
-use Rattle.tsl_value.specs.View.{Plain}
-use Rattle.lift_func.specs.Update.{without_key}
+use Rattle.aggregate_store.specs.inner.Stored.{without_key}
 use Rattle.aggregate_store.proofs.Cells.{changed, not_free, seen, within}
 use Rattle.aggregate_store.proofs.store.Store.remove_in_place.Goals as goal
 
@@ -18,4 +17,4 @@ pub returns : goal.returns
 returns c =
     let was = seen c.self.inside.slots.items c.self.inside.ledger.items c.args.self.now c.self.view_is c.get.result c.args.cell c.get.ensures c.requires.live c.index_mut.result.now c.index_mut.ensures.value c.in-Some.cell c.in-Some.is in
     changed c.self.inside.slots.items c.self.inside.ledger.items c.args.self.now c.self.view_is c.get.result c.args.cell c.get.ensures c.requires.live c.remove.new.self _
-    (c.remove.ensures ∙ ap (λ view. without_key view (Plain c.args.key.now)) was)
+    (c.remove.ensures ∙ ap (λ view. without_key view c.args.key.now) was)

@@ -1,0 +1,34 @@
+use Rattle.std.proofs.Common.{◌&&◌, ◌||◌, false, sym, ap, ◌∙◌}
+use Rattle.std.specs.Prelude.{if◌then◌else◌, slice_index_or}
+use Rattle.lift_func.specs.declared.register.Register.TheVariants.{Empty}
+use Rattle.flat_core.specs.Members.{is_in}
+use Rattle.monitor_run.specs.inner.Instant.{kept_register}
+use Rattle.monitor_run.specs.inner.Registers.{register_at}
+use Rattle.monitor_run.proofs.EndLemmas.{all_blank, kept_there}
+use Rattle.monitor_run.proofs.end.keep_filled.Goals as goal
+
+pub returns-then-not-all-clause-last : goal.returns-then-not-all-clause-last
+returns-then-not-all-clause-last c = λ i.
+    let kept = slice_index_or c.args.kept.now i false in
+    let here = register_at c.args.registers.now i in
+    let before = register_at c.args.last.now i in
+    c.keep.ensures.last i
+    ∙ sym (λ k. if (if c.if-not-all.true k then is_in c.args.keeps.now i else is_in c.args.filled.now i && kept) then kept_register here before else before)
+
+pub returns-then-not-all-clause-registers : goal.returns-then-not-all-clause-registers
+returns-then-not-all-clause-registers c = λ i.
+    c.keep.ensures.registers i ∙ sym (λ k. if c.if-not-all.true k || is_in c.args.filled.now i then Empty else register_at c.args.registers.now i)
+
+pub returns-clause-last : goal.returns-clause-last
+returns-clause-last c = λ i.
+    let kept = slice_index_or c.args.kept.now i false in
+    let here = register_at c.args.registers.now i in
+    let before = register_at c.args.last.now i in
+    c.keep-2.ensures.last i
+    ∙ (λ k. if kept_there c.args.keeps.now c.args.kept.now i (c.requires.kept i) k then kept_register here before else before)
+    ∙ sym (λ k. if (if c.if-not-all.false k then is_in c.args.keeps.now i else is_in c.args.filled.now i && kept) then kept_register here before else before)
+
+pub returns-clause-registers : goal.returns-clause-registers
+returns-clause-registers c = λ i.
+    ap (λ rs. register_at rs i) c.empty_all.ensures ∙ all_blank c.keep-2.new.registers i
+    ∙ sym (λ k. if c.if-not-all.false k || is_in c.args.filled.now i then Empty else register_at c.args.registers.now i)
