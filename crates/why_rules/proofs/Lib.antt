@@ -1,0 +1,5 @@
+pub mod AtOnce
+pub mod Members
+pub mod Instants
+pub mod Waiting
+pub mod Forced
