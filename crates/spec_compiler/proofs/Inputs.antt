@@ -1,6 +1,6 @@
 -- The inputs of the system that is run are those that the items declare.
 use Rattle.std.proofs.Common.{◌≡◌, ℕ, zero, suc, ◌+◌, Bool, true, false, List, [], ◌∷◌, ◌++◌, map, length, Option, Some, None, refl, ap, sym, subst, ◌∙◌, append_assoc}
-use Rattle.std.specs.Prelude.{◌≢◌, unwrap_or}
+use Rattle.std.specs.Prelude.{◌≢◌}
 use Rattle.std.specs.List.{AllByRecursion}
 use Rattle.std.proofs.lemmas.Bool.{true≢false}
 use Rattle.std.proofs.lemmas.List.{map-append}
@@ -12,24 +12,25 @@ use Rattle.flat_core.specs.declared.equation.Op.TheVariants as op
 use Rattle.flat_core.specs.declared.equation.Equation.{Equation}
 use Rattle.flat_core.specs.declared.equation.Output.{Output}
 use Rattle.flat_core.specs.Renumbered.{with_new_args}
-use Rattle.flat_core.specs.Typed.{unit_type}
 use Rattle.flat_core.proofs.Members.{all_append, all_map}
 use Rattle.flat_core.proofs.Uniqueness.{all_by}
 use Rattle.syntax_tree.specs.Tree as tree
 use Rattle.syntax_tree.specs.Tree.{Expr, place_of}
-use Rattle.expr_types.specs.Around.{Kinds}
-use Rattle.vocabulary.specs.declared.signature.Update.{Update as UpdateOp}
-use Rattle.vocabulary.specs.declared.signature.Update.TheVariants as update
+use Rattle.type_rules.specs.Kinds.{Kinds}
+use Rattle.tsl_value.specs.declared.operation.Update.{Update as UpdateOp}
+use Rattle.tsl_value.specs.declared.operation.Update.TheVariants as update
 use Rattle.stream_constructs.specs.declared.construct.Stream.{Stream}
 use Rattle.stream_constructs.specs.Construct.{Construct, Operand, Fixed, Varying}
 use Rattle.stream_constructs.specs.Construct as construct
-use Rattle.stream_constructs.specs.Equations.{equation, first_number, held, held_each, lifted_streams, lifting, literal_equations, numbers, operand_numbers, own_equations, strict_lift, update_op, with_literals}
+use Rattle.stream_constructs.specs.Made.{input_equation}
+use Rattle.stream_constructs.specs.Equations.{equation, first_number, held, held_each, lifted_streams, lifting, literal_equations, numbers, operand_numbers, own_equations, strict_lift, with_literals}
 use Rattle.spec_meaning.specs.Flat.{MakesInputs, MakesOutputs, MakesPrinted, MakesStreams, event_type, named}
 use Rattle.spec_meaning.specs.Flat as flat
 use Rattle.spec_meaning.specs.Makes.{Makes, MakesAll, MakesBlock, MakesBody, Standing, choice_operands}
 use Rattle.spec_meaning.specs.Makes as makes
-use Rattle.spec_compiler.specs.Inputs.{declared_inputs}
+use Rattle.spec_meaning.specs.Inputs.{declared_inputs, type_or_unit}
 use Rattle.spec_compiler.specs.inner.Laws.{InputsAreDeclared, InputsStandAtTheirNumbers}
+use Rattle.flat_core.specs.Updates.{operation_of}
 
 -- ---- the equations of constructs are no inputs
 abbrev takes_input : Op → Bool
@@ -69,11 +70,9 @@ with_literals_others p o other of n os parts =
     (all_append IsOther (lifting p n parts) (literal_equations p (first_number (lifted_streams n parts)) os) (lifting_others p n parts) (literals_others p (first_number (lifted_streams n parts)) os))
     (other, tt)
 
-update_other : (o : UpdateOp) → takes_input (update_op o) ≡ false
+update_other : (o : UpdateOp) → takes_input (operation_of o) ≡ false
 update_other update.SetAdd = refl
-update_other update.SetRemove = refl
-update_other update.MapAdd = refl
-update_other update.MapRemove = refl
+update_other o = refl
 
 own_others : (p : Place) (of : ValueType) (n : ℕ) (c : Construct) (parts : List Stream) → AreOthers (own_equations p of n c parts)
 own_others p of n construct.Nil [] = (refl, tt)
@@ -91,7 +90,7 @@ own_others p of n (construct.Lift f) parts = (refl, tt)
 own_others p of n (construct.Signal f) [] = (refl, (refl, tt))
 own_others p of n (construct.Signal f) (a ∷ parts) =
     all_append IsOther (lifting p n (a ∷ parts)) (strict_lift p f (numbers (lifted_streams n (a ∷ parts))) of ∷ []) (lifting_others p n (a ∷ parts)) (refl, tt)
-own_others p of n (construct.Update o os) parts = with_literals_others p (update_op o) (update_other o) of n os parts
+own_others p of n (construct.Update o os) parts = with_literals_others p (operation_of o) (update_other o) of n os parts
 own_others p of n c parts = tt
 
 -- ---- nor are those of expressions
@@ -152,7 +151,7 @@ module _ (items : List tree.Item) (kinds : Kinds) (top : ℕ → Stream) where
   inputs_declared : {i n : ℕ} {rest : List tree.Item} {made : List Equation} → MakesInputs items kinds top i rest n made → made ≡ declared_inputs rest
   inputs_declared flat.MakesInputs.end = refl
   inputs_declared (flat.MakesInputs.input {q = q} {x = x} {y = y} of made events top_is more all_is) =
-      let type : of ≡ unwrap_or (event_type y) unit_type = sym (ap (λ (o : Option ValueType). unwrap_or o unit_type) events) in
+      let type : of ≡ type_or_unit (event_type y) = sym (ap type_or_unit events) in
       all_is ∙ (λ k. record (equation q op.Input [] (type k)) { name = Some x } ∷ inputs_declared more k)
   inputs_declared (flat.MakesInputs.defined more) = inputs_declared more
   inputs_declared (flat.MakesInputs.output more) = inputs_declared more
@@ -162,7 +161,7 @@ module _ (items : List tree.Item) (kinds : Kinds) (top : ℕ → Stream) where
 inputs_kept : (replaced : List ℕ) (items : List tree.Item) → map (with_new_args replaced) (declared_inputs items) ≡ declared_inputs items
 inputs_kept replaced [] = refl
 inputs_kept replaced (tree.Input p q x y ∷ items) =
-    ap (λ es. record { op = op.Input; args = []; of = unwrap_or (event_type y) unit_type; place = q; name = Some x } ∷ es) (inputs_kept replaced items)
+    ap (λ es. input_equation q x (type_or_unit (event_type y)) ∷ es) (inputs_kept replaced items)
 inputs_kept replaced (tree.Defined p d ∷ items) = inputs_kept replaced items
 inputs_kept replaced (tree.Output p q x ∷ items) = inputs_kept replaced items
 inputs_kept replaced (tree.OutputAs p e q x ∷ items) = inputs_kept replaced items

@@ -1,4 +1,3 @@
 pub mod Compiled
-pub mod Inputs
 pub mod Meant
 pub mod inner

@@ -52,8 +52,7 @@ fn planned(alloc: Global, flat: Flat) -> Result<Compiled, NoMemory>
     let triggers = Triggers::of(alloc, &flat)?;
     let Choice { plan, reasons } = choose(alloc, &flat, &triggers)?;
     let code = generate(alloc, flat, plan)?;
-    // A code's system is whole, as this call tells.
-    let _ = code.flat();
+    code.assert_whole();
     Ok(Compiled { code, reasons })
 }
 

@@ -5,10 +5,9 @@ use Rattle.std.specs.Prelude.{IsTrue, if◌then◌else◌, slice_index}
 use Rattle.std.specs.List.{filter, flat_map}
 use Rattle.alias_rules.specs.Fine.{IsTakenPlan}
 use Rattle.flat_core.specs.Case.{Streams}
-use Rattle.flat_core.specs.System.{System}
+use Rattle.flat_core.specs.System.{System, numbers}
 use Rattle.monitor_run.specs.inner.State as engine
 use Rattle.flat_core.specs.Updates.{is_running_update}
-use Rattle.program_text.specs.Text.{numbers}
 use Rattle.register_machine.specs.Copied.{copied}
 use Rattle.trace_monitor.specs.Counted.{copied_below}
 use Rattle.trace_monitor.specs.declared.options.Options.{Options}

@@ -173,7 +173,7 @@ module _ (words : List (List ℕ)) (name : List ℕ) (task : Task) (asked_is : a
 
   shows_tail : (rest : List Did) → Tail task rest → AtAll (λ less. HasWhole (front ++ less)) rest → StopsAtFailure (front ++ rest)
       → AtReads Trace (λ less. OfItems words (front ++ less) (λ items o. IsDueAsMeant items o (taken Trace (front ++ less)) false (given Out (front ++ less)))) rest
-      → AtReads Trace (λ less. OfRun words (front ++ less) (λ items s o. GoesOnAsMeant items s o (taken Trace (front ++ less)))) rest → IsPartlyDue words (front ++ rest) → Shows words (front ++ rest)
+      → AtReads Trace (λ less. OfRun words (front ++ less) (λ items s o. GoesOnAsMeant items o (taken Trace (front ++ less)))) rest → IsPartlyDue words (front ++ rest) → Shows words (front ++ rest)
   shows_tail rest tail is_whole stops due goes_on partly = record {
     opens = inr (name, task, asked_is, subst (λ (l : List (Slot × List ℕ)). Begins l (names_of name task)) (sym (front_openings rest)) (opens_so (openings rest) tail.opens));
     makes = front_creations rest ∙ tail.makes;
@@ -191,7 +191,7 @@ module _ (words : List (List ℕ)) (name : List ℕ) (task : Task) (asked_is : a
     pieces = Each-append (IsWithin MOST_PIECE_BYTES) front rest front_pieces tail.pieces;
     stops = stops;
     due = at_join (IsRead Trace) (λ before. OfItems words before (λ items o. IsDueAsMeant items o (taken Trace before) false (given Out before))) front rest (at_no_read Trace _ front front_no_trace) due;
-    goes_on = at_join (IsRead Trace) (λ before. OfRun words before (λ items s o. GoesOnAsMeant items s o (taken Trace before))) front rest (at_no_read Trace _ front front_no_trace) goes_on;
+    goes_on = at_join (IsRead Trace) (λ before. OfRun words before (λ items s o. GoesOnAsMeant items o (taken Trace before))) front rest (at_no_read Trace _ front front_no_trace) goes_on;
     partly = partly;
     silent = Each-append (IsNoGift Err) front rest (front_no_gift Err) tail.silent;
   }
@@ -337,11 +337,11 @@ module _ (words : List (List ℕ)) (name : List ℕ) (task : Task) (asked_is : a
             (λ less h. of_items (Opened Trace trace ∷ less) (λ items o. IsDueAsMeant items o (taken Trace (front ++ Opened Trace trace ∷ less)) false (given Out (front ++ Opened Trace trace ∷ less))) (tt, h.1)
             (due_meant source items s o compiled_so (taken Trace (front ++ Opened Trace trace ∷ less)) false (given Out (front ++ Opened Trace trace ∷ less)) (given_so (Opened Trace trace ∷ less) false h.0.due))) before_read)
             (at_after Trace (λ less. MayRead s o less × Each (IsNoRead Spec) less)
-            (λ less. OfRun words (front ++ less) (λ items s o. GoesOnAsMeant items s o (taken Trace (front ++ less)))) (Opened Trace trace ∷ []) part (tt, tt)
-            (λ less h. of_run (Opened Trace trace ∷ less) (λ items s o. GoesOnAsMeant items s o (taken Trace (front ++ Opened Trace trace ∷ less))) (tt, h.1)
+            (λ less. OfRun words (front ++ less) (λ items s o. GoesOnAsMeant items o (taken Trace (front ++ less)))) (Opened Trace trace ∷ []) part (tt, tt)
+            (λ less h. of_run (Opened Trace trace ∷ less) (λ items s o. GoesOnAsMeant items o (taken Trace (front ++ Opened Trace trace ∷ less))) (tt, h.1)
             (goes_on_meant source items s o compiled_so (taken Trace (front ++ Opened Trace trace ∷ less))
             (subst (λ (l : List ℕ). GoesOn s o l) (sym (taken_after Trace front (Opened Trace trace ∷ less) front_no_trace)) h.0.goes_on))) before_read)
-            (inr (inl (of_run (Opened Trace trace ∷ part) (λ items s o. BeginsAsMeant items s o (front ++ Opened Trace trace ∷ part)) (tt, spec_none)
+            (inr (inl (of_run (Opened Trace trace ∷ part) (λ items s o. BeginsAsMeant items o (front ++ Opened Trace trace ∷ part)) (tt, spec_none)
             (begins_meant source items s o compiled_so (front ++ Opened Trace trace ∷ part) begins))))
           where
             begins : BeginsDue s o (front ++ Opened Trace trace ∷ part)

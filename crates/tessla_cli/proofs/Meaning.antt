@@ -7,7 +7,7 @@ use Rattle.flat_core.specs.Ending.{EndsInFault}
 use Rattle.flat_core.specs.Line.{Line}
 use Rattle.flat_core.specs.System.{System}
 use Rattle.spec_compiler.specs.Compiled.{Compiles}
-use Rattle.spec_compiler.specs.Inputs.{inputs_alone}
+use Rattle.spec_meaning.specs.Inputs.{inputs_alone}
 use Rattle.spec_compiler.specs.inner.Laws.{SaysWhatIsMeant}
 use Rattle.spec_compiler.specs.Meant.{FaultTimeIsMeant, IsFaultNamed, LimitIsMeant, QuietIsMeant}
 use Rattle.spec_compiler.proofs.Inputs.{inputs_are_declared}
@@ -90,10 +90,10 @@ module _ (source : List ℕ) (items : List tree.Item) (s : System) (o : Options)
     pub ends_meant : (by : Ending) (how : RunEnding) → by ≡ ending_of how → EndsBy s o bytes ended how → EndsAsMeant items s o bytes ended by
     ends_meant by how is cause = subst (λ (e : Ending). EndsAsMeant items s o bytes ended e) (sym is) (ends_how how cause)
 
-  pub goes_on_meant : (bytes : List ℕ) → GoesOn s o bytes → GoesOnAsMeant items s o bytes
+  pub goes_on_meant : (bytes : List ℕ) → GoesOn s o bytes → GoesOnAsMeant items o bytes
   goes_on_meant bytes goes_on = record { accepted = sym (refused_alike bytes false) ∙ goes_on.accepted; quiet = quiet_meant bytes false goes_on.quiet }
 
-  pub begins_meant : (part : List Did) → BeginsDue s o part → BeginsAsMeant items s o part
+  pub begins_meant : (part : List Did) → BeginsDue s o part → BeginsAsMeant items o part
   begins_meant part b = record { text = b.text; due = due_meant (taken Trace part) (ended Trace part) b.text b.due; begins = b.begins }
 
   pub watch_ends_meant : (e : engine.State) (by : Ending) (part : List Did) → WatchEnds s o e by part → WatchEndsAsMeant items s o by part

@@ -219,9 +219,9 @@ module _ (words : List (List ℕ)) where
         inr (inr (inr (of_alone_told (λ text. Begins (given Out part) text) (λ text. Begins (given Out (part ++ more)) text) (λ text b. subst (λ (l : List ℕ). Begins l text) (sym (given_before Out part more no_out)) b) f)))
     partly_told (inr (inr (inl f))) =
         inr (inr (inl (of_print_told (λ text. Begins (given Out part) text) (λ text. Begins (given Out (part ++ more)) text) (λ text b. subst (λ (l : List ℕ). Begins l text) (sym (given_before Out part more no_out)) b) f)))
-    partly_told (inr (inl f)) = inr (inl (of_run_told (λ items s o. BeginsAsMeant items s o part) (λ items s o. BeginsAsMeant items s o (part ++ more)) begins f))
+    partly_told (inr (inl f)) = inr (inl (of_run_told (λ items s o. BeginsAsMeant items o part) (λ items s o. BeginsAsMeant items o (part ++ more)) begins f))
       where
-        begins : (items : List tree.Item) (s : System) (o : Options) → BeginsAsMeant items s o part → BeginsAsMeant items s o (part ++ more)
+        begins : (items : List tree.Item) (s : System) (o : Options) → BeginsAsMeant items o part → BeginsAsMeant items o (part ++ more)
         begins items s o b = record {
           text = b.text;
           due = subst (λ (l : List ℕ). IsDueAsMeant items o l (ended Trace (part ++ more)) b.text) (sym (taken_before Trace part more (no_reads Trace)))

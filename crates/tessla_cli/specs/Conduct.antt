@@ -66,7 +66,7 @@ module _ (words : List (List ℕ)) where
 
   -- No read of the trace follows once the bytes taken hold a refused line, close a fault or pass the limit of instants.
   abbrev pub GoesOnAtReads : List Did → Type 0
-  GoesOnAtReads part = AtReads Trace (λ before. OfRun words before (λ items s o. GoesOnAsMeant items s o (taken Trace before))) part
+  GoesOnAtReads part = AtReads Trace (λ before. OfRun words before (λ items s o. GoesOnAsMeant items o (taken Trace before))) part
 
   -- A fact about the text that the words ask to print, of the specification, which was read whole.
   pub record OfPrint (journal : List Did) (P : List ℕ → Type 0) : Type 0 where
@@ -91,7 +91,7 @@ module _ (words : List (List ℕ)) where
   abbrev pub IsPartlyDue : List Did → Type 0
   IsPartlyDue part =
       (given Out part ≡ [])
-      ⊎ OfRun words part (λ items s o. BeginsAsMeant items s o part)
+      ⊎ OfRun words part (λ items s o. BeginsAsMeant items o part)
       ⊎ OfPrint part (λ text. Begins (given Out part) text)
       ⊎ OfAlone (λ text. Begins (given Out part) text)
 

@@ -2,7 +2,7 @@
 -- for the bytes of the trace that were taken before. It is due for the times that these bytes close, up to the first fault and within
 -- the limit of instants.
 use Rattle.std.specs.Prelude.{◌≡◌, ℕ, Bool, false, List, Some}
-use Rattle.expr_types.specs.Around.{Kinds}
+use Rattle.type_rules.specs.Kinds.{Kinds}
 use Rattle.flat_core.specs.System.{System}
 use Rattle.spec_compiler.specs.Compiled.{Compiles}
 use Rattle.spec_reader.specs.Source.{Specifies}

@@ -2,7 +2,7 @@
 use Rattle.std.specs.Prelude.{◌≡◌, ℕ, Bool, true, false, List, Option, Some, None}
 use Rattle.flat_core.specs.Line.{Line}
 use Rattle.flat_core.specs.System.{System}
-use Rattle.spec_compiler.specs.Inputs.{inputs_alone}
+use Rattle.spec_meaning.specs.Inputs.{inputs_alone}
 use Rattle.spec_compiler.specs.Meant.{FaultTimeIsMeant, QuietIsMeant, LimitIsMeant, IsFaultNamed}
 use Rattle.spec_meaning.specs.Due.{IsDueText}
 use Rattle.syntax_tree.specs.Tree as tree
@@ -37,6 +37,17 @@ module _ (items : List tree.Item) (o : Options) where
   abbrev pub IsQuietAsMeant : List ℕ → Bool → Type 0
   IsQuietAsMeant bytes ended = QuietIsMeant items (lines_meant bytes ended) (bound_meant bytes ended) o.instants
 
+  -- a run goes on after these bytes: no line is refused either
+  pub record GoesOnAsMeant (bytes : List ℕ) : Type 0 where
+    pub accepted : refused_meant bytes false ≡ None
+    pub quiet : IsQuietAsMeant bytes false
+
+  -- what was given to Out begins the text that is due of all that was taken
+  pub record BeginsAsMeant (part : List Did) : Type 0 where
+    pub text : List ℕ
+    pub due : IsDueAsMeant (taken Trace part) (ended Trace part) text
+    pub begins : Begins (given Out part) text
+
 -- With the flat system of the items once it is simplified. Of it the place and the kind of a fault are taken, and nothing else.
 --
 -- The time of a fault is that of the meaning, and its place and kind are those that the system names. These can differ. Take
@@ -44,11 +55,6 @@ module _ (items : List tree.Item) (o : Options) where
 -- `m` is a fault at 1, so `c` passes it on, and `1 / i` alone has a root fault. In the simplified system `m` gives way to `i`, so that
 -- `5 / m` has one too, and it is named, since its number is less.
 module _ (items : List tree.Item) (s : System) (o : Options) where
-  -- a run goes on after these bytes: no line is refused either
-  pub record GoesOnAsMeant (bytes : List ℕ) : Type 0 where
-    pub accepted : refused_meant items o bytes false ≡ None
-    pub quiet : IsQuietAsMeant items o bytes false
-
   -- the cause that the specification gives an ending there
   abbrev pub EndsAsMeant : List ℕ → Bool → Ending → Type 0
   EndsAsMeant bytes ended ending.Done = (ended ≡ true) × (refused_meant items o bytes ended ≡ None) × IsQuietAsMeant items o bytes ended
@@ -60,13 +66,7 @@ module _ (items : List tree.Item) (s : System) (o : Options) where
       (count ≡ o.instants) × LimitIsMeant items (lines_meant items o bytes ended) (bound_meant items o bytes ended) o.instants time
   EndsAsMeant bytes ended _ = ⊥
 
-  -- what was given to Out begins the text that is due of all that was taken
-  pub record BeginsAsMeant (part : List Did) : Type 0 where
-    pub text : List ℕ
-    pub due : IsDueAsMeant items o (taken Trace part) (ended Trace part) text
-    pub begins : Begins (given Out part) text
-
-  -- it is all of that text, and the run ends
+  -- what was given to Out is all of the text that is due of all that was taken, and the run ends
   pub record WatchEndsAsMeant (by : Ending) (part : List Did) : Type 0 where
     pub due : IsDueAsMeant items o (taken Trace part) (ended Trace part) (given Out part)
     pub ends : EndsAsMeant (taken Trace part) (ended Trace part) by

@@ -84,7 +84,8 @@ pub fn tessla<W: World>(alloc: Global, words: &Words, world: &mut W) -> u8
     // Whatever the status, what was given to Out begins the text that is due of all that was taken, or that the words ask to print.
     ensures partly { Grows W.told W.journal world.old world.new (IsPartlyDue words.now) }
 
-    // Over all of the trace that was taken, no update that is listed in place copies an element or changes a register that is still read.
+    // Over the closed times of the trace that was taken, the register machine by the plan that is taken: no update in place copies an
+    // element or changes a register that is still read. That the engine runs as this machine does is said of the engine, and not here.
     ensures unseen { Grows W.told W.journal world.old world.new (NoUpdateIsSeen words.now) }
 
     // The cause of each status, and what it leaves on Out and Err.

@@ -8,7 +8,6 @@ ghost use Rattle.trigger_formulas.specs.inner.Kept.{AreTriggersOf};
 use crate::tests::triggers;
 use alias_analysis::graph::{Graph, is_variable};
 use alias_analysis::reason::Reason;
-use flat_core::equation::Op;
 use flat_core::flat::Flat;
 use flat_core::lists::EqSet;
 use std::alloc::Global;
@@ -18,11 +17,11 @@ use trigger_formulas::triggers::Triggers;
 use trigger_starts::sample::sample;
 use tsl_value::ids::EqId;
 
-/// Whether an equation runs and adds to a set.
-fn adds(flat: &Flat, id: EqId) -> bool
+/// Whether an equation runs and is an update.
+fn is_update(flat: &Flat, id: EqId) -> bool
     ensures { IsTrue result → IsUpdate flat.now id }
 {
-    id.get() < flat.count() && flat.runs(id) && matches!(&flat.equation(id).op, Op::SetAdd)
+    id.get() < flat.count() && flat.is_running_update(id)
 }
 
 /// The set of an update that runs.
@@ -30,7 +29,7 @@ fn one_update(alloc: Global, flat: &Flat, id: EqId) -> Result<EqSet, Fail>
     ensures updates { IfOk result (AreUpdates flat.now) }
     ensures inside { IfOk result (λ s. IsTrue (is_in s id)) }
 {
-    if !adds(flat, id) {
+    if !is_update(flat, id) {
         return Err(Fail::from("no update"));
     }
     let mut set = EqSet::new(alloc);

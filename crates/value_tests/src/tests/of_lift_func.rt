@@ -3,7 +3,7 @@
 ghost use Rattle.std.specs.Prelude.{◌≡◌, ◌∷◌, [], pos, IfOk};
 ghost use Rattle.lift_func.specs.BodyTree.{Argument, Literal, One, Two};
 
-use lift_func::body::{Binary, Body, Unary};
+use lift_func::body::Body;
 use lift_func::eval::{EvalFault, eval, eval_scalars};
 use lift_func::fault::FaultKind;
 use lift_func::reader::NoCells;
@@ -11,6 +11,7 @@ use lift_func::register::Register;
 use std::alloc::Global;
 use std::test::Fail;
 use tsl_value::memory::NoMemory;
+use tsl_value::operation::{Binary, Unary};
 use tsl_value::scalar::Scalar;
 use tsl_value::text::Text;
 

@@ -21,12 +21,12 @@ add_in_place-requires-clause-live g c = is_live _ _ _ _ (ap (λ (s : Stored). s.
 pub add_in_place-requires-clause-key : goal.add_in_place-requires-clause-key
 add_in_place-requires-clause-key g c =
     fits_key switches _ _ (scalar.Bool true) (refl, refl)
-    (typed_empty switches c.in_ok-store.store.cells c.empty.new.self.cells c.in_ok-cell.cell tt (ap (λ (s : Stored). s.cells) c.in_ok-cell.ensures.made))
+    (typed_empty switches c.in_ok-store.store.cells c.empty.new.self.cells c.in_ok-cell.cell refl (ap (λ (s : Stored). s.cells) c.in_ok-cell.ensures.made))
 
 pub add_in_place-requires-clause-value : goal.add_in_place-requires-clause-value
 add_in_place-requires-clause-value g c =
     fits_value switches _ (scalar.Int (pos 3)) _ (refl, refl)
-    (typed_empty switches c.in_ok-store.store.cells c.empty.new.self.cells c.in_ok-cell.cell tt (ap (λ (s : Stored). s.cells) c.in_ok-cell.ensures.made))
+    (typed_empty switches c.in_ok-store.store.cells c.empty.new.self.cells c.in_ok-cell.cell refl (ap (λ (s : Stored). s.cells) c.in_ok-cell.ensures.made))
 
 pub add_in_place-requires-2-clause-live : goal.add_in_place-requires-2-clause-live
 add_in_place-requires-2-clause-live g c = is_live _ _ _ _ (ap (λ (s : Stored). s.cells) c.in_ok-add_in_place.ensures.changed)
@@ -34,14 +34,14 @@ add_in_place-requires-2-clause-live g c = is_live _ _ _ _ (ap (λ (s : Stored). 
 pub add_in_place-requires-2-clause-key : goal.add_in_place-requires-2-clause-key
 add_in_place-requires-2-clause-key g c =
     let none : IsTrue (is_of switches (view_at c.empty.new.self.cells c.in_ok-cell.cell)) =
-    typed_empty switches c.in_ok-store.store.cells c.empty.new.self.cells c.in_ok-cell.cell tt (ap (λ (s : Stored). s.cells) c.in_ok-cell.ensures.made) in
+    typed_empty switches c.in_ok-store.store.cells c.empty.new.self.cells c.in_ok-cell.cell refl (ap (λ (s : Stored). s.cells) c.in_ok-cell.ensures.made) in
     fits_key switches _ _ (scalar.Bool false) (refl, refl)
     (typed_added switches c.empty.new.self.cells c.add_in_place.new.self.cells c.in_ok-cell.cell c.in_ok-cell.cell (scalar.Int (pos 3)) (scalar.Bool true) (ap (λ (s : Stored). s.cells) c.in_ok-add_in_place.ensures.changed) (refl, refl) none)
 
 pub add_in_place-requires-2-clause-value : goal.add_in_place-requires-2-clause-value
 add_in_place-requires-2-clause-value g c =
     let none : IsTrue (is_of switches (view_at c.empty.new.self.cells c.in_ok-cell.cell)) =
-    typed_empty switches c.in_ok-store.store.cells c.empty.new.self.cells c.in_ok-cell.cell tt (ap (λ (s : Stored). s.cells) c.in_ok-cell.ensures.made) in
+    typed_empty switches c.in_ok-store.store.cells c.empty.new.self.cells c.in_ok-cell.cell refl (ap (λ (s : Stored). s.cells) c.in_ok-cell.ensures.made) in
     fits_value switches _ (scalar.Int (pos 3)) _ (refl, refl)
     (typed_added switches c.empty.new.self.cells c.add_in_place.new.self.cells c.in_ok-cell.cell c.in_ok-cell.cell (scalar.Int (pos 3)) (scalar.Bool true) (ap (λ (s : Stored). s.cells) c.in_ok-add_in_place.ensures.changed) (refl, refl) none)
 

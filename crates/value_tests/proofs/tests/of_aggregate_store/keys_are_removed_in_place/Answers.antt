@@ -20,12 +20,12 @@ add_in_place-requires-clause-live g c = is_live _ _ _ _ (ap (λ (s : Stored). s.
 pub add_in_place-requires-clause-key : goal.add_in_place-requires-clause-key
 add_in_place-requires-clause-key g c =
     fits_key numbers _ _ scalar.Unit (refl, refl)
-    (typed_empty numbers c.in_ok-store.store.cells c.empty.new.self.cells c.in_ok-cell.cell tt (ap (λ (s : Stored). s.cells) c.in_ok-cell.ensures.made))
+    (typed_empty numbers c.in_ok-store.store.cells c.empty.new.self.cells c.in_ok-cell.cell refl (ap (λ (s : Stored). s.cells) c.in_ok-cell.ensures.made))
 
 pub add_in_place-requires-clause-value : goal.add_in_place-requires-clause-value
 add_in_place-requires-clause-value g c =
     fits_value numbers _ (scalar.Int (pos 2)) _ (refl, refl)
-    (typed_empty numbers c.in_ok-store.store.cells c.empty.new.self.cells c.in_ok-cell.cell tt (ap (λ (s : Stored). s.cells) c.in_ok-cell.ensures.made))
+    (typed_empty numbers c.in_ok-store.store.cells c.empty.new.self.cells c.in_ok-cell.cell refl (ap (λ (s : Stored). s.cells) c.in_ok-cell.ensures.made))
 
 pub remove_in_place-requires-clause-live : goal.remove_in_place-requires-clause-live
 remove_in_place-requires-clause-live g c = is_live _ _ _ _ (ap (λ (s : Stored). s.cells) c.in_ok-add_in_place.ensures.changed)
@@ -33,7 +33,7 @@ remove_in_place-requires-clause-live g c = is_live _ _ _ _ (ap (λ (s : Stored).
 pub remove_in_place-requires-clause-key : goal.remove_in_place-requires-clause-key
 remove_in_place-requires-clause-key g c =
     let none : IsTrue (is_of numbers (view_at c.empty.new.self.cells c.in_ok-cell.cell)) =
-    typed_empty numbers c.in_ok-store.store.cells c.empty.new.self.cells c.in_ok-cell.cell tt (ap (λ (s : Stored). s.cells) c.in_ok-cell.ensures.made) in
+    typed_empty numbers c.in_ok-store.store.cells c.empty.new.self.cells c.in_ok-cell.cell refl (ap (λ (s : Stored). s.cells) c.in_ok-cell.ensures.made) in
     fits_key numbers _ _ scalar.Unit (refl, refl)
     (typed_added numbers c.empty.new.self.cells c.add_in_place.new.self.cells c.in_ok-cell.cell c.in_ok-cell.cell (scalar.Int (pos 2)) scalar.Unit (ap (λ (s : Stored). s.cells) c.in_ok-add_in_place.ensures.changed) (refl, refl) none)
 
@@ -46,7 +46,7 @@ remove_in_place-requires-2-clause-live g c = is_live _ _ _ _ (ap (λ (s : Stored
 pub remove_in_place-requires-2-clause-key : goal.remove_in_place-requires-2-clause-key
 remove_in_place-requires-2-clause-key g c =
     let none : IsTrue (is_of numbers (view_at c.empty.new.self.cells c.in_ok-cell.cell)) =
-    typed_empty numbers c.in_ok-store.store.cells c.empty.new.self.cells c.in_ok-cell.cell tt (ap (λ (s : Stored). s.cells) c.in_ok-cell.ensures.made) in
+    typed_empty numbers c.in_ok-store.store.cells c.empty.new.self.cells c.in_ok-cell.cell refl (ap (λ (s : Stored). s.cells) c.in_ok-cell.ensures.made) in
     let one : IsTrue (is_of numbers (view_at c.add_in_place.new.self.cells c.in_ok-cell.cell)) =
     typed_added numbers c.empty.new.self.cells c.add_in_place.new.self.cells c.in_ok-cell.cell c.in_ok-cell.cell (scalar.Int (pos 2)) scalar.Unit (ap (λ (s : Stored). s.cells) c.in_ok-add_in_place.ensures.changed) (refl, refl) none in
     fits_key numbers _ _ scalar.Unit (refl, refl)
