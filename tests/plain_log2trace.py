@@ -1,202 +1,14 @@
 """A second reading of logs, for tests/hostile_logs: what a trace has to be, by the rules of the manual ("From a log to a trace").
 
-It is written apart from tools/log2trace, plainly and not for speed: CSV and JSON are taken apart character by character, numbers are fractions.
+It is written apart from tools/log2trace, plainly and not for speed: CSV, JSON and dates are taken apart character by character, numbers are
+fractions. What all formats share stands in plain_reading.py, and further formats in plain_formats.py.
 """
 
-from fractions import Fraction
 from typing import Any, Dict, List, Optional, Tuple
 
-BLANKS = " \t"
-DIGITS = "0123456789"
-HEXADECIMAL = DIGITS + "abcdefABCDEF"
-WORDS = ["in", "def", "as", "out", "if", "then", "else", "true", "false"]
-GREATEST = 2**63 - 1
-
-
-class No(Exception):
-    """The line is refused."""
-
-    def __init__(self, line: Optional[int] = None):
-        super().__init__()
-        self.line = line
-
-
-def all_of(text: str, characters: str) -> bool:
-    return text != "" and all(char in characters for char in text)
-
-
-def name_of(text: str) -> str:
-    name = ""
-    for char in text.strip(BLANKS):
-        name += char if ("a" + char).isidentifier() else "_"
-    if name == "" or not (name[0] == "_" or name[0].isidentifier()):
-        name = "_" + name
-    return name + "_" if name in WORDS else name
-
-
-def number_of(text: str) -> Optional[Fraction]:
-    """The number that a text is; None where it is none."""
-    rest, exponent = text, 0
-    for letter in "eE":
-        if letter in rest:
-            rest, _, power = rest.partition(letter)
-            digits = power[1:] if power[:1] in ("+", "-") else power
-            if not all_of(digits, DIGITS):
-                return None
-            exponent = -int(digits[:40]) if power[0] == "-" else int(digits[:40])
-            break
-    negative = rest[:1] == "-"
-    rest = rest[1:] if rest[:1] in ("+", "-") else rest
-    before, _, after = rest.partition(".")
-    if not all_of(before + after, DIGITS):
-        return None
-    if len(text) > 100 or abs(exponent) > 999:
-        raise No()
-    number = Fraction(int(before + after)) / 10 ** len(after) * Fraction(10) ** exponent
-    return -number if negative else number
-
-
-def cut(number: Fraction) -> int:
-    return -int(-number) if number < 0 else int(number)
-
-
-def quoted(text: str) -> str:
-    if any("\ud800" <= char <= "\udfff" for char in text):
-        raise No()
-    pairs = {"\\": "\\\\", '"': '\\"', "\n": "\\n", "\t": "\\t", "\r": "\\r"}
-    return '"' + "".join(pairs.get(char, char) for char in text) + '"'
-
-
-class Reading:
-    """What is known of the trace so far. The options are those of the command line, by name."""
-
-    def __init__(self, options: Dict[str, Any]):
-        self.options = options
-        self.lines: List[str] = []
-        self.held: List[Tuple[str, str]] = []  # name and line of the last time, with --equal last
-        self.here: List[str] = []
-        self.log, self.now = -1, -1
-        self.first: Optional[int] = None
-        self.origins: Dict[str, str] = {}
-
-    # Times
-
-    def release(self) -> None:
-        self.lines += [line for _, line in self.held]
-        self.held, self.here = [], []
-
-    def time(self, text: str) -> int:
-        text = text.strip(BLANKS)
-        if text[:1] in ("+", "-"):
-            raise No()
-        number = number_of(text)
-        if number is None:
-            raise No()
-        time = cut(number * self.options.get("scale", 1))
-        if self.options.get("from_first"):
-            self.first = time if self.first is None else self.first
-            time -= self.first
-        if time > GREATEST:
-            raise No()
-        return time
-
-    def tick(self, line: str) -> bool:
-        text = line.rstrip(" \t\r\n")
-        if not text.endswith(":"):
-            return False
-        text = text[:-1].strip(BLANKS)
-        before, point, after = text.partition(".")
-        if not all_of(before, DIGITS) or (point and not all_of(after, DIGITS)):
-            return False
-        time = self.time(text)
-        if time > self.log:
-            self.log = time
-            if time > self.now:
-                self.release()
-                self.now = time
-                self.lines.append(f"{time}:")
-        return True
-
-    def event(self, time: int, name: str, value: Optional[str]) -> None:
-        least = max(self.log, 0)
-        if time < least:
-            if self.options.get("back", "refuse") == "refuse":
-                raise No()
-            if self.options["back"] == "drop":
-                return
-            time = least
-        self.log = time
-        if time > self.now:
-            self.release()
-            self.now = time
-        equal = self.options.get("equal", "refuse")
-        if name in self.here:
-            if equal == "refuse":
-                raise No()
-            if equal == "first":
-                return
-            if equal == "shift":
-                if self.now == GREATEST:
-                    raise No()
-                self.release()
-                self.now += 1
-        line = f"{self.now}: {name}" + ("" if value is None else f" = {value}")
-        if len(line.encode()) > 65536:
-            raise No()
-        if equal != "last":
-            self.lines.append(line)
-        elif name in self.here:
-            self.held = [(other, line if other == name else kept) for other, kept in self.held]
-        else:
-            self.held.append((name, line))
-        self.here.append(name)
-
-    # Names and values
-
-    def input(self, text: str) -> Optional[str]:
-        """The input of a name; None where it is not wanted."""
-        name = name_of(text)
-        only = self.options.get("only")
-        if only and name not in only:
-            return None
-        if self.origins.setdefault(name, text) != text or len(name.encode()) > 255:
-            raise No()
-        return name
-
-    def whole(self, text: str, factor: Optional[Fraction]) -> str:
-        number = number_of(text)
-        if number is None or (factor is None and number.denominator != 1):
-            raise No()
-        value = cut(number * (1 if factor is None else factor))
-        if not -GREATEST - 1 <= value <= GREATEST:
-            raise No()
-        return str(value)
-
-    def cell(self, name: str, cell: str) -> Optional[str]:
-        text = cell.strip(BLANKS)
-        if name in self.options.get("unit", ()):
-            return None
-        if name in self.options.get("text", ()):
-            return quoted(cell)
-        if name in self.options.get("factor", {}):
-            return self.whole(text, self.options["factor"][name])
-        if text in ("true", "false", "()"):
-            return text
-        return quoted(cell) if number_of(text) is None else self.whole(text, None)
-
-    def member(self, name: str, value: Any) -> Optional[str]:
-        kind, content = value
-        if name in self.options.get("unit", ()):
-            return None
-        if name in self.options.get("text", ()):
-            return quoted(content if kind == "text" else json_text(value))
-        if name in self.options.get("factor", {}):
-            if kind != "number":
-                raise No()
-            return self.whole(content, self.options["factor"][name])
-        if kind == "number":
-            return self.whole(content, None)
-        return content if kind == "word" else quoted(content if kind == "text" else json_text(value))
+from plain_formats import Dump, line_of_pattern, read_journal
+from plain_reading import BLANKS, DIGITS, GREATEST, HEXADECIMAL, Json, No, Reading
+from plain_reading import all_of, event_of, is_blank, is_number, lines_of, name_of, with_line
 
 
 def read(form: str, log: bytes, options: Dict[str, Any]) -> Tuple[Optional[int], bool, str]:
@@ -208,38 +20,19 @@ def read(form: str, log: bytes, options: Dict[str, Any]) -> Tuple[Optional[int],
             read_table(reading, log)
         elif form == "json":
             late = read_objects(reading, log)
+        elif form == "journald":
+            read_journal(reading, log)
+        elif form == "vcd":
+            Dump(reading, log).read()
         else:
+            line_of = {"trace": line_of_trace, "candump": line_of_candump, "lines": line_of_pattern}[form]
             for at, line in lines_of(log):
-                with_line(at, line_of_trace if form == "trace" else line_of_candump, reading, line)
+                reading.begins = True
+                with_line(at, line_of, reading, line)
     except No as no:
         number = no.line
     reading.release()
     return number, late, "".join(f"{line}\n" for line in reading.lines)
-
-
-def with_line(at: int, function, *arguments) -> Any:
-    try:
-        return function(*arguments)
-    except No as no:
-        raise No(at if no.line is None else no.line) from None
-
-
-def lines_of(log: bytes):
-    """The lines with their numbers."""
-    parts = log.split(b"\n")
-    for at, part in enumerate(parts, 1):
-        data = part + b"\n" if at < len(parts) else part
-        if not data:
-            return
-        try:
-            line = data.decode("utf-8")
-        except UnicodeDecodeError:
-            raise No(at) from None
-        yield at, line[1:] if at == 1 and line.startswith("\ufeff") else line
-
-
-def is_blank(line: str) -> bool:
-    return line.strip(" \t\r\n") == ""
 
 
 # ---- Traces
@@ -268,8 +61,9 @@ def line_of_trace(reading: Reading, line: str) -> None:
 class Row:
     """A row of a table, character by character."""
 
-    def __init__(self, first: int):
+    def __init__(self, first: int, separator: str):
         self.first, self.text, self.cells, self.cell = first, "", [], ""  # type: int, str, List[str], str
+        self.separator = separator
         self.state = "begin"  # of a cell; then "open", or "quoted" and "closed"
         self.faulty = False  # whether a quote stood inside a cell that is not quoted
 
@@ -292,7 +86,7 @@ class Row:
         elif char == '"' and self.state in ("begin", "closed"):
             self.cell += char if self.state == "closed" else ""
             self.state = "quoted"
-        elif char == ",":
+        elif char == self.separator:
             self.end_cell()
         elif self.state == "closed":
             raise No(self.first)
@@ -306,13 +100,13 @@ class Row:
         self.cell, self.state = "", "begin"
 
 
-def rows_of(log: bytes):
+def rows_of(log: bytes, separator: str):
     """The rows of a table: the number of their first line, their text, and their cells."""
     row = None
     for at, line in lines_of(log):
         if "\0" in line:
             raise No(at)
-        row = row or Row(at)
+        row = row or Row(at, separator)
         row.line(line)
         if row.state != "quoted":
             row.end_cell()
@@ -327,7 +121,7 @@ def rows_of(log: bytes):
 def read_table(reading: Reading, log: bytes) -> None:
     header = reading.options.get("header")
     plan = None if header is None else with_line(0, plan_of, reading, header, True)
-    for first, text, cells in rows_of(log):
+    for first, text, cells in rows_of(log, reading.options.get("separator", ",")):
         if len(cells) < 2 and (is_blank(text) or with_line(first, reading.tick, text)):
             continue
         if plan is None:
@@ -366,13 +160,6 @@ def plan_of(reading: Reading, cells: List[str], given: bool) -> List[Tuple[str, 
     return plan
 
 
-def is_number(text: str) -> bool:
-    try:
-        return number_of(text) is not None
-    except No:
-        return True
-
-
 def row_of_table(reading: Reading, plan: List[Tuple[str, Any]], cells: List[str]) -> None:
     roles = {what: at for what, at in plan if what in ("event", "value")}
     columns = plan[: len(plan) - len(roles)]
@@ -380,6 +167,7 @@ def row_of_table(reading: Reading, plan: List[Tuple[str, Any]], cells: List[str]
     if len(cells) > len(columns) or len(cells) <= time_at:
         raise No()
     time = reading.time(cells[time_at])
+    reading.begins = True
     cells = cells + [""] * (len(columns) - len(cells))
     if "event" in roles:
         named = cells[roles["event"]].strip(BLANKS)
@@ -395,165 +183,7 @@ def row_of_table(reading: Reading, plan: List[Tuple[str, Any]], cells: List[str]
             reading.event(time, name, reading.cell(name, cell))
 
 
-def event_of(reading: Reading, time: int, named: str, has_values: bool, value: Any, text_of: Any) -> None:
-    name = reading.input(named)
-    if name is None:
-        return
-    if not has_values or name in reading.options.get("unit", ()):
-        reading.event(time, name, None)
-    elif value is None:
-        raise No()
-    else:
-        reading.event(time, name, text_of(name, value))
-
-
 # ---- Objects
-
-
-class Json:
-    """Reads a JSON text: pairs of a kind and a content."""
-
-    def __init__(self, text: str):
-        self.text, self.at = text, 0
-
-    def whole(self) -> Any:
-        value = self.value(0)
-        self.blanks()
-        if self.at != len(self.text):
-            raise No()
-        return value
-
-    def blanks(self) -> None:
-        while self.at < len(self.text) and self.text[self.at] in " \t\r\n":
-            self.at += 1
-
-    def next(self) -> str:
-        self.blanks()
-        return self.text[self.at : self.at + 1]
-
-    def take(self, wanted: str) -> None:
-        if not self.text.startswith(wanted, self.at):
-            raise No()
-        self.at += len(wanted)
-
-    def value(self, depth: int) -> Any:
-        char = self.next()
-        if char and char in "[{":
-            if depth == 64:
-                raise No()
-            return ("list", self.list(depth + 1)) if char == "[" else ("object", self.object(depth + 1))
-        if char == '"':
-            return "text", self.string()
-        for word in ("true", "false", "null"):
-            if self.text.startswith(word, self.at):
-                self.at += len(word)
-                return "null" if word == "null" else "word", word
-        return "number", self.number()
-
-    def list(self, depth: int) -> List[Any]:
-        self.take("[")
-        values: List[Any] = []
-        while self.next() != "]":
-            if values:
-                self.take(",")
-            values.append(self.value(depth))
-        self.take("]")
-        return values
-
-    def object(self, depth: int) -> List[Tuple[str, Any]]:
-        self.take("{")
-        members: List[Tuple[str, Any]] = []
-        while self.next() != "}":
-            if members:
-                self.take(",")
-                self.blanks()
-            name = self.string()
-            self.blanks()
-            self.take(":")
-            if name in [other for other, _ in members]:
-                raise No()
-            members.append((name, self.value(depth)))
-        self.take("}")
-        return members
-
-    def string(self) -> str:
-        self.take('"')
-        text = ""
-        while True:
-            char = self.text[self.at : self.at + 1]
-            self.at += 1
-            if char == '"':
-                return join_halves(text)
-            if char == "" or char < " ":
-                raise No()
-            if char == "\\":
-                char = self.escape()
-            text += char
-
-    def escape(self) -> str:
-        char = self.text[self.at : self.at + 1]
-        self.at += 1
-        simple = {'"': '"', "\\": "\\", "/": "/", "b": "\b", "f": "\f", "n": "\n", "r": "\r", "t": "\t"}
-        if char in simple:
-            return simple[char]
-        digits = self.text[self.at : self.at + 4]
-        if char != "u" or len(digits) != 4 or not all_of(digits, HEXADECIMAL):
-            raise No()
-        self.at += 4
-        return chr(int(digits, 16))
-
-    def number(self) -> str:
-        begin = self.at
-        if self.text[self.at : self.at + 1] == "-":
-            self.at += 1
-        before = self.digits()
-        if len(before) > 1 and before[0] == "0":
-            raise No()
-        if self.text[self.at : self.at + 1] == ".":
-            self.at += 1
-            self.digits()
-        if self.text[self.at : self.at + 1] in ("e", "E"):
-            self.at += 1
-            if self.text[self.at : self.at + 1] in ("+", "-"):
-                self.at += 1
-            self.digits()
-        return self.text[begin : self.at]
-
-    def digits(self) -> str:
-        begin = self.at
-        while self.at < len(self.text) and self.text[self.at] in DIGITS:
-            self.at += 1
-        if self.at == begin:
-            raise No()
-        return self.text[begin : self.at]
-
-
-def join_halves(text: str) -> str:
-    """Makes one character of two halves that follow each other."""
-    made, at = "", 0
-    while at < len(text):
-        high, low = text[at], text[at + 1 : at + 2]
-        if "\ud800" <= high <= "\udbff" and low and "\udc00" <= low <= "\udfff":
-            made += chr(0x10000 + ((ord(high) - 0xD800) << 10) + (ord(low) - 0xDC00))
-            at += 2
-        else:
-            made += high
-            at += 1
-    return made
-
-
-def json_string(text: str) -> str:
-    pairs = {'"': '\\"', "\\": "\\\\", "\b": "\\b", "\f": "\\f", "\n": "\\n", "\r": "\\r", "\t": "\\t"}
-    return '"' + "".join(pairs.get(char, f"\\u{ord(char):04x}" if char < " " else char) for char in text) + '"'
-
-
-def json_text(value: Any) -> str:
-    kind, content = value
-    if kind == "list":
-        return "[" + ", ".join(json_text(part) for part in content) + "]"
-    if kind == "object":
-        return "{" + ", ".join(f"{json_string(name)}: {json_text(part)}" for name, part in content) + "}"
-    return json_string(content) if kind == "text" else content
 
 
 def read_objects(reading: Reading, log: bytes) -> bool:
@@ -566,28 +196,59 @@ def read_objects(reading: Reading, log: bytes) -> bool:
         if kind != "object":
             raise No(at)
         members = dict(members)
-        objects, seen = True, seen or reading.options.get("value") in members
-        with_line(at, object_of_log, reading, members)
+        objects, reading.begins = True, True
+        seen = with_line(at, object_of_log, reading, members) or seen
     return "value" in reading.options and objects and not seen
 
 
-def object_of_log(reading: Reading, members: Dict[str, Any]) -> None:
+def place(members: Dict[str, Any], path: str) -> Any:
+    """What stands at a path, by its whole name or by its parts; None where nothing does."""
+    inside: Any = ("object", list(members.items()))
+    for part in path.split("."):
+        kind, content = inside
+        if kind == "object" and part in dict(content):
+            inside = dict(content)[part]
+        elif kind == "list" and part in [str(at) for at in range(len(content))]:
+            inside = content[int(part)]
+        else:
+            inside = None
+            break
+    if "." in path and inside is not None and path in members:
+        raise No()
+    return members.get(path, inside)
+
+
+def object_of_log(reading: Reading, members: Dict[str, Any]) -> bool:
+    """Whether the member of --value is there."""
     options = reading.options
-    kind, text = members.pop(options.get("time", "time"), ("null", None))
+    kind, text = place(members, options.get("time", "time")) or ("null", None)
     if kind not in ("number", "text"):
         raise No()
     time = reading.time(text)
-    if "event" not in options:
-        for member, value in members.items():
-            name = reading.input(member)
-            if name is not None and value[0] != "null":
+    if "event" in options:
+        return object_of_event(reading, time, members)
+    if "path" in options:
+        for name, path in options["path"].items():
+            value = place(members, path)
+            if value is not None and reading.input(name) is not None and value[0] != "null":
                 reading.event(time, name, reading.member(name, value))
-        return
-    kind, named = members.get(options["event"], ("null", None))
+        return False
+    members.pop(options.get("time", "time"), None)
+    for member, value in members.items():
+        name = reading.input(member)
+        if name is not None and value[0] != "null":
+            reading.event(time, name, reading.member(name, value))
+    return False
+
+
+def object_of_event(reading: Reading, time: int, members: Dict[str, Any]) -> bool:
+    options = reading.options
+    value = place(members, options["value"]) if "value" in options else None
+    kind, named = place(members, options["event"]) or ("null", None)
     if kind not in ("number", "text") or not named.strip(BLANKS):
         raise No()
-    value = members.get(options.get("value"), ("null", None))
-    event_of(reading, time, named, "value" in options, None if value[0] == "null" else value, reading.member)
+    event_of(reading, time, named, "value" in options, None if value is None or value[0] == "null" else value, reading.member)
+    return value is not None
 
 
 # ---- Frames
@@ -599,11 +260,21 @@ def line_of_candump(reading: Reading, line: str) -> None:
     text = line.rstrip(" \t\r\n").lstrip(BLANKS)
     parts = text.replace("\t", " ").split(" ")
     parts = [part for part in parts if part]
+    dated = False
+    if text[:1] == "(" and ")" in text:
+        stamp = text[1 : text.index(")")]
+        dated = stamp.partition("-")[0].isdigit() and all_of(stamp.partition("-")[2], DIGITS + ": .-")
+        if dated:
+            rest = text[text.index(")") + 1 :]
+            parts = ["(" + stamp + ")"] + [part for part in rest.replace("\t", " ").split(" ") if part]
+            if rest[:1] not in ("", " ", "\t"):
+                raise No()
+            text = "(date)" + rest
     if len(parts) < 3 or parts[0][0] != "(" or parts[0][-1] != ")":
         raise No()
     time, bus, frame = parts[0][1:-1], parts[1], parts[2]
     before, point, after = time.partition(".")
-    if not all_of(before, DIGITS) or (point and not all_of(after, DIGITS)):
+    if not dated and (not all_of(before, DIGITS) or (point and not all_of(after, DIGITS))):
         raise No()
     identifier, joined, data = frame.partition("#")
     if len(identifier) not in (3, 8) or not all_of(identifier, HEXADECIMAL):

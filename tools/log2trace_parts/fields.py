@@ -1,38 +1,49 @@
-"""Logs whose values have names: tables, and objects of JSON."""
+"""Logs whose values have names: tables, lines that a pattern takes apart, and objects of JSON."""
 
 import csv
 import decimal
 import functools
+import itertools
 import json
 import re
-from typing import Any, Callable, Dict, Iterator, List, Optional, Tuple
+from typing import Any, Callable, Dict, Iterator, List, Optional, Set, Tuple
 
-from .logs import LONGEST_LINE, Log
-from .texts import BLANKS, NUMBER, WHOLE, Refused, blank, quoted, shown, whole
+from .logs import LONGEST_LINE, MOST_NAMES, Log
+from .paths import NOTHING, Path
+from .texts import BLANKS, GREATEST, NUMBER, WHOLE, Refused, blank, quoted, shown, whole
+from .times import Reader
+from .words import SEPARATORS
 
 LONGEST_CELL = 2**17  # characters
+BEGINS_NUMBER = set("+-.0123456789")
 DEEPEST = 64  # levels of JSON
 
 
 class Fields(Log):
     def __init__(self, *arguments: Any):
         super().__init__(*arguments)
-        self.readers: Dict[str, Callable[[Any], Optional[str]]] = {}
+        self.readers: Dict[str, Reader] = {}
+        self.readers_of_names = Readers(self)
+        self.value_name = self.words.value  # what has the value of an input that the log names
 
-    def reader(self, name: str) -> Callable[[Any], Optional[str]]:
-        """What makes the text of a value of this input from a cell or member; None is for an event without value."""
+    def reader(self, name: str) -> Reader:
+        """What makes the text of a value of this input from a cell or member."""
         if name not in self.readers:
             self.readers[name] = self.new_reader(name)
         return self.readers[name]
 
-    def new_reader(self, name: str) -> Callable[[Any], Optional[str]]:
+    def new_reader(self, name: str) -> Reader:
         if name in self.words.unit:
-            return lambda value: None
+            return self.without_value
         if name in self.words.text:
             return self.text
         if name in self.words.factor:
             return functools.partial(self.multiplied, name, self.words.factor[name])
         return functools.partial(self.plain, name)
+
+    def without_value(self, value: Any) -> Optional[str]:
+        """Of an input of type Unit."""
+        raise NotImplementedError
 
     def text(self, value: Any) -> str:
         """The value of an input of type String."""
@@ -46,61 +57,176 @@ class Fields(Log):
         """The value of an input of which nothing was said."""
         raise NotImplementedError
 
+    def named_events(self, time: int, values: Dict[str, Any]) -> None:
+        """Makes the events of a line that has a value for each input."""
+        self.settled.events(time, map(self.names.__getitem__, values), map(self.readers_of_names.__getitem__, values), values.values())
+
     def named_event(self, time: int, named: str, value: Any) -> None:
         """Makes the event of a row or object that names its input; its value is None where there is none."""
         name = self.names[named]
         if name is None:
             return
-        if not self.words.value or name in self.words.unit:
+        if self.value_name is None or name in self.words.unit:
             self.settled.event(time, name, None)
         elif value is None:
-            raise Refused(f"{shown(name)} has no {shown(self.words.value)} (see --unit)")
+            raise Refused(f"{shown(name)} has no {shown(self.value_name)} (see --unit)")
         else:
             self.settled.event(time, name, self.reader(name)(value))
+
+
+class Readers(Dict[str, Reader]):
+    """What reads the values of each name in the log."""
+
+    def __init__(self, log: Fields):
+        super().__init__()
+        self.log = log
+
+    def __missing__(self, text: str) -> Reader:
+        name = self.log.names[text]
+        reader = self.log.without_value if name is None else self.log.reader(name)
+        if len(self) < MOST_NAMES:
+            self[text] = reader
+        return reader
+
+
+class Cells(Fields):
+    """A log whose values are texts. One that is empty, or has blanks alone, is no event."""
+
+    def without_value(self, value: str) -> Optional[str]:
+        return None if value.strip(BLANKS) else ""
+
+    def text(self, value: str) -> str:
+        return quoted(value) if value.strip(BLANKS) else ""
+
+    def multiplied(self, name: str, factor: decimal.Decimal, value: str) -> str:
+        text = value.strip(BLANKS)
+        return whole(name, text, factor) if text else ""
+
+    def plain(self, name: str, value: str) -> str:
+        if value.isdigit() and value.isascii() and len(value) < 19 and value[0] != "0":
+            return value
+        text = value.strip(BLANKS)
+        if not text or text in ("true", "false", "()"):
+            return text
+        if text[0] not in BEGINS_NUMBER or not NUMBER.fullmatch(text):
+            return quoted(value)
+        return text if WHOLE.fullmatch(text) else whole(name, text)
+
+
+# ---- Lines
+
+
+class Matched(Cells):
+    """Lines that a regular expression takes apart. Its groups name what they have: the time, and an input each or the name of one."""
+
+    def __init__(self, *arguments: Any):
+        super().__init__(*arguments)
+        self.other = 0  # lines that were left out
+        groups = self.words.match.groupindex
+        self.value_name = "value" if "event" in groups and "value" in groups else None
+
+    def line(self, line: str) -> None:
+        match = self.words.match.fullmatch(line.rstrip("\r\n"))
+        if match is None:
+            if "other" not in self.words.skip:
+                raise Refused("--match does not fit (see --skip)")
+            self.other += 1
+            return
+        groups = match.groupdict("")
+        number = self.time_of(groups.pop("time"))
+        if "event" in groups:
+            self.line_of_event(number, groups["event"], groups.get("value", ""))
+        else:
+            self.named_events(number, groups)
+
+    def line_of_event(self, time: int, named: str, value: str) -> None:
+        if not named.strip(BLANKS):
+            raise Refused("--match finds no event in it")
+        self.named_event(time, named.strip(BLANKS), value if value.strip(BLANKS) else None)
+
+    def finish(self, whole_log: bool) -> None:
+        if self.other:
+            self.say(f"left out of other lines: {self.other} (--skip other)")
+        super().finish(whole_log)
 
 
 # ---- Tables
 
 
-class Table(Fields):
+class Table(Cells):
     """A table. The names of its columns come first, and then its rows."""
 
-    header: Optional[List[str]] = None
-    time_at = event_at = 0
-    value_at: Optional[int] = None
-    inputs: List[Tuple[Optional[str], Callable[[str], Optional[str]]]] = []  # of each column, and what reads its cells
+    def __init__(self, *arguments: Any):
+        super().__init__(*arguments)
+        self.header: Optional[List[str]] = None
+        self.time_at = self.event_at = 0
+        self.value_at: Optional[int] = None
+        self.wanted: List[bool] = []  # of each column, whether it is an input, or has no name
+        self.inputs: List[str] = []  # of these columns
+        self.cell_readers: List[Reader] = []
+        self.held: List[str] = []  # the lines of a row with quotes, while it is read
+        self.rows_with_quotes = 0  # that have begun
+        self.rest = iter(self.lines)
+        csv.field_size_limit(LONGEST_CELL)
+        self.quoted_rows = csv.reader(self.kept(), strict=True, delimiter=self.words.separator)
 
     def read(self) -> None:
         if self.words.header:
             self.take_header(self.words.header)  # a fault of this one has no line
-        held: List[str] = []  # the lines of the row that is read
-        csv.field_size_limit(LONGEST_CELL)
         try:
-            for row in csv.reader(self.kept(held), strict=True):
-                if len(held) > 1 or '"' in held[0]:
-                    check_quotes("".join(held), row)
-                if len(row) > 1 or not (blank(held[0]) or self.tick(held[0])):
+            for line in self.rest:
+                row = self.quoted_row(line) if '"' in line else self.plain_row(line)
+                if len(row) > 1 or not (blank(line) or self.tick(line)):
                     self.row(row)
-                held.clear()
+                if self.held:
+                    self.held.clear()
         except csv.Error as error:
-            refused = Refused(fault_of_table(str(error)))
-            refused.line = self.lines.number - len(held) + 1
+            refused = Refused(fault_of_table(str(error), self.separator_name()))
+            refused.line = self.lines.number - max(len(self.held), 1) + 1
             raise refused from None
         except Refused as refused:
-            refused.line = refused.line or self.lines.number - max(len(held), 1) + 1
+            refused.line = refused.line or self.lines.number - max(len(self.held), 1) + 1
             raise
 
-    def kept(self, held: List[str]) -> Iterator[str]:
-        """The lines, kept until their row is taken."""
-        length = 0
-        for line in self.lines:
-            length = length + len(line) if held else len(line)
-            held.append(line)
-            if length > LONGEST_LINE:
-                raise Refused(f"a row of more than {LONGEST_LINE} characters")
-            if "\0" in line:
-                raise self.lines.refused("a NUL character")
-            yield line
+    def plain_row(self, line: str) -> List[str]:
+        """The cells of a line without quotes, as Python's reader would have them."""
+        text = line.rstrip("\r\n")
+        cells = text.split(self.words.separator)
+        if "\0" in line:
+            raise self.lines.refused("a NUL character")
+        if "\r" in text:
+            raise csv.Error("new-line character")
+        if len(text) > LONGEST_CELL and len(max(cells, key=len)) > LONGEST_CELL:
+            raise csv.Error("field larger")
+        return cells
+
+    def quoted_row(self, line: str) -> List[str]:
+        """The cells of a row with quotes, which may have several lines."""
+        self.held.append(line)
+        self.rows_with_quotes += 1
+        row = next(self.quoted_rows)
+        check_quotes("".join(self.held), row)
+        return row
+
+    def kept(self) -> Iterator[str]:
+        """The lines of rows with quotes; the first one of each is there already."""
+        while True:
+            length = 0
+            while True:
+                line = self.held[-1]
+                length += len(line)
+                if length > LONGEST_LINE:
+                    raise Refused(f"a row of more than {LONGEST_LINE} characters")
+                if "\0" in line:
+                    raise self.lines.refused("a NUL character")
+                row = self.rows_with_quotes
+                yield line
+                if self.rows_with_quotes != row:
+                    break
+                more = next(self.rest, None)
+                if more is None:
+                    return
+                self.held.append(more)
 
     def row(self, row: List[str]) -> None:
         if self.header is None:
@@ -111,13 +237,11 @@ class Table(Fields):
         if len(row) <= self.time_at:
             raise Refused("no cell in the column of times")
         time = self.time_of(row[self.time_at])
+        self.settled.begin()
         if self.words.event:
             self.row_of_event(time, row + [""] * (len(self.header) - len(row)))
-            return
-        event = self.settled.event
-        for (name, reader), cell in zip(self.inputs, row):
-            if name and cell and cell.strip(BLANKS):
-                event(time, name, reader(cell))
+        else:
+            self.settled.events(time, self.inputs, self.cell_readers, itertools.compress(row, self.wanted))
 
     def row_of_event(self, time: int, row: List[str]) -> None:
         named = row[self.event_at].strip(BLANKS)
@@ -131,17 +255,24 @@ class Table(Fields):
         if not self.words.header and NUMBER.fullmatch(header[0]):
             raise Refused("the header begins with a number, as a row does (see --header)")
         if len(header) < 2:
-            raise Refused("a table of one column has no events (commas part columns)")
+            raise Refused(f"a table of one column has no events (a {self.separator_name()} parts columns, see --separator)")
         time = header[0] if self.words.time is None else self.words.time
         self.time_at = place_of(header, time, "--time") if time else 0
         if self.words.event:
             self.event_at = place_of(header, self.words.event, "--event")
             self.value_at = place_of(header, self.words.value, "--value") if self.words.value else None
         else:
-            self.inputs = [self.input_of(header, at) for at in range(len(header))]
+            columns = [self.input_of(header, at) for at in range(len(header))]
+            self.wanted = [name is not None for name, _ in columns]
+            self.inputs = [name for name, _ in columns if name is not None]
+            self.cell_readers = [reader for name, reader in columns if name is not None]
         self.header = header
 
-    def input_of(self, header: List[str], at: int) -> Tuple[Optional[str], Callable[[str], Optional[str]]]:
+    def separator_name(self) -> str:
+        name = next(name for name, char in SEPARATORS.items() if char == self.words.separator)
+        return "comma" if name == "," else name
+
+    def input_of(self, header: List[str], at: int) -> Tuple[Optional[str], Reader]:
         """The input of a column, and what reads its cells."""
         if at == self.time_at:
             return None, self.text
@@ -153,18 +284,6 @@ class Table(Fields):
             raise Refused(f"two columns are called {shown(header[at])}")
         return name, self.reader(name) if name else self.text
 
-    def text(self, value: str) -> str:
-        return quoted(value)
-
-    def multiplied(self, name: str, factor: decimal.Decimal, value: str) -> str:
-        return whole(name, value.strip(BLANKS), factor)
-
-    def plain(self, name: str, value: str) -> str:
-        text = value.strip(BLANKS)
-        if WHOLE.fullmatch(text) or text in ("true", "false", "()"):
-            return text
-        return whole(name, text) if NUMBER.fullmatch(text) else quoted(value)
-
 
 def place_of(header: List[str], name: str, flag: str) -> int:
     if header.count(name) != 1:
@@ -173,7 +292,9 @@ def place_of(header: List[str], name: str, flag: str) -> int:
 
 
 def refuse_unnamed(cell: str) -> Optional[str]:
-    raise Refused(f"a column without a name has {shown(cell)}")
+    if cell.strip(BLANKS):
+        raise Refused(f"a column without a name has {shown(cell)}")
+    return ""
 
 
 def check_quotes(text: str, row: List[str]) -> None:
@@ -189,7 +310,7 @@ def check_quotes(text: str, row: List[str]) -> None:
             raise Refused(f"a quote inside a cell without quotes: {shown(cell)}")
 
 
-def fault_of_table(error: str) -> str:
+def fault_of_table(error: str, separator: str) -> str:
     """Why Python's reader refuses a row."""
     if "unexpected end of data" in error:
         return "a quote is open at the end"
@@ -197,14 +318,23 @@ def fault_of_table(error: str) -> str:
         return f"a cell of more than {LONGEST_CELL} characters (is a quote open?)"
     if "new-line character" in error:
         return "a carriage return inside a line"
-    return "after the quote that ends a cell stands no comma"
+    return f"after the quote that ends a cell stands no {separator}"
 
 
 # ---- Objects
 
 
 class Number(str):
-    """A number of a JSON text, as it stands there."""
+    """A number of a JSON text that is not whole, as it stands there."""
+
+    __slots__ = ()
+
+
+def number_text(value: Any) -> Optional[str]:
+    """A number as it stands in the JSON text; None for what is none."""
+    if type(value) is int:
+        return str(value)
+    return value if type(value) is Number else None
 
 
 class Objects(Fields):
@@ -212,59 +342,86 @@ class Objects(Fields):
 
     def __init__(self, *arguments: Any):
         super().__init__(*arguments)
-        self.decoder = json.JSONDecoder(
-            object_pairs_hook=object_of, parse_int=Number, parse_float=Number, parse_constant=refuse_constant
-        )
-        self.time_name = "time" if self.words.time is None else self.words.time
+        self.time_at = Path("time" if self.words.time is None else self.words.time)
+        self.event_at = Path(self.words.event or "")
+        self.value_at = Path(self.words.value or "")
         self.objects = 0
         self.value_seen = False
+        self.paths_seen: Set[str] = set()
 
     def line(self, line: str) -> None:
-        members = self.decoded(line)
-        time = members.pop(self.time_name, None)
-        if time is None:
-            raise Refused(f"it has no {shown(self.time_name)} (see --time)")
-        if not isinstance(time, str):
-            raise Refused(f"no time: {shown(json_text(time))}")
-        number = self.time_of(time)
+        members = decoded(line)
+        number = self.time_of(self.time_text(members))
         if self.words.event:
             self.object_of_event(number, members)
-            return
-        for member, value in members.items():
-            name = self.names[member]
-            if name and value is not None:
-                self.settled.event(number, name, self.reader(name)(value))
+        elif self.words.path:
+            self.object_of_paths(number, members)
+        else:
+            self.object_of_members(number, members)
 
-    def decoded(self, line: str) -> Dict[str, Any]:
-        if line.count("[") + line.count("{") > DEEPEST and depth_of(line) > DEEPEST:
-            raise Refused(f"more than {DEEPEST} levels")
-        try:
-            members = self.decoder.decode(line)
-        except ValueError:
-            raise Refused("not JSON") from None
-        if not isinstance(members, dict):
-            raise Refused("no object")
-        return members
+    def time_text(self, members: Dict[str, Any]) -> str:
+        time = self.time_at.of(members)
+        if time is None or time is NOTHING:
+            raise Refused(f"it has no {shown(self.time_at.text)} (see --time)")
+        text = time if isinstance(time, str) else number_text(time)
+        if text is None:
+            raise Refused(f"no time: {shown(json_text(time))}")
+        return text
+
+    def object_of_members(self, number: int, members: Dict[str, Any]) -> None:
+        members.pop(self.time_at.text, None)
+        self.named_events(number, members)
+
+    def object_of_paths(self, number: int, members: Dict[str, Any]) -> None:
+        for name, path in self.words.path.items():
+            value = path.of(members)
+            if value is NOTHING:
+                continue
+            self.paths_seen.add(name)
+            if self.names[name] and value is not None:
+                self.settled.event(number, name, self.reader(name)(value))
 
     def object_of_event(self, time: int, members: Dict[str, Any]) -> None:
         self.objects += 1
-        self.value_seen = self.value_seen or self.words.value in members
-        named = members.get(self.words.event)
+        value = self.value_at.of(members) if self.words.value else NOTHING
+        self.value_seen = self.value_seen or value is not NOTHING
+        named = self.event_at.of(members)
+        named = number_text(named) or named
         if not isinstance(named, str) or not named.strip(BLANKS):
-            raise Refused(f"it has no {shown(self.words.event)}, or one that is no name")
-        self.named_event(time, named, members.get(self.words.value))
+            raise Refused(f"it has no {shown(self.event_at.text)}, or one that is no name")
+        self.named_event(time, named, None if value is NOTHING else value)
+
+    def missing(self) -> List[str]:
+        texts = super().missing()
+        for name, path in self.words.path.items():
+            if name not in self.paths_seen:
+                texts.append(f"--path {name}={shown(path.text)}: the log has no such member")
+        return texts
+
+    def without_value(self, value: Any) -> Optional[str]:
+        return "" if value is None else None
 
     def text(self, value: Any) -> str:
-        return quoted(value if isinstance(value, str) else json_text(value))
+        if value is None:
+            return ""
+        return quoted(value if type(value) is str else json_text(value))
 
     def multiplied(self, name: str, factor: decimal.Decimal, value: Any) -> str:
-        if not isinstance(value, Number):
+        if value is None:
+            return ""
+        text = number_text(value)
+        if text is None:
             raise Refused(f"{name} = {shown(json_text(value))} is no number (see --factor)")
-        return whole(name, value, factor)
+        return whole(name, text, factor)
 
     def plain(self, name: str, value: Any) -> str:
-        if isinstance(value, Number):
-            return value if WHOLE.fullmatch(value) else whole(name, value)
+        if type(value) is str:
+            return quoted(value)
+        if type(value) is int and -GREATEST <= value <= GREATEST:
+            return str(value)
+        text = number_text(value)
+        if text is not None:
+            return whole(name, text)
         return json_text(value) if isinstance(value, bool) else self.text(value)
 
     def finish(self, whole_log: bool) -> None:
@@ -286,6 +443,33 @@ def refuse_constant(text: str) -> None:
     raise Refused(f"{text} is no number")
 
 
+def decoder(parse_int: Callable[[str], Any]) -> json.JSONDecoder:
+    return json.JSONDecoder(object_pairs_hook=object_of, parse_int=parse_int, parse_float=Number, parse_constant=refuse_constant)
+
+
+# A whole number is written as it stood, but for -0, and for one that Python would not take.
+WHOLE_NUMBERS, ALL_NUMBERS = decoder(int), decoder(Number)
+MINUS_ZERO = re.compile(r"-0(?![0-9.eE])")
+LONGEST_WHOLE = 4000
+
+
+def decoded(line: str) -> Dict[str, Any]:
+    """The object that a line is."""
+    if line.count("[") + line.count("{") > DEEPEST and depth_of(line) > DEEPEST:
+        raise Refused(f"more than {DEEPEST} levels")
+    text = line.strip(" \t\r\n")
+    special = len(text) > LONGEST_WHOLE or ("-0" in text and MINUS_ZERO.search(text))
+    try:
+        members, end = (ALL_NUMBERS if special else WHOLE_NUMBERS).scan_once(text, 0)
+    except (ValueError, StopIteration):
+        raise Refused("not JSON") from None
+    if end != len(text):
+        raise Refused("not JSON")
+    if not isinstance(members, dict):
+        raise Refused("no object")
+    return members
+
+
 def depth_of(line: str) -> int:
     """How many brackets of a JSON text are open at most."""
     depth = most = 0
@@ -297,8 +481,9 @@ def depth_of(line: str) -> int:
 
 def json_text(value: Any) -> str:
     """A value as JSON, with its numbers as they were written."""
-    if isinstance(value, Number):
-        return value
+    text = number_text(value)
+    if text is not None:
+        return text
     if isinstance(value, list):
         return "[" + ", ".join(map(json_text, value)) + "]"
     if isinstance(value, dict):

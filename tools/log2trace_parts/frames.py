@@ -1,14 +1,14 @@
 """Frames of a bus, as candump writes them."""
 
 import re
-from typing import Any, Dict, List, Optional, Tuple
+from typing import Any, Callable, Dict, List, Optional, Tuple
 
 from .logs import MOST_NAMES, Log
 from .texts import GREATEST, Refused, shown
 from .words import Wanted
 
 FRAME = re.compile(
-    r"[ \t]*\(([0-9]+(?:\.[0-9]+)?)\)[ \t]+([^ \t]+)[ \t]+([0-9A-Fa-f]{8}|[0-9A-Fa-f]{3})"
+    r"[ \t]*\(([0-9]+(?:\.[0-9]+)?|[0-9]+-[0-9: .-]+)\)[ \t]+([^ \t]+)[ \t]+([0-9A-Fa-f]{8}|[0-9A-Fa-f]{3})"
     r"(?:#(R[0-9]?|(?:#[0-9A-Fa-f])?[0-9A-Fa-f.]*)(?:[ \t]+[RT])?"
     r"|[ \t]+\[([0-9]{1,2})\]((?:[ \t]+[0-9A-Fa-f]{2})*)(?:[ \t]+(remote request|ERRORFRAME|'.*'))?)[ \t\r\n]*"
 )
@@ -36,6 +36,13 @@ class Frames(Log):
             raise Refused("not a line of candump")
         stamp, bus, identifier, joined, count, spaced, note = match.groups()
         time, identifier = self.time_of(stamp), identifier.upper()
+        if joined is None:
+            self.frame(time, bus, identifier, data_of_spaced, (int(count), spaced, note))
+        else:
+            self.frame(time, bus, identifier, data_of_joined, joined)
+
+    def frame(self, time: int, bus: str, identifier: str, data_of: Callable[[Any], bytes], content: Any) -> None:
+        """Makes the events of a frame, whose data are looked at where an event is made of them."""
         plan = self.plans.get((bus, identifier))
         if plan is None:
             plan = self.new_plan(bus, identifier)
@@ -43,8 +50,7 @@ class Frames(Log):
                 self.plans[bus, identifier] = plan
         for wanted in plan:
             try:
-                data = data_of_spaced(int(count), spaced, note) if joined is None else data_of_joined(joined)
-                value = value_of(data, wanted)
+                value = value_of(data_of(content), wanted)
             except Skippable as why:
                 if why.kind not in self.words.skip:
                     raise Refused(f"{why} (see --skip)") from None
@@ -86,35 +92,36 @@ class Frames(Log):
         super().finish(whole_log)
 
 
-def data_of_joined(text: str) -> str:
-    """The data of a frame as `candump -L` writes it, as hexadecimal digits."""
+def data_of_joined(text: str) -> bytes:
+    """The data of a frame as `candump -L` writes it."""
     if text.startswith("R"):
         raise Skippable("remote", "a remote frame has no data")
     digits, most = (text[2:], 64) if text.startswith("#") else (text, 8)
-    if not OCTETS.fullmatch(digits):
+    if not (digits.isalnum() and len(digits) % 2 == 0) and not OCTETS.fullmatch(digits):
         raise Refused("the data are no whole bytes")
-    data = digits.replace(".", "").upper()
-    if len(data) > 2 * most:
+    data = bytes.fromhex(digits.replace(".", ""))
+    if len(data) > most:
         raise Refused(f"more than {most} bytes of data")
     return data
 
 
-def data_of_spaced(count: int, text: str, note: Optional[str]) -> str:
-    """The data of a frame as `candump -ta` writes it, as hexadecimal digits."""
+def data_of_spaced(content: Tuple[int, str, Optional[str]]) -> bytes:
+    """The data of a frame as `candump -ta` writes it: their number, their digits, and what stands after them."""
+    count, text, note = content
     if note == "remote request":
         raise Skippable("remote", "a remote frame has no data")
-    data = text.replace(" ", "").replace("\t", "").upper()
-    if len(data) != 2 * count:
-        raise Refused(f"the length is {count}, and there are {len(data) // 2} bytes")
+    data = bytes.fromhex(text)
+    if len(data) != count:
+        raise Refused(f"the length is {count}, and there are {len(data)} bytes")
     return data
 
 
-def value_of(data: str, wanted: Wanted) -> str:
+def value_of(data: bytes, wanted: Wanted) -> str:
     """The value that a frame with this data has for an input."""
     if wanted.part is None:
-        return f'"{data}"'
+        return f'"{data.hex().upper()}"'
     first, count, order, signed = wanted.part
-    octets = bytes.fromhex(data)[first : first + count]
+    octets = data[first : first + count]
     if len(octets) < count:
         raise Skippable("short", f"the frame is too short for {shown(wanted.name)}")
     number = int.from_bytes(octets, order, signed=signed)

@@ -2,14 +2,16 @@
 
 import functools
 import re
-from typing import Callable, Dict, Iterator, List, Optional, Set, TextIO
+from typing import Callable, Dict, Iterator, List, Optional, Set, TextIO, Tuple
 
-from .texts import BLANKS, EXACT, GREATEST, LONGEST_NAME, SURROGATE, Refused, blank, is_name, name_of, number_of, shown
+from .clock import Clock
+from .texts import BLANKS, EXACT, GREATEST, LONGEST_NAME, SURROGATE, Refused, is_name, name_of, number_of, shown
 from .times import Settled
 from .words import Words
 
 LONGEST_LINE = 2**20  # characters of a line of a log
 MOST_NAMES = 65536
+LONGEST_TIME = 40  # digits that are taken as whole numbers
 
 TIME = re.compile(r"(?:[0-9]+\.?[0-9]*|\.[0-9]+)(?:[eE][+-]?[0-9]+)?")
 TICK = re.compile(r"[ \t]*([0-9]+(?:\.[0-9]+)?)[ \t]*:[ \t\r\n]*")
@@ -17,6 +19,8 @@ TICK = re.compile(r"[ \t]*([0-9]+(?:\.[0-9]+)?)[ \t]*:[ \t\r\n]*")
 
 class Lines:
     """The lines of a log, counted. Those that are not UTF-8, or that don't end, are refused."""
+
+    what = "line"  # as messages call it
 
     def __init__(self, file: TextIO):
         self.file, self.number = file, 0
@@ -79,42 +83,62 @@ class Log:
         self.names = Names(words.only, self.tell)
         self.settled = Settled(words.equal, words.back, write, self.tell, self.hint)
         self.whole_scale = int(words.scale) if words.scale == int(words.scale) else 0
+        self.clock = Clock(words.zone)
         self.first: Optional[int] = None
         self.cut = False  # whether times had fractions that were cut
 
     def read(self) -> None:
         """Takes each line that is neither blank nor a tick."""
+        apart = self.words.equal == "apart"
         for line in self.lines:
-            if not blank(line) and not self.tick(line):
+            text = line.rstrip(" \t\r\n")
+            if text and not (text[-1] == ":" and self.tick(line)):
+                if apart:
+                    self.settled.begin()
                 self.line(line)
 
     def line(self, line: str) -> None:
         raise NotImplementedError
 
     def tell(self, text: str) -> None:
-        self.say(f"line {self.lines.number}: {text}" if self.lines.number else text)
+        self.say(f"{self.lines.what} {self.lines.number}: {text}" if self.lines.number else text)
 
     def hint(self) -> str:
         return "times have fractions, see --scale; else " if self.cut else ""
 
     def time_of(self, text: str) -> int:
-        text = text.strip(BLANKS)
-        before, _, after = text.partition(".")
-        digits = before + after
-        if self.whole_scale and before and len(digits) < 40 and digits.isdigit() and digits.isascii():
-            time, rest = divmod(int(digits) * self.whole_scale, 10 ** len(after))
-        elif TIME.fullmatch(text):
-            exact = EXACT.multiply(number_of(text), self.words.scale)
-            time, rest = int(exact), exact != int(exact)
+        if text.isdigit() and text.isascii() and self.whole_scale and len(text) < LONGEST_TIME:
+            time = int(text) * self.whole_scale
         else:
-            raise Refused(f"no time: {shown(text)}")
-        self.cut = self.cut or bool(rest)
+            time, rest = self.scaled(text.strip(BLANKS))
+            if rest:
+                self.note_cut(text.strip(BLANKS))
         if self.words.from_first:
             self.first = time if self.first is None else self.first
             time -= self.first
         if time > GREATEST:
             raise Refused("time too large")
         return time
+
+    def note_cut(self, text: str) -> None:
+        """A time was cut to a whole unit, which --scale has to ask for."""
+        if not self.words.scaled:
+            raise Refused(f"the time {shown(text)} has a fraction (--scale 1000 keeps three digits of it, --scale 1 none)")
+        self.cut = True
+
+    def scaled(self, text: str) -> Tuple[int, object]:
+        """A time of the log in whole units of the trace, and what is over."""
+        before, _, after = text.partition(".")
+        digits = before + after
+        if before and digits.isdigit() and digits.isascii() and self.whole_scale and len(digits) < LONGEST_TIME:
+            return divmod(int(digits) * self.whole_scale, 10 ** len(after))
+        if TIME.fullmatch(text):
+            exact = EXACT.multiply(number_of(text), self.words.scale)
+            return int(exact), exact != int(exact)
+        seconds = self.clock.number(text)
+        if seconds is None:
+            raise Refused(f"no time: {shown(text)}")
+        return self.scaled(seconds)
 
     def tick(self, line: str) -> bool:
         """Takes the line if it is a tick."""
@@ -125,7 +149,7 @@ class Log:
 
     def missing(self) -> List[str]:
         """What the words name and the log never had."""
-        named = [(flag, name) for flag in ("only", "unit", "text", "factor") for name in sorted(getattr(self.words, flag))]
+        named = [(flag, name) for flag in ("only", "unit", "text", "factor", "signed") for name in sorted(getattr(self.words, flag))]
         return [f"--{flag} {shown(name)}: the log has no such input" for flag, name in named if name not in self.names.seen]
 
     def finish(self, whole_log: bool) -> None:
@@ -133,8 +157,6 @@ class Log:
         if self.settled.left_out:
             self.say(f"left out at equal times: {self.settled.left_out} ({self.hint()}--equal {self.words.equal})")
         if whole_log:
-            if self.cut and not self.words.scaled and not self.settled.left_out:
-                self.say("times have fractions, which were cut (see --scale)")
             for text in self.missing():
                 self.say(text)
 

@@ -2,6 +2,7 @@
 
 import contextlib
 import functools
+import importlib
 import io
 import os
 import select
@@ -9,25 +10,46 @@ import signal
 import sys
 from typing import Callable, Iterator, List
 
-from .fields import Objects, Table
-from .frames import Frames
-from .logs import Lines, Trace
+from .logs import Lines, Log
 from .texts import Refused, visible, visible_lines
 from .words import Unaccepted, Words, words_of
 
-FORMATS = {"candump": Frames, "csv": Table, "json": Objects, "trace": Trace}
+# The module and the class of each format. Those of the other formats are not loaded, which would take longer than a short log.
+FORMATS = {
+    "asc": ("borrowed", "Recorded"),
+    "blf": ("borrowed", "Recorded"),
+    "candump": ("frames", "Frames"),
+    "csv": ("fields", "Table"),
+    "ctf": ("borrowed", "Events"),
+    "journald": ("journal", "Journal"),
+    "json": ("fields", "Objects"),
+    "lines": ("fields", "Matched"),
+    "trace": ("logs", "Trace"),
+    "vcd": ("waves", "Waves"),
+}
 
 
-class OutputFailed(Exception):
-    """The trace can't be written."""
+def new_log(words: Words, source: io.BufferedReader, write: Callable[[str], None], say: Callable[[str], None]) -> Log:
+    """The log of a format, and what counts its parts."""
+    module, name = FORMATS[words.format]
+    parts = importlib.import_module(f"{__package__}.{module}")
+    if hasattr(parts, "Parts"):
+        lines = parts.Parts(source)
+    else:
+        lines = Lines(io.TextIOWrapper(source, encoding="utf-8", errors="surrogateescape", newline="\n"))
+    return getattr(parts, name)(words, lines, write, say)
+
+
+class OutputFailed(BaseException):
+    """The trace can't be written. No library that reads a log may catch this."""
 
 
 class ReaderGone(OutputFailed):
     """Nobody reads the trace any more."""
 
 
-class Interrupted(Exception):
-    """A signal has ended the reading."""
+class Interrupted(BaseException):
+    """A signal has ended the reading. No library that reads a log may catch this."""
 
 
 class Source(io.RawIOBase):
@@ -102,8 +124,7 @@ class Interrupts:
 def convert(words: Words, read: Callable[[int], bytes], output: Output, say: Callable[[str], None]) -> int:
     """Writes the trace of a log. Whatever ends the log, what was made of it before is written."""
     source = io.BufferedReader(Source(read, output.flush))
-    lines = Lines(io.TextIOWrapper(source, encoding="utf-8", errors="surrogateescape", newline="\n"))
-    log = FORMATS[words.format](words, lines, output.lines.append, say)
+    log = new_log(words, source, output.lines.append, say)
     read_all = False
     try:
         try:
@@ -114,8 +135,8 @@ def convert(words: Words, read: Callable[[int], bytes], output: Output, say: Cal
             output.flush()
             log.finish(read_all)
     except Refused as refused:
-        number = 0 if read_all else refused.line or lines.number
-        say(f"line {number}: {refused}" if number else str(refused))
+        number = 0 if read_all else refused.line or log.lines.number
+        say(f"{log.lines.what} {number}: {refused}" if number else str(refused))
         return 1
     return 0
 

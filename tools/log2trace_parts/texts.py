@@ -65,6 +65,8 @@ def name_of(text: str) -> str:
 
 def quoted(text: str) -> str:
     """A text as it stands in a trace."""
+    if text.isprintable() and '"' not in text and "\\" not in text:
+        return f'"{text}"'
     if not text.isascii() and SURROGATE.search(text):
         raise Refused(f"half of a character: {shown(text)}")
     return f'"{text.translate(ESCAPES)}"'

@@ -1,11 +1,15 @@
 """Events in the order of their times."""
 
 from dataclasses import dataclass, field
-from typing import Callable, Dict, Optional
+from typing import Any, Callable, Dict, Iterable, Optional
 
 from .texts import GREATEST, Refused, shown
 
 LONGEST_EVENT = 65536  # bytes of a line of a trace
+SHORT = LONGEST_EVENT // 4  # characters that fit in any case
+
+# Makes the text of a value; None is for an event without one, and an empty text where there is no event.
+Reader = Callable[[Any], Optional[str]]
 
 
 @dataclass
@@ -20,26 +24,50 @@ class Settled:
     log: int = -1  # the last time of the log
     now: int = -1  # the last time of the trace, which is later where events were shifted
     here: Dict[str, str] = field(default_factory=dict)  # the inputs that have an event at that time, with their lines
+    begins: bool = False  # whether the next event is the first one of a line that has a time of its own
     left_out: int = 0
+
+    def begin(self) -> None:
+        """The events that follow are those of another line."""
+        self.begins = self.equal == "apart"
+
+    def __post_init__(self) -> None:
+        self.holds = self.equal == "last"  # whether a line is written once its time is over
 
     def release(self) -> None:
         """Writes what was held of the last time, since a later event might have come in its place."""
         held, self.here = self.here, {}
-        if self.equal == "last":
+        if self.holds:
             for line in held.values():
                 self.write(line)
-
-    def advance(self, time: int) -> None:
-        if time > self.now:
-            self.release()
-            self.now = time
 
     def tick(self, time: int) -> None:
         if time > self.log:
             self.log = time
             if time > self.now:
-                self.advance(time)
+                self.release()
+                self.now = time
                 self.write(f"{time}:\n")
+
+    def events(self, time: int, names: Iterable[Optional[str]], readers: Iterable[Reader], values: Iterable[Any]) -> None:
+        """The events that a line has of inputs that differ from each other; None is the name of one that is not wanted."""
+        if time <= self.now or self.holds:
+            for name, reader, value in zip(names, readers, values):
+                text = reader(value) if name else ""
+                if text != "":
+                    self.event(time, name or "", text)
+            return
+        # Nothing of this time came before, so nothing of it has to be settled.
+        here: Dict[str, str] = {}
+        for name, reader, value in zip(names, readers, values):
+            text = reader(value) if name else ""
+            if name and text != "":
+                here[name] = line = f"{time}: {name}\n" if text is None else f"{time}: {name} = {text}\n"
+                if len(line) > SHORT:
+                    must_fit(name, line)
+                self.write(line)
+        if here:
+            self.here, self.log, self.now, self.begins = here, time, time, False
 
     def event(self, time: int, name: str, value: Optional[str]) -> None:
         # Before the first event the first time has been 0, if there was one and times count from it.
@@ -48,14 +76,18 @@ class Settled:
                 return
             time = max(self.log, 0)
         self.log = time
-        self.advance(time)
+        if time > self.now:
+            self.release()
+            self.now = time
+        elif self.begins and self.here:
+            self.shift()
+        self.begins = False
         if name in self.here and not self.takes_second(name):
             return
-        line = f"{self.now}: {name}\n" if value is None else f"{self.now}: {name} = {value}\n"
-        if len(line) > LONGEST_EVENT // 4 and len(line.encode()) > LONGEST_EVENT + 1:
-            raise Refused(f"{shown(name)} makes a line that is too long for a trace")
-        self.here[name] = line
-        if self.equal != "last":
+        self.here[name] = line = f"{self.now}: {name}\n" if value is None else f"{self.now}: {name} = {value}\n"
+        if len(line) > SHORT:
+            must_fit(name, line)
+        if not self.holds:
             self.write(line)
 
     def takes_late(self, time: int, name: str) -> bool:
@@ -71,10 +103,19 @@ class Settled:
         """Whether a second event of the input is taken; its time may be another then."""
         if self.equal == "refuse":
             raise Refused(f"{shown(name)} twice at time {self.now} ({self.hint()}see --equal)")
-        if self.equal == "shift":
-            if self.now == GREATEST:
-                raise Refused("time too large")
-            self.advance(self.now + 1)
+        if self.equal in ("shift", "apart"):
+            self.shift()
         else:
             self.left_out += 1
         return self.equal != "first"
+
+    def shift(self) -> None:
+        if self.now == GREATEST:
+            raise Refused("time too large")
+        self.release()
+        self.now += 1
+
+
+def must_fit(name: str, line: str) -> None:
+    if len(line.encode()) > LONGEST_EVENT + 1:
+        raise Refused(f"{shown(name)} makes a line that is too long for a trace")

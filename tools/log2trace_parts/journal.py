@@ -1,0 +1,212 @@
+"""The journal of systemd, as journalctl writes it: `-o json`, or `-o export` with fields that are no text."""
+
+import re
+from typing import Any, BinaryIO, Dict, Optional
+
+from .fields import Cells, decoded, number_text
+from .logs import LONGEST_LINE
+from .texts import BLANKS, Refused, quoted, shown, whole
+
+TIME_FIELD = "__REALTIME_TIMESTAMP"
+BYTE = re.compile(r"[0-9]{1,3}")
+FIELD = re.compile(rb"[A-Z_][A-Z0-9_]{0,63}")
+PIECE = 65536  # bytes of a field that nobody wants
+
+# What has numbers, by systemd.journal-fields(7). All other fields are texts, whatever they look like.
+NUMBERS = {"PRIORITY", "ERRNO", "CODE_LINE", "SYSLOG_FACILITY", "SYSLOG_PID", "TID", "EXIT_STATUS", "N_RESTARTS"}
+NUMBERS |= {"_PID", "_UID", "_GID", "_AUDIT_SESSION", "_AUDIT_LOGINUID", "_SYSTEMD_OWNER_UID", "_LINE_BREAK_ID"}
+NUMBERS |= {"_SOURCE_REALTIME_TIMESTAMP", "_SOURCE_MONOTONIC_TIMESTAMP", "_SOURCE_BOOTTIME_TIMESTAMP"}
+NUMBERS |= {"__MONOTONIC_TIMESTAMP", "__REALTIME_TIMESTAMP", "__SEQNUM"}
+
+Entry = Dict[str, Optional[str]]  # the wanted fields; None is one that is no text
+
+
+class Parts:
+    """The lines of a log that is no text throughout, counted, and what stands between them."""
+
+    what = "line"
+
+    def __init__(self, file: BinaryIO):
+        self.file, self.number = file, 0
+
+    def line(self) -> bytes:
+        """The next line; no bytes at the end."""
+        line = self.file.readline(LONGEST_LINE + 1)
+        self.number += bool(line)
+        if len(line) > LONGEST_LINE:
+            refused = Refused(f"a line of more than {LONGEST_LINE} bytes")
+            refused.line = self.number
+            raise refused
+        return line[3:] if self.number == 1 and line.startswith(b"\xef\xbb\xbf") else line
+
+    def bytes(self, size: int) -> bytes:
+        """The next bytes. Fewer come at the end alone."""
+        data = self.file.read(size)
+        self.number += data.count(b"\n")
+        return data
+
+
+class Journal(Cells):
+    """Entries. In `-o export` a line for each field, and an empty line after the last; in `-o json` an object on each line."""
+
+    lines: Any
+
+    def __init__(self, *arguments: Any):
+        super().__init__(*arguments)
+        self.time_name = self.words.time or TIME_FIELD
+        self.binary = 0  # fields that were left out
+
+    def read(self) -> None:
+        for line in iter(self.lines.line, b""):
+            first = self.lines.number
+            try:
+                self.entry_from(line)
+            except Refused as refused:
+                refused.line = refused.line or first
+                raise
+
+    def entry_from(self, line: bytes) -> None:
+        """Takes the entry that begins with a line; it may be a blank line or a tick as well."""
+        if not line.strip(b" \t\r\n"):
+            return
+        if line.lstrip(b" \t").startswith(b"{"):
+            self.entry(self.object(text_of_line(line)))
+        elif not self.tick(line.decode("utf-8", "replace")):
+            self.entry(self.exported(line))
+
+    def entry(self, fields: Entry) -> None:
+        time = fields.pop(self.time_name, "")
+        if not time:
+            raise Refused(f"it has no {shown(self.time_name)} (see --time)")
+        number = self.time_of(time)
+        self.settled.begin()
+        if self.words.event:
+            self.entry_of_event(number, fields)
+            return
+        for field, text in fields.items():
+            name = self.names[field]
+            if name and self.is_text(field, text) and text and text.strip(BLANKS):
+                self.settled.event(number, name, self.reader(name)(text))
+
+    def entry_of_event(self, time: int, fields: Entry) -> None:
+        named = fields.get(self.words.event or "")
+        if not named or not named.strip(BLANKS):
+            raise Refused(f"it has no {shown(self.words.event or '')}, or one that is no name")
+        value = fields.get(self.words.value or "", "")
+        name = self.names[named]
+        if name is None or name in self.words.unit or self.is_text(self.words.value or "", value):
+            self.named_event(time, named, value if value and value.strip(BLANKS) else None)
+
+    def is_text(self, field: str, text: Optional[str]) -> bool:
+        """Whether a field is a text, and not one that is left out."""
+        if text is None:
+            if "binary" not in self.words.skip:
+                raise Refused(f"{shown(field)} is no text (see --skip)")
+            self.binary += 1
+        return text is not None
+
+    def is_wanted(self, field: str) -> bool:
+        if self.words.event:
+            return field in (self.time_name, self.words.event, self.words.value)
+        # What begins so says where the entry stands in the journal.
+        if field == self.time_name or (field.startswith("__") and field not in self.words.only):
+            return field == self.time_name
+        return self.names[field] is not None
+
+    def plain(self, name: str, value: str) -> str:
+        return whole(name, value.strip(BLANKS)) if (self.words.value or name) in NUMBERS else quoted(value)
+
+    def finish(self, whole_log: bool) -> None:
+        if self.binary:
+            self.say(f"left out of binary fields: {self.binary} (--skip binary)")
+        super().finish(whole_log)
+
+    # -o export
+
+    def exported(self, line: bytes) -> Entry:
+        """The entry whose first line this is."""
+        fields: Entry = {}
+        first = self.lines.number
+        while line.strip(b"\r\n"):
+            number = self.lines.number
+            try:
+                self.take_field(fields, line)
+            except Refused as refused:
+                refused.line = refused.line or number
+                raise
+            line = self.lines.line()
+            if not line:
+                refused = Refused("the log ends within an entry")
+                refused.line = first
+                raise refused
+        return fields
+
+    def take_field(self, fields: Entry, line: bytes) -> None:
+        named, equals, rest = line.rstrip(b"\n").partition(b"=")
+        if not FIELD.fullmatch(named) or not line.endswith(b"\n"):
+            raise Refused("neither a field of `journalctl -o export` nor an object of `-o json`")
+        field = named.decode()
+        wanted = self.is_wanted(field)
+        if wanted and field in fields:
+            raise Refused(f"{shown(field)} twice")
+        data = rest if equals else self.data(field, wanted)
+        if wanted:
+            fields[field] = text_of(data)
+
+    def data(self, field: str, wanted: bool) -> bytes:
+        """A field that is written by its length, and by its bytes."""
+        size = int.from_bytes(self.exactly(8), "little")
+        if wanted and size > LONGEST_LINE:
+            raise Refused(f"{shown(field)} has more than {LONGEST_LINE} bytes")
+        data = self.exactly(size) if wanted else self.passed_over(size)
+        if self.exactly(1) != b"\n":
+            raise Refused(f"{shown(field)} does not end where its length says")
+        return data
+
+    def passed_over(self, size: int) -> bytes:
+        while size > 0:
+            size -= len(self.exactly(min(size, PIECE)))
+        return b""
+
+    def exactly(self, size: int) -> bytes:
+        data = self.lines.bytes(size)
+        if len(data) < size:
+            raise Refused("the log ends within a field")
+        return data
+
+    # -o json
+
+    def object(self, line: str) -> Entry:
+        return {field: text_of_member(field, value) for field, value in decoded(line).items() if self.is_wanted(field)}
+
+
+def text_of_line(line: bytes) -> str:
+    try:
+        return line.decode()
+    except UnicodeDecodeError:
+        raise Refused("not UTF-8") from None
+
+
+def text_of(data: bytes) -> Optional[str]:
+    try:
+        return data.decode()
+    except UnicodeDecodeError:
+        return None
+
+
+def int_of(value: Any) -> Optional[int]:
+    text = number_text(value)
+    return int(text) if text is not None and BYTE.fullmatch(text) else None
+
+
+def text_of_member(field: str, value: Any) -> Optional[str]:
+    """What a member of `-o json` has: a text, or the bytes of one that is none."""
+    if isinstance(value, list) and all(part is not None and part < 256 for part in map(int_of, value)):
+        return text_of(bytes(int_of(part) or 0 for part in value))
+    if isinstance(value, list):
+        raise Refused(f"{shown(field)} twice")
+    if value is None:
+        raise Refused(f"{shown(field)} was too long for journalctl (its option --all writes it)")
+    if type(value) is not str:
+        raise Refused(f"{shown(field)} is no text")
+    return value
