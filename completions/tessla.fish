@@ -10,6 +10,7 @@ complete -c tessla -n __fish_use_subcommand -f -a bench -d 'tell how the sample 
 complete -c tessla -n __fish_use_subcommand -f -a lint -d 'tell what is likely to be wrong'
 complete -c tessla -n __fish_use_subcommand -f -a test -d 'run a folder of specifications'
 complete -c tessla -n __fish_use_subcommand -f -a install -d 'copy the program and what belongs to it'
+complete -c tessla -n __fish_use_subcommand -f -a package -d 'pack it for machines without the kit'
 complete -c tessla -n __fish_use_subcommand -f -a help -d 'tell the usage'
 complete -c tessla -n __fish_use_subcommand -l help -d 'tell the usage'
 complete -c tessla -n __fish_use_subcommand -l version -d 'tell the version'
@@ -21,5 +22,5 @@ complete -c tessla -n '__fish_seen_subcommand_from run' -l stats -d 'tell what u
 complete -c tessla -n '__fish_seen_subcommand_from check flat show code lint' -f -k -a '(__fish_complete_suffix .tsl)'
 complete -c tessla -n '__fish_seen_subcommand_from gen bench help' -f
 complete -c tessla -n '__fish_prev_arg_in gen bench' -f -a 'seen copy'
-complete -c tessla -n '__fish_seen_subcommand_from test install' -f -a '(__fish_complete_directories)'
+complete -c tessla -n '__fish_seen_subcommand_from test install package' -f -a '(__fish_complete_directories)'
 complete -c tessla -n '__fish_seen_subcommand_from test' -l bless -d 'write what came as what is wanted'

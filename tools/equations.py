@@ -9,7 +9,6 @@ OUTPUT = re.compile(r"^out (\S+) %(\d+)$")
 
 # How often an equation can have an event: never, at 0 alone, once at some time, or more often. Each of these includes those before it.
 NEVER, AT_START, ONCE, OFTEN = range(4)
-TYPED = ("Input", "Nil", "Empty")
 UPDATES = ("SetAdd", "SetRemove", "MapAdd", "MapRemove")
 
 
@@ -19,17 +18,17 @@ class Equation:
     name: str
     operation: str
     arguments: tuple
-    type: str
+    text: str  # the type of an input or of what is empty, the function of a lift
 
 
 def parts_of(text):
-    """The operation, the type where one stands, and the arguments. The body of a lift may have anything in texts, so arguments are read from the end."""
+    """The operation, the arguments, and what stands between. The function of a lift may have anything in texts, so arguments are read from the end."""
     operation, _, rest = text.partition(" ")
     arguments = []
     while found := re.search(r"(?:^| )%(\d+)$", rest):
         arguments.insert(0, int(found[1]))
         rest = rest[: found.start()]
-    return operation, tuple(arguments), rest if operation in TYPED else ""
+    return operation, tuple(arguments), rest
 
 
 def read(text):

@@ -50,6 +50,12 @@ def say(descriptor, text):
     write(descriptor, f"{text}\n".encode("utf-8", "backslashreplace"))
 
 
+def why(failure):
+    """A failure of the system in its words, with the file where it has one."""
+    reason = failure.strerror or str(failure)
+    return f"{failure.filename}: {reason}" if failure.filename is not None else reason
+
+
 def end_by_output(failure):
     """Says why the standard output can't be written, unless whoever read it has gone, and gives the status."""
     if not isinstance(failure, BrokenPipeError):

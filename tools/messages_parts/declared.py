@@ -34,8 +34,12 @@ OF_OPTIONS = ("isSome", "isNone", "getSome")
 # Names of TeSSLa's library, or of other languages, and what stands in their place here.
 ELSEWHERE = {
     "prev": "write last(x, x)",
-    "count": "write def n: Events[Int] := merge(last(n, x) + 1, 0)",
-    "sum": "write def s: Events[Int] := merge(last(s, x) + x, 0)",
+    "count": "write def n: Events[Int] := merge(merge(last(n, x), 0) + const(1, x), 0)",
+    "sum": "write def s: Events[Int] := merge(merge(last(s, x), 0) + x, 0)",
+    **{name: f"copy the macro {name} of the page MACROS.md" for name in ("highest", "first", "pure", "rising", "falling", "on", "since", "sample", "rate", "debounce", "hold")},
+    "changes": "copy the macro pure of the page MACROS.md",
+    "resetCount": "copy it from the page FROM_TESSLA.md",
+    "when": "write last(v, r) for the value before, or filter(e, c) for the events where c is true",
     "slift": "call the function with the streams: f(a, b)",
     "slift1": "call the function with the stream: f(a)",
     "lift1": "call the function with the stream: f(a)",
@@ -96,10 +100,17 @@ def of_name(text):
         dashed = short(whole[0])
         return answer(f"{dashed} is a difference of names that are not declared", f"where it is one name, write {dashed.replace('-', '_')}")
     own = nearest(name, (set(around.names()) if around else set()) | text.declared())
+    if own is None and name in BUILT_IN and text.arguments() is None:
+        return answer(f"{name} belongs to the language, and is not called", f"write {name}({', '.join(BUILT_IN[name])})")
     if own is None and name in ELSEWHERE:
-        return answer(f"{name} is not there", ELSEWHERE[name])
+        return answer(f"{name} is not there", of_argument(ELSEWHERE[name], text.arguments()))
     near = own or nearest(name, BUILT_IN)
     return answer(f"{short(name)} is not declared", f"the nearest name is {near}") if near else None
+
+
+def of_argument(helps, arguments):
+    """What helps, of the stream that the call has."""
+    return re.sub(r"\bx\b", arguments[0], helps) if arguments and len(arguments) == 1 and NAME.fullmatch(arguments[0]) else helps
 
 
 def of_declared(name, item, function):
@@ -194,6 +205,8 @@ def of_literal(text, have):
     if name != "const" or not arguments or len(arguments) != 2:
         return None
     value, event = map(short, arguments)
+    if not re.search(r"[^\W\d]", value) and value != "()":
+        return answer(f"{value} is no literal", "write its value as one literal")
     if value in ("()", "unit"):
         return answer(f"{value} is no literal", f"write const(true, {event}), or {event} alone where it has no value to matter")
     if re.match(r"(?:Set|Map)\.empty\b", value):
@@ -224,6 +237,16 @@ def of_twice(text):
         line, column = text.place_of(others[0].at)
         return answer(f"{short(name)} is declared at {line}:{column} already", "choose another name")
     return None
+
+
+def of_own(told):
+    """A cycle of one definition: what it needs is its own value at the same time."""
+    names = {it for it in told[len("cycle ") :].split(" -> ") if not it.startswith("%")}
+    if len(names) != 1:
+        return None
+    name = short(names.pop())
+    helps = f"write last({name}, e) for its value before, where e is what changes it; of last and delay the first argument alone may need {name}"
+    return answer(f"{name} needs itself at the same time", helps)
 
 
 def of_cycle(text, told, file):

@@ -38,6 +38,7 @@ SIGNS = {
     "&": "&&", "|": "||", "≤": "<=", "≥": ">=", "≠": "!=", "×": "*", "·": "*", "÷": "/", "−": "-", "–": "-", "—": "-", "¬": "!", "∧": "&&",
     "∨": "||",
 }  # fmt: skip
+UNITS = ("ns", "us", "ms", "s", "sec", "min", "h", "d", "seconds", "minutes", "hours", "days")
 QUOTES = "'`‘’‚“”„«»"
 UNSEEN = "\u00a0\u200b\u200c\u200d\ufeff\u2060\u202f\u2009"
 
@@ -59,6 +60,7 @@ TABLE = (
     (r"\+$", r"\+", "++ is no operator", "write + 1; texts are joined by String.concat"),
     (r":$", r"=", "`: =` are two tokens", "write := without a blank"),
     (rf"(?:\)|{WORD})$", r"=>", "functions without a name are not there, and >= compares", "give it a name: def f(x: Option[Int]): Option[Int] := .., and write f"),
+    (rf"\({WORD}$", r":[^()=]*\)\s*[=-]>", "functions without a name are not there", "give it a name: def f(x: Option[Int]): Option[Int] := .., and write f"),
     (rf"\bin ({WORD})$", r":?=", "an input has a type and no definition", "write in {b1}: Events[Int], or def {b1} := .."),
     (rf"\bin ({WORD})$", r"(?!-\w|,)", "the type of the input {b1} is missing", "write in {b1}: Events[Int], or Events[Bool] and so on"),
     (rf"\bin ({WORD})$", r",", "an item declares one input", "write `in` and the type for each"),
@@ -83,6 +85,7 @@ TABLE = (
     (r"[\w)\]]$", r",", "commas part arguments, and no call is open here", "open it with (, or begin each item with in, def or out"),
     (r"\bif [^{}]*$", r"\{", "braces stand around the body of a macro alone", "write if c then a else b"),
     (r"", r"\{", "braces stand around the body of a macro alone", "take them away, or use parentheses"),
+    (rf"\b(?!(?:in|def|out|as|if|then|else)$){WORD}$", r"\[ *(?:Int|Bool|String|Unit|Events|Set|Map)\b", "a call names no types", "leave them out; one definition is for one type"),
     (rf"\b(?!(?:in|def|out|as|if|then|else)$){WORD}$", r"\[", "elements are not taken by brackets", "write Map.get(m, k), or Set.contains(s, k)"),
     (r"", r"\[", "lists are not there", "keep sets and maps: Set.add, Map.add"),
     (r"(?::=|[-+*/%(,!]|&&|\|\||==|!=|<=|>=|<|>|\b(?:then|else|if))$", r"(in|def|out)\b", "an operand is missing before this {a1}", "write what the operator before it needs"),
@@ -119,6 +122,8 @@ def thousandths(whole, part):
 def of_number(text, before, after):
     """Letters right after a number."""
     digits, letters = re.search(r"(?<![\w.])\d+$", before), re.match(r"\w+", after)
+    if digits and letters and not text.is_tight() and letters[0] in UNITS:
+        return answer(f"{short(digits[0])} {letters[0]} has a unit, and numbers have none", f"write {short(digits[0])}, in the unit of the trace's times")
     if not (digits and letters and text.is_tight()):
         return None
     number = digits[0] + letters[0]
@@ -204,7 +209,7 @@ def of_item(text, before, after):
             return answer("an if has no else", "write if c then a else b: each if has both; filter(e, c) lets through")
     if last.count("(") > last.count(")") and re.match(r"(?:as|in|def|out)\b|\Z", after):
         return answer("a parenthesis is not closed", f"write ) before {short(after.split()[0]) if after.split() else 'the end'}")
-    if last.startswith("out ") and not re.search(rf"^out +{WORD}$|\bas\b", last) and re.match(r"(?:in|def|out)\b|\Z|\w", after):
+    if last.startswith("out ") and last.count("(") == last.count(")") and not re.search(rf"^out +{WORD}$|\bas\b", last) and re.match(r"(?:in|def|out)\b|\Z|\w", after):
         if not re.search(r"(?:[-+*/%(,!]|&&|\|\||[<>=])$", last):
             return answer("this output is no name alone, and has none", f"write {short(last)} as NAME")
     if text.begins_line() and before and after[:1] in ("-", "("):

@@ -1,0 +1,195 @@
+"""What is likely to be wrong with a specification that is accepted, and that no message tells.
+
+Looked for are outputs that have no event or one at most, delays that are over after one event or that are hardly ever set, states and conditions
+without a start, updates that repeat an old key or put together what comes apart, inputs that no output needs, and updates that copy.
+"""
+
+import re
+
+from equations import AT_START, NEVER, OFTEN, ONCE, UPDATES, how_often, read
+from when import START, When, alone, asked_at, at_start, causes, covers, held, maybe_at_start, needs, never_meet, on_cycles, users_of
+
+HOW_OFTEN = {NEVER: "never has an event", AT_START: "has an event at 0 and no other", ONCE: "has one event at most"}
+COPIED = re.compile(r"^(\S+) (\d+:\d+) copied: (.*)$")
+UPDATED = re.compile(r"^(\S+) (\d+:\d+) (?:in place|copied: .*)$", re.M)
+INPUT = re.compile(r"^in\s+([^\s:]+)\s*:")
+
+
+def is_constant(number, equations):
+    """An output that is meant to have its one event at 0: made of literals alone, without an input, a last or a delay."""
+    seen, todo = set(), [number]
+    while todo:
+        at = todo.pop()
+        if at in seen:
+            continue
+        seen.add(at)
+        if at not in equations or equations[at].operation in ("Input", "Nil", "Last", "Delay", "Filter"):
+            return False
+        todo.extend(equations[at].arguments)
+    return True
+
+
+def of_outputs(equations, outputs, counts):
+    for name, number in outputs:
+        count = counts.get(number, OFTEN)
+        if count in HOW_OFTEN and not is_constant(number, equations):
+            yield f"the output {name} {HOW_OFTEN[count]}"
+
+
+def called(equation):
+    return equation.name or f"%{equation.number}"
+
+
+def of_delays(equations, counts):
+    """A delay needs an event of its amount each time it is to be set: a literal has one at 0 and no other."""
+    for equation in equations.values():
+        if equation.operation == "Delay" and counts[equation.number] == ONCE:
+            yield (
+                f"the delay {called(equation)} has one event at most, since its amount has: "
+                "`const(10, r)` has the amount 10 at each event of r"
+            )
+
+
+def of_inputs(source, equations):
+    """Inputs that do not run, as the lines of the source have them."""
+    running = {equation.name for equation in equations.values() if equation.operation == "Input"}
+    for line in source.splitlines():
+        if (found := INPUT.match(line.strip())) and found[1] not in running:
+            yield f"no output needs the input {found[1]}"
+
+
+def is_empty(number, equations):
+    """A set or map that is empty at each of its events: it comes from empty ones alone, and nothing is added to it."""
+    seen, todo = set(), [number]
+    while todo:
+        at = todo.pop()
+        if at in seen:
+            continue
+        seen.add(at)
+        equation = equations.get(at)
+        if equation is None:
+            return False
+        if equation.operation == "Merge":
+            todo.extend(equation.arguments)
+        elif equation.operation in ("Last", "Filter", "SetRemove", "MapRemove"):
+            todo.append(equation.arguments[0])
+        elif equation.operation != "Empty":
+            return False
+    return True
+
+
+def of_updates(text, equations):
+    """Updates that copy, but for those of empty sets and maps: a copy of nothing costs nothing, and is how a new empty one is made."""
+    updated = {called(it): it.arguments[0] for it in equations.values() if it.operation in UPDATES}
+    for line in text.splitlines():
+        if (found := COPIED.match(line)) and not (found[1] in updated and is_empty(updated[found[1]], equations)):
+            yield f"the update {found[1]} at {found[2]} copies its set or map each time: {found[3]}"
+
+
+def of_resets(equations, counts, when):
+    """A delay is set where its amount and its reset have an event at one time. Where they come from different inputs that is hardly ever.
+
+    An amount that is an input itself may well be a field of one event with the other.
+    """
+    for number, equation in equations.items():
+        if equation.operation != "Delay" or counts[number] in (NEVER, ONCE) or equations[equation.arguments[0]].operation == "Input":
+            continue
+        amount, reset = (when(it) for it in equation.arguments)
+        if amount and reset and never_meet(amount, reset | {frozenset([("event", number)])}):
+            yield (
+                f"the delay {called(equation)} is set only where its amount and its reset have an event at one time, and these have none in common: "
+                "`delay(const(10, a), merge(a, b))` is set by a, and b cancels it"
+            )
+
+
+def of_states(equations, when):
+    """A state is read by `last`, which has nothing before the first event of the state. Each is told once, by its name where it has one."""
+    starts, users, cycles, told = at_start(equations), users_of(equations), on_cycles(equations), set()
+    maybe = maybe_at_start(equations)
+    for number, equation in equations.items():
+        state = equation.arguments[0] if equation.operation == "Last" else None
+        if number not in cycles or state in told or not needs(equations, state, number):
+            continue
+        lacking = [it for it in users[number] if not is_started(equations[it], number, equations, starts, when)]
+        # What can have no event at 0 anyway loses none.
+        if not lacking or state in starts and not any(set(equations[it].arguments) - {number} <= maybe for it in lacking):
+            continue
+        told.add(state)
+        name = called(equations[state])
+        if state in starts:
+            yield f"the state {name} loses an event at time 0: its start stands outside of `merge(last({name}, r), START)`"
+        else:
+            yield f"the state {name} has no start, and `last({name}, r)` has nothing before its first event: write `merge(last({name}, r), START)`"
+
+
+def is_started(user, last, equations, starts, when):
+    """Whether what uses a `last` has something else where that has nothing yet: at 0, or wherever the `last` could have an event."""
+    if user.operation != "Merge":
+        return False
+    other = next((it for it in user.arguments if it != last), last)
+    return other in starts or covers(when(other), when(last))
+
+
+def placed(equation, show):
+    """An update with its place, which `show` has."""
+    name = called(equation)
+    place = dict(UPDATED.findall(show)).get(name)
+    return f"{name} at {place}" if place else name
+
+
+def of_conditions(equations, when):
+    """A condition that asks a state of several inputs by `last` is not there before the first event of that state."""
+    starts, told = at_start(equations), set()
+    for equation in equations.values():
+        for number in asked_at(equations, equation.arguments[1]) if equation.operation == "Filter" else ():
+            state, asking = equations[number].arguments
+            if state in starts or (equation.number, state) in told or equations[state].operation != "Merge" or needs(equations, state, number):
+                continue
+            before, then = causes(equations, when, state), causes(equations, when, asking)
+            if before is None or then is None or before <= then:
+                continue
+            told.add((equation.number, state))
+            name = called(equations[state])
+            yield f"the filter {called(equation)} lets nothing through before the first event of {name}: `merge(last({name}, e), const(START, e))` has a start"
+
+
+def of_keys(show, equations, when):
+    """An update whose set has events where its key has none does the same to the last key once more."""
+    for equation in equations.values():
+        if equation.operation not in UPDATES:
+            continue
+        collection, *given = (when(it) if place == 0 else when(held(equations, it)) for place, it in enumerate(equation.arguments))
+        if collection is None or None in given:
+            continue
+        extra = alone(collection, frozenset().union(*given))
+        if extra:
+            names = " and ".join(called(equations[number]) for _, number in extra[:3])
+            yield f"the update {placed(equation, show)} repeats its last key at {names}: take its set by `last` at the key, `merge(last(s, key), START)`"
+
+
+def of_fields(show, equations, when):
+    """A key and its value from different inputs: where one comes alone, it goes with the last one of the other."""
+    for equation in equations.values():
+        if equation.operation != "MapAdd":
+            continue
+        key, value = (when(held(equations, it)) for it in equation.arguments[1:])
+        if key and value and never_meet(key, value) and frozenset([START]) not in key | value:
+            yield (
+                f"the update {placed(equation, show)} puts a key of one input with the value of another: where one comes alone, it goes with the last of the other; "
+                "make a pair of them first (the manual, events of several fields)"
+            )
+
+
+def silent(flat, show, source):
+    """What is told, line by line: of what `flat` and `show` print, and of the source."""
+    equations, outputs = read(flat)
+    counts, when = how_often(equations), When(equations)
+    yield from of_outputs(equations, outputs, counts)
+    yield from of_delays(equations, counts)
+    yield from of_resets(equations, counts, when)
+    yield from of_states(equations, when)
+    yield from of_conditions(equations, when)
+    yield from of_keys(show, equations, when)
+    yield from of_fields(show, equations, when)
+    yield from of_inputs(source, equations)
+    yield from of_updates(show, equations)
