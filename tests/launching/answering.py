@@ -63,8 +63,9 @@ def kinds_of_the_manual_page(starts):
     for kind in kinds:
         tried.holds(f"the manual page has {kind}", re.search(rf"\b{kind}\b", page))
     if tried.has("groff"):
-        ended = starts.start(["groff", "-man", "-ww", "-Tascii", os.path.join(TOP, "man", "tessla.1")])
-        tried.holds("groff reads the manual page", ended.status == 0 and not ended.err, ended)
+        for name in sorted(os.listdir(os.path.join(TOP, "man"))):
+            ended = starts.start(["groff", "-man", "-ww", "-Tascii", os.path.join(TOP, "man", name)])
+            tried.holds(f"groff reads the manual page {name}", ended.status == 0 and not ended.err, ended)
 
 
 # ---- Completions
@@ -108,7 +109,7 @@ def completes_in_zsh(starts):
     def completed(*words):
         return starts.start(["zsh", "-fc", ZSH, "-", os.path.join(TOP, "completions"), *words]).out.decode()
 
-    words = "run check flat show code gen bench lint test install help -- --help --version "
+    words = "run check flat show code gen bench lint test install package help -- --help --version "
     tried.holds("zsh completes a command", completed("tessla", "ch") == words)
     tried.holds("zsh completes an option", re.search("--strict.* --stats.*specification:", completed("tessla", "run", "q.tsl", "--st")))
     tried.holds("zsh completes a specification", completed("tessla", "check", "q") == "files -g *.tsl ")

@@ -21,11 +21,14 @@ def builds_once(starts):
     for name in ("sh", "dirname", "readlink", "rm", "cat", "find", "sort", "cksum", "tr", "sed", "tail", "head"):
         os.symlink(shutil.which(name), os.path.join(tools, name))
     nothing = "tessla: cannot build: the command rt of the Rattle kit is not on the path\n"
+    told = "tessla: the program is not built of what stands here, and TESSLA_BUILD=0 is set: start it once without that\n"
+    tried.ended("nothing is built where that is asked", repository.start("run", "a", env={"TESSLA_BUILD": "0"}), 125, "", told)
     tried.ended("without a kit nothing is announced", repository.start("run", "a", env={"PATH": tools}), 125, "", nothing)
     tried.ended("the first start builds, and tells how far it is", repository.start("run", "a", "b c"), 0, "run a b c\n", FIRST + ALL)
     # From here on a build would fail.
     repository.proves("exit 1")
     tried.ended("the second start does not build", repository.start("run", "a", "b"), 0, "run a b\n", "")
+    tried.ended("what is built is started where nothing may be built", repository.start("run", env={"TESSLA_BUILD": "0"}), 0, "run\n", "")
     repository.write("crates/lower/src/lib.rt", "// nothing\n")
     tried.ended("a source that is written again without a change is not built", repository.start("run"), 0, "run\n", "")
     repository.write("crates/tessla/must-fail/two.edit", "file: src/lib.rt\n")
@@ -49,6 +52,8 @@ def builds_what_changed(starts):
     )
     for what, change in changes:
         change()
+        ended = repository.start("run", env={"TESSLA_BUILD": "0"})
+        tried.holds(f"{what} has changed, and nothing may be built", ended.status == 125 and ended.err.count(b"\n") == 1, ended)
         tried.ended(f"{what} has changed", repository.start("run"), 0, "run\n", ANEW + ALL)
     # As an archive has them that keeps its dates.
     name = repository.write("crates/lower/src/lib.rt", "// something older\n")

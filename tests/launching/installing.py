@@ -16,7 +16,14 @@ FILES = (
     "share/fish/vendor_completions.d/tessla.fish",
     "share/vim/vimfiles/syntax/tessla.vim",
     "share/vim/vimfiles/ftdetect/tessla.vim",
-    "share/tessla/tessla.tmLanguage.json",
+    "share/vim/vimfiles/ftplugin/tessla.vim",
+    "share/vim/vimfiles/compiler/tessla.vim",
+    "share/vim/vimfiles/autoload/tessla.vim",
+    "share/tessla/vscode/package.json",
+    "share/tessla/vscode/extension.js",
+    "share/tessla/vscode/language-configuration.json",
+    "share/tessla/vscode/tessla.tmLanguage.json",
+    "share/man/man1/log2trace.1",
     "share/doc/tessla/LANGUAGE.md",
     "share/doc/tessla/README.md",
     "share/doc/tessla/LICENSE",
@@ -24,6 +31,7 @@ FILES = (
     "share/doc/tessla/examples/seen.tsl",
     "share/doc/tessla/examples/left.options",
 )
+OF_REPOSITORY = "is a word of the repository alone, where the Rattle kit builds the program: what is installed does not have it\n"
 DOCUMENTS = ("LANGUAGE.md", "README.md", "examples/README.md")
 
 
@@ -92,7 +100,11 @@ def installed_works(starts, prefix):
     ended = starts.extras("check", "slip.tsl", launcher=launcher, env=installed)
     tried.holds("what is installed has remedies of its own", ended.status == 3 and b"1500 thousandths" in ended.err, ended)
     tried.holds("the help of what is installed has the commands", b"tessla check SPEC" in usage.out, usage)
-    tried.holds("it offers no install", (usage.out.count(b"tessla install"), own.out.count(b"tessla install")) == (0, 1), usage)
+    for word in ("install", "package"):
+        counts = [it.out.count(b"tessla %s " % word.encode()) for it in (usage, own)]
+        tried.holds(f"it offers no {word}", counts == [0, 1], usage)
+        ended = starts.plain(word, "x", launcher=launcher, env={"TESSLA_PROGRAM": ""})
+        tried.ended(f"what is installed is asked to {word}", ended, 125, "", f"tessla: {word} {OF_REPOSITORY}")
     ended = starts.start([os.path.join(prefix, "bin", "log2trace"), "csv", "--only", "door"], given=b"time,door,temp\n1,true,20.5\n")
     tried.ended("the installed log2trace", ended, 0, "1: door = true\n", "")
     os.rename(os.path.join(prefix, "libexec", "tessla", "tessla"), os.path.join(prefix, "gone"))

@@ -2,9 +2,13 @@
 
 import os
 import re
+import sys
 
-from starts import LAUNCHER, Terminal, controls_in, environment
+from starts import LAUNCHER, TOP, Terminal, controls_in, environment
 from talking import HOSTILE, explained, write_files
+
+sys.path.insert(0, os.path.join(TOP, "tools"))
+from messages_parts.declared import ELSEWHERE  # noqa: E402
 
 INPUTS = "in i: Events[Int]\nin b: Events[Bool]\nin e: Events[Unit]\n"
 # What is written, what it is refused as, what stands there, and what to write.
@@ -30,15 +34,19 @@ SLIPS = (
     ("out Set.contain(i, i) as x", "Unexpected", "Set.contain is not there", "write Set.contains"),
     ("def f[A](x: Events[A]) := x\nout i", "Unexpected", "generic", "for each type"),
     ("out lift(i, (x) => x) as x", "Unexpected", "functions without a name", "def f(x: Option[Int])"),
+    ("out lift(i, (x: Option[Int]) => x) as x", "Unexpected", "functions without a name", "def f(x: Option[Int])"),
+    ("out lift(i, b, (x: Option[Int], y: Option[Bool]) => x) as x", "Unexpected", "functions without a name", "def f(x: Option[Int])"),
     ("out lift(i, x => x) as x", "Unexpected", "functions without a name", "def f(x: Option[Int])"),
     ("out merge(i, i, i + 1) as x", "WrongArity", "merge has two arguments, and here are 3", "write merge(i, merge(i, i + 1))"),
     ("out last(i) as x", "WrongArity", "last has two arguments", "last(i, i)"),
     ("def f(a: Int, c: Int): Int := a + c\nout f(i) as x", "WrongArity", "f has two arguments, and here are 1", "write f(a, c)"),
     ("out delay(10ms, i) as x", "Unexpected", "10ms has a unit", "write 10"),
+    ("out delay(10 ms, i) as x", "Unexpected", "10 ms has a unit", "write 10"),
     ("out 0x10 as x", "Unexpected", "0x10 is not decimal", "decimal"),
     ("out const((), i) as x", "WrongType", "() is no literal", "const(true, i)"),
     ("def limit := 5\nout const(limit, i) as x", "WrongType", "limit is a stream", "limit + const(0, i)"),
     ("def on := true\nout const(on, i) as x", "WrongType", "on is a stream", "on && const(true, i)"),
+    ("out const(1 + 2, b) as x", "WrongType", "1 + 2 is no literal", "its value"),
     ("out const(i, b) as x", "WrongType", "i is a stream", "last(i, b)"),
     ("out const(Set.empty[Int], e) as x", "WrongType", "Set.empty[Int] is a stream", "last(Set.empty[Int], e)"),
     ("out i = i as x", "Unexpected", "= defines", "write =="),
@@ -66,7 +74,11 @@ SLIPS = (
     ("out i < i < i as x", "Unexpected", "< is a second one", "&&"),
     ("def last := i\nout i", "DefinedTwice", "last belongs to the language", "another name"),
     ("def i := 1\nout i", "DefinedTwice", "i is declared at 1:4", "another name"),
-    ("out prev(i) as x", "UnknownName", "prev is not there", "last(x, x)"),
+    ("out prev(i) as x", "UnknownName", "prev is not there", "last(i, i)"),
+    ("out count(e) as x", "UnknownName", "count is not there", "merge(merge(last(n, e), 0) + const(1, e), 0)"),
+    ("out rising(b) as x", "UnknownName", "rising is not there", "the macro rising of the page MACROS.md"),
+    ("out time as x", "UnknownName", "time belongs to the language, and is not called", "write time(e)"),
+    ("def f(x: Events[Int]) := x\nout f[Int](i) as x", "Unexpected", "a call names no types", "leave them out"),
     ("def f(a: Int): Int := a\nout f as x", "UnknownName", "f is a function, and is not called", "f(a)"),
     ("def limit := 5\ndef f(a: Int): Int := a + limit\nout f(i) as x", "UnknownName", "limit is a stream, and f a function of values", "parameter"),
 )  # fmt: skip
@@ -95,6 +107,19 @@ def at_hand(starts):
         starts.tried.holds(f"what stands there, and what to write: {source!r}", ended.status == 3 and is_told and is_short, ended)
 
 
+def of_macros(starts):
+    """The macros that a remedy says to copy are on that page, and what it says to write is accepted, and not silently wrong."""
+    for name, helps in ELSEWHERE.items():
+        if page := re.search("the macro (\\w+) of the page MACROS.md", helps):
+            with open(os.path.join(TOP, "docs", "MACROS.md"), encoding="utf-8") as opened:
+                heads = re.findall("^## (.*)$", opened.read(), re.M)
+            starts.tried.holds(f"the macro for {name}", any(page[1] in head.split() for head in heads), heads)
+        elif definition := re.match("write (def (\\w+): .*)", helps):
+            starts.write(f"{name}.tsl", f"in x: Events[Int]\n{definition[1]}\nout {definition[2]}\n")
+            ended = starts.extras("check", f"{name}.tsl")
+            starts.tried.holds(f"what helps with {name} is accepted", ended.status == 0 and not ended.err, ended)
+
+
 def no_slip(starts):
     """Where nothing is known of what stands there, the manual answers."""
     starts.write("deep.tsl", "out " + "(" * 65 + "1" + ")" * 65 + " as x\n")
@@ -109,6 +134,11 @@ def of_cycles(starts):
         "                                ^\n  parts.tsl:2:5: a, with its part %1\n  parts.tsl:3:5: b, with its part %3\n"
     )
     explained(starts, "a cycle has its definitions, and what has no name", starts.extras("check", "parts.tsl"), 3, "", wanted, "last")
+    for number, own in enumerate(("Int] := merge(n + 1, i)", "Int] := merge(last(i, n) + 1, 0)", "Unit] := merge(e, delay(const(5, e), n))")):
+        starts.write(f"own.{number}.tsl", f"{INPUTS}def n: Events[{own}\nout n\n")
+        ended = starts.extras("check", f"own.{number}.tsl")
+        is_told = b"cause:  n needs itself at the same time\n" in ended.err and b"remedy: write last(n, e)" in ended.err
+        starts.tried.holds(f"a cycle of one definition: {own}", ended.status == 3 and is_told, ended)
 
 
 # ---- Traces
@@ -161,6 +191,29 @@ def of_names(starts):
     tried.holds("of a long trace the first part is looked through", ended.status == 0 and is_part and took < 12, took, ended)
 
 
+# ---- What is silent
+
+
+def of_silence(starts):
+    """Below a check that accepts, what is silently wrong."""
+    tried = starts.tried
+    starts.write("never.tsl", "in a: Events[Unit]\nin b: Events[Unit]\nin c: Events[Unit]\nout delay(const(5, a), b) as late\n")
+    ended = starts.extras("check", "never.tsl")
+    said = ended.err.decode().splitlines()
+    is_told = len(said) == 2 and said[0].startswith("note: the delay late is set only where") and said[1] == "note: no output needs the input c"
+    tried.holds("a check tells a delay that is hardly ever set", ended.status == 0 and ended.out == b"ok 4 0\n" and is_told, ended)
+    tried.ended("and nothing where it is not asked for", starts.plain("check", "never.tsl"), 0, "ok 4 0\n", "")
+    with open(os.path.join(starts.room, "never.tsl"), "rb") as given:
+        tried.ended("nor of the standard input", starts.extras("check", "-", given=given), 0, "ok 4 0\n", "")
+    tried.ended("nor where nothing is wrong", starts.extras("check", "q.tsl"), 0, "ok 2 0\n", "")
+    starts.write("-dash.tsl", "out merge(nil[Int], nil[Int]) as never\n")
+    ended = starts.extras("check", "--", "-dash.tsl")
+    tried.holds("a name that begins with a dash", ended.status == 0 and ended.err == b"note: the output never never has an event\n", ended)
+    starts.write("many.tsl", "".join(f"in i{number}: Events[Unit]\n" for number in range(20)) + "out i0\n")
+    said = starts.extras("check", "many.tsl").err.decode().splitlines()
+    tried.holds("of many notes the first ones", len(said) == 9 and said[8] == "note: 11 more; tessla lint tells all", said)
+
+
 # ---- Words
 
 
@@ -194,6 +247,17 @@ def of_words(starts):
 
 
 # ---- On a terminal
+
+
+def of_nothing(starts):
+    """A run that prints nothing on a terminal tells what may be wrong; one that prints something does not."""
+    tried = starts.tried
+    starts.write("never.trace", "1: a\n2: b\n9:\n")
+    ended = terminal(starts, "run", "never.tsl", "never.trace").end()
+    tried.holds("a run that prints nothing", ended.status == 0 and ended.out.startswith(b"note: the delay late is set only where"), ended)
+    starts.write("met.trace", "1: a\n1: b\n9:\n")
+    tried.ended("a run that prints something", terminal(starts, "run", "never.tsl", "met.trace").end(), 0, "6: late = ()\n")
+    tried.ended("where the output goes elsewhere", starts.extras("run", "never.tsl", "never.trace"), 0, "", "")
 
 
 def terminal(starts, *words, streams=(0, 1, 2), **more):
@@ -230,7 +294,9 @@ def colours(starts):
     ended = terminal(starts, "run", "q.tsl", "fault.trace").end()
     is_sparing = ended.out.count(RED) == 2 and marked in ended.out and RED + b"^" + PLAIN in ended.out
     tried.holds("the kind and the caret have a colour on a terminal", is_sparing, ended)
-    for name, value in (("NO_COLOR", "1"), ("NO_COLOR", ""), ("TERM", "dumb"), ("TERM", "")):
+    ended = terminal(starts, "run", "q.tsl", "fault.trace", NO_COLOR="").end()
+    tried.holds("an empty NO_COLOR asks for nothing", marked in ended.out, ended)
+    for name, value in (("NO_COLOR", "1"), ("NO_COLOR", "0"), ("TERM", "dumb"), ("TERM", "")):
         ended = terminal(starts, "run", "q.tsl", "fault.trace", **{name: value}).end()
         tried.holds(f"none with {name}={value}", b"q.tsl:2:10: DivideByZero\n" in ended.out and b"\033" not in ended.out, ended)
     ended = starts.extras("run", "q.tsl", "fault.trace", env={"TERM": "xterm"})
@@ -276,11 +342,14 @@ def asked_for(starts):
 def pointing(starts):
     write_files(starts)
     at_hand(starts)
+    of_macros(starts)
     no_slip(starts)
     of_cycles(starts)
     of_lines(starts)
     of_names(starts)
+    of_silence(starts)
     of_words(starts)
+    of_nothing(starts)
     waits(starts)
     colours(starts)
     hostile(starts)

@@ -11,7 +11,8 @@ PROVES = """printf 'rt: lower is kept: an earlier run proved it\\nrt: tessla pro
 mkdir -p crates/tessla/out
 cp -- "$MADE" crates/tessla/out/tessla
 chmod 755 crates/tessla/out/tessla"""
-PARTS = ("tools", "man", "docs", "completions", "highlighting", "examples")
+TELLS = "[ \"$*\" != --version ] || { echo 'a kit that pretends'; exit; }"
+PARTS = ("tools", "man", "docs", "completions", "highlighting", "examples", "data")
 ALONE = ("tessla", "README.md", "LICENSE")
 
 
@@ -21,7 +22,7 @@ class Repository:
     def __init__(self, starts, name, made=None):
         self.starts, self.top = starts, os.path.join(starts.room, f"repository {name}")
         self.launcher = os.path.join(self.top, "tessla")
-        self.kit = os.path.join(starts.room, f"kit {name}")
+        self.kit = os.path.join(starts.room, f"kit {name}", "bin")
         os.makedirs(self.kit)
         os.mkdir(self.top)
         for it in ALONE:
@@ -47,14 +48,14 @@ class Repository:
         """Gives the kit another command."""
         path = os.path.join(self.kit, "rt")
         with open(path, "w", encoding="utf-8") as opened:
-            opened.write(f'#!/bin/sh\nMADE=\'{self.made}\'\n[ "$*" = ci ] || exit 2\n{text}\n')
+            opened.write(f'#!/bin/sh\nMADE=\'{self.made}\'\n{TELLS}\n[ "$*" = ci ] || exit 2\n{text}\n')
         os.chmod(path, 0o755)
 
     def path(self):
         return f"{self.kit}:{PATH}"
 
     def environment(self, **more):
-        return environment(PATH=self.path(), **more)
+        return environment(**{"PATH": self.path(), **more})
 
     def start(self, *words, **how):
         env = {**self.environment(), **how.pop("env", {})}

@@ -8,13 +8,26 @@ import shutil
 import signal
 import subprocess
 
-from starts import LAUNCHER, LIMIT, Terminal, controls_in, environment, is_alive, kill, until
+from starts import LAUNCHER, LIMIT, TOP, Terminal, controls_in, environment, is_alive, kill, until
 
 # What a terminal would do something at: a title, an erased screen, and the same by one character of two bytes in UTF-8.
 HOSTILE = "\033]0;title\007\033[2J\u009b31m\x7f\r"
 # The line of output that has that text.
 HOSTILE_LINE = '1: s = "' + HOSTILE.replace("\r", "\\r") + '"\n'
 SHELLS = ("dash", "bash")
+# Starts a tool for which the first look at its pipes is one that came too early: what is there by then is seen by the next one.
+LATE = """
+import os, runpy, select, sys, time
+look = select.select
+def early(*given):
+    select.select = look
+    time.sleep(1)
+    return [], [], []
+select.select = early
+sys.argv = sys.argv[1:]
+sys.path.insert(0, os.path.dirname(sys.argv[0]))
+runpy.run_path(sys.argv[0], run_name="__main__")
+"""
 
 
 def write_files(starts):
@@ -156,6 +169,10 @@ def terminals(starts):
     ended = started.end()
     is_as_it_was = (written, ended.out, ended.status) == (HOSTILE_LINE.encode(), b"", 0)
     tried.holds("a pipe has the text as it is, where messages go to a terminal", is_as_it_was, written, ended)
+    # What a program writes right before its end is there also where it came just after it was looked for.
+    late = ["python3", "-c", LATE, os.path.join(TOP, "tools", "messages"), LAUNCHER, "MANUAL", starts.script("late", "echo written")]
+    ended = Terminal(starts, late, env=environment(PYTHONDONTWRITEBYTECODE="1")).end()
+    tried.holds("what is written at the end", ended.out == b"written\n" and ended.status == 0, ended)
     # A character that is cut between two writes is one character.
     cut = starts.script("cut", "printf '\\303'; sleep 0.3; printf '\\244\\302'; sleep 0.3; printf '\\233\\n\\377'")
     ended = on_terminal(starts, "run", program=cut).end()
