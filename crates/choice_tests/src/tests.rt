@@ -7,7 +7,7 @@ ghost use Rattle.flat_core.specs.WellFormed.{IsWellFormed};
 ghost use Rattle.trigger_formulas.specs.inner.Kept.{AreTriggersOf};
 
 use flat_core::flat::Flat;
-use recursion_check::check::check_cycles;
+use recursion_check::check::run_order;
 use std::alloc::Global;
 use std::test::Fail;
 use trigger_formulas::triggers::Triggers;
@@ -17,8 +17,8 @@ fn triggers(alloc: Global, flat: &Flat) -> Result<Triggers, Fail>
     ensures triggers { IfOk result (λ t. AreTriggersOf t flat.now) }
     ensures well_formed { OnOk result (IsWellFormed flat.now) }
 {
-    match check_cycles(alloc, flat) {
-        Ok(()) => Ok(Triggers::of(alloc, flat)?),
+    match run_order(alloc, flat) {
+        Ok(order) => Ok(Triggers::of(alloc, flat, &order)?),
         Err(_) => Err(Fail::from("a cycle")),
     }
 }

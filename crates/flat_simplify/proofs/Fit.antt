@@ -11,7 +11,7 @@ use Rattle.flat_core.specs.declared.equation.Equation.{Equation}
 use Rattle.flat_core.specs.declared.equation.Output.{Output}
 use Rattle.flat_core.specs.declared.equation.Op.{Op}
 use Rattle.flat_core.specs.declared.equation.Op.TheVariants as op
-use Rattle.flat_core.specs.Complete.{HasShortBody, HaveDifferentNames, IsComplete}
+use Rattle.flat_core.specs.Complete.{HasShortBody, HaveDifferentNames, IsComplete, IsFlat}
 use Rattle.translation_order.specs.Graph.{Path, edge, step, Walk, stay, onward}
 use Rattle.flat_core.specs.Needed.{HasArgument}
 use Rattle.flat_core.specs.Renumbered.{new_number, with_new_args, with_new_equation}
@@ -219,3 +219,17 @@ module _ (s u : System) (proper : IsProper s) (typed : IsTypedSystem s) (formed 
 
 pub simplified_fit : (s u : System) → IsProper s → IsTypedSystem s → IsWellFormed s → OutputsRun s → IsSimplified s u → IsFit s u
 simplified_fit s u proper typed formed outputs_run made = fit s u proper typed formed outputs_run made.replaced made.replacement made.renumbered
+
+-- what simplification makes of a whole system is whole
+pub simplified_flat : (s u : System) → IsFlat s → IsWellFormed s → IsSimplified s u → IsFlat u
+simplified_flat s u flat formed made = record {
+  complete = fits.complete flat.complete;
+  few_equations = (let same = ap length made.renumbered.equations_are ∙ length-map s.equations (with_new_args made.replaced) in let few = flat.few_equations in omega arith);
+  few_outputs = (let same = ap length made.renumbered.outputs_are ∙ length-map s.outputs (with_new_equation made.replaced) in let few = flat.few_outputs in omega arith);
+  ascending = made.renumbered.ascending;
+  outputs_run = fits.outputs_run;
+  proper = fits.proper;
+}
+  where
+    fits : IsFit s u
+    fits = simplified_fit s u flat.proper flat.complete.typed formed flat.outputs_run made

@@ -14,23 +14,11 @@ use flat_core::equation::{Equation, Op, Output};
 use flat_core::flat::Flat;
 use flat_core::replacements::Replacements;
 use lift_func::update::update_can_fault;
-use recursion_check::check::{CycleFault, run_order};
 use std::alloc::Global;
 use translation_order::steps::Steps;
 use trigger_formulas::triggers::Triggers;
 use tsl_value::ids::EqId;
 use tsl_value::memory::NoMemory;
-
-fn order(alloc: Global, flat: &Flat) -> Result<Steps, NoMemory>
-    requires { IsWellFormed flat.now }
-    ensures { IfOk result (IsRunOrder flat.now) }
-{
-    match run_order(alloc, flat) {
-        Ok(order) => Ok(order),
-        Err(CycleFault::Cycle { equations: _ }) => unreachable!(),
-        Err(CycleFault::Memory) => Err(NoMemory),
-    }
-}
 
 /// The items of a list of two.
 fn pair(ids: &[EqId]) -> Option<(EqId, EqId)>
@@ -110,12 +98,16 @@ fn numbers(alloc: Global, count: u32) -> Result<Replacements, NoMemory>
 }
 
 /// What stands for each equation.
-fn replacements(alloc: Global, flat: &Flat, triggers: &Triggers) -> Result<Replacements, NoMemory>
-    requires well_formed { IsWellFormed flat.now }
+fn replacements(
+    alloc: Global,
+    flat: &Flat,
+    order: &Steps,
+    triggers: &Triggers,
+) -> Result<Replacements, NoMemory>
+    requires ordered { IsRunOrder flat.now order.now }
     requires triggers { AreTriggersOf triggers.now flat.now }
     ensures { IfOk result (IsReplacement flat.now) }
 {
-    let order = order(alloc, flat)?;
     let mut replaced = numbers(alloc, flat.count())?;
     for step in order.as_slice() {
         let id = EqId::new(*step);
@@ -176,16 +168,22 @@ fn starts(alloc: Global, flat: &Flat, replaced: &Replacements) -> Result<Vec<EqI
 }
 
 /// Replaces each running merge whose second argument implies its first by the first, again until no replaced equation is used. What the
-/// outputs need then runs, and what ran before and can fault, with its arguments. Numbers and names stay. After `NoMemory` the system
-/// is gone.
-pub fn simplify(alloc: Global, flat: Flat, triggers: &Triggers) -> Result<Flat, NoMemory>
+/// outputs need then runs, and what ran before and can fault, with its arguments. Numbers and names stay. What stands for each equation
+/// is found along an order to run the system in. After `NoMemory` the system is gone.
+pub fn simplify(
+    alloc: Global,
+    flat: Flat,
+    order: &Steps,
+    triggers: &Triggers,
+) -> Result<Flat, NoMemory>
     requires well_formed { IsWellFormed flat }
+    requires ordered { IsRunOrder flat order.now }
     requires triggers { AreTriggersOf triggers.now flat }
     ensures simplified { IfOk result (IsSimplified flat) }
     ensures well_formed { IfOk result IsWellFormed }
 {
     flat.assert_whole();
-    let replaced = replacements(alloc, &flat, triggers)?;
+    let replaced = replacements(alloc, &flat, order, triggers)?;
     let starts = starts(alloc, &flat, &replaced)?;
     let running = flat.reached(alloc, &replaced, &starts)?;
     Ok(flat.simplified(replaced, running))

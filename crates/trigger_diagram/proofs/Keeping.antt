@@ -3,6 +3,7 @@ use Rattle.std.proofs.Common.{◌≡◌, ℕ, zero, suc, ◌<◌, ◌↔◌, Boo
 use Rattle.std.specs.Prelude.{IsTrue, is_some, unwrap_or}
 use Rattle.std.proofs.lemmas.Bool.{false≢true}
 use mathlib.Core.Logic.Iff.{trans}
+use Rattle.flat_core.specs.inner.Dependency.{IsRunOrder}
 use Rattle.flat_core.specs.System.{System}
 use Rattle.trigger_rules.specs.declared.atom.Atom.{Atom}
 use Rattle.trigger_rules.specs.Question.{Fires}
@@ -11,6 +12,7 @@ use Rattle.trigger_starts.specs.inner.AtomLists.{AreDifferent, atoms_at}
 use Rattle.trigger_starts.specs.inner.Kept.{AreAtomsOf, AreRulesOf, AreStarts, IsOrder}
 use Rattle.trigger_starts.specs.inner.Rules.{AreClosed, rules_of}
 use Rattle.trigger_starts.specs.inner.Truth.{IsMet}
+use Rattle.trigger_starts.proofs.Orders.{order_from}
 use Rattle.trigger_starts.proofs.Systems.{fires_is, has_stands}
 use Rattle.trigger_diagram.specs.declared.arena.Branch.{Branch}
 use Rattle.trigger_diagram.specs.inner.Arena.{AreCanonical, Grows, IsNode}
@@ -52,6 +54,10 @@ none_at : (n x : ℕ) → get_or (replicate n nothing) x nothing ≡ nothing
 none_at zero x = refl
 none_at (suc n) zero = refl
 none_at (suc n) (suc x) = none_at n x
+
+-- an order to run the system in is one of its rules
+pub order_told : (s : System) (order seen_order : List ℕ) → seen_order ≡ order → IsRunOrder s order → IsOrder (rules_of s) seen_order
+order_told s order seen_order same run = order_from s seen_order (subst (IsRunOrder s) (sym same) run)
 
 pub kept_new : (s : System) (rules seen_rules : List Rule) (order : List ℕ) (starts : List Bool) (bs : List Branch) (nodes : List (Option ℕ)) (n : ℕ) → AreRulesOf rules s → AreClosed rules → IsOrder (rules_of s) order → seen_rules ≡ rules → length starts ≡ length seen_rules → AreStarts seen_rules starts → bs ≡ [] → nodes ≡ replicate n None → length nodes ≡ length rules → AreKept rules order starts bs nodes
 kept_new s rules seen_rules order starts bs nodes n are closed ordered seen each exact empty nodes_are many = record {

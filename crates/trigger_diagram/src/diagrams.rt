@@ -1,8 +1,8 @@
 // The decision diagrams of trigger formulas.
 
 ghost use Rattle.std.specs.Prelude.{◌≡◌, ℕ, ◌<◌, ◌↔◌, length, IfOk, IsTrue};
+ghost use Rattle.flat_core.specs.inner.Dependency.{IsRunOrder};
 ghost use Rattle.flat_core.specs.System.{System};
-ghost use Rattle.flat_core.specs.WellFormed.{IsWellFormed};
 ghost use Rattle.trigger_rules.specs.Question.{Starts};
 ghost use Rattle.trigger_starts.specs.inner.AtomLists.{AreDifferent, atoms_at};
 ghost use Rattle.trigger_diagram.specs.inner.Kept.{AreAlike, AreDiagramsOf, AreMetIn, Follows, HaveAtoms, IsNodeIn, IsNodeOf, Keeps};
@@ -17,7 +17,7 @@ use std::marker::Model;
 use translation_order::steps::Steps;
 use trigger_starts::atoms::Atoms;
 use trigger_starts::gather::gather;
-use trigger_starts::listed::{order, rules};
+use trigger_starts::listed::rules;
 use trigger_starts::needed::needed;
 use trigger_starts::rules::Rule;
 use trigger_starts::starts::starts;
@@ -47,7 +47,7 @@ impl Model for Node {
 pub struct Diagrams {
     alloc: Global,
     rules: Vec<Rule>,
-    order: Steps,
+    order: Vec<u32>,
     starts: Vec<bool>,
     arena: Arena,
     nodes: Vec<Option<u64>>,
@@ -60,17 +60,17 @@ impl Model for Diagrams {
 
     ghost view = { λ d. record { rules = d.rules.items; branches = d.arena } };
 
-    ghost invariant = { λ d. AreKept d.rules.items d.order d.starts.items d.arena d.nodes.items };
+    ghost invariant = { λ d. AreKept d.rules.items d.order.items d.starts.items d.arena d.nodes.items };
 }
 
 impl Diagrams {
-    /// Those of a system that is well-formed. No node is made yet.
-    pub fn new(alloc: Global, flat: &Flat) -> Result<Diagrams, NoMemory>
-        requires { IsWellFormed flat.now }
+    /// Those of a system, by an order to run it in. No node is made yet.
+    pub fn new(alloc: Global, flat: &Flat, order: &Steps) -> Result<Diagrams, NoMemory>
+        requires { IsRunOrder flat.now order.now }
         ensures { IfOk result (λ d. AreDiagramsOf d flat.now) }
     {
         let rules = rules(alloc, flat)?;
-        let order = order(alloc, flat)?;
+        let order = Vec::from_slice(alloc, order.as_slice())?;
         let starts = starts(alloc, &rules, order.as_slice())?;
         let nodes = vec![in alloc; None; rules.len()]?;
         Ok(Diagrams {

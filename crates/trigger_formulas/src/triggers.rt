@@ -1,8 +1,8 @@
 // The questions about trigger formulas.
 
 ghost use Rattle.std.specs.Prelude.{◌≡◌, ℕ, ◌<◌, ◌↔◌, length, slice_index_or, None, Some, IfOk, IsSome, IsTrue};
+ghost use Rattle.flat_core.specs.inner.Dependency.{IsRunOrder};
 ghost use Rattle.flat_core.specs.System.{System};
-ghost use Rattle.flat_core.specs.WellFormed.{IsWellFormed};
 ghost use Rattle.trigger_rules.specs.Question.{Implies, Starts, Together};
 ghost use Rattle.trigger_diagram.specs.inner.Kept.{Keeps};
 ghost use Rattle.trigger_formulas.specs.inner.Kept.{AreMadeFor, AreTriggersOf, IsMadeFor};
@@ -10,6 +10,7 @@ ghost use Rattle.trigger_formulas.specs.inner.Kept.{AreMadeFor, AreTriggersOf, I
 use flat_core::flat::Flat;
 use std::alloc::Global;
 use std::marker::Model;
+use translation_order::steps::Steps;
 use trigger_diagram::diagrams::{Diagrams, Node};
 use trigger_starts::atoms::Atoms;
 use tsl_value::ids::EqId;
@@ -77,12 +78,12 @@ fn made(nodes: &[Option<Node>], a: EqId) -> Node
 }
 
 impl Triggers {
-    /// Keeps the trigger formulas of a system that is well-formed.
-    pub fn of(alloc: Global, flat: &Flat) -> Result<Triggers, NoMemory>
-        requires { IsWellFormed flat.now }
+    /// Keeps the trigger formulas of a system that has this order to run it in.
+    pub fn of(alloc: Global, flat: &Flat, order: &Steps) -> Result<Triggers, NoMemory>
+        requires { IsRunOrder flat.now order.now }
         ensures { IfOk result (λ t. AreTriggersOf t flat.now) }
     {
-        let mut diagrams = Diagrams::new(alloc, flat)?;
+        let mut diagrams = Diagrams::new(alloc, flat, order)?;
         let atoms = diagrams.atoms(alloc)?;
         let nodes = nodes(alloc, &mut diagrams, &atoms, flat.count())?;
         Ok(Triggers {

@@ -6,8 +6,9 @@ ghost use Rattle.alias_rules.specs.Uses.{AreUpdates, IsUpdate};
 ghost use Rattle.trigger_formulas.specs.inner.Kept.{AreTriggersOf};
 
 use crate::tests::triggers;
-use alias_analysis::graph::{Graph, is_variable};
+use alias_analysis::graph::Graph;
 use alias_analysis::reason::Reason;
+use alias_paths::uses::is_variable;
 use flat_core::flat::Flat;
 use flat_core::lists::EqSet;
 use std::alloc::Global;

@@ -3,7 +3,7 @@
 ghost use Rattle.std.specs.Prelude.{◌≡◌, length, IfOk};
 
 use flat_core::flat::Flat;
-use recursion_check::check::check_cycles;
+use recursion_check::check::run_order;
 use std::alloc::Global;
 use std::test::Fail;
 use trigger_diagram::diagrams::Diagrams;
@@ -14,8 +14,8 @@ use tsl_value::ids::EqId;
 fn diagrams(alloc: Global, flat: &Flat) -> Result<Diagrams, Fail>
     ensures { IfOk result (λ d. length d.rules ≡ length flat.now.equations) }
 {
-    match check_cycles(alloc, flat) {
-        Ok(()) => Ok(Diagrams::new(alloc, flat)?),
+    match run_order(alloc, flat) {
+        Ok(order) => Ok(Diagrams::new(alloc, flat, &order)?),
         Err(_) => Err(Fail::from("a cycle")),
     }
 }

@@ -2,7 +2,7 @@
 
 ghost use Rattle.std.specs.Prelude.{◌≡◌, length, IfOk};
 
-use recursion_check::check::check_cycles;
+use recursion_check::check::run_order;
 use std::alloc::Global;
 use std::test::Fail;
 use trigger_formulas::triggers::Triggers;
@@ -14,8 +14,8 @@ fn sample_triggers(alloc: Global) -> Result<Triggers, Fail>
     ensures { IfOk result (λ t. length t ≡ 12) }
 {
     let flat = sample(alloc)?;
-    match check_cycles(alloc, &flat) {
-        Ok(()) => Ok(Triggers::of(alloc, &flat)?),
+    match run_order(alloc, &flat) {
+        Ok(order) => Ok(Triggers::of(alloc, &flat, &order)?),
         Err(_) => Err(Fail::from("a cycle")),
     }
 }

@@ -7,7 +7,7 @@ use Rattle.trigger_diagram.proofs.diagrams.Diagrams.of_formula.Goals as goal
 pub needed-requires-clause-there : goal.needed-requires-clause-there
 needed-requires-clause-there c =
     let rules_are = ap (λ (k : Kept). k.rules) c.self.view_is in
-    subst (λ (l : List ℕ). Contains l c.args.a) (sym c.as_slice.ensures) (c.self.invariant.ordered.all c.args.a (subst (λ n. c.args.a < n) (sym (ap length rules_are)) c.requires))
+    subst (λ (l : List ℕ). Contains l c.args.a) (sym c.as_slice.ensures.value) (c.self.invariant.ordered.all c.args.a (subst (λ n. c.args.a < n) (sym (ap length rules_are)) c.requires))
 
 pub returns-in_err-make_all-clause-keeps : goal.returns-in_err-make_all-clause-keeps
 returns-in_err-make_all-clause-keeps c = keeps_told c.args.self.now c.self.inside.rules.items c.self.inside.arena c.make_all.new.arena c.self.view_is c.make_all.ensures.grows
