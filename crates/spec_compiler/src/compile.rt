@@ -2,6 +2,7 @@
 
 ghost use Rattle.std.specs.Prelude.{◌≡◌, IfOk, IfErr};
 ghost use Rattle.flat_core.specs.Complete.{IsFlat};
+ghost use Rattle.flat_core.specs.inner.Dependency.{IsRunOrder};
 ghost use Rattle.flat_core.specs.WellFormed.{IsWellFormed};
 ghost use Rattle.alias_rules.specs.Fine.{IsTakenPlan};
 ghost use Rattle.last_use.specs.Reasons.{AreReasons};
@@ -13,10 +14,12 @@ use flat_core::flat::Flat;
 use flat_simplify::simplify::simplify;
 use last_use::choice::{Choice, choose};
 use last_use::reasons::Reasons;
+use recursion_check::check::{CycleFault, run_order};
 use register_code::code::{Code, generate};
 use spec_reader::fault::SpecFault;
 use spec_reader::read::{Specification, read_spec};
 use std::alloc::Global;
+use translation_order::steps::Steps;
 use trigger_formulas::triggers::Triggers;
 use tsl_value::memory::NoMemory;
 
@@ -35,10 +38,22 @@ fn simplified(alloc: Global, source: &[u8]) -> Result<Flat, SpecFault>
     ensures well_formed { IfOk result IsWellFormed }
     ensures fault { IfErr result (IsRefused source.now) }
 {
-    let Specification { flat, order: _ } = read_spec(alloc, source)?;
-    let triggers = Triggers::of(alloc, &flat)?;
-    let simple = simplify(alloc, flat, &triggers)?;
+    let Specification { flat, order } = read_spec(alloc, source)?;
+    let triggers = Triggers::of(alloc, &flat, &order)?;
+    let simple = simplify(alloc, flat, &order, &triggers)?;
     Ok(simple)
+}
+
+/// An order to run a well-formed system in.
+fn order_of(alloc: Global, flat: &Flat) -> Result<Steps, NoMemory>
+    requires { IsWellFormed flat.now }
+    ensures { IfOk result (IsRunOrder flat.now) }
+{
+    match run_order(alloc, flat) {
+        Ok(order) => Ok(order),
+        Err(CycleFault::Cycle { equations: _ }) => unreachable!(),
+        Err(CycleFault::Memory) => Err(NoMemory),
+    }
 }
 
 /// The code of a system by the plan that is taken, and why the updates outside its set copy.
@@ -49,7 +64,8 @@ fn planned(alloc: Global, flat: Flat) -> Result<Compiled, NoMemory>
     ensures taken { IfOk result (λ c. IsTakenPlan c.code.system c.code.in_place c.code.order) }
     ensures reasons { IfOk result (λ c. AreReasons c.code.system c.code.in_place c.reasons) }
 {
-    let triggers = Triggers::of(alloc, &flat)?;
+    let order = order_of(alloc, &flat)?;
+    let triggers = Triggers::of(alloc, &flat, &order)?;
     let Choice { plan, reasons } = choose(alloc, &flat, &triggers)?;
     let code = generate(alloc, flat, plan)?;
     code.assert_whole();

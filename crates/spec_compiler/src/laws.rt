@@ -1,7 +1,7 @@
 // Laws of compiled specifications, as the contracts of functions that do nothing.
 
 ghost use Rattle.spec_compiler.specs.inner.Laws.{OneIsCompiled, RefusedCompilesNone, CompiledSaysWhatIsMeant, SomethingHappens};
-ghost use Rattle.spec_compiler.specs.inner.Laws.{FaultsAreDecided, InputsAreDeclared, InputsStandAtTheirNumbers};
+ghost use Rattle.spec_compiler.specs.inner.Laws.{CompiledIsReady, FaultsAreDecided, InputsAreDeclared, InputsStandAtTheirNumbers};
 
 /// A source is one specification at most, and one system at most is run for it.
 pub fn one_is_compiled()
@@ -11,6 +11,11 @@ pub fn one_is_compiled()
 /// For a source that is refused, other than out of memory, no system is run.
 pub fn refused_compiles_none()
     ensures { RefusedCompilesNone }
+{}
+
+/// What is compiled is ready to run, whoever compiled it.
+pub fn compiled_is_ready()
+    ensures { CompiledIsReady }
 {}
 
 /// The system that is run has the inputs that the items declare, under the same numbers, and no others.

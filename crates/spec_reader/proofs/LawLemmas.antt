@@ -41,7 +41,7 @@ use Rattle.spec_reader.specs.declared.fault.FlatFault.TheVariants as flat_fault
 use Rattle.spec_reader.specs.declared.fault.SpecFault.TheVariants as fault
 use Rattle.spec_reader.specs.Source.{IsSpelled, IsWellTyped, Specifies, HasSystem, SpellsSystem, IsLexFault, IsParseFault, IsMisspelled, IsTypeFault, IsMistyped, IsFlatFault, HasNoFlat, IsCyclic}
 use Rattle.program_text.specs.Text.{label_text}
-use Rattle.spec_reader.specs.inner.Laws.{OneSystem, RefusedSpellsNone, OneRefusal}
+use Rattle.spec_reader.specs.inner.Laws.{OneReading, OneSystem, RefusedSpellsNone, OneRefusal, RefusalsAreNoMemory}
 use Rattle.spec_reader.proofs.CycleLemmas.{as_cycle, first_there, no_order}
 
 -- ---- tokens
@@ -186,6 +186,10 @@ module _ (source : List ℕ) where
       no_order c.system c.cycle c.walked c.is_system.is_flat (subst IsWellFormed (same_system items c.items s c.system spells.system c.is_system) spells.well_formed)
 
 -- ---- the laws
+pub one_reading : OneReading
+one_reading source items others kinds again g h =
+    (typed_items source items others kinds again g.typed h.typed, typed_kinds source items others kinds again g.typed h.typed)
+
 pub one_system : OneSystem
 one_system source items others s t g h = (system_items source items others s t g.system h.system, same_system source items others s t g.system h.system)
 
@@ -262,3 +266,6 @@ one_refusal source (fault.Cycle p names) (fault.Types e) other_d other_e g h = a
 one_refusal source (fault.Cycle p names) (fault.Flat e) other_d other_e g h = absurd (flat_or_cycle source e p names.items h g)
 one_refusal source (fault.Cycle p names) (fault.Cycle q others) other_d other_e g h =
     (one_place source p q names.items others.items g h, same_names source p q names.items others.items g h)
+
+pub refusals_are_no_memory : RefusalsAreNoMemory
+refusals_are_no_memory source = record { lexed = λ h. h; parsed = λ m. m.refused; typed = λ m. m.refused }

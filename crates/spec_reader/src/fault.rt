@@ -34,13 +34,13 @@ pub enum FlatFault {
 /// of the program.
 #[derive(Drop, Error)]
 pub enum SpecFault {
-    /// The source has no tokens. The fault is never `LexFault::Memory`.
+    /// The source has no tokens. The fault is not `LexFault::Memory`, by `refusals_are_no_memory` of `laws.rt`.
     #[error("tokens")]
     Lex(LexFault),
-    /// The source's tokens have no tree. The fault is never `ParseFault::Memory`.
+    /// The source's tokens have no tree. The fault is not `ParseFault::Memory`, by the same law.
     #[error("grammar")]
     Parse(ParseFault),
-    /// The check of names and types refuses the tree. The fault is never `TypeFault::Memory`.
+    /// The check of names and types refuses the tree. The fault is not `TypeFault::Memory`, by the same law.
     #[error("types")]
     Types(TypeFault),
     /// No flat system is made of the tree.

@@ -1,6 +1,11 @@
 // Laws of sources, as the contracts of functions that do nothing.
 
-ghost use Rattle.spec_reader.specs.inner.Laws.{OneSystem, RefusedSpellsNone, OneRefusal};
+ghost use Rattle.spec_reader.specs.inner.Laws.{OneReading, OneSystem, RefusedSpellsNone, OneRefusal, RefusalsAreNoMemory};
+
+/// A source has one reading: it specifies one list of items at most, with one kind of each name.
+pub fn one_reading()
+    ensures { OneReading }
+{}
 
 /// A source is one specification at most, which means one system.
 pub fn one_system()
@@ -16,4 +21,9 @@ pub fn refused_spells_none()
 /// names, and any other two are equal.
 pub fn one_refusal()
     ensures { OneRefusal }
+{}
+
+/// A refusal that names a phase has a reason of that phase, and is never that the phase was out of memory.
+pub fn refusals_are_no_memory()
+    ensures { RefusalsAreNoMemory }
 {}

@@ -22,6 +22,7 @@ use Rattle.spec_meaning.specs.Shape.{input_number}
 use Rattle.spec_reader.specs.declared.fault.SpecFault.{SpecFault}
 use Rattle.spec_compiler.specs.Compiled.{Compiles, IsRefusedBy}
 use Rattle.spec_meaning.specs.Inputs.{declared_inputs}
+use Rattle.spec_compiler.specs.inner.Ready.{IsReady}
 use Rattle.spec_compiler.specs.Meant.{FaultTimeIsMeant, QuietIsMeant, LimitIsMeant, IsFaultNamed}
 
 -- a source is one specification at most, and one system at most is run for it
@@ -38,6 +39,10 @@ RefusedCompilesNone =
     (source : List ℕ) (e : SpecFault) (items : List tree.Item) (u : System)
     → IsRefusedBy source e
     → ¬ (Compiles source items u)
+
+-- what is compiled is ready to run, whoever compiled it
+abbrev pub CompiledIsReady : Type 0
+CompiledIsReady = (source : List ℕ) (items : List tree.Item) (u : System) → Compiles source items u → IsReady u
 
 -- The inputs of the system that is run are those that the items declare, under the same numbers: no other equation is an input.
 pub record HasDeclaredInputs (items : List tree.Item) (u : System) : Type 0 where

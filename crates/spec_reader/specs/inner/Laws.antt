@@ -1,11 +1,23 @@
 -- Laws of sources.
 use Rattle.std.specs.Prelude.{◌≡◌, ◌≢◌, ℕ, List}
 use Rattle.flat_core.specs.System.{System}
+use Rattle.spec_lexer.specs.declared.fault.LexFault.TheVariants as lex_fault
 use Rattle.syntax_tree.specs.Tree as tree
+use Rattle.spec_parser.specs.declared.parse.ParseFault.TheVariants as parse_fault
+use Rattle.type_rules.specs.Kinds.{Kinds}
+use Rattle.type_check.specs.declared.fault.TypeFault.TheVariants as type_fault
 use Rattle.spec_reader.specs.declared.fault.SpecFault.{SpecFault}
 use Rattle.spec_reader.specs.declared.fault.SpecFault.TheVariants as fault
 use Rattle.spec_reader.specs.declared.fault.SpecFault.TheVariants.{Memory}
-use Rattle.spec_reader.specs.Source.{SpellsSystem, IsRefused}
+use Rattle.spec_reader.specs.Source.{Specifies, SpellsSystem, IsRefused}
+
+-- a source has one reading: it specifies one list of items at most, with one kind of each name
+abbrev pub OneReading : Type 0
+OneReading =
+    (source : List ℕ) (items others : List tree.Item) (kinds again : Kinds) →
+    Specifies source items kinds →
+    Specifies source others again →
+    (items ≡ others) × (kinds ≡ again)
 
 -- a source is one specification at most, which means one system
 abbrev pub OneSystem : Type 0
@@ -31,3 +43,12 @@ IsSame d e = d ≡ e
 -- a source is refused in one way at most, other than for memory
 abbrev pub OneRefusal : Type 0
 OneRefusal = (source : List ℕ) (d e : SpecFault) → d ≢ Memory → e ≢ Memory → IsRefused source d → IsRefused source e → IsSame d e
+
+-- no refusal of a source by a phase is that the phase was out of memory
+pub record IsNoMemory (source : List ℕ) : Type 0 where
+  pub lexed : ¬ (IsRefused source (fault.Lex lex_fault.Memory))
+  pub parsed : ¬ (IsRefused source (fault.Parse parse_fault.Memory))
+  pub typed : ¬ (IsRefused source (fault.Types type_fault.Memory))
+
+abbrev pub RefusalsAreNoMemory : Type 0
+RefusalsAreNoMemory = (source : List ℕ) → IsNoMemory source
