@@ -17,15 +17,16 @@ use Rattle.alias_rules.specs.Uses.{IsLast, IsWritten}
 use Rattle.alias_rules.specs.Roots.{Carries, IsRoot}
 use Rattle.alias_rules.specs.Sharing.{Alias, same, lasts}
 use Rattle.alias_rules.specs.Bypass.{PassesOver, GoesAround, Bypasses}
-use Rattle.alias_analysis.specs.inner.Search.{AreReached}
-use Rattle.alias_analysis.specs.inner.Pairs.{ArePairs}
-use Rattle.alias_analysis.specs.inner.Marking.{AreJust, AddsMarks, HasMarkedSecond, HasMarkedFirst}
-use Rattle.alias_analysis.specs.inner.Kept.{AreStoredMarks}
-use Rattle.alias_analysis.specs.inner.Flows.{SharesWithOne}
-use Rattle.alias_analysis.specs.inner.Contents.{IsMergeAfter, IsPairAround, IsRootOfSource, SharesWithLast, IsLastOfMarked, AreAliased, IsNear, IsBeside, IsMarkedBeside}
-use Rattle.alias_analysis.proofs.Adding.{marks_as}
-use Rattle.alias_analysis.proofs.Rooting.{just_as, walk_as}
-use Rattle.alias_analysis.proofs.Sharers.{last_origin}
+use Rattle.alias_paths.specs.inner.Search.{AreReached}
+use Rattle.alias_paths.specs.inner.Pairs.{ArePairs}
+use Rattle.alias_paths.specs.inner.Marking.{AreJust, AddsMarks, HasMarkedSecond, HasMarkedFirst}
+use Rattle.alias_paths.specs.inner.Kept.{AreStoredMarks}
+use Rattle.alias_paths.specs.inner.Flows.{SharesWithOne}
+use Rattle.alias_paths.specs.inner.Contents.{IsRootOfSource}
+use Rattle.alias_analysis.specs.inner.Contents.{IsMergeAfter, IsPairAround, SharesWithLast, IsLastOfMarked, AreAliased, IsNear, IsBeside, IsMarkedBeside}
+use Rattle.alias_paths.proofs.Adding.{marks_as}
+use Rattle.alias_paths.proofs.Rooting.{just_as, walk_as}
+use Rattle.alias_paths.proofs.Sharers.{last_origin}
 
 -- ---- merges
 

@@ -10,8 +10,8 @@ use Rattle.flat_core.specs.Members.{is_in}
 use Rattle.flat_core.specs.System.{System}
 use Rattle.flat_core.proofs.MarkLemmas.{marked_none, marked_then}
 use Rattle.alias_analysis.specs.inner.Contents.{LeadsAround, IsSecondAround, IsPairAround}
-use Rattle.alias_analysis.specs.inner.Search.{first_at, IsAfterLast, MarkedAll}
-use Rattle.alias_analysis.proofs.Adding.{read_again}
+use Rattle.alias_paths.specs.inner.Search.{first_at, IsAfterLast, MarkedAll}
+use Rattle.alias_paths.proofs.Adding.{read_again}
 
 module _ (s : System) (y : ℕ) where
   -- ---- one pair

@@ -15,10 +15,10 @@ use Rattle.alias_rules.specs.Uses.{AreUpdates, IsStored}
 use Rattle.alias_rules.specs.Conflict.{IsKept, IsNotOverwritten, IsInConflict, IsFirst}
 use Rattle.alias_rules.proofs.Sharing.{both_stored}
 use Rattle.alias_rules.proofs.Updates.{update_low as low_of_update}
-use Rattle.alias_analysis.specs.inner.Marking.{AreJust}
-use Rattle.alias_analysis.specs.inner.Search.{AreMarkedIn}
+use Rattle.alias_paths.specs.inner.Marking.{AreJust}
+use Rattle.alias_paths.specs.inner.Search.{AreMarkedIn}
 use Rattle.alias_analysis.specs.inner.Contents.{SharesWithLast, IsMarkedUnimplied, AreMarkedInBoth, IsNear, IsMarkedBeside}
-use Rattle.alias_analysis.proofs.Rooting.{just_as}
+use Rattle.alias_paths.proofs.Rooting.{just_as}
 use Rattle.alias_analysis.proofs.Bypassing.{bypasses_near, near_bypass}
 
 pub kept_are : (s : System) (set : List ℕ) (y : ℕ) (near stored both marks : List Bool) → AreJust (length s.equations) (IsNear s set y) near → AreJust (length s.equations) (IsStored s) stored → AreJust (length near) (AreMarkedInBoth near stored) both → AreJust (length s.equations) (IsMarkedBeside s y both) marks → AreJust (length s.equations) (IsKept s set y) marks

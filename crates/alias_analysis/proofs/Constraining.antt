@@ -24,13 +24,13 @@ use Rattle.alias_rules.specs.Conflict.{TakesBefore, read, printed, passed, writt
 use Rattle.alias_rules.specs.Conflict as conflict
 use Rattle.alias_rules.specs.Steps.{step_count}
 use Rattle.alias_rules.specs.Steps as steps
-use Rattle.alias_analysis.specs.declared.uses.Uses.{Uses}
-use Rattle.alias_analysis.specs.inner.Pairs.{ArePairs, Adds, IsWanted, IsGiven, IsKeyBelow}
-use Rattle.alias_analysis.specs.inner.Marking.{AreJust}
-use Rattle.alias_analysis.specs.inner.Kept.{AreUses}
+use Rattle.alias_paths.specs.declared.uses.Uses.{Uses}
+use Rattle.alias_paths.specs.inner.Pairs.{ArePairs, Adds, IsWanted, IsGiven, IsKeyBelow}
+use Rattle.alias_paths.specs.inner.Marking.{AreJust}
+use Rattle.alias_paths.specs.inner.Kept.{AreUses}
 use Rattle.alias_analysis.specs.inner.Constraints.{IsArgumentAt, IsNeeded, IsPrintOf, IsMarkedBefore, IsTakenBefore, WritesMarked, IsWrittenBefore, PassesMarked, IsPassedBefore, IsPrintedBefore, IsAskedFor, StandsBeforeUpdate, bypasses, takes}
-use Rattle.alias_analysis.proofs.Adding.{adds_none, adds_as, adds_then, given_more, keyed_next, keyed_all, pairs_of, of_steps_from}
-use Rattle.alias_analysis.proofs.Using.{taker_low}
+use Rattle.alias_paths.proofs.Adding.{adds_none, adds_as, adds_then, given_more, keyed_next, keyed_all, pairs_of, of_steps_from}
+use Rattle.alias_paths.proofs.Using.{taker_low}
 use Rattle.alias_analysis.proofs.Conflicts.{is_inside}
 use Rattle.recursion_check.proofs.FeedLemmas.{typed_low}
 

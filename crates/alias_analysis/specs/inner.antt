@@ -1,8 +1,4 @@
-pub mod Search
-pub mod Pairs
-pub mod Marking
 pub mod Kept
 pub mod Contents
-pub mod Flows
 pub mod Constraints
 pub mod Answer

@@ -7,13 +7,13 @@ ghost use Rattle.translation_order.specs.Order.{AreOfSteps};
 ghost use Rattle.alias_rules.specs.Roots.{Carries};
 ghost use Rattle.alias_rules.specs.Bypass.{PassesOver};
 ghost use Rattle.trigger_formulas.specs.inner.Kept.{AreTriggersOf};
-ghost use Rattle.alias_analysis.specs.inner.Pairs.{ArePairs};
-ghost use Rattle.alias_analysis.specs.inner.Search.{marks_of, AreListed, MarkedAll};
+ghost use Rattle.alias_paths.specs.inner.Pairs.{ArePairs};
+ghost use Rattle.alias_paths.specs.inner.Search.{marks_of, AreListed, MarkedAll};
 ghost use Rattle.alias_analysis.specs.inner.Contents.{IsOtherOfMerge, AreReachedAround, LeadsAround, IsSecondAround, IsPairAround};
 
-use crate::links::Links;
-use crate::numbers::Numbers;
-use crate::reach::Search;
+use alias_paths::links::Links;
+use alias_paths::numbers::Numbers;
+use alias_paths::reach::Search;
 use flat_core::equation::{Equation, Op};
 use flat_core::flat::Flat;
 use std::alloc::Global;

@@ -3,16 +3,17 @@
 ghost use Rattle.std.specs.Prelude.{◌≡◌, ◌↔◌, ◌<◌, length, IfOk, OnOk, IsTrue};
 ghost use Rattle.alias_rules.specs.Bypass.{Bypasses};
 ghost use Rattle.trigger_formulas.specs.inner.Kept.{AreTriggersOf};
-ghost use Rattle.alias_analysis.specs.inner.Kept.{AreUses, ArePaths};
-ghost use Rattle.alias_analysis.specs.inner.Marking.{AreJust};
-ghost use Rattle.alias_analysis.specs.inner.Contents.{IsRootOfSource, SharesWithLast, AreAliased, IsMarkedBeside, IsNear};
+ghost use Rattle.alias_paths.specs.inner.Kept.{AreUses, ArePaths};
+ghost use Rattle.alias_paths.specs.inner.Marking.{AreJust};
+ghost use Rattle.alias_paths.specs.inner.Contents.{IsRootOfSource};
+ghost use Rattle.alias_analysis.specs.inner.Contents.{SharesWithLast, AreAliased, IsMarkedBeside, IsNear};
 
 use crate::around::reached_around;
-use crate::numbers::{Numbers, firsts, mark_seconds};
-use crate::paths::Paths;
-use crate::roots::source_roots;
-use crate::sharing::sharers;
-use crate::uses::{Uses, is_variable};
+use alias_paths::numbers::{Numbers, firsts, mark_seconds};
+use alias_paths::paths::Paths;
+use alias_paths::roots::source_roots;
+use alias_paths::sharing::sharers;
+use alias_paths::uses::{Uses, is_variable};
 use flat_core::flat::Flat;
 use flat_core::lists::EqSet;
 use std::alloc::Global;

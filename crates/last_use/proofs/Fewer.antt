@@ -23,8 +23,8 @@ use Rattle.alias_rules.specs.Roots.{begins_content, Carries, passed, written, Is
 use Rattle.alias_rules.specs.Sharing.{Shares, itself, turned, common_root, last_roots, last_root, Alias, same, lasts}
 use Rattle.flat_core.specs.Updates.{is_update}
 use Rattle.alias_rules.specs.Uses.{IsVariable, IsLast, IsWritten}
-use Rattle.alias_analysis.proofs.Rooting.{walk_as}
-use Rattle.alias_analysis.proofs.Sharers.{last_origin}
+use Rattle.alias_paths.proofs.Rooting.{walk_as}
+use Rattle.alias_paths.proofs.Sharers.{last_origin}
 use Rattle.last_use.specs.inner.Beginning.{NoneIsNil}
 use Rattle.translation_order.proofs.Descent.{descend}
 use Rattle.last_use.proofs.Ways.{IsAggregateAt, Way, begins, is_nil, passes, writes, way, passed_needed, written_needed, begins_outside}

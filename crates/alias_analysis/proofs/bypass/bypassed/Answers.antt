@@ -1,7 +1,7 @@
 use Rattle.std.proofs.Common.{length}
 use Rattle.std.proofs.lemmas.Result.{IfOk-weaker}
 use Rattle.alias_rules.specs.Bypass.{Bypasses}
-use Rattle.alias_analysis.specs.inner.Marking.{AreJust}
+use Rattle.alias_paths.specs.inner.Marking.{AreJust}
 use Rattle.alias_analysis.specs.inner.Contents.{IsMarkedBeside}
 use Rattle.alias_analysis.proofs.Bypassing.{bypassed_are}
 use Rattle.alias_analysis.proofs.bypass.bypassed.Goals as goal

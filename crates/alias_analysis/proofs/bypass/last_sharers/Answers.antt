@@ -2,12 +2,12 @@ use Rattle.std.proofs.Common.{length, sym, subst, ◌∙◌}
 use Rattle.std.proofs.lemmas.Result.{IfOk-weaker}
 use Rattle.translation_order.specs.Order.{AreOfSteps}
 use Rattle.alias_rules.specs.Uses.{last_of, IsLast}
-use Rattle.alias_analysis.specs.inner.Pairs.{ArePairs}
-use Rattle.alias_analysis.specs.inner.Marking.{AreJust}
-use Rattle.alias_analysis.specs.inner.Flows.{SharesWithOne}
+use Rattle.alias_paths.specs.inner.Pairs.{ArePairs}
+use Rattle.alias_paths.specs.inner.Marking.{AreJust}
+use Rattle.alias_paths.specs.inner.Flows.{SharesWithOne}
 use Rattle.alias_analysis.specs.inner.Contents.{SharesWithLast}
 use Rattle.alias_analysis.proofs.Bypassing.{all_stored, last_sharers_are}
-use Rattle.alias_analysis.proofs.Using.{uses_of_steps}
+use Rattle.alias_paths.proofs.Using.{uses_of_steps}
 use Rattle.alias_analysis.proofs.bypass.last_sharers.Goals as goal
 
 pub firsts-requires : goal.firsts-requires

@@ -1,9 +1,9 @@
 use Rattle.std.proofs.Common.{length, sym, subst}
 use Rattle.translation_order.specs.Order.{AreOfSteps}
 use Rattle.alias_rules.specs.Uses.{last_of, IsLast}
-use Rattle.alias_analysis.specs.inner.Pairs.{ArePairs}
+use Rattle.alias_paths.specs.inner.Pairs.{ArePairs}
 use Rattle.alias_analysis.proofs.Bypassing.{aliased_by}
-use Rattle.alias_analysis.proofs.Using.{uses_of_steps}
+use Rattle.alias_paths.proofs.Using.{uses_of_steps}
 use Rattle.alias_analysis.proofs.bypass.mark_aliases.Goals as goal
 
 pub mark_seconds-requires-clause-pairs : goal.mark_seconds-requires-clause-pairs

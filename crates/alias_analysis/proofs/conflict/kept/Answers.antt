@@ -1,7 +1,7 @@
 use Rattle.std.proofs.Common.{length, sym, ◌∙◌}
 use Rattle.std.proofs.lemmas.Result.{IfOk-weaker}
 use Rattle.alias_rules.specs.Conflict.{IsKept}
-use Rattle.alias_analysis.specs.inner.Marking.{AreJust}
+use Rattle.alias_paths.specs.inner.Marking.{AreJust}
 use Rattle.alias_analysis.specs.inner.Contents.{IsMarkedBeside}
 use Rattle.alias_analysis.proofs.Conflicts.{kept_are}
 use Rattle.alias_analysis.proofs.conflict.kept.Goals as goal

@@ -1,5 +1,5 @@
 use Rattle.alias_analysis.specs.inner.Constraints.{IsAskedFor}
-use Rattle.alias_analysis.specs.inner.Pairs.{Adds}
+use Rattle.alias_paths.specs.inner.Pairs.{Adds}
 use Rattle.alias_analysis.proofs.Constraining.{Asks}
 use Rattle.alias_analysis.proofs.constraints.constraints.Given as goal
 

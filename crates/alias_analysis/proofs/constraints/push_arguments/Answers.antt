@@ -1,6 +1,6 @@
 use Rattle.std.proofs.Common.{ℕ, subst, arith}
-use Rattle.alias_analysis.specs.inner.Pairs.{Adds, IsWanted}
-use Rattle.alias_analysis.proofs.Adding.{given_more}
+use Rattle.alias_paths.specs.inner.Pairs.{Adds, IsWanted}
+use Rattle.alias_paths.proofs.Adding.{given_more}
 use Rattle.alias_analysis.proofs.Constraining.{GivesArgument, all_arguments}
 use Rattle.alias_analysis.proofs.constraints.push_arguments.Goals as goal
 

@@ -1,5 +1,5 @@
 use Rattle.std.proofs.Common.{take}
-use Rattle.alias_analysis.specs.inner.Pairs.{Adds, IsGiven}
+use Rattle.alias_paths.specs.inner.Pairs.{Adds, IsGiven}
 use Rattle.alias_analysis.proofs.Constraining.{GivesArgument}
 use Rattle.alias_analysis.proofs.constraints.push_arguments.Given as goal
 

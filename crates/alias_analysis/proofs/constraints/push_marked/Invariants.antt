@@ -1,5 +1,5 @@
 use Rattle.alias_analysis.specs.inner.Constraints.{IsMarkedBefore}
-use Rattle.alias_analysis.specs.inner.Pairs.{Adds, IsKeyBelow}
+use Rattle.alias_paths.specs.inner.Pairs.{Adds, IsKeyBelow}
 use Rattle.alias_analysis.proofs.Constraining.{first_key}
 use Rattle.alias_analysis.proofs.constraints.push_marked.Given as goal
 

@@ -1,5 +1,5 @@
 use Rattle.alias_analysis.specs.inner.Constraints.{IsNeeded}
-use Rattle.alias_analysis.specs.inner.Pairs.{Adds, IsKeyBelow}
+use Rattle.alias_paths.specs.inner.Pairs.{Adds, IsKeyBelow}
 use Rattle.alias_analysis.proofs.Constraining.{second_key}
 use Rattle.alias_analysis.proofs.constraints.push_needed.Given as goal
 

@@ -1,6 +1,6 @@
 use Rattle.std.proofs.Common.{get_or, arith}
 use Rattle.alias_analysis.specs.inner.Constraints.{PassesMarked}
-use Rattle.alias_analysis.proofs.Adding.{read_again}
+use Rattle.alias_paths.proofs.Adding.{read_again}
 use Rattle.alias_analysis.proofs.Constraining.{taker_more, passers_all}
 use Rattle.alias_analysis.proofs.constraints.push_passers.Goals as goal
 

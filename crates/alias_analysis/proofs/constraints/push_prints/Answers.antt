@@ -2,7 +2,7 @@ use Rattle.std.proofs.Common.{◌≡◌, ◌+◌, Some, length, get_or, sym, ap,
 use Rattle.std.specs.Prelude.{slice_get}
 use Rattle.std.proofs.lemmas.Option.{slice_get-get_or}
 use Rattle.flat_core.specs.declared.equation.Output.{Output}
-use Rattle.alias_analysis.proofs.Adding.{adds_pushed}
+use Rattle.alias_paths.proofs.Adding.{adds_pushed}
 use Rattle.alias_analysis.proofs.Constraining.{prints_next, prints_all}
 use Rattle.alias_analysis.proofs.constraints.push_prints.Goals as goal
 

@@ -1,5 +1,5 @@
 use Rattle.alias_analysis.specs.inner.Constraints.{IsPrintOf}
-use Rattle.alias_analysis.specs.inner.Pairs.{Adds, IsKeyBelow}
+use Rattle.alias_paths.specs.inner.Pairs.{Adds, IsKeyBelow}
 use Rattle.alias_analysis.proofs.Constraining.{print_key}
 use Rattle.alias_analysis.proofs.constraints.push_prints.Given as goal
 

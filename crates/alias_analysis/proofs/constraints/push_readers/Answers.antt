@@ -1,7 +1,7 @@
 use Rattle.std.proofs.Common.{get_or, refl, arith}
 use Rattle.std.specs.Prelude.{IsTrue}
 use Rattle.flat_core.specs.inner.Marks.{has_mark}
-use Rattle.alias_analysis.proofs.Adding.{read_again}
+use Rattle.alias_paths.proofs.Adding.{read_again}
 use Rattle.alias_analysis.proofs.Constraining.{taker_more, readers_all}
 use Rattle.alias_analysis.proofs.constraints.push_readers.Goals as goal
 

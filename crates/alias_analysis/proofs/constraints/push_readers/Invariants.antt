@@ -1,7 +1,7 @@
 use Rattle.std.proofs.Common.{take}
 use Rattle.std.specs.Prelude.{IsTrue}
 use Rattle.flat_core.specs.inner.Marks.{has_mark}
-use Rattle.alias_analysis.specs.inner.Pairs.{Adds, IsGiven}
+use Rattle.alias_paths.specs.inner.Pairs.{Adds, IsGiven}
 use Rattle.alias_analysis.proofs.Constraining.{GivesTaker}
 use Rattle.alias_analysis.proofs.constraints.push_readers.Given as goal
 

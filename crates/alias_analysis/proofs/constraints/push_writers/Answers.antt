@@ -1,6 +1,6 @@
 use Rattle.std.proofs.Common.{get_or, refl, arith}
 use Rattle.alias_analysis.specs.inner.Constraints.{WritesMarked}
-use Rattle.alias_analysis.proofs.Adding.{read_again}
+use Rattle.alias_paths.proofs.Adding.{read_again}
 use Rattle.alias_analysis.proofs.Constraining.{taker_more, writers_all}
 use Rattle.alias_analysis.proofs.constraints.push_writers.Goals as goal
 

@@ -1,6 +1,6 @@
 use Rattle.std.proofs.Common.{take}
 use Rattle.alias_analysis.specs.inner.Constraints.{WritesMarked}
-use Rattle.alias_analysis.specs.inner.Pairs.{Adds, IsGiven}
+use Rattle.alias_paths.specs.inner.Pairs.{Adds, IsGiven}
 use Rattle.alias_analysis.proofs.Constraining.{GivesTaker}
 use Rattle.alias_analysis.proofs.constraints.push_writers.Given as goal
 

@@ -5,8 +5,8 @@ use Rattle.flat_core.specs.inner.Marks.{has_mark}
 use Rattle.flat_core.specs.Members.{is_in}
 use Rattle.flat_core.specs.System.{System}
 use Rattle.alias_rules.specs.Bypass.{Bypasses}
-use Rattle.alias_analysis.specs.inner.Marking.{AreJust}
-use Rattle.alias_analysis.proofs.Rooting.{set_members}
+use Rattle.alias_paths.specs.inner.Marking.{AreJust}
+use Rattle.alias_paths.proofs.Rooting.{set_members}
 use Rattle.alias_analysis.proofs.graph.Graph.bypass.Goals as goal
 
 pub returns-clause-members : goal.returns-clause-members

@@ -1,0 +1,6 @@
+pub mod Spreads
+pub mod Chaining
+pub mod Adding
+pub mod Using
+pub mod Rooting
+pub mod Sharers

@@ -1,0 +1,31 @@
+use Rattle.std.proofs.Common.{length, get_or, false, replicate, ap, ◌∙◌, arith}
+use Rattle.flat_core.proofs.MarkLemmas.{mark_within}
+use Rattle.alias_paths.specs.inner.Flows.{IsSource}
+use Rattle.alias_paths.proofs.Adding.{IsIt, marked_none, read_again, listed_low, listed_more, listed_all, none_long}
+use Rattle.alias_paths.proofs.sharing.sources.Goals as goal
+
+pub loop-number-init : goal.loop-number-init
+loop-number-init c = marked_none c.listed-listed.result.now (IsIt (IsSource c.args.flat.now c.args.set.now c.args.marked.now)) c.in_ok-sources.sources
+
+pub is_source-requires : goal.is_source-requires
+is_source-requires c =
+    let low = mark_within c.args.marked.now (get_or c.listed-listed.result.now c.loop-number.number-index 0) (listed_low c.args.marked.now c.listed-listed.result.now c.loop-number.number-index (get_or c.listed-listed.result.now c.loop-number.number-index 0) c.listed-listed.ensures c.loop-number-test.true (read_again c.listed-listed.result.now c.loop-number.number-index 0 c.loop-number-test.true)) in
+    omega arith
+
+pub mark_if-requires : goal.mark_if-requires
+mark_if-requires c =
+    let low = mark_within c.args.marked.now (get_or c.listed-listed.result.now c.loop-number.number-index 0) (listed_low c.args.marked.now c.listed-listed.result.now c.loop-number.number-index (get_or c.listed-listed.result.now c.loop-number.number-index 0) c.listed-listed.ensures c.loop-number-test.true (read_again c.listed-listed.result.now c.loop-number.number-index 0 c.loop-number-test.true)) in
+    let size = c.loop-number.invariant.one_each in
+    let long = none_long c.count.result c.in_ok-sources.sources c.in_ok-sources.ensures in
+    let count = c.count.ensures in
+    omega arith
+
+pub loop-number-preserved : goal.loop-number-preserved
+loop-number-preserved c =
+    listed_more (IsSource c.args.flat.now c.args.set.now c.args.marked.now) c.listed-listed.result.now c.loop-number.number-index (get_or c.listed-listed.result.now c.loop-number.number-index 0) c.is_source.result c.in_ok-sources.sources c.loop-number.sources c.mark_if.new.self
+    c.loop-number-test.true (read_again c.listed-listed.result.now c.loop-number.number-index 0 c.loop-number-test.true) c.is_source.ensures c.loop-number.invariant c.in_ok-mark_if.ensures
+
+pub returns : goal.returns
+returns c =
+    listed_all (IsSource c.args.flat.now c.args.set.now c.args.marked.now) c.listed-listed.result.now c.args.marked.now c.loop-number.number-index (length c.args.marked.now) c.in_ok-sources.sources c.loop-number.sources
+    (omega arith) c.listed-listed.ensures (λ x p. p.marked) (c.in_ok-sources.ensures ∙ ap (λ m. replicate m false) c.count.ensures) c.loop-number.invariant
