@@ -1,50 +1,15 @@
 // Whole runs over files in memory.
 
 mod every_place;
-mod rows;
 
-ghost use Rattle.std.specs.Prelude.{◌≡◌, ◌≤◌, ◌<◌};
+ghost use Rattle.std.specs.Prelude.{◌<◌};
 
-use command_words::words::Words;
+use memory_files::end::{End, Left, has_ended, prints, refusal};
+use memory_files::files::{words, world};
 use std::alloc::Global;
 use std::test::Fail;
 use tessla_cli::top::tessla;
-use tsl_value::bytes::Bytes;
 use tsl_value::memory::NoMemory;
-use tsl_value::text::Text;
-use tsl_world::{Calls, Files, MemoryWorld, NamedFile};
-
-/// What a run left.
-#[derive(Drop)]
-struct Left {
-    status: u8,
-    world: MemoryWorld,
-}
-
-/// The status, the output and the message of a run.
-#[derive(Clone, Copy)]
-struct End<'a> {
-    status: u8,
-    out: &'a str,
-    err: &'a str,
-}
-
-/// The run ended so, and its world was told of each call.
-fn has_ended(left: &Left, end: End<'_>) -> bool {
-    let is_so = left.status == end.status
-        && left.world.out() == end.out.as_bytes()
-        && left.world.err() == end.err.as_bytes();
-    is_so && left.world.is_told()
-}
-
-/// With status 0 and this output.
-fn prints(out: &str) -> End<'_> {
-    End {
-        status: 0,
-        out,
-        err: "",
-    }
-}
 
 const PREVIOUS: &str = "in i: Events[Int]\ndef p := last(i, i)\nout p\n";
 
@@ -60,21 +25,6 @@ const SEEN: &str =
 
 const RUN: &[&str] = &["run", "s.tsl"];
 
-fn words(alloc: Global, list: &[&str]) -> Result<Words, NoMemory> {
-    let mut words = Words::new(alloc);
-    for word in list {
-        words.push(Text::from_str(alloc, word)?)?;
-    }
-    Ok(words)
-}
-
-fn file(alloc: Global, name: &str, bytes: &[u8]) -> Result<NamedFile, NoMemory> {
-    Ok(NamedFile {
-        name: Text::from_str(alloc, name)?,
-        bytes: Bytes::from_slice(alloc, bytes)?,
-    })
-}
-
 /// A run with these words over a specification `s.tsl` and a trace of this name, in pieces of this size. The calls with the numbers in
 /// `fails` fail.
 fn run_files(
@@ -88,14 +38,7 @@ fn run_files(
 ) -> Result<Left, NoMemory>
     requires { 0 < piece }
 {
-    let mut calls = Calls::new(alloc);
-    for call in fails {
-        calls.push(*call)?;
-    }
-    let mut files = Files::new(alloc);
-    files.push(file(alloc, "s.tsl", spec.as_bytes())?)?;
-    files.push(file(alloc, name, trace)?)?;
-    let mut world = MemoryWorld::new(alloc, files, piece, calls)?;
+    let mut world = world(alloc, spec, name, trace, piece, fails)?;
     let status = tessla(alloc, &words(alloc, list)?, &mut world);
     Ok(Left { status, world })
 }
@@ -124,15 +67,6 @@ fn ends(
 ) -> Result<bool, NoMemory> {
     let left = run(alloc, words, spec, trace, 64, &[])?;
     Ok(has_ended(&left, end))
-}
-
-/// With this status and this message, and nothing is printed.
-fn refusal(status: u8, err: &str) -> End<'_> {
-    End {
-        status,
-        out: "",
-        err,
-    }
 }
 
 #[test]

@@ -11,20 +11,27 @@ use Rattle.tessla_cli.specs.declared.ending.Ending.TheVariants as ending
 use Rattle.tessla_cli.specs.Alone.{AloneStops}
 use Rattle.tessla_cli.specs.Completeness.{CanPrint, CanRun, IsComplete, IsDoneWith, IsWholeTrace}
 use Rattle.tessla_cli.specs.Conduct.{AloneEnds, EndsAlone, EndsPrint, EndsRun, OfAlone, RunEnds}
+use Rattle.tessla_cli.specs.Endings.{ending_of}
 use Rattle.tessla_cli.specs.Failures.{Failures, SomeFailed}
-use Rattle.tessla_cli.specs.Meant.{bound_meant, lines_meant, refused_meant}
 use Rattle.tessla_cli.specs.Messages.{status_of}
 use Rattle.tessla_cli.specs.Outcome.{Concludes, Outcome}
 use Rattle.tessla_cli.specs.Outcome.Outcome.{told, outside, memory}
 use Rattle.tessla_cli.specs.Tasks.{Alone, alone_of, monitor, print, requested}
-use Rattle.tessla_cli.proofs.Exact.{apart, asks_print, long, loud, meant_by, none_alone, none_asked, nothing_some, one_alone, text_or_stops}
-use Rattle.tessla_cli.proofs.WholeTrace.{unhindered_taken}
+use Rattle.tessla_cli.proofs.Exact.{apart, asks_print, meant_by, none_alone, none_asked, one_alone, text_or_stops}
+use Rattle.trace_run.proofs.Causes.{nothing_some, unhindered_done}
+use Rattle.trace_run.proofs.WholeTrace.{unhindered_taken}
 
 module _ (words : List (List ℕ)) (part : List Did) where
   -- of a run
   module _ (can : CanRun words part (taken Trace part) (ended Trace part)) where
     no_stop : (by : Ending) → AloneEnds words by part → ⊥
     no_stop by b = apart (requested words) (can.name, monitor can.trace can.options can.statistics) b.what can.asked b.asked
+
+    is_done : (by : Ending) → EndsRun words by part → by ≡ ending.Done
+    is_done by b = b.holds.by_is ∙ ap ending_of (unhindered_done can.items can.system can.options (taken Trace part) (ended Trace part) can.holds b.holds.how (meant_by words part _ by can b))
+
+    all_done : (by : Ending) → EndsRun words by part → (status_of by ≡ 0) × EndsRun words ending.Done part
+    all_done by b = let done = is_done by b in (ap status_of done, subst (λ (e : Ending). EndsRun words e part) done b)
 
     run_done : (by : Ending) → RunEnds words by part → (status_of by ≡ 0) × EndsRun words ending.Done part
     run_done ending.Words b = absurd (nothing_some _ (can.name, monitor can.trace can.options can.statistics) (none_asked words part b.refused) can.asked)
@@ -33,17 +40,11 @@ module _ (words : List (List ℕ)) (part : List Did) where
     run_done ending.Done (inl b) = (refl, b)
     run_done ending.Done (inr (inl b)) = absurd (true≢false (ap asks_print (sym b.asked ∙ can.asked)))
     run_done ending.Done (inr (inr b)) = absurd (apart (requested words) (can.name, monitor can.trace can.options can.statistics) b.wrote.what can.asked b.wrote.asked)
-    run_done (ending.Trace f) (inl b) =
-        let meant = meant_by words part _ (ending.Trace f) can b in
-        absurd (nothing_some (refused_meant can.items can.options (taken Trace part) (ended Trace part)) f can.holds.accepted meant.0)
+    run_done (ending.Trace f) (inl b) = all_done (ending.Trace f) b
     run_done (ending.Trace f) (inr b) = absurd (no_stop (ending.Trace f) b)
-    run_done (ending.Fault t kind place) (inl b) =
-        let meant = meant_by words part _ (ending.Fault t kind place) can b in
-        absurd (loud can.items (lines_meant can.items can.options (taken Trace part) (ended Trace part)) (bound_meant can.items can.options (taken Trace part) (ended Trace part)) can.options.instants t can.holds.quiet meant.0)
+    run_done (ending.Fault t kind place) (inl b) = all_done (ending.Fault t kind place) b
     run_done (ending.Fault t kind place) (inr b) = absurd (no_stop (ending.Fault t kind place) b)
-    run_done (ending.Limit n t) (inl b) =
-        let meant = meant_by words part _ (ending.Limit n t) can b in
-        absurd (long can.items (lines_meant can.items can.options (taken Trace part) (ended Trace part)) (bound_meant can.items can.options (taken Trace part) (ended Trace part)) can.options.instants t can.holds.quiet meant.1)
+    run_done (ending.Limit n t) (inl b) = all_done (ending.Limit n t) b
     run_done (ending.Limit n t) (inr b) = absurd (no_stop (ending.Limit n t) b)
 
   -- of a text of a specification

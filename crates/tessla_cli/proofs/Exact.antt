@@ -1,18 +1,14 @@
 -- The causes of the endings exclude each other.
-use Rattle.std.proofs.Common.{◌≡◌, ◌⊎◌, inl, inr, ℕ, ◌<◌, take, length, slice_get, arith, Bool, true, false, List, Option, Some, None, is_some, option_and_then, refl, sym, ◌∙◌, ap, subst}
+use Rattle.std.proofs.Common.{◌≡◌, ◌⊎◌, inl, inr, ℕ, Bool, true, false, List, Option, Some, None, option_and_then, refl, sym, ◌∙◌, ap, subst}
 use Rattle.flat_core.specs.Line.{Line}
-use Rattle.flat_meaning.proofs.OneText.{same_instants}
 use Rattle.syntax_tree.specs.Tree as tree
-use Rattle.std.specs.List.{Contains}
 use Rattle.std.proofs.lemmas.Bool.{true≢false}
-use Rattle.std.proofs.lemmas.Option.{slice_get_within}
 use Rattle.flat_core.specs.System.{System}
 use Rattle.tsl_world.specs.declared.outside.Did.{Did}
 use Rattle.tsl_world.specs.declared.outside.Slot.TheVariants.{Spec, Trace}
 use Rattle.tsl_world.specs.Journal.{taken, ended}
 use Rattle.spec_reader.specs.declared.fault.SpecFault.{SpecFault}
 use Rattle.spec_compiler.proofs.Kept.{one_is_compiled, refused_compiles_none}
-use Rattle.spec_compiler.specs.Meant.{FaultTimeIsMeant, QuietIsMeant, LimitIsMeant}
 use Rattle.trace_bench.proofs.Compiling.{refused_benches_none}
 use Rattle.trace_bench.proofs.Endings.{one_ending}
 use Rattle.trace_bench.specs.Bench.{source_of}
@@ -25,36 +21,15 @@ use Rattle.tessla_cli.specs.declared.ending.Ending.{Ending}
 use Rattle.tessla_cli.specs.declared.ending.Ending.TheVariants as ending
 use Rattle.tessla_cli.specs.Alone.{AloneStops, IsAloneText}
 use Rattle.tessla_cli.specs.Conduct.{AloneEnds, EndsRun, EndsPrint, EndsAlone, RunEnds, SpecRefused}
+use Rattle.tessla_cli.specs.Endings.{ending_of}
 use Rattle.tessla_cli.specs.Failures.{Failures}
 use Rattle.tessla_cli.specs.Headline.{OfRun}
-use Rattle.tessla_cli.specs.Meant.{EndsAsMeant, bound_meant, lines_meant, refused_meant}
+use Rattle.trace_run.proofs.Causes.{both, long, loud, nothing_some}
+use Rattle.trace_run.specs.Meant.{EndsAsMeant, bound_meant, lines_meant, refused_meant}
 use Rattle.tessla_cli.specs.Messages.{status_of}
 use Rattle.tessla_cli.specs.Outcome.{Concludes, Outcome, IsExact}
-use Rattle.tessla_cli.specs.Effects.{ending_of}
 use Rattle.tessla_cli.specs.Outcome.Outcome.{told, outside, memory}
 use Rattle.tessla_cli.specs.Tasks.{Alone, Request, Task, alone, alone_of, asked_of, benched, made, monitor, over, print, requested, with_spec, without_spec}
-
-pub nothing_some : {A : Type 0} (x : Option A) (a : A) → x ≡ None → x ≡ Some a → ⊥
-nothing_some x a none some = absurd (let e : false ≡ true = ap is_some (sym none ∙ some) in cc)
-
-module _ (items : List tree.Item) (lines : List Line) (bound limit : ℕ) where
-  pub loud : (t : ℕ) → QuietIsMeant items lines bound limit → FaultTimeIsMeant items lines bound limit t → ⊥
-  loud t quiet fault =
-      let same = same_instants items lines bound fault.instants quiet.instants fault.are quiet.are in
-      quiet.sound t (subst (λ (l : List ℕ). Contains (take limit l) t) same fault.within) fault.faulty
-
-  pub long : (t : ℕ) → QuietIsMeant items lines bound limit → LimitIsMeant items lines bound limit t → ⊥
-  long t quiet limited =
-      let same = same_instants items lines bound limited.instants quiet.instants limited.are quiet.are in
-      let there : slice_get quiet.instants limit ≡ Some t = subst (λ (l : List ℕ). slice_get l limit ≡ Some t) same limited.next in
-      let lt : limit < length quiet.instants = slice_get_within quiet.instants limit t there in
-      let few = quiet.few in
-      absurd (omega arith)
-
-  both : (t u : ℕ) → FaultTimeIsMeant items lines bound limit t → LimitIsMeant items lines bound limit u → ⊥
-  both t u fault limited =
-      let same = same_instants items lines bound fault.instants limited.instants fault.are limited.are in
-      limited.sound t (subst (λ (l : List ℕ). Contains (take limit l) t) same fault.within) fault.faulty
 
 module _ (items : List tree.Item) (s : System) (o : Options) (bytes : List ℕ) (end : Bool) where
   abbrev lines : List Line
@@ -63,33 +38,23 @@ module _ (items : List tree.Item) (s : System) (o : Options) (bytes : List ℕ) 
   abbrev bound : ℕ
   bound = bound_meant items o bytes end
 
-  same_status : (by other : Ending) → EndsAsMeant items s o bytes end by → EndsAsMeant items s o bytes end other → status_of by ≡ status_of other
-  same_status ending.Done ending.Done a b = refl
-  same_status ending.Done (ending.Trace f) a b = absurd (nothing_some (refused_meant items o bytes end) f a.1 b.0)
-  same_status ending.Done (ending.Fault t kind place) a b = absurd (loud items lines bound o.instants t a.2 b.0)
-  same_status ending.Done (ending.Limit n t) a b = absurd (long items lines bound o.instants t a.2 b.1)
-  same_status (ending.Trace f) ending.Done a b = absurd (nothing_some (refused_meant items o bytes end) f b.1 a.0)
-  same_status (ending.Trace f) (ending.Trace g) a b = refl
-  same_status (ending.Trace f) (ending.Fault t kind place) a b = absurd (loud items lines bound o.instants t a.1 b.0)
-  same_status (ending.Trace f) (ending.Limit n t) a b = absurd (long items lines bound o.instants t a.1 b.1)
-  same_status (ending.Fault t kind place) ending.Done a b = absurd (loud items lines bound o.instants t b.2 a.0)
-  same_status (ending.Fault t kind place) (ending.Trace f) a b = absurd (loud items lines bound o.instants t b.1 a.0)
-  same_status (ending.Fault t kind place) (ending.Fault u l at) a b = refl
-  same_status (ending.Fault t kind place) (ending.Limit n u) a b = absurd (both items lines bound o.instants t u a.0 b.1)
-  same_status (ending.Limit n t) ending.Done a b = absurd (long items lines bound o.instants t b.2 a.1)
-  same_status (ending.Limit n t) (ending.Trace f) a b = absurd (long items lines bound o.instants t b.1 a.1)
-  same_status (ending.Limit n u) (ending.Fault t kind place) a b = absurd (both items lines bound o.instants t u b.0 a.1)
-  same_status (ending.Limit n t) (ending.Limit m u) a b = refl
-  same_status ending.Words other a b = absurd a
-  same_status (ending.Spec place) other a b = absurd a
-  same_status ending.Done ending.Words a b = absurd b
-  same_status ending.Done (ending.Spec place) a b = absurd b
-  same_status (ending.Trace f) ending.Words a b = absurd b
-  same_status (ending.Trace f) (ending.Spec place) a b = absurd b
-  same_status (ending.Fault t kind place) ending.Words a b = absurd b
-  same_status (ending.Fault t kind place) (ending.Spec at) a b = absurd b
-  same_status (ending.Limit n t) ending.Words a b = absurd b
-  same_status (ending.Limit n t) (ending.Spec place) a b = absurd b
+  same_status : (how other : RunEnding) → EndsAsMeant items s o bytes end how → EndsAsMeant items s o bytes end other → status_of (ending_of how) ≡ status_of (ending_of other)
+  same_status run.Done run.Done a b = refl
+  same_status run.Done (run.Trace f) a b = absurd (nothing_some (refused_meant items o bytes end) f a.1 b.0)
+  same_status run.Done (run.Fault t kind place) a b = absurd (loud items lines bound o.instants t a.2 b.0)
+  same_status run.Done (run.Limit n t) a b = absurd (long items lines bound o.instants t a.2 b.1)
+  same_status (run.Trace f) run.Done a b = absurd (nothing_some (refused_meant items o bytes end) f b.1 a.0)
+  same_status (run.Trace f) (run.Trace g) a b = refl
+  same_status (run.Trace f) (run.Fault t kind place) a b = absurd (loud items lines bound o.instants t a.1 b.0)
+  same_status (run.Trace f) (run.Limit n t) a b = absurd (long items lines bound o.instants t a.1 b.1)
+  same_status (run.Fault t kind place) run.Done a b = absurd (loud items lines bound o.instants t b.2 a.0)
+  same_status (run.Fault t kind place) (run.Trace f) a b = absurd (loud items lines bound o.instants t b.1 a.0)
+  same_status (run.Fault t kind place) (run.Fault u l at) a b = refl
+  same_status (run.Fault t kind place) (run.Limit n u) a b = absurd (both items lines bound o.instants t u a.0 b.1)
+  same_status (run.Limit n t) run.Done a b = absurd (long items lines bound o.instants t b.2 a.1)
+  same_status (run.Limit n t) (run.Trace f) a b = absurd (long items lines bound o.instants t b.1 a.1)
+  same_status (run.Limit n u) (run.Fault t kind place) a b = absurd (both items lines bound o.instants t u b.0 a.1)
+  same_status (run.Limit n t) (run.Limit m u) a b = refl
 
 -- the options of a run that is asked for
 abbrev task_options : Options → Task → Options
@@ -191,17 +156,21 @@ module _ (words : List (List ℕ)) (part : List Did) where
       one_stop a.what by other a.stops (subst (λ (x : Alone). AloneStops x other) same b.stops)
 
   -- a run of the same words and of the same system
-  pub meant_by : (P : List tree.Item → System → Options → Type 0) (other : Ending) (a : OfRun words part P) → EndsRun words other part → EndsAsMeant a.items a.system a.options (taken Trace part) (ended Trace part) other
+  pub meant_by : (P : List tree.Item → System → Options → Type 0) (other : Ending) (a : OfRun words part P) (b : EndsRun words other part) → EndsAsMeant a.items a.system a.options (taken Trace part) (ended Trace part) b.holds.how
   meant_by P other a b =
+      let how = b.holds.how in
       let runs : b.options ≡ a.options = ap (options_or a.options) (sym b.asked ∙ a.asked) in
       let one = one_is_compiled (taken Spec part) b.items a.items b.system a.system b.compiled a.compiled in
-      subst (λ (l : List tree.Item). EndsAsMeant l a.system a.options (taken Trace part) (ended Trace part) other) one.0
-      (subst (λ (s : System). EndsAsMeant b.items s a.options (taken Trace part) (ended Trace part) other) one.1
-      (subst (λ (p : Options). EndsAsMeant b.items b.system p (taken Trace part) (ended Trace part) other) runs b.holds.ends))
+      subst (λ (l : List tree.Item). EndsAsMeant l a.system a.options (taken Trace part) (ended Trace part) how) one.0
+      (subst (λ (s : System). EndsAsMeant b.items s a.options (taken Trace part) (ended Trace part) how) one.1
+      (subst (λ (p : Options). EndsAsMeant b.items b.system p (taken Trace part) (ended Trace part) how) runs b.holds.holds.ends))
 
   -- two of these
   one_run : (by other : Ending) → EndsRun words by part → EndsRun words other part → status_of by ≡ status_of other
-  one_run by other a b = same_status a.items a.system a.options (taken Trace part) (ended Trace part) by other a.holds.ends (meant_by _ other a b)
+  one_run by other a b =
+      ap status_of a.holds.by_is
+      ∙ same_status a.items a.system a.options (taken Trace part) (ended Trace part) a.holds.how b.holds.how a.holds.holds.ends (meant_by _ other a b)
+      ∙ sym (ap status_of b.holds.by_is)
 
   spec_or_run : (fault : SpecFault) (by : Ending) → SpecRefused words fault part → EndsRun words by part → ⊥
   spec_or_run fault by refused ends = refused_compiles_none (taken Spec part) fault ends.items ends.system refused.refused ends.compiled

@@ -18,24 +18,24 @@ use Rattle.tsl_world.proofs.Untouched.{gifts_read_none, gifts_transfer, gifts_wi
 use Rattle.tsl_world.proofs.Places.{at_none, at_not, at_no_read, at_join, at_more, at_after, at_weaker, at_fewer, at_each, at_each_join, stops_one}
 use Rattle.syntax_tree.specs.Tree as tree
 use Rattle.spec_compiler.specs.Compiled.{Compiles}
+use Rattle.trace_monitor.specs.declared.ending.RunEnding.{RunEnding}
 use Rattle.trace_monitor.specs.declared.options.Options.{Options}
 use Rattle.trace_monitor.specs.Due.{IsDue}
 use Rattle.trace_monitor.specs.Ending.{GoesOn}
 use Rattle.trace_monitor.specs.Next.{EndsBy}
-use Rattle.tessla_cli.specs.declared.ending.Ending.{Ending}
 use Rattle.tessla_cli.specs.Conduct.{HasWhole, IsAllWhole, MakesNothing, ReadsSpecFirst, ReadsTraceLast, WritesLast, StopsAtLimit, ReadsPieces, OpensAsAsked, OfPrint, GoesOnAtReads, IsPartlyDue}
 use Rattle.tessla_cli.specs.Headline.{OfItems, OfRun, IsDueAtReads}
-use Rattle.tessla_cli.specs.Meant.{IsDueAsMeant, GoesOnAsMeant, BeginsAsMeant, WatchEndsAsMeant}
-use Rattle.tessla_cli.specs.Effects.{IsTake, IsTraceWork, MayRead, BeginsDue, Watched, WatchEnds}
-use Rattle.tessla_cli.specs.Statistics.{AreStatistics}
-use Rattle.tessla_cli.specs.inner.RunPhases.{counted_text, MayReadSpec, ReadsSpec, GivesSource, Prints, idle, no_trace, watched, uncompiled, compiled, prints, RunsSpec, unopened, no_spec, reading, whole, RunsWords, unasked, asked, samples, PrintsText, unmade, writes}
+use Rattle.trace_run.specs.Meant.{IsDueAsMeant, GoesOnAsMeant, BeginsAsMeant, WatchEndsAsMeant}
+use Rattle.trace_run.specs.Effects.{IsTraceWork, MayRead, BeginsDue, Watched, WatchEnds, idle, no_trace, watched}
+use Rattle.trace_run.specs.Statistics.{AreStatistics, counted_text}
+use Rattle.tessla_cli.specs.inner.RunPhases.{IsTake, MayReadSpec, ReadsSpec, GivesSource, Prints, uncompiled, compiled, prints, RunsSpec, unopened, no_spec, reading, whole, RunsWords, unasked, asked, samples, PrintsText, unmade, writes}
 use Rattle.tessla_cli.specs.Alone.{IsAloneText}
 use Rattle.tessla_cli.specs.Printed.{IsTextOf}
 use Rattle.tessla_cli.specs.Tasks.{Alone, Task, alone_of, print, monitor, asked_of, names_of, requested, traces_of}
 use Rattle.tessla_cli.specs.declared.task.Form.{Form}
-use Rattle.tessla_cli.proofs.Counted.{statistics_meant}
+use Rattle.trace_run.proofs.Counted.{statistics_meant}
 use Rattle.tessla_cli.proofs.Exact.{apart}
-use Rattle.tessla_cli.proofs.Meaning.{due_meant, goes_on_meant, begins_meant, watch_ends_meant}
+use Rattle.trace_run.proofs.Meaning.{due_meant, goes_on_meant, begins_meant, watch_ends_meant}
 use Rattle.trace_reader.specs.declared.limits.TheConstants.{MOST_PIECE_BYTES}
 use Rattle.spec_lexer.specs.declared.limits.TheConstants.{MOST_SOURCE_BYTES}
 
@@ -288,24 +288,22 @@ module _ (words : List (List ℕ)) (name : List ℕ) (task : Task) (asked_is : a
       ended_so : (less : List Did) → ended Trace (front ++ less) ≡ ended Trace less
       ended_so less = ended_after Trace front less front_no_trace
 
-      all_ends : (state : engine.State) (by : Ending) (part : List Did) → WatchEnds s o state by part → WatchEnds s o state by (front ++ Opened Trace trace ∷ part)
-      all_ends state by part w = let rest = Opened Trace trace ∷ part in record {
+      all_ends : (state : engine.State) (how : RunEnding) (part : List Did) → WatchEnds s o state how part → WatchEnds s o state how (front ++ Opened Trace trace ∷ part)
+      all_ends state how part w = let rest = Opened Trace trace ∷ part in record {
         due = subst (λ (e : Bool). IsDue s o (taken Trace (front ++ rest)) e (given Out (front ++ rest))) (sym (ended_so rest)) (given_so rest (ended Trace rest) w.due);
-        how = w.how;
-        by_is = w.by_is;
-        cause = subst (λ (e : Bool). EndsBy s o (taken Trace (front ++ rest)) e w.how) (sym (ended_so rest))
-            (subst (λ (l : List ℕ). EndsBy s o l (ended Trace rest) w.how) (sym (taken_after Trace front rest front_no_trace)) w.cause);
-        counted = subst (λ (e : Bool). HasCounted s o (taken Trace (front ++ rest)) e state w.how) (sym (ended_so rest))
-            (subst (λ (l : List ℕ). HasCounted s o l (ended Trace rest) state w.how) (sym (taken_after Trace front rest front_no_trace)) w.counted);
+        cause = subst (λ (e : Bool). EndsBy s o (taken Trace (front ++ rest)) e how) (sym (ended_so rest))
+            (subst (λ (l : List ℕ). EndsBy s o l (ended Trace rest) how) (sym (taken_after Trace front rest front_no_trace)) w.cause);
+        counted = subst (λ (e : Bool). HasCounted s o (taken Trace (front ++ rest)) e state how) (sym (ended_so rest))
+            (subst (λ (l : List ℕ). HasCounted s o l (ended Trace rest) state how) (sym (taken_after Trace front rest front_no_trace)) w.counted);
       }
 
-      pub ends_after : (state : engine.State) (by : Ending) (part : List Did) → WatchEnds s o state by part → WatchEndsAsMeant items s o by (front ++ Opened Trace trace ∷ part)
-      ends_after state by part w = watch_ends_meant source items s o compiled_so state by (front ++ Opened Trace trace ∷ part) (all_ends state by part w)
+      pub ends_after : (state : engine.State) (how : RunEnding) (part : List Did) → WatchEnds s o state how part → WatchEndsAsMeant items s o how (front ++ Opened Trace trace ∷ part)
+      ends_after state how part w = watch_ends_meant source items s o compiled_so state how (front ++ Opened Trace trace ∷ part) (all_ends state how part w)
 
       -- what is told of the updates
-      pub statistics_after : (state : engine.State) → IsTakenPlan s state.in_place state.order → (by : Ending) (part : List Did) (text : List ℕ) → WatchEnds s o state by part → text ≡ counted_text s state true
-          → AreStatistics s o (taken Trace (front ++ Opened Trace trace ∷ part)) (ended Trace (front ++ Opened Trace trace ∷ part)) by text
-      statistics_after state taken_plan by part text w is = statistics_meant s o state taken_plan by (front ++ Opened Trace trace ∷ part) text (all_ends state by part w) is
+      pub statistics_after : (state : engine.State) → IsTakenPlan s state.in_place state.order → (how : RunEnding) (part : List Did) (text : List ℕ) → WatchEnds s o state how part → text ≡ counted_text s state true
+          → AreStatistics s o (taken Trace (front ++ Opened Trace trace ∷ part)) (ended Trace (front ++ Opened Trace trace ∷ part)) how text
+      statistics_after state taken_plan how part text w is = statistics_meant s o state taken_plan how (front ++ Opened Trace trace ∷ part) text (all_ends state how part w) is
 
       module _ (part : List Did) (w : Watched s o part) where
         spec_none : Each (IsNoRead Spec) part

@@ -1,17 +1,9 @@
-pub mod Dues
-pub mod Watching
 pub mod Reading
-pub mod Grown
-pub mod TypedLines
-pub mod Meaning
-pub mod Counted
 pub mod Facts
 pub mod Printing
 pub mod Counting
 pub mod Failing
 pub mod Told
-pub mod Writing
 pub mod Exact
 pub mod Unseen
-pub mod WholeTrace
 pub mod Completeness

@@ -11,9 +11,8 @@ use Rattle.tsl_world.specs.Standing.{Standing}
 use Rattle.tsl_world.proofs.Runs.{go_on, one_call}
 use Rattle.tsl_world.proofs.Journals.{taken-append, ended-append, Each-append}
 use Rattle.trace_monitor.specs.Next.{is_nothing}
-use Rattle.tessla_cli.specs.Effects.{IsTake}
-use Rattle.tessla_cli.specs.inner.RunPhases.{MayReadSpec, ReadsSpec, GivesSource}
-use Rattle.tessla_cli.proofs.Watching.{not_zero}
+use Rattle.tessla_cli.specs.inner.RunPhases.{IsTake, MayReadSpec, ReadsSpec, GivesSource}
+use Rattle.trace_run.proofs.Watching.{not_zero}
 use Rattle.tsl_world.proofs.Places.{at_none, at_one, stops_one}
 use Rattle.trace_reader.specs.declared.limits.TheConstants.{MOST_PIECE_BYTES}
 use Rattle.spec_lexer.specs.declared.limits.TheConstants.{MOST_SOURCE_BYTES}

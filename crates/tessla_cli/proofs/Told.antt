@@ -23,19 +23,20 @@ use Rattle.tsl_world.proofs.Places.{at_each_join, at_fewer, at_join, at_more, at
 use Rattle.tessla_cli.specs.declared.ending.Ended.{Ended}
 use Rattle.tessla_cli.specs.declared.ending.Ending.{Ending}
 use Rattle.tessla_cli.specs.declared.ending.Ending.TheVariants as ending
-use Rattle.tessla_cli.specs.declared.ending.Broken.{Broken}
-use Rattle.tessla_cli.specs.declared.ending.Broken.TheVariants as broken
+use Rattle.trace_run.specs.declared.broken.Broken.{Broken}
+use Rattle.trace_run.specs.declared.broken.Broken.TheVariants as broken
 use Rattle.tessla_cli.specs.Alone.{AloneStops}
 use Rattle.tessla_cli.specs.Conduct.{HasWhole, IsAllWhole, OfPrint, OfAlone, EndsRun, AloneEnds, SpecRefused, IsPartlyDue, RunEnds, StopsAtFailures}
+use Rattle.tessla_cli.specs.Endings.{OfEnding, ending_of}
 use Rattle.tessla_cli.specs.Failures.{Failures, NoneFailed, CallFailed, WriteFailed, SomeFailed}
 use Rattle.tessla_cli.specs.Headline.{OfRun}
-use Rattle.tessla_cli.specs.Meant.{IsDueAsMeant, EndsAsMeant, BeginsAsMeant, WatchEndsAsMeant}
+use Rattle.trace_run.specs.Meant.{IsDueAsMeant, EndsAsMeant, BeginsAsMeant, WatchEndsAsMeant}
 use Rattle.tessla_cli.specs.Messages.{ended_text, broken_line, status_of}
 use Rattle.tessla_cli.specs.Outcome.{Ends, Faulted, IsToldBefore, unasked, refused_before, counted, Limited, LineRefused, Refused, TellsFailure, told_failure, untold_ending, untold_memory, untold_failure, Outcome, told, outside, memory, ShowsAlways, Concludes, TellsBroken, all_of_broken, some_of_broken, TellsEnding, all_of_ending, some_of_ending, no_text}
-use Rattle.tessla_cli.specs.Effects.{ending_of, Watched, WatchEnds, Writes}
-use Rattle.tessla_cli.specs.inner.RunPhases.{ReadsSpec, GivesSource, counted_text, ends, SourceEnds, spec_refused, compiled_ends, printed, whole_ends, WordsEnd, words_refused, asked_ends, sampled, AloneIsDone, written, stopped}
+use Rattle.trace_run.specs.Effects.{Watched, WatchEnds, Writes, ends}
+use Rattle.tessla_cli.specs.inner.RunPhases.{ReadsSpec, GivesSource, SourceEnds, spec_refused, compiled_ends, printed, whole_ends, WordsEnd, words_refused, asked_ends, sampled, AloneIsDone, written, stopped}
 use Rattle.tessla_cli.specs.Printed.{IsTextOf}
-use Rattle.tessla_cli.specs.Statistics.{AreStatistics}
+use Rattle.trace_run.specs.Statistics.{AreStatistics, counted_text}
 use Rattle.tessla_cli.specs.Tasks.{Alone, Request, Task, alone, alone_of, asked_of, asks_statistics, benched, has_statistics, made, monitor, names_of, over, requested, with_spec, without_spec}
 use Rattle.tessla_cli.proofs.Failing.{call_and_none, call_and_write, none_and_write}
 use Rattle.tessla_cli.proofs.Unseen.{no_update_is_seen}
@@ -54,6 +55,12 @@ run_not_words run.Done is = absurd (let e : ending.Words ≡ ending.Done = is in
 run_not_words (run.Trace fault) is = absurd (let e : ending.Words ≡ ending.Trace fault = is in cc)
 run_not_words (run.Fault t k p) is = absurd (let e : ending.Words ≡ ending.Fault t k p = is in cc)
 run_not_words (run.Limit n t) is = absurd (let e : ending.Words ≡ ending.Limit n t = is in cc)
+
+run_not_spec : (fault : SpecFault) (how : RunEnding) → ending.Spec fault ≡ ending_of how → ⊥
+run_not_spec fault run.Done is = absurd (let e : ending.Spec fault ≡ ending.Done = is in cc)
+run_not_spec fault (run.Trace f) is = absurd (let e : ending.Spec fault ≡ ending.Trace f = is in cc)
+run_not_spec fault (run.Fault t k p) is = absurd (let e : ending.Spec fault ≡ ending.Fault t k p = is in cc)
+run_not_spec fault (run.Limit n t) is = absurd (let e : ending.Spec fault ≡ ending.Limit n t = is in cc)
 
 -- where there is no text, not all is done, and the words are accepted
 stops_not_done : (a : Alone) → AloneStops a ending.Done → ⊥
@@ -83,8 +90,8 @@ module _ (words : List (List ℕ)) where
   -- only these endings have a cause in the trace
   of_watch : (by : Ending) (part : List Did) → EndsRun words by part → RunEnds words by part
   of_watch ending.Done part f = inl f
-  of_watch ending.Words part f = absurd f.holds.ends
-  of_watch (ending.Spec fault) part f = absurd f.holds.ends
+  of_watch ending.Words part f = absurd (run_not_words f.holds.how f.holds.by_is)
+  of_watch (ending.Spec fault) part f = absurd (run_not_spec fault f.holds.how f.holds.by_is)
   of_watch (ending.Trace fault) part f = inl f
   of_watch (ending.Fault t k p) part f = inl f
   of_watch (ending.Limit n t) part f = inl f
@@ -128,10 +135,12 @@ module _ (words : List (List ℕ)) where
     source_ends by rest (spec_refused {fault} same nothing refused none) =
         subst (λ (b : Ending). RunEnds words b (Opened Spec name ∷ (reads ++ rest))) (sym same)
         (inl (subst (λ (l : List Did). SpecRefused words fault (Opened Spec name ∷ l)) (sym (ap (λ (l : List Did). reads ++ l) none ∙ append-nil reads)) (refused_front fault refused)))
-    source_ends by _ (compiled_ends trace o statistics monitors items s c (ends state part taken_plan w e is_told)) =
-        of_watch by.ending (Opened Spec name ∷ (reads ++ Opened Trace trace ∷ part))
-        (of_run words name task is reads r trace o statistics monitors source g items s c (Opened Trace trace ∷ part) (λ items s o. WatchEndsAsMeant items s o by.ending (Opened Spec name ∷ (reads ++ Opened Trace trace ∷ part)))
-        (tt, each_work (IsNoRead Spec) (λ bytes short. refl) (λ bytes. tt) refl tt part w.work) (ends_after words name task is reads r trace o statistics monitors source g items s c state by.ending part e))
+    source_ends by _ (compiled_ends trace o statistics monitors items s c ran by_is told_is (ends state part taken_plan w e is_told)) =
+        let whole = Opened Spec name ∷ (reads ++ Opened Trace trace ∷ part) in
+        of_watch by.ending whole
+        (of_run words name task is reads r trace o statistics monitors source g items s c (Opened Trace trace ∷ part) (λ items s o. OfEnding by.ending (λ how. WatchEndsAsMeant items s o how whole))
+        (tt, each_work (IsNoRead Spec) (λ bytes short. refl) (λ bytes. tt) refl tt part w.work)
+        record { how = ran.ending; by_is = by_is; holds = ends_after words name task is reads r trace o statistics monitors source g items s c state ran.ending part e })
     source_ends by rest (printed f printing done nothing p) =
         let part = Opened Spec name ∷ (reads ++ rest) in
         let begins : Begins (given Out rest) p.text = record { rest = []; is = sym p.whole ∙ sym (append-nil (given Out rest)) } in
@@ -141,18 +150,20 @@ module _ (words : List (List ℕ)) where
 
     -- what is told of the updates of a run, with statistics or without
     run_before : (trace : List ℕ) (o : Options) (statistics : Bool) → task ≡ monitor trace o statistics → (items : List tree.Item) (s : System) → Compiles source items s → (state : engine.State) → IsTakenPlan s state.in_place state.order
-        → (by : Ended) (part : List Did) → Watched s o part → WatchEnds s o state by.ending part → by.statistics ≡ counted_text s state statistics
+        → (by : Ended) (how : RunEnding) (part : List Did) → by.ending ≡ ending_of how → Watched s o part → WatchEnds s o state how part → by.statistics ≡ counted_text s state statistics
         → IsToldBefore words by.ending (Opened Spec name ∷ (reads ++ Opened Trace trace ∷ part)) by.statistics
-    run_before trace o false monitors items s c state taken_plan by part w e is_told = unasked (asks_as words name task is ∙ ap has_statistics monitors) is_told
-    run_before trace o true monitors items s c state taken_plan by part w e is_told =
+    run_before trace o false monitors items s c state taken_plan by how part by_is w e is_told = unasked (asks_as words name task is ∙ ap has_statistics monitors) is_told
+    run_before trace o true monitors items s c state taken_plan by how part by_is w e is_told =
         let whole = Opened Spec name ∷ (reads ++ Opened Trace trace ∷ part) in
         counted (asks_as words name task is ∙ ap has_statistics monitors)
-        (of_run words name task is reads r trace o true monitors source g items s c (Opened Trace trace ∷ part) (λ items s o. AreStatistics s o (taken Trace whole) (ended Trace whole) by.ending by.statistics)
-        (tt, each_work (IsNoRead Spec) (λ bytes short. refl) (λ bytes. tt) refl tt part w.work) (statistics_after words name task is reads r trace o true monitors source g items s c state taken_plan by.ending part by.statistics e is_told))
+        (of_run words name task is reads r trace o true monitors source g items s c (Opened Trace trace ∷ part) (λ items s o. OfEnding by.ending (λ how. AreStatistics s o (taken Trace whole) (ended Trace whole) how by.statistics))
+        (tt, each_work (IsNoRead Spec) (λ bytes short. refl) (λ bytes. tt) refl tt part w.work)
+        record { how = how; by_is = by_is; holds = statistics_after words name task is reads r trace o true monitors source g items s c state taken_plan how part by.statistics e is_told })
 
     source_before : (by : Ended) (rest : List Did) → SourceEnds source task by rest → IsToldBefore words by.ending (Opened Spec name ∷ (reads ++ rest)) by.statistics
     source_before by rest (spec_refused {fault} same nothing refused none) = refused_before fault same nothing
-    source_before by _ (compiled_ends trace o statistics monitors items s c (ends state part taken_plan w e is_told)) = run_before trace o statistics monitors items s c state taken_plan by part w e is_told
+    source_before by _ (compiled_ends trace o statistics monitors items s c ran by_is told_is (ends state part taken_plan w e is_told)) =
+        run_before trace o statistics monitors items s c state taken_plan by ran.ending part by_is w e (told_is ∙ is_told)
     source_before by rest (printed f printing done nothing p) = unasked (asks_as words name task is ∙ ap has_statistics printing) nothing
 
   -- how a run ends, from its parts
@@ -260,15 +271,17 @@ module _ (words : List (List ℕ)) where
 
     -- the ending stays
     ends_told : (by : Ending) → EndsRun words by part → EndsRun words by (part ++ more)
-    ends_told by f = of_run_told (λ items s o. WatchEndsAsMeant items s o by part) (λ items s o. WatchEndsAsMeant items s o by (part ++ more)) stays f
+    ends_told by f =
+        of_run_told (λ items s o. OfEnding by (λ how. WatchEndsAsMeant items s o how part)) (λ items s o. OfEnding by (λ how. WatchEndsAsMeant items s o how (part ++ more)))
+        (λ items s o h. record { how = h.how; by_is = h.by_is; holds = stays items s o h.how h.holds }) f
       where
-        stays : (items : List tree.Item) (s : System) (o : Options) → WatchEndsAsMeant items s o by part → WatchEndsAsMeant items s o by (part ++ more)
-        stays items s o w = record {
+        stays : (items : List tree.Item) (s : System) (o : Options) (how : RunEnding) → WatchEndsAsMeant items s o how part → WatchEndsAsMeant items s o how (part ++ more)
+        stays items s o how w = record {
           due = subst (λ (l : List ℕ). IsDueAsMeant items o l (ended Trace (part ++ more)) (given Out (part ++ more))) (sym (taken_before Trace part more (no_reads Trace)))
               (subst (λ (e : Bool). IsDueAsMeant items o (taken Trace part) e (given Out (part ++ more))) (sym (ended_before Trace part more (no_reads Trace)))
               (subst (λ (l : List ℕ). IsDueAsMeant items o (taken Trace part) (ended Trace part) l) (sym (given_before Out part more no_out)) w.due));
-          ends = subst (λ (l : List ℕ). EndsAsMeant items s o l (ended Trace (part ++ more)) by) (sym (taken_before Trace part more (no_reads Trace)))
-              (subst (λ (e : Bool). EndsAsMeant items s o (taken Trace part) e by) (sym (ended_before Trace part more (no_reads Trace))) w.ends);
+          ends = subst (λ (l : List ℕ). EndsAsMeant items s o l (ended Trace (part ++ more)) how) (sym (taken_before Trace part more (no_reads Trace)))
+              (subst (λ (e : Bool). EndsAsMeant items s o (taken Trace part) e how) (sym (ended_before Trace part more (no_reads Trace))) w.ends);
         }
 
     alone_told : (by : Ending) → AloneEnds words by part → AloneEnds words by (part ++ more)
@@ -311,9 +324,15 @@ module _ (words : List (List ℕ)) where
     before_told by text (unasked asks nothing) = unasked asks nothing
     before_told by text (refused_before fault is nothing) = refused_before fault is nothing
     before_told by text (counted asks f) =
-        counted asks (of_run_told (λ items s o. AreStatistics s o (taken Trace part) (ended Trace part) by text) (λ items s o. AreStatistics s o (taken Trace (part ++ more)) (ended Trace (part ++ more)) by text)
-        (λ items s o are. subst (λ (l : List ℕ). AreStatistics s o l (ended Trace (part ++ more)) by text) (sym (taken_before Trace part more (no_reads Trace)))
-        (subst (λ (e : Bool). AreStatistics s o (taken Trace part) e by text) (sym (ended_before Trace part more (no_reads Trace))) are)) f)
+        counted asks
+        (of_run_told (λ items s o. OfEnding by (λ how. AreStatistics s o (taken Trace part) (ended Trace part) how text))
+        (λ items s o. OfEnding by (λ how. AreStatistics s o (taken Trace (part ++ more)) (ended Trace (part ++ more)) how text))
+        (λ items s o h. record { how = h.how; by_is = h.by_is; holds = stays s o h.how h.holds }) f)
+      where
+        stays : (s : System) (o : Options) (how : RunEnding) → AreStatistics s o (taken Trace part) (ended Trace part) how text → AreStatistics s o (taken Trace (part ++ more)) (ended Trace (part ++ more)) how text
+        stays s o how are =
+            subst (λ (l : List ℕ). AreStatistics s o l (ended Trace (part ++ more)) how text) (sym (taken_before Trace part more (no_reads Trace)))
+            (subst (λ (e : Bool). AreStatistics s o (taken Trace part) e how text) (sym (ended_before Trace part more (no_reads Trace))) are)
 
     -- what Err got
     pub err_told : given Err part ≡ [] → given Err (part ++ more) ≡ given Err more

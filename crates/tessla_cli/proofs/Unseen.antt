@@ -1,88 +1,19 @@
--- No update in place is seen, by the laws of the register machine.
-use Rattle.std.proofs.Common.{◌≡◌, ℕ, suc, ◌+◌, ◌-◌, ◌<◌, ◌≤◌, ◌^◌, Bool, true, List, [], ◌∷◌, Option, Some, None, length, min, refl, ap, subst, ◌∙◌, arith}
-use Rattle.std.proofs.lemmas.List.{length-map}
-use Rattle.std.specs.Prelude.{◌&&◌, IfSome, IsTrue, if◌then◌else◌, is_none, max}
-use Rattle.std.specs.List.{AllByRecursion}
+-- No update in place is seen, whatever the words ask for.
+use Rattle.std.proofs.Common.{◌≡◌, ℕ, ◌<◌, ◌^◌, Bool, List, Option, Some, None, refl, subst}
+use Rattle.std.specs.Prelude.{IfSome}
 use Rattle.std.specs.Option.{option_and_then, option_map}
-use Rattle.alias_rules.specs.Uses.{IsUpdate}
-use Rattle.alias_rules.proofs.Existing.{some_plan}
-use Rattle.alias_rules.proofs.TakenPlan.{one_plan, taken_is_fine}
 use Rattle.command_words.specs.Words.{Command, IsLimited, command_of, bench as benches, check as checks, code as codes_of, flat as flattens, generate as generates, run as runs, show as prints_choice}
 use Rattle.command_words.proofs.Commands.{command_is_limited}
-use Rattle.flat_core.specs.Case.{Streams}
-use Rattle.flat_core.specs.Complete.{IsFlat}
-use Rattle.flat_core.specs.Line.{Line, inputs_of, last_time}
-use Rattle.flat_core.specs.Members.{is_in}
-use Rattle.flat_core.specs.Renumbered.{with_new_args, with_new_equation}
-use Rattle.flat_core.specs.System.{System}
-use Rattle.flat_core.specs.declared.limits.TheConstants.{MOST_EQUATIONS}
-use Rattle.flat_simplify.specs.inner.Laws.{IsFit}
-use Rattle.flat_simplify.proofs.Fit.{simplified_fit}
-use Rattle.register_machine.specs.Copied.{copied, total_copied}
-use Rattle.register_machine.specs.Run.{Plan}
-use Rattle.register_machine.specs.Stands.{IsGiven}
-use Rattle.register_machine.proofs.LaterRuns.{runs_on}
-use Rattle.register_machine.proofs.Shown.{counts, exists, goes_on, leaves, shows}
-use Rattle.spec_compiler.specs.Compiled.{Compiles}
-use Rattle.syntax_tree.specs.Tree as tree
 use Rattle.trace_monitor.specs.declared.options.Options.{Options}
-use Rattle.trace_monitor.specs.Due.{bound_in, lines_in}
-use Rattle.trace_reader.specs.inner.Laws.{IsProperLine}
-use Rattle.trace_reader.specs.Reading.{reading}
-use Rattle.trace_reader.proofs.LineLemmas.{reading_proper}
+use Rattle.trace_run.specs.Limited.{AreLimited}
+use Rattle.trace_run.proofs.Unseen.{updates_unseen}
 use Rattle.tsl_world.specs.Journal.{ended, taken}
 use Rattle.tsl_world.specs.declared.outside.Did.{Did}
-use Rattle.tsl_world.specs.declared.outside.Slot.TheVariants.{Trace}
-use Rattle.tessla_cli.specs.Tasks.{AreLimited, IsLimitedTask, Task, asked_of, monitor, request_of, with_spec}
-use Rattle.tessla_cli.specs.Unseen.{NoUpdateIsSeen, RunsUnseen}
-use Rattle.tessla_cli.proofs.TypedLines.{typed_read}
+use Rattle.tsl_world.specs.declared.outside.Slot.TheVariants.{Spec, Trace}
+use Rattle.tessla_cli.specs.Tasks.{IsLimitedTask, Task, asked_of, monitor, request_of, with_spec}
+use Rattle.tessla_cli.specs.Unseen.{NoUpdateIsSeen}
 
--- ---- a system that is run is whole
-module _ (source : List ℕ) (items : List tree.Item) (s : System) (c : Compiles source items s) where
-  before : IsFlat c.flat
-  before = c.spells.system.is_flat
-
-  pub fit : IsFit c.flat s
-  fit = simplified_fit c.flat s before.proper before.complete.typed c.spells.well_formed before.outputs_run c.simplified
-
-  few_equations : length s.equations ≤ MOST_EQUATIONS
-  few_equations =
-      let many : length s.equations ≡ length c.flat.equations = ap length c.simplified.renumbered.equations_are ∙ length-map c.flat.equations (with_new_args c.simplified.replaced) in
-      let few = before.few_equations in
-      omega arith
-
-  few_outputs : length s.outputs ≤ 2 ^ 31
-  few_outputs =
-      let many : length s.outputs ≡ length c.flat.outputs = ap length c.simplified.renumbered.outputs_are ∙ length-map c.flat.outputs (with_new_equation c.simplified.replaced) in
-      let few = before.few_outputs in
-      omega arith
-
-  flat : IsFlat s
-  flat = record {
-    complete = fit.complete before.complete;
-    few_equations = few_equations;
-    few_outputs = few_outputs;
-    ascending = c.simplified.renumbered.ascending;
-    outputs_run = fit.outputs_run;
-    proper = fit.proper;
-  }
-
--- ---- all times that are closed are below 2^63
-last_small : (s : System) (lines : List Line) → AllByRecursion (IsProperLine s) lines → last_time lines < 2 ^ 63
-last_small s [] all = omega arith
-last_small s (l ∷ []) all = all.0.time
-last_small s (l ∷ m ∷ ls) all = last_small s (m ∷ ls) all.1
-
-closed_small : (last until : ℕ) (b : Bool) → last < 2 ^ 63 → until < 2 ^ 63 → (if b then max last until + 1 else last) ≤ 2 ^ 63
-closed_small last until true low few = omega arith
-closed_small last until _ low few = omega arith
-
-bound_small : (s : System) (o : Options) (bytes : List ℕ) (is_end : Bool) → o.until < 2 ^ 63 → bound_in s o bytes is_end ≤ 2 ^ 63
-bound_small s o bytes is_end few =
-    let r = reading s o.strict o.bytes bytes is_end in
-    closed_small (last_time r.lines) o.until (is_end && is_none r.refused) (last_small s r.lines (reading_proper s o.strict o.bytes bytes is_end)) few
-
--- ---- the words ask for no later time
+-- the words ask for no later time
 limited_command : (words : List (List ℕ)) (c : Option Command) → command_of words ≡ c → IfSome c IsLimited
 limited_command words None is = tt
 limited_command words (Some c) is = command_is_limited words c is
@@ -105,50 +36,6 @@ until_small words name trace o statistics is =
     let limited : AreLimited o = subst AreLimitedAsked is (limited_asked (command_of words) (limited_command words (command_of words) refl)) in
     limited.until
 
--- ---- what happens in place copies nothing
-listed_copies_none : (s : System) (set : List ℕ) (z : Streams) (u t : ℕ) → IsTrue (is_in set u) → copied s set z u t ≡ 0
-listed_copies_none s set z u t listed = λ k. if listed k then 0 else min (total_copied s z u t) (2 ^ 64 - 1)
-
-module _ (s : System) (whole : IsFlat s) (plan : Plan) (lines : List Line) (bound : ℕ) (z : Streams) (given : IsGiven s plan lines bound z) where
-  update : (u : ℕ) → IsTrue (is_in plan.in_place u) → IsUpdate s u
-  update u listed = given.fine.updates u listed
-
-  pub runs_unseen : RunsUnseen s plan lines bound z
-  runs_unseen = record {
-    exist = exists s plan lines bound z given;
-    go_on = goes_on s plan lines bound z given;
-    run_on = λ t below a run. runs_on s plan lines z t a run;
-    leave = leaves s plan lines bound z given;
-    show = shows s plan lines bound z given;
-    copy_none = λ t within a run u listed. (counts s plan lines bound z given t within a run).between u (update u listed) ∙ listed_copies_none s plan.in_place z u t listed;
-    copy_none_within = λ t below a run c reaches u listed.
-        (counts s plan lines bound z given t (omega arith) a run).within below c reaches u (update u listed) ∙ listed_copies_none s plan.in_place z u (suc t) listed;
-  }
-
 pub no_update_is_seen : (words : List (List ℕ)) (part : List Did) → NoUpdateIsSeen words part
-no_update_is_seen words part name trace o statistics items s asked c = record {
-  solved = f.solved (inputs_of (lines_in s o bytes is_end)) (bound_in s o bytes is_end);
-  each = λ z zs. record {
-    some_plan = some_plan s f.proper f.outputs_run f.well_formed;
-    one_plan = λ set order other others first second. let one = one_plan s set order other others first second in (one.set_is, one.order_is);
-    each = λ set order taken_plan. runs_unseen s whole (record { in_place = set; order = order }) (lines_in s o bytes is_end) (bound_in s o bytes is_end) z record {
-      flat = whole;
-      fine = taken_is_fine s set order f.proper f.outputs_run f.well_formed taken_plan;
-      typed_lines = typed_read s o bytes is_end;
-      solves = zs;
-      small = bound_small s o bytes is_end (until_small words name trace o statistics asked);
-    };
-  };
-}
-  where
-    bytes : List ℕ
-    bytes = taken Trace part
-
-    is_end : Bool
-    is_end = ended Trace part
-
-    f : IsFit c.flat s
-    f = fit _ items s c
-
-    whole : IsFlat s
-    whole = flat _ items s c
+no_update_is_seen words part name trace o statistics items s asked c =
+    updates_unseen (taken Spec part) items s o c (until_small words name trace o statistics asked) (taken Trace part) (ended Trace part)

@@ -12,7 +12,7 @@ use Rattle.tessla_cli.specs.declared.alone.AloneOutcome.{AloneOutcome}
 use Rattle.tessla_cli.specs.declared.alone.AloneOutcome.TheVariants as comes
 use Rattle.tessla_cli.specs.declared.ending.Ending.{Ending}
 use Rattle.tessla_cli.specs.declared.ending.Ending.TheVariants as ending
-use Rattle.tessla_cli.specs.Effects.{ending_of}
+use Rattle.tessla_cli.specs.Endings.{ending_of}
 use Rattle.tessla_cli.specs.Tasks.{Alone, benched, made}
 
 -- the text that is written: the sample trace, or a tally of the run over it

@@ -1,9 +1,9 @@
 -- COMPLETENESS: what nothing stands against is done whole, unless the outside failed or memory ran out.
-use Rattle.std.specs.Prelude.{◌≡◌, ◌⊎◌, ℕ, ⊤, Bool, true, List, Some, None}
+use Rattle.std.specs.Prelude.{◌≡◌, ◌⊎◌, ℕ, ⊤, Bool, true, List, Some}
 use Rattle.flat_core.specs.System.{System}
 use Rattle.spec_compiler.specs.Compiled.{Compiles}
 use Rattle.syntax_tree.specs.Tree as tree
-use Rattle.trace_monitor.specs.declared.options.Options.{Options}
+use Rattle.trace_run.specs.Meant.{IsUnhindered}
 use Rattle.tsl_world.specs.Begins.{Begins}
 use Rattle.tsl_world.specs.Journal.{taken, ended}
 use Rattle.tsl_world.specs.declared.outside.Did.{Did}
@@ -12,14 +12,7 @@ use Rattle.tessla_cli.specs.declared.ending.Ending.TheVariants as ending
 use Rattle.tessla_cli.specs.declared.task.Form.{Form}
 use Rattle.tessla_cli.specs.Conduct.{EndsAlone, EndsPrint, EndsRun, OfAlone}
 use Rattle.tessla_cli.specs.Headline.{OfRun}
-use Rattle.tessla_cli.specs.Meant.{IsQuietAsMeant, refused_meant}
 use Rattle.tessla_cli.specs.Tasks.{asked_of, print}
-
--- Nothing in these bytes of a trace ends a run before its end: no line is refused, no fault is closed, and no more instants are closed
--- than may be.
-pub record IsUnhindered (items : List tree.Item) (s : System) (o : Options) (bytes : List ℕ) (ended : Bool) : Type 0 where
-  pub accepted : refused_meant items o bytes ended ≡ None
-  pub quiet : IsQuietAsMeant items o bytes ended
 
 -- A whole trace of which this much was taken, and all of it where its end was read.
 pub record IsWholeTrace (part : List Did) (whole : List ℕ) : Type 0 where

@@ -12,7 +12,8 @@ use Rattle.tessla_cli.specs.declared.ending.Ending.{Ending}
 use Rattle.tessla_cli.specs.declared.ending.Ending.TheVariants as ending
 use Rattle.tsl_world.specs.Begins.{Begins}
 use Rattle.tessla_cli.specs.Alone.{AloneStops, IsAloneText}
-use Rattle.tessla_cli.specs.Meant.{GoesOnAsMeant, BeginsAsMeant, WatchEndsAsMeant}
+use Rattle.trace_run.specs.Meant.{GoesOnAsMeant, BeginsAsMeant, WatchEndsAsMeant}
+use Rattle.tessla_cli.specs.Endings.{OfEnding}
 use Rattle.tessla_cli.specs.Headline.{OfRun}
 use Rattle.tessla_cli.specs.Printed.{IsTextOf}
 use Rattle.tessla_cli.specs.Tasks.{Alone, Task, alone_of, print, asked_of, names_of, requested}
@@ -97,7 +98,7 @@ module _ (words : List (List ℕ)) where
 
   -- All the text that is due of what was taken was given to Out, and this is the cause of the ending.
   abbrev pub EndsRun : Ending → List Did → Type 0
-  EndsRun by part = OfRun words part (λ items s o. WatchEndsAsMeant items s o by part)
+  EndsRun by part = OfRun words part (λ items s o. OfEnding by (λ how. WatchEndsAsMeant items s o how part))
 
   -- All of the text that the words ask to print was given to Out.
   abbrev pub EndsPrint : List Did → Type 0

@@ -12,7 +12,7 @@ use Rattle.tsl_world.specs.Journal.{given, taken, AtReads}
 use Rattle.tsl_world.specs.declared.outside.Channel.TheVariants.{Out}
 use Rattle.tsl_world.specs.declared.outside.Did.{Did}
 use Rattle.tsl_world.specs.declared.outside.Slot.TheVariants.{Spec, Trace}
-use Rattle.tessla_cli.specs.Meant.{IsDueAsMeant}
+use Rattle.trace_run.specs.Meant.{IsDueAsMeant}
 use Rattle.tessla_cli.specs.Tasks.{monitor, asked_of}
 
 module _ (words : List (List ℕ)) where

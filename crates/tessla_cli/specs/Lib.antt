@@ -1,10 +1,8 @@
 pub mod Tasks
+pub mod Endings
 pub mod Printed
 pub mod Messages
-pub mod Effects
-pub mod Statistics
 pub mod Alone
-pub mod Meant
 pub mod Headline
 pub mod Failures
 pub mod Conduct

@@ -20,8 +20,8 @@ use Rattle.trace_reader.specs.declared.fault.TraceFault.TheVariants as trace
 use Rattle.tessla_cli.specs.declared.ending.Ending.{Ending}
 use Rattle.tessla_cli.specs.declared.ending.Ending.TheVariants as ending
 use Rattle.tessla_cli.specs.declared.ending.Ended.{Ended}
-use Rattle.tessla_cli.specs.declared.ending.Broken.{Broken}
-use Rattle.tessla_cli.specs.declared.ending.Broken.TheVariants as broken
+use Rattle.trace_run.specs.declared.broken.Broken.{Broken}
+use Rattle.trace_run.specs.declared.broken.Broken.TheVariants as broken
 
 -- the number of a refused line, and why it is refused; out of memory is told otherwise
 abbrev pub line_text : ℕ → List ℕ → List ℕ

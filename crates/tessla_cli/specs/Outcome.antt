@@ -3,6 +3,8 @@ use Rattle.std.specs.Prelude.{◌≡◌, ◌⊎◌, ℕ, true, false, List, [], 
 use Rattle.lift_func.specs.declared.fault.FaultKind.{FaultKind}
 use Rattle.trace_reader.specs.declared.fault.TraceFault.{TraceFault}
 use Rattle.spec_reader.specs.declared.fault.SpecFault.{SpecFault}
+use Rattle.trace_run.specs.Effects.{Writes}
+use Rattle.trace_run.specs.Statistics.{AreStatistics}
 use Rattle.tsl_value.specs.declared.place.Place.{Place}
 use Rattle.tsl_world.specs.Begins.{BeginsStrictly}
 use Rattle.tsl_world.specs.declared.outside.Did.{Did}
@@ -12,15 +14,14 @@ use Rattle.tsl_world.specs.Journal.{given, taken, ended, StopsAtEnd}
 use Rattle.tessla_cli.specs.declared.ending.Ended.{Ended}
 use Rattle.tessla_cli.specs.declared.ending.Ending.{Ending}
 use Rattle.tessla_cli.specs.declared.ending.Ending.TheVariants as ending
-use Rattle.tessla_cli.specs.declared.ending.Broken.{Broken}
-use Rattle.tessla_cli.specs.declared.ending.Broken.TheVariants as broken
+use Rattle.trace_run.specs.declared.broken.Broken.{Broken}
+use Rattle.trace_run.specs.declared.broken.Broken.TheVariants as broken
 use Rattle.tessla_cli.specs.Conduct.{OpensAsAsked, MakesNothing, ReadsSpecFirst, ReadsTraceLast, StopsAtLimit, ReadsPieces, GoesOnAtReads}
 use Rattle.tessla_cli.specs.Conduct.{IsPartlyDue, RunEnds, StopsAtFailures, WritesLast}
-use Rattle.tessla_cli.specs.Effects.{Writes}
+use Rattle.tessla_cli.specs.Endings.{OfEnding}
 use Rattle.tessla_cli.specs.Failures.{Failures, NoneFailed, CallFailed, WriteFailed, BothFailed}
 use Rattle.tessla_cli.specs.Headline.{IsDueAtReads, OfRun}
 use Rattle.tessla_cli.specs.Messages.{ended_text, ending_line, broken_line, broken_status, status_of}
-use Rattle.tessla_cli.specs.Statistics.{AreStatistics}
 use Rattle.tessla_cli.specs.Tasks.{asks_statistics}
 use Rattle.tessla_cli.specs.Unseen.{NoUpdateIsSeen}
 
@@ -48,7 +49,8 @@ module _ (words : List (List ℕ)) where
   pub data IsToldBefore (by : Ending) (part : List Did) (text : List ℕ) : Type 0 where
     unasked : asks_statistics words ≡ false → text ≡ [] → IsToldBefore by part text
     refused_before : (fault : SpecFault) → by ≡ ending.Spec fault → text ≡ [] → IsToldBefore by part text
-    counted : asks_statistics words ≡ true → OfRun words part (λ items s o. AreStatistics s o (taken Trace part) (ended Trace part) by text)
+    counted : asks_statistics words ≡ true
+        → OfRun words part (λ items s o. OfEnding by (λ how. AreStatistics s o (taken Trace part) (ended Trace part) how text))
         → IsToldBefore by part text
 
   -- The program ends so. Err was given what is told before and then the line of the ending, if it has one.

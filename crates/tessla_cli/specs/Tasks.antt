@@ -1,5 +1,5 @@
 -- What the words ask the program to do.
-use Rattle.std.specs.Prelude.{ℕ, ◌<◌, ◌≤◌, ◌^◌, ⊤, Bool, false, List, [], ◌∷◌, Option, Some, None, option_and_then, option_map}
+use Rattle.std.specs.Prelude.{ℕ, ◌<◌, ◌^◌, ⊤, Bool, false, List, [], ◌∷◌, Option, Some, None, option_and_then, option_map}
 use Rattle.std.specs.Option.{option_map_or}
 use Rattle.command_words.specs.Words.{Command, Run, check, flat, show, code, run, generate, bench, command_of}
 use Rattle.command_words.specs.declared.words.Workload.{Workload}
@@ -14,7 +14,7 @@ use Rattle.tessla_cli.specs.declared.task.Form.{Form}
 use Rattle.tessla_cli.specs.declared.task.Form.TheVariants as form
 use Rattle.tessla_cli.specs.declared.task.Task.{Task as CodeTask}
 use Rattle.tessla_cli.specs.declared.task.Task.TheVariants as seen
-use Rattle.tsl_value.specs.declared.limits.TheConstants.{MOST_TRACE_BYTES}
+use Rattle.trace_run.specs.Limited.{AreLimited}
 
 -- With a specification that is compiled: a text of this form is printed, or the trace of this name is monitored, with statistics or without
 pub data Task : Type 0 where
@@ -85,13 +85,7 @@ traces_of (monitor trace o statistics) = (Trace, trace) ∷ []
 abbrev pub names_of : List ℕ → Task → List (Slot × List ℕ)
 names_of name task = (Spec, name) ∷ traces_of task
 
--- what holds of the options of each run that is asked for
-pub record AreLimited (o : Options) : Type 0 where
-  pub until : o.until < 2 ^ 63
-  pub some_instants : 1 ≤ o.instants
-  pub some_bytes : 1 ≤ o.bytes
-  pub few_bytes : o.bytes ≤ MOST_TRACE_BYTES
-
+-- what holds of each task
 abbrev pub IsLimitedTask : Task → Type 0
 IsLimitedTask (print f) = ⊤
 IsLimitedTask (monitor trace o statistics) = AreLimited o

@@ -1,52 +1,16 @@
 -- THE HEADLINE'S LAST CLAUSE: no update that is listed in place copies an element or changes a register that is still read.
-use Rattle.std.specs.Prelude.{◌≡◌, ℕ, ◌<◌, ◌≤◌, Bool, List, Some, IsFalse, IsTrue}
-use Rattle.alias_rules.specs.Fine.{IsTakenPlan}
-use Rattle.flat_core.specs.Case.{Streams}
-use Rattle.flat_core.specs.Fault.{is_faulty}
-use Rattle.flat_core.specs.Line.{Line, inputs_of}
-use Rattle.flat_core.specs.Members.{is_in}
+use Rattle.std.specs.Prelude.{◌≡◌, ℕ, Bool, List, Some}
 use Rattle.flat_core.specs.System.{System}
-use Rattle.register_machine.specs.Laws.{GoesOn, LeavesWhatIsRead, Reaches, RunsOn, ShowsInstant}
-use Rattle.register_machine.specs.Machine.{Config}
-use Rattle.register_machine.specs.Run.{Plan, State}
-use Rattle.register_machine.specs.Stands.{RunsTo}
 use Rattle.spec_compiler.specs.Compiled.{Compiles}
 use Rattle.syntax_tree.specs.Tree as tree
 use Rattle.trace_monitor.specs.declared.options.Options.{Options}
 use Rattle.trace_monitor.specs.Due.{bound_in, lines_in}
 use Rattle.trace_monitor.specs.Ending.{InAll}
+use Rattle.trace_run.specs.Unseen.{UpdatesUnseen}
 use Rattle.tsl_world.specs.Journal.{ended, taken}
 use Rattle.tsl_world.specs.declared.outside.Did.{Did}
 use Rattle.tsl_world.specs.declared.outside.Slot.TheVariants.{Spec, Trace}
 use Rattle.tessla_cli.specs.Tasks.{asked_of, monitor}
-
--- Of the runs of the register machine by a plan over the instants of lines below a bound: there is one up to each time before which no root
--- fault comes. From each state to which one has come the machine is not stuck at the time that follows: it reaches the last print, that of
--- a fault's instant included, and without a root fault it ends with a state to which a run has come. At each instant each update in place
--- leaves what is still read, and what is printed and the root faults are those of the streams. And what happens in place has copied
--- nothing.
-pub record RunsUnseen (s : System) (plan : Plan) (lines : List Line) (bound : ℕ) (z : Streams) : Type 0 where
-  pub exist :
-      (t : ℕ) →
-      t ≤ bound →
-      ((u : ℕ) → u < t → IsFalse (is_faulty s (inputs_of lines) z u)) →
-      (a : State) × RunsTo s plan lines z t a
-  pub go_on : (t : ℕ) → t < bound → (a : State) → RunsTo s plan lines z t a → GoesOn s plan lines z t a
-  pub run_on : (t : ℕ) → t < bound → (a : State) → RunsTo s plan lines z t a → RunsOn s plan lines z t a
-  pub leave : (t : ℕ) → t < bound → (a : State) → RunsTo s plan lines z t a → LeavesWhatIsRead s plan lines t a
-  pub show : (t : ℕ) → t < bound → (a : State) → RunsTo s plan lines z t a → ShowsInstant s plan lines z t a
-  pub copy_none : (t : ℕ) → t ≤ bound → (a : State) → RunsTo s plan lines z t a
-      → (u : ℕ) → IsTrue (is_in plan.in_place u) → a.ledger u ≡ 0
-  pub copy_none_within : (t : ℕ) → t < bound → (a : State) → RunsTo s plan lines z t a
-      → (c : Config) → Reaches s plan lines t a c
-      → (u : ℕ) → IsTrue (is_in plan.in_place u) → c.ledger u ≡ 0
-
--- So it is by the plan that is taken, with the listed set and its order: by that which `code` prints. It can't be that none is, and two are
--- one.
-pub record UpdatesUnseen (s : System) (lines : List Line) (bound : ℕ) (z : Streams) : Type 0 where
-  pub some_plan : ((set order : List ℕ) → IsTakenPlan s set order → ⊥) → ⊥
-  pub one_plan : (set order other others : List ℕ) → IsTakenPlan s set order → IsTakenPlan s other others → (set ≡ other) × (order ≡ others)
-  pub each : (set order : List ℕ) → IsTakenPlan s set order → RunsUnseen s (record { in_place = set; order = order }) lines bound z
 
 -- for the system that is run, over all of the trace that was taken, for all streams that solve it at the closed times
 abbrev pub NoUpdateIsSeen : List (List ℕ) → List Did → Type 0

@@ -4,9 +4,8 @@ ghost use Rattle.std.specs.Prelude.{◌<◌, ◌^◌, IfOk};
 ghost use Rattle.tessla_cli.specs.Alone.{IsAloneOutcome};
 ghost use Rattle.tessla_cli.specs.Tasks.{IsLimitedAlone, alone_seen, benched};
 
-use crate::ending::{Ending, refused};
+use crate::ending::{Ending, ending_of, refused};
 use crate::task::Alone;
-use crate::watch::ending_of;
 use command_words::words::Workload;
 use sample_trace::trace::sample_trace;
 use std::alloc::Global;

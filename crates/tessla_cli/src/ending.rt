@@ -1,16 +1,18 @@
 // How a run ends.
 
 ghost use Rattle.std.specs.Prelude.{◌≡◌, ◌≢◌, [], IfOk};
+ghost use Rattle.tessla_cli.specs.Endings.{ending_of};
 
 use lift_func::fault::FaultKind;
 use spec_reader::fault::SpecFault;
-use std::alloc::{AllocError, Global};
+use std::alloc::Global;
+use trace_monitor::ending::RunEnding;
 use trace_reader::fault::TraceFault;
+use trace_run::run::Ran;
 use tsl_value::bytes::Bytes;
 use tsl_value::memory::NoMemory;
 use tsl_value::place::Place;
 use tsl_value::time::Time;
-use tsl_world::Failed;
 
 /// How a run ends where the outside and the memory served it.
 #[derive(Drop)]
@@ -36,6 +38,18 @@ pub enum Ending {
     },
 }
 
+/// How the program ends where a run over a trace ends so.
+pub fn ending_of(ending: RunEnding) -> Ending
+    ensures { result ≡ ending_of ending }
+{
+    match ending {
+        RunEnding::Done => Ending::Done,
+        RunEnding::Trace(fault) => Ending::Trace(fault),
+        RunEnding::Fault { time, kind, place } => Ending::Fault { time, kind, place },
+        RunEnding::Limit { count, time } => Ending::Limit { count, time },
+    }
+}
+
 /// How a run ends, and what is told of its updates before that.
 #[derive(Drop)]
 pub struct Ended {
@@ -55,6 +69,17 @@ impl Ended {
             statistics: Bytes::new(alloc),
         }
     }
+
+    /// The ending of a run over a trace, with its statistics.
+    pub fn of(ran: Ran) -> Ended
+        ensures ending { result.ending ≡ ending_of ran.ending }
+        ensures statistics { result.statistics ≡ ran.statistics }
+    {
+        Ended {
+            ending: ending_of(ran.ending),
+            statistics: ran.statistics,
+        }
+    }
 }
 
 /// How a run ends whose specification is refused in this way. Out of memory refuses none.
@@ -65,47 +90,5 @@ pub fn refused(fault: SpecFault) -> Result<Ending, NoMemory>
     match fault {
         SpecFault::Memory => Err(NoMemory),
         fault => Ok(Ending::Spec(fault)),
-    }
-}
-
-/// What cut a run short.
-#[derive(Clone, Copy, PartialEq, Eq, Debug)]
-pub enum Broken {
-    /// A call of the outside failed.
-    Outside,
-    /// Out of memory.
-    Memory,
-}
-
-impl From<Failed> for Broken {
-    ghost use Rattle.std.specs.Prelude.{◌≡◌};
-    ghost use Rattle.tessla_cli.specs.declared.ending.Broken.TheVariants.{Outside};
-
-    ghost from_gives = { λ _ broken. broken ≡ Outside };
-
-    fn from(_failed: Failed) -> Broken {
-        Broken::Outside
-    }
-}
-
-impl From<NoMemory> for Broken {
-    ghost use Rattle.std.specs.Prelude.{◌≡◌};
-    ghost use Rattle.tessla_cli.specs.declared.ending.Broken.TheVariants.{Memory};
-
-    ghost from_gives = { λ _ broken. broken ≡ Memory };
-
-    fn from(_none: NoMemory) -> Broken {
-        Broken::Memory
-    }
-}
-
-impl From<AllocError> for Broken {
-    ghost use Rattle.std.specs.Prelude.{◌≡◌};
-    ghost use Rattle.tessla_cli.specs.declared.ending.Broken.TheVariants.{Memory};
-
-    ghost from_gives = { λ _ broken. broken ≡ Memory };
-
-    fn from(_none: AllocError) -> Broken {
-        Broken::Memory
     }
 }

@@ -5,7 +5,7 @@ ghost use Rattle.tessla_cli.specs.Messages.{at_text, back_text, broken_line, bro
 ghost use Rattle.tessla_cli.specs.Messages.{ending_line, flat_text, lex_text, limit_text, line_text, members_text, next_text, parse_text};
 ghost use Rattle.tessla_cli.specs.Messages.{spec_text, status_of, trace_text, twice_text, types_text, wrong_text};
 
-use crate::ending::{Broken, Ended, Ending};
+use crate::ending::{Ended, Ending};
 use event_writer::fault::write_fault;
 use event_writer::place::print_place;
 use spec_lexer::fault::LexFault;
@@ -13,6 +13,7 @@ use spec_parser::parse::ParseFault;
 use spec_reader::fault::{FlatFault, SpecFault};
 use std::alloc::Global;
 use trace_reader::fault::TraceFault;
+use trace_run::broken::Broken;
 use tsl_value::bytes::Bytes;
 use tsl_value::memory::NoMemory;
 use tsl_value::place::Place;
@@ -263,24 +264,22 @@ impl Ending {
     }
 }
 
-impl Broken {
-    /// The line that tells what cut a run short.
-    pub fn line(self) -> &'static [u8]
-        ensures { result.now ≡ broken_line self }
-    {
-        match self {
-            Broken::Outside => b"outside: a call failed\n",
-            Broken::Memory => b"out of memory\n",
-        }
+/// The line that tells what cut a run short.
+pub fn broken_line(broken: Broken) -> &'static [u8]
+    ensures { result.now ≡ broken_line broken }
+{
+    match broken {
+        Broken::Outside => b"outside: a call failed\n",
+        Broken::Memory => b"out of memory\n",
     }
+}
 
-    /// The status with which the program ends then.
-    pub fn status(self) -> u8
-        ensures { result ≡ broken_status self }
-    {
-        match self {
-            Broken::Outside => 5,
-            Broken::Memory => 6,
-        }
+/// The status with which the program ends then.
+pub fn broken_status(broken: Broken) -> u8
+    ensures { result ≡ broken_status broken }
+{
+    match broken {
+        Broken::Outside => 5,
+        Broken::Memory => 6,
     }
 }

@@ -8,58 +8,24 @@ ghost use Rattle.spec_compiler.specs.inner.Ready.{IsReady};
 ghost use Rattle.tsl_world.specs.Standing.{at_first, is_open};
 ghost use Rattle.tsl_world.specs.Runs.{Grows};
 ghost use Rattle.tsl_world.specs.World.{RoseBy};
-ghost use Rattle.tessla_cli.specs.inner.RunPhases.{AloneIsDone, HasPrinted, RunsAlone, RunsSystem, SystemEnds, RunsSource, SourceEnds};
+ghost use Rattle.tessla_cli.specs.inner.RunPhases.{AloneIsDone, HasPrinted, RunsAlone, RunsSource, SourceEnds};
 ghost use Rattle.tessla_cli.specs.inner.RunPhases.{RunsSpec};
 ghost use Rattle.tessla_cli.specs.inner.RunPhases.{SpecEnds, RunsWords, WordsEnd};
-ghost use Rattle.tessla_cli.specs.Tasks.{AreLimited, IsLimitedAlone, IsLimitedTask, alone_seen, print, task_seen};
+ghost use Rattle.tessla_cli.specs.Tasks.{IsLimitedAlone, IsLimitedTask, alone_seen, print, task_seen};
 
 use crate::alone::{AloneOutcome, outcome_of};
-use crate::ending::{Broken, Ended, Ending, refused};
+use crate::ending::{Ended, Ending, refused};
 use crate::print::text_of;
 use crate::source::read_source;
-use crate::statistics::statistics_of;
 use crate::task::{Alone, Form, Request, Task, asked_for};
-use crate::watch::watch;
-use crate::write::write_all;
 use command_words::words::Words;
-use register_code::code::Code;
 use spec_compiler::compile::{Compiled, compile};
 use std::alloc::Global;
-use trace_monitor::monitor::TraceMonitor;
-use trace_monitor::options::Options;
 use trace_reader::limits::MOST_PIECE_BYTES;
+use trace_run::broken::Broken;
+use trace_run::run::run_code;
+use trace_run::write::write_all;
 use tsl_world::{Channel, Slot, World};
-
-/// Opens the trace of this name and monitors it by the code of a system, with statistics or without.
-fn run_code<W: World>(
-    alloc: Global,
-    world: &mut W,
-    code: &Code,
-    trace: &str,
-    options: Options,
-    with_statistics: bool,
-    buf: &mut [u8],
-) -> Result<Ended, Broken>
-    requires room { 0 < length buf.old }
-    requires short { length buf.old ≤ MOST_PIECE_BYTES }
-    requires stands { is_open (W.standing world.old) Slot.Trace ≡ false }
-    requires ready { IsReady code.now.system }
-    requires taken { IsTakenPlan code.now.system code.now.in_place code.now.order }
-    requires limited { AreLimited options }
-    ensures ok { OnOk result (W.faults world.new ≡ W.faults world.old) }
-    ensures outside { IsErrOf result Broken.Outside → RoseBy 1 (W.faults world.old) (W.faults world.new) }
-    ensures memory { IsErrOf result Broken.Memory → W.faults world.new ≡ W.faults world.old }
-    ensures heard { W.unheard world.new ≡ W.unheard world.old }
-    ensures calls { Grows W.told W.journal world.old world.new (RunsSystem trace.now code.now.system options) }
-    ensures ending { IfOk result (λ ended. Grows W.told W.journal world.old world.new
-        (SystemEnds trace.now code.now.system options with_statistics ended)) }
-{
-    let mut monitor = TraceMonitor::new(alloc, code, options)?;
-    world.open(Slot::Trace, trace)?;
-    let ending = watch(alloc, world, &mut monitor, options.bytes, buf)?;
-    let statistics = statistics_of(alloc, code.flat(), &monitor, with_statistics)?;
-    Ok(Ended { ending, statistics })
-}
 
 /// Prints the text that the code of a source has in a form.
 fn print_text<W: World>(
@@ -114,7 +80,7 @@ fn perform<W: World>(
             trace,
             options,
             with_statistics,
-        } => Ok(run_code(
+        } => Ok(Ended::of(run_code(
             alloc,
             world,
             &compiled.code,
@@ -122,7 +88,7 @@ fn perform<W: World>(
             options,
             with_statistics,
             buf,
-        )?),
+        )?)),
     }
 }
 

@@ -7,9 +7,9 @@ ghost use Rattle.tsl_world.specs.Runs.{Runs};
 ghost use Rattle.tessla_cli.specs.inner.RunPhases.{ReadsSpec, GivesSource};
 ghost use Rattle.trace_reader.specs.declared.limits.TheConstants.{MOST_PIECE_BYTES};
 
-use crate::ending::Broken;
 use spec_lexer::limits::MOST_SOURCE_BYTES;
 use std::alloc::Global;
+use trace_run::broken::Broken;
 use tsl_value::bytes::Bytes;
 use tsl_world::{Slot, World};
 

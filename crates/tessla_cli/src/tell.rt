@@ -5,9 +5,11 @@ ghost use Rattle.tsl_world.specs.Runs.{Runs};
 ghost use Rattle.tessla_cli.specs.Failures.{NoneFailed, WriteFailed, failures};
 ghost use Rattle.tessla_cli.specs.Outcome.{TellsBroken, TellsEnding};
 
-use crate::ending::{Broken, Ended};
-use crate::write::write_all;
+use crate::ending::Ended;
+use crate::report::{broken_line, broken_status};
 use std::alloc::Global;
+use trace_run::broken::Broken;
+use trace_run::write::write_all;
 use tsl_world::{Channel, World};
 
 /// Tells on the standard error what cut a run short. The answer is the status.
@@ -21,8 +23,8 @@ pub fn tell_broken<W: World>(world: &mut W, broken: Broken) -> u8
     ensures calls { Runs W.told W.journal W.standing world.old world.new
         (TellsBroken broken (failures W.faults W.unheard world.old) (failures W.faults W.unheard world.new) result) }
 {
-    match write_all(world, Channel::Err, broken.line()) {
-        Ok(()) => broken.status(),
+    match write_all(world, Channel::Err, broken_line(broken)) {
+        Ok(()) => broken_status(broken),
         Err(_) => 5,
     }
 }

@@ -14,11 +14,12 @@ ghost use Rattle.tessla_cli.specs.Messages.{broken_line};
 ghost use Rattle.tessla_cli.specs.Outcome.{Concludes, Ends, Faulted, Limited, IsExact, LineRefused, Refused, Tells, TellsFailure};
 ghost use Rattle.tessla_cli.specs.Unseen.{NoUpdateIsSeen};
 
-use crate::ending::{Broken, Ending};
+use crate::ending::Ending;
 use crate::run::run;
 use crate::tell::{tell_broken, tell_ending};
 use command_words::words::Words;
 use std::alloc::Global;
+use trace_run::broken::Broken;
 use tsl_world::{Slot, World};
 
 /// Does what the words ask for and tells how it ended. The answer is the status.

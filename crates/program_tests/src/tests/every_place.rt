@@ -3,12 +3,14 @@
 ghost use Rattle.std.specs.Prelude.{◌<◌, IfOk};
 ghost use Rattle.tsl_world.specs.inner.Sizes.{AreSizes};
 
-use crate::tests::{Left, RUN, SEEN, file, run, run_files, words};
+use crate::tests::{RUN, SEEN, run, run_files};
+use memory_files::end::Left;
+use memory_files::files::{files, words};
 use std::alloc::Global;
 use std::test::Fail;
 use tessla_cli::top::tessla;
 use tsl_value::memory::NoMemory;
-use tsl_world::{Calls, Files, MemoryWorld, Sizes};
+use tsl_world::{Calls, MemoryWorld, Sizes};
 
 /// The set before each update is kept as well, so that each update copies.
 const KEPT: &str =
@@ -52,9 +54,7 @@ fn several(alloc: Global) -> Result<Sizes, NoMemory>
 fn run_failing(alloc: Global, spec: &str, trace: &str, call: u64) -> Result<Left, NoMemory> {
     let mut calls = Calls::new(alloc);
     calls.push(call)?;
-    let mut files = Files::new(alloc);
-    files.push(file(alloc, "s.tsl", spec.as_bytes())?)?;
-    files.push(file(alloc, "-", trace.as_bytes())?)?;
+    let files = files(alloc, spec, "-", trace.as_bytes())?;
     let mut world = MemoryWorld::with_pieces(alloc, files, several(alloc)?, calls)?;
     let status = tessla(alloc, &words(alloc, STATISTICS)?, &mut world);
     Ok(Left { status, world })

@@ -1,17 +1,20 @@
 -- The phases of a run, by what each adds to the journal.
-use Rattle.std.specs.Prelude.{◌≡◌, ℕ, ◌≤◌, Bool, true, false, List, [], ◌∷◌, ◌++◌, length, slice_index, Some, None}
-use Rattle.alias_rules.specs.Fine.{IsTakenPlan}
+use Rattle.std.specs.Prelude.{◌≡◌, ℕ, ◌≤◌, Bool, false, List, [], ◌∷◌, ◌++◌, length, Some, None}
 use Rattle.flat_core.specs.System.{System}
-use Rattle.monitor_run.specs.inner.State as engine
 use Rattle.spec_compiler.specs.Compiled.{Compiles, IsRefusedBy}
-use Rattle.syntax_tree.specs.Tree as tree
+use Rattle.spec_lexer.specs.declared.limits.TheConstants.{MOST_SOURCE_BYTES}
 use Rattle.spec_reader.specs.declared.fault.SpecFault.{SpecFault}
+use Rattle.syntax_tree.specs.Tree as tree
 use Rattle.trace_monitor.specs.declared.options.Options.{Options}
+use Rattle.trace_reader.specs.declared.limits.TheConstants.{MOST_PIECE_BYTES}
+use Rattle.trace_run.specs.declared.run.Ran.{Ran}
+use Rattle.trace_run.specs.Effects.{RunsSystem, SystemEnds, Writes}
 use Rattle.tsl_world.specs.Begins.{Begins}
 use Rattle.tsl_world.specs.declared.outside.Channel.TheVariants.{Out}
 use Rattle.tsl_world.specs.declared.outside.Did.{Did}
-use Rattle.tsl_world.specs.declared.outside.Did.TheVariants.{Opened, NotOpened}
-use Rattle.tsl_world.specs.declared.outside.Slot.TheVariants.{Spec, Trace}
+use Rattle.tsl_world.specs.declared.outside.Did.TheVariants.{Opened, NotOpened, NotTook, Took}
+use Rattle.tsl_world.specs.declared.outside.Slot.{Slot}
+use Rattle.tsl_world.specs.declared.outside.Slot.TheVariants.{Spec}
 use Rattle.tsl_world.specs.Journal.{given, taken, ended, AtReads, IsDone, Each, StopsAtFailure}
 use Rattle.tessla_cli.specs.declared.ending.Ended.{Ended}
 use Rattle.tessla_cli.specs.declared.ending.Ending.{Ending}
@@ -19,16 +22,20 @@ use Rattle.tessla_cli.specs.declared.ending.Ending.TheVariants as ending
 use Rattle.tessla_cli.specs.declared.task.Form.{Form}
 use Rattle.tessla_cli.specs.Alone.{AloneStops, IsAloneText}
 use Rattle.tessla_cli.specs.Conduct.{HasWhole}
-use Rattle.tessla_cli.specs.Effects.{IsTake, Watched, WatchEnds, Writes}
+use Rattle.tessla_cli.specs.Endings.{ending_of}
 use Rattle.tessla_cli.specs.Printed.{IsTextOf}
-use Rattle.tessla_cli.specs.Statistics.{statistics_text}
 use Rattle.tessla_cli.specs.Tasks.{Alone, Task, alone_of, print, monitor, asked_of, requested}
-use Rattle.spec_lexer.specs.declared.limits.TheConstants.{MOST_SOURCE_BYTES}
 
 -- the specification may be read after this much of the journal
 pub record MayReadSpec (before : List Did) : Type 0 where
   pub unended : ended Spec before ≡ false
   pub within : length (taken Spec before) ≤ MOST_SOURCE_BYTES
+
+-- a read of the specification that takes no more than one may
+abbrev pub IsTake : Slot → Did → Type 0
+IsTake from (Took at bytes) = (at ≡ from) × (length bytes ≤ MOST_PIECE_BYTES)
+IsTake from (NotTook at) = at ≡ from
+IsTake from did = ⊥
 
 -- the specification is read, and nothing else is done
 pub record ReadsSpec (part : List Did) : Type 0 where
@@ -41,26 +48,6 @@ pub record GivesSource (source : List ℕ) (part : List Did) : Type 0 where
   pub bytes_are : taken Spec part ≡ source
   pub whole : HasWhole part
   pub done : Each IsDone part
-
--- the trace of this name is opened and the system monitored, as far as it comes
-pub data RunsSystem (trace : List ℕ) (s : System) (o : Options) : List Did → Type 0 where
-  idle : RunsSystem trace s o []
-  no_trace : RunsSystem trace s o (NotOpened Trace trace ∷ [])
-  watched : (part : List Did) → Watched s o part → RunsSystem trace s o (Opened Trace trace ∷ part)
-
--- what an engine tells of the updates of a system, where that is asked for
-abbrev pub counted_text : System → engine.State → Bool → List ℕ
-counted_text s e true = statistics_text s (λ u. slice_index e.ledger u)
-counted_text s e false = []
-
--- and it ends so, by an engine that runs the plan that is taken
-pub data SystemEnds (trace : List ℕ) (s : System) (o : Options) (statistics : Bool) (by : Ended) : List Did → Type 0 where
-  ends : (e : engine.State) (part : List Did)
-      → IsTakenPlan s e.in_place e.order
-      → Watched s o part
-      → WatchEnds s o e by.ending part
-      → by.statistics ≡ counted_text s e statistics
-      → SystemEnds trace s o statistics by (Opened Trace trace ∷ part)
 
 -- a text of which this holds is given to Out, as far as it comes
 pub record PrintsText (P : List ℕ → Type 0) (part : List Did) : Type 0 where
@@ -107,7 +94,10 @@ pub data SourceEnds (source : List ℕ) (task : Task) (by : Ended) (part : List 
       → task ≡ monitor trace o statistics
       → (items : List tree.Item) (s : System)
       → Compiles source items s
-      → SystemEnds trace s o statistics by part
+      → (ran : Ran)
+      → by.ending ≡ ending_of ran.ending
+      → by.statistics ≡ ran.statistics
+      → SystemEnds trace s o statistics ran part
       → SourceEnds source task by part
   printed : (f : Form)
       → task ≡ print f

@@ -1,6 +1,7 @@
 use Rattle.std.proofs.Common.{ap, subst, sym, ◌∙◌}
 use Rattle.tsl_world.proofs.Runs.{grows_weaker}
-use Rattle.tessla_cli.specs.inner.RunPhases.{RunsSource, SourceEnds, RunsSystem, SystemEnds, HasPrinted, compiled, compiled_ends, printed}
+use Rattle.trace_run.specs.Effects.{RunsSystem, SystemEnds}
+use Rattle.tessla_cli.specs.inner.RunPhases.{RunsSource, SourceEnds, HasPrinted, compiled, compiled_ends, printed}
 use Rattle.tessla_cli.specs.Tasks.{Task, print, task_seen}
 use Rattle.tessla_cli.proofs.run.perform.Goals as goal
 
@@ -45,4 +46,4 @@ returns-in_ok-run_code-in-Monitor-clause-ending g c = λ source compiles.
     let trace = c.in-Monitor.trace.now in
     let o = c.in-Monitor.options in
     grows_weaker g.W.World.told g.W.World.journal c.args.world.now c.run_code.new.world (SystemEnds trace s o c.in-Monitor.with_statistics _) (SourceEnds source (task_seen c.args.task) _) c.in_ok-run_code-in-Monitor.ensures.ending
-    (λ p r. compiled_ends trace o c.in-Monitor.with_statistics (ap task_seen c.in-Monitor.is) compiles.0 s compiles.1 r)
+    (λ p r. compiled_ends trace o c.in-Monitor.with_statistics (ap task_seen c.in-Monitor.is) compiles.0 s compiles.1 _ c.of.ensures.ending c.of.ensures.statistics r)

@@ -4,7 +4,7 @@ use Rattle.tsl_world.specs.declared.outside.Slot.TheVariants.{Spec}
 use Rattle.tessla_cli.specs.Tasks.{task_seen}
 use Rattle.tessla_cli.specs.inner.RunPhases.{ReadsSpec, GivesSource, RunsSource, SourceEnds, RunsSpec, SpecEnds, no_spec, reading, whole, whole_ends}
 use Rattle.tsl_world.proofs.Runs.{grows_called, grows_run, grows_on}
-use Rattle.tessla_cli.proofs.Grown.{grows_both, grows_following}
+use Rattle.trace_run.proofs.Grown.{grows_both, grows_following}
 use Rattle.tessla_cli.proofs.run.run_spec.Goals as goal
 
 pub returns-in_err-open-clause-calls : goal.returns-in_err-open-clause-calls

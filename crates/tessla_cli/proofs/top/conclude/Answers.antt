@@ -1,11 +1,11 @@
 use Rattle.std.proofs.Common.{ap, Err}
-use Rattle.tessla_cli.specs.declared.ending.Broken.{Broken}
+use Rattle.trace_run.specs.declared.broken.Broken.{Broken}
 use Rattle.tsl_world.proofs.Runs.{grows_on, grows_run}
 use Rattle.tessla_cli.specs.Failures.{failures}
 use Rattle.tessla_cli.specs.Outcome.{Concludes, TellsBroken, TellsEnding}
 use Rattle.tessla_cli.specs.inner.RunPhases.{RunsWords, WordsEnd}
 use Rattle.tessla_cli.proofs.Facts.{shows_run}
-use Rattle.tessla_cli.proofs.Grown.{grows_both}
+use Rattle.trace_run.proofs.Grown.{grows_both}
 use Rattle.tessla_cli.proofs.Told.{run_ends, run_told_before, concludes_broken, concludes_ending, calm_broken, failed_broken}
 use Rattle.tessla_cli.proofs.top.conclude.Goals as goal
 

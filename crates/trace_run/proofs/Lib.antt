@@ -1,0 +1,10 @@
+pub mod Dues
+pub mod Watching
+pub mod Writing
+pub mod Grown
+pub mod TypedLines
+pub mod Unseen
+pub mod Meaning
+pub mod Causes
+pub mod WholeTrace
+pub mod Counted

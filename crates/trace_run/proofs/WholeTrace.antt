@@ -1,0 +1,143 @@
+-- What ends no run over a whole trace ends none over a beginning of it.
+use Rattle.std.proofs.Common.{◌≡◌, ℕ, zero, suc, ◌<◌, ◌≤◌, Bool, true, false, List, [], ◌∷◌, ◌++◌, Option, Some, None, take, slice_get, refl, sym, ◌∙◌, ap, subst, arith}
+use Rattle.std.proofs.lemmas.List.Elements.{Contains-append_left}
+use Rattle.std.specs.List.{AllByRecursion, Contains}
+use Rattle.std.specs.Prelude.{IsFalse}
+use Rattle.lift_func.specs.declared.fault.FaultKind.{FaultKind}
+use Rattle.flat_core.specs.inner.BoundLaws.{AreFrom, HappensAlike}
+use Rattle.flat_core.specs.Case.{Streams}
+use Rattle.flat_core.specs.Ending.{EndsAtBound, EndsAtLimit, EndsInFault}
+use Rattle.flat_core.specs.Fault.{is_faulty}
+use Rattle.flat_core.specs.Instant.{instants}
+use Rattle.flat_core.specs.Line.{Line, inputs_of}
+use Rattle.flat_core.specs.Solution.{Solves}
+use Rattle.flat_core.specs.System.{System}
+use Rattle.flat_core.proofs.LaterLines.{leaves_earlier}
+use Rattle.flat_core.proofs.Members.{all_at}
+use Rattle.flat_core.proofs.SmallerBound.{instants_first, solves_less}
+use Rattle.flat_core.proofs.Uniqueness.{all_with}
+use Rattle.spec_compiler.specs.Compiled.{Compiles}
+use Rattle.spec_compiler.specs.inner.Laws.{SaysWhatIsMeant}
+use Rattle.spec_compiler.specs.Meant.{QuietIsMeant}
+use Rattle.spec_compiler.proofs.Meaning.{compiled_says_what_is_meant}
+use Rattle.syntax_tree.specs.Tree as tree
+use Rattle.trace_monitor.specs.declared.options.Options.{Options}
+use Rattle.trace_monitor.specs.Due.{SolvesClosed, bound_in, lines_in, refused_in}
+use Rattle.tsl_value.proofs.Lists.{all_take, take_append, get_left}
+use Rattle.flat_core.proofs.Instants.{instants_below}
+use Rattle.trace_reader.specs.inner.Laws.{Begins as LinesBegin}
+use Rattle.trace_reader.specs.Reading.{Reading}
+use Rattle.trace_reader.proofs.LawLemmas.{reading_begins, reading_refused}
+use Rattle.trace_reader.proofs.LineLemmas.{reading_closed, reading_later}
+use Rattle.tsl_world.specs.Begins.{Begins}
+use Rattle.trace_run.specs.Meant.{IsUnhindered}
+use Rattle.trace_run.proofs.Causes.{long, loud, nothing_some}
+use Rattle.trace_run.proofs.Meaning.{of_meant, refused_alike, to_meant}
+use Rattle.trace_run.proofs.TypedLines.{typed_read}
+use Rattle.trace_run.proofs.Unseen.{fit}
+
+within_more : (n t : ℕ) (xs ys : List ℕ) → Contains (take n xs) t → Contains (take n (xs ++ ys)) t
+within_more n t xs ys at = let (more, is) = take_append n xs ys in subst (λ (l : List ℕ). Contains l t) (sym is) (Contains-append_left (take n xs) more t at)
+
+first_more : (n t : ℕ) (xs ys : List ℕ) → slice_get xs n ≡ Some t → take n (xs ++ ys) ≡ take n xs
+first_more n t [] ys at = absurd (cc)
+first_more zero t (x ∷ xs) ys at = refl
+first_more (suc n) t (x ∷ xs) ys at = ap (λ (l : List ℕ). x ∷ l) (first_more n t xs ys at)
+
+-- Streams that end in nothing instants_below a bound end in nothing instants_below a smaller one, with lines by which instants_below it the same happens.
+module _ (s : System) (z : Streams) (ls ms : List Line) (low high limit : ℕ) (le : low ≤ high) (alike : HappensAlike s low ls z ms z) where
+  abbrev rest : List ℕ
+  rest = (instants_first s ms z low high le).0
+
+  grow : instants s ms z high ≡ instants s ls z low ++ rest
+  grow = (instants_first s ms z low high le).1 ∙ ap (λ (l : List ℕ). l ++ rest) (sym (alike.instants_same low (omega arith)))
+
+  first_below : AllByRecursion (λ t. t < low) (take limit (instants s ls z low))
+  first_below = all_take (λ t. t < low) limit (instants s ls z low) (instants_below s ls z low)
+
+  fault_stays : (t i : ℕ) (kind : FaultKind) → EndsInFault s ls z low limit t i kind → EndsInFault s ms z high limit t i kind
+  fault_stays t i kind ends = let lt : t < low = all_at (λ t. t < low) (take limit (instants s ls z low)) first_below t ends.within in record {
+    named = (alike.named_same t i kind lt).0 ends.named;
+    within = subst (λ (l : List ℕ). Contains (take limit l) t) (sym grow) (within_more limit t (instants s ls z low) rest ends.within);
+  }
+
+  limit_stays : (t : ℕ) → EndsAtLimit s ls z low limit t → EndsAtLimit s ms z high limit t
+  limit_stays t ends = record {
+    next = subst (λ (l : List ℕ). slice_get l limit ≡ Some t) (sym grow) (get_left (instants s ls z low) rest limit t ends.next);
+    sound = subst (λ (l : List ℕ). AllByRecursion (λ u. IsFalse (is_faulty s (inputs_of ms) z u)) l)
+        (sym (ap (λ (l : List ℕ). take limit l) grow ∙ first_more limit t (instants s ls z low) rest ends.next))
+        (all_with (λ u. u < low) (λ u. IsFalse (is_faulty s (inputs_of ls) z u)) (λ u. IsFalse (is_faulty s (inputs_of ms) z u))
+        (λ u lt sound. subst (λ (b : Bool). IsFalse b) (alike.faulty_same u lt) sound) (take limit (instants s ls z low)) first_below ends.sound);
+  }
+
+  pub ends_before : EndsAtBound s ms z high limit → EndsAtBound s ls z low limit
+  ends_before ends = record {
+    no_fault = λ t i kind early. ends.no_fault t i kind (fault_stays t i kind early);
+    no_limit = λ t early. ends.no_limit t (limit_stays t early);
+  }
+
+none_by : {A : Type 0} (x : Option A) → ((a : A) → x ≡ Some a → ⊥) → x ≡ None
+none_by None never = refl
+none_by (Some a) never = absurd (never a refl)
+
+-- for a source that is compiled to this system
+module _ (source : List ℕ) (items : List tree.Item) (s : System) (o : Options) (c : Compiles source items s) (bytes more : List ℕ) where
+  abbrev whole : List ℕ
+  whole = bytes ++ more
+
+  abbrev low : ℕ
+  low = bound_in s o bytes false
+
+  abbrev high : ℕ
+  high = bound_in s o whole true
+
+  abbrev ls : List Line
+  ls = lines_in s o bytes false
+
+  abbrev ms : List Line
+  ms = lines_in s o whole true
+
+  le : low ≤ high
+  le = reading_closed s o.strict o.bytes o.until bytes more true
+
+  stay : LinesBegin ls ms
+  stay = reading_begins s o.strict o.bytes bytes more true
+
+  later : AreFrom low stay.rest
+  later = reading_later s o.strict o.bytes bytes more true stay.rest stay.is
+
+  module _ (z : Streams) (zs : SolvesClosed s o whole true z) where
+    first : SolvesClosed s o bytes false z
+    first = ((leaves_earlier s low ls stay.rest later).solves_same z).1 (subst (λ (l : List Line). Solves s (inputs_of l) low z) stay.is (solves_less s (inputs_of ms) low high z le zs))
+
+    alike : HappensAlike s low ls z ms z
+    alike = subst (λ (l : List Line). HappensAlike s low ls z l z) (sym stay.is) ((leaves_earlier s low ls stay.rest later).happens z)
+
+    all_said : SaysWhatIsMeant items s ms high o.instants z
+    all_said = compiled_says_what_is_meant source items s ms high o.instants z c (typed_read s o whole true) zs
+
+    first_said : SaysWhatIsMeant items s ls low o.instants z
+    first_said = compiled_says_what_is_meant source items s ls low o.instants z c (typed_read s o bytes false) first
+
+    quiet_first : QuietIsMeant items ms high o.instants → QuietIsMeant items ls low o.instants
+    quiet_first quiet = first_said.quiet (ends_before s z ls ms low high o.instants le alike record {
+      no_fault = λ t i kind ends. loud items ms high o.instants t quiet (all_said.fault t i kind ends);
+      no_limit = λ t ends. long items ms high o.instants t quiet (all_said.limited t ends);
+    })
+
+  pub unhindered_first : IsUnhindered items s o whole true → IsUnhindered items s o bytes false
+  unhindered_first u = let (z, zs) = (fit source items s c).solved (inputs_of ms) high in record {
+    accepted =
+        sym (refused_alike source items s o c bytes false)
+        ∙ none_by (refused_in s o bytes false) (λ f is. nothing_some (refused_in s o whole true) f (refused_alike source items s o c whole true ∙ u.accepted)
+        (ap (λ (r : Reading). r.refused) (reading_refused s o.strict o.bytes bytes more true f is) ∙ is));
+    quiet = to_meant source items s o c bytes false (λ l b. QuietIsMeant items l b o.instants)
+        (quiet_first z zs (of_meant source items s o c whole true (λ l b. QuietIsMeant items l b o.instants) u.quiet));
+  }
+
+-- nothing in a whole trace, so nothing in what was taken of it
+pub unhindered_taken : (source : List ℕ) (items : List tree.Item) (s : System) (o : Options) → Compiles source items s → (bytes all : List ℕ) (end : Bool) → Begins bytes all → (end ≡ true → all ≡ bytes)
+    → IsUnhindered items s o all true → IsUnhindered items s o bytes end
+unhindered_taken source items s o c bytes all true begins ends u = subst (λ (l : List ℕ). IsUnhindered items s o l true) (ends refl) u
+unhindered_taken source items s o c bytes all false begins ends u =
+    unhindered_first source items s o c bytes begins.rest (subst (λ (l : List ℕ). IsUnhindered items s o l true) begins.is u)

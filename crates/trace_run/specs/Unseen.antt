@@ -1,0 +1,40 @@
+-- No update that is listed in place copies an element or changes a register that is still read.
+use Rattle.std.specs.Prelude.{◌≡◌, ℕ, ◌<◌, ◌≤◌, List, IsFalse, IsTrue}
+use Rattle.alias_rules.specs.Fine.{IsTakenPlan}
+use Rattle.flat_core.specs.Case.{Streams}
+use Rattle.flat_core.specs.Fault.{is_faulty}
+use Rattle.flat_core.specs.Line.{Line, inputs_of}
+use Rattle.flat_core.specs.Members.{is_in}
+use Rattle.flat_core.specs.System.{System}
+use Rattle.register_machine.specs.Laws.{GoesOn, LeavesWhatIsRead, Reaches, RunsOn, ShowsInstant}
+use Rattle.register_machine.specs.Machine.{Config}
+use Rattle.register_machine.specs.Run.{Plan, State}
+use Rattle.register_machine.specs.Stands.{RunsTo}
+
+-- Of the runs of the register machine by a plan over the instants of lines below a bound: there is one up to each time before which no root
+-- fault comes. From each state to which one has come the machine is not stuck at the time that follows: it reaches the last print, that of
+-- a fault's instant included, and without a root fault it ends with a state to which a run has come. At each instant each update in place
+-- leaves what is still read, and what is printed and the root faults are those of the streams. And what happens in place has copied
+-- nothing.
+pub record RunsUnseen (s : System) (plan : Plan) (lines : List Line) (bound : ℕ) (z : Streams) : Type 0 where
+  pub exist :
+      (t : ℕ) →
+      t ≤ bound →
+      ((u : ℕ) → u < t → IsFalse (is_faulty s (inputs_of lines) z u)) →
+      (a : State) × RunsTo s plan lines z t a
+  pub go_on : (t : ℕ) → t < bound → (a : State) → RunsTo s plan lines z t a → GoesOn s plan lines z t a
+  pub run_on : (t : ℕ) → t < bound → (a : State) → RunsTo s plan lines z t a → RunsOn s plan lines z t a
+  pub leave : (t : ℕ) → t < bound → (a : State) → RunsTo s plan lines z t a → LeavesWhatIsRead s plan lines t a
+  pub show : (t : ℕ) → t < bound → (a : State) → RunsTo s plan lines z t a → ShowsInstant s plan lines z t a
+  pub copy_none : (t : ℕ) → t ≤ bound → (a : State) → RunsTo s plan lines z t a
+      → (u : ℕ) → IsTrue (is_in plan.in_place u) → a.ledger u ≡ 0
+  pub copy_none_within : (t : ℕ) → t < bound → (a : State) → RunsTo s plan lines z t a
+      → (c : Config) → Reaches s plan lines t a c
+      → (u : ℕ) → IsTrue (is_in plan.in_place u) → c.ledger u ≡ 0
+
+-- So it is by the plan that is taken, with the listed set and its order: by that which `code` prints. It can't be that none is, and two are
+-- one.
+pub record UpdatesUnseen (s : System) (lines : List Line) (bound : ℕ) (z : Streams) : Type 0 where
+  pub some_plan : ((set order : List ℕ) → IsTakenPlan s set order → ⊥) → ⊥
+  pub one_plan : (set order other others : List ℕ) → IsTakenPlan s set order → IsTakenPlan s other others → (set ≡ other) × (order ≡ others)
+  pub each : (set order : List ℕ) → IsTakenPlan s set order → RunsUnseen s (record { in_place = set; order = order }) lines bound z

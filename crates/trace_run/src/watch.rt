@@ -1,0 +1,59 @@
+// The loop over the trace.
+
+ghost use Rattle.std.specs.Prelude.{◌≡◌, ◌<◌, ◌≤◌, [], true, length, IfOk, OnOk, IsErrOf};
+ghost use Rattle.spec_compiler.specs.inner.Ready.{IsReady};
+ghost use Rattle.trace_monitor.specs.inner.Kept.{Kept};
+ghost use Rattle.tsl_world.specs.Standing.{is_open};
+ghost use Rattle.tsl_world.specs.World.{RoseBy};
+ghost use Rattle.tsl_world.specs.Runs.{Runs};
+ghost use Rattle.trace_run.specs.Effects.{Watched, WatchEnds};
+ghost use Rattle.trace_reader.specs.declared.limits.TheConstants.{MOST_PIECE_BYTES};
+ghost use Rattle.tsl_value.specs.declared.limits.TheConstants.{MOST_TRACE_BYTES};
+
+use crate::broken::Broken;
+use crate::write::write_all;
+use std::alloc::Global;
+use trace_monitor::ending::RunEnding;
+use trace_monitor::monitor::TraceMonitor;
+use tsl_value::bytes::Bytes;
+use tsl_world::{Channel, Slot, World};
+
+/// Reads the trace until the run ends, and writes what is due before each further read. `limit` is how many bytes of the trace the
+/// monitor takes at most.
+pub fn watch<W: World>(
+    alloc: Global,
+    world: &mut W,
+    monitor: &mut TraceMonitor<'_>,
+    limit: u64,
+    buf: &mut [u8],
+) -> Result<RunEnding, Broken>
+    requires room { 0 < length buf.old }
+    requires short { length buf.old ≤ MOST_PIECE_BYTES }
+    requires stands { is_open (W.standing world.old) Slot.Trace ≡ true }
+    requires ready { IsReady monitor.old.system }
+    requires kept { Kept monitor.old [] }
+    requires limit { limit ≡ monitor.old.options.bytes }
+    requires few { limit ≤ MOST_TRACE_BYTES }
+    ensures ok { OnOk result (W.faults world.new ≡ W.faults world.old) }
+    ensures outside { IsErrOf result Broken.Outside → RoseBy 1 (W.faults world.old) (W.faults world.new) }
+    ensures memory { IsErrOf result Broken.Memory → W.faults world.new ≡ W.faults world.old }
+    ensures heard { W.unheard world.new ≡ W.unheard world.old }
+    ensures calls { Runs W.told W.journal W.standing world.old world.new (Watched monitor.old.system monitor.old.options) }
+    ensures engine { OnOk result (monitor.new.engine.system ≡ monitor.old.system) }
+    ensures set { OnOk result (monitor.new.engine.in_place ≡ monitor.old.engine.in_place) }
+    ensures order { OnOk result (monitor.new.engine.order ≡ monitor.old.engine.order) }
+    ensures ending { IfOk result (λ ending. Runs W.told W.journal W.standing world.old world.new
+        (WatchEnds monitor.old.system monitor.old.options monitor.new.engine ending)) }
+{
+    let mut text = Bytes::new(alloc);
+    // Each round but the last one takes a byte at least, and no run goes on after more than the limit.
+    for _ in 0..limit + 1 {
+        let count = world.read(Slot::Trace, buf)?;
+        let next = monitor.advance(&buf[..count], &mut text)?;
+        write_all(world, Channel::Out, text.as_slice())?;
+        if let Some(ending) = next {
+            return Ok(ending);
+        }
+    }
+    unreachable!()
+}
