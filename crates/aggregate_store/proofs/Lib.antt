@@ -5,3 +5,4 @@ pub mod Listed
 pub mod Live
 pub mod Cells
 pub mod Typed
+pub mod SameCells

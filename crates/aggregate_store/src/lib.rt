@@ -4,5 +4,6 @@
 pub mod cell;
 pub mod keys;
 pub mod print;
+pub mod same;
 mod slots;
 pub mod store;

@@ -20,7 +20,7 @@ use Rattle.flat_core.proofs.TypedCase.{IsTypedAt, IsTypedBefore, is_of_at, is_of
 use Rattle.flat_core.proofs.TypedEvents.{given_typed}
 use Rattle.plain_solver.specs.inner.Lent.{IsEvaluableAt}
 use Rattle.flat_core.specs.inner.OpGroups.{counts}
-use Rattle.plain_solver.specs.inner.Typed.{AreTyped, TakesTyped}
+use Rattle.plain_solver.specs.inner.Typed.{AreTyped, TakesTyped, TakesValues}
 
 -- ---- what equations have at their arguments
 
@@ -58,6 +58,9 @@ lift_evaluable body false ts of (lift low high kind) values fit some =
     record { kinds = map (kind_of false) ts; kind = kind_of false of; fit = options_fit ts values fit; typed = kind; scalar = tt; few = omega arith }
 
 -- a lift that counts can be evaluated
+pub takes_liftable : (e : Equation) (body : BodyTree) (strict : Bool) → e.op ≡ op.Lift body strict → (values : List (Option View)) → TakesValues e values → IsTrue (counts strict values) → IsEvaluableAt body values
+takes_liftable e body strict op_is values takes some = lift_evaluable body strict takes.types e.of (subst (λ o. IsTyped o takes.types e.of) op_is takes.typed) values takes.fit some
+
 pub liftable : (z : Streams) (e : Equation) (t : ℕ) (body : BodyTree) (strict : Bool) → e.op ≡ op.Lift body strict → TakesTyped z e t → (values : List (Option View)) → values ≡ map (λ a. event (z a t)) e.args → IsTrue (counts strict values) → IsEvaluableAt body values
 liftable z e t body strict op_is takes values is some =
     lift_evaluable body strict takes.types e.of (subst (λ o. IsTyped o takes.types e.of) op_is takes.typed) values (subst (AreOf takes.types) (sym is) takes.values) some

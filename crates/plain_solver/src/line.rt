@@ -30,7 +30,7 @@ pub fn event_on(line: &TraceLine, i: EqId, t: Time) -> Option<&Scalar>
 }
 
 /// The number of lines before a time.
-fn count_before(lines: &[TraceLine], t: u64) -> usize
+pub fn count_before(lines: &[TraceLine], t: u64) -> usize
     requires { IsSorted lines.now }
     ensures within { result ≤ length lines.now }
     ensures place { IsPartitionPoint (λ (l : TraceLine). l.time < t) (λ (l : TraceLine). t ≤ l.time) lines.now result }

@@ -117,7 +117,7 @@ fn are_all_there(values: &[Option<Value>]) -> bool
 }
 
 /// Some value is there.
-fn is_one_there(values: &[Option<Value>]) -> bool
+pub(crate) fn is_one_there(values: &[Option<Value>]) -> bool
     ensures { result ≡ list_any is_some values.now }
 {
     for v in values {
@@ -129,7 +129,7 @@ fn is_one_there(values: &[Option<Value>]) -> bool
 }
 
 /// The value of a lifted body: where all its arguments are there, or of a body of options where one of them is.
-fn lift_value(
+pub(crate) fn lift_value(
     alloc: Global,
     body: &Body,
     strict: bool,
@@ -158,7 +158,7 @@ fn given(scalar: Option<&Scalar>) -> Result<Option<Value>, NoMemory>
 }
 
 /// The unit event where something holds.
-fn unit_if(holds: bool) -> Option<Value>
+pub(crate) fn unit_if(holds: bool) -> Option<Value>
     ensures { result ≡ (if holds then Some unit else None) }
 {
     if holds {
@@ -169,7 +169,7 @@ fn unit_if(holds: bool) -> Option<Value>
 }
 
 /// A time where a value is there.
-fn time_of(value: Option<&Value>, t: Time) -> Option<Value>
+pub(crate) fn time_of(value: Option<&Value>, t: Time) -> Option<Value>
     ensures { result ≡ option_map (λ _. Plain (Scalar.Int (pos t))) (option_copied value.entry) }
 {
     match value {
@@ -179,7 +179,7 @@ fn time_of(value: Option<&Value>, t: Time) -> Option<Value>
 }
 
 /// The first of two values, or else the second.
-fn merged<'a>(a: Option<&'a Value>, b: Option<&'a Value>) -> Option<&'a Value>
+pub(crate) fn merged<'a>(a: Option<&'a Value>, b: Option<&'a Value>) -> Option<&'a Value>
     ensures { option_copied result ≡ merged (option_copied a.entry) (option_copied b.entry) }
 {
     match a {
@@ -200,7 +200,7 @@ fn do_count(strict: bool, values: &[Option<Value>]) -> bool
 }
 
 /// A value where a condition is true.
-fn passed<'a>(value: Option<&'a Value>, condition: Option<&Value>) -> Option<&'a Value>
+pub(crate) fn passed<'a>(value: Option<&'a Value>, condition: Option<&Value>) -> Option<&'a Value>
     ensures { option_copied result ≡ filtered (option_copied value.entry) (option_copied condition.entry) }
 {
     match condition {

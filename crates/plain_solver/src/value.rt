@@ -1,6 +1,6 @@
 // Values: scalars, and aggregates.
 
-ghost use Rattle.std.specs.Prelude.{◌≡◌, Some, IfOk};
+ghost use Rattle.std.specs.Prelude.{◌≡◌, ◌↔◌, Some, IfOk, IsTrue};
 ghost use Rattle.std.specs.Option.{option_copied, option_map};
 ghost use Rattle.tsl_value.specs.View.{Plain};
 ghost use Rattle.aggregate_store.specs.inner.CellView as cell_view;
@@ -8,6 +8,7 @@ ghost use Rattle.plain_solver.specs.inner.Lent.{aggregate_in};
 ghost use Rattle.plain_solver.specs.inner.ValueView.{view_of};
 
 use aggregate_store::cell::Cell;
+use aggregate_store::same::is_same_cell;
 use std::alloc::Global;
 use std::marker::Model;
 use std::rc::Rc;
@@ -20,8 +21,9 @@ pub struct Value {
     held: Held,
 }
 
+/// What a value is.
 #[derive(Drop)]
-pub(crate) enum Held {
+pub enum Held {
     Scalar(Scalar),
     Aggregate(Rc<Cell>),
 }
@@ -40,7 +42,7 @@ impl Model for Value {
 
 impl Value {
     /// The value of a scalar.
-    pub(crate) fn of_scalar(scalar: Scalar) -> Value
+    pub fn of_scalar(scalar: Scalar) -> Value
         ensures { result ≡ Plain scalar }
     {
         Value {
@@ -49,7 +51,7 @@ impl Value {
     }
 
     /// The aggregate of a cell.
-    pub(crate) fn of_cell(alloc: Global, cell: Cell) -> Result<Value, NoMemory>
+    pub fn of_cell(alloc: Global, cell: Cell) -> Result<Value, NoMemory>
         ensures { IfOk result (λ v. v ≡ cell_view.view_of cell) }
     {
         Ok(Value {
@@ -58,7 +60,7 @@ impl Value {
     }
 
     /// What it is.
-    pub(crate) fn held(&self) -> &Held
+    pub fn held(&self) -> &Held
         ensures { view_of result.now ≡ self.now }
     {
         &self.held
@@ -74,8 +76,22 @@ impl Value {
         }
     }
 
+    /// Whether it is this scalar.
+    pub fn is_scalar(&self, scalar: &Scalar) -> bool
+        ensures { IsTrue result ↔ self.now ≡ Plain scalar.now }
+    {
+        is_held_scalar(self.held(), scalar)
+    }
+
+    /// Whether contracts see both as one value.
+    pub fn is_same(&self, other: &Value) -> bool
+        ensures { IsTrue result ↔ self.now ≡ other.now }
+    {
+        are_same(self.held(), other.held())
+    }
+
     /// An equal value.
-    pub(crate) fn copy(&self) -> Result<Value, NoMemory>
+    pub fn copy(&self) -> Result<Value, NoMemory>
         ensures { IfOk result (λ v. v ≡ self.now) }
     {
         match &self.held {
@@ -87,8 +103,38 @@ impl Value {
     }
 }
 
+/// What is held is this scalar.
+fn is_held_scalar(held: &Held, scalar: &Scalar) -> bool
+    ensures { IsTrue result ↔ view_of held.now ≡ Plain scalar.now }
+{
+    match held {
+        Held::Scalar(own) => own == scalar,
+        Held::Aggregate(_) => false,
+    }
+}
+
+/// What is held is an aggregate with the view of a cell.
+fn is_held_cell(held: &Held, cell: &Cell) -> bool
+    ensures { IsTrue result ↔ view_of held.now ≡ cell_view.view_of cell.now }
+{
+    match held {
+        Held::Scalar(_) => false,
+        Held::Aggregate(own) => is_same_cell(own, cell),
+    }
+}
+
+/// Both are seen as one value.
+fn are_same(a: &Held, b: &Held) -> bool
+    ensures { IsTrue result ↔ view_of a.now ≡ view_of b.now }
+{
+    match b {
+        Held::Scalar(scalar) => is_held_scalar(a, scalar),
+        Held::Aggregate(cell) => is_held_cell(a, cell),
+    }
+}
+
 /// An equal value, if there is one.
-pub(crate) fn copied(value: Option<&Value>) -> Result<Option<Value>, NoMemory>
+pub fn copied(value: Option<&Value>) -> Result<Option<Value>, NoMemory>
     ensures { IfOk result (λ v. v ≡ option_copied value.entry) }
 {
     match value {

@@ -1,0 +1,17 @@
+pub mod Iff
+pub mod TellLemmas
+pub mod ListedFacts
+pub mod EventLemmas
+pub mod SilentLemmas
+pub mod PendingLemmas
+pub mod NamedLemmas
+pub mod SearchLemmas
+pub mod LoopLemmas
+pub mod AgreeLemmas
+pub mod RuleLemmas
+pub mod FewLemmas
+pub mod GapLemmas
+pub mod TypedFacts
+pub mod CheckLemmas
+pub mod UsedLemmas
+pub mod GivenLemmas

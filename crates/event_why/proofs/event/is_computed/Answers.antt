@@ -1,0 +1,10 @@
+use Rattle.std.proofs.Common.{map}
+use Rattle.std.proofs.lemmas.Result.{IfOk-weaker}
+use Rattle.event_why.specs.Said.{said}
+use Rattle.event_why.proofs.Iff.{through}
+use Rattle.event_why.proofs.EventLemmas.{computed_test}
+use Rattle.event_why.proofs.event.is_computed.Goals as goal
+
+pub returns : goal.returns
+returns c =
+    IfOk-weaker c.agrees.result _ _ (λ b is p i. through is (computed_test p i c.args.e.now c.args.t c.args.value.now (map said c.args.named.now) c.requires.computes)) c.agrees.ensures

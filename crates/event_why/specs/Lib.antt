@@ -1,0 +1,4 @@
+pub mod Said
+pub mod Check
+pub mod Text
+pub mod inner

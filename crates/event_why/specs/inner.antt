@@ -1,0 +1,9 @@
+pub mod Told
+pub mod Named
+pub mod Agrees
+pub mod Grounds
+pub mod Search
+pub mod Silence
+pub mod Waits
+pub mod Used
+pub mod Judged
