@@ -19,7 +19,7 @@ _tessla() {
     local word=${COMP_WORDS[COMP_CWORD]} before=${COMP_WORDS[COMP_CWORD - 1]} command=${COMP_WORDS[1]-}
     COMPREPLY=()
     if [ "$COMP_CWORD" -eq 1 ]; then
-        _tessla_words "$word" run check flat show code gen bench lint test install package help --help --version
+        _tessla_words "$word" run check flat show code gen bench lint test page install package help --help --version
         return
     fi
     case $before in
@@ -42,6 +42,10 @@ _tessla() {
         if [ "$COMP_CWORD" -eq 2 ]; then
             _tessla_words "$word" seen copy
         fi
+        ;;
+    page)
+        compopt -o filenames 2>/dev/null
+        _tessla_take < <(compgen -f -- "$word")
         ;;
     test | install | package)
         if [[ $command = test && $word == -* ]]; then

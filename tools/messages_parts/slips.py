@@ -38,6 +38,16 @@ SIGNS = {
     "&": "&&", "|": "||", "≤": "<=", "≥": ">=", "≠": "!=", "×": "*", "·": "*", "÷": "/", "−": "-", "–": "-", "—": "-", "¬": "!", "∧": "&&",
     "∨": "||",
 }  # fmt: skip
+# Signs that begin nothing, with the cause and the remedy.
+OTHERS = {
+    ";": ("items end without a ;", "leave it out: blanks and line ends part items"),
+    "?": ("? makes no choice", "write if c then a else b"),
+    "^": ("^ is no operator", "write != for the exclusive or of two truth values, and x * x for a square"),
+    "@": ("annotations are not there", "leave it out"),
+    "~": ("~ is no operator", "write ! for the contrary of a truth value"),
+    "$": ("names have no $, and texts are not interpolated", "write the name; String.concat joins texts"),
+    "\\": ("a \\ stands in texts alone", "leave it out: an item may go on over lines"),
+}
 UNITS = ("ns", "us", "ms", "s", "sec", "min", "h", "d", "seconds", "minutes", "hours", "days")
 QUOTES = "'`‘’‚“”„«»"
 UNSEEN = "\u00a0\u200b\u200c\u200d\ufeff\u2060\u202f\u2009"
@@ -254,17 +264,8 @@ def of_character(text):
         return answer(f"{sign} begins no text", 'write texts between double quotes: "..."')
     if sign and sign in UNSEEN:
         return answer("a character that is not seen, or that looks like a blank", "take it away, or write a plain blank")
-    other = {
-        ";": ("items end without a ;", "leave it out: blanks and line ends part items"),
-        "?": ("? makes no choice", "write if c then a else b"),
-        "^": ("^ is no operator", "write != for the exclusive or of two truth values, and x * x for a square"),
-        "@": ("annotations are not there", "leave it out"),
-        "~": ("~ is no operator", "write ! for the contrary of a truth value"),
-        "$": ("names have no $, and texts are not interpolated", "write the name; String.concat joins texts"),
-        "\\": ("a \\ stands in texts alone", "leave it out: an item may go on over lines"),
-    }
-    if sign in other:
-        return answer(*other[sign])
+    if sign in OTHERS:
+        return answer(*OTHERS[sign])
     if re.search(rf"\b(?:in|def|as) {WORD}$", before) and text.is_tight():
         return answer("a name has letters, digits and _", "choose another name")
     return None
