@@ -3,13 +3,16 @@
 import datetime
 import functools
 import re
-from typing import Callable, Optional
+from typing import Callable, Dict, Optional, Tuple
 
 from .texts import Refused, shown
 
 MOMENT = re.compile(
     r"([0-9]{4}-[0-9]{2}-[0-9]{2})[Tt ]([0-9]{2}:[0-9]{2})(?::([0-9]{2})(?:[.,]([0-9]{1,80}))?)? ?([Zz]|[+-][0-9]{2}(?::?[0-9]{2})?)?"
 )
+# The minutes of a day, and the seconds of a minute.
+MINUTES = {f"{minute // 60:02}:{minute % 60:02}": minute * 60 for minute in range(24 * 60)}
+SECONDS = {f"{second:02}": second for second in range(60)}
 OFFSET = re.compile(r"([+-])([01][0-9]|2[0-3])(?::?([0-5][0-9]))?")
 NEWEST = 1024  # seconds of the log that are kept, since lines of one second come together
 EPOCH = datetime.datetime(1970, 1, 1)
@@ -19,21 +22,31 @@ SECOND = datetime.timedelta(seconds=1)
 Zone = Callable[[datetime.datetime], datetime.timedelta]
 
 
-def fixed(text: str) -> Optional[Zone]:
+class Fixed:
+    """The zone of clocks that are never set."""
+
+    def __init__(self, ahead: datetime.timedelta):
+        self.ahead = ahead
+
+    def __call__(self, _moment: datetime.datetime) -> datetime.timedelta:
+        return self.ahead
+
+
+def fixed(text: str) -> Optional[Fixed]:
     """The zone of a text as `Z` or `+01:00`; None where it is none."""
     match = OFFSET.fullmatch(text)
     if match is None and text not in ("Z", "z", "UTC"):
         return None
     sign, hours, minutes = match.groups() if match else ("+", "0", None)
     ahead = datetime.timedelta(hours=int(hours), minutes=int(minutes or 0))
-    return lambda moment: -ahead if sign == "-" else ahead
+    return Fixed(-ahead if sign == "-" else ahead)
 
 
 def zone_of(text: str) -> Optional[Zone]:
     """The zone that a word of the command line names; None where there is none."""
     if text == "local":
         return lambda moment: ahead_of_utc(moment.astimezone())
-    zone = fixed(text)
+    zone: Optional[Zone] = fixed(text)
     if zone is None:
         import zoneinfo  # which takes long to load, for a few words
 
@@ -56,16 +69,36 @@ class Clock:
 
     def __init__(self, zone: Optional[Zone]):
         self.zone = zone
+        self.days: Dict[Tuple[str, Optional[str]], int] = {}  # when days of zones have begun, as new_day says
         self.whole_seconds = functools.lru_cache(NEWEST)(self.new_whole_seconds)
 
-    def number(self, text: str) -> Optional[str]:
-        """The seconds since 1970, as digits with or without a point, to the last digit; None where the text is no date."""
+    def moment(self, text: str) -> Optional[Tuple[int, str]]:
+        """The whole seconds since 1970, and the digits of the fraction; None where the text is no date."""
         match = MOMENT.fullmatch(text)
         if match is None:
             return None
         day, minute, second, fraction, zone = match.groups()
-        seconds = self.whole_seconds(f"{day} {minute}:{second or '00'}", zone)
-        return f"{seconds}.{fraction}" if fraction else str(seconds)
+        begun = self.days.get((day, zone))
+        if begun is None:
+            begun = self.new_day(day, zone)
+        into, more = MINUTES.get(minute), SECONDS.get(second or "00")
+        if begun < 0 or into is None or more is None:
+            return self.whole_seconds(f"{day} {minute}:{second or '00'}", zone), fraction or ""
+        return begun + into + more, fraction or ""
+
+    def new_day(self, day: str, zone_text: Optional[str]) -> int:
+        """The seconds from 1970 to a day of a zone whose clocks are never set; a number below 0 where each moment has to be looked at."""
+        zone = self.zone if zone_text is None else fixed(zone_text)
+        begun = -1
+        if isinstance(zone, Fixed):
+            try:
+                begun = (datetime.datetime.fromisoformat(day) - EPOCH - zone.ahead) // SECOND
+            except ValueError:
+                pass
+        if len(self.days) >= NEWEST:
+            self.days.clear()
+        self.days[day, zone_text] = begun
+        return begun
 
     def new_whole_seconds(self, text: str, zone_text: Optional[str]) -> int:
         zone = self.zone if zone_text is None else fixed(zone_text)

@@ -9,8 +9,10 @@ import re
 from typing import Any, Callable, Dict, Iterator, List, Optional, Set, Tuple
 
 from .logs import LONGEST_LINE, MOST_NAMES, Log
-from .paths import NOTHING, Path
-from .texts import BLANKS, GREATEST, NUMBER, WHOLE, Refused, blank, quoted, shown, whole
+from .paths import NOTHING, Path, Place
+from .shapes import BLANK, DECIMAL, MOST_PARTS, PLAIN_NUMBER, SOME_TEXT, TRUTH, Kind, Pattern, Shape, no_event
+from .skeletons import NoShape, Take, kind_of, pattern_of
+from .texts import BLANKS, GREATEST, NEWEST, NUMBER, WHOLE, Refused, blank, quoted, shown, whole
 from .times import Reader
 from .words import SEPARATORS
 
@@ -61,6 +63,23 @@ class Fields(Log):
         """Makes the events of a line that has a value for each input."""
         self.settled.events(time, map(self.names.__getitem__, values), map(self.readers_of_names.__getitem__, values), values.values())
 
+    def take_one(self, shape: Shape, match: "re.Match[str]", time: int) -> None:
+        if not shape.named:
+            super().take_one(shape, match, time)
+            return
+        # What stands for the name of an input, and its value as it stands in a trace.
+        named, *value = match.group(*shape.named, 0)[:-1]
+        name = self.names[named]
+        self.settled.begin()
+        if name is not None:
+            self.settled.event(time, name, value[0] if value and name not in self.words.unit else None)
+
+    def multiplier(self, name: str) -> Optional[Reader]:
+        """What multiplies a number that is plain, if the input has a factor."""
+        if name not in self.words.factor:
+            return None
+        return functools.partial(whole, name, factor=self.words.factor[name])
+
     def named_event(self, time: int, named: str, value: Any) -> None:
         """Makes the event of a row or object that names its input; its value is None where there is none."""
         name = self.names[named]
@@ -89,8 +108,26 @@ class Readers(Dict[str, Reader]):
         return reader
 
 
+class Values(Dict[str, Optional[str]]):
+    """What a reader makes of the newest texts."""
+
+    def __init__(self, reader: Reader):
+        super().__init__()
+        self.reader = reader
+
+    def __missing__(self, text: str) -> Optional[str]:
+        value = self.reader(text)
+        if len(self) >= NEWEST:
+            self.clear()
+        self[text] = value
+        return value
+
+
 class Cells(Fields):
     """A log whose values are texts. One that is empty, or has blanks alone, is no event."""
+
+    def new_reader(self, name: str) -> Reader:
+        return Values(super().new_reader(name)).__getitem__
 
     def without_value(self, value: str) -> Optional[str]:
         return None if value.strip(BLANKS) else ""
@@ -113,6 +150,36 @@ class Cells(Fields):
         return text if WHOLE.fullmatch(text) else whole(name, text)
 
 
+    def kind(self, name: str, value: str, without: str = "") -> Kind:
+        """What an input makes of values that look like this one, none of which has a character of `without`."""
+        text, marks = value.strip(" "), marks_but(without)
+        some = f"{BLANK}[{marks}][ {marks}]{{0,4000}}"
+        if not text:
+            return no_event(BLANK)
+        if name in self.words.unit:
+            return Kind(some, "")
+        if name in self.words.text:
+            return Kind(some, ' = "%s"')
+        if name in self.words.factor:
+            return Kind(DECIMAL, None, self.multiplier(name))
+        return self.plain_kind(name, text, f"(?!(?:{TRUTH}) *[^ {marks}])[{marks_but(without + NO_TEXT)}][ {marks}]{{0,4000}}")
+
+    def plain_kind(self, _name: str, text: str, some: str) -> Kind:
+        """What an input of which nothing was said makes of values like this one; `some` are the texts that are nothing else."""
+        if WHOLE.fullmatch(text):
+            return Kind(PLAIN_NUMBER, " = %s")
+        return Kind(TRUTH, " = %s") if text in ("true", "false") else Kind(some, ' = "%s"')
+
+
+NO_TEXT = "+-.0123456789("  # what a plain text does not begin with
+
+
+@functools.lru_cache(None)
+def marks_but(without: str) -> str:
+    """The printable characters of ASCII that stand in a trace as they are, but for a blank and for these, in a regular expression."""
+    return re.escape("".join(char for char in map(chr, range(33, 127)) if char not in '"\\' + without))
+
+
 # ---- Lines
 
 
@@ -122,8 +189,11 @@ class Matched(Cells):
     def __init__(self, *arguments: Any):
         super().__init__(*arguments)
         self.other = 0  # lines that were left out
-        groups = self.words.match.groupindex
-        self.value_name = "value" if "event" in groups and "value" in groups else None
+        self.groups = dict(self.words.match.groupindex)
+        self.time_at = self.groups.pop("time")
+        self.value_name = "value" if "event" in self.groups and "value" in self.groups else None
+        self.inputs: List[Optional[str]] = []  # of the groups, after the first line
+        self.readers_of_inputs: List[Reader] = []
 
     def line(self, line: str) -> None:
         match = self.words.match.fullmatch(line.rstrip("\r\n"))
@@ -132,12 +202,15 @@ class Matched(Cells):
                 raise Refused("--match does not fit (see --skip)")
             self.other += 1
             return
-        groups = match.groupdict("")
-        number = self.time_of(groups.pop("time"))
-        if "event" in groups:
-            self.line_of_event(number, groups["event"], groups.get("value", ""))
-        else:
-            self.named_events(number, groups)
+        number = self.time_of(match[self.time_at] or "")
+        if "event" in self.groups:
+            self.line_of_event(number, match["event"] or "", match["value"] or "" if self.value_name else "")
+            return
+        values = match.group(*self.groups.values(), 0)[:-1]
+        if not self.inputs:
+            self.inputs = [self.names[name] for name in self.groups]
+            self.readers_of_inputs = [self.readers_of_names[name] for name in self.groups]
+        self.settled.events(number, self.inputs, self.readers_of_inputs, [value or "" for value in values])
 
     def line_of_event(self, time: int, named: str, value: str) -> None:
         if not named.strip(BLANKS):
@@ -177,9 +250,10 @@ class Table(Cells):
             for line in self.rest:
                 row = self.quoted_row(line) if '"' in line else self.plain_row(line)
                 if len(row) > 1 or not (blank(line) or self.tick(line)):
-                    self.row(row)
+                    self.row(row, line)
                 if self.held:
                     self.held.clear()
+                self.take_known()
         except csv.Error as error:
             refused = Refused(fault_of_table(str(error), self.separator_name()))
             refused.line = self.lines.number - max(len(self.held), 1) + 1
@@ -228,7 +302,7 @@ class Table(Cells):
                     return
                 self.held.append(more)
 
-    def row(self, row: List[str]) -> None:
+    def row(self, row: List[str], line: str) -> None:
         if self.header is None:
             self.take_header(row)
             return
@@ -242,6 +316,36 @@ class Table(Cells):
             self.row_of_event(time, row + [""] * (len(self.header) - len(row)))
         else:
             self.settled.events(time, self.inputs, self.cell_readers, itertools.compress(row, self.wanted))
+            if self.shapes.may_learn(line) and len(self.held) < 2:
+                self.shapes.learn(self.shape_of_row(row, line))
+
+    def shape_of_row(self, row: List[str], line: str) -> Optional[Shape]:
+        """The shape of a row of one line."""
+        pattern, at, inputs = Pattern(), 0, iter(self.inputs)
+        if len(row) != len(self.wanted) or len(row) > MOST_PARTS:
+            return None
+        for place, cell in enumerate(row):
+            quote = '"' if line.startswith('"', at) else ""
+            pattern.text(quote)
+            if place == self.time_at:
+                pattern.take_time(cell, f"[{marks_but(self.words.separator)} ]{{1,80}}")
+            elif self.wanted[place]:
+                self.take_cell(pattern, next(inputs), cell, "" if quote else self.words.separator)
+            else:
+                pattern.any(f'[^"{self.words.separator}\\r\\n\\0\ud800-\udfff]{{0,4000}}')
+            at += len(f"{quote}{cell}{quote},")
+            pattern.text(quote)
+            if place < len(row) - 1:
+                pattern.text(self.words.separator)
+        pattern.end("\r{0,40}")
+        return pattern.shape_of(line)
+
+    def take_cell(self, pattern: Pattern, name: str, cell: str, separator: str) -> None:
+        kind = no_event(BLANK) if name == "_" else self.kind(name, cell, separator)
+        around = BLANK if cell != cell.strip(" ") and kind.pattern in (PLAIN_NUMBER, TRUTH, DECIMAL) else ""
+        pattern.any(around)
+        pattern.input(name, kind)
+        pattern.any(around)
 
     def row_of_event(self, time: int, row: List[str]) -> None:
         named = row[self.event_at].strip(BLANKS)
@@ -358,6 +462,83 @@ class Objects(Fields):
             self.object_of_paths(number, members)
         else:
             self.object_of_members(number, members)
+
+    def learn(self, line: str) -> None:
+        if self.shapes.may_learn(line):
+            self.shapes.learn(self.shape_of(line))
+        self.take_known()
+
+    def shape_of(self, line: str) -> Optional[Shape]:
+        """The shape of a line that was taken; None where it has none."""
+        members = decoded(line)
+        try:
+            if self.words.event:
+                take = self.named_taker(members)
+            elif self.words.path:
+                take = self.path_taker(members)
+            else:
+                take = self.member_taker(members)
+            pattern = pattern_of(line, self.time_at.place(members), take)
+            order = list(self.words.path)
+            pattern.inputs.sort(key=lambda found: order.index(found[0]) if order else 0)
+            return pattern.shape_of(line)
+        except NoShape:
+            return None
+
+    def kind(self, name: str, token: str) -> Kind:
+        return kind_of(token, name in self.words.unit, name in self.words.text, self.multiplier(name))
+
+    def member_taker(self, members: Dict[str, Any]) -> Take:
+        """Takes the members that are inputs."""
+        wanted = {member: self.names[member] for member in members if member != self.time_at.text}
+        if any(wanted.get(member) and isinstance(value, (list, dict)) for member, value in members.items()):
+            raise NoShape()
+
+        def take(pattern: Pattern, place: Place, token: str) -> bool:
+            name = wanted.get(str(place[0]))
+            if name:
+                pattern.input(name, self.kind(name, token))
+            return name is not None
+
+        return take
+
+    def path_taker(self, members: Dict[str, Any]) -> Take:
+        """Takes what stands at the paths that are inputs."""
+        wanted: Dict[Optional[Place], str] = {self.time_at.place(members): ""}
+        for name, path in self.words.path.items():
+            place = path.place(members)
+            if place is not None and self.names[name]:
+                if place in wanted or isinstance(path.of(members), (list, dict)):
+                    raise NoShape()
+                wanted[place] = name
+
+        def take(pattern: Pattern, place: Place, token: str) -> bool:
+            if place in wanted:
+                pattern.input(wanted[place], self.kind(wanted[place], token))
+            return place in wanted
+
+        return take
+
+    def named_taker(self, members: Dict[str, Any]) -> Take:
+        """Takes the name of an input, and its value."""
+        event, value = self.event_at.place(members), self.value_at.place(members) if self.words.value else None
+        if self.words.text or self.words.factor or (self.words.value and value is None) or event in (value, self.time_at.place(members)):
+            raise NoShape()
+
+        def take(pattern: Pattern, place: Place, token: str) -> bool:
+            if place == event:
+                if token[0] != '"':
+                    raise NoShape()
+                pattern.text('"')
+                pattern.named = (pattern.group(SOME_TEXT), *pattern.named)
+                pattern.text('"')
+            elif place == value:
+                if token == "null":
+                    raise NoShape()
+                pattern.named = (*pattern.named, pattern.group(self.kind("", token).pattern))
+            return place in (event, value)
+
+        return take
 
     def time_text(self, members: Dict[str, Any]) -> str:
         time = self.time_at.of(members)

@@ -1,7 +1,7 @@
 """Frames of a bus, as candump writes them."""
 
 import re
-from typing import Any, Callable, Dict, List, Optional, Tuple
+from typing import Any, Callable, Dict, List, NamedTuple, Optional, Tuple
 
 from .logs import MOST_NAMES, Log
 from .texts import GREATEST, Refused, shown
@@ -11,6 +11,12 @@ FRAME = re.compile(
     r"[ \t]*\(([0-9]+(?:\.[0-9]+)?|[0-9]+-[0-9: .-]+)\)[ \t]+([^ \t]+)[ \t]+([0-9A-Fa-f]{8}|[0-9A-Fa-f]{3})"
     r"(?:#(R[0-9]?|(?:#[0-9A-Fa-f])?[0-9A-Fa-f.]*)(?:[ \t]+[RT])?"
     r"|[ \t]+\[([0-9]{1,2})\]((?:[ \t]+[0-9A-Fa-f]{2})*)(?:[ \t]+(remote request|ERRORFRAME|'.*'))?)[ \t\r\n]*"
+)
+# What candump writes with the capitals that it has, without a note, and short enough for any bus.
+JOINED = re.compile(r"\(([0-9]{1,18}(?:\.[0-9]{1,9})?)\) ([!-~]{1,40} (?:[0-9A-F]{8}|[0-9A-F]{3}))#((?:[0-9A-F]{2}){0,8})\n")
+SPACED = re.compile(
+    r" {0,40}\(([0-9]{1,18}(?:\.[0-9]{1,9})?)\) {1,40}([!-~]{1,40} {1,40}(?:[0-9A-F]{8}|[0-9A-F]{3})) {1,40}"
+    r"\[([0-8])\]((?: {1,40}[0-9A-F]{2}){0,8})\n"
 )
 OCTETS = re.compile(r"(?:[0-9A-Fa-f]{2}(?:\.?[0-9A-Fa-f]{2})*)?")
 
@@ -23,12 +29,21 @@ class Skippable(Exception):
         self.kind = kind
 
 
+class Known(NamedTuple):
+    """What is made of frames."""
+
+    wanted: List[Wanted]
+    name: str  # of the input, if there is one alone and it has all data as a text
+    here: Dict[str, str]  # has this name
+
+
 class Frames(Log):
     def __init__(self, *arguments: Any):
         super().__init__(*arguments)
         self.plans: Dict[Tuple[str, str], List[Wanted]] = {}  # of each interface and identifier
         self.buses: Dict[str, str] = {}  # the interface of each identifier that makes events for whatever interface
         self.skipped = {"remote": 0, "short": 0}
+        self.known: Dict[str, Known] = {}  # by the text between time and data
 
     def line(self, line: str) -> None:
         match = FRAME.fullmatch(line)
@@ -41,6 +56,44 @@ class Frames(Log):
         else:
             self.frame(time, bus, identifier, data_of_joined, joined)
 
+    def learn(self, _line: str) -> None:
+        """Takes the plain frames that were read, up to the first line that is none. What comes of them is what `line` makes."""
+        self.take_plain(JOINED)
+        self.take_plain(SPACED)
+
+    def take_plain(self, pattern: "re.Pattern[str]") -> None:
+        lines, settled = self.lines, self.settled
+        match = pattern.match(lines.text, lines.at)
+        while match is not None:
+            lines.number += 1
+            lines.at = match.end()
+            stamp, origin, digits = match.group(1, 2, 3)
+            settled.begin()
+            plan = self.known.get(origin)
+            if pattern is SPACED:
+                count, digits = digits, match[4].replace(" ", "")
+                plan = plan if len(digits) == 2 * int(count) else None
+            if plan is None:
+                self.line(match[0])
+                self.make_known(origin)
+            else:
+                time = self.time_of(stamp)
+                if plan.name and time > settled.now and not settled.holds:
+                    settled.write(f'{time}: {plan.name} = "{digits}"\n')
+                    settled.log = settled.now = time
+                    settled.here, settled.shared, settled.begins = plan.here, True, False
+                else:
+                    self.events(time, plan.wanted, bytes.fromhex, digits)
+            match = pattern.match(lines.text, lines.at)
+
+    def make_known(self, origin: str) -> None:
+        """Keeps what is made of the frames of an interface and an identifier, by these two as they stand in the log."""
+        bus, identifier = origin.split()
+        plan = self.plans.get((bus, identifier))
+        if plan is not None and len(self.known) < MOST_NAMES:
+            name = plan[0].name if len(plan) == 1 and plan[0].part is None else ""
+            self.known[origin] = Known(plan, name, {name: ""})
+
     def frame(self, time: int, bus: str, identifier: str, data_of: Callable[[Any], bytes], content: Any) -> None:
         """Makes the events of a frame, whose data are looked at where an event is made of them."""
         plan = self.plans.get((bus, identifier))
@@ -48,6 +101,9 @@ class Frames(Log):
             plan = self.new_plan(bus, identifier)
             if plan or len(self.plans) < MOST_NAMES:
                 self.plans[bus, identifier] = plan
+        self.events(time, plan, data_of, content)
+
+    def events(self, time: int, plan: List[Wanted], data_of: Callable[[Any], bytes], content: Any) -> None:
         for wanted in plan:
             try:
                 value = value_of(data_of(content), wanted)

@@ -1,11 +1,17 @@
 """The journal of systemd, as journalctl writes it: `-o json`, or `-o export` with fields that are no text."""
 
+import codecs
+import functools
+import io
 import re
-from typing import Any, BinaryIO, Dict, Optional
+from typing import Any, Dict, List, Optional, Set
 
 from .fields import Cells, decoded, number_text
-from .logs import LONGEST_LINE
-from .texts import BLANKS, Refused, quoted, shown, whole
+from .logs import LONGEST_LINE, Lines
+from .paths import Place
+from .shapes import MOST_PARTS, PLAIN_NUMBER, SOME_TEXT, Kind, Pattern, Shape
+from .skeletons import ANY_IN_ASCII, NoShape, pattern_of
+from .texts import BLANKS, WHOLE, Refused, quoted, shown, whole
 
 TIME_FIELD = "__REALTIME_TIMESTAMP"
 BYTE = re.compile(r"[0-9]{1,3}")
@@ -21,29 +27,30 @@ NUMBERS |= {"__MONOTONIC_TIMESTAMP", "__REALTIME_TIMESTAMP", "__SEQNUM"}
 Entry = Dict[str, Optional[str]]  # the wanted fields; None is one that is no text
 
 
-class Parts:
-    """The lines of a log that is no text throughout, counted, and what stands between them."""
+class Parts(Lines):
+    """The lines of a log that is no text throughout, counted, and what stands between them. A character of the text is a byte of the log."""
 
-    what = "line"
+    def __init__(self, file: io.BufferedReader):
+        super().__init__(file)
+        self.decoder = codecs.getincrementaldecoder("latin-1")()
 
-    def __init__(self, file: BinaryIO):
-        self.file, self.number = file, 0
-
-    def line(self) -> bytes:
+    def bytes_of_line(self) -> bytes:
         """The next line; no bytes at the end."""
-        line = self.file.readline(LONGEST_LINE + 1)
-        self.number += bool(line)
+        line = self.line().encode("latin-1")
         if len(line) > LONGEST_LINE:
-            refused = Refused(f"a line of more than {LONGEST_LINE} bytes")
-            refused.line = self.number
-            raise refused
+            raise self.refused(f"a line of more than {LONGEST_LINE} bytes")
         return line[3:] if self.number == 1 and line.startswith(b"\xef\xbb\xbf") else line
 
     def bytes(self, size: int) -> bytes:
         """The next bytes. Fewer come at the end alone."""
-        data = self.file.read(size)
-        self.number += data.count(b"\n")
-        return data
+        pieces: List[str] = []
+        while size > 0 and (self.at < len(self.text) or self.read_more()):
+            pieces.append(self.text[self.at : self.at + size])
+            self.at += len(pieces[-1])
+            size -= len(pieces[-1])
+        data = "".join(pieces)
+        self.number += data.count("\n")
+        return data.encode("latin-1")
 
 
 class Journal(Cells):
@@ -57,13 +64,77 @@ class Journal(Cells):
         self.binary = 0  # fields that were left out
 
     def read(self) -> None:
-        for line in iter(self.lines.line, b""):
-            first = self.lines.number
+        lines = self.lines
+        for line in iter(lines.bytes_of_line, b""):
+            first, text, at = lines.number, lines.text, lines.at - len(line)
             try:
                 self.entry_from(line)
             except Refused as refused:
                 refused.line = refused.line or first
                 raise
+            if lines.text is text and at >= 0 and not self.words.event and self.shapes.may_learn(text[at : lines.at]):
+                self.shapes.learn(self.shape_of(text[at : lines.at]))
+            self.take_known()
+
+    def take(self, shape: Shape, lines: Lines) -> None:
+        try:
+            super().take(shape, lines)
+        except Refused as refused:
+            refused.line = lines.number - shape.ends + 1
+            raise
+
+    # Shapes
+
+    def shape_of(self, entry: str) -> Optional[Shape]:
+        """The shape of an entry that was taken; None where it has none."""
+        try:
+            if not entry.isascii():
+                return None
+            if entry.lstrip(BLANKS).startswith("{"):
+                members = decoded(entry)
+                wanted = {field for field in members if self.is_wanted(field)}
+                if any(type(members[field]) is not str for field in wanted):
+                    return None
+                pattern = pattern_of(entry, (self.time_name,), functools.partial(self.take_member, wanted), ANY_IN_ASCII)
+            else:
+                pattern = self.pattern_of_lines(entry)
+            return pattern.shape_of(entry)
+        except NoShape:
+            return None
+
+    def take_member(self, wanted: Set[str], pattern: Pattern, place: Place, token: str) -> bool:
+        field = str(place[0])
+        name = self.names[field] if field in wanted else None
+        if name:
+            pattern.text('"')
+            pattern.input(name, self.kind(name, token.strip('"')))
+            pattern.text('"')
+        return name is not None
+
+    def pattern_of_lines(self, entry: str) -> Pattern:
+        """The pattern of an entry that has a line for each field."""
+        pattern = Pattern()
+        for line in entry.split("\n")[:-2]:
+            field, equals, value = line.partition("=")
+            if not equals or pattern.ends > MOST_PARTS:
+                raise NoShape()
+            pattern.text(f"{field}=")
+            if field == self.time_name:
+                pattern.take_time(value, "[0-9]{1,18}")
+            elif self.is_wanted(field):
+                pattern.input(self.names[field] or "", self.kind(self.names[field] or "", value))
+            else:
+                pattern.any("[^\n]{0,4000}")
+            pattern.end()
+        pattern.end()
+        return pattern
+
+    def plain_kind(self, name: str, text: str, _some: str) -> Kind:
+        if (self.words.value or name) not in NUMBERS:
+            return Kind(SOME_TEXT, ' = "%s"')
+        if not WHOLE.fullmatch(text):
+            raise NoShape()
+        return Kind(PLAIN_NUMBER, " = %s")
 
     def entry_from(self, line: bytes) -> None:
         """Takes the entry that begins with a line; it may be a blank line or a tick as well."""
@@ -134,7 +205,7 @@ class Journal(Cells):
             except Refused as refused:
                 refused.line = refused.line or number
                 raise
-            line = self.lines.line()
+            line = self.lines.bytes_of_line()
             if not line:
                 refused = Refused("the log ends within an entry")
                 refused.line = first

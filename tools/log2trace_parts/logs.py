@@ -1,18 +1,23 @@
 """What logs of all formats have in common, and a log that is a trace already."""
 
+import codecs
 import functools
+import io
 import re
-from typing import Callable, Dict, Iterator, List, Optional, Set, TextIO, Tuple
+from typing import Callable, Dict, Iterator, List, Optional, Set, Tuple
 
 from .clock import Clock
-from .texts import BLANKS, EXACT, GREATEST, LONGEST_NAME, SURROGATE, Refused, is_name, name_of, number_of, shown
-from .times import Settled
+from .shapes import Shape, Shapes
+from .texts import BLANKS, EXACT, GREATEST, LONGEST_NAME, NEWEST, SURROGATE, Refused, is_name, name_of, number_of, shown
+from .times import MARK, Settled
 from .words import Words
 
 LONGEST_LINE = 2**20  # characters of a line of a log
+BLOCK = 2**16  # bytes that are read at once, if they are there
 MOST_NAMES = 65536
 LONGEST_TIME = 40  # digits that are taken as whole numbers
 
+POWERS = [10**digits for digits in range(LONGEST_TIME)]
 TIME = re.compile(r"(?:[0-9]+\.?[0-9]*|\.[0-9]+)(?:[eE][+-]?[0-9]+)?")
 TICK = re.compile(r"[ \t]*([0-9]+(?:\.[0-9]+)?)[ \t]*:[ \t\r\n]*")
 
@@ -22,17 +27,52 @@ class Lines:
 
     what = "line"  # as messages call it
 
-    def __init__(self, file: TextIO):
+    def __init__(self, file: io.BufferedReader):
         self.file, self.number = file, 0
+        self.text, self.at = "", 0  # what was read, and from where on it was not taken yet
+        self.decoder = codecs.getincrementaldecoder("utf-8")("surrogateescape")
 
     def __iter__(self) -> Iterator[str]:
-        for line in iter(functools.partial(self.file.readline, LONGEST_LINE + 1), ""):
-            self.number += 1
+        for line in iter(self.line, ""):
             if not line.isascii():
                 line = self.checked(line)
             if len(line) > LONGEST_LINE:
                 raise self.refused(f"a line of more than {LONGEST_LINE} characters")
             yield line
+
+    def line(self) -> str:
+        """The next line, of whatever it is made; no text at the end."""
+        end = self.text.find("\n", self.at) + 1
+        if end:
+            line = self.text[self.at : end]
+            self.at = end
+        else:
+            line = self.line_of_more()
+        self.number += bool(line)
+        return line
+
+    def line_of_more(self) -> str:
+        """A line that does not end in what was read. Where it is too long its beginning is enough."""
+        pieces = [self.text[self.at :]]
+        length = end = len(pieces[0])
+        self.text, self.at = "", 0
+        while length <= LONGEST_LINE and self.read_more():
+            end = self.text.find("\n") + 1 or len(self.text)
+            pieces.append(self.text[:end])
+            length += end
+            self.at = end
+            if self.text.endswith("\n", 0, end):
+                break
+        return "".join(pieces)[: LONGEST_LINE + 1]
+
+    def read_more(self) -> bool:
+        """Reads more, after all was taken; False at the end."""
+        data = b"-"
+        self.text, self.at = "", 0
+        while data and not self.text:
+            data = self.file.read1(BLOCK)
+            self.text = self.decoder.decode(data, not data)
+        return self.text != ""
 
     def checked(self, line: str) -> str:
         if SURROGATE.search(line):
@@ -84,18 +124,57 @@ class Log:
         self.settled = Settled(words.equal, words.back, write, self.tell, self.hint)
         self.whole_scale = int(words.scale) if words.scale == int(words.scale) else 0
         self.clock = Clock(words.zone)
+        self.scaled = functools.lru_cache(NEWEST)(self.new_scaled)
+        self.shapes = Shapes()
         self.first: Optional[int] = None
         self.cut = False  # whether times had fractions that were cut
 
     def read(self) -> None:
         """Takes each line that is neither blank nor a tick."""
-        apart = self.words.equal == "apart"
         for line in self.lines:
             text = line.rstrip(" \t\r\n")
             if text and not (text[-1] == ":" and self.tick(line)):
-                if apart:
-                    self.settled.begin()
+                self.settled.begin()
                 self.line(line)
+                self.learn(line)
+
+    def learn(self, _line: str) -> None:
+        """Takes what may be taken at once after this line, since it looks like one before."""
+
+    def take_known(self) -> None:
+        """Takes the lines that were read and have a known shape, up to the first one that has none."""
+        lines = self.lines
+        while lines.at < len(lines.text):
+            shape = self.shapes.find(lines.text, lines.at)
+            if shape is None:
+                break
+            self.take(shape, lines)
+
+    def take(self, shape: Shape, lines: Lines) -> None:
+        """Takes the lines from here on that have this shape. What comes of them is what their reading in full would make."""
+        settled = self.settled
+        quick = bool(shape.names) and not shape.readers and not settled.holds
+        scale = self.whole_scale if shape.whole_times and not self.words.from_first else 0
+        match = shape.match(lines.text, lines.at)
+        while match is not None:
+            lines.number += shape.ends
+            lines.at = match.end()
+            time = int(match[shape.time]) * scale if scale else self.time_of(match[shape.time])
+            if quick and settled.now < time <= GREATEST:
+                settled.write((shape.lines % match.group(*shape.groups)).replace(MARK, f"{time}: "))
+                settled.log = settled.now = time
+                settled.here, settled.shared, settled.begins = shape.here, True, False
+            else:
+                self.take_one(shape, match, checked_time(time))
+            match = shape.match(lines.text, lines.at)
+
+    def take_one(self, shape: Shape, match: "re.Match[str]", time: int) -> None:
+        """Takes a line of this shape, whatever its time."""
+        self.settled.begin()
+        if shape.readers:
+            self.settled.events(time, shape.names, shape.readers, shape.values(match))
+        elif shape.names:
+            self.settled.lines(time, shape.names, shape.lines % shape.values(match))
 
     def line(self, line: str) -> None:
         raise NotImplementedError
@@ -107,18 +186,20 @@ class Log:
         return "times have fractions, see --scale; else " if self.cut else ""
 
     def time_of(self, text: str) -> int:
-        if text.isdigit() and text.isascii() and self.whole_scale and len(text) < LONGEST_TIME:
-            time = int(text) * self.whole_scale
+        before, _, after = text.partition(".")
+        digits = before + after
+        if self.whole_scale and before and digits.isdigit() and digits.isascii() and len(digits) < LONGEST_TIME:
+            time, rest = int(digits) * self.whole_scale, 0
+            if after:
+                time, rest = divmod(time, POWERS[len(after)])
         else:
             time, rest = self.scaled(text.strip(BLANKS))
-            if rest:
-                self.note_cut(text.strip(BLANKS))
+        if rest:
+            self.note_cut(text.strip(BLANKS))
         if self.words.from_first:
             self.first = time if self.first is None else self.first
             time -= self.first
-        if time > GREATEST:
-            raise Refused("time too large")
-        return time
+        return checked_time(time)
 
     def note_cut(self, text: str) -> None:
         """A time was cut to a whole unit, which --scale has to ask for."""
@@ -126,19 +207,18 @@ class Log:
             raise Refused(f"the time {shown(text)} has a fraction (--scale 1000 keeps three digits of it, --scale 1 none)")
         self.cut = True
 
-    def scaled(self, text: str) -> Tuple[int, object]:
-        """A time of the log in whole units of the trace, and what is over."""
-        before, _, after = text.partition(".")
-        digits = before + after
-        if before and digits.isdigit() and digits.isascii() and self.whole_scale and len(digits) < LONGEST_TIME:
-            return divmod(int(digits) * self.whole_scale, 10 ** len(after))
-        if TIME.fullmatch(text):
-            exact = EXACT.multiply(number_of(text), self.words.scale)
-            return int(exact), exact != int(exact)
-        seconds = self.clock.number(text)
-        if seconds is None:
+    def new_scaled(self, text: str) -> Tuple[int, object]:
+        """A time of the log that is not short and plain in whole units of the trace, and what is over."""
+        moment = self.clock.moment(text)
+        if moment is not None:
+            seconds, after = moment
+            if self.whole_scale:
+                return divmod(int(f"{seconds}{after}") * self.whole_scale, 10 ** len(after))
+            text = f"{seconds}.{after}"
+        elif not TIME.fullmatch(text):
             raise Refused(f"no time: {shown(text)}")
-        return self.scaled(seconds)
+        exact = EXACT.multiply(number_of(text), self.words.scale)
+        return int(exact), exact != int(exact)
 
     def tick(self, line: str) -> bool:
         """Takes the line if it is a tick."""
@@ -159,6 +239,12 @@ class Log:
         if whole_log:
             for text in self.missing():
                 self.say(text)
+
+
+def checked_time(time: int) -> int:
+    if time > GREATEST:
+        raise Refused("time too large")
+    return time
 
 
 class Trace(Log):

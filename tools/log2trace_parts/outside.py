@@ -33,10 +33,7 @@ def new_log(words: Words, source: io.BufferedReader, write: Callable[[str], None
     """The log of a format, and what counts its parts."""
     module, name = FORMATS[words.format]
     parts = importlib.import_module(f"{__package__}.{module}")
-    if hasattr(parts, "Parts"):
-        lines = parts.Parts(source)
-    else:
-        lines = Lines(io.TextIOWrapper(source, encoding="utf-8", errors="surrogateescape", newline="\n"))
+    lines = parts.Parts(source) if hasattr(parts, "Parts") else Lines(source)
     return getattr(parts, name)(words, lines, write, say)
 
 

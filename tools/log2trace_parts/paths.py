@@ -1,11 +1,13 @@
 """Places inside a JSON value."""
 
 import re
-from typing import Any
+from typing import Any, List, Optional, Tuple, Union
 
 from .texts import Refused, shown
 
 PLACE = re.compile(r"0|[1-9][0-9]{0,8}")
+
+Place = Tuple[Union[str, int], ...]  # the names of members and the places in lists that lead to a value
 
 # What stands at a place that is not there; `null` is there.
 NOTHING = object()
@@ -29,10 +31,25 @@ class Path:
 
     def inside(self, value: Any) -> Any:
         for part in self.parts:
-            if isinstance(value, dict):
-                value = value.get(part, NOTHING)
-            elif isinstance(value, list) and PLACE.fullmatch(part) and int(part) < len(value):
-                value = value[int(part)]
-            else:
-                return NOTHING
+            _, value = step(value, part)
         return value
+
+    def place(self, members: Any) -> Optional[Place]:
+        """Where an object has what was found there; None where it has nothing."""
+        if self.text in members:
+            return (self.text,)
+        place: List[Union[str, int]] = []
+        value = members
+        for part in self.parts:
+            at, value = step(value, part)
+            place.append(at)
+        return None if value is NOTHING else tuple(place)
+
+
+def step(value: Any, part: str) -> Tuple[Union[str, int], Any]:
+    """A name or a place in a list, and what a value has there."""
+    if isinstance(value, dict):
+        return part, value.get(part, NOTHING)
+    if isinstance(value, list) and PLACE.fullmatch(part) and int(part) < len(value):
+        return int(part), value[int(part)]
+    return part, NOTHING

@@ -1,6 +1,7 @@
 """Texts, names and numbers of a log, and what they become in a trace."""
 
 import decimal
+import functools
 import re
 from typing import Optional
 
@@ -8,6 +9,7 @@ WORDS = {"in", "def", "as", "out", "if", "then", "else", "true", "false"}
 GREATEST = 2**63 - 1  # of times and numbers
 LONGEST_NAME = 255  # bytes
 LONGEST_NUMBER = 100  # characters
+NEWEST = 1024  # results that are kept, since values of a log come again
 SHOWN = 60  # characters of a log in a message
 
 BLANKS = " \t"
@@ -83,6 +85,7 @@ def number_of(text: str) -> Optional[decimal.Decimal]:
     return decimal.Decimal(text)
 
 
+@functools.lru_cache(NEWEST)
 def whole(name: str, text: str, factor: Optional[decimal.Decimal] = None) -> str:
     """The value that a number is for the input."""
     number = number_of(text)

@@ -1,12 +1,13 @@
 """Events in the order of their times."""
 
 from dataclasses import dataclass, field
-from typing import Any, Callable, Dict, Iterable, Optional
+from typing import Any, Callable, Dict, Iterable, Optional, Sequence
 
 from .texts import GREATEST, Refused, shown
 
 LONGEST_EVENT = 65536  # bytes of a line of a trace
 SHORT = LONGEST_EVENT // 4  # characters that fit in any case
+MARK = "\0"  # stands for the time in lines of a trace that have no time yet
 
 # Makes the text of a value; None is for an event without one, and an empty text where there is no event.
 Reader = Callable[[Any], Optional[str]]
@@ -24,6 +25,7 @@ class Settled:
     log: int = -1  # the last time of the log
     now: int = -1  # the last time of the trace, which is later where events were shifted
     here: Dict[str, str] = field(default_factory=dict)  # the inputs that have an event at that time, with their lines
+    shared: bool = False  # whether these are those of others too, so that they don't change
     begins: bool = False  # whether the next event is the first one of a line that has a time of its own
     left_out: int = 0
 
@@ -36,7 +38,7 @@ class Settled:
 
     def release(self) -> None:
         """Writes what was held of the last time, since a later event might have come in its place."""
-        held, self.here = self.here, {}
+        held, self.here, self.shared = self.here, {}, False
         if self.holds:
             for line in held.values():
                 self.write(line)
@@ -67,7 +69,23 @@ class Settled:
                     must_fit(name, line)
                 self.write(line)
         if here:
-            self.here, self.log, self.now, self.begins = here, time, time, False
+            self.here, self.shared, self.log, self.now, self.begins = here, False, time, time, False
+
+    def lines(self, time: int, names: Sequence[str], text: str) -> None:
+        """The events that a line of the log has of inputs that differ from each other, as short lines of a trace with MARK for the time."""
+        if time <= self.now:
+            for name, line in zip(names, text.split("\n")):
+                self.event(time, name, line[len(f"{MARK}{name} = ") :] or None)
+            return
+        text = text.replace(MARK, f"{time}: ")
+        self.release()
+        if self.holds:
+            self.here = dict(zip(names, text.splitlines(keepends=True)))
+        else:
+            self.here = dict.fromkeys(names, "")
+            self.write(text)
+        self.log = self.now = time
+        self.begins = False
 
     def event(self, time: int, name: str, value: Optional[str]) -> None:
         # Before the first event the first time has been 0, if there was one and times count from it.
@@ -84,6 +102,8 @@ class Settled:
         self.begins = False
         if name in self.here and not self.takes_second(name):
             return
+        if self.shared:
+            self.here, self.shared = dict(self.here), False
         self.here[name] = line = f"{self.now}: {name}\n" if value is None else f"{self.now}: {name} = {value}\n"
         if len(line) > SHORT:
             must_fit(name, line)
