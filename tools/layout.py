@@ -2,6 +2,9 @@
 
 import os
 import re
+import subprocess
+import sys
+import tempfile
 
 DOCUMENTS, LIBRARY = "share/doc/tessla", "libexec/tessla"
 VIM, VSCODE = "share/vim/vimfiles", "share/tessla/vscode"
@@ -25,6 +28,7 @@ GUIDES = ("COMMANDS.md", "IN_PLACE.md", "FROM_TESSLA.md", "MACROS.md")
 STARTED = ("log2trace", "trace2")
 # What the launcher starts is a tool, or a file of tools/words. What is installed neither installs nor packs anything.
 NOT_INSTALLED = ("install", "package")
+PAGE = f"{DOCUMENTS}/page.html"
 IMPORT = re.compile(r"^(?:from|import) (\w+)", re.M)
 EXAMPLE = re.compile(r".*\.(?:tsl|trace|output|options|log|log2trace|svg)")
 
@@ -96,6 +100,15 @@ def document(text, file, place, top, places):
     return LINK.sub(moved, text)
 
 
+def page_of(top):
+    """The page for the browser, or None: nothing is proved and compiled for it here."""
+    with tempfile.TemporaryDirectory() as room:
+        made = os.path.join(room, "page.html")
+        words = [sys.executable, "-E", "-s", "-S", "-B", os.path.join(top, "tools", "page"), "--kept", made]
+        ran = subprocess.run(words, stdin=subprocess.DEVNULL, capture_output=True, check=False)
+        return read(made) if ran.returncode == 0 else None
+
+
 def contents(launcher, program):
     """Each place below the prefix, with its bytes and its mode. The launcher comes last: what it starts is there then."""
     top = os.path.dirname(launcher)
@@ -106,5 +119,8 @@ def contents(launcher, program):
         if file.endswith(".md"):
             data = document(data.decode(), file, place, top, moved).encode()
         yield place, data, mode
+    page = page_of(top)
+    if page:
+        yield PAGE, page, 0o644
     yield f"{LIBRARY}/tessla", read(program), 0o755
     yield "bin/tessla", read(launcher), 0o755

@@ -12,6 +12,14 @@ from layout import read
 from putting import Failed
 
 SECONDS = 60
+# Names of files that have a license, and words of a head that speaks of one.
+LICENSE = re.compile(r"(?:un)?licen[cs]e|copying|copyright|notice", re.I)
+SAID = re.compile(r"licen[cs]e|copyright", re.I)
+# What of the kit is linked into each program beside its libraries, by its folders.
+OBJECTS = {
+    "c": ("libos_c.a", "liblibc_c.a"),
+    "toolchain/lib": ("Scrt1.o", "crti.o", "crtbeginS.o", "crtendS.o", "crtn.o", "libc_nonshared.a", "libgcc.a"),
+}
 # Who is named where there is no commit.
 NOBODY = "unknown <unknown@localhost>"
 
@@ -89,7 +97,7 @@ class Kit:
             raise Failed("the command rt does not tell the version of the kit")
         self.folder = os.path.dirname(os.path.dirname(os.path.realpath(command)))
         used = of_kit(crates_of(read(os.path.join(top, "crates.txt")).decode())[1])
-        self.licenses = {name: self.texts_of(name) for name in sorted(self.linked(used))}
+        self.licenses = {**{name: self.texts_of(name) for name in sorted(self.linked(used))}, **self.objects()}
 
     def linked(self, used):
         """These libraries, that of the language, and all that they stand on."""
@@ -109,8 +117,39 @@ class Kit:
             raise Failed(f"the kit has no library {name}") from error
 
     def texts_of(self, name):
-        """The licenses of a library by the names of their files. One that also is under the Apache license is taken under the other one."""
+        """All that the folder of a library has of licenses: the texts by the names of their files, and what heads of sources say."""
         folder = os.path.join(self.folder, "rattle", name)
-        names = sorted(it for it in os.listdir(folder) if it.startswith("LICENSE")) if os.path.isdir(folder) else []
-        chosen = [it for it in names if it != "LICENSE-APACHE"] if "LICENSE-MIT" in names else names
-        return {it: read(os.path.join(folder, it)).decode("utf-8", "replace").strip("\n") for it in chosen}
+        texts = {it: self.text(folder, it) for it in files_in(folder) if LICENSE.match(it)}
+        for at, _, names in sorted(os.walk(os.path.join(folder, "src"))):
+            for it in sorted(names):
+                file = os.path.relpath(os.path.join(at, it), folder)
+                head = head_of(self.text(folder, file)) if it.endswith(".rt") else ""
+                if SAID.search(head):
+                    texts[file] = head
+        return texts
+
+    def text(self, folder, name):
+        return read(os.path.join(folder, name)).decode("utf-8", "replace").strip("\n")
+
+    def objects(self):
+        """What the linker adds from the kit that is of no library, each with the texts of licenses that stand beside it."""
+        found = {}
+        for folder in OBJECTS:
+            path = os.path.join(self.folder, folder)
+            texts = {it: self.text(path, it) for it in files_in(path) if LICENSE.match(it)}
+            found |= {f"{folder}/{it}": texts for it in files_in(path) if it in OBJECTS[folder]}
+        return found
+
+
+def files_in(folder):
+    return sorted(it for it in os.listdir(folder) if os.path.isfile(os.path.join(folder, it))) if os.path.isdir(folder) else []
+
+
+def head_of(source):
+    """The comment that a source begins with."""
+    lines = []
+    for line in source.split("\n"):
+        if not line.startswith("//"):
+            break
+        lines.append(line.lstrip("/").removeprefix(" "))
+    return "\n".join(lines)

@@ -34,21 +34,31 @@ RULE = "-" * 78
 
 
 def copyright_of(origin, kit, own):
-    """What is said of the licenses: that of this repository, and of what the program is linked from those that the kit has."""
-    by_text, without = {}, []
-    for library, texts in kit.licenses.items():
+    """What is said of the licenses: that of this repository, and all that the kit states for what the program is linked from."""
+    by_text = {}
+    for part, texts in kit.licenses.items():
         for name, text in texts.items():
-            by_text.setdefault(text, []).append(f"{library} ({name})")
-        if not texts:
-            without.append(library)
+            by_text.setdefault(text, []).append(f"{part} ({name})")
     commit = f"Made from the commit {origin.commit}\n" if origin.commit else ""
-    parts = [f"tessla {origin.version}\n{commit}Proved and built by the kit {kit.name}\n"]
-    parts += [f"\nAll of it is under this license, but for what follows:\n\n{own.strip()}\n"]
-    parts += [f"\n{RULE}\nThe program {LIBRARY}/tessla contains parts of libraries of that kit. Their licenses:\n"]
-    parts += [f"\n{RULE}\n{', '.join(names)}\n\n{text}\n" for text, names in by_text.items()]
+    said = [f"tessla {origin.version}\n{commit}Proved and built by the kit {kit.name}\n"]
+    said += [f"\nAll of it is under this license, but for what follows:\n\n{own.strip()}\n"]
+    said += [f"\n{RULE}\nThe program {LIBRARY}/tessla contains parts of that kit. The licenses that it states for them:\n"]
+    said += [f"\n{RULE}\n{', '.join(names)}\n\n{text}\n" for text, names in by_text.items()]
+    without = unlicensed(kit)
     if without:
-        parts += [f"\n{RULE}\nThe kit has no text of a license for these, which are under the terms of the kit:\n{', '.join(without)}\n"]
-    return "".join(parts)
+        said += [f"\n{RULE}\nFor these parts the kit states no license, and no terms of its own either:\n{', '.join(without)}\n"]
+    return "".join(said)
+
+
+def unlicensed(kit):
+    """The parts of the kit in the program for which it states no license, or for some of their files alone."""
+    rows = []
+    for part, texts in kit.licenses.items():
+        if not texts:
+            rows.append(part)
+        elif all("/" in name for name in texts):
+            rows.append(f"{part} (but for the files that are named above)")
+    return rows
 
 
 def origin_of(origin, kit, program):

@@ -109,7 +109,7 @@ def completes_in_zsh(starts):
     def completed(*words):
         return starts.start(["zsh", "-fc", ZSH, "-", os.path.join(TOP, "completions"), *words]).out.decode()
 
-    words = "run check flat show code gen bench lint test install package help -- --help --version "
+    words = "run check flat show code gen bench lint test page install package help -- --help --version "
     tried.holds("zsh completes a command", completed("tessla", "ch") == words)
     tried.holds("zsh completes an option", re.search("--strict.* --stats.*specification:", completed("tessla", "run", "q.tsl", "--st")))
     tried.holds("zsh completes a specification", completed("tessla", "check", "q") == "files -g *.tsl ")

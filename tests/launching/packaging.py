@@ -13,7 +13,7 @@ import tarfile
 
 from installing import OF_REPOSITORY
 from repository import Repository
-from starts import controls_in, until
+from starts import TOP, controls_in, until
 from talking import write_files
 
 # The commit that the packages are made of, and when it was.
@@ -45,6 +45,11 @@ def committed(starts, name):
     for library, of in (("clap", "MIT"), ("clap", "APACHE"), ("csv", "MIT")):
         write(kit, f"rattle/{library}/LICENSE-{of}", f"the {of} license of {library}\n")
     write(kit, "rattle/strsim/LICENSE", "the license of strsim\n")
+    write(kit, "rattle/strsim/src/lib.rt", "// Compares texts.\nfn main() {}\n// no license\n")
+    write(kit, "rattle/core/src/read/mod.rt", "// After others, under a Licence\n// of these.\nfn main() {}\n")
+    write(kit, "c/libos_c.a", "")
+    write(kit, "toolchain/lib/crti.o", "")
+    write(kit, "toolchain/lib/COPYING", "the license of start files\n")
     if starts.tried.has("git"):
         git(repository, "init", "-q")
         git(repository, "add", "-A")
@@ -130,7 +135,7 @@ def archive_is_right(starts, what, data, time):
     wrong = [it.name for it in infos if it.mode not in ((0o755,) if it.isdir() else (0o644, 0o755)) or not (it.isdir() or it.isfile())]
     tried.holds(f"all in {what} can be read by all and changed by root", not wrong, wrong[:5])
     started = {it.name.rpartition("/")[2] for it in infos if it.isfile() and it.mode == 0o755}
-    tried.holds(f"what is started in {what}", started == {"tessla", "log2trace", "trace2", "messages", "lint", "test"}, started)
+    tried.holds(f"what is started in {what}", started == {"tessla", "log2trace", "trace2", "messages", "lint", "test", "page"}, started)
     return files
 
 
@@ -166,9 +171,12 @@ def licenses_are_there(starts, own, version):
         tried.holds("the license of the repository is there", opened.read().strip() in text)
     for part in ("the MIT license of clap", "the license of strsim", "clap (LICENSE-MIT)", "the kit a kit that pretends", version):
         tried.holds(f"the licenses have `{part}`", part in text, text[-500:])
-    tried.holds("of two licenses one is taken", "the APACHE license" not in text)
+    tried.holds("of two licenses both are there", "the APACHE license of clap" in text)
+    tried.holds("and what a source says of one", "core (src/read/mod.rt)\n\nAfter others, under a Licence\nof these.\n" in text, text[-700:])
+    tried.holds("and what stands beside start files", "toolchain/lib/crti.o (COPYING)\n\nthe license of start files\n" in text, text[-700:])
     tried.holds("of what is not linked there is none", "csv" not in text)
-    tried.holds("what has no text is named", "core, std" in text, text[-300:])
+    without = "states no license, and no terms of its own either:\ncore (but for the files that are named above), std, c/libos_c.a\n"
+    tried.holds("what has no text is named", without in text, text[-300:])
     origin = dict(it.split(" ", 1) for it in own.get("share/doc/tessla/ORIGIN", b"").decode().splitlines())
     program = hashlib.sha256(own.get("libexec/tessla/tessla", b"")).hexdigest()
     tried.holds("the kit and the program are named", (origin.get("kit"), origin.get("program")) == ("a kit that pretends", program), origin)
@@ -375,6 +383,36 @@ def names_what_changed(starts, repository):
     starts.tried.holds("the version says that files have changed", any(f".{head}.changed_" in it for it in names), names)
 
 
+SUM = "import runpy, sys; print(runpy.run_path(sys.argv[1])['sum_of_sources'](), end='')"
+
+
+def has_the_page(starts):
+    """The page for the browser is packed where it was made of what stands there, and else that is said."""
+    tried, repository = starts.tried, committed(starts, "with a page")
+    shutil.copytree(os.path.join(TOP, "web"), os.path.join(repository.top, "web"))
+    write(os.path.dirname(repository.kit), "KIT-ID", "a kit that pretends\n")
+    folder = os.path.join(starts.room, "paged")
+    ended = packed(starts, repository, folder)
+    tried.holds("packages without the page say so", ended.status == 0 and b"`./tessla page` makes it" in ended.err and len(bytes_of(folder)) == 3, ended)
+    tools = os.path.join(repository.top, "tools")
+    ended = starts.start([sys.executable, "-B", "-c", SUM, os.path.join(tools, "page")], env=repository.environment(PYTHONPATH=tools))
+    write(repository.top, "out/page.sources", ended.out.decode())
+    write(repository.top, "out/page.wasm", "what runs there")
+    ended = packed(starts, repository, folder)
+    data = next(it for name, it in bytes_of(folder).items() if name.endswith(".tar.gz"))
+    with tarfile.open(fileobj=io.BytesIO(data)) as archive:
+        pages = [archive.extractfile(it).read() for it in archive.getmembers() if it.name.endswith("/share/doc/tessla/page.html")]
+    tried.holds("packages have the page", ended.status == 0 and not ended.err and len(pages) == 1 and b"<title>TeSSLa" in pages[0], ended)
+    prefix = os.path.join(starts.room, "installed with a page")
+    repository.start("install", prefix)
+    page, copy = os.path.join(prefix, "share", "doc", "tessla", "page.html"), os.path.join(starts.room, "copy.html")
+    for words, path in (((), page), ((copy,), copy)):
+        ended = starts.plain("page", *words, launcher=os.path.join(prefix, "bin", "tessla"), env={"TESSLA_PROGRAM": ""})
+        tried.ended("what is installed says where its page is", ended, 0, f"{path}\n", "")
+        with open(path, "rb") as opened:
+            tried.holds("which is the one that was packed", opened.read() == (pages or [None])[0])
+
+
 def packaging(starts):
     write_files(starts)
     repository = committed(starts, "whole")
@@ -398,3 +436,4 @@ def packaging(starts):
     outputs_that_fail(starts, repository)
     interrupts(starts, repository)
     names_what_changed(starts, repository)
+    has_the_page(starts)

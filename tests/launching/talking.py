@@ -298,6 +298,25 @@ def closed_descriptors(starts):
                 starts.tried.holds(f"{shell} {words} {closed}, additions {extras}", same and (err or not wrote), ended)
 
 
+def fills_closed_descriptors(starts):
+    """What the program is started with in place of closed descriptors: the next file that it opens is given none of them."""
+    if not os.path.isdir("/proc/self"):
+        starts.tried.leave_out("/proc", can_be_had=False)
+        return
+    asked = '(for it in 0 1 2; do readlink "/proc/$$/fd/$it" || echo closed; done) >"$1"\nexit 0'
+    stub = starts.script("descriptors", asked)
+    env = environment(TESSLA_PROGRAM=stub, TESSLA_TERMINAL="0")
+    for shell in (it for it in SHELLS if starts.tried.has(it)):
+        for closed in ("", "<&-", ">&-", "2>&-", "<&- >&-", "<&- 2>&-", ">&- 2>&-", "<&- >&- 2>&-"):
+            told = os.path.join(starts.room, "told")
+            ended = starts.start(["sh", "-c", f'"$1" "$0" "$2" {closed}', LAUNCHER, shell, told], env=env)
+            with open(told, encoding="utf-8") as opened:
+                found = ["pipe" if it.startswith("pipe:") else it for it in opened.read().split("\n")[:-1]]
+            os.remove(told)
+            wanted = ["/dev/null" if it in closed.split() else "pipe" for it in ("<&-", ">&-", "2>&-")]
+            starts.tried.holds(f"{shell} fills {closed or 'nothing'}", found == wanted, found, ended)
+
+
 def signals(starts):
     """A signal to the launcher ends the program, and it is what the launcher ends by."""
     waiting = starts.script("waiting", 'echo $$ >"$1.new"; mv "$1.new" "$1"; exec sleep 100')
@@ -389,6 +408,7 @@ def talking(starts):
 def closing(starts):
     write_files(starts)
     closed_descriptors(starts)
+    fills_closed_descriptors(starts)
     signals(starts)
     interrupt(starts)
     statuses(starts)
