@@ -5,6 +5,9 @@ its file, or of the `module` or `mutual` block around it, and goes on to the nex
 words is the other's name, or a constructor or a field of it, as the file's imports have it. The words of a `module` line are those of all
 that stands in the block. A parameter of a record, of a data type or of a block cites nothing where it has a field's name.
 
+A form that isn't read, and a word with a dot, or with a capital in front, that is neither imported nor of the file nor a variable, fails with the file
+and the line.
+
 Types of the code (`declared`, `contracts`) stand under src/ of a crate. What stands in no crate of the folder is of a library.
 """
 
@@ -21,6 +24,13 @@ MUTUAL = re.compile(r"^(?:pub )?(?:(?:abbrev|unfoldable) )?mutual$")
 MODULE = re.compile(r"^(?:pub )?module\b")
 WORD = re.compile(rf"(?:\w+\.)?{NAME}")
 PARAMETERS = re.compile(r"[({]([^(){}:]+?) :(?!\S)")
+STRING = re.compile(r'"(?:[^"\\]|\\.)*"')
+LAMBDA = re.compile(r"λ ([^.]*)\.(?!\S)")
+USE = re.compile(r"^\s*(?:pub )?(?:ghost )?(?:use|open)\b")
+NOT_READ = re.compile(r"«|\bderiving\b|\{-|-\}|/-|-/|/\*|\*/")
+# What is no name of a definition, and what is there without an import.
+KEYWORDS = {"abbrev", "unfoldable", "mutual", "pattern", "pub", "record", "data", "module", "deriving"}
+BUILT_IN = {"Type", "Unit"}
 
 
 class NotFound(Exception):
@@ -35,6 +45,21 @@ def indent_of(line):
     return len(line) - len(line.lstrip())
 
 
+def is_plain_import(line):
+    return "." not in (IMPORT.match(line)[3] or "")
+
+
+def is_one_line(name, text):
+    """Whether a head is one of a form that is not read: a keyword is its name, or its parts stand on its line."""
+    return name in KEYWORDS or " where " in text
+
+
+def is_equation(name, text):
+    """Whether a line at the margin goes on with a definition: an equation, its end, or how an operator binds."""
+    operator = [part for part in name.split("◌") if part]
+    return re.findall(NAME, text)[:1] == [name] or text == "}" or text.startswith(("infix", "unfolding ")) or "◌" in name and all(part in text for part in operator)
+
+
 @dataclass(eq=False)
 class Definition:
     """A definition of a file: its lines without comments, and the lines of the blocks around it."""
@@ -45,6 +70,18 @@ class Definition:
     name: str
     around: list
     text: list = field(default_factory=list)
+    numbers: list = field(default_factory=list)
+
+    def variables(self):
+        """All names that its lines bind anywhere."""
+        lines = [*self.around, *self.text]
+        bound = [name for line in lines for names in PARAMETERS.findall(line) for name in names.split()]
+        bound += [name for names in LAMBDA.findall(" ".join(lines)) for name in re.findall(NAME, names)]
+        # A named argument, as `{R = order}`, and what a `let` binds.
+        bound += re.findall(rf"(?:\{{|\blet )({NAME}) =(?!\S)", " ".join(lines))
+        margin = indent_of(self.text[0])
+        heads = [line.partition(" = ")[0] for line in self.text[1:] if indent_of(line) == margin]
+        return {*bound, *(name for head in heads for name in re.findall(NAME, head))}
 
     def parts(self):
         """The names of its constructors, or of its fields."""
@@ -52,8 +89,13 @@ class Definition:
             return []
         inner = [line for line in self.text[1:] if indent_of(line) > indent_of(self.text[0])]
         margin = min(map(indent_of, inner), default=0)
-        heads = [SIGNATURE.match(line.strip()) for line in inner if indent_of(line) == margin]
-        return [found["name"] for found in heads if found]
+        names = []
+        for line in (it for it in inner if indent_of(it) == margin):
+            found = SIGNATURE.match(line.strip())
+            if not found:
+                raise self.file.not_read(self.numbers[self.text.index(line)], line)
+            names.append(found["name"])
+        return names
 
     def parameters(self):
         """The names of its parameters, and of those of the blocks around it. Those of a type's arrows bind in that type alone."""
@@ -97,16 +139,23 @@ class File:
         self.imports, self.definitions, self.by_name = Imports(), [], {}
         self.blocks = []
         with open(path, encoding="utf-8") as file:
-            for line in map(without_comment, file):
+            for number, line in enumerate(map(without_comment, file), 1):
+                if NOT_READ.search(STRING.sub("", line)):
+                    raise self.not_read(number, line)
                 if line and not self.imports.take(line):
-                    self.take_line(line)
+                    self.take_line(number, line)
+                elif USE.match(line) and not is_plain_import(line):
+                    raise self.not_read(number, line)
         for definition in self.definitions:
             self.by_name.setdefault(definition.name, definition)
         for definition in self.definitions:
             for part in definition.parts():
                 self.by_name.setdefault(part, definition)
 
-    def take_line(self, line):
+    def not_read(self, number, line):
+        return NotFound(f"{self.path}:{number}: {line.strip()!r} is not read")
+
+    def take_line(self, number, line):
         indent, text = indent_of(line), line.strip()
         while self.blocks and indent < self.blocks[-1][0]:
             self.blocks.pop()
@@ -119,8 +168,12 @@ class File:
             around = [words for _, words in self.blocks if words]
             self.definitions.append(Definition(self, len(self.definitions), found.groupdict().get("kind") or "", found["name"], around))
         if not self.definitions:
-            raise NotFound(f"{self.path}: no definition begins before {text!r}")
-        self.definitions[-1].text.append(line)
+            raise NotFound(f"{self.path}:{number}: no definition begins before {text!r}")
+        last = self.definitions[-1]
+        if USE.match(line) or (is_one_line(found["name"], text) if found else indent == margin and not is_equation(last.name, text)):
+            raise self.not_read(number, line)
+        last.text.append(line)
+        last.numbers.append(number)
 
 
 @dataclass
@@ -200,7 +253,7 @@ class Library:
 
     def cited(self, line, imports, own, module, bound=frozenset()):
         """The names that a line cites, as (module, name). A word before a dot may be a module or, of a record, a variable."""
-        for word in WORD.findall(line):
+        for word in WORD.findall(STRING.sub('""', line)):
             first, _, rest = word.partition(".")
             if rest and first in imports.modules:
                 yield imports.modules[first], rest
@@ -215,8 +268,25 @@ class Library:
 
     def cited_by(self, module, definition):
         file = definition.file
-        for line in [*definition.around, *definition.text]:
+        numbers = [definition.numbers[0]] * len(definition.around) + definition.numbers
+        known = {*file.imports.names, *file.imports.modules, *file.by_name, *definition.variables(), *BUILT_IN}
+        for number, line in zip(numbers, [*definition.around, *definition.text]):
+            for word in re.findall(rf"(?<!\.)(?<!\w){WORD.pattern}", STRING.sub('""', line)):
+                first, _, rest = word.partition(".")
+                if first not in known and (first[:1].isupper() or first.isidentifier() and rest):
+                    raise NotFound(f"{file.path}:{number}: {word} is neither imported nor of the file")
             yield from self.cited(line, file.imports, file.by_name, module, definition.parameters())
+
+    def own_cited_by(self, definition):
+        """The definitions that a definition cites, with the names. A variable may have the name of a field: that cites nothing."""
+        text = "\n".join([*definition.around, *definition.text])
+        for module, name in self.cited_by(self.module_of(definition), definition):
+            if not self.is_own(module) or {"declared", "contracts"} & set(module.split(".")):
+                continue
+            cited = self.definition(module, name)
+            field = re.escape(name)
+            if cited.kind != "record" or name == cited.name or re.search(rf"\.{field}(?![^\s).,;])|[{{;]\s+{field} =", text):
+                yield cited, name
 
     def reach(self, names):
         reached, seen, todo = Reached(), set(), list(names)
@@ -226,6 +296,8 @@ class Library:
                 continue
             seen.add((module, name))
             parts = module.split(".")
+            if parts[0] != "Rattle":
+                raise NotFound(f"{module}: a module within another one is not read")
             if not self.is_own(module):
                 reached.outside.add((module, name))
             elif "declared" in parts or "contracts" in parts:
