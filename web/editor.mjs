@@ -12,10 +12,10 @@ function unitOf(line, column) {
 }
 
 /** A span of a text, safe as it is. */
-function span(kind, ...inside) {
+function span(kind, inside) {
   const node = document.createElement("span");
   node.className = kind;
-  node.append(...inside);
+  for (const it of inside) node.append(it);
   return node;
 }
 
@@ -28,7 +28,7 @@ function pieces(line, parts) {
     let to = from + 1;
     while (to < line.length && kinds[to] === kinds[from]) to++;
     const text = line.slice(from, to);
-    nodes.push(kinds[from] ? span(kinds[from], text) : text);
+    nodes.push(kinds[from] ? span(kinds[from], [text]) : text);
     from = to;
   }
   return nodes;
@@ -80,18 +80,28 @@ export class Editor {
   paint() {
     const is_coloured = this.grammar && this.text.length <= MOST_COLOURED;
     if (!is_coloured && !this.mark) this.copy.textContent = `${this.text}\n`;
-    else this.copy.replaceChildren(...this.text.split("\n").flatMap((line, index) => [...this.line(line, index + 1, is_coloured), "\n"]));
+    else this.copy.replaceChildren(this.copied(is_coloured));
     this.follow();
+  }
+
+  /** All lines, one after the other: a call takes fewer arguments than a text may have lines. */
+  copied(is_coloured) {
+    const made = document.createDocumentFragment();
+    for (const [index, line] of this.text.split("\n").entries()) {
+      for (const it of this.line(line, index + 1, is_coloured)) made.append(it);
+      made.append("\n");
+    }
+    return made;
   }
 
   line(line, number, is_coloured) {
     const parts = is_coloured ? partsOf(this.grammar, line) : [];
     if (this.mark?.line !== number) return pieces(line, parts);
-    if (!this.mark.column) return [span("line-marked", ...pieces(line, parts), line ? "" : " ")];
+    if (!this.mark.column) return [span("line-marked", [...pieces(line, parts), line ? "" : " "])];
     const place = placeIn(line, this.mark.column);
     const shown = pieces(line, [...parts, place]);
     // Past the end of a line a blank is marked.
-    return place[0] < line.length ? shown : [...shown, span("marked", " ")];
+    return place[0] < line.length ? shown : [...shown, span("marked", [" "])];
   }
 
   follow() {

@@ -2,6 +2,8 @@
 
 /** So many lines of a text are read. */
 const MOST_LINES = 200_000;
+/** A time has at most so many digits: a line with more is refused, and has no place. */
+const MOST_DIGITS = 19;
 
 function* linesOf(text) {
   let from = 0;
@@ -37,7 +39,7 @@ export function eventsOf(text) {
   for (const line of linesOf(text)) {
     number++;
     const parts = partsOfLine(line);
-    if (!parts) continue;
+    if (!parts || parts.time.length > MOST_DIGITS) continue;
     last = parts.time;
     if (!parts.name) continue;
     if (!streams.has(parts.name)) streams.set(parts.name, []);

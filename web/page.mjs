@@ -110,17 +110,19 @@ async function run() {
   const asked = question();
   say("running");
   for (const it of document.querySelectorAll(".of-run")) it.classList.toggle("unused", asked.words[0] !== "run");
+  let got;
   try {
-    const got = await asking.ask(asked.words, asked.spec, asked.trace, { seconds: Number(at("limit").value), tells: foretold });
-    if (!got) return;
-    hideBar();
-    if (got.stopped) showNothing(`stopped after ${at("limit").selectedOptions[0].textContent}: choose more time above`);
-    else if (got.ended) showNothing(`the browser has ended the program: ${got.ended}`);
-    else show(asked, got);
+    got = await asking.ask(asked.words, asked.spec, asked.trace, { seconds: Number(at("limit").value), tells: foretold });
   } catch (error) {
     hideBar();
     showNothing(`the program does not start: ${error.message}. It needs a browser with 64-bit WebAssembly: Chrome from 133 on, Firefox from 134 on.`);
+    return;
   }
+  if (!got) return;
+  hideBar();
+  if (got.stopped) showNothing(`stopped after ${at("limit").selectedOptions[0].textContent}: choose more time above`);
+  else if (got.ended) showNothing(`the browser has ended the program: ${got.ended}`);
+  else show(asked, got);
 }
 
 // ---- Showing
