@@ -2,6 +2,7 @@ mod Examples
 pub mod FiniteMaps
 pub mod Recent
 pub mod Listed
+pub mod Queues
 pub mod Live
 pub mod Cells
 pub mod Typed

@@ -1,5 +1,5 @@
 -- The text of a list, piece by piece.
-use Rattle.std.proofs.Common.{◌≡◌, ℕ, ◌≤◌, List, [], ◌∷◌, ◌++◌, map, take, drop, length, codes, sym, ap, ◌∙◌, append_assoc, arith, length-take}
+use Rattle.std.proofs.Common.{◌≡◌, ℕ, ◌≤◌, List, [], ◌∷◌, ◌++◌, map, take, drop, length, codes, refl, sym, ap, ◌∙◌, append_assoc, arith, length-take}
 use Rattle.std.proofs.lemmas.List.{append-nil, take-append-le, take-append-drop}
 use Rattle.std.proofs.Math.Seq.{take-append_seam}
 use Rattle.std.specs.List.{flat_map}
@@ -34,6 +34,10 @@ begins_through start middle text first rest =
 
 pub begins_with : (start more text : List ℕ) → text ≡ start ++ more → take (length start) text ≡ start
 begins_with start more text is = ap (take (length start)) is ∙ take-append_seam start more
+
+pub none_left : {X : Type 0} (xs : List X) → length xs ≡ 0 → xs ≡ []
+none_left [] none = refl
+none_left (x ∷ xs) none = absurd (omega arith)
 
 module _ {X : Type 0} (f : X → List ℕ) where
   pub first_printed : (out text : List ℕ) (x : X) (left all : List X) → text ≡ out ++ f x → all ≡ x ∷ left → text ++ more_text f left ≡ out ++ listed (map f all)

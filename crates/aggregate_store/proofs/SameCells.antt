@@ -1,6 +1,10 @@
 -- Ordered collections that are equal have equal views, and the other way round.
-use Rattle.std.proofs.Common.{◌≡◌, ◌↔◌, ◌&&◌, Bool, true, List, [], ◌∷◌, map, refl, sym, ap, ◌∙◌}
-use Rattle.std.proofs.lemmas.Bool.{and_from, and_parts, false≢true}
+use Rattle.std.proofs.Common.{◌≡◌, ◌&&◌, Bool, true, List, map, sym, subst, ap, ◌∙◌}
+use Rattle.std.proofs.lemmas.Map.Lookups.{btree_map_eq-Decides}
+use Rattle.std.proofs.lemmas.Slice.Eq.{slice_eq-Decides}
+use Rattle.std.specs.Bool.{Decides}
+use Rattle.std.specs.BTreeMap.{BTreeMap}
+use Rattle.std.specs.BTreeSet.{BTreeSet}
 use Rattle.std.specs.Cmp.{Equal-is, eq_by_cmp_equiv}
 use Rattle.std.specs.Cmp.Lexicographic.{pointwise}
 use Rattle.std.specs.FinMap as finite_map
@@ -12,65 +16,35 @@ use Rattle.tsl_value.specs.View.{scalar_cmp}
 use Rattle.tsl_value.specs.declared.scalar.Scalar.{Scalar}
 use Rattle.tsl_value.specs.inner.ScalarOrder.{scalar_cmp_total}
 use Rattle.tsl_value.proofs.ScalarOrder.{scalar_cmp-IsAntisymmetric}
+use Rattle.aggregate_store.specs.inner.CellView.{table_of}
+use Rattle.aggregate_store.specs.inner.Keys.{set_of}
 use Rattle.aggregate_store.proofs.FiniteMaps.{entries-of_entries, keys-of_keys}
-
--- ---- lists
 
 abbrev is_same : Scalar → Scalar → Bool
 is_same a b = eq_by_cmp scalar_cmp a b
 
-same_scalar : (a b : Scalar) → is_same a b ≡ true → a ≡ b
-same_scalar a b is = scalar_cmp-IsAntisymmetric a b ((Equal-is (scalar_cmp a b)).0 is)
-
-itself : (a : Scalar) → is_same a a ≡ true
-itself a = (eq_by_cmp_equiv scalar_cmp_total).refl a
-
-pub same_scalars : (xs ys : List Scalar) → pointwise (eq_by_cmp scalar_cmp) xs ys ≡ true → xs ≡ ys
-same_scalars [] [] is = refl
-same_scalars [] (y ∷ ys) is = absurd (false≢true is)
-same_scalars (x ∷ xs) [] is = absurd (false≢true is)
-same_scalars (x ∷ xs) (y ∷ ys) is =
-    let parts = and_parts (is_same x y) (pointwise (eq_by_cmp scalar_cmp) xs ys) is in
-    λ k. same_scalar x y parts.0 k ∷ same_scalars xs ys parts.1 k
-
-all_same : (xs : List Scalar) → pointwise (eq_by_cmp scalar_cmp) xs xs ≡ true
-all_same [] = refl
-all_same (x ∷ xs) = and_from (is_same x x) (pointwise (eq_by_cmp scalar_cmp) xs xs) (itself x) (all_same xs)
-
-abbrev same_entry : Scalar × Scalar → Scalar × Scalar → Bool
-same_entry p q = eq_by_cmp scalar_cmp p.0 q.0 && eq_by_cmp scalar_cmp p.1 q.1
-
-same_entries : (xs ys : List (Scalar × Scalar)) → pointwise same_entry xs ys ≡ true → xs ≡ ys
-same_entries [] [] is = refl
-same_entries [] (y ∷ ys) is = absurd (false≢true is)
-same_entries (x ∷ xs) [] is = absurd (false≢true is)
-same_entries (x ∷ xs) (y ∷ ys) is =
-    let parts = and_parts (same_entry x y) (pointwise same_entry xs ys) is in
-    let both = and_parts (is_same x.0 y.0) (is_same x.1 y.1) parts.0 in
-    λ k. (same_scalar x.0 y.0 both.0 k, same_scalar x.1 y.1 both.1 k) ∷ same_entries xs ys parts.1 k
-
-all_entries : (xs : List (Scalar × Scalar)) → pointwise same_entry xs xs ≡ true
-all_entries [] = refl
-all_entries (x ∷ xs) = and_from (same_entry x x) (pointwise same_entry xs xs) (and_from (is_same x.0 x.0) (is_same x.1 x.1) (itself x.0) (itself x.1)) (all_entries xs)
-
--- ---- sets and maps
-
-pub sets_same : (xs ys : List Scalar) → IsStrictlySortedBy scalar_cmp xs → IsStrictlySortedBy scalar_cmp ys → (pointwise (eq_by_cmp scalar_cmp) xs ys ≡ true) ↔ (set.from_list {R = scalar_cmp} xs ≡ set.from_list ys)
-sets_same xs ys first second = (
-  λ is. ap set.from_list (same_scalars xs ys is),
-  λ same.
-      let keys : xs ≡ ys =
-      sym (keys-of_keys scalar_cmp_total scalar_cmp-IsAntisymmetric xs first)
-      ∙ ap (λ s. finite_map.keys (finite_map.from_entries {R = scalar_cmp} (map (λ k. (k, tt)) (set.items s)))) same
-      ∙ keys-of_keys scalar_cmp_total scalar_cmp-IsAntisymmetric ys second in
-      ap (λ zs. pointwise (eq_by_cmp scalar_cmp) xs zs) (sym keys) ∙ all_same xs,
+same_scalar : (a b : Scalar) → Decides (is_same a b) (a ≡ b)
+same_scalar a b = (
+  λ is. scalar_cmp-IsAntisymmetric a b ((Equal-is (scalar_cmp a b)).0 is),
+  λ same. subst (λ c. is_same a c ≡ true) same ((eq_by_cmp_equiv scalar_cmp_total).refl a),
 )
 
-pub maps_same : (xs ys : List (Scalar × Scalar)) → IsStrictlySortedBy scalar_cmp (keys_of xs) → IsStrictlySortedBy scalar_cmp (keys_of ys) → (pointwise same_entry xs ys ≡ true) ↔ (finite_map.from_entries {R = scalar_cmp} xs ≡ finite_map.from_entries ys)
-maps_same xs ys first second = (
-  λ is. ap finite_map.from_entries (same_entries xs ys is),
-  λ same.
-      let entries : xs ≡ ys =
-      sym (entries-of_entries scalar_cmp_total xs first) ∙ ap finite_map.entries same ∙ entries-of_entries scalar_cmp_total ys second in
-      ap (λ zs. pointwise same_entry xs zs) (sym entries) ∙ all_entries xs,
-)
+pub queues_same : (xs ys : List Scalar) (r : Bool) → r ≡ pointwise is_same xs ys → Decides r (xs ≡ ys)
+queues_same xs ys r is = slice_eq-Decides same_scalar xs ys r is
+
+pub sets_same : (s t : BTreeSet Scalar) (r : Bool) → r ≡ pointwise is_same s.keys t.keys → IsStrictlySortedBy scalar_cmp s.keys → IsStrictlySortedBy scalar_cmp t.keys → Decides r (set_of s ≡ set_of t)
+sets_same s t r is first second =
+    let keys = queues_same s.keys t.keys r is in (
+      λ yes. ap set.from_list (keys.0 yes),
+      λ same. keys.1
+          (sym (keys-of_keys scalar_cmp_total scalar_cmp-IsAntisymmetric s.keys first)
+          ∙ ap (λ u. finite_map.keys (finite_map.from_entries {R = scalar_cmp} (map (λ k. (k, tt)) (set.items u)))) same
+          ∙ keys-of_keys scalar_cmp_total scalar_cmp-IsAntisymmetric t.keys second),
+    )
+
+pub maps_same : (m n : BTreeMap Scalar Scalar) (r : Bool) → r ≡ pointwise (λ (p q : Scalar × Scalar). is_same p.0 q.0 && is_same p.1 q.1) m.entries n.entries → IsStrictlySortedBy scalar_cmp (keys_of m.entries) → IsStrictlySortedBy scalar_cmp (keys_of n.entries) → Decides r (table_of m ≡ table_of n)
+maps_same m n r is first second =
+    let entries = btree_map_eq-Decides same_scalar same_scalar m n r is in (
+      λ yes. ap finite_map.from_entries (entries.0 yes),
+      λ same. entries.1 (sym (entries-of_entries scalar_cmp_total m.entries first) ∙ ap finite_map.entries same ∙ entries-of_entries scalar_cmp_total n.entries second),
+    )

@@ -4,7 +4,7 @@ use Rattle.std.specs.Prelude.{IsTrue}
 use Rattle.std.specs.List.{list_all}
 use Rattle.std.specs.FinMap as finite_map
 use Rattle.tsl_value.specs.Aggregate.{is_aggregate, empty_of}
-use Rattle.tsl_value.specs.View.{View, Plain, Keyed, Mapped, Table, is_of, is_of_key, is_of_scalar}
+use Rattle.tsl_value.specs.View.{View, Plain, Keyed, Mapped, Listed, Table, is_of, is_of_key, is_of_scalar}
 use Rattle.tsl_value.specs.declared.scalar.Scalar.{Scalar}
 use Rattle.tsl_value.specs.declared.scalar.Scalar.TheVariants as scalar
 use Rattle.tsl_value.specs.declared.scalar.KeyType.{KeyType}
@@ -19,11 +19,13 @@ use Rattle.aggregate_store.proofs.Live.{has_view}
 -- a key with what stands beside it fits a type
 abbrev pub FitsType : ValueType → Scalar → Scalar → Type 0
 FitsType (value_type.Scalar of) key value = ⊥
+FitsType (value_type.Queue of) key value = ⊥
 FitsType (value_type.Set k) key value = IsTrue (is_of_key k key) × (value ≡ scalar.Unit)
 FitsType (value_type.Map k t) key value = IsTrue (is_of_key k key) × IsTrue (is_of_scalar t value)
 
 pub is_of-added : (of : ValueType) (v : View) (key value : Scalar) → FitsType of key value → IsTrue (is_of of v) → IsTrue (is_of of (with_added v key value))
 is_of-added (value_type.Scalar of) v key value fits typed = absurd fits
+is_of-added (value_type.Queue of) v key value fits typed = absurd fits
 is_of-added (value_type.Set k) (Keyed s) key value fits typed = set_with k s key fits.0 typed
 is_of-added (value_type.Map k t) (Mapped m) key value fits typed = map_with k t m key value fits.0 fits.1 typed
 is_of-added _ v key value fits typed = absurd (cc)
@@ -32,6 +34,7 @@ is_of-without : (of : ValueType) (v : View) (key : Scalar) → IsTrue (is_of of 
 is_of-without (value_type.Set k) (Keyed s) key typed = set_without k s key typed
 is_of-without (value_type.Map k t) (Mapped m) key typed = map_without k t m key typed
 is_of-without (value_type.Scalar t) (Plain s) key typed = typed
+is_of-without (value_type.Queue t) (Listed xs) key typed = typed
 is_of-without _ v key typed = absurd (cc)
 
 weaker : {A : Type 0} (p q : A → Bool) → ((x : A) → IsTrue (p x) → IsTrue (q x)) → (xs : List A) → IsTrue (list_all p xs) → IsTrue (list_all q xs)
@@ -44,6 +47,9 @@ fits_map k t m key fits typed = (k, fits, weaker (λ e. is_of_key k e.0 && is_of
 
 pub fits_key : (of : ValueType) (v : View) (key value : Scalar) → FitsType of key value → IsTrue (is_of of v) → FitsKey v key
 fits_key (value_type.Scalar of) v key value fits typed = absurd fits
+fits_key (value_type.Queue of) v key value fits typed = absurd fits
+fits_key (value_type.Set k) (Listed xs) key value fits typed = absurd (cc)
+fits_key (value_type.Map k t) (Listed xs) key value fits typed = absurd (cc)
 fits_key (value_type.Set k) (Plain s) key value fits typed = absurd (cc)
 fits_key (value_type.Set k) (Keyed s) key value fits typed = (k, fits.0, typed)
 fits_key (value_type.Set k) (Mapped m) key value fits typed = absurd (cc)
@@ -53,6 +59,9 @@ fits_key (value_type.Map k t) (Mapped m) key value fits typed = fits_map k t m k
 
 pub fits_value : (of : ValueType) (v : View) (key value : Scalar) → FitsType of key value → IsTrue (is_of of v) → FitsValue v value
 fits_value (value_type.Scalar of) v key value fits typed = absurd fits
+fits_value (value_type.Queue of) v key value fits typed = absurd fits
+fits_value (value_type.Set k) (Listed xs) key value fits typed = absurd (cc)
+fits_value (value_type.Map k t) (Listed xs) key value fits typed = absurd (cc)
 fits_value (value_type.Set k) (Plain s) key value fits typed = absurd (cc)
 fits_value (value_type.Set k) (Keyed s) key value fits typed = fits.1
 fits_value (value_type.Set k) (Mapped m) key value fits typed = absurd (cc)

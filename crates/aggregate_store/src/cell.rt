@@ -1,24 +1,28 @@
-// Cells, each with a set or a map.
+// Cells, each with a set, a map or a queue.
 
-ghost use Rattle.std.specs.Prelude.{◌≡◌, IfOk, IsTrue, OnOk, OnErr};
+ghost use Rattle.std.specs.Prelude.{◌≡◌, [], ◌∷◌, ◌++◌, IfOk, IsTrue, OnOk, OnErr, drop};
 ghost use Rattle.std.specs.FinMap as map;
 ghost use Rattle.std.specs.Option.{option_copied};
-ghost use Rattle.lift_func.specs.inner.Cells.{has_key, value_at};
+ghost use Rattle.lift_func.specs.inner.Cells.{front_of, has_key, value_at};
 ghost use Rattle.tsl_value.specs.Aggregate.{empty_of, is_aggregate, size_of};
 ghost use Rattle.aggregate_store.specs.inner.CellView.{table_of};
-ghost use Rattle.aggregate_store.specs.inner.Stored.{with_added, without_key};
+ghost use Rattle.aggregate_store.specs.inner.Stored.{with_added, with_last, without_front, without_key};
 
 use crate::keys::KeySet;
 use std::alloc::Global;
-use std::collections::BTreeMap;
+use std::collections::{BTreeMap, VecDeque};
 use tsl_value::memory::NoMemory;
 use tsl_value::scalar::{Scalar, ValueType};
 
-/// A set of keys, or a map from keys to scalars.
+/// A queue has room for at least this many elements before it gives room back.
+const ROOM: usize = 64;
+
+/// A set of keys, a map from keys to scalars, or a queue of scalars.
 #[derive(Drop)]
 pub enum Cell {
     Set(KeySet),
     Map(BTreeMap<Scalar, Scalar>),
+    Queue(VecDeque<Scalar>),
 }
 
 /// Puts a copy of a value at a copy of a key.
@@ -35,6 +39,33 @@ fn add_entry(
     Ok(())
 }
 
+/// Halves the room of a queue that fills no more than a quarter of it. A dequeue gives none back, since it takes no memory.
+fn give_back(elements: &mut VecDeque<Scalar>)
+    ensures { elements.new.items ≡ elements.old.items }
+{
+    let room = elements.capacity();
+    if ROOM < room && elements.len() <= room / 4 {
+        elements.shrink_to(room / 2);
+    }
+}
+
+/// Puts a copy of a value after the last element.
+fn push_last(value: &Scalar, elements: &mut VecDeque<Scalar>) -> Result<(), NoMemory>
+    ensures ok { OnOk result (elements.new.items ≡ elements.old.items ++ value.now ∷ []) }
+    ensures err { OnErr result (elements.new.items ≡ elements.old.items) }
+{
+    give_back(elements);
+    elements.push_back(value.copy()?)?;
+    Ok(())
+}
+
+/// Drops the first element, if there is one.
+fn drop_first(elements: &mut VecDeque<Scalar>)
+    ensures { elements.new.items ≡ drop 1 elements.old.items }
+{
+    elements.pop_front();
+}
+
 impl Cell {
     ghost use Rattle.aggregate_store.specs.inner.CellView.{view_of};
 
@@ -47,6 +78,7 @@ impl Cell {
             ValueType::Scalar(_) => unreachable!(),
             ValueType::Set(_) => Cell::Set(KeySet::new(alloc)),
             ValueType::Map(_, _) => Cell::Map(BTreeMap::new(alloc)),
+            ValueType::Queue(_) => Cell::Queue(VecDeque::new(alloc)),
         }
     }
 
@@ -57,6 +89,7 @@ impl Cell {
         match self {
             Cell::Set(keys) => keys.len() as u64,
             Cell::Map(entries) => entries.len() as u64,
+            Cell::Queue(elements) => elements.len() as u64,
         }
     }
 
@@ -68,6 +101,7 @@ impl Cell {
         match self {
             Cell::Set(keys) => keys.contains(key),
             Cell::Map(entries) => entries.contains_key(key),
+            Cell::Queue(_) => false,
         }
     }
 
@@ -78,6 +112,18 @@ impl Cell {
         match self {
             Cell::Set(_) => None,
             Cell::Map(entries) => entries.get(key),
+            Cell::Queue(_) => None,
+        }
+    }
+
+    /// The element in front of a queue.
+    pub fn front(&self) -> Option<&Scalar>
+        ensures { option_copied result ≡ front_of (view_of self.now) }
+    {
+        match self {
+            Cell::Set(_) => None,
+            Cell::Map(_) => None,
+            Cell::Queue(elements) => elements.front(),
         }
     }
 
@@ -88,10 +134,11 @@ impl Cell {
         match self {
             Cell::Set(keys) => Ok(Cell::Set(keys.copy()?)),
             Cell::Map(entries) => Ok(Cell::Map(entries.clone()?)),
+            Cell::Queue(elements) => Ok(Cell::Queue(elements.clone()?)),
         }
     }
 
-    /// Adds a key, or puts another value at it. After `NoMemory` the view is as it was.
+    /// Adds a key, or puts another value at it; a queue stays as it is. After `NoMemory` the view is as it was.
     pub fn add(&mut self, key: Scalar, value: Scalar) -> Result<(), NoMemory>
         ensures ok { OnOk result (view_of self.new ≡ with_added (view_of self.old) key value) }
         ensures err { OnErr result (view_of self.new ≡ view_of self.old) }
@@ -103,6 +150,7 @@ impl Cell {
             Cell::Map(entries) => {
                 entries.insert(key, value)?;
             }
+            Cell::Queue(_) => {}
         }
         Ok(())
     }
@@ -116,6 +164,7 @@ impl Cell {
         match self {
             Cell::Set(keys) => keys.insert(key),
             Cell::Map(entries) => add_entry(key, value, entries),
+            Cell::Queue(_) => Ok(()),
         }
     }
 
@@ -130,6 +179,30 @@ impl Cell {
             Cell::Map(entries) => {
                 entries.remove(key);
             }
+            Cell::Queue(_) => {}
+        }
+    }
+
+    /// Puts a copy of a value after a queue's last element. After `NoMemory` the view is as it was.
+    pub fn enqueue(&mut self, value: &Scalar) -> Result<(), NoMemory>
+        ensures ok { OnOk result (view_of self.new ≡ with_last (view_of self.old) value.now) }
+        ensures err { OnErr result (view_of self.new ≡ view_of self.old) }
+    {
+        match self {
+            Cell::Set(_) => Ok(()),
+            Cell::Map(_) => Ok(()),
+            Cell::Queue(elements) => push_last(value, elements),
+        }
+    }
+
+    /// Drops the element in front of a queue, if there is one.
+    pub fn dequeue(&mut self)
+        ensures { view_of self.new ≡ without_front (view_of self.old) }
+    {
+        match self {
+            Cell::Set(_) => {}
+            Cell::Map(_) => {}
+            Cell::Queue(elements) => drop_first(elements),
         }
     }
 }

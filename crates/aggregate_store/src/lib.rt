@@ -1,4 +1,4 @@
-//! Sets and maps in cells behind handles.
+//! Sets, maps and queues in cells behind handles.
 #![tactic(auto)]
 
 pub mod cell;

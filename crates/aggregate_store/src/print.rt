@@ -7,13 +7,13 @@ ghost use Rattle.aggregate_store.specs.inner.CellView.{table_of, view_of};
 ghost use Rattle.aggregate_store.specs.inner.Keys.{set_of};
 
 use crate::cell::Cell;
-use std::collections::{BTreeMap, BTreeSet};
+use std::collections::{BTreeMap, BTreeSet, VecDeque};
 use tsl_value::bytes::Bytes;
 use tsl_value::memory::NoMemory;
 use tsl_value::print::print_scalar;
 use tsl_value::scalar::Scalar;
 
-/// Appends the text of a set or a map, or leaves `out` as it was.
+/// Appends the text of a set, a map or a queue, or leaves `out` as it was.
 pub fn print_cell(cell: &Cell, out: &mut Bytes) -> Result<(), NoMemory>
     ensures ok { OnOk result (out.new ≡ out.old ++ view_text (view_of cell.now)) }
     ensures err { OnErr result (out.new ≡ out.old) }
@@ -41,6 +41,10 @@ fn append_cell(cell: &Cell, out: &mut Bytes) -> Result<(), NoMemory>
             out.append(b"Map(")?;
             append_entries(entries, out)?;
         }
+        Cell::Queue(elements) => {
+            out.append(b"Queue(")?;
+            append_elements(elements, out)?;
+        }
     }
     out.push(b')')
 }
@@ -58,6 +62,23 @@ fn append_keys(keys: &BTreeSet<Scalar>, out: &mut Bytes) -> Result<(), NoMemory>
     for key in rest {
         out.append(b", ")?;
         print_scalar(key, out)?;
+    }
+    Ok(())
+}
+
+/// Appends the elements, the first of them first, with a comma and a blank between them.
+fn append_elements(elements: &VecDeque<Scalar>, out: &mut Bytes) -> Result<(), NoMemory>
+    ensures ok { OnOk result (out.new ≡ out.old ++ listed (map scalar_text elements.now.items)) }
+    ensures err { OnErr result (take (length out.old) out.new ≡ out.old) }
+{
+    let mut rest = elements.iter();
+    let Some(first) = rest.next() else {
+        return Ok(());
+    };
+    print_scalar(first, out)?;
+    for element in rest {
+        out.append(b", ")?;
+        print_scalar(element, out)?;
     }
     Ok(())
 }

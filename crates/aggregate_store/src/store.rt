@@ -2,9 +2,10 @@
 
 ghost use Rattle.std.specs.Prelude.{◌≡◌, ◌<◌, None, IfOk, IsTrue, OnOk, OnErr, length, replicate, slice_index};
 ghost use Rattle.std.specs.FinMap as finite_map;
-ghost use Rattle.lift_func.specs.inner.Cells.{FitsKey, IsLive, view_at};
+ghost use Rattle.lift_func.specs.inner.Cells.{FitsKey, IsLive, IsQueue, view_at};
 ghost use Rattle.tsl_value.specs.Aggregate.{empty_of, is_aggregate, size_of};
-ghost use Rattle.aggregate_store.specs.inner.Stored.{FitsValue, counted, is_listed, with_added, without_key};
+ghost use Rattle.aggregate_store.specs.inner.Stored.{FitsValue, HasFront, counted, is_listed, with_added, with_last};
+ghost use Rattle.aggregate_store.specs.inner.Stored.{without_front, without_key};
 
 use crate::cell::Cell;
 use crate::print::print_cell;
@@ -17,7 +18,7 @@ use tsl_value::ids::Handle;
 use tsl_value::memory::NoMemory;
 use tsl_value::scalar::{Scalar, ValueType};
 
-/// Sets and maps in cells behind handles, and a ledger: for each update, how many elements it has copied. Updates are
+/// Sets, maps and queues in cells behind handles, and a ledger: for each update, how many elements it has copied. Updates are
 /// numbers below a bound. Several registers may hold one handle.
 #[derive(Drop)]
 pub struct Store {
@@ -60,7 +61,7 @@ impl Store {
         })
     }
 
-    /// Makes an empty cell of a type of sets or maps. The handle was not live. After `NoMemory` all is as it was.
+    /// Makes an empty cell of a type of sets, maps or queues. The handle was not live. After `NoMemory` all is as it was.
     pub fn empty(&mut self, of: ValueType) -> Result<Handle, NoMemory>
         requires { IsTrue (is_aggregate of) }
         ensures fresh { IfOk result (λ handle. ¬ (IsLive self.old.cells handle)) }
@@ -130,6 +131,57 @@ impl Store {
         Ok(handle)
     }
 
+    /// Makes a cell with the source's elements and a value after the last of them. The update's number grows as by `copy_add`. After
+    /// `NoMemory` all is as it was.
+    #[inline(never)]
+    pub fn copy_enqueue(
+        &mut self,
+        update: u32,
+        source: Handle,
+        value: &Scalar,
+    ) -> Result<Handle, NoMemory>
+        requires live { IsLive self.old.cells source }
+        requires queue { IsQueue (view_at self.old.cells source) }
+        requires update { update < length self.old.ledger }
+        ensures fresh { IfOk result (λ handle. ¬ (IsLive self.old.cells handle)) }
+        ensures made { IfOk result (λ handle.
+            self.new.cells ≡ finite_map.insert self.old.cells handle (with_last (view_at self.old.cells source) value.now)) }
+        ensures ledger { OnOk result
+            (self.new.ledger ≡ counted self.old.ledger update (size_of (view_at self.old.cells source))) }
+        ensures err { OnErr result (self.new ≡ self.old) }
+    {
+        let cell = self.cell(source);
+        let size = cell.size();
+        let mut copy = cell.copy()?;
+        copy.enqueue(value)?;
+        let handle = self.place(copy)?;
+        self.count_copied(update, size);
+        Ok(handle)
+    }
+
+    /// Makes a cell with the source's elements but the first. The update's number grows by the source's size, as by `copy_add`. After
+    /// `NoMemory` all is as it was.
+    #[inline(never)]
+    pub fn copy_dequeue(&mut self, update: u32, source: Handle) -> Result<Handle, NoMemory>
+        requires live { IsLive self.old.cells source }
+        requires front { HasFront (view_at self.old.cells source) }
+        requires update { update < length self.old.ledger }
+        ensures fresh { IfOk result (λ handle. ¬ (IsLive self.old.cells handle)) }
+        ensures made { IfOk result (λ handle.
+            self.new.cells ≡ finite_map.insert self.old.cells handle (without_front (view_at self.old.cells source))) }
+        ensures ledger { OnOk result
+            (self.new.ledger ≡ counted self.old.ledger update (size_of (view_at self.old.cells source))) }
+        ensures err { OnErr result (self.new ≡ self.old) }
+    {
+        let cell = self.cell(source);
+        let size = cell.size();
+        let mut copy = cell.copy()?;
+        copy.dequeue();
+        let handle = self.place(copy)?;
+        self.count_copied(update, size);
+        Ok(handle)
+    }
+
     /// Adds a key to a cell, or replaces its value. A set's value is `Unit`. The handle stays, and no update's number grows. After
     /// `NoMemory` all is as it was.
     #[inline(always)]
@@ -163,6 +215,35 @@ impl Store {
     {
         match &mut self.slots[cell.get() as usize] {
             Some(cell) => cell.remove(key),
+            None => unreachable!(),
+        }
+    }
+
+    /// Puts a value after the last element of a queue. The handle stays, and no update's number grows. After `NoMemory` all is as it was.
+    pub fn enqueue_in_place(&mut self, cell: Handle, value: &Scalar) -> Result<(), NoMemory>
+        requires live { IsLive self.old.cells cell }
+        requires queue { IsQueue (view_at self.old.cells cell) }
+        ensures changed { OnOk result (self.new ≡ record self.old {
+          cells = finite_map.insert self.old.cells cell (with_last (view_at self.old.cells cell) value.now);
+        }) }
+        ensures err { OnErr result (self.new ≡ self.old) }
+    {
+        match &mut self.slots[cell.get() as usize] {
+            Some(cell) => cell.enqueue(value),
+            None => unreachable!(),
+        }
+    }
+
+    /// Drops the element in front of a queue. The handle stays, and no update's number grows. It takes no memory.
+    pub fn dequeue_in_place(&mut self, cell: Handle)
+        requires live { IsLive self.old.cells cell }
+        requires front { HasFront (view_at self.old.cells cell) }
+        ensures { self.new ≡ record self.old {
+          cells = finite_map.insert self.old.cells cell (without_front (view_at self.old.cells cell));
+        } }
+    {
+        match &mut self.slots[cell.get() as usize] {
+            Some(cell) => cell.dequeue(),
             None => unreachable!(),
         }
     }
@@ -241,6 +322,10 @@ impl Reader for Store {
 
     fn get(&self, cell: Handle, key: &Scalar) -> Option<&Scalar> {
         self.cell(cell).get(key)
+    }
+
+    fn front(&self, cell: Handle) -> Option<&Scalar> {
+        self.cell(cell).front()
     }
 
     fn print(&self, cell: Handle, out: &mut Bytes) -> Result<(), NoMemory> {

@@ -34,7 +34,7 @@ abbrev pub written_of : Op → List ℕ → List ℕ
 written_of o args = if is_update o then first_of args else []
 
 module _ (s : System) where
-  -- x is an aggregate variable: it runs and has a set or a map
+  -- x is an aggregate variable: it runs and has an aggregate
   pub record IsVariable (x : ℕ) : Type 0 where
     pub at : Equation
     pub is : equation s x ≡ Some at

@@ -18,6 +18,7 @@ kind_text kind.DivideByZero = codes "DivideByZero"
 kind_text kind.MissingKey = codes "MissingKey"
 kind_text kind.NoValue = codes "NoValue"
 kind_text kind.TextTooLong = codes "TextTooLong"
+kind_text kind.EmptyQueue = codes "EmptyQueue"
 kind_text kind.DelayNotPositive = codes "DelayNotPositive"
 
 -- when, how and where an equation faults

@@ -19,7 +19,8 @@ use tsl_value::time::Time;
 /// Appends the output line of an event, `TIME: NAME = VALUE` and its end, or leaves `out` as it was.
 ///
 /// Unit is printed as `()`, an Int in decimal, a Bool as `true` or `false`, and a text between quotes with its
-/// escapes. The reader prints sets and maps, as `Set(1, 2)` and `Map(1 -> 2, 3 -> 4)` with their keys in order.
+/// escapes. The reader prints sets and maps, as `Set(1, 2)` and `Map(1 -> 2, 3 -> 4)` with their keys in order, and queues, as
+/// `Queue(5, 7)`.
 pub fn write_event<R: Reader>(
     time: Time,
     name: &Text,

@@ -54,6 +54,7 @@ fn kind_name(kind: FaultKind) -> &'static [u8]
         FaultKind::MissingKey => b"MissingKey",
         FaultKind::NoValue => b"NoValue",
         FaultKind::TextTooLong => b"TextTooLong",
+        FaultKind::EmptyQueue => b"EmptyQueue",
         FaultKind::DelayNotPositive => b"DelayNotPositive",
     }
 }

@@ -3,7 +3,7 @@ use Rattle.std.proofs.Common.{◌≡◌, ℕ, Bool, List, [], ◌∷◌, map, Op
 use Rattle.std.specs.Prelude.{pos, slice_index_or}
 use Rattle.std.specs.FinSet as set
 use Rattle.tsl_value.specs.Aggregate.{empty_of}
-use Rattle.tsl_value.specs.View.{Plain, Keyed}
+use Rattle.tsl_value.specs.View.{Plain, Keyed, Listed}
 use Rattle.tsl_value.specs.declared.scalar.Scalar.TheVariants as scalar
 use Rattle.tsl_value.specs.declared.scalar.ScalarType.TheVariants as scalar_type
 use Rattle.tsl_value.specs.declared.scalar.KeyType.TheVariants as key_type
@@ -13,7 +13,7 @@ use Rattle.lift_func.specs.BodyTree.{Literal, Argument, One, Two}
 use Rattle.tsl_value.specs.declared.operation.Unary.TheVariants as unary
 use Rattle.tsl_value.specs.declared.operation.Binary.TheVariants as binary
 use Rattle.lift_func.specs.declared.fault.FaultKind.{FaultKind}
-use Rattle.lift_func.specs.declared.fault.FaultKind.TheVariants.{DivideByZero, DelayNotPositive}
+use Rattle.lift_func.specs.declared.fault.FaultKind.TheVariants.{DivideByZero, EmptyQueue, DelayNotPositive}
 use Rattle.flat_core.specs.declared.equation.Op.{Op}
 use Rattle.flat_core.specs.declared.equation.Op.TheVariants as op
 use Rattle.flat_core.specs.declared.equation.Equation.{Equation}
@@ -260,3 +260,43 @@ not_updated = refl
 
 set_added : case_of (inputs_of []) with_sets 9 (eq op.SetAdd (0 ∷ 2 ∷ []) (value_type.Set key_type.Int)) 6 ≡ Some (Event (Keyed (set.insert set.empty (scalar.Int (pos 3)))))
 set_added = refl
+
+-- a queue of all numbers that an input had: what it was before, with each number after its last element
+abbrev queue_type : ValueType
+queue_type = value_type.Queue scalar_type.Int
+
+abbrev queueing : System
+queueing = record {
+  equations = eq op.Input [] int_type ∷ eq op.Empty [] queue_type ∷ eq op.Merge (4 ∷ 1 ∷ []) queue_type ∷ eq op.Last (2 ∷ 0 ∷ []) queue_type
+      ∷ eq op.QueueAdd (3 ∷ 0 ∷ []) queue_type ∷ [];
+  outputs = [];
+  running = 0 ∷ 1 ∷ 2 ∷ 3 ∷ 4 ∷ [];
+}
+
+abbrev queue_lines : List Line
+queue_lines = record { time = 1; event = Some (0, scalar.Int (pos 5)) } ∷ record { time = 2; event = Some (0, scalar.Int (pos 7)) } ∷ []
+
+abbrev queued : ℕ → Option Outcome
+queued = solved queueing (inputs_of queue_lines) (0 ∷ 1 ∷ 3 ∷ 4 ∷ 2 ∷ []) 3 2
+
+empty_first : queued 0 ≡ Some (Event (Listed []))
+empty_first = refl
+
+last_added : queued 2 ≡ Some (Event (Listed (scalar.Int (pos 5) ∷ scalar.Int (pos 7) ∷ [])))
+last_added = refl
+
+-- the element in front is taken; of an empty queue that is a fault
+abbrev with_queues : Streams
+with_queues i t = slice_index_or (Some (Event (Listed [])) ∷ Some (Event (Listed (scalar.Int (pos 5) ∷ scalar.Int (pos 7) ∷ []))) ∷ int_at 0 3 ∷ []) i None
+
+front_taken : case_of (inputs_of []) with_queues 9 (eq op.QueueTake (1 ∷ []) queue_type) 6 ≡ Some (Event (Listed (scalar.Int (pos 7) ∷ [])))
+front_taken = refl
+
+taken_of_none : case_of (inputs_of []) with_queues 9 (eq op.QueueTake (3 ∷ []) queue_type) 6 ≡ None
+taken_of_none = refl
+
+abbrev taking : System
+taking = record { equations = eq op.Empty [] queue_type ∷ eq op.QueueTake (0 ∷ []) queue_type ∷ []; outputs = []; running = 0 ∷ 1 ∷ [] }
+
+taken_of_empty : root_at taking (inputs_of []) (solved taking (inputs_of []) (0 ∷ 1 ∷ []) 1) 0 1 ≡ Some EmptyQueue
+taken_of_empty = refl

@@ -30,6 +30,8 @@ is_operation op.SetAdd update.SetAdd is = refl
 is_operation op.SetRemove update.SetRemove is = refl
 is_operation op.MapAdd update.MapAdd is = refl
 is_operation op.MapRemove update.MapRemove is = refl
+is_operation op.QueueAdd update.QueueAdd is = refl
+is_operation op.QueueTake update.QueueTake is = refl
 is_operation _ _ is = absurd (cc)
 
 -- what holds of the operation of each update

@@ -14,12 +14,16 @@ operation_of update.SetAdd = op.SetAdd
 operation_of update.SetRemove = op.SetRemove
 operation_of update.MapAdd = op.MapAdd
 operation_of update.MapRemove = op.MapRemove
+operation_of update.QueueAdd = op.QueueAdd
+operation_of update.QueueTake = op.QueueTake
 
 abbrev pub update_in : Op → Option Update
 update_in op.SetAdd = Some update.SetAdd
 update_in op.SetRemove = Some update.SetRemove
 update_in op.MapAdd = Some update.MapAdd
 update_in op.MapRemove = Some update.MapRemove
+update_in op.QueueAdd = Some update.QueueAdd
+update_in op.QueueTake = Some update.QueueTake
 update_in _ = None
 
 abbrev pub is_update : Op → Bool

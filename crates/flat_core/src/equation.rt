@@ -32,6 +32,8 @@ pub enum Op {
     MapRemove,
     SetAdd,
     SetRemove,
+    QueueAdd,
+    QueueTake,
 }
 
 /// One stream: an operation on the streams of other equations.
@@ -63,6 +65,8 @@ impl Op {
             Update::SetRemove => Op::SetRemove,
             Update::MapAdd => Op::MapAdd,
             Update::MapRemove => Op::MapRemove,
+            Update::QueueAdd => Op::QueueAdd,
+            Update::QueueTake => Op::QueueTake,
         }
     }
 
@@ -75,6 +79,8 @@ impl Op {
             Op::SetRemove => Some(Update::SetRemove),
             Op::MapAdd => Some(Update::MapAdd),
             Op::MapRemove => Some(Update::MapRemove),
+            Op::QueueAdd => Some(Update::QueueAdd),
+            Op::QueueTake => Some(Update::QueueTake),
             _ => None,
         }
     }
@@ -109,6 +115,8 @@ impl Op {
             Op::MapRemove => Op::MapRemove,
             Op::SetAdd => Op::SetAdd,
             Op::SetRemove => Op::SetRemove,
+            Op::QueueAdd => Op::QueueAdd,
+            Op::QueueTake => Op::QueueTake,
         })
     }
 }

@@ -1,28 +1,33 @@
 -- What registers hold, and what reading a cell gives.
-use Rattle.std.proofs.Common.{◌≡◌, ℕ, Bool, true, false, ◌&&◌, List, [], ◌∷◌, Option, Some, None, Ok, pos, refl, sym, subst, ◌∙◌}
+use Rattle.std.proofs.Common.{◌≡◌, ℕ, Bool, true, false, ◌&&◌, List, [], ◌∷◌, Option, Some, None, Result, Ok, Err, pos, refl, sym, subst, ◌∙◌}
 use Rattle.std.specs.Prelude.{IsTrue, if◌then◌else◌}
 use Rattle.std.specs.List.{list_all}
 use Rattle.std.specs.Option.{option_map}
 use Rattle.std.specs.FinMap as map
 use Rattle.std.proofs.lemmas.Bool.{and_parts, false≢true}
 use Rattle.tsl_value.specs.Aggregate.{has_elements, size_of}
-use Rattle.tsl_value.specs.View.{View, Plain, Keyed, Mapped, is_of, is_of_key, is_of_scalar}
+use Rattle.tsl_value.specs.View.{View, Plain, Keyed, Mapped, Listed, is_of, is_of_key, is_of_scalar}
 use Rattle.tsl_value.specs.declared.scalar.KeyType.{KeyType}
 use Rattle.tsl_value.specs.declared.scalar.KeyType.TheVariants as key_type
 use Rattle.tsl_value.specs.declared.scalar.Scalar.{Scalar}
 use Rattle.tsl_value.specs.declared.scalar.ScalarType.{ScalarType}
 use Rattle.tsl_value.specs.declared.scalar.ValueType.TheVariants as value_type
+use Rattle.tsl_value.specs.declared.operation.Unary.{Unary}
 use Rattle.tsl_value.specs.declared.operation.Unary.TheVariants as unary
 use Rattle.tsl_value.specs.declared.operation.Binary.{Binary}
 use Rattle.tsl_value.specs.declared.operation.Binary.TheVariants as binary
+use Rattle.lift_func.specs.declared.eval.EvalFault.{EvalFault}
+use Rattle.lift_func.specs.declared.eval.EvalFault.TheVariants as eval_fault
+use Rattle.lift_func.specs.declared.fault.FaultKind.{FaultKind}
+use Rattle.lift_func.specs.declared.fault.FaultKind.TheVariants.{EmptyQueue}
 use Rattle.lift_func.specs.declared.register.Register.{Register}
 use Rattle.lift_func.specs.declared.register.Register.TheVariants as register
 use Rattle.lift_func.specs.Apply.{int, bool, found, of_one, contained, at_key}
-use Rattle.lift_func.specs.inner.Cells.{Cells, FitsKey, HoldsLive, IsMap, has_key, held, register_of, scalar_in, value_at, view_at}
-use Rattle.lift_func.specs.inner.Evaluable.{CanRead, IsScalarKind, is_read}
+use Rattle.lift_func.specs.inner.Cells.{Cells, FitsKey, HoldsLive, IsMap, IsQueue, front_of, has_key, held, register_of, scalar_in, value_at, view_at}
+use Rattle.lift_func.specs.inner.Evaluable.{CanRead, FitsOperand, IsHeld, IsHeldValue, IsScalarKind, is_read}
 use Rattle.lift_func.specs.Typing as typing
 use Rattle.lift_func.specs.Operations.{is_arithmetic, is_order, is_equality, is_logic, is_on_texts}
-use Rattle.lift_func.specs.Typing.{ValueKind, Value, Optional, TypesTwo, fits, plain, scalar_of}
+use Rattle.lift_func.specs.Typing.{ValueKind, Value, Optional, TypesOne, TypesTwo, fits, plain, scalar_of}
 
 pub size_is : (v : View) → IsTrue (has_elements v) → of_one unary.Size (Some v) ≡ int (pos (size_of v))
 size_is v is = λ i. if is i then int (pos (size_of v)) else Ok None
@@ -31,11 +36,43 @@ pub contained_is : (v : View) (key : Scalar) → FitsKey v key → contained (So
 contained_is (Plain s) key fit = absurd fit
 contained_is (Keyed s) key fit = refl
 contained_is (Mapped m) key fit = refl
+contained_is (Listed xs) key fit = absurd fit
 
 pub at_key_is : (v : View) (key : Scalar) → IsMap v → at_key (Some v) (Some (Plain key)) ≡ found (option_map Plain (value_at v key))
 at_key_is (Plain s) key is = absurd is
 at_key_is (Keyed s) key is = absurd is
 at_key_is (Mapped m) key is = refl
+at_key_is (Listed xs) key is = absurd is
+
+-- what stands in front of a queue, and that nothing does
+pub front_is : (v : View) (x : Scalar) → front_of v ≡ Some x → of_one unary.Front (Some v) ≡ Ok (Some (Plain x))
+front_is (Plain s) x is = absurd (cc)
+front_is (Keyed s) x is = absurd (cc)
+front_is (Mapped m) x is = absurd (cc)
+front_is (Listed []) x is = absurd (cc)
+front_is (Listed (y ∷ ys)) x is = let same : y ≡ x = cc in λ k. Ok (Some (Plain (same k)))
+
+pub no_front : (v : View) → IsQueue v → front_of v ≡ None → of_one unary.Front (Some v) ≡ Err EmptyQueue
+no_front (Plain s) queue is = absurd queue
+no_front (Keyed s) queue is = absurd queue
+no_front (Mapped m) queue is = absurd queue
+no_front (Listed []) queue is = refl
+no_front (Listed (x ∷ xs)) queue is = absurd (cc)
+
+queue_of : {o : Unary} {j k : ValueKind} → TypesOne o j k → o ≡ unary.Front → (v : View) → IsTrue (fits j (Some v)) → IsQueue v
+queue_of typing.front is (Listed xs) fit = tt
+queue_of typing.front is _ fit = absurd (false≢true fit)
+queue_of typing.neg is v fit = absurd (cc)
+queue_of typing.not is v fit = absurd (cc)
+queue_of (typing.size aggregate) is v fit = absurd (cc)
+queue_of typing.length is v fit = absurd (cc)
+queue_of typing.some is v fit = absurd (cc)
+queue_of typing.is_some is v fit = absurd (cc)
+queue_of typing.is_none is v fit = absurd (cc)
+queue_of typing.get_some is v fit = absurd (cc)
+
+pub queue_operand : (v : View) → FitsOperand unary.Front (Some v) → IsQueue v
+queue_operand v operand = queue_of operand.types refl v operand.fit
 
 -- an aggregate is of no scalar's kind
 no_aggregate : (k : ValueKind) → IsScalarKind k → (v : View) → IsTrue (has_elements v) → IsTrue (fits k (Some v)) → ⊥
@@ -84,7 +121,33 @@ plain_operands (typing.in_map e) is = absurd (false≢true (sym is))
 plain_operands (typing.get e) is = absurd (false≢true (sym is))
 plain_operands (typing.on_texts e) is = (tt, tt)
 
+-- an operation of a scalar has the value of nothing at an aggregate
+abbrev pub of_scalar : Unary → Bool
+of_scalar unary.Neg = true
+of_scalar unary.Not = true
+of_scalar unary.Length = true
+of_scalar _ = false
+
+at_aggregate : (o : Unary) → of_scalar o ≡ true → (v : View) → IsTrue (has_elements v) → of_one o (Some v) ≡ of_one o None
+at_aggregate o of (Plain s) is = absurd (false≢true is)
+at_aggregate unary.Neg of v is = refl
+at_aggregate unary.Not of v is = refl
+at_aggregate unary.Length of v is = refl
+at_aggregate _ of v is = absurd (false≢true of)
+
 module _ (cells : Cells) where
+  at_register : (o : Unary) → of_scalar o ≡ true → (r : Register) → HoldsLive cells r → of_one o (option_map Plain (scalar_in r)) ≡ of_one o (held cells r)
+  at_register o of register.Empty live = refl
+  at_register o of (register.Scalar s) live = refl
+  at_register o of (register.Aggregate handle) live = sym (at_aggregate o of (view_at cells handle) live.1)
+
+  pub scalar_held : (o : Unary) → of_scalar o ≡ true → (r : Register) → HoldsLive cells r → (x : Register) → IsHeld cells x (of_one o (option_map Plain (scalar_in r))) → IsHeld cells x (of_one o (held cells r))
+  scalar_held o of r live x is = subst (IsHeld cells x) (at_register o of r live) is
+
+  pub scalar_fault : (o : Unary) → of_scalar o ≡ true → (r : Register) → HoldsLive cells r → (kind : FaultKind) → of_one o (option_map Plain (scalar_in r)) ≡ Err kind → (e : EvalFault) (result : Result Register EvalFault) → e ≡ eval_fault.Fault kind → result ≡ Err e → IsHeldValue cells result (of_one o (held cells r))
+  scalar_fault o of r live kind fault e result of_kind is =
+      subst (λ v. IsHeldValue cells v (of_one o (held cells r))) (sym (is ∙ (λ i. Err (of_kind i)))) (sym (at_register o of r live) ∙ fault)
+
   pub held_register : (v : Option Scalar) → held cells (register_of v) ≡ option_map Plain v
   held_register None = refl
   held_register (Some s) = refl

@@ -4,13 +4,12 @@ use Rattle.std.specs.Prelude.{IsTrue, IsFalse, if◌then◌else◌, int_div, int
 use Rattle.std.specs.List.{list_all}
 use Rattle.std.specs.Option.{option_map}
 use Rattle.std.specs.Ordering.{eq_by_cmp, is_eq}
-use Rattle.std.specs.FinSet as set
 use Rattle.std.specs.FinMap as map
 use Rattle.std.proofs.lemmas.Bool.{and_parts, false≢true, true≢false}
 use Rattle.tsl_value.specs.Literal.{is_int}
 use Rattle.tsl_value.specs.Aggregate.{size_of}
 use Rattle.tsl_value.proofs.Aggregates.{elements_of}
-use Rattle.tsl_value.specs.View.{View, Plain, Keyed, Mapped, Keys, Table, is_of, is_of_key, is_of_scalar, scalar_cmp, type_of}
+use Rattle.tsl_value.specs.View.{View, Plain, Keyed, Mapped, Listed, Keys, Table, is_of, is_of_key, is_of_scalar, scalar_cmp, type_of}
 use Rattle.tsl_value.specs.declared.scalar.KeyType.{KeyType}
 use Rattle.tsl_value.specs.declared.scalar.Scalar.{Scalar}
 use Rattle.tsl_value.specs.declared.scalar.Scalar.TheVariants as scalar
@@ -64,6 +63,10 @@ module _ (P : Option View → Type 0) where
   map_form k x h (Some (Mapped m)) fit = h m fit
   map_form k x h _ fit = absurd (false≢true fit)
 
+  pub queue_form : (x : ScalarType) → ((xs : List Scalar) → IsTrue (is_of (value_type.Queue x) (Listed xs)) → P (Some (Listed xs))) → (v : Option View) → IsTrue (fits (Value (value_type.Queue x)) v) → P v
+  queue_form x h (Some (Listed xs)) fit = h xs fit
+  queue_form x h _ fit = absurd (false≢true fit)
+
 -- answers of a kind
 int_fits : (z : ℤ) → FitsAnswer int_kind (int z)
 int_fits z =
@@ -84,11 +87,16 @@ divided_fits b answer h = h
 remainder_fits : (a b : ℤ) → FitsAnswer int_kind (remainder a b)
 remainder_fits a b = then_fits (λ _. int (int_rem a b)) int_kind int_kind (λ v fit. int_fits (int_rem a b)) (int (int_div a b)) (int_fits (int_div a b))
 
+front_fits : (x : ScalarType) (xs : List Scalar) → IsTrue (is_of (value_type.Queue x) (Listed xs)) → FitsAnswer (plain x) (of_one unary.Front (Some (Listed xs)))
+front_fits x [] all = tt
+front_fits x (y ∷ xs) all = (and_parts (is_of_scalar x y) (list_all (is_of_scalar x) xs) all).0
+
 one_fits : {o : Unary} {j k : ValueKind} → TypesOne o j k → (v : Option View) → IsTrue (fits j v) → FitsAnswer k (of_one o v)
 one_fits typing.neg v fit = int_form (λ v. FitsAnswer int_kind (of_one unary.Neg v)) (λ z. int_fits (neg_ℤ z)) v fit
 one_fits typing.not v fit = bool_form (λ v. FitsAnswer bool_kind (of_one unary.Not v)) (λ b. refl) v fit
 one_fits (typing.size {t = t} is) (Some v) fit = subst (λ b. FitsAnswer int_kind (if b then int (pos (size_of v)) else Ok None)) (sym (elements_of t v fit ∙ is)) (int_fits (pos (size_of v)))
 one_fits (typing.size is) None fit = absurd (false≢true fit)
+one_fits (typing.front {x = x}) v fit = queue_form (λ v. FitsAnswer (plain x) (of_one unary.Front v)) x (front_fits x) v fit
 one_fits typing.length v fit = text_form (λ v. FitsAnswer int_kind (of_one unary.Length v)) (λ s. refl) v fit
 one_fits typing.some (Some v) fit = fit
 one_fits typing.some None fit = absurd (false≢true fit)
@@ -248,6 +256,7 @@ contained_safe _ _ = tt
 pub one_safe : (o : Unary) (v : Option View) → IsFalse (can_fault_one o) → HasNoFault (of_one o v)
 one_safe unary.Neg v never = absurd (true≢false never)
 one_safe unary.Size v never = absurd (true≢false never)
+one_safe unary.Front v never = absurd (true≢false never)
 one_safe unary.GetSome v never = absurd (true≢false never)
 one_safe unary.Not (Some (Plain (scalar.Bool a))) never = tt
 one_safe unary.Not _ never = tt

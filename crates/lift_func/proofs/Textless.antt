@@ -3,7 +3,7 @@ use Rattle.std.proofs.Common.{◌≡◌, ℕ, false, List, Option, Some, None, R
 use Rattle.std.specs.Prelude.{IsTrue, slice_index_or}
 use Rattle.std.specs.Option.{option_map}
 use Rattle.std.proofs.lemmas.Bool.{false≢true}
-use Rattle.tsl_value.specs.View.{View, Plain, Keyed, Mapped, type_of}
+use Rattle.tsl_value.specs.View.{View, Plain, Keyed, Mapped, Listed, type_of}
 use Rattle.tsl_value.specs.declared.scalar.Scalar.{Scalar}
 use Rattle.tsl_value.specs.declared.scalar.Scalar.TheVariants as scalar
 use Rattle.tsl_value.specs.declared.scalar.ScalarType.{ScalarType}
@@ -15,7 +15,7 @@ use Rattle.lift_func.specs.declared.eval.EvalFault.{EvalFault}
 use Rattle.lift_func.specs.declared.eval.EvalFault.TheVariants as eval_fault
 use Rattle.lift_func.specs.declared.register.Register.{Register}
 use Rattle.lift_func.specs.declared.register.Register.TheVariants as register
-use Rattle.lift_func.specs.Apply.{Answer, apply, of_two}
+use Rattle.lift_func.specs.Apply.{Answer, and_then, apply, of_one, of_two}
 use Rattle.lift_func.specs.inner.Cells.{Cells, held, scalar_in}
 use Rattle.lift_func.specs.inner.Textless.{IsText, IsNoText, HasNoText, IsAnswered, is_text, IsNoTextKind, IsTextless}
 use Rattle.lift_func.specs.BodyTree.{BodyTree, Literal, Argument, Absent, One, Two, Choice}
@@ -29,6 +29,9 @@ text_type scalar.Unit is = absurd (cc)
 text_type (scalar.Int z) is = absurd (cc)
 text_type (scalar.Bool b) is = absurd (cc)
 text_type (scalar.Text bytes) is = tt
+
+pub plain_text : (s : Scalar) → IsNoText (Ok (Some (Plain s))) → type_of s ≡ scalar_type.Text → ⊥
+plain_text s none is = none (text_type s is)
 
 -- what a register holds is a text where its scalar is one
 pub held_no_text : (cells : Cells) (r : Register) → IsNoText (Ok (held cells r)) → IsText (option_map Plain (scalar_in r)) → ⊥
@@ -60,6 +63,9 @@ module _ (tree : BodyTree) (values : List (Option View)) (none : HasNoText tree 
 
   pub second_no_text : (o : Binary) (a b : BodyTree) → tree ≡ Two o a b → HasNoText b values
   second_no_text o a b is = (subst (λ t. HasNoText t values) is none).2
+
+  pub one_no_text : (o : Unary) (a : BodyTree) (x : Option View) → tree ≡ One o a → apply a values ≡ Ok x → IsNoText (of_one o x)
+  one_no_text o a x is value = subst (λ v. IsNoText (and_then v (of_one o))) value (no_text (One o a) values (subst (λ t. HasNoText t values) is none))
 
   -- the answer of an operation whose operands are known
   pub both_no_text : (o : Binary) (a b : BodyTree) (x y : Option View) → tree ≡ Two o a b → apply a values ≡ Ok x → apply b values ≡ Ok y → IsNoText (of_two o (Ok x) (Ok y))
@@ -96,9 +102,11 @@ value_no_text : (k : ValueKind) (v : Option View) → is_text k ≡ false → Is
 value_no_text k None none fit is = is
 value_no_text k (Some (Keyed s)) none fit is = is
 value_no_text k (Some (Mapped m)) none fit is = is
+value_no_text k (Some (Listed xs)) none fit is = is
 value_no_text (Value (value_type.Scalar t)) (Some (Plain s)) none fit is = plain_no_text t s none fit is
 value_no_text (Value (value_type.Set k)) (Some (Plain s)) none fit is = false≢true fit
 value_no_text (Value (value_type.Map k t)) (Some (Plain s)) none fit is = false≢true fit
+value_no_text (Value (value_type.Queue t)) (Some (Plain s)) none fit is = false≢true fit
 value_no_text (Optional (value_type.Scalar t)) (Some (Plain s)) none fit is = plain_no_text t s (optional_none t none) fit is
   where
     optional_none : (t : ScalarType) → is_text (Optional (value_type.Scalar t)) ≡ false → is_text (plain t) ≡ false
@@ -108,6 +116,7 @@ value_no_text (Optional (value_type.Scalar t)) (Some (Plain s)) none fit is = pl
     optional_none scalar_type.Text none = none
 value_no_text (Optional (value_type.Set k)) (Some (Plain s)) none fit is = false≢true fit
 value_no_text (Optional (value_type.Map k t)) (Some (Plain s)) none fit is = false≢true fit
+value_no_text (Optional (value_type.Queue t)) (Some (Plain s)) none fit is = false≢true fit
 
 answer_no_text : (k : ValueKind) (answer : Answer) → is_text k ≡ false → FitsAnswer k answer → IsNoText answer
 answer_no_text k (Ok v) none fit = value_no_text k v none fit

@@ -1,21 +1,20 @@
 -- What updates make of values that may be absent.
-use Rattle.std.proofs.Common.{◌≡◌, ℕ, ◌≤◌, Bool, true, false, ◌&&◌, List, [], ◌∷◌, map, length, Option, Some, None, Result, Ok, Err, refl, sym, ap, subst, ◌∙◌, lit≤}
+use Rattle.std.proofs.Common.{◌≡◌, ◌≤◌, true, false, List, [], ◌∷◌, ◌++◌, map, length, Option, Some, None, Result, Ok, Err, refl, sym, ap, subst, ◌∙◌, lit≤}
 use Rattle.std.specs.Prelude.{IsTrue, is_some}
 use Rattle.std.specs.List.{AllByRecursion, list_all}
 use Rattle.std.specs.Option.{option_map}
 use Rattle.std.specs.FinSet as set
 use Rattle.std.specs.FinMap as finite_map
-use Rattle.std.proofs.lemmas.Bool.{false≢true, true≢false}
+use Rattle.std.proofs.lemmas.Bool.{true≢false}
 use Rattle.tsl_value.specs.Aggregate.{is_aggregate}
-use Rattle.tsl_value.specs.View.{View, Plain, Keyed, Mapped}
+use Rattle.tsl_value.specs.View.{View, Plain, Keyed, Mapped, Listed}
 use Rattle.tsl_value.specs.declared.operation.Update.{Update}
 use Rattle.tsl_value.specs.declared.operation.Update.TheVariants as update
 use Rattle.tsl_value.specs.declared.scalar.ValueType.{ValueType}
-use Rattle.tsl_value.specs.declared.scalar.ValueType.TheVariants as value_type
 use Rattle.lift_func.specs.declared.fault.FaultKind.{FaultKind}
 use Rattle.lift_func.specs.Apply.{Answer}
 use Rattle.lift_func.specs.Typing.{Optional, fits, FitsAnswer}
-use Rattle.lift_func.specs.Update.{updated, UpdateTypes, set_add, set_remove, map_add, map_remove, beside, update_faults, all_of, present, update_of, update_answer}
+use Rattle.lift_func.specs.Update.{updated, UpdateTypes, set_add, set_remove, map_add, map_remove, queue_add, queue_take, beside, update_faults, all_of, present, update_of, update_answer}
 use Rattle.lift_func.proofs.TypedUpdates.{AreViewsOf, IsUpdated, updated_typed}
 
 -- ---- the rows
@@ -25,18 +24,24 @@ updates_aggregate (set_add is) = refl
 updates_aggregate (set_remove is) = refl
 updates_aggregate (map_add is) = refl
 updates_aggregate (map_remove is) = refl
+updates_aggregate queue_add = refl
+updates_aggregate queue_take = refl
 
 pub beside_scalars : {u : Update} {of : ValueType} {types : List ValueType} → UpdateTypes u of types → AllByRecursion (λ t. is_aggregate t ≡ false) types
 beside_scalars (set_add is) = (refl, tt)
 beside_scalars (set_remove is) = (refl, tt)
 beside_scalars (map_add is) = (refl, (refl, tt))
 beside_scalars (map_remove is) = (refl, tt)
+beside_scalars queue_add = (refl, tt)
+beside_scalars queue_take = tt
 
 pub beside_is : {u : Update} {of : ValueType} {types : List ValueType} → UpdateTypes u of types → length types ≡ beside u
 beside_is (set_add is) = refl
 beside_is (set_remove is) = refl
 beside_is (map_add is) = refl
 beside_is (map_remove is) = refl
+beside_is queue_add = refl
+beside_is queue_take = refl
 
 pub beside_few : (u : Update) → beside u ≤ 7
 beside_few update.MapAdd = lit≤ tt
@@ -48,6 +53,8 @@ updated_safe update.SetAdd (Keyed s) (Plain k ∷ []) never = (Keyed (set.insert
 updated_safe update.SetRemove (Keyed s) (Plain k ∷ []) never = (Keyed (set.remove s k), refl)
 updated_safe update.MapAdd (Mapped m) (Plain k ∷ Plain x ∷ []) never = (Mapped (finite_map.insert m k x), refl)
 updated_safe update.MapRemove (Mapped m) (Plain k ∷ []) never = (Mapped (finite_map.remove m k), refl)
+updated_safe update.QueueAdd (Listed xs) (Plain x ∷ []) never = (Listed (xs ++ x ∷ []), refl)
+updated_safe update.QueueTake v rest never = absurd (true≢false never)
 updated_safe _ v _ never = (v, refl)
 
 -- ---- values that may be absent

@@ -46,6 +46,7 @@ made_of_texts _ = scalar_type.Bool
 abbrev pub can_fault_one : Unary → Bool
 can_fault_one unary.Neg = true
 can_fault_one unary.Size = true
+can_fault_one unary.Front = true
 can_fault_one unary.GetSome = true
 can_fault_one _ = false
 

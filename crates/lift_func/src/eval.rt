@@ -147,7 +147,7 @@ fn eval_register<R: Reader>(
         Node::Absent(_) => Ok(Register::Empty),
         Node::One(o, a) => {
             let x = eval_register(alloc, a, registers, args, reader)?;
-            Ok(unary_at(*o, x, reader)?)
+            unary_at(*o, x, reader)
         }
         Node::Two(o, a, b) => {
             let x = eval_register(alloc, a, registers, args, reader)?;

@@ -10,7 +10,7 @@ use tsl_value::operation::{Binary, Unary};
 fn unary_can_fault(o: Unary) -> bool
     ensures { result ≡ can_fault_one o }
 {
-    matches!(o, Unary::Neg | Unary::Size | Unary::GetSome)
+    matches!(o, Unary::Neg | Unary::Size | Unary::Front | Unary::GetSome)
 }
 
 pub(crate) fn is_arithmetic(o: Binary) -> bool

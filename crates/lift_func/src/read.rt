@@ -1,13 +1,13 @@
 // The operations at registers. Those on aggregates read their cells.
 
-ghost use Rattle.std.specs.Prelude.{◌≡◌, pos};
+ghost use Rattle.std.specs.Prelude.{◌≡◌, Some, pos};
 ghost use Rattle.std.specs.Option.{option_map};
 ghost use Rattle.tsl_value.specs.View.{Plain};
 ghost use Rattle.tsl_value.specs.declared.operation.Unary.TheVariants as unary;
 ghost use Rattle.lift_func.specs.inner.Answered.{IsInt};
 ghost use Rattle.lift_func.specs.Apply.{int, found, of_one, of_two};
-ghost use Rattle.lift_func.specs.inner.Cells.{Cells, FitsKey, HoldsLive, IsLive, IsMap, has_key, held, register_of, scalar_in, value_at};
-ghost use Rattle.lift_func.specs.inner.Cells.{view_at};
+ghost use Rattle.lift_func.specs.inner.Cells.{Cells, FitsKey, HoldsLive, IsLive, IsMap, IsQueue, has_key, held, register_of, scalar_in};
+ghost use Rattle.lift_func.specs.inner.Cells.{value_at, view_at};
 ghost use Rattle.lift_func.specs.inner.Evaluable.{CanRead, FitsOperand, IsHeldAnswer, IsHeldValue, is_read};
 ghost use Rattle.lift_func.specs.inner.Textless.{IsAnswered, IsNoText};
 
@@ -84,27 +84,61 @@ fn unary_at_scalar(o: Unary, a: Register) -> Result<Register, FaultKind>
     Ok(register_of(apply_unary(o, scalar_of(a))?))
 }
 
-/// The value of an operation of one operand, or its fault.
-pub(crate) fn unary_at<R: Reader>(o: Unary, a: Register, reader: &R) -> Result<Register, FaultKind>
+/// The element in front of a queue, or its fault. Only a text takes memory.
+fn front<R: Reader>(cell: Handle, reader: &R) -> Result<Register, EvalFault>
+    requires live { IsLive (R.cells reader.now) cell }
+    requires queue { IsQueue (view_at (R.cells reader.now) cell) }
+    ensures value { IsHeldValue (R.cells reader.now) result (of_one unary.Front (Some (view_at (R.cells reader.now) cell))) }
+    ensures spare { IsNoText (of_one unary.Front (Some (view_at (R.cells reader.now) cell))) → IsAnswered result }
+{
+    match reader.front(cell) {
+        Some(element) => Ok(Register::Scalar(element.copy()?)),
+        None => Err(EvalFault::Fault(FaultKind::EmptyQueue)),
+    }
+}
+
+/// The element in front of what a register holds, or its fault.
+fn front_at<R: Reader>(a: &Register, reader: &R) -> Result<Register, EvalFault>
+    requires live { HoldsLive (R.cells reader.now) a.now }
+    requires typed { FitsOperand unary.Front (held (R.cells reader.now) a.now) }
+    ensures value { IsHeldValue (R.cells reader.now) result (of_one unary.Front (held (R.cells reader.now) a.now)) }
+    ensures spare { IsNoText (of_one unary.Front (held (R.cells reader.now) a.now)) → IsAnswered result }
+{
+    match a {
+        Register::Empty => Ok(Register::Empty),
+        Register::Scalar(_) => Ok(Register::Empty),
+        Register::Aggregate(cell) => front(*cell, reader),
+    }
+}
+
+/// What an option holds, or its fault.
+fn some_of(a: Register) -> Result<Register, FaultKind>
+    ensures { (cells : Cells) → HoldsLive cells a → IsHeldAnswer cells result (of_one unary.GetSome (held cells a)) }
+{
+    if a.is_empty() {
+        Err(FaultKind::NoValue)
+    } else {
+        Ok(a)
+    }
+}
+
+/// The value of an operation of one operand, or its fault. Only a text in front of a queue takes memory.
+pub(crate) fn unary_at<R: Reader>(o: Unary, a: Register, reader: &R) -> Result<Register, EvalFault>
     requires live { HoldsLive (R.cells reader.now) a }
     requires typed { FitsOperand o (held (R.cells reader.now) a) }
-    ensures { IsHeldAnswer (R.cells reader.now) result (of_one o (held (R.cells reader.now) a)) }
+    ensures value { IsHeldValue (R.cells reader.now) result (of_one o (held (R.cells reader.now) a)) }
+    ensures spare { IsNoText (of_one o (held (R.cells reader.now) a)) → IsAnswered result }
 {
     match o {
-        Unary::Neg => unary_at_scalar(o, a),
-        Unary::Not => unary_at_scalar(o, a),
-        Unary::Length => unary_at_scalar(o, a),
-        Unary::Size => size(&a, reader),
+        Unary::Neg => Ok(unary_at_scalar(o, a)?),
+        Unary::Not => Ok(unary_at_scalar(o, a)?),
+        Unary::Length => Ok(unary_at_scalar(o, a)?),
+        Unary::Size => Ok(size(&a, reader)?),
+        Unary::Front => front_at(&a, reader),
         Unary::Some => Ok(a),
         Unary::IsSome => Ok(Register::Scalar(Scalar::Bool(!a.is_empty()))),
         Unary::IsNone => Ok(Register::Scalar(Scalar::Bool(a.is_empty()))),
-        Unary::GetSome => {
-            if a.is_empty() {
-                Err(FaultKind::NoValue)
-            } else {
-                Ok(a)
-            }
-        }
+        Unary::GetSome => Ok(some_of(a)?),
     }
 }
 

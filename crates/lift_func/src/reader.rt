@@ -4,7 +4,7 @@ ghost use Rattle.std.specs.Prelude.{◌≡◌, ◌++◌, OnOk, OnErr};
 ghost use Rattle.std.specs.Option.{option_copied};
 ghost use Rattle.tsl_value.specs.Aggregate.{size_of};
 ghost use Rattle.tsl_value.specs.Print.{view_text};
-ghost use Rattle.lift_func.specs.inner.Cells.{Cells, FitsKey, IsLive, IsMap, has_key, value_at, view_at};
+ghost use Rattle.lift_func.specs.inner.Cells.{Cells, FitsKey, IsLive, IsMap, IsQueue, front_of, has_key, value_at, view_at};
 
 use tsl_value::bytes::Bytes;
 use tsl_value::ids::Handle;
@@ -33,6 +33,12 @@ pub trait Reader {
         requires typed { FitsKey (view_at (cells self.now) cell) key.now }
         ensures { option_copied result ≡ value_at (view_at (cells self.now) cell) key.now };
 
+    /// The element in front of a queue. `None` exactly where the queue is empty.
+    fn front(&self, cell: Handle) -> Option<&Scalar>
+        requires live { IsLive (cells self.now) cell }
+        requires queue { IsQueue (view_at (cells self.now) cell) }
+        ensures { option_copied result ≡ front_of (view_at (cells self.now) cell) };
+
     /// Appends the aggregate's text.
     fn print(&self, cell: Handle, out: &mut Bytes) -> Result<(), NoMemory>
         requires { IsLive (cells self.now) cell }
@@ -59,6 +65,10 @@ impl Reader for NoCells {
     }
 
     fn get(&self, _cell: Handle, _key: &Scalar) -> Option<&Scalar> {
+        unreachable!()
+    }
+
+    fn front(&self, _cell: Handle) -> Option<&Scalar> {
         unreachable!()
     }
 

@@ -14,5 +14,7 @@ pub fn update_can_fault(update: Update) -> bool
         Update::SetRemove => false,
         Update::MapAdd => false,
         Update::MapRemove => false,
+        Update::QueueAdd => false,
+        Update::QueueTake => true,
     }
 }

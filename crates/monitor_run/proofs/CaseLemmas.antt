@@ -2,7 +2,7 @@
 use Rattle.std.proofs.Common.{◌≡◌, ◌==◌, ℕ, zero, suc, ◌+◌, ◌-◌, ◌^◌, ◌<◌, Bool, true, false, List, [], ◌∷◌, length, map, Option, Some, None, Ok, Err, inl, inr, refl, sym, ap, subst, ◌∙◌, arith}
 use Rattle.std.proofs.lemmas.Bool.{false≢true, true≢false, ne_eqb}
 use Rattle.std.proofs.lemmas.List.{length-set}
-use Rattle.std.specs.Prelude.{◌⊎◌, IfErr, IfOk, IsOk, IsTrue, OnOk, Result, slice_set, is_some, min, not, if◌then◌else◌, slice_index}
+use Rattle.std.specs.Prelude.{◌⊎◌, IfOk, IsOk, IsTrue, Result, slice_set, is_some, min, not, if◌then◌else◌, slice_index}
 use Rattle.std.specs.List.{All, AllByRecursion, list_any}
 use Rattle.std.specs.Option.{option_and_then, option_or}
 use Rattle.std.proofs.lemmas.List.Elements.{recursion_from_All}
@@ -167,10 +167,13 @@ module _ (in_place : Bool) (i t : ℕ) (e : Equation) (registers last : List Reg
 
 -- ---- what updates make
 
-made_effect : (in_place : Bool) (i : ℕ) (o : Op) (source : Register) (old new : Stored) (r : Register) (answer : Answer) → is_update o ≡ true → HasAnswer in_place i source old new (Ok r) answer → HasEffect in_place i o source old new (Ok r) (made answer)
-made_effect in_place i o source old new r (Ok None) is had = (sym (ap (λ x. slot_of (held_by x)) had.0), had.1)
-made_effect in_place i o source old new r (Ok (Some v)) is had = subst (λ q. HasMade q in_place i source old new r v) (sym is) had
-made_effect in_place i o source old new r (Err kind) is had = absurd had
+made_effect : (in_place : Bool) (i : ℕ) (o : Op) (source : Register) (old new : Stored) (r : Result Register EvalFault) (answer : Answer) → is_update o ≡ true → HasAnswer in_place i source old new r answer → HasEffect in_place i o source old new r (made answer)
+made_effect in_place i o source old new (Ok r) (Ok None) is had = (sym (ap (λ x. slot_of (held_by x)) had.0), had.1)
+made_effect in_place i o source old new (Ok r) (Ok (Some v)) is had = subst (λ q. HasMade q in_place i source old new r v) (sym is) had
+made_effect in_place i o source old new (Ok r) (Err kind) is had = absurd had
+made_effect in_place i o source old new (Err (eval_fault.Fault kind)) answer is had =
+    subst (λ a. HasEffect in_place i o source old new (Err (eval_fault.Fault kind)) (made a)) (sym had.0) (refl, had.1)
+made_effect in_place i o source old new (Err eval_fault.Memory) answer is had = tt
 
 -- an operation that is none
 pub no_update_op : (o : Op) → update_in o ≡ None → is_update o ≡ false
@@ -178,15 +181,15 @@ no_update_op o is = ap is_some is
 
 -- an update has run by a test that agrees
 pub update_effect : (tested in_place : Bool) (i t : ℕ) (e : Equation) (u : Update) (registers last : List Register) (old new : Stored) → TakesTyped old.cells registers e → update_in e.op ≡ Some u → tested ≡ in_place
-    → (r : Register) → HasAnswer tested i (source_of registers e.args) old new (Ok r) (update_answer u (map (value_at old.cells registers) e.args))
-    → HasEffect in_place i e.op (source_of registers e.args) old new (Ok r) (effect_here registers last old i t e)
+    → (r : Result Register EvalFault) → HasAnswer tested i (source_of registers e.args) old new r (update_answer u (map (value_at old.cells registers) e.args))
+    → HasEffect in_place i e.op (source_of registers e.args) old new r (effect_here registers last old i t e)
 update_effect tested in_place i t e u registers last old new typed is same r had =
     let does : effect_here registers last old i t e ≡ made (update_answer u (map (value_at old.cells registers) e.args)) =
     effect_update (λ j u. None) t (config_of registers last old) i e.op u is e.args e.of
     ∙ ap (λ vs. made (update_answer u vs)) (values_seen registers last old e.args typed.live) in
-    subst (HasEffect in_place i e.op (source_of registers e.args) old new (Ok r)) (sym does)
+    subst (HasEffect in_place i e.op (source_of registers e.args) old new r) (sym does)
     (made_effect in_place i e.op (source_of registers e.args) old new r (update_answer u (map (value_at old.cells registers) e.args)) (is_one e.op is)
-    (subst (λ b. HasAnswer b i (source_of registers e.args) old new (Ok r) (update_answer u (map (value_at old.cells registers) e.args))) same had))
+    (subst (λ b. HasAnswer b i (source_of registers e.args) old new r (update_answer u (map (value_at old.cells registers) e.args))) same had))
 
 -- ---- what is put into a place
 
@@ -197,12 +200,6 @@ put_one P place other old new (Err fault) r ok is same has = absurd (false≢tru
 pub put_as : (P Q : Result Register EvalFault → Type 0) (place other : ℕ) (old new : List Register) (result : Result (Unit {0}) EvalFault) → place ≡ other → ((r : Result Register EvalFault) → P r → Q r) → HasPut place old new result P → HasPut other old new result Q
 put_as P Q place other old new (Ok done) same turn put = (put.0, put.1 ∙ (λ k. slice_set old (same k) put.0), turn (Ok put.0) put.2)
 put_as P Q place other old new (Err fault) same turn put = turn (Err fault) put
-
--- where out of memory is the only fault
-pub put_made : (P : Result Register EvalFault → Type 0) (Q : Register → Type 0) (place other : ℕ) (old new : List Register) (result : Result (Unit {0}) EvalFault) → place ≡ other → ((r : Register) → Q r → P (Ok r)) → P (Err eval_fault.Memory)
-    → OnOk result ((r : Register) × (new ≡ slice_set old place r) × Q r) → IfErr result (λ fault. fault ≡ eval_fault.Memory) → HasPut other old new result P
-put_made P Q place other old new (Ok done) same turn free put memory = (put.0, put.1 ∙ (λ k. slice_set old (same k) put.0), turn put.0 put.2)
-put_made P Q place other old new (Err fault) same turn free put memory = subst (λ f. P (Err f)) (sym memory) free
 
 -- ---- what is handed on
 

@@ -4,24 +4,25 @@ use Rattle.std.proofs.lemmas.Bool.{false≢true, true≢false}
 use Rattle.std.specs.Prelude.{◌⊎◌, IfOk, IsTrue, Result, slice_index}
 use Rattle.std.specs.List.{AllByRecursion}
 use Rattle.std.proofs.lemmas.List.Elements.{recursion_from_All}
-use Rattle.tsl_value.specs.Aggregate.{is_aggregate}
+use Rattle.tsl_value.specs.Aggregate.{is_aggregate, size_of}
 use Rattle.tsl_value.specs.declared.operation.Update.{Update}
 use Rattle.tsl_value.specs.declared.operation.Update.TheVariants as update
 use Rattle.tsl_value.specs.declared.scalar.Scalar.{Scalar}
 use Rattle.tsl_value.specs.declared.scalar.Scalar.TheVariants as scalar
 use Rattle.tsl_value.specs.declared.scalar.ValueType.{ValueType}
 use Rattle.tsl_value.specs.declared.scalar.ValueType.TheVariants as value_type
-use Rattle.tsl_value.specs.View.{View, Plain, Keyed, Mapped, is_of}
+use Rattle.tsl_value.specs.View.{View, Plain, Keyed, Mapped, Listed, is_of}
 use Rattle.tsl_value.proofs.Aggregates.{elements_of}
-use Rattle.lift_func.specs.inner.Cells.{Cells, FitsKey, HoldsLive, IsLive, held, view_at}
+use Rattle.lift_func.specs.inner.Cells.{Cells, FitsKey, HoldsLive, IsLive, IsQueue, held, view_at}
 use Rattle.lift_func.specs.declared.eval.EvalFault.{EvalFault}
+use Rattle.lift_func.specs.declared.fault.FaultKind.TheVariants.{EmptyQueue}
 use Rattle.lift_func.specs.declared.register.Register.{Register}
 use Rattle.lift_func.specs.declared.register.Register.TheVariants as register
-use Rattle.lift_func.specs.Update.{updated, UpdateTypes, set_add, set_remove, map_add, map_remove, beside, present, update_answer}
+use Rattle.lift_func.specs.Update.{updated, UpdateTypes, set_add, set_remove, map_add, map_remove, queue_add, queue_take, beside, present, update_answer}
 use Rattle.lift_func.proofs.CellReads.{key_of}
 use Rattle.lift_func.proofs.Updates.{updates_aggregate, beside_scalars}
 use Rattle.lift_func.proofs.TypedUpdates.{AreViewsOf}
-use Rattle.aggregate_store.specs.inner.Stored.{Stored, FitsValue, with_added, without_key}
+use Rattle.aggregate_store.specs.inner.Stored.{Stored, FitsValue, HasFront, with_added, with_last, without_front, without_key}
 use Rattle.aggregate_store.proofs.Typed.{fits_map, fits_value}
 use Rattle.flat_core.specs.declared.equation.Equation.{Equation}
 use Rattle.flat_core.specs.inner.TypedEvents.{AreOf}
@@ -46,21 +47,51 @@ set_adds : {of : ValueType} {types : List ValueType} → UpdateTypes update.SetA
 set_adds (set_add {k = k} {t = t} is) (Keyed s) key typed fit = record { key_fits = (k, key_of k t is key fit.0, typed); value_fits = refl; is = refl }
 set_adds (set_add is) (Plain s) key typed fit = absurd (false≢true typed)
 set_adds (set_add is) (Mapped m) key typed fit = absurd (false≢true typed)
+set_adds (set_add is) (Listed xs) key typed fit = absurd (false≢true typed)
 
 map_adds : {of : ValueType} {types : List ValueType} → UpdateTypes update.MapAdd of types → (v : View) (key value : Scalar) → IsTrue (is_of of v) → AreViewsOf types (Plain key ∷ Plain value ∷ []) → Adds update.MapAdd v key value (Plain key ∷ Plain value ∷ [])
 map_adds (map_add {k = k} {t = t} {x = x} is) (Mapped m) key value typed fit = record { key_fits = fits_map k x m key (key_of k t is key fit.0) typed; value_fits = fits_value (value_type.Map k x) (Mapped m) key value (key_of k t is key fit.0, fit.1.0) typed; is = refl }
 map_adds (map_add is) (Plain s) key value typed fit = absurd (false≢true typed)
 map_adds (map_add is) (Keyed s) key value typed fit = absurd (false≢true typed)
+map_adds (map_add is) (Listed xs) key value typed fit = absurd (false≢true typed)
 
 removes : {u : Update} {of : ValueType} {types : List ValueType} → IsRemoval u → UpdateTypes u of types → (v : View) (key : Scalar) → IsTrue (is_of of v) → AreViewsOf types (Plain key ∷ []) → Removes u v key
 removes one (set_remove {k = k} {t = t} is) (Keyed s) key typed fit = record { key_fits = (k, key_of k t is key fit.0, typed); is = refl }
 removes one (set_remove is) (Plain s) key typed fit = absurd (false≢true typed)
 removes one (set_remove is) (Mapped m) key typed fit = absurd (false≢true typed)
+removes one (set_remove is) (Listed xs) key typed fit = absurd (false≢true typed)
 removes one (map_remove {k = k} {t = t} {x = x} is) (Mapped m) key typed fit = record { key_fits = fits_map k x m key (key_of k t is key fit.0) typed; is = refl }
 removes one (map_remove is) (Plain s) key typed fit = absurd (false≢true typed)
 removes one (map_remove is) (Keyed s) key typed fit = absurd (false≢true typed)
+removes one (map_remove is) (Listed xs) key typed fit = absurd (false≢true typed)
 removes one (set_add is) v key typed fit = absurd one
 removes one (map_add is) v key typed fit = absurd one
+removes one queue_add v key typed fit = absurd one
+removes one queue_take v key typed fit = absurd one
+
+-- a queue takes a value after its last element
+pub record Enqueues (v : View) (value : Scalar) : Type 0 where
+  pub queue : IsQueue v
+  pub is : updated update.QueueAdd v (Plain value ∷ []) ≡ Ok (with_last v value)
+
+queue_adds : {of : ValueType} {types : List ValueType} → UpdateTypes update.QueueAdd of types → (v : View) (value : Scalar) → IsTrue (is_of of v) → Enqueues v value
+queue_adds queue_add (Listed xs) value typed = record { queue = tt; is = refl }
+queue_adds queue_add (Plain s) value typed = absurd (false≢true typed)
+queue_adds queue_add (Keyed s) value typed = absurd (false≢true typed)
+queue_adds queue_add (Mapped m) value typed = absurd (false≢true typed)
+
+-- a queue that has an element gives it, and the empty one has a fault
+pub record Dequeues (v : View) : Type 0 where
+  pub none : size_of v ≡ 0 → updated update.QueueTake v [] ≡ Err EmptyQueue
+  pub front : (size_of v ≡ 0 → ⊥) → HasFront v
+  pub is : (size_of v ≡ 0 → ⊥) → updated update.QueueTake v [] ≡ Ok (without_front v)
+
+queue_takes : {of : ValueType} {types : List ValueType} → UpdateTypes update.QueueTake of types → (v : View) → IsTrue (is_of of v) → Dequeues v
+queue_takes queue_take (Listed []) typed = record { none = λ empty. refl; front = λ some. some refl; is = λ some. absurd (some refl) }
+queue_takes queue_take (Listed (x ∷ xs)) typed = record { none = λ empty. absurd (omega arith); front = λ some. tt; is = λ some. refl }
+queue_takes queue_take (Plain s) typed = absurd (false≢true typed)
+queue_takes queue_take (Keyed s) typed = absurd (false≢true typed)
+queue_takes queue_take (Mapped m) typed = absurd (false≢true typed)
 
 -- ---- registers of these types
 module _ (c : Cells) where
@@ -107,6 +138,12 @@ module _ (c : Cells) where
   pub removes_from : (u : Update) (h : ℕ) (k : Scalar) → IsRemoval u → TakesUpdate c u (register.Aggregate h ∷ register.Scalar k ∷ []) → Removes u (view_at c h) k
   removes_from u h k one takes = removes one takes.row (view_at c h) k takes.held_are.0.typed (views_of takes.types (k ∷ []) takes.held_are.1)
 
+  pub adds_to_queue : (h : ℕ) (x : Scalar) → TakesUpdate c update.QueueAdd (register.Aggregate h ∷ register.Scalar x ∷ []) → Enqueues (view_at c h) x
+  adds_to_queue h x takes = queue_adds takes.row (view_at c h) x takes.held_are.0.typed
+
+  pub takes_of_queue : (h : ℕ) → TakesUpdate c update.QueueTake (register.Aggregate h ∷ []) → Dequeues (view_at c h)
+  takes_of_queue h takes = queue_takes takes.row (view_at c h) takes.held_are.0.typed
+
 -- what a run of an update made is what the update has
 pub answered : (in_place : Bool) (i : ℕ) (source : Register) (old new : Stored) (r : Register) (u : Update) (v w : View) (rest : List View) → updated u v rest ≡ Ok w
     → HasUpdated in_place i source old new r (Some w) → HasAnswer in_place i source old new (Ok r) (present (updated u v rest))
@@ -131,7 +168,12 @@ module _ (c : Cells) (registers : List Register) where
             (recursion_from_All (λ a. HoldsLive c (register_at registers a)) e.args t.live);
       }
 
--- two arguments, and three
+-- one argument, two, and three
+one_arg : (args : List ℕ) → length args ≡ 1 → args ≡ slice_index args 0 ∷ []
+one_arg [] many = absurd (omega arith)
+one_arg (a ∷ []) many = refl
+one_arg (a ∷ b ∷ args) many = absurd (omega arith)
+
 pub two_args : (args : List ℕ) → length args ≡ 2 → args ≡ slice_index args 0 ∷ slice_index args 1 ∷ []
 two_args [] many = absurd (omega arith)
 two_args (a ∷ []) many = absurd (omega arith)
@@ -146,7 +188,19 @@ three_args (a ∷ b ∷ x ∷ []) many = refl
 three_args (a ∷ b ∷ x ∷ y ∷ args) many = absurd (omega arith)
 
 module _ (c : Cells) (registers : List Register) (args : List ℕ) (u w : Update) (is : u ≡ w) (many : length args ≡ suc (beside u)) where
-  -- what an update takes, and what it makes, of two arguments, and of three
+  -- what an update takes, and what it makes, of one argument, of two, and of three
+  pub takes_one : beside w ≡ 0 → TakesUpdate c u (map (register_at registers) args) → TakesUpdate c w (register_at registers (slice_index args 0) ∷ [])
+  takes_one none takes =
+      subst (λ x. TakesUpdate c x (register_at registers (slice_index args 0) ∷ [])) is
+      (subst (λ xs. TakesUpdate c u (map (register_at registers) xs)) (one_arg args (many ∙ ap suc (ap beside is ∙ none))) takes)
+
+  pub answers_one : beside w ≡ 0 → (in_place : Bool) (i : ℕ) (old new : Stored) (r : Result Register EvalFault)
+      → HasAnswer in_place i (register_at registers (slice_index args 0)) old new r (update_answer w (value_at c registers (slice_index args 0) ∷ []))
+      → HasAnswer in_place i (source_of registers args) old new r (update_answer u (map (value_at c registers) args))
+  answers_one none in_place i old new r has =
+      subst (λ xs. HasAnswer in_place i (source_of registers xs) old new r (update_answer u (map (value_at c registers) xs))) (sym (one_arg args (many ∙ ap suc (ap beside is ∙ none))))
+      (subst (λ x. HasAnswer in_place i (register_at registers (slice_index args 0)) old new r (update_answer x (value_at c registers (slice_index args 0) ∷ []))) (sym is) has)
+
   pub takes_two : beside w ≡ 1 → TakesUpdate c u (map (register_at registers) args) → TakesUpdate c w (register_at registers (slice_index args 0) ∷ register_at registers (slice_index args 1) ∷ [])
   takes_two one takes =
       subst (λ x. TakesUpdate c x (register_at registers (slice_index args 0) ∷ register_at registers (slice_index args 1) ∷ [])) is
@@ -190,6 +244,13 @@ module _ {E : Type 0} (c : Cells) (registers : List Register) (args : List ℕ) 
       (subst (λ y. HasAnswer in_place i a old new (Ok (register_of h)) (update_answer w (held c a ∷ held c b ∷ held c y ∷ []))) x_is has)))
   made_three two x x_is (Err e) has = tt
 
+-- and at one register
+pub made_one : (c : Cells) (registers : List Register) (args : List ℕ) (u w : Update) → u ≡ w → length args ≡ suc (beside u) → (in_place : Bool) (i : ℕ) (old new : Stored) (a : Register) → a ≡ register_at registers (slice_index args 0) → beside w ≡ 0
+    → (r : Result Register EvalFault) → HasAnswer in_place i a old new r (update_answer w (held c a ∷ [])) → HasAnswer in_place i (source_of registers args) old new r (update_answer u (map (value_at c registers) args))
+made_one c registers args u w is many in_place i old new a a_is none r has =
+    answers_one c registers args u w is many none in_place i old new r
+    (subst (λ x. HasAnswer in_place i x old new r (update_answer w (held c x ∷ []))) a_is has)
+
 -- the two that take a key out
 pub is_removal : (u : Update) → (u ≡ update.SetRemove) ⊎ (u ≡ update.MapRemove) → IsRemoval u
 is_removal u (inl is) = subst (λ w. IsRemoval w) (sym is) tt
@@ -211,3 +272,11 @@ module _ (c : Cells) (a k : Register) (h : ℕ) (key : Scalar) (a_is : register.
       let of_value = subst (λ z. TakesUpdate c update.MapAdd (a ∷ k ∷ z ∷ [])) (sym x_is) takes in
       let of_key = subst (λ y. TakesUpdate c update.MapAdd (a ∷ y ∷ register.Scalar value ∷ [])) (sym k_is) of_value in
       adds_to_map c h key value (subst (λ y. TakesUpdate c update.MapAdd (y ∷ register.Scalar key ∷ register.Scalar value ∷ [])) (sym a_is) of_key)
+
+  pub element_fits : TakesUpdate c update.QueueAdd (a ∷ k ∷ []) → Enqueues (view_at c h) key
+  element_fits takes =
+      let of_key = subst (λ y. TakesUpdate c update.QueueAdd (a ∷ y ∷ [])) (sym k_is) takes in
+      adds_to_queue c h key (subst (λ x. TakesUpdate c update.QueueAdd (x ∷ register.Scalar key ∷ [])) (sym a_is) of_key)
+
+pub front_fits : (c : Cells) (a : Register) (h : ℕ) → register.Aggregate h ≡ a → TakesUpdate c update.QueueTake (a ∷ []) → Dequeues (view_at c h)
+front_fits c a h a_is takes = takes_of_queue c h (subst (λ x. TakesUpdate c update.QueueTake (x ∷ [])) (sym a_is) takes)

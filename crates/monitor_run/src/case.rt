@@ -243,7 +243,7 @@ fn put_empty(
     Ok(())
 }
 
-/// Puts what an update has into a place.
+/// Puts what an update has into a place. A fault changes nothing.
 fn put_updated(
     update: Update,
     e: &Equation,
@@ -258,10 +258,9 @@ fn put_updated(
     requires typed { TakesTyped store.old.cells registers.old e.now }
     requires number { run.id < length store.old.ledger }
     requires place { place < length registers.old }
-    ensures updated { OnOk result ((r : Register) × (registers.new ≡ slice_set registers.old place r)
-        × HasAnswer run.in_place run.id (source_of registers.old e.now.args) store.old store.new (Ok r)
+    ensures updated { HasPut place registers.old registers.new result (λ r.
+        HasAnswer run.in_place run.id (source_of registers.old e.now.args) store.old store.new r
         (update_answer update (map (value_at store.old.cells registers.old) e.now.args))) }
-    ensures memory { IfErr result (λ fault. fault ≡ EvalFault.Memory) }
     ensures same { OnErr result (registers.new ≡ registers.old) }
     ensures err { OnErr result (store.new ≡ store.old) }
 {
@@ -299,6 +298,7 @@ fn put_plain(
         Op::Input | Op::Delay => unreachable!(),
         Op::Last | Op::Merge | Op::Filter | Op::Pick => unreachable!(),
         Op::SetAdd | Op::SetRemove | Op::MapAdd | Op::MapRemove => unreachable!(),
+        Op::QueueAdd | Op::QueueTake => unreachable!(),
         Op::Nil => put_value(Register::Empty, place, registers),
         Op::Unit => put_value(unit_if(time.get() == 0), place, registers),
         Op::Lift { body, strict } => put_lifted(

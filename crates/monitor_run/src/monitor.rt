@@ -294,7 +294,7 @@ impl<'c> Monitor<'c> {
         self.ran
     }
 
-    /// The number of cells, each of which has a set or a map. It is no more than the aggregates that last registers can hold.
+    /// The number of cells, each of which has an aggregate. It is no more than the aggregates that last registers can hold.
     pub fn cells(&self) -> u64
         ensures cells { result ≡ map.len self.now.cells }
         ensures few { self.now.stop ≡ None → result ≤ stored_count self.now.system }

@@ -2,17 +2,20 @@
 
 ghost use Rattle.std.specs.Prelude.{◌≡◌, ◌<◌, All, Some, Ok, [], ◌∷◌, suc, IfOk, OnErr, length, map};
 ghost use Rattle.std.specs.Option.{option_copied};
-ghost use Rattle.lift_func.specs.inner.Cells.{FitsKey, IsLive, held, view_at};
+ghost use Rattle.lift_func.specs.inner.Cells.{FitsKey, IsLive, IsQueue, held, view_at};
 ghost use Rattle.lift_func.specs.inner.Cells as cells;
 ghost use Rattle.lift_func.specs.Update.{beside, update_answer};
-ghost use Rattle.aggregate_store.specs.inner.Stored.{FitsValue, with_added, without_key};
-ghost use Rattle.monitor_run.specs.inner.Here.{HasAnswer, HasUpdated, HoldsNoScalar, IsBare, IsRemoval, TakesUpdate, register_of};
-ghost use Rattle.monitor_run.specs.inner.Here.{source_of};
+ghost use Rattle.aggregate_store.specs.inner.Stored.{FitsValue, HasFront, with_added, with_last, without_front, without_key};
+ghost use Rattle.monitor_run.specs.inner.Here.{HasAnswer, HasUpdated, HoldsNoScalar, IsBare, IsRemoval, TakesUpdate, made_of};
+ghost use Rattle.monitor_run.specs.inner.Here.{register_of, source_of};
 ghost use Rattle.monitor_run.specs.inner.Registers.{register_at, value_at};
 
 use crate::case::argument;
 use aggregate_store::store::Store;
 use flat_core::lists::Args;
+use lift_func::eval::EvalFault;
+use lift_func::fault::FaultKind;
+use lift_func::reader::Reader;
 use lift_func::register::Register;
 use tsl_value::ids::{EqId, Handle};
 use tsl_value::memory::NoMemory;
@@ -71,6 +74,47 @@ fn remove(
         source
     } else {
         store.copy_remove(run.id.get(), source, key)?
+    };
+    Ok(Some(handle))
+}
+
+/// Puts a value after the last element: of the cell itself, or of a copy.
+fn enqueue(
+    run: UpdateRun,
+    source: Handle,
+    value: &Scalar,
+    store: &mut Store,
+) -> Result<Option<Handle>, NoMemory>
+    requires live { IsLive store.old.cells source }
+    requires queue { IsQueue (view_at store.old.cells source) }
+    requires update { run.id < length store.old.ledger }
+    ensures updated { IfOk result (λ h. HasUpdated run.in_place run.id (Register.Aggregate source) store.old store.new (register_of h)
+        (Some (with_last (view_at store.old.cells source) value.now))) }
+    ensures err { OnErr result (store.new ≡ store.old) }
+{
+    let handle = if run.in_place {
+        store.enqueue_in_place(source, value)?;
+        source
+    } else {
+        store.copy_enqueue(run.id.get(), source, value)?
+    };
+    Ok(Some(handle))
+}
+
+/// Takes the first element: of the cell itself, or of a copy.
+fn dequeue(run: UpdateRun, source: Handle, store: &mut Store) -> Result<Option<Handle>, NoMemory>
+    requires live { IsLive store.old.cells source }
+    requires front { HasFront (view_at store.old.cells source) }
+    requires update { run.id < length store.old.ledger }
+    ensures updated { IfOk result (λ h. HasUpdated run.in_place run.id (Register.Aggregate source) store.old store.new (register_of h)
+        (Some (without_front (view_at store.old.cells source)))) }
+    ensures err { OnErr result (store.new ≡ store.old) }
+{
+    let handle = if run.in_place {
+        store.dequeue_in_place(source);
+        source
+    } else {
+        store.copy_dequeue(run.id.get(), source)?
     };
     Ok(Some(handle))
 }
@@ -172,38 +216,83 @@ fn entry_added(
     add(run, map, key, value, store)
 }
 
-/// The aggregate that an update makes of the one of its first argument.
+/// A queue with a value after its last element, where both have events.
+fn element_added(
+    run: UpdateRun,
+    queue: &Register,
+    value: &Register,
+    store: &mut Store,
+) -> Result<Option<Handle>, NoMemory>
+    requires typed { TakesUpdate store.old.cells Update.QueueAdd (queue.now ∷ value.now ∷ []) }
+    requires update { run.id < length store.old.ledger }
+    ensures updated { IfOk result (λ h. HasAnswer run.in_place run.id queue.now store.old store.new (Ok (register_of h))
+        (update_answer Update.QueueAdd (held store.old.cells queue.now ∷ held store.old.cells value.now ∷ []))) }
+    ensures err { OnErr result (store.new ≡ store.old) }
+{
+    let Some(queue) = cell_of(queue) else {
+        return Ok(None);
+    };
+    let Some(value) = scalar_of(value) else {
+        return Ok(None);
+    };
+    enqueue(run, queue, value, store)
+}
+
+/// A queue without its first element, where it has an event, or its fault, which changes nothing: no copy is made of an empty queue.
+fn element_taken(
+    run: UpdateRun,
+    queue: &Register,
+    store: &mut Store,
+) -> Result<Option<Handle>, EvalFault>
+    requires typed { TakesUpdate store.old.cells Update.QueueTake (queue.now ∷ []) }
+    requires update { run.id < length store.old.ledger }
+    ensures updated { HasAnswer run.in_place run.id queue.now store.old store.new (made_of result)
+        (update_answer Update.QueueTake (held store.old.cells queue.now ∷ [])) }
+    ensures err { OnErr result (store.new ≡ store.old) }
+{
+    let Some(queue) = cell_of(queue) else {
+        return Ok(None);
+    };
+    if store.size(queue) == 0 {
+        return Err(EvalFault::Fault(FaultKind::EmptyQueue));
+    }
+    Ok(dequeue(run, queue, store)?)
+}
+
+/// The aggregate that an update makes of the one of its first argument, or its fault, which changes nothing.
 pub(crate) fn updated(
     update: Update,
     args: &Args,
     run: UpdateRun,
     registers: &[Register],
     store: &mut Store,
-) -> Result<Option<Handle>, NoMemory>
+) -> Result<Option<Handle>, EvalFault>
     requires many { length args.now ≡ suc (beside update) }
     requires known { All (λ a. a < length registers.now) args.now }
     requires typed { TakesUpdate store.old.cells update (map (register_at registers.now) args.now) }
     requires number { run.id < length store.old.ledger }
-    ensures updated { IfOk result (λ h. HasAnswer run.in_place run.id (source_of registers.now args.now) store.old store.new
-        (Ok (register_of h)) (update_answer update (map (value_at store.old.cells registers.now) args.now))) }
+    ensures updated { HasAnswer run.in_place run.id (source_of registers.now args.now) store.old store.new (made_of result)
+        (update_answer update (map (value_at store.old.cells registers.now) args.now)) }
     ensures err { OnErr result (store.new ≡ store.old) }
 {
     let aggregate = argument(registers, args, 0);
     match update {
-        Update::SetAdd => key_added(run, aggregate, argument(registers, args, 1), store),
-        Update::SetRemove | Update::MapRemove => key_removed(
+        Update::SetAdd => Ok(key_added(run, aggregate, argument(registers, args, 1), store)?),
+        Update::SetRemove | Update::MapRemove => Ok(key_removed(
             update,
             run,
             aggregate,
             argument(registers, args, 1),
             store,
-        ),
-        Update::MapAdd => entry_added(
+        )?),
+        Update::MapAdd => Ok(entry_added(
             run,
             aggregate,
             argument(registers, args, 1),
             argument(registers, args, 2),
             store,
-        ),
+        )?),
+        Update::QueueAdd => Ok(element_added(run, aggregate, argument(registers, args, 1), store)?),
+        Update::QueueTake => element_taken(run, aggregate, store),
     }
 }

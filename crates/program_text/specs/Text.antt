@@ -43,6 +43,8 @@ op_name op.MapAdd = codes "MapAdd"
 op_name op.MapRemove = codes "MapRemove"
 op_name op.SetAdd = codes "SetAdd"
 op_name op.SetRemove = codes "SetRemove"
+op_name op.QueueAdd = codes "QueueAdd"
+op_name op.QueueTake = codes "QueueTake"
 
 -- what is written after the name of an operation: the type of an input, of no events and of an empty aggregate, and a lift's body
 abbrev pub after_op_text : Op → ValueType → List ℕ

@@ -32,5 +32,7 @@ pub(crate) fn op_name(operation: &Op) -> &'static [u8]
         Op::MapRemove => b"MapRemove",
         Op::SetAdd => b"SetAdd",
         Op::SetRemove => b"SetRemove",
+        Op::QueueAdd => b"QueueAdd",
+        Op::QueueTake => b"QueueTake",
     }
 }

@@ -58,7 +58,7 @@ pub record Stands (s : System) (plan : Plan) (z : Streams) (t : ℕ) (a : State)
 abbrev pub IsCounted : System → Plan → Streams → ℕ → (ℕ → ℕ) → Type 0
 IsCounted s plan z t ledger = (u : ℕ) → IsUpdate s u → ledger u ≡ copied s plan.in_place z u t
 
--- the stored variables: what is kept of set or map type
+-- the stored variables: what is kept of an aggregate's type
 abbrev pub is_aggregate_at : Option Equation → Bool
 is_aggregate_at None = false
 is_aggregate_at (Some e) = is_aggregate e.of

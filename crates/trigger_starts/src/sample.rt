@@ -17,7 +17,8 @@ use tsl_value::place::Place;
 use tsl_value::scalar::{KeyType, ScalarType, ValueType};
 use tsl_value::text::Text;
 
-fn args(alloc: Global, ids: &[u32]) -> Result<Args, NoMemory>
+/// Arguments by their numbers.
+pub fn args(alloc: Global, ids: &[u32]) -> Result<Args, NoMemory>
     ensures { IfOk result (λ a. a ≡ ids.now) }
 {
     let mut args = Args::new(alloc);
@@ -27,7 +28,8 @@ fn args(alloc: Global, ids: &[u32]) -> Result<Args, NoMemory>
     Ok(args)
 }
 
-fn equation(op: Op, args: Args, of: ValueType) -> Equation
+/// An equation without a name, at the first place.
+pub fn equation(op: Op, args: Args, of: ValueType) -> Equation
     ensures { result ≡ equation_of op args of }
 {
     Equation {

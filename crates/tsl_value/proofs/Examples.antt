@@ -1,10 +1,14 @@
 -- Worked rows of the definitions.
-use Rattle.std.proofs.Common.{◌≡◌, [], ◌∷◌, Ok, Err, Some, None, pos, negsuc, codes, refl}
+use Rattle.std.proofs.Common.{◌≡◌, true, [], ◌∷◌, Ok, Err, Some, None, pos, negsuc, codes, refl}
 use Rattle.std.specs.Str.{is_utf8, chars}
 use lib.Utf8.{encode}
 use Rattle.tsl_value.specs.declared.scalar.Scalar.TheVariants as scalar
 use Rattle.tsl_value.specs.declared.literal.LiteralFault.TheVariants.{BadLiteral, LiteralTooWide}
+use Rattle.tsl_value.specs.declared.scalar.ScalarType.TheVariants as scalar_type
+use Rattle.tsl_value.specs.declared.scalar.ValueType.TheVariants as value_type
 use Rattle.tsl_value.specs.Literal.{bool_literal, int_literal, text_literal, unquoted}
+use Rattle.tsl_value.specs.Print.{type_text, view_text}
+use Rattle.tsl_value.specs.View.{Listed}
 
 least : int_literal (codes "-9223372036854775808") ≡ Ok (scalar.Int (negsuc 9223372036854775807))
 least = refl
@@ -55,3 +59,12 @@ two_bytes = refl
 no_text : text_literal (34 ∷ 195 ∷ 34 ∷ []) ≡ Err BadLiteral
 unfolding is_utf8 chars encode
 no_text = refl
+
+queue : view_text (Listed (scalar.Text (codes "a") ∷ scalar.Bool true ∷ [])) ≡ codes "Queue(\"a\", true)"
+queue = refl
+
+empty_queue : view_text (Listed []) ≡ codes "Queue()"
+empty_queue = refl
+
+queue_type : type_text (value_type.Queue scalar_type.Text) ≡ codes "Queue[String]"
+queue_type = refl

@@ -9,6 +9,7 @@ abbrev pub unary_name : Unary → List ℕ
 unary_name unary.Neg = codes "neg"
 unary_name unary.Not = codes "not"
 unary_name unary.Size = codes "size"
+unary_name unary.Front = codes "front"
 unary_name unary.Length = codes "length"
 unary_name unary.Some = codes "some"
 unary_name unary.IsSome = codes "issome"

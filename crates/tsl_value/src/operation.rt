@@ -3,13 +3,14 @@
 ghost use Rattle.std.specs.Prelude.{◌≡◌};
 ghost use Rattle.tsl_value.specs.Operation.{unary_name, binary_name};
 
-/// The operations of one operand: of an Int, a Bool, an aggregate, a text, a value, and three of an
-/// option.
+/// The operations of one operand: of an Int, a Bool, an aggregate, a queue, a text, a value, and three
+/// of an option.
 #[derive(Clone, Copy, PartialEq, Eq, Debug)]
 pub enum Unary {
     Neg,
     Not,
     Size,
+    Front,
     Length,
     Some,
     IsSome,
@@ -26,6 +27,7 @@ impl Unary {
             Unary::Neg => b"neg",
             Unary::Not => b"not",
             Unary::Size => b"size",
+            Unary::Front => b"front",
             Unary::Length => b"length",
             Unary::Some => b"some",
             Unary::IsSome => b"issome",
@@ -82,11 +84,13 @@ impl Binary {
     }
 }
 
-/// The updates of sets and maps.
+/// The updates of sets, maps and queues.
 #[derive(Clone, Copy, PartialEq, Eq, Debug)]
 pub enum Update {
     SetAdd,
     SetRemove,
     MapAdd,
     MapRemove,
+    QueueAdd,
+    QueueTake,
 }

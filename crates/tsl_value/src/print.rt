@@ -122,6 +122,11 @@ fn append_type(of: ValueType, out: &mut Bytes) -> Result<(), NoMemory>
             out.append(scalar_name(value))?;
             out.append(b"]")
         }
+        ValueType::Queue(element) => {
+            out.append(b"Queue[")?;
+            out.append(scalar_name(element))?;
+            out.append(b"]")
+        }
     }
 }
 

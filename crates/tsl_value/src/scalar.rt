@@ -62,12 +62,13 @@ pub enum KeyType {
     Text,
 }
 
-/// The types of values: a scalar, a set of keys, or a map from keys to scalars.
+/// The types of values: a scalar, a set of keys, a map from keys to scalars, or a queue of scalars.
 #[derive(Clone, Copy, PartialEq, Eq, Debug)]
 pub enum ValueType {
     Scalar(ScalarType),
     Set(KeyType),
     Map(KeyType, ScalarType),
+    Queue(ScalarType),
 }
 
 impl ValueType {
@@ -79,6 +80,7 @@ impl ValueType {
             ValueType::Scalar(_) => false,
             ValueType::Set(_) => true,
             ValueType::Map(_, _) => true,
+            ValueType::Queue(_) => true,
         }
     }
 }

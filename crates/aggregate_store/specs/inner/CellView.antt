@@ -2,7 +2,7 @@
 use Rattle.std.specs.Prelude.{ℕ, suc, List, [], ◌∷◌, Option, Some, None}
 use Rattle.std.specs.BTreeMap.{BTreeMap}
 use Rattle.std.specs.FinMap as finite_map
-use Rattle.tsl_value.specs.View.{View, Keyed, Mapped, Table}
+use Rattle.tsl_value.specs.View.{View, Keyed, Mapped, Listed, Table}
 use Rattle.tsl_value.specs.declared.scalar.Scalar.{Scalar}
 use Rattle.lift_func.specs.inner.Cells.{Cells}
 use Rattle.aggregate_store.specs.declared.cell.Cell.{Cell}
@@ -14,6 +14,7 @@ table_of m = finite_map.from_entries m.entries
 abbrev pub view_of : Cell → View
 view_of (cell.Set s) = Keyed s
 view_of (cell.Map m) = Mapped (table_of m)
+view_of (cell.Queue q) = Listed q.items
 
 -- the entries of the cells that slots have, where the first slot is that of a handle
 abbrev pub entries_from : ℕ → List (Option Cell) → List (ℕ × View)

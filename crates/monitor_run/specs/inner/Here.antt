@@ -145,6 +145,11 @@ HasUpdated true i source old new r (Some v) =
     × (r ≡ register.Aggregate handle)
     × (new ≡ record old { cells = finite_map.insert old.cells handle v })
 
+-- the register of what an update made, or why it made nothing
+abbrev pub made_of : Result (Option ℕ) EvalFault → Result Register EvalFault
+made_of (Ok made) = Ok (register_of made)
+made_of (Err fault) = Err fault
+
 -- what an update has by its case: its aggregate, or nothing; a fault changes nothing
 abbrev pub HasAnswer : Bool → ℕ → Register → Stored → Stored → Result Register EvalFault → Answer → Type 0
 HasAnswer in_place i source old new (Ok r) (Ok v) = HasUpdated in_place i source old new r v

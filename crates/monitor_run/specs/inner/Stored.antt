@@ -10,6 +10,6 @@ abbrev pub is_stored_type : Option Equation → Bool
 is_stored_type None = false
 is_stored_type (Some e) = is_aggregate e.of
 
--- how many equations of set or map type are first arguments of running lasts
+-- how many equations of an aggregate's type are first arguments of running lasts
 abbrev pub stored_count : System → ℕ
 stored_count s = length (filter (λ i. is_stored_type (equation s i)) (keeps_of s))

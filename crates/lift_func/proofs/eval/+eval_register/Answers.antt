@@ -8,7 +8,7 @@ use Rattle.lift_func.specs.Apply.{apply}
 use Rattle.lift_func.specs.inner.Evaluable.{IsHeld}
 use Rattle.lift_func.specs.BodyTree.{Literal, Argument, One, Two, Choice}
 use Rattle.lift_func.proofs.Evaluation.{argument_of, operand_of, reads_of, decided_of, faults_of, scalars_of}
-use Rattle.lift_func.proofs.Textless.{literal_no_text, argument_no_text, operand_no_text, first_no_text, second_no_text, both_no_text, condition_no_text, then_no_text, held_no_text, no_text, same_answered}
+use Rattle.lift_func.proofs.Textless.{literal_no_text, argument_no_text, one_no_text, operand_no_text, first_no_text, second_no_text, both_no_text, condition_no_text, then_no_text, held_no_text, no_text, same_answered}
 use Rattle.lift_func.proofs.eval.+eval_register.Goals as goal
 
 pub returns-in-Argument-clause-value : goal.returns-in-Argument-clause-value
@@ -75,6 +75,14 @@ returns-in_err-x-in-One-clause-spare g t c = λ none.
     let p = err_from_is_err_and c.from_residual-in_err-x-in-One.result c.from_residual-in_err-x-in-One.ensures.1 in
     same_answered c.from_residual-in_err-x-in-One.result p.0 c.in_err-x-in-One.field-0.0 p.1 p.2
     (c.in_err-x-in-One.ensures.spare (subst (λ b. HasNoText b values) (sym c.deref.ensures) (operand_no_text c.args.body.now values none c.in-One.o c.in-One.a.value is)))
+
+pub returns-in-One-clause-spare : goal.returns-in-One-clause-spare
+returns-in-One-clause-spare g t c = λ none.
+    let values = arguments (g.R.Reader.cells c.args.reader.now) c.args.registers.now c.args.args.now in
+    let is : c.args.body.now ≡ One c.in-One.o c.in-One.a.value = search rules in
+    let cells = g.R.Reader.cells c.args.reader.now in
+    let operand = subst (λ b. IsHeld cells c.in_ok-x-in-One.x (apply b values)) c.deref.ensures c.in_ok-x-in-One.ensures.value in
+    c.unary_at.ensures.spare (one_no_text c.args.body.now values none c.in-One.o c.in-One.a.value (held cells c.in_ok-x-in-One.x) is operand.0)
 
 pub returns-in_err-x-in-Two-clause-spare : goal.returns-in_err-x-in-Two-clause-spare
 returns-in_err-x-in-Two-clause-spare g t c = λ none.

@@ -14,3 +14,8 @@ pub returns-in-Map : goal.returns-in-Map
 returns-in-Map c =
     c.len-in-Map.ensures.len ∙ sym (len-of_entries scalar_cmp_total c.in-Map.entries.entries c.len-in-Map.ensures.ordered)
     ∙ sym (ap (λ (cell : Cell). size_of (view_of cell)) c.in-Map.is)
+
+pub returns-in-Queue : goal.returns-in-Queue
+returns-in-Queue c =
+    c.len-in-Queue.ensures ∙ c.in-Queue.elements.ok.0
+    ∙ sym (ap (λ (cell : Cell). size_of (view_of cell)) c.in-Queue.is)
