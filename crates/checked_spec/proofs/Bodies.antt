@@ -78,11 +78,9 @@ no_aggregate kinds k (tree.OutputAs p e q n ∷ items) h (suc i) values = furthe
 
 pub scalar_result : (t : ExprType) → IsNoStream t → holds_aggregate (Some t) ≡ false → IsScalarResult t
 scalar_result (expr_type.Value (value_type.Scalar s)) none h = tt
-scalar_result (expr_type.Value (value_type.Set k)) none h = absurd (true≢false h)
-scalar_result (expr_type.Value (value_type.Map k s)) none h = absurd (true≢false h)
+scalar_result (expr_type.Value of) none h = absurd (true≢false h)
 scalar_result (expr_type.Optional (value_type.Scalar s)) none h = tt
-scalar_result (expr_type.Optional (value_type.Set k)) none h = absurd (true≢false h)
-scalar_result (expr_type.Optional (value_type.Map k s)) none h = absurd (true≢false h)
+scalar_result (expr_type.Optional of) none h = absurd (true≢false h)
 scalar_result (expr_type.Stream v) none h = absurd none
 
 pub no_aggregate_result : (items : List tree.Item) (kinds : Kinds) → aggregate_results_from kinds 0 items ≡ [] → (i : ℕ) → are_values (params_of (slice_get items i)) ≡ true → holds_aggregate (kinds.item i) ≡ false

@@ -43,8 +43,7 @@ no_stream (tree.UnitType p) t h is = mapped_some IsNoStream expr_type.Value (val
 no_stream (tree.IntType p) t h is = mapped_some IsNoStream expr_type.Value (value_of (tree.IntType p)) t is (λ _. tt)
 no_stream (tree.BoolType p) t h is = mapped_some IsNoStream expr_type.Value (value_of (tree.BoolType p)) t is (λ _. tt)
 no_stream (tree.TextType p) t h is = mapped_some IsNoStream expr_type.Value (value_of (tree.TextType p)) t is (λ _. tt)
-no_stream (tree.SetType p k) t h is = mapped_some IsNoStream expr_type.Value (value_of (tree.SetType p k)) t is (λ _. tt)
-no_stream (tree.MapType p k v) t h is = mapped_some IsNoStream expr_type.Value (value_of (tree.MapType p k v)) t is (λ _. tt)
+no_stream (tree.AggregateType p a) t h is = mapped_some IsNoStream expr_type.Value (value_of (tree.AggregateType p a)) t is (λ _. tt)
 
 no_events : (b : Bool) → (if b then false else true) ≡ true → b ≡ false
 no_events true h = absurd (false≢true h)

@@ -8,8 +8,6 @@ use Rattle.tsl_value.specs.View.{type_of as scalar_type_of}
 use Rattle.tsl_value.specs.declared.place.Place.{Place}
 use Rattle.tsl_value.specs.declared.scalar.Scalar.{Scalar}
 use Rattle.tsl_value.specs.declared.scalar.Scalar.TheVariants as scalar
-use Rattle.tsl_value.specs.declared.scalar.ScalarType.{ScalarType}
-use Rattle.tsl_value.specs.declared.scalar.KeyType.{KeyType}
 use Rattle.tsl_value.specs.declared.scalar.ValueType.{ValueType}
 use Rattle.tsl_value.specs.declared.scalar.ValueType.TheVariants as value_type
 use Rattle.tsl_value.specs.Aggregate.{is_aggregate}
@@ -32,7 +30,7 @@ use Rattle.type_rules.specs.declared.rule.ExprType.TheVariants as expr_type
 use Rattle.type_rules.specs.declared.rule.Setting.TheVariants as setting
 use Rattle.type_rules.specs.Asked.{unit, int, bool, text}
 use Rattle.type_rules.specs.Rules.{if_rule, compare_rule, negate_rule, not_rule, dotted_rule}
-use Rattle.type_rules.specs.Written.{key_of, scalar_of, value_of}
+use Rattle.type_rules.specs.Written.{aggregate_of, value_of}
 use Rattle.form_check.specs.Arity.{count}
 use Rattle.vocabulary.specs.Table.{role_of, takes_of}
 use Rattle.expr_types.specs.Around.{Around, declared_type}
@@ -46,6 +44,7 @@ use Rattle.spec_meaning.specs.Function.{comparison_of, operation_of, role_tree}
 use Rattle.spec_meaning.specs.Shape.{Shape, expressions, all_but_last, last_operator, last_operand, left_of, with_parts, one_operand, two_operands, role_shape, same_as, name_shape, empty_shape, expr_shape}
 use Rattle.spec_meaning.specs.Makes.{is_own, with_itself}
 use Rattle.checked_spec.specs.inner.Formed.{AreOfLevel}
+use Rattle.checked_spec.proofs.WrittenLemmas.{aggregate_made}
 use Rattle.checked_spec.proofs.Asks.{same_stream}
 use Rattle.checked_spec.proofs.FunctionRead.{one_part, two_parts, three_parts, arguments_are, types_count}
 use Rattle.checked_spec.proofs.Read.{AreTyped, types_are, just_stream}
@@ -151,20 +150,12 @@ module _ (items : List tree.Item) (cs : List Call) (at : Around) (t : ValueType)
   empty_leaf : (u : ValueType) → Some (expr_type.Stream u) ≡ Some (expr_type.Stream t) → is_aggregate u ≡ true → IsPlain (construct.Empty u) [] t
   empty_leaf u h aggregate = leaf (construct.Empty u) t (λ n. (sym (same_stream u t (same_Some (expr_type.Stream u) (expr_type.Stream t) h)), aggregate))
 
-  pub set_fitting : (p : Place) (k : tree.TypeName) → IsOf (tree.EmptySet p k) → IsMade (tree.EmptySet p k) → Fitting (tree.EmptySet p k)
-  set_fitting p k h is = by (key_of k) h is
+  pub empty_fitting : (p : Place) (a : tree.Aggregate) → IsOf (tree.Empty p a) → IsMade (tree.Empty p a) → Fitting (tree.Empty p a)
+  empty_fitting p a h is = by (aggregate_of a) refl h is
     where
-      by : (o : Option KeyType) → of_verdict (is_just (option_map (λ key. expr_type.Stream (value_type.Set key)) o)) ≡ Some (expr_type.Stream t) → empty_shape items cs (option_map value_type.Set o) ≡ Some sh → Fitting (tree.EmptySet p k)
-      by (Some key) h is = plain_fits items cs at (tree.EmptySet p k) t [] [] sh tt tt (construct.Empty (value_type.Set key)) (empty_leaf (value_type.Set key) h refl) is
-      by None h is = absurd (none-some (expr_type.Stream t) h)
-
-  pub map_fitting : (p : Place) (k v : tree.TypeName) → IsOf (tree.EmptyMap p k v) → IsMade (tree.EmptyMap p k v) → Fitting (tree.EmptyMap p k v)
-  map_fitting p k v h is = by (key_of k) (scalar_of v) h is
-    where
-      by : (o : Option KeyType) (s : Option ScalarType) → of_verdict (is_just (option_and_then (λ key. option_map (λ of. expr_type.Stream (value_type.Map key of)) s) o)) ≡ Some (expr_type.Stream t) → empty_shape items cs (option_and_then (λ key. option_map (value_type.Map key) s) o) ≡ Some sh → Fitting (tree.EmptyMap p k v)
-      by (Some key) (Some s) h is = plain_fits items cs at (tree.EmptyMap p k v) t [] [] sh tt tt (construct.Empty (value_type.Map key s)) (empty_leaf (value_type.Map key s) h refl) is
-      by (Some key) None h is = absurd (none-some (expr_type.Stream t) h)
-      by None s h is = absurd (none-some (expr_type.Stream t) h)
+      by : (o : Option ValueType) → aggregate_of a ≡ o → of_verdict (is_just (option_map expr_type.Stream o)) ≡ Some (expr_type.Stream t) → empty_shape items cs o ≡ Some sh → Fitting (tree.Empty p a)
+      by (Some u) made h is = plain_fits items cs at (tree.Empty p a) t [] [] sh tt tt (construct.Empty u) (empty_leaf u h (aggregate_made a u made)) is
+      by None made h is = absurd (none-some (expr_type.Stream t) h)
 
   -- ---- functions with a dot
   pub dotted_fitting : (p : Place) (d : Dotted) (es : Exprs) → not (takes_of d == count es) ≡ false → IsOf (tree.CallDotted p d es) → IsMade (tree.CallDotted p d es) → Fitting (tree.CallDotted p d es)

@@ -88,8 +88,7 @@ pub record IsFitting (at : Around) (e : Expr) (t : ValueType) (sh : Shape) : Typ
 
 is_scalar : (t : ValueType) → is_aggregate t ≡ false → IsScalar t
 is_scalar (value_type.Scalar s) h = record { scalar = s; is = refl }
-is_scalar (value_type.Set k) h = absurd (true≢false h)
-is_scalar (value_type.Map k s) h = absurd (true≢false h)
+is_scalar t h = absurd (true≢false h)
 
 module _ (items : List tree.Item) (cs : List Call) (at : Around) (e : Expr) (t : ValueType) (es : List Expr) (args : List ExprType) (sh : Shape) (typed : AreTyped (standard items cs at) es args) (written : IsAsWritten e t) where
   pub plain_fits : (c : Construct) → IsPlain c args t → with_parts cs c es ≡ Some sh → IsFitting (standard items cs at) e t sh

@@ -7,10 +7,7 @@ use Rattle.std.proofs.lemmas.Bool.{not-false, eqb-true}
 use Rattle.std.proofs.lemmas.Option.{same_Some, none-some}
 use Rattle.std.proofs.lemmas.List.Elements.{Contains-append_left, Contains-append_right}
 use Rattle.tsl_value.specs.declared.place.Place.{Place}
-use Rattle.tsl_value.specs.declared.scalar.ScalarType.{ScalarType}
-use Rattle.tsl_value.specs.declared.scalar.KeyType.{KeyType}
 use Rattle.tsl_value.specs.declared.scalar.ValueType.{ValueType}
-use Rattle.tsl_value.specs.declared.scalar.ValueType.TheVariants as value_type
 use Rattle.lift_func.specs.BodyTree.{BodyTree, Two}
 use Rattle.lift_func.specs.Typing.{ValueKind, literal, absent}
 use Rattle.syntax_tree.specs.Tree as tree
@@ -28,7 +25,7 @@ use Rattle.type_rules.specs.declared.rule.Setting.TheVariants as setting
 use Rattle.type_rules.specs.declared.rule.Builtin.{Builtin}
 use Rattle.type_rules.specs.Asked.{Verdict, unit, int, bool, text}
 use Rattle.type_rules.specs.Rules.{link_rule, compare_rule, negate_rule, not_rule, if_rule, dotted_rule, const_rule, builtin_rule, function_rule, lift_rule}
-use Rattle.type_rules.specs.Written.{value_of, key_of, scalar_of}
+use Rattle.type_rules.specs.Written.{value_of, aggregate_of}
 use Rattle.form_check.specs.Arity.{count, call_fits, params_at, item_params, declared_takes, takes_one, takes_two, is_wrong_lift}
 use Rattle.expr_types.specs.Around.{Around, Callee, declared_type, callee_at}
 use Rattle.type_rules.specs.Kinds.{Kinds}
@@ -224,15 +221,6 @@ module _ (items : List tree.Item) (kinds : Kinds) (number : ℕ) (ps : List tree
       nil_fits t (Some v) u h = stream_fits ks t u v (sym (same_Some (expr_type.Stream v) u h))
       nil_fits t None u h = absurd (none-some u h)
 
-      set_fits : (t : BodyTree) (o : Option KeyType) (u : ExprType) → of_verdict (is_just (option_map (λ key. expr_type.Stream (value_type.Set key)) o)) ≡ Some u → Fits ks t u
-      set_fits t (Some k) u h = stream_fits ks t u (value_type.Set k) (sym (same_Some (expr_type.Stream (value_type.Set k)) u h))
-      set_fits t None u h = absurd (none-some u h)
-
-      map_fits : (t : BodyTree) (o : Option KeyType) (s : Option ScalarType) (u : ExprType) → of_verdict (is_just (option_and_then (λ key. option_map (λ of. expr_type.Stream (value_type.Map key of)) s) o)) ≡ Some u → Fits ks t u
-      map_fits t (Some k) (Some s) u h = stream_fits ks t u (value_type.Map k s) (sym (same_Some (expr_type.Stream (value_type.Map k s)) u h))
-      map_fits t (Some k) None u h = absurd (none-some u h)
-      map_fits t None s u h = absurd (none-some u h)
-
       -- ---- all expressions
       mutual
         pub expr_fits : (e : Expr) → Within (parts e) → (u : ExprType) → type_of here e ≡ Some u → Fits ks (tree_in e) u
@@ -278,8 +266,7 @@ module _ (items : List tree.Item) (kinds : Kinds) (number : ℕ) (ps : List tree
             dotted_fits ks d (trees_in es) r.args u (trees_fit es (after (Operand (tree.CallDotted p d es)) (argument_parts es) w) r.args r.are) r.allows
         expr_fits (tree.Nil p y) w u h = nil_fits no_tree (value_of y) u h
         expr_fits (tree.None p y) w u h = none_fits (value_of y) u h
-        expr_fits (tree.EmptySet p k) w u h = set_fits no_tree (key_of k) u h
-        expr_fits (tree.EmptyMap p k v) w u h = map_fits no_tree (key_of k) (scalar_of v) u h
+        expr_fits (tree.Empty p a) w u h = nil_fits no_tree (aggregate_of a) u h
 
         trees_fit : (es : Exprs) → Within (argument_parts es) → (us : List ExprType) → types_of here es ≡ Some us → FitAll ks (trees_in es) us
         trees_fit no_exprs w us h = subst (FitAll ks []) (same_Some [] us h) tt

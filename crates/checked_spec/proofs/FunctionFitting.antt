@@ -57,8 +57,7 @@ record IsScalar (of : ValueType) : Type 0 where
 
 scalar_in : (of : ValueType) → is_in family.Scalars of ≡ true → IsScalar of
 scalar_in (value_type.Scalar s) h = record { scalar = s; is = refl }
-scalar_in (value_type.Set k) h = absurd (false≢true h)
-scalar_in (value_type.Map k s) h = absurd (false≢true h)
+scalar_in of h = absurd (false≢true h)
 
 -- ---- operators
 pub operator_typed : (o : Operator) → TypesTwo (operation_of o) (Value (operand_type (level_of o))) (Value (operand_type (level_of o))) (Value (operand_type (level_of o)))

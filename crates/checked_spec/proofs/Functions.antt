@@ -62,8 +62,7 @@ record IsLiftedResult (r : ExprType) (t : ValueType) : Type 0 where
 
 lifted_result : (r : ExprType) (t : ValueType) → IsScalarResult r → is_optional r ≡ false → lifted_type setting.Streams r ≡ expr_type.Stream t → IsLiftedResult r t
 lifted_result (expr_type.Value (value_type.Scalar s)) t scalar plain h = let e = ap inner h in record { is = ap expr_type.Value e; scalar = ap is_aggregate (sym e) }
-lifted_result (expr_type.Value (value_type.Set k)) t scalar plain h = absurd scalar
-lifted_result (expr_type.Value (value_type.Map k s)) t scalar plain h = absurd scalar
+lifted_result (expr_type.Value of) t scalar plain h = absurd scalar
 lifted_result (expr_type.Optional v) t scalar plain h = absurd (true≢false plain)
 lifted_result (expr_type.Stream v) t scalar plain h = absurd scalar
 

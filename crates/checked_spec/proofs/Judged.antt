@@ -7,9 +7,7 @@ use Rattle.std.specs.Str.{bytes_eq}
 use Rattle.std.proofs.lemmas.Bool.{and_parts, or_from, not-false, eqb-true, leb-true}
 use Rattle.std.proofs.lemmas.Option.{same_Some}
 use Rattle.std.proofs.lemmas.Slice.Eq.{bytes_eq-Decides}
-use Rattle.tsl_value.proofs.Lists.{none_in_nil, cons_cases, append_empty}
-use Rattle.tsl_value.specs.declared.scalar.KeyType.{KeyType}
-use Rattle.tsl_value.specs.declared.scalar.ValueType.TheVariants as value_type
+use Rattle.tsl_value.proofs.Lists.{none_in_nil, cons_cases}
 use Rattle.syntax_tree.specs.Tree as tree
 use Rattle.syntax_tree.specs.Tree.{Expr, Exprs, no_exprs, more_exprs, Links, no_links, more_links}
 use Rattle.syntax_tree.specs.declared.tree.Level.{Level}
@@ -30,12 +28,12 @@ use Rattle.type_rules.specs.declared.rule.Builtin.{Builtin}
 use Rattle.type_rules.specs.declared.rule.Builtin.TheVariants as builtin
 use Rattle.type_rules.specs.Asked.{Verdict, lifted, unit, int, bool, text}
 use Rattle.type_rules.specs.Rules.{link_rule, compare_rule, negate_rule, not_rule, if_rule, dotted_rule, builtin_rule, macro_rule, function_rule}
-use Rattle.type_rules.specs.Written.{key_of, scalar_of, value_of, bad_key, bad_scalar}
+use Rattle.type_rules.specs.Written.{aggregate_of, value_of}
 use Rattle.expr_types.specs.Around.{Around, Callee, callee_at, declared_type, cons}
 use Rattle.expr_types.specs.Judge.{judge, type_of, types_of, judge_links, streams_of, last_of, function_of, function_at, of_verdict, with_two, with_three, is_just, continued, next_link, lifted_by, const_call, own_call, named_call, call_rule, is_const, builtins, builtin_of, broken, own_wrong}
 use Rattle.definition_cycles.specs.Mentions.{declared}
 use Rattle.checked_spec.proofs.ListLemmas.{all_split}
-use Rattle.checked_spec.proofs.WrittenLemmas.{Has, has_map, has_then, key_there, scalar_there, value_there}
+use Rattle.checked_spec.proofs.WrittenLemmas.{Has, has_map, has_then, aggregate_there, value_there}
 
 -- ---- what is known of the parts
 -- a name stands for something that is of a type, or that takes and gives something
@@ -254,15 +252,8 @@ mutual
       whole at (tree.CallDotted p d es) h.0 (has_map (dotted_rule at.setting d) (types_of at es) (just_all (types_of at es) (count es) (types_typed at es h.1)))
   typed at (tree.Nil p y) h = whole at (tree.Nil p y) h.0 (just_there (option_map expr_type.Stream (value_of y)) (has_map expr_type.Stream (value_of y) (value_there y h.0.written)))
   typed at (tree.None p y) h = whole at (tree.None p y) h.0 (just_there (option_map expr_type.Optional (value_of y)) (has_map expr_type.Optional (value_of y) (value_there y h.0.written)))
-  typed at (tree.EmptySet p k) h =
-      whole at (tree.EmptySet p k) h.0
-      (just_there (option_map (λ key. expr_type.Stream (value_type.Set key)) (key_of k)) (has_map (λ key. expr_type.Stream (value_type.Set key)) (key_of k) (key_there k h.0.written)))
-  typed at (tree.EmptyMap p k v) h =
-      let both = append_empty (bad_key k) (bad_scalar v) h.0.written in
-      let f = λ (key : KeyType). option_map (λ of. expr_type.Stream (value_type.Map key of)) (scalar_of v) in
-      whole at (tree.EmptyMap p k v) h.0
-      (just_there (option_and_then f (key_of k))
-      (has_then f (key_of k) (key_there k both.0) (λ key. has_map (λ of. expr_type.Stream (value_type.Map key of)) (scalar_of v) (scalar_there v both.1))))
+  typed at (tree.Empty p a) h =
+      whole at (tree.Empty p a) h.0 (just_there (option_map expr_type.Stream (aggregate_of a)) (has_map expr_type.Stream (aggregate_of a) (aggregate_there a h.0.written)))
 
   types_typed : (at : Around) (es : Exprs) → All at (argument_parts es) → HasAll (types_of at es) (count es)
   types_typed at no_exprs h = record { it = []; is = refl; many = refl }

@@ -133,8 +133,7 @@ scalar_option r t scalar is = by t (subst IsScalarResult is scalar)
   where
     by : (t : ValueType) → IsScalarResult (expr_type.Optional t) → IsScalar t
     by (value_type.Scalar s) h = record { scalar = s; is = refl }
-    by (value_type.Set k) h = absurd h
-    by (value_type.Map k s) h = absurd h
+    by t h = absurd h
 
 -- as many streams as its function takes, and that is one to eight
 pub lift_fits : (items : List tree.Item) (kinds : Kinds) (i : ℕ) (c : Callee) (args : List ExprType) (t : ValueType) → IsTypedFunction items kinds i → callee items kinds i ≡ Some c → length args ≡ length (params_of (slice_get items i)) → 1 ≤ length args → lift_rule args c.params c.result ≡ Ok (expr_type.Stream t) → IsPlain (construct.Lift (function_body items i)) args t

@@ -13,7 +13,10 @@ use Rattle.tsl_value.specs.declared.operation.Binary.TheVariants as binary
 use Rattle.lift_func.specs.Operations.{is_on_texts, made_of_texts}
 use Rattle.lift_func.specs.Typing as typing
 use Rattle.lift_func.specs.Typing.{Value, plain, TypesOne, TypesTwo, scalar_of}
-use Rattle.lift_func.specs.Update.{UpdateTypes, set_add, set_remove, map_add, map_remove}
+use Rattle.lift_func.specs.Update.{UpdateTypes, set_add, set_remove, map_add, map_remove, queue_add, queue_take}
+use Rattle.tsl_value.specs.Aggregate.{is_aggregate}
+use Rattle.vocabulary.specs.declared.kind.Kind.{Kind}
+use Rattle.vocabulary.specs.declared.kind.Kind.TheVariants as aggregate_kind
 use Rattle.vocabulary.specs.declared.dotted.Dotted.{Dotted}
 use Rattle.vocabulary.specs.declared.signature.Term.{Term}
 use Rattle.vocabulary.specs.declared.signature.Term.TheVariants as term
@@ -26,10 +29,19 @@ use Rattle.vocabulary.specs.declared.signature.Role.TheVariants as role
 use Rattle.vocabulary.specs.Table.{parameters_of, gives_of, role_of}
 use Rattle.vocabulary.proofs.Listed.{all_true}
 
+-- the type of the aggregates of a kind, where keys and entries are of these types
+abbrev pub aggregate_type : Kind → KeyType → ScalarType → ValueType
+aggregate_type aggregate_kind.Set k x = value_type.Set k
+aggregate_type aggregate_kind.Map k x = value_type.Map k x
+aggregate_type aggregate_kind.Queue k x = value_type.Queue x
+
+is_one : (g : Kind) (k : KeyType) (x : ScalarType) → is_aggregate (aggregate_type g k x) ≡ true
+is_one aggregate_kind.Set k x = refl
+is_one g k x = refl
+
 -- a type of a signature, where keys and entries are of these types
 abbrev pub at_types : KeyType → ScalarType → Term → ValueType
-at_types k x term.Set = value_type.Set k
-at_types k x term.Map = value_type.Map k x
+at_types k x (term.Of g) = aggregate_type g k x
 at_types k x term.Key = value_type.Scalar (scalar_of k)
 at_types k x term.Entry = value_type.Scalar x
 at_types k x (term.Scalar t) = value_type.Scalar t
@@ -63,14 +75,14 @@ same_type scalar_type.Text scalar_type.Text h = refl
 same_type s t h = absurd (false≢true h)
 
 abbrev types_one : Unary → Term → Term → Bool
-types_one unary.Size term.Set (term.Scalar scalar_type.Int) = true
-types_one unary.Size term.Map (term.Scalar scalar_type.Int) = true
+types_one unary.Size (term.Of g) (term.Scalar scalar_type.Int) = true
+types_one unary.Front (term.Of aggregate_kind.Queue) term.Entry = true
 types_one unary.Length (term.Scalar scalar_type.Text) (term.Scalar scalar_type.Int) = true
 types_one o p g = false
 
 one_typed : (o : Unary) (p g : Term) → types_one o p g ≡ true → IsTyped (role.Unary o) (parameters.One p) g
-one_typed unary.Size term.Set (term.Scalar scalar_type.Int) h = λ k x. typing.size refl
-one_typed unary.Size term.Map (term.Scalar scalar_type.Int) h = λ k x. typing.size refl
+one_typed unary.Size (term.Of g) (term.Scalar scalar_type.Int) h = λ k x. typing.size (is_one g k x)
+one_typed unary.Front (term.Of aggregate_kind.Queue) term.Entry h = λ k x. typing.front
 one_typed unary.Length (term.Scalar scalar_type.Text) (term.Scalar scalar_type.Int) h = λ k x. typing.length
 one_typed o p g h = absurd (false≢true h)
 
@@ -85,29 +97,33 @@ texts_typed o (term.Scalar scalar_type.Text) (term.Scalar scalar_type.Text) (ter
 texts_typed o p q g h = absurd (false≢true h)
 
 abbrev types_keys : Binary → Term → Term → Term → Bool
-types_keys binary.Contains term.Set term.Key (term.Scalar scalar_type.Bool) = true
-types_keys binary.Contains term.Map term.Key (term.Scalar scalar_type.Bool) = true
-types_keys binary.Get term.Map term.Key term.Entry = true
+types_keys binary.Contains (term.Of aggregate_kind.Set) term.Key (term.Scalar scalar_type.Bool) = true
+types_keys binary.Contains (term.Of aggregate_kind.Map) term.Key (term.Scalar scalar_type.Bool) = true
+types_keys binary.Get (term.Of aggregate_kind.Map) term.Key term.Entry = true
 types_keys o p q g = false
 
 keys_typed : (o : Binary) (p q g : Term) → types_keys o p q g ≡ true → IsTyped (role.Binary o) (parameters.Two p q) g
-keys_typed binary.Contains term.Set term.Key (term.Scalar scalar_type.Bool) h = λ k x. typing.in_set refl
-keys_typed binary.Contains term.Map term.Key (term.Scalar scalar_type.Bool) h = λ k x. typing.in_map refl
-keys_typed binary.Get term.Map term.Key term.Entry h = λ k x. typing.get refl
+keys_typed binary.Contains (term.Of aggregate_kind.Set) term.Key (term.Scalar scalar_type.Bool) h = λ k x. typing.in_set refl
+keys_typed binary.Contains (term.Of aggregate_kind.Map) term.Key (term.Scalar scalar_type.Bool) h = λ k x. typing.in_map refl
+keys_typed binary.Get (term.Of aggregate_kind.Map) term.Key term.Entry h = λ k x. typing.get refl
 keys_typed o p q g h = absurd (false≢true h)
 
 abbrev types_update : Update → Parameters → Term → Bool
-types_update update.SetAdd (parameters.Two term.Set term.Key) term.Set = true
-types_update update.SetRemove (parameters.Two term.Set term.Key) term.Set = true
-types_update update.MapAdd (parameters.Three term.Map term.Key term.Entry) term.Map = true
-types_update update.MapRemove (parameters.Two term.Map term.Key) term.Map = true
+types_update update.SetAdd (parameters.Two (term.Of aggregate_kind.Set) term.Key) (term.Of aggregate_kind.Set) = true
+types_update update.SetRemove (parameters.Two (term.Of aggregate_kind.Set) term.Key) (term.Of aggregate_kind.Set) = true
+types_update update.MapAdd (parameters.Three (term.Of aggregate_kind.Map) term.Key term.Entry) (term.Of aggregate_kind.Map) = true
+types_update update.MapRemove (parameters.Two (term.Of aggregate_kind.Map) term.Key) (term.Of aggregate_kind.Map) = true
+types_update update.QueueAdd (parameters.Two (term.Of aggregate_kind.Queue) term.Entry) (term.Of aggregate_kind.Queue) = true
+types_update update.QueueTake (parameters.One (term.Of aggregate_kind.Queue)) (term.Of aggregate_kind.Queue) = true
 types_update o ps g = false
 
 update_typed : (o : Update) (ps : Parameters) (g : Term) → types_update o ps g ≡ true → IsTyped (role.Update o) ps g
-update_typed update.SetAdd (parameters.Two term.Set term.Key) term.Set h = λ k x. (refl, set_add refl)
-update_typed update.SetRemove (parameters.Two term.Set term.Key) term.Set h = λ k x. (refl, set_remove refl)
-update_typed update.MapAdd (parameters.Three term.Map term.Key term.Entry) term.Map h = λ k x. (refl, map_add refl)
-update_typed update.MapRemove (parameters.Two term.Map term.Key) term.Map h = λ k x. (refl, map_remove refl)
+update_typed update.SetAdd (parameters.Two (term.Of aggregate_kind.Set) term.Key) (term.Of aggregate_kind.Set) h = λ k x. (refl, set_add refl)
+update_typed update.SetRemove (parameters.Two (term.Of aggregate_kind.Set) term.Key) (term.Of aggregate_kind.Set) h = λ k x. (refl, set_remove refl)
+update_typed update.MapAdd (parameters.Three (term.Of aggregate_kind.Map) term.Key term.Entry) (term.Of aggregate_kind.Map) h = λ k x. (refl, map_add refl)
+update_typed update.MapRemove (parameters.Two (term.Of aggregate_kind.Map) term.Key) (term.Of aggregate_kind.Map) h = λ k x. (refl, map_remove refl)
+update_typed update.QueueAdd (parameters.Two (term.Of aggregate_kind.Queue) term.Entry) (term.Of aggregate_kind.Queue) h = λ k x. (refl, queue_add)
+update_typed update.QueueTake (parameters.One (term.Of aggregate_kind.Queue)) (term.Of aggregate_kind.Queue) h = λ k x. (refl, queue_take)
 update_typed o ps g h = absurd (false≢true h)
 
 abbrev types : Role → Parameters → Term → Bool

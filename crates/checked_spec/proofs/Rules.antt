@@ -99,8 +99,7 @@ equality_signal o x y t is h =
   where
     by : (of : ValueType) → x ≡ expr_type.Stream of → y ≡ expr_type.Stream of → is_in family.Scalars of ≡ true → bool ≡ t → IsSignal false (two_operands (Two o)) (x ∷ y ∷ []) t
     by (value_type.Scalar s) first second within same = signal_two (two_operands (Two o)) x y (value_type.Scalar s) (value_type.Scalar s) bool t first second same refl (λ ks f g j k. two j k (typing.equality is))
-    by (value_type.Set k) first second within same = absurd (false≢true within)
-    by (value_type.Map k s) first second within same = absurd (false≢true within)
+    by of first second within same = absurd (false≢true within)
 
 order_signal : (o : Binary) (x y : ExprType) (t : ValueType) → is_order o ≡ true → and_then (ask_both (expr_type.Stream int) x y) (Ok (expr_type.Stream bool)) ≡ Ok (expr_type.Stream t) → IsSignal false (two_operands (Two o)) (x ∷ y ∷ []) t
 order_signal o x y t is h =
@@ -148,8 +147,7 @@ abbrev pub DottedFits : Dotted → List ExprType → ValueType → Type 0
 DottedFits d args t = RoleFits (role_of d) args t
 
 scalar_term : (k : KeyType) (x : ScalarType) (g : Term) → is_scalar g ≡ true → is_aggregate (at_types k x g) ≡ false
-scalar_term k x term.Set h = absurd (false≢true h)
-scalar_term k x term.Map h = absurd (false≢true h)
+scalar_term k x (term.Of g) h = absurd (false≢true h)
 scalar_term k x term.Key h = refl
 scalar_term k x term.Entry h = refl
 scalar_term k x (term.Scalar t) h = refl

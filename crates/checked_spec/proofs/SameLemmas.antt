@@ -34,6 +34,7 @@ value_same (value_type.Set a) (value_type.Set b) h = ap value_type.Set (key_same
 value_same (value_type.Map a x) (value_type.Map b y) h =
     let both = and_parts (same_key a b) (same_scalar x y) h in
     ap (λ k. value_type.Map k x) (key_same a b both.0) ∙ ap (value_type.Map b) (scalar_same x y both.1)
+value_same (value_type.Queue x) (value_type.Queue y) h = ap value_type.Queue (scalar_same x y h)
 value_same a b h = absurd (cc)
 
 pub type_same : (a b : ExprType) → same_type a b ≡ true → a ≡ b

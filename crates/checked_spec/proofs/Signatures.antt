@@ -9,16 +9,18 @@ use Rattle.tsl_value.specs.declared.scalar.ScalarType.TheVariants as scalar_type
 use Rattle.tsl_value.specs.declared.scalar.ValueType.{ValueType}
 use Rattle.tsl_value.specs.declared.scalar.ValueType.TheVariants as value_type
 use Rattle.lift_func.specs.Typing.{scalar_of}
+use Rattle.vocabulary.specs.declared.kind.Kind.{Kind}
+use Rattle.vocabulary.specs.declared.kind.Kind.TheVariants as aggregate_kind
 use Rattle.vocabulary.specs.declared.signature.Term.{Term}
 use Rattle.vocabulary.specs.declared.signature.Term.TheVariants as term
 use Rattle.vocabulary.specs.declared.signature.Parameters.TheVariants as parameters
-use Rattle.vocabulary.proofs.Listed.{admits, is_scoped}
+use Rattle.vocabulary.proofs.Listed.{same_kind, has_key, has_entry, admits, is_scoped}
 use Rattle.type_rules.specs.declared.rule.ExprType.{ExprType}
 use Rattle.type_rules.specs.declared.rule.Family.TheVariants as family
 use Rattle.type_rules.specs.declared.rule.Setting.{Setting}
 use Rattle.type_rules.specs.Asked.{is_in, lifted, inner, of_key, key_of, entry_of}
 use Rattle.type_rules.specs.Rules.{of_term, ask_first, ask_other, ask_terms, rule_of_one, rule_of_two, rule_of_three}
-use Rattle.checked_spec.proofs.OperationTypes.{at_types}
+use Rattle.checked_spec.proofs.OperationTypes.{aggregate_type, at_types}
 use Rattle.checked_spec.proofs.SameLemmas.{exactly}
 use Rattle.checked_spec.proofs.FunctionAsks.{checked, of_family, inner_lifted, same_Ok}
 
@@ -28,24 +30,27 @@ key_is key_type.Int = refl
 key_is key_type.Bool = refl
 key_is key_type.Text = refl
 
-record IsSet (of : ValueType) : Type 0 where
-  key : KeyType
-  is : of ≡ value_type.Set key
-
-set_in : (of : ValueType) → is_in family.Sets of ≡ true → IsSet of
-set_in (value_type.Scalar s) h = absurd (false≢true h)
-set_in (value_type.Set k) h = record { key = k; is = refl }
-set_in (value_type.Map k s) h = absurd (false≢true h)
-
-record IsMap (of : ValueType) : Type 0 where
+-- the type is one of the aggregates of this kind
+record IsOfKind (g : Kind) (of : ValueType) : Type 0 where
   key : KeyType
   entry : ScalarType
-  is : of ≡ value_type.Map key entry
+  is : of ≡ aggregate_type g key entry
 
-map_in : (of : ValueType) → is_in family.Maps of ≡ true → IsMap of
-map_in (value_type.Scalar s) h = absurd (false≢true h)
-map_in (value_type.Set k) h = absurd (false≢true h)
-map_in (value_type.Map k s) h = record { key = k; entry = s; is = refl }
+of_kind : (g : Kind) (of : ValueType) → is_in (family.Of g) of ≡ true → IsOfKind g of
+of_kind aggregate_kind.Set (value_type.Set k) h = record { key = k; entry = scalar_type.Unit; is = refl }
+of_kind aggregate_kind.Map (value_type.Map k s) h = record { key = k; entry = s; is = refl }
+of_kind aggregate_kind.Queue (value_type.Queue s) h = record { key = key_type.Int; entry = s; is = refl }
+of_kind g of h = absurd (false≢true h)
+
+keys_of : (g : Kind) (k : KeyType) (x : ScalarType) → has_key g ≡ true → key_of (aggregate_type g k x) ≡ value_type.Scalar (scalar_of k)
+keys_of aggregate_kind.Set k x h = key_is k
+keys_of aggregate_kind.Map k x h = key_is k
+keys_of aggregate_kind.Queue k x h = absurd (false≢true h)
+
+entries_of : (g : Kind) (k : KeyType) (x : ScalarType) → has_entry g ≡ true → entry_of (aggregate_type g k x) ≡ value_type.Scalar x
+entries_of aggregate_kind.Map k x h = refl
+entries_of aggregate_kind.Queue k x h = refl
+entries_of g k x h = absurd (false≢true h)
 
 -- ---- the first part fixes the types of keys and of entries
 record IsFixed (at : Setting) (p : Term) (a : ExprType) : Type 0 where
@@ -55,29 +60,17 @@ record IsFixed (at : Setting) (p : Term) (a : ExprType) : Type 0 where
   others : (t : Term) → admits p t ≡ true → of_term at a t ≡ lifted at (at_types key entry t)
 
 fixed : (at : Setting) (p : Term) (a : ExprType) → admits p p ≡ true → ask_first at p a ≡ Ok tt → IsFixed at p a
-fixed at term.Set a own h =
-    let s = of_family at family.Sets a h in
-    let m = set_in s.of s.within in
-    let whole = s.is ∙ ap (lifted at) m.is in
-    record { key = m.key; entry = scalar_type.Unit; first = whole; others = by m.key whole }
-  where
-    by : (k : KeyType) → a ≡ lifted at (value_type.Set k) → (t : Term) → admits term.Set t ≡ true → of_term at a t ≡ lifted at (at_types k scalar_type.Unit t)
-    by k is term.Set ok = is
-    by k is term.Key ok = ap (λ u. lifted at (key_of (inner u))) is ∙ ap (λ v. lifted at (key_of v)) (inner_lifted at (value_type.Set k)) ∙ ap (lifted at) (key_is k)
-    by k is (term.Scalar t) ok = refl
-    by k is t ok = absurd (false≢true ok)
-fixed at term.Map a own h =
-    let s = of_family at family.Maps a h in
-    let m = map_in s.of s.within in
+fixed at (term.Of g) a own h =
+    let s = of_family at (family.Of g) a h in
+    let m = of_kind g s.of s.within in
     let whole = s.is ∙ ap (lifted at) m.is in
     record { key = m.key; entry = m.entry; first = whole; others = by m.key m.entry whole }
   where
-    by : (k : KeyType) (x : ScalarType) → a ≡ lifted at (value_type.Map k x) → (t : Term) → admits term.Map t ≡ true → of_term at a t ≡ lifted at (at_types k x t)
-    by k x is term.Map ok = is
-    by k x is term.Key ok = ap (λ u. lifted at (key_of (inner u))) is ∙ ap (λ v. lifted at (key_of v)) (inner_lifted at (value_type.Map k x)) ∙ ap (lifted at) (key_is k)
-    by k x is term.Entry ok = ap (λ u. lifted at (entry_of (inner u))) is ∙ ap (λ v. lifted at (entry_of v)) (inner_lifted at (value_type.Map k x))
+    by : (k : KeyType) (x : ScalarType) → a ≡ lifted at (aggregate_type g k x) → (t : Term) → admits (term.Of g) t ≡ true → of_term at a t ≡ lifted at (at_types k x t)
+    by k x is (term.Of h) ok = is ∙ ap (λ j. lifted at (aggregate_type j k x)) (sym (same_kind g h ok))
+    by k x is term.Key ok = ap (λ u. lifted at (key_of (inner u))) is ∙ ap (λ v. lifted at (key_of v)) (inner_lifted at (aggregate_type g k x)) ∙ ap (lifted at) (keys_of g k x ok)
+    by k x is term.Entry ok = ap (λ u. lifted at (entry_of (inner u))) is ∙ ap (λ v. lifted at (entry_of v)) (inner_lifted at (aggregate_type g k x)) ∙ ap (lifted at) (entries_of g k x ok)
     by k x is (term.Scalar t) ok = refl
-    by k x is t ok = absurd (false≢true ok)
 fixed at (term.Scalar s) a own h = record { key = key_type.Int; entry = scalar_type.Unit; first = exactly (lifted at (value_type.Scalar s)) a h; others = by }
   where
     by : (t : Term) → admits (term.Scalar s) t ≡ true → of_term at a t ≡ lifted at (at_types key_type.Int scalar_type.Unit t)

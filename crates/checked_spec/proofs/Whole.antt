@@ -25,7 +25,7 @@ use Rattle.checked_spec.proofs.FunctionRead.{three_parts}
 use Rattle.checked_spec.proofs.Operands.{standard, IsStreamAt, expressions_of, operands_are}
 use Rattle.checked_spec.proofs.Fitting.{IsFitting}
 use Rattle.checked_spec.proofs.Rules.{choice_types}
-use Rattle.checked_spec.proofs.Expressions.{never_own, if_fitting, chain_fitting, compare_fitting, negate_fitting, not_fitting, number_fitting, negative_fitting, text_fitting, boolean_fitting, unit_fitting, name_fitting, nil_fitting, set_fitting, map_fitting, dotted_fitting}
+use Rattle.checked_spec.proofs.Expressions.{never_own, if_fitting, chain_fitting, compare_fitting, negate_fitting, not_fitting, number_fitting, negative_fitting, text_fitting, boolean_fitting, unit_fitting, name_fitting, nil_fitting, empty_fitting, dotted_fitting}
 use Rattle.checked_spec.proofs.Calls.{call_fitting}
 
 module _ (items : List tree.Item) (cs : List Call) (at : Around) (t : ValueType) (sh : Shape) (functions : AreTypedFunctions items at.kinds) (own : is_own sh.construct ≡ true) where
@@ -46,8 +46,7 @@ module _ (items : List tree.Item) (cs : List Call) (at : Around) (t : ValueType)
   fitting (tree.CallDotted p d es) formed h is = dotted_fitting items cs at t sh p d es formed.fits h is
   fitting (tree.Nil p y) formed h is = nil_fitting items cs at t sh p y h is
   fitting (tree.None p y) formed h is = absurd (none-some sh is)
-  fitting (tree.EmptySet p k) formed h is = set_fitting items cs at t sh p k h is
-  fitting (tree.EmptyMap p k v) formed h is = map_fitting items cs at t sh p k v h is
+  fitting (tree.Empty p a) formed h is = empty_fitting items cs at t sh p a h is
 
 module _ (items : List tree.Item) (top : ℕ → Stream) (at : Around) (st : Standing) where
   pub is_standard : Matches items top at st → at ≡ standard items st.calls at

@@ -2,14 +2,13 @@
 use Rattle.std.proofs.Common.{◌≡◌, ℕ, Bool, true, false, cond, List, [], ◌∷◌, ◌++◌, map, Option, Some, None, refl, sym, subst, ◌∙◌}
 use Rattle.std.specs.Prelude.{is_none, if◌then◌else◌}
 use Rattle.std.specs.List.{AllByRecursion, Contains, filter}
-use Rattle.std.specs.Option.{option_map, option_and_then}
+use Rattle.std.specs.Option.{option_and_then}
 use Rattle.std.proofs.lemmas.Bool.{true≢false}
 use Rattle.std.proofs.lemmas.List.Elements.{Contains-append_left, Contains-append_right}
 use Rattle.tsl_value.specs.declared.place.Place.{Place}
 use Rattle.tsl_value.specs.declared.scalar.Scalar.{Scalar}
 use Rattle.tsl_value.specs.declared.scalar.Scalar.TheVariants as scalar
 use Rattle.tsl_value.specs.declared.scalar.ValueType.{ValueType}
-use Rattle.tsl_value.specs.declared.scalar.ValueType.TheVariants as value_type
 use Rattle.flat_core.proofs.Members.{contains_tail, all_at}
 use Rattle.syntax_tree.specs.Tree as tree
 use Rattle.syntax_tree.specs.Tree.{Expr, Exprs, no_exprs, more_exprs, Links, no_links, more_links}
@@ -25,7 +24,7 @@ use Rattle.name_check.specs.declared.declaration.Declaration.TheVariants as decl
 use Rattle.name_check.specs.Builtin.{is_unit, is_lift, is_called}
 use Rattle.name_check.specs.Scope.{meaning}
 use Rattle.name_check.specs.Parts.{Part, Operand, parts, argument_parts, lift_parts, link_parts}
-use Rattle.type_rules.specs.Written.{key_of, scalar_of}
+use Rattle.type_rules.specs.Written.{aggregate_of}
 use Rattle.stream_constructs.specs.Construct.{Construct}
 use Rattle.stream_constructs.specs.Construct as construct
 use Rattle.spec_meaning.specs.Occurrence.{Call, Occurrence, scope_at, macro_result}
@@ -217,8 +216,7 @@ module _ (items : List tree.Item) (cs : List Call) where
   inner_parts (tree.CallDotted p d es) plain = below (Operand (tree.CallDotted p d es)) (argument_parts es) (role_shape cs (role_of d) (expressions es)) (role_parts cs (argument_parts es) (role_of d) (expressions es) (arguments_in es))
   inner_parts (tree.Nil p y) plain = λ own. tt
   inner_parts (tree.None p y) plain = tt
-  inner_parts (tree.EmptySet p k) plain = empty_parts (parts (tree.EmptySet p k)) (option_map value_type.Set (key_of k))
-  inner_parts (tree.EmptyMap p k v) plain = empty_parts (parts (tree.EmptyMap p k v)) (option_and_then (λ key. option_map (value_type.Map key) (scalar_of v)) (key_of k))
+  inner_parts (tree.Empty p a) plain = empty_parts (parts (tree.Empty p a)) (aggregate_of a)
 
 pub subs_stand_in : (items : List tree.Item) (o : Occurrence) (sh : Shape) → expr_shape items o.calls o.expr ≡ Some sh → is_own sh.construct ≡ true → has_links o.expr ≡ false → AllByRecursion (λ a. StandsIn (parts o.expr) a.expr) sh.parts
 subs_stand_in items o sh is own plain = subst (PartsIn (parts o.expr)) is (inner_parts items o.calls o.expr plain) own

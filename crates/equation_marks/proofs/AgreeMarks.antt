@@ -80,8 +80,7 @@ module _ (at to : Around) (call : ℕ → List Mark) (h : AreAlike at to) where
     marks_alike (tree.CallDotted p d es) = role_same p (role_of d) (expressions es) (each_marks at call es) (each_marks to call es) (each_alike es)
     marks_alike (tree.Nil p y) = refl
     marks_alike (tree.None p y) = refl
-    marks_alike (tree.EmptySet p y) = refl
-    marks_alike (tree.EmptyMap p x y) = refl
+    marks_alike (tree.Empty p a) = refl
 
     pub each_alike : (es : Exprs) → each_marks at call es ≡ each_marks to call es
     each_alike no_exprs = refl

@@ -175,8 +175,7 @@ module _ (items : List tree.Item) (cs : List Call) (at : Around) (call : ℕ →
   expr_has (tree.CallDotted p d es) same other = role_has p (role_of d) es
   expr_has (tree.Nil p y) same other = λ _. refl
   expr_has (tree.None p y) same other = tt
-  expr_has (tree.EmptySet p k) same other = option_has p (own_marks p (construct.Empty unit_type) 0) (λ t. with_parts cs (construct.Empty t) []) (λ t _. refl) _
-  expr_has (tree.EmptyMap p k v) same other = option_has p (own_marks p (construct.Empty unit_type) 0) (λ t. with_parts cs (construct.Empty t) []) (λ t _. refl) _
+  expr_has (tree.Empty p a) same other = option_has p (own_marks p (construct.Empty unit_type) 0) (λ t. with_parts cs (construct.Empty t) []) (λ t _. refl) _
 
   -- ---- a choice
   abbrev choice_parts : Expr → Expr → Expr → List Mark

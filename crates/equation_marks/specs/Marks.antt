@@ -169,8 +169,7 @@ module _ (at : Around) (call : ℕ → List Mark) where
     marks (tree.CallDotted p d es) = dotted_marks p d (expressions es) (each_marks es)
     marks (tree.Nil p y) = own_marks p construct.Nil 0
     marks (tree.None p y) = []
-    marks (tree.EmptySet p k) = own_marks p (construct.Empty unit_type) 0
-    marks (tree.EmptyMap p k v) = own_marks p (construct.Empty unit_type) 0
+    marks (tree.Empty p a) = own_marks p (construct.Empty unit_type) 0
 
     pub each_marks : Exprs → List (List Mark)
     each_marks no_exprs = []

@@ -95,7 +95,7 @@ impl Counter<'_> {
                 let count = self.operands(at, deep, arguments, count)?;
                 Ok(more(count, dotted_over(*function, arguments)))
             }
-            Node::Nil(_) | Node::EmptySet(_) | Node::EmptyMap(_, _) => Ok(more(count, 1)),
+            Node::Nil(_) | Node::Empty(_) => Ok(more(count, 1)),
             Node::None(_) => Ok(count),
         }
     }

@@ -104,8 +104,7 @@ mutual
   alike at to (tree.CallDotted p d es) s h = λ i. option_map (dotted_rule (s i) d) (types_alike at to es s h.1 i)
   alike at to (tree.Nil p y) s h = refl
   alike at to (tree.None p y) s h = refl
-  alike at to (tree.EmptySet p y) s h = refl
-  alike at to (tree.EmptyMap p x y) s h = refl
+  alike at to (tree.Empty p a) s h = refl
 
   types_alike : (at to : Around) (es : Exprs) → at.setting ≡ to.setting → All at to (argument_parts es) → types_of at es ≡ types_of to es
   types_alike at to no_exprs s h = refl

@@ -66,8 +66,7 @@ wrongs_split at (tree.CallDotted p d es) =
     ap (λ l. broken (tree.CallDotted p d es) (judge at (tree.CallDotted p d es)) ++ l) (arguments_are at es)
 wrongs_split at (tree.Nil p y) = refl
 wrongs_split at (tree.None p y) = refl
-wrongs_split at (tree.EmptySet p y) = refl
-wrongs_split at (tree.EmptyMap p x y) = refl
+wrongs_split at (tree.Empty p a) = refl
 
 -- neither hangs on the place
 judged_anywhere : (at : Around) (p q : Place) (n : Node) → judge at (expr_of p n) ≡ judge at (expr_of q n)
@@ -86,8 +85,7 @@ judged_anywhere at p q (node.Call a b) = refl
 judged_anywhere at p q (node.CallDotted a b) = refl
 judged_anywhere at p q (node.Nil a) = refl
 judged_anywhere at p q (node.None a) = refl
-judged_anywhere at p q (node.EmptySet a) = refl
-judged_anywhere at p q (node.EmptyMap a b) = refl
+judged_anywhere at p q (node.Empty a) = refl
 
 inside_anywhere : (at : Around) (p q : Place) (n : Node) → inner_wrongs at (expr_of p n) ≡ inner_wrongs at (expr_of q n)
 inside_anywhere at p q (node.If a b c) = refl
@@ -105,8 +103,7 @@ inside_anywhere at p q (node.Call a b) = refl
 inside_anywhere at p q (node.CallDotted a b) = refl
 inside_anywhere at p q (node.Nil a) = refl
 inside_anywhere at p q (node.None a) = refl
-inside_anywhere at p q (node.EmptySet a) = refl
-inside_anywhere at p q (node.EmptyMap a b) = refl
+inside_anywhere at p q (node.Empty a) = refl
 
 judged_here : (at : Around) (e : Expr) (n : Node) → expr_of (place_of e) n ≡ e → judge at (expr_of nowhere n) ≡ judge at e
 judged_here at e n is = judged_anywhere at nowhere (place_of e) n ∙ ap (judge at) is

@@ -4,7 +4,6 @@ use Rattle.std.specs.Prelude.{ℕ, Bool, true, false, if◌then◌else◌, List,
 use Rattle.std.specs.Option.{option_map, option_and_then}
 use Rattle.std.specs.List.{flat_map}
 use Rattle.std.specs.Str.{bytes_eq}
-use Rattle.tsl_value.specs.declared.scalar.ValueType.TheVariants as value_type
 use Rattle.syntax_tree.specs.Tree as tree
 use Rattle.syntax_tree.specs.Tree.{Expr, Exprs, no_exprs, more_exprs, Links, no_links, more_links, place_of}
 use Rattle.syntax_tree.specs.declared.tree.Level.{Level}
@@ -24,7 +23,7 @@ use Rattle.type_rules.specs.declared.rule.Builtin.TheVariants as builtin
 use Rattle.type_rules.specs.Asked.{Verdict, lifted, unit, int, bool, text}
 use Rattle.type_rules.specs.Rules.{link_rule, compare_rule, negate_rule, not_rule, if_rule, dotted_rule, const_rule, builtin_rule}
 use Rattle.type_rules.specs.Rules.{macro_rule, function_rule, lift_rule}
-use Rattle.type_rules.specs.Written.{value_of, key_of, scalar_of}
+use Rattle.type_rules.specs.Written.{value_of, aggregate_of}
 use Rattle.expr_types.specs.declared.wrong.Wrong.{Wrong}
 use Rattle.expr_types.specs.declared.wrong.Wrong.TheVariants as wrong
 use Rattle.expr_types.specs.Around.{Around, Callee, callee_at, declared_type, cons}
@@ -149,9 +148,7 @@ abbrev mutual
   judge at (tree.CallDotted p d es) = option_map (dotted_rule at.setting d) (types_of at es)
   judge at (tree.Nil p y) = is_just (option_map expr_type.Stream (value_of y))
   judge at (tree.None p y) = is_just (option_map expr_type.Optional (value_of y))
-  judge at (tree.EmptySet p k) = is_just (option_map (λ key. expr_type.Stream (value_type.Set key)) (key_of k))
-  judge at (tree.EmptyMap p k v) =
-      is_just (option_and_then (λ key. option_map (λ of. expr_type.Stream (value_type.Map key of)) (scalar_of v)) (key_of k))
+  judge at (tree.Empty p a) = is_just (option_map expr_type.Stream (aggregate_of a))
 
   pub types_of : Around → Exprs → Option (List ExprType)
   types_of at no_exprs = Some []

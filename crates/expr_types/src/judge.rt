@@ -16,8 +16,8 @@ ghost use Rattle.expr_types.specs.inner.Answers.{types_in, IsFound, AreFound, Is
 use crate::around::Around;
 use crate::call::{lifted_by, named_call};
 use crate::leaf::{
-    allowed, chosen, clash_of, compared, dotted, empty_map, empty_set, inverted, just, linked,
-    mention, negated, nil, none,
+    allowed, chosen, clash_of, compared, dotted, empty, inverted, just, linked, mention, negated,
+    nil, none,
 };
 use crate::stop::Stop;
 use crate::wrong::Wrong;
@@ -82,8 +82,7 @@ fn inner(alloc: Global, at: &Around<'_>, node: &Node) -> Result<Option<Verdict>,
         }
         Node::Nil(of) => Ok(nil(of)),
         Node::None(of) => Ok(none(of)),
-        Node::EmptySet(key) => Ok(empty_set(key)),
-        Node::EmptyMap(key, of) => Ok(empty_map(key, of)),
+        Node::Empty(of) => Ok(empty(of)),
     }
 }
 

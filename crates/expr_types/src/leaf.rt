@@ -2,11 +2,11 @@
 
 ghost use Rattle.std.specs.Prelude.{◌≡◌, Ok, if◌then◌else◌};
 ghost use Rattle.std.specs.Option.{option_map, option_and_then};
-ghost use Rattle.tsl_value.specs.declared.scalar.ValueType.TheVariants as value_type;
+ghost use Rattle.syntax_tree.specs.inner.OneLevel.{aggregate_in};
 ghost use Rattle.type_rules.specs.declared.rule.ExprType.TheVariants as expr_type;
 ghost use Rattle.type_rules.specs.Asked.{unit};
 ghost use Rattle.type_rules.specs.Rules.{if_rule, compare_rule, negate_rule, not_rule, link_rule, dotted_rule};
-ghost use Rattle.type_rules.specs.Written.{value_of as value_that_is, key_of as key_that_is, scalar_of as scalar_that_is};
+ghost use Rattle.type_rules.specs.Written.{value_of as value_that_is, aggregate_of as aggregate_that_is};
 ghost use Rattle.name_check.specs.Builtin.{is_unit as is_unit_name};
 ghost use Rattle.name_check.specs.Scope.{meaning};
 ghost use Rattle.expr_types.specs.Around.{declared_type};
@@ -18,12 +18,11 @@ ghost use Rattle.expr_types.specs.inner.Answers.{types_in};
 use crate::around::Around;
 use crate::judge::Verdict;
 use name_check::builtin::is_unit;
-use syntax_tree::tree::{Comparison, Level, TypeName};
-use tsl_value::scalar::ValueType;
+use syntax_tree::tree::{Aggregate, Comparison, Level, TypeName};
 use type_rules::asked::UNIT;
 use type_rules::operation::{compare_rule, dotted_rule, if_rule, link_rule, negate_rule, not_rule};
 use type_rules::rule::{Clash, ExprType, Setting};
-use type_rules::written::{key_of, scalar_of, value_of};
+use type_rules::written::{aggregate_of, value_of};
 use vocabulary::dotted::Dotted;
 
 /// What an expression is that is judged so.
@@ -98,25 +97,12 @@ pub(crate) fn none(of: &TypeName) -> Option<Verdict>
     }
 }
 
-pub(crate) fn empty_set(key: &TypeName) -> Option<Verdict>
-    ensures { result ≡ is_just (option_map (λ key. expr_type.Stream (value_type.Set key)) (key_that_is key.now)) }
+pub(crate) fn empty(of: &Aggregate) -> Option<Verdict>
+    ensures { result ≡ is_just (option_map expr_type.Stream (aggregate_that_is (aggregate_in of.now))) }
 {
-    match key_of(key) {
-        Some(key) => Some(Ok(ExprType::Stream(ValueType::Set(key)))),
+    match aggregate_of(of) {
+        Some(of) => Some(Ok(ExprType::Stream(of))),
         None => None,
-    }
-}
-
-pub(crate) fn empty_map(key: &TypeName, of: &TypeName) -> Option<Verdict>
-    ensures { result ≡ is_just (option_and_then (λ key. option_map (λ of. expr_type.Stream (value_type.Map key of)) (scalar_that_is of.now))
-        (key_that_is key.now)) }
-{
-    match key_of(key) {
-        None => None,
-        Some(key) => match scalar_of(of) {
-            Some(of) => Some(Ok(ExprType::Stream(ValueType::Map(key, of)))),
-            None => None,
-        },
     }
 }
 

@@ -38,8 +38,7 @@ scalar_value (tree.UnitType p) of other is = record { scalar = _; is = sym (same
 scalar_value (tree.IntType p) of other is = record { scalar = _; is = sym (same_Some _ of is) }
 scalar_value (tree.BoolType p) of other is = record { scalar = _; is = sym (same_Some _ of is) }
 scalar_value (tree.TextType p) of other is = record { scalar = _; is = sym (same_Some _ of is) }
-scalar_value (tree.SetType p k) of other is = absurd (true≢false other)
-scalar_value (tree.MapType p k v) of other is = absurd (true≢false other)
+scalar_value (tree.AggregateType p a) of other is = absurd (true≢false other)
 scalar_value (tree.OptionType p y) of other is = absurd (none-some of is)
 scalar_value (tree.EventsType p y) of other is = absurd (none-some of is)
 

@@ -21,12 +21,14 @@ result_of_one unary.IsSome k = Some (plain scalar_type.Bool)
 result_of_one unary.IsNone k = Some (plain scalar_type.Bool)
 result_of_one unary.Some (Value t) = Some (Optional t)
 result_of_one unary.GetSome (Optional t) = Some (Value t)
+result_of_one unary.Front (Value (value_type.Queue x)) = Some (plain x)
 result_of_one o k = Some (plain scalar_type.Int)
 
 one_result : {o : Unary} {j k : ValueKind} → TypesOne o j k → result_of_one o j ≡ Some k
 one_result typing.TypesOne.neg = refl
 one_result typing.TypesOne.not = refl
 one_result (typing.TypesOne.size is) = refl
+one_result typing.TypesOne.front = refl
 one_result typing.TypesOne.length = refl
 one_result typing.TypesOne.some = refl
 one_result typing.TypesOne.is_some = refl

@@ -146,8 +146,7 @@ module _ (items : List tree.Item) (cs : List Call) where
   expr_typed (tree.CallDotted p d es) other = role_typed cs (role_of d) (expressions es)
   expr_typed (tree.Nil p y) other = absurd (true≢false other)
   expr_typed (tree.None p y) other = tt
-  expr_typed (tree.EmptySet p k) other = then_typed (λ t. with_parts cs (construct.Empty t) []) (λ t. refl) _
-  expr_typed (tree.EmptyMap p k v) other = then_typed (λ t. with_parts cs (construct.Empty t) []) (λ t. refl) _
+  expr_typed (tree.Empty p a) other = then_typed (λ t. with_parts cs (construct.Empty t) []) (λ t. refl) _
   expr_typed e other = refl
 
   pub no_nil : (e : Expr) (s : Shape) → is_nil_expr e ≡ false → expr_shape items cs e ≡ Some s → is_nil s.construct ≡ false

@@ -115,8 +115,7 @@ module _ (items : List tree.Item) where
   expr_beside cs (tree.CallDotted p d es) = role_beside cs (role_of d) (expressions es)
   expr_beside cs (tree.Nil p y) = λ _. tt
   expr_beside cs (tree.None p y) = tt
-  expr_beside cs (tree.EmptySet p k) = some_beside cs (λ t. with_parts cs (construct.Empty t) []) (λ _ _. tt) _
-  expr_beside cs (tree.EmptyMap p k v) = some_beside cs (λ t. with_parts cs (construct.Empty t) []) (λ _ _. tt) _
+  expr_beside cs (tree.Empty p a) = some_beside cs (λ t. with_parts cs (construct.Empty t) []) (λ _ _. tt) _
 
   pub parts_beside : (o : Occurrence) (s : Shape) → shape items o ≡ Some s → is_own s.construct ≡ true → AreBeside o.calls s.parts
   parts_beside o s is = subst (IsBeside o.calls) is (expr_beside o.calls o.expr)

@@ -251,8 +251,7 @@ module _ (items : List tree.Item) (bodies : AreBodiesShort items) (no_lift : Has
   shape_short cs (tree.CallDotted p d es) h = role_shape_short cs (role_of d) (expressions es) (exprs_short es h)
   shape_short cs (tree.Nil p y) h = with_short cs construct.Nil [] tt tt
   shape_short cs (tree.None p y) h = tt
-  shape_short cs (tree.EmptySet p k) h = empty_short cs _
-  shape_short cs (tree.EmptyMap p k v) h = empty_short cs _
+  shape_short cs (tree.Empty p a) h = empty_short cs _
 
   pub is_short : (cs : List Call) (e : Expr) (s : Shape) → ShortExpr e → expr_shape items cs e ≡ Some s → IsShortShape s
   is_short cs e s h is = subst ShortShape is (shape_short cs e h)

@@ -47,8 +47,7 @@ not_named items s p (node.Call a b) h = refl
 not_named items s p (node.CallDotted a b) h = refl
 not_named items s p (node.Nil a) h = refl
 not_named items s p (node.None a) h = refl
-not_named items s p (node.EmptySet a) h = refl
-not_named items s p (node.EmptyMap a b) h = refl
+not_named items s p (node.Empty a) h = refl
 
 pub unnamed : (items : List tree.Item) (s : Scope) (all es : List Expr) (e : Expr) (p : Place) (n : Node) → all ≡ es ++ e ∷ [] → expr_of p n ≡ e → ((x : Text) → n ≡ node.Name x → ⊥) → None ≡ lifted_takes items s (last_of (exprs_of all))
 unnamed items s all es e p n h is other =

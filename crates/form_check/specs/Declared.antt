@@ -20,10 +20,9 @@ mixed_in_item _ = []
 abbrev pub mixed_parameters : List tree.Item → List Place
 mixed_parameters items = flat_map mixed_in_item items
 
--- a set or a map
+-- a type of aggregates
 abbrev pub is_aggregate : TypeName → Bool
-is_aggregate (tree.SetType p k) = true
-is_aggregate (tree.MapType p k y) = true
+is_aggregate (tree.AggregateType p a) = true
 is_aggregate _ = false
 
 -- an input is a stream, whether the word for streams is written or left out

@@ -6,14 +6,13 @@ use Rattle.tsl_value.specs.declared.place.Place.{Place}
 use Rattle.syntax_tree.specs.Tree as tree
 use Rattle.syntax_tree.specs.Tree.{Expr, TypeName}
 use Rattle.name_check.specs.Parts.{Part, Operand, Function, parts}
-use Rattle.type_rules.specs.Written.{bad_key, bad_scalar, bad_inside, bad_as_written, bad_as_stream}
+use Rattle.type_rules.specs.Written.{bad_in, bad_inside, bad_as_written, bad_as_stream}
 
 -- What is written in one part, without what stands in it. What stands where `lift` has its function is no expression.
 abbrev pub bad_in_part : Part → List Place
 bad_in_part (Operand (tree.Nil p y)) = bad_inside y
 bad_in_part (Operand (tree.None p y)) = bad_inside y
-bad_in_part (Operand (tree.EmptySet p k)) = bad_key k
-bad_in_part (Operand (tree.EmptyMap p k y)) = bad_key k ++ bad_scalar y
+bad_in_part (Operand (tree.Empty p a)) = bad_in a
 bad_in_part (Operand e) = []
 bad_in_part (Function e) = []
 

@@ -58,18 +58,18 @@ pub fn find_mixed_parameters(items: &[Item]) -> Option<Place>
     None
 }
 
-/// A set or a map.
+/// A type of aggregates.
 fn is_aggregate(of: &TypeName) -> bool
     ensures { result ≡ is_aggregate of.now }
 {
     match of.shape() {
-        TypeShape::Set(_) | TypeShape::Map(_, _) => true,
+        TypeShape::Aggregate(_) => true,
         TypeShape::Unit | TypeShape::Int | TypeShape::Bool | TypeShape::Text => false,
         TypeShape::Option(_) | TypeShape::Events(_) => false,
     }
 }
 
-/// A stream of sets or maps, whether `Events` is written or left out.
+/// A stream of aggregates, whether `Events` is written or left out.
 fn is_of_aggregates(of: &TypeName) -> bool
     ensures { result ≡ is_of_aggregates of.now }
 {
@@ -79,8 +79,7 @@ fn is_of_aggregates(of: &TypeName) -> bool
         | TypeShape::Int
         | TypeShape::Bool
         | TypeShape::Text
-        | TypeShape::Set(_)
-        | TypeShape::Map(_, _)
+        | TypeShape::Aggregate(_)
         | TypeShape::Option(_) => is_aggregate(of),
     }
 }

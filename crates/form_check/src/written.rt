@@ -14,7 +14,7 @@ use std::alloc::Global;
 use syntax_tree::tree::{Body, Definition, DefinitionParts, Expr, Item, Node, Param, TypeName};
 use tsl_value::memory::NoMemory;
 use tsl_value::place::Place;
-use type_rules::written::{bad_as_stream, bad_as_written, bad_inside, bad_key, bad_scalar};
+use type_rules::written::{bad_as_stream, bad_as_written, bad_in, bad_inside};
 
 /// The first wrong type that is written in the part, without what stands in it.
 fn find_in_part(part: &Part<'_>) -> Option<Place>
@@ -24,11 +24,7 @@ fn find_in_part(part: &Part<'_>) -> Option<Place>
         Part::Operand(expression) => match expression.node() {
             Node::Nil(of) => bad_inside(of),
             Node::None(of) => bad_inside(of),
-            Node::EmptySet(key) => bad_key(key),
-            Node::EmptyMap(key, of) => match bad_key(key) {
-                Some(place) => Some(place),
-                None => bad_scalar(of),
-            },
+            Node::Empty(of) => bad_in(of),
             _ => None,
         },
         Part::Function(_) => None,

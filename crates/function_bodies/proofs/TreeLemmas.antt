@@ -170,8 +170,7 @@ module _ (R : BodyTree → BodyTree → Type 0) (good : ℕ → Type 0) (from to
     alike (tree.CallDotted p d es) h = role_alike R s.congruence (role_of d) _ _ (all_alike es h.1)
     alike (tree.Nil p y) h = s.congruence.literal _
     alike (tree.None p y) h = absent_alike R s.congruence (value_of y)
-    alike (tree.EmptySet p k) h = s.congruence.literal _
-    alike (tree.EmptyMap p k v) h = s.congruence.literal _
+    alike (tree.Empty p a) h = s.congruence.literal _
 
     all_alike : (es : Exprs) → AreGood from good (argument_parts es) → AllZip R (trees_of from args call es) (trees_of to others other es)
     all_alike no_exprs h = tt

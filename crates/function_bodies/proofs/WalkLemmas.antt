@@ -29,8 +29,7 @@ tree_anywhere at p q (node.Call a b) = refl
 tree_anywhere at p q (node.CallDotted a b) = refl
 tree_anywhere at p q (node.Nil a) = refl
 tree_anywhere at p q (node.None a) = refl
-tree_anywhere at p q (node.EmptySet a) = refl
-tree_anywhere at p q (node.EmptyMap a b) = refl
+tree_anywhere at p q (node.Empty a) = refl
 
 pub tree_of_node : (at : Around) (e : Expr) (n : Node) → expr_of (place_of e) n ≡ e → tree_at at (expr_of nowhere n) ≡ tree_at at e
 tree_of_node at e n is = tree_anywhere at nowhere (place_of e) n ∙ ap (tree_at at) is

@@ -56,8 +56,7 @@ fn inner(alloc: Global, at: &Around<'_>, node: &Node) -> Result<Option<Body>, No
         Node::CallDotted(function, arguments) => dotted(alloc, at, *function, arguments),
         Node::Nil(_) => Ok(unit()),
         Node::None(of) => Ok(absent(of)),
-        Node::EmptySet(_) => Ok(unit()),
-        Node::EmptyMap(_, _) => Ok(unit()),
+        Node::Empty(_) => Ok(unit()),
     }
 }
 

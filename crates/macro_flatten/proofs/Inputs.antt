@@ -229,8 +229,7 @@ event_there (tree.UnitType p) good = value_there (tree.UnitType p) good
 event_there (tree.IntType p) good = value_there (tree.IntType p) good
 event_there (tree.BoolType p) good = value_there (tree.BoolType p) good
 event_there (tree.TextType p) good = value_there (tree.TextType p) good
-event_there (tree.SetType p k) good = value_there (tree.SetType p k) good
-event_there (tree.MapType p k v) good = value_there (tree.MapType p k v) good
+event_there (tree.AggregateType p a) good = value_there (tree.AggregateType p a) good
 event_there (tree.OptionType p y) good = value_there (tree.OptionType p y) good
 
 pub have_event_types : (items : List tree.Item) → bad_types items ≡ [] → HaveEventTypes items
@@ -249,6 +248,5 @@ event_stream (tree.UnitType p) = refl
 event_stream (tree.IntType p) = refl
 event_stream (tree.BoolType p) = refl
 event_stream (tree.TextType p) = refl
-event_stream (tree.SetType p k) = refl
-event_stream (tree.MapType p k v) = refl
+event_stream (tree.AggregateType p a) = refl
 event_stream (tree.OptionType p y) = refl

@@ -61,8 +61,7 @@ itself_in (tree.Call p x es) = contains_head _ _
 itself_in (tree.CallDotted p d es) = contains_head _ _
 itself_in (tree.Nil p y) = contains_head _ []
 itself_in (tree.None p y) = contains_head _ []
-itself_in (tree.EmptySet p k) = contains_head _ []
-itself_in (tree.EmptyMap p k v) = contains_head _ []
+itself_in (tree.Empty p a) = contains_head _ []
 
 -- ---- the types there
 same_types : (at : Around) (scope : Scope) → Agree at.scope scope → (e : Expr) → type_of at e ≡ type_of (record at { scope = scope }) e

@@ -8,10 +8,7 @@ use Rattle.std.proofs.lemmas.Option.{same_Some, none-some}
 use Rattle.tsl_value.specs.declared.place.Place.{Place}
 use Rattle.tsl_value.specs.declared.scalar.Scalar.{Scalar}
 use Rattle.tsl_value.specs.declared.scalar.Scalar.TheVariants as scalar
-use Rattle.tsl_value.specs.declared.scalar.KeyType.{KeyType}
-use Rattle.tsl_value.specs.declared.scalar.ScalarType.{ScalarType}
 use Rattle.tsl_value.specs.declared.scalar.ValueType.{ValueType}
-use Rattle.tsl_value.specs.declared.scalar.ValueType.TheVariants as value_type
 use Rattle.syntax_tree.specs.Tree as tree
 use Rattle.syntax_tree.specs.Tree.{Expr, Exprs, no_exprs, more_exprs}
 use Rattle.vocabulary.specs.declared.signature.Role.{Role}
@@ -32,7 +29,7 @@ use Rattle.type_rules.specs.declared.rule.Builtin.{Builtin}
 use Rattle.type_rules.specs.declared.rule.Builtin.TheVariants as builtin
 use Rattle.type_rules.specs.Asked.{ask, bool, inner}
 use Rattle.type_rules.specs.Rules.{builtin_one, builtin_rule, const_rule}
-use Rattle.type_rules.specs.Written.{key_of, scalar_of, value_of}
+use Rattle.type_rules.specs.Written.{aggregate_of, value_of}
 use Rattle.form_check.specs.Arity.{count, is_wrong_call, takes_one, takes_two}
 use Rattle.expr_types.specs.Around.{Around}
 use Rattle.expr_types.specs.Judge.{type_of, types_of, streams_of, last_of, of_verdict, is_literal, builtin_of, is_just, call_rule, function_at, function_of, lifted_by, const_call}
@@ -229,14 +226,8 @@ module _ (items : List tree.Item) (cs : List Call) (at : Around) (t : ValueType)
       no_stream : (o : Option ValueType) → of_verdict (is_just (option_map expr_type.Optional o)) ≡ Some (expr_type.Stream t) → ⊥
       no_stream (Some v) h = no_option ⊥ v t (same_Some (expr_type.Optional v) (expr_type.Stream t) h)
       no_stream None h = none-some (expr_type.Stream t) h
-  shape_there (tree.EmptySet p k) formed h alone = by (key_of k) h
+  shape_there (tree.Empty p a) formed h alone = by (aggregate_of a) h
     where
-      by : (o : Option KeyType) → of_verdict (is_just (option_map (λ key. expr_type.Stream (value_type.Set key)) o)) ≡ Some (expr_type.Stream t) → IsOwn (empty_shape items cs (option_map value_type.Set o))
-      by (Some key) h = parts_own cs (construct.Empty _) [] refl
+      by : (o : Option ValueType) → of_verdict (is_just (option_map expr_type.Stream o)) ≡ Some (expr_type.Stream t) → IsOwn (empty_shape items cs o)
+      by (Some u) h = parts_own cs (construct.Empty u) [] refl
       by None h = absurd (none-some (expr_type.Stream t) h)
-  shape_there (tree.EmptyMap p k v) formed h alone = by (key_of k) (scalar_of v) h
-    where
-      by : (o : Option KeyType) (s : Option ScalarType) → of_verdict (is_just (option_and_then (λ key. option_map (λ of. expr_type.Stream (value_type.Map key of)) s) o)) ≡ Some (expr_type.Stream t) → IsOwn (empty_shape items cs (option_and_then (λ key. option_map (value_type.Map key) s) o))
-      by (Some key) (Some of) h = parts_own cs (construct.Empty _) [] refl
-      by (Some key) None h = absurd (none-some (expr_type.Stream t) h)
-      by None s h = absurd (none-some (expr_type.Stream t) h)

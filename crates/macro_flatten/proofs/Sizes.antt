@@ -2,13 +2,12 @@
 use Rattle.std.proofs.Common.{◌≡◌, ℕ, zero, suc, ◌+◌, ◌*◌, ◌≤◌, ◌<◌, Bool, true, false, cond, List, [], ◌∷◌, map, length, get_or, Option, Some, None, refl, ap, sym, subst, ◌∙◌, arith}
 use Rattle.std.specs.Prelude.{if◌then◌else◌}
 use Rattle.std.specs.List.{filter}
-use Rattle.std.specs.Option.{option_map, option_and_then}
+use Rattle.std.specs.Option.{option_and_then}
 use Rattle.std.proofs.lemmas.Bool.{true≢false}
 use Rattle.tsl_value.specs.declared.place.Place.{Place}
 use Rattle.tsl_value.specs.declared.scalar.Scalar.{Scalar}
 use Rattle.tsl_value.specs.declared.scalar.Scalar.TheVariants as scalar
 use Rattle.tsl_value.specs.declared.scalar.ValueType.{ValueType}
-use Rattle.tsl_value.specs.declared.scalar.ValueType.TheVariants as value_type
 use Rattle.syntax_tree.specs.Tree as tree
 use Rattle.syntax_tree.specs.Tree.{Expr, Exprs, no_exprs, more_exprs, no_links, more_links}
 use Rattle.syntax_tree.specs.inner.OneLevel.{item_of, size_of, size_of_exprs}
@@ -23,7 +22,7 @@ use Rattle.name_check.specs.declared.declaration.Declaration.{Declaration}
 use Rattle.name_check.specs.declared.declaration.Declaration.TheVariants as declaration
 use Rattle.name_check.specs.Builtin.{is_unit, is_lift}
 use Rattle.name_check.specs.Scope.{meaning}
-use Rattle.type_rules.specs.Written.{key_of, scalar_of}
+use Rattle.type_rules.specs.Written.{aggregate_of}
 use Rattle.stream_constructs.specs.Construct.{Construct}
 use Rattle.stream_constructs.specs.Construct as construct
 use Rattle.spec_meaning.specs.Occurrence.{Call, Occurrence, scope_at, macro_result}
@@ -180,8 +179,7 @@ module _ (items : List tree.Item) (cs : List Call) where
   within (tree.CallDotted p d es) plain = role_within (size_of (tree.CallDotted p d es)) cs (role_of d) (expressions es) (let less = arguments_size es in omega arith)
   within (tree.Nil p y) plain = λ own. omega arith
   within (tree.None p y) plain = tt
-  within (tree.EmptySet p k) plain = empty_within (option_map value_type.Set (key_of k))
-  within (tree.EmptyMap p k v) plain = empty_within (option_and_then (λ key. option_map (value_type.Map key) (scalar_of v)) (key_of k))
+  within (tree.Empty p a) plain = empty_within (aggregate_of a)
 
 pub parts_smaller : (items : List tree.Item) (cs : List Call) (e : Expr) (sh : Shape) → expr_shape items cs e ≡ Some sh → is_own sh.construct ≡ true → has_links e ≡ false → parts_size sh.parts < size_of e
 parts_smaller items cs e sh is own plain = subst (Within (size_of e)) is (within items cs e plain) own

@@ -34,8 +34,7 @@ parts_anywhere p (node.Call a b) = refl
 parts_anywhere p (node.CallDotted a b) = refl
 parts_anywhere p (node.Nil a) = refl
 parts_anywhere p (node.None a) = refl
-parts_anywhere p (node.EmptySet a) = refl
-parts_anywhere p (node.EmptyMap a b) = refl
+parts_anywhere p (node.Empty a) = refl
 
 parts_of_node : (e : Expr) (n : Node) → expr_of (place_of e) n ≡ e → parts e ≡ spec.Operand e ∷ inner_parts (expr_of nowhere n)
 parts_of_node e n is =

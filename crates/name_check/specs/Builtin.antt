@@ -4,6 +4,7 @@ use Rattle.std.specs.List.{list_any}
 use Rattle.std.specs.Str.{bytes_eq}
 use Rattle.vocabulary.specs.declared.dotted.Family.TheVariants as family
 use Rattle.vocabulary.specs.Table.{family_name}
+use Rattle.vocabulary.specs.Kinds.{kind_name, kinds}
 use Rattle.vocabulary.specs.declared.plain.Plain.TheVariants as plain
 use Rattle.vocabulary.specs.PlainTable.{plains, spelling}
 
@@ -13,7 +14,7 @@ callable_names = map spelling plains
 
 -- those that stand before a bracket or a dot alone
 abbrev pub prefixes : List (List ℕ)
-prefixes = codes "nil" ∷ codes "None" ∷ family_name family.Set ∷ family_name family.Map ∷ family_name family.Text ∷ []
+prefixes = codes "nil" ∷ codes "None" ∷ family_name family.Text ∷ map kind_name kinds
 
 abbrev pub unit_name : List ℕ
 unit_name = codes "unit"

@@ -28,8 +28,7 @@ abbrev mutual
   parts (tree.CallDotted p d es) = Operand (tree.CallDotted p d es) ∷ argument_parts es
   parts (tree.Nil p y) = Operand (tree.Nil p y) ∷ []
   parts (tree.None p y) = Operand (tree.None p y) ∷ []
-  parts (tree.EmptySet p y) = Operand (tree.EmptySet p y) ∷ []
-  parts (tree.EmptyMap p x y) = Operand (tree.EmptyMap p x y) ∷ []
+  parts (tree.Empty p a) = Operand (tree.Empty p a) ∷ []
 
   pub argument_parts : Exprs → List Part
   argument_parts no_exprs = []

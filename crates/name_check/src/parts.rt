@@ -80,8 +80,7 @@ fn add_inner<'a>(node: &'a Node, out: &mut Vec<Part<'a>>) -> Result<(), NoMemory
         Node::Name(_) => Ok(()),
         Node::Nil(_) => Ok(()),
         Node::None(_) => Ok(()),
-        Node::EmptySet(_) => Ok(()),
-        Node::EmptyMap(_, _) => Ok(()),
+        Node::Empty(_) => Ok(()),
     }
 }
 

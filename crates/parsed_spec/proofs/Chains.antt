@@ -108,8 +108,7 @@ mutual
       has (tree.CallDotted t.place o (more_exprs e es)) (argument_parts (more_exprs e es)) tt (arguments_have (more_exprs e es) all)
   primary_has (grammar.nil {t = t} {y = y} is opens of closes) = alone (tree.Nil t.place y) tt
   primary_has (grammar.none {t = t} {y = y} is opens of closes) = alone (tree.None t.place y) tt
-  primary_has (grammar.empty_set {t = t} {y = y} is dot member opens of closes) = alone (tree.EmptySet t.place y) tt
-  primary_has (grammar.empty_map {t = t} {x = x} {y = y} is dot member opens key comma value closes) = alone (tree.EmptyMap t.place x y) tt
+  primary_has (grammar.empty_aggregate {t = t} {a = a} is dot member of) = alone (tree.Empty t.place a) tt
 
   others_have : {room : ℕ} {ts rest : List Token} {es : Exprs} → AreOthers room ts es rest → AllHave es
   others_have (grammar.no_other past) = tt

@@ -7,10 +7,10 @@ use Rattle.spec_lexer.specs.declared.token.Token.{Token}
 use Rattle.spec_lexer.specs.declared.token.TokenKind.TheVariants as kind
 use Rattle.syntax_tree.specs.declared.tree.Level.{Level}
 use Rattle.syntax_tree.specs.Tree as tree
-use Rattle.syntax_tree.specs.Tree.{TypeName, Expr, Exprs, no_exprs, more_exprs, Links, no_links, more_links, place_of, Param, Body, Definitions, Item}
+use Rattle.syntax_tree.specs.Tree.{TypeName, Aggregate, Expr, Exprs, no_exprs, more_exprs, Links, no_links, more_links, place_of, Param, Body, Definitions, Item}
 use Rattle.spec_parser.specs.Words.{operator_at}
 use Rattle.spec_parser.specs.Grammar as grammar
-use Rattle.spec_parser.specs.Grammar.{chained, IsType, IsExpr, IsLevel, AreLinks, IsOperand, IsUnary, IsPrimary, AreOthers, IsParam, AreOtherParams, MayHaveParams, MayHaveType, IsBody, AreDefinitions, IsItem, Spells}
+use Rattle.spec_parser.specs.Grammar.{chained, IsType, IsAggregate, IsExpr, IsLevel, AreLinks, IsOperand, IsUnary, IsPrimary, AreOthers, IsParam, AreOtherParams, MayHaveParams, MayHaveType, IsBody, AreDefinitions, IsItem, Spells}
 use Rattle.name_check.specs.Builtin.{is_lift}
 use Rattle.name_check.specs.Scope.{Scope, count_in, inside, in_block, top}
 use Rattle.name_check.specs.Parts.{Part, Operand, Function, parts, argument_parts, lift_parts, link_parts}
@@ -58,15 +58,20 @@ module _ (Q : Token → Type 0) (P : Expr → Type 0) (from : FromTokens Q P) wh
   alone e other = made e [] other (All-nil PartHas)
 
   -- ---- written types and parameters
-  type_rest : {room : ℕ} {ts rest : List Token} {y : TypeName} → AllTokens ts → IsType room ts y rest → AllTokens rest
-  type_rest all (grammar.unit is) = all.1
-  type_rest all (grammar.int is) = all.1
-  type_rest all (grammar.bool is) = all.1
-  type_rest all (grammar.string is) = all.1
-  type_rest all (grammar.set is opens inner closes) = (type_rest all.1.1 inner).1
-  type_rest all (grammar.map is opens key comma value closes) = (type_rest (type_rest all.1.1 key).1 value).1
-  type_rest all (grammar.option is opens inner closes) = (type_rest all.1.1 inner).1
-  type_rest all (grammar.events is opens inner closes) = (type_rest all.1.1 inner).1
+  mutual
+    type_rest : {room : ℕ} {ts rest : List Token} {y : TypeName} → AllTokens ts → IsType room ts y rest → AllTokens rest
+    type_rest all (grammar.unit is) = all.1
+    type_rest all (grammar.int is) = all.1
+    type_rest all (grammar.bool is) = all.1
+    type_rest all (grammar.string is) = all.1
+    type_rest all (grammar.aggregate is of) = aggregate_rest all.1 of
+    type_rest all (grammar.option is opens inner closes) = (type_rest all.1.1 inner).1
+    type_rest all (grammar.events is opens inner closes) = (type_rest all.1.1 inner).1
+
+    aggregate_rest : {room : ℕ} {ts rest : List Token} {a : Aggregate} → AllTokens ts → IsAggregate room ts a rest → AllTokens rest
+    aggregate_rest all (grammar.set opens key closes) = (type_rest all.1 key).1
+    aggregate_rest all (grammar.queue opens of closes) = (type_rest all.1 of).1
+    aggregate_rest all (grammar.map opens key comma value closes) = (type_rest (type_rest all.1 key).1 value).1
 
   param_rest : {room : ℕ} {ts rest : List Token} {p : Param} → AllTokens ts → IsParam room ts p rest → AllTokens rest
   param_rest all (grammar.param is colon of) = type_rest all.1.1 of
@@ -163,8 +168,7 @@ module _ (Q : Token → Type 0) (P : Expr → Type 0) (from : FromTokens Q P) wh
         (made (tree.CallDotted t.place o (more_exprs e es)) (argument_parts (more_exprs e es)) refl (arguments_have (more_exprs e es) (one.0, more.0)), more.1.1)
     primary_has all (grammar.nil {t = t} {y = y} is opens of closes) = (alone (tree.Nil t.place y) refl, (type_rest all.1.1 of).1)
     primary_has all (grammar.none {t = t} {y = y} is opens of closes) = (alone (tree.None t.place y) refl, (type_rest all.1.1 of).1)
-    primary_has all (grammar.empty_set {t = t} {y = y} is dot member opens of closes) = (alone (tree.EmptySet t.place y) refl, (type_rest all.1.1.1.1 of).1)
-    primary_has all (grammar.empty_map {t = t} {x = x} {y = y} is dot member opens key comma value closes) = (alone (tree.EmptyMap t.place x y) refl, (type_rest (type_rest all.1.1.1.1 key).1 value).1)
+    primary_has all (grammar.empty_aggregate {t = t} {a = a} is dot member of) = (alone (tree.Empty t.place a) refl, aggregate_rest all.1.1.1 of)
 
     others_have : {room : ℕ} {ts rest : List Token} {es : Exprs} → AllTokens ts → AreOthers room ts es rest → AllHave es × AllTokens rest
     others_have all (grammar.no_other past) = (tt, all)

@@ -103,8 +103,7 @@ module _ (scope : Scope) (args : List BodyTree) (call : ℕ → List BodyTree �
     tree_of (tree.CallDotted p d es) = dotted_tree d (trees_of es)
     tree_of (tree.Nil p y) = no_tree
     tree_of (tree.None p y) = absent (value_of y)
-    tree_of (tree.EmptySet p k) = no_tree
-    tree_of (tree.EmptyMap p k v) = no_tree
+    tree_of (tree.Empty p a) = no_tree
 
     pub trees_of : Exprs → List BodyTree
     trees_of no_exprs = []

@@ -6,7 +6,6 @@ use Rattle.std.specs.Str.{bytes_eq}
 use Rattle.tsl_value.specs.declared.scalar.Scalar.{Scalar}
 use Rattle.tsl_value.specs.declared.scalar.Scalar.TheVariants as scalar
 use Rattle.tsl_value.specs.declared.scalar.ValueType.{ValueType}
-use Rattle.tsl_value.specs.declared.scalar.ValueType.TheVariants as value_type
 use Rattle.tsl_value.specs.declared.operation.Unary.TheVariants as unary
 use Rattle.lift_func.specs.BodyTree.{BodyTree, One, Two}
 use Rattle.syntax_tree.specs.Tree as tree
@@ -29,7 +28,7 @@ use Rattle.vocabulary.specs.Table.{role_of}
 use Rattle.vocabulary.specs.declared.plain.Plain.{Plain}
 use Rattle.vocabulary.specs.declared.plain.Plain.TheVariants as plain
 use Rattle.vocabulary.specs.PlainTable.{spelling, entries, look_up}
-use Rattle.type_rules.specs.Written.{key_of, scalar_of}
+use Rattle.type_rules.specs.Written.{aggregate_of}
 
 pub record Shape : Type 0 where
   pub construct : Construct
@@ -205,8 +204,7 @@ module _ (items : List tree.Item) where
   expr_shape cs (tree.CallDotted p d es) = dotted_shape cs d (expressions es)
   expr_shape cs (tree.Nil p y) = with_parts cs construct.Nil []
   expr_shape cs (tree.None p y) = None
-  expr_shape cs (tree.EmptySet p k) = empty_shape cs (option_map value_type.Set (key_of k))
-  expr_shape cs (tree.EmptyMap p k v) = empty_shape cs (option_and_then (λ key. option_map (value_type.Map key) (scalar_of v)) (key_of k))
+  expr_shape cs (tree.Empty p a) = empty_shape cs (aggregate_of a)
 
   abbrev pub shape : Occurrence → Option Shape
   shape o = expr_shape o.calls o.expr

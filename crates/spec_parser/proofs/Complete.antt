@@ -20,14 +20,15 @@ use Rattle.spec_parser.specs.declared.words.Member.{Member}
 use Rattle.spec_parser.specs.declared.words.Member.TheVariants as member
 use Rattle.vocabulary.specs.declared.dotted.Family.TheVariants as family
 use Rattle.syntax_tree.specs.Tree as tree
-use Rattle.syntax_tree.specs.Tree.{TypeName, Expr, Exprs, no_exprs, more_exprs, Links, no_links, more_links, place_of}
+use Rattle.syntax_tree.specs.Tree.{TypeName, Aggregate, kind_in, Expr, Exprs, no_exprs, more_exprs, Links, no_links, more_links, place_of}
+use Rattle.vocabulary.specs.Kinds.{kind_name}
 use Rattle.vocabulary.specs.Table.{family_of, family_name, family_in, member_name}
 use Rattle.spec_parser.specs.Words.{operator_at, comparison_at, opens_call, is_number, is_close, is_open_bracket, is_close_bracket, is_open_brace, is_comma, is_if, is_then, is_else, typed_word_of, goes_on}
-use Rattle.spec_parser.specs.Grammar.{Is, IsNamed, IsPast, IsPastLevel, IsPastComparison, IsPastName, IsType, unit, int, bool, string, set, map, option, events, chained, IsExpr, choice, chain, IsLevel, operands, AreLinks, no_link, one_link, IsOperand, conjunction, no_comparison, comparison, product, unary, IsUnary, negative, negate, negation, primary, IsPrimary, number, text, truth, falsity, parens, nothing, name, call, call_dotted, nil, none, empty_set, empty_map, AreOthers, no_other, one_other}
+use Rattle.spec_parser.specs.Grammar.{Is, IsNamed, IsPast, IsPastLevel, IsPastComparison, IsPastName, IsType, unit, int, bool, string, aggregate, option, events, IsAggregate, set, map, queue, chained, IsExpr, choice, chain, IsLevel, operands, AreLinks, no_link, one_link, IsOperand, conjunction, no_comparison, comparison, product, unary, IsUnary, negative, negate, negation, primary, IsPrimary, number, text, truth, falsity, parens, nothing, name, call, call_dotted, nil, none, empty_aggregate, AreOthers, no_other, one_other}
 use Rattle.spec_parser.specs.inner.Reading as read
-use Rattle.spec_parser.specs.inner.Reading.{Reader, must, in_brackets, two_in_brackets, type_after, at_type, a_type, type_in, link, links_of, after_operand, others_of, after_argument, arguments, typed, member_of, must_call, member_after, at_member, a_member, after_name, name_or_call, at_number, negated, in_parens, at_unary, second_sum, compared, if_false, if_true, all_levels, expression, within, prefixed, unary_at, operand_at}
+use Rattle.spec_parser.specs.inner.Reading.{Reader, must, in_brackets, two_in_brackets, an_aggregate, type_after, at_type, a_type, type_in, link, links_of, after_operand, others_of, after_argument, arguments, typed, member_of, must_call, member_after, at_member, a_member, after_name, name_or_call, at_number, negated, in_parens, at_unary, second_sum, compared, if_false, if_true, all_levels, expression, within, prefixed, unary_at, operand_at}
 use Rattle.spec_parser.proofs.Ends.{signs, if_is, close_is, open_brace_is}
-use Rattle.spec_parser.proofs.Names.{family_again, member_again, empty_set_again, empty_map_again}
+use Rattle.spec_parser.proofs.Names.{type_again, family_again, member_again, empty_again}
 use Rattle.spec_parser.proofs.Levels.{links_local, others_local}
 
 -- a token of a kind that has to come
@@ -51,16 +52,25 @@ module _ {A : Type 0} (i : Reader TypeName) where
 type_at : (room : ℕ) (i : Reader TypeName) (t : Token) (n : List ℕ) (ts : List Token) → IsNamed t n → a_type room i (t ∷ ts) ≡ taken (at_type room i t.place (kind.Name n)) t ts
 type_at room i t n ts is = λ k. taken (at_type room i t.place (is k)) t ts
 
-pub type_complete : {room : ℕ} {ts rest : List Token} {y : TypeName} → IsType room ts y rest → type_in (suc room) ts ≡ Read y rest
-unfolding type_in
-type_complete {room} (unit {t = t} {ts = ts} is) = type_at room (type_in room) t (codes "Unit") ts is
-type_complete {room} (int {t = t} {ts = ts} is) = type_at room (type_in room) t (codes "Int") ts is
-type_complete {room} (bool {t = t} {ts = ts} is) = type_at room (type_in room) t (codes "Bool") ts is
-type_complete {room} (string {t = t} {ts = ts} is) = type_at room (type_in room) t (codes "String") ts is
-type_complete (set {room = room} {t = t} {u = u} {v = v} {ts = ts} {rest = rest} {y = y} is opens d closes) = type_at (suc room) (type_in (suc room)) t (codes "Set") (u ∷ ts) is ∙ bracketed_is (type_in (suc room)) room (tree.SetType t.place) u ts rest v y opens (type_complete d) closes
-type_complete (map {room = room} {t = t} {u = u} {v = v} {w = w} {ts = ts} {us = us} {rest = rest} {x = x} {y = y} is opens d comma e closes) = type_at (suc room) (type_in (suc room)) t (codes "Map") (u ∷ ts) is ∙ bracketed_two_is (type_in (suc room)) room (tree.MapType t.place) u ts us rest v w x y opens (type_complete d) comma (type_complete e) closes
-type_complete (option {room = room} {t = t} {u = u} {v = v} {ts = ts} {rest = rest} {y = y} is opens d closes) = type_at (suc room) (type_in (suc room)) t (codes "Option") (u ∷ ts) is ∙ bracketed_is (type_in (suc room)) room (tree.OptionType t.place) u ts rest v y opens (type_complete d) closes
-type_complete (events {room = room} {t = t} {u = u} {v = v} {ts = ts} {rest = rest} {y = y} is opens d closes) = type_at (suc room) (type_in (suc room)) t (codes "Events") (u ∷ ts) is ∙ bracketed_is (type_in (suc room)) room (tree.EventsType t.place) u ts rest v y opens (type_complete d) closes
+mutual
+  unfolding type_in
+
+  pub type_complete : {room : ℕ} {ts rest : List Token} {y : TypeName} → IsType room ts y rest → type_in (suc room) ts ≡ Read y rest
+  type_complete {room} (unit {t = t} {ts = ts} is) = type_at room (type_in room) t (codes "Unit") ts is
+  type_complete {room} (int {t = t} {ts = ts} is) = type_at room (type_in room) t (codes "Int") ts is
+  type_complete {room} (bool {t = t} {ts = ts} is) = type_at room (type_in room) t (codes "Bool") ts is
+  type_complete {room} (string {t = t} {ts = ts} is) = type_at room (type_in room) t (codes "String") ts is
+  type_complete {room} (aggregate {t = t} {ts = ts} {rest = rest} {a = a} is d) =
+      type_at room (type_in room) t (kind_name (kind_in a)) ts is
+      ∙ ap (λ o. taken (option_map (type_after room (type_in room) t.place) o) t ts) (type_again (kind_in a))
+      ∙ passes_by (an_aggregate room (type_in room) (kind_in a)) (λ a. give (tree.AggregateType t.place a)) ts rest a (aggregate_complete d)
+  type_complete (option {room = room} {t = t} {u = u} {v = v} {ts = ts} {rest = rest} {y = y} is opens d closes) = type_at (suc room) (type_in (suc room)) t (codes "Option") (u ∷ ts) is ∙ bracketed_is (type_in (suc room)) room (tree.OptionType t.place) u ts rest v y opens (type_complete d) closes
+  type_complete (events {room = room} {t = t} {u = u} {v = v} {ts = ts} {rest = rest} {y = y} is opens d closes) = type_at (suc room) (type_in (suc room)) t (codes "Events") (u ∷ ts) is ∙ bracketed_is (type_in (suc room)) room (tree.EventsType t.place) u ts rest v y opens (type_complete d) closes
+
+  pub aggregate_complete : {room : ℕ} {ts rest : List Token} {a : Aggregate} → IsAggregate room ts a rest → an_aggregate room (type_in room) (kind_in a) ts ≡ Read a rest
+  aggregate_complete (set {room = room} {u = u} {v = v} {ts = ts} {rest = rest} {y = y} opens d closes) = bracketed_is (type_in (suc room)) room tree.SetOf u ts rest v y opens (type_complete d) closes
+  aggregate_complete (queue {room = room} {u = u} {v = v} {ts = ts} {rest = rest} {y = y} opens d closes) = bracketed_is (type_in (suc room)) room tree.QueueOf u ts rest v y opens (type_complete d) closes
+  aggregate_complete (map {room = room} {u = u} {v = v} {w = w} {ts = ts} {us = us} {rest = rest} {x = x} {y = y} opens d comma e closes) = bracketed_two_is (type_in (suc room)) room tree.MapOf u ts us rest v w x y opens (type_complete d) comma (type_complete e) closes
 
 -- arguments
 others_stop : (room : ℕ) (ts : List Token) → IsPast is_comma ts → many (others_of (within room)) ts ≡ Read no_exprs ts
@@ -265,8 +275,9 @@ mutual
       ∙ arguments_is (suc room) (tree.CallDotted t.place o) ts us rest v e es (expr_complete x) (others_complete others) closes
   primary_complete (nil {room = room} {t = t} {u = u} {v = v} {ts = ts} {rest = rest} {y = y} is opens d closes) = typed_turn (suc room) t u (codes "nil") _ ts is opens refl ∙ in_brackets_is (type_in (suc room)) (tree.Nil t.place) ts rest v y (type_complete d) closes
   primary_complete (none {room = room} {t = t} {u = u} {v = v} {ts = ts} {rest = rest} {y = y} is opens d closes) = typed_turn (suc room) t u (codes "None") _ ts is opens refl ∙ in_brackets_is (type_in (suc room)) (tree.None t.place) ts rest v y (type_complete d) closes
-  primary_complete (empty_set {room = room} {t = t} {d = d} {m = m} {u = u} {v = v} {ts = ts} {rest = rest} {y = y} is dot named opens x closes) = dot_is (suc room) t d m family.Set (codes "empty") member.EmptySet (u ∷ ts) is dot named empty_set_again ∙ bracketed_is (type_in (suc room)) room (tree.EmptySet t.place) u ts rest v y opens (type_complete x) closes
-  primary_complete (empty_map {room = room} {t = t} {d = d} {m = m} {u = u} {v = v} {w = w} {ts = ts} {us = us} {rest = rest} {x = x} {y = y} is dot named opens a comma b closes) = dot_is (suc room) t d m family.Map (codes "empty") member.EmptyMap (u ∷ ts) is dot named empty_map_again ∙ bracketed_two_is (type_in (suc room)) room (tree.EmptyMap t.place) u ts us rest v w x y opens (type_complete a) comma (type_complete b) closes
+  primary_complete {room} (empty_aggregate {t = t} {d = d} {m = m} {ts = ts} {rest = rest} {a = a} is dot named x) =
+      dot_is room t d m (family.Of (kind_in a)) (codes "empty") (member.Empty (kind_in a)) ts is dot named (empty_again (kind_in a))
+      ∙ passes_by (an_aggregate room (type_in room) (kind_in a)) (λ a. give (tree.Empty t.place a)) ts rest a (aggregate_complete x)
 
   others_complete : {room : ℕ} {ts rest : List Token} {es : Exprs} → AreOthers room ts es rest → many (others_of (within (suc room))) ts ≡ Read es rest
   others_complete {room} (no_other {ts = ts} h) = others_stop (suc room) ts h

@@ -14,6 +14,7 @@ use Rattle.token_reader.proofs.ManyLaws.{many_end, careful-many, local-many}
 use Rattle.token_reader.proofs.CarefulLaws.{careful-give, careful-test, careful-bind, careful-or_else, local-closed, local-mapped}
 use Rattle.token_reader.proofs.ViableLaws.{Passes, plainly, opening, unless, Completes, CompletesAt, CompletesEach, Begins, Skips, completes-give, completes-bind, completes-begins, each-give, each-bind, all-expect, all-skips}
 use Rattle.token_reader.proofs.Fine.{IsFine, IsFineTurn, GoesOn, fine-give, fine-bind, fine-take_by, fine-if_next, fine-or_else, fine-many, fine-expect, fine_when, fine_opened, mapped, careful-turns, careful-deeper, careful-may, on-expect, on-close, on-skips, closed, passes_opened, turn_local, turn_deeper}
+use Rattle.vocabulary.specs.declared.kind.Kind.TheVariants as aggregate_kind
 use Rattle.vocabulary.specs.declared.dotted.Dotted.TheVariants as dotted
 use Rattle.spec_parser.specs.declared.words.TypedWord.{TypedWord}
 use Rattle.spec_parser.specs.declared.words.TypedWord.TheVariants as typed_word
@@ -27,7 +28,7 @@ use Rattle.vocabulary.specs.Table.{family_of, dotted_of}
 use Rattle.spec_parser.specs.Words.{opens_call, is_number, is_close, is_comma, is_then, is_else, may_open, is_minus, is_number_next, opens_level, typed_word_of}
 use Rattle.spec_parser.specs.inner.Reading.{Reader, must, type_in, others_of, after_argument, arguments, typed, member_of, member_after, at_member, a_member, after_name, name_or_call, at_number, negated, in_parens, at_unary, unary, if_false, if_true, choice}
 use Rattle.spec_parser.proofs.Ends.{ends, signs, start, sample, a_truth, comma_goes_on, close_is, comma_is, else_is, then_is, call_is}
-use Rattle.spec_parser.proofs.TypeLaws.{Opens, opens_as, type_brackets, type_brackets_pass, must_type, must_types, must_type_careful, must_types_careful, no_room}
+use Rattle.spec_parser.proofs.TypeLaws.{Opens, opens_as, type_brackets, type_brackets_pass, empty_fine, empty_careful, no_room}
 
 abbrev a_close : Token
 a_close = sample (kind.Symbol symbol.Close)
@@ -171,13 +172,11 @@ module _ (room : ℕ) (i j : Reader Expr) (inner : Known room i j) where
 
   member_fine : (place : Place) (m : Member) → IsFine signs (member_after room (type_in room) i place m) (member_after (suc room) (type_in (suc room)) j place m)
   member_fine place (member.Called o) = fine-expect signs opening_at (sample (kind.Symbol symbol.Open)) refl (opened room (arguments i (tree.CallDotted place o))) (arguments j (tree.CallDotted place o)) (opened_arguments (tree.CallDotted place o)) (λ t h. arguments_pass (tree.CallDotted place o) t (call_opens t h)) (arguments_complete j inner.fine.deeper (tree.CallDotted place o) inner.deeper)
-  member_fine place member.EmptySet = must_type room (tree.EmptySet place)
-  member_fine place member.EmptyMap = must_types room (tree.EmptyMap place)
+  member_fine place (member.Empty g) = empty_fine room g place
 
   member_careful : (place : Place) (m : Member) → IsCareful signs (member_after room (type_in room) i place m)
   member_careful place (member.Called o) = careful-test signs opening_at (opened room (arguments i (tree.CallDotted place o))) (opened_arguments (tree.CallDotted place o)).local
-  member_careful place member.EmptySet = must_type_careful room (tree.EmptySet place)
-  member_careful place member.EmptyMap = must_types_careful room (tree.EmptyMap place)
+  member_careful place (member.Empty g) = empty_careful room g place
 
   member_turn : (t : Token) (place : Place) → may_open t.kind ≡ false → (o : Option Member) → IsFineTurn signs t (option_map (member_after room (type_in room) i place) o) (option_map (member_after (suc room) (type_in (suc room)) j place) o)
   member_turn t place plain None = tt
@@ -193,8 +192,9 @@ module _ (room : ℕ) (i j : Reader Expr) (inner : Known room i j) where
   -- each family has a function of this name
   a_member_complete : (place : Place) (f : Family) → Completes signs (a_member (suc room) (type_in (suc room)) j place f)
   unfolding member_of dotted_of
-  a_member_complete place family.Set r h = let c = arguments_complete j inner.fine.deeper (tree.CallDotted place dotted.SetSize) inner.deeper r h in (sample (kind.Name (codes "size")) ∷ sample (kind.Symbol symbol.Open) ∷ c.0, c.1, c.2)
-  a_member_complete place family.Map r h = let c = arguments_complete j inner.fine.deeper (tree.CallDotted place dotted.MapSize) inner.deeper r h in (sample (kind.Name (codes "size")) ∷ sample (kind.Symbol symbol.Open) ∷ c.0, c.1, c.2)
+  a_member_complete place (family.Of aggregate_kind.Set) r h = let c = arguments_complete j inner.fine.deeper (tree.CallDotted place dotted.SetSize) inner.deeper r h in (sample (kind.Name (codes "size")) ∷ sample (kind.Symbol symbol.Open) ∷ c.0, c.1, c.2)
+  a_member_complete place (family.Of aggregate_kind.Map) r h = let c = arguments_complete j inner.fine.deeper (tree.CallDotted place dotted.MapSize) inner.deeper r h in (sample (kind.Name (codes "size")) ∷ sample (kind.Symbol symbol.Open) ∷ c.0, c.1, c.2)
+  a_member_complete place (family.Of aggregate_kind.Queue) r h = let c = arguments_complete j inner.fine.deeper (tree.CallDotted place dotted.QueueSize) inner.deeper r h in (sample (kind.Name (codes "size")) ∷ sample (kind.Symbol symbol.Open) ∷ c.0, c.1, c.2)
   a_member_complete place family.Text r h = let c = arguments_complete j inner.fine.deeper (tree.CallDotted place dotted.StringSize) inner.deeper r h in (sample (kind.Name (codes "size")) ∷ sample (kind.Symbol symbol.Open) ∷ c.0, c.1, c.2)
 
   a_member_fine : (place : Place) (f : Family) → IsFine signs (a_member room (type_in room) i place f) (a_member (suc room) (type_in (suc room)) j place f)

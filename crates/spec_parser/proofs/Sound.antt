@@ -12,6 +12,8 @@ use Rattle.syntax_tree.specs.declared.tree.Level.{Level}
 use Rattle.syntax_tree.specs.declared.tree.Level.TheVariants as level
 use Rattle.syntax_tree.specs.declared.tree.Operator.{Operator}
 use Rattle.syntax_tree.specs.declared.tree.Comparison.{Comparison}
+use Rattle.vocabulary.specs.declared.kind.Kind.{Kind}
+use Rattle.vocabulary.specs.declared.kind.Kind.TheVariants as aggregate_kind
 use Rattle.vocabulary.specs.declared.dotted.Dotted.{Dotted}
 use Rattle.spec_parser.specs.declared.words.TypeWord.{TypeWord}
 use Rattle.spec_parser.specs.declared.words.TypeWord.TheVariants as type_word
@@ -21,12 +23,13 @@ use Rattle.vocabulary.specs.declared.dotted.Family.{Family}
 use Rattle.spec_parser.specs.declared.words.Member.{Member}
 use Rattle.spec_parser.specs.declared.words.Member.TheVariants as member
 use Rattle.syntax_tree.specs.Tree as tree
-use Rattle.syntax_tree.specs.Tree.{TypeName, Expr, Exprs, no_exprs, more_exprs, Links, no_links, more_links, place_of}
+use Rattle.syntax_tree.specs.Tree.{TypeName, Aggregate, kind_in, Expr, Exprs, no_exprs, more_exprs, Links, no_links, more_links, place_of}
+use Rattle.vocabulary.specs.Kinds.{kind_name}
 use Rattle.vocabulary.specs.Table.{family_of, family_name, family_in, member_name}
 use Rattle.spec_parser.specs.Words.{operator_at, comparison_at, opens_call, is_number, is_close, is_open_bracket, is_close_bracket, is_comma, is_if, is_then, is_else, type_word_of, typed_word_of, goes_on}
-use Rattle.spec_parser.specs.Grammar.{Is, IsNamed, IsPast, IsType, unit, int, bool, string, set, map, option, events, chained, IsExpr, choice, chain, IsLevel, operands, AreLinks, no_link, one_link, IsOperand, conjunction, no_comparison, comparison, product, unary, IsUnary, negative, negate, negation, primary, IsPrimary, number, text, truth, falsity, parens, nothing, name, call, call_dotted, nil, none, empty_set, empty_map, AreOthers, no_other, one_other}
+use Rattle.spec_parser.specs.Grammar.{Is, IsNamed, IsPast, IsType, unit, int, bool, string, aggregate, option, events, IsAggregate, set, map, queue, chained, IsExpr, choice, chain, IsLevel, operands, AreLinks, no_link, one_link, IsOperand, conjunction, no_comparison, comparison, product, unary, IsUnary, negative, negate, negation, primary, IsPrimary, number, text, truth, falsity, parens, nothing, name, call, call_dotted, nil, none, empty_aggregate, AreOthers, no_other, one_other}
 use Rattle.spec_parser.specs.inner.Reading as read
-use Rattle.spec_parser.specs.inner.Reading.{Reader, must, in_brackets, two_in_brackets, type_after, at_type, a_type, type_in, link, links_of, after_operand, others_of, after_argument, arguments, typed, member_of, member_after, at_member, a_member, after_name, name_or_call, at_number, negated, in_parens, at_unary, second_sum, compared, if_false, if_true, all_levels, expression, within, prefixed, unary_at, operand_at}
+use Rattle.spec_parser.specs.inner.Reading.{Reader, must, in_brackets, two_in_brackets, an_aggregate, type_after, at_type, a_type, type_in, link, links_of, after_operand, others_of, after_argument, arguments, typed, member_of, member_after, at_member, a_member, after_name, name_or_call, at_number, negated, in_parens, at_unary, second_sum, compared, if_false, if_true, all_levels, expression, within, prefixed, unary_at, operand_at}
 use Rattle.spec_parser.proofs.Ends.{signs, close_is, open_bracket_is, close_bracket_is, comma_is, if_is, then_is, else_is}
 use Rattle.spec_parser.proofs.Names.{type_name, type_word_is, typed_name, typed_word_is, family_is, member_spelling, member_family, member_is}
 use Rattle.spec_parser.proofs.ExprLaws.{turn_others}
@@ -68,16 +71,26 @@ module _ {A : Type 0} (Q : A → List Token → Type 0) where
   must_two_sound : (room : ℕ) → ((ts : List Token) → Meets (IsIn room ts) (type_in room ts)) → (f : TypeName → TypeName → A) (us : List Token) → ((u : Token) (ts : List Token) → us ≡ u ∷ ts → Is u symbol.OpenBracket → (r : ℕ) → room ≡ suc r → (x y : TypeName) (v w : Token) (vs rest : List Token) → IsType r ts x (v ∷ vs) → Is v symbol.Comma → IsType r vs y (w ∷ rest) → Is w symbol.CloseBracket → Q (f x y) rest) → Meets Q (must is_open_bracket (opened room (two_in_brackets (type_in room) f)) us)
   must_two_sound room sound f us k = meets_expect (λ t. is_open_bracket t.kind) (opened room (two_in_brackets (type_in room) f)) (λ vs. us ≡ vs) Q us refl (λ u ts e opens. opened_two_sound room sound f ts (k u ts e (open_bracket_is u.kind opens)))
 
+-- an aggregate of this kind
+abbrev IsOf : Kind → ℕ → List Token → Aggregate → List Token → Type 0
+IsOf g room ts a rest = (g ≡ kind_in a) × IsAggregate room ts a rest
+
+aggregate_sound : (room : ℕ) → ((ts : List Token) → Meets (IsIn room ts) (type_in room ts)) → (g : Kind) (us : List Token) → Meets (IsOf g room us) (an_aggregate room (type_in room) g us)
+aggregate_sound room sound aggregate_kind.Set us = must_sound (IsOf aggregate_kind.Set room us) room sound tree.SetOf us (λ u ts e opens r s y v rest d closes. (refl, subst (λ vs. IsAggregate room vs (tree.SetOf y) rest) (sym e) (subst (λ n. IsAggregate n (u ∷ ts) (tree.SetOf y) rest) (sym s) (set opens d closes))))
+aggregate_sound room sound aggregate_kind.Map us = must_two_sound (IsOf aggregate_kind.Map room us) room sound tree.MapOf us (λ u ts e opens r s x y v w vs rest d comma d2 closes. (refl, subst (λ vs. IsAggregate room vs (tree.MapOf x y) rest) (sym e) (subst (λ n. IsAggregate n (u ∷ ts) (tree.MapOf x y) rest) (sym s) (map opens d comma d2 closes))))
+aggregate_sound room sound aggregate_kind.Queue us = must_sound (IsOf aggregate_kind.Queue room us) room sound tree.QueueOf us (λ u ts e opens r s y v rest d closes. (refl, subst (λ vs. IsAggregate room vs (tree.QueueOf y) rest) (sym e) (subst (λ n. IsAggregate n (u ∷ ts) (tree.QueueOf y) rest) (sym s) (queue opens d closes))))
+
 module _ (room : ℕ) (sound : (ts : List Token) → Meets (IsIn room ts) (type_in room ts)) (t : Token) where
   of_word : (w : TypeWord) → IsNamed t (type_name w) → (us : List Token) → Meets (IsType room (t ∷ us)) (type_after room (type_in room) t.place w us)
   of_word type_word.Unit is us = unit is
   of_word type_word.Int is us = int is
   of_word type_word.Bool is us = bool is
   of_word type_word.Text is us = string is
-  of_word type_word.Set is us = must_sound (IsType room (t ∷ us)) room sound (tree.SetType t.place) us (λ u ts e opens r s y v rest d closes. subst (λ vs. IsType room (t ∷ vs) (tree.SetType t.place y) rest) (sym e) (subst (λ n. IsType n (t ∷ u ∷ ts) (tree.SetType t.place y) rest) (sym s) (set is opens d closes)))
+  of_word (type_word.Of g) is us =
+      meets_bind (IsOf g room us) (IsType room (t ∷ us)) (an_aggregate room (type_in room) g us) (λ a. give (tree.AggregateType t.place a)) (aggregate_sound room sound g us)
+      (λ a rest d. aggregate (is ∙ ap (λ h. kind.Name (kind_name h)) d.0) d.1)
   of_word type_word.Option is us = must_sound (IsType room (t ∷ us)) room sound (tree.OptionType t.place) us (λ u ts e opens r s y v rest d closes. subst (λ vs. IsType room (t ∷ vs) (tree.OptionType t.place y) rest) (sym e) (subst (λ n. IsType n (t ∷ u ∷ ts) (tree.OptionType t.place y) rest) (sym s) (option is opens d closes)))
   of_word type_word.Events is us = must_sound (IsType room (t ∷ us)) room sound (tree.EventsType t.place) us (λ u ts e opens r s y v rest d closes. subst (λ vs. IsType room (t ∷ vs) (tree.EventsType t.place y) rest) (sym e) (subst (λ n. IsType n (t ∷ u ∷ ts) (tree.EventsType t.place y) rest) (sym s) (events is opens d closes)))
-  of_word type_word.Map is us = must_two_sound (IsType room (t ∷ us)) room sound (tree.MapType t.place) us (λ u ts e opens r s x y v w vs rest d comma d2 closes. subst (λ vs. IsType room (t ∷ vs) (tree.MapType t.place x y) rest) (sym e) (subst (λ n. IsType n (t ∷ u ∷ ts) (tree.MapType t.place x y) rest) (sym s) (map is opens d comma d2 closes)))
 
   of_option : (n : List ℕ) → t.kind ≡ kind.Name n → (o : Option TypeWord) → type_word_of n ≡ o → (us : List Token) → Meets (IsType room (t ∷ us)) (taken (option_map (type_after room (type_in room) t.place) o) t us)
   of_option n is None h us = tt
@@ -168,8 +181,9 @@ module _ (room : ℕ) (sound : Sound room) (t : Token) where
   -- a name that knows a dot
   member_sound : (d m : Token) (w : Member) → IsNamed t (family_name (member_family w)) → Is d symbol.Dot → IsNamed m (member_spelling w) → (us : List Token) → Meets (Here (d ∷ m ∷ us)) (member_after room (type_in room) (within room) t.place w us)
   member_sound d m (member.Called o) is dot named us = meets_expect (λ t. opens_call t.kind t.first) (opened room (arguments (within room) (tree.CallDotted t.place o))) (λ vs. us ≡ vs) (Here (d ∷ m ∷ us)) us refl (λ u ts e opens. subst (λ vs. Meets (Here (d ∷ m ∷ vs)) (opened room (arguments (within room) (tree.CallDotted t.place o)) ts)) (sym e) (dotted_sound room sound t d m u o is dot named opens ts))
-  member_sound d m member.EmptySet is dot named us = must_sound (Here (d ∷ m ∷ us)) room (type_in_sound room) (tree.EmptySet t.place) us (λ u ts e opens r s y v rest x closes. subst (λ vs. Here (d ∷ m ∷ vs) (tree.EmptySet t.place y) rest) (sym e) (subst (λ n. IsPrimary n (t ∷ d ∷ m ∷ u ∷ ts) (tree.EmptySet t.place y) rest) (sym s) (empty_set is dot named opens x closes)))
-  member_sound d m member.EmptyMap is dot named us = must_two_sound (Here (d ∷ m ∷ us)) room (type_in_sound room) (tree.EmptyMap t.place) us (λ u ts e opens r s x y v w vs rest a comma b closes. subst (λ vs. Here (d ∷ m ∷ vs) (tree.EmptyMap t.place x y) rest) (sym e) (subst (λ n. IsPrimary n (t ∷ d ∷ m ∷ u ∷ ts) (tree.EmptyMap t.place x y) rest) (sym s) (empty_map is dot named opens a comma b closes)))
+  member_sound d m (member.Empty g) is dot named us =
+      meets_bind (IsOf g room us) (Here (d ∷ m ∷ us)) (an_aggregate room (type_in room) g us) (λ a. give (tree.Empty t.place a)) (aggregate_sound room (type_in_sound room) g us)
+      (λ a rest x. empty_aggregate (is ∙ ap (λ h. kind.Name (kind_name h)) x.0) dot named x.1)
 
   member_option : (d m : Token) (f : Family) (n : List ℕ) → IsNamed t (family_name f) → Is d symbol.Dot → m.kind ≡ kind.Name n → (o : Option Member) → member_of f n ≡ o → (us : List Token) → Meets (Here (d ∷ m ∷ us)) (taken (option_map (member_after room (type_in room) (within room) t.place) o) m us)
   member_option d m f n is dot named None h us = tt

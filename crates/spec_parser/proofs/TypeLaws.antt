@@ -10,14 +10,16 @@ use Rattle.token_reader.specs.inner.Reader.{TooDeep, give, refuse, take_by, open
 use Rattle.token_reader.proofs.LocalLaws.{IsCareful, IsLocal, local-give, local-take_by, local-bind, local-expect}
 use Rattle.token_reader.proofs.CarefulLaws.{careful-give, careful-test, careful-take_by, careful-bind, local-closed}
 use Rattle.token_reader.proofs.ViableLaws.{Passes, plainly, opening, at_once, unless, Completes, CompletesAll, completes-bind, each-give, each-bind, all-expect}
-use Rattle.token_reader.proofs.Fine.{IsFine, IsFineTurn, fine-give, fine-too_deep, fine-bind, fine-take_by, fine-expect, fine_opened, passes_opened, closed, turn_local}
+use Rattle.token_reader.proofs.Fine.{IsFine, IsFineTurn, fine-give, fine-too_deep, fine-bind, fine-take_by, fine-expect, fine_opened, mapped, passes_opened, closed, turn_local}
 use Rattle.token_reader.proofs.Fewer.{fine_fewer, completes_fewer, at_fewer}
+use Rattle.vocabulary.specs.declared.kind.Kind.{Kind}
+use Rattle.vocabulary.specs.declared.kind.Kind.TheVariants as aggregate_kind
 use Rattle.spec_parser.specs.declared.words.TypeWord.{TypeWord}
 use Rattle.spec_parser.specs.declared.words.TypeWord.TheVariants as type_word
 use Rattle.syntax_tree.specs.Tree as tree
 use Rattle.syntax_tree.specs.Tree.{TypeName}
 use Rattle.spec_parser.specs.Words.{is_open_bracket, is_close_bracket, is_comma, is_number, may_open, opens_level, is_minus, type_word_of}
-use Rattle.spec_parser.specs.inner.Reading.{Reader, must, in_brackets, two_in_brackets, type_after, at_type, a_type, type_in}
+use Rattle.spec_parser.specs.inner.Reading.{Reader, must, in_brackets, two_in_brackets, an_aggregate, empty_after, type_after, at_type, a_type, type_in}
 use Rattle.spec_parser.proofs.Ends.{ends, ends_type, ends_fewer, ends_quiet, type_quiet, close_bracket_is, comma_is, signs, type_signs, start, sample, a_name, open_bracket_is, opens_by}
 
 -- a token that opens a level before whatever stands there
@@ -98,13 +100,22 @@ module _ (room : ℕ) (i j : Reader TypeName) (ij : IsFine type_signs i j) (ci :
     pub must_careful : (p : Reader A) → IsLocal type_signs p → IsCareful type_signs (must is_open_bracket p)
     must_careful p lp = careful-test type_signs (λ t. is_open_bracket t.kind) p lp
 
+  pub aggregate_fine : (g : Kind) → IsFine type_signs (an_aggregate room i g) (an_aggregate (suc room) j g)
+  aggregate_fine aggregate_kind.Set = must_brackets tree.SetOf
+  aggregate_fine aggregate_kind.Map = must_two tree.MapOf
+  aggregate_fine aggregate_kind.Queue = must_brackets tree.QueueOf
+
+  pub aggregate_careful : (g : Kind) → IsCareful type_signs (an_aggregate room i g)
+  aggregate_careful aggregate_kind.Set = must_careful _ (opened_brackets tree.SetOf).local
+  aggregate_careful aggregate_kind.Map = must_careful _ (opened_two tree.MapOf).local
+  aggregate_careful aggregate_kind.Queue = must_careful _ (opened_brackets tree.QueueOf).local
+
   type_after_fine : (place : Place) (w : TypeWord) → IsFine type_signs (type_after room i place w) (type_after (suc room) j place w)
   type_after_fine place type_word.Unit = fine-give type_signs (tree.UnitType place)
   type_after_fine place type_word.Int = fine-give type_signs (tree.IntType place)
   type_after_fine place type_word.Bool = fine-give type_signs (tree.BoolType place)
   type_after_fine place type_word.Text = fine-give type_signs (tree.TextType place)
-  type_after_fine place type_word.Set = must_brackets (tree.SetType place)
-  type_after_fine place type_word.Map = must_two (tree.MapType place)
+  type_after_fine place (type_word.Of g) = mapped type_signs (an_aggregate room i g) (an_aggregate (suc room) j g) (tree.AggregateType place) (aggregate_fine g)
   type_after_fine place type_word.Option = must_brackets (tree.OptionType place)
   type_after_fine place type_word.Events = must_brackets (tree.EventsType place)
 
@@ -113,8 +124,8 @@ module _ (room : ℕ) (i j : Reader TypeName) (ij : IsFine type_signs i j) (ci :
   type_after_careful place type_word.Int = careful-give type_signs (tree.IntType place)
   type_after_careful place type_word.Bool = careful-give type_signs (tree.BoolType place)
   type_after_careful place type_word.Text = careful-give type_signs (tree.TextType place)
-  type_after_careful place type_word.Set = must_careful _ (opened_brackets (tree.SetType place)).local
-  type_after_careful place type_word.Map = must_careful _ (opened_two (tree.MapType place)).local
+  type_after_careful place (type_word.Of g) =
+      careful-bind type_signs (an_aggregate room i g) (λ a. give (tree.AggregateType place a)) (aggregate_fine g).local (aggregate_careful g) (λ a. careful-give type_signs (tree.AggregateType place a))
   type_after_careful place type_word.Option = must_careful _ (opened_brackets (tree.OptionType place)).local
   type_after_careful place type_word.Events = must_careful _ (opened_brackets (tree.EventsType place)).local
 
@@ -183,17 +194,19 @@ module _ {A : Type 0} (room : ℕ) where
   pub type_brackets_pass : (f : TypeName → A) (t : Token) → Opens t → Passes signs t (opened room (in_brackets (type_in room) f))
   type_brackets_pass f t o = pass_in t _ (brackets_pass room (type_in room) (type_in (suc room)) (type_fine_in room) (completes_at room) (type_completes_in room) (careful_at room) f t o)
 
-  pub must_type : (f : TypeName → A) → IsFine signs (must is_open_bracket (opened room (in_brackets (type_in room) f))) (must is_open_bracket (in_brackets (type_in (suc room)) f))
-  must_type f = fine_in _ _ (must_brackets room (type_in room) (type_in (suc room)) (type_fine_in room) (completes_at room) (type_completes_in room) (careful_at room) f)
+-- an empty aggregate
+module _ (room : ℕ) (g : Kind) where
+  made_fine : IsFine type_signs (an_aggregate room (type_in room) g) (an_aggregate (suc room) (type_in (suc room)) g)
+  made_fine = aggregate_fine room (type_in room) (type_in (suc room)) (type_fine_in room) (completes_at room) (type_completes_in room) (careful_at room) g
 
-  pub must_types : (f : TypeName → TypeName → A) → IsFine signs (must is_open_bracket (opened room (two_in_brackets (type_in room) f))) (must is_open_bracket (two_in_brackets (type_in (suc room)) f))
-  must_types f = fine_in _ _ (must_two room (type_in room) (type_in (suc room)) (type_fine_in room) (completes_at room) (type_completes_in room) (careful_at room) f)
+  pub empty_fine : (place : Place) → IsFine signs (empty_after room (type_in room) place g) (empty_after (suc room) (type_in (suc room)) place g)
+  empty_fine place = mapped signs (an_aggregate room (type_in room) g) (an_aggregate (suc room) (type_in (suc room)) g) (tree.Empty place) (fine_in _ _ made_fine)
 
-  pub must_type_careful : (f : TypeName → A) → IsCareful signs (must is_open_bracket (opened room (in_brackets (type_in room) f)))
-  must_type_careful f = careful-test type_signs (λ t. is_open_bracket t.kind) (opened room (in_brackets (type_in room) f)) (opened_brackets room (type_in room) (type_in (suc room)) (type_fine_in room) (completes_at room) (type_completes_in room) (careful_at room) f).local
-
-  pub must_types_careful : (f : TypeName → TypeName → A) → IsCareful signs (must is_open_bracket (opened room (two_in_brackets (type_in room) f)))
-  must_types_careful f = careful-test type_signs (λ t. is_open_bracket t.kind) (opened room (two_in_brackets (type_in room) f)) (opened_two room (type_in room) (type_in (suc room)) (type_fine_in room) (completes_at room) (type_completes_in room) (careful_at room) f).local
+  pub empty_careful : (place : Place) → IsCareful signs (empty_after room (type_in room) place g)
+  empty_careful place =
+      careful-bind type_signs (an_aggregate room (type_in room) g) (λ a. give (tree.Empty place a)) made_fine.local
+      (aggregate_careful room (type_in room) (type_in (suc room)) (type_fine_in room) (completes_at room) (type_completes_in room) (careful_at room) g)
+      (λ a. careful-give type_signs (tree.Empty place a))
 
 -- as they stand in definitions and items
 pub type_fine : (room : ℕ) → IsFine signs (type_in room) (type_in (suc room))

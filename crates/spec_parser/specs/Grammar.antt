@@ -15,9 +15,11 @@ use Rattle.syntax_tree.specs.declared.tree.Operator.{Operator}
 use Rattle.syntax_tree.specs.declared.tree.Comparison.{Comparison}
 use Rattle.vocabulary.specs.declared.dotted.Dotted.{Dotted}
 use Rattle.syntax_tree.specs.Tree as tree
-use Rattle.syntax_tree.specs.Tree.{TypeName, Expr, Exprs, no_exprs, more_exprs, Links, no_links, more_links, place_of, Param, Body}
+use Rattle.syntax_tree.specs.Tree.{TypeName, Aggregate, kind_in, Expr, Exprs, no_exprs, more_exprs, Links, no_links, more_links, place_of}
+use Rattle.syntax_tree.specs.Tree.{Param, Body}
 use Rattle.syntax_tree.specs.Tree.{Definition, Definitions, no_definitions, more_definitions, Item}
 use Rattle.spec_parser.specs.Words.{operator_at, comparison_at, opens_call, is_number, is_open, is_comma, is_colon, defines, is_as, is_def}
+use Rattle.vocabulary.specs.Kinds.{kind_name}
 use Rattle.vocabulary.specs.Table.{family_name, family_in, member_name}
 use Rattle.spec_parser.specs.Words.{goes_on}
 
@@ -46,46 +48,60 @@ abbrev pub IsPastName : List ℕ → List Token → Type 0
 IsPastName n [] = Unit {0}
 IsPastName n (t ∷ ts) = goes_on n t.kind t.first ≡ false
 
--- types
-pub data IsType : ℕ → List Token → TypeName → List Token → Type 0 where
-  unit : {room : ℕ} {t : Token} {ts : List Token} → IsNamed t (codes "Unit") → IsType room (t ∷ ts) (tree.UnitType t.place) ts
-  int : {room : ℕ} {t : Token} {ts : List Token} → IsNamed t (codes "Int") → IsType room (t ∷ ts) (tree.IntType t.place) ts
-  bool : {room : ℕ} {t : Token} {ts : List Token} → IsNamed t (codes "Bool") → IsType room (t ∷ ts) (tree.BoolType t.place) ts
-  string : {room : ℕ} {t : Token} {ts : List Token} → IsNamed t (codes "String") → IsType room (t ∷ ts) (tree.TextType t.place) ts
-  -- Set [ y ]
-  set :
-      {room : ℕ} {t u v : Token} {ts rest : List Token} {y : TypeName} →
-      IsNamed t (codes "Set") →
-      Is u symbol.OpenBracket →
-      IsType room ts y (v ∷ rest) →
-      Is v symbol.CloseBracket →
-      IsType (suc room) (t ∷ u ∷ ts) (tree.SetType t.place y) rest
-  -- Map [ x , y ]
-  map :
-      {room : ℕ} {t u v w : Token} {ts us rest : List Token} {x y : TypeName} →
-      IsNamed t (codes "Map") →
-      Is u symbol.OpenBracket →
-      IsType room ts x (v ∷ us) →
-      Is v symbol.Comma →
-      IsType room us y (w ∷ rest) →
-      Is w symbol.CloseBracket →
-      IsType (suc room) (t ∷ u ∷ ts) (tree.MapType t.place x y) rest
-  -- Option [ y ]
-  option :
-      {room : ℕ} {t u v : Token} {ts rest : List Token} {y : TypeName} →
-      IsNamed t (codes "Option") →
-      Is u symbol.OpenBracket →
-      IsType room ts y (v ∷ rest) →
-      Is v symbol.CloseBracket →
-      IsType (suc room) (t ∷ u ∷ ts) (tree.OptionType t.place y) rest
-  -- Events [ y ]
-  events :
-      {room : ℕ} {t u v : Token} {ts rest : List Token} {y : TypeName} →
-      IsNamed t (codes "Events") →
-      Is u symbol.OpenBracket →
-      IsType room ts y (v ∷ rest) →
-      Is v symbol.CloseBracket →
-      IsType (suc room) (t ∷ u ∷ ts) (tree.EventsType t.place y) rest
+-- types, and what stands in the brackets of an aggregate of a kind
+mutual
+  pub data IsType : ℕ → List Token → TypeName → List Token → Type 0 where
+    unit : {room : ℕ} {t : Token} {ts : List Token} → IsNamed t (codes "Unit") → IsType room (t ∷ ts) (tree.UnitType t.place) ts
+    int : {room : ℕ} {t : Token} {ts : List Token} → IsNamed t (codes "Int") → IsType room (t ∷ ts) (tree.IntType t.place) ts
+    bool : {room : ℕ} {t : Token} {ts : List Token} → IsNamed t (codes "Bool") → IsType room (t ∷ ts) (tree.BoolType t.place) ts
+    string : {room : ℕ} {t : Token} {ts : List Token} → IsNamed t (codes "String") → IsType room (t ∷ ts) (tree.TextType t.place) ts
+    -- KIND [ y .. ]
+    aggregate :
+        {room : ℕ} {t : Token} {ts rest : List Token} {a : Aggregate} →
+        IsNamed t (kind_name (kind_in a)) →
+        IsAggregate room ts a rest →
+        IsType room (t ∷ ts) (tree.AggregateType t.place a) rest
+    -- Option [ y ]
+    option :
+        {room : ℕ} {t u v : Token} {ts rest : List Token} {y : TypeName} →
+        IsNamed t (codes "Option") →
+        Is u symbol.OpenBracket →
+        IsType room ts y (v ∷ rest) →
+        Is v symbol.CloseBracket →
+        IsType (suc room) (t ∷ u ∷ ts) (tree.OptionType t.place y) rest
+    -- Events [ y ]
+    events :
+        {room : ℕ} {t u v : Token} {ts rest : List Token} {y : TypeName} →
+        IsNamed t (codes "Events") →
+        Is u symbol.OpenBracket →
+        IsType room ts y (v ∷ rest) →
+        Is v symbol.CloseBracket →
+        IsType (suc room) (t ∷ u ∷ ts) (tree.EventsType t.place y) rest
+
+  pub data IsAggregate : ℕ → List Token → Aggregate → List Token → Type 0 where
+    -- [ y ]
+    set :
+        {room : ℕ} {u v : Token} {ts rest : List Token} {y : TypeName} →
+        Is u symbol.OpenBracket →
+        IsType room ts y (v ∷ rest) →
+        Is v symbol.CloseBracket →
+        IsAggregate (suc room) (u ∷ ts) (tree.SetOf y) rest
+    -- [ x , y ]
+    map :
+        {room : ℕ} {u v w : Token} {ts us rest : List Token} {x y : TypeName} →
+        Is u symbol.OpenBracket →
+        IsType room ts x (v ∷ us) →
+        Is v symbol.Comma →
+        IsType room us y (w ∷ rest) →
+        Is w symbol.CloseBracket →
+        IsAggregate (suc room) (u ∷ ts) (tree.MapOf x y) rest
+    -- [ y ]
+    queue :
+        {room : ℕ} {u v : Token} {ts rest : List Token} {y : TypeName} →
+        Is u symbol.OpenBracket →
+        IsType room ts y (v ∷ rest) →
+        Is v symbol.CloseBracket →
+        IsAggregate (suc room) (u ∷ ts) (tree.QueueOf y) rest
 
 -- a chain of one operand is that operand; a chain has the place of its first operand
 abbrev pub chained : Level → Expr → Links → Expr
@@ -235,28 +251,14 @@ mutual
         IsType room ts y (v ∷ rest) →
         Is v symbol.CloseBracket →
         IsPrimary (suc room) (t ∷ u ∷ ts) (tree.None t.place y) rest
-    -- Set . empty [ y ]
-    empty_set :
-        {room : ℕ} {t d m u v : Token} {ts rest : List Token} {y : TypeName} →
-        IsNamed t (codes "Set") →
+    -- KIND . empty [ y .. ]
+    empty_aggregate :
+        {room : ℕ} {t d m : Token} {ts rest : List Token} {a : Aggregate} →
+        IsNamed t (kind_name (kind_in a)) →
         Is d symbol.Dot →
         IsNamed m (codes "empty") →
-        Is u symbol.OpenBracket →
-        IsType room ts y (v ∷ rest) →
-        Is v symbol.CloseBracket →
-        IsPrimary (suc room) (t ∷ d ∷ m ∷ u ∷ ts) (tree.EmptySet t.place y) rest
-    -- Map . empty [ x , y ]
-    empty_map :
-        {room : ℕ} {t d m u v w : Token} {ts us rest : List Token} {x y : TypeName} →
-        IsNamed t (codes "Map") →
-        Is d symbol.Dot →
-        IsNamed m (codes "empty") →
-        Is u symbol.OpenBracket →
-        IsType room ts x (v ∷ us) →
-        Is v symbol.Comma →
-        IsType room us y (w ∷ rest) →
-        Is w symbol.CloseBracket →
-        IsPrimary (suc room) (t ∷ d ∷ m ∷ u ∷ ts) (tree.EmptyMap t.place x y) rest
+        IsAggregate room ts a rest →
+        IsPrimary room (t ∷ d ∷ m ∷ ts) (tree.Empty t.place a) rest
 
   -- the arguments after the first
   pub data AreOthers : ℕ → List Token → Exprs → List Token → Type 0 where

@@ -1,5 +1,6 @@
 -- Which tokens are which.
 use Rattle.std.specs.Prelude.{ℕ, Bool, true, false, not, ◌&&◌, if◌then◌else◌, List, [], ◌∷◌, Option, Some, None, is_some, codes}
+use Rattle.std.specs.Option.{option_map}
 use Rattle.std.specs.Str.{bytes_eq}
 use Rattle.spec_lexer.specs.declared.token.Token.{Token}
 use Rattle.spec_lexer.specs.declared.token.TokenKind.{TokenKind}
@@ -7,6 +8,7 @@ use Rattle.spec_lexer.specs.declared.token.TokenKind.TheVariants as kind
 use Rattle.spec_lexer.specs.declared.token.Word.TheVariants as word
 use Rattle.spec_lexer.specs.declared.token.Symbol.{Symbol}
 use Rattle.spec_lexer.specs.declared.token.Symbol.TheVariants as symbol
+use Rattle.vocabulary.specs.Kinds.{kind_named}
 use Rattle.vocabulary.specs.Table.{family_of}
 use Rattle.syntax_tree.specs.declared.tree.Level.{Level}
 use Rattle.syntax_tree.specs.declared.tree.Level.TheVariants as level
@@ -120,11 +122,9 @@ type_word_of n =
     else if bytes_eq n (codes "Int") then Some type_word.Int
     else if bytes_eq n (codes "Bool") then Some type_word.Bool
     else if bytes_eq n (codes "String") then Some type_word.Text
-    else if bytes_eq n (codes "Set") then Some type_word.Set
-    else if bytes_eq n (codes "Map") then Some type_word.Map
     else if bytes_eq n (codes "Option") then Some type_word.Option
     else if bytes_eq n (codes "Events") then Some type_word.Events
-    else None
+    else option_map type_word.Of (kind_named n)
 
 -- the names after which a type may stand in brackets
 abbrev pub typed_word_of : List ℕ → Option TypedWord

@@ -5,9 +5,9 @@ ghost use Rattle.token_reader.specs.inner.Reader.{opened, many, with_list};
 ghost use Rattle.syntax_tree.specs.Tree as tree;
 ghost use Rattle.syntax_tree.specs.Tree.{place_of};
 ghost use Rattle.syntax_tree.specs.inner.OneLevel.{exprs_of, links_in};
-ghost use Rattle.spec_parser.specs.Words.{operator_at, comparison_at, opens_call, is_if, is_open_bracket};
+ghost use Rattle.spec_parser.specs.Words.{operator_at, comparison_at, opens_call, is_if};
 ghost use Rattle.spec_parser.specs.Grammar.{chained};
-ghost use Rattle.spec_parser.specs.inner.Reading.{must, in_brackets, two_in_brackets, type_in, typed_as, called_as, links_of};
+ghost use Rattle.spec_parser.specs.inner.Reading.{in_brackets, type_in, empty_after, typed_as, called_as, links_of};
 ghost use Rattle.spec_parser.specs.inner.Reading.{chain as reading_chain, others_of, arguments, a_member, must_call, name_or_call, negated};
 ghost use Rattle.spec_parser.specs.inner.Reading.{opposed};
 ghost use Rattle.spec_parser.specs.inner.Reading.{denied, in_parens, closed, unary_at, operand_at, after_sum, after_argument, if_false};
@@ -17,14 +17,15 @@ ghost use Rattle.syntax_tree.specs.inner.Joins.{join_exprs};
 
 use crate::mark::{Mark, fits, pass};
 use crate::stop::Stop;
-use crate::type_name::type_in_room;
+use crate::type_name::{aggregate, type_in_room};
 use crate::words::{Callee, Member, TypedWord, member_named, typed_word};
 use spec_lexer::token::{Symbol, Token, TokenKind, Word};
 use std::alloc::Global;
-use syntax_tree::tree::{Comparison, Expr, Level, Link, Node, Operator, TypeName};
+use syntax_tree::tree::{Comparison, Expr, Level, Link, Node, Operator};
 use tsl_value::place::Place;
 use tsl_value::text::Text;
 use vocabulary::dotted::{Dotted, Family, family_named};
+use vocabulary::kind::Kind;
 
 /// The operator of a level; a minus that is the first of its line is none.
 fn operator(level: Level, token: &Token) -> Option<Operator>
@@ -146,56 +147,18 @@ fn with_type(
     Ok((Expr::new(place, node), rest))
 }
 
-fn empty_set(
+/// An empty aggregate, after its name.
+fn empty(
     alloc: Global,
     room: u32,
     place: Place,
+    kind: Kind,
     tokens: &[Token],
 ) -> Result<(Expr, &[Token]), Stop<'_>>
-    ensures { Gives (λ x. (x.0, x.1.now)) result
-        (must is_open_bracket (opened room (in_brackets (type_in room) (tree.EmptySet place))) tokens.now) }
+    ensures { Gives (λ x. (x.0, x.1.now)) result (empty_after room (type_in room) place kind tokens.now) }
 {
-    let rest = pass(Mark::OpenBracket, tokens)?;
-    if room == 0 {
-        return Err(Stop::TooDeep(rest));
-    }
-    let (of, rest) = type_in_room(alloc, room, rest)?;
-    let rest = pass(Mark::CloseBracket, rest)?;
-    let node = Node::EmptySet(of);
-    Ok((Expr::new(place, node), rest))
-}
-
-fn empty_map(
-    alloc: Global,
-    room: u32,
-    place: Place,
-    tokens: &[Token],
-) -> Result<(Expr, &[Token]), Stop<'_>>
-    ensures { Gives (λ x. (x.0, x.1.now)) result
-        (must is_open_bracket (opened room (two_in_brackets (type_in room) (tree.EmptyMap place))) tokens.now) }
-{
-    let rest = pass(Mark::OpenBracket, tokens)?;
-    if room == 0 {
-        return Err(Stop::TooDeep(rest));
-    }
-    let (key, rest) = type_in_room(alloc, room, rest)?;
-    let rest = pass(Mark::Comma, rest)?;
-    map_after_key(alloc, room, place, key, rest)
-}
-
-fn map_after_key(
-    alloc: Global,
-    room: u32,
-    place: Place,
-    key: TypeName,
-    tokens: &[Token],
-) -> Result<(Expr, &[Token]), Stop<'_>>
-    ensures { Gives (λ x. (x.0, x.1.now)) result (in_brackets (type_in room) (tree.EmptyMap place key) tokens.now) }
-{
-    let (value, rest) = type_in_room(alloc, room, tokens)?;
-    let rest = pass(Mark::CloseBracket, rest)?;
-    let node = Node::EmptyMap(key, value);
-    Ok((Expr::new(place, node), rest))
+    let (of, rest) = aggregate(alloc, room, kind, tokens)?;
+    Ok((Expr::new(place, Node::Empty(of)), rest))
 }
 
 fn call_of(place: Place, callee: Callee, all: Vec<Expr>) -> Expr
@@ -548,8 +511,7 @@ fn member_after_dot(
         [token, rest @ ..] => match &token.kind {
             TokenKind::Name(name) => match member_named(family, name.as_str()) {
                 Some(Member::Called(function)) => call_dotted(alloc, room, place, function, rest),
-                Some(Member::EmptySet) => empty_set(alloc, room, place, rest),
-                Some(Member::EmptyMap) => empty_map(alloc, room, place, rest),
+                Some(Member::Empty(kind)) => empty(alloc, room, place, kind, rest),
                 None => Err(Stop::Unexpected(tokens)),
             },
             _ => Err(Stop::Unexpected(tokens)),

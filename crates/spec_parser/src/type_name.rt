@@ -3,8 +3,10 @@
 ghost use Rattle.std.specs.Prelude.{◌≡◌};
 ghost use Rattle.token_reader.specs.inner.Reader.{opened};
 ghost use Rattle.syntax_tree.specs.Tree as tree;
+ghost use Rattle.syntax_tree.specs.inner.OneLevel.{aggregate_in};
 ghost use Rattle.spec_parser.specs.Words.{is_open_bracket};
-ghost use Rattle.spec_parser.specs.inner.Reading.{must, in_brackets, two_in_brackets, a_type, type_after, type_in, wrapped};
+ghost use Rattle.spec_parser.specs.inner.Reading.{must, in_brackets, two_in_brackets, aggregate_of, an_aggregate};
+ghost use Rattle.spec_parser.specs.inner.Reading.{a_type, type_after, type_in, wrapped};
 ghost use Rattle.spec_parser.specs.inner.Gives.{Gives, IfOkOrMemory};
 
 use crate::mark::{Mark, pass};
@@ -12,8 +14,9 @@ use crate::stop::Stop;
 use crate::words::{TypeWord, Wrapper, type_word};
 use spec_lexer::token::{Token, TokenKind};
 use std::alloc::Global;
-use syntax_tree::tree::{TypeName, TypeShape};
+use syntax_tree::tree::{Aggregate, TypeName, TypeShape};
 use tsl_value::place::Place;
+use vocabulary::kind::Kind;
 
 #[cycle(type_name)]
 #[tactic(auto, unfolding(crate::specs::inner::Reading::type_in))]
@@ -62,8 +65,10 @@ fn after_word(
         TypeWord::Int => Ok((TypeName::new(place, TypeShape::Int), tokens)),
         TypeWord::Bool => Ok((TypeName::new(place, TypeShape::Bool), tokens)),
         TypeWord::Text => Ok((TypeName::new(place, TypeShape::Text), tokens)),
-        TypeWord::Set => with_one(alloc, room, place, Wrapper::Set, tokens),
-        TypeWord::Map => map_of(alloc, room, place, tokens),
+        TypeWord::Of(kind) => {
+            let (of, rest) = aggregate(alloc, room, kind, tokens)?;
+            Ok((TypeName::new(place, TypeShape::Aggregate(of)), rest))
+        }
         TypeWord::Option => with_one(alloc, room, place, Wrapper::Option, tokens),
         TypeWord::Events => with_one(alloc, room, place, Wrapper::Events, tokens),
     }
@@ -79,22 +84,9 @@ fn wrap(
 {
     let inner = Box::new(alloc, inner)?;
     let shape = match wrapper {
-        Wrapper::Set => TypeShape::Set(inner),
         Wrapper::Option => TypeShape::Option(inner),
         Wrapper::Events => TypeShape::Events(inner),
     };
-    Ok(TypeName::new(place, shape))
-}
-
-fn map(
-    alloc: Global,
-    place: Place,
-    key: TypeName,
-    value: TypeName,
-) -> Result<TypeName, Stop<'static>>
-    ensures { IfOkOrMemory result (λ t. t ≡ tree.MapType place key value) }
-{
-    let shape = TypeShape::Map(Box::new(alloc, key)?, Box::new(alloc, value)?);
     Ok(TypeName::new(place, shape))
 }
 
@@ -133,50 +125,83 @@ fn one_inside(
     Ok((whole, rest))
 }
 
-/// A map's type after its word.
+/// What stands in brackets after the name of a kind.
 #[cycle(type_name)]
-fn map_of(
+pub(crate) fn aggregate(
     alloc: Global,
     room: u32,
-    place: Place,
+    kind: Kind,
     tokens: &[Token],
-) -> Result<(TypeName, &[Token]), Stop<'_>>
-    ensures { Gives (λ x. (x.0, x.1.now)) result
-        (must is_open_bracket (opened room (two_in_brackets (type_in room) (tree.MapType place))) tokens.now) }
+) -> Result<(Aggregate, &[Token]), Stop<'_>>
+    ensures { Gives (λ x. (aggregate_in x.0, x.1.now)) result (an_aggregate room (type_in room) kind tokens.now) }
 {
     let rest = pass(Mark::OpenBracket, tokens)?;
-    key_inside(alloc, room, place, rest)
+    aggregate_inside(alloc, room, kind, rest)
 }
 
 #[cycle(type_name)]
-fn key_inside(
+fn aggregate_inside(
     alloc: Global,
     room: u32,
-    place: Place,
+    kind: Kind,
     tokens: &[Token],
-) -> Result<(TypeName, &[Token]), Stop<'_>>
-    ensures { Gives (λ x. (x.0, x.1.now)) result (opened room (two_in_brackets (type_in room) (tree.MapType place)) tokens.now) }
+) -> Result<(Aggregate, &[Token]), Stop<'_>>
+    ensures { Gives (λ x. (aggregate_in x.0, x.1.now)) result (opened room (aggregate_of (type_in room) kind) tokens.now) }
 {
     if room == 0 {
         return Err(Stop::TooDeep(tokens));
     }
-    let (key, rest) = type_in_room(alloc, room, tokens)?;
-    let rest = pass(Mark::Comma, rest)?;
-    value_inside(alloc, room, place, key, rest)
+    match kind {
+        Kind::Set => set_of(alloc, room, tokens),
+        Kind::Map => map_of(alloc, room, tokens),
+        Kind::Queue => queue_of(alloc, room, tokens),
+    }
 }
 
 #[cycle(type_name)]
-fn value_inside(
+fn set_of(alloc: Global, room: u32, tokens: &[Token]) -> Result<(Aggregate, &[Token]), Stop<'_>>
+    ensures { Gives (λ x. (aggregate_in x.0, x.1.now)) result (in_brackets (type_in room) tree.SetOf tokens.now) }
+{
+    let (key, rest) = type_in_room(alloc, room, tokens)?;
+    let rest = pass(Mark::CloseBracket, rest)?;
+    Ok((Aggregate::Set(Box::new(alloc, key)?), rest))
+}
+
+#[cycle(type_name)]
+fn queue_of(alloc: Global, room: u32, tokens: &[Token]) -> Result<(Aggregate, &[Token]), Stop<'_>>
+    ensures { Gives (λ x. (aggregate_in x.0, x.1.now)) result (in_brackets (type_in room) tree.QueueOf tokens.now) }
+{
+    let (of, rest) = type_in_room(alloc, room, tokens)?;
+    let rest = pass(Mark::CloseBracket, rest)?;
+    Ok((Aggregate::Queue(Box::new(alloc, of)?), rest))
+}
+
+#[cycle(type_name)]
+fn map_of(alloc: Global, room: u32, tokens: &[Token]) -> Result<(Aggregate, &[Token]), Stop<'_>>
+    ensures { Gives (λ x. (aggregate_in x.0, x.1.now)) result (two_in_brackets (type_in room) tree.MapOf tokens.now) }
+{
+    let (key, rest) = type_in_room(alloc, room, tokens)?;
+    let rest = pass(Mark::Comma, rest)?;
+    map_after_key(alloc, room, key, rest)
+}
+
+#[cycle(type_name)]
+fn map_after_key(
     alloc: Global,
     room: u32,
-    place: Place,
     key: TypeName,
     tokens: &[Token],
-) -> Result<(TypeName, &[Token]), Stop<'_>>
-    ensures { Gives (λ x. (x.0, x.1.now)) result (in_brackets (type_in room) (tree.MapType place key) tokens.now) }
+) -> Result<(Aggregate, &[Token]), Stop<'_>>
+    ensures { Gives (λ x. (aggregate_in x.0, x.1.now)) result (in_brackets (type_in room) (tree.MapOf key) tokens.now) }
 {
     let (value, rest) = type_in_room(alloc, room, tokens)?;
     let rest = pass(Mark::CloseBracket, rest)?;
-    let whole = map(alloc, place, key, value)?;
+    let whole = map(alloc, key, value)?;
     Ok((whole, rest))
+}
+
+fn map(alloc: Global, key: TypeName, value: TypeName) -> Result<Aggregate, Stop<'static>>
+    ensures { IfOkOrMemory result (λ a. aggregate_in a ≡ tree.MapOf key value) }
+{
+    Ok(Aggregate::Map(Box::new(alloc, key)?, Box::new(alloc, value)?))
 }

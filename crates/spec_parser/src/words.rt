@@ -6,6 +6,7 @@ ghost use Rattle.spec_parser.specs.inner.Reading.{empty_member, member_of};
 
 use tsl_value::text::Text;
 use vocabulary::dotted::{Dotted, Family, dotted_named};
+use vocabulary::kind::{Kind, kind_named};
 
 /// The names of types.
 #[derive(Clone, Copy, PartialEq, Eq, Debug)]
@@ -14,8 +15,7 @@ pub(crate) enum TypeWord {
     Int,
     Bool,
     Text,
-    Set,
-    Map,
+    Of(Kind),
     Option,
     Events,
 }
@@ -27,10 +27,9 @@ pub(crate) enum TypedWord {
     None,
 }
 
-/// The types with one type in their brackets.
+/// The types of one type in brackets that are no aggregates.
 #[derive(Clone, Copy, PartialEq, Eq, Debug)]
 pub(crate) enum Wrapper {
-    Set,
     Option,
     Events,
 }
@@ -45,8 +44,7 @@ pub(crate) enum Callee {
 /// What the name after a dot stands for.
 #[derive(Clone, Copy, PartialEq, Eq, Debug)]
 pub(crate) enum Member {
-    EmptySet,
-    EmptyMap,
+    Empty(Kind),
     Called(Dotted),
 }
 
@@ -61,16 +59,15 @@ pub(crate) fn type_word(name: &str) -> Option<TypeWord>
         Some(TypeWord::Bool)
     } else if name == "String" {
         Some(TypeWord::Text)
-    } else if name == "Set" {
-        Some(TypeWord::Set)
-    } else if name == "Map" {
-        Some(TypeWord::Map)
     } else if name == "Option" {
         Some(TypeWord::Option)
     } else if name == "Events" {
         Some(TypeWord::Events)
     } else {
-        None
+        match kind_named(name) {
+            Some(kind) => Some(TypeWord::Of(kind)),
+            None => None,
+        }
     }
 }
 
@@ -86,14 +83,13 @@ pub(crate) fn typed_word(name: &str) -> Option<TypedWord>
     }
 }
 
-/// An empty set or an empty map.
+/// An empty aggregate.
 fn empty_member(family: Family, name: &str) -> Option<Member>
     ensures { result ≡ empty_member family name.now }
 {
     if name == "empty" {
         match family {
-            Family::Set => Some(Member::EmptySet),
-            Family::Map => Some(Member::EmptyMap),
+            Family::Of(kind) => Some(Member::Empty(kind)),
             Family::Text => None,
         }
     } else {

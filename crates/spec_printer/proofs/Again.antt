@@ -10,19 +10,20 @@ use Rattle.syntax_tree.specs.declared.tree.Level.{Level}
 use Rattle.syntax_tree.specs.declared.tree.Level.TheVariants as level
 use Rattle.syntax_tree.specs.declared.tree.Operator.{Operator}
 use Rattle.syntax_tree.specs.declared.tree.Comparison.{Comparison}
+use Rattle.vocabulary.specs.Kinds.{kind_name}
 use Rattle.syntax_tree.specs.Tree as tree
-use Rattle.syntax_tree.specs.Tree.{TypeName, Expr, Exprs, no_exprs, more_exprs, Links, no_links, more_links, place_of}
+use Rattle.syntax_tree.specs.Tree.{TypeName, Aggregate, kind_in, Expr, Exprs, no_exprs, more_exprs, Links, no_links, more_links, place_of}
 use Rattle.spec_parser.specs.Words.{operator_at, comparison_at, opens_call, is_number, is_comma}
 use Rattle.syntax_tree.specs.Levels.{level_of}
 use Rattle.spec_parser.specs.Grammar as grammar
-use Rattle.spec_parser.specs.Grammar.{Is, IsPast, IsType, IsExpr, IsLevel, AreLinks, IsOperand, IsUnary, IsPrimary, AreOthers}
-use Rattle.spec_printer.specs.inner.Same.{nowhere, bare_type, bare, bare_exprs, bare_links}
+use Rattle.spec_parser.specs.Grammar.{Is, IsPast, IsType, IsAggregate, IsExpr, IsLevel, AreLinks, IsOperand, IsUnary, IsPrimary, AreOthers}
+use Rattle.spec_printer.specs.inner.Same.{nowhere, bare_type, bare_aggregate, bare, bare_exprs, bare_links}
 use Rattle.spec_printer.specs.inner.Marks as mark
 use Rattle.spec_printer.specs.inner.Marks.{Mark, token, line_end}
 use Rattle.spec_printer.specs.inner.Follow.{Follow, next_token, next_line}
-use Rattle.spec_printer.specs.inner.Print.{type_marks, bracketed, both_bracketed, level_strength, strength, least_operand, least_negated, operator_symbol, comparison_symbol, holds, enclosed, operand_marks, expr_marks, expr_marks_after, link_marks}
+use Rattle.spec_printer.specs.inner.Print.{type_marks, aggregate_marks, bracketed, both_bracketed, level_strength, strength, least_operand, least_negated, operator_symbol, comparison_symbol, holds, enclosed, operand_marks, expr_marks, expr_marks_after, link_marks}
 use Rattle.spec_printer.proofs.Fits as fits
-use Rattle.spec_printer.proofs.Fits.{FitsType, Fits, FitsAt, FitExprs, FitLinks}
+use Rattle.spec_printer.proofs.Fits.{FitsType, FitsAggregate, Fits, FitsAt, FitExprs, FitLinks}
 use Rattle.spec_printer.proofs.Behind.{strength_after, next_strength, follow_strength, past_level, past_comparison, past_name, operator_again, operator_symbol_strength, comparison_again, comparison_symbol_strength}
 
 pub regroup : {first : Bool} (a b c : List Mark) {ts : List Token} → Follow first ((a ++ b) ++ c) ts → Follow first (a ++ (b ++ c)) ts
@@ -62,27 +63,49 @@ with_both {room = room} x y left right ms P f = with_token P (λ u ts opening fi
     with_token (λ rest. IsType room us d.0 rest → P (u ∷ ts)) (λ w rest close first h more. f u v w ts us rest c.0 d.0 opening reads comma more close c.3 d.3 h) d.1 d.4 d.2)
     c.1 c.4 c.2)
 
-pub type_again : {room : ℕ} {y : TypeName} → FitsType room y → TypeReturns room y
-type_again {room = room} {y = y} fits.unit ms = with_token (λ ts. TypeComes room ts y ms) (λ t rest is first h. (tree.UnitType t.place, rest, grammar.unit is, refl, h))
-type_again {room = room} {y = y} fits.int ms = with_token (λ ts. TypeComes room ts y ms) (λ t rest is first h. (tree.IntType t.place, rest, grammar.int is, refl, h))
-type_again {room = room} {y = y} fits.bool ms = with_token (λ ts. TypeComes room ts y ms) (λ t rest is first h. (tree.BoolType t.place, rest, grammar.bool is, refl, h))
-type_again {room = room} {y = y} fits.string ms = with_token (λ ts. TypeComes room ts y ms) (λ t rest is first h. (tree.TextType t.place, rest, grammar.string is, refl, h))
-type_again (fits.set {room = room} {p = p} {y = y} f) ms =
-    with_token (λ ts. TypeComes (suc room) ts (tree.SetType p y) ms) (λ t ts is first.
-    with_bracketed y (type_again f) ms (λ ts. TypeComes (suc room) (t ∷ ts) (tree.SetType p y) ms) (λ u v ts rest again opening reads close same h.
-    (tree.SetType t.place again, rest, grammar.set is opening reads close, ap (tree.SetType nowhere) same, h)) ts)
-type_again (fits.option {room = room} {p = p} {y = y} f) ms =
-    with_token (λ ts. TypeComes (suc room) ts (tree.OptionType p y) ms) (λ t ts is first.
-    with_bracketed y (type_again f) ms (λ ts. TypeComes (suc room) (t ∷ ts) (tree.OptionType p y) ms) (λ u v ts rest again opening reads close same h.
-    (tree.OptionType t.place again, rest, grammar.option is opening reads close, ap (tree.OptionType nowhere) same, h)) ts)
-type_again (fits.events {room = room} {p = p} {y = y} f) ms =
-    with_token (λ ts. TypeComes (suc room) ts (tree.EventsType p y) ms) (λ t ts is first.
-    with_bracketed y (type_again f) ms (λ ts. TypeComes (suc room) (t ∷ ts) (tree.EventsType p y) ms) (λ u v ts rest again opening reads close same h.
-    (tree.EventsType t.place again, rest, grammar.events is opening reads close, ap (tree.EventsType nowhere) same, h)) ts)
-type_again (fits.map {room = room} {p = p} {x = x} {y = y} f g) ms =
-    with_token (λ ts. TypeComes (suc room) ts (tree.MapType p x y) ms) (λ t ts is first.
-    with_both x y (type_again f) (type_again g) ms (λ ts. TypeComes (suc room) (t ∷ ts) (tree.MapType p x y) ms) (λ u v w ts us rest a b opening reads comma more close left right h.
-    (tree.MapType t.place a b, rest, grammar.map is opening reads comma more close, (λ i. tree.MapType nowhere (left i) (right i)), h)) ts)
+abbrev AggregateComes : ℕ → List Token → Aggregate → List Mark → Type 0
+AggregateComes room ts a ms = (again : Aggregate) × (rest : List Token) × IsAggregate room ts again rest × (bare_aggregate again ≡ bare_aggregate a) × Follow false ms rest
+
+abbrev AggregateReturns : ℕ → Aggregate → Type 0
+AggregateReturns room a = (ms : List Mark) (ts : List Token) → Follow false (aggregate_marks a ++ ms) ts → AggregateComes room ts a ms
+
+-- a place changes no kind
+bare_kind : (a : Aggregate) → kind_in (bare_aggregate a) ≡ kind_in a
+bare_kind (tree.SetOf y) = refl
+bare_kind a = refl
+
+named_again : (a again : Aggregate) → bare_aggregate again ≡ bare_aggregate a → kind.Name (kind_name (kind_in a)) ≡ kind.Name (kind_name (kind_in again))
+named_again a again same = ap (λ g. kind.Name (kind_name g)) (sym (bare_kind a) ∙ ap kind_in (sym same) ∙ bare_kind again)
+
+mutual
+  pub type_again : {room : ℕ} {y : TypeName} → FitsType room y → TypeReturns room y
+  type_again {room = room} {y = y} fits.unit ms = with_token (λ ts. TypeComes room ts y ms) (λ t rest is first h. (tree.UnitType t.place, rest, grammar.unit is, refl, h))
+  type_again {room = room} {y = y} fits.int ms = with_token (λ ts. TypeComes room ts y ms) (λ t rest is first h. (tree.IntType t.place, rest, grammar.int is, refl, h))
+  type_again {room = room} {y = y} fits.bool ms = with_token (λ ts. TypeComes room ts y ms) (λ t rest is first h. (tree.BoolType t.place, rest, grammar.bool is, refl, h))
+  type_again {room = room} {y = y} fits.string ms = with_token (λ ts. TypeComes room ts y ms) (λ t rest is first h. (tree.TextType t.place, rest, grammar.string is, refl, h))
+  type_again (fits.aggregate {room = room} {p = p} {a = a} f) ms =
+      with_token (λ ts. TypeComes room ts (tree.AggregateType p a) ms) (λ t ts is first h.
+      let c = aggregate_again f ms ts h in
+      (tree.AggregateType t.place c.0, c.1, grammar.aggregate (is ∙ named_again a c.0 c.3) c.2, ap (tree.AggregateType nowhere) c.3, c.4))
+  type_again (fits.option {room = room} {p = p} {y = y} f) ms =
+      with_token (λ ts. TypeComes (suc room) ts (tree.OptionType p y) ms) (λ t ts is first.
+      with_bracketed y (type_again f) ms (λ ts. TypeComes (suc room) (t ∷ ts) (tree.OptionType p y) ms) (λ u v ts rest again opening reads close same h.
+      (tree.OptionType t.place again, rest, grammar.option is opening reads close, ap (tree.OptionType nowhere) same, h)) ts)
+  type_again (fits.events {room = room} {p = p} {y = y} f) ms =
+      with_token (λ ts. TypeComes (suc room) ts (tree.EventsType p y) ms) (λ t ts is first.
+      with_bracketed y (type_again f) ms (λ ts. TypeComes (suc room) (t ∷ ts) (tree.EventsType p y) ms) (λ u v ts rest again opening reads close same h.
+      (tree.EventsType t.place again, rest, grammar.events is opening reads close, ap (tree.EventsType nowhere) same, h)) ts)
+
+  aggregate_again : {room : ℕ} {a : Aggregate} → FitsAggregate room a → AggregateReturns room a
+  aggregate_again (fits.set {room = room} {y = y} f) ms =
+      with_bracketed y (type_again f) ms (λ ts. AggregateComes (suc room) ts (tree.SetOf y) ms) (λ u v ts rest again opening reads close same h.
+      (tree.SetOf again, rest, grammar.set opening reads close, ap tree.SetOf same, h))
+  aggregate_again (fits.queue {room = room} {y = y} f) ms =
+      with_bracketed y (type_again f) ms (λ ts. AggregateComes (suc room) ts (tree.QueueOf y) ms) (λ u v ts rest again opening reads close same h.
+      (tree.QueueOf again, rest, grammar.queue opening reads close, ap tree.QueueOf same, h))
+  aggregate_again (fits.map {room = room} {x = x} {y = y} f g) ms =
+      with_both x y (type_again f) (type_again g) ms (λ ts. AggregateComes (suc room) ts (tree.MapOf x y) ms) (λ u v w ts us rest a b opening reads comma more close left right h.
+      (tree.MapOf a b, rest, grammar.map opening reads comma more close, (λ i. tree.MapOf (left i) (right i)), h))
 
 -- ---- places of expressions, by strength
 abbrev pub Reads : ℕ → ℕ → List Token → Expr → List Token → Type 0
@@ -253,8 +276,7 @@ no_number (tree.Call p n es) true is ms ts h = begins_otherwise refl ts h
 no_number (tree.CallDotted p d es) true is ms ts h = begins_otherwise refl ts h
 no_number (tree.Nil p y) true is ms ts h = begins_otherwise refl ts h
 no_number (tree.None p y) true is ms ts h = begins_otherwise refl ts h
-no_number (tree.EmptySet p y) true is ms ts h = begins_otherwise refl ts h
-no_number (tree.EmptyMap p x y) true is ms ts h = begins_otherwise refl ts h
+no_number (tree.Empty p a) true is ms ts h = begins_otherwise refl ts h
 
 negated_strong : (e : Expr) → (6 ≤ least_negated e) × (least_negated e ≤ 8)
 negated_strong (tree.Number p n) = (omega arith, omega arith)
@@ -272,8 +294,7 @@ negated_strong (tree.Call p n es) = (omega arith, omega arith)
 negated_strong (tree.CallDotted p d es) = (omega arith, omega arith)
 negated_strong (tree.Nil p y) = (omega arith, omega arith)
 negated_strong (tree.None p y) = (omega arith, omega arith)
-negated_strong (tree.EmptySet p y) = (omega arith, omega arith)
-negated_strong (tree.EmptyMap p x y) = (omega arith, omega arith)
+negated_strong (tree.Empty p a) = (omega arith, omega arith)
 
 negate_again : {room : ℕ} (p : _) (e : Expr) → Returns (least_negated e) room (operand_marks (least_negated e) e) e → Returns 6 (suc room) (expr_marks (tree.Negate p e)) (tree.Negate p e)
 negate_again {room = room} p e back first ms ts k h = with_token (λ ts. Comes (IsUnary (suc room)) ts (tree.Negate p e) ms) (λ t ts is first h.
@@ -328,21 +349,13 @@ none_again {room = room} p y f first ms ts k h =
     with_bracketed y (type_again f) ms (λ ts. Comes (IsPrimary (suc room)) (t ∷ ts) (tree.None p y) ms) (λ u v ts rest again opening reads close same h.
     (tree.None t.place again, rest, grammar.none is opening reads close, ap (tree.None nowhere) same, h)) ts) ts h
 
-empty_set_again : {room : ℕ} (p : _) (y : TypeName) → FitsType room y → Returns 7 (suc room) (expr_marks (tree.EmptySet p y)) (tree.EmptySet p y)
-empty_set_again {room = room} p y f first ms ts k h =
-    with_token (λ ts. Comes (IsPrimary (suc room)) ts (tree.EmptySet p y) ms) (λ t ts is first h.
-    with_token (λ ts. Comes (IsPrimary (suc room)) (t ∷ ts) (tree.EmptySet p y) ms) (λ d ts dot first h.
-    with_token (λ ts. Comes (IsPrimary (suc room)) (t ∷ d ∷ ts) (tree.EmptySet p y) ms) (λ m ts member first.
-    with_bracketed y (type_again f) ms (λ ts. Comes (IsPrimary (suc room)) (t ∷ d ∷ m ∷ ts) (tree.EmptySet p y) ms) (λ u v ts rest again opening reads close same h.
-    (tree.EmptySet t.place again, rest, grammar.empty_set is dot member opening reads close, ap (tree.EmptySet nowhere) same, h)) ts) ts h) ts h) ts h
-
-empty_map_again : {room : ℕ} (p : _) (x y : TypeName) → FitsType room x → FitsType room y → Returns 7 (suc room) (expr_marks (tree.EmptyMap p x y)) (tree.EmptyMap p x y)
-empty_map_again {room = room} p x y f g first ms ts k h =
-    with_token (λ ts. Comes (IsPrimary (suc room)) ts (tree.EmptyMap p x y) ms) (λ t ts is first h.
-    with_token (λ ts. Comes (IsPrimary (suc room)) (t ∷ ts) (tree.EmptyMap p x y) ms) (λ d ts dot first h.
-    with_token (λ ts. Comes (IsPrimary (suc room)) (t ∷ d ∷ ts) (tree.EmptyMap p x y) ms) (λ m ts member first.
-    with_both x y (type_again f) (type_again g) ms (λ ts. Comes (IsPrimary (suc room)) (t ∷ d ∷ m ∷ ts) (tree.EmptyMap p x y) ms) (λ u v w ts us rest a b opening reads comma more close left right h.
-    (tree.EmptyMap t.place a b, rest, grammar.empty_map is dot member opening reads comma more close, (λ i. tree.EmptyMap nowhere (left i) (right i)), h)) ts) ts h) ts h) ts h
+empty_again : {room : ℕ} (p : _) (a : Aggregate) → FitsAggregate room a → Returns 7 room (expr_marks (tree.Empty p a)) (tree.Empty p a)
+empty_again {room = room} p a f first ms ts k h =
+    with_token (λ ts. Comes (IsPrimary room) ts (tree.Empty p a) ms) (λ t ts is first h.
+    with_token (λ ts. Comes (IsPrimary room) (t ∷ ts) (tree.Empty p a) ms) (λ d ts dot first h.
+    with_token (λ ts. Comes (IsPrimary room) (t ∷ d ∷ ts) (tree.Empty p a) ms) (λ m ts member first h.
+    let c = aggregate_again f ms ts h in
+    (tree.Empty t.place c.0, c.1, grammar.empty_aggregate (is ∙ named_again a c.0 c.3) dot member c.2, ap (tree.Empty nowhere) c.3, c.4)) ts h) ts h) ts h
 
 -- ---- arguments
 abbrev OthersCome : ℕ → List Token → Exprs → List Mark → Type 0
@@ -419,8 +432,7 @@ mutual
   node_again (fits.call_dotted {p = p} {d = d} {e = e} {es = es} f g) = call_dotted_again p d e es (alone e (node_again f)) (others_again g)
   node_again (fits.nil {p = p} {y = y} f) = nil_again p y f
   node_again (fits.none {p = p} {y = y} f) = none_again p y f
-  node_again (fits.empty_set {p = p} {y = y} f) = empty_set_again p y f
-  node_again (fits.empty_map {p = p} {x = x} {y = y} f g) = empty_map_again p x y f g
+  node_again (fits.empty {p = p} {a = a} f) = empty_again p a f
 
   operand_again : (least : ℕ) → least ≤ 8 → {room : ℕ} {e : Expr} → FitsAt least room e → Returns least room (operand_marks least e) e
   operand_again least small (fits.as_it_is {room = room} {e = e} h f) =

@@ -17,8 +17,7 @@ type_marks_anywhere p q shape.Unit = refl
 type_marks_anywhere p q shape.Int = refl
 type_marks_anywhere p q shape.Bool = refl
 type_marks_anywhere p q shape.Text = refl
-type_marks_anywhere p q (shape.Set y) = refl
-type_marks_anywhere p q (shape.Map x y) = refl
+type_marks_anywhere p q (shape.Aggregate a) = refl
 type_marks_anywhere p q (shape.Option y) = refl
 type_marks_anywhere p q (shape.Events y) = refl
 
@@ -38,8 +37,7 @@ expr_marks_anywhere p q (node.Call a b) = refl
 expr_marks_anywhere p q (node.CallDotted a b) = refl
 expr_marks_anywhere p q (node.Nil a) = refl
 expr_marks_anywhere p q (node.None a) = refl
-expr_marks_anywhere p q (node.EmptySet a) = refl
-expr_marks_anywhere p q (node.EmptyMap a b) = refl
+expr_marks_anywhere p q (node.Empty a) = refl
 
 -- what is printed of the one level of a type, and of an expression
 pub marks_of_shape : (y : TypeName) (s : TypeShape) → type_of (type_place y) s ≡ y → type_marks y ≡ shape_marks s
@@ -54,8 +52,7 @@ type_size_anywhere p q shape.Unit = refl
 type_size_anywhere p q shape.Int = refl
 type_size_anywhere p q shape.Bool = refl
 type_size_anywhere p q shape.Text = refl
-type_size_anywhere p q (shape.Set y) = refl
-type_size_anywhere p q (shape.Map x y) = refl
+type_size_anywhere p q (shape.Aggregate a) = refl
 type_size_anywhere p q (shape.Option y) = refl
 type_size_anywhere p q (shape.Events y) = refl
 

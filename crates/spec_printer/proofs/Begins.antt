@@ -49,8 +49,7 @@ begins (tree.Call p n es) = begins_as _ _ refl refl
 begins (tree.CallDotted p d es) = begins_as _ _ refl refl
 begins (tree.Nil p y) = begins_as _ _ refl refl
 begins (tree.None p y) = begins_as _ _ refl refl
-begins (tree.EmptySet p y) = begins_as _ _ refl refl
-begins (tree.EmptyMap p x y) = begins_as _ _ refl refl
+begins (tree.Empty p a) = begins_as _ _ refl refl
 
 pub begins_weak : (ms ns : List Mark) → Begins ms → strength_after true (ms ++ ns) < 1
 begins_weak ms ns h = let none : strength_after true (ms ++ ns) ≡ 0 = ap (λ l. strength_after true (l ++ ns)) h.is ∙ h.weak in omega (arith, none)

@@ -8,20 +8,25 @@ use Rattle.syntax_tree.specs.declared.tree.Comparison.{Comparison}
 use Rattle.vocabulary.specs.declared.dotted.Dotted.{Dotted}
 use Rattle.tsl_value.specs.declared.place.Place.{Place}
 use Rattle.syntax_tree.specs.Tree as tree
-use Rattle.syntax_tree.specs.Tree.{TypeName, Expr, Exprs, no_exprs, more_exprs, Links, no_links, more_links, Param, Body, Definitions, no_definitions, more_definitions, Item}
+use Rattle.syntax_tree.specs.Tree.{TypeName, Aggregate, Expr, Exprs, no_exprs, more_exprs, Links, no_links, more_links, Param, Body, Definitions, no_definitions, more_definitions, Item}
 use Rattle.syntax_tree.specs.Levels.{level_of}
 use Rattle.spec_printer.specs.inner.Print.{least_operand, least_negated, holds}
 use Rattle.spec_printer.proofs.Printable.{Printable}
 
-pub data FitsType : ℕ → TypeName → Type 0 where
-  unit : {room : ℕ} {p : Place} → FitsType room (tree.UnitType p)
-  int : {room : ℕ} {p : Place} → FitsType room (tree.IntType p)
-  bool : {room : ℕ} {p : Place} → FitsType room (tree.BoolType p)
-  string : {room : ℕ} {p : Place} → FitsType room (tree.TextType p)
-  set : {room : ℕ} {p : Place} {y : TypeName} → FitsType room y → FitsType (suc room) (tree.SetType p y)
-  map : {room : ℕ} {p : Place} {x y : TypeName} → FitsType room x → FitsType room y → FitsType (suc room) (tree.MapType p x y)
-  option : {room : ℕ} {p : Place} {y : TypeName} → FitsType room y → FitsType (suc room) (tree.OptionType p y)
-  events : {room : ℕ} {p : Place} {y : TypeName} → FitsType room y → FitsType (suc room) (tree.EventsType p y)
+mutual
+  pub data FitsType : ℕ → TypeName → Type 0 where
+    unit : {room : ℕ} {p : Place} → FitsType room (tree.UnitType p)
+    int : {room : ℕ} {p : Place} → FitsType room (tree.IntType p)
+    bool : {room : ℕ} {p : Place} → FitsType room (tree.BoolType p)
+    string : {room : ℕ} {p : Place} → FitsType room (tree.TextType p)
+    aggregate : {room : ℕ} {p : Place} {a : Aggregate} → FitsAggregate room a → FitsType room (tree.AggregateType p a)
+    option : {room : ℕ} {p : Place} {y : TypeName} → FitsType room y → FitsType (suc room) (tree.OptionType p y)
+    events : {room : ℕ} {p : Place} {y : TypeName} → FitsType room y → FitsType (suc room) (tree.EventsType p y)
+
+  pub data FitsAggregate : ℕ → Aggregate → Type 0 where
+    set : {room : ℕ} {y : TypeName} → FitsType room y → FitsAggregate (suc room) (tree.SetOf y)
+    map : {room : ℕ} {x y : TypeName} → FitsType room x → FitsType room y → FitsAggregate (suc room) (tree.MapOf x y)
+    queue : {room : ℕ} {y : TypeName} → FitsType room y → FitsAggregate (suc room) (tree.QueueOf y)
 
 mutual
   pub data Fits : ℕ → Expr → Type 0 where
@@ -40,8 +45,7 @@ mutual
     call_dotted : {room : ℕ} {p : Place} {d : Dotted} {e : Expr} {es : Exprs} → Fits room e → FitExprs room es → Fits (suc room) (tree.CallDotted p d (more_exprs e es))
     nil : {room : ℕ} {p : Place} {y : TypeName} → FitsType room y → Fits (suc room) (tree.Nil p y)
     none : {room : ℕ} {p : Place} {y : TypeName} → FitsType room y → Fits (suc room) (tree.None p y)
-    empty_set : {room : ℕ} {p : Place} {y : TypeName} → FitsType room y → Fits (suc room) (tree.EmptySet p y)
-    empty_map : {room : ℕ} {p : Place} {x y : TypeName} → FitsType room x → FitsType room y → Fits (suc room) (tree.EmptyMap p x y)
+    empty : {room : ℕ} {p : Place} {a : Aggregate} → FitsAggregate room a → Fits room (tree.Empty p a)
 
   -- as an operand: as it is, or in parentheses
   pub data FitsAt : ℕ → ℕ → Expr → Type 0 where

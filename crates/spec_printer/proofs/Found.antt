@@ -5,27 +5,32 @@ use Rattle.spec_lexer.specs.declared.token.Token.{Token}
 use Rattle.spec_lexer.specs.declared.token.TokenKind.TheVariants as kind
 use Rattle.syntax_tree.specs.declared.tree.Level.{Level}
 use Rattle.syntax_tree.specs.Tree as tree
-use Rattle.syntax_tree.specs.Tree.{TypeName, Expr, Exprs, Links, no_links, more_links, Param, Body, Definitions, Item}
+use Rattle.syntax_tree.specs.Tree.{TypeName, Aggregate, Expr, Exprs, Links, no_links, more_links, Param, Body, Definitions, Item}
 use Rattle.spec_parser.specs.Words.{is_number}
 use Rattle.spec_parser.specs.Grammar as grammar
-use Rattle.spec_parser.specs.Grammar.{IsPast, IsType, chained, IsExpr, IsLevel, AreLinks, IsOperand, IsUnary, IsPrimary, AreOthers, IsParam, AreOtherParams, MayHaveParams, MayHaveType, IsBody, AreDefinitions, IsItem, Spells}
+use Rattle.spec_parser.specs.Grammar.{IsPast, IsType, IsAggregate, chained, IsExpr, IsLevel, AreLinks, IsOperand, IsUnary, IsPrimary, AreOthers, IsParam, AreOtherParams, MayHaveParams, MayHaveType, IsBody, AreDefinitions, IsItem, Spells}
 use Rattle.spec_parser.proofs.Operators.{operator_level}
 use Rattle.spec_printer.specs.inner.Print.{level_strength, strength, least_operand, least_negated, holds}
 use Rattle.spec_printer.proofs.Printable.{Printable}
 use Rattle.spec_printer.proofs.Lexing.{TokensPrintable}
 use Rattle.spec_printer.proofs.Fits as fits
-use Rattle.spec_printer.proofs.Fits.{FitsType, Fits, FitsAt, FitExprs, FitLinks, FitsParam, FitParams, MayFitParams, MayFitType, FitsBody, FitDefinitions, FitsItem, FitItems}
+use Rattle.spec_printer.proofs.Fits.{FitsType, FitsAggregate, Fits, FitsAt, FitExprs, FitLinks, FitsParam, FitParams, MayFitParams, MayFitType, FitsBody, FitDefinitions, FitsItem, FitItems}
 
 -- ---- more levels
-more_room_type : {room : ℕ} {y : TypeName} → FitsType room y → FitsType (suc room) y
-more_room_type fits.unit = fits.unit
-more_room_type fits.int = fits.int
-more_room_type fits.bool = fits.bool
-more_room_type fits.string = fits.string
-more_room_type (fits.set y) = fits.set (more_room_type y)
-more_room_type (fits.map x y) = fits.map (more_room_type x) (more_room_type y)
-more_room_type (fits.option y) = fits.option (more_room_type y)
-more_room_type (fits.events y) = fits.events (more_room_type y)
+mutual
+  more_room_type : {room : ℕ} {y : TypeName} → FitsType room y → FitsType (suc room) y
+  more_room_type fits.unit = fits.unit
+  more_room_type fits.int = fits.int
+  more_room_type fits.bool = fits.bool
+  more_room_type fits.string = fits.string
+  more_room_type (fits.aggregate a) = fits.aggregate (more_room_aggregate a)
+  more_room_type (fits.option y) = fits.option (more_room_type y)
+  more_room_type (fits.events y) = fits.events (more_room_type y)
+
+  more_room_aggregate : {room : ℕ} {a : Aggregate} → FitsAggregate room a → FitsAggregate (suc room) a
+  more_room_aggregate (fits.set y) = fits.set (more_room_type y)
+  more_room_aggregate (fits.map x y) = fits.map (more_room_type x) (more_room_type y)
+  more_room_aggregate (fits.queue y) = fits.queue (more_room_type y)
 
 mutual
   more_room : {room : ℕ} {e : Expr} → Fits room e → Fits (suc room) e
@@ -44,8 +49,7 @@ mutual
   more_room (fits.call_dotted e es) = fits.call_dotted (more_room e) (more_room_exprs es)
   more_room (fits.nil y) = fits.nil (more_room_type y)
   more_room (fits.none y) = fits.none (more_room_type y)
-  more_room (fits.empty_set y) = fits.empty_set (more_room_type y)
-  more_room (fits.empty_map x y) = fits.empty_map (more_room_type x) (more_room_type y)
+  more_room (fits.empty a) = fits.empty (more_room_aggregate a)
 
   more_room_at : {least room : ℕ} {e : Expr} → FitsAt least room e → FitsAt least (suc room) e
   more_room_at (fits.as_it_is h e) = fits.as_it_is h (more_room e)
@@ -82,15 +86,20 @@ chained_fits l e no_links f links = weaker (least_operand l) (level_strength l) 
 chained_fits l e (more_links o g ls) f links = fits.as_it_is (le-leb (level_strength l) (level_strength l) (omega arith)) (fits.chain f links)
 
 -- ---- types and expressions
-type_fits : {room : ℕ} {ts rest : List Token} {y : TypeName} → IsType room ts y rest → TokensPrintable ts → FitsType room y × TokensPrintable rest
-type_fits (grammar.unit is) h = (fits.unit, h.1)
-type_fits (grammar.int is) h = (fits.int, h.1)
-type_fits (grammar.bool is) h = (fits.bool, h.1)
-type_fits (grammar.string is) h = (fits.string, h.1)
-type_fits (grammar.set t u y v) h = let f = type_fits y h.1.1 in (fits.set f.0, f.1.1)
-type_fits (grammar.map t u x c y v) h = let f = type_fits x h.1.1 in let g = type_fits y f.1.1 in (fits.map f.0 g.0, g.1.1)
-type_fits (grammar.option t u y v) h = let f = type_fits y h.1.1 in (fits.option f.0, f.1.1)
-type_fits (grammar.events t u y v) h = let f = type_fits y h.1.1 in (fits.events f.0, f.1.1)
+mutual
+  type_fits : {room : ℕ} {ts rest : List Token} {y : TypeName} → IsType room ts y rest → TokensPrintable ts → FitsType room y × TokensPrintable rest
+  type_fits (grammar.unit is) h = (fits.unit, h.1)
+  type_fits (grammar.int is) h = (fits.int, h.1)
+  type_fits (grammar.bool is) h = (fits.bool, h.1)
+  type_fits (grammar.string is) h = (fits.string, h.1)
+  type_fits (grammar.aggregate t a) h = let f = aggregate_fits a h.1 in (fits.aggregate f.0, f.1)
+  type_fits (grammar.option t u y v) h = let f = type_fits y h.1.1 in (fits.option f.0, f.1.1)
+  type_fits (grammar.events t u y v) h = let f = type_fits y h.1.1 in (fits.events f.0, f.1.1)
+
+  aggregate_fits : {room : ℕ} {ts rest : List Token} {a : Aggregate} → IsAggregate room ts a rest → TokensPrintable ts → FitsAggregate room a × TokensPrintable rest
+  aggregate_fits (grammar.set u y v) h = let f = type_fits y h.1 in (fits.set f.0, f.1.1)
+  aggregate_fits (grammar.queue u y v) h = let f = type_fits y h.1 in (fits.queue f.0, f.1.1)
+  aggregate_fits (grammar.map u x c y v) h = let f = type_fits x h.1 in let g = type_fits y f.1.1 in (fits.map f.0 g.0, g.1.1)
 
 mutual
   expr_fits : {room : ℕ} {ts rest : List Token} {e : Expr} → IsExpr room ts e rest → TokensPrintable ts → Fits room e × TokensPrintable rest
@@ -149,8 +158,7 @@ mutual
   negated_primary (grammar.call_dotted t d m o e es v) past h f = f
   negated_primary (grammar.nil t u y v) past h f = f
   negated_primary (grammar.none t u y v) past h f = f
-  negated_primary (grammar.empty_set t d m u y v) past h f = f
-  negated_primary (grammar.empty_map t d m u x c y v) past h f = f
+  negated_primary (grammar.empty_aggregate t d m a) past h f = f
 
   primary_fits : {room : ℕ} {ts rest : List Token} {e : Expr} → IsPrimary room ts e rest → TokensPrintable ts → FitsAt 7 room e × TokensPrintable rest
   primary_fits (grammar.number is) h = (fits.as_it_is refl (fits.number (subst Printable is h.0)), h.1)
@@ -170,11 +178,7 @@ mutual
       (fits.as_it_is refl (fits.call_dotted f.0 g.0), g.1.1)
   primary_fits (grammar.nil t u y v) h = let f = type_fits y h.1.1 in (fits.as_it_is refl (fits.nil f.0), f.1.1)
   primary_fits (grammar.none t u y v) h = let f = type_fits y h.1.1 in (fits.as_it_is refl (fits.none f.0), f.1.1)
-  primary_fits (grammar.empty_set t d m u y v) h = let f = type_fits y h.1.1.1.1 in (fits.as_it_is refl (fits.empty_set f.0), f.1.1)
-  primary_fits (grammar.empty_map t d m u x c y v) h =
-      let f = type_fits x h.1.1.1.1 in
-      let g = type_fits y f.1.1 in
-      (fits.as_it_is refl (fits.empty_map f.0 g.0), g.1.1)
+  primary_fits (grammar.empty_aggregate t d m a) h = let f = aggregate_fits a h.1.1.1 in (fits.as_it_is refl (fits.empty f.0), f.1)
 
   others_fit : {room : ℕ} {ts rest : List Token} {es : Exprs} → AreOthers room ts es rest → TokensPrintable ts → FitExprs room es × TokensPrintable rest
   others_fit (grammar.no_other past) h = (fits.no_expr, h)

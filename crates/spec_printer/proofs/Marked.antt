@@ -12,25 +12,23 @@ use Rattle.spec_lexer.specs.declared.token.Symbol.{Symbol}
 use Rattle.spec_lexer.specs.declared.token.Symbol.TheVariants as symbol
 use Rattle.syntax_tree.specs.declared.tree.Level.{Level}
 use Rattle.spec_lexer.specs.Found.{word_of}
+use Rattle.vocabulary.specs.declared.kind.Kind.{Kind}
+use Rattle.vocabulary.specs.declared.kind.Kind.TheVariants as aggregate_kind
 use Rattle.vocabulary.specs.declared.dotted.Family.{Family}
 use Rattle.vocabulary.specs.declared.dotted.Family.TheVariants as family
 use Rattle.vocabulary.specs.declared.dotted.Dotted.{Dotted}
+use Rattle.vocabulary.specs.Kinds.{kind_name}
 use Rattle.vocabulary.specs.Table.{family_name, family_in, member_name}
 use Rattle.vocabulary.proofs.Listed.{all_true}
 use Rattle.syntax_tree.specs.Tree as tree
-use Rattle.syntax_tree.specs.Tree.{TypeName, Expr, Exprs, Links, Param, Body, Definition, Definitions, Item}
+use Rattle.syntax_tree.specs.Tree.{TypeName, Aggregate, kind_in, Expr, Exprs, Links, Param, Body, Definition, Definitions, Item}
 use Rattle.spec_printer.specs.inner.Marks as mark
 use Rattle.spec_printer.specs.inner.Marks.{Mark, line_end}
-use Rattle.spec_printer.specs.inner.Print.{truth_word, type_marks, bracketed, both_bracketed, enclosed, operand_marks, expr_marks, expr_marks_after, link_marks, least_operand, param_marks, param_marks_after, params_marks, written_marks, head_marks, body_marks, definition_marks, definitions_marks, item_marks, items_marks}
+use Rattle.spec_printer.specs.inner.Print.{truth_word, type_marks, aggregate_marks, bracketed, both_bracketed, enclosed, operand_marks, expr_marks, expr_marks_after, link_marks, least_operand, param_marks, param_marks_after, params_marks, written_marks, head_marks, body_marks, definition_marks, definitions_marks, item_marks, items_marks}
 use Rattle.spec_printer.proofs.Printable.{Printable, word_printable, symbol_printable, known_printable}
 use Rattle.spec_printer.proofs.Lexing.{ArePrintable, printable-append}
 use Rattle.spec_printer.proofs.Fits as fits
 use Rattle.spec_printer.proofs.Fits.{Fits, FitsAt, FitExprs, FitLinks, FitsParam, FitParams, MayFitParams, MayFitType, FitsBody, FitDefinitions, FitsItem, FitItems}
-
-family_printable : (f : Family) → Printable (kind.Name (family_name f))
-family_printable family.Set = known_printable _ _ refl refl (lit≤ tt)
-family_printable family.Map = known_printable _ _ refl refl (lit≤ tt)
-family_printable family.Text = known_printable _ _ refl refl (lit≤ tt)
 
 -- a name of some letters that is no word
 abbrev is_known : List ℕ → Bool
@@ -48,6 +46,17 @@ known (c ∷ cs) h =
     let others = and_parts (is_none (word_of (c ∷ cs))) (leb (length (c ∷ cs)) MOST_NAME_BYTES) letters.1 in
     known_printable c cs letters.0 (no_word (word_of (c ∷ cs)) others.0) (leb-true (length (c ∷ cs)) MOST_NAME_BYTES others.1)
 
+kind_known : (g : Kind) → is_known (kind_name g) ≡ true
+kind_known aggregate_kind.Set = refl
+kind_known g = refl
+
+kind_printable : (g : Kind) → Printable (kind.Name (kind_name g))
+kind_printable g = known (kind_name g) (kind_known g)
+
+family_printable : (f : Family) → Printable (kind.Name (family_name f))
+family_printable (family.Of g) = kind_printable g
+family_printable family.Text = known_printable _ _ refl refl (lit≤ tt)
+
 member_printable : (d : Dotted) → Printable (kind.Name (member_name d))
 member_printable d = known (member_name d) (all_true (λ d. is_known (member_name d)) refl d)
 
@@ -61,21 +70,23 @@ two_marked : (x y : TypeName) → ArePrintable (type_marks x) → ArePrintable (
 two_marked x y h k =
     (symbol_printable symbol.OpenBracket, printable-append (type_marks x) (mark.symbol symbol.Comma ∷ (type_marks y ++ (mark.symbol symbol.CloseBracket ∷ []))) h (symbol_printable symbol.Comma, before_symbol (type_marks y) symbol.CloseBracket k))
 
-type_printable : (y : TypeName) → ArePrintable (type_marks y)
-type_printable (tree.UnitType p) = (known_printable _ _ refl refl (lit≤ tt), tt)
-type_printable (tree.IntType p) = (known_printable _ _ refl refl (lit≤ tt), tt)
-type_printable (tree.BoolType p) = (known_printable _ _ refl refl (lit≤ tt), tt)
-type_printable (tree.TextType p) = (known_printable _ _ refl refl (lit≤ tt), tt)
-type_printable (tree.SetType p y) = (known_printable _ _ refl refl (lit≤ tt), one_marked y (type_printable y))
-type_printable (tree.MapType p x y) = (known_printable _ _ refl refl (lit≤ tt), two_marked x y (type_printable x) (type_printable y))
-type_printable (tree.OptionType p y) = (known_printable _ _ refl refl (lit≤ tt), one_marked y (type_printable y))
-type_printable (tree.EventsType p y) = (known_printable _ _ refl refl (lit≤ tt), one_marked y (type_printable y))
+mutual
+  type_printable : (y : TypeName) → ArePrintable (type_marks y)
+  type_printable (tree.UnitType p) = (known_printable _ _ refl refl (lit≤ tt), tt)
+  type_printable (tree.IntType p) = (known_printable _ _ refl refl (lit≤ tt), tt)
+  type_printable (tree.BoolType p) = (known_printable _ _ refl refl (lit≤ tt), tt)
+  type_printable (tree.TextType p) = (known_printable _ _ refl refl (lit≤ tt), tt)
+  type_printable (tree.AggregateType p a) = (kind_printable (kind_in a), aggregate_printable a)
+  type_printable (tree.OptionType p y) = (known_printable _ _ refl refl (lit≤ tt), one_marked y (type_printable y))
+  type_printable (tree.EventsType p y) = (known_printable _ _ refl refl (lit≤ tt), one_marked y (type_printable y))
+
+  aggregate_printable : (a : Aggregate) → ArePrintable (aggregate_marks a)
+  aggregate_printable (tree.SetOf y) = one_marked y (type_printable y)
+  aggregate_printable (tree.MapOf x y) = two_marked x y (type_printable x) (type_printable y)
+  aggregate_printable (tree.QueueOf y) = one_marked y (type_printable y)
 
 one_printable : (y : TypeName) → ArePrintable (bracketed y)
 one_printable y = one_marked y (type_printable y)
-
-two_printable : (x y : TypeName) → ArePrintable (both_bracketed x y)
-two_printable x y = two_marked x y (type_printable x) (type_printable y)
 
 mutual
   expr_printable : {room : ℕ} {e : Expr} → Fits room e → ArePrintable (expr_marks e)
@@ -114,8 +125,7 @@ mutual
   )
   expr_printable (fits.nil {y = y} f) = (known_printable _ _ refl refl (lit≤ tt), one_printable y)
   expr_printable (fits.none {y = y} f) = (known_printable _ _ refl refl (lit≤ tt), one_printable y)
-  expr_printable (fits.empty_set {y = y} f) = (known_printable _ _ refl refl (lit≤ tt), (symbol_printable symbol.Dot, (known_printable _ _ refl refl (lit≤ tt), one_printable y)))
-  expr_printable (fits.empty_map {x = x} {y = y} f g) = (known_printable _ _ refl refl (lit≤ tt), (symbol_printable symbol.Dot, (known_printable _ _ refl refl (lit≤ tt), two_printable x y)))
+  expr_printable (fits.empty {a = a} f) = (kind_printable (kind_in a), (symbol_printable symbol.Dot, (known_printable _ _ refl refl (lit≤ tt), aggregate_printable a)))
 
   operand_printable : {least room : ℕ} {e : Expr} → FitsAt least room e → ArePrintable (operand_marks least e)
   operand_printable (fits.as_it_is {e = e} h f) = subst (λ b. ArePrintable (enclosed b (expr_marks e))) (sym h) (expr_printable f)

@@ -5,7 +5,7 @@ ghost use Rattle.spec_lexer.specs.declared.token.Word.TheVariants as word;
 ghost use Rattle.spec_lexer.specs.declared.token.Symbol.TheVariants as symbol;
 ghost use Rattle.spec_lexer.specs.declared.token.TokenKind.TheVariants as kind;
 ghost use Rattle.syntax_tree.specs.Tree as tree;
-ghost use Rattle.syntax_tree.specs.inner.OneLevel.{exprs_of, links_in};
+ghost use Rattle.syntax_tree.specs.inner.OneLevel.{aggregate_in, exprs_of, links_in};
 ghost use Rattle.vocabulary.specs.Table.{family_name, family_in, member_name};
 ghost use Rattle.spec_printer.specs.inner.Same.{nowhere};
 ghost use Rattle.spec_printer.specs.inner.Marks.{token, symbol as a_symbol, named, text_of};
@@ -13,10 +13,10 @@ ghost use Rattle.spec_printer.specs.inner.Print.{operator_symbol, comparison_sym
 ghost use Rattle.spec_printer.specs.inner.Print.{node_marks, operand_marks, link_marks, argument_marks};
 
 use crate::mark::{put_name, put_number, put_symbol, put_text, put_word};
-use crate::type_name::{put_one, put_two};
+use crate::type_name::{put_aggregate, put_one};
 use spec_lexer::natural::Natural;
 use spec_lexer::token::{Symbol, Word};
-use syntax_tree::tree::{Comparison, Expr, Level, Link, Node, Operator, TypeName};
+use syntax_tree::tree::{Aggregate, Comparison, Expr, Level, Link, Node, Operator};
 use tsl_value::bytes::Bytes;
 use tsl_value::memory::NoMemory;
 use vocabulary::dotted::Dotted;
@@ -138,8 +138,7 @@ fn put_node(node: &Node, out: &mut Bytes) -> Result<(), NoMemory>
         }
         Node::Nil(of) => put_one("nil", of, out),
         Node::None(of) => put_one("None", of, out),
-        Node::EmptySet(of) => put_empty_set(of, out),
-        Node::EmptyMap(key, value) => put_empty_map(key, value, out),
+        Node::Empty(of) => put_empty(of, out),
     }
 }
 
@@ -235,22 +234,14 @@ fn put_unit(out: &mut Bytes) -> Result<(), NoMemory>
     put_symbol(Symbol::Close, out)
 }
 
-fn put_empty_set(of: &TypeName, out: &mut Bytes) -> Result<(), NoMemory>
-    ensures ok { OnOk result (out.new ≡ out.old ++ text_of (expr_marks (tree.EmptySet nowhere of.now))) }
+fn put_empty(of: &Aggregate, out: &mut Bytes) -> Result<(), NoMemory>
+    ensures ok { OnOk result (out.new ≡ out.old ++ text_of (expr_marks (tree.Empty nowhere (aggregate_in of.now)))) }
     ensures err { OnErr result (take (length out.old) out.new ≡ out.old) }
 {
-    put_name("Set", out)?;
+    put_name(of.kind().name(), out)?;
     put_symbol(Symbol::Dot, out)?;
-    put_one("empty", of, out)
-}
-
-fn put_empty_map(key: &TypeName, value: &TypeName, out: &mut Bytes) -> Result<(), NoMemory>
-    ensures ok { OnOk result (out.new ≡ out.old ++ text_of (expr_marks (tree.EmptyMap nowhere key.now value.now))) }
-    ensures err { OnErr result (take (length out.old) out.new ≡ out.old) }
-{
-    put_name("Map", out)?;
-    put_symbol(Symbol::Dot, out)?;
-    put_two("empty", key, value, out)
+    put_name("empty", out)?;
+    put_aggregate(of, out)
 }
 
 fn put_dotted(function: Dotted, out: &mut Bytes) -> Result<(), NoMemory>

@@ -1,12 +1,13 @@
 // Types.
 
 ghost use Rattle.std.specs.Prelude.{◌≡◌, ◌∷◌, ◌++◌, length, take, OnOk, OnErr};
+ghost use Rattle.syntax_tree.specs.inner.OneLevel.{aggregate_in};
 ghost use Rattle.spec_printer.specs.inner.Marks.{named, text_of};
-ghost use Rattle.spec_printer.specs.inner.Print.{type_marks, shape_marks, bracketed, both_bracketed, second_bracketed};
+ghost use Rattle.spec_printer.specs.inner.Print.{type_marks, aggregate_marks, shape_marks, bracketed, both_bracketed, second_bracketed};
 
 use crate::mark::{put_name, put_symbol};
 use spec_lexer::token::Symbol;
-use syntax_tree::tree::{TypeName, TypeShape};
+use syntax_tree::tree::{Aggregate, TypeName, TypeShape};
 use tsl_value::bytes::Bytes;
 use tsl_value::memory::NoMemory;
 
@@ -29,10 +30,25 @@ fn put_shape(shape: &TypeShape, out: &mut Bytes) -> Result<(), NoMemory>
         TypeShape::Int => put_name("Int", out),
         TypeShape::Bool => put_name("Bool", out),
         TypeShape::Text => put_name("String", out),
-        TypeShape::Set(inner) => put_one("Set", inner, out),
-        TypeShape::Map(key, value) => put_two("Map", key, value, out),
+        TypeShape::Aggregate(of) => {
+            put_name(of.kind().name(), out)?;
+            put_aggregate(of, out)
+        }
         TypeShape::Option(inner) => put_one("Option", inner, out),
         TypeShape::Events(inner) => put_one("Events", inner, out),
+    }
+}
+
+/// What stands in the brackets of an aggregate, with them.
+#[cycle(types)]
+pub(crate) fn put_aggregate(of: &Aggregate, out: &mut Bytes) -> Result<(), NoMemory>
+    ensures ok { OnOk result (out.new ≡ out.old ++ text_of (aggregate_marks (aggregate_in of.now))) }
+    ensures err { OnErr result (take (length out.old) out.new ≡ out.old) }
+{
+    match of {
+        Aggregate::Set(key) => put_bracketed(key, out),
+        Aggregate::Map(key, value) => put_both(key, value, out),
+        Aggregate::Queue(of) => put_bracketed(of, out),
     }
 }
 
@@ -43,23 +59,26 @@ pub(crate) fn put_one(name: &str, of: &TypeName, out: &mut Bytes) -> Result<(), 
     ensures err { OnErr result (take (length out.old) out.new ≡ out.old) }
 {
     put_name(name, out)?;
+    put_bracketed(of, out)
+}
+
+/// A type in brackets.
+#[cycle(types)]
+fn put_bracketed(of: &TypeName, out: &mut Bytes) -> Result<(), NoMemory>
+    ensures ok { OnOk result (out.new ≡ out.old ++ text_of (bracketed of.now)) }
+    ensures err { OnErr result (take (length out.old) out.new ≡ out.old) }
+{
     put_symbol(Symbol::OpenBracket, out)?;
     put_type(of, out)?;
     put_symbol(Symbol::CloseBracket, out)
 }
 
-/// A name and the two types after it, in brackets.
+/// Two types in brackets.
 #[cycle(types)]
-pub(crate) fn put_two(
-    name: &str,
-    key: &TypeName,
-    value: &TypeName,
-    out: &mut Bytes,
-) -> Result<(), NoMemory>
-    ensures ok { OnOk result (out.new ≡ out.old ++ text_of (named name.now ∷ both_bracketed key.now value.now)) }
+fn put_both(key: &TypeName, value: &TypeName, out: &mut Bytes) -> Result<(), NoMemory>
+    ensures ok { OnOk result (out.new ≡ out.old ++ text_of (both_bracketed key.now value.now)) }
     ensures err { OnErr result (take (length out.old) out.new ≡ out.old) }
 {
-    put_name(name, out)?;
     put_symbol(Symbol::OpenBracket, out)?;
     put_type(key, out)?;
     put_second(value, out)

@@ -1,5 +1,5 @@
 -- What a construct asks of its parts, by their list.
-use Rattle.std.proofs.Common.{◌≡◌, ℕ, List, [], ◌∷◌, get_or, sym, ap, ◌∙◌, subst}
+use Rattle.std.proofs.Common.{◌≡◌, ℕ, Bool, List, [], ◌∷◌, get_or, sym, ap, ◌∙◌, subst}
 use Rattle.tsl_value.specs.declared.scalar.ValueType.{ValueType}
 use Rattle.stream_constructs.specs.declared.construct.Stream.{Stream}
 use Rattle.stream_constructs.specs.Construct as construct
@@ -32,6 +32,11 @@ filter_type [] of v h is = absurd h
 filter_type (a ∷ []) of v h is = absurd h
 filter_type (a ∷ b ∷ []) of v h is = ap (λ s. s.of) is ∙ sym h.0
 filter_type (a ∷ b ∷ c ∷ rest) of v h is = absurd h
+
+pub filter_by_type : (parts : List Stream) (holds : Bool) (of : ValueType) (v : Stream) → Fits (construct.FilterBy holds) parts of → v ≡ get_or parts 0 v → v.of ≡ of
+filter_by_type [] holds of v h is = absurd h
+filter_by_type (a ∷ []) holds of v h is = ap (λ s. s.of) is ∙ sym h
+filter_by_type (a ∷ b ∷ rest) holds of v h is = absurd h
 
 pub empty_type : (parts : List Stream) (of t : ValueType) → Fits (construct.Empty t) parts of → t ≡ of
 empty_type [] of t h = sym h.0

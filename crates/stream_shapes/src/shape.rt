@@ -1,9 +1,6 @@
 // Which construct an expression of streams is.
 
-ghost use Rattle.std.specs.Prelude.{◌≡◌, IfOk};
-ghost use Rattle.std.specs.Option.{option_map, option_and_then};
-ghost use Rattle.tsl_value.specs.declared.scalar.ValueType.TheVariants as value_type;
-ghost use Rattle.type_rules.specs.Written.{key_of as key_that_is, scalar_of as scalar_that_is};
+ghost use Rattle.std.specs.Prelude.{IfOk};
 ghost use Rattle.syntax_tree.specs.Tree as tree;
 ghost use Rattle.syntax_tree.specs.inner.OneLevel.{expr_of};
 ghost use Rattle.name_check.specs.inner.Shown.{nowhere};
@@ -20,34 +17,10 @@ use function_bodies::operation::comparison_of;
 use name_check::builtin::is_unit;
 use name_check::scope::Scope;
 use std::alloc::Global;
-use syntax_tree::tree::{Expr, Node, TypeName};
+use syntax_tree::tree::{Expr, Node};
 use tsl_value::memory::NoMemory;
 use tsl_value::operation::Unary;
-use tsl_value::scalar::ValueType;
-use type_rules::written::{key_of, scalar_of};
-
-/// A set of keys of a written type.
-fn set_of(key: &TypeName) -> Option<ValueType>
-    ensures { result ≡ option_map value_type.Set (key_that_is key.now) }
-{
-    match key_of(key) {
-        Some(key) => Some(ValueType::Set(key)),
-        None => None,
-    }
-}
-
-/// A map from keys to values of written types.
-fn map_of(key: &TypeName, of: &TypeName) -> Option<ValueType>
-    ensures { result ≡ option_and_then (λ k. option_map (value_type.Map k) (scalar_that_is of.now)) (key_that_is key.now) }
-{
-    match key_of(key) {
-        None => None,
-        Some(key) => match scalar_of(of) {
-            Some(of) => Some(ValueType::Map(key, of)),
-            None => None,
-        },
-    }
-}
+use type_rules::written::aggregate_of;
 
 /// A name. The language has one that is a construct.
 fn name_shape<'a>(alloc: Global, name: &str) -> Shape<'a>
@@ -86,8 +59,7 @@ fn node_shape<'a>(
         Node::CallDotted(function, arguments) => dotted(alloc, *function, arguments),
         Node::Nil(_) => Ok(alone(alloc, Construct::Nil)),
         Node::None(_) => Ok(nothing(alloc)),
-        Node::EmptySet(key) => Ok(empty_shape(alloc, set_of(key))),
-        Node::EmptyMap(key, of) => Ok(empty_shape(alloc, map_of(key, of))),
+        Node::Empty(of) => Ok(empty_shape(alloc, aggregate_of(of))),
     }
 }
 

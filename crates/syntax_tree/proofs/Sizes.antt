@@ -58,8 +58,7 @@ size_anywhere p q (node.Call a b) = refl
 size_anywhere p q (node.CallDotted a b) = refl
 size_anywhere p q (node.Nil a) = refl
 size_anywhere p q (node.None a) = refl
-size_anywhere p q (node.EmptySet a) = refl
-size_anywhere p q (node.EmptyMap a b) = refl
+size_anywhere p q (node.Empty a) = refl
 
 pub size_of_node : (e : Expr) (n : Node) (p : Place) → expr_of (place_of e) n ≡ e → size_of e ≡ size_of (expr_of p n)
 size_of_node e n p is = ap size_of (sym is) ∙ size_anywhere (place_of e) p n

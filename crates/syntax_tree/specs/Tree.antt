@@ -4,17 +4,30 @@ use Rattle.tsl_value.specs.declared.place.Place.{Place}
 use Rattle.syntax_tree.specs.declared.tree.Level.{Level}
 use Rattle.syntax_tree.specs.declared.tree.Operator.{Operator}
 use Rattle.syntax_tree.specs.declared.tree.Comparison.{Comparison}
+use Rattle.vocabulary.specs.declared.kind.Kind.{Kind}
+use Rattle.vocabulary.specs.declared.kind.Kind.TheVariants as kind
 use Rattle.vocabulary.specs.declared.dotted.Dotted.{Dotted}
 
-pub data TypeName : Type 0 where
-  UnitType : Place → TypeName
-  IntType : Place → TypeName
-  BoolType : Place → TypeName
-  TextType : Place → TypeName
-  SetType : Place → TypeName → TypeName
-  MapType : Place → TypeName → TypeName → TypeName
-  OptionType : Place → TypeName → TypeName
-  EventsType : Place → TypeName → TypeName
+mutual
+  pub data TypeName : Type 0 where
+    UnitType : Place → TypeName
+    IntType : Place → TypeName
+    BoolType : Place → TypeName
+    TextType : Place → TypeName
+    AggregateType : Place → Aggregate → TypeName
+    OptionType : Place → TypeName → TypeName
+    EventsType : Place → TypeName → TypeName
+
+  -- an aggregate of these types: of keys, of keys and entries, of elements
+  pub data Aggregate : Type 0 where
+    SetOf : TypeName → Aggregate
+    MapOf : TypeName → TypeName → Aggregate
+    QueueOf : TypeName → Aggregate
+
+abbrev pub kind_in : Aggregate → Kind
+kind_in (SetOf y) = kind.Set
+kind_in (MapOf x y) = kind.Map
+kind_in (QueueOf y) = kind.Queue
 
 mutual
   pub data Expr : Type 0 where
@@ -33,8 +46,7 @@ mutual
     CallDotted : Place → Dotted → Exprs → Expr
     Nil : Place → TypeName → Expr
     None : Place → TypeName → Expr
-    EmptySet : Place → TypeName → Expr
-    EmptyMap : Place → TypeName → TypeName → Expr
+    Empty : Place → Aggregate → Expr
 
   pub data Exprs : Type 0 where
     no_exprs : Exprs
@@ -60,8 +72,7 @@ place_of (Call p n es) = p
 place_of (CallDotted p d es) = p
 place_of (Nil p y) = p
 place_of (None p y) = p
-place_of (EmptySet p y) = p
-place_of (EmptyMap p x y) = p
+place_of (Empty p a) = p
 
 pub record Param : Type 0 where
   pub place : Place

@@ -1,16 +1,17 @@
 // The tree of a specification.
 
 ghost use Rattle.std.specs.Prelude.{◌≡◌, map};
-ghost use Rattle.syntax_tree.specs.Tree.{place_of};
+ghost use Rattle.syntax_tree.specs.Tree.{kind_in, place_of};
 ghost use Rattle.syntax_tree.specs.Counts.{HasFewInside};
 ghost use Rattle.syntax_tree.specs.Places.{type_place};
-ghost use Rattle.syntax_tree.specs.inner.OneLevel.{type_of, expr_of, body_of, definition_of, item_of, items_of};
+ghost use Rattle.syntax_tree.specs.inner.OneLevel.{aggregate_in, type_of, expr_of, body_of, definition_of, item_of, items_of};
 
 use spec_lexer::natural::Natural;
 use std::marker::Model;
 use tsl_value::place::Place;
 use tsl_value::text::Text;
 use vocabulary::dotted::Dotted;
+use vocabulary::kind::Kind;
 
 /// The levels of a chain whose operands stand in one list.
 #[derive(Clone, Copy, PartialEq, Eq, Debug)]
@@ -57,10 +58,33 @@ pub enum TypeShape {
     Int,
     Bool,
     Text,
-    Set(Box<TypeName>),
-    Map(Box<TypeName>, Box<TypeName>),
+    Aggregate(Aggregate),
     Option(Box<TypeName>),
     Events(Box<TypeName>),
+}
+
+/// An aggregate of the types in its brackets.
+#[cycle(types)]
+#[derive(Drop)]
+pub enum Aggregate {
+    /// The type of its keys.
+    Set(Box<TypeName>),
+    /// The types of its keys and of its entries.
+    Map(Box<TypeName>, Box<TypeName>),
+    /// The type of its elements.
+    Queue(Box<TypeName>),
+}
+
+impl Aggregate {
+    pub fn kind(&self) -> Kind
+        ensures { result ≡ kind_in (aggregate_in self.now) }
+    {
+        match self {
+            Aggregate::Set(_) => Kind::Set,
+            Aggregate::Map(_, _) => Kind::Map,
+            Aggregate::Queue(_) => Kind::Queue,
+        }
+    }
 }
 
 impl Model for TypeName {
@@ -134,8 +158,7 @@ pub enum Node {
     CallDotted(Dotted, Vec<Expr>),
     Nil(TypeName),
     None(TypeName),
-    EmptySet(TypeName),
-    EmptyMap(TypeName, TypeName),
+    Empty(Aggregate),
 }
 
 /// An operator and the operand after it.

@@ -1,9 +1,12 @@
 -- What the kinds in `WrongType` are.
-use Rattle.std.specs.Prelude.{List, [], ◌∷◌, Option, Some, None}
+use Rattle.std.specs.Prelude.{List, [], ◌∷◌, ◌++◌, map, Option, Some, None}
 use Rattle.tsl_value.specs.declared.scalar.ScalarType.TheVariants as scalar_type
 use Rattle.tsl_value.specs.declared.scalar.KeyType.TheVariants as key_type
 use Rattle.tsl_value.specs.declared.scalar.ValueType.{ValueType}
 use Rattle.tsl_value.specs.declared.scalar.ValueType.TheVariants as value_type
+use Rattle.vocabulary.specs.declared.kind.Kind.{Kind as AggregateKind}
+use Rattle.vocabulary.specs.declared.kind.Kind.TheVariants as aggregate_kind
+use Rattle.vocabulary.specs.Kinds.{kinds}
 use Rattle.type_rules.specs.declared.rule.ExprType.{ExprType}
 use Rattle.type_rules.specs.declared.rule.ExprType.TheVariants as expr_type
 use Rattle.type_rules.specs.declared.rule.Family.{Family}
@@ -40,16 +43,18 @@ abbrev pub wrong_type : Wrong → TypeFault
 wrong_type (wrong.Part place clash) = fault.WrongType place (kind_of clash.have) (asked_kind clash.want)
 wrong_type (wrong.Braces place written) = fault.WrongType place kind.Function (written_kind written)
 
--- the types of a family, in the order of the rules; a set or a map of any type is named with the key Int, and for maps the value Int
+-- The types of a family, in the order of the rules. A set or a map of any type is named with the key Int, and for maps the value Int; a queue with Int.
 abbrev pub scalars : List ValueType
 scalars =
     value_type.Scalar scalar_type.Unit ∷ value_type.Scalar scalar_type.Int ∷ value_type.Scalar scalar_type.Bool
     ∷ value_type.Scalar scalar_type.Text ∷ []
 
+abbrev pub sample_of : AggregateKind → ValueType
+sample_of aggregate_kind.Set = value_type.Set key_type.Int
+sample_of aggregate_kind.Map = value_type.Map key_type.Int scalar_type.Int
+sample_of aggregate_kind.Queue = value_type.Queue scalar_type.Int
+
 abbrev pub types_of : Family → List ValueType
-types_of family.Any =
-    value_type.Scalar scalar_type.Unit ∷ value_type.Scalar scalar_type.Int ∷ value_type.Scalar scalar_type.Bool
-    ∷ value_type.Scalar scalar_type.Text ∷ value_type.Set key_type.Int ∷ value_type.Map key_type.Int scalar_type.Int ∷ []
+types_of family.Any = scalars ++ map sample_of kinds
 types_of family.Scalars = scalars
-types_of family.Sets = value_type.Set key_type.Int ∷ []
-types_of family.Maps = value_type.Map key_type.Int scalar_type.Int ∷ []
+types_of (family.Of g) = sample_of g ∷ []

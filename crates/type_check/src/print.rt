@@ -10,16 +10,18 @@ use tsl_value::bytes::Bytes;
 use tsl_value::memory::NoMemory;
 use tsl_value::print::print_type;
 use type_rules::rule::Family;
+use vocabulary::kind::Kind as AggregateKind;
 
 /// All types of a family, with a comma and a blank between them.
 fn family_types(family: Family) -> &'static [u8]
     ensures { result.now ≡ listed (map type_text (types_of family)) }
 {
     match family {
-        Family::Any => b"Unit, Int, Bool, String, Set[Int], Map[Int, Int]",
+        Family::Any => b"Unit, Int, Bool, String, Set[Int], Map[Int, Int], Queue[Int]",
         Family::Scalars => b"Unit, Int, Bool, String",
-        Family::Sets => b"Set[Int]",
-        Family::Maps => b"Map[Int, Int]",
+        Family::Of(AggregateKind::Set) => b"Set[Int]",
+        Family::Of(AggregateKind::Map) => b"Map[Int, Int]",
+        Family::Of(AggregateKind::Queue) => b"Queue[Int]",
     }
 }
 

@@ -1,11 +1,13 @@
 -- What is asked of an expression, and whether it fits.
-use Rattle.std.specs.Prelude.{◌≡◌, Bool, true, false, ◌&&◌, if◌then◌else◌, Result, Ok, Err}
+use Rattle.std.specs.Prelude.{◌≡◌, Bool, true, false, ◌&&◌, if◌then◌else◌, Option, Some, None, Result, Ok, Err}
 use Rattle.tsl_value.specs.declared.scalar.ScalarType.{ScalarType}
 use Rattle.tsl_value.specs.declared.scalar.ScalarType.TheVariants as scalar_type
 use Rattle.tsl_value.specs.declared.scalar.KeyType.{KeyType}
 use Rattle.tsl_value.specs.declared.scalar.KeyType.TheVariants as key_type
 use Rattle.tsl_value.specs.declared.scalar.ValueType.{ValueType}
 use Rattle.tsl_value.specs.declared.scalar.ValueType.TheVariants as value_type
+use Rattle.vocabulary.specs.declared.kind.Kind.{Kind}
+use Rattle.vocabulary.specs.Kinds.{kind_of, is_kind}
 use Rattle.type_rules.specs.declared.rule.ExprType.{ExprType}
 use Rattle.type_rules.specs.declared.rule.ExprType.TheVariants as expr_type
 use Rattle.type_rules.specs.declared.rule.Family.{Family}
@@ -34,6 +36,7 @@ abbrev pub same_value : ValueType → ValueType → Bool
 same_value (value_type.Scalar s) (value_type.Scalar t) = same_scalar s t
 same_value (value_type.Set k) (value_type.Set l) = same_key k l
 same_value (value_type.Map k s) (value_type.Map l t) = same_key k l && same_scalar s t
+same_value (value_type.Queue s) (value_type.Queue t) = same_scalar s t
 same_value _ _ = false
 
 abbrev pub same_type : ExprType → ExprType → Bool
@@ -43,11 +46,14 @@ same_type (expr_type.Optional s) (expr_type.Optional t) = same_value s t
 same_type _ _ = false
 
 -- ---- families of types
+abbrev pub is_of : Kind → Option Kind → Bool
+is_of g (Some h) = is_kind g h
+is_of g None = false
+
 abbrev pub is_in : Family → ValueType → Bool
 is_in family.Any t = true
 is_in family.Scalars (value_type.Scalar s) = true
-is_in family.Sets (value_type.Set k) = true
-is_in family.Maps (value_type.Map k s) = true
+is_in (family.Of g) t = is_of g (kind_of t)
 is_in _ t = false
 
 -- the expression is what is asked; that a literal is asked is judged by its form
@@ -104,7 +110,7 @@ bool = value_type.Scalar scalar_type.Bool
 abbrev pub text : ValueType
 text = value_type.Scalar scalar_type.Text
 
--- the type of the keys of a set or a map, and of the values of a map
+-- the type of the keys of a set or a map, and of the values of a map or a queue
 abbrev pub of_key : KeyType → ValueType
 of_key key_type.Int = int
 of_key key_type.Bool = bool
@@ -117,4 +123,5 @@ key_of t = t
 
 abbrev pub entry_of : ValueType → ValueType
 entry_of (value_type.Map k s) = value_type.Scalar s
+entry_of (value_type.Queue s) = value_type.Scalar s
 entry_of t = t

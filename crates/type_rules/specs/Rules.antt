@@ -82,16 +82,14 @@ if_rule at c a b = and_then (ask (asked.Exactly (lifted at bool)) c) (and_then (
 -- ---- functions with a dot: their signatures, of which the first part fixes the types of keys and of entries
 -- what a type of a signature is, where the first part is this
 abbrev pub of_term : Setting → ExprType → Term → ExprType
-of_term at first term.Set = first
-of_term at first term.Map = first
+of_term at first (term.Of g) = first
 of_term at first term.Key = lifted at (key_of (inner first))
 of_term at first term.Entry = lifted at (entry_of (inner first))
 of_term at first (term.Scalar t) = lifted at (value_type.Scalar t)
 
--- The first part is a set, a map or a scalar. Each other part is just what its type says.
+-- The first part is an aggregate or a scalar. Each other part is just what its type says.
 abbrev pub first_asked : Setting → ExprType → Term → Asked
-first_asked at first term.Set = lifted_of at family.Sets
-first_asked at first term.Map = lifted_of at family.Maps
+first_asked at first (term.Of g) = lifted_of at (family.Of g)
 first_asked at first t = asked.Exactly (of_term at first t)
 
 abbrev pub ask_first : Setting → Term → ExprType → Check

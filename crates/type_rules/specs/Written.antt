@@ -9,7 +9,7 @@ use Rattle.tsl_value.specs.declared.scalar.KeyType.TheVariants as key_type
 use Rattle.tsl_value.specs.declared.scalar.ValueType.{ValueType}
 use Rattle.tsl_value.specs.declared.scalar.ValueType.TheVariants as value_type
 use Rattle.syntax_tree.specs.Tree as tree
-use Rattle.syntax_tree.specs.Tree.{TypeName}
+use Rattle.syntax_tree.specs.Tree.{TypeName, Aggregate}
 use Rattle.syntax_tree.specs.Places.{type_place}
 use Rattle.type_rules.specs.declared.rule.ExprType.{ExprType}
 use Rattle.type_rules.specs.declared.rule.ExprType.TheVariants as expr_type
@@ -29,9 +29,13 @@ key_of (tree.BoolType p) = Some key_type.Bool
 key_of (tree.TextType p) = Some key_type.Text
 key_of _ = None
 
+abbrev pub aggregate_of : Aggregate → Option ValueType
+aggregate_of (tree.SetOf k) = option_map value_type.Set (key_of k)
+aggregate_of (tree.MapOf k v) = option_and_then (λ key. option_map (value_type.Map key) (scalar_of v)) (key_of k)
+aggregate_of (tree.QueueOf v) = option_map value_type.Queue (scalar_of v)
+
 abbrev pub value_of : TypeName → Option ValueType
-value_of (tree.SetType p k) = option_map value_type.Set (key_of k)
-value_of (tree.MapType p k v) = option_and_then (λ key. option_map (value_type.Map key) (scalar_of v)) (key_of k)
+value_of (tree.AggregateType p a) = aggregate_of a
 value_of y = option_map value_type.Scalar (scalar_of y)
 
 -- of a parameter, a macro or a value function: just what is written
@@ -59,10 +63,15 @@ bad_scalar (tree.BoolType p) = []
 bad_scalar (tree.TextType p) = []
 bad_scalar y = type_place y ∷ []
 
+-- in the brackets of an aggregate
+abbrev pub bad_in : Aggregate → List Place
+bad_in (tree.SetOf k) = bad_key k
+bad_in (tree.MapOf k v) = bad_key k ++ bad_scalar v
+bad_in (tree.QueueOf v) = bad_scalar v
+
 -- inside another type: no stream and no option
 abbrev pub bad_inside : TypeName → List Place
-bad_inside (tree.SetType p k) = bad_key k
-bad_inside (tree.MapType p k v) = bad_key k ++ bad_scalar v
+bad_inside (tree.AggregateType p a) = bad_in a
 bad_inside (tree.OptionType p y) = p ∷ []
 bad_inside (tree.EventsType p y) = p ∷ []
 bad_inside y = []

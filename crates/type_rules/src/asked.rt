@@ -1,10 +1,12 @@
 // What is asked of a part, and whether it fits.
 
 ghost use Rattle.std.specs.Prelude.{◌≡◌};
-ghost use Rattle.type_rules.specs.Asked.{is_in, fits, ask, lifted, lifted_of, inner, key_of, entry_of, of_key};
+ghost use Rattle.vocabulary.specs.Kinds.{kind_of};
+ghost use Rattle.type_rules.specs.Asked.{is_of, is_in, fits, ask, lifted, lifted_of, inner, key_of, entry_of, of_key};
 
 use crate::rule::{Asked, Clash, ExprType, Family, Setting};
 use tsl_value::scalar::{KeyType, ScalarType, ValueType};
+use vocabulary::kind::{Kind, kind_of};
 
 pub const UNIT: ValueType = ValueType::Scalar(ScalarType::Unit);
 
@@ -22,10 +24,19 @@ impl Family {
         match (self, of) {
             (Family::Any, _) => true,
             (Family::Scalars, ValueType::Scalar(_)) => true,
-            (Family::Sets, ValueType::Set(_)) => true,
-            (Family::Maps, ValueType::Map(_, _)) => true,
+            (Family::Of(kind), _) => is_of(kind, of),
             _ => false,
         }
+    }
+}
+
+/// The type is one of aggregates of this kind.
+fn is_of(kind: Kind, of: ValueType) -> bool
+    ensures { result ≡ is_of kind (kind_of of) }
+{
+    match kind_of(of) {
+        Some(its) => kind.is(its),
+        None => false,
     }
 }
 
@@ -104,7 +115,7 @@ fn of_key(key: KeyType) -> ValueType
     }
 }
 
-/// The type of the keys of a set or a map; of a scalar the type itself.
+/// The type of the keys of a set or a map; of another type the type itself.
 pub fn key_of(of: ValueType) -> ValueType
     ensures { result ≡ key_of of }
 {
@@ -112,10 +123,11 @@ pub fn key_of(of: ValueType) -> ValueType
         ValueType::Scalar(_) => of,
         ValueType::Set(key) => of_key(key),
         ValueType::Map(key, _) => of_key(key),
+        ValueType::Queue(_) => of,
     }
 }
 
-/// The type of the values of a map; of another type the type itself.
+/// The type of the values of a map or a queue; of another type the type itself.
 pub fn entry_of(of: ValueType) -> ValueType
     ensures { result ≡ entry_of of }
 {
@@ -123,5 +135,6 @@ pub fn entry_of(of: ValueType) -> ValueType
         ValueType::Scalar(_) => of,
         ValueType::Set(_) => of,
         ValueType::Map(_, entry) => ValueType::Scalar(entry),
+        ValueType::Queue(entry) => ValueType::Scalar(entry),
     }
 }

@@ -124,21 +124,19 @@ fn of_term(at: Setting, first: ExprType, term: Term) -> ExprType
     ensures { result ≡ of_term at first term }
 {
     match term {
-        Term::Set => first,
-        Term::Map => first,
+        Term::Of(_) => first,
         Term::Key => at.lifted(key_of(first.inner())),
         Term::Entry => at.lifted(entry_of(first.inner())),
         Term::Scalar(of) => at.lifted(ValueType::Scalar(of)),
     }
 }
 
-/// The first part is a set, a map or a scalar.
+/// The first part is an aggregate or a scalar.
 fn first_asked(at: Setting, first: ExprType, term: Term) -> Asked
     ensures { result ≡ first_asked at first term }
 {
     match term {
-        Term::Set => at.lifted_of(Family::Sets),
-        Term::Map => at.lifted_of(Family::Maps),
+        Term::Of(kind) => at.lifted_of(Family::Of(kind)),
         Term::Key => Asked::Exactly(of_term(at, first, term)),
         Term::Entry => Asked::Exactly(of_term(at, first, term)),
         Term::Scalar(_) => Asked::Exactly(of_term(at, first, term)),

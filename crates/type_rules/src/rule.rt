@@ -1,6 +1,7 @@
 // What expressions are, and what is asked of them.
 
 use tsl_value::scalar::ValueType;
+use vocabulary::kind::Kind;
 
 /// What an expression is: a stream, a value, or an optional value.
 #[derive(Clone, Copy, PartialEq, Eq, Debug)]
@@ -15,8 +16,7 @@ pub enum ExprType {
 pub enum Family {
     Any,
     Scalars,
-    Sets,
-    Maps,
+    Of(Kind),
 }
 
 /// Where an expression stands: in the body of a value function, or elsewhere.

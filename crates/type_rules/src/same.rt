@@ -36,6 +36,7 @@ fn is_value(a: ValueType, b: ValueType) -> bool
         (ValueType::Scalar(a), ValueType::Scalar(b)) => is_scalar(a, b),
         (ValueType::Set(a), ValueType::Set(b)) => is_key(a, b),
         (ValueType::Map(a, x), ValueType::Map(b, y)) => is_key(a, b) && is_scalar(x, y),
+        (ValueType::Queue(x), ValueType::Queue(y)) => is_scalar(x, y),
         _ => false,
     }
 }

@@ -3,11 +3,12 @@
 ghost use Rattle.std.specs.Prelude.{◌≡◌, slice_get};
 ghost use Rattle.std.specs.Option.{option_map};
 ghost use Rattle.type_rules.specs.declared.rule.ExprType.TheVariants as expr_type;
-ghost use Rattle.type_rules.specs.Written.{scalar_of, key_of, value_of, as_written, as_stream, bad_key, bad_scalar, bad_inside};
-ghost use Rattle.type_rules.specs.Written.{bad_as_written, bad_as_stream};
+ghost use Rattle.syntax_tree.specs.inner.OneLevel.{aggregate_in};
+ghost use Rattle.type_rules.specs.Written.{scalar_of, key_of, aggregate_of, value_of, as_written, as_stream, bad_key, bad_scalar, bad_in};
+ghost use Rattle.type_rules.specs.Written.{bad_inside, bad_as_written, bad_as_stream};
 
 use crate::rule::ExprType;
-use syntax_tree::tree::{TypeName, TypeShape};
+use syntax_tree::tree::{Aggregate, TypeName, TypeShape};
 use tsl_value::place::Place;
 use tsl_value::scalar::{KeyType, ScalarType, ValueType};
 
@@ -20,8 +21,7 @@ pub fn scalar_of(written: &TypeName) -> Option<ScalarType>
         TypeShape::Int => Some(ScalarType::Int),
         TypeShape::Bool => Some(ScalarType::Bool),
         TypeShape::Text => Some(ScalarType::Text),
-        TypeShape::Set(_) => None,
-        TypeShape::Map(_, _) => None,
+        TypeShape::Aggregate(_) => None,
         TypeShape::Option(_) => None,
         TypeShape::Events(_) => None,
     }
@@ -36,10 +36,32 @@ pub fn key_of(written: &TypeName) -> Option<KeyType>
         TypeShape::Bool => Some(KeyType::Bool),
         TypeShape::Text => Some(KeyType::Text),
         TypeShape::Unit => None,
-        TypeShape::Set(_) => None,
-        TypeShape::Map(_, _) => None,
+        TypeShape::Aggregate(_) => None,
         TypeShape::Option(_) => None,
         TypeShape::Events(_) => None,
+    }
+}
+
+/// The type of aggregates of what stands in the brackets, if there is one.
+pub fn aggregate_of(written: &Aggregate) -> Option<ValueType>
+    ensures { result ≡ aggregate_of (aggregate_in written.now) }
+{
+    match written {
+        Aggregate::Set(key) => match key_of(key) {
+            Some(key) => Some(ValueType::Set(key)),
+            None => None,
+        },
+        Aggregate::Map(key, of) => match key_of(key) {
+            None => None,
+            Some(key) => match scalar_of(of) {
+                Some(of) => Some(ValueType::Map(key, of)),
+                None => None,
+            },
+        },
+        Aggregate::Queue(of) => match scalar_of(of) {
+            Some(of) => Some(ValueType::Queue(of)),
+            None => None,
+        },
     }
 }
 
@@ -52,17 +74,7 @@ pub fn value_of(written: &TypeName) -> Option<ValueType>
         TypeShape::Int => Some(ValueType::Scalar(ScalarType::Int)),
         TypeShape::Bool => Some(ValueType::Scalar(ScalarType::Bool)),
         TypeShape::Text => Some(ValueType::Scalar(ScalarType::Text)),
-        TypeShape::Set(key) => match key_of(key) {
-            Some(key) => Some(ValueType::Set(key)),
-            None => None,
-        },
-        TypeShape::Map(key, of) => match key_of(key) {
-            None => None,
-            Some(key) => match scalar_of(of) {
-                Some(of) => Some(ValueType::Map(key, of)),
-                None => None,
-            },
-        },
+        TypeShape::Aggregate(of) => aggregate_of(of),
         TypeShape::Option(_) => None,
         TypeShape::Events(_) => None,
     }
@@ -91,8 +103,7 @@ pub fn as_written(written: &TypeName) -> Option<ExprType>
         | TypeShape::Int
         | TypeShape::Bool
         | TypeShape::Text
-        | TypeShape::Set(_)
-        | TypeShape::Map(_, _) => match value_of(written) {
+        | TypeShape::Aggregate(_) => match value_of(written) {
             Some(of) => Some(ExprType::Value(of)),
             None => None,
         },
@@ -109,8 +120,7 @@ pub fn as_stream(written: &TypeName) -> Option<ExprType>
         | TypeShape::Int
         | TypeShape::Bool
         | TypeShape::Text
-        | TypeShape::Set(_)
-        | TypeShape::Map(_, _)
+        | TypeShape::Aggregate(_)
         | TypeShape::Option(_) => stream(value_of(written)),
     }
 }
@@ -125,7 +135,7 @@ pub fn bad_key(written: &TypeName) -> Option<Place>
     }
 }
 
-/// Where a type that is no scalar stands as the type of a map's values.
+/// Where a type that is no scalar stands as the type of a map's values or of a queue's elements.
 pub fn bad_scalar(written: &TypeName) -> Option<Place>
     ensures { result ≡ slice_get (bad_scalar written.now) 0 }
 {
@@ -135,16 +145,26 @@ pub fn bad_scalar(written: &TypeName) -> Option<Place>
     }
 }
 
+/// Where the first type in an aggregate's brackets stands that may not.
+pub fn bad_in(written: &Aggregate) -> Option<Place>
+    ensures { result ≡ slice_get (bad_in (aggregate_in written.now)) 0 }
+{
+    match written {
+        Aggregate::Set(key) => bad_key(key),
+        Aggregate::Map(key, of) => match bad_key(key) {
+            Some(place) => Some(place),
+            None => bad_scalar(of),
+        },
+        Aggregate::Queue(of) => bad_scalar(of),
+    }
+}
+
 /// Where the first type in another one stands that may not, of a type that stands inside another one itself.
 pub fn bad_inside(written: &TypeName) -> Option<Place>
     ensures { result ≡ slice_get (bad_inside written.now) 0 }
 {
     match written.shape() {
-        TypeShape::Set(key) => bad_key(key),
-        TypeShape::Map(key, of) => match bad_key(key) {
-            Some(place) => Some(place),
-            None => bad_scalar(of),
-        },
+        TypeShape::Aggregate(of) => bad_in(of),
         TypeShape::Option(_) | TypeShape::Events(_) => Some(written.place()),
         TypeShape::Unit | TypeShape::Int | TypeShape::Bool | TypeShape::Text => None,
     }
@@ -160,8 +180,7 @@ pub fn bad_as_written(written: &TypeName) -> Option<Place>
         | TypeShape::Int
         | TypeShape::Bool
         | TypeShape::Text
-        | TypeShape::Set(_)
-        | TypeShape::Map(_, _) => bad_inside(written),
+        | TypeShape::Aggregate(_) => bad_inside(written),
     }
 }
 
@@ -175,8 +194,7 @@ pub fn bad_as_stream(written: &TypeName) -> Option<Place>
         | TypeShape::Int
         | TypeShape::Bool
         | TypeShape::Text
-        | TypeShape::Set(_)
-        | TypeShape::Map(_, _)
+        | TypeShape::Aggregate(_)
         | TypeShape::Option(_) => bad_inside(written),
     }
 }

@@ -1,10 +1,13 @@
 -- What is found by two names has them. What holds of all functions that are listed holds of each.
-use Rattle.std.proofs.Common.{◌≡◌, ℕ, Bool, true, false, cond, ◌&&◌, ◌||◌, List, [], ◌∷◌, Some, refl, subst}
+use Rattle.std.proofs.Common.{◌≡◌, ℕ, Bool, true, false, cond, ◌&&◌, ◌||◌, List, [], ◌∷◌, Some, refl, ap, subst}
 use Rattle.std.specs.List.{find, list_all}
 use Rattle.std.specs.Str.{bytes_eq}
 use Rattle.std.proofs.lemmas.Bool.{and_parts, false≢true}
 use Rattle.std.proofs.lemmas.Option.{same_Some}
 use Rattle.std.proofs.lemmas.Slice.Eq.{bytes_eq-Decides}
+use Rattle.vocabulary.specs.declared.kind.Kind.{Kind}
+use Rattle.vocabulary.specs.declared.kind.Kind.TheVariants as kind
+use Rattle.vocabulary.specs.Kinds.{kind_name, kinds, kind_named, is_kind}
 use Rattle.vocabulary.specs.declared.dotted.Family.{Family}
 use Rattle.vocabulary.specs.declared.dotted.Family.TheVariants as family
 use Rattle.vocabulary.specs.declared.dotted.Dotted.{Dotted}
@@ -25,9 +28,24 @@ found p (y ∷ ys) x h = by (p y) refl (found p ys x) h
     by true is more same = subst (λ z. p z ≡ true) (same_Some y x same) is
     by false is more other = more other
 
+-- ---- kinds
+-- what is found by a name has it, and each is found by its name
+pub kind_is : (n : List ℕ) (g : Kind) → kind_named n ≡ Some g → n ≡ kind_name g
+kind_is n g h = (bytes_eq-Decides n (kind_name g)).0 (found (λ g. bytes_eq n (kind_name g)) kinds g h)
+
+pub kind_again : (g : Kind) → kind_named (kind_name g) ≡ Some g
+kind_again kind.Set = refl
+kind_again g = refl
+
+pub same_kind : (g h : Kind) → is_kind g h ≡ true → h ≡ g
+same_kind kind.Set kind.Set same = refl
+same_kind kind.Map kind.Map same = refl
+same_kind kind.Queue kind.Queue same = refl
+same_kind g h same = absurd (false≢true same)
+
+-- ---- functions with a dot
 same_family : (f g : Family) → is_family f g ≡ true → g ≡ f
-same_family family.Set family.Set h = refl
-same_family family.Map family.Map h = refl
+same_family (family.Of g) (family.Of h) same = ap family.Of (same_kind g h same)
 same_family family.Text family.Text h = refl
 same_family f g h = absurd (false≢true h)
 
@@ -51,15 +69,23 @@ unfolding dotted_of
 all_true q all d = held (λ e. is_family (family_in e) (family_in d) && bytes_eq (member_name d) (member_name e)) q every d all (dotted_again d)
 
 -- ---- signatures
+-- the type of an aggregate of this kind has a type of keys, or one of entries
+abbrev pub has_key : Kind → Bool
+has_key kind.Set = true
+has_key kind.Map = true
+has_key kind.Queue = false
+
+abbrev pub has_entry : Kind → Bool
+has_entry kind.Set = false
+has_entry kind.Map = true
+has_entry kind.Queue = true
+
 -- what the first argument fixes is enough for this type
 abbrev pub admits : Term → Term → Bool
-admits term.Set term.Set = true
-admits term.Set term.Key = true
-admits term.Set (term.Scalar t) = true
-admits term.Map term.Map = true
-admits term.Map term.Key = true
-admits term.Map term.Entry = true
-admits term.Map (term.Scalar t) = true
+admits (term.Of g) (term.Of h) = is_kind g h
+admits (term.Of g) term.Key = has_key g
+admits (term.Of g) term.Entry = has_entry g
+admits (term.Of g) (term.Scalar t) = true
 admits (term.Scalar s) (term.Scalar t) = true
 admits p t = false
 
@@ -71,14 +97,13 @@ is_scoped (parameters.Three p q r) g = admits p p && (admits p q && (admits p r 
 pub each_scoped : (d : Dotted) → is_scoped (parameters_of d) (gives_of d) ≡ true
 each_scoped d = all_true (λ d. is_scoped (parameters_of d) (gives_of d)) refl d
 
--- an operation gives no set and no map
+-- an operation gives no aggregate
 abbrev pub is_update : Role → Bool
 is_update (role.Update o) = true
 is_update r = false
 
 abbrev pub is_scalar : Term → Bool
-is_scalar term.Set = false
-is_scalar term.Map = false
+is_scalar (term.Of g) = false
 is_scalar t = true
 
 abbrev pub gives_scalar : Role → Term → Bool

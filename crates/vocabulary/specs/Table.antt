@@ -1,10 +1,13 @@
 -- The functions of the language whose names have a dot, on one page: how each is spelled, what it takes and gives, and what it is.
 use Rattle.std.specs.Prelude.{◌≡◌, ℕ, Bool, true, false, ◌&&◌, if◌then◌else◌, List, [], ◌∷◌, Option, Some, None, codes, refl}
 use Rattle.std.specs.List.{find}
+use Rattle.std.specs.Option.{option_map}
 use Rattle.std.specs.Str.{bytes_eq}
 use Rattle.tsl_value.specs.declared.scalar.ScalarType.TheVariants as scalar_type
 use Rattle.tsl_value.specs.declared.operation.Unary.TheVariants as unary
 use Rattle.tsl_value.specs.declared.operation.Binary.TheVariants as binary
+use Rattle.vocabulary.specs.declared.kind.Kind.TheVariants as kind
+use Rattle.vocabulary.specs.Kinds.{kind_name, kind_named, is_kind}
 use Rattle.vocabulary.specs.declared.dotted.Family.{Family}
 use Rattle.vocabulary.specs.declared.dotted.Family.TheVariants as family
 use Rattle.vocabulary.specs.declared.dotted.Dotted.{Dotted}
@@ -19,16 +22,11 @@ use Rattle.vocabulary.specs.declared.signature.Role.TheVariants as role
 
 -- what stands before a dot
 abbrev pub family_name : Family → List ℕ
-family_name family.Set = codes "Set"
-family_name family.Map = codes "Map"
+family_name (family.Of g) = kind_name g
 family_name family.Text = codes "String"
 
 abbrev pub family_of : List ℕ → Option Family
-family_of n =
-    if bytes_eq n (codes "Set") then Some family.Set
-    else if bytes_eq n (codes "Map") then Some family.Map
-    else if bytes_eq n (codes "String") then Some family.Text
-    else None
+family_of n = if bytes_eq n (codes "String") then Some family.Text else option_map family.Of (kind_named n)
 
 -- What stands before the dot and after it, what the function takes and gives, and what it is. Its first argument fixes the types of
 -- keys and of entries.
@@ -42,6 +40,15 @@ pub record Row : Type 0 where
 abbrev row : Family → List ℕ → Parameters → Term → Role → Row
 row f n ps t r = record { before = f; after = n; takes = ps; gives = t; is = r }
 
+abbrev set : Term
+set = term.Of kind.Set
+
+abbrev map : Term
+map = term.Of kind.Map
+
+abbrev queue : Term
+queue = term.Of kind.Queue
+
 abbrev int : Term
 int = term.Scalar scalar_type.Int
 
@@ -52,15 +59,19 @@ abbrev text : Term
 text = term.Scalar scalar_type.Text
 
 abbrev pub table : Dotted → Row
-table dotted.SetAdd = row family.Set (codes "add") (parameters.Two term.Set term.Key) term.Set (role.Update update.SetAdd)
-table dotted.SetRemove = row family.Set (codes "remove") (parameters.Two term.Set term.Key) term.Set (role.Update update.SetRemove)
-table dotted.SetContains = row family.Set (codes "contains") (parameters.Two term.Set term.Key) bool (role.Binary binary.Contains)
-table dotted.SetSize = row family.Set (codes "size") (parameters.One term.Set) int (role.Unary unary.Size)
-table dotted.MapAdd = row family.Map (codes "add") (parameters.Three term.Map term.Key term.Entry) term.Map (role.Update update.MapAdd)
-table dotted.MapRemove = row family.Map (codes "remove") (parameters.Two term.Map term.Key) term.Map (role.Update update.MapRemove)
-table dotted.MapContains = row family.Map (codes "contains") (parameters.Two term.Map term.Key) bool (role.Binary binary.Contains)
-table dotted.MapGet = row family.Map (codes "get") (parameters.Two term.Map term.Key) term.Entry (role.Binary binary.Get)
-table dotted.MapSize = row family.Map (codes "size") (parameters.One term.Map) int (role.Unary unary.Size)
+table dotted.SetAdd = row (family.Of kind.Set) (codes "add") (parameters.Two set term.Key) set (role.Update update.SetAdd)
+table dotted.SetRemove = row (family.Of kind.Set) (codes "remove") (parameters.Two set term.Key) set (role.Update update.SetRemove)
+table dotted.SetContains = row (family.Of kind.Set) (codes "contains") (parameters.Two set term.Key) bool (role.Binary binary.Contains)
+table dotted.SetSize = row (family.Of kind.Set) (codes "size") (parameters.One set) int (role.Unary unary.Size)
+table dotted.MapAdd = row (family.Of kind.Map) (codes "add") (parameters.Three map term.Key term.Entry) map (role.Update update.MapAdd)
+table dotted.MapRemove = row (family.Of kind.Map) (codes "remove") (parameters.Two map term.Key) map (role.Update update.MapRemove)
+table dotted.MapContains = row (family.Of kind.Map) (codes "contains") (parameters.Two map term.Key) bool (role.Binary binary.Contains)
+table dotted.MapGet = row (family.Of kind.Map) (codes "get") (parameters.Two map term.Key) term.Entry (role.Binary binary.Get)
+table dotted.MapSize = row (family.Of kind.Map) (codes "size") (parameters.One map) int (role.Unary unary.Size)
+table dotted.QueueEnqueue = row (family.Of kind.Queue) (codes "enqueue") (parameters.Two queue term.Entry) queue (role.Update update.QueueAdd)
+table dotted.QueueDequeue = row (family.Of kind.Queue) (codes "dequeue") (parameters.One queue) queue (role.Update update.QueueTake)
+table dotted.QueueFront = row (family.Of kind.Queue) (codes "front") (parameters.One queue) term.Entry (role.Unary unary.Front)
+table dotted.QueueSize = row (family.Of kind.Queue) (codes "size") (parameters.One queue) int (role.Unary unary.Size)
 table dotted.StringConcat = row family.Text (codes "concat") (parameters.Two text text) text (role.Binary binary.Concat)
 table dotted.StringSize = row family.Text (codes "size") (parameters.One text) int (role.Unary unary.Length)
 
@@ -69,6 +80,7 @@ abbrev pub every : List Dotted
 every =
     dotted.SetAdd ∷ dotted.SetRemove ∷ dotted.SetContains ∷ dotted.SetSize
     ∷ dotted.MapAdd ∷ dotted.MapRemove ∷ dotted.MapContains ∷ dotted.MapGet ∷ dotted.MapSize
+    ∷ dotted.QueueEnqueue ∷ dotted.QueueDequeue ∷ dotted.QueueFront ∷ dotted.QueueSize
     ∷ dotted.StringConcat ∷ dotted.StringSize ∷ []
 
 -- ---- the columns
@@ -98,8 +110,7 @@ takes_of d = how_many (parameters_of d)
 
 -- ---- the function of these two names
 abbrev pub is_family : Family → Family → Bool
-is_family family.Set family.Set = true
-is_family family.Map family.Map = true
+is_family (family.Of g) (family.Of h) = is_kind g h
 is_family family.Text family.Text = true
 is_family f g = false
 
@@ -117,5 +128,9 @@ dotted_again dotted.MapRemove = refl
 dotted_again dotted.MapContains = refl
 dotted_again dotted.MapGet = refl
 dotted_again dotted.MapSize = refl
+dotted_again dotted.QueueEnqueue = refl
+dotted_again dotted.QueueDequeue = refl
+dotted_again dotted.QueueFront = refl
+dotted_again dotted.QueueSize = refl
 dotted_again dotted.StringConcat = refl
 dotted_again dotted.StringSize = refl

@@ -4,6 +4,7 @@ ghost use Rattle.std.specs.Prelude.{◌≡◌};
 ghost use Rattle.vocabulary.specs.Table.{family_name, family_of, family_in, member_name, parameters_of, gives_of, role_of, takes_of};
 ghost use Rattle.vocabulary.specs.Table.{dotted_of};
 
+use crate::kind::{Kind, kind_named};
 use crate::signature::{Parameters, Role, Term};
 use tsl_value::operation::{Binary, Unary, Update};
 use tsl_value::scalar::ScalarType;
@@ -11,8 +12,7 @@ use tsl_value::scalar::ScalarType;
 /// What may stand before a dot.
 #[derive(Clone, Copy)]
 pub enum Family {
-    Set,
-    Map,
+    Of(Kind),
     Text,
 }
 
@@ -21,8 +21,7 @@ impl Family {
         ensures { result.now ≡ family_name self }
     {
         match self {
-            Family::Set => "Set",
-            Family::Map => "Map",
+            Family::Of(kind) => kind.name(),
             Family::Text => "String",
         }
     }
@@ -31,14 +30,12 @@ impl Family {
 pub fn family_named(name: &str) -> Option<Family>
     ensures { result ≡ family_of name.now }
 {
-    if name == "Set" {
-        Some(Family::Set)
-    } else if name == "Map" {
-        Some(Family::Map)
-    } else if name == "String" {
-        Some(Family::Text)
-    } else {
-        None
+    if name == "String" {
+        return Some(Family::Text);
+    }
+    match kind_named(name) {
+        Some(kind) => Some(Family::Of(kind)),
+        None => None,
     }
 }
 
@@ -53,9 +50,25 @@ pub enum Dotted {
     MapContains,
     MapGet,
     MapSize,
+    QueueEnqueue,
+    QueueDequeue,
+    QueueFront,
+    QueueSize,
     StringConcat,
     StringSize,
 }
+
+const SETS: Family = Family::Of(Kind::Set);
+
+const MAPS: Family = Family::Of(Kind::Map);
+
+const QUEUES: Family = Family::Of(Kind::Queue);
+
+const SET: Term = Term::Of(Kind::Set);
+
+const MAP: Term = Term::Of(Kind::Map);
+
+const QUEUE: Term = Term::Of(Kind::Queue);
 
 const INT: Term = Term::Scalar(ScalarType::Int);
 
@@ -69,10 +82,12 @@ impl Dotted {
         ensures { result ≡ family_in self }
     {
         match self {
-            Dotted::SetAdd | Dotted::SetRemove | Dotted::SetContains => Family::Set,
-            Dotted::SetSize => Family::Set,
-            Dotted::MapAdd | Dotted::MapRemove | Dotted::MapContains => Family::Map,
-            Dotted::MapGet | Dotted::MapSize => Family::Map,
+            Dotted::SetAdd | Dotted::SetRemove | Dotted::SetContains => SETS,
+            Dotted::SetSize => SETS,
+            Dotted::MapAdd | Dotted::MapRemove | Dotted::MapContains => MAPS,
+            Dotted::MapGet | Dotted::MapSize => MAPS,
+            Dotted::QueueEnqueue | Dotted::QueueDequeue => QUEUES,
+            Dotted::QueueFront | Dotted::QueueSize => QUEUES,
             Dotted::StringConcat | Dotted::StringSize => Family::Text,
         }
     }
@@ -85,8 +100,12 @@ impl Dotted {
             Dotted::SetAdd | Dotted::MapAdd => "add",
             Dotted::SetRemove | Dotted::MapRemove => "remove",
             Dotted::SetContains | Dotted::MapContains => "contains",
-            Dotted::SetSize | Dotted::MapSize | Dotted::StringSize => "size",
+            Dotted::SetSize | Dotted::MapSize => "size",
+            Dotted::QueueSize | Dotted::StringSize => "size",
             Dotted::MapGet => "get",
+            Dotted::QueueEnqueue => "enqueue",
+            Dotted::QueueDequeue => "dequeue",
+            Dotted::QueueFront => "front",
             Dotted::StringConcat => "concat",
         }
     }
@@ -95,13 +114,16 @@ impl Dotted {
         ensures { result ≡ parameters_of self }
     {
         match self {
-            Dotted::SetAdd | Dotted::SetRemove => Parameters::Two(Term::Set, Term::Key),
-            Dotted::SetContains => Parameters::Two(Term::Set, Term::Key),
-            Dotted::SetSize => Parameters::One(Term::Set),
-            Dotted::MapAdd => Parameters::Three(Term::Map, Term::Key, Term::Entry),
-            Dotted::MapRemove => Parameters::Two(Term::Map, Term::Key),
-            Dotted::MapContains | Dotted::MapGet => Parameters::Two(Term::Map, Term::Key),
-            Dotted::MapSize => Parameters::One(Term::Map),
+            Dotted::SetAdd | Dotted::SetRemove => Parameters::Two(SET, Term::Key),
+            Dotted::SetContains => Parameters::Two(SET, Term::Key),
+            Dotted::SetSize => Parameters::One(SET),
+            Dotted::MapAdd => Parameters::Three(MAP, Term::Key, Term::Entry),
+            Dotted::MapRemove => Parameters::Two(MAP, Term::Key),
+            Dotted::MapContains | Dotted::MapGet => Parameters::Two(MAP, Term::Key),
+            Dotted::MapSize => Parameters::One(MAP),
+            Dotted::QueueEnqueue => Parameters::Two(QUEUE, Term::Entry),
+            Dotted::QueueDequeue | Dotted::QueueFront => Parameters::One(QUEUE),
+            Dotted::QueueSize => Parameters::One(QUEUE),
             Dotted::StringConcat => Parameters::Two(TEXT, TEXT),
             Dotted::StringSize => Parameters::One(TEXT),
         }
@@ -111,11 +133,13 @@ impl Dotted {
         ensures { result ≡ gives_of self }
     {
         match self {
-            Dotted::SetAdd | Dotted::SetRemove => Term::Set,
-            Dotted::MapAdd | Dotted::MapRemove => Term::Map,
-            Dotted::MapGet => Term::Entry,
+            Dotted::SetAdd | Dotted::SetRemove => SET,
+            Dotted::MapAdd | Dotted::MapRemove => MAP,
+            Dotted::QueueEnqueue | Dotted::QueueDequeue => QUEUE,
+            Dotted::MapGet | Dotted::QueueFront => Term::Entry,
             Dotted::SetContains | Dotted::MapContains => BOOL,
-            Dotted::SetSize | Dotted::MapSize | Dotted::StringSize => INT,
+            Dotted::SetSize | Dotted::MapSize => INT,
+            Dotted::QueueSize | Dotted::StringSize => INT,
             Dotted::StringConcat => TEXT,
         }
     }
@@ -128,10 +152,14 @@ impl Dotted {
             Dotted::SetRemove => Role::Update(Update::SetRemove),
             Dotted::MapAdd => Role::Update(Update::MapAdd),
             Dotted::MapRemove => Role::Update(Update::MapRemove),
+            Dotted::QueueEnqueue => Role::Update(Update::QueueAdd),
+            Dotted::QueueDequeue => Role::Update(Update::QueueTake),
+            Dotted::QueueFront => Role::Unary(Unary::Front),
             Dotted::SetContains | Dotted::MapContains => Role::Binary(Binary::Contains),
             Dotted::MapGet => Role::Binary(Binary::Get),
             Dotted::StringConcat => Role::Binary(Binary::Concat),
             Dotted::SetSize | Dotted::MapSize => Role::Unary(Unary::Size),
+            Dotted::QueueSize => Role::Unary(Unary::Size),
             Dotted::StringSize => Role::Unary(Unary::Length),
         }
     }
@@ -146,7 +174,7 @@ impl Dotted {
 
 #[tactic(auto, unfolding(crate::specs::Table::dotted_of))]
 fn in_sets(name: &str) -> Option<Dotted>
-    ensures { result ≡ dotted_of Family.Set name.now }
+    ensures { result ≡ dotted_of (Family.Of Kind.Set) name.now }
 {
     match name {
         "add" => Some(Dotted::SetAdd),
@@ -159,7 +187,7 @@ fn in_sets(name: &str) -> Option<Dotted>
 
 #[tactic(auto, unfolding(crate::specs::Table::dotted_of))]
 fn in_maps(name: &str) -> Option<Dotted>
-    ensures { result ≡ dotted_of Family.Map name.now }
+    ensures { result ≡ dotted_of (Family.Of Kind.Map) name.now }
 {
     match name {
         "add" => Some(Dotted::MapAdd),
@@ -167,6 +195,19 @@ fn in_maps(name: &str) -> Option<Dotted>
         "contains" => Some(Dotted::MapContains),
         "get" => Some(Dotted::MapGet),
         "size" => Some(Dotted::MapSize),
+        _ => None,
+    }
+}
+
+#[tactic(auto, unfolding(crate::specs::Table::dotted_of))]
+fn in_queues(name: &str) -> Option<Dotted>
+    ensures { result ≡ dotted_of (Family.Of Kind.Queue) name.now }
+{
+    match name {
+        "enqueue" => Some(Dotted::QueueEnqueue),
+        "dequeue" => Some(Dotted::QueueDequeue),
+        "front" => Some(Dotted::QueueFront),
+        "size" => Some(Dotted::QueueSize),
         _ => None,
     }
 }
@@ -187,8 +228,9 @@ pub fn dotted_named(family: Family, name: &str) -> Option<Dotted>
     ensures { result ≡ dotted_of family name.now }
 {
     match family {
-        Family::Set => in_sets(name),
-        Family::Map => in_maps(name),
+        Family::Of(Kind::Set) => in_sets(name),
+        Family::Of(Kind::Map) => in_maps(name),
+        Family::Of(Kind::Queue) => in_queues(name),
         Family::Text => in_texts(name),
     }
 }

@@ -2,5 +2,6 @@
 #![tactic(auto)]
 
 pub mod dotted;
+pub mod kind;
 pub mod plain;
 pub mod signature;

@@ -3,6 +3,7 @@
 ghost use Rattle.std.specs.Prelude.{◌≡◌};
 ghost use Rattle.vocabulary.specs.Table.{how_many};
 
+use crate::kind::Kind;
 use tsl_value::operation::{Binary, Unary, Update};
 use tsl_value::scalar::ScalarType;
 
@@ -10,10 +11,8 @@ use tsl_value::scalar::ScalarType;
 /// fixes them.
 #[derive(Clone, Copy)]
 pub enum Term {
-    /// A set of keys.
-    Set,
-    /// A map from keys to entries.
-    Map,
+    /// An aggregate of this kind: a set of keys, a map from keys to entries, a queue of entries.
+    Of(Kind),
     Key,
     Entry,
     Scalar(ScalarType),

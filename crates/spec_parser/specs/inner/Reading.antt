@@ -15,6 +15,8 @@ use Rattle.syntax_tree.specs.declared.tree.Level.{Level}
 use Rattle.syntax_tree.specs.declared.tree.Level.TheVariants as level
 use Rattle.syntax_tree.specs.declared.tree.Operator.{Operator}
 use Rattle.syntax_tree.specs.declared.tree.Comparison.{Comparison}
+use Rattle.vocabulary.specs.declared.kind.Kind.{Kind}
+use Rattle.vocabulary.specs.declared.kind.Kind.TheVariants as aggregate_kind
 use Rattle.vocabulary.specs.declared.dotted.Dotted.{Dotted}
 use Rattle.spec_parser.specs.declared.words.TypeWord.{TypeWord}
 use Rattle.spec_parser.specs.declared.words.TypeWord.TheVariants as type_word
@@ -29,7 +31,8 @@ use Rattle.spec_parser.specs.declared.words.Callee.TheVariants as callee
 use Rattle.spec_parser.specs.declared.words.Member.{Member}
 use Rattle.spec_parser.specs.declared.words.Member.TheVariants as member
 use Rattle.syntax_tree.specs.Tree as tree
-use Rattle.syntax_tree.specs.Tree.{TypeName, Expr, Exprs, no_exprs, more_exprs, Links, no_links, more_links, place_of, Param, Body}
+use Rattle.syntax_tree.specs.Tree.{TypeName, Aggregate, Expr, Exprs, no_exprs, more_exprs, Links, no_links, more_links, place_of, Param}
+use Rattle.syntax_tree.specs.Tree.{Body}
 use Rattle.syntax_tree.specs.Tree.{Definition, Definitions, no_definitions, more_definitions, Item}
 use Rattle.spec_parser.specs.Words.{operator_at, comparison_at, opens_call, is_open, is_close, is_open_bracket, is_close_bracket}
 use Rattle.spec_parser.specs.Words.{is_open_brace, is_close_brace, is_comma, is_colon, defines, is_if, is_then, is_else, is_as, is_def}
@@ -59,19 +62,26 @@ in_brackets inner f = inner >>= λ y. must is_close_bracket (give (f y))
 abbrev pub two_in_brackets : {A : Type 0} → Reader TypeName → (TypeName → TypeName → A) → Reader A
 two_in_brackets inner f = inner >>= λ x. must is_comma (in_brackets inner (f x))
 
+-- what stands in the brackets of an aggregate of a kind
+abbrev pub aggregate_of : Reader TypeName → Kind → Reader Aggregate
+aggregate_of inner aggregate_kind.Set = in_brackets inner tree.SetOf
+aggregate_of inner aggregate_kind.Map = two_in_brackets inner tree.MapOf
+aggregate_of inner aggregate_kind.Queue = in_brackets inner tree.QueueOf
+
+abbrev pub an_aggregate : ℕ → Reader TypeName → Kind → Reader Aggregate
+an_aggregate room inner g = must is_open_bracket (opened room (aggregate_of inner g))
+
 abbrev pub type_after : ℕ → Reader TypeName → Place → TypeWord → Reader TypeName
 type_after room inner place type_word.Unit = give (tree.UnitType place)
 type_after room inner place type_word.Int = give (tree.IntType place)
 type_after room inner place type_word.Bool = give (tree.BoolType place)
 type_after room inner place type_word.Text = give (tree.TextType place)
-type_after room inner place type_word.Set = must is_open_bracket (opened room (in_brackets inner (tree.SetType place)))
-type_after room inner place type_word.Map = must is_open_bracket (opened room (two_in_brackets inner (tree.MapType place)))
+type_after room inner place (type_word.Of g) = an_aggregate room inner g >>= λ a. give (tree.AggregateType place a)
 type_after room inner place type_word.Option = must is_open_bracket (opened room (in_brackets inner (tree.OptionType place)))
 type_after room inner place type_word.Events = must is_open_bracket (opened room (in_brackets inner (tree.EventsType place)))
 
--- the type with one type in its brackets
+-- the type of one type in brackets
 abbrev pub wrapped : Place → Wrapper → TypeName → TypeName
-wrapped place wrapper.Set = tree.SetType place
 wrapped place wrapper.Option = tree.OptionType place
 wrapped place wrapper.Events = tree.EventsType place
 
@@ -124,10 +134,9 @@ abbrev pub typed : ℕ → Reader TypeName → Place → TypedWord → Reader Ex
 typed room types place typed_word.Nil = opened room (in_brackets types (tree.Nil place))
 typed room types place typed_word.None = opened room (in_brackets types (tree.None place))
 
--- after the dot stands an empty set, an empty map, or the name of a function
+-- after the dot stands the word for an empty aggregate, or the name of a function
 abbrev pub empty_of : Family → Option Member
-empty_of family.Set = Some member.EmptySet
-empty_of family.Map = Some member.EmptyMap
+empty_of (family.Of g) = Some (member.Empty g)
 empty_of family.Text = None
 
 abbrev pub empty_member : Family → List ℕ → Option Member
@@ -140,13 +149,15 @@ called_or other None = other
 unfoldable pub member_of : Family → List ℕ → Option Member
 member_of f n = called_or (empty_member f n) (dotted_of f n)
 
+abbrev pub empty_after : ℕ → Reader TypeName → Place → Kind → Reader Expr
+empty_after room types place g = an_aggregate room types g >>= λ a. give (tree.Empty place a)
+
 abbrev pub must_call : {A : Type 0} → Reader A → Reader A
 must_call p = take_by (λ t. when (opens_call t.kind t.first) p)
 
 abbrev pub member_after : ℕ → Reader TypeName → Reader Expr → Place → Member → Reader Expr
 member_after room types inner place (member.Called o) = must_call (opened room (arguments inner (tree.CallDotted place o)))
-member_after room types inner place member.EmptySet = must is_open_bracket (opened room (in_brackets types (tree.EmptySet place)))
-member_after room types inner place member.EmptyMap = must is_open_bracket (opened room (two_in_brackets types (tree.EmptyMap place)))
+member_after room types inner place (member.Empty g) = empty_after room types place g
 
 abbrev pub at_member : ℕ → Reader TypeName → Reader Expr → Place → Family → TokenKind → Option (Reader Expr)
 at_member room types inner place f (kind.Name n) = option_map (member_after room types inner place) (member_of f n)

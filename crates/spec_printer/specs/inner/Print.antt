@@ -15,8 +15,10 @@ use Rattle.syntax_tree.specs.declared.tree.Operator.TheVariants as operator
 use Rattle.syntax_tree.specs.declared.tree.Comparison.{Comparison}
 use Rattle.syntax_tree.specs.declared.tree.Comparison.TheVariants as comparison
 use Rattle.syntax_tree.specs.Tree as tree
-use Rattle.syntax_tree.specs.Tree.{TypeName, Expr, Exprs, no_exprs, more_exprs, Links, no_links, more_links, Param, Body, Definition}
+use Rattle.syntax_tree.specs.Tree.{TypeName, Aggregate, kind_in, Expr, Exprs, no_exprs, more_exprs, Links, no_links, more_links, Param}
+use Rattle.syntax_tree.specs.Tree.{Body, Definition}
 use Rattle.syntax_tree.specs.Tree.{Definitions, no_definitions, more_definitions, Item}
+use Rattle.vocabulary.specs.Kinds.{kind_name}
 use Rattle.vocabulary.specs.Table.{family_name, family_in, member_name}
 use Rattle.syntax_tree.specs.declared.tree.TypeShape.{TypeShape}
 use Rattle.syntax_tree.specs.declared.tree.Node.{Node}
@@ -46,20 +48,25 @@ abbrev pub truth_word : Bool → Word
 truth_word true = word.True
 truth_word false = word.False
 
-abbrev pub type_marks : TypeName → List Mark
-type_marks (tree.UnitType p) = named (codes "Unit") ∷ []
-type_marks (tree.IntType p) = named (codes "Int") ∷ []
-type_marks (tree.BoolType p) = named (codes "Bool") ∷ []
-type_marks (tree.TextType p) = named (codes "String") ∷ []
-type_marks (tree.SetType p y) =
-    named (codes "Set") ∷ (mark.symbol symbol.OpenBracket ∷ (type_marks y ++ (mark.symbol symbol.CloseBracket ∷ [])))
-type_marks (tree.MapType p x y) =
-    named (codes "Map") ∷ (mark.symbol symbol.OpenBracket
-    ∷ (type_marks x ++ (mark.symbol symbol.Comma ∷ (type_marks y ++ (mark.symbol symbol.CloseBracket ∷ [])))))
-type_marks (tree.OptionType p y) =
-    named (codes "Option") ∷ (mark.symbol symbol.OpenBracket ∷ (type_marks y ++ (mark.symbol symbol.CloseBracket ∷ [])))
-type_marks (tree.EventsType p y) =
-    named (codes "Events") ∷ (mark.symbol symbol.OpenBracket ∷ (type_marks y ++ (mark.symbol symbol.CloseBracket ∷ [])))
+abbrev mutual
+  pub type_marks : TypeName → List Mark
+  type_marks (tree.UnitType p) = named (codes "Unit") ∷ []
+  type_marks (tree.IntType p) = named (codes "Int") ∷ []
+  type_marks (tree.BoolType p) = named (codes "Bool") ∷ []
+  type_marks (tree.TextType p) = named (codes "String") ∷ []
+  type_marks (tree.AggregateType p a) = named (kind_name (kind_in a)) ∷ aggregate_marks a
+  type_marks (tree.OptionType p y) =
+      named (codes "Option") ∷ (mark.symbol symbol.OpenBracket ∷ (type_marks y ++ (mark.symbol symbol.CloseBracket ∷ [])))
+  type_marks (tree.EventsType p y) =
+      named (codes "Events") ∷ (mark.symbol symbol.OpenBracket ∷ (type_marks y ++ (mark.symbol symbol.CloseBracket ∷ [])))
+
+  -- the types in the brackets of an aggregate
+  pub aggregate_marks : Aggregate → List Mark
+  aggregate_marks (tree.SetOf y) = mark.symbol symbol.OpenBracket ∷ (type_marks y ++ (mark.symbol symbol.CloseBracket ∷ []))
+  aggregate_marks (tree.MapOf x y) =
+      mark.symbol symbol.OpenBracket
+      ∷ (type_marks x ++ (mark.symbol symbol.Comma ∷ (type_marks y ++ (mark.symbol symbol.CloseBracket ∷ []))))
+  aggregate_marks (tree.QueueOf y) = mark.symbol symbol.OpenBracket ∷ (type_marks y ++ (mark.symbol symbol.CloseBracket ∷ []))
 
 -- a type in brackets, and two of them
 abbrev pub bracketed : TypeName → List Mark
@@ -95,8 +102,7 @@ strength (tree.Call p n es) = 7
 strength (tree.CallDotted p d es) = 7
 strength (tree.Nil p y) = 7
 strength (tree.None p y) = 7
-strength (tree.EmptySet p y) = 7
-strength (tree.EmptyMap p x y) = 7
+strength (tree.Empty p a) = 7
 
 -- the least strength of an operand of a level, and of what a prefix minus may stand before
 abbrev pub least_operand : Level → ℕ
@@ -135,8 +141,8 @@ abbrev mutual
       ∷ (mark.symbol symbol.Dot ∷ (named (member_name d) ∷ (expr_marks_after symbol.Open es ++ (mark.symbol symbol.Close ∷ []))))
   expr_marks (tree.Nil p y) = named (codes "nil") ∷ bracketed y
   expr_marks (tree.None p y) = named (codes "None") ∷ bracketed y
-  expr_marks (tree.EmptySet p y) = named (codes "Set") ∷ (mark.symbol symbol.Dot ∷ (named (codes "empty") ∷ bracketed y))
-  expr_marks (tree.EmptyMap p x y) = named (codes "Map") ∷ (mark.symbol symbol.Dot ∷ (named (codes "empty") ∷ both_bracketed x y))
+  expr_marks (tree.Empty p a) =
+      named (kind_name (kind_in a)) ∷ (mark.symbol symbol.Dot ∷ (named (codes "empty") ∷ aggregate_marks a))
 
   -- each with a symbol before it: this one before the first, and commas before the others
   pub expr_marks_after : Symbol → Exprs → List Mark

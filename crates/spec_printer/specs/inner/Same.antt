@@ -2,21 +2,27 @@
 use Rattle.std.specs.Prelude.{◌≡◌, List, map, Option, Some, None}
 use Rattle.tsl_value.specs.declared.place.Place.{Place}
 use Rattle.syntax_tree.specs.Tree as tree
-use Rattle.syntax_tree.specs.Tree.{TypeName, Expr, Exprs, no_exprs, more_exprs, Links, no_links, more_links, Param, Body, Definition}
+use Rattle.syntax_tree.specs.Tree.{TypeName, Aggregate, Expr, Exprs, no_exprs, more_exprs, Links, no_links, more_links, Param, Body}
+use Rattle.syntax_tree.specs.Tree.{Definition}
 use Rattle.syntax_tree.specs.Tree.{Definitions, no_definitions, more_definitions, Item}
 
 abbrev pub nowhere : Place
 nowhere = record { line = 0; column = 0 }
 
-abbrev pub bare_type : TypeName → TypeName
-bare_type (tree.UnitType p) = tree.UnitType nowhere
-bare_type (tree.IntType p) = tree.IntType nowhere
-bare_type (tree.BoolType p) = tree.BoolType nowhere
-bare_type (tree.TextType p) = tree.TextType nowhere
-bare_type (tree.SetType p y) = tree.SetType nowhere (bare_type y)
-bare_type (tree.MapType p x y) = tree.MapType nowhere (bare_type x) (bare_type y)
-bare_type (tree.OptionType p y) = tree.OptionType nowhere (bare_type y)
-bare_type (tree.EventsType p y) = tree.EventsType nowhere (bare_type y)
+abbrev mutual
+  pub bare_type : TypeName → TypeName
+  bare_type (tree.UnitType p) = tree.UnitType nowhere
+  bare_type (tree.IntType p) = tree.IntType nowhere
+  bare_type (tree.BoolType p) = tree.BoolType nowhere
+  bare_type (tree.TextType p) = tree.TextType nowhere
+  bare_type (tree.AggregateType p a) = tree.AggregateType nowhere (bare_aggregate a)
+  bare_type (tree.OptionType p y) = tree.OptionType nowhere (bare_type y)
+  bare_type (tree.EventsType p y) = tree.EventsType nowhere (bare_type y)
+
+  pub bare_aggregate : Aggregate → Aggregate
+  bare_aggregate (tree.SetOf y) = tree.SetOf (bare_type y)
+  bare_aggregate (tree.MapOf x y) = tree.MapOf (bare_type x) (bare_type y)
+  bare_aggregate (tree.QueueOf y) = tree.QueueOf (bare_type y)
 
 abbrev mutual
   pub bare : Expr → Expr
@@ -35,8 +41,7 @@ abbrev mutual
   bare (tree.CallDotted p d es) = tree.CallDotted nowhere d (bare_exprs es)
   bare (tree.Nil p y) = tree.Nil nowhere (bare_type y)
   bare (tree.None p y) = tree.None nowhere (bare_type y)
-  bare (tree.EmptySet p y) = tree.EmptySet nowhere (bare_type y)
-  bare (tree.EmptyMap p x y) = tree.EmptyMap nowhere (bare_type x) (bare_type y)
+  bare (tree.Empty p a) = tree.Empty nowhere (bare_aggregate a)
 
   pub bare_exprs : Exprs → Exprs
   bare_exprs no_exprs = no_exprs

@@ -16,7 +16,7 @@ use Rattle.syntax_tree.specs.contracts.tree.Level as level_row
 use Rattle.syntax_tree.specs.contracts.tree.Operator as operator_row
 use Rattle.syntax_tree.specs.contracts.tree.Comparison as comparison_row
 use Rattle.syntax_tree.specs.Tree as tree
-use Rattle.syntax_tree.specs.Tree.{TypeName, Expr, Exprs, no_exprs, Links, no_links, Param, Body, Definition, Definitions}
+use Rattle.syntax_tree.specs.Tree.{TypeName, Aggregate, Expr, Exprs, no_exprs, Links, no_links, Param, Body, Definition, Definitions}
 
 -- a level, an operator, a comparison, or a function with a dot
 abbrev pub Word : Type 0
@@ -86,6 +86,7 @@ pub data Part : Type 0 where
   exprs : Exprs → Part
   links : Links → Part
   type : TypeName → Part
+  aggregate : Aggregate → Part
   params : List Param → Part
   written : Option TypeName → Part
   body : Body → Part
@@ -111,6 +112,10 @@ to_links _ = no_links
 abbrev pub to_type : Part → TypeName
 to_type (type x) = x
 to_type _ = tree.UnitType no_place
+
+abbrev pub to_aggregate : Part → Aggregate
+to_aggregate (aggregate x) = x
+to_aggregate _ = tree.SetOf (tree.UnitType no_place)
 
 abbrev pub to_params : Part → List Param
 to_params (params x) = x
@@ -166,16 +171,23 @@ dotted_leaf v = leaf (inr (inr (inr (inr v))))
 abbrev pub none : Binary
 none = leaf (inl [])
 
-abbrev pub type_tree : TypeName → Binary
-type_tree (tree.UnitType p) = node_with (suc (suc (suc zero))) zero p [] none none none
-type_tree (tree.IntType p) = node_with (suc (suc (suc zero))) (suc zero) p [] none none none
-type_tree (tree.BoolType p) = node_with (suc (suc (suc zero))) (suc (suc zero)) p [] none none none
-type_tree (tree.TextType p) = node_with (suc (suc (suc zero))) (suc (suc (suc zero))) p [] none none none
-type_tree (tree.SetType p a) = node_with (suc (suc (suc zero))) (suc (suc (suc (suc zero)))) p [] (type_tree a) none none
-type_tree (tree.MapType p a b) = node_with (suc (suc (suc zero))) (suc (suc (suc (suc (suc zero))))) p [] (type_tree a) (type_tree b) none
-type_tree (tree.OptionType p a) = node_with (suc (suc (suc zero))) (suc (suc (suc (suc (suc (suc zero)))))) p [] (type_tree a) none none
-type_tree (tree.EventsType p a) =
-    node_with (suc (suc (suc zero))) (suc (suc (suc (suc (suc (suc (suc zero))))))) p [] (type_tree a) none none
+abbrev mutual
+  pub type_tree : TypeName → Binary
+  type_tree (tree.UnitType p) = node_with (suc (suc (suc zero))) zero p [] none none none
+  type_tree (tree.IntType p) = node_with (suc (suc (suc zero))) (suc zero) p [] none none none
+  type_tree (tree.BoolType p) = node_with (suc (suc (suc zero))) (suc (suc zero)) p [] none none none
+  type_tree (tree.TextType p) = node_with (suc (suc (suc zero))) (suc (suc (suc zero))) p [] none none none
+  type_tree (tree.AggregateType p a) = node_with (suc (suc (suc zero))) (suc (suc (suc (suc zero)))) p [] (aggregate_tree a) none none
+  type_tree (tree.OptionType p a) = node_with (suc (suc (suc zero))) (suc (suc (suc (suc (suc zero))))) p [] (type_tree a) none none
+  type_tree (tree.EventsType p a) = node_with (suc (suc (suc zero))) (suc (suc (suc (suc (suc (suc zero)))))) p [] (type_tree a) none none
+
+  pub aggregate_tree : Aggregate → Binary
+  aggregate_tree (tree.SetOf a) =
+      node_with (suc (suc (suc (suc (suc (suc (suc (suc (suc zero))))))))) zero no_place [] (type_tree a) none none
+  aggregate_tree (tree.MapOf a b) =
+      node_with (suc (suc (suc (suc (suc (suc (suc (suc (suc zero))))))))) (suc zero) no_place [] (type_tree a) (type_tree b) none
+  aggregate_tree (tree.QueueOf a) =
+      node_with (suc (suc (suc (suc (suc (suc (suc (suc (suc zero))))))))) (suc (suc zero)) no_place [] (type_tree a) none none
 
 abbrev mutual
   pub expr_tree : Expr → Binary
@@ -199,12 +211,9 @@ abbrev mutual
       node_with zero (suc (suc (suc (suc (suc (suc (suc (suc (suc (suc (suc (suc (suc zero))))))))))))) p [] (type_tree a) none none
   expr_tree (tree.None p a) =
       node_with zero (suc (suc (suc (suc (suc (suc (suc (suc (suc (suc (suc (suc (suc (suc zero)))))))))))))) p [] (type_tree a) none none
-  expr_tree (tree.EmptySet p a) =
-      node_with zero (suc (suc (suc (suc (suc (suc (suc (suc (suc (suc (suc (suc (suc (suc (suc zero))))))))))))))) p [] (type_tree a)
+  expr_tree (tree.Empty p a) =
+      node_with zero (suc (suc (suc (suc (suc (suc (suc (suc (suc (suc (suc (suc (suc (suc (suc zero))))))))))))))) p [] (aggregate_tree a)
       none none
-  expr_tree (tree.EmptyMap p a b) =
-      node_with zero (suc (suc (suc (suc (suc (suc (suc (suc (suc (suc (suc (suc (suc (suc (suc (suc zero)))))))))))))))) p [] (type_tree a)
-      (type_tree b) none
 
   pub exprs_tree : Exprs → Binary
   exprs_tree tree.no_exprs = node_with (suc zero) zero no_place [] none none none
@@ -255,10 +264,8 @@ expr_with (suc (suc (suc (suc (suc (suc (suc (suc (suc (suc (suc (suc zero))))))
     tree.CallDotted p (to_dotted b) (to_exprs a)
 expr_with (suc (suc (suc (suc (suc (suc (suc (suc (suc (suc (suc (suc (suc zero))))))))))))) p ns a b c = tree.Nil p (to_type a)
 expr_with (suc (suc (suc (suc (suc (suc (suc (suc (suc (suc (suc (suc (suc (suc zero)))))))))))))) p ns a b c = tree.None p (to_type a)
-expr_with (suc (suc (suc (suc (suc (suc (suc (suc (suc (suc (suc (suc (suc (suc (suc zero))))))))))))))) p ns a b c =
-    tree.EmptySet p (to_type a)
-expr_with (suc (suc (suc (suc (suc (suc (suc (suc (suc (suc (suc (suc (suc (suc (suc (suc n)))))))))))))))) p ns a b c =
-    tree.EmptyMap p (to_type a) (to_type b)
+expr_with (suc (suc (suc (suc (suc (suc (suc (suc (suc (suc (suc (suc (suc (suc (suc n))))))))))))))) p ns a b c =
+    tree.Empty p (to_aggregate a)
 
 abbrev pub exprs_with : ℕ → Place → List ℕ → Part → Part → Part → Exprs
 exprs_with zero p ns a b c = tree.no_exprs
@@ -273,10 +280,14 @@ type_with zero p ns a b c = tree.UnitType p
 type_with (suc zero) p ns a b c = tree.IntType p
 type_with (suc (suc zero)) p ns a b c = tree.BoolType p
 type_with (suc (suc (suc zero))) p ns a b c = tree.TextType p
-type_with (suc (suc (suc (suc zero)))) p ns a b c = tree.SetType p (to_type a)
-type_with (suc (suc (suc (suc (suc zero))))) p ns a b c = tree.MapType p (to_type a) (to_type b)
-type_with (suc (suc (suc (suc (suc (suc zero)))))) p ns a b c = tree.OptionType p (to_type a)
-type_with (suc (suc (suc (suc (suc (suc (suc n))))))) p ns a b c = tree.EventsType p (to_type a)
+type_with (suc (suc (suc (suc zero)))) p ns a b c = tree.AggregateType p (to_aggregate a)
+type_with (suc (suc (suc (suc (suc zero))))) p ns a b c = tree.OptionType p (to_type a)
+type_with (suc (suc (suc (suc (suc (suc n)))))) p ns a b c = tree.EventsType p (to_type a)
+
+abbrev pub aggregate_with : ℕ → Part → Part → Aggregate
+aggregate_with zero a b = tree.SetOf (to_type a)
+aggregate_with (suc zero) a b = tree.MapOf (to_type a) (to_type b)
+aggregate_with (suc (suc n)) a b = tree.QueueOf (to_type a)
 
 abbrev pub params_with : ℕ → Place → List ℕ → Part → Part → Part → List Param
 params_with zero p ns a b c = []
@@ -306,7 +317,8 @@ part_with (suc (suc (suc (suc zero)))) tag p ns a b c = params (params_with tag 
 part_with (suc (suc (suc (suc (suc zero))))) tag p ns a b c = written (written_with tag p ns a b c)
 part_with (suc (suc (suc (suc (suc (suc zero)))))) tag p ns a b c = body (body_with tag p ns a b c)
 part_with (suc (suc (suc (suc (suc (suc (suc zero))))))) tag p ns a b c = definition (definition_with tag p ns a b c)
-part_with (suc (suc (suc (suc (suc (suc (suc (suc m)))))))) tag p ns a b c = definitions (definitions_with tag p ns a b c)
+part_with (suc (suc (suc (suc (suc (suc (suc (suc zero)))))))) tag p ns a b c = definitions (definitions_with tag p ns a b c)
+part_with (suc (suc (suc (suc (suc (suc (suc (suc (suc m))))))))) tag p ns a b c = aggregate (aggregate_with tag a b)
 
 abbrev pub word_part : Word → Part
 word_part (inl v) = one_level v
@@ -320,15 +332,20 @@ back (fork (leaf (inl (kind ∷ tag ∷ line ∷ column ∷ ns))) (fork a (fork 
     part_with kind tag (place_at line column) ns (back a) (back b) (back c)
 back _ = exprs no_exprs
 
-pub type_again : (x : TypeName) → back (type_tree x) ≡ type x
-type_again (tree.UnitType p) = refl
-type_again (tree.IntType p) = refl
-type_again (tree.BoolType p) = refl
-type_again (tree.TextType p) = refl
-type_again (tree.SetType p a) = λ k. type (tree.SetType p (to_type (type_again a k)))
-type_again (tree.MapType p a b) = λ k. type (tree.MapType p (to_type (type_again a k)) (to_type (type_again b k)))
-type_again (tree.OptionType p a) = λ k. type (tree.OptionType p (to_type (type_again a k)))
-type_again (tree.EventsType p a) = λ k. type (tree.EventsType p (to_type (type_again a k)))
+mutual
+  pub type_again : (x : TypeName) → back (type_tree x) ≡ type x
+  type_again (tree.UnitType p) = refl
+  type_again (tree.IntType p) = refl
+  type_again (tree.BoolType p) = refl
+  type_again (tree.TextType p) = refl
+  type_again (tree.AggregateType p a) = λ k. type (tree.AggregateType p (to_aggregate (aggregate_again a k)))
+  type_again (tree.OptionType p a) = λ k. type (tree.OptionType p (to_type (type_again a k)))
+  type_again (tree.EventsType p a) = λ k. type (tree.EventsType p (to_type (type_again a k)))
+
+  pub aggregate_again : (x : Aggregate) → back (aggregate_tree x) ≡ aggregate x
+  aggregate_again (tree.SetOf a) = λ k. aggregate (tree.SetOf (to_type (type_again a k)))
+  aggregate_again (tree.MapOf a b) = λ k. aggregate (tree.MapOf (to_type (type_again a k)) (to_type (type_again b k)))
+  aggregate_again (tree.QueueOf a) = λ k. aggregate (tree.QueueOf (to_type (type_again a k)))
 
 mutual
   pub expr_again : (x : Expr) → back (expr_tree x) ≡ expr x
@@ -348,8 +365,7 @@ mutual
   expr_again (tree.CallDotted p v a) = λ k. expr (tree.CallDotted p v (to_exprs (exprs_again a k)))
   expr_again (tree.Nil p a) = λ k. expr (tree.Nil p (to_type (type_again a k)))
   expr_again (tree.None p a) = λ k. expr (tree.None p (to_type (type_again a k)))
-  expr_again (tree.EmptySet p a) = λ k. expr (tree.EmptySet p (to_type (type_again a k)))
-  expr_again (tree.EmptyMap p a b) = λ k. expr (tree.EmptyMap p (to_type (type_again a k)) (to_type (type_again b k)))
+  expr_again (tree.Empty p a) = λ k. expr (tree.Empty p (to_aggregate (aggregate_again a k)))
 
   pub exprs_again : (x : Exprs) → back (exprs_tree x) ≡ exprs x
   exprs_again tree.no_exprs = refl

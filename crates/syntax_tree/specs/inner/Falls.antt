@@ -5,10 +5,13 @@ use denote.Param.Weighed.{most}
 use Rattle.tsl_value.specs.declared.place.Place.{Place}
 use Rattle.syntax_tree.specs.Tree.{Expr}
 use Rattle.syntax_tree.specs.declared.tree.Link.{Link}
-use Rattle.syntax_tree.specs.inner.OneLevel.{type_of, size_of_type, expr_of, exprs_of, links_in, size_of, size_of_exprs, size_of_links}
+use Rattle.syntax_tree.specs.inner.OneLevel.{aggregate_in, type_of, size_of_type, size_of_aggregate, expr_of, exprs_of, links_in, size_of}
+use Rattle.syntax_tree.specs.inner.OneLevel.{size_of_exprs, size_of_links}
 use Rattle.syntax_tree.specs.declared.tree.TypeShape.{TypeShape}
 use Rattle.syntax_tree.specs.declared.tree.TypeShape.TheVariants as shape
-use Rattle.syntax_tree.specs.declared.tree.TypeName.TheDeep.{deep-TypeShape}
+use Rattle.syntax_tree.specs.declared.tree.Aggregate.{Aggregate}
+use Rattle.syntax_tree.specs.declared.tree.Aggregate.TheVariants as aggregate
+use Rattle.syntax_tree.specs.declared.tree.TypeName.TheDeep.{deep-TypeShape, deep-Aggregate}
 use Rattle.syntax_tree.specs.Tree as tree
 use Rattle.syntax_tree.specs.inner.OneLevel.{body_of, definition_of, definitions_of, size_of_definition, size_of_body, size_of_definitions}
 use Rattle.syntax_tree.specs.declared.tree.Body.{Body}
@@ -19,13 +22,17 @@ use Rattle.syntax_tree.specs.declared.tree.Node.{Node}
 use Rattle.syntax_tree.specs.declared.tree.Node.TheVariants as node
 use Rattle.syntax_tree.specs.declared.tree.Expr.TheDeep.{deep-Node, deep-Link}
 
+pub aggregate_falls : (a : Aggregate) → deep-Aggregate a ≤ size_of_aggregate (aggregate_in a)
+aggregate_falls (aggregate.Set y) = omega arith
+aggregate_falls (aggregate.Map x y) = omega arith
+aggregate_falls (aggregate.Queue y) = omega arith
+
 pub type_falls : (p : Place) (s : TypeShape) → deep-TypeShape s ≤ size_of_type (type_of p s)
 type_falls p shape.Unit = omega arith
 type_falls p shape.Int = omega arith
 type_falls p shape.Bool = omega arith
 type_falls p shape.Text = omega arith
-type_falls p (shape.Set y) = omega arith
-type_falls p (shape.Map x y) = omega arith
+type_falls p (shape.Aggregate a) = omega (arith, aggregate_falls a)
 type_falls p (shape.Option y) = omega arith
 type_falls p (shape.Events y) = omega arith
 
@@ -53,8 +60,7 @@ node_falls p (node.Call n es) = omega (arith, most_exprs es.items)
 node_falls p (node.CallDotted d es) = omega (arith, most_exprs es.items)
 node_falls p (node.Nil y) = omega arith
 node_falls p (node.None y) = omega arith
-node_falls p (node.EmptySet y) = omega arith
-node_falls p (node.EmptyMap x y) = omega arith
+node_falls p (node.Empty a) = omega arith
 
 pub most_definitions : (ds : List tree.Definition) → most (λ d. size_of_definition d + 1) ds ≤ size_of_definitions (definitions_of ds)
 most_definitions [] = omega arith

@@ -5,6 +5,8 @@ use Rattle.syntax_tree.specs.Tree as tree
 use Rattle.syntax_tree.specs.Tree.{TypeName, Expr, Exprs, no_exprs, more_exprs, Links, no_links, more_links, place_of}
 use Rattle.syntax_tree.specs.declared.tree.TypeShape.{TypeShape}
 use Rattle.syntax_tree.specs.declared.tree.TypeShape.TheVariants as shape
+use Rattle.syntax_tree.specs.declared.tree.Aggregate.{Aggregate}
+use Rattle.syntax_tree.specs.declared.tree.Aggregate.TheVariants as aggregate
 use Rattle.syntax_tree.specs.declared.tree.Node.{Node}
 use Rattle.syntax_tree.specs.declared.tree.Node.TheVariants as node
 use Rattle.syntax_tree.specs.declared.tree.Link.{Link}
@@ -16,25 +18,34 @@ use Rattle.syntax_tree.specs.declared.tree.Item.{Item}
 use Rattle.syntax_tree.specs.declared.tree.Item.TheVariants as item
 use Rattle.syntax_tree.specs.declared.tree.Tree.{Tree}
 
+abbrev pub aggregate_in : Aggregate → tree.Aggregate
+aggregate_in (aggregate.Set y) = tree.SetOf y.value
+aggregate_in (aggregate.Map x y) = tree.MapOf x.value y.value
+aggregate_in (aggregate.Queue y) = tree.QueueOf y.value
+
 abbrev pub type_of : Place → TypeShape → TypeName
 type_of p shape.Unit = tree.UnitType p
 type_of p shape.Int = tree.IntType p
 type_of p shape.Bool = tree.BoolType p
 type_of p shape.Text = tree.TextType p
-type_of p (shape.Set y) = tree.SetType p y.value
-type_of p (shape.Map x y) = tree.MapType p x.value y.value
+type_of p (shape.Aggregate a) = tree.AggregateType p (aggregate_in a)
 type_of p (shape.Option y) = tree.OptionType p y.value
 type_of p (shape.Events y) = tree.EventsType p y.value
 
-abbrev pub size_of_type : TypeName → ℕ
-size_of_type (tree.UnitType p) = 1
-size_of_type (tree.IntType p) = 1
-size_of_type (tree.BoolType p) = 1
-size_of_type (tree.TextType p) = 1
-size_of_type (tree.SetType p y) = 1 + size_of_type y
-size_of_type (tree.MapType p x y) = 1 + size_of_type x + size_of_type y
-size_of_type (tree.OptionType p y) = 1 + size_of_type y
-size_of_type (tree.EventsType p y) = 1 + size_of_type y
+abbrev mutual
+  pub size_of_type : TypeName → ℕ
+  size_of_type (tree.UnitType p) = 1
+  size_of_type (tree.IntType p) = 1
+  size_of_type (tree.BoolType p) = 1
+  size_of_type (tree.TextType p) = 1
+  size_of_type (tree.AggregateType p a) = 1 + size_of_aggregate a
+  size_of_type (tree.OptionType p y) = 1 + size_of_type y
+  size_of_type (tree.EventsType p y) = 1 + size_of_type y
+
+  pub size_of_aggregate : tree.Aggregate → ℕ
+  size_of_aggregate (tree.SetOf y) = 1 + size_of_type y
+  size_of_aggregate (tree.MapOf x y) = 1 + size_of_type x + size_of_type y
+  size_of_aggregate (tree.QueueOf y) = 1 + size_of_type y
 
 abbrev pub exprs_of : List Expr → Exprs
 exprs_of [] = no_exprs
@@ -60,8 +71,7 @@ expr_of p (node.Call n es) = tree.Call p n (exprs_of es.items)
 expr_of p (node.CallDotted d es) = tree.CallDotted p d (exprs_of es.items)
 expr_of p (node.Nil y) = tree.Nil p y
 expr_of p (node.None y) = tree.None p y
-expr_of p (node.EmptySet y) = tree.EmptySet p y
-expr_of p (node.EmptyMap x y) = tree.EmptyMap p x y
+expr_of p (node.Empty a) = tree.Empty p (aggregate_in a)
 
 pub place_again : (p : Place) (n : Node) → place_of (expr_of p n) ≡ p
 place_again p (node.If a b c) = refl
@@ -79,8 +89,7 @@ place_again p (node.Call a b) = refl
 place_again p (node.CallDotted a b) = refl
 place_again p (node.Nil a) = refl
 place_again p (node.None a) = refl
-place_again p (node.EmptySet a) = refl
-place_again p (node.EmptyMap a b) = refl
+place_again p (node.Empty a) = refl
 
 abbrev mutual
   pub size_of : Expr → ℕ
@@ -99,8 +108,7 @@ abbrev mutual
   size_of (tree.CallDotted p d es) = 1 + size_of_exprs es
   size_of (tree.Nil p y) = 1
   size_of (tree.None p y) = 1
-  size_of (tree.EmptySet p y) = 1
-  size_of (tree.EmptyMap p x y) = 1
+  size_of (tree.Empty p a) = 1
 
   pub size_of_exprs : Exprs → ℕ
   size_of_exprs no_exprs = 1

@@ -5,7 +5,7 @@ use Rattle.spec_meaning.specs.Shape.{operand}
 use Rattle.stream_constructs.proofs.Partly.{has_none}
 use Rattle.stream_shapes.specs.declared.construct.Construct.TheVariants as given
 use Rattle.stream_constructs.proofs.LiftingHangs.{operands_vary}
-use Rattle.stream_shapes.proofs.MakeLemmas.{fits_as, last_type, merge_type, filter_type, empty_type}
+use Rattle.stream_shapes.proofs.MakeLemmas.{fits_as, last_type, merge_type, filter_type, filter_by_type, empty_type}
 use Rattle.stream_shapes.proofs.make.make.Goals as goal
 
 pub with_streams-requires : goal.with_streams-requires
@@ -31,6 +31,11 @@ returns-in-Merge-clause-stream c =
 pub returns-in-Filter-clause-stream : goal.returns-in-Filter-clause-stream
 returns-in-Filter-clause-stream c =
     let same : c.index-parts-0-in-Filter.result.of ≡ c.args.of = filter_type c.args.parts.now c.args.of c.index-parts-0-in-Filter.result (fits_as c.args.construct given.Filter (length c.args.maker.now.equations) c.args.parts.now c.args.of c.in-Filter.is c.requires.fits) c.index-parts-0-in-Filter.is in
+    search rules
+
+pub returns-in-FilterBy-clause-stream : goal.returns-in-FilterBy-clause-stream
+returns-in-FilterBy-clause-stream c =
+    let same : c.index-parts-0-in-FilterBy.result.of ≡ c.args.of = filter_by_type c.args.parts.now c.in-FilterBy.holds c.args.of c.index-parts-0-in-FilterBy.result (fits_as c.args.construct (given.FilterBy c.in-FilterBy.holds) (length c.args.maker.now.equations) c.args.parts.now c.args.of c.in-FilterBy.is c.requires.fits) c.index-parts-0-in-FilterBy.is in
     search rules
 
 pub returns-in-Nil-clause-partly : goal.returns-in-Nil-clause-partly

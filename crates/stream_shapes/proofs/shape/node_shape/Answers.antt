@@ -54,12 +54,7 @@ returns-in-CallDotted c =
     (λ items cs. ap (dotted_shape cs c.in-CallDotted.function) (listed c.in-CallDotted.arguments.items ∙ sym c.deref-in-CallDotted.ensures.value)) h)
     c.dotted.ensures
 
-pub returns-in-EmptySet : goal.returns-in-EmptySet
-returns-in-EmptySet c =
-    at_node c.args.functions.now c.args.scope.now c.args.node.now (node.EmptySet c.in-EmptySet.key) _ c.empty_shape.result c.in-EmptySet.is
-    (λ items cs. ap (empty_shape items cs) (sym c.set_of.ensures)) c.empty_shape.ensures
-
-pub returns-in-EmptyMap : goal.returns-in-EmptyMap
-returns-in-EmptyMap c =
-    at_node c.args.functions.now c.args.scope.now c.args.node.now (node.EmptyMap c.in-EmptyMap.key c.in-EmptyMap.of) _ c.empty_shape-in-EmptyMap.result c.in-EmptyMap.is
-    (λ items cs. ap (empty_shape items cs) (sym c.map_of.ensures)) c.empty_shape-in-EmptyMap.ensures
+pub returns-in-Empty : goal.returns-in-Empty
+returns-in-Empty c =
+    at_node c.args.functions.now c.args.scope.now c.args.node.now (node.Empty c.in-Empty.of) _ c.empty_shape.result c.in-Empty.is
+    (λ items cs. ap (empty_shape items cs) (sym c.aggregate_of.ensures)) c.empty_shape.ensures
