@@ -13,7 +13,7 @@ Gap = namedtuple("Gap", "kind first last")
 Pending = namedtuple("Pending", "kind number time due")
 
 MOST = (1 << 63) - 1
-PIECE = re.compile(r'Set\(|Map\(|, | -> |\)|true|false|\(\)|-?[0-9]+|"(?:[^"\\]|\\["\\ntr])*"', re.DOTALL)
+PIECE = re.compile(r'Set\(|Map\(|Queue\(|, | -> |\)|true|false|\(\)|-?[0-9]+|"(?:[^"\\]|\\["\\ntr])*"', re.DOTALL)
 FACT = re.compile(
     r"%(?P<event>[0-9]+) (?:(?P<a>\S+) )?at (?P<at>[0-9]+) = (?P<value>.+)"
     r"|%(?P<silent>[0-9]+) (?:(?P<b>\S+) )?silent (?P<first>[0-9]+) to (?P<last>[0-9]+)"
@@ -21,8 +21,9 @@ FACT = re.compile(
     r"|%(?P<pending>[0-9]+) (?:(?P<c>\S+) )?pending after (?P<after>[0-9]+): (?P<due>none|[0-9]+)",
     re.DOTALL,
 )
-COMPUTES = ("Filter", "Pick", "Lift", "OptLift", "SetAdd", "SetRemove", "MapAdd", "MapRemove")
-MISSES = ("Time", "Filter", "Pick", "Lift", "SetAdd", "SetRemove", "MapAdd", "MapRemove")
+UPDATES = ("SetAdd", "SetRemove", "MapAdd", "MapRemove", "QueueAdd", "QueueTake")
+COMPUTES = ("Filter", "Pick", "Lift", "OptLift", *UPDATES)
+MISSES = ("Time", "Filter", "Pick", "Lift", *UPDATES)
 JOINS = ("Any", "Merge", "OptLift")
 
 
@@ -81,9 +82,11 @@ class Plain:
     def value(self, text):
         """The value that a text spells, which has been found right."""
         pieces = PIECE.findall(text)
-        if pieces[0] not in ("Set(", "Map("):
+        if pieces[0] not in ("Set(", "Map(", "Queue("):
             return self.solved.scalar(text)
         parts = [self.solved.scalar(piece) for piece in pieces[1:] if piece not in (", ", " -> ", ")")]
+        if pieces[0] == "Queue(":
+            return self.solved.Queue(tuple(parts))
         return frozenset(parts) if pieces[0] == "Set(" else dict(zip(parts[::2], parts[1::2]))
 
     def told(self, fact):
@@ -136,7 +139,7 @@ class Plain:
         if op == "Unit":
             yield "constant", [], lambda: time == 0 and says(())
         if op == "Empty":
-            yield "constant", [], lambda: time == 0 and says({} if equation.of.startswith("Map") else frozenset())
+            yield "constant", [], lambda: time == 0 and says(self.solved.empty(equation.of))
         if op in ("Time", "Any"):
             for arg in args:
                 yield "seen", [self.happens(arg, time)], lambda event: says(time if op == "Time" else ())

@@ -8,7 +8,7 @@ from .values import QUOTED, scalar_of
 
 # The most parts of a function of a lift.
 MOST_PARTS = 1024
-UPDATES = {"SetAdd": 2, "SetRemove": 2, "MapAdd": 3, "MapRemove": 2}
+UPDATES = {"SetAdd": 2, "SetRemove": 2, "MapAdd": 3, "MapRemove": 2, "QueueAdd": 2, "QueueTake": 1}
 # The operations with so many arguments. Any, Lift and OptLift have one to eight.
 COUNTS = {"Input": 0, "Nil": 0, "Unit": 0, "Empty": 0, "Time": 1, "Last": 2, "Delay": 2, "Merge": 2, "Filter": 2, "Pick": 3, **UPDATES}
 TYPED = ("Input", "Nil", "Empty")
@@ -27,7 +27,7 @@ class Equation:
     number: int
     name: str  # "" where it has none
     operation: str
-    kind: str  # the type of an input or of an empty set or map, else ""
+    kind: str  # the type of an input or of an empty set, map or queue, else ""
     body: object  # the function of a lift, else None
     arguments: tuple
 

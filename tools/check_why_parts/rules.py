@@ -3,7 +3,7 @@
 from .equations import OF_ALL, OF_ANY
 from .facts import Event, Gap, Pending, Silent
 from .failures import Wrong, needs, short
-from .values import GREATEST, Fault, applied, printed, updated
+from .values import GREATEST, Fault, applied, empty_of, printed, updated
 
 UNUSED = "it names a fact that its rule does not use"
 # What an event of each operation follows from, and what it follows from that there is none.
@@ -11,7 +11,7 @@ EVENT_RULES = {
     "Input": "an event of an input follows from no fact: the trace has it",
     "Nil": "a nil has no event",
     "Unit": "a unit has its one event at 0, which follows from no fact",
-    "Empty": "an empty set or map has its one event at 0, which follows from no fact",
+    "Empty": "an empty set, map or queue has its one event at 0, which follows from no fact",
     "Time": "a time has an event by one of its argument at the same time, and by no other fact",
     "Any": "an any has an event by one of one argument at the same time, and by no other fact",
     "Merge": "a merge has an event by one of its first argument at the same time; or by one of its second, where the first is silent",
@@ -22,7 +22,7 @@ SILENT_RULES = {
     "Input": "that an input is silent at a time follows from no fact: the trace has no event of it",
     "Nil": "that a nil is silent at a time follows from no fact",
     "Unit": "that a unit is silent follows from no fact, at a time above 0",
-    "Empty": "that an empty set or map is silent follows from no fact, at a time above 0",
+    "Empty": "that an empty set, map or queue is silent follows from no fact, at a time above 0",
     "Filter": "a filter is silent where one of its arguments is, or where its condition is false",
     "Last": "a last is silent at 0, where its second argument is, or where its first is from 0 to just the time before",
     "Delay": "a delay is silent at 0, or where another time or none is pending after the time before",
@@ -94,6 +94,13 @@ class Rules:
             raise Wrong(f"the function of {equation} has the fault {fault} there") from None
         return answer if strict else None if answer is None else answer[0]
 
+    @staticmethod
+    def updated(equation, values):
+        try:
+            return updated(equation.operation, *values)
+        except Fault as fault:
+            raise Wrong(f"{equation} has the fault {fault} there") from None
+
     # -- Events
 
     def event(self, fact, named):
@@ -120,7 +127,7 @@ class Rules:
             return values[0]
         if operation == "Pick":
             return values[1 if values[0] else 2]
-        return self.applied(equation, values) if operation == "Lift" else updated(operation, *values)
+        return self.applied(equation, values) if operation == "Lift" else self.updated(equation, values)
 
     def other_event(self, equation, time, named):
         """The value, or None where there is no event by these facts."""
@@ -128,7 +135,7 @@ class Rules:
         if operation == "Input":
             return None if named else self.trace.events[equation.name].at(time)
         if operation in ("Unit", "Empty"):
-            at_zero = () if operation == "Unit" else {} if equation.kind.startswith("Map") else frozenset()
+            at_zero = () if operation == "Unit" else empty_of(equation.kind)
             return at_zero if time == 0 and not named else None
         if operation in ("Time", "Any"):
             seen = len(named) == 1 and any(events_of(named, number, time) for number in arguments)

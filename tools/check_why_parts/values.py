@@ -1,6 +1,7 @@
 """Values as they are written and printed, and what operations make of them."""
 
 import re
+from collections import namedtuple
 
 GREATEST = 2**63 - 1
 MOST_TEXT = 65536
@@ -12,7 +13,15 @@ class Fault(Exception):
     """An operation has no value."""
 
 
-# ---- Values: numbers, truths, texts, () for a unit, a frozenset, a dict. An option is None, or a tuple of one value.
+# ---- Values: numbers, truths, texts, () for a unit, a frozenset, a dict, a queue. An option is None, or a tuple of one value.
+
+# Its elements, the first of them first.
+Queue = namedtuple("Queue", "elements")
+
+
+def empty_of(kind):
+    """What is empty of a type."""
+    return {"Set": frozenset(), "Map": {}, "Queue": Queue(())}[kind[: kind.index("[")]]
 
 
 def unquoted(text):
@@ -57,6 +66,8 @@ def printed(value):
         return escaped(value)
     if value == ():
         return "()"
+    if isinstance(value, Queue):
+        return "Queue(" + ", ".join(map(printed, value.elements)) + ")"
     keys = sorted(value, key=lambda key: key.encode() if isinstance(key, str) else key)
     if isinstance(value, dict):
         return "Map(" + ", ".join(f"{printed(key)} -> {printed(value[key])}" for key in keys) + ")"
@@ -64,6 +75,8 @@ def printed(value):
 
 
 def size_of(value):
+    if isinstance(value, Queue):
+        return len(value.elements)
     return len(value.encode()) if isinstance(value, str) else len(value)
 
 
@@ -88,6 +101,12 @@ def value_at(table, key):
     if key not in table:
         raise Fault("MissingKey")
     return table[key]
+
+
+def first_of(queue):
+    if not queue.elements:
+        raise Fault("EmptyQueue")
+    return queue.elements[0]
 
 
 def value_in(option):
@@ -118,6 +137,7 @@ OPERATIONS = {
     "not": lambda a: not a,
     "contains": lambda a, b: b in a,
     "size": size_of,
+    "front": first_of,
     "get": value_at,
     "concat": joined,
     "length": size_of,
@@ -145,7 +165,13 @@ def applied(body, arguments):
     return applied(parts[1], arguments) if decides == (name == "and") else decides
 
 
-def updated(operation, aggregate, key, *values):
+def updated(operation, aggregate, *values):
+    if operation == "QueueTake":
+        first_of(aggregate)
+        return Queue(aggregate.elements[1:])
+    key, *values = values
+    if operation == "QueueAdd":
+        return Queue((*aggregate.elements, key))
     if operation == "SetAdd":
         return aggregate | {key}
     if operation == "SetRemove":

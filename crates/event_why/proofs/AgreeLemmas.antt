@@ -80,6 +80,8 @@ same_arity op.SetAdd xs ys same h = sym same ∙ h
 same_arity op.SetRemove xs ys same h = sym same ∙ h
 same_arity op.MapAdd xs ys same h = sym same ∙ h
 same_arity op.MapRemove xs ys same h = sym same ∙ h
+same_arity op.QueueAdd xs ys same h = sym same ∙ h
+same_arity op.QueueTake xs ys same h = sym same ∙ h
 
 told_long : (t : ℕ) (args : List ℕ) (values : List (Option View)) (fs : List Fact) → TellsEach t args values fs → length args ≡ length values
 told_long t args values fs rule.TellsEach.done = refl

@@ -24,6 +24,8 @@ update_few u t ts (update_types.UpdateTypes.set_add is) = omega arith
 update_few u t ts (update_types.UpdateTypes.set_remove is) = omega arith
 update_few u t ts (update_types.UpdateTypes.map_add is) = omega arith
 update_few u t ts (update_types.UpdateTypes.map_remove is) = omega arith
+update_few u t ts update_types.UpdateTypes.queue_add = omega arith
+update_few u t ts update_types.UpdateTypes.queue_take = omega arith
 
 types_few : (o : Op) (types : List ValueType) (of : ValueType) → IsTyped o types of → length types ≤ 8
 types_few o types of typed.IsTyped.input = omega arith

@@ -15,3 +15,6 @@ pub mod TypedFacts
 pub mod CheckLemmas
 pub mod UsedLemmas
 pub mod GivenLemmas
+pub mod PartLemmas
+pub mod SlicedLemmas
+pub mod AloneLemmas

@@ -7,3 +7,5 @@ pub mod Silence
 pub mod Waits
 pub mod Used
 pub mod Judged
+pub mod Sliced
+pub mod Found

@@ -101,7 +101,7 @@ fn is_computed(
 }
 
 /// The fact says that an equation has this event at a time.
-fn is_this_event(fact: &Fact, i: EqId, t: Time, value: &Value) -> bool
+pub(crate) fn is_this_event(fact: &Fact, i: EqId, t: Time, value: &Value) -> bool
     ensures { IsTrue result ↔ said fact.now ≡ rules.Happens i t value.now }
 {
     match event_in(fact, i, t) {
@@ -222,5 +222,6 @@ pub(crate) fn makes(
         Op::SetAdd | Op::SetRemove | Op::MapAdd | Op::MapRemove => {
             is_computed(alloc, e, t, value, named)
         }
+        Op::QueueAdd | Op::QueueTake => is_computed(alloc, e, t, value, named),
     }
 }

@@ -181,6 +181,7 @@ pub(crate) fn lacks(
         }
         Op::Time | Op::Pick => Ok(is_missed(e, t, named)),
         Op::SetAdd | Op::SetRemove | Op::MapAdd | Op::MapRemove => Ok(is_missed(e, t, named)),
+        Op::QueueAdd | Op::QueueTake => Ok(is_missed(e, t, named)),
     }
 }
 

@@ -1,6 +1,6 @@
 // What the operations that see their arguments at one time make of them.
 
-ghost use Rattle.std.specs.Prelude.{◌≡◌, Ok, IfOk, suc, length};
+ghost use Rattle.std.specs.Prelude.{◌≡◌, suc, length};
 ghost use Rattle.std.specs.Option.{option_copied};
 ghost use Rattle.flat_core.specs.Events.{at_once, updating};
 ghost use Rattle.flat_core.specs.Updates.{update_in};
@@ -10,7 +10,10 @@ ghost use Rattle.plain_solver.specs.inner.Typed.{HasPlaces, TakesValues};
 ghost use Rattle.plain_solver.specs.inner.ValueView.{IsAnswer};
 
 use crate::outcome::{is_one_there, lift_value, merged, passed, time_of, unit_if};
-use crate::update::{empty_at, entry_added, entry_removed, key_added, key_removed, picked};
+use crate::update::{
+    element_added, element_taken, empty_at, entry_added, entry_removed, key_added, key_removed,
+    picked,
+};
 use crate::value::{Value, copied};
 use flat_core::equation::{Equation, Op};
 use lift_func::eval::EvalFault;
@@ -32,29 +35,35 @@ fn chosen<'a>(op: &Op, values: &'a [Option<Value>]) -> Option<&'a Value>
     }
 }
 
-/// What an update makes of the events of its arguments.
+/// What an update makes of the events of its arguments, or its fault.
 fn update_value(
     alloc: Global,
     update: Update,
     values: &[Option<Value>],
-) -> Result<Option<Value>, NoMemory>
+) -> Result<Option<Value>, EvalFault>
     requires { length values.now ≡ suc (beside update) }
-    ensures { IfOk result (λ v. update_answer update values.now ≡ Ok v) }
+    ensures { IsAnswer result (update_answer update values.now) }
 {
     let aggregate = values[0].as_ref();
-    let beside = values[1].as_ref();
     match update {
-        Update::SetAdd => key_added(alloc, aggregate, beside),
-        Update::SetRemove => key_removed(alloc, aggregate, beside),
-        Update::MapAdd => entry_added(alloc, aggregate, beside, values[2].as_ref()),
-        Update::MapRemove => entry_removed(alloc, aggregate, beside),
+        Update::SetAdd => Ok(key_added(alloc, aggregate, values[1].as_ref())?),
+        Update::SetRemove => Ok(key_removed(alloc, aggregate, values[1].as_ref())?),
+        Update::MapAdd => Ok(entry_added(
+            alloc,
+            aggregate,
+            values[1].as_ref(),
+            values[2].as_ref(),
+        )?),
+        Update::MapRemove => Ok(entry_removed(alloc, aggregate, values[1].as_ref())?),
+        Update::QueueAdd => Ok(element_added(alloc, aggregate, values[1].as_ref())?),
+        Update::QueueTake => element_taken(alloc, aggregate),
     }
 }
 
-/// What an operation makes of its arguments' events if it is an update, and else nothing.
-fn updated(alloc: Global, op: &Op, values: &[Option<Value>]) -> Result<Option<Value>, NoMemory>
+/// What an operation makes of its arguments' events if it is an update, or its fault, and else nothing.
+fn updated(alloc: Global, op: &Op, values: &[Option<Value>]) -> Result<Option<Value>, EvalFault>
     requires { HasPlaces op.now values.now }
-    ensures { IfOk result (λ v. updating (update_in op.now) values.now ≡ Ok v) }
+    ensures { IsAnswer result (updating (update_in op.now) values.now) }
 {
     match op.update() {
         Some(update) => update_value(alloc, update, values),
@@ -80,9 +89,8 @@ pub fn at_once(
         Op::Any => Ok(unit_if(is_one_there(values))),
         Op::Time => Ok(time_of(values[0].as_ref(), t)),
         Op::Merge | Op::Filter | Op::Pick => Ok(copied(chosen(&e.op, values))?),
-        Op::SetAdd | Op::SetRemove | Op::MapAdd | Op::MapRemove => {
-            Ok(updated(alloc, &e.op, values)?)
-        }
+        Op::SetAdd | Op::SetRemove | Op::MapAdd | Op::MapRemove => updated(alloc, &e.op, values),
+        Op::QueueAdd | Op::QueueTake => updated(alloc, &e.op, values),
         Op::Input | Op::Nil | Op::Last | Op::Delay => Ok(None),
     }
 }

@@ -64,6 +64,13 @@ impl<'a> Reader for Lender<'a> {
         }
     }
 
+    fn front(&self, handle: Handle) -> Option<&Scalar> {
+        match self.cell(handle) {
+            Some(cell) => cell.front(),
+            None => None,
+        }
+    }
+
     fn print(&self, handle: Handle, out: &mut Bytes) -> Result<(), NoMemory> {
         match self.cell(handle) {
             Some(cell) => print_cell(cell, out),

@@ -25,7 +25,10 @@ use crate::delay::{is_now, pending_before};
 use crate::events::{Events, Outcome};
 use crate::lender::evaluated;
 use crate::line::input_at;
-use crate::update::{empty_at, entry_added, entry_removed, key_added, key_removed, picked};
+use crate::update::{
+    element_added, element_taken, empty_at, entry_added, entry_removed, key_added, key_removed,
+    picked,
+};
 use crate::value::{Held, Value, copied};
 use flat_core::equation::{Equation, Op};
 use flat_core::line::TraceLine;
@@ -263,42 +266,44 @@ fn chosen<'a>(e: &Equation, streams: &'a [Events], t: Time) -> Option<&'a Value>
     }
 }
 
-/// What an update makes of the events of its arguments.
+/// What an update makes of the events of its arguments, or its fault.
 fn update_value(
     alloc: Global,
     update: Update,
     args: &Args,
     streams: &[Events],
     t: Time,
-) -> Result<Option<Value>, NoMemory>
+) -> Result<Option<Value>, EvalFault>
     requires many { length args.now ≡ suc (beside update) }
     requires known { All (λ a. a < length streams.now) args.now }
-    ensures { IfOk result (λ v. update_answer update (map (λ a. event (streams_of streams.now a t)) args.now) ≡ Ok v) }
+    ensures { IsAnswer result (update_answer update (map (λ a. event (streams_of streams.now a t)) args.now)) }
 {
     let aggregate = value_of(streams, args, 0, t);
     match update {
-        Update::SetAdd => key_added(alloc, aggregate, value_of(streams, args, 1, t)),
-        Update::SetRemove => key_removed(alloc, aggregate, value_of(streams, args, 1, t)),
-        Update::MapAdd => entry_added(
+        Update::SetAdd => Ok(key_added(alloc, aggregate, value_of(streams, args, 1, t))?),
+        Update::SetRemove => Ok(key_removed(alloc, aggregate, value_of(streams, args, 1, t))?),
+        Update::MapAdd => Ok(entry_added(
             alloc,
             aggregate,
             value_of(streams, args, 1, t),
             value_of(streams, args, 2, t),
-        ),
-        Update::MapRemove => entry_removed(alloc, aggregate, value_of(streams, args, 1, t)),
+        )?),
+        Update::MapRemove => Ok(entry_removed(alloc, aggregate, value_of(streams, args, 1, t))?),
+        Update::QueueAdd => Ok(element_added(alloc, aggregate, value_of(streams, args, 1, t))?),
+        Update::QueueTake => element_taken(alloc, aggregate),
     }
 }
 
-/// The event of an equation that is an update.
+/// The event of an equation that is an update, or its fault.
 fn updated(
     alloc: Global,
     e: &Equation,
     streams: &[Events],
     t: Time,
-) -> Result<Option<Value>, NoMemory>
+) -> Result<Option<Value>, EvalFault>
     requires shape { HasArity e.now.op e.now.args }
     requires known { All (λ a. a < length streams.now) e.now.args }
-    ensures { IfOk result (λ v. updating (update_in e.now.op) (map (λ a. event (streams_of streams.now a t)) e.now.args) ≡ Ok v) }
+    ensures { IsAnswer result (updating (update_in e.now.op) (map (λ a. event (streams_of streams.now a t)) e.now.args)) }
 {
     match e.op.update() {
         Some(update) => update_value(alloc, update, &e.args, streams, t),
@@ -341,9 +346,8 @@ pub fn own_of(
         Op::Delay => Ok(expired(e, i, streams, t)),
         Op::Empty => Ok(empty_at(alloc, e.of, t)?),
         Op::Merge | Op::Filter | Op::Pick => Ok(copied(chosen(e, streams, t))?),
-        Op::SetAdd | Op::SetRemove | Op::MapAdd | Op::MapRemove => {
-            Ok(updated(alloc, e, streams, t)?)
-        }
+        Op::SetAdd | Op::SetRemove | Op::MapAdd | Op::MapRemove => updated(alloc, e, streams, t),
+        Op::QueueAdd | Op::QueueTake => updated(alloc, e, streams, t),
     }
 }
 

@@ -15,7 +15,7 @@ use std::rc::Rc;
 use tsl_value::memory::NoMemory;
 use tsl_value::scalar::Scalar;
 
-/// A scalar, or a set or a map, which contracts see as its view. Copies of an aggregate share its cell.
+/// A scalar, or a set, a map or a queue, which contracts see as its view. Copies of an aggregate share its cell.
 #[derive(Drop)]
 pub struct Value {
     held: Held,
