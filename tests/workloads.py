@@ -116,6 +116,20 @@ def devices(lines):
     return trace, printed
 
 
+def waiting(lines):
+    """A hundred requests, then as many answers, and so on."""
+    now, asked, trace, printed = 0, [], [], []
+    for k in range(lines):
+        now += 1 + k % 3
+        if k % 200 < 100:
+            trace.append(f"{now}: request")
+            asked.append(now)
+        else:
+            trace.append(f"{now}: answer")
+            printed.append(f"{now}: latency = {now - asked.pop(0)}")
+    return trace, printed
+
+
 def heartbeats(lines):
     """Twelve devices, one at each second time, and two of them in each second round alone, which makes them late."""
     now, before, trace, printed = 0, {}, [], ["0: ticks = 0", "0: devices = 0"]
@@ -248,6 +262,7 @@ WORKLOADS = {
     "kept": Workload(lambda: KEPT, changed, counted=FEWER),
     "devices": Workload(lambda: example("examples/devices.tsl"), devices),
     "watchdog": Workload(lambda: example("examples/watchdog.tsl"), watchdog),
+    "waiting": Workload(lambda: example("examples/waiting.tsl"), waiting),
     "merges": Workload(chain_of_merges, chain),
     "heartbeats": Workload(lambda: HEARTBEATS, heartbeats),
     "texts": Workload(lambda: TEXTS, texts),

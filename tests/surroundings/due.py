@@ -55,6 +55,25 @@ out Set.contains(yl, t) as came
 out Set.size(y) as size
 """
 
+WAITING = """in t: Events[String]
+in r: Events[Unit]
+def before := merge(last(q, t), Queue.empty[String])
+def all := merge(Queue.enqueue(before, t), merge(last(q, r), Queue.empty[String]))
+def some := filter(all, merge(const(true, r), const(false, t)) && Queue.size(all) > 0)
+def q: Events[Queue[String]] := merge(Queue.dequeue(some), all)
+out Queue.front(some) as taken
+out Queue.size(q) as rest
+"""
+
+LAST_TWO = """in i: Events[Int]
+in x: Events[Int]
+def all := Queue.enqueue(merge(last(q, i), Queue.empty[Int]), i)
+def full := filter(all, Queue.size(all) > 2)
+def q: Events[Queue[Int]] := merge(merge(Queue.dequeue(full), all), Queue.empty[Int])
+out last(q, x) as before
+out q
+"""
+
 DIVIDED = "in i: Events[Int]\ndef q := 1 / i\nout q\n"
 
 EACH_INSTANT = "def p: Events[Unit] := delay(const(1, merge(unit, p)), unit)\nout p\n"

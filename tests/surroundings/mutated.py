@@ -8,7 +8,7 @@ import re
 import shutil
 import subprocess
 
-from due import BEATS, DIVIDED, EACH_INSTANT, ECHO, HEARTBEATS, LATEST, SEEN, WORDS_SEEN, wanted_of
+from due import BEATS, DIVIDED, EACH_INSTANT, ECHO, HEARTBEATS, LAST_TWO, LATEST, SEEN, WAITING, WORDS_SEEN, wanted_of
 from starts import Ended, MESSAGES
 from talking import fed, in_pieces, long_heartbeats, random_echo
 
@@ -17,7 +17,8 @@ TOP = os.path.dirname(os.path.dirname(os.path.dirname(os.path.abspath(__file__))
 TOKENS = (
     "( ) [ ] { } , . : := = + - * / % ! && || == != <= >= < > -- # \" \\ in def out as if then else true false unit nil time last delay "
     "merge default lift const filter isSome isNone getSome Some None Set Map String Int Bool Unit Events Option Set.empty[Int] Map.empty "
-    "Set.add Map.get Set.contains String.concat String.size Map.size 0 1 9223372036854775807 9223372036854775808 x i m y s ä _ Queue"
+    "Set.add Map.get Set.contains String.concat String.size Map.size 0 1 9223372036854775807 9223372036854775808 x i m y s ä _ "
+    "Queue Queue.empty[Int] Queue.enqueue Queue.dequeue Queue.front Queue.size"
 ).split()
 
 TRACE_TOKENS = (
@@ -66,7 +67,7 @@ def mutated(dice, data, tokens, others):
 
 
 def known_sources():
-    sources = [HEARTBEATS, SEEN, WORDS_SEEN, DIVIDED, EACH_INSTANT, ECHO]
+    sources = [HEARTBEATS, SEEN, WORDS_SEEN, WAITING, LAST_TWO, DIVIDED, EACH_INSTANT, ECHO]
     names = glob.glob(os.path.join(TOP, "examples", "*.tsl")) + glob.glob(os.path.join(TOP, "tests", "cases", "*", "files", "*.tsl"))
     found = []
     for name in sorted(names):

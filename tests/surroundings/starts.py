@@ -10,7 +10,7 @@ import subprocess
 import tempfile
 import threading
 
-from due import BEATS, BEATS_PRINTED, DIVIDED, EACH_INSTANT, HEARTBEATS, SEEN, WORDS_SEEN
+from due import BEATS, BEATS_PRINTED, DIVIDED, EACH_INSTANT, HEARTBEATS, SEEN, WAITING, WORDS_SEEN
 
 HERE = os.path.dirname(os.path.abspath(__file__))
 
@@ -51,14 +51,27 @@ def kept_words():
     return trace.encode(), printed.encode()
 
 
+def waiting_words():
+    """Texts that wait in a queue, until all are taken but for one."""
+    count = len(LONG_TEXTS)
+    trace = "".join(f'{k}: t = "{text}"\n' for k, text in enumerate(LONG_TEXTS, 1))
+    trace += "".join(f"{k}: r\n" for k in range(count + 1, 2 * count))
+    printed = "".join(f"{k}: rest = {k}\n" for k in range(count + 1))
+    for number, text in enumerate(LONG_TEXTS[:-1], 1):
+        printed += f'{count + number}: taken = "{text}"\n{count + number}: rest = {count - number}\n'
+    return trace.encode(), printed.encode()
+
+
 def all_cases():
     h, s = {"s.tsl": HEARTBEATS, "t": BEATS}, {"s.tsl": SEEN}
     trace, printed = kept_words()
+    texts, taken = waiting_words()
     return [
         case("heartbeats", "run s.tsl t", h, out=BEATS_PRINTED),
         case("heartbeats_through_a_pipe", "run s.tsl", h, BEATS, out=BEATS_PRINTED),
         case("specification_through_a_pipe", "run - t", h, HEARTBEATS.encode(), out=BEATS_PRINTED),
         case("kept_texts", "run s.tsl t", {"s.tsl": WORDS_SEEN, "t": trace}, out=printed),
+        case("waiting_texts", "run s.tsl t", {"s.tsl": WAITING, "t": texts}, out=taken),
         case("fault", "run s.tsl", {"s.tsl": DIVIDED}, b"1: i = 1\n3: i = 0\n4: i = 1\n", b"1: q = 1\n", 1,
              b"3: fault DivideByZero at 2:10\n"),
         case("no_words", "", out=b"", status=2, err=b"words not accepted\n"),
