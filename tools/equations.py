@@ -1,7 +1,7 @@
 """Reads what `flat` prints, and tells how often each equation can have an event."""
 
 import re
-from dataclasses import dataclass
+from dataclasses import dataclass, replace
 
 EQUATION = re.compile(r"^%(\d+) (?:(\S+) )?:= (.*)$")
 ARGUMENT = re.compile(r"%(\d+)")
@@ -9,7 +9,7 @@ OUTPUT = re.compile(r"^out (\S+) %(\d+)$")
 
 # How often an equation can have an event: never, at 0 alone, once at some time, or more often. Each of these includes those before it.
 NEVER, AT_START, ONCE, OFTEN = range(4)
-UPDATES = ("SetAdd", "SetRemove", "MapAdd", "MapRemove")
+UPDATES = ("SetAdd", "SetRemove", "MapAdd", "MapRemove", "QueueAdd", "QueueTake")
 
 
 @dataclass(frozen=True)
@@ -19,6 +19,7 @@ class Equation:
     operation: str
     arguments: tuple
     text: str  # the type of an input or of what is empty, the function of a lift
+    part_of: str = ""  # of an equation without a name that of the definition or output that it is a part of
 
 
 def parts_of(text):
@@ -40,7 +41,18 @@ def read(text):
             equations[number] = Equation(number, name, *parts_of(rest))
         elif found := OUTPUT.match(line):
             outputs.append((found[1], int(found[2])))
-    return equations, outputs
+    return with_owners(equations), outputs
+
+
+def with_owners(equations):
+    """Says of each equation without a name which definition or output it is a part of: that of the nearest one that uses it."""
+    owners, todo = {}, [it for it in equations.values() if it.name]
+    for user in todo:
+        for number in user.arguments:
+            if number in equations and not equations[number].name and number not in owners:
+                owners[number] = user.name or owners[user.number]
+                todo.append(equations[number])
+    return {number: replace(it, part_of=owners.get(number, "")) for number, it in equations.items()}
 
 
 def either(a, b):

@@ -7,7 +7,7 @@ without a start, updates that repeat an old key or put together what comes apart
 import re
 
 from equations import AT_START, NEVER, OFTEN, ONCE, UPDATES, how_often, read
-from when import START, When, alone, asked_at, at_start, causes, covers, held, maybe_at_start, needs, never_meet, on_cycles, users_of
+from when import NOT, START, When, alone, asked_at, at_start, causes, covers, held, maybe_at_start, needs, never_meet, on_cycles, users_of
 
 HOW_OFTEN = {NEVER: "never has an event", AT_START: "has an event at 0 and no other", ONCE: "has one event at most"}
 COPIED = re.compile(r"^(\S+) (\d+:\d+) copied: (.*)$")
@@ -40,12 +40,17 @@ def called(equation):
     return equation.name or f"%{equation.number}"
 
 
+def told(equation):
+    """How an equation is named where it is told first: one without a name with what it is a part of."""
+    return f"{called(equation)}, a part of {equation.part_of}," if equation.part_of else called(equation)
+
+
 def of_delays(equations, counts):
     """A delay needs an event of its amount each time it is to be set: a literal has one at 0 and no other."""
     for equation in equations.values():
         if equation.operation == "Delay" and counts[equation.number] == ONCE:
             yield (
-                f"the delay {called(equation)} has one event at most, since its amount has: "
+                f"the delay {told(equation)} has one event at most, since its amount has: "
                 "`const(10, r)` has the amount 10 at each event of r"
             )
 
@@ -59,7 +64,7 @@ def of_inputs(source, equations):
 
 
 def is_empty(number, equations):
-    """A set or map that is empty at each of its events: it comes from empty ones alone, and nothing is added to it."""
+    """A set, map or queue that is empty at each of its events: it comes from empty ones alone, and nothing is added to it."""
     seen, todo = set(), [number]
     while todo:
         at = todo.pop()
@@ -79,11 +84,16 @@ def is_empty(number, equations):
 
 
 def of_updates(text, equations):
-    """Updates that copy, but for those of empty sets and maps: a copy of nothing costs nothing, and is how a new empty one is made."""
-    updated = {called(it): it.arguments[0] for it in equations.values() if it.operation in UPDATES}
+    """Updates that copy, but for those of what is empty: a copy of nothing costs nothing, and is how a new empty one is made."""
+    updates = {called(it): it for it in equations.values() if it.operation in UPDATES}
     for line in text.splitlines():
-        if (found := COPIED.match(line)) and not (found[1] in updated and is_empty(updated[found[1]], equations)):
-            yield f"the update {found[1]} at {found[2]} copies its set or map each time: {found[3]}"
+        if (found := COPIED.match(line)) and not (found[1] in updates and is_empty(updates[found[1]].arguments[0], equations)):
+            kind = kind_of(updates[found[1]]) if found[1] in updates else "set, map or queue"
+            yield f"the update {found[1]} at {found[2]} copies its {kind} each time: {found[3]}"
+
+
+def kind_of(update):
+    return next(it for it in ("set", "map", "queue") if update.operation.lower().startswith(it))
 
 
 def of_resets(equations, counts, when):
@@ -97,29 +107,31 @@ def of_resets(equations, counts, when):
         amount, reset = (when(it) for it in equation.arguments)
         if amount and reset and never_meet(amount, reset | {frozenset([("event", number)])}):
             yield (
-                f"the delay {called(equation)} is set only where its amount and its reset have an event at one time, and these have none in common: "
+                f"the delay {told(equation)} is set only where its amount and its reset have an event at one time, and these have none in common: "
                 "`delay(const(10, a), merge(a, b))` is set by a, and b cancels it"
             )
 
 
 def of_states(equations, when):
     """A state is read by `last`, which has nothing before the first event of the state. Each is told once, by its name where it has one."""
-    starts, users, cycles, told = at_start(equations), users_of(equations), on_cycles(equations), set()
+    starts, users, cycles, seen = at_start(equations), users_of(equations), on_cycles(equations), set()
     maybe = maybe_at_start(equations)
     for number, equation in equations.items():
         state = equation.arguments[0] if equation.operation == "Last" else None
-        if number not in cycles or state in told or not needs(equations, state, number):
+        if number not in cycles or state in seen or not needs(equations, state, number):
             continue
-        lacking = [it for it in users[number] if not is_started(equations[it], number, equations, starts, when)]
+        # A start of a queue is empty, and what takes from it would fault at 0.
+        asking = [it for it in users[number] if equations[it].operation != "QueueTake"]
+        lacking = [it for it in asking if not is_started(equations[it], number, equations, starts, when)]
         # What can have no event at 0 anyway loses none.
         if not lacking or state in starts and not any(set(equations[it].arguments) - {number} <= maybe for it in lacking):
             continue
-        told.add(state)
-        name = called(equations[state])
+        seen.add(state)
+        name, state_told = called(equations[state]), told(equations[state])
         if state in starts:
-            yield f"the state {name} loses an event at time 0: its start stands outside of `merge(last({name}, r), START)`"
+            yield f"the state {state_told} loses an event at time 0: its start stands outside of `merge(last({name}, r), START)`"
         else:
-            yield f"the state {name} has no start, and `last({name}, r)` has nothing before its first event: write `merge(last({name}, r), START)`"
+            yield f"the state {state_told} has no start, and `last({name}, r)` has nothing before its first event: write `merge(last({name}, r), START)`"
 
 
 def is_started(user, last, equations, starts, when):
@@ -139,32 +151,90 @@ def placed(equation, show):
 
 def of_conditions(equations, when):
     """A condition that asks a state of several inputs by `last` is not there before the first event of that state."""
-    starts, told = at_start(equations), set()
+    starts, seen = at_start(equations), set()
     for equation in equations.values():
         for number in asked_at(equations, equation.arguments[1]) if equation.operation == "Filter" else ():
             state, asking = equations[number].arguments
-            if state in starts or (equation.number, state) in told or equations[state].operation != "Merge" or needs(equations, state, number):
+            if state in starts or (equation.number, state) in seen or equations[state].operation != "Merge" or needs(equations, state, number):
                 continue
             before, then = causes(equations, when, state), causes(equations, when, asking)
             if before is None or then is None or before <= then:
                 continue
-            told.add((equation.number, state))
+            seen.add((equation.number, state))
             name = called(equations[state])
-            yield f"the filter {called(equation)} lets nothing through before the first event of {name}: `merge(last({name}, e), const(START, e))` has a start"
+            yield f"the filter {told(equation)} lets nothing through before the first event of {name}: `merge(last({name}, e), const(START, e))` has a start"
+
+
+def is_new(equations, number):
+    """The stream of which a condition asks whether it is another than before: `x != last(x, x)`, or None."""
+    equation = equations[number]
+    if equation.operation == "Lift" and equation.text == NOT and equations[held(equations, equation.arguments[0])].text == "eq($0, $1)":
+        equation = equations[held(equations, equation.arguments[0])]
+    elif equation.text != "ne($0, $1)":
+        return None
+    here, before = (held(equations, it) for it in equation.arguments)
+    return here if equations[before].operation == "Last" and equations[before].arguments == (here, here) else None
+
+
+def of_first(equations, when):
+    """A condition that compares with the value before is not there at the first event."""
+    for equation in equations.values():
+        if equation.operation != "Filter":
+            continue
+        stream = is_new(equations, held(equations, equation.arguments[1]))
+        if stream is not None and equations[stream].name and when(stream) == when(equation.arguments[0]):
+            name = equations[stream].name
+            yield (
+                f"the filter {told(equation)} leaves out the first event of {name}, since its condition needs last({name}, {name}): "
+                f"`merge({name} != last({name}, {name}), const(true, {name}))` counts it as new"
+            )
 
 
 def of_keys(show, equations, when):
-    """An update whose set has events where its key has none does the same to the last key once more."""
-    for equation in equations.values():
-        if equation.operation not in UPDATES:
+    """An update whose set has events where its key has none does the same to the last key once more, unless a filter leaves that out.
+
+    So does one that puts a value at the end of a queue; one that takes the first value away has nothing beside its queue.
+    """
+    users = users_of(equations)
+    for number, equation in equations.items():
+        if equation.operation not in UPDATES or len(equation.arguments) == 1:
             continue
         collection, *given = (when(it) if place == 0 else when(held(equations, it)) for place, it in enumerate(equation.arguments))
         if collection is None or None in given:
             continue
-        extra = alone(collection, frozenset().union(*given))
+        extra = alone(equations, when, collection, frozenset().union(*given))
+        extra = [it for it in extra if not is_decided(equations, when, number, users[number], it[1])]
         if extra:
-            names = " and ".join(called(equations[number]) for _, number in extra[:3])
-            yield f"the update {placed(equation, show)} repeats its last key at {names}: take its set by `last` at the key, `merge(last(s, key), START)`"
+            names, kind = " and ".join(called(equations[number]) for _, number in extra[:3]), kind_of(equation)
+            given = "value" if kind == "queue" else "key"
+            yield f"the update {placed(equation, show)} repeats its last {given} at {names}: take its {kind} by `last` at the {given}, `merge(last({kind[0]}, {given}), START)`"
+
+
+def is_decided(equations, when, number, users, event):
+    """Whether an equation goes through filters alone, whose conditions other events than this one have a part in."""
+    for user in (equations[it] for it in users):
+        if user.operation != "Filter" or user.arguments[0] != number:
+            return False
+        asked = causes(equations, when, user.arguments[1])
+        if asked is not None and asked <= {event}:
+            return False
+    return bool(users)
+
+
+def of_sums(equations, when):
+    """A sum over the past that also comes where its summand does not adds the last one once more there."""
+    for number, equation in equations.items():
+        if equation.operation != "Lift" or equation.text not in ("add($0, $1)", "sub($0, $1)"):
+            continue
+        state, summand = equation.arguments[0], held(equations, equation.arguments[1])
+        here, given = when(state), when(summand)
+        if here is None or given is None or START in set().union(*given) or not needs(equations, state, number) or never_meet(here, given):
+            continue
+        extra = alone(equations, when, here, given)
+        if extra:
+            names = " and ".join(called(equations[it]) for _, it in extra[:3])
+            does = "adds" if equation.text.startswith("add") else "takes off"
+            yield f"the sum {told(equation)} {does} the last value of {called(equations[summand])} again at {names}: take its state by `last` at {called(equations[summand])}"
 
 
 def of_fields(show, equations, when):
@@ -189,6 +259,8 @@ def silent(flat, show, source):
     yield from of_resets(equations, counts, when)
     yield from of_states(equations, when)
     yield from of_conditions(equations, when)
+    yield from of_first(equations, when)
+    yield from of_sums(equations, when)
     yield from of_keys(show, equations, when)
     yield from of_fields(show, equations, when)
     yield from of_inputs(source, equations)

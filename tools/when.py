@@ -141,10 +141,21 @@ def covers(first, second):
     return first is not None and second is not None and all(any(one <= other for one in first) for other in second)
 
 
-def alone(first, second):
-    """The events of the first at which it comes without the second, as far as can be seen: they have no part in any alternative of it."""
+def alone(equations, when, first, second):
+    """The events of the first at which it comes without the second, as far as can be seen: they have no part in any alternative of it.
+
+    A condition that other events have a part in may be false there, so such an alternative tells nothing.
+    """
     shared = set().union(*(events_in(it) for it in second)) if second else set()
-    return sorted(set().union(*(events_in(it) for it in first if not events_in(it) & (shared | {START})), set()))
+    kept = (it for it in first if not events_in(it) & (shared | {START}) and is_own(equations, when, it))
+    return sorted(set().union(*map(events_in, kept), set()))
+
+
+def is_own(equations, when, alternative):
+    """Whether the conditions of an alternative follow from its own events."""
+    own = {number for kind, number in alternative if kind == "event"}
+    asked = (causes(equations, when, number) for kind, number in alternative if kind in ("true", "false", "given"))
+    return all(it is not None and it <= own for it in asked)
 
 
 def trimmed(left, ways, back):

@@ -3,7 +3,7 @@ import { nearest, part } from "./spelling.mjs";
 import { answer } from "./slips.mjs";
 
 const NAMED = /^[\p{L}_][\p{L}\p{N}_]*$/u;
-const OWN = ["unit", "nil", "lift", "None", "Set", "Map", "String"];
+const OWN = ["unit", "nil", "lift", "None", "Set", "Map", "Queue", "String"];
 
 function entry(table, name) {
   return Object.hasOwn(table, name) ? table[name] : undefined;
@@ -76,7 +76,8 @@ export class Declared {
     const { OF_STREAMS, OF_OPTIONS } = this.tables;
     if (OF_STREAMS.includes(name)) {
       const helps = `write ${name} outside, among streams, or Events[..] for the parameters: then it is a macro`;
-      return answer(`a stream is meant: ${name} takes streams, and ${part(item.name)} is a function of values`, helps);
+      const kind = ["one of Set[Int]", "one of Map[Int, Int]", "one of Queue[Int]"].includes(want) ? ` of ${anyOf(want)}` : "";
+      return answer(`a stream${kind} is meant: ${name} takes streams, and ${part(item.name)} is a function of values`, helps);
     }
     if (OF_OPTIONS.includes(name)) {
       const helps = "use the value as it is, or let the parameter be an Option[..]";
@@ -107,12 +108,41 @@ export class Declared {
       const streams = part((given?.length ? given : [".."]).join(", "));
       return answer(`${part(name)} takes options, and this is a stream: ${have}`, `write lift(${streams}, ${part(name)})`);
     }
+    if (["merge", "default"].includes(name) && isStream(have) && want !== have && isStream(want) && given?.length === 2) return ofMerge(text, have, want);
     if (want.startsWith("one of")) {
       const inner = isStream(have) ? have.slice("Events[".length, -1) : have;
-      return answer(`a stream of another type is meant: this is one of ${part(inner)}`, `it may be one of ${want.slice("one of ".length)}`);
+      return answer(`a stream of another type is meant: this is one of ${part(inner)}`, `it may be ${anyOf(want)}`);
     }
     return ofTexts(have, want);
   }
+}
+
+/** What may stand there: a message has one set for all sets, one map for all maps, and one queue for all queues. */
+function anyOf(want) {
+  const kinds = want.slice("one of ".length).replaceAll("Set[Int]", "any set").replaceAll("Map[Int, Int]", "any map").replaceAll("Queue[Int]", "any queue");
+  return kinds.includes(",") ? `one of ${kinds}` : kinds;
+}
+
+/** A merge of streams of two types, of which perhaps the times alone count. */
+function ofMerge(text, have, want) {
+  const cause = `merge has streams of one type, and here one is ${part(want)} and the other ${part(have)}`;
+  const [first, second] = text.arguments().map(part);
+  const times = `merge(time(${first}), time(${second}))`;
+  if (/(?<![\p{L}\p{N}_])(?:last|delay)\s*\((?:[^()]|\([^()]*\))*,\s*$/u.test(text.before())) return answer(cause, `only when they come counts here: write ${times}`);
+  return answer(cause, `change one of them; where only their times count, as for a delay, write ${times}`);
+}
+
+/** A type that may not stand here. */
+export function ofBadType(text) {
+  const [name, before] = [text.nameHere(), text.before()];
+  if (name === "Option") {
+    const helps = "let no event come where there is none; for no one keep a Bool beside it, or a value that never comes, as -1";
+    return answer("an event has a value, so there are no streams, keys or values of Option", helps);
+  }
+  if (name === "Unit" && /(?<![\p{L}\p{N}_])(?:Set|Map)(?:\.empty)?\s*\[$/u.test(before)) return answer("keys are Int, Bool or String, and not Unit", "choose one of these");
+  if (["Set", "Map", "Queue"].includes(name) && /(?<![\p{L}\p{N}_])(?:Set|Map|Queue)(?:\.empty)?\s*\[[^\]]*$/u.test(before))
+    return answer("a set, map or queue stands in no other one", "keep one for each part, or make one key of both: a * 1000 + b, or String.concat(a, b)");
+  return null;
 }
 
 /** What helps, of the stream that the call has. */
@@ -149,7 +179,7 @@ function ofLiteral(text, have) {
   const [value, event] = given.map(part);
   if (!/[\p{L}_]/u.test(value) && value !== "()") return answer(`${value} is no literal`, "write its value as one literal");
   if (["()", "unit"].includes(value)) return answer(`${value} is no literal`, `write const(true, ${event}), or ${event} alone where it has no value to matter`);
-  if (/^(?:Set|Map)\.empty(?![\p{L}\p{N}_])/u.test(value)) {
+  if (/^(?:Set|Map|Queue)\.empty(?![\p{L}\p{N}_])/u.test(value)) {
     const helps = `write last(${value}, ${event}), which has it at each event of ${event} after 0`;
     return answer(`${value} is a stream with one event at 0, and no literal`, helps);
   }
@@ -166,15 +196,6 @@ function ofLiteral(text, have) {
 function isConstant(text, name) {
   const quoted = name.replace(/[.*+?^${}()|[\]\\/]/g, "\\$&");
   return new RegExp(`(?<![\\p{L}\\p{N}_])def\\s+${quoted}\\s*(?::[^=\\n]*)?:?=\\s*(?:-?[0-9]+|true|false|".*")\\s`, "u").test(text.text);
-}
-
-/** A cycle of one definition: what it needs is its own value at the same time. */
-export function ofOwn(told) {
-  const names = new Set(told.slice("cycle ".length).split(" -> ").filter(it => !it.startsWith("%")));
-  if (names.size !== 1) return null;
-  const name = part([...names][0]);
-  const helps = `write last(${name}, e) for its value before, where e is what changes it; of last and delay the first argument alone may need ${name}`;
-  return answer(`${name} needs itself at the same time`, helps);
 }
 
 /** The definitions on a cycle, with their places. */

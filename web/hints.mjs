@@ -1,6 +1,7 @@
 // What helps with a message: as the launcher adds it, what stands at the place, or else what the manual's tables have.
-import { Declared, ofCycle, ofOwn } from "./declared.mjs";
+import { Declared, ofBadType, ofCycle } from "./declared.mjs";
 import { ofLine } from "./lines.mjs";
+import { ofNeedsType, ofOwnCycle } from "./needs.mjs";
 import { Slips } from "./slips.mjs";
 import { inputsOf, textAt } from "./text.mjs";
 
@@ -18,13 +19,15 @@ export class Hints {
     if ((spec.split("\n", place.line).at(-1) ?? "").length > MOST_HINTED) return {};
     const text = textAt(spec, place);
     const { slips, declared } = this;
-    if (kind === "cycle") return { ...ofOwn(told), lines: ofCycle(text, told) };
+    if (kind === "cycle") return { ...ofOwnCycle(text, told), lines: ofCycle(text, told) };
     const of = {
       Unexpected: () => slips.ofUnexpected(text),
       BadCharacter: () => slips.ofCharacter(text),
       WrongArity: () => declared.ofArity(text),
       UnknownName: () => declared.ofName(text),
       DefinedTwice: () => declared.ofTwice(text),
+      NeedsType: () => ofNeedsType(text),
+      BadType: () => ofBadType(text),
       WrongType: () => declared.ofType(text, told),
     };
     return (Object.hasOwn(of, kind) && of[kind]()) || {};

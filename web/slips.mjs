@@ -82,7 +82,7 @@ export class Slips {
 
   /** A dotted name that is not there. */
   ofDot(_text, before, after) {
-    const [module, name] = [search(`${START}(Set|Map|String)\\.$`, before)?.[1], match(WORD, after)?.[0]];
+    const [module, name] = [search(`${START}(Set|Map|Queue|String)\\.$`, before)?.[1], match(WORD, after)?.[0]];
     if (module && name) {
       const there = this.tables.FUNCTIONS[module];
       const near = nearest(name, there);
@@ -97,7 +97,7 @@ export class Slips {
   /** A word where a type belongs. */
   ofType(_text, before, after) {
     const name = match(WORD, after)?.[0];
-    if (!name || !search(`(?:${WORD}\\)?:|${START}(?:Events|Option|Set|Map|empty|nil|None)\\[(?:[^\\[\\]]*,)?)\\s*$`, before)) return null;
+    if (!name || !search(`(?:${WORD}\\)?:|${START}(?:Events|Option|Set|Map|Queue|empty|nil|None)\\[(?:[^\\[\\]]*,)?)\\s*$`, before)) return null;
     const { FRACTIONS, TYPES, ALL_TYPES } = this.tables;
     if (FRACTIONS.includes(name.toLowerCase())) return answer(`${part(name)} is no type: numbers are whole`, "write Int, and count in a finer unit");
     const type = of(TYPES, name.toLowerCase());

@@ -9,9 +9,9 @@ const CALLED = new RegExp(`${NAME}(?:\\.${NAME})?`, "uy");
 const CLOSING = { "(": ")", "[": "]", "{": "}" };
 /** So much is read around a place, and of a whole source. */
 const AROUND = 2000;
-const WHOLE = 1 << 18;
+export const WHOLE = 1 << 18;
 
-function isName(text) {
+export function isName(text) {
   return new RegExp(`^${NAME}$`, "u").test(text);
 }
 
@@ -125,7 +125,7 @@ function partsOfCall(text, open) {
   return null;
 }
 
-function tokensOf(text) {
+export function tokensOf(text) {
   return [...text.matchAll(TOKEN)].filter(it => !/^(?:--|#)/.test(it[0]));
 }
 

@@ -32,6 +32,10 @@ SLIPS = (
     ("out i.b as x", "Unexpected", "i.b", "i_b"),
     ("out Set.union(i, i) as x", "Unexpected", "Set.union is not there", "contains"),
     ("out Set.contain(i, i) as x", "Unexpected", "Set.contain is not there", "write Set.contains"),
+    ("out Queue.push(Queue.empty[Int], i) as x", "Unexpected", "Queue.push is not there", "enqueue"),
+    ("def q: Events[Queue] := Queue.empty[Int]\nout q", "Unexpected", "Queue needs the types", "Queue[Int]"),
+    ("in k: Events[queue[Int]]\nout k", "Unexpected", "queue is no type", "write Queue"),
+    ("out Queue.empty as q", "Unexpected", "Queue.empty needs its types", "Queue.empty[Int]"),
     ("def f[A](x: Events[A]) := x\nout i", "Unexpected", "generic", "for each type"),
     ("out lift(i, (x) => x) as x", "Unexpected", "functions without a name", "def f(x: Option[Int])"),
     ("out lift(i, (x: Option[Int]) => x) as x", "Unexpected", "functions without a name", "def f(x: Option[Int])"),
@@ -39,6 +43,7 @@ SLIPS = (
     ("out lift(i, x => x) as x", "Unexpected", "functions without a name", "def f(x: Option[Int])"),
     ("out merge(i, i, i + 1) as x", "WrongArity", "merge has two arguments, and here are 3", "write merge(i, merge(i, i + 1))"),
     ("out last(i) as x", "WrongArity", "last has two arguments", "last(i, i)"),
+    ("out Queue.enqueue(Queue.empty[Int]) as q", "WrongArity", "Queue.enqueue has two arguments, and here are 1", "write Queue.enqueue(q, v)"),
     ("def f(a: Int, c: Int): Int := a + c\nout f(i) as x", "WrongArity", "f has two arguments, and here are 1", "write f(a, c)"),
     ("out delay(10ms, i) as x", "Unexpected", "10ms has a unit", "write 10"),
     ("out delay(10 ms, i) as x", "Unexpected", "10 ms has a unit", "write 10"),
@@ -48,6 +53,7 @@ SLIPS = (
     ("def on := true\nout const(on, i) as x", "WrongType", "on is a stream", "on && const(true, i)"),
     ("out const(1 + 2, b) as x", "WrongType", "1 + 2 is no literal", "its value"),
     ("out const(i, b) as x", "WrongType", "i is a stream", "last(i, b)"),
+    ("out const(Queue.empty[Int], e) as x", "WrongType", "Queue.empty[Int] is a stream", "last(Queue.empty[Int], e)"),
     ("out const(Set.empty[Int], e) as x", "WrongType", "Set.empty[Int] is a stream", "last(Set.empty[Int], e)"),
     ("out i = i as x", "Unexpected", "= defines", "write =="),
     ("out b & b as x", "BadCharacter", "& is no operator", "write &&"),
@@ -73,6 +79,7 @@ SLIPS = (
     ("in x: Events[Int], y: Events[Int]\nout x", "Unexpected", "no call is open here", "begin each item"),
     ("out i < i < i as x", "Unexpected", "< is a second one", "&&"),
     ("def last := i\nout i", "DefinedTwice", "last belongs to the language", "another name"),
+    ("in Queue: Events[Int]\nout i", "DefinedTwice", "Queue belongs to the language", "another name"),
     ("def i := 1\nout i", "DefinedTwice", "i is declared at 1:4", "another name"),
     ("out prev(i) as x", "UnknownName", "prev is not there", "last(i, i)"),
     ("out count(e) as x", "UnknownName", "count is not there", "merge(merge(last(n, e), 0) + const(1, e), 0)"),
@@ -80,6 +87,26 @@ SLIPS = (
     ("out time as x", "UnknownName", "time belongs to the language, and is not called", "write time(e)"),
     ("def f(x: Events[Int]) := x\nout f[Int](i) as x", "Unexpected", "a call names no types", "leave them out"),
     ("def f(a: Int): Int := a\nout f as x", "UnknownName", "f is a function, and is not called", "f(a)"),
+    ("def n := merge(last(n, i) + 1, 0)\nout n", "NeedsType", "n needs itself, and has no written type", "def n: Events[..]"),
+    ("def n := merge(m, 0)\ndef m := last(n, i) + 1\nout n", "NeedsType", "n needs m, m needs n, and none has a written type", "def n: Events[..]"),
+    ("def f(x: Events[Int]) := {\n  def n := merge(m, 0)\n  def m := last(n, x) + 1\n  n\n}\nout f(i) as x", "NeedsType", "n needs m, m needs n, and", "def n:"),
+    ("def n := m + 1\ndef m := last(i, n)\nout n", "NeedsType", "in m the second argument of last is asked now; a type does not help", "event that n is made of"),
+    ("def p := delay(const(5, i), q)\ndef q := filter(i, i > 3) + time(p)\nout q", "NeedsType", "in p the second argument of delay is asked now; a type", "last(q, e)"),
+    ("def taken := filter(i, !held)\ndef held := merge(const(true, taken), false)\nout taken", "NeedsType", "filter asks for held as it is now; a type", "last(held, i)"),
+    ("def g(x: Int): Int := x + 1\ndef a := g(c)\ndef c := g(a)\nout a", "NeedsType", "a needs c, c needs a at the same time; a type does not help", "last(a, e)"),
+    ("def g(x: Events[Int]): Events[Int] := last(x, i)\ndef a := g(c)\ndef c := g(a)\nout a", "NeedsType", "and none has a written type", "def a: Events[..]"),
+    ("in k: Events[Option[Int]]\nout k", "BadType", "an event has a value", "a Bool beside it"),
+    ("def m := Map.empty[Unit, Int]\nout m", "BadType", "keys are Int, Bool or String", "choose"),
+    ("def m := Map.empty[Int, Set[Int]]\nout m", "BadType", "a set, map or queue stands in no other one", "one key of both"),
+    ("def q := Queue.empty[Queue[Int]]\nout q", "BadType", "a set, map or queue stands in no other one", "one for each part"),
+    ("def q := Queue.empty[Option[Int]]\nout q", "BadType", "no streams, keys or values of Option", "no event come"),
+    ("out Map.get(Set.empty[Int], i) as x", "WrongType", "this is one of Set[Int]", "it may be any map"),
+    ("out Queue.front(Set.empty[Int]) as x", "WrongType", "this is one of Set[Int]", "it may be any queue"),
+    ("def f(q: Queue[Int]): Int := Queue.size(Queue.dequeue(q))\nout i", "WrongType", "a stream of any queue is meant", "outside, among streams"),
+    ("def f(m: Map[Int, Bool]): Int := Map.size(Map.add(m, 1, true))\nout i", "WrongType", "a stream of any map is meant", "outside, among streams"),
+    ("out delay(const(9, e), merge(e, i)) as x", "WrongType", "merge has streams of one type", "only when they come counts here: write merge(time(e), time(i))"),
+    ("out last(b, merge(i, b)) as x", "WrongType", "merge has streams of one type", "only when they come counts here: write merge(time(i), time(b))"),
+    ("def a := merge(e, i)\nout a", "WrongType", "one is Events[Unit] and the other Events[Int]", "where only their times count"),
     ("def limit := 5\ndef f(a: Int): Int := a + limit\nout f(i) as x", "UnknownName", "limit is a stream, and f a function of values", "parameter"),
 )  # fmt: skip
 # Whether a stream or a value is meant.
@@ -127,6 +154,23 @@ def no_slip(starts):
     starts.tried.holds("the manual answers for the rest", deep.status == 3 and b"64 parentheses" in deep.err, deep)
 
 
+# What is refused as a cycle, the cause, and what to write.
+CYCLES = (
+    ("def n: Events[Int] := merge(n + 1, i)\nout n", "n needs itself at the same time; %", "write last(n, e)"),
+    ("def n: Events[Int] := n\nout n", "n needs itself at the same time\n", "write last(n, e)"),
+    ("def n: Events[Int] := merge(last(i, n) + 1, 0)\nout n", "in n the second argument of last is asked now", "the event that n is made of"),
+    ("def n: Events[Unit] := merge(e, delay(const(5, e), n))\nout n", "in n the second argument of delay is asked now", "last(n, e)"),
+    ("def a: Events[Int] := merge(1 + c, i)\ndef c := a * 2 + 3\nout c", "c needs a, a needs c at the same time; %3 is a part without a name", "last(c, e)"),
+    ("def x: Events[Int] := y + z\ndef y: Events[Int] := z + 1\ndef z: Events[Int] := x * 2\nout x", "at the same time", "write last("),
+    (
+        "def taken := filter(i, !held)\ndef held: Events[Bool] := merge(const(true, taken), const(false, ended))\n"
+        "def ended := delay(const(30, taken), taken)\nout taken",
+        "filter asks for held as it is now",
+        "last(held, i)",
+    ),
+)
+
+
 def of_cycles(starts):
     starts.write("parts.tsl", "in i: Events[Int]\ndef a: Events[Int] := merge(1 + b, i)\ndef b := a * 2 + 3\nout b\n")
     wanted = (
@@ -134,11 +178,12 @@ def of_cycles(starts):
         "                                ^\n  parts.tsl:2:5: a, with its part %1\n  parts.tsl:3:5: b, with its part %3\n"
     )
     explained(starts, "a cycle has its definitions, and what has no name", starts.extras("check", "parts.tsl"), 3, "", wanted, "last")
-    for number, own in enumerate(("Int] := merge(n + 1, i)", "Int] := merge(last(i, n) + 1, 0)", "Unit] := merge(e, delay(const(5, e), n))")):
-        starts.write(f"own.{number}.tsl", f"{INPUTS}def n: Events[{own}\nout n\n")
-        ended = starts.extras("check", f"own.{number}.tsl")
-        is_told = b"cause:  n needs itself at the same time\n" in ended.err and b"remedy: write last(n, e)" in ended.err
-        starts.tried.holds(f"a cycle of one definition: {own}", ended.status == 3 and is_told, ended)
+    for number, (source, cause, remedy) in enumerate(CYCLES):
+        starts.write(f"cycle.{number}.tsl", f"{INPUTS}{source}\n")
+        ended = starts.extras("check", f"cycle.{number}.tsl")
+        said = ended.err.decode()
+        is_told = ended.status == 3 and cause in said.partition("  cause:  ")[2] and remedy in said.partition("  remedy: ")[2]
+        starts.tried.holds(f"a cycle: {source!r}", is_told, ended)
 
 
 # ---- Traces
@@ -228,6 +273,8 @@ WORDS = (
     ("run", "run needs the name of a specification", "run SPEC [TRACE]"),
     ("run a b c", "`c` is one word too many for run", "run SPEC [TRACE]"),
     ("check --strict q.tsl", "check takes no options, and `--strict`", "check SPEC"),
+    ("check -5", "`-5` begins with a dash, and is no name so: `./-5` is", "check SPEC"),
+    ("run q.tsl -t", "`-t` begins with a dash", "run SPEC [TRACE]"),
     ("chek q.tsl", "there is no command `chek`; the nearest is check", "check SPEC"),
     ("instal x", "there is no command `instal`; the nearest is install", "install PREFIX"),
     ("q.tsl", "`q.tsl` is a file and no command", "run SPEC [TRACE]"),
@@ -257,6 +304,14 @@ def of_nothing(starts):
     tried.holds("a run that prints nothing", ended.status == 0 and ended.out.startswith(b"note: the delay late is set only where"), ended)
     starts.write("met.trace", "1: a\n1: b\n9:\n")
     tried.ended("a run that prints something", terminal(starts, "run", "never.tsl", "met.trace").end(), 0, "6: late = ()\n")
+    starts.write("end.trace", "1: a\n9:\n")
+    starts.write("end.tsl", "in a: Events[Unit]\nout delay(const(10, a), a) as late\n")
+    ended = terminal(starts, "run", "end.tsl", "end.trace", "--until", "10").end()
+    tried.ended("and where the end is told, nothing more", ended, 0, "")
+    told = "tessla: late has an event at 11, after the end of the trace: run with --until 11\n"
+    tried.ended("what is due after the end", terminal(starts, "run", "end.tsl", "end.trace").end(), 0, told)
+    starts.write("clock.tsl", "in a: Events[Unit]\ndef t: Events[Unit] := delay(const(1, merge(a, t)), a)\nout filter(time(t), time(t) < 0) as never\n")
+    tried.ended("a clock that ticks for ever", terminal(starts, "run", "clock.tsl", "end.trace").end(), 0, "")
     tried.ended("where the output goes elsewhere", starts.extras("run", "never.tsl", "never.trace"), 0, "", "")
 
 

@@ -191,6 +191,7 @@ class Matched(Cells):
         self.other = 0  # lines that were left out
         self.groups = dict(self.words.match.groupindex)
         self.time_at = self.groups.pop("time")
+        self.places = (*self.groups.values(), self.time_at)  # two at least, so that a match has as many
         self.value_name = "value" if "event" in self.groups and "value" in self.groups else None
         self.inputs: List[Optional[str]] = []  # of the groups, after the first line
         self.readers_of_inputs: List[Reader] = []
@@ -206,11 +207,12 @@ class Matched(Cells):
         if "event" in self.groups:
             self.line_of_event(number, match["event"] or "", match["value"] or "" if self.value_name else "")
             return
-        values = match.group(*self.groups.values(), 0)[:-1]
+        values = match.group(*self.places)[:-1]
         if not self.inputs:
             self.inputs = [self.names[name] for name in self.groups]
             self.readers_of_inputs = [self.readers_of_names[name] for name in self.groups]
-        self.settled.events(number, self.inputs, self.readers_of_inputs, [value or "" for value in values])
+        if any(values):
+            self.settled.events(number, self.inputs, self.readers_of_inputs, [value or "" for value in values])
 
     def line_of_event(self, time: int, named: str, value: str) -> None:
         if not named.strip(BLANKS):

@@ -128,7 +128,7 @@ class Frames(Log):
         return plan
 
     def missing(self) -> List[str]:
-        texts = super().missing()
+        texts: List[str] = []
         for identifier, all_wanted in self.words.map.items():
             for wanted in all_wanted:
                 if not any(self.is_frame_of(identifier, wanted, *plan) for plan in self.plans):
@@ -136,7 +136,8 @@ class Frames(Log):
                     texts.append(f"--map {bus}{identifier}={wanted.name}: the log has no such frame")
         if self.words.bus and not any(bus == self.words.bus for bus, _ in self.plans):
             texts.append(f"--bus {shown(self.words.bus)}: the log has no such interface")
-        return texts
+        self.lacks = bool(texts)
+        return super().missing() + texts
 
     def is_frame_of(self, identifier: str, wanted: Wanted, bus: str, number: str) -> bool:
         return number == identifier and wanted.bus in (None, bus) and self.words.bus in (None, bus)

@@ -6,7 +6,7 @@ import io
 import re
 from typing import Callable, Dict, Iterator, List, Optional, Set, Tuple
 
-from .clock import Clock
+from .clock import AFTER_SECONDS, SECONDS, TO_THE_MINUTE, Clock
 from .shapes import Shape, Shapes
 from .texts import BLANKS, EXACT, GREATEST, LONGEST_NAME, NEWEST, SURROGATE, Refused, is_name, name_of, number_of, shown
 from .times import MARK, Settled
@@ -124,10 +124,13 @@ class Log:
         self.settled = Settled(words.equal, words.back, write, self.tell, self.hint)
         self.whole_scale = int(words.scale) if words.scale == int(words.scale) else 0
         self.clock = Clock(words.zone)
+        self.minutes = self.clock.alike.minutes
+        self.newest = "", 0  # the newest date that looked like the one before, and its time
         self.scaled = functools.lru_cache(NEWEST)(self.new_scaled)
         self.shapes = Shapes()
         self.first: Optional[int] = None
         self.cut = False  # whether times had fractions that were cut
+        self.lacks = False  # whether a frame that is asked for never came, in a log that was read to its end
 
     def read(self) -> None:
         """Takes each line that is neither blank nor a tick."""
@@ -186,6 +189,13 @@ class Log:
         return "times have fractions, see --scale; else " if self.cut else ""
 
     def time_of(self, text: str) -> int:
+        if self.minutes:
+            if text == self.newest[0]:
+                return self.newest[1]
+            time = self.time_alike(text)
+            if time is not None:
+                self.newest = text, time
+                return time
         before, _, after = text.partition(".")
         digits = before + after
         if self.whole_scale and before and digits.isdigit() and digits.isascii() and len(digits) < LONGEST_TIME:
@@ -200,6 +210,27 @@ class Log:
             self.first = time if self.first is None else self.first
             time -= self.first
         return checked_time(time)
+
+    def time_alike(self, text: str) -> Optional[int]:
+        """The time of a date that looks like the one before, in a minute that is known, if it is one."""
+        length, end, point, zone = self.clock.alike.looks
+        begun, second = self.minutes.get(text[:TO_THE_MINUTE]), SECONDS.get(text[TO_THE_MINUTE:AFTER_SECONDS])
+        scale = self.whole_scale
+        if begun is None or second is None or len(text) != length or not text.endswith(zone) or not scale:
+            return None
+        time = (begun + second) * scale
+        if point:
+            after = text[AFTER_SECONDS + 1 : end]
+            if text[AFTER_SECONDS] != point or not (after.isdigit() and after.isascii()):
+                return None
+            more, rest = divmod(int(after) * scale, POWERS[len(after)])
+            time += more
+            if rest:
+                self.note_cut(text)
+        if self.words.from_first:
+            self.first = time if self.first is None else self.first
+            time -= self.first
+        return time if time <= GREATEST else checked_time(time)
 
     def note_cut(self, text: str) -> None:
         """A time was cut to a whole unit, which --scale has to ask for."""

@@ -29,6 +29,10 @@ FORMATS = {
 }
 
 
+# The status of a log that was read to its end and never had a frame that was asked for.
+LACKS = 3
+
+
 def new_log(words: Words, source: io.BufferedReader, write: Callable[[str], None], say: Callable[[str], None]) -> Log:
     """The log of a format, and what counts its parts."""
     module, name = FORMATS[words.format]
@@ -135,7 +139,7 @@ def convert(words: Words, read: Callable[[int], bytes], output: Output, say: Cal
         number = 0 if read_all else refused.line or log.lines.number
         say(f"{log.lines.what} {number}: {refused}" if number else str(refused))
         return 1
-    return 0
+    return LACKS if log.lacks else 0
 
 
 def write_all(data: bytes) -> None:

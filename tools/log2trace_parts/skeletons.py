@@ -2,6 +2,7 @@
 
 import json
 import re
+import sys
 from typing import Any, Callable, Dict, Iterator, List, Optional, Tuple
 
 from .paths import Place
@@ -10,9 +11,21 @@ from .times import Reader
 
 TOKEN = re.compile(r'[ \t\r\n]+|"(?:[^"\\]|\\.)*"|[{}\[\],:]|[^ \t\r\n"{}\[\],:]+')
 PLAIN = re.compile(f'(?:{PLAIN_NUMBER})|(?:{TRUTH})|null|"{TEXT}"|(?P<fraction>{DECIMAL})')
-ANY_TEXT = r'"[^"\\\0-\x1f\ud800-\udfff]{0,4000}"'
-ANY = {'"': ANY_TEXT, "t": TRUTH, "f": TRUTH, "n": "null"}  # a value that nobody wants, by its first character; others are numbers
-ANY_IN_ASCII = {**ANY, '"': r'"[ !#-\[\]-~]{0,4000}"'}
+ESCAPE = r'\\(?:["\\/bfnrt]|u[0-9A-Fa-f]{4})'
+
+
+def text_of(letters: str) -> str:
+    """A text that nobody wants, of such letters and of some escapes.
+
+    Before Python 3.11 no part of an expression keeps what it has found. A line of another shape would take long there, so there are no escapes.
+    """
+    if sys.version_info < (3, 11):
+        return f'"[{letters}]{{0,4000}}"'
+    return f'"[{letters}]{{0,4000}}+(?:{ESCAPE}[{letters}]{{0,100}}+){{0,20}}+"'
+
+
+ANY = {'"': text_of(r'^"\\\0-\x1f\ud800-\udfff'), "t": TRUTH, "f": TRUTH, "n": "null"}  # what nobody wants, by its first character; others are numbers
+ANY_IN_ASCII = {**ANY, '"': text_of(r" !#-\[\]-~")}
 JSON_DIGITS = "0|[1-9][0-9]{0,17}"  # no number of JSON has a 0 in front of other digits
 DAY_OR_NUMBER = r"[0-9A-Za-z:.,+ -]{1,40}"
 

@@ -3,13 +3,14 @@
 import decimal
 import re
 from dataclasses import dataclass
-from typing import Any, Callable, Dict, Iterator, List, Optional
+from typing import Any, Callable, Dict, Iterator, List, Optional, Tuple
 
 from .fields import Fields
 from .texts import GREATEST, Refused, quoted, shown, whole
 
 MOST_VARIABLES = 2**20
 WIDEST = 65536  # bits
+SHORT_BITS, MOST_KNOWN = 16, 16384  # of values that are kept, since they will come again
 TIMESCALE = re.compile(r"(10{0,2})[ ]?(?:s|ms|us|ns|ps|fs)")
 RANGE = re.compile(r"\[[0-9]+:[0-9]+\]$")
 CODE = re.compile(r"[!-~]{1,255}")
@@ -41,6 +42,7 @@ class Waves(Fields):
         self.unit = "1"  # how many units of the timescale a time counts
         self.time: Optional[int] = None  # what the last `#` has said
         self.unknown = 0  # values that were left out
+        self.known: Dict[str, List[Tuple[str, Optional[str]]]] = {}  # what the newest of short bits make of each input, by bits and code
         self.parts: Dict[str, Callable[[List[str]], None]] = {
             "$scope": self.scope,
             "$upscope": self.upscope,
@@ -132,9 +134,9 @@ class Waves(Fields):
         if first == "#":
             self.new_time(token[1:])
         elif first in "01xXzZ":
-            self.value(token[1:], self.of_bits, first)
+            self.bits(token[1:], first)
         elif first in "bB":
-            self.value(next(tokens, ""), self.of_bits, token[1:])
+            self.bits(next(tokens, ""), token[1:])
         elif first in "rR":
             self.value(next(tokens, ""), self.of_real, token[1:])
         elif first in "sS":
@@ -148,6 +150,26 @@ class Waves(Fields):
         if not DIGITS.fullmatch(digits):
             raise Refused(f"no time: {shown(digits)}")
         self.time = self.time_of(digits + self.unit[1:])
+
+    def bits(self, code: str, text: str) -> None:
+        key = f"{text} {code}"
+        known = self.known.get(key) if self.time is not None else None
+        if known is None:
+            self.value(code, self.of_bits, text)
+            if len(text) <= SHORT_BITS:
+                self.learn_bits(self.variables[code], text, key)
+            return
+        for name, made in known:
+            self.settled.begin()
+            self.settled.event(self.time or 0, name, made)
+
+    def learn_bits(self, variable: Variable, text: str, key: str) -> None:
+        """Keeps what was made of bits, where each input has a value."""
+        values = [(name, None if name in self.words.unit else self.of_bits(variable, name, text)) for name in variable.inputs.values()]
+        if variable.kind == "event" or all(made is not None or name in self.words.unit for name, made in values):
+            if len(self.known) >= MOST_KNOWN:
+                self.known.clear()
+            self.known[key] = values
 
     def value(self, code: str, of: Callable[[Variable, str, str], Optional[str]], text: str) -> None:
         variable = self.variables.get(code)

@@ -11,7 +11,7 @@ from .clock import Zone, zone_of
 from .paths import Path
 from .texts import BLANKS, LONGEST_NAME, Refused, is_name, name_of, number_of
 
-MAP = re.compile(r"(?:([^/=]+)/)?(?:0[xX])?([0-9A-Fa-f]{1,8})=([^:]+)(?::([0-9]{1,2}):([1-8])(:le)?(:signed)?)?")
+MAP = re.compile(r"(?:([^/=]+)/)?(?:0[xX])?([0-9A-Fa-f]{1,8})=([^:]+)(?::([0-9]{1,2}):([1-8])((?::le)?(?::signed)?|:signed:le))?")
 VALUES = {"text", "unit", "factor"}
 FLAGS_OF = {
     "asc": {"map", "bus", "skip"},
@@ -229,10 +229,10 @@ def maps_of(texts: List[str]) -> Dict[str, List[Wanted]]:
         match = MAP.fullmatch(text)
         if not match:
             raise Unaccepted(f"--map {text}: not [BUS/]ID=NAME[:FIRST:COUNT[:le][:signed]], with COUNT from 1 to 8")
-        bus, digits, name, first, count, little, signed = match.groups()
+        bus, digits, name, first, count, how = match.groups()
         if not is_name(name) or len(name.encode()) > LONGEST_NAME:
             raise Unaccepted(f"--map {text}: {name} is no name of the language")
-        part = Part(int(first), int(count), "little" if little else "big", bool(signed)) if first else None
+        part = Part(int(first), int(count), "little" if ":le" in how else "big", ":signed" in how) if first else None
         # Up to three digits are an identifier of 11 bits, more are one of 29 bits, as candump writes them.
         identifier = digits.upper().zfill(3 if len(digits) <= 3 else 8)
         maps.setdefault(identifier, []).append(Wanted(bus, name, part))

@@ -26,10 +26,15 @@ BUILT_IN = {
     "Map.contains": ("m", "k"),
     "Map.get": ("m", "k"),
     "Map.size": ("m",),
+    "Queue.enqueue": ("q", "v"),
+    "Queue.dequeue": ("q",),
+    "Queue.front": ("q",),
+    "Queue.size": ("q",),
     "String.concat": ("a", "b"),
     "String.size": ("a",),
 }
 OF_STREAMS = ("merge", "default", "last", "delay", "time", "const", "filter", "lift", "Set.add", "Set.remove", "Map.add", "Map.remove")
+OF_STREAMS += ("Queue.enqueue", "Queue.dequeue")
 OF_OPTIONS = ("isSome", "isNone", "getSome")
 # Names of TeSSLa's library, or of other languages, and what stands in their place here.
 ELSEWHERE = {
@@ -132,6 +137,12 @@ def is_stream(kind):
     return kind.startswith("Events[")
 
 
+def any_of(want):
+    """What may stand there: a message has one set for all sets, one map for all maps, and one queue for all queues."""
+    kinds = want[len("one of ") :].replace("Set[Int]", "any set").replace("Map[Int, Int]", "any map").replace("Queue[Int]", "any queue")
+    return f"one of {kinds}" if "," in kinds else kinds
+
+
 def of_type(text, told):
     """A part of another type than its place asks for, or None."""
     found = re.fullmatch(r"WrongType: have (.*?), want (.*)", told)
@@ -150,7 +161,8 @@ def of_type(text, told):
 def of_value_function(name, function, have, want):
     if name in OF_STREAMS:
         helps = f"write {name} outside, among streams, or Events[..] for the parameters: then it is a macro"
-        return answer(f"a stream is meant: {name} takes streams, and {short(function.name)} is a function of values", helps)
+        kind = f" of {any_of(want)}" if want in ("one of Set[Int]", "one of Map[Int, Int]", "one of Queue[Int]") else ""
+        return answer(f"a stream{kind} is meant: {name} takes streams, and {short(function.name)} is a function of values", helps)
     if name in OF_OPTIONS:
         helps = "use the value as it is, or let the parameter be an Option[..]"
         return answer(f"an option is meant: {name} asks whether a value is there, and this is a value: {have}", helps)
@@ -177,10 +189,22 @@ def of_stream(text, name, have, want):
     if is_stream(have) and want.startswith("Option["):
         helps = f"write lift({short(', '.join(text.arguments() or ['..']))}, {short(name)})"
         return answer(f"{short(name)} takes options, and this is a stream: {have}", helps)
+    if name in ("merge", "default") and is_stream(have) and want != have and is_stream(want) and len(text.arguments() or []) == 2:
+        return of_merge(text, have, want)
     if want.startswith("one of"):
         inner = have[len("Events[") : -1] if is_stream(have) else have
-        return answer(f"a stream of another type is meant: this is one of {short(inner)}", f"it may be one of {want[len('one of ') :]}")
+        return answer(f"a stream of another type is meant: this is one of {short(inner)}", f"it may be {any_of(want)}")
     return of_texts(have, want)
+
+
+def of_merge(text, have, want):
+    """A merge of streams of two types, of which perhaps the times alone count."""
+    cause = f"merge has streams of one type, and here one is {short(want)} and the other {short(have)}"
+    first, second = map(short, text.arguments())
+    times = f"merge(time({first}), time({second}))"
+    if re.search(r"\b(?:last|delay)\s*\((?:[^()]|\([^()]*\))*,\s*$", text.before()):
+        return answer(cause, f"only when they come counts here: write {times}")
+    return answer(cause, f"change one of them; where only their times count, as for a delay, write {times}")
 
 
 def of_texts(have, want):
@@ -209,7 +233,7 @@ def of_literal(text, have):
         return answer(f"{value} is no literal", "write its value as one literal")
     if value in ("()", "unit"):
         return answer(f"{value} is no literal", f"write const(true, {event}), or {event} alone where it has no value to matter")
-    if re.match(r"(?:Set|Map)\.empty\b", value):
+    if re.match(r"(?:Set|Map|Queue)\.empty\b", value):
         helps = f"write last({value}, {event}), which has it at each event of {event} after 0"
         return answer(f"{value} is a stream with one event at 0, and no literal", helps)
     forms = {
@@ -227,26 +251,29 @@ def is_constant(text, name):
     return bool(re.search(rf"\bdef\s+{re.escape(name)}\s*(?::[^=\n]*)?:?=\s*(?:-?\d+|true|false|\".*\")\s", text.text))
 
 
+def of_bad_type(text):
+    """A type that may not stand here."""
+    name = text.name_here()
+    if name == "Option":
+        helps = "let no event come where there is none; for no one keep a Bool beside it, or a value that never comes, as -1"
+        return answer("an event has a value, so there are no streams, keys or values of Option", helps)
+    if name == "Unit" and re.search(r"\b(?:Set|Map)(?:\.empty)?\s*\[$", text.before()):
+        return answer("keys are Int, Bool or String, and not Unit", "choose one of these")
+    if name in ("Set", "Map", "Queue") and re.search(r"\b(?:Set|Map|Queue)(?:\.empty)?\s*\[[^\]]*$", text.before()):
+        return answer("a set, map or queue stands in no other one", "keep one for each part, or make one key of both: a * 1000 + b, or String.concat(a, b)")
+    return None
+
+
 def of_twice(text):
     """A name that is declared already."""
     name = text.name_here() or short(text.after().split()[0] if text.after().split() else "")
     others = [it for it in text.named(name) if it.at != text.at]
-    if name in BUILT_IN or name in ("unit", "nil", "lift", "None", "Set", "Map", "String"):
+    if name in BUILT_IN or name in ("unit", "nil", "lift", "None", "Set", "Map", "Queue", "String"):
         return answer(f"{name} belongs to the language", "choose another name")
     if others and others[0].at < text.at:
         line, column = text.place_of(others[0].at)
         return answer(f"{short(name)} is declared at {line}:{column} already", "choose another name")
     return None
-
-
-def of_own(told):
-    """A cycle of one definition: what it needs is its own value at the same time."""
-    names = {it for it in told[len("cycle ") :].split(" -> ") if not it.startswith("%")}
-    if len(names) != 1:
-        return None
-    name = short(names.pop())
-    helps = f"write last({name}, e) for its value before, where e is what changes it; of last and delay the first argument alone may need {name}"
-    return answer(f"{name} needs itself at the same time", helps)
 
 
 def of_cycle(text, told, file):

@@ -16,14 +16,15 @@ TYPES = {
     **dict.fromkeys(("string", "str", "text", "char"), "String"),
     **dict.fromkeys(("unit", "void"), "Unit"),
     **dict.fromkeys(("event", "events", "stream", "streams", "signal"), "Events"),
-    **{it.lower(): it for it in ("Set", "Map", "Option")},
+    **{it.lower(): it for it in ("Set", "Map", "Queue", "Option")},
 }
 FRACTIONS = ("float", "double", "real", "decimal")
-ALL_TYPES = "types are Unit, Int, Bool, String, Set[K], Map[K, V], Option[T] in value functions, and Events[T] of these"
+ALL_TYPES = "types are Unit, Int, Bool, String, Set[K], Map[K, V], Queue[T], Option[T] in value functions, and Events[T] of these"
 KEYWORDS = ("in", "def", "out", "as", "if", "then", "else", "true", "false")
 FUNCTIONS = {
     "Set": ("empty", "add", "remove", "contains", "size"),
     "Map": ("empty", "add", "remove", "contains", "size", "get"),
+    "Queue": ("empty", "enqueue", "dequeue", "front", "size"),
     "String": ("concat", "size"),
 }
 # Words that begin an item elsewhere.
@@ -76,9 +77,9 @@ TABLE = (
     (rf"\bin ({WORD})$", r",", "an item declares one input", "write `in` and the type for each"),
     (r"\bEvents$", r"<", "types are in square brackets", "write Events[Int]"),
     (r"\bEvents$", r"(?!\[)", "Events needs the type of its values", "write Events[Int], Events[Bool], Events[String] or Events[Unit]"),
-    (r"\b(Events|Set|Map|Option)$", r"\[", "a type is no stream", "write a name, or Set.empty[Int] for a set"),
-    (r"\b(Set|Map|Option)$", r"(?!\[)", "{b1} needs the types of what it has", "write Set[Int], Map[Int, Bool], Option[Int]"),
-    (r"\b(Set|Map)\.empty$", r"", "{b1}.empty needs its types", "write Set.empty[Int] or Map.empty[Int, Bool]"),
+    (r"\b(Events|Set|Map|Queue|Option)$", r"\[", "a type is no stream", "write a name, or Set.empty[Int] for a set"),
+    (r"\b(Set|Map|Queue|Option)$", r"(?!\[)", "{b1} needs the types of what it has", "write Set[Int], Map[Int, Bool], Queue[Int], Option[Int]"),
+    (r"\b(Set|Map|Queue)\.empty$", r"", "{b1}.empty needs its types", "write Set.empty[Int], Map.empty[Int, Bool] or Queue.empty[Int]"),
     (rf"\bdef {WORD}(?:\(.*\))?(?:: ?[\w\[\], ]+)?$", r"<-|:(?=\s)", "this does not define", "write def NAME := .."),
     (rf"\bdef {WORD}$", r"\.", "a name has no dot", "write a name of letters, digits and _"),
     (rf"\bdef {WORD}\((?:.*, *)?({WORD})$", r"[,)]", "the type of the parameter {b1} is missing", "write {b1}: Int, or {b1}: Events[Int] in a macro"),
@@ -90,14 +91,14 @@ TABLE = (
     (r"\bthen .*[\w)]$", r"(?:elif|elsif|elseif)\b", "this is no word of the language", "write else if"),
     (r"\belse$", r":", "no colon stands after else", "write if c then a else b"),
     (r"\w\)?$", r":(?!=)", "nothing goes on with a colon here", "write := in a definition, and if c then a else b for a choice"),
-    (r":\s*(?:Set|Map)$", r"\.", "a type stands after a colon", "write := before what the name is"),
+    (r":\s*(?:Set|Map|Queue)$", r"\.", "a type stands after a colon", "write := before what the name is"),
     (r"\([^()]*[\w)]$", r",", "tuples are not there", "write an input or an output for each part"),
     (r"[\w)\]]$", r",", "commas part arguments, and no call is open here", "open it with (, or begin each item with in, def or out"),
     (r"\bif [^{}]*$", r"\{", "braces stand around the body of a macro alone", "write if c then a else b"),
     (r"", r"\{", "braces stand around the body of a macro alone", "take them away, or use parentheses"),
-    (rf"\b(?!(?:in|def|out|as|if|then|else)$){WORD}$", r"\[ *(?:Int|Bool|String|Unit|Events|Set|Map)\b", "a call names no types", "leave them out; one definition is for one type"),
-    (rf"\b(?!(?:in|def|out|as|if|then|else)$){WORD}$", r"\[", "elements are not taken by brackets", "write Map.get(m, k), or Set.contains(s, k)"),
-    (r"", r"\[", "lists are not there", "keep sets and maps: Set.add, Map.add"),
+    (rf"\b(?!(?:in|def|out|as|if|then|else)$){WORD}$", r"\[ *(?:Int|Bool|String|Unit|Events|Set|Map|Queue)\b", "a call names no types", "leave them out; one definition is for one type"),
+    (rf"\b(?!(?:in|def|out|as|if|then|else)$){WORD}$", r"\[", "elements are not taken by brackets", "write Map.get(m, k), Set.contains(s, k) or Queue.front(q)"),
+    (r"", r"\[", "lists are not there", "keep sets, maps or queues: Set.add, Map.add, Queue.enqueue"),
     (r"(?::=|[-+*/%(,!]|&&|\|\||==|!=|<=|>=|<|>|\b(?:then|else|if))$", r"(in|def|out)\b", "an operand is missing before this {a1}", "write what the operator before it needs"),
     (r"(:=|[-+*/%(,!]|&&|\|\||==|!=|<=|>=|<|>|\b(?:then|else|if))$", r"\Z", "the text ends after {b1}, where an operand is missing", "write it"),
     (r"\bas$", r"(?:(?:in|def|out)\b|\Z)", "a name is missing after as", "write as NAME"),
@@ -156,7 +157,7 @@ def of_name(text, before, after):
 
 def of_dot(_text, before, after):
     """A dotted name that is not there."""
-    module, name = re.search(r"\b(Set|Map|String)\.$", before), re.match(WORD, after)
+    module, name = re.search(r"\b(Set|Map|Queue|String)\.$", before), re.match(WORD, after)
     if module and name:
         there = FUNCTIONS[module[1]]
         near = nearest(name[0], there)
@@ -171,7 +172,7 @@ def of_dot(_text, before, after):
 def of_type(_text, before, after):
     """A word where a type belongs."""
     word = re.match(WORD, after)
-    if not word or not re.search(rf"(?:{WORD}\)?:|\b(?:Events|Option|Set|Map|empty|nil|None)\[(?:[^\[\]]*,)?)\s*$", before):
+    if not word or not re.search(rf"(?:{WORD}\)?:|\b(?:Events|Option|Set|Map|Queue|empty|nil|None)\[(?:[^\[\]]*,)?)\s*$", before):
         return None
     name = word[0]
     if name.lower() in FRACTIONS:

@@ -58,6 +58,8 @@ def of_names(command, rest):
         if word == "--":
             names += left
             break
+        if word.startswith("-") and word != "-" and not word.startswith("--"):
+            return f"{quoted(word)} begins with a dash, and is no name so: {quoted(os.path.join(os.curdir, word))} is, and after -- all words are names"
         if not word.startswith("--"):
             names.append(word)
             continue

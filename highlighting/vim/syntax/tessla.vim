@@ -14,9 +14,10 @@ syntax keyword tesslaChoice if then else
 syntax keyword tesslaTruth true false
 syntax keyword tesslaType Events Option Unit Int Bool
 " No keywords, since these would hide the functions Set.add and the like.
-syntax match tesslaType /\<\%(Set\|Map\|String\)\>/
+syntax match tesslaType /\<\%(Set\|Map\|Queue\|String\)\>/
 syntax keyword tesslaFunction unit nil time last delay merge default lift const filter isSome isNone getSome Some None
 syntax match tesslaFunction /\<\%(Set\|Map\)\.\%(empty\|add\|remove\|contains\|size\|get\)\>/
+syntax match tesslaFunction /\<Queue\.\%(empty\|enqueue\|dequeue\|front\|size\)\>/
 syntax match tesslaFunction /\<String\.\%(concat\|size\)\>/
 syntax match tesslaDefined /\K\k*/ contained
 syntax match tesslaComment /\%(--\|#\).*$/
