@@ -11,8 +11,8 @@ from plain_reading import BLANKS, DIGITS, GREATEST, HEXADECIMAL, Json, No, Readi
 from plain_reading import all_of, event_of, is_blank, is_number, lines_of, name_of, with_line
 
 
-def read(form: str, log: bytes, options: Dict[str, Any]) -> Tuple[Optional[int], bool, str]:
-    """The line that is refused, whether all was read and yet is refused, and the trace."""
+def read(form: str, log: bytes, options: Dict[str, Any]) -> Tuple[Optional[int], bool, bool, str]:
+    """The line that is refused, whether all was read and yet is refused, whether a frame that is asked for never came, and the trace."""
     reading = Reading(options)
     number, late = None, False
     try:
@@ -32,7 +32,14 @@ def read(form: str, log: bytes, options: Dict[str, Any]) -> Tuple[Optional[int],
     except No as no:
         number = no.line
     reading.release()
-    return number, late, "".join(f"{line}\n" for line in reading.lines)
+    return number, late, form == "candump" and lacks(reading), "".join(f"{line}\n" for line in reading.lines)
+
+
+def lacks(reading: Reading) -> bool:
+    """Whether a --map or --bus had no frame in the log."""
+    taken = [(bus, identifier) for bus, identifier in reading.frames if reading.options.get("bus") in (None, bus)]
+    maps = reading.options.get("map", ())
+    return any(not any(identifier == one[1] and one[0] in (None, bus) for bus, identifier in taken) for one in maps) or not taken and "bus" in reading.options
 
 
 # ---- Traces
@@ -330,6 +337,7 @@ def spaced_data(parts: List[str], text: str) -> Tuple[str, str]:
 
 def frame_of_log(reading: Reading, time: int, bus: str, identifier: str, content: Tuple[str, str]) -> None:
     options = reading.options
+    reading.frames.add((bus, identifier))
     if options.get("bus") not in (None, bus):
         return
     wanted = [(None, identifier, f"can_{identifier}", None)]

@@ -1,7 +1,7 @@
 """What the second reading of logs takes apart by hand, whatever the format: numbers, dates, names, lines, JSON; and how a trace is made."""
 
 from fractions import Fraction
-from typing import Any, Dict, List, Optional, Tuple
+from typing import Any, Dict, List, Optional, Set, Tuple
 
 BLANKS = " \t"
 DIGITS = "0123456789"
@@ -121,6 +121,7 @@ class Reading:
         self.begins = False  # whether the next event is the first one of a line
         self.first: Optional[int] = None
         self.origins: Dict[str, str] = {}
+        self.frames: Set[Tuple[str, str]] = set()  # by interface and identifier
 
     # Times
 
