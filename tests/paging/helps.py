@@ -9,11 +9,6 @@ import tempfile
 from shown import TOP
 
 MANUAL = os.path.join(TOP, "docs", "LANGUAGE.md")
-CYCLES = (
-    "def a: Events[Int] := merge(1 + c, i)\ndef c := a * 2 + 3\nout c",
-    "def n: Events[Int] := n + 1\nout n",
-    "def x: Events[Int] := y + z\ndef y: Events[Int] := z + 1\ndef z: Events[Int] := x * 2\nout x",
-)
 OF_REFUSALS = """sources => sources.map(([spec, err]) => {
     const read = meaningOf(tables, 3, err);
     const { cause, remedy, lines } = { ...read, ...hints.ofRefusal(spec, read.spec, read.kind, read.said) };
@@ -46,7 +41,7 @@ def refusals(page, messages, pointing, room):
     """Each slip, with what the launcher tells of it."""
     sources, wanted = [], []
     path = os.path.join(room, "s.tsl")
-    for text in (*(it[0] for it in (*pointing.SLIPS, *pointing.MEANT)), *CYCLES):
+    for text in (it[0] for it in (*pointing.SLIPS, *pointing.MEANT, *pointing.CYCLES)):
         source = f"{pointing.INPUTS}{text}\n"
         with open(path, "w", encoding="utf-8") as opened:
             opened.write(source)
