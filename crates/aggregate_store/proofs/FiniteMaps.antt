@@ -37,6 +37,19 @@ not_and false x = refl
 first_put : {K X : Type 0} (R : K → K → Ordering) (k : K) (v : X) (e : K × X) (es : List (K × X)) → R k e.0 ≡ Less → finite_map.put R k v (e ∷ es) ≡ (k, v) ∷ e ∷ es
 first_put R k v e es less = rw less refl
 
+-- ---- a set as a map
+
+abbrev pub marks : {K : Type 0} → List K → List (K × Unit {0})
+marks ks = map (λ k. (k, tt)) ks
+
+pub find-marks : {K : Type 0} (R : K → K → Ordering) (q : K) (ks : List K) → finite_map.find R q (marks ks) ≡ cond (list_any (eq_by_cmp R q) ks) (Some tt) None
+find-marks R q [] = refl
+find-marks R q (k ∷ ks) = elim (eq_by_cmp R q k) as (λ b. cond b (Some tt) (finite_map.find R q (marks ks)) ≡ cond (b || list_any (eq_by_cmp R q) ks) (Some tt) None) [ true ↦ refl | false ↦ find-marks R q ks ]
+
+keys-marks : {K : Type 0} (ks : List K) → keys_of (marks ks) ≡ ks
+keys-marks [] = refl
+keys-marks (k ∷ ks) = ap (λ ns. k ∷ ns) (keys-marks ks)
+
 module _ {K : Type 0} {R : K → K → Ordering} (o : IsTotalOrder R) where
   module _ {X : Type 0} where
     -- the entries of a map in order are those that it was made of
@@ -65,27 +78,14 @@ module _ {K : Type 0} {R : K → K → Ordering} (o : IsTotalOrder R) where
       ∙ ap (λ b. cond b (set.len (set.from_list {R = R} ks)) (set.len (set.from_list {R = R} ks) + 1)) new
       ∙ ap (λ n. n + 1) (len-of_keys ks (sorted_tail R k ks ordered)) ∙ (omega arith)
 
-  -- ---- a set as a map
-
-  abbrev marks : List K → List (K × Unit {0})
-  marks ks = map (λ k. (k, tt)) ks
-
-  find-marks : (q : K) (ks : List K) → finite_map.find R q (marks ks) ≡ cond (list_any (eq_by_cmp R q) ks) (Some tt) None
-  find-marks q [] = refl
-  find-marks q (k ∷ ks) = elim (eq_by_cmp R q k) as (λ b. cond b (Some tt) (finite_map.find R q (marks ks)) ≡ cond (b || list_any (eq_by_cmp R q) ks) (Some tt) None) [ true ↦ refl | false ↦ find-marks q ks ]
-
-  keys-marks : (ks : List K) → keys_of (marks ks) ≡ ks
-  keys-marks [] = refl
-  keys-marks (k ∷ ks) = ap (λ ns. k ∷ ns) (keys-marks ks)
-
   -- the keys of a set in order are those that it was made of
   pub keys-of_keys : IsAntisymmetric R → (ks : List K) → IsStrictlySortedBy R ks → finite_map.keys (finite_map.from_entries {R = R} (marks (set.items (set.from_list {R = R} ks)))) ≡ ks
   keys-of_keys same ks ordered =
       let items = set.items (set.from_list {R = R} ks) in
       let alike : finite_map.from_entries {R = R} (marks items) ≡ finite_map.from_entries (marks ks) = finite_map.same_map o same _ _ (λ q.
-      finite_map.get-from_entries o (marks items) q ∙ find-marks q items
+      finite_map.get-from_entries o (marks items) q ∙ find-marks R q items
       ∙ ap (λ b. cond b (Some tt) None) (sym (set.contains-items (set.from_list ks) q) ∙ set.contains-from_list o ks q)
-      ∙ sym (finite_map.get-from_entries o (marks ks) q ∙ find-marks q ks)) in
+      ∙ sym (finite_map.get-from_entries o (marks ks) q ∙ find-marks R q ks)) in
       ap finite_map.keys alike
       ∙ ap keys_of (entries-of_entries (marks ks) (subst (IsStrictlySortedBy R) (sym (keys-marks ks)) ordered))
       ∙ keys-marks ks

@@ -1,5 +1,7 @@
 mod Examples
 pub mod FiniteMaps
+pub mod Contents
+pub mod Gathered
 pub mod Recent
 pub mod Listed
 pub mod Queues

@@ -2,8 +2,12 @@
 #![tactic(auto)]
 
 pub mod cell;
+pub mod content;
 pub mod keys;
+pub mod laws;
+pub mod lists;
 pub mod print;
+pub mod range;
 pub mod same;
 mod slots;
 pub mod store;

@@ -1,13 +1,15 @@
 // The store, which contracts see as a finite map from handles to views and a list of numbers.
 
-ghost use Rattle.std.specs.Prelude.{◌≡◌, ◌<◌, None, IfOk, IsTrue, OnOk, OnErr, length, replicate, slice_index};
+ghost use Rattle.std.specs.Prelude.{◌≡◌, ◌<◌, ◌^◌, None, IfOk, IsTrue, OnOk, OnErr, length, replicate, slice_index, slice_set};
 ghost use Rattle.std.specs.FinMap as finite_map;
 ghost use Rattle.lift_func.specs.inner.Cells.{FitsKey, IsLive, IsQueue, view_at};
 ghost use Rattle.tsl_value.specs.Aggregate.{empty_of, is_aggregate, size_of};
+ghost use Rattle.aggregate_store.specs.Content.{AllIn, AreInOrder, IsInRange, content_of, content_size, is_of_aggregate, view_in};
 ghost use Rattle.aggregate_store.specs.inner.Stored.{FitsValue, HasFront, counted, is_listed, with_added, with_last};
 ghost use Rattle.aggregate_store.specs.inner.Stored.{without_front, without_key};
 
 use crate::cell::Cell;
+use crate::content::{Content, cell_with, content_of};
 use crate::print::print_cell;
 use crate::slots::{add_note, count, drop_others, free_from};
 use lift_func::reader::Reader;
@@ -70,6 +72,19 @@ impl Store {
         ensures err { OnErr result (self.new ≡ self.old) }
     {
         self.place(Cell::empty(self.alloc, of))
+    }
+
+    /// Makes a cell with this content, which is that of a set, a map or a queue. The handle was not live. After `NoMemory` all is as it was.
+    pub fn filled(&mut self, content: &Content) -> Result<Handle, NoMemory>
+        requires aggregate { IsTrue (is_of_aggregate content.now) }
+        requires in_order { AreInOrder content.now }
+        ensures fresh { IfOk result (λ handle. ¬ (IsLive self.old.cells handle)) }
+        ensures made { IfOk result (λ handle.
+            self.new ≡ record self.old { cells = finite_map.insert self.old.cells handle (view_in content.now) }) }
+        ensures err { OnErr result (self.new ≡ self.old) }
+    {
+        let cell = cell_with(self.alloc, content)?;
+        self.place(cell)
     }
 
     /// Makes a cell with the source's elements and a key, which is added, or whose value is replaced. A set's value is
@@ -262,6 +277,29 @@ impl Store {
         ensures { result ≡ slice_index self.now.ledger update }
     {
         self.ledger[update as usize]
+    }
+
+    /// Lets an update have copied so many elements. All else stays.
+    pub fn set_ledger(&mut self, update: u32, number: u64)
+        requires { update < length self.old.ledger }
+        ensures { self.new ≡ record self.old { ledger = slice_set self.old.ledger update number } }
+    {
+        self.ledger[update as usize] = number;
+    }
+
+    /// What a cell has: the keys of a set or a map in their order, each of a map's with its value, or a queue's elements from the front.
+    ///
+    /// Its last clauses give callers what all scalars and all cells have.
+    pub fn content(&self, cell: Handle) -> Result<Content, NoMemory>
+        requires { IsLive self.now.cells cell }
+        ensures content { IfOk result (λ content. content ≡ content_of (view_at self.now.cells cell)) }
+        ensures range { IfOk result (AllIn IsInRange) }
+        ensures sized { IfOk result (λ content. content_size content < 2 ^ 64) }
+    {
+        let cell = self.cell(cell);
+        // What it answers is not needed: that it is a number of 64 bits says how large a cell can be.
+        cell.size();
+        content_of(self.alloc, cell)
     }
 
     /// The number of cells.

@@ -1,9 +1,9 @@
 -- The map of the leaves.
 use Rattle.std.proofs.Common.{◌≡◌, ◌≢◌, ℕ, zero, suc, ◌+◌, ◌*◌, ◌<◌, ◌≤◌, true, false, List, [], ◌∷◌, Option, Some, None, length, drop, refl, sym, ap, subst, ◌∙◌, inl, inr, arith, cond, replicate}
 use Rattle.std.proofs.lemmas.Bool.{cases_lt, cases_order}
-use Rattle.std.proofs.lemmas.List.{get_or-drop, get_or_past, get_or-replicate, length-replicate}
+use Rattle.std.proofs.lemmas.List.{get_or_read, get_or-drop, get_or_past, get_or-replicate, length-replicate}
 use Rattle.std.specs.Option.{option_map}
-use Rattle.std.specs.Prelude.{MatchOption}
+use Rattle.std.specs.Prelude.{MatchOption, slice_index_or}
 use Rattle.std.specs.Ordering.{nat_cmp, eq_by_cmp, is_eq}
 use Rattle.std.specs.declared.cmp.Ordering.TheVariants.{Less, Equal, Greater}
 use Rattle.std.specs.Cmp.{nat_cmp_is, nat_cmp_total}
@@ -51,6 +51,13 @@ get-times_of nodes delays q =
     ∙ ap (λ k. map.find nat_cmp k (entries_from 0 (drop delays nodes))) (omega arith)
     ∙ leaf_found (drop delays nodes) 0 q
     ∙ ap (option_map (λ due. due.time)) (get_or-drop delays nodes q None)
+
+-- what is read in the leaf of a delay is when it is due
+pub read_time : (nodes : List (Option Due)) (delays d : ℕ) (read : Option Due) → IsTree nodes delays → d < delays → read ≡ slice_index_or nodes (delays + d) read
+    → option_map (λ (due : Due). due.time) read ≡ map.get (times_of (drop delays nodes)) d
+read_time nodes delays d read tree below is =
+    let inside : delays + d < length nodes = omega (arith, tree.room) in
+    ap (option_map (λ (due : Due). due.time)) (get_or_read nodes (delays + d) read inside is None) ∙ sym (get-times_of nodes delays d)
 
 pub same_times : (a b : Times) → ((q : ℕ) → map.get a q ≡ map.get b q) → a ≡ b
 same_times a b same = map.same_map nat_cmp_total map.nat_cmp-IsAntisymmetric a b same

@@ -66,6 +66,17 @@ impl Timers {
         change_leaf(self.nodes.as_mut_slice(), self.delays, delay as usize, None);
     }
 
+    /// When a delay is due. `None` exactly where it is not pending.
+    pub fn at(&self, delay: u32) -> Option<Time>
+        requires { delay < self.now.capacity }
+        ensures { result ≡ map.get self.now.times delay }
+    {
+        match self.nodes[self.delays + delay as usize] {
+            Some(due) => Some(due.time),
+            None => None,
+        }
+    }
+
     /// The least time at which a delay is due. `None` exactly where none is pending.
     pub fn next(&self) -> Option<Time>
         ensures least { MatchOption result (self.now.times ≡ map.empty) (IsLeastTime self.now.times) }

@@ -28,5 +28,8 @@ pub mod Instants
 pub mod Premises
 pub mod LaterRuns
 pub mod Shown
+pub mod Alike
+pub mod Renamings
+pub mod OneRun
 mod SeenSystem
 mod SeenPlan

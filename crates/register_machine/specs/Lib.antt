@@ -3,4 +3,5 @@ pub mod Machine
 pub mod Run
 pub mod Content
 pub mod Stands
+pub mod Renamed
 pub mod Laws

@@ -1,6 +1,7 @@
 // Laws of the register machine, as the contracts of functions that do nothing.
 
 ghost use Rattle.register_machine.specs.Laws.{UpdatesLeaveWhatIsRead, RunsShowTheSolution, PlansLookAlike, RunsStand, LedgersCountCopies};
+ghost use Rattle.register_machine.specs.Renamed.{RenamedInstants, RenamedRuns, RunsAreOne};
 ghost use Rattle.register_machine.specs.Laws.{CellsAreBounded, SoundInstantsGoOn, RunsExist, RunsGoOn, LaterLinesLeaveRuns};
 
 /// With a fine plan, each update in place leaves the view of each register that is still read.
@@ -51,4 +52,19 @@ pub fn runs_go_on()
 /// Runs over the instants below a time do not depend on lines from that time on.
 pub fn later_lines_leave_runs()
     ensures { LaterLinesLeaveRuns }
+{}
+
+/// An instant with other handles is an instant.
+pub fn renamed_instants()
+    ensures { RenamedInstants }
+{}
+
+/// A run with other handles is a run.
+pub fn renamed_runs()
+    ensures { RenamedRuns }
+{}
+
+/// Two runs over the same instants come to states that differ in their handles alone.
+pub fn runs_are_one()
+    ensures { RunsAreOne }
 {}
