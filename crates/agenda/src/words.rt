@@ -48,6 +48,7 @@ pub fn least_in(words: &[u64], word: usize) -> usize
 /// The first word from one on that has a set bit, or the number of words where there is none.
 pub fn first_filled(words: &[u64], from: usize) -> usize
     requires { from ≤ length words.now }
+    ensures begun { from ≤ result }
     ensures within { result ≤ length words.now }
     ensures filled { result < length words.now → slice_index words.now result ≢ 0 }
     ensures empty { (k : ℕ) → from ≤ k → k < result → slice_index words.now k ≡ 0 }
