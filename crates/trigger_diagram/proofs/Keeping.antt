@@ -6,17 +6,18 @@ use mathlib.Core.Logic.Iff.{trans}
 use Rattle.flat_core.specs.inner.Dependency.{IsRunOrder}
 use Rattle.flat_core.specs.System.{System}
 use Rattle.trigger_rules.specs.declared.atom.Atom.{Atom}
+use Rattle.trigger_rules.specs.Formula.{Assignment}
 use Rattle.trigger_rules.specs.Question.{Fires}
 use Rattle.trigger_starts.specs.declared.rules.Rule.{Rule}
 use Rattle.trigger_starts.specs.inner.AtomLists.{AreDifferent, atoms_at}
-use Rattle.trigger_starts.specs.inner.Kept.{AreAtomsOf, AreRulesOf, AreStarts, IsOrder}
+use Rattle.trigger_starts.specs.inner.Kept.{AreAtomsOf, AreFiring, AreRulesOf, AreStarts, IsOrder}
 use Rattle.trigger_starts.specs.inner.Rules.{AreClosed, rules_of}
 use Rattle.trigger_starts.specs.inner.Truth.{IsMet}
 use Rattle.trigger_starts.proofs.Orders.{order_from}
 use Rattle.trigger_starts.proofs.Systems.{fires_is, has_stands}
 use Rattle.trigger_diagram.specs.declared.arena.Branch.{Branch}
 use Rattle.trigger_diagram.specs.inner.Arena.{AreCanonical, Grows, IsNode}
-use Rattle.trigger_diagram.specs.inner.Kept.{AreAlike, AreKept, HaveAtoms, IsNodeIn, IsNodeOf, Keeps, Kept}
+use Rattle.trigger_diagram.specs.inner.Kept.{AreAlike, AreFiringIn, AreKept, HaveAtoms, IsNodeIn, IsNodeOf, Keeps, Kept}
 use Rattle.trigger_diagram.specs.inner.Made.{node_at, AreNodesOf, IsMade}
 use Rattle.trigger_diagram.specs.inner.Truth.{truth}
 use Rattle.trigger_diagram.proofs.Questions.{alike_is}
@@ -93,6 +94,14 @@ module _ (d : Kept) (rules seen_rules : List Rule) (starts seen_starts : List Bo
   atoms_told starts_are s of_d x low =
       let of_s : AreRulesOf rules s = same ∙ of_d in
       has_stands s rules of_s starts (starts_are s of_s) x (atoms_at all x) (listed x (there x low))
+
+-- ---- which formulas are true
+pub firing_told : (d : Kept) (rules seen_rules : List Rule) (starts seen_starts : List Bool) (order seen_order : List ℕ) (bs : List Branch) (holds : Assignment) (marks : List Bool) → record { rules = rules; branches = bs } ≡ d → seen_rules ≡ rules → seen_starts ≡ starts → seen_order ≡ order → IsOrder rules order → AreStarts rules starts → AreFiring seen_rules seen_starts seen_order holds marks → AreFiringIn d holds marks
+firing_told d rules seen_rules starts seen_starts order seen_order bs holds marks seen rules_are starts_is order_is ordered starts_are are s of_d x low =
+    let same : rules ≡ d.rules = ap (λ (k : Kept). k.rules) seen in
+    let of_s : AreRulesOf rules s = same ∙ of_d in
+    let all : AreFiring rules starts order holds marks = subst (λ l. AreFiring l starts order holds marks) rules_are (subst (λ l. AreFiring seen_rules l order holds marks) starts_is (subst (λ l. AreFiring seen_rules seen_starts l holds marks) order_is are)) in
+    trans (all x (ordered.all x (subst (λ l. x < length l) (sym same) low))) (fires_is s rules of_s starts (starts_are s of_s) holds x)
 
 -- ---- one call after another
 pub keeps_on : (a b c : Kept) → Keeps a b → Keeps b c → Keeps a c

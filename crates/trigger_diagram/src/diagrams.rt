@@ -5,7 +5,8 @@ ghost use Rattle.flat_core.specs.inner.Dependency.{IsRunOrder};
 ghost use Rattle.flat_core.specs.System.{System};
 ghost use Rattle.trigger_rules.specs.Question.{Starts};
 ghost use Rattle.trigger_starts.specs.inner.AtomLists.{AreDifferent, atoms_at};
-ghost use Rattle.trigger_diagram.specs.inner.Kept.{AreAlike, AreDiagramsOf, AreMetIn, Follows, HaveAtoms, IsNodeIn, IsNodeOf, Keeps};
+ghost use Rattle.trigger_starts.specs.inner.Truth.{assignment_of};
+ghost use Rattle.trigger_diagram.specs.inner.Kept.{AreAlike, AreDiagramsOf, AreFiringIn, AreMetIn, Follows, HaveAtoms, IsNodeIn, IsNodeOf, Keeps};
 
 use crate::arena::Arena;
 use crate::formula::node_at;
@@ -20,7 +21,7 @@ use trigger_starts::gather::gather;
 use trigger_starts::listed::rules;
 use trigger_starts::needed::needed;
 use trigger_starts::rules::Rule;
-use trigger_starts::starts::starts;
+use trigger_starts::starts::{Given, firing, starts};
 use tsl_value::ids::EqId;
 use tsl_value::memory::NoMemory;
 
@@ -128,6 +129,20 @@ impl Diagrams {
         ensures { (s : System) → AreDiagramsOf self.now s → IsTrue result ↔ Starts s a }
     {
         self.starts[a.get() as usize]
+    }
+
+    /// Which equations' formulas are true in an assignment.
+    pub fn firing(&self, alloc: Global, given: Given) -> Result<Vec<bool>, NoMemory>
+        ensures one_each { IfOk result (λ marks. length marks.items ≡ length self.now.rules) }
+        ensures exact { IfOk result (λ marks. AreFiringIn self.now (assignment_of given) marks.items) }
+    {
+        firing(
+            alloc,
+            &self.rules,
+            &self.starts,
+            self.order.as_slice(),
+            given,
+        )
     }
 
     /// Whether each assignment with the first formula has the second.

@@ -1,79 +1,97 @@
 -- Questions about two equations.
-use Rattle.std.proofs.Common.{◌≡◌, ℕ, ◌+◌, ◌<◌, ◌≤◌, ◌↔◌, ◌⊎◌, Bool, true, false, List, [], ◌∷◌, ◌++◌, length, get_or, Contains, Option, Some, None, refl, sym, ap, subst, ◌∙◌, inl, inr, arith}
+use Rattle.std.proofs.Common.{◌≡◌, ℕ, ◌+◌, ◌<◌, ◌≤◌, ◌↔◌, ◌⊎◌, Bool, true, false, not, ◌&&◌, ◌||◌, List, [], ◌∷◌, ◌++◌, length, get_or, Option, Some, None, refl, sym, ap, subst, ◌∙◌, inl, inr, arith}
 use Rattle.std.specs.Prelude.{IsSome, IsTrue}
 use Rattle.std.proofs.lemmas.Bool.{cases_lt, false≢true}
 use Rattle.std.proofs.lemmas.List.{get_or_append_left}
 use Rattle.std.proofs.Math.Seq.{get_or-append_seam}
+use mathlib.Core.Logic.Iff.{trans}
 use Rattle.flat_core.specs.System.{System}
 use Rattle.trigger_rules.specs.declared.atom.Atom.{Atom}
 use Rattle.trigger_rules.specs.declared.limit.TheConstants.{ATOMS}
-use Rattle.trigger_rules.specs.Question.{AreFew, Implies, Stands, StandsInOne, Together}
-use Rattle.trigger_starts.specs.inner.AtomLists.{Adds, AreDifferent, HasAtoms, atoms_at}
-use Rattle.tsl_value.proofs.Lists.{none_in_nil}
+use Rattle.trigger_rules.specs.Question.{AreFew, AreMet, Fires, Implies, Stands, StandsInOne, Together}
+use Rattle.trigger_starts.specs.inner.AtomLists.{HasAtoms, IsInEither, atoms_at}
+use Rattle.trigger_starts.specs.inner.Rules.{is_marked}
+use Rattle.trigger_starts.specs.inner.Truth.{all_but_start}
 use Rattle.trigger_starts.proofs.Gathered.{no_more}
-use Rattle.trigger_starts.proofs.Systems.{read_as}
+use Rattle.trigger_starts.proofs.Meaning.{both_true, either_true}
+use Rattle.trigger_starts.proofs.Systems.{met_is}
 use Rattle.trigger_diagram.specs.inner.Kept as diagrams
-use Rattle.trigger_diagram.specs.inner.Kept.{AreDiagramsOf, AreMetIn, Follows, IsNodeIn, IsNodeOf, Keeps}
+use Rattle.trigger_diagram.specs.inner.Kept.{AreDiagramsOf, Follows, IsNodeIn, IsNodeOf, Keeps}
 use Rattle.trigger_diagram.proofs.Keeping.{node_kept}
 use Rattle.trigger_formulas.specs.inner.Kept.{HasNode, IsKept, IsMadeFor}
 
--- ---- the atoms of two lists
-joined_has : (P Q : Atom → Type 0) (xs ys new : List Atom) → HasAtoms P xs → HasAtoms Q ys → Adds [] (λ a. Contains xs a ⊎ Contains ys a) new → HasAtoms (λ a. P a ⊎ Q a) new
-joined_has P Q xs ys new p q adds = record {
-  from = λ a c. elim (adds.from a c) [
-    | inl none ↦ absurd (none_in_nil a none)
-    | inr (inl first) ↦ inl (p.from a first)
-    | inr (inr second) ↦ inr (q.from a second)
-  ];
-  different = adds.different tt;
-  there = λ few a either. elim either [
-    | inl h ↦ let short = no_more xs new p.different (λ b c. adds.there few b (inl c)) in adds.there few a (inl (p.there (omega arith) a h))
-    | inr h ↦ let short = no_more ys new q.different (λ b c. adds.there few b (inr c)) in adds.there few a (inr (q.there (omega arith) a h))
-  ];
-}
+-- the second of two tests, where the first fails
+pub or_else : (P : Type 0) (x y p q : Bool) → p ≡ x → p ≡ false → q ≡ y → IsTrue (x || y) ↔ P → IsTrue q ↔ P
+or_else P x y p q same off is exact = subst (λ b. IsTrue b ↔ P) (sym is) (subst (λ b. IsTrue (b || y) ↔ P) (sym same ∙ off) exact)
 
-few_to : (P : Atom → Type 0) (atoms : List Atom) → HasAtoms P atoms → length atoms ≤ ATOMS → AreFew P
-few_to P atoms has few = record { atoms = atoms; all = has.there few; few = few }
+-- ---- few atoms of two equations
+few_is : (P Q : Atom → Type 0) (xs ys : List Atom) → HasAtoms P xs → HasAtoms Q ys → AreFew (IsInEither xs ys) ↔ AreFew (λ a. P a ⊎ Q a)
+few_is P Q xs ys p q = (
+  λ few.
+      let low = few.few in
+      let first = no_more xs few.atoms p.different (λ a c. few.all a (inl c)) in
+      let second = no_more ys few.atoms q.different (λ a c. few.all a (inr c)) in
+      record {
+        atoms = few.atoms;
+        all = λ a either. elim either [
+          | inl h ↦ few.all a (inl (p.there (omega arith) a h))
+          | inr h ↦ few.all a (inr (q.there (omega arith) a h))
+        ];
+        few = few.few;
+      },
+  λ few. record {
+    atoms = few.atoms;
+    all = λ a either. elim either [
+      | inl c ↦ few.all a (inl (p.from a c))
+      | inr c ↦ few.all a (inr (q.from a c))
+    ];
+    few = few.few;
+  },
+)
 
-to_few : (P : Atom → Type 0) (atoms : List Atom) → HasAtoms P atoms → AreFew P → length atoms ≤ ATOMS
-to_few P atoms has few =
-    let short = no_more atoms few.atoms has.different (λ a c. few.all a (has.from a c)) in
-    let low = few.few in
-    omega arith
-
-module _ (s : System) (x y : ℕ) (atoms : List Atom) (has : HasAtoms (StandsInOne s x y) atoms) where
-  not_few : (length atoms ≤ ATOMS → ⊥) → AreFew (StandsInOne s x y) → ⊥
-  not_few many few = many (to_few (StandsInOne s x y) atoms has few)
-
-  pub implies_many : (length atoms ≤ ATOMS → ⊥) → (x ≡ y → ⊥) → IsTrue false ↔ Implies s x y
+module _ (s : System) (x y : ℕ) where
+  pub implies_many : (AreFew (StandsInOne s x y) → ⊥) → (x ≡ y → ⊥) → IsTrue false ↔ Implies s x y
   implies_many many differ = (
     λ h. absurd (false≢true h),
     λ h. elim h [
       | inl same ↦ absurd (differ same)
-      | inr entails ↦ absurd (not_few many entails.few)
+      | inr entails ↦ absurd (many entails.few)
     ],
   )
 
-  pub together_many : (length atoms ≤ ATOMS → ⊥) → IsTrue true ↔ Together s x y
-  together_many many = (λ h. inl (not_few many), λ h. refl)
+  -- whether two equations may meet, by whether they do and whether they have few atoms
+  pub together_by : (met few : Bool) → IsTrue met ↔ AreMet s x y → IsTrue few ↔ AreFew (StandsInOne s x y) → IsTrue (met || not few) ↔ Together s x y
+  together_by true few is_met is_few = (λ h. inr (is_met.0 refl), λ h. refl)
+  together_by false true is_met is_few = (
+    λ h. absurd (false≢true h),
+    λ h. elim h [
+      | inl many ↦ absurd (many (is_few.0 refl))
+      | inr met ↦ absurd (false≢true (is_met.1 met))
+    ],
+  )
+  together_by false false is_met is_few = (λ h. inl (λ f. false≢true (is_few.1 f)), λ h. refl)
 
-  -- the answers of the diagrams
-  module _ (few : length atoms ≤ ATOMS) (d : diagrams.Kept) (are : AreDiagramsOf d s) (m n : ℕ) (first : IsNodeOf d x m) (second : IsNodeOf d y n) where
+  -- whether they meet, by the formulas that are true where all but the start is
+  pub met_by : (zero_x zero_y later_x later_y : Bool) → IsTrue zero_x ↔ Fires s (all_but_start true) x → IsTrue zero_y ↔ Fires s (all_but_start true) y → IsTrue later_x ↔ Fires s (all_but_start false) x → IsTrue later_y ↔ Fires s (all_but_start false) y → IsTrue ((zero_x && zero_y) || (later_x && later_y)) ↔ AreMet s x y
+  met_by zero_x zero_y later_x later_y p q r t = (
+    λ h. (met_is s x y).1 (elim ((either_true (zero_x && zero_y) (later_x && later_y)).0 h) [
+      | inl zero ↦ let both = (both_true zero_x zero_y).0 zero in inl (p.0 both.0, q.0 both.1)
+      | inr later ↦ let both = (both_true later_x later_y).0 later in inr (r.0 both.0, t.0 both.1)
+    ]),
+    λ met. (either_true (zero_x && zero_y) (later_x && later_y)).1 (elim ((met_is s x y).0 met) [
+      | inl zero ↦ inl ((both_true zero_x zero_y).1 (p.1 zero.0, q.1 zero.1))
+      | inr later ↦ inr ((both_true later_x later_y).1 (r.1 later.0, t.1 later.1))
+    ]),
+  )
+
+  -- the answer of the diagrams
+  module _ (few : AreFew (StandsInOne s x y)) (d : diagrams.Kept) (are : AreDiagramsOf d s) (m n : ℕ) (first : IsNodeOf d x m) (second : IsNodeOf d y n) where
     pub implies_few : (x ≡ y → ⊥) → (answer : Bool) → IsTrue answer ↔ Follows d m n → IsTrue answer ↔ Implies s x y
     implies_few differ answer is = (
-      λ h. inr (record { few = few_to (StandsInOne s x y) atoms has few; fires = λ holds f. (second s are holds).0 (is.0 h holds ((first s are holds).1 f)) }),
+      λ h. inr (record { few = few; fires = λ holds f. (second s are holds).0 (is.0 h holds ((first s are holds).1 f)) }),
       λ h. elim h [
         | inl same ↦ absurd (differ same)
         | inr entails ↦ is.1 (λ holds f. (second s are holds).1 (entails.fires holds ((first s are holds).0 f)))
-      ],
-    )
-
-    pub together_few : (answer : Bool) → IsTrue answer ↔ AreMetIn d m n → IsTrue answer ↔ Together s x y
-    together_few answer is = (
-      λ h. let met = is.0 h in inr (record { holds = met.0; first = (first s are met.0).0 met.1; second = (second s are met.0).0 met.2 }),
-      λ h. elim h [
-        | inl many ↦ absurd (many (few_to (StandsInOne s x y) atoms has few))
-        | inr met ↦ is.1 (met.holds, (first s are met.holds).1 met.first, (second s are met.holds).1 met.second)
       ],
     )
 
@@ -112,26 +130,32 @@ made_next b c atoms nodes more k id o list keeps each is at list_is now before x
 ]
 
 -- ---- what is kept, as the questions read it
-module _ (d : diagrams.Kept) (atoms : List (List Atom)) (nodes : List (Option ℕ)) (kept : IsKept d atoms nodes) (a b m n : ℕ) (xs ys new : List Atom) (a_low : a < length d.rules) (b_low : b < length d.rules) (at_a : m ≡ a) (at_b : n ≡ b) (xs_are : xs ≡ get_or atoms m xs) (ys_are : ys ≡ get_or atoms n ys) (adds : Adds [] (λ t. Contains xs t ⊎ Contains ys t) new) where
-  first_is : xs ≡ atoms_at atoms a
-  first_is = read_as atoms m a xs [] at_a (subst (λ k. a < k) (sym kept.atoms_each) a_low) xs_are
+module _ (d : diagrams.Kept) (atoms : List (List Atom)) (nodes : List (Option ℕ)) (at_zero later : List Bool) (kept : IsKept d atoms nodes at_zero later) (a b : ℕ) (a_low : a < length d.rules) (b_low : b < length d.rules) where
+  pub pair_few : (s : System) → AreDiagramsOf d s → AreFew (IsInEither (atoms_at atoms a) (atoms_at atoms b)) ↔ AreFew (StandsInOne s a b)
+  pair_few s are = few_is (Stands s a) (Stands s b) (atoms_at atoms a) (atoms_at atoms b) (kept.atoms_are s are a a_low) (kept.atoms_are s are b b_low)
 
-  second_is : ys ≡ atoms_at atoms b
-  second_is = read_as atoms n b ys [] at_b (subst (λ k. b < k) (sym kept.atoms_each) b_low) ys_are
+  pub pair_met : (s : System) → AreDiagramsOf d s → IsTrue ((is_marked at_zero a && is_marked at_zero b) || (is_marked later a && is_marked later b)) ↔ AreMet s a b
+  pair_met s are =
+      met_by s a b (is_marked at_zero a) (is_marked at_zero b) (is_marked later a) (is_marked later b)
+      (kept.at_zero_are s are a a_low) (kept.at_zero_are s are b b_low) (kept.later_are s are a a_low) (kept.later_are s are b b_low)
 
-  pub pair_has : (s : System) → AreDiagramsOf d s → HasAtoms (StandsInOne s a b) new
-  pair_has s are =
-      joined_has (Stands s a) (Stands s b) xs ys new (subst (HasAtoms (Stands s a)) (sym first_is) (kept.atoms_are s are a a_low)) (subst (HasAtoms (Stands s b)) (sym second_is) (kept.atoms_are s are b b_low)) adds
+  -- whether they have few atoms, as it is told of the lists that are read
+  module _ (seen : List (List Atom)) (is : seen ≡ atoms) (told : Bool) (says : IsTrue told ↔ AreFew (IsInEither (atoms_at seen a) (atoms_at seen b))) where
+    pub few_read : IsTrue told ↔ AreFew (IsInEither (atoms_at atoms a) (atoms_at atoms b))
+    few_read = subst (λ l. IsTrue told ↔ AreFew (IsInEither (atoms_at l a) (atoms_at l b))) is says
 
-  module _ (few : length new ≤ ATOMS) where
+    pub few_told : (s : System) → AreDiagramsOf d s → IsTrue told ↔ AreFew (StandsInOne s a b)
+    few_told s are = trans few_read (pair_few s are)
+
+  module _ (few : AreFew (IsInEither (atoms_at atoms a) (atoms_at atoms b))) where
     pub first_node : HasNode d a (get_or nodes a None)
     first_node =
-        let short = no_more xs new (subst AreDifferent (sym first_is) (kept.different a a_low)) (λ t c. adds.there few t (inl c)) in
-        let low : length xs ≤ ATOMS = omega arith in
-        kept.nodes_are.made a a_low (subst (λ l. length l ≤ ATOMS) first_is low)
+        let short = no_more (atoms_at atoms a) few.atoms (kept.different a (subst (λ n. a < n) (sym kept.atoms_each) a_low)) (λ t c. few.all t (inl c)) in
+        let low = few.few in
+        kept.nodes_are.made a a_low (omega arith)
 
     pub second_node : HasNode d b (get_or nodes b None)
     second_node =
-        let short = no_more ys new (subst AreDifferent (sym second_is) (kept.different b b_low)) (λ t c. adds.there few t (inr c)) in
-        let low : length ys ≤ ATOMS = omega arith in
-        kept.nodes_are.made b b_low (subst (λ l. length l ≤ ATOMS) second_is low)
+        let short = no_more (atoms_at atoms b) few.atoms (kept.different b (subst (λ n. b < n) (sym kept.atoms_each) b_low)) (λ t c. few.all t (inr c)) in
+        let low = few.few in
+        kept.nodes_are.made b b_low (omega arith)

@@ -1,9 +1,11 @@
 // The questions about trigger formulas.
 
-ghost use Rattle.std.specs.Prelude.{◌≡◌, ℕ, ◌<◌, ◌↔◌, length, slice_index_or, None, Some, IfOk, IsSome, IsTrue};
+ghost use Rattle.std.specs.Prelude.{◌≡◌, ℕ, ◌<◌, ◌↔◌, ◌&&◌, length, slice_index_or, None, Some, IfOk, IsSome, IsTrue};
 ghost use Rattle.flat_core.specs.inner.Dependency.{IsRunOrder};
 ghost use Rattle.flat_core.specs.System.{System};
-ghost use Rattle.trigger_rules.specs.Question.{Implies, Starts, Together};
+ghost use Rattle.trigger_rules.specs.Question.{AreFew, AreMet, Implies, Starts, Together};
+ghost use Rattle.trigger_starts.specs.inner.AtomLists.{AreDifferent, IsInEither, atoms_at};
+ghost use Rattle.trigger_starts.specs.inner.Rules.{is_marked};
 ghost use Rattle.trigger_diagram.specs.inner.Kept.{Keeps};
 ghost use Rattle.trigger_formulas.specs.inner.Kept.{AreMadeFor, AreTriggersOf, IsMadeFor};
 
@@ -13,6 +15,7 @@ use std::marker::Model;
 use translation_order::steps::Steps;
 use trigger_diagram::diagrams::{Diagrams, Node};
 use trigger_starts::atoms::Atoms;
+use trigger_starts::starts::Given;
 use tsl_value::ids::EqId;
 use tsl_value::memory::NoMemory;
 
@@ -22,6 +25,9 @@ pub struct Triggers {
     diagrams: Diagrams,
     atoms: Vec<Atoms>,
     nodes: Vec<Option<Node>>,
+    /// The formulas that are true where all else is, at 0 and after it.
+    at_zero: Vec<bool>,
+    later: Vec<bool>,
 }
 
 impl Model for Triggers {
@@ -33,7 +39,7 @@ impl Model for Triggers {
 
     ghost view = { λ t. t.diagrams.rules };
 
-    ghost invariant = { λ t. IsKept t.diagrams t.atoms.items t.nodes.items };
+    ghost invariant = { λ t. IsKept t.diagrams t.atoms.items t.nodes.items t.at_zero.items t.later.items };
 }
 
 /// The node of an equation's formula, if a question may have its atoms.
@@ -77,6 +83,26 @@ fn made(nodes: &[Option<Node>], a: EqId) -> Node
     nodes[a.get() as usize].unwrap()
 }
 
+/// Whether a question may have the atoms of both equations' formulas.
+fn are_few(atoms: &[Atoms], a: EqId, b: EqId) -> bool
+    requires first { a < length atoms.now }
+    requires second { b < length atoms.now }
+    requires different { (x : ℕ) → x < length atoms.now → AreDifferent (atoms_at atoms.now x) }
+    ensures { IsTrue result ↔ AreFew (IsInEither (atoms_at atoms.now a) (atoms_at atoms.now b)) }
+{
+    let first = &atoms[a.get() as usize];
+    first.are_few_with(&atoms[b.get() as usize])
+}
+
+/// Whether both equations are marked.
+fn are_both(marks: &[bool], a: EqId, b: EqId) -> bool
+    requires first { a < length marks.now }
+    requires second { b < length marks.now }
+    ensures { result ≡ is_marked marks.now a && is_marked marks.now b }
+{
+    marks[a.get() as usize] && marks[b.get() as usize]
+}
+
 impl Triggers {
     /// Keeps the trigger formulas of a system that has this order to run it in.
     pub fn of(alloc: Global, flat: &Flat, order: &Steps) -> Result<Triggers, NoMemory>
@@ -86,10 +112,22 @@ impl Triggers {
         let mut diagrams = Diagrams::new(alloc, flat, order)?;
         let atoms = diagrams.atoms(alloc)?;
         let nodes = nodes(alloc, &mut diagrams, &atoms, flat.count())?;
+        let start = Given {
+            start: true,
+            others: true,
+        };
+        let at_zero = diagrams.firing(alloc, start)?;
+        let no_start = Given {
+            start: false,
+            others: true,
+        };
+        let later = diagrams.firing(alloc, no_start)?;
         Ok(Triggers {
             diagrams,
             atoms,
             nodes,
+            at_zero,
+            later,
         })
     }
 
@@ -102,12 +140,7 @@ impl Triggers {
         if a == b {
             return Ok(true);
         }
-        let both = Atoms::joined(
-            alloc,
-            &self.atoms[a.get() as usize],
-            &self.atoms[b.get() as usize],
-        )?;
-        if !both.are_few() {
+        if !are_few(&self.atoms, a, b) {
             return Ok(false);
         }
         let first = made(&self.nodes, a);
@@ -115,23 +148,22 @@ impl Triggers {
         self.diagrams.implies(alloc, first, second)
     }
 
+    /// Whether some assignment has the formulas of both. Formulas deny the start alone, so it is enough to look where all else is true.
+    fn are_met(&self, a: EqId, b: EqId) -> bool
+        requires first { a < length self.now }
+        requires second { b < length self.now }
+        ensures { (s : System) → AreTriggersOf self.now s → IsTrue result ↔ AreMet s a b }
+    {
+        are_both(&self.at_zero, a, b) || are_both(&self.later, a, b)
+    }
+
     /// Whether `a` and `b` may have events at one time, as far as few atoms do not show that they cannot.
-    pub fn together(&self, alloc: Global, a: EqId, b: EqId) -> Result<bool, NoMemory>
+    pub fn together(&self, _alloc: Global, a: EqId, b: EqId) -> Result<bool, NoMemory>
         requires first { a < length self.now }
         requires second { b < length self.now }
         ensures { IfOk result (λ r. (s : System) → AreTriggersOf self.now s → IsTrue r ↔ Together s a b) }
     {
-        let both = Atoms::joined(
-            alloc,
-            &self.atoms[a.get() as usize],
-            &self.atoms[b.get() as usize],
-        )?;
-        if !both.are_few() {
-            return Ok(true);
-        }
-        let first = made(&self.nodes, a);
-        let second = made(&self.nodes, b);
-        self.diagrams.together(alloc, first, second)
+        Ok(self.are_met(a, b) || !are_few(&self.atoms, a, b))
     }
 
     /// Whether `a` has an event at 0, as far as few atoms show.

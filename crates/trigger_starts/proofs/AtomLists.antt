@@ -1,12 +1,12 @@
 -- Lists of different atoms.
-use Rattle.std.proofs.Common.{◌≡◌, ℕ, ◌+◌, ◌<◌, ◌↔◌, ◌⊎◌, Bool, false, List, [], ◌∷◌, ◌++◌, length, take, get_or, Contains, refl, sym, ap, subst, ◌∙◌, inl, inr, arith, length-append}
+use Rattle.std.proofs.Common.{◌≡◌, ℕ, zero, suc, ◌+◌, ◌<◌, ◌↔◌, ◌⊎◌, Bool, false, List, [], ◌∷◌, ◌++◌, length, take, get_or, Contains, refl, sym, ap, subst, ◌∙◌, inl, inr, arith, length-append}
 use Rattle.std.specs.Prelude.{IsTrue}
 use Rattle.std.proofs.lemmas.Bool.{false≢true}
 use Rattle.std.proofs.lemmas.List.{take_more, get_or_default}
 use Rattle.std.proofs.lemmas.List.Elements.{Contains-append_left, Contains-push, Contains-push_cases}
 use Rattle.trigger_rules.specs.declared.atom.Atom.{Atom}
-use Rattle.trigger_starts.specs.inner.AtomLists.{AreDifferent, Adds, IsInSome, atoms_at}
-use Rattle.tsl_value.proofs.Lists.{here, later, none_in_nil}
+use Rattle.trigger_starts.specs.inner.AtomLists.{AreDifferent, Adds, AddsSome, IsInSome, atoms_at}
+use Rattle.tsl_value.proofs.Lists.{cons_cases, here, later, none_in_nil}
 
 -- ---- one more atom
 different_push : (atoms : List Atom) (a : Atom) → (Contains atoms a → ⊥) → AreDifferent atoms → AreDifferent (atoms ++ a ∷ [])
@@ -104,10 +104,52 @@ adds_each_next all args k x seen old mid new lt is seen_is before one =
     ])
     (adds_also before one)
 
--- two lists
-pub adds_both : (none xs ys first second mid new : List Atom) → none ≡ [] → xs ≡ first → ys ≡ second → Adds none (Contains xs) mid → Adds mid (Contains ys) new → Adds [] (λ a. Contains first a ⊎ Contains second a) new
-adds_both none xs ys first second mid new is xs_are ys_are one two =
-    adds_also (subst (λ l. Adds l (Contains first) mid) is (subst (λ l. Adds none (Contains l) mid) xs_are one)) (subst (λ l. Adds mid (Contains l) new) ys_are two)
+-- ---- atoms of another list
+adds_there : (old : List Atom) (a : Atom) → Contains old a → Adds old (λ b. b ≡ a) old
+adds_there old a c = record {
+  grows = omega arith;
+  kept = λ b d. d;
+  from = λ b d. inl d;
+  different = λ d. d;
+  there = λ few b is. subst (Contains old) (sym is) c;
+}
+
+-- an element of different ones is not among those before it
+before_it : (xs : List Atom) (k : ℕ) (d : Atom) → k < length xs → AreDifferent xs → Contains (take k xs) (get_or xs k d) → ⊥
+before_it [] k d lt different c = omega arith
+before_it (x ∷ xs) zero d lt different c = none_in_nil x c
+before_it (x ∷ xs) (suc k) d lt different c = elim (cons_cases x (get_or xs k d) (take k xs) c) [
+  | inl same ↦
+      let low : k < length xs = omega arith in
+      different.0 (subst (Contains xs) (sym same) (k, low, get_or_default xs k (get_or xs k d) d low))
+  | inr rest ↦ before_it xs k d (omega arith) different.1 rest
+]
+
+module _ (first second items : List Atom) (same : items ≡ second) (k : ℕ) (x : Atom) (lt_items : k < length items) (is_item : x ≡ get_or items k x) (count : ℕ) (before : AddsSome first (Contains (take k second)) count) where
+  lt : k < length second
+  lt = subst (λ l. k < length l) same lt_items
+
+  is : x ≡ get_or second k x
+  is = is_item ∙ ap (λ l. get_or l k x) same
+
+  pub some_same : Contains first x → AddsSome first (Contains (take (k + 1) second)) count
+  some_same c = record { new = before.new; long = before.long; adds = adds_next second k x first before.new before.new lt is before.adds (adds_there before.new x (before.adds.kept x c)) }
+
+  pub some_more : AreDifferent second → (Contains first x → ⊥) → AddsSome first (Contains (take (k + 1) second)) (count + 1)
+  some_more different other = record {
+    new = before.new ++ x ∷ [];
+    long = length-append before.new (x ∷ []) ∙ (let long = before.long in omega arith);
+    adds = adds_next second k x first before.new (before.new ++ x ∷ []) lt is before.adds (adds_push before.new x new_it);
+  }
+    where
+      new_it : Contains before.new x → ⊥
+      new_it c = elim (before.adds.from x c) [
+        | inl old ↦ other old
+        | inr earlier ↦ before_it second k x lt different (subst (Contains (take k second)) is earlier)
+      ]
+
+pub some_none : (first : List Atom) (P : Atom → Type 0) → ((a : Atom) → P a → ⊥) → AddsSome first P 0
+some_none first P none = record { new = first; long = omega arith; adds = adds_none first P none }
 
 -- one atom alone
 pub one_atom : (none new : List Atom) (b : Atom) → none ≡ [] → Adds none (λ a. a ≡ b) new → new ≡ b ∷ []

@@ -1,9 +1,10 @@
 -- The atoms of formulas, and the steps in which they are gathered.
-use Rattle.std.proofs.Common.{◌≡◌, ℕ, suc, ◌+◌, ◌<◌, ◌≤◌, Bool, true, false, ◌&&◌, List, [], ◌∷◌, length, take, get_or, set, Contains, Some, refl, sym, ap, subst, ◌∙◌, inl, inr, arith}
-use Rattle.std.specs.Prelude.{IsFalse, slice_get}
+use Rattle.std.proofs.Common.{◌≡◌, ℕ, suc, ◌+◌, ◌-◌, ◌<◌, ◌≤◌, ◌↔◌, leb, Bool, true, false, ◌&&◌, List, [], ◌∷◌, length, take, get_or, set, Contains, Some, refl, sym, ap, subst, ◌∙◌, inl, inr, arith}
+use Rattle.std.specs.Prelude.{IsFalse, IsTrue, slice_get}
 use Rattle.std.specs.List.{AllByRecursion}
 use Rattle.std.specs.Option.{option_map_or}
-use Rattle.std.proofs.lemmas.Bool.{cases_Bool, cases_eq, true≢false}
+use Rattle.std.proofs.lemmas.Bool.{cases_Bool, cases_eq, leb-true, true≢false}
+use Rattle.std.proofs.lemmas.Bool.Decides.{leb_tells}
 use Rattle.std.proofs.lemmas.List.{take_more, get_or-set_same, get_or-set_other}
 use Rattle.std.proofs.lemmas.List.Elements.{Contains-push_cases}
 use Rattle.flat_core.proofs.Members.{all_at}
@@ -12,9 +13,10 @@ use Rattle.trigger_rules.specs.declared.atom.Atom.TheVariants.{Start, Happens, H
 use Rattle.trigger_rules.specs.Formula as formula
 use Rattle.trigger_rules.specs.Formula.{Formula, Of, If, all_of, any_of, HasAtom, in_if, in_if_not, in_of, both_first, both_second, either_first, either_second, in_unless}
 use Rattle.trigger_rules.specs.declared.limit.TheConstants.{ATOMS}
+use Rattle.trigger_rules.specs.Question.{AreFew}
 use Rattle.trigger_starts.specs.declared.rules.Rule.{Rule}
 use Rattle.trigger_starts.specs.declared.rules.Rule.TheVariants as rule
-use Rattle.trigger_starts.specs.inner.AtomLists.{AreDifferent, Adds, HasAtoms, StandsFrom, StandsAs, atoms_at}
+use Rattle.trigger_starts.specs.inner.AtomLists.{AreDifferent, Adds, AddsSome, IsInEither, HasAtoms, StandsFrom, StandsAs, atoms_at}
 use Rattle.trigger_starts.specs.inner.Rules.{HasSome, formula_by, zero_formula_by, either_formula, looks_back, ruled, used_by, AreReady, starts_at}
 use Rattle.trigger_starts.specs.inner.Truth.{Started}
 use Rattle.tsl_value.proofs.Lists.{here, later, none_in_nil, cons_cases}
@@ -56,6 +58,47 @@ no_more (x ∷ xs) ys different all =
     let rest = no_more xs it.rest different.1 (λ a c. it.others a (all a (later x a xs c)) (λ same. different.0 (subst (Contains xs) (sym same) c))) in
     let shorter = it.shorter in
     omega arith
+
+-- ---- few atoms of two lists
+module _ (first second : List Atom) where
+  pub some_few : AreDifferent first → (count : ℕ) → AddsSome first (Contains second) count → (length first + count ≤ ATOMS) ↔ AreFew (IsInEither first second)
+  some_few different count some = (
+    λ few.
+        let long = some.long in
+        let low : length some.new ≤ ATOMS = omega arith in
+        record { atoms = some.new; all = λ a either. all low a either; few = low },
+    λ few.
+        let long = some.long in
+        let short = no_more some.new few.atoms (some.adds.different different) (λ a c. few.all a (some.adds.from a c)) in
+        let low = few.few in
+        omega arith,
+  )
+    where
+      all : length some.new ≤ ATOMS → (a : Atom) → IsInEither first second a → Contains some.new a
+      all low a (inl c) = some.adds.kept a c
+      all low a (inr c) = some.adds.there low a c
+
+  -- the first alone has too many
+  pub many_first : AreDifferent first → ATOMS < length first → AreFew (IsInEither first second) → ⊥
+  many_first different many few =
+      let short = no_more first few.atoms different (λ a c. few.all a (inl c)) in
+      let low = few.few in
+      omega arith
+
+  -- the answers
+  pub few_answer : AreDifferent first → (len count : ℕ) → len ≡ length first → len ≤ ATOMS → AddsSome first (Contains second) count → IsTrue (leb count (ATOMS - len)) ↔ AreFew (IsInEither first second)
+  few_answer different len count same short some =
+      let exact = some_few different count some in
+      elim (leb_tells count (ATOMS - len)) [
+        | inl low ↦ (λ h. exact.0 (let within = low.1 in omega arith), λ few. low.0)
+        | inr past ↦ (λ h. absurd (true≢false (sym h ∙ past.0)), λ few. absurd (let all = exact.1 few in let over = past.1 in omega arith))
+      ]
+
+  pub many_answer : AreDifferent first → (len : ℕ) → len ≡ length first → ATOMS < len → IsTrue (leb len ATOMS) ↔ AreFew (IsInEither first second)
+  many_answer different len same over = (
+    λ h. absurd (let low = leb-true len ATOMS h in omega arith),
+    λ few. absurd (many_first different (omega arith) few),
+  )
 
 -- ---- the atoms of a rule
 module _ (table : ℕ → Formula) (starts : List Bool) (a : Atom) where

@@ -16,7 +16,7 @@ use Rattle.trigger_starts.specs.declared.rules.Rule.{Rule}
 use Rattle.trigger_starts.specs.declared.rules.Rule.TheVariants as rule
 use Rattle.trigger_starts.specs.inner.Kept.{AreFiring}
 use Rattle.trigger_starts.specs.inner.Rules.{HasSome, formula_by, is_marked, ruled, used_by, IsReady, AreReady, starts_at}
-use Rattle.trigger_starts.specs.inner.Truth.{IsMet, Started, TrueBy, start_alone, value_by}
+use Rattle.trigger_starts.specs.inner.Truth.{IsMet, Started, TrueBy, value_by}
 use Rattle.tsl_value.proofs.Lists.{here, later, none_in_nil, cons_cases}
 
 -- ---- a formula by its rule
@@ -150,11 +150,11 @@ step_below rules steps ready x (k, lt, is) = subst (λ n. n < length rules) (def
     default_read k lt = get_or_default steps k 0 x lt
 
 -- ---- values
-both_true : (p q : Bool) → (p && q) ≡ true ↔ ((p ≡ true) × (q ≡ true))
+pub both_true : (p q : Bool) → (p && q) ≡ true ↔ ((p ≡ true) × (q ≡ true))
 both_true true q = (λ e. (refl, e), λ h. h.1)
 both_true false q = (λ e. absurd (false≢true e), λ h. absurd (false≢true h.0))
 
-either_true : (p q : Bool) → (p || q) ≡ true ↔ ((p ≡ true) ⊎ (q ≡ true))
+pub either_true : (p q : Bool) → (p || q) ≡ true ↔ ((p ≡ true) ⊎ (q ≡ true))
 either_true true q = (λ e. inl refl, λ h. refl)
 either_true false q = (
   λ e. inr e,
@@ -222,18 +222,18 @@ module _ (f : ℕ → Bool) where
 pub value_met : (rules : List Rule) (starts : List Bool) (holds : Assignment) (x : ℕ) (it : Rule) → slice_get rules x ≡ Some it → (f : ℕ → Bool) → AllByRecursion (λ a. IsTrue (f a) ↔ IsMet false rules starts holds a) (used_by it) → IsTrue (value_by it x starts f holds) ↔ IsMet false rules starts holds x
 value_met rules starts holds x it is f same = trans (value_true f it x starts holds) (met_by rules starts holds x it is (λ a. IsTrue (f a)) same)
 
--- one more formula where nothing but the start is true
-pub firing_next : (rules : List Rule) (starts : List Bool) (order : List ℕ) (ready : AreReady rules [] order) (k : ℕ) → k < length order → (marks : List Bool) → length marks ≡ length rules → (it : Rule) → slice_get rules (get_or order k 0) ≡ Some it → (fires : Bool) → fires ≡ value_by it (get_or order k 0) starts (is_marked marks) start_alone → AreFiring rules starts (take k order) marks → AreFiring rules starts (take (k + 1) order) (set marks (get_or order k 0) fires)
-firing_next rules starts order ready k lt marks many it is fires value before x c =
+-- one more formula
+pub firing_next : (rules : List Rule) (starts : List Bool) (holds : Assignment) (order : List ℕ) (ready : AreReady rules [] order) (k : ℕ) → k < length order → (marks : List Bool) → length marks ≡ length rules → (it : Rule) → slice_get rules (get_or order k 0) ≡ Some it → (fires : Bool) → fires ≡ value_by it (get_or order k 0) starts (is_marked marks) holds → AreFiring rules starts (take k order) holds marks → AreFiring rules starts (take (k + 1) order) holds (set marks (get_or order k 0) fires)
+firing_next rules starts holds order ready k lt marks many it is fires value before x c =
     let step = get_or order k 0 in
     let now = ready_at rules order [] k lt ready in
     let low = now.0 in
-    let here : IsTrue fires ↔ IsMet false rules starts start_alone step =
-    subst (λ b. IsTrue b ↔ IsMet false rules starts start_alone step) (sym value)
-    (value_met rules starts start_alone step it is (is_marked marks) (all_by (Contains (take k order)) (λ a. IsTrue (is_marked marks a) ↔ IsMet false rules starts start_alone a) before (used_by it) (now.1 it is))) in
+    let here : IsTrue fires ↔ IsMet false rules starts holds step =
+    subst (λ b. IsTrue b ↔ IsMet false rules starts holds step) (sym value)
+    (value_met rules starts holds step it is (is_marked marks) (all_by (Contains (take k order)) (λ a. IsTrue (is_marked marks a) ↔ IsMet false rules starts holds a) before (used_by it) (now.1 it is))) in
     elim (cases_eq x step) [
-      | inl same ↦ subst (λ n. IsTrue (is_marked (set marks step fires) n) ↔ IsMet false rules starts start_alone n) (sym same) (subst (λ b. IsTrue b ↔ IsMet false rules starts start_alone step) (sym (get_or-set_same marks step fires false (omega arith))) here)
-      | inr other ↦ subst (λ b. IsTrue b ↔ IsMet false rules starts start_alone x) (sym (get_or-set_other marks step x fires false other)) (before x (elim (Contains-push_cases (take k order) step x (subst (λ l. Contains l x) (take_more order k 0 lt) c)) [
+      | inl same ↦ subst (λ n. IsTrue (is_marked (set marks step fires) n) ↔ IsMet false rules starts holds n) (sym same) (subst (λ b. IsTrue b ↔ IsMet false rules starts holds step) (sym (get_or-set_same marks step fires false (omega arith))) here)
+      | inr other ↦ subst (λ b. IsTrue b ↔ IsMet false rules starts holds x) (sym (get_or-set_other marks step x fires false other)) (before x (elim (Contains-push_cases (take k order) step x (subst (λ l. Contains l x) (take_more order k 0 lt) c)) [
         | inl front ↦ front
         | inr same ↦ absurd (other (sym same))
       ]))

@@ -1,8 +1,9 @@
 // The atoms that stand in a formula.
 
-ghost use Rattle.std.specs.Prelude.{◌≡◌, ◌≤◌, ◌↔◌, ◌⊎◌, [], length, IsTrue, IfOk, OnOk};
+ghost use Rattle.std.specs.Prelude.{◌≡◌, ◌≤◌, ◌↔◌, [], length, IsTrue, OnOk};
 ghost use Rattle.std.specs.List.{Contains};
-ghost use Rattle.trigger_starts.specs.inner.AtomLists.{Adds};
+ghost use Rattle.trigger_rules.specs.Question.{AreFew};
+ghost use Rattle.trigger_starts.specs.inner.AtomLists.{Adds, AddsSome, AreDifferent, IsInEither};
 
 use std::alloc::Global;
 use std::marker::Model;
@@ -76,13 +77,28 @@ impl Atoms {
         Ok(())
     }
 
-    /// The atoms of two lists.
-    pub fn joined(alloc: Global, first: &Atoms, second: &Atoms) -> Result<Atoms, NoMemory>
-        ensures { IfOk result (λ atoms. Adds [] (λ a. Contains first.now a ⊎ Contains second.now a) atoms) }
+    /// How many atoms of another list are not in this one.
+    fn others(&self, other: &Atoms) -> usize
+        requires { AreDifferent other.now }
+        ensures { AddsSome self.now (Contains other.now) result }
     {
-        let mut atoms = Atoms::new(alloc);
-        atoms.add_all(first.list())?;
-        atoms.add_all(second.list())?;
-        Ok(atoms)
+        let mut others = 0;
+        for atom in other.list() {
+            if !self.has(atom) {
+                others += 1;
+            }
+        }
+        others
+    }
+
+    /// Whether a question may have the atoms of both lists.
+    pub fn are_few_with(&self, other: &Atoms) -> bool
+        requires first { AreDifferent self.now }
+        requires second { AreDifferent other.now }
+        ensures { IsTrue result ↔ AreFew (IsInEither self.now other.now) }
+    {
+        let most = ATOMS as usize;
+        let count = self.list.len();
+        count <= most && self.others(other) <= most - count
     }
 }

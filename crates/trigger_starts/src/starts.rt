@@ -1,10 +1,10 @@
 // Which equations start.
 
-ghost use Rattle.std.specs.Prelude.{◌≡◌, ℕ, ◌<◌, ◌↔◌, Bool, List, [], length, IfOk, IsTrue};
+ghost use Rattle.std.specs.Prelude.{◌≡◌, ℕ, ◌<◌, ◌↔◌, [], length, IfOk, IsTrue};
 ghost use Rattle.std.specs.List.{All, list_all, list_any};
 ghost use Rattle.trigger_starts.specs.inner.Kept.{AreFiring, AreStarts, IsOrder, StartsBy};
 ghost use Rattle.trigger_starts.specs.inner.Rules.{AreClosed, AreReady, ArgumentsBelow, is_marked};
-ghost use Rattle.trigger_starts.specs.inner.Truth.{start_alone, value_by};
+ghost use Rattle.trigger_starts.specs.inner.Truth.{assignment_of, value_by};
 
 use crate::atoms::Atoms;
 use crate::gather::gather;
@@ -39,41 +39,55 @@ fn any(marks: &[bool], args: &[EqId]) -> bool
     false
 }
 
-/// Whether an equation's formula is true where it is 0 and nothing else is true, by its marked arguments, whose formulas are.
-fn fires(rule: &Rule, marks: &[bool]) -> bool
-    requires { ArgumentsBelow (length marks.now) rule.now }
-    ensures { (x : ℕ) (starts : List Bool) → result ≡ value_by rule.now x starts (is_marked marks.now) start_alone }
+/// An assignment in which the same is said of all atoms but the start.
+#[derive(Clone, Copy)]
+pub struct Given {
+    pub start: bool,
+    pub others: bool,
+}
+
+/// Whether an equation's formula is true in an assignment, by its marked arguments, whose formulas are.
+fn fires(rule: &Rule, given: &Given, starts: &[bool], marks: &[bool]) -> bool
+    requires one_each { length starts.now ≡ length marks.now }
+    requires below { ArgumentsBelow (length marks.now) rule.now }
+    ensures { (x : ℕ) → result ≡ value_by rule.now x starts.now (is_marked marks.now) (assignment_of given.now) }
 {
     match rule {
         Rule::Never => false,
-        Rule::Start => true,
-        Rule::Own => false,
+        Rule::Start => given.start,
+        Rule::Own => given.others,
         Rule::All { args } => all(marks, args.ids()),
         Rule::Any { args } => any(marks, args.ids()),
-        Rule::AnyAndOwn { args: _ } => false,
-        Rule::Filter {
-            events: _,
-            condition: _,
-        } => false,
-        Rule::Last {
-            values: _,
-            trigger: _,
-        } => false,
-        Rule::Delay => false,
+        Rule::AnyAndOwn { args } => given.others && any(marks, args.ids()),
+        Rule::Filter { events, condition } => {
+            marks[events.get() as usize] && marks[condition.get() as usize] && given.others
+        }
+        Rule::Last { values, trigger } => {
+            let is_there = starts[values.get() as usize] || given.others;
+            !given.start && marks[trigger.get() as usize] && is_there
+        }
+        Rule::Delay => !given.start && given.others,
     }
 }
 
-/// The equations whose formulas are true where it is 0 and nothing else is true.
-fn firing(alloc: Global, rules: &[Rule], order: &[u32]) -> Result<Vec<bool>, NoMemory>
+/// The equations whose formulas are true in an assignment, where some equations start.
+pub fn firing(
+    alloc: Global,
+    rules: &[Rule],
+    starts: &[bool],
+    order: &[u32],
+    given: Given,
+) -> Result<Vec<bool>, NoMemory>
+    requires one_each { length starts.now ≡ length rules.now }
     requires closed { AreClosed rules.now }
     requires ready { AreReady rules.now [] order.now }
     ensures one_each { IfOk result (λ marks. length marks.items ≡ length rules.now) }
-    ensures exact { IfOk result (λ marks. (starts : List Bool) → AreFiring rules.now starts order.now marks.items) }
+    ensures exact { IfOk result (λ marks. AreFiring rules.now starts.now order.now (assignment_of given) marks.items) }
 {
     let mut marks = vec![in alloc; false; rules.len()]?;
     for step in order {
         let index = *step as usize;
-        marks[index] = fires(&rules[index], &marks);
+        marks[index] = fires(&rules[index], &given, starts, &marks);
     }
     Ok(marks)
 }
@@ -95,7 +109,11 @@ pub fn starts(alloc: Global, rules: &[Rule], order: &[u32]) -> Result<Vec<bool>,
 {
     let none = vec![in alloc; false; rules.len()]?;
     let atoms = gather(alloc, rules, &none, order, true)?;
-    let firing = firing(alloc, rules, order)?;
+    let given = Given {
+        start: true,
+        others: false,
+    };
+    let firing = firing(alloc, rules, &none, order, given)?;
     let mut starts = Vec::new(alloc);
     for index in 0..rules.len() {
         starts.push(is_starting(&atoms[index], firing[index]))?;

@@ -7,7 +7,7 @@ use Rattle.trigger_rules.specs.Question.{Fires, Stands}
 use Rattle.trigger_starts.specs.declared.rules.Rule.{Rule}
 use Rattle.trigger_starts.specs.inner.AtomLists.{HasAtoms, atoms_at}
 use Rattle.trigger_starts.specs.inner.Kept.{AreRulesOf, AreStarts, IsOrder}
-use Rattle.trigger_starts.specs.inner.Rules.{AreClosed}
+use Rattle.trigger_starts.specs.inner.Rules.{AreClosed, is_marked}
 use Rattle.trigger_diagram.specs.declared.arena.Branch.{Branch}
 use Rattle.trigger_diagram.specs.inner.Arena.{IsNode}
 use Rattle.trigger_diagram.specs.inner.Made.{AreNodesOf}
@@ -54,6 +54,11 @@ Follows d m n = (holds : Assignment) → IsTrue (tells d m holds) → IsTrue (te
 -- some assignment has both
 abbrev pub AreMetIn : Kept → ℕ → ℕ → Type 0
 AreMetIn d m n = (holds : Assignment) × IsTrue (tells d m holds) × IsTrue (tells d n holds)
+
+-- the marked equations are those whose formulas are true in an assignment
+abbrev pub AreFiringIn : Kept → Assignment → List Bool → Type 0
+AreFiringIn d holds marks =
+    (s : System) → AreDiagramsOf d s → (x : ℕ) → x < length d.rules → IsTrue (is_marked marks x) ↔ Fires s holds x
 
 pub record AreKept
     (rules : List Rule)

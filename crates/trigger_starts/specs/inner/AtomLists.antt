@@ -1,5 +1,5 @@
 -- Lists of different atoms, cut off where they are too many.
-use Rattle.std.specs.Prelude.{◌≡◌, ℕ, ◌≤◌, ◌⊎◌, Bool, ◌&&◌, List, [], ◌∷◌, length, slice_index_or, IsFalse}
+use Rattle.std.specs.Prelude.{◌≡◌, ℕ, ◌+◌, ◌≤◌, ◌⊎◌, Bool, ◌&&◌, List, [], ◌∷◌, length, slice_index_or, IsFalse}
 use Rattle.std.specs.List.{Contains}
 use Rattle.trigger_rules.specs.declared.atom.Atom.{Atom}
 use Rattle.trigger_rules.specs.declared.atom.Atom.TheVariants.{Start, Happens, Holds}
@@ -25,6 +25,16 @@ pub record HasAtoms (P : Atom → Type 0) (atoms : List Atom) : Type 0 where
   pub from : (a : Atom) → Contains atoms a → P a
   pub different : AreDifferent atoms
   pub there : length atoms ≤ ATOMS → (a : Atom) → P a → Contains atoms a
+
+-- so many atoms more are in a list that has the old ones and those of a property
+pub record AddsSome (old : List Atom) (P : Atom → Type 0) (count : ℕ) : Type 0 where
+  pub new : List Atom
+  pub long : length new ≡ length old + count
+  pub adds : Adds old P new
+
+-- an atom of one of two lists
+abbrev pub IsInEither : List Atom → List Atom → Atom → Type 0
+IsInEither first second a = Contains first a ⊎ Contains second a
 
 -- the list of an equation
 abbrev pub atoms_at : List (List Atom) → ℕ → List Atom

@@ -4,12 +4,12 @@ use Rattle.std.specs.List.{Contains}
 use Rattle.flat_core.specs.System.{System}
 use Rattle.trigger_rules.specs.declared.atom.Atom.{Atom}
 use Rattle.trigger_rules.specs.declared.limit.TheConstants.{ATOMS}
-use Rattle.trigger_rules.specs.Formula.{Of, HasAtom}
+use Rattle.trigger_rules.specs.Formula.{Assignment, Of, HasAtom}
 use Rattle.trigger_rules.specs.Question.{Starts}
 use Rattle.trigger_starts.specs.declared.rules.Rule.{Rule}
 use Rattle.trigger_starts.specs.inner.AtomLists.{HasAtoms, atoms_at}
 use Rattle.trigger_starts.specs.inner.Rules.{AreReady, is_marked, rules_of, ruled}
-use Rattle.trigger_starts.specs.inner.Truth.{start_alone, IsMet, Started}
+use Rattle.trigger_starts.specs.inner.Truth.{IsMet, Started}
 
 -- the rules are those of a system
 abbrev pub AreRulesOf : List Rule → System → Type 0
@@ -19,9 +19,9 @@ AreRulesOf rules s = rules ≡ rules_of s
 abbrev pub StartsBy : List Atom → Bool → Type 0
 StartsBy atoms fires = (length atoms ≤ ATOMS) × IsTrue fires
 
--- the marked equations are those whose formulas are true where it is 0 and nothing else is
-abbrev pub AreFiring : List Rule → List Bool → List ℕ → List Bool → Type 0
-AreFiring rules starts order fires = (x : ℕ) → Contains order x → IsTrue (is_marked fires x) ↔ IsMet false rules starts start_alone x
+-- the marked equations are those whose formulas are true in an assignment
+abbrev pub AreFiring : List Rule → List Bool → List ℕ → Assignment → List Bool → Type 0
+AreFiring rules starts order holds fires = (x : ℕ) → Contains order x → IsTrue (is_marked fires x) ↔ IsMet false rules starts holds x
 
 abbrev pub AreStarts : List Rule → List Bool → Type 0
 AreStarts rules starts = (s : System) → AreRulesOf rules s → (x : ℕ) → Started starts x ↔ Starts s x

@@ -4,6 +4,7 @@ use Rattle.std.specs.List.{AllByRecursion, list_all, list_any}
 use Rattle.trigger_rules.specs.declared.atom.Atom.TheVariants.{Start, Happens, Holds}
 use Rattle.trigger_rules.specs.Formula.{Assignment, Of, Meets}
 use Rattle.trigger_starts.specs.declared.rules.Rule.{Rule}
+use Rattle.trigger_starts.specs.declared.starts.Given.{Given}
 use Rattle.trigger_starts.specs.declared.rules.Rule.TheVariants as rule
 use Rattle.trigger_starts.specs.inner.Rules.{HasSome, ruled, starts_at}
 
@@ -39,7 +40,15 @@ Started starts v = IsTrue (starts_at starts v)
 abbrev pub IsMet : Bool → List Rule → List Bool → Assignment → ℕ → Type 0
 IsMet at_zero rules starts holds x = Meets (ruled at_zero rules) (Started starts) holds (Of x)
 
+-- what is given of the start, and the same of all else
+abbrev pub assignment_of : Given → Assignment
+assignment_of g Start = g.start
+assignment_of g _ = g.others
+
 -- It is 0, and nothing else is true.
 abbrev pub start_alone : Assignment
-start_alone Start = true
-start_alone _ = false
+start_alone = assignment_of (record { start = true; others = false })
+
+-- all is true, and of the start what is given
+abbrev pub all_but_start : Bool → Assignment
+all_but_start start = assignment_of (record { start = start; others = true })
