@@ -1,0 +1,5 @@
+pub mod Words
+pub mod Gates
+pub mod Turns
+pub mod Adding
+pub mod Rows

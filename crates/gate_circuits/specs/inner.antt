@@ -1,0 +1,3 @@
+pub mod Marks
+pub mod Knowledge
+pub mod Search
