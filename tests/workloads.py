@@ -50,6 +50,9 @@ out last(Set.size(all), ask) as size
 # As many merges as the chain has.
 MERGES = 100
 
+# How many updates happen in place beside as many that copy.
+UPDATES = 128
+
 # How many names the texts have.
 NAMES = 200
 
@@ -254,6 +257,31 @@ def million(lines):
     return counted(lines, scattered) + [f"{lines + 1}: ask"], [f"{lines + 1}: size = {lines}"]
 
 
+def choosing():
+    """256 updates of one set around 200 merges of it. Every second one reads the set that the others change, and so has to copy."""
+    rows = ["in i: Events[Int]", "def turn := filter(i, i % 100 == 0)", "def old := merge(last(all, turn), Set.empty[Int])"]
+    rows += ["def b0 := old", "def t0 := Set.size(old)", "def f0 := old"]
+    for k in range(200):
+        rows.append(f"def f{k + 1} := merge(f{k}, old)")
+    for k in range(UPDATES):
+        rows.append(f"def u{k} := Set.add(b{k}, {2 * k % 4})")
+        rows.append(f"def b{k + 1} := merge(u{k}, b{k})")
+        rows.append(f"def w{k} := Set.add(old, {1 + 2 * k % 4})")
+        rows.append(f"def t{k + 1} := t{k} + Set.size(w{k})")
+    rows.append(f"def all: Events[Set[Int]] := merge(b{UPDATES}, old)")
+    rows += ["out Set.size(f200) as n", f"out t{UPDATES} as sizes"]
+    return "".join(row + "\n" for row in rows)
+
+
+def chosen(lines):
+    """At each 100th line; the set has nothing at 0 and then two numbers, and each that copies has one more."""
+    printed = []
+    for k in range(0, lines + 1, 100):
+        size = 2 if k else 0
+        printed += [f"{k}: n = {size}", f"{k}: sizes = {size + UPDATES * (size + 1)}"]
+    return counted(lines, lambda k: k), printed
+
+
 WORKLOADS = {
     "previous": Workload(lambda: example("data/first.tsl"), previous, 'NR > 1 { print $1, "p =", before } { before = $4 }'),
     "seen": Workload(lambda: SEEN, seen, SEEN_BY_MAWK),
@@ -273,6 +301,7 @@ WORKLOADS = {
     "idle_sets250": idle_sets(250),
     "idle_delays10": idle_delays(10),
     "idle_delays250": idle_delays(250),
+    "choosing": Workload(choosing, chosen, lengths=(1_000, 10_000)),
     "million": Workload(lambda: MILLION, million, lengths=(1_000_000,)),
 }
 

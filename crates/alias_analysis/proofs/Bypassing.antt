@@ -1,7 +1,6 @@
 -- What bypasses an update, by following edges around it.
 use Rattle.std.proofs.Common.{◌≡◌, ◌↔◌, ℕ, ◌<◌, Bool, List, [], ◌∷◌, length, get_or, Some, refl, sym, ap, subst, ◌∙◌, inl, inr, arith}
 use Rattle.std.specs.Prelude.{IsTrue}
-use Rattle.std.proofs.lemmas.List.{length-map}
 use Rattle.std.proofs.lemmas.Option.{same_Some, slice_get_within}
 use Rattle.tsl_value.specs.declared.scalar.ValueType.{ValueType}
 use Rattle.flat_core.specs.declared.equation.Equation.{Equation}
@@ -10,9 +9,6 @@ use Rattle.flat_core.specs.inner.Marks.{has_mark}
 use Rattle.flat_core.specs.System.{System, equation}
 use Rattle.flat_core.specs.TypedSystem.{AreOfTypes}
 use Rattle.trigger_rules.specs.Question.{Implies}
-use Rattle.trigger_starts.specs.declared.rules.Rule.{Rule}
-use Rattle.trigger_formulas.specs.inner.Kept.{AreTriggersOf}
-use Rattle.trigger_starts.specs.inner.Rules.{rule_of}
 use Rattle.alias_rules.specs.Uses.{IsLast, IsWritten}
 use Rattle.alias_rules.specs.Roots.{Carries, IsRoot}
 use Rattle.alias_rules.specs.Sharing.{Alias, same, lasts}
@@ -35,9 +31,6 @@ two_items [] size = absurd (omega arith)
 two_items (a ∷ []) size = absurd (omega arith)
 two_items (a ∷ b ∷ []) size = refl
 two_items (a ∷ b ∷ c ∷ args) size = absurd (omega arith)
-
-pub rules_length : (s : System) (rules : List Rule) → AreTriggersOf rules s → length rules ≡ length s.equations
-rules_length s rules are = ap length are ∙ length-map s.equations rule_of
 
 first_typed : (equations : List Equation) (a : ℕ) (rest : List ℕ) (types : List ValueType) → AreOfTypes equations (a ∷ rest) types → a < length equations
 first_typed equations a rest [] h = absurd h

@@ -21,14 +21,14 @@ use Rattle.alias_analysis.specs.inner.Contents.{SharesWithLast, IsMarkedUnimplie
 use Rattle.alias_paths.proofs.Rooting.{just_as}
 use Rattle.alias_analysis.proofs.Bypassing.{bypasses_near, near_bypass}
 
-pub kept_are : (s : System) (set : List ℕ) (y : ℕ) (near stored both marks : List Bool) → AreJust (length s.equations) (IsNear s set y) near → AreJust (length s.equations) (IsStored s) stored → AreJust (length near) (AreMarkedInBoth near stored) both → AreJust (length s.equations) (IsMarkedBeside s y both) marks → AreJust (length s.equations) (IsKept s set y) marks
+pub kept_are : (s : System) (set : List ℕ) (y : ℕ) (near stored both marks : List Bool) → AreJust (length s.equations) (IsNear s set y) near → AreJust (length s.equations) (IsStored s) stored → AreJust (length stored) (AreMarkedInBoth stored near) both → AreJust (length s.equations) (IsMarkedBeside s y both) marks → AreJust (length s.equations) (IsKept s set y) marks
 kept_are s set y near stored both marks just st found h =
     just_as (length s.equations) (IsMarkedBeside s y both) (IsKept s set y) marks h
     (λ x m.
     let there = (found.each x).0 m.marked in
-    record { bypasses = bypasses_near s set y x ((just.each x).0 there.in_first) m.beside; stored = (st.each x).0 there.in_second })
+    record { bypasses = bypasses_near s set y x ((just.each x).0 there.in_second) m.beside; stored = (st.each x).0 there.in_first })
     (λ x k. record {
-      marked = (found.each x).1 (record { in_first = (just.each x).1 (near_bypass s set y x k.bypasses); in_second = (st.each x).1 k.stored });
+      marked = (found.each x).1 (record { in_first = (st.each x).1 k.stored; in_second = (just.each x).1 (near_bypass s set y x k.bypasses) });
       beside = record { variable = k.bypasses.variable; together = k.bypasses.together };
     })
 

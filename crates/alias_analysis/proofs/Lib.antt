@@ -2,3 +2,5 @@ pub mod Bypassing
 pub mod Conflicts
 pub mod Constraining
 pub mod Circling
+pub mod Linking
+pub mod Nearing

@@ -2,3 +2,5 @@ pub mod Kept
 pub mod Contents
 pub mod Constraints
 pub mod Answer
+pub mod Answers
+pub mod Nears

@@ -6,18 +6,17 @@ ghost use Rattle.flat_core.specs.inner.Marks.{is_marked, is_waiting, Spread};
 ghost use Rattle.translation_order.specs.Order.{AreOfSteps};
 ghost use Rattle.alias_rules.specs.Roots.{Carries};
 ghost use Rattle.alias_rules.specs.Bypass.{PassesOver};
-ghost use Rattle.trigger_formulas.specs.inner.Kept.{AreTriggersOf};
 ghost use Rattle.alias_paths.specs.inner.Pairs.{ArePairs};
 ghost use Rattle.alias_paths.specs.inner.Search.{marks_of, AreListed, MarkedAll};
 ghost use Rattle.alias_analysis.specs.inner.Contents.{IsOtherOfMerge, AreReachedAround, LeadsAround, IsSecondAround, IsPairAround};
 
+use crate::answers::Answers;
 use alias_paths::links::Links;
 use alias_paths::numbers::Numbers;
 use alias_paths::reach::Search;
 use flat_core::equation::{Equation, Op};
 use flat_core::flat::Flat;
 use std::alloc::Global;
-use trigger_formulas::triggers::Triggers;
 use tsl_value::ids::EqId;
 use tsl_value::memory::NoMemory;
 
@@ -48,12 +47,12 @@ fn other_of_merge(equation: &Equation, second: EqId) -> Option<EqId>
 pub fn passes_over(
     alloc: Global,
     flat: &Flat,
-    triggers: &Triggers,
+    answers: &Answers,
     update: EqId,
     equation: EqId,
     second: EqId,
 ) -> Result<bool, NoMemory>
-    requires triggers { AreTriggersOf triggers.now flat.now }
+    requires answers { answers.now ≡ flat.now }
     requires update { update < length flat.now.equations }
     requires equation { equation < length flat.now.equations }
     ensures { IfOk result (λ r. IsTrue r ↔ PassesOver flat.now update equation second) }
@@ -61,7 +60,7 @@ pub fn passes_over(
     flat.assert_whole();
     match other_of_merge(flat.equation(equation), second) {
         Some(other) => {
-            let implied = triggers.implies(alloc, update, other)?;
+            let implied = answers.implies(alloc, update, other)?;
             Ok(implied)
         }
         None => Ok(false),
@@ -72,11 +71,11 @@ pub fn passes_over(
 fn goes_around(
     alloc: Global,
     flat: &Flat,
-    triggers: &Triggers,
+    answers: &Answers,
     update: EqId,
     edge: (u32, u32),
 ) -> Result<bool, NoMemory>
-    requires triggers { AreTriggersOf triggers.now flat.now }
+    requires answers { answers.now ≡ flat.now }
     requires update { update < length flat.now.equations }
     requires there { edge.1 < length flat.now.equations }
     ensures { IfOk result (λ r. IsTrue r ↔ LeadsAround flat.now update edge.0 edge.1) }
@@ -88,7 +87,7 @@ fn goes_around(
     let over = passes_over(
         alloc,
         flat,
-        triggers,
+        answers,
         update,
         EqId::new(second),
         EqId::new(first),
@@ -101,18 +100,18 @@ fn mark_if_around(
     search: &mut Search,
     alloc: Global,
     flat: &Flat,
-    triggers: &Triggers,
+    answers: &Answers,
     update: EqId,
     edge: (u32, u32),
 ) -> Result<(), NoMemory>
-    requires triggers { AreTriggersOf triggers.now flat.now }
+    requires answers { answers.now ≡ flat.now }
     requires update { update < length flat.now.equations }
     requires one_each { length search.old.marked.items ≡ length flat.now.equations }
     requires there { edge.1 < length flat.now.equations }
     ensures marked { OnOk result (MarkedAll (IsSecondAround flat.now update edge.0 edge.1) (marks_of search.old) (marks_of search.new)) }
     ensures listed { OnOk result (AreListed search.old → AreListed search.new) }
 {
-    if !goes_around(alloc, flat, triggers, update, edge)? {
+    if !goes_around(alloc, flat, answers, update, edge)? {
         return Ok(());
     }
     search.mark(edge.1)?;
@@ -124,12 +123,12 @@ fn mark_around(
     search: &mut Search,
     alloc: Global,
     flat: &Flat,
-    triggers: &Triggers,
+    answers: &Answers,
     carriers: &Links,
     update: EqId,
     number: u32,
 ) -> Result<(), NoMemory>
-    requires triggers { AreTriggersOf triggers.now flat.now }
+    requires answers { answers.now ≡ flat.now }
     requires update { update < length flat.now.equations }
     requires one_each { length search.old.marked.items ≡ length flat.now.equations }
     requires there { AreOfSteps (length flat.now.equations) carriers.now }
@@ -141,7 +140,7 @@ fn mark_around(
     while next > 0 {
         let place = next - 1;
         let edge = (number, carriers.second(place));
-        mark_if_around(search, alloc, flat, triggers, update, edge)?;
+        mark_if_around(search, alloc, flat, answers, update, edge)?;
         next = carriers.after_earlier(place);
     }
     Ok(())
@@ -152,11 +151,11 @@ fn spread_around(
     search: &mut Search,
     alloc: Global,
     flat: &Flat,
-    triggers: &Triggers,
+    answers: &Answers,
     carriers: &Links,
     update: EqId,
 ) -> Result<(), NoMemory>
-    requires triggers { AreTriggersOf triggers.now flat.now }
+    requires answers { answers.now ≡ flat.now }
     requires update { update < length flat.now.equations }
     requires one_each { length search.old.marked.items ≡ length flat.now.equations }
     requires there { AreOfSteps (length flat.now.equations) carriers.now }
@@ -165,7 +164,7 @@ fn spread_around(
     ensures listed { OnOk result (AreListed search.old → AreListed search.new) }
 {
     while let Some(number) = search.waiting.pop() {
-        mark_around(search, alloc, flat, triggers, carriers, update, number)?;
+        mark_around(search, alloc, flat, answers, carriers, update, number)?;
     }
     Ok(())
 }
@@ -174,12 +173,12 @@ fn spread_around(
 pub fn reached_around(
     alloc: Global,
     flat: &Flat,
-    triggers: &Triggers,
+    answers: &Answers,
     carriers: &Links,
     begins: &Numbers,
     update: EqId,
 ) -> Result<Numbers, NoMemory>
-    requires triggers { AreTriggersOf triggers.now flat.now }
+    requires answers { answers.now ≡ flat.now }
     requires update { update < length flat.now.equations }
     requires carriers { (set : List ℕ) × ArePairs (Carries flat.now set) carriers.now }
     requires one_each { length begins.now ≡ length flat.now.equations }
@@ -187,6 +186,6 @@ pub fn reached_around(
     ensures exact { IfOk result (AreReachedAround flat.now update carriers.now begins.now) }
 {
     let mut search = Search::from(alloc, begins)?;
-    spread_around(&mut search, alloc, flat, triggers, carriers, update)?;
+    spread_around(&mut search, alloc, flat, answers, carriers, update)?;
     Ok(Numbers::of(search.marked, search.listed))
 }

@@ -2,24 +2,21 @@
 
 ghost use Rattle.std.specs.Prelude.{◌≡◌, ◌↔◌, ◌<◌, ◌^◌, length, slice_index, IfOk, IsTrue};
 ghost use Rattle.flat_core.specs.inner.Marks.{has_mark};
-ghost use Rattle.alias_rules.specs.Uses.{AreUpdates};
+ghost use Rattle.alias_rules.specs.Uses.{IsStored, AreUpdates};
 ghost use Rattle.alias_rules.specs.Conflict.{IsKept, IsNotOverwritten};
-ghost use Rattle.trigger_formulas.specs.inner.Kept.{AreTriggersOf};
-ghost use Rattle.alias_paths.specs.inner.Kept.{AreUses, ArePaths};
 ghost use Rattle.alias_paths.specs.inner.Marking.{AreJust};
 ghost use Rattle.alias_analysis.specs.inner.Answer.{IsLeastOrNone, IsFirstOrNone, IsFirstConflict};
 ghost use Rattle.alias_analysis.specs.inner.Contents.{IsMarkedUnimplied, AreMarkedInBoth};
+ghost use Rattle.alias_analysis.specs.inner.Nears.{AreNear, AreNears};
 
-use crate::bypass::{beside, last_sharers, near};
+use crate::answers::Answers;
+use crate::bypass::{Near, beside};
+use crate::nears::Nears;
 use crate::reason::Reason;
 use alias_paths::numbers::Numbers;
-use alias_paths::paths::Paths;
-use alias_paths::roots::source_roots;
-use alias_paths::uses::Uses;
 use flat_core::flat::Flat;
 use flat_core::lists::EqSet;
 use std::alloc::Global;
-use trigger_formulas::triggers::Triggers;
 use tsl_value::ids::EqId;
 use tsl_value::memory::NoMemory;
 
@@ -48,33 +45,32 @@ fn both(alloc: Global, first: &Numbers, second: &Numbers) -> Result<Numbers, NoM
 fn kept(
     alloc: Global,
     flat: &Flat,
-    triggers: &Triggers,
-    uses: &Uses,
+    answers: &Answers,
     set: &EqSet,
-    paths: &Paths,
+    stored: &Numbers,
+    near: &Near,
     update: EqId,
 ) -> Result<Numbers, NoMemory>
-    requires triggers { AreTriggersOf triggers.now flat.now }
-    requires uses { AreUses flat.now uses.now }
-    requires paths { ArePaths flat.now set.now paths.now }
+    requires answers { answers.now ≡ flat.now }
+    requires stored { AreJust (length flat.now.equations) (IsStored flat.now) stored.now }
+    requires near { AreNear flat.now set.now update near.now }
     requires update { update < length flat.now.equations }
     ensures { IfOk result (AreJust (length flat.now.equations) (IsKept flat.now set.now update)) }
 {
-    let near = near(alloc, flat, triggers, uses, set, paths, update)?;
-    let stored = both(alloc, &near, &paths.stored)?;
-    beside(alloc, flat, triggers, update, &stored)
+    let marked = both(alloc, stored, &near.around)?;
+    beside(alloc, flat, answers, update, &marked)
 }
 
 /// Whether an equation is marked, and need not have an event wherever the update has one.
 fn is_unimplied(
     alloc: Global,
     flat: &Flat,
-    triggers: &Triggers,
+    answers: &Answers,
     update: EqId,
     marked: &Numbers,
     number: u32,
 ) -> Result<bool, NoMemory>
-    requires triggers { AreTriggersOf triggers.now flat.now }
+    requires answers { answers.now ≡ flat.now }
     requires update { update < length flat.now.equations }
     requires there { number < length flat.now.equations }
     requires one_each { length marked.now ≡ length flat.now.equations }
@@ -83,7 +79,7 @@ fn is_unimplied(
     if !marked.has(number) {
         return Ok(false);
     }
-    let implied = triggers.implies(alloc, update, EqId::new(number))?;
+    let implied = answers.implies(alloc, update, EqId::new(number))?;
     Ok(!implied)
 }
 
@@ -91,11 +87,11 @@ fn is_unimplied(
 fn unimplied(
     alloc: Global,
     flat: &Flat,
-    triggers: &Triggers,
+    answers: &Answers,
     update: EqId,
     marked: &Numbers,
 ) -> Result<Numbers, NoMemory>
-    requires triggers { AreTriggersOf triggers.now flat.now }
+    requires answers { answers.now ≡ flat.now }
     requires update { update < length flat.now.equations }
     requires one_each { length marked.now ≡ length flat.now.equations }
     ensures { IfOk result (AreJust (length flat.now.equations) (IsMarkedUnimplied flat.now update marked.now)) }
@@ -103,7 +99,7 @@ fn unimplied(
     let mut unimplied = Numbers::none(alloc, marked.count())?;
     let listed = marked.listed();
     for number in listed {
-        let wanted = is_unimplied(alloc, flat, triggers, update, marked, *number)?;
+        let wanted = is_unimplied(alloc, flat, answers, update, marked, *number)?;
         unimplied.mark_if(*number, wanted)?;
     }
     Ok(unimplied)
@@ -113,21 +109,17 @@ fn unimplied(
 fn not_overwritten(
     alloc: Global,
     flat: &Flat,
-    triggers: &Triggers,
-    uses: &Uses,
+    answers: &Answers,
     set: &EqSet,
-    paths: &Paths,
+    near: &Near,
     update: EqId,
 ) -> Result<Numbers, NoMemory>
-    requires triggers { AreTriggersOf triggers.now flat.now }
-    requires uses { AreUses flat.now uses.now }
-    requires paths { ArePaths flat.now set.now paths.now }
+    requires answers { answers.now ≡ flat.now }
+    requires near { AreNear flat.now set.now update near.now }
     requires update { update < length flat.now.equations }
     ensures { IfOk result (AreJust (length flat.now.equations) (IsNotOverwritten flat.now set.now update)) }
 {
-    let roots = source_roots(alloc, flat, uses, set, paths, update)?;
-    let sharers = last_sharers(alloc, flat, uses, set, paths, update, &roots)?;
-    unimplied(alloc, flat, triggers, update, &sharers)
+    unimplied(alloc, flat, answers, update, &near.sharers.all)
 }
 
 /// The least marked equation.
@@ -162,20 +154,20 @@ pub fn update_at(set: &EqSet, place: usize) -> EqId
 fn kept_by(
     alloc: Global,
     flat: &Flat,
-    triggers: &Triggers,
-    uses: &Uses,
+    answers: &Answers,
     set: &EqSet,
-    paths: &Paths,
+    stored: &Numbers,
+    near: &Near,
     update: EqId,
 ) -> Result<Option<EqId>, NoMemory>
-    requires triggers { AreTriggersOf triggers.now flat.now }
-    requires uses { AreUses flat.now uses.now }
-    requires paths { ArePaths flat.now set.now paths.now }
+    requires answers { answers.now ≡ flat.now }
+    requires stored { AreJust (length flat.now.equations) (IsStored flat.now) stored.now }
+    requires near { AreNear flat.now set.now update near.now }
     requires update { update < length flat.now.equations }
     ensures { IfOk result (IsLeastOrNone (IsKept flat.now set.now update)) }
 {
     flat.assert_whole();
-    let kept = kept(alloc, flat, triggers, uses, set, paths, update)?;
+    let kept = kept(alloc, flat, answers, set, stored, near, update)?;
     Ok(least(&kept))
 }
 
@@ -183,20 +175,18 @@ fn kept_by(
 fn not_overwritten_in(
     alloc: Global,
     flat: &Flat,
-    triggers: &Triggers,
-    uses: &Uses,
+    answers: &Answers,
     set: &EqSet,
-    paths: &Paths,
+    near: &Near,
     update: EqId,
 ) -> Result<Option<EqId>, NoMemory>
-    requires triggers { AreTriggersOf triggers.now flat.now }
-    requires uses { AreUses flat.now uses.now }
-    requires paths { ArePaths flat.now set.now paths.now }
+    requires answers { answers.now ≡ flat.now }
+    requires near { AreNear flat.now set.now update near.now }
     requires update { update < length flat.now.equations }
     ensures { IfOk result (IsLeastOrNone (IsNotOverwritten flat.now set.now update)) }
 {
     flat.assert_whole();
-    let old = not_overwritten(alloc, flat, triggers, uses, set, paths, update)?;
+    let old = not_overwritten(alloc, flat, answers, set, near, update)?;
     Ok(least(&old))
 }
 
@@ -204,20 +194,19 @@ fn not_overwritten_in(
 fn first_kept(
     alloc: Global,
     flat: &Flat,
-    triggers: &Triggers,
-    uses: &Uses,
+    answers: &Answers,
     set: &EqSet,
-    paths: &Paths,
+    nears: &Nears,
 ) -> Result<Option<(EqId, EqId)>, NoMemory>
-    requires triggers { AreTriggersOf triggers.now flat.now }
-    requires uses { AreUses flat.now uses.now }
-    requires paths { ArePaths flat.now set.now paths.now }
+    requires answers { answers.now ≡ flat.now }
+    requires nears { AreNears flat.now set.now nears.now }
     requires updates { AreUpdates flat.now set.now }
     ensures { IfOk result (IsFirstOrNone set.now (IsKept flat.now set.now)) }
 {
     for place in 0..set.len() {
         let update = update_at(set, place);
-        match kept_by(alloc, flat, triggers, uses, set, paths, update)? {
+        let near = &nears.updates[place];
+        match kept_by(alloc, flat, answers, set, &nears.stored, near, update)? {
             Some(by) => return Ok(Some((update, by))),
             None => {}
         }
@@ -229,20 +218,19 @@ fn first_kept(
 fn first_not_overwritten(
     alloc: Global,
     flat: &Flat,
-    triggers: &Triggers,
-    uses: &Uses,
+    answers: &Answers,
     set: &EqSet,
-    paths: &Paths,
+    nears: &Nears,
 ) -> Result<Option<(EqId, EqId)>, NoMemory>
-    requires triggers { AreTriggersOf triggers.now flat.now }
-    requires uses { AreUses flat.now uses.now }
-    requires paths { ArePaths flat.now set.now paths.now }
+    requires answers { answers.now ≡ flat.now }
+    requires nears { AreNears flat.now set.now nears.now }
     requires updates { AreUpdates flat.now set.now }
     ensures { IfOk result (IsFirstOrNone set.now (IsNotOverwritten flat.now set.now)) }
 {
     for place in 0..set.len() {
         let update = update_at(set, place);
-        match not_overwritten_in(alloc, flat, triggers, uses, set, paths, update)? {
+        let near = &nears.updates[place];
+        match not_overwritten_in(alloc, flat, answers, set, near, update)? {
             Some(last) => return Ok(Some((update, last))),
             None => {}
         }
@@ -254,22 +242,21 @@ fn first_not_overwritten(
 pub fn first_conflict(
     alloc: Global,
     flat: &Flat,
-    triggers: &Triggers,
-    uses: &Uses,
+    answers: &Answers,
     set: &EqSet,
+    nears: &Nears,
 ) -> Result<Option<Reason>, NoMemory>
-    requires triggers { AreTriggersOf triggers.now flat.now }
-    requires uses { AreUses flat.now uses.now }
+    requires answers { answers.now ≡ flat.now }
+    requires nears { AreNears flat.now set.now nears.now }
     requires updates { AreUpdates flat.now set.now }
     ensures { IfOk result (λ r. IsFirstConflict flat.now set.now r) }
 {
-    let paths = Paths::of(alloc, flat, uses, set)?;
-    match first_kept(alloc, flat, triggers, uses, set, &paths)? {
+    match first_kept(alloc, flat, answers, set, nears)? {
         Some(first) => Ok(Some(Reason::Kept {
             update: first.0,
             by: first.1,
         })),
-        None => match first_not_overwritten(alloc, flat, triggers, uses, set, &paths)? {
+        None => match first_not_overwritten(alloc, flat, answers, set, nears)? {
             Some(first) => Ok(Some(Reason::NotOverwritten {
                 update: first.0,
                 last: first.1,

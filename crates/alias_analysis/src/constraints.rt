@@ -5,24 +5,24 @@ ghost use Rattle.translation_order.specs.Order.{AreOfSteps};
 ghost use Rattle.alias_rules.specs.Uses.{AreUpdates};
 ghost use Rattle.alias_rules.specs.Conflict.{StandsBefore};
 ghost use Rattle.alias_rules.specs.Steps.{step_count};
-ghost use Rattle.trigger_formulas.specs.inner.Kept.{AreTriggersOf};
-ghost use Rattle.alias_paths.specs.inner.Kept.{AreUses, ArePaths};
+ghost use Rattle.alias_paths.specs.inner.Kept.{AreUses};
 ghost use Rattle.alias_paths.specs.inner.Pairs.{Adds, ArePairs};
 ghost use Rattle.alias_analysis.specs.inner.Constraints.{IsArgumentAt, IsNeeded, IsPrintOf, IsMarkedBefore, IsTakenBefore};
 ghost use Rattle.alias_analysis.specs.inner.Constraints.{WritesMarked, IsWrittenBefore, PassesMarked, IsPassedBefore, IsPrintedBefore};
 ghost use Rattle.alias_analysis.specs.inner.Constraints.{StandsBeforeUpdate};
+ghost use Rattle.alias_analysis.specs.inner.Nears.{AreNear, AreNears};
 
+use crate::answers::Answers;
 use crate::around::passes_over;
-use crate::bypass::bypassed;
+use crate::bypass::{Near, bypassed};
 use crate::conflict::update_at;
+use crate::nears::Nears;
 use alias_paths::pairs::push_if;
-use alias_paths::paths::Paths;
 use alias_paths::uses::Uses;
 use flat_core::flat::Flat;
 use flat_core::lists::EqSet;
 use std::alloc::Global;
 use translation_order::steps::Edges;
-use trigger_formulas::triggers::Triggers;
 use tsl_value::ids::EqId;
 use tsl_value::memory::NoMemory;
 
@@ -121,12 +121,12 @@ fn push_writers(
 fn passes_marked(
     alloc: Global,
     flat: &Flat,
-    triggers: &Triggers,
+    answers: &Answers,
     marks: &[bool],
     edge: (u32, u32),
     update: EqId,
 ) -> Result<bool, NoMemory>
-    requires triggers { AreTriggersOf triggers.now flat.now }
+    requires answers { answers.now ≡ flat.now }
     requires update { update < length flat.now.equations }
     requires variable { edge.0 < length marks.now }
     requires there { edge.1 < length flat.now.equations }
@@ -139,7 +139,7 @@ fn passes_marked(
     let over = passes_over(
         alloc,
         flat,
-        triggers,
+        answers,
         update,
         EqId::new(passer),
         EqId::new(variable),
@@ -152,12 +152,12 @@ fn push_passers(
     pairs: &mut Edges,
     alloc: Global,
     flat: &Flat,
-    triggers: &Triggers,
+    answers: &Answers,
     passed: &[(u32, u32)],
     marks: &[bool],
     update: EqId,
 ) -> Result<(), NoMemory>
-    requires triggers { AreTriggersOf triggers.now flat.now }
+    requires answers { answers.now ≡ flat.now }
     requires update { update < length flat.now.equations }
     requires one_each { length marks.now ≡ length flat.now.equations }
     requires there { AreOfSteps (length flat.now.equations) passed.now }
@@ -165,7 +165,7 @@ fn push_passers(
 {
     for (variable, passer) in passed {
         let edge = (*variable, *passer);
-        let wanted = passes_marked(alloc, flat, triggers, marks, edge, update)?;
+        let wanted = passes_marked(alloc, flat, answers, marks, edge, update)?;
         push_if(pairs, (*passer, update.get()), wanted)?;
     }
     Ok(())
@@ -195,27 +195,27 @@ fn push_update(
     pairs: &mut Edges,
     alloc: Global,
     flat: &Flat,
-    triggers: &Triggers,
+    answers: &Answers,
     uses: &Uses,
     set: &EqSet,
-    paths: &Paths,
+    near: &Near,
     update: EqId,
 ) -> Result<(), NoMemory>
-    requires triggers { AreTriggersOf triggers.now flat.now }
+    requires answers { answers.now ≡ flat.now }
     requires uses { AreUses flat.now uses.now }
-    requires paths { ArePaths flat.now set.now paths.now }
+    requires near { AreNear flat.now set.now update near.now }
     requires update { update < length flat.now.equations }
     ensures { OnOk result (Adds pairs.old (StandsBeforeUpdate flat.now set.now update) pairs.new) }
 {
     flat.assert_whole();
     let number = update.get();
-    let bypassed = bypassed(alloc, flat, triggers, uses, set, paths, update)?;
+    let bypassed = bypassed(alloc, flat, answers, set, near, update)?;
     let marks = bypassed.marks();
     let passed = uses.passed.as_slice();
     push_marked(pairs, marks, number)?;
     push_readers(pairs, uses.read.as_slice(), marks, number)?;
     push_writers(pairs, uses.written.as_slice(), marks, number)?;
-    push_passers(pairs, alloc, flat, triggers, passed, marks, update)?;
+    push_passers(pairs, alloc, flat, answers, passed, marks, update)?;
     push_printers(pairs, flat, marks, number)?;
     Ok(())
 }
@@ -224,12 +224,14 @@ fn push_update(
 pub fn constraints(
     alloc: Global,
     flat: &Flat,
-    triggers: &Triggers,
+    answers: &Answers,
     uses: &Uses,
     set: &EqSet,
+    nears: &Nears,
 ) -> Result<Edges, NoMemory>
-    requires triggers { AreTriggersOf triggers.now flat.now }
+    requires answers { answers.now ≡ flat.now }
     requires uses { AreUses flat.now uses.now }
+    requires nears { AreNears flat.now set.now nears.now }
     requires updates { AreUpdates flat.now set.now }
     ensures exact { IfOk result (λ e. ArePairs (StandsBefore flat.now set.now) e) }
     ensures of_steps { IfOk result (λ e. AreOfSteps (step_count flat.now) e) }
@@ -238,10 +240,10 @@ pub fn constraints(
     let mut pairs = Edges::new(alloc);
     push_needed(&mut pairs, flat)?;
     push_prints(&mut pairs, flat)?;
-    let paths = Paths::of(alloc, flat, uses, set)?;
     for place in 0..set.len() {
         let update = update_at(set, place);
-        push_update(&mut pairs, alloc, flat, triggers, uses, set, &paths, update)?;
+        let near = &nears.updates[place];
+        push_update(&mut pairs, alloc, flat, answers, uses, set, near, update)?;
     }
     Ok(pairs)
 }

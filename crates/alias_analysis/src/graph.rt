@@ -12,10 +12,13 @@ ghost use Rattle.alias_rules.specs.Conflict.{StandsBefore};
 ghost use Rattle.translation_order.specs.Order.{Before, AreOfSteps};
 ghost use Rattle.alias_rules.specs.Steps.{step_count};
 ghost use Rattle.alias_analysis.specs.inner.Answer.{IsFirstConflict};
+ghost use Rattle.alias_analysis.specs.inner.Nears.{AreNears};
 
-use crate::bypass::bypassed;
+use crate::answers::Answers;
+use crate::bypass::{bypassed, near_update};
 use crate::conflict::first_conflict;
 use crate::constraints::constraints;
+use crate::nears::{Nears, near_all};
 use crate::reason::Reason;
 use alias_paths::numbers::set_of;
 use alias_paths::paths::Paths;
@@ -37,7 +40,7 @@ use tsl_value::memory::NoMemory;
 #[derive(Drop)]
 pub struct Graph<'a> {
     flat: &'a Flat,
-    triggers: &'a Triggers,
+    answers: Answers<'a>,
     uses: Uses,
 }
 
@@ -54,19 +57,20 @@ impl<'a> Model for Graph<'a> {
 
     ghost use Rattle.alias_analysis.specs.inner.Kept.{IsGraph};
 
-    ghost invariant = { λ g. IsGraph g.flat.now g.triggers.now g.uses };
+    ghost invariant = { λ g. IsGraph g.flat.now g.answers g.uses };
 }
 
 impl<'a> Graph<'a> {
-    /// Keeps the uses of content in a system.
+    /// Keeps the uses of content in a system, and what the triggers answer about its updates.
     pub fn of(alloc: Global, flat: &'a Flat, triggers: &'a Triggers) -> Result<Graph<'a>, NoMemory>
         requires { AreTriggersOf triggers.now flat.now }
         ensures { IfOk result (λ g. g ≡ flat.now) }
     {
         let uses = uses_of(alloc, flat)?;
+        let answers = Answers::of(alloc, flat, triggers, &uses)?;
         Ok(Graph {
             flat,
-            triggers,
+            answers,
             uses,
         })
     }
@@ -101,7 +105,9 @@ impl<'a> Graph<'a> {
         self.flat.assert_whole();
         let paths = Paths::of(alloc, self.flat, &self.uses, set)?;
         let uses = &self.uses;
-        let bypassed = bypassed(alloc, self.flat, self.triggers, uses, set, &paths, update)?;
+        let answers = &self.answers;
+        let near = near_update(alloc, self.flat, answers, uses, set, &paths, update, &[])?;
+        let bypassed = bypassed(alloc, self.flat, answers, set, &near, update)?;
         set_of(alloc, &bypassed)
     }
 
@@ -110,7 +116,8 @@ impl<'a> Graph<'a> {
         requires { AreUpdates self.now set.now }
         ensures { IfOk result (λ r. IsFirstConflict self.now set.now r) }
     {
-        first_conflict(alloc, self.flat, self.triggers, &self.uses, set)
+        let nears = self.near_all(alloc, set)?;
+        self.conflict_of(alloc, set, &nears)
     }
 
     /// The pairs of steps of which the first has to stand before the second where the updates of the set happen in place.
@@ -119,6 +126,44 @@ impl<'a> Graph<'a> {
         ensures exact { IfOk result (λ e. (a b : ℕ) → Before e a b ↔ StandsBefore self.now set.now a b) }
         ensures of_steps { IfOk result (λ e. AreOfSteps (step_count self.now) e) }
     {
-        constraints(alloc, self.flat, self.triggers, &self.uses, set)
+        let nears = self.near_all(alloc, set)?;
+        self.constraints_of(alloc, set, &nears)
+    }
+
+    /// What is near the updates of the set.
+    pub fn near_all(&self, alloc: Global, set: &EqSet) -> Result<Nears, NoMemory>
+        requires { AreUpdates self.now set.now }
+        ensures { IfOk result (AreNears self.now set.now) }
+    {
+        near_all(alloc, self.flat, &self.answers, &self.uses, set)
+    }
+
+    /// The first update of the set that is kept, or else the first that is not overwritten, by what is near its updates.
+    pub fn conflict_of(
+        &self,
+        alloc: Global,
+        set: &EqSet,
+        nears: &Nears,
+    ) -> Result<Option<Reason>, NoMemory>
+        requires updates { AreUpdates self.now set.now }
+        requires nears { AreNears self.now set.now nears.now }
+        ensures { IfOk result (λ r. IsFirstConflict self.now set.now r) }
+    {
+        first_conflict(alloc, self.flat, &self.answers, set, nears)
+    }
+
+    /// The pairs of steps of which the first has to stand before the second, by what is near the updates of the set.
+    pub fn constraints_of(
+        &self,
+        alloc: Global,
+        set: &EqSet,
+        nears: &Nears,
+    ) -> Result<Edges, NoMemory>
+        requires updates { AreUpdates self.now set.now }
+        requires nears { AreNears self.now set.now nears.now }
+        ensures exact { IfOk result (λ e. (a b : ℕ) → Before e a b ↔ StandsBefore self.now set.now a b) }
+        ensures of_steps { IfOk result (λ e. AreOfSteps (step_count self.now) e) }
+    {
+        constraints(alloc, self.flat, &self.answers, &self.uses, set, nears)
     }
 }

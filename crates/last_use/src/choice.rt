@@ -99,6 +99,17 @@ fn with_equation(
     }
 }
 
+/// How many updates are tried together after an equation: two after two updates that are fine one by one.
+fn after_one(most: u32, is_update: bool, is_fine: bool) -> u32 {
+    if is_fine {
+        most.saturating_add(1)
+    } else if is_update {
+        0
+    } else {
+        most
+    }
+}
+
 /// Tries the next equation, if it is an update that runs.
 fn with_one(
     alloc: Global,
@@ -106,6 +117,7 @@ fn with_one(
     graph: &Graph,
     chosen: Chosen,
     from: u32,
+    most: u32,
 ) -> Result<Tried, NoMemory>
     requires graph { graph.now ≡ flat.now }
     requires chosen { IsChosenBelow flat.now from chosen.in_place chosen.reasons }
@@ -114,12 +126,13 @@ fn with_one(
 {
     flat.assert_whole();
     let before = chosen.in_place.len();
-    let chosen = with_equation(alloc, flat, graph, chosen, EqId::new(from))?;
-    let most = if chosen.in_place.len() > before { 2 } else { 1 };
+    let id = EqId::new(from);
+    let chosen = with_equation(alloc, flat, graph, chosen, id)?;
+    let is_fine = chosen.in_place.len() > before;
     Ok(Tried {
         chosen,
         end: from + 1,
-        most,
+        most: after_one(most, flat.is_running_update(id), is_fine),
     })
 }
 
@@ -153,7 +166,10 @@ fn with_next(
             end,
             most: updates.saturating_mul(2),
         }),
-        None => with_one(alloc, flat, graph, Chosen { in_place, reasons }, from),
+        None => {
+            let most = if most > 1 { 0 } else { most };
+            with_one(alloc, flat, graph, Chosen { in_place, reasons }, from, most)
+        }
     }
 }
 
@@ -163,7 +179,7 @@ fn at_once(several: bool, most: u32) -> u32
     if several { most } else { 1 }
 }
 
-/// Tries all equations. After updates that are fine together twice as many are tried, after one that is not the next alone.
+/// Tries all equations. After updates that are fine together twice as many are tried, after one that is not the next two one by one.
 fn try_all(alloc: Global, flat: &Flat, graph: &Graph) -> Result<Chosen, NoMemory>
     requires graph { graph.now ≡ flat.now }
     requires well_formed { IsWellFormed flat.now }
@@ -176,7 +192,7 @@ fn try_all(alloc: Global, flat: &Flat, graph: &Graph) -> Result<Chosen, NoMemory
             reasons: Reasons::new(alloc),
         },
         end: 0,
-        most: 1,
+        most: 0,
     };
     while tried.end < flat.count() {
         let Tried { chosen, end, most } = tried;
@@ -192,7 +208,8 @@ fn order_of(alloc: Global, flat: &Flat, graph: &Graph, set: &EqSet) -> Result<St
     requires fine { IsFine flat.now set.now }
     ensures { IfOk result (IsLeastOrderBy flat.now (StandsBefore flat.now set.now)) }
 {
-    match ordered(alloc, flat, graph, set) {
+    let nears = graph.near_all(alloc, set)?;
+    match ordered(alloc, flat, graph, set, &nears) {
         Ok(all) => steps_among(alloc, flat, all.as_slice()),
         Err(OrderFault::CycleOf { steps: _ }) => unreachable!(),
         Err(OrderFault::Memory) => Err(NoMemory),

@@ -11,9 +11,11 @@ ghost use Rattle.alias_rules.specs.Conflict.{StandsBefore};
 ghost use Rattle.alias_rules.specs.Fine.{with_tried};
 ghost use Rattle.alias_rules.specs.Steps.{step_count};
 ghost use Rattle.alias_rules.specs.Uses.{AreUpdates};
+ghost use Rattle.alias_analysis.specs.inner.Nears.{AreNears};
 ghost use Rattle.last_use.specs.inner.Choosing.{IsRefusal};
 
 use alias_analysis::graph::Graph;
+use alias_analysis::nears::Nears;
 use alias_analysis::reason::Reason;
 use flat_core::flat::Flat;
 use flat_core::lists::EqSet;
@@ -57,15 +59,22 @@ pub fn tried_set(alloc: Global, set: &EqSet, update: EqId) -> Result<EqSet, NoMe
 }
 
 /// All numbers of steps in the least order by the pairs of a set.
-pub fn ordered(alloc: Global, flat: &Flat, graph: &Graph, set: &EqSet) -> Result<Steps, OrderFault>
+pub fn ordered(
+    alloc: Global,
+    flat: &Flat,
+    graph: &Graph,
+    set: &EqSet,
+    nears: &Nears,
+) -> Result<Steps, OrderFault>
     requires graph { graph.now ≡ flat.now }
     requires updates { AreUpdates flat.now set.now }
+    requires nears { AreNears flat.now set.now nears.now }
     ensures least { IfOk result (IsLeastOrder (step_count flat.now) (StandsBefore flat.now set.now)) }
     ensures acyclic { OnOk result (IsAcyclic (StandsBefore flat.now set.now)) }
     ensures cycle { IfErr result (OnCycle (IsCycleOfWalk (step_count flat.now) (StandsBefore flat.now set.now))) }
     ensures cyclic { IfErr result (OnCycle (λ _. IsAcyclic (StandsBefore flat.now set.now) → ⊥)) }
 {
-    let pairs = graph.constraints(alloc, set)?;
+    let pairs = graph.constraints_of(alloc, set, nears)?;
     let steps = flat.count() + flat.outputs().len() as u32;
     order(alloc, steps, &pairs)
 }
@@ -81,9 +90,10 @@ pub fn refusal(
     requires updates { AreUpdates flat.now set.now }
     ensures { IfOk result (IsRefusal flat.now set.now) }
 {
-    match graph.conflict(alloc, set)? {
+    let nears = graph.near_all(alloc, set)?;
+    match graph.conflict_of(alloc, set, &nears)? {
         Some(reason) => Ok(Some(reason)),
-        None => match ordered(alloc, flat, graph, set) {
+        None => match ordered(alloc, flat, graph, set, &nears) {
             Ok(_) => Ok(None),
             Err(OrderFault::CycleOf { steps }) => Ok(Some(Reason::Cycle { steps })),
             Err(OrderFault::Memory) => Err(NoMemory),

@@ -12,6 +12,6 @@ returns c =
     let set = c.args.set.now in
     let y = c.args.update in
     let n = length s.equations in
-    let near = c.in_ok-near.near in
+    let near = c.args.near.now.around in
     IfOk-weaker c.beside.result (AreJust n (IsMarkedBeside s y near)) (AreJust n (Bypasses s set y))
-    (λ b h. bypassed_are s set y near b c.in_ok-near.ensures h) c.beside.ensures
+    (λ b h. bypassed_are s set y near b c.requires.near.around h) c.beside.ensures

@@ -12,6 +12,6 @@ returns c =
     let set = c.args.set.now in
     let y = c.args.update in
     let n = length s.equations in
-    let sharers = c.in_ok-sharers.sharers in
+    let sharers = c.args.near.now.sharers.all in
     IfOk-weaker c.unimplied.result (AreJust n (IsMarkedUnimplied s y sharers)) (AreJust n (IsNotOverwritten s set y))
-    (λ v h. not_overwritten_are s set y n sharers v c.in_ok-sharers.ensures h) c.unimplied.ensures
+    (λ v h. not_overwritten_are s set y n sharers v c.requires.near.sharers.of_source h) c.unimplied.ensures
