@@ -1,9 +1,9 @@
 -- What happens in the system of one output is what happens in the whole.
-use Rattle.std.proofs.Common.{◌≡◌, ℕ, zero, suc, ◌+◌, ◌-◌, ◌<◌, ◌≤◌, Bool, true, false, not, List, [], ◌∷◌, ◌++◌, length, get_or, Option, Some, None, refl, sym, ap, subst, ◌∙◌, inl, inr, arith}
+use Rattle.std.proofs.Common.{◌≡◌, ℕ, zero, suc, ◌+◌, ◌-◌, ◌<◌, ◌≤◌, Bool, true, false, not, List, [], ◌∷◌, length, get_or, Option, Some, None, refl, sym, ap, subst, ◌∙◌, arith}
 use Rattle.std.proofs.lemmas.List.{get_or_default, length-append}
 use Rattle.std.proofs.lemmas.Option.{slice_get_within}
-use Rattle.std.specs.Prelude.{IsTrue, if◌then◌else◌, is_some, slice_get, slice_index_or}
-use Rattle.std.specs.List.{AllByRecursion, list_any}
+use Rattle.std.specs.Prelude.{IsTrue, if◌then◌else◌, is_some, slice_get}
+use Rattle.std.specs.List.{list_any}
 use Rattle.std.specs.Option.{option_and_then}
 use Rattle.tsl_value.specs.View.{View}
 use Rattle.tsl_value.specs.declared.scalar.ValueType.{ValueType}
@@ -12,7 +12,6 @@ use Rattle.translation_order.specs.Graph.{Path, edge, step, stay}
 use Rattle.flat_core.specs.declared.equation.Op.{Op}
 use Rattle.flat_core.specs.declared.equation.Op.TheVariants as op
 use Rattle.flat_core.specs.declared.equation.Equation.{Equation}
-use Rattle.flat_core.specs.declared.equation.Output.{Output}
 use Rattle.flat_core.specs.Case.{Streams, is_blocked, own_of, root_of, root_fault}
 use Rattle.flat_core.specs.Complete.{IsFlat}
 use Rattle.flat_core.specs.Events.{Inputs, fault_of}
@@ -27,25 +26,20 @@ use Rattle.flat_core.specs.inner.TypedLines.{AreTypedLines, IsTypedLine}
 use Rattle.flat_core.proofs.Members.{contains_head}
 use Rattle.flat_core.proofs.SameMeaning.{happens_alike}
 use Rattle.flat_core.proofs.Uniqueness.{all_by}
-use Rattle.flat_slice.specs.Slice.{IsSlice, AgreeUpTo}
 use Rattle.flat_slice.proofs.SliceLemmas.{case_of-inputs, member_runs}
 use Rattle.plain_solver.specs.declared.events.Moment.{Moment}
 use Rattle.plain_solver.specs.declared.solve.Solved.{Solved}
 use Rattle.plain_solver.specs.declared.solve.End.TheVariants as end
-use Rattle.plain_solver.specs.inner.Ending.{EndsSo}
-use Rattle.plain_solver.specs.inner.Solved.{IsWhole, IsFaulted, IsLimited, IsEnded}
+use Rattle.plain_solver.specs.inner.Solved.{IsWhole, IsLimited, IsEnded}
 use Rattle.plain_solver.specs.inner.Moments.{stream_of}
 use Rattle.plain_solver.specs.inner.Streams.{streams_of}
 use Rattle.plain_solver.proofs.Agreement.{agree}
-use Rattle.why_rules.specs.Facts.{Happens}
-use Rattle.event_why.specs.declared.fact.WhyStep.{WhyStep}
-use Rattle.event_why.specs.Said.{said}
-use Rattle.event_why.specs.Check.{EndsInEvent}
-use Rattle.event_why.specs.Explained.{restricted, Has, IsExplained, IsFree, Tells}
+use Rattle.event_why.specs.declared.fact.Why.{Why}
+use Rattle.event_why.specs.Explained.{restricted, Has, IsAccepted, IsExplained, IsFree, Tells}
 use Rattle.event_why.specs.declared.explained.Explained.{Explained}
 use Rattle.event_why.specs.declared.explained.Explained.TheVariants as explained
 use Rattle.event_why.specs.inner.Sliced.{IsSliced, heard}
-use Rattle.event_why.specs.inner.Found.{IsFound, IsSolvedUpTo}
+use Rattle.event_why.specs.inner.Found.{IsSolvedUpTo}
 use Rattle.event_why.proofs.CheckLemmas.{output_runs}
 use Rattle.event_why.proofs.SlicedLemmas.{heard_at}
 
@@ -69,16 +63,6 @@ never_limited f lines bound all ran t l =
     let full = l.full in
     let early = l.early in
     absurd (omega (arith, few, same, full, early))
-
--- the last step
-pub ends_here : (steps : List WhyStep) (last : WhyStep) (o t : ℕ) (v : View) → slice_get steps (length steps - 1) ≡ Some last → said last.fact ≡ Happens o t v → EndsInEvent steps o t v
-ends_here steps last o t v is fact = record {
-  number = length steps - 1;
-  last = let there = slice_get_within steps (length steps - 1) last is in omega (arith, there);
-  step = last;
-  is = is;
-  event = fact;
-}
 
 -- what is read of a stream
 pub read_stream : (all : List (List Moment)) (o k t : ℕ) (m : List Moment) → k ≡ o → o < length all → m ≡ get_or all k m → at (stream_of m) t ≡ streams_of all o t
@@ -190,7 +174,7 @@ module _ (s f : System) (number : ℕ) (is : IsSliced s number f) where
               ∙ whole_run.sound u (omega arith);
         }
 
-        o_runs : IsTrue (runs f o)
+        pub o_runs : IsTrue (runs f o)
         o_runs = (is.slice o).1 (record { start = o; among = contains_head o []; walk = stay })
 
         has : (x : Option View) → event (z o t) ≡ x → Has s P t o x
@@ -206,8 +190,5 @@ module _ (s f : System) (number : ℕ) (is : IsSliced s number f) where
         pub none_explained : event (z o t) ≡ None → IsExplained s P number t explained.NoEvent
         none_explained none = tell explained.NoEvent (free, has None none)
 
-        pub found_explained : (x : View) → event (z o t) ≡ Some x → (answer : Explained) → IsFound s P number o t x answer → IsExplained s P number t answer
-        found_explained x at (explained.Why why) found = tell (explained.Why why) (free, (x, found, has (Some x) at))
-        found_explained x at explained.NotFound found = tell explained.NotFound (free, (x, has (Some x) at))
-        found_explained x at explained.NoEvent found = absurd found
-        found_explained x at (explained.Fault u i kind) found = absurd found
+        pub why_explained : (x : View) → event (z o t) ≡ Some x → (why : Why) → IsAccepted s P number o t why x → IsExplained s P number t (explained.Why why)
+        why_explained x at why found = tell (explained.Why why) (free, (x, found, has (Some x) at))

@@ -46,7 +46,6 @@ pub record IsAccepted (s : System) (p : Inputs) (number o t : ℕ) (why : Why) (
 abbrev pub Tells : System → Inputs → (number t o : ℕ) → List ℕ → Explained → Type 0
 Tells s p number t o slice (explained.Why why) = IsFree s p t slice × ((v : View) × IsAccepted s p number o t why v × Has s p t o (Some v))
 Tells s p number t o slice explained.NoEvent = IsFree s p t slice × Has s p t o None
-Tells s p number t o slice explained.NotFound = IsFree s p t slice × ((v : View) × Has s p t o (Some v))
 Tells s p number t o slice (explained.Fault u i kind) = IsFirstFault s p t slice u i kind
 
 -- what is answered of the output of a number at t

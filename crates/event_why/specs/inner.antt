@@ -9,3 +9,6 @@ pub mod Used
 pub mod Judged
 pub mod Sliced
 pub mod Found
+pub mod Drafted
+pub mod Pruned
+pub mod Tale

@@ -1,4 +1,14 @@
-// A derivation that is being made. Nothing is said of its steps: what is made of them is checked.
+// A derivation that is being made: each of its steps is right, and tables have the numbers of those that say what happens.
+
+ghost use Rattle.std.specs.Prelude.{◌≡◌, ◌≤◌, ◌∷◌, [], ℕ, Some, IfOk, replicate, slice_set};
+ghost use Rattle.std.specs.Option.{option_copied, option_map};
+ghost use Rattle.why_rules.specs.Facts as rules;
+ghost use Rattle.event_why.specs.Said.{said};
+ghost use Rattle.event_why.specs.inner.Drafted.{IsBlank, IsPut, due_of, fact_at, fact_of, happens_in, joined_of};
+ghost use Rattle.event_why.specs.inner.Drafted.{number_at, silence_of, there};
+ghost use Rattle.event_why.specs.inner.Tale.{HasQuiet, IsStory, SaysStill, Tale, Tells};
+ghost use Rattle.flat_core.specs.System.{runs};
+ghost use Rattle.std.specs.Prelude.{IsTrue};
 
 use crate::fact::{Fact, WhyStep};
 use std::alloc::Global;
@@ -14,14 +24,18 @@ pub(crate) struct Known {
 
 impl Known {
     /// None of so many equations has a number.
-    fn new(alloc: Global, count: u32) -> Result<Known, NoMemory> {
+    fn new(alloc: Global, count: u32) -> Result<Known, NoMemory>
+        ensures { IfOk result (λ k. k.numbers.items ≡ replicate count None) }
+    {
         Ok(Known {
             numbers: vec![in alloc; None; count as usize]?,
         })
     }
 
     /// The number of an equation.
-    pub(crate) fn get(&self, i: EqId) -> Option<u64> {
+    pub(crate) fn get(&self, i: EqId) -> Option<u64>
+        ensures { result ≡ number_at self.now.numbers.items i }
+    {
         match self.numbers.get(i.get() as usize) {
             Some(number) => *number,
             None => None,
@@ -29,7 +43,9 @@ impl Known {
     }
 
     /// The equation has this number from now on, or none.
-    pub(crate) fn set(&mut self, i: EqId, number: Option<u64>) {
+    pub(crate) fn set(&mut self, i: EqId, number: Option<u64>)
+        ensures { self.new.numbers.items ≡ slice_set self.old.numbers.items i number }
+    {
         let place = i.get() as usize;
         if place < self.numbers.len() {
             self.numbers[place] = number;
@@ -42,7 +58,7 @@ impl Known {
 pub(crate) struct Draft {
     pub(crate) steps: Vec<WhyStep>,
     /// What happens at it at this instant, once it was run.
-    pub(crate) now: Known,
+    pub(crate) here: Known,
     /// Its latest event at an earlier instant.
     pub(crate) latest: Known,
     /// That it has had no event since, or none at all.
@@ -55,10 +71,12 @@ pub(crate) struct Draft {
 
 impl Draft {
     /// Nothing is known of so many equations.
-    pub(crate) fn new(alloc: Global, count: u32) -> Result<Draft, NoMemory> {
+    pub(crate) fn new(alloc: Global, count: u32) -> Result<Draft, NoMemory>
+        ensures { IfOk result (λ d. IsBlank count d) }
+    {
         Ok(Draft {
             steps: Vec::new(alloc),
-            now: Known::new(alloc, count)?,
+            here: Known::new(alloc, count)?,
             latest: Known::new(alloc, count)?,
             quiet: Known::new(alloc, count)?,
             pending: Known::new(alloc, count)?,
@@ -67,14 +85,18 @@ impl Draft {
     }
 
     /// One more step, and its number.
-    pub(crate) fn put(&mut self, fact: Fact, by: Vec<u64>) -> Result<u64, NoMemory> {
+    pub(crate) fn put(&mut self, fact: Fact, by: Vec<u64>) -> Result<u64, NoMemory>
+        ensures { IfOk result (λ n. IsPut self.old self.new (record { fact = fact; by = by }) n) }
+    {
         let number = self.steps.len() as u64;
         self.steps.push(WhyStep { fact, by })?;
         Ok(number)
     }
 
     /// The fact of the step with a number.
-    pub(crate) fn fact(&self, number: Option<u64>) -> Option<&Fact> {
+    pub(crate) fn fact(&self, number: Option<u64>) -> Option<&Fact>
+        ensures { option_map said (option_copied result) ≡ fact_at self.now.steps.items number }
+    {
         match number {
             Some(n) => match self.steps.get(n as usize) {
                 Some(step) => Some(&step.fact),
@@ -85,15 +107,19 @@ impl Draft {
     }
 
     /// Whether an equation has an event at this instant.
-    pub(crate) fn has_event(&self, i: EqId) -> bool {
-        match self.fact(self.now.get(i)) {
+    pub(crate) fn has_event(&self, i: EqId) -> bool
+        ensures { result ≡ happens_in (fact_of self.now.steps.items self.now.here.numbers.items i) }
+    {
+        match self.fact(self.here.get(i)) {
             Some(fact) => is_event(fact),
             None => false,
         }
     }
 
     /// When a delay is due, by what happened at earlier times.
-    pub(crate) fn due(&self, i: EqId) -> Option<Time> {
+    pub(crate) fn due(&self, i: EqId) -> Option<Time>
+        ensures { result ≡ due_of (fact_of self.now.steps.items self.now.pending.numbers.items i) }
+    {
         match self.fact(self.pending.get(i)) {
             Some(fact) => due_of(fact),
             None => None,
@@ -101,7 +127,10 @@ impl Draft {
     }
 
     /// The times of two silences that join, of which these are the numbers.
-    fn joined_times(&self, earlier: Option<u64>, later: u64) -> Option<(Time, Time)> {
+    fn joined_times(&self, earlier: Option<u64>, later: u64) -> Option<(Time, Time)>
+        ensures { result ≡ joined_of
+            (silence_of (fact_at self.now.steps.items earlier)) (silence_of (fact_at self.now.steps.items (Some later))) }
+    {
         let (from, _) = silence_of(self.fact(earlier)?)?;
         let (_, to) = silence_of(self.fact(Some(later))?)?;
         Some((from, to))
@@ -109,14 +138,23 @@ impl Draft {
 
     /// The fact that an equation has no event up to a time, from the fact that it had none since its latest event and a later one from
     /// then on.
-    pub(crate) fn joined(&mut self, alloc: Global, i: EqId, later: u64) -> Result<u64, NoMemory> {
+    pub(crate) fn joined(&mut self, alloc: Global, i: EqId, later: u64) -> Result<u64, NoMemory>
+        ensures still { IfOk result (λ _. SaysStill self.old self.new) }
+        ensures joins { IfOk result (λ n. (T : Tale) (low from to : ℕ)
+            → IsStory T
+            → IsTrue (runs T.system i)
+            → HasQuiet self.old.steps.items self.old.quiet.numbers.items i low from
+            → fact_at self.old.steps.items (Some later) ≡ Some (rules.Silent i from to)
+            → from ≤ to
+            → Tells T self.old self.new n (rules.Silent i low to)) }
+    {
         let earlier = self.quiet.get(i);
         match self.joined_times(earlier, later) {
-            Some((from, to)) => {
+            Some(times) => {
                 let silent = Fact::Silent {
                     equation: i,
-                    from,
-                    to,
+                    from: times.0,
+                    to: times.1,
                 };
                 self.put(silent, numbers_of(alloc, &[earlier, Some(later)])?)
             }
@@ -126,7 +164,9 @@ impl Draft {
 }
 
 /// Those of these numbers that are there.
-pub(crate) fn numbers_of(alloc: Global, numbers: &[Option<u64>]) -> Result<Vec<u64>, NoMemory> {
+pub(crate) fn numbers_of(alloc: Global, numbers: &[Option<u64>]) -> Result<Vec<u64>, NoMemory>
+    ensures { IfOk result (λ v. v.items ≡ there numbers.now) }
+{
     let mut by = Vec::new(alloc);
     for number in numbers {
         if let Some(n) = number {
@@ -136,7 +176,9 @@ pub(crate) fn numbers_of(alloc: Global, numbers: &[Option<u64>]) -> Result<Vec<u
     Ok(by)
 }
 
-fn is_event(fact: &Fact) -> bool {
+fn is_event(fact: &Fact) -> bool
+    ensures { result ≡ happens_in (Some (said fact.now)) }
+{
     match fact {
         Fact::Event {
             equation: _,
@@ -147,7 +189,9 @@ fn is_event(fact: &Fact) -> bool {
     }
 }
 
-fn due_of(fact: &Fact) -> Option<Time> {
+fn due_of(fact: &Fact) -> Option<Time>
+    ensures { result ≡ due_of (Some (said fact.now)) }
+{
     match fact {
         Fact::Pending {
             equation: _,
@@ -159,7 +203,9 @@ fn due_of(fact: &Fact) -> Option<Time> {
 }
 
 /// From when to when an equation has no event, if the fact says this.
-fn silence_of(fact: &Fact) -> Option<(Time, Time)> {
+fn silence_of(fact: &Fact) -> Option<(Time, Time)>
+    ensures { result ≡ silence_of (Some (said fact.now)) }
+{
     match fact {
         Fact::Silent {
             equation: _,

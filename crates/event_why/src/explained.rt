@@ -18,6 +18,4 @@ pub enum Explained {
         equation: EqId,
         kind: FaultKind,
     },
-    /// It has an event then, but no derivation of it was found. That this never comes is not proved.
-    NotFound,
 }

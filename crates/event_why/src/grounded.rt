@@ -1,22 +1,31 @@
 // The facts of a draft from which it follows what happens at an equation at an instant.
 
-use crate::draft::{Draft, numbers_of};
+ghost use Rattle.std.specs.Prelude.{◌≡◌, ℕ, ◌∷◌, [], false, IfOk, IsFalse, IsTrue, MatchOption, map, not, slice_get};
+ghost use Rattle.std.specs.List.{Contains};
+ghost use Rattle.event_why.specs.inner.Drafted.{IsByFirst, happens_at, happens_now, number_at, table_at, there};
+ghost use Rattle.event_why.specs.inner.Tale.{GroundsEvent, GroundsSilence};
+
+use crate::draft::{Draft, Known, numbers_of};
 use flat_core::equation::{Equation, Op};
 use std::alloc::Global;
 use tsl_value::ids::EqId;
 use tsl_value::memory::NoMemory;
 use tsl_value::time::Time;
 
-/// What happens at this instant at the argument at a place.
-fn now_at(draft: &Draft, e: &Equation, place: usize) -> Option<u64> {
+/// The number that is known for the argument at a place.
+fn number_of(known: &Known, e: &Equation, place: usize) -> Option<u64>
+    ensures { result ≡ table_at known.now.numbers.items (slice_get e.now.args place) }
+{
     match e.args.get(place) {
-        Some(id) => draft.now.get(*id),
+        Some(id) => known.get(*id),
         None => None,
     }
 }
 
 /// The argument at a place has an event at this instant.
-fn has_event_at(draft: &Draft, e: &Equation, place: usize) -> bool {
+fn has_event_at(draft: &Draft, e: &Equation, place: usize) -> bool
+    ensures { result ≡ happens_at draft.now (slice_get e.now.args place) }
+{
     match e.args.get(place) {
         Some(id) => draft.has_event(*id),
         None => false,
@@ -24,35 +33,73 @@ fn has_event_at(draft: &Draft, e: &Equation, place: usize) -> bool {
 }
 
 /// What happens at all arguments at this instant, one fact for each.
-fn by_all(alloc: Global, draft: &Draft, e: &Equation) -> Result<Vec<u64>, NoMemory> {
+fn by_all(alloc: Global, draft: &Draft, e: &Equation) -> Result<Vec<u64>, NoMemory>
+    ensures { IfOk result (λ by. by.items ≡ there (map (number_at draft.now.here.numbers.items) e.now.args)) }
+{
     let mut by = Vec::new(alloc);
     for id in e.args.ids() {
-        if let Some(n) = draft.now.get(*id) {
+        if let Some(n) = draft.here.get(*id) {
             by.push(n)?;
         }
     }
     Ok(by)
 }
 
-/// What happens at the first argument that has an event, or that has none.
-fn first_of(draft: &Draft, e: &Equation, has_event: bool) -> Option<u64> {
+/// The first argument that has an event, or that has none.
+fn first_of(draft: &Draft, e: &Equation, has_event: bool) -> Option<EqId>
+    ensures { MatchOption result
+        ((a : ℕ) → Contains e.now.args a → happens_now draft.now a ≡ not has_event)
+        (λ a. Contains e.now.args a × (happens_now draft.now a ≡ has_event)) }
+{
     for id in e.args.ids() {
         if draft.has_event(*id) == has_event {
-            return draft.now.get(*id);
+            return Some(*id);
         }
     }
     None
 }
 
-/// The latest event of a first argument, and that it has had none since.
-fn by_last(alloc: Global, draft: &Draft, e: &Equation) -> Result<Vec<u64>, NoMemory> {
-    match e.args.get(0) {
-        Some(v) => {
-            let asked = now_at(draft, e, 1);
-            numbers_of(alloc, &[asked, draft.latest.get(*v), draft.quiet.get(*v)])
-        }
+/// What happens at it at this instant.
+fn by_first(
+    alloc: Global,
+    draft: &Draft,
+    e: &Equation,
+    has_event: bool,
+) -> Result<Vec<u64>, NoMemory>
+    ensures { IfOk result (λ by. IsByFirst draft.now e.now.args has_event by.items) }
+{
+    match first_of(draft, e, has_event) {
+        Some(a) => numbers_of(alloc, &[draft.here.get(a)]),
         None => Ok(Vec::new(alloc)),
     }
+}
+
+/// What happens at a merge's first argument, and at both where that has no event.
+fn by_merge(alloc: Global, draft: &Draft, e: &Equation) -> Result<Vec<u64>, NoMemory>
+    ensures { IfOk result (λ by. (i : ℕ) → e.now.op ≡ Op.Merge → GroundsEvent draft.now e.now i by.items) }
+{
+    if has_event_at(draft, e, 0) {
+        numbers_of(alloc, &[number_of(&draft.here, e, 0)])
+    } else {
+        by_all(alloc, draft, e)
+    }
+}
+
+/// The latest event of a last's first argument, and that it has had none since.
+fn by_last(alloc: Global, draft: &Draft, e: &Equation) -> Result<Vec<u64>, NoMemory>
+    ensures { IfOk result (λ by. (i : ℕ) → e.now.op ≡ Op.Last → GroundsEvent draft.now e.now i by.items) }
+{
+    let asked = number_of(&draft.here, e, 1);
+    let latest = number_of(&draft.latest, e, 0);
+    let quiet = number_of(&draft.quiet, e, 0);
+    numbers_of(alloc, &[asked, latest, quiet])
+}
+
+/// When a delay is due.
+fn by_due(alloc: Global, draft: &Draft, i: EqId) -> Result<Vec<u64>, NoMemory>
+    ensures { IfOk result (λ by. by.items ≡ there (number_at draft.now.pending.numbers.items i ∷ [])) }
+{
+    numbers_of(alloc, &[draft.pending.get(i)])
 }
 
 /// From which facts it follows that an equation has its event.
@@ -61,42 +108,52 @@ pub(crate) fn event_by(
     draft: &Draft,
     e: &Equation,
     i: EqId,
-) -> Result<Vec<u64>, NoMemory> {
+) -> Result<Vec<u64>, NoMemory>
+    ensures { IfOk result (λ by. GroundsEvent draft.now e.now i by.items) }
+{
     match &e.op {
         Op::Input | Op::Nil | Op::Unit | Op::Empty => Ok(Vec::new(alloc)),
-        Op::Time | Op::Any => numbers_of(alloc, &[first_of(draft, e, true)]),
-        Op::Merge => {
-            if has_event_at(draft, e, 0) {
-                numbers_of(alloc, &[now_at(draft, e, 0)])
-            } else {
-                by_all(alloc, draft, e)
-            }
-        }
+        Op::Time | Op::Any => by_first(alloc, draft, e, true),
+        Op::Merge => by_merge(alloc, draft, e),
         Op::Last => by_last(alloc, draft, e),
-        Op::Delay => numbers_of(alloc, &[draft.pending.get(i)]),
+        Op::Delay => by_due(alloc, draft, i),
         _ => by_all(alloc, draft, e),
     }
 }
 
-/// A last has no event where it is not asked, or its first argument had none.
-fn why_no_last(draft: &Draft, e: &Equation) -> Option<u64> {
-    match e.args.get(0) {
-        Some(v) => {
-            if has_event_at(draft, e, 1) {
-                draft.quiet.get(*v)
-            } else {
-                now_at(draft, e, 1)
-            }
-        }
-        None => None,
+/// A last has no event at time 0, where it is not asked, and where its first argument had none before.
+fn by_no_last(alloc: Global, draft: &Draft, e: &Equation, t: Time) -> Result<Vec<u64>, NoMemory>
+    ensures { IfOk result (λ by. (i : ℕ) → e.now.op ≡ Op.Last → GroundsSilence draft.now e.now i t by.items) }
+{
+    if t.get() == 0 {
+        return Ok(Vec::new(alloc));
+    }
+    if has_event_at(draft, e, 1) {
+        numbers_of(alloc, &[number_of(&draft.quiet, e, 0)])
+    } else {
+        numbers_of(alloc, &[number_of(&draft.here, e, 1)])
     }
 }
 
 /// A filter has no event where an argument has none, or the condition is false.
-fn why_filtered(draft: &Draft, e: &Equation) -> Option<u64> {
+fn by_filter(alloc: Global, draft: &Draft, e: &Equation) -> Result<Vec<u64>, NoMemory>
+    ensures { IfOk result (λ by. (i t : ℕ) → e.now.op ≡ Op.Filter → GroundsSilence draft.now e.now i t by.items) }
+{
     match first_of(draft, e, false) {
-        Some(n) => Some(n),
-        None => now_at(draft, e, 1),
+        Some(a) => numbers_of(alloc, &[draft.here.get(a)]),
+        None => numbers_of(alloc, &[number_of(&draft.here, e, 1)]),
+    }
+}
+
+/// One argument without an event is enough, or what happens at all of them.
+fn by_lift(alloc: Global, draft: &Draft, e: &Equation, strict: bool) -> Result<Vec<u64>, NoMemory>
+    ensures strict { IfOk result (λ by. IsTrue strict → IsByFirst draft.now e.now.args false by.items) }
+    ensures all { IfOk result (λ by. IsFalse strict → by.items ≡ there (map (number_at draft.now.here.numbers.items) e.now.args)) }
+{
+    if strict {
+        by_first(alloc, draft, e, false)
+    } else {
+        by_all(alloc, draft, e)
     }
 }
 
@@ -107,26 +164,16 @@ pub(crate) fn silent_by(
     e: &Equation,
     i: EqId,
     t: Time,
-) -> Result<Vec<u64>, NoMemory> {
+) -> Result<Vec<u64>, NoMemory>
+    ensures { IfOk result (λ by. GroundsSilence draft.now e.now i t by.items) }
+{
     match &e.op {
         Op::Input | Op::Nil | Op::Unit | Op::Empty => Ok(Vec::new(alloc)),
-        Op::Last => {
-            if t.get() == 0 {
-                Ok(Vec::new(alloc))
-            } else {
-                numbers_of(alloc, &[why_no_last(draft, e)])
-            }
-        }
-        Op::Delay => numbers_of(alloc, &[draft.pending.get(i)]),
-        Op::Filter => numbers_of(alloc, &[why_filtered(draft, e)]),
+        Op::Last => by_no_last(alloc, draft, e, t),
+        Op::Delay => by_due(alloc, draft, i),
+        Op::Filter => by_filter(alloc, draft, e),
         Op::Any | Op::Merge => by_all(alloc, draft, e),
-        Op::Lift { body: _, strict } => {
-            if *strict {
-                numbers_of(alloc, &[first_of(draft, e, false)])
-            } else {
-                by_all(alloc, draft, e)
-            }
-        }
-        _ => numbers_of(alloc, &[first_of(draft, e, false)]),
+        Op::Lift { body: _, strict } => by_lift(alloc, draft, e, *strict),
+        _ => by_first(alloc, draft, e, false),
     }
 }

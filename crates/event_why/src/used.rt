@@ -9,7 +9,7 @@ use std::alloc::Global;
 use tsl_value::memory::NoMemory;
 
 /// Marks the steps with these numbers.
-fn mark_named(by: &[u64], marks: &mut [bool])
+pub(crate) fn mark_named(by: &[u64], marks: &mut [bool])
     ensures { AreMarked by.now marks.old marks.new }
 {
     for n in by {

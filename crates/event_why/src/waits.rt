@@ -1,5 +1,15 @@
 // When the delays of a draft are due.
 
+ghost use Rattle.std.specs.Prelude.{◌≡◌, ◌⊎◌, ◌<◌, ℕ, false, suc, Some, IfOk, IsFalse, IsTrue, Option};
+ghost use Rattle.flat_core.specs.Stream.{has_event};
+ghost use Rattle.tsl_value.specs.View.{View};
+ghost use Rattle.flat_core.specs.System.{runs};
+ghost use Rattle.why_rules.specs.Facts as rules;
+ghost use Rattle.event_why.specs.inner.Drafted.{IsPut, fact_at, fact_of};
+ghost use Rattle.event_why.specs.inner.Tale.{CanWait, IsAt, IsCalm, IsStory, SaysStill, Tale, Tells};
+ghost use Rattle.event_why.specs.inner.Tale.{always, delay_args_of, due_after, fact_here, later_by, passed};
+ghost use Rattle.event_why.specs.inner.Told.{amount_of};
+
 use crate::draft::{Draft, numbers_of};
 use crate::fact::Fact;
 use crate::told::amount_in;
@@ -11,7 +21,9 @@ use tsl_value::memory::NoMemory;
 use tsl_value::time::Time;
 
 /// The amount and the reset of a delay that an equation is.
-fn delay_args(e: &Equation) -> Option<(EqId, EqId)> {
+fn delay_args(e: &Equation) -> Option<(EqId, EqId)>
+    ensures { result ≡ delay_args_of e.now.op e.now.args }
+{
     match &e.op {
         Op::Delay => {
             let amount = e.args.get(0)?;
@@ -23,10 +35,54 @@ fn delay_args(e: &Equation) -> Option<(EqId, EqId)> {
 }
 
 /// When a delay that is set at a time is due, by the amount at that time.
-fn due_from(draft: &Draft, amount: EqId, t: Time) -> Option<Time> {
-    let fact = draft.fact(draft.now.get(amount))?;
+fn due_from(draft: &Draft, amount: EqId, t: Time) -> Option<Time>
+    ensures { (x : Option View)
+        → fact_of draft.now.steps.items draft.now.here.numbers.items amount ≡ Some (fact_here amount t x)
+        → result ≡ later_by t (amount_of x) }
+{
+    let fact = draft.fact(draft.here.get(amount))?;
     let n = amount_in(fact, amount, t)?;
     t.plus(n)
+}
+
+/// A delay is set by an event of its reset or of its own: it is due the amount later.
+fn put_set(
+    alloc: Global,
+    draft: &mut Draft,
+    amount: EqId,
+    setter: EqId,
+    i: EqId,
+    t: Time,
+) -> Result<u64, NoMemory>
+    ensures { IfOk result (λ n. (T : Tale) (reset : ℕ)
+        → CanWait T t i amount reset draft.old
+        → (setter ≡ reset) ⊎ (setter ≡ i)
+        → IsTrue (has_event (T.streams setter t))
+        → Tells T draft.old draft.new n (due_after T t i amount reset)) }
+{
+    let due = due_from(draft, amount, t);
+    let by = numbers_of(alloc, &[draft.here.get(amount), draft.here.get(setter)])?;
+    put_due(draft, i, t, due, by)
+}
+
+/// A delay is not set, so it is due as it was.
+fn put_kept(
+    alloc: Global,
+    draft: &mut Draft,
+    reset: EqId,
+    i: EqId,
+    t: Time,
+) -> Result<u64, NoMemory>
+    ensures { IfOk result (λ n. (T : Tale) (amount : ℕ)
+        → CanWait T t i amount reset draft.old
+        → IsFalse (has_event (T.streams reset t))
+        → IsFalse (has_event (T.streams i t))
+        → Tells T draft.old draft.new n (due_after T t i amount reset)) }
+{
+    let due = draft.due(i);
+    let pending = draft.pending.get(i);
+    let by = numbers_of(alloc, &[draft.here.get(reset), draft.here.get(i), pending])?;
+    put_due(draft, i, t, due, by)
 }
 
 /// The fact that says when a delay is due after an instant.
@@ -37,20 +93,18 @@ fn put_pending(
     reset: EqId,
     i: EqId,
     t: Time,
-) -> Result<u64, NoMemory> {
-    let is_reset = draft.has_event(reset);
-    let now = draft.now.get(amount);
-    let reset = draft.now.get(reset);
-    let itself = draft.now.get(i);
-    if is_reset || draft.has_event(i) {
-        let due = due_from(draft, amount, t);
-        let by = numbers_of(alloc, &[now, if is_reset { reset } else { itself }])?;
-        put_due(draft, i, t, due, by)
-    } else {
-        let due = draft.due(i);
-        let by = numbers_of(alloc, &[reset, itself, draft.pending.get(i)])?;
-        put_due(draft, i, t, due, by)
+) -> Result<u64, NoMemory>
+    ensures { IfOk result (λ n. (T : Tale)
+        → CanWait T t i amount reset draft.old
+        → Tells T draft.old draft.new n (due_after T t i amount reset)) }
+{
+    if draft.has_event(reset) {
+        return put_set(alloc, draft, amount, reset, i, t);
     }
+    if draft.has_event(i) {
+        return put_set(alloc, draft, amount, i, i, t);
+    }
+    put_kept(alloc, draft, reset, i, t)
 }
 
 fn put_due(
@@ -59,7 +113,9 @@ fn put_due(
     time: Time,
     due: Option<Time>,
     by: Vec<u64>,
-) -> Result<u64, NoMemory> {
+) -> Result<u64, NoMemory>
+    ensures { IfOk result (λ n. IsPut draft.old draft.new (record { fact = Fact.Pending i time due; by = by }) n) }
+{
     let pending = Fact::Pending {
         equation: i,
         time,
@@ -75,13 +131,20 @@ fn put_pending_of(
     flat: &Flat,
     i: EqId,
     t: Time,
-) -> Result<(), NoMemory> {
+) -> Result<(), NoMemory>
+    ensures { IfOk result (λ _. (T : Tale) (past : ℕ → ℕ)
+        → flat.now ≡ T.system
+        → IsStory T
+        → t < T.bound
+        → IsAt T past (passed i (suc t) t) t (runs T.system) draft.old
+        → IsAt T past (passed (suc i) (suc t) t) t (runs T.system) draft.new) }
+{
     if !flat.runs(i) || i.get() >= flat.count() {
         return Ok(());
     }
     match delay_args(flat.equation(i)) {
-        Some((amount, reset)) => {
-            let number = put_pending(alloc, draft, amount, reset, i, t)?;
+        Some(args) => {
+            let number = put_pending(alloc, draft, args.0, args.1, i, t)?;
             draft.pending.set(i, Some(number));
             Ok(())
         }
@@ -95,7 +158,14 @@ pub(crate) fn put_all_pending(
     draft: &mut Draft,
     flat: &Flat,
     t: Time,
-) -> Result<(), NoMemory> {
+) -> Result<(), NoMemory>
+    ensures { IfOk result (λ _. (T : Tale) (past : ℕ → ℕ)
+        → flat.now ≡ T.system
+        → IsStory T
+        → t < T.bound
+        → IsAt T past (always t) t (runs T.system) draft.old
+        → IsAt T past (always (suc t)) t (runs T.system) draft.new) }
+{
     for n in 0..flat.count() {
         put_pending_of(alloc, draft, flat, EqId::new(n), t)?;
     }
@@ -109,7 +179,17 @@ fn put_pending_over(
     i: EqId,
     gap: u64,
     to: Time,
-) -> Result<(), NoMemory> {
+) -> Result<(), NoMemory>
+    ensures still { IfOk result (λ _. SaysStill draft.old draft.new) }
+    ensures over { IfOk result (λ _. (T : Tale) (past : ℕ → ℕ) (before : ℕ)
+        → IsStory T
+        → before < to
+        → to < T.bound
+        → IsCalm T (suc before) (suc to)
+        → fact_at draft.old.steps.items (Some gap) ≡ Some (rules.Gap (suc before) to)
+        → IsAt T past (passed i (suc to) (suc before)) 0 (λ i. false) draft.old
+        → IsAt T past (passed (suc i) (suc to) (suc before)) 0 (λ i. false) draft.new) }
+{
     let before = draft.pending.get(i);
     if before.is_none() {
         return Ok(());
@@ -128,7 +208,18 @@ pub(crate) fn put_all_over(
     flat: &Flat,
     gap: u64,
     to: Time,
-) -> Result<(), NoMemory> {
+) -> Result<(), NoMemory>
+    ensures still { IfOk result (λ _. SaysStill draft.old draft.new) }
+    ensures over { IfOk result (λ _. (T : Tale) (past : ℕ → ℕ) (before : ℕ)
+        → flat.now ≡ T.system
+        → IsStory T
+        → before < to
+        → to < T.bound
+        → IsCalm T (suc before) (suc to)
+        → fact_at draft.old.steps.items (Some gap) ≡ Some (rules.Gap (suc before) to)
+        → IsAt T past (always (suc before)) 0 (λ i. false) draft.old
+        → IsAt T past (always (suc to)) 0 (λ i. false) draft.new) }
+{
     for n in 0..flat.count() {
         put_pending_over(alloc, draft, EqId::new(n), gap, to)?;
     }

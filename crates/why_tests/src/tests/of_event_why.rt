@@ -160,7 +160,6 @@ fn text_of(alloc: Global, flat: &Flat, answer: &Explained) -> Result<Bytes, NoMe
             equation: _,
             kind: _,
         } => text.append(b"fault")?,
-        Explained::NotFound => text.append(b"not found")?,
     }
     Ok(text)
 }

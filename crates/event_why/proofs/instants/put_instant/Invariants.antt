@@ -1,0 +1,13 @@
+use Rattle.std.proofs.Common.{ℕ, ◌<◌, drop}
+use Rattle.flat_core.specs.Events.{Inputs}
+use Rattle.event_why.specs.inner.Tale.{IsStory, IsUpTo, tale_of}
+use Rattle.event_why.proofs.RunLemmas.{IsPartly}
+use Rattle.event_why.proofs.instants.put_instant.Given as goal
+
+abbrev pub invariant-loop-number : goal.invariant-loop-number
+invariant-loop-number l =
+    (p : Inputs) (bound : ℕ) →
+    IsStory (tale_of l.story p bound) →
+    l.t < bound →
+    IsUpTo (tale_of l.story p bound) l.t l.initial.draft →
+    IsPartly (tale_of l.story p bound) l.t (drop l.number-index l.story.order.now) l.draft
