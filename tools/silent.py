@@ -1,6 +1,6 @@
 """What is likely to be wrong with a specification that is accepted, and that no message tells.
 
-Looked for are outputs that have no event or one at most, delays that are over after one event or that are hardly ever set, states and conditions
+Looked for are outputs that have no event or one at most, delays that are over after one event, or are hardly ever set, or again and again, states and conditions
 without a start, updates that repeat an old key or put together what comes apart, inputs that no output needs, and updates that copy.
 """
 
@@ -199,7 +199,8 @@ def of_keys(show, equations, when):
     for number, equation in equations.items():
         if equation.operation not in UPDATES or len(equation.arguments) == 1:
             continue
-        collection, *given = (when(it) if place == 0 else when(held(equations, it)) for place, it in enumerate(equation.arguments))
+        collection, given = when(equation.arguments[0]), [when(held(equations, it)) for it in equation.arguments[1:2]]
+        given += [when_of_value(equations, when, equation.arguments[0], held(equations, it)) for it in equation.arguments[2:]]
         if collection is None or None in given:
             continue
         extra = alone(equations, when, collection, frozenset().union(*given))
@@ -208,6 +209,29 @@ def of_keys(show, equations, when):
             names, kind = " and ".join(called(equations[number]) for _, number in extra[:3]), kind_of(equation)
             given = "value" if kind == "queue" else "key"
             yield f"the update {placed(equation, show)} repeats its last {given} at {names}: take its {kind} by `last` at the {given}, `merge(last({kind[0]}, {given}), START)`"
+
+
+def when_of_value(equations, when, collection, value):
+    """When a value of a map comes by itself. One that is made of the map comes wherever the map does, which is no reason to put it there."""
+    if needs(equations, value, held(equations, collection)):
+        when = When(equations)
+        when.known.update({collection: frozenset(), held(equations, collection): frozenset()})
+    return when(value)
+
+
+def of_lasting(equations):
+    """A delay for how long a condition has held is set anew wherever the condition is worked out, though it was true before."""
+    for equation in equations.values():
+        amount = equations[equation.arguments[0]] if equation.operation == "Delay" else None
+        if amount is None or amount.operation != "Lift" or len(amount.arguments) != 1:
+            continue
+        source, reset = equations[amount.arguments[0]], equations[equation.arguments[1]]
+        if source.operation == "Filter" and reset.name and reset.operation == "Lift" and held(equations, source.arguments[1]) == reset.number:
+            name = reset.name
+            yield (
+                f"the delay {told(equation)} is set anew at each event of {name}, also where it was true before: "
+                f"`filter({name}, merge({name} != last({name}, {name}), const(true, {name})))` has its changes alone"
+            )
 
 
 def is_decided(equations, when, number, users, event):
@@ -257,6 +281,7 @@ def silent(flat, show, source):
     yield from of_outputs(equations, outputs, counts)
     yield from of_delays(equations, counts)
     yield from of_resets(equations, counts, when)
+    yield from of_lasting(equations)
     yield from of_states(equations, when)
     yield from of_conditions(equations, when)
     yield from of_first(equations, when)
