@@ -3,7 +3,7 @@
 import datetime
 import functools
 import re
-from typing import Callable, Dict, Optional, Tuple
+from typing import Callable, Dict, List, Optional, Sequence, Tuple
 
 from .texts import Refused, shown
 
@@ -13,12 +13,13 @@ MOMENT = re.compile(
 # The minutes of a day, and the seconds of a minute.
 MINUTES = {f"{minute // 60:02}:{minute % 60:02}": minute * 60 for minute in range(24 * 60)}
 SECONDS = {f"{second:02}": second for second in range(60)}
-# A date of which all that is before the seconds has 17 characters, and what stands behind them.
-TO_THE_MINUTE, AFTER_SECONDS = 17, 19
+# A date of which all that is before the minutes has 14 characters, and what stands behind the seconds.
+TO_THE_HOUR, AFTER_SECONDS = 14, 19
 LONGEST_FRACTION = 18  # digits
-BEHIND = re.compile(r"[0-9]{2}(?:([.,])([0-9]{1,80}))?(.*)")
+BEHIND = re.compile(r"[0-9]{2}:[0-9]{2}(?:([.,])([0-9]{1,80}))?(.*)")
 OFFSET = re.compile(r"([+-])([01][0-9]|2[0-3])(?::?([0-5][0-9]))?")
 NEWEST = 1024  # seconds of the log that are kept, since lines of one second come together
+MOST_HOURS = 8192  # of the log that are kept; it is read in pieces that have fewer lines
 EPOCH = datetime.datetime(1970, 1, 1)
 SECOND = datetime.timedelta(seconds=1)
 
@@ -68,23 +69,48 @@ def ahead_of_utc(moment: datetime.datetime) -> datetime.timedelta:
     return ahead
 
 
+class IntoHour(Dict[str, int]):
+    """The seconds from the beginning of an hour to minutes and seconds, as 59:30."""
+
+    def __missing__(self, text: str) -> int:
+        minute, colon, second = text.partition(":")
+        if colon != ":":
+            raise KeyError(text)
+        self[text] = into = 60 * SECONDS[minute] + SECONDS[second]
+        return into
+
+
 class Alike:
     """Dates that look like the one before: as long, with as long a fraction, and with the same zone."""
 
     def __init__(self) -> None:
-        self.minutes: Dict[str, int] = {}  # when minutes have begun, by the text before the seconds
+        self.hours: Dict[str, int] = {}  # when hours have begun, by the text before the minutes
+        self.into_hour = IntoHour()
         self.looks = (0, 0, "", "")  # the length, where the fraction ends, the point before it if there is one, and the zone
 
     def learn(self, text: str, begun: int) -> None:
-        """Takes a date whose minute has begun then, and whose seconds follow one another."""
-        behind = BEHIND.fullmatch(text, TO_THE_MINUTE)
-        if behind is None or text[TO_THE_MINUTE - 1] != ":" or len(behind[2] or "") > LONGEST_FRACTION:
+        """Takes a date whose hour has begun then, and whose seconds follow one another."""
+        behind = BEHIND.fullmatch(text, TO_THE_HOUR)
+        if behind is None or len(behind[2] or "") > LONGEST_FRACTION:
             return
         looks = len(text), behind.start(3), behind[1] or "", behind[3]
-        if looks != self.looks or len(self.minutes) >= NEWEST:
-            self.minutes.clear()
+        if looks != self.looks or len(self.hours) >= MOST_HOURS:
+            self.hours.clear()
             self.looks = looks
-        self.minutes[text[:TO_THE_MINUTE]] = begun
+        self.hours[text[:TO_THE_HOUR]] = begun
+
+    def all_look_so(self, texts: Sequence[str]) -> bool:
+        length, end, point, zone = self.looks
+        if set(map(len, texts)) != {length}:
+            return False
+        if point:
+            return {text[AFTER_SECONDS] + text[end:] for text in texts} == {point + zone}
+        return {text[AFTER_SECONDS:] for text in texts} == {zone}
+
+    def seconds(self, texts: Sequence[str]) -> List[int]:
+        """The whole seconds since 1970 of dates that look so. A KeyError says that an hour is not known, or that the text is no date."""
+        hours, into_hour = self.hours, self.into_hour
+        return [hours[text[:TO_THE_HOUR]] + into_hour[text[TO_THE_HOUR:AFTER_SECONDS]] for text in texts]
 
 
 class Clock:
@@ -113,8 +139,37 @@ class Clock:
         into, more = MINUTES.get(minute), SECONDS.get(second or "00")
         if begun < 0 or into is None or more is None:
             return self.whole_seconds(f"{day} {minute}:{second or '00'}", zone), fraction or ""
-        self.alike.learn(text, begun + into)
+        self.alike.learn(text, begun + into // 3600 * 3600)
         return begun + into + more, fraction or ""
+
+    def numbers(self, texts: Sequence[str]) -> Optional[Tuple[List[int], int]]:
+        """Dates that look like the one before, as numbers without their point, and how many digits each has after it; None where one looks otherwise."""
+        if not self.alike.all_look_so(texts):
+            return None
+        try:
+            seconds = self.alike.seconds(texts)
+        except KeyError:
+            seconds = self.seconds_of_new_hours(texts)
+        _, end, point, _ = self.alike.looks
+        if not point or not seconds:
+            return (seconds, 0) if seconds else None
+        fractions = [text[AFTER_SECONDS + 1 : end] for text in texts]
+        digits = "".join(fractions)
+        if not (digits.isdigit() and digits.isascii()):
+            return None
+        places = end - AFTER_SECONDS - 1
+        return [second * 10**places + int(fraction) for second, fraction in zip(seconds, fractions)], places
+
+    def seconds_of_new_hours(self, texts: Sequence[str]) -> List[int]:
+        """The same after a look at the hours that are not known yet; none where this does not help."""
+        looks, hours = self.alike.looks, self.alike.hours
+        try:
+            for text in texts:
+                if text[:TO_THE_HOUR] not in hours:
+                    self.moment(text)
+            return self.alike.seconds(texts) if self.alike.looks == looks else []
+        except (KeyError, Refused):
+            return []
 
     def new_hour(self, day: str, hour: str, zone_text: Optional[str]) -> int:
         """The seconds from 1970 to a day by the clocks of one of its hours, within which they are not set; a number below 0 where they may be."""

@@ -6,14 +6,14 @@ import functools
 import itertools
 import json
 import re
-from typing import Any, Callable, Dict, Iterator, List, Optional, Set, Tuple
+from typing import Any, Callable, Dict, Iterator, List, Optional, Sequence, Set, Tuple
 
-from .logs import LONGEST_LINE, MOST_NAMES, Log
+from .logs import GROUPS, LONGEST_LINE, MOST_NAMES, Log, is_text
 from .paths import NOTHING, Path, Place
 from .shapes import BLANK, DECIMAL, MOST_PARTS, PLAIN_NUMBER, SOME_TEXT, TRUTH, Kind, Pattern, Shape, no_event
 from .skeletons import NoShape, Take, kind_of, pattern_of
 from .texts import BLANKS, GREATEST, NEWEST, NUMBER, WHOLE, Refused, blank, quoted, shown, whole
-from .times import Reader
+from .times import SHORT, Reader
 from .words import SEPARATORS
 
 LONGEST_CELL = 2**17  # characters
@@ -73,6 +73,25 @@ class Fields(Log):
         self.settled.begin()
         if name is not None:
             self.settled.event(time, name, value[0] if value and name not in self.words.unit else None)
+
+    def take_at_once(self, shape: Shape, matches: List["re.Match[str]"]) -> bool:
+        if not shape.named:
+            return super().take_at_once(shape, matches)
+        columns: List[Sequence[Any]] = list(zip(*map(GROUPS, matches)))
+        times, texts = self.times_of(columns[shape.time - 1]), columns[shape.named[0] - 1]
+        if times is None or not self.names.keys() >= set(texts):
+            return False
+        names = list(map(self.names.get, texts))
+        if len(shape.named) == 1:
+            return self.take_events(times, names, "%d: %s\n")
+        return self.take_values(times, names, columns[shape.named[1] - 1])
+
+    def take_values(self, times: List[int], names: List[Optional[str]], values: Sequence[str]) -> bool:
+        """Takes one event of each line by its name and its value, if none is left out or refused; whether it did."""
+        if self.words.unit.isdisjoint(names):
+            return self.take_events(times, names, "%d: %s = %s\n", values)
+        endings = ["" if name in self.words.unit else f" = {value}" for name, value in zip(names, values)]
+        return self.take_events(times, names, "%d: %s%s\n", endings)
 
     def multiplier(self, name: str) -> Optional[Reader]:
         """What multiplies a number that is plain, if the input has a factor."""
@@ -150,6 +169,33 @@ class Cells(Fields):
         return text if WHOLE.fullmatch(text) else whole(name, text)
 
 
+    def column(self, name: str, texts: List[str]) -> List[Optional[str]]:
+        """What the reader of an input makes of texts that are not empty."""
+        if not (name in self.words.unit or name in self.words.text or name in self.words.factor):
+            if are_numbers(texts):
+                return list(texts)
+            if are_texts(texts):
+                return [f'"{text}"' for text in texts]
+        return list(map(self.reader(name), texts))
+
+    def take_named(self, times: List[int], texts: List[str], values: Optional[List[str]]) -> bool:
+        """Takes one event of each line by what names the input and has its value, if none is left out or refused; whether it did."""
+        if not self.names.keys() >= set(texts):
+            return False
+        names = list(map(self.names.get, texts))
+        if values is None:
+            return self.take_events(times, names, "%d: %s\n")
+        if self.words.unit.isdisjoint(names) and self.words.text.isdisjoint(names) and self.words.factor.keys().isdisjoint(names) and are_texts(values):
+            return self.take_events(times, names, '%d: %s = "%s"\n', values)
+        try:
+            read = ["" if name is None or name in self.words.unit else self.reader(name)(value) for name, value in zip(names, values)]
+        except Refused:
+            return False
+        # Without a value an event is refused.
+        if any(not value for name, value in zip(names, read) if name and name not in self.words.unit):
+            return False
+        return self.take_values(times, names, [value or "" for value in read])
+
     def kind(self, name: str, value: str, without: str = "") -> Kind:
         """What an input makes of values that look like this one, none of which has a character of `without`."""
         text, marks = value.strip(" "), marks_but(without)
@@ -172,6 +218,33 @@ class Cells(Fields):
 
 
 NO_TEXT = "+-.0123456789("  # what a plain text does not begin with
+BEGINS_NO_TEXT = {"", *BLANKS, *NO_TEXT}
+
+
+def are_numbers(texts: Sequence[str]) -> bool:
+    """Whether all are whole numbers that stand in a trace as they do in the log."""
+    together = "".join(texts)
+    if not (together.isascii() and together.isdigit()) or max(map(len, texts)) > 18:
+        return False
+    firsts = {text[:1] for text in texts}
+    return "" not in firsts and ("0" not in firsts or all(text == "0" for text in texts if text[0] == "0"))
+
+
+def are_plain(texts: Sequence[str]) -> bool:
+    """Whether all have more than blanks, and stand in a trace as they do in the log, in characters of ASCII."""
+    together = "".join(texts)
+    return together.isascii() and together.isprintable() and '"' not in together and "\\" not in together and all(map(str.strip, texts))
+
+
+def are_texts(texts: Sequence[str]) -> bool:
+    """Whether all are texts that stand in a trace as they do in the log, and neither numbers nor truth values."""
+    together = "".join(texts)
+    if '"' in together or "\\" in together or not together.isprintable():
+        return False
+    firsts = {text[:1] for text in texts}
+    if not firsts.isdisjoint(BEGINS_NO_TEXT):
+        return False
+    return firsts.isdisjoint("tf") or not any(text.rstrip(BLANKS) in ("true", "false") for text in texts)
 
 
 @functools.lru_cache(None)
@@ -181,6 +254,8 @@ def marks_but(without: str) -> str:
 
 
 # ---- Lines
+
+LAST_OF_OTHERS = {"", " ", "\t", ":"}  # how lines end that may be blank, or ticks
 
 
 class Matched(Cells):
@@ -219,6 +294,63 @@ class Matched(Cells):
             raise Refused("--match finds no event in it")
         self.named_event(time, named.strip(BLANKS), value if value.strip(BLANKS) else None)
 
+    def learn(self, _line: str) -> None:
+        self.take_pieces(self.take_text)
+
+    def take_text(self, text: str) -> bool:
+        """Takes lines, if nothing of them is left out or refused but other lines; whether it did."""
+        if not is_text(text):
+            return False
+        lines = text[:-1].split("\n")
+        if "\r" in text:
+            lines = [line.rstrip("\r") for line in lines]
+        if not LAST_OF_OTHERS.isdisjoint([line[-1:] for line in lines]):
+            bare = [line.rstrip(" \t\r") for line in lines]
+            if any(line.endswith(":") for line in bare):
+                return False
+            lines = list(itertools.compress(lines, bare))
+        matches = list(map(self.words.match.fullmatch, lines))
+        found = list(filter(None, matches))
+        if len(found) < len(matches) and "other" not in self.words.skip:
+            return False
+        if found and not self.take_matches([match.group(*self.places) for match in found]):
+            return False
+        self.other += len(matches) - len(found)
+        return True
+
+    def take_matches(self, found: List[Tuple[Optional[str], ...]]) -> bool:
+        """Takes what --match has found in lines, if nothing of it is left out or refused; whether it did."""
+        columns = [[text or "" for text in column] for column in zip(*found)]
+        times = self.times_of(columns[-1])
+        if times is None:
+            return False
+        if "event" not in self.groups:
+            return self.take_inputs(times, columns)
+        by_name = dict(zip(self.groups, columns))
+        return self.take_named(times, [text.strip(BLANKS) for text in by_name["event"]], by_name["value"] if self.value_name else None)
+
+    def take_inputs(self, times: List[int], columns: List[List[str]]) -> bool:
+        """Takes lines that have a value of each input, if none is left out or refused; whether it did."""
+        wanted = [(name, column) for name, column in zip(self.inputs, columns) if name]
+        settled = self.settled.times_of_rows(times) if wanted and all(map(all, columns[:-1])) else None
+        if settled is None:
+            return False
+        form, found = "", []  # type: str, List[Sequence[Any]]
+        try:
+            for name, column in wanted:
+                values = self.column(name, column)
+                if "" in values:
+                    return False
+                form += f"%d: {name}\n" if values[0] is None else f"%d: {name} = %s\n"
+                found += [settled] if values[0] is None else [settled, values]
+        except Refused:
+            return False
+        rows = list(map(form.__mod__, zip(*found)))
+        if max(map(len, rows)) > SHORT:
+            return False
+        self.settled.take_rows(times[-1], settled[-1], [name for name, _ in wanted], rows)
+        return True
+
     def finish(self, whole_log: bool) -> None:
         if self.other:
             self.say(f"left out of other lines: {self.other} (--skip other)")
@@ -255,6 +387,8 @@ class Table(Cells):
                     self.row(row, line)
                 if self.held:
                     self.held.clear()
+                if self.words.event and self.names:
+                    self.take_pieces(self.take_text)
                 self.take_known()
         except csv.Error as error:
             refused = Refused(fault_of_table(str(error), self.separator_name()))
@@ -263,6 +397,20 @@ class Table(Cells):
         except Refused as refused:
             refused.line = refused.line or self.lines.number - max(len(self.held), 1) + 1
             raise
+
+    def take_text(self, text: str) -> bool:
+        """Takes rows that name their inputs, if nothing of them is left out or refused; whether it did."""
+        if '"' in text or "\r" in text or "\0" in text or not is_text(text):
+            return False
+        rows = [line.split(self.words.separator) for line in text[:-1].split("\n")]
+        if set(map(len, rows)) != {len(self.header or [])}:
+            return False
+        columns = list(zip(*rows))
+        times = self.times_of(columns[self.time_at])
+        if times is None:
+            return False
+        values = None if self.value_at is None else list(columns[self.value_at])
+        return self.take_named(times, [text.strip(BLANKS) for text in columns[self.event_at]], values)
 
     def plain_row(self, line: str) -> List[str]:
         """The cells of a line without quotes, as Python's reader would have them."""
@@ -339,7 +487,7 @@ class Table(Cells):
             pattern.text(quote)
             if place < len(row) - 1:
                 pattern.text(self.words.separator)
-        pattern.end("\r{0,40}")
+        pattern.end("\r{0,40}" if "\r" in line else "")
         return pattern.shape_of(line)
 
     def take_cell(self, pattern: Pattern, name: str, cell: str, separator: str) -> None:

@@ -1,9 +1,9 @@
 """Frames of a bus, as candump writes them."""
 
 import re
-from typing import Any, Callable, Dict, List, NamedTuple, Optional, Tuple
+from typing import Any, Callable, Dict, List, NamedTuple, Optional, Sequence, Tuple
 
-from .logs import MOST_NAMES, Log
+from .logs import GROUPS, MOST_NAMES, Log, pieces
 from .texts import GREATEST, Refused, shown
 from .words import Wanted
 
@@ -13,10 +13,9 @@ FRAME = re.compile(
     r"|[ \t]+\[([0-9]{1,2})\]((?:[ \t]+[0-9A-Fa-f]{2})*)(?:[ \t]+(remote request|ERRORFRAME|'.*'))?)[ \t\r\n]*"
 )
 # What candump writes with the capitals that it has, without a note, and short enough for any bus.
-JOINED = re.compile(r"\(([0-9]{1,18}(?:\.[0-9]{1,9})?)\) ([!-~]{1,40} (?:[0-9A-F]{8}|[0-9A-F]{3}))#((?:[0-9A-F]{2}){0,8})\n")
+JOINED = re.compile(r"\(([0-9]{1,18}(?:\.[0-9]{1,9})?)\) ([!-~]{1,40} [0-9A-F]{3,8})#([0-9A-F]{0,16})\n")
 SPACED = re.compile(
-    r" {0,40}\(([0-9]{1,18}(?:\.[0-9]{1,9})?)\) {1,40}([!-~]{1,40} {1,40}(?:[0-9A-F]{8}|[0-9A-F]{3})) {1,40}"
-    r"\[([0-8])\]((?: {1,40}[0-9A-F]{2}){0,8})\n"
+    r" {0,40}\(([0-9]{1,18}(?:\.[0-9]{1,9})?)\) {1,40}([!-~]{1,40} {1,40}[0-9A-F]{3,8}) {1,40}\[([0-8])\]((?: {1,40}[0-9A-F]{2}){0,8})\n"
 )
 OCTETS = re.compile(r"(?:[0-9A-Fa-f]{2}(?:\.?[0-9A-Fa-f]{2})*)?")
 
@@ -33,8 +32,7 @@ class Known(NamedTuple):
     """What is made of frames."""
 
     wanted: List[Wanted]
-    name: str  # of the input, if there is one alone and it has all data as a text
-    here: Dict[str, str]  # has this name
+    values: List[Tuple[str, Callable[[str], str]]]  # of each input, by the digits of the data
 
 
 class Frames(Log):
@@ -44,6 +42,7 @@ class Frames(Log):
         self.buses: Dict[str, str] = {}  # the interface of each identifier that makes events for whatever interface
         self.skipped = {"remote": 0, "short": 0}
         self.known: Dict[str, Known] = {}  # by the text between time and data
+        self.names_of_texts: Dict[str, str] = {}  # the input of those that make one event, with all data as a text
 
     def line(self, line: str) -> None:
         match = FRAME.fullmatch(line)
@@ -56,43 +55,69 @@ class Frames(Log):
         else:
             self.frame(time, bus, identifier, data_of_joined, joined)
 
-    def learn(self, _line: str) -> None:
+    def learn(self, line: str) -> None:
         """Takes the plain frames that were read, up to the first line that is none. What comes of them is what `line` makes."""
-        self.take_plain(JOINED)
-        self.take_plain(SPACED)
+        for pattern in (JOINED, SPACED):
+            match = pattern.fullmatch(line)
+            if match is not None:
+                self.make_known(match[2])
+            self.take_plain(pattern)
 
     def take_plain(self, pattern: "re.Pattern[str]") -> None:
-        lines, settled = self.lines, self.settled
-        match = pattern.match(lines.text, lines.at)
-        while match is not None:
-            lines.number += 1
-            lines.at = match.end()
-            stamp, origin, digits = match.group(1, 2, 3)
-            settled.begin()
-            plan = self.known.get(origin)
-            if pattern is SPACED:
-                count, digits = digits, match[4].replace(" ", "")
-                plan = plan if len(digits) == 2 * int(count) else None
-            if plan is None:
-                self.line(match[0])
-                self.make_known(origin)
+        for matches in pieces(pattern.scanner(self.lines.text, self.lines.at)):
+            columns = list(zip(*map(GROUPS, matches)))
+            digits = columns[2] if pattern is JOINED else list(map(digits_of, columns[2], columns[3]))
+            if self.take_frames(columns[0], columns[1], digits):
+                self.lines.number += len(matches)
+                self.lines.at = matches[-1].end()
             else:
-                time = self.time_of(stamp)
-                if plan.name and time > settled.now and not settled.holds:
-                    settled.write(f'{time}: {plan.name} = "{digits}"\n')
-                    settled.log = settled.now = time
-                    settled.here, settled.shared, settled.begins = plan.here, True, False
-                else:
-                    self.events(time, plan.wanted, bytes.fromhex, digits)
-            match = pattern.match(lines.text, lines.at)
+                self.take_each_frame(matches, digits)
+
+    def take_frames(self, stamps: Sequence[str], origins: Sequence[str], digits: Sequence[str]) -> bool:
+        """Takes frames of known identifiers, if nothing of what they make is left out or refused; whether it did."""
+        if any(length % 2 for length in set(map(len, digits))):
+            return False
+        times = self.times_of(stamps)
+        if times is None:
+            return False
+        names = list(map(self.names_of_texts.get, origins))
+        if all(names):
+            return self.take_events(times, names, '%d: %s = "%s"\n', digits)
+        plans = [self.known[origin] for origin in origins if origin in self.known]
+        if len(plans) < len(origins):
+            return False
+        try:
+            found = [(time, name, value(text)) for time, plan, text in zip(times, plans, digits) for name, value in plan.values]
+        except (Refused, Skippable):
+            return False
+        if not found:
+            return True
+        # Events of one line stand together where others stand apart.
+        if self.settled.equal == "apart" and any(len(plan.values) > 1 for plan in plans):
+            return False
+        events = list(zip(*found))
+        return self.take_events(events[0], events[1], "%d: %s = %s\n", events[2])
+
+    def take_each_frame(self, matches: List["re.Match[str]"], all_digits: Sequence[str]) -> None:
+        for match, digits in zip(matches, all_digits):
+            self.lines.number += 1
+            self.lines.at = match.end()
+            self.settled.begin()
+            plan = self.known.get(match[2])
+            if plan is None or len(digits) % 2:
+                self.line(match[0])
+                self.make_known(match[2])
+            else:
+                self.events(self.time_of(match[1]), plan.wanted, bytes.fromhex, digits)
 
     def make_known(self, origin: str) -> None:
         """Keeps what is made of the frames of an interface and an identifier, by these two as they stand in the log."""
         bus, identifier = origin.split()
         plan = self.plans.get((bus, identifier))
         if plan is not None and len(self.known) < MOST_NAMES:
-            name = plan[0].name if len(plan) == 1 and plan[0].part is None else ""
-            self.known[origin] = Known(plan, name, {name: ""})
+            self.known[origin] = Known(plan, [(wanted.name, value_reader(wanted)) for wanted in plan])
+            if len(plan) == 1 and plan[0].part is None:
+                self.names_of_texts[origin] = plan[0].name
 
     def frame(self, time: int, bus: str, identifier: str, data_of: Callable[[Any], bytes], content: Any) -> None:
         """Makes the events of a frame, whose data are looked at where an event is made of them."""
@@ -147,6 +172,34 @@ class Frames(Log):
             if count:
                 self.say(f"left out of {kind} frames: {count} (--skip {kind})")
         super().finish(whole_log)
+
+
+def digits_of(length: str, data: str) -> str:
+    """The digits of the data of a frame, which has blanks; one alone, which makes no byte, where they are not as many as the length says."""
+    digits = data.replace(" ", "")
+    return digits if len(digits) == 2 * int(length) else "0"
+
+
+def value_reader(wanted: Wanted) -> Callable[[str], str]:
+    """What makes the value of an input from the digits of the data."""
+    if wanted.part is None:
+        return '"{}"'.format
+    first, count, order, signed = wanted.part
+    begin, end = 2 * first, 2 * (first + count)
+    greatest = GREATEST if not signed else 2 ** (8 * count - 1) - 1
+
+    def read(digits: str) -> str:
+        part = digits[begin:end]
+        if len(part) < end - begin:
+            raise Skippable("short", "it is too short")
+        number = int(part if order == "big" else bytes.fromhex(part)[::-1].hex(), 16)
+        if number > greatest:
+            if not signed:
+                raise Refused("it is too large")
+            number -= 2 ** (8 * count)
+        return str(number)
+
+    return read
 
 
 def data_of_joined(text: str) -> bytes:

@@ -4,13 +4,13 @@ import codecs
 import functools
 import io
 import re
-from typing import Any, Dict, List, Optional, Set
+from typing import Any, Callable, Dict, List, Optional, Set
 
-from .fields import Cells, decoded, number_text
-from .logs import LONGEST_LINE, Lines
+from .fields import Cells, are_numbers, are_plain, decoded, number_text
+from .logs import FEWEST_AT_ONCE, LONGEST_LINE, LONGEST_PIECE, Lines
 from .paths import Place
-from .shapes import MOST_PARTS, PLAIN_NUMBER, SOME_TEXT, Kind, Pattern, Shape
-from .skeletons import ANY_IN_ASCII, NoShape, pattern_of
+from .shapes import MOST_PARTS, PLAIN_NUMBER, SOME_TEXT, Field, Kind, Pattern, Shape
+from .skeletons import LETTERS_OF_ASCII, NoShape, pattern_of
 from .texts import BLANKS, WHOLE, Refused, quoted, shown, whole
 
 TIME_FIELD = "__REALTIME_TIMESTAMP"
@@ -23,6 +23,9 @@ NUMBERS = {"PRIORITY", "ERRNO", "CODE_LINE", "SYSLOG_FACILITY", "SYSLOG_PID", "T
 NUMBERS |= {"_PID", "_UID", "_GID", "_AUDIT_SESSION", "_AUDIT_LOGINUID", "_SYSTEMD_OWNER_UID", "_LINE_BREAK_ID"}
 NUMBERS |= {"_SOURCE_REALTIME_TIMESTAMP", "_SOURCE_MONOTONIC_TIMESTAMP", "_SOURCE_BOOTTIME_TIMESTAMP"}
 NUMBERS |= {"__MONOTONIC_TIMESTAMP", "__REALTIME_TIMESTAMP", "__SEQNUM"}
+
+# What tells that values match these patterns.
+MEANT: Dict[str, Callable[[List[str]], bool]] = {PLAIN_NUMBER: are_numbers, SOME_TEXT: are_plain}
 
 Entry = Dict[str, Optional[str]]  # the wanted fields; None is one that is no text
 
@@ -77,11 +80,39 @@ class Journal(Cells):
             self.take_known()
 
     def take(self, shape: Shape, lines: Lines) -> None:
+        if shape.fields:
+            self.take_fields(shape, lines)
         try:
             super().take(shape, lines)
         except Refused as refused:
             refused.line = lines.number - shape.ends + 1
             raise
+
+    def take_fields(self, shape: Shape, lines: Lines) -> None:
+        """Takes entries that have the same fields in the same order, up to a piece of what was read where this is not so."""
+        while lines.text is not self.hard[0] or lines.at >= self.hard[1]:
+            end = lines.text.rfind("\n\n", lines.at, lines.at + LONGEST_PIECE) + 2
+            rows = lines.text[lines.at : end].split("\n")[:-1]
+            if len(rows) < FEWEST_AT_ONCE * shape.ends:
+                return
+            if len(rows) % shape.ends or not self.take_columns(shape, rows):
+                self.hard = lines.text, end
+                return
+            lines.number += len(rows)
+            lines.at = end
+
+    def take_columns(self, shape: Shape, rows: List[str]) -> bool:
+        """Takes entries by their lines, if they have this shape, and nothing of them is left out or refused; whether it did."""
+        columns: List[List[str]] = [[]] * (len(shape.columns) + 1)
+        for at, (start, group, pattern) in enumerate(shape.fields):
+            column = rows[at :: shape.ends]
+            if "\n".join(["", *column]).count(f"\n{start}") < len(column):
+                return False
+            if group:
+                columns[group - 1] = values = [row[len(start) :] for row in column]
+                if group != shape.time and not MEANT.get(pattern, lambda _: False)(values):
+                    return False
+        return not any(rows[shape.ends - 1 :: shape.ends]) and self.take_rows(shape, columns)
 
     # Shapes
 
@@ -95,7 +126,7 @@ class Journal(Cells):
                 wanted = {field for field in members if self.is_wanted(field)}
                 if any(type(members[field]) is not str for field in wanted):
                     return None
-                pattern = pattern_of(entry, (self.time_name,), functools.partial(self.take_member, wanted), ANY_IN_ASCII)
+                pattern = pattern_of(entry, (self.time_name,), functools.partial(self.take_member, wanted), LETTERS_OF_ASCII)
             else:
                 pattern = self.pattern_of_lines(entry)
             return pattern.shape_of(entry)
@@ -118,6 +149,7 @@ class Journal(Cells):
             field, equals, value = line.partition("=")
             if not equals or pattern.ends > MOST_PARTS:
                 raise NoShape()
+            groups = pattern.groups
             pattern.text(f"{field}=")
             if field == self.time_name:
                 pattern.take_time(value, "[0-9]{1,18}")
@@ -125,6 +157,8 @@ class Journal(Cells):
                 pattern.input(self.names[field] or "", self.kind(self.names[field] or "", value))
             else:
                 pattern.any("[^\n]{0,4000}")
+            wanted = pattern.inputs[-1] if pattern.inputs and pattern.groups > groups and pattern.time != pattern.groups else None
+            pattern.fields.append(Field(f"{field}=", pattern.groups if pattern.groups > groups else 0, wanted[2].pattern if wanted else ""))
             pattern.end()
         pattern.end()
         return pattern

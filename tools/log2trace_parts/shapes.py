@@ -1,7 +1,7 @@
 """Lines that look like one before: a regular expression tells that they do, and finds their time and their values. So they are not read in full."""
 
 import re
-from typing import Callable, Dict, List, NamedTuple, Optional, Tuple
+from typing import Any, Callable, Dict, Iterable, List, NamedTuple, Optional, Sequence, Tuple
 
 from .times import MARK, SHORT, Reader
 
@@ -47,10 +47,19 @@ def without_value(_: str) -> Optional[str]:
 READERS = {"": without_value, " = %s": as_it_is, ' = "%s"': in_quotes}
 
 
+class Field(NamedTuple):
+    """A line that has one value, up to its end."""
+
+    start: str  # stands before the value
+    group: int  # of the value; 0 where nobody wants it
+    pattern: str  # of the value, if it is wanted and not the time
+
+
 class Shape(NamedTuple):
     """What lines have in common that differ in plain values alone."""
 
     match: Callable[[str, int], "Optional[re.Match[str]]"]  # finds one at a place
+    scanner: Callable[[str, int], Any]  # its `match` finds one after the other from a place on
     time: int  # the group of the time
     whole_times: bool  # whether it has digits alone
     named: Tuple[int, ...]  # the groups of an input's name, and of its value if there is one; none where the names are known
@@ -60,6 +69,17 @@ class Shape(NamedTuple):
     here: Dict[str, str]  # has these names
     readers: Tuple[Reader, ...]  # of the inputs where a value has to be read, and else none; all inputs have groups then
     ends: int  # of lines of the log
+    row: Callable[[Tuple[Any, ...]], str]  # makes the lines of the trace of the times and values of these columns:
+    columns: Tuple[Tuple[int, Optional[Reader]], ...]  # the group of each, 0 for the time, and what reads it if anything has to
+    fields: Tuple[Field, ...]  # of the lines before the last one, which is empty; none where lines have other parts
+
+    def rows(self, times: List[int], columns: Sequence[Sequence[str]]) -> List[str]:
+        """What lines of this shape make, by their settled times and their groups."""
+        found: List[Iterable[Any]] = []
+        for group, reader in self.columns:
+            column = columns[group - 1] if group else times
+            found.append(map(reader, column) if reader else column)
+        return list(map(self.row, zip(*found)))
 
     def values(self, match: "re.Match[str]") -> Tuple[str, ...]:
         found = match.group(*self.groups)
@@ -75,6 +95,7 @@ class Pattern:
         self.whole_times = False
         self.named: Tuple[int, ...] = ()
         self.inputs: List[Tuple[str, int, Kind]] = []
+        self.fields: List[Field] = []
 
     def text(self, text: str) -> None:
         self.parts.append(re.escape(text))
@@ -113,8 +134,14 @@ class Pattern:
         kinds = [kind for _, _, kind in self.inputs]
         names = tuple(name for name, _, _ in self.inputs)
         read = any(kind.reader for kind in kinds)
+        pattern, forms, columns = re.compile("".join(self.parts)), [], []  # type: Any, List[str], List[Tuple[int, Optional[Reader]]]
+        for name, group, kind in self.inputs:
+            form = kind.form if kind.reader is None else " = %s"
+            forms.append(f"%d: {name}{form}\n")
+            columns += [(0, None), (group, kind.reader)] if form else [(0, None)]
         return Shape(
-            re.compile("".join(self.parts)).match,
+            pattern.match,
+            pattern.scanner,
             self.time,
             self.whole_times,
             self.named,
@@ -124,6 +151,9 @@ class Pattern:
             dict.fromkeys(names, ""),
             tuple(kind.reader or READERS[kind.form or ""] for kind in kinds) if read else (),
             self.ends,
+            "".join(forms).__mod__,
+            tuple(columns),
+            tuple(self.fields),
         )
 
 

@@ -15,17 +15,22 @@ ESCAPE = r'\\(?:["\\/bfnrt]|u[0-9A-Fa-f]{4})'
 
 
 def text_of(letters: str) -> str:
-    """A text that nobody wants, of such letters and of some escapes.
+    """A text that nobody wants, of such letters."""
+    return f'"[{letters}]{{0,4000}}"'
+
+
+def text_with_escapes(letters: str) -> str:
+    """The same with some escapes.
 
     Before Python 3.11 no part of an expression keeps what it has found. A line of another shape would take long there, so there are no escapes.
     """
     if sys.version_info < (3, 11):
-        return f'"[{letters}]{{0,4000}}"'
+        return text_of(letters)
     return f'"[{letters}]{{0,4000}}+(?:{ESCAPE}[{letters}]{{0,100}}+){{0,20}}+"'
 
 
-ANY = {'"': text_of(r'^"\\\0-\x1f\ud800-\udfff'), "t": TRUTH, "f": TRUTH, "n": "null"}  # what nobody wants, by its first character; others are numbers
-ANY_IN_ASCII = {**ANY, '"': text_of(r" !#-\[\]-~")}
+LETTERS, LETTERS_OF_ASCII = r'^"\\\0-\x1f\ud800-\udfff', r" !#-\[\]-~"
+ANY = {'"': text_of(LETTERS), "t": TRUTH, "f": TRUTH, "n": "null"}  # what nobody wants, by its first character; others are numbers
 JSON_DIGITS = "0|[1-9][0-9]{0,17}"  # no number of JSON has a 0 in front of other digits
 DAY_OR_NUMBER = r"[0-9A-Za-z:.,+ -]{1,40}"
 
@@ -64,9 +69,12 @@ def tokens(text: str) -> Iterator[Tuple[str, Optional[Place]]]:
         yield token, where
 
 
-def pattern_of(text: str, time: Optional[Place], take: Take, others: Dict[str, str] = ANY) -> Pattern:
-    """The pattern of the texts that have any other plain values in the place of those in this one."""
-    pattern = Pattern()
+def pattern_of(text: str, time: Optional[Place], take: Take, letters: str = LETTERS) -> Pattern:
+    """The pattern of the texts that have any other plain values in the place of those in this one.
+
+    Texts that nobody wants have these letters, and escapes if there is one in this text: to look for them takes long.
+    """
+    pattern, others = Pattern(), {**ANY, '"': text_with_escapes(letters) if "\\" in text else text_of(letters)}
     parts = list(tokens(text.rstrip(" \t\r\n")))
     if len(parts) > MOST_PARTS or time is None:
         raise NoShape()
@@ -77,7 +85,7 @@ def pattern_of(text: str, time: Optional[Place], take: Take, others: Dict[str, s
             take_time(pattern, token)
         elif not take(pattern, place, token):
             pattern.any(others.get(token[0], DECIMAL))
-    pattern.end("[ \t\r]{0,40}")
+    pattern.end("[ \t\r]{0,40}" if text[-2:-1] in " \t\r" else "")
     return pattern
 
 

@@ -1,7 +1,8 @@
 """Events in the order of their times."""
 
-from dataclasses import dataclass, field
-from typing import Any, Callable, Dict, Iterable, Optional, Sequence
+import itertools
+import operator
+from typing import Any, Callable, Dict, Iterable, List, Optional, Sequence
 
 from .texts import GREATEST, Refused, shown
 
@@ -13,28 +14,23 @@ MARK = "\0"  # stands for the time in lines of a trace that have no time yet
 Reader = Callable[[Any], Optional[str]]
 
 
-@dataclass
 class Settled:
     """Writes events by time, and settles equal times and times that go back."""
 
-    equal: str
-    back: str
-    write: Callable[[str], None]
-    tell: Callable[[str], None]
-    hint: Callable[[], str]  # what a message on equal times says further
-    log: int = -1  # the last time of the log
-    now: int = -1  # the last time of the trace, which is later where events were shifted
-    here: Dict[str, str] = field(default_factory=dict)  # the inputs that have an event at that time, with their lines
-    shared: bool = False  # whether these are those of others too, so that they don't change
-    begins: bool = False  # whether the next event is the first one of a line that has a time of its own
-    left_out: int = 0
+    def __init__(self, equal: str, back: str, write: Callable[[str], None], tell: Callable[[str], None], hint: Callable[[], str]):
+        self.equal, self.back, self.write, self.tell = equal, back, write, tell
+        self.hint = hint  # what a message on equal times says further
+        self.holds = equal == "last"  # whether a line is written once its time is over
+        self.log = -1  # the last time of the log
+        self.now = -1  # the last time of the trace, which is later where events were shifted
+        self.here: Dict[str, str] = {}  # the inputs that have an event at that time, with their lines
+        self.shared = False  # whether these are those of others too, so that they don't change
+        self.begins = False  # whether the next event is the first one of a line that has a time of its own
+        self.left_out = 0
 
     def begin(self) -> None:
         """The events that follow are those of another line."""
         self.begins = self.equal == "apart"
-
-    def __post_init__(self) -> None:
-        self.holds = self.equal == "last"  # whether a line is written once its time is over
 
     def release(self) -> None:
         """Writes what was held of the last time, since a later event might have come in its place."""
@@ -70,6 +66,30 @@ class Settled:
                 self.write(line)
         if here:
             self.here, self.shared, self.log, self.now, self.begins = here, False, time, time, False
+
+    def times_of_rows(self, times: List[int], names: Sequence[str] = ()) -> Optional[List[int]]:
+        """The times in the trace of lines that have these times; None where an event has to be left out or refused, or may have to be.
+
+        Each line has events of inputs that differ from each other, or the one event of one of these names.
+        """
+        settled: Optional[List[int]] = None
+        if all(map(operator.lt, [self.now, *times], times)):
+            settled = times
+        elif self.equal == "apart":
+            if (self.here or times[0] > self.now) and all(map(operator.le, [max(self.log, 0), *times], times)):
+                settled = list(itertools.accumulate(times, later, initial=self.now))[1:]
+        elif names and not self.holds and self.log == self.now and differ(self.now, self.here, times, names):
+            settled = times
+        return settled if settled and settled[-1] <= GREATEST else None
+
+    def take_rows(self, log: int, now: int, names: Iterable[str], rows: List[str]) -> None:
+        """Takes what lines make in the trace: their last time in the log and in the trace, and the inputs that have events at that one."""
+        if now > self.now:
+            self.release()
+        here = rows.pop().splitlines(keepends=True) if self.holds else itertools.repeat("")
+        self.here = {**self.here, **dict(zip(names, here))}
+        self.write("".join(rows))
+        self.log, self.now, self.shared, self.begins = log, now, False, False
 
     def lines(self, time: int, names: Sequence[str], text: str) -> None:
         """The events that a line of the log has of inputs that differ from each other, as short lines of a trace with MARK for the time."""
@@ -134,6 +154,23 @@ class Settled:
             raise Refused("time too large")
         self.release()
         self.now += 1
+
+
+def later(before: int, time: int) -> int:
+    return time if time > before else before + 1
+
+
+def differ(now: int, here: Iterable[str], times: Sequence[int], names: Sequence[str]) -> bool:
+    """Whether times never go back, and no name comes twice at one of them; these are the first one, and the names that it has."""
+    seen = set(here)
+    for time, name in zip(times, names):
+        if time > now:
+            now, seen = time, {name}
+        elif time < now or name in seen:
+            return False
+        else:
+            seen.add(name)
+    return True
 
 
 def must_fit(name: str, line: str) -> None:

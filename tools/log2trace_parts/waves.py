@@ -2,8 +2,7 @@
 
 import decimal
 import re
-from dataclasses import dataclass
-from typing import Any, Callable, Dict, Iterator, List, Optional, Tuple
+from typing import Any, Callable, Dict, Iterator, List, NamedTuple, Optional, Tuple
 
 from .fields import Fields
 from .texts import GREATEST, Refused, quoted, shown, whole
@@ -21,8 +20,11 @@ TEXTS = {"string"}
 DUMPS = {"$dumpvars", "$dumpall", "$dumpon", "$dumpoff"}  # values stand in these, up to their $end
 
 
-@dataclass
-class Variable:
+# A value on a line of its own: a bit and a code, or any value, a blank and a code.
+CHANGE = re.compile(r"([01])([!-~]+)|([bBrRsS][!-~]*) ([!-~]+)")
+
+
+class Variable(NamedTuple):
     """What one or more names are in the log."""
 
     kind: str
@@ -43,6 +45,8 @@ class Waves(Fields):
         self.time: Optional[int] = None  # what the last `#` has said
         self.unknown = 0  # values that were left out
         self.known: Dict[str, List[Tuple[str, Optional[str]]]] = {}  # what the newest of short bits make of each input, by bits and code
+        self.lines_known = Changes(self)
+        self.left = 0  # words of the line that were not taken yet
         self.parts: Dict[str, Callable[[List[str]], None]] = {
             "$scope": self.scope,
             "$upscope": self.upscope,
@@ -52,13 +56,19 @@ class Waves(Fields):
 
     def tokens(self) -> Iterator[str]:
         for line in self.lines:
-            yield from line.split()
+            words = line.split()
+            self.left = len(words)
+            for word in words:
+                self.left -= 1
+                yield word
 
     def read(self) -> None:
         tokens = self.tokens()
         self.read_header(tokens)
         for token in tokens:
             self.change(token, tokens)
+            if self.left == 0 and self.time is not None:
+                self.take_pieces(self.take_text)
         if self.time is not None:
             self.settled.tick(self.time)
 
@@ -145,6 +155,47 @@ class Waves(Fields):
             self.words_to_end(token, tokens)
         elif token not in DUMPS and token != "$end":
             raise Refused(f"neither a time nor a value: {shown(token)}")
+
+    def take_text(self, text: str) -> bool:
+        """Takes lines of a time or a value each, if nothing of them is left out or refused; whether it did."""
+        lines = text[:-1].split("\n")
+        zeros = self.unit[1:]
+        whens = [line[1:] + zeros for line in lines if line[:1] == "#"]
+        times = self.times_of(whens) if whens else []
+        if times is None or "." in text and any("." in when for when in whens):
+            return False
+        time, events, later = self.time, [], iter(times)
+        known = self.lines_known
+        try:
+            for line in lines:
+                if line[:1] == "#":
+                    time = next(later)
+                else:
+                    for name, ending in known[line]:
+                        events.append((time, name, ending))
+        except Refused:
+            return False
+        if events:
+            columns = list(zip(*events))
+            if not self.take_events(columns[0], columns[1], "%d: %s%s\n", columns[2]):
+                return False
+        self.time = time
+        return True
+
+    def change_of(self, line: str) -> List[Tuple[str, str]]:
+        """The inputs that a line is a value of, and what stands behind each in the trace. It is refused if this is not all that comes of it."""
+        match = CHANGE.fullmatch(line)
+        variable = match and self.variables.get(match[2] or match[4])
+        if not match or not variable:
+            raise Refused("not a value of a variable")
+        of, text = (self.of_bits, match[1]) if match[1] else (VALUES[match[3][0]].__get__(self), match[3][1:])
+        found = []
+        for name in variable.inputs.values():
+            made = None if name in self.words.unit else of(variable, name, text)
+            if made is None and name not in self.words.unit and variable.kind != "event":
+                raise Refused("an unknown value")
+            found.append((name, "" if made is None else f" = {made}"))
+        return found
 
     def new_time(self, digits: str) -> None:
         if not DIGITS.fullmatch(digits):
@@ -235,3 +286,22 @@ class Waves(Fields):
         if self.unknown:
             self.say(f"left out of unknown values: {self.unknown} (--skip unknown)")
         super().finish(whole_log)
+
+
+# What takes a value, by its first letter.
+VALUES = {"b": Waves.of_bits, "B": Waves.of_bits, "r": Waves.of_real, "R": Waves.of_real, "s": Waves.of_text, "S": Waves.of_text}
+
+
+class Changes(Dict[str, List[Tuple[str, str]]]):
+    """What the newest lines make that have a value."""
+
+    def __init__(self, log: Waves):
+        super().__init__()
+        self.log = log
+
+    def __missing__(self, line: str) -> List[Tuple[str, str]]:
+        change = self.log.change_of(line)
+        if len(self) >= MOST_KNOWN:
+            self.clear()
+        self[line] = change
+        return change

@@ -2,10 +2,10 @@
 
 import argparse
 import decimal
+import functools
 import re
 import warnings
-from dataclasses import dataclass
-from typing import Dict, List, NamedTuple, NoReturn, Optional, Set
+from typing import Any, Dict, List, NamedTuple, NoReturn, Optional, Set
 
 from .clock import Zone, zone_of
 from .paths import Path
@@ -58,8 +58,9 @@ class Wanted(NamedTuple):
     part: Optional[Part]
 
 
-@dataclass
 class Words:
+    """What the words say."""
+
     format: str
     file: str
     scale: decimal.Decimal
@@ -83,6 +84,9 @@ class Words:
     path: Dict[str, Path]  # by input
     factor: Dict[str, decimal.Decimal]
     map: Dict[str, List[Wanted]]  # by identifier
+
+    def __init__(self, **said: Any):
+        vars(self).update(said)
 
     def check(self) -> None:
         if self.scale <= 0:
@@ -138,7 +142,8 @@ def words_of(arguments: List[str]) -> Words:
 
 
 def new_parser() -> Parser:
-    parser = Parser(add_help=False, allow_abbrev=False)
+    # A formatter that asks for the width of the terminal would load modules, and one is made for each word.
+    parser = Parser(add_help=False, allow_abbrev=False, formatter_class=functools.partial(argparse.HelpFormatter, width=80))
     parser.add_argument("format", choices=sorted(FLAGS_OF))
     parser.add_argument("file", nargs="?", default="-")
     parser.add_argument("--from-first", action="store_true")
