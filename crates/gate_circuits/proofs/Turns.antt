@@ -1,7 +1,7 @@
 -- Turns of a search.
-use Rattle.std.proofs.Common.{◌≡◌, ◌≢◌, ℕ, ◌+◌, ◌/◌, ◌<◌, ◌≤◌, ◌⊎◌, Bool, List, [], ◌∷◌, ◌++◌, length, get_or, take, take_all, Contains, Some, sym, ap, subst, ◌∙◌, inl, inr, arith}
+use Rattle.std.proofs.Common.{◌≡◌, ◌≢◌, ℕ, ◌+◌, ◌/◌, ◌<◌, ◌≤◌, ◌⊎◌, Bool, true, false, List, [], ◌∷◌, ◌++◌, length, get_or, take, take_all, Contains, Some, sym, ap, subst, ◌∙◌, inl, inr, arith}
 use Rattle.std.specs.Prelude.{◌↔◌, IsTrue, IsFalse, slice_get}
-use Rattle.std.proofs.lemmas.Bool.{cases_lt, cases_eq, cases_Bool, both_ways, false_from_ne_true}
+use Rattle.std.proofs.lemmas.Bool.{cases_lt, cases_eq, cases_Bool, both_ways, false_from_ne_true, false≢true}
 use Rattle.std.proofs.lemmas.Option.{slice_get_within}
 use Rattle.std.proofs.lemmas.List.{get_or_default, take_more}
 use Rattle.std.proofs.lemmas.List.Elements.{All-contains, Contains-append_left, Contains-append_right, Contains-append_cases, Contains-push, Contains-push_cases, Contains-get_or}
@@ -106,10 +106,10 @@ module _ (gates : List Gate) (old new : List ℕ) (end x : ℕ) (last : IsLastBe
 -- ---- what is left over after a turn
 module _ (gates : List Gate) (wanted known old : List ℕ) (follow : Follow gates wanted known) where
   -- each wanted gate is held
-  pub searched_model : AreHeld gates wanted 0 → (model new : List ℕ) → IsModel gates (has wanted) model → AreKeptIn old model known new → IsSearched gates wanted old new
+  pub searched_model : AreHeld gates wanted 0 → (model new : List ℕ) → IsModel gates (has wanted) model → AreKeptIn old model known new → IsSearched gates wanted old new true
   searched_model held model new exact keep = record {
     kept = keep.kept;
-    rest = λ leaves on b h. elim (keep.from b h) [
+    rest = λ ended leaves on b h. elim (keep.from b h) [
       | inl in_model ↦ least_on gates wanted leaves on b ((exact b).0 in_model)
       | inr in_known ↦ follow leaves on b in_known
     ];
@@ -121,29 +121,37 @@ module _ (gates : List Gate) (wanted known old : List ℕ) (follow : Follow gate
   }
 
 -- no assignment has all wanted gates
-pub searched_never : (gates : List Gate) (wanted old : List ℕ) → ((leaves : ℕ → Bool) → AreAllOn gates leaves wanted → ⊥) → IsSearched gates wanted old old
+pub searched_never : (gates : List Gate) (wanted old : List ℕ) → ((leaves : ℕ → Bool) → AreAllOn gates leaves wanted → ⊥) → IsSearched gates wanted old old true
 searched_never gates wanted old never = record {
   kept = λ b h. h;
-  rest = λ leaves on b h. absurd (never leaves on);
+  rest = λ ended leaves on b h. absurd (never leaves on);
+  refuted = λ a b w was is. absurd (both_ways (has old b) is was);
+}
+
+-- a turn that is given up at once
+pub searched_not : (gates : List Gate) (wanted old : List ℕ) → IsSearched gates wanted old old false
+searched_not gates wanted old = record {
+  kept = λ b h. h;
+  rest = λ ended. absurd (false≢true ended);
   refuted = λ a b w was is. absurd (both_ways (has old b) is was);
 }
 
 -- a turn with less wanted
-pub searched_less : (gates : List Gate) (less wanted old new : List ℕ) → ((x : ℕ) → IsTrue (has less x) → IsTrue (has wanted x)) → Follow gates less wanted → IsSearched gates wanted old new → IsSearched gates less old new
-searched_less gates less wanted old new kept forced is = record {
+pub searched_less : (gates : List Gate) (less wanted old new : List ℕ) (done : Bool) → ((x : ℕ) → IsTrue (has less x) → IsTrue (has wanted x)) → Follow gates less wanted → IsSearched gates wanted old new done → IsSearched gates less old new done
+searched_less gates less wanted old new done kept forced is = record {
   kept = is.kept;
-  rest = λ leaves on b h. is.rest leaves (forced leaves on) b h;
+  rest = λ ended leaves on b h. is.rest ended leaves (forced leaves on) b h;
   refuted = λ a b w was gone. is.refuted a b (kept a w) was gone;
 }
 
 -- ---- one turn for each summand
 module _ (gates : List Gate) (wanted list old : List ℕ) where
   -- whether a number is still left over after one more turn
-  pub partly_more : (left next new : List ℕ) (n y : ℕ) → IsPartly gates wanted list old left n → y ≡ get_or list n 0 → ((x : ℕ) → IsTrue (has wanted x) → IsTrue (has next x)) → ((x : ℕ) → IsTrue (has next x) → IsTrue (has wanted x) ⊎ (x ≡ y)) → IsSearched gates next left new → IsPartly gates wanted list old new (n + 1)
-  partly_more left next new n y part is kept from turn = record {
+  pub partly_more : (left next new : List ℕ) (n y : ℕ) (done : Bool) → done ≡ true → IsPartly gates wanted list old left n → y ≡ get_or list n 0 → ((x : ℕ) → IsTrue (has wanted x) → IsTrue (has next x)) → ((x : ℕ) → IsTrue (has next x) → IsTrue (has wanted x) ⊎ (x ≡ y)) → IsSearched gates next left new done → IsPartly gates wanted list old new (n + 1)
+  partly_more left next new n y done ended part is kept from turn = record {
     kept = λ b h. part.kept b (turn.kept b h);
     done = λ b h k low leaves on o. elim (cases_eq k n) [
-      | inl same ↦ turn.rest leaves (λ x w. elim (from x w) [
+      | inl same ↦ turn.rest ended leaves (λ x w. elim (from x w) [
         | inl was ↦ on x was
         | inr at ↦ subst (λ m. IsOn gates leaves m) (ap (λ j. get_or list j 0) same ∙ sym is ∙ sym at) o
       ]) b h
@@ -155,10 +163,21 @@ module _ (gates : List Gate) (wanted list old : List ℕ) where
     ];
   }
 
-  pub partly_all : (left : List ℕ) (n sum : ℕ) → IsPartly gates wanted list old left n → length list ≤ n → IsTrue (has wanted sum) → ((leaves : ℕ → Bool) → IsOn gates leaves sum → IsAnyOn gates leaves list) → IsSearched gates wanted old left
+  -- a turn that gives up, after some that did not
+  pub partly_not : (left next new : List ℕ) (n : ℕ) (done : Bool) → IsPartly gates wanted list old left n → ((x : ℕ) → IsTrue (has wanted x) → IsTrue (has next x)) → IsSearched gates next left new done → IsSearched gates wanted old new false
+  partly_not left next new n done part kept turn = record {
+    kept = λ b h. part.kept b (turn.kept b h);
+    rest = λ ended. absurd (false≢true ended);
+    refuted = λ a b w was gone. elim (cases_Bool (has left b)) [
+      | inl here ↦ turn.refuted a b (kept a w) here gone
+      | inr off ↦ part.refuted a b w was off
+    ];
+  }
+
+  pub partly_all : (left : List ℕ) (n sum : ℕ) → IsPartly gates wanted list old left n → length list ≤ n → IsTrue (has wanted sum) → ((leaves : ℕ → Bool) → IsOn gates leaves sum → IsAnyOn gates leaves list) → IsSearched gates wanted old left true
   partly_all left n sum part every there cover = record {
     kept = part.kept;
-    rest = λ leaves on b h.
+    rest = λ ended leaves on b h.
         let some = cover leaves (on sum there) in
         let (k, low, is) = some.1 in
         let at : get_or list k 0 ≡ some.0 = get_or_default list k 0 some.0 low ∙ is in
@@ -175,9 +194,9 @@ reordered gates sum list new are same = record {
 }
 
 -- ---- a gate with what it implies
-pub decided_is : (gates : List Gate) (a : ℕ) (wanted old left new : List ℕ) → IsTrue (has wanted a) → ((x : ℕ) → IsTrue (has wanted x) → x ≡ a) → ((b : ℕ) → IsTrue (has old b) → IsFalse (has left b) → IsRefuted gates a b) → IsSearched gates wanted left new → IsDecided gates a old new
-decided_is gates a wanted old left new there only before is = record {
-  rest = λ b h leaves on. is.rest leaves (λ x w. subst (λ n. IsOn gates leaves n) (sym (only x w)) on) b h;
+pub decided_is : (gates : List Gate) (a : ℕ) (wanted old left new : List ℕ) (done : Bool) → IsTrue (has wanted a) → ((x : ℕ) → IsTrue (has wanted x) → x ≡ a) → ((b : ℕ) → IsTrue (has old b) → IsFalse (has left b) → IsRefuted gates a b) → IsSearched gates wanted left new done → IsDecided gates a old new done
+decided_is gates a wanted old left new done there only before is = record {
+  rest = λ ended b h leaves on. is.rest ended leaves (λ x w. subst (λ n. IsOn gates leaves n) (sym (only x w)) on) b h;
   refuted = λ b was gone. elim (cases_Bool (has left b)) [
     | inl here ↦ is.refuted a b there here gone
     | inr off ↦ before b was off

@@ -9,6 +9,7 @@ ghost use Rattle.gate_circuits.specs.inner.Knowledge.{AreAllOn, AreImplied, AreM
 ghost use Rattle.gate_circuits.specs.inner.Search.{IsDecided, IsRow, IsTurnOf};
 
 use crate::circuit::Gate;
+use crate::effort::Effort;
 use crate::knowledge::Knowledge;
 use crate::marks::Marks;
 use crate::search::Turn;
@@ -23,6 +24,13 @@ const ROUNDS: usize = 1000;
 pub struct Row {
     pub known: Marks,
     pub refuted: Marks,
+}
+
+/// What a gate is decided to imply, and whether all that was left over is decided.
+#[derive(Drop)]
+pub struct Decision {
+    pub known: Marks,
+    pub is_whole: bool,
 }
 
 /// Nothing known.
@@ -87,19 +95,24 @@ impl Knowledge {
         Ok(cone)
     }
 
-    /// Looks at known sums until no more is known.
+    /// Looks at known sums until no more is known, or it gives up.
     fn saturate(
         &self,
         alloc: Global,
         cone: &[usize],
         known: &mut Marks,
         left: &Marks,
+        effort: &mut Effort,
     ) -> Result<(), NoMemory>
-        ensures { OnOk result (Follow self.now known.old known.new) }
+        ensures follow { OnOk result (Follow self.now known.old known.new) }
+        ensures unlimited { effort.old ≡ Effort.Unlimited → effort.new ≡ Effort.Unlimited }
     {
         'rounds: for _round in 0..ROUNDS {
+            if !effort.spend(self.gates().len()) {
+                return Ok(());
+            }
             let before = known.copy(alloc)?;
-            self.saturate_once(alloc, cone, known, left)?;
+            self.saturate_once(alloc, cone, known, left, effort)?;
             if left.is_within(known) || known.is_within(&before) {
                 return Ok(());
             }
@@ -154,41 +167,49 @@ impl Knowledge {
         Ok(known)
     }
 
-    /// Takes away from what is left over what a gate does not imply. It implies the rest, and what is known.
+    /// Takes away from what is left over what a gate does not imply. If it does not give up, the gate implies the rest.
     pub fn decide(
         &self,
         alloc: Global,
         gate: usize,
         left: &mut Marks,
         models: &mut Vec<Marks>,
-    ) -> Result<Marks, NoMemory>
+        effort: &mut Effort,
+    ) -> Result<Decision, NoMemory>
         requires there { gate < length self.now }
         requires models { AreModels self.now models.old.items }
         ensures models { OnOk result (AreModels self.now models.new.items) }
-        ensures known { IfOk result (λ known. AreImplied self.now gate known) }
-        ensures decided { OnOk result (IsDecided self.now gate left.old left.new) }
+        ensures known { IfOk result (λ d. AreImplied self.now gate d.known) }
+        ensures decided { IfOk result (λ d. IsDecided self.now gate left.old left.new d.is_whole) }
+        ensures whole { effort.old ≡ Effort.Unlimited → IfOk result (λ d. IsTrue d.is_whole) }
     {
         let mut known = self.start(alloc, gate)?;
         keep_by_models(gate, &known, left, models);
         if left.is_within(&known) {
-            return Ok(known);
+            return Ok(Decision {
+                known,
+                is_whole: true,
+            });
         }
         let cone = self.cone(alloc, &known, left)?;
-        self.saturate(alloc, &cone, &mut known, left)?;
+        self.saturate(alloc, &cone, &mut known, left, effort)?;
         let turn = self.turn(alloc, gate, &known)?;
-        self.search(alloc, &cone, turn, left, models)?;
-        known.add_all(left);
-        self.close(&mut known);
-        Ok(known)
+        let is_whole = self.search(alloc, &cone, turn, left, models, effort)?;
+        if is_whole {
+            known.add_all(left);
+            self.close(&mut known);
+        }
+        Ok(Decision { known, is_whole })
     }
 
-    /// The row of a gate that is not a sum.
+    /// The row of a gate that is not a sum. What a search that gives up leaves over is neither known nor refuted.
     fn product_row(
         &self,
         alloc: Global,
         gate: usize,
         asked: &Marks,
         models: &mut Vec<Marks>,
+        effort: &mut Effort,
     ) -> Result<Row, NoMemory>
         requires there { gate < length self.now }
         requires models { AreModels self.now models.old.items }
@@ -196,10 +217,14 @@ impl Knowledge {
         ensures row { IfOk result (λ row. IsRow self.now gate row) }
     {
         let mut left = asked.copy(alloc)?;
-        let known = self.decide(alloc, gate, &mut left, models)?;
+        effort.begin();
+        let decision = self.decide(alloc, gate, &mut left, models, effort)?;
         let mut refuted = asked.copy(alloc)?;
         refuted.remove_all(&left);
-        Ok(Row { known, refuted })
+        Ok(Row {
+            known: decision.known,
+            refuted,
+        })
     }
 
     /// The row of a sum: what all of its inputs imply. What one of them doesn't is refuted.
@@ -235,6 +260,7 @@ impl Knowledge {
         asked: &Marks,
         refuted: &[Marks],
         models: &mut Vec<Marks>,
+        effort: &mut Effort,
     ) -> Result<Row, NoMemory>
         requires refuted { AreRowsRefuted self.now refuted.now }
         requires models { AreModels self.now models.old.items }
@@ -246,7 +272,7 @@ impl Knowledge {
         }
         match self.gates().get(gate) {
             Some(Gate::Any { inputs }) => self.sum_row(alloc, gate, inputs.numbers(), refuted),
-            Some(_) => self.product_row(alloc, gate, asked, models),
+            Some(_) => self.product_row(alloc, gate, asked, models, effort),
             None => Ok(no_row(alloc)),
         }
     }

@@ -1,10 +1,11 @@
 // Which gates imply which.
 
-ghost use Rattle.std.specs.Prelude.{◌≡◌, ◌<◌, ◌↔◌, length, IfOk, IsTrue};
+ghost use Rattle.std.specs.Prelude.{◌≡◌, ◌<◌, ◌↔◌, length, IfOk, IfSome, IsTrue};
 ghost use Rattle.gate_circuits.specs.Circuit.{Implies};
 
 use crate::asked::Asked;
 use crate::circuit::Circuit;
+use crate::effort::Effort;
 use crate::knowledge::Knowledge;
 use crate::marks::Marks;
 use std::alloc::Global;
@@ -40,8 +41,8 @@ impl Model for Implied {
 }
 
 impl Implied {
-    /// Prepares the answers for some pairs, and for each of `firsts` with each of `seconds`. Numbers of no gate are passed over. What is
-    /// asked beforehand decides nothing but how long `implies` takes.
+    /// Prepares the answers for some pairs, and for each of `firsts` with each of `seconds`. Numbers of no gate are passed over. Searches
+    /// that take too long give up. What is asked beforehand decides nothing but what is found, and how long `implies` takes.
     pub fn of(
         alloc: Global,
         circuit: Circuit,
@@ -55,32 +56,45 @@ impl Implied {
         let mut knowledge = Knowledge::new(alloc, circuit, asked.relevant)?;
         let mut models = knowledge.guess_all(alloc, &asked.sets)?;
         let mut refuted = Vec::new(alloc);
+        let mut effort = Effort::limited();
         'firsts: for gate in 0..asked.sets.len() {
-            let row = knowledge.row_of(alloc, gate, &asked.sets[gate], &refuted, &mut models)?;
+            let set = &asked.sets[gate];
+            let row = knowledge.row_of(alloc, gate, set, &refuted, &mut models, &mut effort)?;
             knowledge.put_row(gate, row.known);
             refuted.push(row.refuted)?;
         }
         Ok(Implied { knowledge, refuted })
     }
 
-    /// Whether the second gate is on wherever the first is. Pairs that were not asked beforehand are searched.
+    /// Whether the second gate is on wherever the first is, if it was found beforehand. `None` says nothing: when it is answered isn't
+    /// promised.
+    pub fn found(&self, pair: Pair) -> Option<bool>
+        ensures { IfSome result (λ r. IsTrue r ↔ Implies self.now pair.first pair.second) }
+    {
+        if !self.knowledge.is_possible(pair.first) || self.is_known(pair) {
+            return Some(true);
+        }
+        if self.is_refuted(pair) {
+            return Some(false);
+        }
+        None
+    }
+
+    /// Whether the second gate is on wherever the first is. Where it was not found beforehand, it is searched however long that takes.
     pub fn implies(&self, alloc: Global, pair: Pair) -> Result<bool, NoMemory>
         requires first { pair.first < length self.now }
         requires second { pair.second < length self.now }
         ensures { IfOk result (λ r. IsTrue r ↔ Implies self.now pair.first pair.second) }
     {
-        if !self.knowledge.is_possible(pair.first) || self.is_known(pair) {
-            return Ok(true);
-        }
-        if self.is_refuted(pair) {
-            return Ok(false);
+        if let Some(found) = self.found(pair) {
+            return Ok(found);
         }
         let mut left = Marks::with_room(alloc, self.knowledge.gates().len())?;
         left.add(pair.second);
         let mut models = Vec::new(alloc);
-        let _known = self
-            .knowledge
-            .decide(alloc, pair.first, &mut left, &mut models)?;
+        let mut effort = Effort::Unlimited;
+        self.knowledge
+            .decide(alloc, pair.first, &mut left, &mut models, &mut effort)?;
         Ok(left.has(pair.second))
     }
 

@@ -4,6 +4,7 @@
 mod asked;
 pub mod circuit;
 mod deciding;
+mod effort;
 pub mod implied;
 mod knowledge;
 mod marks;

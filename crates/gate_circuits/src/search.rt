@@ -1,6 +1,6 @@
 // The search for what a gate implies.
 
-ghost use Rattle.std.specs.Prelude.{◌≡◌, ℕ, ◌+◌, ◌/◌, ◌<◌, ◌↔◌, ◌⊎◌, length, IfOk, IfSome, IsTrue, IsFalse, OnOk};
+ghost use Rattle.std.specs.Prelude.{◌≡◌, ℕ, ◌+◌, ◌/◌, ◌<◌, ◌↔◌, ◌⊎◌, true, length, IfOk, IfSome, IsTrue, IsFalse, OnOk};
 ghost use Rattle.std.specs.List.{Contains};
 ghost use Rattle.gate_circuits.specs.inner.Marks.{has, IsLastBefore};
 ghost use Rattle.gate_circuits.specs.inner.Knowledge.{AreModels, Follow};
@@ -8,10 +8,14 @@ ghost use Rattle.gate_circuits.specs.Circuit.{Implies};
 ghost use Rattle.gate_circuits.specs.inner.Search.{AreHeld, AreSummands, IsDescent, IsNarrowed, IsSearched, IsSeen, IsSum, IsTurn};
 
 use crate::circuit::Gate;
+use crate::effort::Effort;
 use crate::knowledge::{Knowledge, model};
 use crate::marks::Marks;
 use std::alloc::Global;
 use tsl_value::memory::NoMemory;
+
+/// The part of a circuit that is as long to look at as copies of its sets.
+const COPIED: usize = 16;
 
 /// A turn of a search: all assignments that have the wanted gates. Each wanted gate from the place on is on where those before it are.
 #[derive(Drop)]
@@ -234,7 +238,7 @@ impl Knowledge {
         requires known { Follow self.now turn.now.wanted turn.now.known }
         requires models { AreModels self.now models.old.items }
         ensures models { OnOk result (AreModels self.now models.new.items) }
-        ensures searched { OnOk result (IsSearched self.now turn.now.wanted left.old left.new) }
+        ensures searched { OnOk result (IsSearched self.now turn.now.wanted left.old left.new true) }
     {
         let on = model(alloc, self.circuit(), &turn.wanted)?;
         left.keep_either(&on, &turn.known);
@@ -242,7 +246,13 @@ impl Knowledge {
         Ok(())
     }
 
-    /// Takes away from what is left over what some assignment that has the wanted gates has not. The rest is on in all of them.
+    /// How many gates a closing looks at, and about as much for copies of sets.
+    pub fn closing(&self, cone: &[usize]) -> usize {
+        cone.len().saturating_add(self.gates().len() / COPIED)
+    }
+
+    /// Takes away from what is left over what some assignment that has the wanted gates has not. If it does not give up, the rest is on in
+    /// all of them.
     pub fn search(
         &self,
         alloc: Global,
@@ -250,33 +260,43 @@ impl Knowledge {
         turn: Turn,
         left: &mut Marks,
         models: &mut Vec<Marks>,
-    ) -> Result<(), NoMemory>
+        effort: &mut Effort,
+    ) -> Result<bool, NoMemory>
         requires turn { IsTurn self.now turn }
         requires models { AreModels self.now models.old.items }
         ensures models { OnOk result (AreModels self.now models.new.items) }
-        ensures searched { OnOk result (IsSearched self.now turn.wanted left.old left.new) }
+        ensures searched { IfOk result (λ done. IsSearched self.now turn.wanted left.old left.new done) }
+        ensures whole { effort.old ≡ Effort.Unlimited → IfOk result (λ done. IsTrue done) }
+        ensures unlimited { effort.old ≡ Effort.Unlimited → effort.new ≡ Effort.Unlimited }
     {
         let mut turn = turn;
+        if !effort.spend(self.closing(cone)) {
+            return Ok(false);
+        }
         self.close_over(&mut turn.known, cone);
         if left.is_within(&turn.known) {
-            return Ok(());
+            return Ok(true);
         }
         match self.descend(alloc, &mut turn)? {
-            Descent::Never => Ok(()),
+            Descent::Never => Ok(true),
             Descent::Bottom => {
+                effort.spend(self.gates().len());
                 self.refute(alloc, &turn, left, models)?;
-                Ok(())
+                Ok(true)
             }
             Descent::Open { sum, summands } => {
                 let list = self.easy_first(alloc, &turn, &summands)?;
                 'turns: for summand in &list {
                     if left.is_within(&turn.known) {
-                        return Ok(());
+                        return Ok(true);
                     }
                     let next = self.with_summand(alloc, &turn, sum, *summand)?;
-                    self.search(alloc, cone, next, left, models)?;
+                    let is_done = self.search(alloc, cone, next, left, models, effort)?;
+                    if !is_done {
+                        return Ok(false);
+                    }
                 }
-                Ok(())
+                Ok(true)
             }
         }
     }

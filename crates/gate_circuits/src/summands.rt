@@ -7,6 +7,7 @@ ghost use Rattle.gate_circuits.specs.inner.Knowledge.{AreAllOn, Follow};
 ghost use Rattle.gate_circuits.specs.inner.Search.{AreDivided, AreSummands, IsAnyOn, IsSum};
 
 use crate::circuit::Gate;
+use crate::effort::Effort;
 use crate::knowledge::Knowledge;
 use crate::marks::Marks;
 use std::alloc::Global;
@@ -96,20 +97,25 @@ impl Knowledge {
         }
     }
 
-    /// Whichever summand is on: what each of them implies, by the gates of a cone.
+    /// Whichever summand is on: what each of them implies, by the gates of a cone. Whether it did not give up.
     fn add_common(
         &self,
         alloc: Global,
         cone: &[usize],
         known: &mut Marks,
         summands: &[usize],
-    ) -> Result<(), NoMemory>
-        ensures { OnOk result ((leaves : ℕ → Bool) → AreAllOn self.now leaves known.old →
+        effort: &mut Effort,
+    ) -> Result<bool, NoMemory>
+        ensures common { OnOk result ((leaves : ℕ → Bool) → AreAllOn self.now leaves known.old →
             IsAnyOn self.now leaves summands.now → AreAllOn self.now leaves known.new) }
+        ensures unlimited { effort.old ≡ Effort.Unlimited → effort.new ≡ Effort.Unlimited }
     {
         let mut common = self.possible().copy(alloc)?;
         'sides: for summand in summands {
             if self.is_possible(*summand) {
+                if !effort.spend(self.closing(cone)) {
+                    return Ok(false);
+                }
                 let mut side = known.copy(alloc)?;
                 self.learn(&mut side, *summand);
                 self.close_over(&mut side, cone);
@@ -117,25 +123,30 @@ impl Knowledge {
             }
         }
         known.add_all(&common);
-        Ok(())
+        Ok(true)
     }
 
-    /// Looks at each known sum of few, until all that is left over is known.
+    /// Looks at each known sum of few, until all that is left over is known, or it gives up.
     pub fn saturate_once(
         &self,
         alloc: Global,
         cone: &[usize],
         known: &mut Marks,
         left: &Marks,
+        effort: &mut Effort,
     ) -> Result<(), NoMemory>
-        ensures { OnOk result (Follow self.now known.old known.new) }
+        ensures follow { OnOk result (Follow self.now known.old known.new) }
+        ensures unlimited { effort.old ≡ Effort.Unlimited → effort.new ≡ Effort.Unlimited }
     {
         'sums: for sum in 0..self.gates().len() {
-            if left.is_within(known) {
-                return Ok(());
-            }
             if let Some(summands) = self.few_summands(alloc, known, sum)? {
-                self.add_common(alloc, cone, known, &summands)?;
+                let is_done = self.add_common(alloc, cone, known, &summands, effort)?;
+                if !is_done {
+                    return Ok(());
+                }
+                if left.is_within(known) {
+                    return Ok(());
+                }
             }
         }
         Ok(())

@@ -66,10 +66,10 @@ IsDescent gates old turn descent.Bottom = AreHeld gates turn.wanted 0
 IsDescent gates old turn descent.Never = (leaves : ℕ → Bool) → AreAllOn gates leaves turn.wanted → ⊥
 IsDescent gates old turn (descent.Open sum list) = IsOpen gates old turn sum list.items
 
--- What is left over after a turn is on wherever all wanted gates are. What is not was refuted.
-pub record IsSearched (gates : List Gate) (wanted old new : List ℕ) : Type 0 where
+-- What is not left over after a turn was refuted. If the turn is done, what is left over is on wherever all wanted gates are.
+pub record IsSearched (gates : List Gate) (wanted old new : List ℕ) (done : Bool) : Type 0 where
   pub kept : (b : ℕ) → IsTrue (has new b) → IsTrue (has old b)
-  pub rest : Follow gates wanted new
+  pub rest : IsTrue done → Follow gates wanted new
   pub refuted : (a b : ℕ) → IsTrue (has wanted a) → IsTrue (has old b) → IsFalse (has new b) → IsRefuted gates a b
 
 -- a turn that wants just one gate
@@ -78,9 +78,9 @@ pub record IsTurnOf (gates : List Gate) (a : ℕ) (turn : Turn) : Type 0 where
   pub there : IsTrue (has turn.wanted a)
   pub only : (x : ℕ) → IsTrue (has turn.wanted x) → x ≡ a
 
--- a gate implies what is left over, and nothing that is not
-pub record IsDecided (gates : List Gate) (a : ℕ) (old new : List ℕ) : Type 0 where
-  pub rest : AreImplied gates a new
+-- a gate implies nothing that is not left over, and if all is decided, it implies what is
+pub record IsDecided (gates : List Gate) (a : ℕ) (old new : List ℕ) (whole : Bool) : Type 0 where
+  pub rest : IsTrue whole → AreImplied gates a new
   pub refuted : (b : ℕ) → IsTrue (has old b) → IsFalse (has new b) → IsRefuted gates a b
 
 pub record IsRow (gates : List Gate) (a : ℕ) (row : Row) : Type 0 where
