@@ -1,4 +1,4 @@
 // The limit of trigger questions.
 
 /// The largest number of atoms that a question about trigger formulas may have. Beyond it the cautious answer comes.
-pub const ATOMS: u32 = 16;
+pub const ATOMS: u32 = 24;

@@ -98,7 +98,7 @@ const COUNTED: &str =
 const HEARTBEATS: &str =
     "-- heartbeats of devices\nin beat: Events[Int]\ndef since(m: Map[Int, Int], k: Int, t: Int): Int :=\n  if Map.contains(m, k) then t - Map.get(m, k) else 0\ndef old := last(seen, beat)\ndef now := time(beat)\ndef gap := since(old, beat, now)\ndef late := filter(beat, gap > 30)\ndef upd := Map.add(old, beat, now)\ndef seen: Events[Map[Int, Int]] := merge(upd, Map.empty[Int, Int])\ndef ticks: Events[Int] := merge(last(ticks, beat) + 1, 0)\ndef start := merge(beat, 0)\ndef quiet := delay(const(50, start), start)\nout late\nout ticks\nout quiet\nout Map.size(seen) as devices\n";
 
-/// The formulas of the merge of so many inputs are too wide to be compared.
+/// A set grows by each event of so many inputs.
 const EIGHTEEN: &str =
     "in i1: Events[Int]\nin i2: Events[Int]\nin i3: Events[Int]\nin i4: Events[Int]\nin i5: Events[Int]\nin i6: Events[Int]\nin i7: Events[Int]\nin i8: Events[Int]\nin i9: Events[Int]\nin i10: Events[Int]\nin i11: Events[Int]\nin i12: Events[Int]\nin i13: Events[Int]\nin i14: Events[Int]\nin i15: Events[Int]\nin i16: Events[Int]\nin i17: Events[Int]\nin i18: Events[Int]\ndef t := merge(i1, merge(i2, merge(i3, merge(i4, merge(i5, merge(i6, merge(i7, merge(i8, merge(i9, merge(i10, merge(i11, merge(i12, merge(i13, merge(i14, merge(i15, merge(i16, merge(i17, i18)))))))))))))))))\ndef m := merge(y, Set.empty[Int])\ndef yl := last(m, t)\ndef y: Events[Set[Int]] := Set.add(yl, t)\nout m\n";
 
@@ -177,7 +177,7 @@ const SHOWN: &[Row<'_>] = &[
         spec: EIGHTEEN,
         trace: "",
         status: 0,
-        out: "y 22:28 copied: y kept by yl\n",
+        out: "y 22:28 in place\n",
         err: "",
     },
     Row {

@@ -10,5 +10,5 @@ returns-else-are_met c s are =
     let k = c.self.inside in
     let a_low = subst (λ (l : List Rule). c.args.a < length l) (sym c.self.view_is) c.requires.first in
     let b_low = subst (λ (l : List Rule). c.args.b < length l) (sym c.self.view_is) c.requires.second in
-    let few = few_told k.diagrams k.atoms.items k.nodes.items k.at_zero.items k.later.items c.self.invariant c.args.a c.args.b a_low b_low c.deref.result.now c.deref.ensures.value c.are_few.result c.are_few.ensures s (c.self.view_is ∙ are) in
+    let few = few_told k.rules.items k.starts.items k.atoms.items k.at_zero k.later c.self.invariant.0 c.args.a c.args.b a_low b_low c.deref.result.now c.deref.ensures.value c.are_few.result c.are_few.ensures s (c.self.view_is ∙ are) in
     subst (λ b. IsTrue (b || not c.are_few.result) ↔ Together s c.args.a c.args.b) c.if-are_met.false (together_by s c.args.a c.args.b c.are_met.result c.are_few.result (c.are_met.ensures s are) few)
