@@ -8,6 +8,7 @@ use Rattle.flat_core.specs.Complete.{IsFlat}
 use Rattle.flat_core.specs.inner.Marks.{has_mark}
 use Rattle.flat_core.specs.System.{System, equation}
 use Rattle.flat_core.specs.TypedSystem.{AreOfTypes}
+use Rattle.translation_order.specs.Graph.{Walk}
 use Rattle.trigger_rules.specs.Question.{Implies}
 use Rattle.alias_rules.specs.Uses.{IsLast, IsWritten}
 use Rattle.alias_rules.specs.Roots.{Carries, IsRoot}
@@ -19,7 +20,7 @@ use Rattle.alias_paths.specs.inner.Marking.{AreJust, AddsMarks, HasMarkedSecond,
 use Rattle.alias_paths.specs.inner.Kept.{AreStoredMarks}
 use Rattle.alias_paths.specs.inner.Flows.{SharesWithOne}
 use Rattle.alias_paths.specs.inner.Contents.{IsRootOfSource}
-use Rattle.alias_analysis.specs.inner.Contents.{IsMergeAfter, IsPairAround, SharesWithLast, IsLastOfMarked, AreAliased, IsNear, IsBeside, IsMarkedBeside}
+use Rattle.alias_analysis.specs.inner.Contents.{IsMergeAfter, IsPairAround, SharesWithLast, IsLastOfMarked, AreAliased, IsBegin, IsNear, IsBeside, IsMarkedBeside}
 use Rattle.alias_paths.proofs.Adding.{marks_as}
 use Rattle.alias_paths.proofs.Rooting.{just_as, walk_as}
 use Rattle.alias_paths.proofs.Sharers.{last_origin}
@@ -102,29 +103,23 @@ aliased_by s last_pairs sharers old new are h =
     (λ o m. record { variable = m.first; last = (are.each m.first o).0 m.among; marked = m.marked })
     (λ o l. record { first = l.variable; among = (are.each l.variable o).1 l.last; marked = l.marked })
 
--- ---- the whole
+-- ---- where content begins
 
-module _ (s : System) (flat : IsFlat s) (set : List ℕ) (y : ℕ) (roots sharers begins reached : List Bool) (rooted : AreJust (length s.equations) (IsRootOfSource s set y) roots) (shared : AreJust (length s.equations) (SharesWithLast s set y) sharers) (aliased : AreAliased s roots sharers begins) (ends : AreReached (GoesAround s set y) begins reached) where
-  near_from : (x : ℕ) → IsTrue (has_mark reached x) → IsNear s set y x
-  near_from x m =
-      let way = (ends.each x).0 m in
-      elim (aliased.from way.start way.is_start) [
-        | inl at_root ↦
-            let r = (rooted.each way.start).0 at_root in
-            record { source = r.source; written = r.written; root = way.start; source_root = r.root; origin = way.start; begins = r.root.origin; aliases = same; around = way.walk }
-        | inr at_last ↦
-            let w = (shared.each at_last.variable).0 at_last.marked in
-            record {
-              source = w.source;
-              written = w.written;
-              root = w.comes.root;
-              source_root = w.comes.is_root;
-              origin = way.start;
-              begins = last_origin s flat set at_last.variable way.start at_last.last;
-              aliases = lasts at_last.last w.comes.last w.shares;
-              around = way.walk;
-            }
-      ]
+module _ (s : System) (flat : IsFlat s) (set : List ℕ) (y : ℕ) (roots sharers begins : List Bool) (rooted : AreJust (length s.equations) (IsRootOfSource s set y) roots) (shared : AreJust (length s.equations) (SharesWithLast s set y) sharers) (aliased : AreAliased s roots sharers begins) where
+  begin_from : (o : ℕ) → IsTrue (has_mark begins o) → IsBegin s set y o
+  begin_from o m = elim (aliased.from o m) [
+    | inl at_root ↦ let r = (rooted.each o).0 at_root in record { source = r.source; written = r.written; root = o; source_root = r.root; begins = r.root.origin; aliases = same }
+    | inr at_last ↦
+        let w = (shared.each at_last.variable).0 at_last.marked in
+        record {
+          source = w.source;
+          written = w.written;
+          root = w.comes.root;
+          source_root = w.comes.is_root;
+          begins = last_origin s flat set at_last.variable o at_last.last;
+          aliases = lasts at_last.last w.comes.last w.shares;
+        }
+  ]
 
   begun : (source root origin : ℕ) → IsWritten s source y → IsRoot s set root source → Alias s set origin root → IsTrue (has_mark begins origin)
   begun source root origin written at_root same = aliased.kept origin ((rooted.each origin).1 (record { source = source; written = written; root = at_root }))
@@ -135,11 +130,27 @@ module _ (s : System) (flat : IsFlat s) (set : List ℕ) (y : ℕ) (roots sharer
         marked = (shared.each v).1 (record { source = source; written = written; last = w; comes = record { root = root; is_root = at_root; last = second }; shares = h });
       })
 
-  from_near : (x : ℕ) → IsNear s set y x → IsTrue (has_mark reached x)
-  from_near x b = (ends.each x).1 (record { start = b.origin; is_start = begun b.source b.root b.origin b.written b.source_root b.aliases; walk = b.around })
+  pub begins_are : AreJust (length s.equations) (IsBegin s set y) begins
+  begins_are = record { one_each = aliased.one_each ∙ rooted.one_each; each = λ o. (begin_from o, λ b. begun b.source b.root o b.written b.source_root b.aliases) }
 
-  pub near_are : length reached ≡ length s.equations → AreJust (length s.equations) (IsNear s set y) reached
-  near_are size = record { one_each = size; each = λ x. (near_from x, from_near x) }
+-- ---- the whole
+
+module _ (s : System) (set : List ℕ) (y : ℕ) where
+  -- a walk around y from where content begins leads to what is near y
+  pub near_of : (o x : ℕ) → IsBegin s set y o → Walk (GoesAround s set y) o x → IsNear s set y x
+  near_of o x b walk = record { source = b.source; written = b.written; root = b.root; source_root = b.source_root; origin = o; begins = b.begins; aliases = b.aliases; around = walk }
+
+  pub begin_of : (x : ℕ) (n : IsNear s set y x) → IsBegin s set y n.origin
+  begin_of x n = record { source = n.source; written = n.written; root = n.root; source_root = n.source_root; begins = n.begins; aliases = n.aliases }
+
+  pub near_are : (begins reached : List Bool) → AreJust (length s.equations) (IsBegin s set y) begins → AreReached (GoesAround s set y) begins reached → length reached ≡ length s.equations → AreJust (length s.equations) (IsNear s set y) reached
+  near_are begins reached just ends size = record {
+    one_each = size;
+    each = λ x. (
+      (λ m. let way = (ends.each x).0 m in near_of way.start x ((just.each way.start).0 way.is_start) way.walk),
+      (λ n. (ends.each x).1 (record { start = n.origin; is_start = (just.each n.origin).1 (begin_of x n); walk = n.around })),
+    );
+  }
 
 -- what is near an update and beside it bypasses it
 pub bypasses_near : (s : System) (set : List ℕ) (y x : ℕ) → IsNear s set y x → IsBeside s y x → Bypasses s set y x
@@ -173,3 +184,10 @@ bypassed_are s set y near marks just h =
     just_as (length s.equations) (IsMarkedBeside s y near) (Bypasses s set y) marks h
     (λ x m. bypasses_near s set y x ((just.each x).0 m.marked) m.beside)
     (λ x b. record { marked = (just.each x).1 (near_bypass s set y x b); beside = record { variable = b.variable; together = b.together } })
+
+-- and what bypasses it is near it, and beside it
+pub beside_are : (s : System) (set : List ℕ) (y : ℕ) (near marks : List Bool) → AreJust (length s.equations) (IsNear s set y) near → AreJust (length s.equations) (Bypasses s set y) marks → AreJust (length s.equations) (IsMarkedBeside s y near) marks
+beside_are s set y near marks just h =
+    just_as (length s.equations) (Bypasses s set y) (IsMarkedBeside s y near) marks h
+    (λ x b. record { marked = (just.each x).1 (near_bypass s set y x b); beside = record { variable = b.variable; together = b.together } })
+    (λ x m. bypasses_near s set y x ((just.each x).0 m.marked) m.beside)

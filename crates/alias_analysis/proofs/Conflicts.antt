@@ -11,26 +11,24 @@ use Rattle.flat_core.specs.Members.{is_in}
 use Rattle.flat_core.specs.System.{System}
 use Rattle.flat_core.proofs.Members.{Contains-in, in-Contains}
 use Rattle.translation_order.specs.Least.{IsLeast}
+use Rattle.alias_rules.specs.Bypass.{Bypasses}
 use Rattle.alias_rules.specs.Uses.{AreUpdates, IsStored}
 use Rattle.alias_rules.specs.Conflict.{IsKept, IsNotOverwritten, IsInConflict, IsFirst}
 use Rattle.alias_rules.proofs.Sharing.{both_stored}
 use Rattle.alias_rules.proofs.Updates.{update_low as low_of_update}
 use Rattle.alias_paths.specs.inner.Marking.{AreJust}
 use Rattle.alias_paths.specs.inner.Search.{AreMarkedIn}
-use Rattle.alias_analysis.specs.inner.Contents.{SharesWithLast, IsMarkedUnimplied, AreMarkedInBoth, IsNear, IsMarkedBeside}
+use Rattle.alias_analysis.specs.inner.Contents.{SharesWithLast, IsMarkedUnimplied, AreMarkedInBoth}
 use Rattle.alias_paths.proofs.Rooting.{just_as}
-use Rattle.alias_analysis.proofs.Bypassing.{bypasses_near, near_bypass}
 
-pub kept_are : (s : System) (set : List ℕ) (y : ℕ) (near stored both marks : List Bool) → AreJust (length s.equations) (IsNear s set y) near → AreJust (length s.equations) (IsStored s) stored → AreJust (length stored) (AreMarkedInBoth stored near) both → AreJust (length s.equations) (IsMarkedBeside s y both) marks → AreJust (length s.equations) (IsKept s set y) marks
-kept_are s set y near stored both marks just st found h =
-    just_as (length s.equations) (IsMarkedBeside s y both) (IsKept s set y) marks h
-    (λ x m.
-    let there = (found.each x).0 m.marked in
-    record { bypasses = bypasses_near s set y x ((just.each x).0 there.in_second) m.beside; stored = (st.each x).0 there.in_first })
-    (λ x k. record {
-      marked = (found.each x).1 (record { in_first = (st.each x).1 k.stored; in_second = (just.each x).1 (near_bypass s set y x k.bypasses) });
-      beside = record { variable = k.bypasses.variable; together = k.bypasses.together };
-    })
+pub kept_are : (s : System) (set : List ℕ) (y : ℕ) (near stored both : List Bool) → AreJust (length s.equations) (Bypasses s set y) near → AreJust (length s.equations) (IsStored s) stored → AreJust (length stored) (AreMarkedInBoth stored near) both → AreJust (length s.equations) (IsKept s set y) both
+kept_are s set y near stored both just st found = record {
+  one_each = found.one_each ∙ st.one_each;
+  each = λ x. (
+    (λ m. let there = (found.each x).0 m in record { bypasses = (just.each x).0 there.in_second; stored = (st.each x).0 there.in_first }),
+    (λ k. (found.each x).1 (record { in_first = (st.each x).1 k.stored; in_second = (just.each x).1 k.bypasses })),
+  );
+}
 
 pub not_overwritten_are : (s : System) (set : List ℕ) (y n : ℕ) (sharers marks : List Bool) → AreJust n (SharesWithLast s set y) sharers → AreJust n (IsMarkedUnimplied s y sharers) marks → AreJust n (IsNotOverwritten s set y) marks
 not_overwritten_are s set y n sharers marks shared h =

@@ -28,7 +28,7 @@ use Rattle.alias_paths.specs.declared.uses.Uses.{Uses}
 use Rattle.alias_paths.specs.inner.Pairs.{ArePairs, Adds, IsWanted, IsGiven, IsKeyBelow}
 use Rattle.alias_paths.specs.inner.Marking.{AreJust}
 use Rattle.alias_paths.specs.inner.Kept.{AreUses}
-use Rattle.alias_analysis.specs.inner.Constraints.{IsArgumentAt, IsNeeded, IsPrintOf, IsMarkedBefore, IsTakenBefore, WritesMarked, IsWrittenBefore, PassesMarked, IsPassedBefore, IsPrintedBefore, IsAskedFor, StandsBeforeUpdate, bypasses, takes}
+use Rattle.alias_analysis.specs.inner.Constraints.{IsArgumentAt, IsNeeded, IsPrintOf, IsMarkedBefore, IsTakenBefore, WritesMarked, IsWrittenBefore, PassesMarked, IsPassedBefore, IsPasserOf, HasMarkedPairs, IsPrintedBefore, IsAskedFor, StandsBeforeUpdate, bypasses, takes}
 use Rattle.alias_paths.proofs.Adding.{adds_none, adds_as, adds_then, given_more, keyed_next, keyed_all, pairs_of, of_steps_from}
 use Rattle.alias_paths.proofs.Using.{taker_low}
 use Rattle.alias_analysis.proofs.Conflicts.{is_inside}
@@ -143,6 +143,9 @@ module _ (marks : List Bool) (y : ℕ) where
         (λ a b g. record { is_wanted = exact.1 g.counts; first = g.first; second = g.second ∙ sym same })
         )
 
+    pub taker_given : (k : ℕ) (p : ℕ × ℕ) (Q : ℕ → ℕ → Type 0) (old mid new : List (ℕ × ℕ)) → k < length pairs → p ≡ get_or pairs k p → ((a b : ℕ) → Q a b → GivesTaker Counts p a b) → ((a b : ℕ) → GivesTaker Counts p a b → Q a b) → Adds old (IsGiven (take k pairs) (GivesTaker Counts)) mid → Adds mid Q new → Adds old (IsGiven (take (k + 1) pairs) (GivesTaker Counts)) new
+    taker_given k p Q old mid new lt is to from before added = given_more pairs (GivesTaker Counts) k p old mid new lt is before (adds_as mid Q (GivesTaker Counts p) new added to from)
+
     -- some variable with this equation counts
     pub record HasTaker (a b : ℕ) : Type 0 where
       pub variable : ℕ
@@ -173,6 +176,26 @@ module _ (marks : List Bool) (y : ℕ) where
       adds_as old (HasTaker pairs (WritesMarked marks y)) (IsWrittenBefore pairs marks y) new (takers_all pairs (WritesMarked marks y) k old new all h)
       (λ a b t. record { variable = t.variable; among = t.among; writes = t.counts; is = t.is })
       (λ a b t. record { variable = t.variable; among = t.among; counts = t.writes; is = t.is })
+
+  -- the pair of a marked equation is there
+  pub passer_there : (s : System) (p : ℕ × ℕ) (pairs : List (ℕ × ℕ)) → HasMarkedPairs marks y pairs → IsTrue (has_mark marks p.1) → Adds pairs (IsPasserOf s marks y p.0 p.1) pairs
+  passer_there s p pairs there marked = record {
+    kept = λ a b h. h;
+    there = λ a b g. subst (λ z. Before pairs z b) (sym g.first) (subst (Before pairs p.1) (sym g.is) (there p.1 marked));
+    from = λ a b h. inl h;
+  }
+
+  pub passer_added : (s : System) (p : ℕ × ℕ) (z : ℕ) (wanted : Bool) (old new : List (ℕ × ℕ)) → z ≡ y → IsTrue wanted ↔ PassesMarked s marks y p.0 p.1 → Adds old (IsWanted wanted p.1 z) new → Adds old (IsPasserOf s marks y p.0 p.1) new
+  passer_added s p z wanted old new same exact added =
+      adds_as old (IsWanted wanted p.1 z) (IsPasserOf s marks y p.0 p.1) new added
+      (λ a b w. record { passes = exact.0 w.is_wanted; first = w.first; is = w.second ∙ same })
+      (λ a b g. record { is_wanted = exact.1 g.passes; first = g.first; second = g.is ∙ sym same })
+
+  pub passer_more : (s : System) (pairs : List (ℕ × ℕ)) (k : ℕ) (p : ℕ × ℕ) (old mid new : List (ℕ × ℕ)) → k < length pairs → p ≡ get_or pairs k p → Adds old (IsGiven (take k pairs) (GivesTaker (PassesMarked s marks y))) mid → Adds mid (IsPasserOf s marks y p.0 p.1) new → Adds old (IsGiven (take (k + 1) pairs) (GivesTaker (PassesMarked s marks y))) new
+  passer_more s pairs k p old mid new lt is before added =
+      taker_given pairs (PassesMarked s marks y) k p (IsPasserOf s marks y p.0 p.1) old mid new lt is
+      (λ a b g. record { counts = g.passes; first = g.first; second = g.is })
+      (λ a b g. record { passes = g.counts; first = g.first; is = g.second }) before added
 
   pub passers_all : (s : System) (pairs : List (ℕ × ℕ)) (k : ℕ) (old new : List (ℕ × ℕ)) → k ≡ length pairs → Adds old (IsGiven (take k pairs) (GivesTaker (PassesMarked s marks y))) new → Adds old (IsPassedBefore s pairs marks y) new
   passers_all s pairs k old new all h =

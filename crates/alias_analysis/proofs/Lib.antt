@@ -4,3 +4,7 @@ pub mod Constraining
 pub mod Circling
 pub mod Linking
 pub mod Nearing
+pub mod Ways
+pub mod Larger
+pub mod Widening
+pub mod GoingOn

@@ -3,4 +3,5 @@ pub mod Contents
 pub mod Constraints
 pub mod Answer
 pub mod Answers
+pub mod Beginning
 pub mod Nears

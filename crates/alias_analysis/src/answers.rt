@@ -1,6 +1,6 @@
 // What triggers answer about updates, kept from one set of updates to the next.
 
-ghost use Rattle.std.specs.Prelude.{◌≡◌, ◌↔◌, ◌<◌, length, map, IfOk, IsTrue};
+ghost use Rattle.std.specs.Prelude.{◌≡◌, ◌↔◌, ◌<◌, length, map, IfOk, OnOk, IsTrue};
 ghost use Rattle.translation_order.specs.Order.{AreOfSteps};
 ghost use Rattle.trigger_rules.specs.Question.{Implies};
 ghost use Rattle.trigger_formulas.specs.inner.Kept.{AreTriggersOf};
@@ -8,10 +8,13 @@ ghost use Rattle.alias_paths.specs.inner.Kept.{AreUses};
 ghost use Rattle.alias_analysis.specs.inner.Answers.{Holds, IsKnown, IsRow, AreRows, answer_at};
 ghost use Rattle.alias_analysis.specs.inner.Contents.{IsBeside};
 
+use crate::around::is_merge;
+use crate::conflict::both;
 use alias_paths::links::Links;
 use alias_paths::numbers::{Numbers, one_of};
 use alias_paths::pairs::{push_all, turned};
 use alias_paths::reach::reached;
+use alias_paths::sharing::stored;
 use alias_paths::uses::{Uses, is_variable};
 use flat_core::flat::Flat;
 use std::alloc::Global;
@@ -152,17 +155,19 @@ fn row(
     Ok(row)
 }
 
-/// The answers about an equation and what its content may come to, if it is an update that runs.
+/// The answers about an equation and which of these its content may come to, if it is an update that runs.
 fn row_of(
     alloc: Global,
     flat: &Flat,
     triggers: &Triggers,
     question: Question,
     links: &Links,
+    asked: &Numbers,
     id: EqId,
 ) -> Result<Vec<Option<bool>>, NoMemory>
     requires triggers { AreTriggersOf triggers.now flat.now }
     requires there { id < length flat.now.equations }
+    requires asked { length asked.now ≡ length flat.now.equations }
     requires links { AreOfSteps (length flat.now.equations) links.now }
     ensures { IfOk result (λ row. IsRow question flat.now id row.items) }
 {
@@ -171,24 +176,28 @@ fn row_of(
     }
     let one = one_of(alloc, flat.count() as usize, id.get(), true)?;
     let linked = reached(alloc, links, &one)?;
-    row(alloc, flat, triggers, question, id, &linked)
+    let wanted = both(alloc, asked, &linked)?;
+    row(alloc, flat, triggers, question, id, &wanted)
 }
 
-/// The answers about all updates.
+/// The answers about all updates and each of these.
 fn rows(
     alloc: Global,
     flat: &Flat,
     triggers: &Triggers,
     question: Question,
     links: &Links,
+    asked: &Numbers,
 ) -> Result<Vec<Vec<Option<bool>>>, NoMemory>
     requires triggers { AreTriggersOf triggers.now flat.now }
+    requires asked { length asked.now ≡ length flat.now.equations }
     requires links { AreOfSteps (length flat.now.equations) links.now }
     ensures { IfOk result (λ rows. AreRows question flat.now (map (λ v. v.items) rows.items)) }
 {
     let mut rows = Vec::new(alloc);
     for number in 0..flat.count() {
-        rows.push(row_of(alloc, flat, triggers, question, links, EqId::new(number))?)?;
+        let id = EqId::new(number);
+        rows.push(row_of(alloc, flat, triggers, question, links, asked, id)?)?;
     }
     Ok(rows)
 }
@@ -207,6 +216,52 @@ fn content_links(alloc: Global, flat: &Flat, uses: &Uses) -> Result<Links, NoMem
     Links::of(alloc, flat.count() as usize, pairs)
 }
 
+/// Whether an equation merges this one before another.
+fn is_merged_first(flat: &Flat, id: EqId, argument: EqId) -> bool
+    requires { id < length flat.now.equations }
+{
+    let equation = flat.equation(id);
+    match equation.args.ids().first() {
+        Some(first) => is_merge(&equation.op) && *first == argument,
+        None => false,
+    }
+}
+
+/// Marks the first arguments of merges.
+fn mark_merged(asked: &mut Numbers, flat: &Flat, passed: &[(u32, u32)]) -> Result<(), NoMemory>
+    requires there { AreOfSteps (length flat.now.equations) passed.now }
+    requires one_each { length asked.old ≡ length flat.now.equations }
+    ensures { OnOk result (length asked.new ≡ length asked.old) }
+{
+    for (variable, passer) in passed {
+        let wanted = is_merged_first(flat, EqId::new(*passer), EqId::new(*variable));
+        asked.mark_if(*variable, wanted)?;
+    }
+    Ok(())
+}
+
+/// The equations of which it is asked whether they have an event wherever an update has one: stored variables, and first arguments of
+/// merges.
+fn asked_implied(alloc: Global, flat: &Flat, uses: &Uses) -> Result<Numbers, NoMemory>
+    requires { AreUses flat.now uses.now }
+    ensures { IfOk result (λ a. length a ≡ length flat.now.equations) }
+{
+    let mut asked = stored(alloc, flat, uses)?;
+    mark_merged(&mut asked, flat, uses.passed.as_slice())?;
+    Ok(asked)
+}
+
+/// The aggregate variables.
+fn variables(alloc: Global, flat: &Flat) -> Result<Numbers, NoMemory>
+    ensures { IfOk result (λ v. length v ≡ length flat.now.equations) }
+{
+    let mut variables = Numbers::none(alloc, flat.count() as usize)?;
+    for number in 0..flat.count() {
+        variables.mark_if(number, is_variable(flat, EqId::new(number)))?;
+    }
+    Ok(variables)
+}
+
 /// What is known of two equations.
 fn known(rows: &[Vec<Option<bool>>], a: EqId, b: EqId) -> Option<bool>
     ensures { result ≡ answer_at (map (λ v. v.items) rows.now) a b }
@@ -221,7 +276,7 @@ fn known(rows: &[Vec<Option<bool>>], a: EqId, b: EqId) -> Option<bool>
 }
 
 impl<'a> Answers<'a> {
-    /// Asks about each update and all that its content may come to.
+    /// Asks about each update and all that its content may come to, whether it is implied only where that is asked for some set.
     pub fn of(
         alloc: Global,
         flat: &'a Flat,
@@ -233,8 +288,10 @@ impl<'a> Answers<'a> {
         ensures { IfOk result (λ a. a ≡ flat.now) }
     {
         let links = content_links(alloc, flat, uses)?;
-        let implied = rows(alloc, flat, triggers, Question::Implied, &links)?;
-        let beside = rows(alloc, flat, triggers, Question::Beside, &links)?;
+        let merged = asked_implied(alloc, flat, uses)?;
+        let implied = rows(alloc, flat, triggers, Question::Implied, &links, &merged)?;
+        let variables = variables(alloc, flat)?;
+        let beside = rows(alloc, flat, triggers, Question::Beside, &links, &variables)?;
         Ok(Answers {
             flat,
             triggers,

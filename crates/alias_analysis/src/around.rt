@@ -2,7 +2,7 @@
 
 ghost use Rattle.std.specs.Prelude.{◌≡◌, ◌↔◌, ◌<◌, ℕ, List, length, IfOk, OnOk, IsTrue};
 ghost use Rattle.flat_core.specs.declared.equation.Op.TheVariants as op;
-ghost use Rattle.flat_core.specs.inner.Marks.{is_marked, is_waiting, Spread};
+ghost use Rattle.flat_core.specs.inner.Marks.{Spread, Spreading};
 ghost use Rattle.translation_order.specs.Order.{AreOfSteps};
 ghost use Rattle.alias_rules.specs.Roots.{Carries};
 ghost use Rattle.alias_rules.specs.Bypass.{PassesOver};
@@ -20,7 +20,7 @@ use std::alloc::Global;
 use tsl_value::ids::EqId;
 use tsl_value::memory::NoMemory;
 
-fn is_merge(operation: &Op) -> bool
+pub(crate) fn is_merge(operation: &Op) -> bool
     ensures { IsTrue result ↔ (operation.now ≡ op.Merge) }
 {
     match operation {
@@ -146,8 +146,8 @@ fn mark_around(
     Ok(())
 }
 
-/// Follows pairs around the update from all that is marked, again until nothing waits.
-fn spread_around(
+/// Follows pairs around the update from all that waits, again until nothing does. What follows on all others has to be marked.
+pub(crate) fn spread_around(
     search: &mut Search,
     alloc: Global,
     flat: &Flat,
@@ -159,7 +159,7 @@ fn spread_around(
     requires update { update < length flat.now.equations }
     requires one_each { length search.old.marked.items ≡ length flat.now.equations }
     requires there { AreOfSteps (length flat.now.equations) carriers.now }
-    requires all_wait { (i : ℕ) → is_marked (marks_of search.old) i ≡ is_waiting (marks_of search.old) i }
+    requires goes_on { Spreading (IsPairAround flat.now update carriers.now) (marks_of search.old) (marks_of search.old) }
     ensures spread { OnOk result (Spread (IsPairAround flat.now update carriers.now) (marks_of search.old) (marks_of search.new)) }
     ensures listed { OnOk result (AreListed search.old → AreListed search.new) }
 {

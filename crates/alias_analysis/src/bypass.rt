@@ -2,13 +2,12 @@
 
 ghost use Rattle.std.specs.Prelude.{◌≡◌, ◌↔◌, ◌<◌, length, IfOk, OnOk, IsTrue};
 ghost use Rattle.std.specs.List.{All};
-ghost use Rattle.alias_rules.specs.Bypass.{Bypasses};
 ghost use Rattle.alias_paths.specs.inner.Kept.{AreUses, ArePaths, AreStoredMarks};
 ghost use Rattle.alias_paths.specs.inner.Flows.{SharesWithOne};
 ghost use Rattle.alias_paths.specs.inner.Marking.{AreJust};
 ghost use Rattle.alias_paths.specs.inner.Contents.{IsRootOfSource};
 ghost use Rattle.alias_analysis.specs.inner.Contents.{AreAliased, IsMarkedBeside};
-ghost use Rattle.alias_analysis.specs.inner.Nears.{AreNear, AreShared, AreSharers};
+ghost use Rattle.alias_analysis.specs.inner.Nears.{AreBegun, AreNear, AreShared, AreSharers};
 
 use crate::answers::Answers;
 use crate::around::reached_around;
@@ -30,11 +29,20 @@ pub struct Sharers {
     pub all: Numbers,
 }
 
-/// Who shares with last values of an update's source, and where content of the source comes around the update.
+/// Who shares with last values of an update's source, and where content begins that may be that of the source.
+#[derive(Drop)]
+pub struct Begun {
+    pub sharers: Sharers,
+    pub begins: Numbers,
+}
+
+/// Who shares with last values of an update's source, where content of the source comes around the update, and which variables of these
+/// bypass the update.
 #[derive(Drop)]
 pub struct Near {
     pub sharers: Sharers,
     pub around: Numbers,
+    pub bypassed: Numbers,
 }
 
 /// Whether the same numbers are marked.
@@ -45,7 +53,7 @@ fn are_same(first: &Numbers, second: &Numbers) -> bool
 }
 
 /// An equal set of numbers.
-fn copy(alloc: Global, numbers: &Numbers) -> Result<Numbers, NoMemory>
+pub fn copy(alloc: Global, numbers: &Numbers) -> Result<Numbers, NoMemory>
     ensures { IfOk result (λ copy. copy ≡ numbers.now) }
 {
     let marks = Vec::from_slice(alloc, numbers.marks())?;
@@ -136,34 +144,31 @@ fn mark_aliases(
     Ok(())
 }
 
-/// What is near an update, after it was found for some updates of the set.
-pub fn near_update(
+/// Where content begins that may be that of an update's source, after it was found for some updates of the set.
+pub fn begins_of(
     alloc: Global,
     flat: &Flat,
-    answers: &Answers,
     uses: &Uses,
     set: &EqSet,
     paths: &Paths,
     update: EqId,
     before: &[Near],
-) -> Result<Near, NoMemory>
-    requires answers { answers.now ≡ flat.now }
+) -> Result<Begun, NoMemory>
     requires uses { AreUses flat.now uses.now }
     requires paths { ArePaths flat.now set.now paths.now }
     requires update { update < length flat.now.equations }
     requires before { All (AreShared flat.now set.now) before.now }
-    ensures { IfOk result (AreNear flat.now set.now update) }
+    ensures { IfOk result (AreBegun flat.now set.now update) }
 {
     flat.assert_whole();
     let mut begins = source_roots(alloc, flat, uses, set, paths, update)?;
     let sharers = last_sharers(alloc, flat, uses, set, paths, update, &begins, before)?;
     mark_aliases(flat, uses, &mut begins, &sharers.all)?;
-    let around = reached_around(alloc, flat, answers, &paths.carriers, &begins, update)?;
-    Ok(Near { sharers, around })
+    Ok(Begun { sharers, begins })
 }
 
 /// Whether an equation is marked, and is a variable that may have an event together with the update.
-fn is_beside(
+pub(crate) fn is_beside(
     alloc: Global,
     flat: &Flat,
     answers: &Answers,
@@ -207,19 +212,30 @@ pub fn beside(
     Ok(beside)
 }
 
-/// The variables that bypass the update.
-pub fn bypassed(
+/// What is near an update, after it was found for some updates of the set.
+pub fn near_update(
     alloc: Global,
     flat: &Flat,
     answers: &Answers,
+    uses: &Uses,
     set: &EqSet,
-    near: &Near,
+    paths: &Paths,
     update: EqId,
-) -> Result<Numbers, NoMemory>
+    before: &[Near],
+) -> Result<Near, NoMemory>
     requires answers { answers.now ≡ flat.now }
-    requires near { AreNear flat.now set.now update near.now }
+    requires uses { AreUses flat.now uses.now }
+    requires paths { ArePaths flat.now set.now paths.now }
     requires update { update < length flat.now.equations }
-    ensures { IfOk result (AreJust (length flat.now.equations) (Bypasses flat.now set.now update)) }
+    requires before { All (AreShared flat.now set.now) before.now }
+    ensures { IfOk result (AreNear flat.now set.now update) }
 {
-    beside(alloc, flat, answers, update, &near.around)
+    let begun = begins_of(alloc, flat, uses, set, paths, update, before)?;
+    let around = reached_around(alloc, flat, answers, &paths.carriers, &begun.begins, update)?;
+    let bypassed = beside(alloc, flat, answers, update, &around)?;
+    Ok(Near {
+        sharers: begun.sharers,
+        around,
+        bypassed,
+    })
 }

@@ -10,7 +10,7 @@ ghost use Rattle.alias_analysis.specs.inner.Contents.{IsMarkedUnimplied, AreMark
 ghost use Rattle.alias_analysis.specs.inner.Nears.{AreNear, AreNears};
 
 use crate::answers::Answers;
-use crate::bypass::{Near, beside};
+use crate::bypass::Near;
 use crate::nears::Nears;
 use crate::reason::Reason;
 use alias_paths::numbers::Numbers;
@@ -29,7 +29,7 @@ fn are_marked(first: &Numbers, second: &Numbers, number: u32) -> bool
 }
 
 /// What is marked in both.
-fn both(alloc: Global, first: &Numbers, second: &Numbers) -> Result<Numbers, NoMemory>
+pub(crate) fn both(alloc: Global, first: &Numbers, second: &Numbers) -> Result<Numbers, NoMemory>
     requires { length second.now ≡ length first.now }
     ensures { IfOk result (AreJust (length first.now) (AreMarkedInBoth first.now second.now)) }
 {
@@ -41,24 +41,20 @@ fn both(alloc: Global, first: &Numbers, second: &Numbers) -> Result<Numbers, NoM
     Ok(both)
 }
 
-/// The variables that keep the update. Stored variables are fewer than those near the update, so these alone are asked about.
+/// The variables that keep the update. Stored variables are fewer than those that bypass the update, so these are gone through.
 fn kept(
     alloc: Global,
     flat: &Flat,
-    answers: &Answers,
     set: &EqSet,
     stored: &Numbers,
     near: &Near,
     update: EqId,
 ) -> Result<Numbers, NoMemory>
-    requires answers { answers.now ≡ flat.now }
     requires stored { AreJust (length flat.now.equations) (IsStored flat.now) stored.now }
     requires near { AreNear flat.now set.now update near.now }
-    requires update { update < length flat.now.equations }
     ensures { IfOk result (AreJust (length flat.now.equations) (IsKept flat.now set.now update)) }
 {
-    let marked = both(alloc, stored, &near.around)?;
-    beside(alloc, flat, answers, update, &marked)
+    both(alloc, stored, &near.bypassed)
 }
 
 /// Whether an equation is marked, and need not have an event wherever the update has one.
@@ -154,20 +150,17 @@ pub fn update_at(set: &EqSet, place: usize) -> EqId
 fn kept_by(
     alloc: Global,
     flat: &Flat,
-    answers: &Answers,
     set: &EqSet,
     stored: &Numbers,
     near: &Near,
     update: EqId,
 ) -> Result<Option<EqId>, NoMemory>
-    requires answers { answers.now ≡ flat.now }
     requires stored { AreJust (length flat.now.equations) (IsStored flat.now) stored.now }
     requires near { AreNear flat.now set.now update near.now }
-    requires update { update < length flat.now.equations }
     ensures { IfOk result (IsLeastOrNone (IsKept flat.now set.now update)) }
 {
     flat.assert_whole();
-    let kept = kept(alloc, flat, answers, set, stored, near, update)?;
+    let kept = kept(alloc, flat, set, stored, near, update)?;
     Ok(least(&kept))
 }
 
@@ -194,11 +187,9 @@ fn not_overwritten_in(
 fn first_kept(
     alloc: Global,
     flat: &Flat,
-    answers: &Answers,
     set: &EqSet,
     nears: &Nears,
 ) -> Result<Option<(EqId, EqId)>, NoMemory>
-    requires answers { answers.now ≡ flat.now }
     requires nears { AreNears flat.now set.now nears.now }
     requires updates { AreUpdates flat.now set.now }
     ensures { IfOk result (IsFirstOrNone set.now (IsKept flat.now set.now)) }
@@ -206,7 +197,7 @@ fn first_kept(
     for place in 0..set.len() {
         let update = update_at(set, place);
         let near = &nears.updates[place];
-        match kept_by(alloc, flat, answers, set, &nears.stored, near, update)? {
+        match kept_by(alloc, flat, set, &nears.stored, near, update)? {
             Some(by) => return Ok(Some((update, by))),
             None => {}
         }
@@ -251,7 +242,7 @@ pub fn first_conflict(
     requires updates { AreUpdates flat.now set.now }
     ensures { IfOk result (λ r. IsFirstConflict flat.now set.now r) }
 {
-    match first_kept(alloc, flat, answers, set, nears)? {
+    match first_kept(alloc, flat, set, nears)? {
         Some(first) => Ok(Some(Reason::Kept {
             update: first.0,
             by: first.1,

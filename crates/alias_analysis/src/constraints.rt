@@ -9,12 +9,13 @@ ghost use Rattle.alias_paths.specs.inner.Kept.{AreUses};
 ghost use Rattle.alias_paths.specs.inner.Pairs.{Adds, ArePairs};
 ghost use Rattle.alias_analysis.specs.inner.Constraints.{IsArgumentAt, IsNeeded, IsPrintOf, IsMarkedBefore, IsTakenBefore};
 ghost use Rattle.alias_analysis.specs.inner.Constraints.{WritesMarked, IsWrittenBefore, PassesMarked, IsPassedBefore, IsPrintedBefore};
+ghost use Rattle.alias_analysis.specs.inner.Constraints.{HasMarkedPairs, IsPasserOf};
 ghost use Rattle.alias_analysis.specs.inner.Constraints.{StandsBeforeUpdate};
 ghost use Rattle.alias_analysis.specs.inner.Nears.{AreNear, AreNears};
 
 use crate::answers::Answers;
 use crate::around::passes_over;
-use crate::bypass::{Near, bypassed};
+use crate::bypass::Near;
 use crate::conflict::update_at;
 use crate::nears::Nears;
 use alias_paths::pairs::push_if;
@@ -147,7 +148,36 @@ fn passes_marked(
     Ok(!over)
 }
 
-/// Appends a pair of each equation that passes a marked one on where the update has an event, and the update.
+/// Appends a pair of an equation that passes a marked one on where the update has an event, and the update. One that is marked itself
+/// has its pair already.
+fn push_passer(
+    pairs: &mut Edges,
+    alloc: Global,
+    flat: &Flat,
+    answers: &Answers,
+    marks: &[bool],
+    edge: (u32, u32),
+    update: EqId,
+) -> Result<(), NoMemory>
+    requires answers { answers.now ≡ flat.now }
+    requires update { update < length flat.now.equations }
+    requires one_each { length marks.now ≡ length flat.now.equations }
+    requires variable { edge.0 < length marks.now }
+    requires there { edge.1 < length flat.now.equations }
+    requires marked { HasMarkedPairs marks.now update pairs.old }
+    ensures { OnOk result (Adds pairs.old (IsPasserOf flat.now marks.now update edge.0 edge.1) pairs.new) }
+{
+    let (_, passer) = edge;
+    if marks[passer as usize] {
+        return Ok(());
+    }
+    let wanted = passes_marked(alloc, flat, answers, marks, edge, update)?;
+    push_if(pairs, (passer, update.get()), wanted)?;
+    Ok(())
+}
+
+/// Appends a pair of each equation that passes a marked one on where the update has an event, and the update, after the marked ones
+/// have theirs.
 fn push_passers(
     pairs: &mut Edges,
     alloc: Global,
@@ -161,12 +191,12 @@ fn push_passers(
     requires update { update < length flat.now.equations }
     requires one_each { length marks.now ≡ length flat.now.equations }
     requires there { AreOfSteps (length flat.now.equations) passed.now }
+    requires marked { HasMarkedPairs marks.now update pairs.old }
     ensures { OnOk result (Adds pairs.old (IsPassedBefore flat.now passed.now marks.now update) pairs.new) }
 {
     for (variable, passer) in passed {
         let edge = (*variable, *passer);
-        let wanted = passes_marked(alloc, flat, answers, marks, edge, update)?;
-        push_if(pairs, (*passer, update.get()), wanted)?;
+        push_passer(pairs, alloc, flat, answers, marks, edge, update)?;
     }
     Ok(())
 }
@@ -209,8 +239,7 @@ fn push_update(
 {
     flat.assert_whole();
     let number = update.get();
-    let bypassed = bypassed(alloc, flat, answers, set, near, update)?;
-    let marks = bypassed.marks();
+    let marks = near.bypassed.marks();
     let passed = uses.passed.as_slice();
     push_marked(pairs, marks, number)?;
     push_readers(pairs, uses.read.as_slice(), marks, number)?;

@@ -3,6 +3,7 @@
 ghost use Rattle.std.specs.Prelude.{◌≡◌, ◌↔◌, ◌<◌, ℕ, IfOk, IsTrue};
 ghost use Rattle.std.specs.List.Sorted.{IsStrictlyIncreasing};
 ghost use Rattle.flat_core.specs.Members.{is_in};
+ghost use Rattle.flat_core.specs.WellFormed.{IsWellFormed};
 ghost use Rattle.trigger_formulas.specs.inner.Kept.{AreTriggersOf};
 ghost use Rattle.alias_rules.specs.Uses.{IsVariable, AreUpdates};
 ghost use Rattle.alias_rules.specs.Roots.{IsRoot};
@@ -12,13 +13,14 @@ ghost use Rattle.alias_rules.specs.Conflict.{StandsBefore};
 ghost use Rattle.translation_order.specs.Order.{Before, AreOfSteps};
 ghost use Rattle.alias_rules.specs.Steps.{step_count};
 ghost use Rattle.alias_analysis.specs.inner.Answer.{IsFirstConflict};
+ghost use Rattle.alias_analysis.specs.inner.Beginning.{NoneIsNil};
 ghost use Rattle.alias_analysis.specs.inner.Nears.{AreNears};
 
 use crate::answers::Answers;
-use crate::bypass::{bypassed, near_update};
+use crate::bypass::near_update;
 use crate::conflict::first_conflict;
 use crate::constraints::constraints;
-use crate::nears::{Nears, near_all};
+use crate::nears::{Nears, near_all, near_more};
 use crate::reason::Reason;
 use alias_paths::numbers::set_of;
 use alias_paths::paths::Paths;
@@ -107,8 +109,7 @@ impl<'a> Graph<'a> {
         let uses = &self.uses;
         let answers = &self.answers;
         let near = near_update(alloc, self.flat, answers, uses, set, &paths, update, &[])?;
-        let bypassed = bypassed(alloc, self.flat, answers, set, &near, update)?;
-        set_of(alloc, &bypassed)
+        set_of(alloc, &near.bypassed)
     }
 
     /// The first update of the set that is kept, or else the first that is not overwritten. `None` comes exactly where there is none.
@@ -136,6 +137,32 @@ impl<'a> Graph<'a> {
         ensures { IfOk result (AreNears self.now set.now) }
     {
         near_all(alloc, self.flat, &self.answers, &self.uses, set)
+    }
+
+    /// What is near the updates of the set, by what is near those of a smaller one. It takes less time, and answers the same.
+    pub fn near_more(
+        &self,
+        alloc: Global,
+        set: &EqSet,
+        smaller: &EqSet,
+        earlier: &Nears,
+    ) -> Result<Nears, NoMemory>
+        requires well_formed { IsWellFormed self.now }
+        requires none_is_nil { NoneIsNil self.now }
+        requires updates { AreUpdates self.now set.now }
+        requires wider { (x : ℕ) → IsTrue (is_in smaller.now x) → IsTrue (is_in set.now x) }
+        requires earlier { AreNears self.now smaller.now earlier.now }
+        ensures { IfOk result (AreNears self.now set.now) }
+    {
+        near_more(
+            alloc,
+            self.flat,
+            &self.answers,
+            &self.uses,
+            set,
+            smaller,
+            earlier,
+        )
     }
 
     /// The first update of the set that is kept, or else the first that is not overwritten, by what is near its updates.

@@ -8,4 +8,6 @@ mod conflict;
 mod constraints;
 pub mod graph;
 pub mod nears;
+mod onward;
 pub mod reason;
+mod wider;

@@ -1,5 +1,5 @@
 -- What is chosen, one equation after the other.
-use Rattle.std.proofs.Common.{◌≡◌, ℕ, ◌+◌, ◌<◌, ◌≤◌, List, [], ◌∷◌, ◌++◌, length, Contains, sym, subst, inl, inr, arith}
+use Rattle.std.proofs.Common.{◌≡◌, ℕ, ◌+◌, ◌<◌, ◌≤◌, List, [], ◌∷◌, ◌++◌, length, Contains, sym, subst, ◌∙◌, inl, inr, arith}
 use Rattle.std.specs.Prelude.{IsTrue}
 use Rattle.std.specs.List.Sorted.{IsStrictlyIncreasing}
 use Rattle.std.proofs.lemmas.Bool.{cases_lt, false≢true}
@@ -18,7 +18,7 @@ use Rattle.alias_rules.proofs.Updates.{update_low}
 use Rattle.flat_core.proofs.Rising.{in_push, push_old, push_new, increasing_push}
 use Rattle.alias_rules.proofs.Tried.{tried_before}
 use Rattle.alias_analysis.specs.declared.reason.Reason.{Reason}
-use Rattle.last_use.specs.inner.Beginning.{NoneIsNil}
+use Rattle.alias_analysis.specs.inner.Beginning.{NoneIsNil}
 use Rattle.last_use.specs.inner.Blocks.{IsWithBlock}
 use Rattle.last_use.specs.inner.Choosing.{IsOutsideBelow, IsChosenBelow}
 use Rattle.last_use.specs.Reasons.{IsReason, updates_of, AreReasons}
@@ -44,6 +44,9 @@ module _ (s : System) where
       | inl old ↦ ((chosen.listed.each y).0 old).update
       | inr same ↦ subst (IsUpdate s) same update
     ]
+
+    pub tried_wider : (tried : List ℕ) → tried ≡ with_tried set n → (x : ℕ) → IsTrue (is_in set x) → IsTrue (is_in tried x)
+    tried_wider tried is x h = subst (λ l. IsTrue (is_in l x)) (sym (is ∙ tried_is s n set chosen.listed)) (push_old set n x h)
 
     -- the equation is no update that runs
     pub skipped : (IsUpdate s n → ⊥) → IsChosenBelow s (n + 1) set reasons

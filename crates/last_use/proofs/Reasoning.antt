@@ -1,14 +1,16 @@
 -- A set has one reason at most, and none where it is fine.
-use Rattle.std.proofs.Common.{◌≡◌, ℕ, List, Some, ap}
+use Rattle.std.proofs.Common.{◌≡◌, ℕ, List, Option, None, Some, ap}
 use Rattle.flat_core.specs.System.{System}
 use Rattle.translation_order.proofs.Cycles.{walked_cycle, cycle_path, one_cycle}
-use Rattle.alias_rules.specs.Conflict.{StandsBefore, IsKept, IsNotOverwritten, IsReasonCycle}
+use Rattle.alias_rules.specs.Conflict.{StandsBefore, IsKept, IsNotOverwritten, NoneKept, AllOverwritten, IsReasonCycle}
 use Rattle.alias_rules.specs.Fine.{IsFine}
 use Rattle.alias_rules.specs.Steps.{step_count}
 use Rattle.alias_rules.proofs.Firsts.{one_first}
 use Rattle.alias_analysis.specs.declared.reason.Reason.{Reason}
 use Rattle.alias_analysis.specs.declared.reason.Reason.TheVariants.{Kept, NotOverwritten, Cycle}
 use Rattle.alias_analysis.specs.inner.Answer.{IsFirstConflict}
+use Rattle.last_use.specs.inner.Choosing.{IsRefusal}
+use Rattle.last_use.specs.inner.Cycles.{IsCycleOrNone}
 use Rattle.last_use.specs.Reasons.{IsReason}
 
 module _ (s : System) (set : List ℕ) where
@@ -43,3 +45,10 @@ module _ (s : System) (set : List ℕ) where
   conflict_is_reason (Kept y x) first = first
   conflict_is_reason (NotOverwritten y v) first = first
   conflict_is_reason (Cycle steps) first = absurd first
+
+-- a set without a conflict is refused by the cycle of its pairs, if they have one
+pub refusal_by : (s : System) (set : List ℕ) → NoneKept s set → AllOverwritten s set → (r : Option Reason) → IsCycleOrNone (step_count s) (StandsBefore s set) r → IsRefusal s set r
+refusal_by s set kept overwritten None acyclic = record { none_kept = kept; all_overwritten = overwritten; acyclic = acyclic }
+refusal_by s set kept overwritten (Some (Cycle steps)) cycle = record { none_kept = kept; all_overwritten = overwritten; cycle = cycle }
+refusal_by s set kept overwritten (Some (Kept y x)) none = absurd none
+refusal_by s set kept overwritten (Some (NotOverwritten y v)) none = absurd none

@@ -1,4 +1,4 @@
-pub mod Beginning
 pub mod Blocks
 pub mod Choosing
+pub mod Cycles
 pub mod Laws

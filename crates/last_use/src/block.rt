@@ -7,10 +7,12 @@ ghost use Rattle.std.specs.Prelude.{◌≡◌, ◌↔◌, ◌+◌, ◌<◌, ◌�
 ghost use Rattle.std.specs.List.Sorted.{IsStrictlyIncreasing};
 ghost use Rattle.flat_core.specs.declared.equation.Op.TheVariants as op;
 ghost use Rattle.alias_rules.specs.Uses.{AreUpdates};
-ghost use Rattle.last_use.specs.inner.Beginning.{IsNilVariable, NoneIsNil};
+ghost use Rattle.alias_analysis.specs.inner.Beginning.{IsNilVariable, NoneIsNil};
+ghost use Rattle.flat_core.specs.WellFormed.{IsWellFormed};
+ghost use Rattle.last_use.specs.inner.Choosing.{HasNears};
 ghost use Rattle.last_use.specs.inner.Blocks.{IsBlock, IsFineBlock, IsWithBlock, IsUpdateWithin};
 
-use crate::trial::{copy, refusal};
+use crate::trial::{InPlace, copy, nears_of, refusal};
 use alias_analysis::graph::Graph;
 use flat_core::equation::Op;
 use flat_core::flat::Flat;
@@ -22,7 +24,7 @@ use tsl_value::memory::NoMemory;
 /// A fine set with all updates of the equations below a number, and how many updates were wanted.
 #[derive(Drop)]
 pub struct Block {
-    pub in_place: EqSet,
+    pub in_place: InPlace,
     pub end: u32,
     pub updates: u32,
 }
@@ -111,19 +113,24 @@ fn fine_block(
     alloc: Global,
     flat: &Flat,
     graph: &Graph,
-    set: &EqSet,
+    in_place: &InPlace,
     from: u32,
     end: u32,
-) -> Result<Option<EqSet>, NoMemory>
+    places: &mut Vec<usize>,
+) -> Result<Option<InPlace>, NoMemory>
     requires graph { graph.now ≡ flat.now }
-    requires updates { AreUpdates flat.now set.now }
+    requires well_formed { IsWellFormed flat.now }
+    requires none_is_nil { NoneIsNil flat.now }
+    requires updates { AreUpdates flat.now in_place.now.set }
+    requires nears { HasNears flat.now in_place.now }
     requires begun { from ≤ end }
     requires within { end ≤ length flat.now.equations }
-    ensures { IfOk result (λ r. MatchOption r Unit (IsFineBlock flat.now set.now from end)) }
+    ensures { IfOk result (λ r. MatchOption r Unit (IsFineBlock flat.now in_place.now.set from end)) }
 {
-    let more = with_updates(alloc, flat, set, from, end)?;
-    match refusal(alloc, flat, graph, &more)? {
-        None => Ok(Some(more)),
+    let set = with_updates(alloc, flat, &in_place.set, from, end)?;
+    let nears = nears_of(alloc, flat, graph, &set, in_place, true)?;
+    match refusal(alloc, flat, graph, &set, &nears, places)? {
+        None => Ok(Some(InPlace { set, nears })),
         Some(_) => Ok(None),
     }
 }
@@ -133,21 +140,25 @@ pub fn fine_updates(
     alloc: Global,
     flat: &Flat,
     graph: &Graph,
-    set: &EqSet,
+    in_place: &InPlace,
     from: u32,
     most: u32,
+    places: &mut Vec<usize>,
 ) -> Result<Option<Block>, NoMemory>
     requires graph { graph.now ≡ flat.now }
-    requires updates { AreUpdates flat.now set.now }
+    requires well_formed { IsWellFormed flat.now }
+    requires several { 1 < most → NoneIsNil flat.now }
+    requires updates { AreUpdates flat.now in_place.now.set }
+    requires nears { HasNears flat.now in_place.now }
     requires there { from < length flat.now.equations }
-    ensures { IfOk result (λ r. MatchOption r Unit (IsBlock flat.now set.now from most)) }
+    ensures { IfOk result (λ r. MatchOption r Unit (IsBlock flat.now in_place.now.set from most)) }
 {
     let mut updates = most;
     while updates > 1 {
         let end = end_after(flat, from, updates);
-        if let Some(in_place) = fine_block(alloc, flat, graph, set, from, end)? {
+        if let Some(fine) = fine_block(alloc, flat, graph, in_place, from, end, places)? {
             return Ok(Some(Block {
-                in_place,
+                in_place: fine,
                 end,
                 updates,
             }));

@@ -7,13 +7,13 @@ ghost use Rattle.alias_rules.specs.Conflict.{StandsBefore};
 ghost use Rattle.alias_rules.specs.Fine.{IsFine, IsFinePlan, IsTakenPlan};
 ghost use Rattle.alias_rules.specs.Steps.{IsLeastOrderBy};
 ghost use Rattle.alias_rules.specs.Uses.{IsUpdate, AreUpdates};
-ghost use Rattle.last_use.specs.inner.Beginning.{NoneIsNil};
-ghost use Rattle.last_use.specs.inner.Choosing.{IsChosenBelow, IsTriedFrom};
+ghost use Rattle.alias_analysis.specs.inner.Beginning.{NoneIsNil};
+ghost use Rattle.last_use.specs.inner.Choosing.{HasNears, IsChosen, IsTriedFrom};
 ghost use Rattle.last_use.specs.Reasons.{AreReasons};
 
 use crate::block::{Block, fine_updates, none_is_nil};
 use crate::reasons::Reasons;
-use crate::trial::{ordered, refusal, tried_set};
+use crate::trial::{InPlace, nears_of, ordered, refusal, tried_set};
 use alias_analysis::graph::Graph;
 use flat_core::flat::Flat;
 use flat_core::lists::EqSet;
@@ -37,7 +37,7 @@ pub struct Choice {
 /// What is chosen of the equations with the lowest numbers.
 #[derive(Drop)]
 pub struct Chosen {
-    in_place: EqSet,
+    in_place: InPlace,
     reasons: Reasons,
 }
 
@@ -49,6 +49,19 @@ pub struct Tried {
     most: u32,
 }
 
+/// Before any equation is tried.
+fn none_chosen(alloc: Global, flat: &Flat, graph: &Graph) -> Result<Chosen, NoMemory>
+    requires { graph.now ≡ flat.now }
+    ensures { IfOk result (IsChosen flat.now 0) }
+{
+    let none = EqSet::new(alloc);
+    let nears = graph.near_all(alloc, &none)?;
+    Ok(Chosen {
+        in_place: InPlace { set: none, nears },
+        reasons: Reasons::new(alloc),
+    })
+}
+
 /// Tries an update with those that are chosen.
 fn with_update(
     alloc: Global,
@@ -56,20 +69,25 @@ fn with_update(
     graph: &Graph,
     chosen: Chosen,
     update: EqId,
+    none_is_nil: bool,
+    places: &mut Vec<usize>,
 ) -> Result<Chosen, NoMemory>
     requires graph { graph.now ≡ flat.now }
-    requires chosen { IsChosenBelow flat.now update chosen.in_place chosen.reasons }
+    requires well_formed { IsWellFormed flat.now }
+    requires none_is_nil { IsTrue none_is_nil → NoneIsNil flat.now }
+    requires chosen { IsChosen flat.now update chosen }
     requires update { IsUpdate flat.now update }
-    ensures { IfOk result (λ c. IsChosenBelow flat.now (update + 1) c.in_place c.reasons) }
+    ensures { IfOk result (IsChosen flat.now (update + 1)) }
 {
     let Chosen {
         in_place,
         mut reasons,
     } = chosen;
-    let tried = tried_set(alloc, &in_place, update)?;
-    match refusal(alloc, flat, graph, &tried)? {
+    let set = tried_set(alloc, &in_place.set, update)?;
+    let nears = nears_of(alloc, flat, graph, &set, &in_place, none_is_nil)?;
+    match refusal(alloc, flat, graph, &set, &nears, places)? {
         None => Ok(Chosen {
-            in_place: tried,
+            in_place: InPlace { set, nears },
             reasons,
         }),
         Some(reason) => {
@@ -86,14 +104,18 @@ fn with_equation(
     graph: &Graph,
     chosen: Chosen,
     id: EqId,
+    none_is_nil: bool,
+    places: &mut Vec<usize>,
 ) -> Result<Chosen, NoMemory>
     requires graph { graph.now ≡ flat.now }
-    requires chosen { IsChosenBelow flat.now id chosen.in_place chosen.reasons }
+    requires well_formed { IsWellFormed flat.now }
+    requires none_is_nil { IsTrue none_is_nil → NoneIsNil flat.now }
+    requires chosen { IsChosen flat.now id chosen }
     requires there { id < length flat.now.equations }
-    ensures { IfOk result (λ c. IsChosenBelow flat.now (id + 1) c.in_place c.reasons) }
+    ensures { IfOk result (IsChosen flat.now (id + 1)) }
 {
     if flat.is_running_update(id) {
-        with_update(alloc, flat, graph, chosen, id)
+        with_update(alloc, flat, graph, chosen, id, none_is_nil, places)
     } else {
         Ok(chosen)
     }
@@ -118,17 +140,21 @@ fn with_one(
     chosen: Chosen,
     from: u32,
     most: u32,
+    none_is_nil: bool,
+    places: &mut Vec<usize>,
 ) -> Result<Tried, NoMemory>
     requires graph { graph.now ≡ flat.now }
-    requires chosen { IsChosenBelow flat.now from chosen.in_place chosen.reasons }
+    requires well_formed { IsWellFormed flat.now }
+    requires none_is_nil { IsTrue none_is_nil → NoneIsNil flat.now }
+    requires chosen { IsChosen flat.now from chosen }
     requires there { from < length flat.now.equations }
     ensures { IfOk result (IsTriedFrom flat.now from) }
 {
     flat.assert_whole();
-    let before = chosen.in_place.len();
+    let before = chosen.in_place.set.len();
     let id = EqId::new(from);
-    let chosen = with_equation(alloc, flat, graph, chosen, id)?;
-    let is_fine = chosen.in_place.len() > before;
+    let chosen = with_equation(alloc, flat, graph, chosen, id, none_is_nil, places)?;
+    let is_fine = chosen.in_place.set.len() > before;
     Ok(Tried {
         chosen,
         end: from + 1,
@@ -144,17 +170,20 @@ fn with_next(
     chosen: Chosen,
     from: u32,
     most: u32,
+    none_is_nil: bool,
+    places: &mut Vec<usize>,
 ) -> Result<Tried, NoMemory>
     requires graph { graph.now ≡ flat.now }
     requires well_formed { IsWellFormed flat.now }
-    requires chosen { IsChosenBelow flat.now from chosen.in_place chosen.reasons }
+    requires none_is_nil { IsTrue none_is_nil → NoneIsNil flat.now }
+    requires chosen { IsChosen flat.now from chosen }
     requires there { from < length flat.now.equations }
     requires several { 1 < most → NoneIsNil flat.now }
     ensures { IfOk result (IsTriedFrom flat.now from) }
 {
     flat.assert_whole();
     let Chosen { in_place, reasons } = chosen;
-    match fine_updates(alloc, flat, graph, &in_place, from, most)? {
+    match fine_updates(alloc, flat, graph, &in_place, from, most, places)? {
         Some(
             Block {
                 in_place,
@@ -168,7 +197,8 @@ fn with_next(
         }),
         None => {
             let most = if most > 1 { 0 } else { most };
-            with_one(alloc, flat, graph, Chosen { in_place, reasons }, from, most)
+            let chosen = Chosen { in_place, reasons };
+            with_one(alloc, flat, graph, chosen, from, most, none_is_nil, places)
         }
     }
 }
@@ -183,33 +213,46 @@ fn at_once(several: bool, most: u32) -> u32
 fn try_all(alloc: Global, flat: &Flat, graph: &Graph) -> Result<Chosen, NoMemory>
     requires graph { graph.now ≡ flat.now }
     requires well_formed { IsWellFormed flat.now }
-    ensures { IfOk result (λ c. IsChosenBelow flat.now (length flat.now.equations) c.in_place c.reasons) }
+    ensures { IfOk result (IsChosen flat.now (length flat.now.equations)) }
 {
-    let several = none_is_nil(flat);
+    let none_is_nil = none_is_nil(flat);
+    let mut places = Vec::new(alloc);
     let mut tried = Tried {
-        chosen: Chosen {
-            in_place: EqSet::new(alloc),
-            reasons: Reasons::new(alloc),
-        },
+        chosen: none_chosen(alloc, flat, graph)?,
         end: 0,
         most: 0,
     };
     while tried.end < flat.count() {
         let Tried { chosen, end, most } = tried;
-        tried = with_next(alloc, flat, graph, chosen, end, at_once(several, most))?;
+        let most = at_once(none_is_nil, most);
+        tried = with_next(
+            alloc,
+            flat,
+            graph,
+            chosen,
+            end,
+            most,
+            none_is_nil,
+            &mut places,
+        )?;
     }
     Ok(tried.chosen)
 }
 
 /// The steps in the least order that lets the updates of a fine set happen in place.
-fn order_of(alloc: Global, flat: &Flat, graph: &Graph, set: &EqSet) -> Result<Steps, NoMemory>
+fn order_of(
+    alloc: Global,
+    flat: &Flat,
+    graph: &Graph,
+    in_place: &InPlace,
+) -> Result<Steps, NoMemory>
     requires graph { graph.now ≡ flat.now }
-    requires updates { AreUpdates flat.now set.now }
-    requires fine { IsFine flat.now set.now }
-    ensures { IfOk result (IsLeastOrderBy flat.now (StandsBefore flat.now set.now)) }
+    requires updates { AreUpdates flat.now in_place.now.set }
+    requires fine { IsFine flat.now in_place.now.set }
+    requires nears { HasNears flat.now in_place.now }
+    ensures { IfOk result (IsLeastOrderBy flat.now (StandsBefore flat.now in_place.now.set)) }
 {
-    let nears = graph.near_all(alloc, set)?;
-    match ordered(alloc, flat, graph, set, &nears) {
+    match ordered(alloc, flat, graph, &in_place.set, &in_place.nears) {
         Ok(all) => steps_among(alloc, flat, all.as_slice()),
         Err(OrderFault::CycleOf { steps: _ }) => unreachable!(),
         Err(OrderFault::Memory) => Err(NoMemory),
@@ -233,7 +276,10 @@ pub fn choose(alloc: Global, flat: &Flat, triggers: &Triggers) -> Result<Choice,
     let Chosen { in_place, reasons } = try_all(alloc, flat, &graph)?;
     let order = order_of(alloc, flat, &graph, &in_place)?;
     Ok(Choice {
-        plan: Plan { in_place, order },
+        plan: Plan {
+            in_place: in_place.set,
+            order,
+        },
         reasons,
     })
 }

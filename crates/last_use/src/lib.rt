@@ -3,6 +3,7 @@
 
 mod block;
 pub mod choice;
+mod cycles;
 pub mod laws;
 pub mod reasons;
 mod trial;

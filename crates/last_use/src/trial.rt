@@ -12,8 +12,11 @@ ghost use Rattle.alias_rules.specs.Fine.{with_tried};
 ghost use Rattle.alias_rules.specs.Steps.{step_count};
 ghost use Rattle.alias_rules.specs.Uses.{AreUpdates};
 ghost use Rattle.alias_analysis.specs.inner.Nears.{AreNears};
-ghost use Rattle.last_use.specs.inner.Choosing.{IsRefusal};
+ghost use Rattle.alias_analysis.specs.inner.Beginning.{NoneIsNil};
+ghost use Rattle.flat_core.specs.WellFormed.{IsWellFormed};
+ghost use Rattle.last_use.specs.inner.Choosing.{HasNears, IsRefusal};
 
+use crate::cycles::cycle_of;
 use alias_analysis::graph::Graph;
 use alias_analysis::nears::Nears;
 use alias_analysis::reason::Reason;
@@ -24,6 +27,13 @@ use translation_order::order::{OrderFault, order};
 use translation_order::steps::Steps;
 use tsl_value::ids::EqId;
 use tsl_value::memory::NoMemory;
+
+/// Updates, and what is near each of them.
+#[derive(Drop)]
+pub struct InPlace {
+    pub set: EqSet,
+    pub nears: Nears,
+}
 
 /// The update at a place of a set.
 fn update_at(set: &EqSet, place: usize) -> EqId
@@ -79,24 +89,47 @@ pub fn ordered(
     order(alloc, steps, &pairs)
 }
 
-/// Why the updates of a set cannot all happen in place, if they cannot.
+/// What is near the updates of a set, where no aggregate variable is nil by what is near those of a smaller one.
+pub fn nears_of(
+    alloc: Global,
+    flat: &Flat,
+    graph: &Graph,
+    set: &EqSet,
+    smaller: &InPlace,
+    none_is_nil: bool,
+) -> Result<Nears, NoMemory>
+    requires graph { graph.now ≡ flat.now }
+    requires well_formed { IsWellFormed flat.now }
+    requires none_is_nil { IsTrue none_is_nil → NoneIsNil flat.now }
+    requires updates { AreUpdates flat.now set.now }
+    requires wider { (x : ℕ) → IsTrue (is_in smaller.now.set x) → IsTrue (is_in set.now x) }
+    requires nears { HasNears flat.now smaller.now }
+    ensures { IfOk result (AreNears flat.now set.now) }
+{
+    if none_is_nil {
+        graph.near_more(alloc, set, &smaller.set, &smaller.nears)
+    } else {
+        graph.near_all(alloc, set)
+    }
+}
+
+/// Why the updates of a set cannot all happen in place, if they cannot, by what is near them. The places are those of steps in an order
+/// that was found lately.
 pub fn refusal(
     alloc: Global,
     flat: &Flat,
     graph: &Graph,
     set: &EqSet,
+    nears: &Nears,
+    places: &mut Vec<usize>,
 ) -> Result<Option<Reason>, NoMemory>
     requires graph { graph.now ≡ flat.now }
     requires updates { AreUpdates flat.now set.now }
+    requires nears { AreNears flat.now set.now nears.now }
     ensures { IfOk result (IsRefusal flat.now set.now) }
 {
-    let nears = graph.near_all(alloc, set)?;
-    match graph.conflict_of(alloc, set, &nears)? {
+    match graph.conflict_of(alloc, set, nears)? {
         Some(reason) => Ok(Some(reason)),
-        None => match ordered(alloc, flat, graph, set, &nears) {
-            Ok(_) => Ok(None),
-            Err(OrderFault::CycleOf { steps }) => Ok(Some(Reason::Cycle { steps })),
-            Err(OrderFault::Memory) => Err(NoMemory),
-        },
+        None => cycle_of(alloc, flat, graph, set, nears, places),
     }
 }

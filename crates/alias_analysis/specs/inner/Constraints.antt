@@ -53,6 +53,16 @@ pub record PassesMarked (s : System) (marks : List Bool) (y variable a : ℕ) : 
   pub marked : IsTrue (has_mark marks variable)
   pub passes : PassesOver s y a variable → ⊥
 
+-- b is y, and a passes this marked variable on where y has an event
+pub record IsPasserOf (s : System) (marks : List Bool) (y variable passer a b : ℕ) : Type 0 where
+  pub passes : PassesMarked s marks y variable passer
+  pub first : a ≡ passer
+  pub is : b ≡ y
+
+-- each marked equation has its pair with y
+abbrev pub HasMarkedPairs : List Bool → ℕ → List (ℕ × ℕ) → Type 0
+HasMarkedPairs marks y pairs = (a : ℕ) → IsTrue (has_mark marks a) → Before pairs a y
+
 pub record IsPassedBefore (s : System) (pairs : List (ℕ × ℕ)) (marks : List Bool) (y a b : ℕ) : Type 0 where
   pub variable : ℕ
   pub among : Before pairs variable a

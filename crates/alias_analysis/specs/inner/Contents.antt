@@ -1,5 +1,5 @@
 -- What the parts of a question about content answer.
-use Rattle.std.specs.Prelude.{◌≡◌, ℕ, Bool, List, [], ◌∷◌, Option, MatchOption, IsTrue}
+use Rattle.std.specs.Prelude.{◌≡◌, ◌↔◌, ◌⊎◌, ℕ, Bool, List, [], ◌∷◌, Option, MatchOption, IsTrue}
 use Rattle.flat_core.specs.declared.equation.Equation.{Equation}
 use Rattle.flat_core.specs.declared.equation.Op.TheVariants as op
 use Rattle.translation_order.specs.Graph.{Walk}
@@ -62,6 +62,28 @@ pub record IsLastOfMarked (s : System) (marks : List Bool) (o : ℕ) : Type 0 wh
 abbrev pub AreAliased : System → List Bool → List Bool → List Bool → Type 0
 AreAliased s roots sharers begins = AddsMarks roots (IsLastOfMarked s sharers) begins
 
+-- content that begins at o may be that of the source of update y
+pub record IsBegin (s : System) (set : List ℕ) (y o : ℕ) : Type 0 where
+  pub source : ℕ
+  pub written : IsWritten s source y
+  pub root : ℕ
+  pub source_root : IsRoot s set root source
+  pub begins : IsOrigin s set o
+  pub aliases : Alias s set o root
+
+-- a walk leads to x from what was found before, or from where it goes on
+pub record IsReachedOn (E : ℕ → ℕ → Type 0) (found begins : List Bool) (x : ℕ) : Type 0 where
+  pub start : ℕ
+  pub is_start : IsTrue (has_mark found start) ⊎ IsTrue (has_mark begins start)
+  pub walk : Walk E start x
+
+abbrev pub AreReachedOn : (ℕ → ℕ → Type 0) → List Bool → List Bool → List Bool → Type 0
+AreReachedOn E found begins reached = (x : ℕ) → IsTrue (has_mark reached x) ↔ IsReachedOn E found begins x
+
+-- what follows on what was found was found too, or is where it goes on
+abbrev pub AreClosedOn : (ℕ → ℕ → Type 0) → List Bool → List Bool → Type 0
+AreClosedOn E found begins = (x a : ℕ) → IsTrue (has_mark found x) → E x a → IsTrue (has_mark found a) ⊎ IsTrue (has_mark begins a)
+
 -- content that begins as that of the source of update y comes to x around y
 pub record IsNear (s : System) (set : List ℕ) (y x : ℕ) : Type 0 where
   pub source : ℕ
@@ -80,6 +102,11 @@ pub record IsBeside (s : System) (y x : ℕ) : Type 0 where
 pub record IsMarkedBeside (s : System) (y : ℕ) (marks : List Bool) (x : ℕ) : Type 0 where
   pub marked : IsTrue (has_mark marks x)
   pub beside : IsBeside s y x
+
+-- x was not found before
+pub record IsNewBeside (s : System) (y : ℕ) (found marks : List Bool) (x : ℕ) : Type 0 where
+  pub new : IsTrue (has_mark found x) → ⊥
+  pub beside : IsMarkedBeside s y marks x
 
 pub record IsMarkedUnimplied (s : System) (y : ℕ) (marks : List Bool) (v : ℕ) : Type 0 where
   pub marked : IsTrue (has_mark marks v)

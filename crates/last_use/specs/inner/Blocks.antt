@@ -5,7 +5,9 @@ use Rattle.flat_core.specs.Members.{is_in}
 use Rattle.flat_core.specs.System.{System}
 use Rattle.alias_rules.specs.Fine.{IsFine}
 use Rattle.alias_rules.specs.Uses.{IsUpdate}
+use Rattle.alias_analysis.specs.inner.Nears.{AreNears}
 use Rattle.last_use.specs.declared.block.Block.{Block}
+use Rattle.last_use.specs.declared.trial.InPlace.{InPlace}
 
 -- y is an update from one number on and below another
 pub record IsUpdateWithin (s : System) (from end y : ℕ) : Type 0 where
@@ -18,9 +20,11 @@ pub record IsWithBlock (s : System) (set : List ℕ) (from end : ℕ) (more : Li
   pub ascending : IsStrictlyIncreasing more
   pub each : (y : ℕ) → IsTrue (is_in more y) ↔ (IsTrue (is_in set y) ⊎ IsUpdateWithin s from end y)
 
-pub record IsFineBlock (s : System) (set : List ℕ) (from end : ℕ) (more : List ℕ) : Type 0 where
-  pub block : IsWithBlock s set from end more
-  pub fine : IsFine s more
+-- it is fine, and what is near its updates is known
+pub record IsFineBlock (s : System) (set : List ℕ) (from end : ℕ) (p : InPlace) : Type 0 where
+  pub block : IsWithBlock s set from end p.set
+  pub fine : IsFine s p.set
+  pub nears : AreNears s p.set p.nears
 
 -- a fine block of several updates from one number on
 pub record IsBlock (s : System) (set : List ℕ) (from most : ℕ) (b : Block) : Type 0 where

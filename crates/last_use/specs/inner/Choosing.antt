@@ -8,7 +8,10 @@ use Rattle.alias_rules.specs.inner.Below.{IsListedBelow}
 use Rattle.alias_rules.specs.Fine.{IsFine, with_tried}
 use Rattle.alias_rules.specs.Outside.{IsOutside}
 use Rattle.alias_analysis.specs.declared.reason.Reason.{Reason}
+use Rattle.alias_analysis.specs.inner.Nears.{AreNears}
+use Rattle.last_use.specs.declared.choice.Chosen.{Chosen}
 use Rattle.last_use.specs.declared.choice.Tried.{Tried}
+use Rattle.last_use.specs.declared.trial.InPlace.{InPlace}
 use Rattle.last_use.specs.Reasons.{IsReason, updates_of}
 
 -- y is below n, and an update outside the set
@@ -26,8 +29,16 @@ pub record IsChosenBelow (s : System) (n : ℕ) (set : List ℕ) (reasons : List
 abbrev pub IsRefusal : System → List ℕ → Option Reason → Type 0
 IsRefusal s set refusal = MatchOption refusal (IsFine s set) (IsReason s set)
 
+-- what is near the updates of a set is known
+abbrev pub HasNears : System → InPlace → Type 0
+HasNears s p = AreNears s p.set p.nears
+
+pub record IsChosen (s : System) (n : ℕ) (c : Chosen) : Type 0 where
+  pub below : IsChosenBelow s n c.in_place.set c.reasons
+  pub nears : HasNears s c.in_place
+
 -- what is chosen when more of the equations were tried
 pub record IsTriedFrom (s : System) (from : ℕ) (t : Tried) : Type 0 where
   pub begun : from < t.end
   pub within : t.end ≤ length s.equations
-  pub chosen : IsChosenBelow s t.end t.chosen.in_place t.chosen.reasons
+  pub chosen : IsChosen s t.end t.chosen

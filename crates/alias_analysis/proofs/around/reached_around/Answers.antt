@@ -1,6 +1,7 @@
 use Rattle.std.proofs.Common.{length, ap, ◌∙◌, sym, subst}
 use Rattle.alias_paths.specs.inner.Search.{marks_of, AreReached}
 use Rattle.alias_analysis.specs.inner.Contents.{IsPairAround}
+use Rattle.flat_core.proofs.Spreads.{spreading_none}
 use Rattle.alias_analysis.proofs.Bypassing.{reached_around}
 use Rattle.alias_paths.proofs.Rooting.{carriers_of_steps}
 use Rattle.alias_paths.proofs.Spreads.{spread_reaches}
@@ -11,6 +12,9 @@ spread_around-requires-clause-there c = let some = c.requires.carriers in carrie
 
 pub spread_around-requires-clause-one_each : goal.spread_around-requires-clause-one_each
 spread_around-requires-clause-one_each c = ap length c.in_ok-search.ensures.same ∙ c.requires.one_each
+
+pub spread_around-requires-clause-goes_on : goal.spread_around-requires-clause-goes_on
+spread_around-requires-clause-goes_on c = spreading_none (IsPairAround c.args.flat.now c.args.update c.args.carriers.now) (marks_of c.in_ok-search.search) c.in_ok-search.ensures.all_wait
 
 pub of-requires : goal.of-requires
 of-requires c = c.in_ok-spread_around.ensures.listed c.in_ok-search.ensures.listed

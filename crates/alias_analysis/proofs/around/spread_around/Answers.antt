@@ -2,11 +2,11 @@ use Rattle.std.proofs.Common.{refl}
 use Rattle.flat_core.specs.declared.reach.Marks.{Marks}
 use Rattle.alias_paths.specs.inner.Search.{marks_of}
 use Rattle.alias_analysis.specs.inner.Contents.{IsPairAround}
-use Rattle.flat_core.proofs.Spreads.{spreading_none, spreading_more}
+use Rattle.flat_core.proofs.Spreads.{spreading_more}
 use Rattle.alias_analysis.proofs.around.spread_around.Goals as goal
 
 pub loop-number-init : goal.loop-number-init
-loop-number-init c = record { spreading = spreading_none (IsPairAround c.args.flat.now c.args.update c.args.carriers.now) (marks_of c.args.search.now) c.requires.all_wait; listed = λ h. h }
+loop-number-init c = record { spreading = c.requires.goes_on; listed = λ h. h }
 
 pub loop-number-preserved : goal.loop-number-preserved
 loop-number-preserved c =

@@ -1,15 +1,17 @@
 use Rattle.std.proofs.Common.{◌∙◌}
-use Rattle.alias_analysis.proofs.Bypassing.{near_are}
+use Rattle.alias_analysis.proofs.Bypassing.{near_are, bypassed_are}
 use Rattle.alias_analysis.proofs.bypass.near_update.Goals as goal
+
+pub beside-requires-clause-one_each : goal.beside-requires-clause-one_each
+beside-requires-clause-one_each c = c.in_ok-around.ensures.one_each ∙ c.in_ok-begun.ensures.begins.one_each
 
 pub returns : goal.returns
 returns c =
     let s = c.args.flat.now in
-    let aliased = c.in_ok-mark_aliases.ensures in
-    record {
-      sharers = c.in_ok-sharers.ensures;
-      around =
-          near_are s c.assert_whole.ensures.is_flat c.args.set.now c.args.update c.in_ok-begins.begins c.in_ok-sharers.sharers.all c.mark_aliases.new.roots c.in_ok-around.around
-          c.in_ok-begins.ensures c.in_ok-sharers.ensures.of_source aliased (c.in_ok-around.ensures.exact c.args.set.now c.requires.paths.carriers)
-          (c.in_ok-around.ensures.one_each ∙ aliased.one_each ∙ c.in_ok-begins.ensures.one_each);
-    }
+    let set = c.args.set.now in
+    let y = c.args.update in
+    let begun = c.in_ok-begun.ensures in
+    let around =
+    near_are s set y c.in_ok-begun.begun.begins c.in_ok-around.around begun.begins (c.in_ok-around.ensures.exact set c.requires.paths.carriers)
+    (c.in_ok-around.ensures.one_each ∙ begun.begins.one_each) in
+    record { sharers = begun.sharers; around = around; bypassed = bypassed_are s set y c.in_ok-around.around c.in_ok-bypassed.bypassed around c.in_ok-bypassed.ensures }

@@ -2,17 +2,11 @@ use Rattle.std.proofs.Common.{◌≡◌, ℕ, ◌<◌, List, length, subst, arit
 use Rattle.std.specs.Prelude.{MatchOption}
 use Rattle.translation_order.specs.Least.{IsLeast}
 use Rattle.alias_rules.specs.Conflict.{IsKept}
-use Rattle.alias_analysis.proofs.Conflicts.{update_low, first_at, none_next, none_in_all}
+use Rattle.alias_analysis.proofs.Conflicts.{first_at, none_next, none_in_all}
 use Rattle.alias_analysis.proofs.conflict.first_kept.Goals as goal
 
 below : (set : List ℕ) (k end : ℕ) → end ≡ length set → k < end → k < length set
 below set k end is lt = omega arith
-
-pub kept_by-requires-clause-update : goal.kept_by-requires-clause-update
-kept_by-requires-clause-update c =
-    let set = c.args.set.now in
-    let lt = below set c.loop-place.place c.len-place-end.result c.len-place-end.ensures.count c.loop-place-test.true in
-    update_low c.args.flat.now set c.loop-place.place c.update_at-update.result c.requires.updates lt c.update_at-update.ensures
 
 pub returns-in-Some : goal.returns-in-Some
 returns-in-Some c =

@@ -9,20 +9,20 @@ use Rattle.alias_analysis.proofs.constraints.push_update.Goals as goal
 
 pub push_marked-requires : goal.push_marked-requires
 push_marked-requires c =
-    let size : length c.marks-marks.result.now ≡ length c.args.flat.now.equations = ap length c.marks-marks.ensures ∙ c.in_ok-bypassed.ensures.one_each in
+    let size : length c.marks-marks.result.now ≡ length c.args.flat.now.equations = ap length c.marks-marks.ensures ∙ c.requires.near.bypassed.one_each in
     let few = c.assert_whole.ensures.is_flat.few_equations in
     omega arith
 
 pub push_readers-requires : goal.push_readers-requires
 push_readers-requires c =
     let s = c.args.flat.now in
-    let size : length c.marks-marks.result.now ≡ length s.equations = ap length c.marks-marks.ensures ∙ c.in_ok-bypassed.ensures.one_each in
+    let size : length c.marks-marks.result.now ≡ length s.equations = ap length c.marks-marks.ensures ∙ c.requires.near.bypassed.one_each in
     subst (λ m. AreOfSteps m c.as_slice.result.now) (sym size) (subst (AreOfSteps (length s.equations)) (sym c.as_slice.ensures) (uses_of_steps s read_of c.args.uses.now.read c.requires.uses.read))
 
 pub push_writers-requires : goal.push_writers-requires
 push_writers-requires c =
     let s = c.args.flat.now in
-    let size : length c.marks-marks.result.now ≡ length s.equations = ap length c.marks-marks.ensures ∙ c.in_ok-bypassed.ensures.one_each in
+    let size : length c.marks-marks.result.now ≡ length s.equations = ap length c.marks-marks.ensures ∙ c.requires.near.bypassed.one_each in
     subst (λ m. AreOfSteps m c.as_slice-2.result.now) (sym size) (subst (AreOfSteps (length s.equations)) (sym c.as_slice-2.ensures) (uses_of_steps s written_of c.args.uses.now.written c.requires.uses.written))
 
 pub push_passers-requires-clause-there : goal.push_passers-requires-clause-there
@@ -30,12 +30,17 @@ push_passers-requires-clause-there c =
     let s = c.args.flat.now in
     subst (AreOfSteps (length s.equations)) (sym c.as_slice-passed.ensures) (uses_of_steps s passed_of c.args.uses.now.passed c.requires.uses.passed)
 
+pub push_passers-requires-clause-marked : goal.push_passers-requires-clause-marked
+push_passers-requires-clause-marked c =
+    let y = c.args.update in
+    λ a m. c.in_ok-push_writers.ensures.kept a y (c.in_ok-push_readers.ensures.kept a y (c.in_ok-push_marked.ensures.there a y (record { marked = m; is = sym c.get-number.ensures })))
+
 pub returns : goal.returns
 returns c =
     let s = c.args.flat.now in
     let uses = c.args.uses.now in
     let y = c.args.update in
-    let marks = c.in_ok-bypassed.bypassed in
+    let marks = c.args.near.now.bypassed in
     let same = c.get-number.ensures in
     let old = c.args.pairs.now in
     let one = c.push_marked.new.pairs in
@@ -52,4 +57,4 @@ returns c =
     let fourth = subst (λ l. Adds three (IsPassedBefore s l marks y) four) c.as_slice-passed.ensures fourth_at in
     let fifth_at = subst (λ m. Adds four (IsPrintedBefore s m c.get-number.result) new) c.marks-marks.ensures c.in_ok-push_printers.ensures in
     let fifth = subst (λ z. Adds four (IsPrintedBefore s marks z) new) same fifth_at in
-    update_adds s c.args.set.now uses c.requires.uses y marks c.in_ok-bypassed.ensures old one two three four new first second third fourth fifth
+    update_adds s c.args.set.now uses c.requires.uses y marks c.requires.near.bypassed old one two three four new first second third fourth fifth

@@ -13,7 +13,7 @@ pub returns-clause-members : goal.returns-clause-members
 returns-clause-members c =
     let n = length c.self.inside.flat.now.equations in
     let set = c.args.set.now in
-    let marks = c.in_ok-bypassed.bypassed in
-    let just = subst (λ (s : System). AreJust n (Bypasses s set c.args.update) marks) c.self.view_is c.in_ok-bypassed.ensures in
+    let marks = c.in_ok-near.near.bypassed in
+    let just = subst (λ (s : System). AreJust n (Bypasses s set c.args.update) marks) c.self.view_is c.in_ok-near.ensures.bypassed in
     IfOk-weaker c.set_of.result (λ r. (i : ℕ) → is_in r i ≡ has_mark marks i) (λ r. (x : ℕ) → IsTrue (is_in r x) ↔ Bypasses c.args.self.now set c.args.update x)
     (λ r members. set_members n (Bypasses c.args.self.now set c.args.update) marks marks r refl just members) c.set_of.ensures.members

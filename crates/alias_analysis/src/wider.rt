@@ -1,0 +1,159 @@
+// What is near an update of a set, by what was near it in a smaller one.
+
+ghost use Rattle.std.specs.Prelude.{◌≡◌, ◌↔◌, ◌<◌, ◌&&◌, not, ℕ, length, IfOk, OnOk, IsTrue};
+ghost use Rattle.std.specs.List.{All};
+ghost use Rattle.flat_core.specs.inner.Marks.{has_mark};
+ghost use Rattle.flat_core.specs.Members.{is_in};
+ghost use Rattle.flat_core.specs.WellFormed.{IsWellFormed};
+ghost use Rattle.alias_paths.specs.inner.Kept.{AreUses, ArePaths};
+ghost use Rattle.alias_paths.specs.inner.Marking.{AreJust};
+ghost use Rattle.alias_paths.specs.inner.Pairs.{Adds, ArePairs};
+ghost use Rattle.alias_analysis.specs.inner.Beginning.{NoneIsNil};
+ghost use Rattle.alias_analysis.specs.inner.Contents.{IsMarkedBeside, IsNewBeside};
+ghost use Rattle.alias_analysis.specs.inner.Nears.{AreNear, AreShared, IsAdded, IsAddedPair, IsEarlier};
+
+use crate::answers::Answers;
+use crate::bypass::{Near, begins_of, copy, is_beside};
+use crate::onward::reached_on;
+use alias_paths::numbers::{Numbers, mark_seconds};
+use alias_paths::pairs::push_if;
+use alias_paths::paths::Paths;
+use alias_paths::uses::Uses;
+use flat_core::flat::Flat;
+use flat_core::lists::EqSet;
+use std::alloc::Global;
+use translation_order::steps::Edges;
+use tsl_value::ids::EqId;
+use tsl_value::memory::NoMemory;
+
+/// Whether an equation is in a set, but not in a smaller one.
+fn is_added(set: &EqSet, smaller: &EqSet, id: EqId) -> bool
+    ensures { result ≡ (is_in set.now id && not (is_in smaller.now id)) }
+{
+    set.contains(id) && !smaller.contains(id)
+}
+
+/// Appends the pairs whose second is in the set, but not in a smaller one.
+fn push_added(
+    pairs: &mut Edges,
+    more: &[(u32, u32)],
+    set: &EqSet,
+    smaller: &EqSet,
+) -> Result<(), NoMemory>
+    ensures { OnOk result (Adds pairs.old (IsAddedPair more.now set.now smaller.now) pairs.new) }
+{
+    for (first, second) in more {
+        let wanted = is_added(set, smaller, EqId::new(*second));
+        push_if(pairs, (*first, *second), wanted)?;
+    }
+    Ok(())
+}
+
+/// The writes by updates of the set that are not in a smaller one.
+pub fn added(
+    alloc: Global,
+    flat: &Flat,
+    uses: &Uses,
+    set: &EqSet,
+    smaller: &EqSet,
+) -> Result<Edges, NoMemory>
+    requires { AreUses flat.now uses.now }
+    ensures { IfOk result (λ a. ArePairs (IsAdded flat.now set.now smaller.now) a) }
+{
+    let mut added = Edges::new(alloc);
+    push_added(&mut added, uses.written.as_slice(), set, smaller)?;
+    Ok(added)
+}
+
+/// Whether an equation was not found before, and is beside the update.
+fn is_new_beside(
+    alloc: Global,
+    flat: &Flat,
+    answers: &Answers,
+    update: EqId,
+    found: &Numbers,
+    marked: &Numbers,
+    number: u32,
+) -> Result<bool, NoMemory>
+    requires answers { answers.now ≡ flat.now }
+    requires update { update < length flat.now.equations }
+    requires there { number < length flat.now.equations }
+    requires found { length found.now ≡ length flat.now.equations }
+    requires one_each { length marked.now ≡ length flat.now.equations }
+    ensures { IfOk result (λ r. IsTrue r ↔ IsNewBeside flat.now update found.now marked.now number) }
+{
+    if found.has(number) {
+        return Ok(false);
+    }
+    let beside = is_beside(alloc, flat, answers, update, marked, number)?;
+    Ok(beside)
+}
+
+/// Those of the marked equations that are beside the update, by those that were found before.
+fn beside_on(
+    alloc: Global,
+    flat: &Flat,
+    answers: &Answers,
+    update: EqId,
+    marked: &Numbers,
+    found: &Numbers,
+    known: &Numbers,
+) -> Result<Numbers, NoMemory>
+    requires answers { answers.now ≡ flat.now }
+    requires update { update < length flat.now.equations }
+    requires one_each { length marked.now ≡ length flat.now.equations }
+    requires found { length found.now ≡ length flat.now.equations }
+    requires more { (x : ℕ) → IsTrue (has_mark found.now x) → IsTrue (has_mark marked.now x) }
+    requires known { AreJust (length flat.now.equations) (IsMarkedBeside flat.now update found.now) known.now }
+    ensures { IfOk result (AreJust (length flat.now.equations) (IsMarkedBeside flat.now update marked.now)) }
+{
+    let mut beside = copy(alloc, known)?;
+    let listed = marked.listed();
+    for number in listed {
+        let wanted = is_new_beside(alloc, flat, answers, update, found, marked, *number)?;
+        beside.mark_if(*number, wanted)?;
+    }
+    Ok(beside)
+}
+
+/// What is near an update, by what was near it in a smaller set, after it was found for some updates of the set.
+///
+/// No aggregate variable is nil. So all that was near it still is, and what follows on that is near it already, but for the updates
+/// that are added.
+pub fn near_on(
+    alloc: Global,
+    flat: &Flat,
+    answers: &Answers,
+    uses: &Uses,
+    set: &EqSet,
+    paths: &Paths,
+    added: &Edges,
+    update: EqId,
+    before: &[Near],
+    earlier: &Near,
+) -> Result<Near, NoMemory>
+    requires answers { answers.now ≡ flat.now }
+    requires well_formed { IsWellFormed flat.now }
+    requires none_is_nil { NoneIsNil flat.now }
+    requires uses { AreUses flat.now uses.now }
+    requires paths { ArePaths flat.now set.now paths.now }
+    requires update { update < length flat.now.equations }
+    requires before { All (AreShared flat.now set.now) before.now }
+    requires earlier { IsEarlier flat.now set.now added.now update earlier.now }
+    ensures { IfOk result (AreNear flat.now set.now update) }
+{
+    flat.assert_whole();
+    let begun = begins_of(alloc, flat, uses, set, paths, update, before)?;
+    let mut begins = begun.begins;
+    mark_seconds(&mut begins, added.as_slice(), &earlier.around)?;
+    let carriers = &paths.carriers;
+    let found = &earlier.around;
+    let around = reached_on(alloc, flat, answers, carriers, found, &begins, update)?;
+    let known = &earlier.bypassed;
+    let bypassed = beside_on(alloc, flat, answers, update, &around, found, known)?;
+    Ok(Near {
+        sharers: begun.sharers,
+        around,
+        bypassed,
+    })
+}
