@@ -1,11 +1,13 @@
 -- What follows in the system of one output is accepted in the whole.
-use Rattle.std.proofs.Common.{◌≡◌, ℕ, ◌-◌, ◌<◌, List, Option, Some, None, length, sym, ap, subst, ◌∙◌, slice_get, refl}
+use Rattle.std.proofs.Common.{◌≡◌, ℕ, suc, ◌<◌, true, false, List, Option, Some, None, length, sym, ap, subst, ◌∙◌, slice_get, refl, arith}
+use Rattle.std.proofs.lemmas.Bool.{false≢true, true≢false}
 use Rattle.std.proofs.lemmas.Option.{none-some, same_Some, slice_get_within}
-use Rattle.std.specs.Prelude.{IsTrue}
+use Rattle.std.specs.Prelude.{IsTrue, is_some}
 use Rattle.std.specs.Option.{option_map}
 use Rattle.std.specs.List.{filter}
 use Rattle.tsl_value.specs.View.{View}
 use Rattle.flat_core.specs.declared.equation.Equation.{Equation}
+use Rattle.flat_core.specs.Case.{Streams}
 use Rattle.flat_core.specs.Events.{Inputs}
 use Rattle.flat_core.specs.Instant.{is_delay}
 use Rattle.flat_core.specs.Stream.{event}
@@ -14,16 +16,19 @@ use Rattle.why_rules.specs.Facts.{Fact, Happens}
 use Rattle.why_rules.specs.Rules.{AllWait, Follows, IsMember}
 use Rattle.why_rules.specs.Rules as rule
 use Rattle.event_why.specs.declared.draft.Draft.{Draft}
+use Rattle.event_why.specs.declared.explained.Explained.TheVariants as explained
 use Rattle.event_why.specs.declared.fact.Why.{Why}
 use Rattle.event_why.specs.declared.fact.WhyStep.{WhyStep}
+use Rattle.event_why.specs.declared.instants.Story.{Story}
 use Rattle.event_why.specs.Said.{said}
 use Rattle.event_why.specs.Check.{AreRight}
 use Rattle.event_why.specs.Explained.{IsAccepted}
-use Rattle.event_why.specs.inner.Drafted.{fact_at, fact_of, number_at}
-use Rattle.event_why.specs.inner.Tale.{HappensAt, IsStory, Tale, TellsLast, fact_here}
-use Rattle.event_why.specs.inner.Found.{IsReason, IsReasonIn}
+use Rattle.event_why.specs.inner.Course.{IsTold}
+use Rattle.event_why.specs.inner.Drafted.{fact_at, fact_of, happens_in, number_at}
+use Rattle.event_why.specs.inner.Found.{IsEventNumber, IsReason, Knows}
 use Rattle.event_why.specs.inner.Pruned.{EndsInFact, IsEndOf}
 use Rattle.event_why.specs.inner.Sliced.{IsSliced}
+use Rattle.event_why.specs.inner.Tale.{fact_here, here_of}
 
 module _ (f s : System) (same : f.equations ≡ s.equations) (slice : List ℕ) (p : Inputs) where
   equation_same : (i : ℕ) → equation f i ≡ equation s i
@@ -84,23 +89,56 @@ reason_of s slice p old new last o t v is ends =
       ends = record { number = ends.number; last = ends.ends; step = found.0; is = found.1; event = found.2 };
     }
 
--- ---- a draft that tells what happens last
-module _ (T : Tale) (times : List ℕ) (draft : Draft) (o : ℕ) (new : List WhyStep) (tells : IsStory T → HappensAt T times → TellsLast T times draft) where
-  module _ (a_story : IsStory T) (at : HappensAt T times) (run : IsTrue (runs T.system o)) (t : ℕ) (last : slice_get times (length times - 1) ≡ Some t) (v : View) (has : event (T.streams o t) ≡ Some v) where
-    told : fact_of draft.steps.items draft.here.numbers.items o ≡ Some (Happens o t v)
-    told = (tells a_story at).last t last o run ∙ ap (λ e. Some (fact_here o t e)) has
+-- ---- a draft that tells all up to a time
+module _ (story : Story) (p : Inputs) (z : Streams) (t o n : ℕ) (draft : Draft) (told : IsTold story p z (suc t) n draft) (run : IsTrue (runs story.flat.now o)) where
+  abbrev steps : List WhyStep
+  steps = draft.steps.items
 
-    at_number : (number : Option ℕ) → number_at draft.here.numbers.items o ≡ number → fact_at draft.steps.items number ≡ Some (Happens o t v)
-    at_number number is = sym (ap (fact_at draft.steps.items) is) ∙ told
+  abbrev here : List (Option ℕ)
+  here = draft.here.numbers.items
 
-  pub drafted_some : (n : ℕ) → number_at draft.here.numbers.items o ≡ Some n → IsEndOf draft.steps.items n new → IsReasonIn T times o new
-  drafted_some n is ends = record {
-    reason = λ a_story at run t last v has.
-        let fact = at_number a_story at run t last v has (Some n) is in
-        let right = (tells a_story at).is_draft.right in
-        reason_of T.system T.system.running T.inputs draft.steps.items new n o t v fact
-        (ends T.system T.system.running T.inputs right (fact_there draft.steps.items n (Happens o t v) fact));
-  }
+  -- at the last instant
+  told_here : n ≡ suc t → fact_of steps here o ≡ Some (here_of z t o)
+  told_here is = (told.over t is).here o run run
 
-  pub drafted_none : number_at draft.here.numbers.items o ≡ None → IsReasonIn T times o new
-  drafted_none is = record { reason = λ a_story at run t last v has. absurd (none-some (Happens o t v) (at_number a_story at run t last v has None is)) }
+  happens : (x : Option View) → event (z o t) ≡ x → n ≡ suc t → happens_in (fact_of steps here o) ≡ is_some x
+  happens None at is = ap happens_in (told_here is ∙ ap (λ e. Some (fact_here o t e)) at)
+  happens (Some v) at is = ap happens_in (told_here is ∙ ap (λ e. Some (fact_here o t e)) at)
+
+  pub number_of_event : n ≡ suc t → happens_in (fact_of steps here o) ≡ true → (number : Option ℕ) → number ≡ number_at here o → IsEventNumber steps o t (event (z o t)) number
+  number_of_event is has number number_is = by_number number number_is (event (z o t)) refl
+    where
+      by_number : (number : Option ℕ) → number ≡ number_at here o → (x : Option View) → event (z o t) ≡ x → IsEventNumber steps o t x number
+      by_number number number_is None at = absurd (false≢true (sym (happens None at is) ∙ has))
+      by_number None number_is (Some v) at = absurd (none-some _ (ap (fact_at steps) number_is ∙ told_here is))
+      by_number (Some k) number_is (Some v) at = (v, refl, ap (fact_at steps) number_is ∙ told_here is ∙ ap (λ e. Some (fact_here o t e)) at)
+
+  pub no_event_here : n ≡ suc t → happens_in (fact_of steps here o) ≡ false → event (z o t) ≡ None
+  no_event_here is none = by_event (event (z o t)) refl
+    where
+      by_event : (x : Option View) → event (z o t) ≡ x → x ≡ None
+      by_event None at = refl
+      by_event (Some v) at = absurd (true≢false (sym (happens (Some v) at is) ∙ none))
+
+  -- after the last instant nothing happens
+  pub no_event_after : ¬ (n ≡ suc t) → event (z o t) ≡ None
+  no_event_after not_last =
+      let early = told.early in
+      ap event (told.calm o t run (omega (arith, early, not_last)) (omega arith)).0
+
+  -- ---- what is known of it
+  pub known_why : (k : ℕ) → IsEventNumber steps o t (event (z o t)) (Some k) → (why : Why) → IsEndOf steps k why.steps.items → Knows story.flat.now p z o t (explained.Why why)
+  known_why k number why ends =
+      let fact = number.2 in
+      let right = told.up_to.right in (
+        told.sound,
+        (
+          number.0,
+          number.1,
+          reason_of story.flat.now story.flat.now.running p steps why.steps.items k o t number.0 fact
+              (ends story.flat.now story.flat.now.running p right (fact_there steps k (Happens o t number.0) fact)),
+        ),
+      )
+
+  pub known_none : event (z o t) ≡ None → Knows story.flat.now p z o t explained.NoEvent
+  known_none none = (told.sound, none)

@@ -17,12 +17,15 @@ use Rattle.flat_core.specs.declared.equation.Equation.{Equation}
 use Rattle.flat_core.specs.Case.{Streams}
 use Rattle.flat_core.specs.Events.{Inputs, filtered, merged}
 use Rattle.flat_core.specs.Stream.{event}
-use Rattle.flat_core.specs.System.{System}
+use Rattle.flat_core.specs.System.{System, equation, runs}
 use Rattle.flat_core.specs.Typed.{IsTyped, bool_type, filter}
 use Rattle.flat_core.specs.Typed as typed
 use Rattle.flat_core.specs.Updates.{update_in}
 use Rattle.flat_core.specs.inner.TypedEvents.{AreOf, IsOf}
-use Rattle.plain_solver.proofs.TypedLemmas.{takes_typed}
+use Rattle.flat_core.proofs.Shapes.{running_args}
+use Rattle.flat_core.proofs.TypedCase.{IsTypedAt, is_of_from, values_typed}
+use Rattle.flat_core.proofs.Uniqueness.{all_by}
+use Rattle.plain_solver.specs.inner.Typed.{TakesTyped}
 use Rattle.trigger_rules.proofs.Values.{gives}
 use Rattle.why_rules.specs.Facts.{Happens, Silent}
 use Rattle.why_rules.specs.Rules.{Tells, computes, joins, looks_back, misses}
@@ -34,9 +37,25 @@ use Rattle.event_why.specs.declared.fact.WhyStep.{WhyStep}
 use Rattle.event_why.specs.Check.{AreNamed}
 use Rattle.event_why.specs.inner.Drafted.{IsByFirst, IsGrounded, happens_at, happens_now, number_at, table_at, there}
 use Rattle.event_why.specs.inner.Silence.{misses_only}
-use Rattle.event_why.specs.inner.Tale.{CanTell, GroundsEvent, GroundsSilence, Tale, fact_here, here_of}
+use Rattle.event_why.specs.inner.Tale.{CanTell, GroundsEvent, GroundsSilence, IsStory, Tale, fact_here, here_of}
 use Rattle.event_why.proofs.GroundLemmas.{all_there, event_alone, event_from, happens_is, here_arg, is_alone, is_seen, named_all, named_one, none_of, only_misses, own_as, own_here, plain_misses, seen_none, seen_value, shape, silence_alone, silence_from, some_of, tells_each, value_in}
 use Rattle.event_why.proofs.ListedFacts.{filter_two, merge_two, two_exist}
+
+-- ---- the events of an equation's arguments are of types that it takes
+typed_at : (T : Tale) → IsStory T → (t : ℕ) → t < T.bound → (a : ℕ) → IsTrue (runs T.system a) → IsTypedAt T.system T.streams t a
+typed_at T story t early a run e is = is_of_from e.of (event (T.streams a t)) (λ v some. story.typed.each a e run is t early v some)
+
+takes_run : (T : Tale) → IsStory T → (i : ℕ) (e : Equation) → IsTrue (runs T.system i) → equation T.system i ≡ Some e → (t : ℕ) → t < T.bound → TakesTyped T.streams e t
+takes_run T story i e run is t early =
+    let s = T.system in
+    let g = story.whole.complete.typed.each i e is in
+    record {
+      types = g.types;
+      typed = g.typed;
+      values =
+          values_typed s T.streams t e.args g.types g.arguments
+          (all_by (λ a. IsTrue (runs s a)) (IsTypedAt s T.streams t) (typed_at T story t early) e.args (running_args s story.whole.proper i e run is));
+    }
 
 -- ---- a loop over arguments
 pub all_more : (P : ℕ → Type 0) (xs : List ℕ) (i x : ℕ) → i < length xs → x ≡ get_or xs i x → P x → ((a : ℕ) → Contains (take i xs) a → P a) → (a : ℕ) → Contains (take (i + 1) xs) a → P a
@@ -150,7 +169,7 @@ module _ (T : Tale) (t i : ℕ) (e : Equation) (draft : Draft) (c : CanTell T t 
   silence_missing is by at (inl f) = missing (only_misses e.op is) f.0 f.1 f.2 by f.3
   silence_missing is by at (inr some) =
       let one = only_misses e.op is in
-      let typed = takes_typed s c.story.whole z c.story.typed i e c.is t in
+      let typed = takes_run T c.story i e c.run c.is t c.early in
       let plain = plain_misses e.op is (values z e.args t) t in
       let all = all_there p z i t e.of e.args (λ a m. sym (happens_is T t i e draft c a (here_arg T t i e draft c (misses_once e.op one) a m)) ∙ some a m) in
       let known = gives e.op typed.types e.of typed.typed (values z e.args t) typed.values plain.0 t None (sym (own-missed p z i t e.of e.op e.args one) ∙ own_here T t i e draft c ∙ ap Ok at) in
@@ -203,7 +222,7 @@ module _ (T : Tale) (t i : ℕ) (e : Equation) (draft : Draft) (c : CanTell T t 
         let x = some_of (event (z a t)) (sym (happens_is T t i e draft c a (here_arg T t i e draft c once a first)) ∙ has a first) in
         let w = some_of (event (z b t)) (sym (happens_is T t i e draft c b at_b) ∙ has b second) in
         let none = ap value_in (own_as T t i e draft c op.Filter (a ∷ b ∷ []) None op_is args_are at) in
-        let typed = takes_typed s c.story.whole z c.story.typed i e c.is t in
+        let typed = takes_run T c.story i e c.run c.is t c.early in
         let fit = condition_typed e.op typed.types e.of typed.typed (ap is_filter op_is) (event (z a t)) (event (z b t)) (subst (λ xs. AreOf typed.types (values z xs t)) args_are typed.values) in
         let wrong = filtered_false x.0 w.0 ((λ k. filtered (sym x.1 k) (sym w.1 k)) ∙ none) (subst (IsOf bool_type) w.1 fit) in
         silence_from T t i e draft c by (Happens b t (Plain (scalar.Bool false)) ∷ []) (named_one T t i e draft c b (Some (Plain (scalar.Bool false))) by at_b (w.1 ∙ ap Some wrong) by_is)

@@ -32,4 +32,7 @@ pub mod WaitLemmas
 pub mod QuietLemmas
 pub mod CalmLemmas
 pub mod RunLemmas
-pub mod EndLemmas
+pub mod RowLemmas
+pub mod ComingLemmas
+pub mod NextLemmas
+pub mod CourseLemmas

@@ -33,7 +33,7 @@ use Rattle.event_why.proofs.GroundLemmas.{event_from, happens_is, here_used, nam
 use Rattle.event_why.proofs.ListedFacts.{last_two, two_exist}
 
 -- ---- the latest event
-latest_from : (h : History) (low n : ℕ) → low ≤ n → ((w : ℕ) → low ≤ w → w < n → event (h w) ≡ None) → latest h n ≡ latest h low
+pub latest_from : (h : History) (low n : ℕ) → low ≤ n → ((w : ℕ) → low ≤ w → w < n → event (h w) ≡ None) → latest h n ≡ latest h low
 latest_from h low zero le none = let same : zero ≡ low = omega arith in ap (latest h) same
 latest_from h low (suc n) le none = elim (cases_lt n low) [
   | inl end ↦ let same : suc n ≡ low = omega arith in ap (latest h) same
@@ -46,7 +46,7 @@ quiet_within steps quiet v low n (tale.HasQuiet.some le at) = omega arith
 
 -- a value, or that nothing came yet
 pub latest_known : (steps : List WhyStep) (table : List (Option ℕ)) (z : Streams) (v low : ℕ) → HasLatest steps table z v low → (x : Option View) → latest (z v) low ≡ x → ((low ≡ 0) × (x ≡ None)) ⊎ ((u : ℕ) × (y : View) × (low ≡ suc u) × (x ≡ Some y) × (fact_of steps table v ≡ Some (Happens v u y)))
-latest_known steps table z v low tale.HasLatest.none x is = inl (refl, sym is)
+latest_known steps table z v low (tale.HasLatest.none empty) x is = inl (refl, sym is)
 latest_known steps table z v low (tale.HasLatest.some {u = u} {x = y} at fact) x is = inr (u, y, refl, sym is ∙ (λ k. option_or (at k) (latest (z v) u)), fact)
 
 pub number_none : (steps : List WhyStep) (numbers : List (Option ℕ)) (i : ℕ) → AreWithin steps numbers → fact_of steps numbers i ≡ None → number_at numbers i ≡ None

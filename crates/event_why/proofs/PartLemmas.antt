@@ -1,5 +1,5 @@
 -- The equations of a system with one of its outputs are a complete system, in which the slice of that output runs.
-use Rattle.std.proofs.Common.{◌≡◌, ◌↔◌, ℕ, zero, suc, ◌<◌, List, [], ◌∷◌, length, Some, refl, sym, ap, subst, ◌∙◌, slice_get, arith, lit<}
+use Rattle.std.proofs.Common.{◌≡◌, ℕ, zero, suc, ◌<◌, [], ◌∷◌, length, Some, sym, ap, subst, ◌∙◌, slice_get, arith, lit<}
 use Rattle.std.specs.Prelude.{IsTrue}
 use Rattle.std.specs.List.{AllByRecursion, Contains}
 use Rattle.tsl_value.proofs.Lists.{contains_at}
@@ -11,7 +11,6 @@ use Rattle.flat_core.specs.Needed.{HasArgument, IsReachedFrom, RunsNeeded}
 use Rattle.flat_core.specs.System.{System}
 use Rattle.flat_core.specs.TypedSystem.{IsTypedEquation}
 use Rattle.flat_core.proofs.Members.{all_at, contains_head}
-use Rattle.flat_slice.specs.Slice.{IsSlice}
 use Rattle.event_why.specs.inner.Sliced.{IsSliced}
 
 only_one : {A : Type 0} (x y : A) → Contains (x ∷ []) y → x ≡ y

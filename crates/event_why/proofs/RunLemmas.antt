@@ -175,7 +175,7 @@ module _ (old : List WhyStep) (before : List (Option ℕ)) (new : List WhyStep) 
   quiet_pruned v low n (tale.HasQuiet.some le at) = tale.HasQuiet.some le (same.same v _ at)
 
   latest_pruned : (T : Tale) (v low : ℕ) → HasLatest old before T.streams v low → HasLatest new after T.streams v low
-  latest_pruned T v low tale.HasLatest.none = tale.HasLatest.none
+  latest_pruned T v low (tale.HasLatest.none is) = tale.HasLatest.none (same.none v is)
   latest_pruned T v low (tale.HasLatest.some is at) = tale.HasLatest.some is (same.same v _ at)
 
   fact_pruned : (i : ℕ) → AreWithin old before → (x : Option Fact) → fact_of old before i ≡ x → fact_of new after i ≡ x
@@ -241,7 +241,7 @@ blank_at T draft b =
       latest_count = length-replicate n None;
       quiet_count = length-replicate n None;
       due_count = length-replicate n None;
-      kept = λ v is. record { low = 0; since = tale.HasQuiet.none (none_at n v); event_at = tale.HasLatest.none; silent = λ w above below. absurd (omega arith) };
+      kept = λ v is. record { low = 0; since = tale.HasQuiet.none (none_at n v); event_at = tale.HasLatest.none (none_at n v); silent = λ w above below. absurd (omega arith) };
       pends = λ i. ap (fact_at []) (none_at n i) ∙ sym (nothing_told i);
       here = λ i is run. absurd (false≢true is);
     })

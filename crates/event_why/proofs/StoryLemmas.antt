@@ -1,23 +1,21 @@
--- A whole run of the system of one output is a story that can be told, for all lines.
-use Rattle.std.proofs.Common.{◌≡◌, ℕ, zero, suc, ◌+◌, ◌-◌, ◌<◌, Bool, true, false, List, [], ◌∷◌, ◌++◌, pos, negsuc, Some, None, Contains, length, slice_get, refl, sym, ap, subst, ◌∙◌, inl, inr, arith}
+-- Streams that solve a system below a time, without a root fault, are a story.
+use Rattle.std.proofs.Common.{◌≡◌, ℕ, zero, suc, ◌<◌, ◌≤◌, ◌^◌, Bool, false, not, length, List, [], ◌∷◌, pos, negsuc, Option, Some, None, refl, sym, ap, subst, ◌∙◌, inl, inr, arith}
 use Rattle.std.specs.Prelude.{IsTrue, if◌then◌else◌, is_some}
-use Rattle.std.specs.List.{AllByRecursion}
-use Rattle.std.specs.List.Sorted.{IsStrictlyIncreasing}
+use Rattle.std.specs.List.{AllByRecursion, list_any}
 use Rattle.std.specs.Option.{option_and_then}
-use Rattle.std.proofs.lemmas.Bool.{cases_Bool, false≢true, true≢false, or_parts}
-use Rattle.std.proofs.lemmas.List.{append-nil, length_push}
-use Rattle.std.proofs.lemmas.Option.{none-some}
-use Rattle.tsl_value.proofs.Lists.{get_seam}
+use Rattle.std.proofs.lemmas.Bool.{cases_lt, false≢true, true≢false}
+use Rattle.std.proofs.lemmas.Option.{slice_get_within}
 use Rattle.tsl_value.specs.View.{View, Plain, is_of}
 use Rattle.tsl_value.specs.declared.scalar.Scalar.TheVariants as scalar
 use Rattle.tsl_value.specs.declared.scalar.ValueType.{ValueType}
+use Rattle.lift_func.specs.declared.fault.FaultKind.{FaultKind}
+use Rattle.flat_core.specs.declared.equation.Op.{Op}
 use Rattle.flat_core.specs.declared.equation.Op.TheVariants as op
 use Rattle.flat_core.specs.declared.equation.Equation.{Equation}
-use Rattle.flat_core.specs.Case.{Streams, amount_fault, root_of, root_fault}
-use Rattle.flat_core.specs.Events.{refused}
-use Rattle.flat_core.specs.Fault.{root_at}
-use Rattle.flat_core.specs.Instant.{is_instant, instants}
-use Rattle.flat_core.specs.Line.{Line, inputs_of}
+use Rattle.flat_core.specs.Case.{Streams, amount_fault, is_blocked, own_of, root_of, root_fault}
+use Rattle.flat_core.specs.Complete.{IsFlat}
+use Rattle.flat_core.specs.Events.{Inputs, fault_of, refused}
+use Rattle.flat_core.specs.Fault.{IsNamed, is_faulty, root_at}
 use Rattle.flat_core.specs.Solution.{Solves}
 use Rattle.flat_core.specs.Stream.{event}
 use Rattle.flat_core.specs.System.{System, runs, equation}
@@ -25,34 +23,19 @@ use Rattle.flat_core.specs.Typed.{IsTyped, delay, int_type, update}
 use Rattle.flat_core.specs.TypedSystem.{AreOfTypes, IsOfType}
 use Rattle.flat_core.specs.WellFormed.{IsWellFormed}
 use Rattle.flat_core.specs.inner.Dependency.{IsRunOrder}
-use Rattle.flat_core.specs.inner.TypedLines.{AreTypedLines}
-use Rattle.flat_core.proofs.Instants.{in_instants, instants_below, instants_have}
-use Rattle.flat_core.proofs.Members.{Contains-in, none_in}
-use Rattle.flat_core.proofs.Rising.{increasing_push}
-use Rattle.flat_core.proofs.Silence.{happens_at_instants}
-use Rattle.flat_core.proofs.StillLemmas.{no_input}
-use Rattle.flat_core.proofs.TypedEvents.{inputs_typed}
+use Rattle.flat_core.specs.inner.TypedEvents.{AreTypedInputs, HasTypedEvents}
+use Rattle.flat_core.proofs.Members.{none_from, none_in}
+use Rattle.flat_core.proofs.Shapes.{running_args}
+use Rattle.flat_core.proofs.TypedEvents.{events_typed}
 use Rattle.flat_core.proofs.UpdateOps.{no_update}
 use Rattle.flat_core.proofs.WellFormedRank.{rank_of, well_formed_ranked}
-use Rattle.flat_slice.proofs.SliceLemmas.{case_of-inputs}
+use Rattle.plain_solver.specs.inner.Instant.{AreSound, IsFirstRoot}
 use Rattle.trigger_rules.specs.inner.Firing.{IsUpToFault}
 use Rattle.trigger_rules.proofs.Times.{all_are_clear}
-use Rattle.flat_core.specs.Complete.{IsFlat}
-use Rattle.plain_solver.specs.declared.events.Moment.{Moment}
-use Rattle.plain_solver.specs.declared.solve.Solved.{Solved}
-use Rattle.plain_solver.specs.declared.solve.End.TheVariants as end
-use Rattle.plain_solver.specs.inner.Solved.{IsEnded, IsWhole}
-use Rattle.plain_solver.specs.inner.Streams.{streams_of}
 use Rattle.why_rules.specs.Derivation.{IsSound}
-use Rattle.event_why.specs.declared.explained.Explained.TheVariants as explained
-use Rattle.event_why.specs.declared.fact.Why.{Why}
-use Rattle.event_why.specs.Explained.{IsExplained}
-use Rattle.event_why.specs.inner.Found.{IsReason, IsReasonIn, IsSolvedUpTo}
-use Rattle.event_why.specs.inner.Sliced.{IsSliced, heard, is_heard}
-use Rattle.event_why.specs.inner.Tale.{AreKept, HappensAt, IsStory, Tale}
-use Rattle.event_why.proofs.AcceptedLemmas.{accepted}
-use Rattle.event_why.proofs.AloneLemmas.{o_runs, typed_alone, well_formed_alone, why_explained}
-use Rattle.event_why.proofs.SlicedLemmas.{heard_at, typed_filter}
+use Rattle.event_why.specs.inner.Found.{IsClean}
+use Rattle.event_why.specs.inner.Tale.{AreKept, IsAt, IsStory, Tale}
+use Rattle.event_why.specs.declared.draft.Draft.{Draft}
 
 -- ---- amounts
 int_first : (equations : List Equation) (d r : ℕ) (types : List ValueType) (t : ValueType) → IsTyped op.Delay types t → AreOfTypes equations (d ∷ r ∷ []) types → IsOfType equations d int_type
@@ -65,142 +48,108 @@ positive (Plain (scalar.Int (pos (suc n)))) of clear = (suc n, omega arith, refl
 positive (Plain (scalar.Int (negsuc n))) of clear = absurd (true≢false clear)
 positive _ of clear = absurd (false≢true of)
 
--- ---- instants
-module _ (f : System) (lines : List Line) (z : Streams) where
-  rising_more : (n : ℕ) (b : Bool) → IsStrictlyIncreasing (instants f lines z n) → IsStrictlyIncreasing (instants f lines z n ++ (if b then n ∷ [] else []))
-  rising_more n true up = increasing_push (instants f lines z n) n up (λ x among. (in_instants f lines z n x (Contains-in (instants f lines z n) x among)).0)
-  rising_more n false up = subst IsStrictlyIncreasing (sym (append-nil (instants f lines z n))) up
+module _ (f : System) (p : Inputs) (z : Streams) (n : ℕ) (whole : IsFlat f) (formed : IsWellFormed f) (given : AreTypedInputs f p) (solves : Solves f p n z) where
+  pub typed_below : HasTypedEvents f n z
+  typed_below = events_typed f p n z whole.proper whole.complete.typed (rank_of f formed) (well_formed_ranked f formed) given solves
 
-  rising : (n : ℕ) → IsStrictlyIncreasing (instants f lines z n)
-  rising zero = λ k lt. absurd (omega arith)
-  rising (suc n) = rising_more n (is_instant f lines z n) (rising n)
+  module _ (sound : IsClean f p z n) where
+    up_to_fault : (u : ℕ) → u < n → IsUpToFault f p n z u
+    up_to_fault u low = record {
+      proper = whole.proper;
+      typed = whole.complete.typed;
+      rank = rank_of f formed;
+      ranked = well_formed_ranked f formed;
+      solves = solves;
+      typed_inputs = given;
+      below = low;
+      sound = λ w lt. sound w (omega arith);
+    }
 
-at_end : (us : List ℕ) (t : ℕ) → slice_get (us ++ t ∷ []) (length (us ++ t ∷ []) - 1) ≡ Some t
-at_end us t =
-    let long = length_push us t in
-    let place : length (us ++ t ∷ []) - 1 ≡ length us = omega (arith, long) in
-    ap (slice_get (us ++ t ∷ [])) place ∙ get_seam us t []
+    clear : IsSound f.running z n
+    clear = record { none = λ i u member low. all_are_clear f p n z u (up_to_fault u low) (sound u low) i member }
 
-module _ (s f : System) (number : ℕ) (is : IsSliced s number f) (formed : IsWellFormed s) (lines : List Line) (typed : AreTypedLines s lines) (t : ℕ) (v : Solved) (solved : IsSolvedUpTo f lines t v) (ends : v.end ≡ end.Bound) where
-  abbrev z : Streams
-  z = streams_of v.streams.items
+    module _ (i : ℕ) (e : Equation) (run : IsTrue (runs f i)) (at : equation f i ≡ Some e) (op_is : e.op ≡ op.Delay) (d r : ℕ) (args_are : e.args ≡ d ∷ r ∷ []) (u : ℕ) (low : u < n) (x : View) (has : event (z d u) ≡ Some x) where
+      no_root : is_some (root_fault p z i e u) ≡ false
+      no_root =
+          sym (ap (λ o. is_some (option_and_then (λ g. root_fault p z i g u) o)) at)
+          ∙ none_in (λ j. is_some (root_at f p z u j)) f.running (sound u low) i run
 
-  abbrev own : List Line
-  own = heard f t lines
+      unrefused : is_some (refused (Some x)) ≡ false
+      unrefused =
+          sym (ap (λ o. is_some (root_of p z i e o u)) op_is ∙ ap (λ xs. is_some (amount_fault z xs u)) args_are ∙ ap (λ w. is_some (refused w)) has)
+          ∙ no_root
 
-  whole_run : IsWhole f own (t + 1) (t + 1) v.streams.items v.instants.items
-  whole_run = subst (λ e. IsEnded f own (t + 1) (t + 1) v.streams.items v.instants.items e) ends solved.ended
+      amount : (m : ℕ) × (0 < m) × (x ≡ Plain (scalar.Int (pos m)))
+      amount =
+          let g = whole.complete.typed.each i e at in
+          let first = int_first f.equations d r g.types e.of (subst (λ o. IsTyped o g.types e.of) op_is g.typed) (subst (λ xs. AreOfTypes f.equations xs g.types) args_are g.arguments) in
+          let run_d = (subst (AllByRecursion (λ a. IsTrue (runs f a))) args_are (running_args f whole.proper i e run at)).0 in
+          positive x (subst (λ k. IsTrue (is_of k x)) first.of_is (typed_below.each d first.at run_d first.is u low x has)) unrefused
 
-  formed_alone : IsWellFormed f
-  formed_alone = well_formed_alone s f number is formed
-
-  up_to_fault : (u : ℕ) → u < t + 1 → IsUpToFault f (inputs_of own) (t + 1) z u
-  up_to_fault u low = record {
-    proper = is.whole.proper;
-    typed = is.whole.complete.typed;
-    rank = rank_of f formed_alone;
-    ranked = well_formed_ranked f formed_alone;
-    solves = whole_run.solved.solves;
-    typed_inputs = inputs_typed f own (typed_filter (is_heard f t) f lines (typed_alone s f number is lines typed));
-    below = low;
-    sound = λ w lt. whole_run.sound w (omega arith);
-  }
-
-  clear : IsSound f.running z (t + 1)
-  clear = record { none = λ i u member low. all_are_clear f (inputs_of own) (t + 1) z u (up_to_fault u low) (whole_run.sound u low) i member }
-
-  heard_same : (i u : ℕ) → IsTrue (runs f i) → u < t + 1 → inputs_of own i u ≡ inputs_of lines i u
-  heard_same i u run low = heard_at f t i u run (omega arith) lines
-
-  solves_all : Solves f (inputs_of lines) (t + 1) z
-  solves_all = record {
-    each = λ i e run at u low. whole_run.solved.solves.each i e run at u low ∙ case_of-inputs (inputs_of own) (inputs_of lines) z i u e (λ input. heard_same i u run low);
-  }
-
-  module _ (i : ℕ) (e : Equation) (run : IsTrue (runs f i)) (at : equation f i ≡ Some e) (op_is : e.op ≡ op.Delay) (d r : ℕ) (args_are : e.args ≡ d ∷ r ∷ []) (u : ℕ) (low : u < t + 1) (x : View) (has : event (z d u) ≡ Some x) where
-    no_root : is_some (root_fault (inputs_of own) z i e u) ≡ false
-    no_root =
-        sym (ap (λ o. is_some (option_and_then (λ g. root_fault (inputs_of own) z i g u) o)) at)
-        ∙ none_in (λ j. is_some (root_at f (inputs_of own) z u j)) f.running (whole_run.sound u low) i run
-
-    unrefused : is_some (refused (Some x)) ≡ false
-    unrefused =
-        sym (ap (λ o. is_some (root_of (inputs_of own) z i e o u)) op_is ∙ ap (λ xs. is_some (amount_fault z xs u)) args_are ∙ ap (λ w. is_some (refused w)) has)
-        ∙ no_root
-
-    amount : (n : ℕ) × (0 < n) × (x ≡ Plain (scalar.Int (pos n)))
-    amount =
-        let g = is.whole.complete.typed.each i e at in
-        let first = int_first f.equations d r g.types e.of (subst (λ o. IsTyped o g.types e.of) op_is g.typed) (subst (λ xs. AreOfTypes f.equations xs g.types) args_are g.arguments) in
-        positive x (subst (λ k. IsTrue (is_of k x)) first.of_is (whole_run.solved.typed.each d first.at first.is u x has)) unrefused
-
-  module _ (order : List ℕ) (ordered : IsRunOrder f order) (marks : List Bool) (kept : AreKept f marks) where
-    abbrev tale : Tale
-    tale = record { system = f; order = order; inputs = inputs_of lines; streams = streams_of v.streams.items; kept = marks; bound = t + 1 }
-
-    pub story : IsStory tale
-    story = record {
-      whole = is.whole;
+    pub story_of : n ≤ 2 ^ 63 → (order : List ℕ) → IsRunOrder f order → (marks : List Bool) → AreKept f marks → IsStory (record { system = f; order = order; inputs = p; streams = z; kept = marks; bound = n })
+    story_of small order ordered marks kept = record {
+      whole = whole;
       ordered = ordered;
-      small = solved.small;
-      solves = solves_all;
+      small = small;
+      solves = solves;
       sound = clear;
       amounts = amount;
-      typed = whole_run.solved.typed;
+      typed = typed_below;
       kept = kept;
     }
 
-    at_instants : (u : ℕ) → u < t + 1 → is_instant f own z u ≡ false → (i : ℕ) → IsTrue (runs f i) → z i u ≡ None
-    at_instants u low none i run = (happens_at_instants f own z (t + 1) is.whole.proper is.whole.complete.typed (rank_of f formed_alone) (well_formed_ranked f formed_alone) whole_run.solved.solves).silent u low none i run
+-- a draft stands as it is, whatever the bound
+pub at_bound : (T : Tale) (bound : ℕ) (past due : ℕ → ℕ) (t : ℕ) (done : ℕ → Bool) (draft : Draft) → IsAt T past due t done draft → IsAt (record T { bound = bound }) past due t done draft
+at_bound T bound past due t done draft at = record {
+  right = at.right;
+  latest = at.latest;
+  quiet = at.quiet;
+  pending = at.pending;
+  now_count = at.now_count;
+  latest_count = at.latest_count;
+  quiet_count = at.quiet_count;
+  due_count = at.due_count;
+  kept = at.kept;
+  pends = at.pends;
+  here = at.here;
+}
 
-    pub happens : HappensAt tale v.instants.items
-    happens = record {
-      rising = subst IsStrictlyIncreasing (sym whole_run.ran_is) (rising f own z (t + 1));
-      below = subst (AllByRecursion (λ u. u < t + 1)) (sym whole_run.ran_is) (instants_below f own z (t + 1));
-      start = λ some. subst (λ us. Contains us 0) (sym whole_run.ran_is) (instants_have f own z (t + 1) 0 some refl);
-      calm = λ u low out i run.
-          let none : is_instant f own z u ≡ false = elim (cases_Bool (is_instant f own z u)) [
-            | inl it_is ↦ absurd (out (subst (λ us. Contains us u) (sym whole_run.ran_is) (instants_have f own z (t + 1) u low it_is)))
-            | inr nay ↦ nay
-          ] in
-          let no_line = (or_parts _ _ (or_parts _ _ none).0).1 in
-          (at_instants u low none i run, sym (heard_same i u run low) ∙ no_input own i u no_line);
-    }
+-- ---- root faults ask no input
+module _ (p q : Inputs) (z : Streams) (i t : ℕ) where
+  fault_same : (o : Op) (args : List ℕ) (of : ValueType) → fault_of (own_of p z i o args of t) ≡ fault_of (own_of q z i o args of t)
+  fault_same op.Input args of = refl
+  fault_same o args of = refl
 
-  -- where an equation has an event, the time is an instant, and the last one
-  module _ (o : ℕ) (run : IsTrue (runs f o)) (x : View) (has : event (z o t) ≡ Some x) where
-    comes : is_instant f own z t ≡ true
-    comes = elim (cases_Bool (is_instant f own z t)) [
-      | inl it_does ↦ it_does
-      | inr nay ↦
-          let none = (happens_at_instants f own z (t + 1) is.whole.proper is.whole.complete.typed (rank_of f formed_alone) (well_formed_ranked f formed_alone) whole_run.solved.solves).silent t (omega arith) nay o run in
-          absurd (none-some x (sym (ap event none) ∙ has))
-    ]
+  root_of-inputs : (e : Equation) (o : Op) → root_of p z i e o t ≡ root_of q z i e o t
+  root_of-inputs e op.Delay = refl
+  root_of-inputs e o = ap (λ fault. if is_blocked z e t then None else fault) (fault_same e.op e.args e.of)
 
-    ends_so : v.instants.items ≡ instants f own z t ++ t ∷ []
-    ends_so =
-        let one : t + 1 ≡ suc t = omega arith in
-        whole_run.ran_is ∙ ap (instants f own z) one ∙ ap (λ b. instants f own z t ++ (if b then t ∷ [] else [])) comes
+  root_found : (at : Option Equation) → option_and_then (λ e. root_fault p z i e t) at ≡ option_and_then (λ e. root_fault q z i e t) at
+  root_found None = refl
+  root_found (Some e) = root_of-inputs e e.op
 
-    last_instant : slice_get v.instants.items (length v.instants.items - 1) ≡ Some t
-    last_instant = subst (λ us. slice_get us (length us - 1) ≡ Some t) (sym ends_so) (at_end (instants f own z t) t)
+pub faulty_inputs : (f : System) (p q : Inputs) (z : Streams) (t : ℕ) → is_faulty f p z t ≡ is_faulty f q z t
+faulty_inputs f p q z t = λ k. list_any (λ i. is_some (root_found p q z i t (equation f i) k)) f.running
 
-  -- what is drafted of the run is why the output has its event
-  module _ (whole : IsFlat s) (order : List ℕ) (ordered : IsRunOrder f order) (marks : List Bool) (kept : AreKept f marks) where
-    abbrev tale_with : List (List Moment) → Tale
-    tale_with all = record { system = f; order = order; inputs = inputs_of lines; streams = streams_of all; kept = marks; bound = t + 1 }
+-- ---- root faults at a time
+module _ (f : System) (p : Inputs) (z : Streams) (t : ℕ) where
+  root_there : (i : ℕ) → AreSound f p z t (length f.equations) → IsTrue (runs f i) → (found : Option Equation) → equation f i ≡ found → root_at f p z t i ≡ None
+  root_there i none run None is = ap (option_and_then (λ e. root_fault p z i e t)) is
+  root_there i none run (Some e) is = none i (slice_get_within f.equations i e is) run
 
-    module _ (all : List (List Moment)) (same : all ≡ v.streams.items) (times : List ℕ) (same_times : times ≡ v.instants.items) (o : ℕ) (same_o : o ≡ is.output.equation) (why : Why) (told : IsReasonIn (tale_with all) times o why.steps.items) (x : View) (has : event (z is.output.equation t) ≡ Some x) where
-      told_here : IsReasonIn (tale_with v.streams.items) v.instants.items is.output.equation why.steps.items
-      told_here =
-          subst (λ j. IsReasonIn (tale_with v.streams.items) v.instants.items j why.steps.items) same_o
-          (subst (λ us. IsReasonIn (tale_with v.streams.items) us o why.steps.items) same_times
-          (subst (λ xs. IsReasonIn (tale_with xs) times o why.steps.items) same told))
+  pub none_faulty : AreSound f p z t (length f.equations) → is_faulty f p z t ≡ false
+  none_faulty none = none_from (λ i. is_some (root_at f p z t i)) f.running (λ i run. ap is_some (root_there i none run (equation f i) refl))
 
-      reason : IsReason f f.running (inputs_of lines) is.output.equation t x why.steps.items
-      reason =
-          let run = o_runs s f number is whole lines t v solved ends in
-          told_here.reason (story order ordered marks kept) (happens order ordered marks kept) run t (last_instant is.output.equation run x has) x has
+  pub first_named : IsClean f p z t → (root : ℕ × FaultKind) → IsFirstRoot f p z t (Some root) → IsNamed f p z t root.0 root.1
+  first_named sound root first = record {
+    running = first.0;
+    root = first.1;
+    least = λ j run lt. first.2 j lt run;
+    first = λ u lt. ap not (sound u lt);
+  }
 
-      pub why_of : IsExplained s (inputs_of lines) number t (explained.Why why)
-      why_of = why_explained s f number is whole lines t v solved ends x has why (accepted s f number is (inputs_of lines) t why x reason)
+  pub clean_more : IsClean f p z t → is_faulty f p z t ≡ false → IsClean f p z (suc t)
+  clean_more sound here u lt = elim (cases_lt u t) [
+    | inl low ↦ sound u low
+    | inr high ↦ let same : t ≡ u = omega arith in subst (λ v. is_faulty f p z v ≡ false) same here
+  ]

@@ -77,7 +77,7 @@ module _ (steps more : List WhyStep) (still : (k : ℕ) (f : Fact) → fact_at s
   quiet_still quiet v low n (tale.HasQuiet.some le at) = tale.HasQuiet.some le (some_still quiet v _ at)
 
   pub latest_still : (latest : List (Option ℕ)) (z : Streams) (v low : ℕ) → HasLatest steps latest z v low → HasLatest more latest z v low
-  latest_still latest z v low tale.HasLatest.none = tale.HasLatest.none
+  latest_still latest z v low (tale.HasLatest.none is) = tale.HasLatest.none is
   latest_still latest z v low (tale.HasLatest.some is at) = tale.HasLatest.some is (some_still latest v _ at)
 
   pub past_still : (latest quiet : List (Option ℕ)) (z : Streams) (v n : ℕ) → HasPast steps latest quiet z v n → HasPast more latest quiet z v n
@@ -148,7 +148,7 @@ quiet_other steps q r v low n same (tale.HasQuiet.none is) = tale.HasQuiet.none 
 quiet_other steps q r v low n same (tale.HasQuiet.some le at) = tale.HasQuiet.some le (ap (fact_at steps) same ∙ at)
 
 pub latest_other : (steps : List WhyStep) (l m : List (Option ℕ)) (z : Streams) (v low : ℕ) → number_at m v ≡ number_at l v → HasLatest steps l z v low → HasLatest steps m z v low
-latest_other steps l m z v low same tale.HasLatest.none = tale.HasLatest.none
+latest_other steps l m z v low same (tale.HasLatest.none is) = tale.HasLatest.none (same ∙ is)
 latest_other steps l m z v low same (tale.HasLatest.some is at) = tale.HasLatest.some is (ap (fact_at steps) same ∙ at)
 
 pub past_other : (steps : List WhyStep) (l m q r : List (Option ℕ)) (z : Streams) (v n : ℕ) → number_at m v ≡ number_at l v → number_at r v ≡ number_at q v → HasPast steps l q z v n → HasPast steps m r z v n

@@ -12,3 +12,7 @@ pub mod Found
 pub mod Drafted
 pub mod Pruned
 pub mod Tale
+pub mod Row
+pub mod Here
+pub mod Coming
+pub mod Course

@@ -1,137 +1,97 @@
 // Why an output has an event.
 
-ghost use Rattle.std.specs.Prelude.{◌≡◌, ◌<◌, ℕ, length, IfOk};
+ghost use Rattle.std.specs.Prelude.{◌<◌, ℕ, suc, length, IfOk, IsTrue};
+ghost use Rattle.flat_core.specs.Case.{Streams};
 ghost use Rattle.flat_core.specs.Events.{Inputs};
 ghost use Rattle.flat_core.specs.Line.{IsSorted, inputs_of};
+ghost use Rattle.flat_core.specs.Solution.{Solves};
+ghost use Rattle.flat_core.specs.Stream.{event};
+ghost use Rattle.flat_core.specs.System.{runs};
 ghost use Rattle.flat_core.specs.WellFormed.{IsWellFormed};
-ghost use Rattle.flat_core.specs.inner.Dependency.{IsRunOrder};
 ghost use Rattle.flat_core.specs.inner.TypedLines.{AreTypedLines};
+ghost use Rattle.event_why.specs.declared.instants.Story.{Story as ViewedStory};
 ghost use Rattle.event_why.specs.Explained.{IsExplained};
-ghost use Rattle.event_why.specs.inner.Found.{IsReasonIn, IsSolvedUpTo};
-ghost use Rattle.event_why.specs.inner.Sliced.{IsSliced};
-ghost use Rattle.event_why.specs.inner.Tale.{tale_of};
+ghost use Rattle.event_why.specs.inner.Course.{IsSetting, IsTold};
+ghost use Rattle.event_why.specs.inner.Found.{IsEventNumber, Knows};
 
+use crate::course::{Course, put_all};
 use crate::draft::Draft;
 use crate::explained::Explained;
 use crate::fact::Why;
-use crate::instants::{Story, kept_by_lasts, put_all};
+use crate::instants::{Story, kept_by_lasts};
 use crate::prune::grounds_of;
-use crate::sliced::{lines_up_to, order_of, sliced};
+use crate::sliced::{order_of, sliced};
 use flat_core::flat::Flat;
 use flat_core::line::TraceLine;
-use plain_solver::solve::{End, Solved, solve};
 use std::alloc::Global;
-use translation_order::steps::Steps;
 use tsl_value::ids::EqId;
 use tsl_value::memory::NoMemory;
 use tsl_value::time::Time;
 
-/// The facts that what happens at an equation at the last instant of a run stands on, and that fact. None where none of it is told.
-fn drafted(alloc: Global, story: &Story, instants: &[Time], equation: EqId) -> Result<Why, NoMemory>
-    ensures { IfOk result (λ w. (p : Inputs) (bound : ℕ) → IsReasonIn (tale_of story.now p bound) instants.now equation w.steps.items) }
+/// The number of the event that an equation has at a time, where all that happens up to it is told.
+fn event_number(draft: &Draft, i: EqId, until: u64, time: Time) -> Option<u64>
+    ensures { (story : ViewedStory) (p : Inputs) (z : Streams)
+        → IsTold story p z (suc time) until draft.now
+        → IsTrue (runs story.flat.now i)
+        → IsEventNumber draft.now.steps.items i time (event (z i time)) result }
 {
-    let mut draft = Draft::new(alloc, story.flat.count())?;
-    put_all(alloc, &mut draft, story, instants)?;
-    let last = draft.here.get(equation);
-    let Draft { steps, .. } = draft;
-    match last {
-        Some(last) => Ok(Why {
-            steps: grounds_of(alloc, steps, last)?,
-        }),
-        None => Ok(Why {
-            steps: Vec::new(alloc),
-        }),
+    if until == time.get() + 1 && draft.has_event(i) {
+        draft.here.get(i)
+    } else {
+        None
     }
 }
 
-/// What happens up to a time in the system of one output.
-fn solved_up_to(
+/// What is known of an equation at a time, where all that happens up to it is told.
+fn known_by(
     alloc: Global,
-    flat: &Flat,
-    order: &Steps,
-    lines: &[TraceLine],
+    draft: Draft,
+    i: EqId,
+    until: u64,
     time: Time,
-) -> Result<Solved, NoMemory>
-    requires ordered { IsRunOrder flat.now order.now }
-    requires sorted { IsSorted lines.now }
-    requires typed { AreTypedLines flat.now lines.now }
-    ensures { IfOk result (λ v. IsSolvedUpTo flat.now lines.now time v) }
-{
-    let kept = lines_up_to(alloc, flat, lines, time)?;
-    let bound = time.get() + 1;
-    Ok(solve(alloc, flat, order, &kept, bound, bound)?)
-}
-
-/// What is known of an output where nothing on which it can depend has a fault.
-fn known_of(
-    alloc: Global,
-    flat: &Flat,
-    lines: &[TraceLine],
-    output: u32,
-    time: Time,
-    alone: &Flat,
-    order: &Steps,
-    solved: &Solved,
 ) -> Result<Explained, NoMemory>
-    requires there { output < length flat.now.outputs }
-    requires well_formed { IsWellFormed flat.now }
-    requires typed { AreTypedLines flat.now lines.now }
-    requires sliced { IsSliced flat.now output alone.now }
-    requires ordered { IsRunOrder alone.now order.now }
-    requires solved { IsSolvedUpTo alone.now lines.now time solved.now }
-    requires whole { solved.now.end ≡ End.Bound }
-    ensures { IfOk result (IsExplained flat.now (inputs_of lines.now) output time) }
+    ensures { IfOk result (λ answer. (story : ViewedStory) (p : Inputs) (z : Streams)
+        → IsTold story p z (suc time) until draft
+        → IsTrue (runs story.flat.now i)
+        → Knows story.flat.now p z i time answer) }
 {
-    flat.assert_whole();
-    let equation = alone.outputs()[0].equation;
-    match solved.streams[equation.get() as usize].value_at(time) {
-        Some(_) => {
-            let kept = kept_by_lasts(alloc, alone)?;
-            let story = Story {
-                flat: alone,
-                order,
-                streams: &solved.streams,
-                kept: &kept,
-            };
-            let why = drafted(alloc, &story, &solved.instants, equation)?;
-            Ok(Explained::Why(why))
+    match event_number(&draft, i, until, time) {
+        Some(number) => {
+            let Draft { steps, .. } = draft;
+            Ok(Explained::Why(Why {
+                steps: grounds_of(alloc, steps, number)?,
+            }))
         }
         None => Ok(Explained::NoEvent),
     }
 }
 
-/// What is known of an output, by how the run of its system ended.
-fn answered(
+/// What is known of an equation at a time.
+fn known_at(
     alloc: Global,
-    flat: &Flat,
+    story: &Story,
     lines: &[TraceLine],
-    output: u32,
+    i: EqId,
     time: Time,
-    alone: &Flat,
-    order: &Steps,
-    solved: &Solved,
 ) -> Result<Explained, NoMemory>
-    requires there { output < length flat.now.outputs }
-    requires well_formed { IsWellFormed flat.now }
-    requires typed { AreTypedLines flat.now lines.now }
-    requires sliced { IsSliced flat.now output alone.now }
-    requires ordered { IsRunOrder alone.now order.now }
-    requires solved { IsSolvedUpTo alone.now lines.now time solved.now }
-    ensures { IfOk result (IsExplained flat.now (inputs_of lines.now) output time) }
+    requires setting { IsSetting story.now lines.now }
+    requires run { IsTrue (runs story.now.flat.now i) }
+    ensures { IfOk result (λ answer. (z : Streams)
+        → Solves story.now.flat.now (inputs_of lines.now) (suc time) z
+        → Knows story.now.flat.now (inputs_of lines.now) z i time answer) }
 {
-    flat.assert_whole();
-    match &solved.end {
-        End::Bound => known_of(alloc, flat, lines, output, time, alone, order, solved),
-        End::Fault {
+    let mut draft = Draft::new(alloc, story.flat.count())?;
+    match put_all(alloc, &mut draft, story, lines, time.get() + 1)? {
+        Course::Over { until } => known_by(alloc, draft, i, until, time),
+        Course::Fault {
             time: first,
             equation,
             kind,
         } => Ok(Explained::Fault {
-            time: *first,
-            equation: *equation,
-            kind: *kind,
+            time: first,
+            equation,
+            kind,
         }),
-        End::Limit { time: _ } => unreachable!(),
     }
 }
 
@@ -155,6 +115,13 @@ pub fn explain(
 {
     let alone = sliced(alloc, flat, output)?;
     let order = order_of(alloc, &alone)?;
-    let solved = solved_up_to(alloc, &alone, &order, lines, time)?;
-    answered(alloc, flat, lines, output, time, &alone, &order, &solved)
+    let kept = kept_by_lasts(alloc, &alone)?;
+    let story = Story {
+        flat: &alone,
+        order: &order,
+        kept: &kept,
+    };
+    flat.assert_whole();
+    alone.assert_whole();
+    known_at(alloc, &story, lines, alone.outputs()[0].equation, time)
 }

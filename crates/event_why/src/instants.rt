@@ -1,29 +1,29 @@
 // The facts of a draft, instant by instant.
 
-ghost use Rattle.std.specs.Prelude.{◌≡◌, ◌<◌, ◌≤◌, ℕ, suc, Bool, false, None, Some, IfOk, IsTrue, MatchOption, length};
+ghost use Rattle.std.specs.Prelude.{◌≡◌, ◌<◌, ◌≤◌, ℕ, suc, Bool, false, Some, IfOk, IsTrue};
 ghost use Rattle.std.specs.Option.{option_copied};
 ghost use Rattle.std.specs.List.{AllByRecursion};
 ghost use Rattle.flat_core.specs.declared.equation.Equation.{Equation as ViewedEquation};
-ghost use Rattle.flat_core.specs.Case.{used_of};
+ghost use Rattle.flat_core.specs.Case.{Streams, used_of};
 ghost use Rattle.flat_core.specs.Events.{Inputs};
 ghost use Rattle.flat_core.specs.Stream.{event};
 ghost use Rattle.flat_core.specs.System.{equation, runs};
 ghost use Rattle.flat_core.specs.inner.Dependency.{with_one};
-ghost use Rattle.plain_solver.specs.inner.Streams.{streams_of};
 ghost use Rattle.why_rules.specs.Facts as rules;
-ghost use Rattle.event_why.specs.inner.Drafted.{IsBlank, fact_at};
-ghost use Rattle.event_why.specs.inner.Tale.{AreKept, CanTell, HappensAt, IsAt, IsCalm, IsRun, IsStory, IsUpTo, KeepsOne};
-ghost use Rattle.event_why.specs.inner.Tale.{SaysStill, Tale, Tells, TellsLast};
-ghost use Rattle.event_why.specs.inner.Tale.{always, here_of, is_kept, kept_arg, passed, tale_of, told_until};
+ghost use Rattle.event_why.specs.inner.Drafted.{fact_at};
+ghost use Rattle.event_why.specs.inner.Row.{IsRow};
+ghost use Rattle.event_why.specs.inner.Tale.{AreKept, CanTell, IsAt, IsCalm, IsRun, IsStory, IsUpTo, KeepsOne};
+ghost use Rattle.event_why.specs.inner.Tale.{SaysStill, Tale, Tells};
+ghost use Rattle.event_why.specs.inner.Tale.{always, here_of, is_kept, kept_arg, passed, tale_of};
 
 use crate::draft::{Draft, numbers_of};
 use crate::fact::Fact;
 use crate::grounded::{event_by, silent_by};
-use crate::prune::prune_if_large;
-use crate::waits::{put_all_over, put_all_pending};
+use crate::row::event_in;
+use crate::waits::put_all_over;
 use flat_core::equation::{Equation, Op};
 use flat_core::flat::Flat;
-use plain_solver::events::Events;
+use plain_solver::events::Outcome;
 use plain_solver::value::{Value, copied};
 use std::alloc::Global;
 use translation_order::steps::Steps;
@@ -31,12 +31,11 @@ use tsl_value::ids::EqId;
 use tsl_value::memory::NoMemory;
 use tsl_value::time::Time;
 
-/// What is told: a system, an order to run it in, and what happens in it.
+/// What is told of: a system, and an order to run it in.
 #[derive(Drop)]
 pub(crate) struct Story<'a> {
     pub(crate) flat: &'a Flat,
     pub(crate) order: &'a Steps,
-    pub(crate) streams: &'a [Events],
     /// The equations whose latest event may be asked for.
     pub(crate) kept: &'a [bool],
 }
@@ -75,16 +74,6 @@ pub(crate) fn kept_by_lasts(alloc: Global, flat: &Flat) -> Result<Vec<bool>, NoM
         keep(flat, EqId::new(n), &mut kept);
     }
     Ok(kept)
-}
-
-/// An equal value of the event that an equation has at a time.
-fn value_of(streams: &[Events], i: EqId, t: Time) -> Result<Option<Value>, NoMemory>
-    ensures { IfOk result (λ v. v ≡ event (streams_of streams.now i t)) }
-{
-    match streams.get(i.get() as usize) {
-        Some(events) => copied(events.value_at(t)),
-        None => Ok(None),
-    }
 }
 
 /// What happens at an equation at an instant.
@@ -128,36 +117,45 @@ fn put_running(
     alloc: Global,
     draft: &mut Draft,
     story: &Story,
+    row: &[Option<Outcome>],
     i: EqId,
     t: Time,
 ) -> Result<(), NoMemory>
-    ensures { IfOk result (λ _. (p : Inputs) (bound : ℕ) (done : ℕ → Bool) (e : ViewedEquation)
-        → IsStory (tale_of story.now p bound)
+    ensures { IfOk result (λ _. (p : Inputs) (z : Streams) (bound : ℕ) (done : ℕ → Bool) (e : ViewedEquation)
+        → IsStory (tale_of story.now p z bound)
         → t < bound
+        → IsRow (tale_of story.now p z bound) t row.now
         → equation story.now.flat.now i ≡ Some e
         → AllByRecursion (λ a. IsTrue (done a)) (used_of e.op e.args)
-        → IsAt (tale_of story.now p bound) (always t) (always t) t done draft.old
-        → IsAt (tale_of story.now p bound) (always t) (always t) t (with_one i done) draft.new) }
+        → IsAt (tale_of story.now p z bound) (always t) (always t) t done draft.old
+        → IsAt (tale_of story.now p z bound) (always t) (always t) t (with_one i done) draft.new) }
 {
     if !story.flat.runs(i) || i.get() >= story.flat.count() {
         return Ok(());
     }
-    let value = value_of(story.streams, i, t)?;
+    let value = copied(event_in(row, i))?;
     let number = put_one(alloc, draft, story.flat.equation(i), i, t, value)?;
     draft.here.set(i, Some(number));
     Ok(())
 }
 
 /// What happens at an instant, in the order.
-fn put_instant(alloc: Global, draft: &mut Draft, story: &Story, t: Time) -> Result<(), NoMemory>
-    ensures { IfOk result (λ _. (p : Inputs) (bound : ℕ)
-        → IsStory (tale_of story.now p bound)
+pub(crate) fn put_instant(
+    alloc: Global,
+    draft: &mut Draft,
+    story: &Story,
+    row: &[Option<Outcome>],
+    t: Time,
+) -> Result<(), NoMemory>
+    ensures { IfOk result (λ _. (p : Inputs) (z : Streams) (bound : ℕ)
+        → IsStory (tale_of story.now p z bound)
         → t < bound
-        → IsUpTo (tale_of story.now p bound) t draft.old
-        → IsRun (tale_of story.now p bound) t draft.new) }
+        → IsRow (tale_of story.now p z bound) t row.now
+        → IsUpTo (tale_of story.now p z bound) t draft.old
+        → IsRun (tale_of story.now p z bound) t draft.new) }
 {
     for number in story.order.as_slice() {
-        put_running(alloc, draft, story, EqId::new(*number), t)?;
+        put_running(alloc, draft, story, row, EqId::new(*number), t)?;
     }
     Ok(())
 }
@@ -197,11 +195,11 @@ fn settle_one(alloc: Global, draft: &mut Draft, i: EqId) -> Result<(), NoMemory>
 
 /// An instant is over, for an equation if its latest event may be asked for.
 fn settle_kept(alloc: Global, draft: &mut Draft, story: &Story, i: EqId) -> Result<(), NoMemory>
-    ensures { IfOk result (λ _. (p : Inputs) (bound t : ℕ)
-        → IsStory (tale_of story.now p bound)
+    ensures { IfOk result (λ _. (p : Inputs) (z : Streams) (bound t : ℕ)
+        → IsStory (tale_of story.now p z bound)
         → t < bound
-        → IsAt (tale_of story.now p bound) (passed i (suc t) t) (always t) t (runs story.now.flat.now) draft.old
-        → IsAt (tale_of story.now p bound) (passed (suc i) (suc t) t) (always t) t (runs story.now.flat.now) draft.new) }
+        → IsAt (tale_of story.now p z bound) (passed i (suc t) t) (always t) t (runs story.now.flat.now) draft.old
+        → IsAt (tale_of story.now p z bound) (passed (suc i) (suc t) t) (always t) t (runs story.now.flat.now) draft.new) }
 {
     if !is_kept(story, i) {
         return Ok(());
@@ -210,12 +208,12 @@ fn settle_kept(alloc: Global, draft: &mut Draft, story: &Story, i: EqId) -> Resu
 }
 
 /// An instant is over, for all equations whose latest event may be asked for.
-fn settle(alloc: Global, draft: &mut Draft, story: &Story) -> Result<(), NoMemory>
-    ensures { IfOk result (λ _. (p : Inputs) (bound t : ℕ)
-        → IsStory (tale_of story.now p bound)
+pub(crate) fn settle(alloc: Global, draft: &mut Draft, story: &Story) -> Result<(), NoMemory>
+    ensures { IfOk result (λ _. (p : Inputs) (z : Streams) (bound t : ℕ)
+        → IsStory (tale_of story.now p z bound)
         → t < bound
-        → IsRun (tale_of story.now p bound) t draft.old
-        → IsAt (tale_of story.now p bound) (always (suc t)) (always t) t (runs story.now.flat.now) draft.new) }
+        → IsRun (tale_of story.now p z bound) t draft.old
+        → IsAt (tale_of story.now p z bound) (always (suc t)) (always t) t (runs story.now.flat.now) draft.new) }
 {
     for n in 0..story.flat.count() {
         settle_kept(alloc, draft, story, EqId::new(n))?;
@@ -266,14 +264,14 @@ fn put_kept_quiet(
     to: Time,
 ) -> Result<(), NoMemory>
     ensures still { IfOk result (λ _. SaysStill draft.old draft.new) }
-    ensures over { IfOk result (λ _. (p : Inputs) (bound : ℕ) (due : ℕ → ℕ)
-        → IsStory (tale_of story.now p bound)
+    ensures over { IfOk result (λ _. (p : Inputs) (z : Streams) (bound : ℕ) (due : ℕ → ℕ)
+        → IsStory (tale_of story.now p z bound)
         → from ≤ to
         → to < bound
-        → IsCalm (tale_of story.now p bound) from (suc to)
+        → IsCalm (tale_of story.now p z bound) from (suc to)
         → fact_at draft.old.steps.items (Some gap) ≡ Some (rules.Gap from to)
-        → IsAt (tale_of story.now p bound) (passed i (suc to) from) due 0 (λ i. false) draft.old
-        → IsAt (tale_of story.now p bound) (passed (suc i) (suc to) from) due 0 (λ i. false) draft.new) }
+        → IsAt (tale_of story.now p z bound) (passed i (suc to) from) due 0 (λ i. false) draft.old
+        → IsAt (tale_of story.now p z bound) (passed (suc i) (suc to) from) due 0 (λ i. false) draft.new) }
 {
     if !is_kept(story, i) {
         return Ok(());
@@ -290,14 +288,14 @@ fn put_all_quiet(
     from: Time,
     to: Time,
 ) -> Result<(), NoMemory>
-    ensures { IfOk result (λ _. (p : Inputs) (bound : ℕ) (due : ℕ → ℕ)
-        → IsStory (tale_of story.now p bound)
+    ensures { IfOk result (λ _. (p : Inputs) (z : Streams) (bound : ℕ) (due : ℕ → ℕ)
+        → IsStory (tale_of story.now p z bound)
         → from ≤ to
         → to < bound
-        → IsCalm (tale_of story.now p bound) from (suc to)
+        → IsCalm (tale_of story.now p z bound) from (suc to)
         → fact_at draft.old.steps.items (Some gap) ≡ Some (rules.Gap from to)
-        → IsAt (tale_of story.now p bound) (always from) due 0 (λ i. false) draft.old
-        → IsAt (tale_of story.now p bound) (always (suc to)) due 0 (λ i. false) draft.new) }
+        → IsAt (tale_of story.now p z bound) (always from) due 0 (λ i. false) draft.old
+        → IsAt (tale_of story.now p z bound) (always (suc to)) due 0 (λ i. false) draft.new) }
 {
     for n in 0..story.flat.count() {
         put_kept_quiet(alloc, draft, story, EqId::new(n), gap, from, to)?;
@@ -306,87 +304,24 @@ fn put_all_quiet(
 }
 
 /// Nothing happens from one time to another.
-fn put_gap(
+pub(crate) fn put_gap(
     alloc: Global,
     draft: &mut Draft,
     story: &Story,
     from: Time,
     to: Time,
 ) -> Result<(), NoMemory>
-    ensures { IfOk result (λ _. (p : Inputs) (bound : ℕ)
-        → IsStory (tale_of story.now p bound)
+    ensures { IfOk result (λ _. (p : Inputs) (z : Streams) (bound : ℕ)
+        → IsStory (tale_of story.now p z bound)
         → 0 < from
         → from ≤ to
         → to < bound
-        → IsCalm (tale_of story.now p bound) from (suc to)
-        → IsUpTo (tale_of story.now p bound) from draft.old
-        → IsUpTo (tale_of story.now p bound) (suc to) draft.new) }
+        → IsCalm (tale_of story.now p z bound) from (suc to)
+        → IsUpTo (tale_of story.now p z bound) from draft.old
+        → IsUpTo (tale_of story.now p z bound) (suc to) draft.new) }
 {
     let by = numbers_of(alloc, &draft.pending.numbers)?;
     let gap = draft.put(Fact::Gap { from, to }, by)?;
     put_all_over(alloc, draft, story.flat, gap, to)?;
     put_all_quiet(alloc, draft, story, gap, from, to)
-}
-
-/// The times between two instants, if there are any.
-fn between(before: Time, t: Time) -> Option<(Time, Time)>
-    ensures { MatchOption result (t ≤ suc before) (λ r. (r.0 ≡ suc before) × (suc r.1 ≡ t) × (r.0 ≤ r.1)) }
-{
-    if t.get() < before.get() + 2 {
-        return None;
-    }
-    let from = Time::new(before.get() + 1)?;
-    let to = Time::new(t.get() - 1)?;
-    Some((from, to))
-}
-
-/// What happens from an instant on to the next, if there was one before.
-fn put_before(
-    alloc: Global,
-    draft: &mut Draft,
-    story: &Story,
-    before: Option<Time>,
-    t: Time,
-) -> Result<(), NoMemory>
-    ensures { IfOk result (λ _. (p : Inputs) (bound : ℕ)
-        → IsStory (tale_of story.now p bound)
-        → t < bound
-        → told_until before ≤ t
-        → (before ≡ None → t ≡ 0)
-        → IsCalm (tale_of story.now p bound) (told_until before) t
-        → IsUpTo (tale_of story.now p bound) (told_until before) draft.old
-        → IsUpTo (tale_of story.now p bound) t draft.new) }
-{
-    let Some(u) = before else {
-        return Ok(());
-    };
-    prune_if_large(alloc, draft)?;
-    match between(u, t) {
-        Some(times) => put_gap(alloc, draft, story, times.0, times.1),
-        None => Ok(()),
-    }
-}
-
-/// All that happens at the instants of a run, and between them. What happens at the last one stands in `now`.
-pub(crate) fn put_all(
-    alloc: Global,
-    draft: &mut Draft,
-    story: &Story,
-    instants: &[Time],
-) -> Result<(), NoMemory>
-    ensures { IfOk result (λ _. (p : Inputs) (bound : ℕ)
-        → IsStory (tale_of story.now p bound)
-        → HappensAt (tale_of story.now p bound) instants.now
-        → IsBlank (length story.now.flat.now.equations) draft.old
-        → TellsLast (tale_of story.now p bound) instants.now draft.new) }
-{
-    let mut before = None;
-    for t in instants {
-        put_before(alloc, draft, story, before, *t)?;
-        put_instant(alloc, draft, story, *t)?;
-        settle(alloc, draft, story)?;
-        put_all_pending(alloc, draft, story.flat, *t)?;
-        before = Some(*t);
-    }
-    Ok(())
 }

@@ -3,6 +3,7 @@
 
 mod agrees;
 pub mod check;
+mod course;
 mod draft;
 mod event;
 pub mod explain;
@@ -13,9 +14,11 @@ mod grounded;
 mod grounds;
 mod instants;
 mod named;
+mod next;
 mod pending;
 pub mod print;
 mod prune;
+mod row;
 mod rule;
 mod search;
 mod silent;

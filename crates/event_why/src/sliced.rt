@@ -1,22 +1,18 @@
-// The system of one output, and its lines.
+// The system of one output.
 
 ghost use Rattle.std.specs.Prelude.{◌≡◌, ◌<◌, [], length, IfOk};
-ghost use Rattle.std.specs.List.{filter};
 ghost use Rattle.flat_core.specs.inner.Dependency.{IsRunOrder};
 ghost use Rattle.flat_core.specs.WellFormed.{IsWellFormed};
-ghost use Rattle.event_why.specs.inner.Sliced.{IsSliced, heard, is_heard};
+ghost use Rattle.event_why.specs.inner.Sliced.{IsSliced};
 
 use flat_core::builder::FlatBuilder;
 use flat_core::equation::Output;
 use flat_core::flat::Flat;
-use flat_core::line::TraceLine;
 use recursion_check::check::{CycleFault, run_order};
 use std::alloc::Global;
 use translation_order::steps::Steps;
 use tsl_value::ids::EqId;
 use tsl_value::memory::NoMemory;
-use tsl_value::scalar::Scalar;
-use tsl_value::time::Time;
 
 /// The same equations, without an output.
 fn same_equations(alloc: Global, flat: &Flat) -> Result<FlatBuilder, NoMemory>
@@ -44,53 +40,6 @@ pub(crate) fn sliced(alloc: Global, flat: &Flat, number: u32) -> Result<Flat, No
         equation: output.equation,
     })?;
     Ok(builder.finish()?)
-}
-
-/// The line has an event of an equation that runs, and comes no later than a time.
-fn is_heard_line(flat: &Flat, line: &TraceLine, time: Time) -> bool
-    ensures { result ≡ is_heard flat.now time line.now }
-{
-    match &line.event {
-        Some((i, _)) => line.time <= time && flat.runs(*i),
-        None => false,
-    }
-}
-
-fn copied_event(event: &Option<(EqId, Scalar)>) -> Result<Option<(EqId, Scalar)>, NoMemory>
-    ensures { IfOk result (λ e. e ≡ event.now) }
-{
-    match event {
-        Some((i, value)) => Ok(Some((*i, value.copy()?))),
-        None => Ok(None),
-    }
-}
-
-/// An equal line.
-fn copied_line(line: &TraceLine) -> Result<TraceLine, NoMemory>
-    ensures { IfOk result (λ l. l ≡ line.now) }
-{
-    Ok(TraceLine {
-        time: line.time,
-        event: copied_event(&line.event)?,
-    })
-}
-
-/// The lines up to a time that have an event of an equation that runs.
-pub(crate) fn lines_up_to(
-    alloc: Global,
-    flat: &Flat,
-    lines: &[TraceLine],
-    time: Time,
-) -> Result<Vec<TraceLine>, NoMemory>
-    ensures { IfOk result (λ v. v.items ≡ heard flat.now time lines.now) }
-{
-    let mut kept = Vec::new(alloc);
-    for line in lines {
-        if is_heard_line(flat, line, time) {
-            kept.push(copied_line(line)?)?;
-        }
-    }
-    Ok(kept)
 }
 
 /// An order to run a well-formed system in.

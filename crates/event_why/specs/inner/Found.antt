@@ -1,23 +1,17 @@
--- A run up to a time, and why an event is in it.
-use Rattle.std.specs.Prelude.{◌≡◌, ℕ, ◌+◌, ◌-◌, ◌≤◌, ◌^◌, List, Some, length, slice_get, IsTrue}
+-- What is known of an equation at a time, and why it has an event then.
+use Rattle.std.specs.Prelude.{◌≡◌, ℕ, suc, ◌<◌, false, List, Option, Some, None, length, MatchOption}
 use Rattle.tsl_value.specs.View.{View}
+use Rattle.flat_core.specs.Case.{Streams}
 use Rattle.flat_core.specs.Events.{Inputs}
-use Rattle.flat_core.specs.Line.{Line}
+use Rattle.flat_core.specs.Fault.{IsNamed, is_faulty}
 use Rattle.flat_core.specs.Stream.{event}
-use Rattle.flat_core.specs.System.{System, runs}
-use Rattle.plain_solver.specs.declared.solve.Solved.{Solved}
-use Rattle.plain_solver.specs.inner.Ending.{EndsSo}
-use Rattle.plain_solver.specs.inner.Solved.{IsEnded}
+use Rattle.flat_core.specs.System.{System}
+use Rattle.why_rules.specs.Facts.{Happens}
+use Rattle.event_why.specs.declared.explained.Explained.{Explained}
+use Rattle.event_why.specs.declared.explained.Explained.TheVariants as explained
 use Rattle.event_why.specs.declared.fact.WhyStep.{WhyStep}
 use Rattle.event_why.specs.Check.{AreRight, AreUsed, EndsInEvent}
-use Rattle.event_why.specs.inner.Sliced.{heard}
-use Rattle.event_why.specs.inner.Tale.{HappensAt, IsStory, Tale}
-
--- what happens up to t in a system, for the lines that it hears
-pub record IsSolvedUpTo (s : System) (lines : List Line) (t : ℕ) (solved : Solved) : Type 0 where
-  pub small : t + 1 ≤ 2 ^ 63
-  pub ended : IsEnded s (heard s t lines) (t + 1) (t + 1) solved.streams.items solved.instants.items solved.end
-  pub ending : EndsSo s (heard s t lines) (t + 1) (t + 1) solved.end
+use Rattle.event_why.specs.inner.Drafted.{fact_at}
 
 -- right steps, each but the last named by a later one, and the last is this event
 pub record IsReason (s : System) (slice : List ℕ) (p : Inputs) (o t : ℕ) (v : View) (steps : List WhyStep) : Type 0 where
@@ -25,12 +19,19 @@ pub record IsReason (s : System) (slice : List ℕ) (p : Inputs) (o t : ℕ) (v 
   pub used : AreUsed steps
   pub ends : EndsInEvent steps o t v
 
--- they are why an equation that runs has its event at the last one of these times
-pub record IsReasonIn (T : Tale) (times : List ℕ) (o : ℕ) (steps : List WhyStep) : Type 0 where
-  pub reason :
-      IsStory T →
-      HappensAt T times →
-      IsTrue (runs T.system o) →
-      (t : ℕ) → slice_get times (length times - 1) ≡ Some t →
-      (v : View) → event (T.streams o t) ≡ Some v →
-      IsReason T.system T.system.running T.inputs o t v steps
+-- no running equation has a root fault before a time
+abbrev pub IsClean : System → Inputs → Streams → ℕ → Type 0
+IsClean s p z n = (u : ℕ) → u < n → is_faulty s p z u ≡ false
+
+-- steps with the number of the event that equation o has at t, where it has one
+abbrev pub IsEventNumber : List WhyStep → ℕ → ℕ → Option View → Option ℕ → Type 0
+IsEventNumber steps o t x number =
+    MatchOption number (x ≡ None) (λ n. (v : View) × (x ≡ Some v) × (fact_at steps (Some n) ≡ Some (Happens o t v)))
+
+-- What is known of equation o at t, by streams that solve a system up to then: its event, and why it has it; that it has none; or the fault
+-- that is named.
+abbrev pub Knows : System → Inputs → Streams → ℕ → ℕ → Explained → Type 0
+Knows s p z o t (explained.Why why) =
+    IsClean s p z (suc t) × ((v : View) × (event (z o t) ≡ Some v) × IsReason s s.running p o t v why.steps.items)
+Knows s p z o t explained.NoEvent = IsClean s p z (suc t) × (event (z o t) ≡ None)
+Knows s p z o t (explained.Fault u i kind) = (u < suc t) × IsNamed s p z u i kind

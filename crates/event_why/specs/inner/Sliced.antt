@@ -1,5 +1,5 @@
--- The system of one output, and its lines.
-use Rattle.std.specs.Prelude.{◌≡◌, ℕ, Bool, ◌&&◌, not, false, List, [], ◌∷◌, Option, Some, None, nat_lt, slice_get}
+-- The system of one output, and the lines that it hears.
+use Rattle.std.specs.Prelude.{◌≡◌, ℕ, Bool, false, List, [], ◌∷◌, Option, Some, None, slice_get}
 use Rattle.std.specs.List.{filter}
 use Rattle.tsl_value.specs.declared.scalar.Scalar.{Scalar}
 use Rattle.flat_core.specs.declared.equation.Output.{Output}
@@ -22,9 +22,9 @@ abbrev pub is_of_running : System → Option (ℕ × Scalar) → Bool
 is_of_running s None = false
 is_of_running s (Some e) = runs s e.0
 
--- the line has such an event, and comes no later than t
-abbrev pub is_heard : System → ℕ → Line → Bool
-is_heard s t l = not (nat_lt t l.time) && is_of_running s l.event
+-- the lines that have such an event
+abbrev pub is_heard : System → Line → Bool
+is_heard s l = is_of_running s l.event
 
-abbrev pub heard : System → ℕ → List Line → List Line
-heard s t lines = filter (is_heard s t) lines
+abbrev pub heard : System → List Line → List Line
+heard s lines = filter (is_heard s) lines

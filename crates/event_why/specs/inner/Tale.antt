@@ -1,8 +1,7 @@
 -- What a draft says of a solution.
-use Rattle.std.specs.Prelude.{◌≡◌, ◌⊎◌, ℕ, suc, ◌+◌, ◌-◌, ◌<◌, ◌≤◌, ◌^◌, Bool, false, if◌then◌else◌, nat_lt, pos, List, [], ◌∷◌}
+use Rattle.std.specs.Prelude.{◌≡◌, ◌⊎◌, ℕ, suc, ◌+◌, ◌<◌, ◌≤◌, ◌^◌, Bool, false, if◌then◌else◌, nat_lt, pos, List, [], ◌∷◌}
 use Rattle.std.specs.Prelude.{Option, Some, None, IsTrue, length, slice_get, slice_index_or}
-use Rattle.std.specs.List.{AllByRecursion, Contains}
-use Rattle.std.specs.List.Sorted.{IsStrictlyIncreasing}
+use Rattle.std.specs.List.{AllByRecursion}
 use Rattle.tsl_value.specs.View.{View, Plain}
 use Rattle.tsl_value.specs.declared.scalar.Scalar.TheVariants as scalar
 use Rattle.flat_core.specs.declared.equation.Op.{Op}
@@ -16,15 +15,14 @@ use Rattle.flat_core.specs.Solution.{Solves}
 use Rattle.flat_core.specs.Stream.{event}
 use Rattle.flat_core.specs.System.{System, equation, runs}
 use Rattle.flat_core.specs.inner.Dependency.{IsRunOrder}
-use Rattle.plain_solver.specs.inner.Streams.{streams_of}
-use Rattle.plain_solver.specs.inner.Typed.{AreTyped}
+use Rattle.flat_core.specs.inner.TypedEvents.{HasTypedEvents}
 use Rattle.why_rules.specs.Facts.{Fact, Happens, Silent, Pending}
 use Rattle.why_rules.specs.Derivation.{IsSound}
 use Rattle.event_why.specs.declared.draft.Draft.{Draft}
 use Rattle.event_why.specs.declared.fact.WhyStep.{WhyStep}
 use Rattle.event_why.specs.declared.instants.Story.{Story}
 use Rattle.event_why.specs.Check.{AreRight}
-use Rattle.event_why.specs.inner.Drafted.{AreWithin, IsDraft, IsGrounded, IsGrown, fact_at, fact_of, number_at}
+use Rattle.event_why.specs.inner.Drafted.{AreWithin, IsGrounded, IsGrown, fact_at, fact_of, number_at}
 
 -- A system, an order to run it in, the events of its inputs, its streams up to a bound, and the equations whose latest event may be
 -- asked for.
@@ -37,12 +35,12 @@ pub record Tale : Type 0 where
   pub bound : ℕ
 
 -- what the code has of it, and the rest
-abbrev pub tale_of : Story → Inputs → ℕ → Tale
-tale_of story p bound = record {
+abbrev pub tale_of : Story → Inputs → Streams → ℕ → Tale
+tale_of story p z bound = record {
   system = story.flat.now;
   order = story.order.now;
   inputs = p;
-  streams = streams_of story.streams.now;
+  streams = z;
   kept = story.kept.now;
   bound = bound;
 }
@@ -77,25 +75,12 @@ pub record IsStory (T : Tale) : Type 0 where
       (t : ℕ) → t < T.bound →
       (v : View) → event (T.streams d t) ≡ Some v →
       (n : ℕ) × (0 < n) × (v ≡ Plain (scalar.Int (pos n)))
-  pub typed : AreTyped T.system T.streams
+  pub typed : HasTypedEvents T.system T.bound T.streams
   pub kept : AreKept T.system T.kept
 
 -- from one time on and before another nothing happens
 abbrev pub IsCalm : Tale → ℕ → ℕ → Type 0
 IsCalm T low high = (i u : ℕ) → IsTrue (runs T.system i) → low ≤ u → u < high → (T.streams i u ≡ None) × (T.inputs i u ≡ None)
-
--- below the bound something happens at these times alone, which rise from 0 on
-pub record HappensAt (T : Tale) (times : List ℕ) : Type 0 where
-  pub rising : IsStrictlyIncreasing times
-  pub below : AllByRecursion (λ t. t < T.bound) times
-  pub start : 0 < T.bound → Contains times 0
-  pub calm :
-      (u : ℕ) →
-      u < T.bound →
-      ¬ Contains times u →
-      (i : ℕ) →
-      IsTrue (runs T.system i) →
-      (T.streams i u ≡ None) × (T.inputs i u ≡ None)
 
 -- what happens at equation i at t
 abbrev pub fact_here : ℕ → ℕ → Option View → Fact
@@ -132,9 +117,9 @@ pub data HasQuiet (steps : List WhyStep) (quiet : List (Option ℕ)) (v : ℕ) :
   none : {n : ℕ} → number_at quiet v ≡ None → HasQuiet steps quiet v n n
   some : {low n : ℕ} → low ≤ n → fact_of steps quiet v ≡ Some (Silent v low n) → HasQuiet steps quiet v low (suc n)
 
--- a table has its latest event before low, which is at the time just before, if there is one
+-- a table has its latest event before low, which is at the time just before; it has none where low is 0
 pub data HasLatest (steps : List WhyStep) (latest : List (Option ℕ)) (z : Streams) (v : ℕ) : ℕ → Type 0 where
-  none : HasLatest steps latest z v 0
+  none : number_at latest v ≡ None → HasLatest steps latest z v 0
   some : {u : ℕ} {x : View} → event (z v u) ≡ Some x → fact_of steps latest v ≡ Some (Happens v u x) → HasLatest steps latest z v (suc u)
 
 -- the latest event of v before n, and that there was none since
@@ -253,11 +238,6 @@ pub record KeepsOne (s : System) (i : ℕ) (old new : List Bool) : Type 0 where
   pub only : (v : ℕ) → IsTrue (is_kept new v) → IsTrue (is_kept old v) ⊎ IsKeptBy s i v
 
 -- ---- from instant to instant
--- a time after which nothing was told
-abbrev pub told_until : Option ℕ → ℕ
-told_until None = 0
-told_until (Some u) = suc u
-
 -- all that happens before a time is told
 abbrev pub IsUpTo : Tale → ℕ → Draft → Type 0
 IsUpTo T n draft = IsAt T (always n) (always n) 0 (λ i. false) draft
@@ -268,13 +248,3 @@ IsRun T t draft = IsAt T (always t) (always t) t (runs T.system) draft
 
 abbrev pub IsOver : Tale → ℕ → Draft → Type 0
 IsOver T t draft = IsAt T (always (suc t)) (always (suc t)) t (runs T.system) draft
-
--- At the last of these times the draft tells what happens at each equation.
-pub record TellsLast (T : Tale) (times : List ℕ) (draft : Draft) : Type 0 where
-  pub is_draft : IsDraft T.system T.system.running T.inputs draft
-  pub last :
-      (t : ℕ) →
-      slice_get times (length times - 1) ≡ Some t →
-      (i : ℕ) →
-      IsTrue (runs T.system i) →
-      fact_of draft.steps.items draft.here.numbers.items i ≡ Some (here_of T.streams t i)
