@@ -1,7 +1,6 @@
 -- Between two instants nothing happens, and what is kept goes on to the next.
 use Rattle.std.proofs.Common.{◌≡◌, ◌==◌, ℕ, zero, suc, ◌+◌, ◌<◌, ◌≤◌, ◌^◌, ◌-◌, true, false, ◌&&◌, ◌||◌, List, [], ◌∷◌, ◌++◌, Option, Some, None, refl, sym, ap, subst, ◌∙◌, append-nil, inl, inr, arith}
 use Rattle.std.proofs.lemmas.Bool.{cases_Bool, cases_lt, eq-eqb, ne_eqb, lt-ltb, or_left, or_right, true≢false}
-use Rattle.std.proofs.lemmas.List.Folds.{list_any-append}
 use Rattle.std.specs.Prelude.{if◌then◌else◌, is_some, min, nat_lt, IsTrue}
 use Rattle.std.specs.List.{AllByRecursion, Contains, list_any}
 use Rattle.std.specs.FinMap as finite_map
@@ -15,14 +14,14 @@ use Rattle.flat_core.specs.Complete.{IsFlat}
 use Rattle.flat_core.specs.inner.BoundLaws.{HappensAtInstants}
 use Rattle.flat_core.specs.Fault.{is_faulty}
 use Rattle.flat_core.specs.Instant.{instants, is_delay, is_delay_op, is_instant}
-use Rattle.flat_core.specs.Line.{Line, inputs_of, is_line_at, is_line_on}
+use Rattle.flat_core.specs.Line.{Line, inputs_of, is_line_on}
 use Rattle.flat_core.specs.Pending.{option_is, pending}
 use Rattle.flat_core.specs.Solution.{Solves}
 use Rattle.flat_core.specs.Stream.{event, has_event}
 use Rattle.flat_core.specs.System.{System, equation, runs}
 use Rattle.flat_core.specs.WellFormed.{IsRanked}
 use Rattle.flat_core.proofs.DueLemmas.{delay_kept, expires_is-due, option_is-some, some-option_is}
-use Rattle.flat_core.proofs.Members.{none_from, some_from}
+use Rattle.flat_core.proofs.Members.{all_at, none_from, some_from}
 use Rattle.flat_core.proofs.Silence.{happens_at_instants}
 use Rattle.flat_core.proofs.StillLemmas.{pending_still}
 use Rattle.alias_rules.specs.Steps.{MustPrecede}
@@ -32,7 +31,8 @@ use Rattle.register_machine.specs.Stands.{in_time}
 use Rattle.flat_core.specs.Members.{is_in}
 use Rattle.register_machine.specs.Copied.{args_of, copied, copied_at, size_at, total_copied}
 use Rattle.monitor_run.proofs.DueTimes.{due_at, due_of, due_time}
-use Rattle.monitor_run.specs.inner.Given.{AreBefore, AreEventLines}
+use Rattle.monitor_run.specs.inner.Given.{AreEventLines, IsEventLine}
+use Rattle.monitor_run.proofs.OpenLemmas.{line_in, line_on}
 use Rattle.flat_core.specs.inner.Arity.{HasArity}
 use Rattle.monitor_run.specs.inner.Next.{Comes, NothingBefore}
 use Rattle.flat_core.proofs.Shapes.{running_args, shape_of}
@@ -68,22 +68,21 @@ in_time_is t (Some u) lt = elim (cases_Bool (nat_lt u (2 ^ 63))) [
 ]
 
 -- ---- a gap
-module _ (s : System) (whole : IsFlat s) (order : List ℕ) (plan : IsPlanOrder s order) (lines past given : List Line) (parts : lines ≡ past ++ given) (events : AreEventLines s given) (timers : Times)
-    (n t B : ℕ) (earlier : AreBefore n past) (none : NothingBefore n given timers t) (small : t ≤ 2 ^ 63) (within : t ≤ B) (z : Streams) (solves : Solves s (inputs_of lines) B z) (due : (i : ℕ) → finite_map.get timers i ≡ due_time s z n i) where
+module _ (s : System) (whole : IsFlat s) (order : List ℕ) (plan : IsPlanOrder s order) (n : ℕ) (lines given : List Line) (kept : (l : Line) → Contains given l → Contains lines l) (all : (l : Line) → Contains lines l → n ≤ l.time → Contains given l) (events : AreEventLines s given) (timers : Times)
+    (t B : ℕ) (none : NothingBefore n given timers t) (small : t ≤ 2 ^ 63) (within : t ≤ B) (z : Streams) (solves : Solves s (inputs_of lines) B z) (due : (i : ℕ) → finite_map.get timers i ≡ due_time s z n i) where
   happens : HappensAtInstants s lines B z
   happens = happens_at_instants s lines z B whole.proper whole.complete.typed (place order) (plan_ranked s order plan) solves
 
-  -- lines at a time from n on
-  no_past : (u : ℕ) → n ≤ u → (ls : List Line) → AreBefore n ls → is_line_on u ls ≡ false
-  no_past u low [] all = refl
-  no_past u low (l ∷ ls) all = let before = all.0 in λ k. (ne_eqb l.time u (λ same. absurd (omega arith)) k && is_some l.event) || no_past u low ls all.1 k
-
-  no_given : (u : ℕ) → u < t → (ls : List Line) → AllByRecursion (λ l. t ≤ l.time) ls → is_line_on u ls ≡ false
-  no_given u lt [] all = refl
-  no_given u lt (l ∷ ls) all = let from = all.0 in λ k. (ne_eqb l.time u (λ same. absurd (omega arith)) k && is_some l.event) || no_given u lt ls all.1 k
-
+  -- no line stands at a time from n on and before t
   no_line : (u : ℕ) → n ≤ u → u < t → is_line_on u lines ≡ false
-  no_line u low lt = ap (is_line_on u) parts ∙ list_any-append (is_line_at u) past given ∙ (λ k. no_past u low past earlier k || no_given u lt given none.events k)
+  no_line u low lt = elim (cases_Bool (is_line_on u lines)) [
+    | inr none_on ↦ none_on
+    | inl on ↦
+        let found = line_in u lines on in
+        let at = found.2 in
+        let late = all_at (λ (l : Line). t ≤ l.time) given none.events found.0 (all found.0 found.1 (omega arith)) in
+        absurd (omega arith)
+  ]
 
   -- what is pending of a delay at a time up to which nothing happened
   module _ (u : ℕ) (low : n ≤ u) (high : u ≤ t) (silent : (i w : ℕ) → IsTrue (runs s i) → n ≤ w → w < u → z i w ≡ None) (i : ℕ) (e : Equation) (run : IsTrue (runs s i)) (is : equation s i ≡ Some e) where
@@ -166,16 +165,11 @@ module _ (s : System) (whole : IsFlat s) (order : List ℕ) (plan : IsPlanOrder 
     event_at_t lt early = event_is_due t le (omega arith) (λ j w run_j from to. silent_gap j w run_j from to) i e run is lt early op_is d r args_are
 
   -- an instant comes at t
-  given_line : (ls : List Line) → AreEventLines s ls → (l : Line) → Contains ls l → l.time ≡ t → is_line_on t ls ≡ true
-  given_line [] all l (k, lt, there) at = absurd (omega arith)
-  given_line (m ∷ ls) all l (zero, lt, there) at =
-      or_left (is_line_at t m) (is_line_on t ls) (λ k. eq-eqb m.time t (ap (λ (x : Line). x.time) there ∙ at) k && is_some (all.0.is k))
-  given_line (m ∷ ls) all l (suc k, lt, there) at = or_right (is_line_at t m) (is_line_on t ls) (given_line ls all.1 l (k, omega arith, there) at)
-
   pub comes : n ≤ t → t < B → t < 2 ^ 63 → Comes n given timers t → is_instant s lines z t ≡ true
   comes le lt early (inl start) = λ k. eq-eqb t 0 start.1 k || is_line_on t lines || list_any (λ i. is_delay (equation s i) && has_event (z i t)) s.running
   comes le lt early (inr (inl line)) =
-      let on : is_line_on t lines ≡ true = ap (is_line_on t) parts ∙ list_any-append (is_line_at t) past given ∙ or_right (is_line_on t past) (is_line_on t given) (given_line given events line.0 line.1 line.2) in
+      let event = all_at (IsEventLine s) given events line.0 line.1 in
+      let on = line_on t lines line.0 (kept line.0 line.1) (λ k. eq-eqb line.0.time t line.2 k && is_some (event.is k)) in
       or_left ((t == 0) || is_line_on t lines) (list_any (λ i. is_delay (equation s i) && has_event (z i t)) s.running) (or_right (t == 0) (is_line_on t lines) on)
   comes le lt early (inr (inr timer)) =
       or_right ((t == 0) || is_line_on t lines) (list_any (λ i. is_delay (equation s i) && has_event (z i t)) s.running)

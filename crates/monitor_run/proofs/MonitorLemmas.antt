@@ -1,11 +1,13 @@
 -- What the calls of a monitor make of it.
-use Rattle.std.proofs.Common.{◌≡◌, ◌==◌, ℕ, zero, suc, ◌+◌, ◌<◌, ◌≤◌, ◌^◌, Bool, true, false, ◌&&◌, not, List, [], ◌∷◌, ◌++◌, length, replicate, Option, Some, None, refl, sym, ap, subst, ◌∙◌, append_assoc, append-nil, inl, inr, arith}
+use Rattle.std.proofs.Common.{◌≡◌, ◌==◌, ℕ, zero, suc, ◌+◌, ◌<◌, ◌≤◌, ◌^◌, Bool, true, false, ◌&&◌, not, List, [], ◌∷◌, ◌++◌, length, replicate, Option, Some, None, refl, sym, ap, subst, ◌∙◌, append-nil, inl, inr, arith}
 use Rattle.std.proofs.lemmas.Bool.{cases_Bool, cases_lt, and_parts, eq-eqb, eqb-true, eqb-false}
 use Rattle.std.proofs.lemmas.List.{length-replicate}
+use Rattle.std.proofs.lemmas.List.Elements.{Contains-append_cases, Contains-append_left, Contains-append_right}
+use Rattle.tsl_value.proofs.Lists.{none_in_nil}
 use Rattle.std.specs.Prelude.{◌≢◌, if◌then◌else◌, slice_index, slice_index_or}
 use Rattle.monitor_run.specs.inner.Visits.{IsAtRest}
 use Rattle.std.specs.Option.{option_or}
-use Rattle.std.specs.List.{AllByRecursion}
+use Rattle.std.specs.List.{AllByRecursion, Contains}
 use Rattle.std.specs.FinMap as finite_map
 use Rattle.tsl_value.specs.declared.scalar.Scalar.{Scalar}
 use Rattle.tsl_value.specs.View.{View, Plain}
@@ -17,7 +19,9 @@ use Rattle.flat_core.specs.Kept.{is_kept}
 use Rattle.register_machine.specs.Run as run
 use Rattle.register_machine.specs.Run.{Instant, root_seen}
 use Rattle.register_machine.specs.Stands.{RunsTo}
+use Rattle.register_machine.specs.Tidy.{IsTidy}
 use Rattle.register_machine.proofs.LaterRuns.{later_leave}
+use Rattle.register_machine.proofs.TidyRuns.{instants_tidy}
 use Rattle.lift_func.specs.declared.register.Register.TheVariants as register
 use Rattle.std.specs.Ordering.{nat_cmp}
 use Rattle.flat_core.specs.inner.BoundLaws.{LeavesEarlier}
@@ -28,12 +32,12 @@ use Rattle.flat_core.specs.Instant.{instants}
 use Rattle.flat_core.specs.Line.{Line, IsSorted, event_in, inputs_of}
 use Rattle.flat_core.specs.Solution.{Solves}
 use Rattle.flat_core.specs.System.{System, runs}
-use Rattle.flat_core.proofs.Members.{all_append, all_at}
+use Rattle.flat_core.proofs.Members.{all_append, all_at, all_from}
 use Rattle.flat_core.proofs.Uniqueness.{all_by}
 use Rattle.flat_core.proofs.LaterLines.{leaves_earlier}
 use Rattle.monitor_run.specs.declared.machine.Machine.{Machine}
 use Rattle.monitor_run.specs.declared.run.Root.{Root}
-use Rattle.monitor_run.specs.inner.Given.{AreAt, AreBefore, AreEventLines, AreGiven, AreOnce, IsEventLine, line_of}
+use Rattle.monitor_run.specs.inner.Given.{AreAt, AreEventLines, AreGiven, AreOnce, IsEventLine, line_of}
 use Rattle.monitor_run.specs.inner.Instant.{AreTimers, HasFaultedAt, HasRunInstant, IsInstantBegun, IsInstantText, ReachesFault, kept_of}
 use Rattle.monitor_run.specs.inner.Next.{Comes, NothingBefore}
 use Rattle.monitor_run.specs.inner.Machine.{HasRoom}
@@ -45,7 +49,7 @@ use Rattle.monitor_run.specs.inner.Steps.{AreAsSet, CanTake, HasFaulted, HasRun,
 use Rattle.monitor_run.specs.inner.Stored.{stored_count}
 use Rattle.flat_core.specs.Typed.{unit_type}
 use Rattle.monitor_run.proofs.RootLemmas.{least-at}
-use Rattle.monitor_run.proofs.StepLemmas.{append_input, both_none, copied_now, inputs_now, is_first, no_past_input, one_more, quiet_to, run_on_now, shown, sound_before, sound_now, text_now}
+use Rattle.monitor_run.proofs.StepLemmas.{both_none, copied_now, inputs_now, inputs_open, is_first, one_more, quiet_to, run_on_now, shown, sound_before, sound_now, text_now}
 
 -- the state that a machine shows
 pub record Shows (m : State) (machine : Machine) : Type 0 where
@@ -122,7 +126,13 @@ module _ (old : State) (ready : IsReady old) (t : ℕ) (comes_now : Comes old.ne
 
     -- the lines that have had their instants then
     stands_on : (new : State) (machine after : Machine) (before out : List ℕ) → Shows old machine → Shows new after → AreAsSet old new → new.next ≡ suc t → new.ran ≡ old.ran + 1 → new.stop ≡ None → new.given ≡ (if ready.time == t then [] else old.given) → HasRunInstant old.system (plan_of old) t old.given machine after before out → Stands new lines
-    stands_on new machine after before out shows shows_new as_set next_is ran_is going given_is ran = parted (ready.time == t) refl
+    stands_on new machine after before out shows shows_new as_set next_is ran_is going given_is ran = record {
+      going = going;
+      events = subst (λ (q : System). AreGiven q lines) (sym as_set.system) stands.events;
+      kept = kept_new (ready.time == t) refl;
+      open_lines = open_new (ready.time == t) refl;
+      keeps = keeps_new;
+    }
       where
         keeps_new : (z : Streams) → Solves new.system (inputs_of lines) new.next z → KeepsOf new lines z
         keeps_new z solves =
@@ -139,28 +149,20 @@ module _ (old : State) (ready : IsReady old) (t : ℕ) (comes_now : Comes old.ne
               ];
             })
 
-        earlier_past : AreBefore new.next stands.past
-        earlier_past = all_by (λ (l : Line). suc l.time ≤ old.next) (λ (l : Line). suc l.time ≤ new.next) (λ l before_next. let le = late in omega arith) stands.past stands.earlier
+        kept_new : (b : Bool) → (ready.time == t) ≡ b → (l : Line) → Contains new.given l → Contains lines l
+        kept_new true same l there = absurd (none_in_nil l (subst (λ ls. Contains ls l) (given_is ∙ (λ k. if same k then [] else old.given)) there))
+        kept_new false other l there = stands.kept l (subst (λ ls. Contains ls l) (given_is ∙ (λ k. if other k then [] else old.given)) there)
 
-        parted : (b : Bool) → (ready.time == t) ≡ b → Stands new lines
-        parted true same = record {
-          going = going;
-          events = subst (λ (q : System). AreGiven q lines) (sym as_set.system) stands.events;
-          past = lines;
-          parts = sym (ap (λ ls. lines ++ ls) (given_is ∙ (λ k. if same k then [] else old.given)) ∙ append-nil lines);
-          earlier =
-              subst (AreBefore new.next) (sym stands.parts)
-              (all_append (λ (l : Line). suc l.time ≤ new.next) stands.past old.given earlier_past (all_by (λ (l : Line). l.time ≡ ready.time) (λ (l : Line). suc l.time ≤ new.next) (λ l at. let now = eqb-true ready.time t same in omega arith) old.given ready.given_at));
-          keeps = keeps_new;
-        }
-        parted false other = record {
-          going = going;
-          events = subst (λ (q : System). AreGiven q lines) (sym as_set.system) stands.events;
-          past = stands.past;
-          parts = stands.parts ∙ ap (λ ls. stands.past ++ ls) (sym (given_is ∙ (λ k. if other k then [] else old.given)));
-          earlier = earlier_past;
-          keeps = keeps_new;
-        }
+        -- the events of this time are gone, and those later stay
+        open_new : (b : Bool) → (ready.time == t) ≡ b → (l : Line) → Contains lines l → new.next ≤ l.time → Contains new.given l
+        open_new b same l there low =
+            let next = next_is in
+            let old_there = stands.open_lines l there (let le = late in omega arith) in
+            from b same old_there (all_at (λ (x : Line). x.time ≡ ready.time) old.given ready.given_at l old_there)
+          where
+            from : (b : Bool) → (ready.time == t) ≡ b → Contains old.given l → l.time ≡ ready.time → Contains new.given l
+            from true same old_there at = let now = eqb-true ready.time t same in let next = next_is in absurd (omega arith)
+            from false other old_there at = subst (λ ls. Contains ls l) (sym (given_is ∙ (λ k. if other k then [] else old.given))) old_there
 
     pub run_is : (new : State) (machine after : Machine) (before out : List ℕ) → Shows old machine → Shows new after → AreAsSet old new → new.next ≡ suc t → new.ran ≡ old.ran + 1 → new.stop ≡ None → new.given ≡ (if ready.time == t then [] else old.given) → HasRunInstant old.system (plan_of old) t old.given machine after before out → HasRun old new lines before out
     run_is new machine after before out shows shows_new as_set next_is ran_is going given_is ran = record {
@@ -177,9 +179,15 @@ module _ (old : State) (ready : IsReady old) (t : ℕ) (comes_now : Comes old.ne
       );
     }
 
+  -- the instant of the machine over the given events
+  instant_given : (new : State) (machine after : Machine) (before out : List ℕ) → Shows old machine → Shows new after → HasRunInstant old.system (plan_of old) t old.given machine after before out → Instant old.system (plan_of old) (inputs_of old.given) t (kept_state old) (kept_state new)
+  instant_given new machine after before out shows shows_new ran =
+      subst (λ a. Instant old.system (plan_of old) (inputs_of old.given) t a (kept_state new)) (kept_same machine shows)
+      (subst (Instant old.system (plan_of old) (inputs_of old.given) t (kept_of machine)) (λ k. state_of (shows_new.cells k) (shows_new.ledger k) (shows_new.last k) (shows_new.timers k)) (ran.instant (inputs_of old.given) (λ i. refl)))
+
   -- what the monitor has then
-  pub ready_on : (new : State) (machine after : Machine) (before out : List ℕ) → Shows new after → AreAsSet old new → new.next ≡ suc t → new.ran ≡ old.ran + 1 → old.ran < old.limit → new.given ≡ (if ready.time == t then [] else old.given) → HasRunInstant old.system (plan_of old) t old.given machine after before out → IsReady new
-  ready_on new machine after before out shows_new as_set next_is ran_is room given_is ran = parted (ready.time == t) refl
+  pub ready_on : (new : State) (machine after : Machine) (before out : List ℕ) → Shows old machine → Shows new after → AreAsSet old new → new.next ≡ suc t → new.ran ≡ old.ran + 1 → old.ran < old.limit → new.given ≡ (if ready.time == t then [] else old.given) → HasRunInstant old.system (plan_of old) t old.given machine after before out → IsReady new
+  ready_on new machine after before out shows shows_new as_set next_is ran_is room given_is ran = parted (ready.time == t) refl
     where
       of_system : (P : System → Type 0) → P old.system → P new.system
       of_system P p = subst P (sym as_set.system) p
@@ -202,6 +210,7 @@ module _ (old : State) (ready : IsReady old) (t : ℕ) (comes_now : Comes old.ne
         unkept = λ i no_last. ap (λ rs. register_at rs i) (sym shows_new.last) ∙ ran.sound.unkept i (ap (λ (q : System). is_kept q i) (sym as_set.system) ∙ no_last);
         timers = subst (λ n. AreTimers new.system n new.timers) (sym next_is) (of_system (λ (q : System). AreTimers q (suc t) new.timers) (subst (AreTimers old.system (suc t)) shows_new.timers ran.sound.timers));
         few_cells = subst (λ c. finite_map.len c ≤ stored_count new.system) shows_new.cells (of_system (λ (q : System). finite_map.len after.store.cells ≤ stored_count q) ran.sound.few_cells);
+        tidy = of_system (λ (q : System). IsTidy q (kept_state new)) (instants_tidy old.system (plan_of old) (inputs_of old.given) t (kept_state old) (kept_state new) ready.whole ready.fine ready.tidy (instant_given new machine after before out shows shows_new ran));
       }
         where
           is_given : (b : Bool) → (ready.time == t) ≡ b → new.given ≡ (if b then [] else old.given)
@@ -269,9 +278,8 @@ pub stands_new : (m : State) → m.stop ≡ None → m.given ≡ [] → m.next �
 stands_new m going given next ran last ledger cells timers = record {
   going = going;
   events = record { sorted = tt; events = tt; once = tt };
-  past = [];
-  parts = sym given;
-  earlier = tt;
+  kept = λ l there. subst (λ ls. Contains ls l) given there;
+  open_lines = λ l there low. absurd (none_in_nil l there);
   keeps = λ z solves. record {
     run = subst (λ n. RunsTo m.system (plan_of m) [] z n (kept_state m)) (sym next) kept_none;
     ran = ran ∙ sym (ap (λ n. length (instants m.system [] z n)) next);
@@ -292,9 +300,8 @@ pub stands_closed : (m : State) (bound : ℕ) (lines : List Line) → Stands m l
 stands_closed m bound lines stands = record {
   going = stands.going;
   events = stands.events;
-  past = stands.past;
-  parts = stands.parts;
-  earlier = stands.earlier;
+  kept = stands.kept;
+  open_lines = stands.open_lines;
   keeps = λ z solves. let k = stands.keeps z solves in record { run = k.run; ran = k.ran; sound = k.sound };
 }
 
@@ -349,11 +356,16 @@ stands_given m ready time i value can lines stands = record {
   events = record {
     sorted = sorted_push lines (line_of time i value) stands.events.sorted not_later;
     events = all_append (IsEventLine m.system) lines (line_of time i value ∷ []) stands.events.events (record { input = i; value = value; is = refl; fits = can.fits }, tt);
-    once = once_push lines time i value stands.events.once (ap (λ ls. inputs_of ls i time) stands.parts ∙ append_input stands.past m.given i time (no_past_input m.next time i next_below stands.past stands.earlier) ∙ can.fresh);
+    once = once_push lines time i value stands.events.once (inputs_open m lines stands i time next_below ∙ can.fresh);
   };
-  past = stands.past;
-  parts = ap (λ ls. ls ++ line_of time i value ∷ []) stands.parts ∙ append_assoc stands.past m.given (line_of time i value ∷ []);
-  earlier = stands.earlier;
+  kept = λ l there. elim (Contains-append_cases m.given (line_of time i value ∷ []) l there) [
+    | inl old ↦ Contains-append_left lines (line_of time i value ∷ []) l (stands.kept l old)
+    | inr new ↦ Contains-append_right lines (line_of time i value ∷ []) l new
+  ];
+  open_lines = λ l there low. elim (Contains-append_cases lines (line_of time i value ∷ []) l there) [
+    | inl old ↦ Contains-append_left m.given (line_of time i value ∷ []) l (stands.open_lines l old low)
+    | inr new ↦ Contains-append_right m.given (line_of time i value ∷ []) l new
+  ];
   keeps = λ z solves.
       let k = stands.keeps z (((given_leaves m ready time i value can lines).solves_same z).1 solves) in
       let same = (given_leaves m ready time i value can lines).happens z in
@@ -368,10 +380,13 @@ stands_given m ready time i value can lines stands = record {
     next_below = let within = ready.within in let unclosed = can.unclosed in omega arith
 
     not_later : AllByRecursion (λ x. x.time ≤ time) lines
-    not_later =
-        subst (AllByRecursion (λ x. x.time ≤ time)) (sym stands.parts)
-        (all_append (λ (x : Line). x.time ≤ time) stands.past m.given (all_by (λ (x : Line). suc x.time ≤ m.next) (λ (x : Line). x.time ≤ time) (λ x before. let le = next_below in omega arith) stands.past stands.earlier)
-        (all_by (λ (x : Line). x.time ≡ time) (λ (x : Line). x.time ≤ time) (λ x at. omega arith) m.given can.alone))
+    not_later = all_from (λ (x : Line). x.time ≤ time) lines (λ x there. elim (cases_lt time x.time) [
+      | inr early ↦ early
+      | inl late ↦
+          let low = next_below in
+          let at = all_at (λ (y : Line). y.time ≡ time) m.given can.alone x (stands.open_lines x there (omega arith)) in
+          omega arith
+    ])
 
 pub ready_given : (m : State) (time i : ℕ) (value : Scalar) → IsReady m → CanTake m time i value → IsReady (record m { given = m.given ++ line_of time i value ∷ [] })
 ready_given m time i value ready can = record {
@@ -391,6 +406,7 @@ ready_given m time i value ready can = record {
   unkept = ready.unkept;
   timers = ready.timers;
   few_cells = ready.few_cells;
+  tidy = ready.tidy;
 }
 
 pub ready_closed : (m : State) (bound : ℕ) → IsReady m → m.bound ≤ bound → bound ≤ 2 ^ 63 → IsReady (record m { bound = bound })
@@ -411,6 +427,7 @@ ready_closed m bound ready more small = record {
   unkept = ready.unkept;
   timers = ready.timers;
   few_cells = ready.few_cells;
+  tidy = ready.tidy;
 }
 
 pub ready_pushed : (m : State) (time i : ℕ) (value : Scalar) (given : List Line) → IsReady m → CanTake m time i value → given ≡ m.given ++ line_of time i value ∷ [] → IsReady (record m { given = given })
@@ -430,8 +447,8 @@ room_new s m n size registers faulted last store timers k outputs texts = record
   last = ap length last ∙ length-replicate n register.Empty ∙ size;
 }
 
-pub ready_new : (m : State) (n : ℕ) → n ≡ length m.system.equations → IsFlat m.system → IsFinePlan m.system m.in_place m.order → 1 ≤ m.limit → m.ran ≡ 0 → m.next ≡ 0 → m.bound ≡ 0 → m.given ≡ [] → m.last ≡ replicate n register.Empty → m.timers ≡ finite_map.empty → m.cells ≡ finite_map.empty → IsReady m
-ready_new m n size whole fine some ran next bound given last timers cells = record {
+pub ready_new : (m : State) (n : ℕ) → n ≡ length m.system.equations → IsFlat m.system → IsFinePlan m.system m.in_place m.order → 1 ≤ m.limit → m.ran ≡ 0 → m.next ≡ 0 → m.bound ≡ 0 → m.given ≡ [] → m.last ≡ replicate n register.Empty → m.timers ≡ finite_map.empty → m.cells ≡ finite_map.empty → m.ledger ≡ replicate n 0 → IsReady m
+ready_new m n size whole fine some ran next bound given last timers cells ledger = record {
   whole = whole;
   fine = fine;
   room = omega arith;
@@ -452,7 +469,17 @@ ready_new m n size whole fine some ran next bound given last timers cells = reco
   unkept = λ i fails. ap (λ rs. register_at rs i) last ∙ value_none n i;
   timers = record { each = λ i u is. let nothing = ap (λ ts. finite_map.get ts i) timers ∙ finite_map.get-empty nat_cmp i in absurd (cc) };
   few_cells = let size_none = ap finite_map.len cells ∙ finite_map.len-empty nat_cmp View in omega arith;
+  tidy = record {
+    lasts = λ v. inl (no_last v);
+    there = λ v h is none. let empty = sym (no_last v) ∙ is in absurd (cc);
+    named = λ h view is. let nothing = sym (ap (λ c. finite_map.get c h) cells ∙ finite_map.get-empty nat_cmp h) ∙ is in absurd (cc);
+    ledger = λ u none. ap (λ l. slice_index l u) ledger ∙ number_none n u;
+    pending = λ i. inl (ap (λ ts. finite_map.get ts i) timers ∙ finite_map.get-empty nat_cmp i);
+  };
 }
+  where
+    no_last : (v : ℕ) → held_at m.last v ≡ None
+    no_last v = ap (λ l. held_at l v) last ∙ ap held_by (value_none n v)
 
 pub below_limit : (a b : ℕ) → a ≤ b → (a ≡ b → ⊥) → a < b
 below_limit a b le ne = elim (cases_lt a b) [

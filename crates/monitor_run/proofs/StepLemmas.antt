@@ -36,13 +36,15 @@ use Rattle.register_machine.specs.Stands as machine
 use Rattle.register_machine.proofs.LaterRuns.{runs_on}
 use Rattle.register_machine.proofs.Shown as laws
 use Rattle.alias_rules.proofs.Ordered.{needed_order}
-use Rattle.monitor_run.specs.inner.Given.{AreBefore, AreEventLines}
+use Rattle.flat_core.proofs.Uniqueness.{all_by}
+use Rattle.monitor_run.specs.inner.Given.{AreAt, AreBefore, AreEventLines}
 use Rattle.monitor_run.specs.inner.Instant.{IsInstantText, name_of}
 use Rattle.monitor_run.specs.inner.Next.{Comes, IsFirstInstant, NothingBefore}
 use Rattle.monitor_run.specs.inner.Stands.{KeepsOf, Stands}
 use Rattle.monitor_run.specs.inner.State.{State, IsReady, kept_state, plan_of}
 use Rattle.flat_core.specs.Updates.{is_running_update}
 use Rattle.monitor_run.proofs.DueTimes.{due_at, due_of, due_time}
+use Rattle.monitor_run.proofs.OpenLemmas.{still_open}
 use Rattle.monitor_run.proofs.GapLemmas.{comes, delay_args, instants_gap, quiet, sound_gap}
 
 pub both_none : (a b : Option View) → option_or a b ≡ None → (a ≡ None) × (b ≡ None)
@@ -58,14 +60,14 @@ no_past_input n t i le (l ∷ past) all = let before = all.0 in λ k. option_or 
     none None = refl
     none (Some e) = λ k. if ne_eqb l.time t (λ same. let before = all.0 in absurd (omega arith)) k && (e.0 == i) then Some (Plain e.1) else None
 
-pub append_input : (past given : List Line) (i t : ℕ) → inputs_of past i t ≡ None → inputs_of (past ++ given) i t ≡ inputs_of given i t
-append_input [] given i t none = refl
-append_input (l ∷ past) given i t none = from (λ rest. append_input past given i t rest)
-  where
-    from : (inputs_of past i t ≡ None → inputs_of (past ++ given) i t ≡ inputs_of given i t) → option_or (event_in i t l.time l.event) (inputs_of (past ++ given) i t) ≡ inputs_of given i t
-    from later =
-        let parts = both_none (event_in i t l.time l.event) (inputs_of past i t) none in
-        (λ k. option_or (parts.0 k) (inputs_of (past ++ given) i t)) ∙ later parts.1
+-- nor do lines at an earlier time
+pub none_at : (bound t i : ℕ) → bound < t → (given : List Line) → AreAt bound given → inputs_of given i t ≡ None
+none_at bound t i late given at =
+    no_past_input t t i (omega arith) given (all_by (λ (l : Line). l.time ≡ bound) (λ (l : Line). suc l.time ≤ t) (λ l here. omega arith) given at)
+
+-- from the next instant on the events are the given ones
+pub inputs_open : (m : State) (lines : List Line) → Stands m lines → (i u : ℕ) → m.next ≤ u → inputs_of lines i u ≡ inputs_of m.given i u
+inputs_open m lines stands = still_open lines m.given m.next stands.events.once stands.kept stands.open_lines
 
 -- event lines are typed
 typed_lines : (s : System) (lines : List Line) → AreEventLines s lines → AreTypedLines s lines
@@ -146,19 +148,19 @@ module _ (m : State) (ready : IsReady m) (lines : List Line) (stands : Stands m 
     counted u update = (laws.counts m.system (plan_of m) lines B z (given_at B small z solves) m.next reaches_to (kept_state m) keeps.run).between u update
 
     pub quiet_to : (t : ℕ) → t ≤ B → NothingBefore m.next m.given m.timers t → (u : ℕ) → m.next ≤ u → u < t → is_instant m.system lines z u ≡ false
-    quiet_to t within none u low lt = quiet m.system ready.whole m.order order_is lines stands.past m.given stands.parts ready.events m.timers m.next t B stands.earlier none (omega arith) within z solves due u low lt
+    quiet_to t within none u low lt = quiet m.system ready.whole m.order order_is m.next lines m.given stands.kept stands.open_lines ready.events m.timers t B none (omega arith) within z solves due u low lt
 
 -- ---- an instant comes next
 module _ (m : State) (ready : IsReady m) (lines : List Line) (stands : Stands m lines) (t : ℕ) (late_enough : m.next ≤ t) (early : t < 2 ^ 63) (comes_now : Comes m.next m.given m.timers t) (none : NothingBefore m.next m.given m.timers t) where
   pub inputs_now : (i : ℕ) → inputs_of m.given i t ≡ inputs_of lines i t
-  inputs_now i = sym (ap (λ ls. inputs_of ls i t) stands.parts ∙ append_input stands.past m.given i t (no_past_input m.next t i late_enough stands.past stands.earlier))
+  inputs_now i = sym (inputs_open m lines stands i t late_enough)
 
   module _ (z : Streams) (solves : Solves m.system (inputs_of lines) (suc t) z) where
     due_now : (i : ℕ) → finite_map.get m.timers i ≡ due_time m.system z m.next i
     due_now = due m ready lines stands (suc t) (omega arith) (omega arith) z solves
 
     pub here : is_instant m.system lines z t ≡ true
-    here = comes m.system ready.whole m.order (order_is m ready lines stands) lines stands.past m.given stands.parts ready.events m.timers m.next t (suc t) stands.earlier none (omega arith) (omega arith) z solves due_now late_enough (omega arith) early comes_now
+    here = comes m.system ready.whole m.order (order_is m ready lines stands) m.next lines m.given stands.kept stands.open_lines ready.events m.timers t (suc t) none (omega arith) (omega arith) z solves due_now late_enough (omega arith) early comes_now
 
     -- it is the first that has not run
     pub is_first : t < m.bound → IsFirstInstant m.system lines z m.next m.bound t
@@ -168,11 +170,11 @@ module _ (m : State) (ready : IsReady m) (lines : List Line) (stands : Stands m 
     pub sound_before : (u : ℕ) → u < t → is_faulty m.system (inputs_of lines) z u ≡ false
     sound_before u lt = elim (cases_lt u m.next) [
       | inl before ↦ (keeps m ready lines stands (suc t) (omega arith) (omega arith) z solves).sound u before
-      | inr from ↦ sound_gap m.system ready.whole m.order (order_is m ready lines stands) lines stands.past m.given stands.parts ready.events m.timers m.next t (suc t) stands.earlier none (omega arith) (omega arith) z solves due_now u from lt
+      | inr from ↦ sound_gap m.system ready.whole m.order (order_is m ready lines stands) m.next lines m.given stands.kept stands.open_lines ready.events m.timers t (suc t) none (omega arith) (omega arith) z solves due_now u from lt
     ]
 
     gap : instants m.system lines z t ≡ instants m.system lines z m.next
-    gap = instants_gap m.system ready.whole m.order (order_is m ready lines stands) lines stands.past m.given stands.parts ready.events m.timers m.next t (suc t) stands.earlier none (omega arith) (omega arith) z solves due_now late_enough
+    gap = instants_gap m.system ready.whole m.order (order_is m ready lines stands) m.next lines m.given stands.kept stands.open_lines ready.events m.timers t (suc t) none (omega arith) (omega arith) z solves due_now late_enough
 
     -- the run of the machine has come to t
     pub run_now : RunsTo m.system (plan_of m) lines z t (kept_state m)

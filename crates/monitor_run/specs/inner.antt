@@ -11,6 +11,11 @@ pub mod State
 pub mod Next
 pub mod Stands
 pub mod Steps
+pub mod AnyMonitor
+pub mod Saved
+pub mod Fits
+pub mod Taking
+pub mod Resumed
 pub mod Written
 pub mod Laws
 pub mod Visits

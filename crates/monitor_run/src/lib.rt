@@ -14,6 +14,8 @@ mod machine;
 pub mod monitor;
 mod next;
 mod run;
+mod saved;
+pub mod state;
 mod tables;
 mod update;
 mod visits;

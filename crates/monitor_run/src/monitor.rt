@@ -5,10 +5,13 @@ ghost use Rattle.std.specs.Prelude.{List, ℕ, Ok, OnErr};
 ghost use Rattle.std.specs.FinMap as map;
 ghost use Rattle.flat_core.specs.Line.{Line};
 ghost use Rattle.flat_core.specs.Updates.{is_running_update};
+ghost use Rattle.monitor_run.specs.inner.AnyMonitor.{HasSteppedAny};
 ghost use Rattle.monitor_run.specs.inner.Given.{line_of};
 ghost use Rattle.monitor_run.specs.inner.Next.{IsIdle};
+ghost use Rattle.monitor_run.specs.inner.Resumed.{IsStateAfter};
+ghost use Rattle.monitor_run.specs.inner.Saved.{CanSave, HasState};
 ghost use Rattle.monitor_run.specs.inner.Stands.{Stands};
-ghost use Rattle.monitor_run.specs.inner.State.{IsReady, bound_of};
+ghost use Rattle.monitor_run.specs.inner.State.{IsReady, bound_of, plan_of};
 ghost use Rattle.monitor_run.specs.inner.Stored.{stored_count};
 ghost use Rattle.monitor_run.specs.inner.Steps.{AreAsSet, CanTake, HasStepped, IsStoppedAgain, stopped};
 
@@ -16,6 +19,8 @@ use crate::instant::run_instant;
 use crate::machine::Machine;
 use crate::next::next_below;
 use crate::run::Root;
+use crate::saved::{contents, held_cells, ledger_of, open_events, pending_times, saved_registers};
+use crate::state::MonitorState;
 use crate::tables::Tables;
 use crate::visits::Visits;
 use flat_core::line::TraceLine;
@@ -179,6 +184,28 @@ impl<'c> Monitor<'c> {
         })
     }
 
+    /// What the monitor keeps, as a state. It is asked for where no step is left to run and the open events stand at the bound.
+    pub fn state(&self, alloc: Global) -> Result<MonitorState, NoMemory>
+        requires { CanSave self.now }
+        ensures state { IfOk result (HasState self.now) }
+        ensures after { IfOk result (λ st. (lines : List Line)
+            → Stands self.now lines
+            → IsStateAfter self.now.system (plan_of self.now) lines st) }
+    {
+        let flat = self.code.flat();
+        let keeps = self.code.keeps();
+        let cells = held_cells(alloc, keeps, &self.machine.last)?;
+        Ok(MonitorState {
+            bound: self.bound,
+            instants: self.ran,
+            open_events: open_events(alloc, flat.count(), &self.given)?,
+            ledger: ledger_of(alloc, flat, &self.machine.store)?,
+            registers: saved_registers(alloc, keeps, &self.machine.last, &cells)?,
+            cells: contents(alloc, &cells, &self.machine.store)?,
+            pending: pending_times(alloc, self.code.timers(), &self.machine.timers)?,
+        })
+    }
+
     /// Gives the event of an input at a time that is not closed. The instants of earlier events have run.
     pub fn event(&mut self, time: Time, input: EqId, value: Scalar) -> Result<(), Stop>
         requires { self.old.stop ≡ None → CanTake self.old time input value }
@@ -227,6 +254,7 @@ impl<'c> Monitor<'c> {
             → (lines : List Line)
             → Stands self.old lines
             → HasStepped self.old self.new lines out.old out.new result }
+        ensures any { self.old.stop ≡ None → HasSteppedAny self.old self.new out.old out.new result }
         ensures again { IsStoppedAgain self.old self.new result }
         ensures unwritten { IsTrue (is_some self.old.stop) → out.new ≡ out.old }
         ensures kept { IfErr result (λ stop. self.new.stop ≡ Some stop) }

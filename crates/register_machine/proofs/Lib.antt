@@ -31,5 +31,8 @@ pub mod Shown
 pub mod Alike
 pub mod Renamings
 pub mod OneRun
+pub mod ShortValues
+pub mod ShortRuns
+pub mod TidyRuns
 mod SeenSystem
 mod SeenPlan

@@ -33,10 +33,10 @@ use Rattle.register_machine.proofs.Renamings.{one_to_one, alike_filled, alike_ma
 
 -- ---- two numbers change places
 
-swap : ℕ → ℕ → ℕ → ℕ
+pub swap : ℕ → ℕ → ℕ → ℕ
 swap p q n = if n == p then q else if n == q then p else n
 
-swap_first : (p q : ℕ) → swap p q p ≡ q
+pub swap_first : (p q : ℕ) → swap p q p ≡ q
 unfolding swap
 swap_first p q = ap (λ b. if b then q else if p == q then p else p) (eq-eqb p p refl)
 
@@ -47,11 +47,11 @@ swap_second p q = elim (cases_eq q p) [
   | inr other ↦ ap (λ b. if b then q else if q == q then p else q) (ne_eqb q p other) ∙ ap (λ b. if b then p else q) (eq-eqb q q refl)
 ]
 
-swap_other : (p q n : ℕ) → (n ≡ p → ⊥) → (n ≡ q → ⊥) → swap p q n ≡ n
+pub swap_other : (p q n : ℕ) → (n ≡ p → ⊥) → (n ≡ q → ⊥) → swap p q n ≡ n
 unfolding swap
 swap_other p q n first second = ap (λ b. if b then q else if n == q then p else n) (ne_eqb n p first) ∙ ap (λ b. if b then p else n) (ne_eqb n q second)
 
-swap_back : (p q n : ℕ) → swap p q (swap p q n) ≡ n
+pub swap_back : (p q n : ℕ) → swap p q (swap p q n) ≡ n
 swap_back p q n = elim (cases_eq n p) [
   | inl first ↦ ap (λ k. swap p q (swap p q k)) first ∙ ap (swap p q) (swap_first p q) ∙ swap_second p q ∙ sym first
   | inr other ↦ elim (cases_eq n q) [
@@ -61,7 +61,7 @@ swap_back p q n = elim (cases_eq n p) [
 ]
 
 -- the same renaming, but h gets the handle q
-abbrev naming : Renaming → ℕ → ℕ → Renaming
+abbrev pub naming : Renaming → ℕ → ℕ → Renaming
 naming r h q = record {
   to = λ n. swap (r.to h) q (r.to n);
   back = λ n. r.back (swap (r.to h) q n);
@@ -469,7 +469,7 @@ module _ (s : System) (c : Config) where
     alone = alone;
   }
 
-both_instants : (s : System) (plan : Plan) (inputs : Inputs) (t : ℕ) (r : Renaming) (a b c d : State)
+pub both_instants : (s : System) (plan : Plan) (inputs : Inputs) (t : ℕ) (r : Renaming) (a b c d : State)
     → AreHeld s a → AreRenamed r a c → Instant s plan inputs t a b → Instant s plan inputs t c d
     → AreHeld s b × (q : Renaming) × AreRenamed q b d
 both_instants s plan inputs t r a b c d are renamed_too one other =
@@ -492,7 +492,7 @@ both_runs s plan inputs (t ∷ times) r a b c d are renamed_too one other =
     let first = both_instants s plan inputs t r a one.0 c other.0 are renamed_too one.1 other.1 in
     both_runs s plan inputs times first.1 one.0 b other.0 d first.0 first.2 one.2 other.2
 
-no_change : Renaming
+abbrev pub no_change : Renaming
 no_change = record { to = λ h. h; back = λ h. h; there = λ h. refl; here = λ h. refl }
 
 pub one_run : RunsAreOne

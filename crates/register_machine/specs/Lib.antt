@@ -4,4 +4,6 @@ pub mod Run
 pub mod Content
 pub mod Stands
 pub mod Renamed
+pub mod Short
+pub mod Tidy
 pub mod Laws

@@ -2,6 +2,8 @@
 
 ghost use Rattle.register_machine.specs.Laws.{UpdatesLeaveWhatIsRead, RunsShowTheSolution, PlansLookAlike, RunsStand, LedgersCountCopies};
 ghost use Rattle.register_machine.specs.Renamed.{RenamedInstants, RenamedRuns, RunsAreOne};
+ghost use Rattle.register_machine.specs.Short.{InstantsKeepShort, OperationsKeepShort};
+ghost use Rattle.register_machine.specs.Tidy.{InstantsKeepTidy};
 ghost use Rattle.register_machine.specs.Laws.{CellsAreBounded, SoundInstantsGoOn, RunsExist, RunsGoOn, LaterLinesLeaveRuns};
 
 /// With a fine plan, each update in place leaves the view of each register that is still read.
@@ -67,4 +69,19 @@ pub fn renamed_runs()
 /// Two runs over the same instants come to states that differ in their handles alone.
 pub fn runs_are_one()
     ensures { RunsAreOne }
+{}
+
+/// An operation with short literals makes short values of short ones.
+pub fn operations_keep_short()
+    ensures { OperationsKeepShort }
+{}
+
+/// An instant with short inputs leaves short texts, where it was given short ones.
+pub fn instants_keep_short()
+    ensures { InstantsKeepShort }
+{}
+
+/// An instant keeps nothing but what is kept, where nothing else was.
+pub fn instants_keep_tidy()
+    ensures { InstantsKeepTidy }
 {}

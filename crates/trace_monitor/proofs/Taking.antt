@@ -2,12 +2,13 @@
 use Rattle.std.proofs.Common.{◌≡◌, ◌≢◌, ℕ, ◌+◌, ◌≤◌, max, List, [], ◌∷◌, ◌++◌, Option, Some, None, is_some, is_ok, if◌then◌else◌, Result, Ok, Err, OnOk, IfErr, IfOk, refl, sym, subst, ap, arith, ◌∙◌}
 use Rattle.std.proofs.Math.Nat.{max-eq_right}
 use Rattle.std.proofs.lemmas.List.Elements.{filter-append}
-use Rattle.std.specs.List.{AllByRecursion, flat_map}
+use Rattle.std.specs.List.{AllByRecursion, Contains, flat_map}
 use Rattle.std.specs.Option.{option_or}
 use Rattle.tsl_value.specs.View.{View}
 use Rattle.tsl_value.specs.declared.scalar.Scalar.{Scalar}
 use Rattle.flat_core.specs.Line.{Line, event_in, inputs_of}
 use Rattle.flat_core.specs.System.{System}
+use Rattle.flat_core.proofs.Members.{all_at, all_from}
 use Rattle.flat_core.specs.Text.{text_at}
 use Rattle.monitor_run.specs.declared.monitor.Stop.{Stop}
 use Rattle.monitor_run.specs.inner.Given.{AreAt, IsInputOf, line_of}
@@ -15,6 +16,7 @@ use Rattle.monitor_run.specs.inner.Next.{IsIdle}
 use Rattle.monitor_run.specs.inner.State as engine
 use Rattle.monitor_run.specs.inner.Steps.{AreAsSet, CanTake}
 use Rattle.monitor_run.specs.inner.Written.{HasWritten}
+use Rattle.monitor_run.proofs.OpenLemmas.{input_in, input_there}
 use Rattle.monitor_run.proofs.MonitorLemmas.{stands_closed, stands_given, given_leaves}
 use Rattle.trace_monitor.specs.inner.Kept.{events_of}
 use Rattle.trace_monitor.specs.declared.halt.Halt.{Halt}
@@ -94,30 +96,27 @@ module _ (m mid new : engine.State) (time : ℕ) (later : m.bound ≤ time) (sam
       (stops lines text (subst (λ (e : engine.State). HasWritten e lines text) (sym same) (written_closed m (max m.bound time) lines text w))))
 
 -- ---- a line
-all_after : (P : Line → Type 0) (xs ys : List Line) → AllByRecursion P (xs ++ ys) → AllByRecursion P ys
-all_after P [] ys all = all
-all_after P (x ∷ xs) ys all = all_after P xs ys all.1
-
 at_time : (t : ℕ) (lines : List Line) → AllByRecursion (λ e. e.time ≤ t) lines → AllByRecursion (λ e. t ≤ e.time) lines → AreAt t lines
 at_time t [] most least = tt
 at_time t (l ∷ lines) most least = ((let le = most.0 in let ge = least.0 in omega arith), at_time t lines most.1 least.1)
 
-fresh_after : (past given : List Line) (i t : ℕ) → inputs_of (past ++ given) i t ≡ None → inputs_of given i t ≡ None
-fresh_after [] given i t none = none
-fresh_after (l ∷ past) given i t none = fresh_after past given i t (second_none (event_in i t l.time l.event) (inputs_of (past ++ given) i t) none)
+-- what all lines have not is not among those that are kept
+fresh_kept : (lines given : List Line) (i t : ℕ) → ((l : Line) → Contains given l → Contains lines l) → inputs_of lines i t ≡ None → inputs_of given i t ≡ None
+fresh_kept lines given i t kept none = from (inputs_of given i t) refl
   where
-    second_none : (a b : Option View) → option_or a b ≡ None → b ≡ None
-    second_none None b h = h
-    second_none (Some v) b h = absurd (cc)
+    from : (a : Option View) → inputs_of given i t ≡ a → inputs_of given i t ≡ None
+    from None is = is
+    from (Some v) is = let found = input_in i t given v is in absurd (input_there i t found.0 lines (kept (line_of t i found.0) found.1) none)
 
 pub can_take : (e : engine.State) (s : System) (lines : List Line) (text : List ℕ) (l : Line) → e.system ≡ s → HasWritten e (events_of lines) text → IsIdle e → e.bound ≡ l.time → MayFollow s lines l
     → (i : ℕ) (value : Scalar) → l.event ≡ Some (i, value) → CanTake e l.time i value
 can_take e s lines text l same w idle closed may i value is =
-    let parts = w.stands.parts in record {
+    record {
       unclosed = omega arith;
-      alone = at_time l.time e.given (all_after (λ x. x.time ≤ l.time) w.stands.past e.given (subst (AllByRecursion (λ x. x.time ≤ l.time)) parts may.all_before))
+      alone = at_time l.time e.given
+          (all_from (λ (x : Line). x.time ≤ l.time) e.given (λ x there. all_at (λ (y : Line). y.time ≤ l.time) (events_of lines) may.all_before x (w.stands.kept x there)))
           (subst (λ (b : ℕ). AllByRecursion (λ x. b ≤ x.time) e.given) closed idle.events);
-      fresh = fresh_after w.stands.past e.given i l.time (subst (λ (ls : List Line). inputs_of ls i l.time ≡ None) parts (may.fresh i value is));
+      fresh = fresh_kept (events_of lines) e.given i l.time w.stands.kept (may.fresh i value is);
       fits = subst (λ (t : System). IsInputOf t i value) (sym same) (may.fits i value is);
     }
 

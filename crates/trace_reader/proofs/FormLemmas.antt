@@ -57,7 +57,7 @@ joined_step mark b bytes p false same is ih =
     let front = mapped (put_first b) (split_once mark bytes) p is in
     subst (λ (q : List ℕ × List ℕ). b ∷ bytes ≡ q.0 ++ mark ∷ q.1) front.gives (ap (λ bs. b ∷ bs) (ih front.at front.is))
 
-joined : (mark : ℕ) (bytes : List ℕ) (p : List ℕ × List ℕ) → split_once mark bytes ≡ Some p → bytes ≡ p.0 ++ mark ∷ p.1
+pub joined : (mark : ℕ) (bytes : List ℕ) (p : List ℕ × List ℕ) → split_once mark bytes ≡ Some p → bytes ≡ p.0 ++ mark ∷ p.1
 joined mark [] p is = absurd (cc)
 joined mark (b ∷ bytes) p is = joined_step mark b bytes p (b == mark) refl is (joined mark bytes)
 

@@ -1,8 +1,8 @@
 -- What holds of every reading.
-use Rattle.std.proofs.Common.{◌≡◌, ◌==◌, ◌<◌, ℕ, ◌+◌, ◌-◌, Bool, true, false, ◌&&◌, List, [], ◌∷◌, ◌++◌, length, take, Option, Some, None, Result, Ok, Err, refl, sym, ap, ◌∙◌, arith, append_assoc, length-append, add-zero}
+use Rattle.std.proofs.Common.{◌≡◌, ◌==◌, ◌≤◌, ◌<◌, ℕ, ◌+◌, ◌-◌, Bool, true, false, ◌&&◌, List, [], ◌∷◌, ◌++◌, length, take, Option, Some, None, Result, Ok, Err, refl, sym, ap, ◌∙◌, arith, append_assoc, length-append, add-zero}
 use Rattle.std.proofs.lemmas.Bool.{ltb-true, lt-ltb}
-use Rattle.std.proofs.lemmas.List.{append-nil}
-use Rattle.std.proofs.lemmas.Option.{slice_get_within}
+use Rattle.std.proofs.lemmas.List.{append-nil, take_all}
+use Rattle.std.proofs.lemmas.Option.{slice_get_past, slice_get_within}
 use Rattle.std.specs.Prelude.{if◌then◌else◌, is_none, option_to_list, slice_get}
 use Rattle.std.specs.Option.{option_map, option_or}
 use Rattle.flat_core.specs.System.{System}
@@ -17,7 +17,7 @@ use Rattle.trace_reader.proofs.CutLemmas.{read_by, read_on-first, slice_get-appe
 use Rattle.trace_reader.specs.declared.limits.TheConstants.{MOST_LINE_BYTES}
 
 -- the lines of bytes before others, by those of the bytes and of what stands after their last end
-abbrev cut_join : List (List ℕ) × List ℕ → List ℕ → List (List ℕ) × List ℕ
+abbrev pub cut_join : List (List ℕ) × List ℕ → List ℕ → List (List ℕ) × List ℕ
 cut_join c back = (c.0 ++ (cut (c.1 ++ back)).0, (cut (c.1 ++ back)).1)
 
 join_put : (b : ℕ) (ls : List (List ℕ)) (rest back : List ℕ) → b == 10 ≡ false → put_before b (cut_join (ls, rest) back).0 (cut_join (ls, rest) back).1 ≡ cut_join (put_before b ls rest) back
@@ -31,7 +31,7 @@ cut_step : (is_end : Bool) (b : ℕ) (front back : List ℕ) → b == 10 ≡ is_
 cut_step true b front back is ih = ap (λ (c : List (List ℕ) × List ℕ). ([] ∷ c.0, c.1)) ih
 cut_step false b front back is ih = ap (λ (c : List (List ℕ) × List ℕ). put_before b c.0 c.1) ih ∙ join_put b (cut front).0 (cut front).1 back is
 
-cut-append : (front back : List ℕ) → cut (front ++ back) ≡ cut_join (cut front) back
+pub cut-append : (front back : List ℕ) → cut (front ++ back) ≡ cut_join (cut front) back
 cut-append [] back = refl
 cut-append (b ∷ front) back = cut_step (b == 10) b front back refl (cut-append front back)
 
@@ -45,7 +45,7 @@ open_step : (is_end : Bool) (b : ℕ) (bytes : List ℕ) → b == 10 ≡ is_end 
 open_step true b bytes is ih = ih
 open_step false b bytes is ih = open_put b (cut bytes).0 (cut bytes).1 is ih
 
-open_has_no_end : (bytes : List ℕ) → split_once 10 (cut bytes).1 ≡ None
+pub open_has_no_end : (bytes : List ℕ) → split_once 10 (cut bytes).1 ≡ None
 open_has_no_end [] = refl
 open_has_no_end (b ∷ bytes) = open_step (b == 10) b bytes refl (open_has_no_end bytes)
 
@@ -222,6 +222,10 @@ module _ (s : System) (strict : Bool) (before : List Line) (n : ℕ) where
   refusal_stays bytes more beyond beyond_then ended f goes refused =
       refused_by bytes more beyond beyond_then ended f (first_lines bytes).refused goes refl (sym (ap (λ (r : Reading). r.refused) (read_open bytes beyond)) ∙ refused)
 
+none_first : (a b : Option TraceFault) → option_or a b ≡ None → a ≡ None
+none_first None b is = refl
+none_first (Some f) b is = absurd (cc)
+
 -- The bytes within the limit, where more come.
 goes_on_within : (limit : ℕ) (bytes more : List ℕ) → GoesOn (slice_get bytes limit) (take (limit - length bytes) more) (slice_get (bytes ++ more) limit)
 goes_on_within limit bytes more = record {
@@ -251,3 +255,24 @@ module _ (s : System) (strict : Bool) (limit : ℕ) where
       ∙ refusal_stays s strict [] 1 (take limit bytes) (take (limit - length bytes) more) (slice_get bytes limit) (slice_get (bytes ++ more) limit) ended f (goes_on_within limit bytes more)
       (ap (λ (r : Reading). r.refused) (sym (open_is bytes)) ∙ refused)
       ∙ sym (open_is bytes)
+
+  -- What is read where nothing of a beginning is refused: its lines, and then what stands after the last line's end, with what follows.
+  pub accepted_on : (bytes more : List ℕ) (ended : Bool) (given : List Line) → length bytes ≤ limit → reading s strict limit bytes false ≡ record { lines = given; refused = None } →
+      reading s strict limit (bytes ++ more) ended
+      ≡ after given (read_on s strict given (length (cut bytes).0 + 1) ((cut bytes).1 ++ take (limit - length bytes) more) (slice_get more (limit - length bytes)) ended)
+  accepted_on bytes more ended given within accepted =
+      let kept = take limit bytes in
+      let all : kept ≡ bytes = take_all limit bytes within in
+      let first = first_lines s strict [] 1 kept in
+      let beyond = slice_get (bytes ++ more) limit in
+      let following = take (limit - length bytes) more in
+      let accepts = sym (read_open s strict [] 1 kept (slice_get bytes limit)) ∙ sym (open_is bytes) ∙ accepted in
+      let none : first.refused ≡ None = none_first first.refused _ (ap (λ (r : Reading). r.refused) accepts) in
+      let lines : first.lines ≡ given = ap (λ (r : Reading). r.lines) accepts in
+      let number : 1 + length (cut bytes).0 ≡ length (cut bytes).0 + 1 = omega arith in
+      let past : beyond ≡ slice_get more (limit - length bytes) = slice_get-append bytes more limit ∙ ap (λ o. option_or o (slice_get more (limit - length bytes))) (slice_get_past bytes limit within) in
+      whole_is bytes more ended
+      ∙ read_on-append s strict [] 1 kept following beyond ended
+      ∙ ap (λ o. joined o first.lines (read_rest s strict [] 1 kept following beyond ended)) none
+      ∙ (λ k. after (lines k) (read_rest s strict [] 1 (all k) following (past k) ended (lines k)))
+      ∙ (λ k. after given (read_on s strict given (number k) ((cut bytes).1 ++ following) (slice_get more (limit - length bytes)) ended))

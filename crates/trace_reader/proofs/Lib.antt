@@ -20,3 +20,8 @@ pub mod GatherLemmas
 pub mod PlainLemmas
 pub mod GatherAll
 pub mod TestSystem
+pub mod AnyLemmas
+pub mod CountLemmas
+pub mod PassedLemmas
+pub mod SavedLemmas
+pub mod SoundLemmas

@@ -1,8 +1,8 @@
 -- Lines of the form in which most are written say what their parts say.
 use Rattle.std.proofs.Common.{◌≡◌, ◌≢◌, ◌==◌, ◌≤◌, ◌<◌, ◌^◌, ℕ, ◌+◌, ◌-◌, ◌*◌, pos, neg_ℤ, Bool, true, false, ◌&&◌, ◌||◌, not, zero, suc, get_or, Result, List, [], ◌∷◌, ◌++◌, length, take, drop, nat_le, nat_lt, Option, Some, None, Ok, Err, IfSome, refl, sym, ap, subst, ◌∙◌, arith, append-nil, append_assoc, length-append}
-use Rattle.std.proofs.lemmas.Bool.{and_parts, ltb-false, leb-true, ne_eqb, le-leb, le-ltb, lt-ltb}
+use Rattle.std.proofs.lemmas.Bool.{and_parts, ltb-false, ltb-true, leb-true, ne_eqb, le-leb, le-ltb, lt-ltb}
 use Rattle.std.proofs.lemmas.List.Folds.{list_all-append}
-use Rattle.std.specs.Prelude.{if◌then◌else◌, codes}
+use Rattle.std.specs.Prelude.{IsTrue, if◌then◌else◌, codes}
 use Rattle.std.specs.Char.{digit_value, is_ascii_digit}
 use Rattle.std.specs.List.{list_all, position}
 use Rattle.std.proofs.lemmas.List.Quantifiers.{position-Some}
@@ -31,6 +31,7 @@ use Rattle.trace_reader.specs.declared.fault.TraceFault.TheVariants as fault
 use Rattle.trace_reader.specs.declared.plain.PlainLine.{PlainLine}
 use Rattle.trace_reader.specs.Form.{LineParts, content, is_blank, is_end_blank, is_long, is_name, parts_of, put_first, says_nothing, split_once, time_of, without_end, without_front}
 use Rattle.trace_reader.specs.inner.Plain.{BeginsWithInt, BeginsWithNumber, BeginsWithTail, BeginsWithValue, HasPlainInput, IsPlain, IsPlainInput, IsPlainOf, StandsPlain, begins_with_digit, is_of_int, plain, tail_of}
+use Rattle.trace_reader.specs.inner.LastTime.{is_later, or_zero}
 use Rattle.trace_reader.specs.inner.Reader.{IsFirstLine, Reader, StopsAtLine, had_now, is_skipped, last_counts}
 use Rattle.trace_reader.specs.Reading.{addressed, alone, as_read, formed, input_called, is_among, judged, judged_content, placed, said, said_at, value_at, value_of}
 use Rattle.trace_reader.specs.inner.Spelling.{HasForm, IsWhole}
@@ -150,10 +151,19 @@ named_input s i of name (type, found, it) named typed =
     }
 
 -- no input had an event at a later time
-none_had : (last : ℕ) (seen : List ℕ) (t i : ℕ) → last < t → had_now last seen t i ≡ false
-none_had last seen t i later = let other : t ≡ last → ⊥ = λ same. omega arith in ap (λ b. b && is_among seen i) (ne_eqb t last other)
+none_had : (last : Option ℕ) (seen : List ℕ) (t i : ℕ) → is_later last t ≡ true → had_now last seen t i ≡ false
+none_had None seen t i later = refl
+none_had (Some last) seen t i later =
+    let lt = ltb-true last t later in
+    let other : last ≡ t → ⊥ = λ same. omega arith in
+    ap (λ b. b && is_among seen i) (ne_eqb last t other)
 
-stands_plain : (r : Reader) (of : ScalarType) (name : List ℕ) (p : PlainLine) → IsPlain of name r.unread p → IsPlainInput r.system p.input of name → is_long p.len ≡ false → r.last < p.time → StandsPlain r p
+-- nor is it before the last one
+not_back : (last : Option ℕ) (t : ℕ) → is_later last t ≡ true → or_zero last ≤ t
+not_back None t later = omega arith
+not_back (Some last) t later = let lt = ltb-true last t later in omega arith
+
+stands_plain : (r : Reader) (of : ScalarType) (name : List ℕ) (p : PlainLine) → IsPlain of name r.unread p → IsPlainInput r.system p.input of name → is_long p.len ≡ false → is_later r.last p.time ≡ true → StandsPlain r p
 stands_plain r of name p it input short later =
     let spelled = input.input.spelled in
     record {
@@ -161,13 +171,13 @@ stands_plain r of name p it input short later =
       within = plain_within of name r.unread p it spelled;
       some = plain_some of name r.unread p it spelled;
       judged =
-          ap (judged r.system r.strict (had_now r.last r.seen) r.last (r.count + 1)) (taken of name r.unread p it spelled)
-          ∙ judged_plain of name r.unread p it spelled r.system r.strict (had_now r.last r.seen) r.last (r.count + 1) input (ltb-false MOST_LINE_BYTES p.len short) (omega arith)
+          ap (judged r.system r.strict (had_now r.last r.seen) (or_zero r.last) (r.count + 1)) (taken of name r.unread p it spelled)
+          ∙ judged_plain of name r.unread p it spelled r.system r.strict (had_now r.last r.seen) (or_zero r.last) (r.count + 1) input (ltb-false MOST_LINE_BYTES p.len short) (not_back r.last p.time later)
           (none_had r.last r.seen p.time p.input later);
     }
 
 pub if_stands : (r : Reader) (read : PlainLine) (o : Option PlainLine) → IsPlainOf r.system r.unread read →
-    IfSome o (λ (p : PlainLine). (p ≡ read) × (is_long p.len ≡ false) × (r.last < p.time)) → IfSome o (StandsPlain r)
+    IfSome o (λ (p : PlainLine). (p ≡ read) × (is_long p.len ≡ false) × IsTrue (is_later r.last p.time)) → IfSome o (StandsPlain r)
 if_stands r read None it later = tt
 if_stands r read (Some p) it (same, short, later) =
     let is = subst (IsPlainOf r.system r.unread) (sym same) it in

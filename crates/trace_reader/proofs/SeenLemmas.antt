@@ -1,16 +1,22 @@
 -- The inputs that had an event at the last time stand for all earlier lines.
-use Rattle.std.proofs.Common.{◌≡◌, ◌==◌, ◌≤◌, ◌<◌, ℕ, Bool, true, false, ◌&&◌, List, [], ◌∷◌, ◌++◌, length, nat_lt, Option, Some, None, Ok, Err, refl, ap, ◌∙◌, arith, append-nil}
+use Rattle.std.proofs.Common.{◌≡◌, ◌==◌, ◌≤◌, ◌<◌, ℕ, Bool, true, false, ◌&&◌, ◌||◌, List, [], ◌∷◌, ◌++◌, ◌+◌, length, take, get_or, nat_lt, Option, Some, None, Ok, Err, refl, sym, ap, ◌∙◌, arith, append-nil}
 use Rattle.std.proofs.lemmas.Bool.{eq-eqb, eqb-true, eqb-false, ne_eqb, ltb-false}
-use Rattle.std.specs.Prelude.{if◌then◌else◌}
+use Rattle.std.proofs.lemmas.List.Folds.{list_any-append}
+use Rattle.std.proofs.lemmas.List.{take_more}
+use Rattle.std.proofs.lemmas.Option.{same_Some, slice_get-get_or, slice_get_within}
+use Rattle.std.specs.Prelude.{if◌then◌else◌, slice_get}
 use Rattle.std.specs.List.{AllByRecursion}
 use Rattle.tsl_value.specs.declared.scalar.Scalar.{Scalar}
+use Rattle.flat_core.specs.Members.{is_in}
+use Rattle.flat_core.specs.Pending.{option_is}
 use Rattle.flat_core.specs.System.{System}
 use Rattle.flat_core.specs.Line.{Line, IsSorted, last_time}
 use Rattle.trace_reader.specs.declared.fault.TraceFault.TheVariants as fault
 use Rattle.trace_reader.specs.Form.{LineParts, content, is_long, parts_of, says_nothing, time_of}
 use Rattle.trace_reader.specs.Reading.{input_in, inputs_at, is_among, had_event, input_called, value_at, as_read, placed, addressed, said, said_at, formed, judged}
 use Rattle.trace_reader.specs.inner.Reader.{had_now, seen_with}
-use Rattle.trace_reader.proofs.LineLemmas.{inputs_at-append}
+use Rattle.trace_reader.specs.inner.LastTime.{last_read, or_zero}
+use Rattle.trace_reader.proofs.LineLemmas.{inputs_at-append, last_time-push}
 
 -- no line is after the last one
 abbrev UpTo : ℕ → List Line → Type 0
@@ -33,31 +39,71 @@ none_later t last [] low high = refl
 none_later t last (l ∷ ls) low high = λ k. (if not_at t last l low.0 high k then input_in l.event else []) ++ none_later t last ls low.1 high k
 
 -- those at a time that is not before the last one
-at_last : (t last : ℕ) (ls : List Line) (same : Bool) → UpTo last ls → last ≤ t → t == last ≡ same → inputs_at t ls ≡ (if same then inputs_at last ls else [])
-at_last t last ls true low le is = ap (λ u. inputs_at u ls) (eqb-true t last is)
+at_last : (t last : ℕ) (ls : List Line) (same : Bool) → UpTo last ls → last ≤ t → last == t ≡ same → inputs_at t ls ≡ (if same then inputs_at last ls else [])
+at_last t last ls true low le is = ap (λ u. inputs_at u ls) (sym (eqb-true last t is))
 at_last t last ls false low le is =
-    let other : t ≡ last → ⊥ = eqb-false t last is in
+    let other : last ≡ t → ⊥ = eqb-false last t is in
     let later : last < t = omega arith in
     none_later t last ls low later
 
-pub inputs_from_last : (t : ℕ) (ls : List Line) → IsSorted ls → last_time ls ≤ t → inputs_at t ls ≡ (if t == last_time ls then inputs_at (last_time ls) ls else [])
-inputs_from_last t ls in_order le = at_last t (last_time ls) ls (t == last_time ls) (up_to_last ls in_order) le refl
+inputs_from_last : (t : ℕ) (ls : List Line) → IsSorted ls → last_time ls ≤ t → inputs_at t ls ≡ (if last_time ls == t then inputs_at (last_time ls) ls else [])
+inputs_from_last t ls in_order le = at_last t (last_time ls) ls (last_time ls == t) (up_to_last ls in_order) le refl
 
 among_if : (same : Bool) (seen : List ℕ) (i : ℕ) → is_among (if same then seen else []) i ≡ (same && is_among seen i)
 among_if true seen i = refl
 among_if false seen i = refl
 
-pub had_same : (ls : List Line) (t i : ℕ) → IsSorted ls → last_time ls ≤ t → had_event ls t i ≡ had_now (last_time ls) (inputs_at (last_time ls) ls) t i
-had_same ls t i in_order le =
-    ap (λ is. is_among is i) (inputs_from_last t ls in_order le) ∙ among_if (t == last_time ls) (inputs_at (last_time ls) ls) i
+-- These inputs had an event at the last time.
+abbrev pub AreSeen : List Line → List ℕ → Type 0
+AreSeen ls seen = (i : ℕ) → is_among seen i ≡ had_event ls (last_time ls) i
 
-pub seen_push : (ls : List Line) (l : Line) → IsSorted ls → last_time ls ≤ l.time → inputs_at l.time (ls ++ l ∷ []) ≡ seen_with (last_time ls) (inputs_at (last_time ls) ls) l
-seen_push ls l in_order le =
-    inputs_at-append l.time ls (l ∷ [])
-    ∙ (λ k. inputs_from_last l.time ls in_order le k ++ one k)
+pub had_same : (ls : List Line) (seen : List ℕ) → AreSeen ls seen → (t i : ℕ) → IsSorted ls → last_time ls ≤ t → had_event ls t i ≡ had_now (last_read ls) seen t i
+had_same [] seen are t i in_order le = refl
+had_same (l ∷ ls) seen are t i in_order le =
+    let last = last_time (l ∷ ls) in
+    ap (λ is. is_among is i) (inputs_from_last t (l ∷ ls) in_order le) ∙ among_if (last == t) (inputs_at last (l ∷ ls)) i ∙ ap (λ b. (last == t) && b) (sym (are i))
+
+-- the last time, or 0
+pub last_zero : (ls : List Line) → last_time ls ≡ or_zero (last_read ls)
+last_zero [] = refl
+last_zero (l ∷ ls) = refl
+
+pub last_read-push : (ls : List Line) (l : Line) → last_read (ls ++ l ∷ []) ≡ Some l.time
+last_read-push [] l = refl
+last_read-push (m ∷ ls) l = ap (λ t. Some t) (last_time-push (m ∷ ls) l)
+
+-- with a line more
+pub seen_push : (ls : List Line) (l : Line) (seen : List ℕ) → AreSeen ls seen → IsSorted ls → last_time ls ≤ l.time → AreSeen (ls ++ l ∷ []) (seen_with (last_read ls) seen l)
+seen_push ls l seen are in_order le i =
+    let same = option_is l.time (last_read ls) in
+    list_any-append (λ j. j == i) (if same then seen else []) (input_in l.event)
+    ∙ ap (λ b. b || is_among (input_in l.event) i) (among_if same seen i ∙ sym (had_same ls seen are l.time i in_order le))
+    ∙ sym (list_any-append (λ j. j == i) (inputs_at l.time ls) (input_in l.event))
+    ∙ ap (λ is. is_among is i) (ap (λ is. inputs_at l.time ls ++ is) (sym one) ∙ sym (inputs_at-append l.time ls (l ∷ [])))
+    ∙ ap (λ t. had_event (ls ++ l ∷ []) t i) (sym (last_time-push ls l))
   where
     one : inputs_at l.time (l ∷ []) ≡ input_in l.event
     one = (λ k. (if eq-eqb l.time l.time refl k then input_in l.event else []) ++ []) ∙ append-nil (input_in l.event)
+
+-- The inputs as a set, one after the other.
+or_last : (a b : Bool) → (b || a) ≡ (a || (b || false))
+or_last true true = refl
+or_last true false = refl
+or_last false true = refl
+or_last false false = refl
+
+pub among_more : (seen set new : List ℕ) (k x : ℕ) → k < length seen → x ≡ get_or seen k x → ((i : ℕ) → is_in set i ≡ is_among (take k seen) i) → ((i : ℕ) → is_in new i ≡ ((x == i) || is_in set i)) →
+    (i : ℕ) → is_in new i ≡ is_among (take (k + 1) seen) i
+among_more seen set new k x within is are more i =
+    more i ∙ ap (λ b. (x == i) || b) (are i) ∙ or_last (is_among (take k seen) i) (x == i)
+    ∙ sym (list_any-append (λ j. j == i) (take k seen) (x ∷ []))
+    ∙ ap (λ is. is_among is i) (ap (λ y. take k seen ++ y ∷ []) is ∙ sym (take_more seen k x within))
+
+pub listed_more : (seen new set : List ℕ) (k x : ℕ) → Some x ≡ slice_get set k → new ≡ seen ++ x ∷ [] → seen ≡ take k set → new ≡ take (k + 1) set
+listed_more seen new set k x is more so_far =
+    let within = slice_get_within set k x (sym is) in
+    let same : get_or set k x ≡ x = same_Some (get_or set k x) x (sym (slice_get-get_or set k x within) ∙ sym is) in
+    more ∙ ap (λ xs. xs ++ x ∷ []) so_far ∙ sym (take_more set k x within ∙ ap (λ y. take k set ++ y ∷ []) same)
 
 -- Two ways to say which inputs had an event judge alike where they agree from the last time on.
 module _ (s : System) (strict : Bool) (had other : ℕ → ℕ → Bool) (last n : ℕ) (agree : (t i : ℕ) → last ≤ t → had t i ≡ other t i) where

@@ -1,5 +1,5 @@
 -- What an answer says of the trace, and what the reader stands for after it.
-use Rattle.std.proofs.Common.{◌≡◌, ◌≤◌, ◌<◌, ℕ, zero, suc, ◌+◌, ◌-◌, min, Bool, true, false, ◌&&◌, List, [], ◌∷◌, ◌++◌, length, take, drop, Option, Some, None, Result, Ok, Err, refl, sym, ap, subst, ◌∙◌, arith, append_assoc, length-drop, add-zero}
+use Rattle.std.proofs.Common.{◌≡◌, ◌≤◌, ◌<◌, ℕ, ◌+◌, min, Bool, true, false, ◌&&◌, List, [], ◌∷◌, ◌++◌, length, take, drop, Option, Some, None, Result, Ok, Err, refl, sym, ap, subst, ◌∙◌, arith, append_assoc, length-drop, add-zero}
 use Rattle.std.proofs.lemmas.List.{append-nil}
 use Rattle.std.specs.Prelude.{if◌then◌else◌, is_none, is_some, not, option_to_list, slice_get}
 use Rattle.std.specs.Option.{option_or}
@@ -10,19 +10,16 @@ use Rattle.trace_reader.specs.declared.fault.TraceFault.TheVariants as fault
 use Rattle.trace_reader.specs.declared.next.Next.{Next}
 use Rattle.trace_reader.specs.declared.next.Next.TheVariants as next
 use Rattle.trace_reader.specs.Form.{content, is_long, says_nothing, split_once}
-use Rattle.trace_reader.specs.Reading.{Reading, alone, first_line, inputs_at, had_event, judged, judged_content, go_on, reading, read_on}
-use Rattle.trace_reader.specs.inner.Reader.{Reader, HasLine, Passes, StopsAtLine, had_now, is_skipped, judged_at, last_counts, passed, past_line, seen_with, at_fault}
-use Rattle.trace_reader.specs.inner.Reads.{Reads, MayCome, IfLine, IsPastLine, after, after_all, IsAllOf, SaysNext, lines_in, TakesLine, Rests}
+use Rattle.trace_reader.specs.Reading.{Reading, alone, first_line, had_event, is_among, judged, judged_content, go_on, reading, read_on}
+use Rattle.trace_reader.specs.inner.LastTime.{last_read, or_zero}
+use Rattle.trace_reader.specs.inner.Reader.{Reader, HasLine, Passes, StopsAtLine, had_now, is_skipped, judged_at, last_counts, left_of, passed, past_line, seen_with, at_fault}
+use Rattle.trace_reader.specs.inner.Reads.{HasPassed, Reads, MayCome, IfLine, IsPastLine, after, after_all, IsAllOf, SaysNext, lines_in, TakesLine, Rests}
 use Rattle.trace_reader.proofs.JudgedLemmas.{line_stands, never_memory}
-use Rattle.trace_reader.proofs.LineLemmas.{last_time-push, reading_sorted}
-use Rattle.trace_reader.proofs.SeenLemmas.{had_same, judged_same, seen_push}
-use Rattle.trace_reader.proofs.StandLemmas.{reads_end, reads_fed}
+use Rattle.trace_reader.proofs.LineLemmas.{reading_sorted}
+use Rattle.trace_reader.proofs.SeenLemmas.{had_same, judged_same, last_read-push, last_zero, seen_push}
+use Rattle.trace_reader.proofs.PassedLemmas.{passed_line}
+use Rattle.trace_reader.proofs.StandLemmas.{reads_end, reads_fed, take-nil}
 use Rattle.trace_reader.proofs.CutLemmas.{split_by, split_once-append, read_by, read_on-first}
-
--- a list of bytes that takes nothing
-take-nil : (n : ℕ) → let none : List ℕ = [] in take n none ≡ none
-take-nil zero = refl
-take-nil (suc n) = refl
 
 or_none : (o : Option ℕ) (n : ℕ) → (let none : List ℕ = [] in option_or o (slice_get none n)) ≡ o
 or_none None n = refl
@@ -40,39 +37,45 @@ sorted_front (x ∷ y ∷ xs) ys it = (it.0, sorted_front (y ∷ xs) ys it.1)
 
 module _ (r : Reader) where
   abbrev more_bytes : List ℕ → List ℕ
-  more_bytes more = r.unread ++ take r.left more
+  more_bytes more = r.unread ++ take (left_of r) more
 
   abbrev more_beyond : List ℕ → Option ℕ
-  more_beyond more = option_or r.beyond (slice_get more r.left)
+  more_beyond more = option_or r.beyond (slice_get more (left_of r))
 
   -- nothing comes
   no_bytes : more_bytes [] ≡ r.unread
-  no_bytes = ap (λ bytes. r.unread ++ bytes) (take-nil r.left) ∙ append-nil r.unread
+  no_bytes = ap (λ bytes. r.unread ++ bytes) (take-nil (left_of r)) ∙ append-nil r.unread
 
   no_beyond : more_beyond [] ≡ r.beyond
-  no_beyond = or_none r.beyond r.left
+  no_beyond = or_none r.beyond (left_of r)
+
+  -- before the end of the trace a line that stands has an end
+  pub line_ends : (len : ℕ) → r.ended ≡ false → HasLine r len → split_once 10 r.unread ≡ Some (take len r.unread, drop (len + 1) r.unread)
+  line_ends len unended has =
+      ended_line (split_once 10 r.unread) (take len r.unread, drop (len + 1) r.unread)
+      ((λ k. option_or (split_once 10 r.unread) (if sym unended k && is_none r.beyond then alone r.unread else None)) ∙ has)
 
   -- the first line that stands in what is kept is the first one of what is kept and what comes
   first_open : (len : ℕ) (more : List ℕ) (x : Bool) → r.ended ≡ false → HasLine r len →
-      first_line (more_bytes more) x ≡ Some (take len r.unread, drop (len + 1) r.unread ++ take r.left more)
+      first_line (more_bytes more) x ≡ Some (take len r.unread, drop (len + 1) r.unread ++ take (left_of r) more)
   first_open len more x unended has =
       let line : List ℕ × List ℕ = (take len r.unread, drop (len + 1) r.unread) in
-      let here : split_once 10 r.unread ≡ Some line = ended_line (split_once 10 r.unread) line ((λ k. option_or (split_once 10 r.unread) (if sym unended k && is_none r.beyond then alone r.unread else None)) ∙ has) in
+      let here : split_once 10 r.unread ≡ Some line = line_ends len unended has in
       ap (λ o. option_or o (if x then alone (more_bytes more) else None))
-      (split_once-append 10 r.unread (take r.left more) ∙ ap (λ o. split_by 10 o r.unread (take r.left more)) here)
+      (split_once-append 10 r.unread (take (left_of r) more) ∙ ap (λ o. split_by 10 o r.unread (take (left_of r) more)) here)
 
   first_closed : (len : ℕ) → r.ended ≡ true → HasLine r len →
-      first_line (more_bytes []) (true && is_none (more_beyond [])) ≡ Some (take len r.unread, drop (len + 1) r.unread ++ take r.left [])
+      first_line (more_bytes []) (true && is_none (more_beyond [])) ≡ Some (take len r.unread, drop (len + 1) r.unread ++ take (left_of r) [])
   first_closed len closed has =
       (λ k. first_line (no_bytes k) (sym closed k && is_none (no_beyond k))) ∙ has
-      ∙ ap (λ rest. Some (take len r.unread, rest)) (sym (ap (λ bytes. drop (len + 1) r.unread ++ bytes) (take-nil r.left) ∙ append-nil (drop (len + 1) r.unread)))
+      ∙ ap (λ rest. Some (take len r.unread, rest)) (sym (ap (λ bytes. drop (len + 1) r.unread ++ bytes) (take-nil (left_of r)) ∙ append-nil (drop (len + 1) r.unread)))
 
   pub first_stands : (len : ℕ) (ended : Bool) → r.ended ≡ ended → HasLine r len → (more : List ℕ) (e : Bool) → MayCome ended more e →
-      first_line (more_bytes more) (e && is_none (more_beyond more)) ≡ Some (take len r.unread, drop (len + 1) r.unread ++ take r.left more)
+      first_line (more_bytes more) (e && is_none (more_beyond more)) ≡ Some (take len r.unread, drop (len + 1) r.unread ++ take (left_of r) more)
   first_stands len false is has more e may = first_open len more (e && is_none (more_beyond more)) is has
   first_stands len true is has more e may =
-      subst (λ (ms : List ℕ). first_line (more_bytes ms) (e && is_none (more_beyond ms)) ≡ Some (take len r.unread, drop (len + 1) r.unread ++ take r.left ms)) (sym may.0)
-      (subst (λ (x : Bool). first_line (more_bytes []) (x && is_none (more_beyond [])) ≡ Some (take len r.unread, drop (len + 1) r.unread ++ take r.left [])) (sym may.1) (first_closed len is has))
+      subst (λ (ms : List ℕ). first_line (more_bytes ms) (e && is_none (more_beyond ms)) ≡ Some (take len r.unread, drop (len + 1) r.unread ++ take (left_of r) ms)) (sym may.0)
+      (subst (λ (x : Bool). first_line (more_bytes []) (x && is_none (more_beyond [])) ≡ Some (take len r.unread, drop (len + 1) r.unread ++ take (left_of r) [])) (sym may.1) (first_closed len is has))
 
 may_none : (ended : Bool) → MayCome ended [] ended
 may_none true = (refl, refl)
@@ -97,7 +100,7 @@ module _ (old : Reader) (s : System) (strict : Bool) (limit : ℕ) (fed : List �
   -- what follows the line of this length
   abbrev after_the_line : ℕ → List ℕ → Bool → Option Line → Reading
   after_the_line len more e l =
-      read_on s strict (given ++ option_to_list l) (old.count + 1 + 1) (drop (len + 1) old.unread ++ take old.left more) (more_beyond old more) e
+      read_on s strict (given ++ option_to_list l) (old.count + 1 + 1) (drop (len + 1) old.unread ++ take (left_of old) more) (more_beyond old more) e
 
   -- what was fed, with nothing after it
   now_is : (r : Reading) → reading s strict limit (fed ++ []) ended ≡ r → now ≡ r
@@ -108,10 +111,17 @@ module _ (old : Reader) (s : System) (strict : Bool) (limit : ℕ) (fed : List �
       let rest = read_on s strict given (old.count + 1) (more_bytes old []) (more_beyond old []) ended in
       sorted_front given rest.lines (subst IsSorted (ap (λ (r : Reading). r.lines) (now_is _ (reads.goes_on [] ended (may_none ended)))) (reading_sorted s strict limit fed ended))
 
+  at_zero : last_time given ≡ or_zero old.last
+  at_zero = last_zero given ∙ ap or_zero (sym reads.last)
+
+  -- before the end of the trace, what was taken off the front with a line more are whole lines
+  passed_then : (len : ℕ) → HasLine old len → ended ≡ false → HasPassed limit (old.count + 1) (drop (len + 1) old.unread) fed
+  passed_then len has unended = passed_line limit old.count len old.unread fed (line_ends old len (reads.ended_is ∙ unended) has) (reads.passed unended)
+
   at_judged : (len : ℕ) → judged s strict (had_event given) (last_time given) (old.count + 1) (take len old.unread) ≡ judged_at old len
   at_judged len =
-      judged_same s strict (had_event given) (had_now (last_time given) (inputs_at (last_time given) given)) (last_time given) (old.count + 1) (λ t i le. had_same given t i given_is_sorted le) (take len old.unread)
-      ∙ λ k. judged (sym reads.system k) (sym reads.strict_is k) (had_now (sym reads.last k) (sym reads.seen k)) (sym reads.last k) (old.count + 1) (take len old.unread)
+      judged_same s strict (had_event given) (had_now (last_read given) old.seen) (last_time given) (old.count + 1) (λ t i le. had_same given old.seen reads.seen t i given_is_sorted le) (take len old.unread)
+      ∙ λ k. judged (sym reads.system k) (sym reads.strict_is k) (had_now (sym reads.last k) old.seen) (at_zero k) (old.count + 1) (take len old.unread)
 
   at_line : (len : ℕ) → HasLine old len → (more : List ℕ) (e : Bool) → MayCome ended more e →
       reading s strict limit (fed ++ more) e ≡ after given (go_on (judged_at old len) (after_the_line len more e))
@@ -131,17 +141,17 @@ module _ (old : Reader) (s : System) (strict : Bool) (limit : ℕ) (fed : List �
 
   pub reads_line : (len : ℕ) (l : Line) → HasLine old len → old.refused ≡ None → judged_at old len ≡ Ok (Some l) → Reads (past_line old len l) s strict limit fed (given ++ l ∷ []) ended
   reads_line len l has accepted is =
-      let stands = line_stands old.system old.strict (had_now old.last old.seen) old.last (old.count + 1) (take len old.unread) l is in
-      let later : last_time given ≤ l.time = let le = stands.later in let same = reads.last in omega arith in
+      let stands = line_stands old.system old.strict (had_now old.last old.seen) (or_zero old.last) (old.count + 1) (take len old.unread) l is in
+      let later : last_time given ≤ l.time = let le = stands.later in let same = at_zero in omega arith in
       record {
         system = reads.system;
         strict_is = reads.strict_is;
+        limit_is = reads.limit_is;
+        taken_is = reads.taken_is;
         ended_is = reads.ended_is;
-        last = sym (last_time-push given l);
-        seen =
-            (λ k. seen_with (reads.last k) (reads.seen k) l)
-            ∙ sym (seen_push given l given_is_sorted later)
-            ∙ ap (λ t. inputs_at t (given ++ l ∷ [])) (sym (last_time-push given l));
+        last = sym (last_read-push given l);
+        seen = λ i. (λ k. is_among (seen_with (reads.last k) old.seen l) i) ∙ seen_push given l old.seen reads.seen given_is_sorted later i;
+        passed = passed_then len has;
         goes_on = at_given len l has is;
         refused = λ f is_refused. absurd (cc);
       }
@@ -149,16 +159,19 @@ module _ (old : Reader) (s : System) (strict : Bool) (limit : ℕ) (fed : List �
   -- a line that is skipped
   pub reads_skipped : (len : ℕ) → HasLine old len → is_skipped (take len old.unread) ≡ true → Reads (passed old 1 (drop (len + 1) old.unread)) s strict limit fed given ended
   reads_skipped len has skips =
-      let is : judged_at old len ≡ Ok None = skipped_judged old.system old.strict (had_now old.last old.seen) old.last (old.count + 1) (take len old.unread) skips in
+      let is : judged_at old len ≡ Ok None = skipped_judged old.system old.strict (had_now old.last old.seen) (or_zero old.last) (old.count + 1) (take len old.unread) skips in
       record {
         system = reads.system;
         strict_is = reads.strict_is;
+        limit_is = reads.limit_is;
+        taken_is = reads.taken_is;
         ended_is = reads.ended_is;
         last = reads.last;
         seen = reads.seen;
+        passed = passed_then len has;
         goes_on = λ more e may.
             at_line len has more e may ∙ ap (λ j. after given (go_on j (after_the_line len more e))) is
-            ∙ λ k. after given (read_on s strict (append-nil given k) (old.count + 1 + 1) (drop (len + 1) old.unread ++ take old.left more) (more_beyond old more) e);
+            ∙ λ k. after given (read_on s strict (append-nil given k) (old.count + 1 + 1) (drop (len + 1) old.unread ++ take (left_of old) more) (more_beyond old more) e);
         refused = reads.refused;
       }
 
@@ -188,9 +201,12 @@ module _ (old : Reader) (s : System) (strict : Bool) (limit : ℕ) (fed : List �
   reads_fault f is = record {
     system = reads.system;
     strict_is = reads.strict_is;
+    limit_is = reads.limit_is;
+    taken_is = reads.taken_is;
     ended_is = reads.ended_is;
     last = reads.last;
     seen = reads.seen;
+    passed = reads.passed;
     goes_on = reads.goes_on;
     refused = λ g same. is ∙ ap (λ o. record { lines = given; refused = o }) same;
   }
@@ -288,7 +304,7 @@ refuses_line old new len (fault.WrongValue n name) judged kept = (judged, kept)
 refuses_line old new len (fault.Twice n name) judged kept = (judged, kept)
 refuses_line old new len (fault.LineTooLong n) judged kept = (judged, kept)
 refuses_line old new len (fault.TraceTooLong n) judged kept = (judged, kept)
-refuses_line old new len fault.Memory judged kept = absurd (never_memory old.system old.strict (had_now old.last old.seen) old.last (old.count + 1) (take len old.unread) judged)
+refuses_line old new len fault.Memory judged kept = absurd (never_memory old.system old.strict (had_now old.last old.seen) (or_zero old.last) (old.count + 1) (take len old.unread) judged)
 
 pub none_from : {A : Type 0} (o : Option A) → ((x : A) → o ≡ Some x → ⊥) → o ≡ None
 none_from None not = refl
@@ -296,10 +312,10 @@ none_from (Some x) not = absurd (not x refl)
 
 -- A piece, and the end, with the skipped lines that stand at the front then.
 pub reads_fed_on : (r : Reader) (s : System) (strict : Bool) (limit : ℕ) (fed : List ℕ) (given : List Line) (piece unread : List ℕ) (fits : ℕ) (beyond : Option ℕ) (count : ℕ) (rest : List ℕ) →
-    r.refused ≡ None → r.ended ≡ false → r.beyond ≡ None → fits ≡ min (length piece) r.left → unread ≡ r.unread ++ take fits piece → beyond ≡ slice_get piece fits → Passes false unread count rest →
-    Reads r s strict limit fed given false → Reads (record r { left = r.left - fits; unread = rest; beyond = beyond; count = r.count + count }) s strict limit (fed ++ piece) given false
+    r.refused ≡ None → r.ended ≡ false → r.beyond ≡ None → fits ≡ min (length piece) (left_of r) → unread ≡ r.unread ++ take fits piece → beyond ≡ slice_get piece fits → Passes false unread count rest →
+    Reads r s strict limit fed given false → Reads (record r { taken = r.taken + length piece; unread = rest; beyond = beyond; count = r.count + count }) s strict limit (fed ++ piece) given false
 reads_fed_on r s strict limit fed given piece unread fits beyond count rest accepted unended within least is next passes reads =
-    reads_passed (record r { left = r.left - fits; unread = unread; beyond = beyond }) s strict limit (fed ++ piece) given false count rest
+    reads_passed (record r { taken = r.taken + length piece; unread = unread; beyond = beyond }) s strict limit (fed ++ piece) given false count rest
     (reads_fed r s strict limit fed given piece unread fits beyond accepted within least is next reads)
     (subst (λ (e : Bool). Passes (e && is_none beyond) unread count rest) (sym unended) passes)
 
@@ -320,13 +336,13 @@ pub unended_stops : (bytes : List ℕ) (ended : Bool) (beyond : Option ℕ) → 
 unended_stops bytes ended beyond is stops = subst (λ (e : Bool). StopsAtLine bytes (e && is_none beyond)) (sym is) stops
 
 -- the line that was taken is after the reader, and so are skipped lines that follow it
-pub past_is : (old : Reader) (len skipped : ℕ) (l : Line) (rest seen : List ℕ) → seen ≡ seen_with old.last old.seen l → Passes (last_counts old) (drop (len + 1) old.unread) skipped rest →
-    IsPastLine old (record old { unread = rest; count = old.count + 1 + skipped; last = l.time; seen = seen }) len l
-past_is old len skipped l rest seen is passes =
-    record { skipped = skipped; rest = rest; passes = passes; is = λ k. record old { unread = rest; count = old.count + 1 + skipped; last = l.time; seen = is k } }
+pub past_is : (old : Reader) (len skipped : ℕ) (l : Line) (rest seen : List ℕ) (last : Option ℕ) → seen ≡ seen_with old.last old.seen l → last ≡ Some l.time → Passes (last_counts old) (drop (len + 1) old.unread) skipped rest →
+    IsPastLine old (record old { unread = rest; count = old.count + 1 + skipped; last = last; seen = seen }) len l
+past_is old len skipped l rest seen last is becomes passes =
+    record { skipped = skipped; rest = rest; passes = passes; is = λ k. record old { unread = rest; count = old.count + 1 + skipped; last = becomes k; seen = is k } }
 
 -- a line that was taken is not kept
-passes_fewer : (ended : Bool) (bytes : List ℕ) (count : ℕ) (rest : List ℕ) → Passes ended bytes count rest → length rest ≤ length bytes
+pub passes_fewer : (ended : Bool) (bytes : List ℕ) (count : ℕ) (rest : List ℕ) → Passes ended bytes count rest → length rest ≤ length bytes
 passes_fewer ended bytes _ _ Passes.none = omega arith
 passes_fewer ended bytes _ _ (Passes.more {count} {rest} len before has skips) =
     let le = passes_fewer ended bytes count rest before in

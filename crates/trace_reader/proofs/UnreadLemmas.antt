@@ -56,7 +56,7 @@ befores : (mark : ℕ) (bytes : List ℕ) → IfBefore mark (split_once mark byt
 befores mark [] = tt
 befores mark (b ∷ bytes) = before_step (b == mark) mark b bytes refl (befores mark bytes)
 
-none_before : (mark : ℕ) (bytes : List ℕ) (p : List ℕ × List ℕ) → split_once mark bytes ≡ Some p → split_once mark p.0 ≡ None
+pub none_before : (mark : ℕ) (bytes : List ℕ) (p : List ℕ × List ℕ) → split_once mark bytes ≡ Some p → split_once mark p.0 ≡ None
 none_before mark bytes p is = subst (IfBefore mark) is (befores mark bytes)
 
 module _ (bytes : List ℕ) (start searched : ℕ) (low : start ≤ searched) (high : searched ≤ length bytes) (none : split_once 10 (take (searched - start) (drop start bytes)) ≡ None) where

@@ -2,6 +2,9 @@ pub mod Borrowed
 pub mod Places
 pub mod Spelling
 pub mod Laws
+pub mod LastTime
 pub mod Reader
 pub mod Reads
+pub mod Saved
+pub mod AnyReader
 pub mod Plain

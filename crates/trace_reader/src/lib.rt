@@ -5,6 +5,7 @@ pub mod fault;
 mod form;
 mod inputs;
 mod int;
+mod last;
 pub mod laws;
 pub mod limits;
 mod line;
@@ -13,6 +14,7 @@ pub mod next;
 mod plain;
 pub mod reader;
 mod seen;
+pub mod state;
 mod unread;
 
 pub use flat_core::line::TraceLine;

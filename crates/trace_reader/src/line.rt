@@ -5,6 +5,7 @@ ghost use Rattle.std.specs.Result.{result_ok};
 ghost use Rattle.tsl_value.specs.Literal.{are_digits, literal};
 ghost use Rattle.trace_reader.specs.inner.Borrowed.{bytes_of};
 ghost use Rattle.trace_reader.specs.Form.{is_long};
+ghost use Rattle.trace_reader.specs.inner.LastTime.{last_of, or_zero};
 ghost use Rattle.trace_reader.specs.inner.Reader.{had_now, is_skipped};
 ghost use Rattle.trace_reader.specs.Reading.{addressed, as_read, formed, input_called, judged, placed, said, value_at, value_of};
 
@@ -12,6 +13,7 @@ use crate::fault::TraceFault;
 use crate::form::{LineParts, content, parts_of, says_nothing, time_of};
 use crate::inputs::Inputs;
 use crate::int::small_int;
+use crate::last::LastTime;
 use crate::limits::MOST_LINE_BYTES;
 use flat_core::line::TraceLine;
 use std::alloc::Global;
@@ -86,7 +88,7 @@ pub(crate) struct Judge<'a> {
     pub(crate) strict: bool,
     // The inputs that had an event at the last time, which is that of the line before.
     pub(crate) seen: &'a [EqId],
-    pub(crate) last: Time,
+    pub(crate) last: LastTime,
     pub(crate) number: u64,
 }
 
@@ -94,8 +96,9 @@ impl<'a> Judge<'a> {
     /// What a line says that is not skipped, or why it is refused.
     pub(crate) fn judge(&self, line: &[u8]) -> Result<Verdict, NoMemory>
         requires { is_skipped line.now ≡ false }
-        ensures { IfOk result (λ v. as_read v ≡ judged self.now.inputs.now self.now.strict (had_now self.now.last self.now.seen.now)
-            self.now.last self.now.number line.now) }
+        ensures { IfOk result (λ v. as_read v ≡ judged self.now.inputs.now self.now.strict
+            (had_now (last_of self.now.last.number) self.now.seen.now)
+            (or_zero (last_of self.now.last.number)) self.now.number line.now) }
     {
         if is_long(line.len()) {
             return Ok(Err(TraceFault::LineTooLong { line: self.number }));
@@ -109,14 +112,15 @@ impl<'a> Judge<'a> {
     /// What a line of these parts says.
     fn said_at(&self, parts: &LineParts<'_>) -> Result<Verdict, NoMemory>
         requires { IsTrue (are_digits parts.now.time.now) }
-        ensures { IfOk result (λ v. v ≡ formed self.now.inputs.now self.now.strict (had_now self.now.last self.now.seen.now) self.now.last
+        ensures { IfOk result (λ v. v ≡ formed self.now.inputs.now self.now.strict
+            (had_now (last_of self.now.last.number) self.now.seen.now) (or_zero (last_of self.now.last.number))
             self.now.number (Some (bytes_of parts.now))) }
     {
         match time_of(parts.time) {
             None => Ok(Err(TraceFault::TimeTooLarge { line: self.number })),
-            Some(time) if time < self.last => Ok(Err(TraceFault::TimeBack {
+            Some(time) if self.last.is_after(time) => Ok(Err(TraceFault::TimeBack {
                 line: self.number,
-                before: self.last,
+                before: self.last.or_zero(),
                 now: time,
             })),
             Some(time) => self.said(time, parts),
@@ -125,7 +129,8 @@ impl<'a> Judge<'a> {
 
     /// The line of a time, and perhaps of an event.
     fn said(&self, time: Time, parts: &LineParts<'_>) -> Result<Verdict, NoMemory>
-        ensures { IfOk result (λ v. v ≡ said self.now.inputs.now self.now.strict (had_now self.now.last self.now.seen.now) self.now.last
+        ensures { IfOk result (λ v. v ≡ said self.now.inputs.now self.now.strict
+            (had_now (last_of self.now.last.number) self.now.seen.now) (or_zero (last_of self.now.last.number))
             self.now.number time (bytes_of parts.now).name (bytes_of parts.now).value) }
     {
         match parts.name {
@@ -136,8 +141,10 @@ impl<'a> Judge<'a> {
 
     /// The line of a time and a name.
     fn addressed(&self, time: Time, name: &str, value: Option<&[u8]>) -> Result<Verdict, NoMemory>
-        ensures { IfOk result (λ v. v ≡ addressed self.now.inputs.now self.now.strict (had_now self.now.last self.now.seen.now)
-            self.now.last self.now.number time name.now (option_map (λ b. b.now) value.entry) (input_called self.now.inputs.now name.now)) }
+        ensures { IfOk result (λ v. v ≡ addressed self.now.inputs.now self.now.strict
+            (had_now (last_of self.now.last.number) self.now.seen.now)
+            (or_zero (last_of self.now.last.number)) self.now.number time name.now
+            (option_map (λ b. b.now) value.entry) (input_called self.now.inputs.now name.now)) }
     {
         match self.inputs.find(name) {
             Some(input) => self.placed(time, name, input, value),
@@ -155,7 +162,8 @@ impl<'a> Judge<'a> {
         value: Option<&[u8]>,
     ) -> Result<Verdict, NoMemory>
         requires { input < length self.now.inputs.now.equations }
-        ensures { IfOk result (λ v. v ≡ placed self.now.inputs.now self.now.strict (had_now self.now.last self.now.seen.now) self.now.last
+        ensures { IfOk result (λ v. v ≡ placed self.now.inputs.now self.now.strict
+            (had_now (last_of self.now.last.number) self.now.seen.now) (or_zero (last_of self.now.last.number))
             self.now.number time name.now input (value_at self.now.inputs.now input (option_map (λ b. b.now) value.entry))) }
     {
         let of = self.inputs.equation(input).of;
@@ -166,7 +174,7 @@ impl<'a> Judge<'a> {
                 name,
             }));
         };
-        if time == self.last && self.seen.contains(&input) {
+        if self.last.is(time) && self.seen.contains(&input) {
             let name = Text::from_str(self.alloc, name)?;
             return Ok(Err(TraceFault::Twice {
                 line: self.number,

@@ -146,6 +146,7 @@ fn after<'a>(bytes: &'a [u8], front: &[u8]) -> Option<&'a [u8]>
 }
 
 /// The number that digits at the front spell, with a minus or nothing before them, and what stands after them.
+#[inline(always)]
 fn int_before(bytes: &[u8]) -> Option<(Scalar, &[u8])>
     ensures { IfSome result (λ r. BeginsWithValue scalar_type.Int bytes.now r.0 r.1.now) }
 {

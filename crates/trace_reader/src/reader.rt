@@ -1,25 +1,28 @@
 // The reader of a trace.
 
 ghost use Rattle.std.specs.Prelude.{◌≡◌, ◌≤◌, ◌<◌, [], ◌∷◌, ◌++◌, ℕ, Bool, List, None, false, true, length, slice_get, IfOk, IfSome};
-ghost use Rattle.std.specs.Prelude.{OnOk, OnErr, vec_capacity, vec_len};
+ghost use Rattle.std.specs.Prelude.{IsTrue, OnOk, OnErr, vec_capacity, vec_len};
 ghost use Rattle.trace_reader.specs.Form.{is_long};
+ghost use Rattle.trace_reader.specs.inner.LastTime.{is_later, last_of};
 ghost use Rattle.trace_reader.specs.declared.limits.TheConstants.{MOST_PIECE_BYTES};
 ghost use Rattle.tsl_value.specs.declared.limits.TheConstants.{MOST_TRACE_BYTES};
 
 use crate::fault::TraceFault;
 use crate::inputs::Inputs;
+use crate::last::LastTime;
 use crate::line::{Judge, is_long};
 use crate::next::{Next, Rest};
 use crate::plain::{PlainLine, plain_line};
-use crate::seen::note_event;
+use crate::seen::{listed, note_event, set_of};
+use crate::state::ReaderState;
 use crate::unread::Unread;
 use flat_core::flat::Flat;
 use flat_core::line::TraceLine;
 use std::alloc::Global;
 use std::marker::Model;
+use tsl_value::bytes::Bytes;
 use tsl_value::ids::EqId;
 use tsl_value::memory::NoMemory;
-use tsl_value::time::Time;
 
 /// Reads the lines of a trace from pieces of its bytes.
 ///
@@ -30,8 +33,9 @@ pub struct TraceReader<'f> {
     alloc: Global,
     inputs: Inputs<'f>,
     strict: bool,
-    // How many bytes more are within the limit.
-    left: u64,
+    // As many bytes are read at most, and so many were fed.
+    limit: u64,
+    taken: u64,
     unread: Unread,
     // The first byte beyond the limit, where it was fed.
     beyond: Option<u8>,
@@ -39,7 +43,7 @@ pub struct TraceReader<'f> {
     // The number of lines that were read, the time of the last one that has a time, and the inputs
     // that had an event at it.
     count: u64,
-    last: Time,
+    last: LastTime,
     seen: Vec<EqId>,
     refused: Option<TraceFault>,
 }
@@ -47,9 +51,8 @@ pub struct TraceReader<'f> {
 impl<'f> Model for TraceReader<'f> {
     ghost use Rattle.lift_func.specs.contracts.body.Body as body;
     ghost use Rattle.std.specs.Coded.{codes};
-    ghost use Rattle.std.specs.Prelude.{◌+◌, ◌≤◌, ◌&&◌, is_none, length};
-    ghost use Rattle.tsl_value.specs.declared.limits.TheConstants.{MOST_TRACE_BYTES};
-    ghost use Rattle.trace_reader.specs.inner.Reader.{Reader, StopsAtLine};
+    ghost use Rattle.trace_reader.specs.inner.LastTime.{last_of};
+    ghost use Rattle.trace_reader.specs.inner.Reader.{IsSound, Reader};
 
     ghost Value = { Reader };
 
@@ -58,24 +61,39 @@ impl<'f> Model for TraceReader<'f> {
     ghost view = { λ r. record {
       system = r.inputs;
       strict = r.strict;
-      left = r.left;
+      limit = r.limit;
+      taken = r.taken;
       unread = r.unread;
       beyond = r.beyond;
       ended = r.ended;
       count = r.count;
-      last = r.last;
+      last = last_of r.last.number;
       seen = r.seen.items;
       refused = r.refused;
     } };
 
-    ghost invariant = { λ r. (r.count + length r.unread + r.left ≤ MOST_TRACE_BYTES) × StopsAtLine r.unread (r.ended && is_none r.beyond) };
+    ghost invariant = { λ r. IsSound (record {
+      system = r.inputs;
+      strict = r.strict;
+      limit = r.limit;
+      taken = r.taken;
+      unread = r.unread;
+      beyond = r.beyond;
+      ended = r.ended;
+      count = r.count;
+      last = last_of r.last.number;
+      seen = r.seen.items;
+      refused = r.refused;
+    }) };
 }
 
 impl<'f> TraceReader<'f> {
     ghost use Rattle.flat_core.specs.System.{System};
     ghost use Rattle.flat_core.specs.Line.{Line};
     ghost use Rattle.trace_reader.specs.inner.Plain.{StandsPlain};
+    ghost use Rattle.trace_reader.specs.inner.AnyReader.{AreAsSet, HasAnswered, HasFed};
     ghost use Rattle.trace_reader.specs.inner.Reader.{AwaitsMore, HasLine, at_fault, last_counts};
+    ghost use Rattle.trace_reader.specs.inner.Saved.{FitsReader, HasState, IsReaderAfter};
     ghost use Rattle.trace_reader.specs.Reading.{first_line, reading};
     ghost use Rattle.trace_reader.specs.inner.Reads.{AnswersAgain, Gathers, IfLine, IfMore, IfRestMore, IsPastLine, Reads, Rests, SaysNext};
     ghost use Rattle.trace_reader.specs.inner.Reads.{TakesLine, after_all, lines_in};
@@ -98,14 +116,69 @@ impl<'f> TraceReader<'f> {
             alloc,
             inputs: Inputs::new(alloc, flat)?,
             strict,
-            left: limit,
+            limit,
+            taken: 0,
             unread: Unread::new(alloc),
             beyond: None,
             ended: false,
             count: 0,
-            last: Time::new(0).unwrap(),
+            last: LastTime::none(),
             seen: Vec::new(alloc),
             refused: None,
+        })
+    }
+
+    /// A reader that goes on from a state. At most `limit` bytes are read, those that the state has
+    /// taken among them. It stands for all bytes that the state comes after.
+    pub fn from_state(
+        alloc: Global,
+        flat: &'f Flat,
+        strict: bool,
+        limit: u64,
+        state: ReaderState,
+    ) -> Result<TraceReader<'f>, NoMemory>
+        requires some { 1 ≤ limit }
+        requires few { limit ≤ MOST_TRACE_BYTES }
+        requires fits { FitsReader limit state }
+        ensures state { IfOk result (λ r. HasState r state) }
+        ensures awaits { IfOk result AwaitsMore }
+        ensures system { IfOk result (λ r. r.system ≡ flat.now) }
+        ensures strict { IfOk result (λ r. r.strict ≡ strict) }
+        ensures limit { IfOk result (λ r. r.limit ≡ limit) }
+        ensures reads { IfOk result (λ r. (fed : List ℕ) (given : List Line)
+            → IsReaderAfter flat.now strict limit fed given state → Reads r flat.now strict limit fed given false) }
+    {
+        Ok(TraceReader {
+            alloc,
+            inputs: Inputs::new(alloc, flat)?,
+            strict,
+            limit,
+            taken: state.taken,
+            unread: Unread::from_bytes(state.rest),
+            beyond: None,
+            ended: false,
+            count: state.lines,
+            last: LastTime::from_option(state.last),
+            seen: listed(alloc, &state.seen)?,
+            refused: None,
+        })
+    }
+
+    /// What the reader keeps, as a state. It is asked for where `next_line` answered `More` last, or
+    /// nothing was fed.
+    pub fn state(&self, alloc: Global) -> Result<ReaderState, NoMemory>
+        requires { AwaitsMore self.now }
+        ensures state { IfOk result (HasState self.now) }
+        ensures fits { IfOk result (FitsReader self.now.limit) }
+        ensures after { IfOk result (λ st. (s : System) (strict : Bool) (limit : ℕ) (fed : List ℕ) (given : List Line) →
+            Reads self.now s strict limit fed given false → IsReaderAfter s strict limit fed given st) }
+    {
+        Ok(ReaderState {
+            taken: self.taken,
+            lines: self.count,
+            last: self.last.get(),
+            seen: set_of(alloc, &self.seen)?,
+            rest: Bytes::from_slice(alloc, self.unread.as_slice())?,
         })
     }
 
@@ -117,13 +190,14 @@ impl<'f> TraceReader<'f> {
         requires short { length piece.now ≤ MOST_PIECE_BYTES }
         ensures reads { OnOk result ((s : System) (strict : Bool) (limit : ℕ) (fed : List ℕ) (given : List Line) →
             Reads self.old s strict limit fed given false → Reads self.new s strict limit (fed ++ piece.now) given false) }
+        ensures fed { OnOk result (HasFed self.old self.new piece.now) }
         ensures err { OnErr result (self.new ≡ self.old) }
     {
         let len = piece.len() as u64;
-        let fits = len.min(self.left);
+        let fits = len.min(self.limit - self.taken);
         self.unread.append(&piece[..fits as usize])?;
         self.beyond = byte_at(piece, fits as usize);
-        self.left -= fits;
+        self.taken += len;
         self.count += self.unread.pass_skipped(false);
         Ok(())
     }
@@ -134,6 +208,7 @@ impl<'f> TraceReader<'f> {
         ensures reads { (s : System) (strict : Bool) (limit : ℕ) (fed : List ℕ) (given : List Line) →
             Reads self.old s strict limit fed given false → Reads self.new s strict limit fed given true }
         ensures again { self.old.ended ≡ true → self.new ≡ self.old }
+        ensures as_set { AreAsSet self.old self.new }
     {
         if !self.ended {
             self.ended = true;
@@ -152,6 +227,7 @@ impl<'f> TraceReader<'f> {
             Reads self.old s strict limit fed given ended → Reads self.new s strict limit fed (given ++ lines_in result) ended }
         ensures more { IfMore result (AwaitsMore self.new) }
         ensures again { AnswersAgain self.old self.new result }
+        ensures answered { HasAnswered self.old self.new result }
         ensures fewer { IfLine result (length self.new.unread < length self.old.unread) }
     {
         if let Some(fault) = &self.refused {
@@ -227,6 +303,7 @@ impl<'f> TraceReader<'f> {
     /// Takes the first line that stands, which says this, and the lines after it that say nothing.
     #[inline(always)]
     fn pass_line(&mut self, len: usize, line: &TraceLine) -> Result<(), NoMemory>
+        requires line { HasLine self.old len }
         requires within { len ≤ length self.old.unread }
         requires some { 0 < length self.old.unread }
         ensures ok { OnOk result (IsPastLine self.old self.new len line.now) }
@@ -237,7 +314,7 @@ impl<'f> TraceReader<'f> {
         self.unread.skip_line(len);
         self.count += 1;
         self.count += self.unread.pass_skipped(last_counts);
-        self.last = line.time;
+        self.last = LastTime::of(line.time);
         Ok(())
     }
 
@@ -289,6 +366,7 @@ impl<'f> TraceReader<'f> {
             Reads self.old s strict limit fed given ended →
             Gathers self.new s strict limit fed given ended lines.old.items lines.new.items result }
         ensures more { IfRestMore result (AwaitsMore self.new) }
+        ensures as_set { AreAsSet self.old self.new }
     {
         loop {
             lines.reserve(1)?;
@@ -302,10 +380,10 @@ impl<'f> TraceReader<'f> {
 }
 
 /// A line that is not too long and comes after the last time.
-fn if_later(line: PlainLine, last: Time) -> Option<PlainLine>
-    ensures { IfSome result (λ p. (p ≡ line) × (is_long p.len ≡ false) × (last < p.time)) }
+fn if_later(line: PlainLine, last: LastTime) -> Option<PlainLine>
+    ensures { IfSome result (λ p. (p ≡ line) × (is_long p.len ≡ false) × IsTrue (is_later (last_of last.number) p.time)) }
 {
-    if is_long(line.len) || line.time <= last {
+    if is_long(line.len) || !last.is_before(line.time) {
         None
     } else {
         Some(line)

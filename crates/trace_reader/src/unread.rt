@@ -11,6 +11,7 @@ use crate::form::place_of;
 use crate::line::is_skipped;
 use std::alloc::Global;
 use std::marker::Model;
+use tsl_value::bytes::Bytes;
 use tsl_value::memory::NoMemory;
 
 /// Bytes that are appended at the end and taken from the front.
@@ -42,6 +43,17 @@ impl Unread {
     {
         Unread {
             bytes: Vec::new(alloc),
+            start: 0,
+            searched: 0,
+        }
+    }
+
+    /// Bytes of which no line was read.
+    pub(crate) fn from_bytes(bytes: Bytes) -> Unread
+        ensures { result ≡ bytes }
+    {
+        Unread {
+            bytes: bytes.into_vec(),
             start: 0,
             searched: 0,
         }

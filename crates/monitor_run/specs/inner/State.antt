@@ -10,6 +10,7 @@ use Rattle.flat_core.specs.Line.{Line}
 use Rattle.flat_core.specs.System.{System}
 use Rattle.alias_rules.specs.Fine.{IsFinePlan}
 use Rattle.register_machine.specs.Run as run
+use Rattle.register_machine.specs.Tidy.{IsTidy}
 use Rattle.monitor_run.specs.declared.monitor.Closed.{Closed}
 use Rattle.monitor_run.specs.declared.monitor.Closed.TheVariants as closed
 use Rattle.monitor_run.specs.declared.monitor.Stop.{Stop}
@@ -49,7 +50,7 @@ plan_of m = record { in_place = m.in_place; order = m.order }
 abbrev pub kept_state : State → run.State
 kept_state m = state_of m.cells m.ledger m.last m.timers
 
--- What a monitor has where no stop is kept. The given events are all of one time, from `next` on.
+-- What a monitor has where no stop is kept. The given events are all of one time, from `next` on. It keeps nothing but what is kept.
 pub record IsReady (m : State) : Type 0 where
   pub whole : IsFlat m.system
   pub fine : IsFinePlan m.system m.in_place m.order
@@ -67,6 +68,7 @@ pub record IsReady (m : State) : Type 0 where
   pub unkept : AreUnkept m.system m.last
   pub timers : AreTimers m.system m.next m.timers
   pub few_cells : map.len m.cells ≤ stored_count m.system
+  pub tidy : IsTidy m.system (kept_state m)
 
 -- the times that are closed are those below this
 abbrev pub bound_of : Closed → ℕ

@@ -1,5 +1,5 @@
 -- For which traces and lines a reader stands, and what its answers say of them.
-use Rattle.std.specs.Prelude.{◌≡◌, ℕ, ◌+◌, Bool, true, false, List, [], ◌∷◌, ◌++◌, take, Option, Some, None, slice_get, Result, Ok, Err, ⊤}
+use Rattle.std.specs.Prelude.{◌≡◌, ℕ, ◌+◌, Bool, true, false, List, [], ◌∷◌, ◌++◌, length, take, Option, Some, None, slice_get, Result, Ok, Err, ⊤}
 use Rattle.std.specs.Option.{option_or}
 use Rattle.flat_core.specs.System.{System}
 use Rattle.flat_core.specs.Line.{Line, last_time}
@@ -9,8 +9,9 @@ use Rattle.trace_reader.specs.declared.next.Next.{Next}
 use Rattle.trace_reader.specs.declared.next.Next.TheVariants as next
 use Rattle.trace_reader.specs.declared.next.Rest.{Rest}
 use Rattle.trace_reader.specs.declared.next.Rest.TheVariants as rest
-use Rattle.trace_reader.specs.Reading.{Reading, reading, read_on, inputs_at, unfinished}
-use Rattle.trace_reader.specs.inner.Reader.{Reader, Passes, at_fault, judged_at, last_counts, passed, past_line}
+use Rattle.trace_reader.specs.Reading.{Reading, cut, had_event, is_among, reading, read_on, unfinished}
+use Rattle.trace_reader.specs.inner.LastTime.{last_read}
+use Rattle.trace_reader.specs.inner.Reader.{Reader, Passes, at_fault, judged_at, last_counts, left_of, passed, past_line}
 
 -- the reading of what follows these lines
 abbrev pub after : List Line → Reading → Reading
@@ -21,19 +22,30 @@ abbrev pub MayCome : Bool → List ℕ → Bool → Type 0
 MayCome true more ended = (more ≡ []) × (ended ≡ true)
 MayCome false more ended = ⊤
 
+-- What was taken off the front of the bytes within the limit are whole lines, as many as were counted.
+pub record HasPassed (limit count : ℕ) (unread fed : List ℕ) : Type 0 where
+  pub past : List ℕ
+  pub parts : take limit fed ≡ past ++ unread
+  pub whole : (cut past).1 ≡ []
+  pub counted : length (cut past).0 ≡ count
+
 -- The reader was fed these bytes and has given these lines: whatever comes, the trace reads as these lines, and then as what is
 -- kept and what comes read after them.
 pub record Reads (r : Reader) (s : System) (strict : Bool) (limit : ℕ) (fed : List ℕ) (given : List Line) (ended : Bool) : Type 0 where
   pub system : r.system ≡ s
   pub strict_is : r.strict ≡ strict
+  pub limit_is : r.limit ≡ limit
+  pub taken_is : r.taken ≡ length fed
   pub ended_is : r.ended ≡ ended
-  pub last : r.last ≡ last_time given
-  pub seen : r.seen ≡ inputs_at (last_time given) given
+  pub last : r.last ≡ last_read given
+  pub seen : (i : ℕ) → is_among r.seen i ≡ had_event given (last_time given) i
+  pub passed : ended ≡ false → HasPassed limit r.count r.unread fed
   pub goes_on :
       (more : List ℕ) (e : Bool) →
       MayCome ended more e →
       reading s strict limit (fed ++ more) e
-      ≡ after given (read_on s strict given (r.count + 1) (r.unread ++ take r.left more) (option_or r.beyond (slice_get more r.left)) e)
+      ≡ after given (read_on s strict given (r.count + 1) (r.unread ++ take (left_of r) more)
+      (option_or r.beyond (slice_get more (left_of r))) e)
   pub refused : (f : TraceFault) → r.refused ≡ Some f → reading s strict limit fed ended ≡ record { lines = given; refused = Some f }
 
 -- these lines are all of the reading, and nothing is refused

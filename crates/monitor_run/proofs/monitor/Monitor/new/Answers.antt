@@ -11,7 +11,7 @@ invariant_of-result c =
     let made = c.in_ok-new-3.ensures in
     let outputs = ap length (c.outputs-2.ensures ∙ ap (λ (q : System). q.outputs) c.flat-3.ensures.flat) in (
       room_new c.args.code.now.system c.in_ok-new-3.field-0 c.count.result size made.registers made.faulted made.last made.store made.timers _ outputs made.texts,
-      λ going. ready_new _ c.count.result size c.flat.ensures.is_code.is_flat c.flat.ensures.is_code.fine c.requires.limit refl refl refl c.new.ensures.items made.last (ap (λ ts. ts.times) made.timers) (ap (λ st. st.cells) made.store),
+      λ going. ready_new _ c.count.result size c.flat.ensures.is_code.is_flat c.flat.ensures.is_code.fine c.requires.limit refl refl refl c.new.ensures.items made.last (ap (λ ts. ts.times) made.timers) (ap (λ st. st.cells) made.store) (ap (λ st. st.ledger) made.store),
       c.in_ok-new.ensures,
       record {
         steps = c.in_ok-new-2.ensures.steps ∙ c.len.ensures ∙ ap length c.plan.ensures.order;

@@ -1,13 +1,13 @@
-use Rattle.std.proofs.Common.{arith}
+use Rattle.std.proofs.Common.{◌≡◌, false, rules}
+use Rattle.trace_reader.proofs.SoundLemmas.{sound_ended}
 use Rattle.trace_reader.proofs.StepLemmas.{none_told, reads_end_on}
 use Rattle.trace_reader.proofs.reader.TraceReader.finish.Goals as goal
 
 pub invariant_of-self : goal.invariant_of-self
 invariant_of-self c =
-    let within = c.self.invariant.0 in
-    let fewer = c.pass_skipped.ensures.fewer in
     let ended = none_told c.self.inside.beyond c.is_none.result c.is_none.ensures in
-    (omega arith, rw ended at c.pass_skipped.ensures.stops)
+    let unended : c.self.inside.ended ≡ false = search rules in
+    sound_ended _ c.self.invariant unended c.pass_skipped.new.self c.pass_skipped.result (rw ended at c.pass_skipped.ensures.passes) (rw ended at c.pass_skipped.ensures.stops)
 
 pub returns-then-not-self-clause-reads : goal.returns-then-not-self-clause-reads
 returns-then-not-self-clause-reads c =

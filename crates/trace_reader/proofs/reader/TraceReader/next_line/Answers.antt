@@ -1,6 +1,7 @@
 use Rattle.std.proofs.Common.{◌∙◌, ap, sym}
 use Rattle.trace_reader.specs.inner.Reader.{Reader, last_counts}
 use Rattle.trace_reader.specs.Reading.{first_line}
+use Rattle.trace_reader.proofs.AnyLemmas.{answered_more, answers_line, answers_rest}
 use Rattle.trace_reader.proofs.StepLemmas.{line_fewer, none_from, rests, takes_line}
 use Rattle.trace_reader.proofs.reader.TraceReader.next_line.Goals as goal
 
@@ -58,3 +59,27 @@ returns-in-Some-line_len-clause-fewer c =
     let takes = rw (c.line_len.ensures.same, c.self.view_is) at c.take_line.ensures in
     let some = ap (λ (r : Reader). r.unread) c.self.view_is in
     line_fewer c.args.self.now c.take_line.new.self c.in-Some-line_len.len c.take_line.result (rw some at c.in-Some-line_len.ensures.some) takes
+
+pub returns-in-Some-plain_next-clause-answered : goal.returns-in-Some-plain_next-clause-answered
+returns-in-Some-plain_next-clause-answered c =
+    answers_line c.args.self.now c.take_plain.new.self c.in-Some-plain_next.line.len c.take_plain.result c.in-Some-plain_next.ensures.some c.take_plain.ensures
+
+pub returns-in-Some-line_len-clause-answered : goal.returns-in-Some-line_len-clause-answered
+returns-in-Some-line_len-clause-answered c =
+    let takes = rw (c.line_len.ensures.same, c.self.view_is) at c.take_line.ensures in
+    let some = ap (λ (r : Reader). r.unread) c.self.view_is in
+    answers_line c.args.self.now c.take_line.new.self c.in-Some-line_len.len c.take_line.result (rw some at c.in-Some-line_len.ensures.some) takes
+
+pub returns-in-None-clause-answered : goal.returns-in-None-clause-answered
+returns-in-None-clause-answered c =
+    let none = ap (first_line c.self.inside.unread) (ap (λ (r : Reader). last_counts r) c.self.view_is ∙ sym c.last_counts-last_counts.ensures) ∙ c.in-None.ensures.none in
+    let rest = rw c.line_len.ensures.same at c.next_at_rest.ensures in
+    let accepted = none_from c.self.inside.refused c.in_default.not-Some in
+    rw (← c.self.view_is) (answers_rest _ c.next_at_rest.new.self c.next_at_rest.result c.self.invariant none accepted rest)
+
+pub returns-in-None-clause-more : goal.returns-in-None-clause-more
+returns-in-None-clause-more c =
+    let none = ap (first_line c.self.inside.unread) (ap (λ (r : Reader). last_counts r) c.self.view_is ∙ sym c.last_counts-last_counts.ensures) ∙ c.in-None.ensures.none in
+    let rest = rw c.line_len.ensures.same at c.next_at_rest.ensures in
+    let accepted = none_from c.self.inside.refused c.in_default.not-Some in
+    answered_more _ c.next_at_rest.new.self c.next_at_rest.result (answers_rest _ c.next_at_rest.new.self c.next_at_rest.result c.self.invariant none accepted rest)

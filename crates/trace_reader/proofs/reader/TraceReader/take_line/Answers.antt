@@ -5,7 +5,7 @@ use Rattle.trace_reader.proofs.StepLemmas.{refuses_line}
 use Rattle.trace_reader.proofs.reader.TraceReader.take_line.Goals as goal
 
 pub judge-requires : goal.judge-requires
-judge-requires c = rw c.as_slice.ensures (c.self.invariant.1 _ _ (rw (← c.self.view_is) at c.requires.line))
+judge-requires c = rw c.as_slice.ensures (c.self.invariant.stops _ _ (rw (← c.self.view_is) at c.requires.line))
 
 pub returns-in_ok-pass_line-in-Ok : goal.returns-in_ok-pass_line-in-Ok
 returns-in_ok-pass_line-in-Ok c =

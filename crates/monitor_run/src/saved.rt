@@ -1,0 +1,190 @@
+// What a monitor keeps, as a state apart from it.
+
+ghost use Rattle.std.specs.Prelude.{◌≡◌, ◌<◌, ◌++◌, All, IfOk, OnOk, length, map, nat_eq, position, slice_index, unwrap_or};
+ghost use Rattle.std.specs.FinMap as finite_map;
+ghost use Rattle.std.specs.List.{flat_map};
+ghost use Rattle.std.specs.Option.{option_copied};
+ghost use Rattle.lift_func.specs.inner.Cells.{IsLive, view_at};
+ghost use Rattle.aggregate_store.specs.Content.{content_of};
+ghost use Rattle.flat_core.specs.Updates.{running_updates};
+ghost use Rattle.monitor_run.specs.inner.Saved.{cell_held, firsts, saved_of};
+ghost use Rattle.monitor_run.specs.inner.Shown.{held_at, held_by};
+ghost use Rattle.monitor_run.specs.inner.Taking.{event_for, firsts_with, found_for, opened, opened_below};
+
+use crate::state::{
+    Cells, Numbers, OpenEvent, OpenEvents, PendingTimes, SavedRegister, SavedRegisters,
+};
+use aggregate_store::store::Store;
+use delay_timers::timers::Timers;
+use flat_core::flat::Flat;
+use flat_core::line::TraceLine;
+use lift_func::register::Register;
+use std::alloc::Global;
+use tsl_value::ids::{EqId, Handle};
+use tsl_value::memory::NoMemory;
+use tsl_value::scalar::Scalar;
+
+/// Appends a cell, unless it is listed.
+fn push_first(cell: Handle, cells: &mut Vec<Handle>) -> Result<(), NoMemory>
+    ensures { OnOk result (cells.new.items ≡ firsts_with cells.old.items cell) }
+{
+    if !cells.contains(&cell) {
+        cells.push(cell)?;
+    }
+    Ok(())
+}
+
+/// The cells that last registers hold, each where it is held first.
+pub(crate) fn held_cells(
+    alloc: Global,
+    keeps: &[EqId],
+    last: &[Register],
+) -> Result<Vec<Handle>, NoMemory>
+    requires { All (λ i. i < length last.now) keeps.now }
+    ensures { IfOk result (λ cells. cells.items ≡ firsts (flat_map (λ v. cell_held (held_at last.now v)) keeps.now)) }
+{
+    let mut cells = Vec::new(alloc);
+    for id in keeps {
+        if let Register::Aggregate(cell) = &last[id.get() as usize] {
+            push_first(*cell, &mut cells)?;
+        }
+    }
+    Ok(cells)
+}
+
+/// The place of a cell among those that are listed.
+fn place_of(cell: Handle, cells: &[Handle]) -> Option<usize>
+    ensures { result ≡ position (λ h. nat_eq h cell) cells.now }
+{
+    cells.iter().position(|other| *other == cell)
+}
+
+/// The number of a cell among those that are listed, each of which is listed once.
+fn number_of(cell: Handle, cells: &[Handle]) -> u64
+    ensures { result ≡ unwrap_or (position (λ h. nat_eq h cell) cells.now) 0 }
+{
+    match place_of(cell, cells) {
+        Some(place) => place as u64,
+        None => 0,
+    }
+}
+
+/// A register, with the number of its cell in place of the handle.
+fn saved_register(register: &Register, cells: &[Handle]) -> Result<SavedRegister, NoMemory>
+    ensures { IfOk result (λ r. r ≡ saved_of cells.now (held_by register.now)) }
+{
+    match register {
+        Register::Empty => Ok(SavedRegister::Empty),
+        Register::Scalar(value) => Ok(SavedRegister::Scalar(value.copy()?)),
+        Register::Aggregate(cell) => Ok(SavedRegister::Cell(number_of(*cell, cells))),
+    }
+}
+
+/// The last registers of what is kept, by equation.
+pub(crate) fn saved_registers(
+    alloc: Global,
+    keeps: &[EqId],
+    last: &[Register],
+    cells: &[Handle],
+) -> Result<SavedRegisters, NoMemory>
+    requires { All (λ i. i < length last.now) keeps.now }
+    ensures { IfOk result (λ r. r ≡ map (λ v. saved_of cells.now (held_at last.now v)) keeps.now) }
+{
+    let mut registers = SavedRegisters::new(alloc);
+    for id in keeps {
+        registers.push(saved_register(&last[id.get() as usize], cells)?)?;
+    }
+    Ok(registers)
+}
+
+/// What the listed cells have, in their order.
+pub(crate) fn contents(alloc: Global, cells: &[Handle], store: &Store) -> Result<Cells, NoMemory>
+    requires { All (λ h. IsLive store.now.cells h) cells.now }
+    ensures { IfOk result (λ list. list ≡ map (λ h. content_of (view_at store.now.cells h)) cells.now) }
+{
+    let mut list = Cells::new(alloc);
+    for cell in cells {
+        list.push(store.content(*cell)?)?;
+    }
+    Ok(list)
+}
+
+/// The value that a line has for an input.
+fn value_for(id: EqId, line: &TraceLine) -> Option<&Scalar>
+    ensures { option_copied result ≡ event_for id line.now.event }
+{
+    match &line.event {
+        Some((input, value)) => { if *input == id { Some(value) } else { None } }
+        None => None,
+    }
+}
+
+/// The value that given lines have for an input.
+fn value_among(id: EqId, given: &[TraceLine]) -> Option<&Scalar>
+    ensures { option_copied result ≡ found_for given.now id }
+{
+    for line in given {
+        if let Some(value) = value_for(id, line) {
+            return Some(value);
+        }
+    }
+    None
+}
+
+/// Appends the event of an equation, if there is one.
+fn push_open(id: EqId, given: &[TraceLine], events: &mut OpenEvents) -> Result<(), NoMemory>
+    ensures { OnOk result (events.new ≡ events.old ++ opened id (found_for given.now id)) }
+{
+    match value_among(id, given) {
+        Some(value) => events.push(OpenEvent {
+            equation: id,
+            value: value.copy()?,
+        }),
+        None => Ok(()),
+    }
+}
+
+/// The given events of the first so many equations, by equation.
+pub(crate) fn open_events(
+    alloc: Global,
+    count: u32,
+    given: &[TraceLine],
+) -> Result<OpenEvents, NoMemory>
+    ensures { IfOk result (λ events. events ≡ opened_below given.now count) }
+{
+    let mut events = OpenEvents::new(alloc);
+    for number in 0..count {
+        push_open(EqId::new(number), given, &mut events)?;
+    }
+    Ok(events)
+}
+
+/// How many elements each running update has copied, by equation.
+pub(crate) fn ledger_of(alloc: Global, flat: &Flat, store: &Store) -> Result<Numbers, NoMemory>
+    requires { length store.now.ledger ≡ length flat.now.equations }
+    ensures { IfOk result (λ counts. counts ≡ map (slice_index store.now.ledger) (running_updates flat.now)) }
+{
+    let mut counts = Numbers::new(alloc);
+    for number in 0..flat.count() {
+        if flat.is_running_update(EqId::new(number)) {
+            counts.push(store.ledger(number))?;
+        }
+    }
+    Ok(counts)
+}
+
+/// When the delays are due, in their order.
+pub(crate) fn pending_times(
+    alloc: Global,
+    delays: &[EqId],
+    timers: &Timers,
+) -> Result<PendingTimes, NoMemory>
+    requires { All (λ i. i < timers.now.capacity) delays.now }
+    ensures { IfOk result (λ times. times ≡ map (finite_map.get timers.now.times) delays.now) }
+{
+    let mut times = PendingTimes::new(alloc);
+    for id in delays {
+        times.push(timers.at(id.get()))?;
+    }
+    Ok(times)
+}
