@@ -7,8 +7,9 @@ import math
 from fractions import Fraction
 from typing import Any, Dict, Iterator, Optional, Tuple
 
-from .fields import Fields, json_text
+from .fields import Fields
 from .frames import Frames, Skippable
+from .objects import json_text
 from .texts import Refused, quoted, shown, whole
 
 

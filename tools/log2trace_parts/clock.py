@@ -158,7 +158,8 @@ class Clock:
         if not (digits.isdigit() and digits.isascii()):
             return None
         places = end - AFTER_SECONDS - 1
-        return [second * 10**places + int(fraction) for second, fraction in zip(seconds, fractions)], places
+        unit = 10**places
+        return [second * unit + int(fraction) for second, fraction in zip(seconds, fractions)], places
 
     def seconds_of_new_hours(self, texts: Sequence[str]) -> List[int]:
         """The same after a look at the hours that are not known yet; none where this does not help."""

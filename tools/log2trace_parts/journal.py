@@ -6,8 +6,9 @@ import io
 import re
 from typing import Any, Callable, Dict, List, Optional, Set
 
-from .fields import Cells, are_numbers, are_plain, decoded, number_text
+from .fields import Cells, are_numbers, are_plain
 from .logs import FEWEST_AT_ONCE, LONGEST_LINE, LONGEST_PIECE, Lines
+from .objects import decoded, number_text
 from .paths import Place
 from .shapes import MOST_PARTS, PLAIN_NUMBER, SOME_TEXT, Field, Kind, Pattern, Shape
 from .skeletons import LETTERS_OF_ASCII, NoShape, pattern_of

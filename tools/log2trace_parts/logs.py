@@ -237,7 +237,8 @@ class Log:
         known = list(filter(None, names))
         settled = self.settled.times_of_rows(times, known) if known else []
         if settled is None:
-            return False
+            firsts = self.settled.firsts_of_rows(times, known)
+            return firsts is not None and self.take_firsts(firsts, times, known, form, values)
         rows = list(map(form.__mod__, zip(settled, known, *values)))
         if not rows:
             return True
@@ -246,6 +247,14 @@ class Log:
         first = bisect.bisect_left(settled, settled[-1])
         self.settled.take_rows(times[-1], settled[-1], known[first:], rows)
         return True
+
+    def take_firsts(self, firsts: List[bool], times: Sequence[int], names: Sequence[str], form: str, values: Sequence[Sequence[str]]) -> bool:
+        """Takes those events that are the first ones of their inputs at their times, if none is refused; whether it did."""
+        kept_times, kept_names, *kept = [list(itertools.compress(column, firsts)) for column in (times, names, *values)]
+        taken = self.take_events(kept_times, kept_names, form, *kept)
+        if taken:
+            self.settled.left_out += firsts.count(False)
+        return taken
 
     def take_one(self, shape: Shape, match: "re.Match[str]", time: int) -> None:
         """Takes a line of this shape, whatever its time."""

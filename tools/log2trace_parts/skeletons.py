@@ -3,7 +3,7 @@
 import json
 import re
 import sys
-from typing import Any, Callable, Dict, Iterator, List, Optional, Tuple
+from typing import Any, Callable, Iterator, List, Optional, Tuple
 
 from .paths import Place
 from .shapes import DECIMAL, MOST_PARTS, PLAIN_NUMBER, TEXT, TRUTH, Kind, Pattern, no_event

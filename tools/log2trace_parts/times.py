@@ -82,11 +82,23 @@ class Settled:
             settled = times
         return settled if settled and settled[-1] <= GREATEST else None
 
+    def firsts_of_rows(self, times: Sequence[int], names: Sequence[str]) -> Optional[List[bool]]:
+        """Which of these events are kept by `--equal first`; None where another one may have to be left out or refused, or all are kept."""
+        if self.equal != "first" or self.log != self.now or not all(map(operator.le, [max(self.now, 0), *times], times)):
+            return None
+        now, seen, firsts = self.now, set(self.here), []  # type: int, set[str], List[bool]
+        for time, name in zip(times, names):
+            if time > now:
+                now, seen = time, set()
+            firsts.append(name not in seen)
+            seen.add(name)
+        return None if all(firsts) else firsts
+
     def take_rows(self, log: int, now: int, names: Iterable[str], rows: List[str]) -> None:
         """Takes what lines make in the trace: their last time in the log and in the trace, and the inputs that have events at that one."""
         if now > self.now:
             self.release()
-        here = rows.pop().splitlines(keepends=True) if self.holds else itertools.repeat("")
+        here = lines_of(rows.pop()) if self.holds else itertools.repeat("")
         self.here = {**self.here, **dict(zip(names, here))}
         self.write("".join(rows))
         self.log, self.now, self.shared, self.begins = log, now, False, False
@@ -100,7 +112,7 @@ class Settled:
         text = text.replace(MARK, f"{time}: ")
         self.release()
         if self.holds:
-            self.here = dict(zip(names, text.splitlines(keepends=True)))
+            self.here = dict(zip(names, lines_of(text)))
         else:
             self.here = dict.fromkeys(names, "")
             self.write(text)
@@ -154,6 +166,11 @@ class Settled:
             raise Refused("time too large")
         self.release()
         self.now += 1
+
+
+def lines_of(text: str) -> List[str]:
+    """The lines of a trace, whose values may have other characters that end lines elsewhere."""
+    return [f"{line}\n" for line in text[:-1].split("\n")]
 
 
 def later(before: int, time: int) -> int:

@@ -162,7 +162,7 @@ class Waves(Fields):
         zeros = self.unit[1:]
         whens = [line[1:] + zeros for line in lines if line[:1] == "#"]
         times = self.times_of(whens) if whens else []
-        if times is None or "." in text and any("." in when for when in whens):
+        if times is None or "#" in lines or "." in text and any("." in when for when in whens):
             return False
         time, events, later = self.time, [], iter(times)
         known = self.lines_known
